@@ -1,0 +1,4 @@
+pub mod HeadLemmas
+pub mod WordLemmas
+pub mod SourceLemmas
+pub mod WritingLemmas

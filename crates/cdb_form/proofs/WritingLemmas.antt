@@ -1,0 +1,48 @@
+-- What a writer holds, piece after piece.
+use Rattle.std.proofs.Common.{◌≡◌, ℕ, ◌+◌, ◌<◌, List, [], ◌++◌, length, flat_map, get_or, take, drop, refl, sym, ap, ◌∙◌, arith, Option, Some, None, append_assoc}
+use Rattle.std.proofs.lemmas.List.{take-append-drop, append-nil, drop_more}
+use Rattle.std.proofs.lemmas.List.Concat.{flat_map-append}
+use Rattle.std.specs.Io.KnownBytes.{Appends, Keeps}
+use Rattle.std.proofs.Math.Seq.{take-add}
+use Rattle.cdb_form.specs.Writing.{AppendsFront}
+
+pub appends_then : (old mid new : Option (List ℕ)) (xs ys : List ℕ) → Appends old mid xs → Appends mid new ys → Appends old new (xs ++ ys)
+appends_then None mid new xs ys a b = tt
+appends_then (Some o) None new xs ys a b = absurd a
+appends_then (Some o) (Some m) None xs ys a b = absurd b
+appends_then (Some o) (Some m) (Some n) xs ys a b = b ∙ ap (λ t. t ++ ys) a ∙ append_assoc o xs ys
+
+pub appends_kept : (old mid new : Option (List ℕ)) (xs : List ℕ) → Appends old mid xs → Keeps mid new → Appends old new xs
+appends_kept None mid new xs a b = tt
+appends_kept (Some o) None new xs a b = absurd a
+appends_kept (Some o) (Some m) None xs a b = absurd b
+appends_kept (Some o) (Some m) (Some n) xs a b = b ∙ a
+
+-- a front of the last piece, behind the ones before it
+pub front_then : (old mid new : Option (List ℕ)) (xs ys zs all : List ℕ) → Appends old mid xs → AppendsFront mid new ys → all ≡ xs ++ (ys ++ zs) → AppendsFront old new all
+front_then old mid new xs ys zs all a b e =
+    record {
+      front = xs ++ b.front;
+      more = b.more ++ zs;
+      split = e ∙ ap (λ t. xs ++ (t ++ zs)) b.split ∙ ap (λ t. xs ++ t) (append_assoc b.front b.more zs) ∙ sym (append_assoc xs b.front (b.more ++ zs));
+      appended = appends_then old mid new xs b.front a b.appended;
+    }
+
+-- what was taken so far is a front
+pub front_taken : (old mid new : Option (List ℕ)) (k : ℕ) (xs : List ℕ) → Appends old mid (take k xs) → Keeps mid new → AppendsFront old new xs
+front_taken old mid new k xs a b = record { front = take k xs; more = drop k xs; split = sym (take-append-drop k xs); appended = appends_kept old mid new (take k xs) a b }
+
+-- n bytes more of the rest
+pub written_more : (old mid new : Option (List ℕ)) (k n : ℕ) (xs ys : List ℕ) → Appends old mid (take k xs) → Appends mid new (take n ys) → ys ≡ drop k xs → Appends old new (take (k + n) xs)
+written_more old mid new k n xs ys a b e =
+    rw (take-add k n xs) (appends_then old mid new (take k xs) (take n (drop k xs)) a (rw e at b))
+
+-- nothing was taken
+pub front_none : (old mid new : Option (List ℕ)) (k n : ℕ) (xs ys : List ℕ) → Appends old mid (take k xs) → Appends mid new (take n ys) → n ≡ 0 → AppendsFront old new xs
+front_none old mid new k n xs ys a b e =
+    let nothing : Appends mid new [] = rw e at b in
+    record { front = take k xs; more = drop k xs; split = sym (take-append-drop k xs); appended = rw append-nil at (appends_then old mid new (take k xs) [] a nothing) }
+
+-- a joined list, before a piece, that piece, and after it
+pub flat_map_at : {X A : Type 0} (f : X → List A) (xs : List X) (i : ℕ) (d : X) → i < length xs → flat_map f xs ≡ flat_map f (take i xs) ++ (f (get_or xs i d) ++ flat_map f (drop (i + 1) xs))
+flat_map_at f xs i d h = ap (flat_map f) (sym (take-append-drop i xs)) ∙ flat_map-append f (take i xs) (drop i xs) ∙ ap (λ t. flat_map f (take i xs) ++ flat_map f t) (drop_more xs i d h)

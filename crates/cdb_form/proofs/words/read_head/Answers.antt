@@ -1,0 +1,47 @@
+use Rattle.std.proofs.Common.{◌≡◌, ◌≢◌, ℕ, ◌<◌, ◌+◌, ◌*◌, length, map, get_or, slice_set, arith, ◌∙◌, below_more, ap, refl}
+use Rattle.std.proofs.lemmas.List.{get_or-map, length-map, get_or-set_same, get_or-set_other, length-set}
+use Rattle.std.proofs.lemmas.List.Elements.{All-from_get_or, All-map}
+use Rattle.std.proofs.lemmas.List.FromFn.{fill_by_all}
+use Rattle.cdb_form.specs.Layout.{Words}
+use Rattle.cdb_form.specs.Reading.{words_at, head_at, nth_words}
+use Rattle.cdb_form.specs.Words.{pointer_words, WordsFit}
+use Rattle.cdb_form.specs.declared.words.Pointer.{Pointer}
+use Rattle.cdb_form.proofs.WordLemmas.{words_at_part}
+use Rattle.cdb_form.proofs.words.read_head.Goals as goal
+
+blank : Pointer
+blank = record { place = 0; slots = 0 }
+
+pub returns-clause-read : goal.returns-clause-read
+unfolding head_at
+returns-clause-read g c =
+    let ps = c.loop-n.pointers in
+    let none : Words = record { first = 0; second = 0 } in
+    let long : length ps ≡ 256 = omega arith in
+    fill_by_all (nth_words g.L.Width.WORD c.args.from.now) (map pointer_words ps) 256 none (length-map ps pointer_words ∙ long)
+      (λ k h. get_or-map pointer_words ps k blank none (omega arith) ∙ c.loop-n.invariant.read k blank (omega arith))
+
+pub returns-clause-fits : goal.returns-clause-fits
+returns-clause-fits g c =
+    let fits = WordsFit g.L.Width.TOP in
+    All-map fits pointer_words c.loop-n.pointers (All-from_get_or (λ p. fits (pointer_words p)) c.loop-n.pointers blank (λ i h. c.loop-n.invariant.fits i blank (omega arith)))
+
+pub loop-n-preserved : goal.loop-n-preserved
+loop-n-preserved g c =
+    let w = g.L.Width.WORD in
+    let n = c.loop-n.n in
+    let ps = c.loop-n.pointers in
+    let p = c.read_pointer.result in
+    let room : n < length ps = omega arith in
+    let at : Pointer → ℕ → Pointer = λ d k. get_or (slice_set ps n p) k d in
+    let part = words_at_part w n (c.size * n) c.size c.args.from.now (rw c.loop-n.invariant.size refl) c.loop-n.invariant.size in
+    record {
+      long = simp length-set (omega arith);
+      size = c.loop-n.invariant.size;
+      read = λ k d h. below_more (λ k. (d : Pointer) → pointer_words (at d k) ≡ nth_words w c.args.from.now k) n
+          (λ k h d. let other : k ≢ n = omega arith in rw get_or-set_other (c.loop-n.invariant.read k d h))
+          (λ d. rw get_or-set_same (c.read_pointer.ensures.read ∙ part)) k h d;
+      fits = λ k d h. below_more (λ k. (d : Pointer) → WordsFit g.L.Width.TOP (pointer_words (at d k))) n
+          (λ k h d. let other : k ≢ n = omega arith in rw get_or-set_other (c.loop-n.invariant.fits k d h))
+          (λ d. rw get_or-set_same c.read_pointer.ensures.fits) k h d;
+    }

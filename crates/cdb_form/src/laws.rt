@@ -1,0 +1,14 @@
+//! Laws of the format. Each is the contract of a function whose parameters are what it ranges over.
+ghost use Rattle.std.specs.Prelude.{All};
+ghost use Rattle.cdb_form.specs.Laws.{LengthsFit, TextReadsBack};
+ghost use Rattle.cdb_form.specs.Words.{key_values};
+
+use crate::record::Record;
+use crate::width::Width;
+
+/// The text of some records, in the shortest decimals, is read as these records and as no others,
+/// whatever follows it.
+pub fn text_reads_back<L: Width>(_records: &[Record], _rest: &[u8])
+    ensures { All (LengthsFit L.GREATEST) (key_values _records.now) → TextReadsBack L.GREATEST (key_values _records.now) _rest.now }
+{
+}

@@ -1,0 +1,28 @@
+//! The file format of constant databases: its words and tables, and its native text.
+//!
+//! The format is said once, in `specs/`: `Hash` and `Layout` are the file of a list of records,
+//! `Reading` is what bytes read as, and `NativeText` is the grammar of the text. The contracts of
+//! this crate cite these definitions, for words of 4 bytes (`Narrow`) and of 8 bytes (`Wide`).
+#![tactic(auto)]
+
+mod fault;
+mod hashing;
+pub mod laws;
+mod native;
+mod record;
+mod source;
+mod width;
+mod words;
+mod writing;
+
+pub use fault::TextFault;
+pub use hashing::hash;
+pub use native::TextReader;
+pub use record::Record;
+pub use width::{Narrow, Wide, Width};
+pub use words::{
+    Head, Header, Pointer, Slot, read_head, read_header, read_pointer, read_slot, write_head,
+    write_header, write_pointer, write_slot,
+};
+pub use writing::{OutFault, write_pieces, write_whole};
+
