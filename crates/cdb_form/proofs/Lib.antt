@@ -1,4 +1,6 @@
+pub mod ByteLemmas
 pub mod HeadLemmas
 pub mod WordLemmas
+pub mod ReadBack
 pub mod SourceLemmas
 pub mod WritingLemmas

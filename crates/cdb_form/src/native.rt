@@ -85,6 +85,7 @@ impl<R: Read> Source<R> {
     // The next `len` bytes. Memory is asked for only as they come.
     fn bytes(&mut self, alloc: Global, len: u64) -> Result<Vec<u8>, TextFault>
         ensures read { IfOk result (λ v. Consumes (R.remaining self.old.reader) (R.remaining self.new.reader) v.items) }
+        ensures are { IfOk result (λ v. AreBytes v.items) }
         ensures long { IfOk result (λ v. length v.items ≡ len) }
         ensures counted { OnOk result (self.new.taken ≡ self.old.taken + len) }
         ensures fewer { OnOk result (self.new.asks ≤ self.old.asks) }
@@ -111,7 +112,7 @@ impl<R: Read> Source<R> {
     fn field(&mut self, alloc: Global, len: u64, stop: u8) -> Result<Vec<u8>, TextFault>
         requires { len < 2 ^ 63 }
         ensures read { IfOk result (λ v. Consumes (R.remaining self.old.reader) (R.remaining self.new.reader) (v.items ++ stop ∷ [])) }
-        ensures bytes { IfOk result (λ v. AreBytes v.items) }
+        ensures are { IfOk result (λ v. AreBytes v.items) }
         ensures long { IfOk result (λ v. length v.items ≡ len) }
         ensures counted { OnOk result (self.new.taken ≡ self.old.taken + (len + 1)) }
         ensures fewer { OnOk result (self.new.asks ≤ self.old.asks) }
