@@ -1,5 +1,5 @@
 -- Lists of bytes.
-use Rattle.std.proofs.Common.{◌≡◌, ℕ, zero, suc, ◌<◌, List, [], ◌∷◌, ◌++◌, take, drop, replicate, get_or, lit<, subst, sym}
+use Rattle.std.proofs.Common.{ℕ, zero, suc, ◌<◌, List, [], ◌∷◌, ◌++◌, take, drop, replicate, lit<, subst, sym}
 use Rattle.std.proofs.lemmas.List.{take-append-drop}
 use Rattle.cdb_form.specs.Layout.{AreBytes}
 

@@ -4,3 +4,7 @@ pub mod WordLemmas
 pub mod ReadBack
 pub mod SourceLemmas
 pub mod WritingLemmas
+pub mod Grammar
+pub mod Stops
+pub mod TextLaws
+pub mod RecordLemmas

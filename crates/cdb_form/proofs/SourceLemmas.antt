@@ -1,7 +1,7 @@
 -- What a source read, piece after piece.
 use Rattle.std.proofs.Common.{◌≡◌, ◌≢◌, ℕ, ◌+◌, ◌*◌, ◌<◌, ◌≤◌, List, [], ◌∷◌, ◌++◌, length, refl, sym, ap, subst, ◌∙◌, arith, Option, Some, None, append_assoc, length-append, IfSome}
 use Rattle.std.proofs.lemmas.List.{append-nil}
-use Rattle.std.specs.Io.KnownBytes.{Consumes, Keeps, IsAtEnd}
+use Rattle.std.specs.Io.KnownBytes.{Consumes, IsAtEnd}
 use Rattle.std.specs.Str.Parse.{AllDigits, digits_value}
 use Rattle.std.specs.Char.{digit_value}
 use Rattle.std.proofs.lemmas.Int.Digits.{digits_push, digits_value_push}
@@ -9,7 +9,7 @@ use Rattle.cdb_form.proofs.ByteLemmas.{AreBytes-front}
 use Rattle.cdb_form.specs.declared.fault.TextFault.{TextFault}
 use Rattle.cdb_form.specs.declared.fault.TextFault.TheVariants.{Syntax, Ended, Large, Input, Endless, NoMemory}
 use Rattle.cdb_form.specs.Layout.{AreBytes, KeyValue, IsRecord}
-use Rattle.cdb_form.specs.NativeText.{IsNumeral, Spells, ReadsRecord}
+use Rattle.cdb_form.specs.NativeText.{IsNumeral, ReadsRecord}
 use Rattle.cdb_form.specs.TextFaults.{IsReadFault, FailsByte, FailsBytes, FailsField, FailsNumber, ReadsBehindPlus}
 
 -- digits were read that stand for a value
@@ -92,11 +92,11 @@ record_behind o m₁ m₂ m₃ m₄ n greatest from to a b r ia ib fk fv bytes c
 -- and the plus
 pub record_whole : (o m n : Option (List ℕ)) (greatest from mid to : ℕ) (r : KeyValue) → Consumes o m (43 ∷ []) → mid ≡ from + 1 → ReadsBehindPlus greatest m n mid to r → ReadsRecord greatest o n from to r
 record_whole o m n greatest from mid to r plus counted behind = record {
-    text = 43 ∷ behind.text;
-    spells = behind.spells;
-    read = consumes_then o m n (43 ∷ []) behind.text plus behind.read;
-    counted = omega (arith, behind.counted);
-  }
+  text = 43 ∷ behind.text;
+  spells = behind.spells;
+  read = consumes_then o m n (43 ∷ []) behind.text plus behind.read;
+  counted = omega (arith, behind.counted);
+}
 
 -- the bytes read are all that there were
 pub ended_within : (o m n : Option (List ℕ)) (len from at : ℕ) (bytes piece : List ℕ) → Consumes o m bytes → Consumes m n piece → piece ≡ [] → IsAtEnd n → AreBytes bytes → length bytes < len → at ≡ from + length bytes
@@ -114,16 +114,18 @@ pub other_last : (o n : Option (List ℕ)) (len stop from : ℕ) (bytes items : 
     → IfSome o (λ text. FailsField len stop from text (Syntax (from + len)))
 other_last None n len stop from bytes items last a are long e other = tt
 other_last (Some o) None len stop from bytes items last a are long e other = absurd a
-other_last (Some o) (Some n) len stop from bytes items last a are long e other =
-    (record {
-        bytes = items;
-        other = last;
-        rest = n;
-        are = AreBytes-front items (last ∷ []) (subst AreBytes e are);
-        long = omega (arith, long, ap length e, length-append items (last ∷ []));
-        text_is = a ∙ ap (λ t. t ++ n) e ∙ append_assoc items (last ∷ []) n;
-        differs = other;
-      }, refl)
+other_last (Some o) (Some n) len stop from bytes items last a are long e other = (
+  record {
+    bytes = items;
+    other = last;
+    rest = n;
+    are = AreBytes-front items (last ∷ []) (subst AreBytes e are);
+    long = omega (arith, long, ap length e, length-append items (last ∷ []));
+    text_is = a ∙ ap (λ t. t ++ n) e ∙ append_assoc items (last ∷ []) n;
+    differs = other;
+  },
+  refl,
+)
 
 -- the bytes of a field and the byte behind it end early together
 pub field_ended : (o : Option (List ℕ)) (len stop from : ℕ) (f : TextFault) → IfSome o (λ text. FailsBytes (len + 1) from text f) → IfSome o (λ text. FailsField len stop from text f)

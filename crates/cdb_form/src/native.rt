@@ -96,7 +96,11 @@ impl<R: Read> Source<R> {
         let mut piece = [0u8; PIECE];
         while (bytes.len() as u64) < len {
             let left = len - bytes.len() as u64;
-            let most = if left < PIECE as u64 { left as usize } else { PIECE };
+            let most = if left < PIECE as u64 {
+                left as usize
+            } else {
+                PIECE
+            };
             let at = self.taken;
             let n = self.fill(&mut piece[..most])?;
             if n == 0 {

@@ -1,9 +1,9 @@
-use Rattle.std.proofs.Common.{◌≡◌, ◌≢◌, ℕ, ◌<◌, ◌+◌, ◌-◌, ◌*◌, length, map, get_or, slice_set, arith, ◌∙◌, below_more, ap, refl}
+use Rattle.std.proofs.Common.{◌≡◌, ◌≢◌, ℕ, ◌<◌, ◌+◌, ◌-◌, ◌*◌, length, map, get_or, slice_set, arith, ◌∙◌, below_more, ap}
 use Rattle.std.proofs.lemmas.List.{get_or-map, length-map, get_or-set_same, get_or-set_other, length-set}
 use Rattle.std.proofs.lemmas.List.Elements.{All-from_get_or, All-map}
 use Rattle.std.proofs.lemmas.List.FromFn.{fill_by_all}
 use Rattle.cdb_form.specs.Layout.{Words}
-use Rattle.cdb_form.specs.Reading.{words_at, head_at, nth_words}
+use Rattle.cdb_form.specs.Reading.{head_at, nth_words}
 use Rattle.cdb_form.specs.Words.{pointer_words, WordsFit}
 use Rattle.cdb_form.specs.declared.words.Pointer.{Pointer}
 use Rattle.cdb_form.proofs.WordLemmas.{words_at_part, span_of}
@@ -19,7 +19,7 @@ returns-clause-read g c =
     let none : Words = record { first = 0; second = 0 } in
     let long : length ps ≡ 256 = omega arith in
     fill_by_all (nth_words g.L.Width.WORD c.args.from.now) (map pointer_words ps) 256 none (length-map ps pointer_words ∙ long)
-      (λ k h. get_or-map pointer_words ps k blank none (omega arith) ∙ c.loop-n.invariant.read k blank (omega arith))
+    (λ k h. get_or-map pointer_words ps k blank none (omega arith) ∙ c.loop-n.invariant.read k blank (omega arith))
 
 pub returns-clause-fits : goal.returns-clause-fits
 returns-clause-fits g c =

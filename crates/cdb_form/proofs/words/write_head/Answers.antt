@@ -1,4 +1,4 @@
-use Rattle.std.proofs.Common.{◌≡◌, ℕ, ◌+◌, ◌-◌, ◌*◌, ◌≤◌, ◌++◌, subst, [], length, map, flat_map, take, drop, get_or, arith, refl, sym, ap, ◌∙◌}
+use Rattle.std.proofs.Common.{◌≡◌, ℕ, ◌*◌, ◌≤◌, ◌++◌, subst, [], length, map, flat_map, take, drop, arith, sym, ap, ◌∙◌}
 use Rattle.std.proofs.lemmas.List.{append-nil, drop_all, take_all, get_or-map, length-map}
 use Rattle.std.proofs.lemmas.List.Elements.{All-get_or}
 use Rattle.cdb_form.specs.Layout.{words_bytes, empty_slot}
@@ -28,6 +28,6 @@ returns-clause-read_back g c =
     let whole : take n ps ≡ ps = take_all n ps (omega arith) in
     let none : drop (2 * w * n) c.args.into.now ≡ [] = drop_all (2 * w * n) c.args.into.now past in
     let written : c.loop-n.into ≡ flat_map (words_bytes w) (map pointer_words ps) =
-        c.loop-n.invariant.written ∙ ap (λ t. flat_map (words_bytes w) (map pointer_words t) ++ drop (2 * w * n) c.args.into.now) whole
-        ∙ ap (λ t. flat_map (words_bytes w) (map pointer_words ps) ++ t) none ∙ append-nil (flat_map (words_bytes w) (map pointer_words ps)) in
+    c.loop-n.invariant.written ∙ ap (λ t. flat_map (words_bytes w) (map pointer_words t) ++ drop (2 * w * n) c.args.into.now) whole
+    ∙ ap (λ t. flat_map (words_bytes w) (map pointer_words ps) ++ t) none ∙ append-nil (flat_map (words_bytes w) (map pointer_words ps)) in
     head_at-flat_map w g.L.Width.TOP (map pointer_words ps) c.loop-n.into g.met.L.Width.top_is (length-map ps pointer_words ∙ long) c.requires.fits written
