@@ -1,0 +1,2 @@
+-- What the runs of the program are to do.
+pub mod Faults

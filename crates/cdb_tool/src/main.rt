@@ -1,0 +1,6 @@
+//! The program `cdb`: makes constant databases.
+#![tactic(auto)]
+
+pub mod fault;
+
+fn main(_rt: HostRuntime) {}
