@@ -1,2 +1,4 @@
 -- What the runs of the program are to do.
 pub mod Faults
+pub mod Entries
+pub mod MakeRun

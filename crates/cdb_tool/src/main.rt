@@ -1,6 +1,8 @@
 //! The program `cdb`: makes constant databases.
 #![tactic(auto)]
 
+pub mod entries;
 pub mod fault;
+pub mod table;
 
 fn main(_rt: HostRuntime) {}
