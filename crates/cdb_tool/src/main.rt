@@ -3,6 +3,7 @@
 
 pub mod entries;
 pub mod fault;
+pub mod finishing;
 pub mod table;
 
 fn main(_rt: HostRuntime) {}
