@@ -1,4 +1,10 @@
+pub mod ByteLemmas
 pub mod HeadLemmas
 pub mod WordLemmas
+pub mod ReadBack
 pub mod SourceLemmas
 pub mod WritingLemmas
+pub mod Grammar
+pub mod Stops
+pub mod TextLaws
+pub mod RecordLemmas

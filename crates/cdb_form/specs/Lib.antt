@@ -7,4 +7,6 @@ pub mod NativeText
 pub mod TextFaults
 pub mod TextReader
 pub mod Writing
+pub mod WorkedFiles
+pub mod Examples
 pub mod Laws

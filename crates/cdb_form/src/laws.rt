@@ -10,5 +10,4 @@ use crate::width::Width;
 /// whatever follows it.
 pub fn text_reads_back<L: Width>(_records: &[Record], _rest: &[u8])
     ensures { All (LengthsFit L.GREATEST) (key_values _records.now) → TextReadsBack L.GREATEST (key_values _records.now) _rest.now }
-{
-}
+{}

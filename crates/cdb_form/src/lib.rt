@@ -26,3 +26,5 @@ pub use words::{
 };
 pub use writing::{OutFault, write_pieces, write_whole};
 
+#[cfg(test)]
+mod tests;
