@@ -49,7 +49,7 @@ front_behind g first x r sp (rs, more, reads) = (r ∷ rs, more, (first, x ++ mo
 reads_inside : (g : ℕ) (first x rest : List ℕ) (r : KeyValue) (qs : List KeyValue) → Spells g first r → Reads g qs (first ++ x) rest → (rs : List KeyValue) × Reads g rs x rest
 reads_inside g first x rest r [] sp e = absurd (no_newline g first x rest r sp e)
 reads_inside g first x rest r (q ∷ qs) sp (first', more', sp', e, reads) =
-    (qs, subst (λ t. Spelled g qs t (10 ∷ rest)) (sym (same_first g first first' x more' r q sp sp' e).1) reads)
+    (qs, subst (λ t. Spelled g qs t (10 ∷ rest)) (sym (same_first g g first first' x more' r q sp sp' e).1) reads)
 
 front_inside : (g : ℕ) (first x : List ℕ) (r : KeyValue) → Spells g first r → IsFront g (first ++ x) → IsFront g x
 front_inside g first x r sp (rs, more, reads) =

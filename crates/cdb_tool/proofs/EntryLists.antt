@@ -67,11 +67,6 @@ pub lists_none : (w : ℕ) (rs : List KeyValue) → rs ≡ [] → replicate 256 
 unfolding entries_of located_from
 lists_none w rs h = fill_by_all (entries_of w rs) (replicate {A = List Words} 256 []) 256 [] (length-replicate {A = List Words} 256 []) (λ k lt. get_or-replicate {A = List Words} 256 k [] [] lt ∙ ap (λ t. entries_of w t k) (sym h))
 
--- the weights alone and the whole size
-pub size_split : (w : ℕ) (rs : List KeyValue) → sum_by (λ r. weight w r + 4 * w) rs ≡ sum_by (weight w) rs + 4 * w * length rs
-size_split w [] = omega arith
-size_split w (x ∷ xs) = omega (arith, size_split w xs, sum_by-cons (weight w) x xs, sum_by-cons (λ r. weight w r + 4 * w) x xs)
-
 pub end_more : (w : ℕ) (rs : List KeyValue) (r : KeyValue) → end_of w (rs ++ r ∷ []) ≡ end_of w rs + weight w r
 end_more w rs r = omega (arith, sum_by_push (weight w) rs r)
 

@@ -3,3 +3,4 @@ pub mod EntryLists
 pub mod Written
 pub mod HeadPointers
 pub mod WholeFile
+pub mod WholeRuns

@@ -67,10 +67,6 @@ pub table_fits : (top : ℕ) (es : List Words) → All (WordsFit top) es → All
 unfolding filled
 table_fits top es a = fits_from top es (replicate (2 * length es) empty_slot) a (All-replicate (WordsFit top) (2 * length es) empty_slot (record { first = omega arith; second = omega arith }))
 
-pub appends_none : (o : Option (List ℕ)) → Appends o o []
-appends_none None = tt
-appends_none (Some o) = sym (append-nil o)
-
 -- a hash has 32 bits
 hash_from : (h : ℕ) (key : List ℕ) → h < 2 ^ 32 → AreBytes key → fold hash_step h key < 2 ^ 32
 hash_from h [] lt bytes = lt
@@ -86,10 +82,6 @@ hash_fits key bytes = let h = hash_from 5381 key (lit< tt) bytes in omega (arith
 pub top_fits : (w top : ℕ) → (w ≡ 4) ⊎ (w ≡ 8) → top + 1 ≡ 256 ^ w → 4294967295 ≤ top
 top_fits w top (inl e) t = let p : top + 1 ≡ 256 ^ 4 = t ∙ ap (λ (k : ℕ). 256 ^ k) e in omega arith
 top_fits w top (inr e) t = let p : top + 1 ≡ 256 ^ 8 = t ∙ ap (λ (k : ℕ). 256 ^ k) e in omega arith
-
--- a part of k among n of them
-pub part_within : (k i n : ℕ) → i < n → k * i + k ≤ k * n
-part_within k i n h = let m = mul-le-mul_left k (let one : i + 1 ≤ n = omega arith in one) in let s : k * (i + 1) ≡ k * i + k = omega arith in omega (arith, m, s)
 
 -- a record's three pieces
 pub record_pieces : (w : ℕ) (r : KeyValue) (a b : ℕ) (header key value : List ℕ) → a ≡ length r.key → b ≡ length r.value → header ≡ words_bytes w (record { first = a; second = b }) → key ≡ r.key → value ≡ r.value

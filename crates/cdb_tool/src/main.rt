@@ -4,6 +4,7 @@
 pub mod entries;
 pub mod fault;
 pub mod finishing;
+pub mod make;
 pub mod table;
 
 fn main(_rt: HostRuntime) {}
