@@ -31,10 +31,10 @@ pub length-record_bytes : (w : ℕ) (r : KeyValue) → length (record_bytes w r)
 unfolding record_bytes
 length-record_bytes w r = simp (length-append, length-bytes_low_first) (omega arith)
 
-records_size : (w : ℕ) (rs : List KeyValue) → length (flat_map (record_bytes w) rs) ≡ sum_by (weight w) rs
-records_size w [] = refl
-records_size w (r ∷ rs) =
-    let ih = records_size w rs in
+pub length-records : (w : ℕ) (rs : List KeyValue) → length (flat_map (record_bytes w) rs) ≡ sum_by (weight w) rs
+length-records w [] = refl
+length-records w (r ∷ rs) =
+    let ih = length-records w rs in
     let s = sum_by-cons (weight w) r rs in
     let one : length (record_bytes w r) ≡ weight w r = length-record_bytes w r in
     let all : length (record_bytes w r ++ flat_map (record_bytes w) rs) ≡ length (record_bytes w r) + length (flat_map (record_bytes w) rs) = length-append (record_bytes w r) (flat_map (record_bytes w) rs) in
@@ -128,7 +128,7 @@ length-file_of w rs =
         length-flat_map (flat_map (words_bytes w)) (tables_of w rs) ∙ ap (sum_by (λ t. length (flat_map (words_bytes w) t))) t ∙ tables_size w ls ∙ ap (λ (k : ℕ). 4 * w * k) (sum_by-entries_of w rs) in
     let a = length-append (flat_map (words_bytes w) (pointers_from w (end_of w rs) (tables_of w rs)) ++ flat_map (record_bytes w) rs) (flat_map (flat_map (words_bytes w)) (tables_of w rs)) in
     let b = length-append (flat_map (words_bytes w) (pointers_from w (end_of w rs) (tables_of w rs))) (flat_map (record_bytes w) rs) in
-    let records = records_size w rs in
+    let records = length-records w rs in
     let split = size_split w rs in
     omega (arith, a, b, head, tables, records, split)
 

@@ -1,10 +1,10 @@
 -- The entries of each table.
-use Rattle.std.proofs.Common.{◌≡◌, ℕ, ◌+◌, ◌*◌, ◌%◌, ◌<◌, ◌≤◌, inl, inr, List, [], ◌∷◌, ◌++◌, length, take, map, get_or, sym, ap, ◌∙◌, arith, replicate, slice_set}
+use Rattle.std.proofs.Common.{◌≡◌, ℕ, ◌+◌, ◌*◌, ◌%◌, ◌<◌, inl, inr, List, [], ◌∷◌, ◌++◌, length, map, get_or, sym, ap, ◌∙◌, arith, replicate, slice_set}
 use Rattle.std.specs.List.{range_with_len, filter}
 use Rattle.std.specs.Prelude.{sum_by}
 use Rattle.std.specs.declared.vec.Vec.{Vec}
-use Rattle.std.proofs.lemmas.List.{length-map, map-set, map_push, map_more, get_or-map, get_or-set_same, get_or-set_other, append-nil, length-set, length-replicate, get_or-replicate, take-map}
-use Rattle.std.proofs.lemmas.List.Sums.{sum_by-cons, sum_by_push, sum_by_more_le_part}
+use Rattle.std.proofs.lemmas.List.{map-set, map_push, get_or-map, get_or-set_same, get_or-set_other, append-nil, length-set, length-replicate, get_or-replicate}
+use Rattle.std.proofs.lemmas.List.Sums.{sum_by-cons, sum_by_push}
 use Rattle.std.proofs.lemmas.List.Elements.{filter-append}
 use Rattle.std.proofs.lemmas.List.FromFn.{fill_by_all, get_or-map-range_with_len, length-map-range_with_len}
 use Rattle.std.proofs.lemmas.Bool.{cases_eq}
@@ -67,38 +67,11 @@ pub lists_none : (w : ℕ) (rs : List KeyValue) → rs ≡ [] → replicate 256 
 unfolding entries_of located_from
 lists_none w rs h = fill_by_all (entries_of w rs) (replicate {A = List Words} 256 []) 256 [] (length-replicate {A = List Words} 256 []) (λ k lt. get_or-replicate {A = List Words} 256 k [] [] lt ∙ ap (λ t. entries_of w t k) (sym h))
 
-pub end_more : (w : ℕ) (rs : List KeyValue) (r : KeyValue) → end_of w (rs ++ r ∷ []) ≡ end_of w rs + weight w r
-end_more w rs r = omega (arith, sum_by_push (weight w) rs r)
-
-pub end_within : {X : Type 0} (w : ℕ) (f : X → KeyValue) (rs : List X) (i : ℕ) (d : X) → i < length rs → end_of w (map f (take i rs)) + weight w (f (get_or rs i d)) ≤ size_of w (map f rs)
-end_within w f rs i d h =
-    let all = sum_by_more_le_part (weight w) (λ r. weight w r + 4 * w) (map f rs) i (f d) (simp length-map (omega arith)) (λ r. omega arith) in
-    let front : take i (map f rs) ≡ map f (take i rs) = take-map f i rs in
-    let item : get_or (map f rs) i (f d) ≡ f (get_or rs i d) = get_or-map f rs i d (f d) h in
-    let part = rw (front, item) at all in
-    omega (arith, part)
-
--- the same with the item itself
-pub end_within_item : {X : Type 0} (w : ℕ) (f : X → KeyValue) (rs : List X) (i : ℕ) (x : X) → i < length rs → x ≡ get_or rs i x → end_of w (map f (take i rs)) + weight w (f x) ≤ size_of w (map f rs)
-end_within_item w f rs i x h is =
-    let all = end_within w f rs i x h in
-    let e : weight w (f (get_or rs i x)) ≡ weight w (f x) = ap (λ y. weight w (f y)) (sym is) in
-    omega (arith, all, e)
-
-one_more : {X Y : Type 0} (f : X → Y) (rs : List X) (i : ℕ) (x : X) → i < length rs → x ≡ get_or rs i x → map f (take (i + 1) rs) ≡ map f (take i rs) ++ f x ∷ []
-one_more f rs i x h is = map_more f rs i x h ∙ ap (λ y. map f (take i rs) ++ f y ∷ []) (sym is)
-
-pub place_more : {X : Type 0} (w : ℕ) (f : X → KeyValue) (rs : List X) (i : ℕ) (x : X) (place new : ℕ) → i < length rs → x ≡ get_or rs i x → place ≡ end_of w (map f (take i rs)) → new ≡ place + weight w (f x) → new ≡ end_of w (map f (take (i + 1) rs))
-place_more w f rs i x place new h is before step =
-    let e = ap (end_of w) (one_more f rs i x h is) ∙ end_more w (map f (take i rs)) (f x) in
-    omega (arith, e)
-
-pub lists_more : {X : Type 0} (w : ℕ) (f : X → KeyValue) (rs : List X) (i : ℕ) (x : X) (h place : ℕ) (before after : List (List Words)) → i < length rs → x ≡ get_or rs i x → h ≡ hash_of (f x).key → place ≡ end_of w (map f (take i rs))
-    → before ≡ map (entries_of w (map f (take i rs))) (range_with_len 0 256) → after ≡ slice_set before (h % 256) (get_or before (h % 256) [] ++ record { first = h; second = place } ∷ [])
-    → after ≡ map (entries_of w (map f (take (i + 1) rs))) (range_with_len 0 256)
-lists_more w f rs i x h place before after lt is eh ep eb ea =
-    ea ∙ ap (λ (n : ℕ). slice_set before (h % 256) (get_or before (h % 256) [] ++ record { first = h; second = n } ∷ [])) ep
-    ∙ lists_push w (map f (take i rs)) (f x) h before eh eb ∙ ap (λ t. map (entries_of w t) (range_with_len 0 256)) (sym (one_more f rs i x lt is))
+-- the lists after one record more
+pub lists_more : (w : ℕ) (rs : List KeyValue) (r : KeyValue) (h place : ℕ) (before after : List (List Words)) → h ≡ hash_of r.key → place ≡ end_of w rs → before ≡ map (entries_of w rs) (range_with_len 0 256)
+    → after ≡ slice_set before (h % 256) (get_or before (h % 256) [] ++ record { first = h; second = place } ∷ []) → after ≡ map (entries_of w (rs ++ r ∷ [])) (range_with_len 0 256)
+lists_more w rs r h place before after eh ep eb ea =
+    ea ∙ ap (λ (n : ℕ). slice_set before (h % 256) (get_or before (h % 256) [] ++ record { first = h; second = n } ∷ [])) ep ∙ lists_push w rs r h before eh eb
 
 pub size_push : (w : ℕ) (rs : List KeyValue) (r : KeyValue) → size_of w (rs ++ r ∷ []) ≡ size_of w rs + (weight w r + 4 * w)
 size_push w rs r = omega (arith, sum_by_push (λ r. weight w r + 4 * w) rs r)

@@ -1,10 +1,9 @@
 -- What a writer holds, part after part.
-use Rattle.std.proofs.Common.{◌≡◌, ℕ, suc, ◌+◌, ◌*◌, ◌^◌, ◌%◌, ◌<◌, ◌≤◌, ◌⊎◌, inl, inr, List, [], ◌∷◌, ◌++◌, length, take, drop, map, flat_map, get_or, refl, sym, ap, subst, ◌∙◌, arith, Option, Some, None, Result, Ok, Err, OnOk, OnErr, append_assoc, fold, replicate, bit_xor, lit<}
+use Rattle.std.proofs.Common.{◌≡◌, ℕ, suc, ◌+◌, ◌*◌, ◌^◌, ◌%◌, ◌<◌, ◌≤◌, ◌⊎◌, inl, inr, List, [], ◌∷◌, ◌++◌, length, take, drop, map, flat_map, get_or, refl, sym, ap, subst, ◌∙◌, arith, Option, Result, Ok, Err, OnOk, OnErr, append_assoc, fold, replicate, bit_xor, lit<}
 use Rattle.std.specs.Prelude.{All}
 use Rattle.std.proofs.lemmas.List.{append-nil, take_at, get_or-map, length-map}
 use Rattle.std.proofs.lemmas.List.Elements.{All-get_or, All-set, All-replicate, All-head, All-tail}
 use Rattle.std.proofs.lemmas.Nat.{xor_lt}
-use Rattle.std.proofs.Math.Nat.{mul-le-mul_left}
 use Rattle.std.specs.Io.KnownBytes.{Appends}
 use Rattle.cdb_form.specs.Writing.{AppendsFront}
 use Rattle.cdb_form.specs.Hash.{hash_of, hash_step}
@@ -37,13 +36,6 @@ front_last old mid new xs ys all a b e = front_then old mid new xs ys [] all a b
 
 pub written_front : (k : ℕ) (into xs rest : List ℕ) → into ≡ xs → length xs ≡ k → take k (into ++ rest) ≡ xs
 written_front k into xs rest e l = ap (λ t. take k (t ++ rest)) e ∙ take_at xs rest k l
-
--- a record in its three parts
-pub record_parts : (w : ℕ) (r : KeyValue) (a b : ℕ) → a ≡ length r.key → b ≡ length r.value → record_bytes w r ≡ words_bytes w (record { first = a; second = b }) ++ r.key ++ r.value
-unfolding record_bytes
-record_parts w r a b ea eb =
-    ap (λ (n : ℕ). words_bytes w (record { first = n; second = length r.value }) ++ r.key ++ r.value) (sym ea)
-    ∙ ap (λ (n : ℕ). words_bytes w (record { first = a; second = n }) ++ r.key ++ r.value) (sym eb)
 
 pub flat_map_item : {X A : Type 0} (f : X → List A) (xs : List X) (i : ℕ) (x : X) → i < length xs → x ≡ get_or xs i x → flat_map f xs ≡ flat_map f (take i xs) ++ (f x ++ flat_map f (drop (i + 1) xs))
 flat_map_item f xs i x h is = flat_map_at f xs i x h ∙ ap (λ y. flat_map f (take i xs) ++ (f y ++ flat_map f (drop (i + 1) xs))) (sym is)
@@ -83,10 +75,14 @@ pub top_fits : (w top : ℕ) → (w ≡ 4) ⊎ (w ≡ 8) → top + 1 ≡ 256 ^ w
 top_fits w top (inl e) t = let p : top + 1 ≡ 256 ^ 4 = t ∙ ap (λ (k : ℕ). 256 ^ k) e in omega arith
 top_fits w top (inr e) t = let p : top + 1 ≡ 256 ^ 8 = t ∙ ap (λ (k : ℕ). 256 ^ k) e in omega arith
 
--- a record's three pieces
-pub record_pieces : (w : ℕ) (r : KeyValue) (a b : ℕ) (header key value : List ℕ) → a ≡ length r.key → b ≡ length r.value → header ≡ words_bytes w (record { first = a; second = b }) → key ≡ r.key → value ≡ r.value
-    → header ++ (key ++ (value ++ [])) ≡ record_bytes w r
-record_pieces w r a b header key value ea eb eh ek ev =
-    ap (λ t. header ++ (key ++ t)) (append-nil value) ∙ ap (λ t. t ++ (key ++ value)) eh ∙ ap (λ t. words_bytes w (record { first = a; second = b }) ++ (t ++ value)) ek
-    ∙ ap (λ t. words_bytes w (record { first = a; second = b }) ++ (r.key ++ t)) ev
-    ∙ sym (append_assoc (words_bytes w (record { first = a; second = b })) r.key r.value) ∙ sym (record_parts w r a b ea eb)
+-- a record's three pieces, behind what stood there
+pub record_pieces : (w : ℕ) (r : KeyValue) (a b : ℕ) (old header key value one two three : List ℕ) → a ≡ length r.key → b ≡ length r.value → header ≡ words_bytes w (record { first = a; second = b }) → key ≡ r.key → value ≡ r.value
+    → one ≡ old ++ header → two ≡ one ++ key → three ≡ two ++ value → three ≡ old ++ record_bytes w r
+unfolding record_bytes
+record_pieces w r a b old header key value one two three ea eb eh ek ev e₁ e₂ e₃ =
+    let words : header ≡ words_bytes w (record { first = length r.key; second = length r.value }) =
+    eh ∙ ap (λ (n : ℕ). words_bytes w (record { first = n; second = b })) ea ∙ ap (λ (n : ℕ). words_bytes w (record { first = length r.key; second = n })) eb in
+    let pieces : three ≡ old ++ (header ++ key ++ value) = e₃ ∙ ap (λ t. t ++ value) (e₂ ∙ ap (λ t. t ++ key) e₁ ∙ append_assoc old header key) ∙ append_assoc old (header ++ key) value in
+    pieces ∙ ap (λ t. old ++ (t ++ key ++ value)) words
+    ∙ ap (λ t. old ++ (words_bytes w (record { first = length r.key; second = length r.value }) ++ t ++ value)) ek
+    ∙ ap (λ t. old ++ (words_bytes w (record { first = length r.key; second = length r.value }) ++ r.key ++ t)) ev

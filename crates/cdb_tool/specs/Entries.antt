@@ -1,5 +1,5 @@
 -- The code's lists of entries as lists of words.
-use Rattle.std.specs.Prelude.{ℕ, List, map}
+use Rattle.std.specs.Prelude.{List, map}
 use Rattle.std.specs.declared.vec.Vec.{Vec}
 use Rattle.cdb_form.specs.Layout.{Words}
 use Rattle.cdb_form.specs.Words.{slot_words}

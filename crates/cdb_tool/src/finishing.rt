@@ -1,21 +1,17 @@
 // The file of some records, to any writer.
-ghost use Rattle.std.specs.Prelude.{◌≡◌, ℕ, ◌+◌, ◌*◌, ◌<◌, ◌≤◌, ◌++◌, length, map, flat_map, sum_by, All, OnOk, OnErr, IfErr};
-ghost use Rattle.std.specs.List.{range_with_len};
+ghost use Rattle.std.specs.Prelude.{◌≡◌, ℕ, ◌+◌, ◌*◌, ◌<◌, ◌≤◌, ◌++◌, List, length, map, flat_map, sum_by, All, OnOk, OnErr, IfErr};
 ghost use Rattle.std.specs.Io.KnownBytes.{Appends};
 ghost use Rattle.cdb_form.specs.Writing.{AppendsFront};
-ghost use Rattle.cdb_form.specs.Layout.{words_bytes, record_bytes, pointers_from, table_with, end_of, size_of, file_of};
-ghost use Rattle.cdb_form.specs.Layout;
-ghost use Rattle.cdb_form.specs.Words.{key_value, key_values, slot_words, head_words, WordsFit};
+ghost use Rattle.cdb_form.specs.Layout.{KeyValue, words_bytes, pointers_from, table_with, size_of, file_of};
+ghost use Rattle.cdb_form.specs.Words.{slot_words, head_words, WordsFit};
 ghost use Rattle.cdb_tool.specs.Entries.{list_words, lists_words};
+ghost use Rattle.cdb_tool.specs.Stored.{Holds, parts_of};
 ghost use Rattle.cdb_tool.specs.MakeRun.{FileFails};
 
-use crate::entries::entries_of;
 use crate::fault::Fault;
+use crate::stored::Stored;
 use crate::table::{EMPTY, fill_table};
-use cdb_form::{
-    Head, Header, OutFault, Pointer, Record, Slot, Width, write_head, write_header, write_pieces,
-    write_slot, write_whole,
-};
+use cdb_form::{Head, OutFault, Pointer, Slot, Width, write_head, write_slot, write_whole};
 use std::alloc::Global;
 use std::io::Write;
 
@@ -52,35 +48,6 @@ fn write_pointers<L: Width, W: Write>(
     let len = 512 * L::WORD;
     write_head::<L>(&head, &mut bytes[..len]);
     write_whole(w, &bytes[..len])
-}
-
-// Writes a record as it stands in the file.
-fn write_stored<L: Width, W: Write>(w: &mut W, item: &Record) -> Result<(), OutFault>
-    requires key { length item.now.key.items ≤ L.TOP }
-    requires value { length item.now.value.items ≤ L.TOP }
-    ensures ok { OnOk result (Appends (W.contents w.old) (W.contents w.new) (record_bytes L.WORD (key_value item.now))) }
-    ensures err { OnErr result (AppendsFront (W.contents w.old) (W.contents w.new) (record_bytes L.WORD (key_value item.now))) }
-{
-    let mut bytes = [0u8; 16];
-    let len = 2 * L::WORD;
-    let header = Header {
-        klen: item.key.len() as u64,
-        vlen: item.value.len() as u64,
-    };
-    write_header::<L>(header, &mut bytes[..len]);
-    write_pieces(w, &[&bytes[..len], &item.key, &item.value])
-}
-
-// Writes one record after another.
-fn write_records<L: Width, W: Write>(w: &mut W, records: &[Record]) -> Result<(), OutFault>
-    requires { size_of L.WORD (key_values records.now) ≤ L.GREATEST }
-    ensures ok { OnOk result (Appends (W.contents w.old) (W.contents w.new) (flat_map (λ r. record_bytes L.WORD (key_value r)) records.now)) }
-    ensures err { OnErr result (AppendsFront (W.contents w.old) (W.contents w.new) (flat_map (λ r. record_bytes L.WORD (key_value r)) records.now)) }
-{
-    for record in records {
-        write_stored::<L, W>(w, record)?;
-    }
-    Ok(())
 }
 
 // Leaves the bytes of some slots.
@@ -150,25 +117,25 @@ fn longest(lists: &[Vec<Slot>]) -> usize
     most
 }
 
-// Writes the head, the records and the tables.
+// Writes the head, the records' bytes and the tables.
 fn write_parts<L: Width, W: Write>(
     w: &mut W,
-    records: &[Record],
-    end: u64,
+    records: &[u8],
     lists: &[Vec<Slot>],
     slots: &mut [Slot],
     bytes: &mut [u8],
 ) -> Result<(), OutFault>
-    requires size { size_of L.WORD (key_values records.now) ≤ L.GREATEST }
-    requires entries { lists_words lists.now ≡ map (Layout.entries_of L.WORD (key_values records.now)) (range_with_len 0 256) }
-    requires ends { end ≡ end_of L.WORD (key_values records.now) }
+    requires long { length lists.now ≡ 256 }
+    requires room { 512 * L.WORD + length records.now + 4 * L.WORD * sum_by length (lists_words lists.now) ≤ L.GREATEST }
     requires slots { All (λ list. 2 * length list.items ≤ length slots.old) lists.now }
     requires bytes { length bytes.old ≡ 2 * L.WORD * length slots.old }
-    ensures ok { OnOk result (Appends (W.contents w.old) (W.contents w.new) (file_of L.WORD (key_values records.now))) }
-    ensures err { OnErr result (AppendsFront (W.contents w.old) (W.contents w.new) (file_of L.WORD (key_values records.now))) }
+    requires fits { All (λ list. All (WordsFit L.TOP) (list_words list)) lists.now }
+    ensures ok { OnOk result (Appends (W.contents w.old) (W.contents w.new) (parts_of L.WORD records.now (lists_words lists.now))) }
+    ensures err { OnErr result (AppendsFront (W.contents w.old) (W.contents w.new) (parts_of L.WORD records.now (lists_words lists.now))) }
 {
+    let end = (512 * L::WORD + records.len()) as u64;
     write_pointers::<L, W>(w, end, lists)?;
-    write_records::<L, W>(w, records)?;
+    write_whole(w, records)?;
     write_tables::<L, W>(w, lists, slots, bytes)
 }
 
@@ -179,23 +146,15 @@ fn write_parts<L: Width, W: Write>(
 pub fn write_file<L: Width, W: Write>(
     alloc: Global,
     w: &mut W,
-    records: &[Record],
+    stored: &Stored,
 ) -> Result<(), Fault>
-    requires { size_of L.WORD (key_values records.now) ≤ L.GREATEST }
-    ensures ok { OnOk result (Appends (W.contents w.old) (W.contents w.new) (file_of L.WORD (key_values records.now))) }
-    ensures err { IfErr result (FileFails (W.contents w.old) (W.contents w.new) (file_of L.WORD (key_values records.now))) }
+    requires { (records : List KeyValue) × Holds L.WORD stored.now records × (size_of L.WORD records ≤ L.GREATEST) }
+    ensures ok { (records : List KeyValue) → Holds L.WORD stored.now records → OnOk result (Appends (W.contents w.old) (W.contents w.new) (file_of L.WORD records)) }
+    ensures err { (records : List KeyValue) → Holds L.WORD stored.now records → IfErr result (FileFails (W.contents w.old) (W.contents w.new) (file_of L.WORD records)) }
 {
-    let entries = entries_of::<L>(alloc, records)?;
-    let most = 2 * longest(&entries.lists);
+    let most = 2 * longest(&stored.lists);
     let mut slots = vec![in alloc; EMPTY; most]?;
     let mut bytes = vec![in alloc; 0u8; 2 * L::WORD * most]?;
-    write_parts::<L, W>(
-        w,
-        records,
-        entries.end,
-        &entries.lists,
-        &mut slots,
-        &mut bytes,
-    )?;
+    write_parts::<L, W>(w, &stored.bytes, &stored.lists, &mut slots, &mut bytes)?;
     Ok(())
 }

@@ -1,10 +1,11 @@
 //! The program `cdb`: makes constant databases.
 #![tactic(auto)]
 
-pub mod entries;
+mod entries;
 pub mod fault;
 pub mod finishing;
 pub mod make;
+pub mod stored;
 pub mod table;
 
 use cdb_form::Narrow;
@@ -15,7 +16,11 @@ use std::io::{BufReader, BufWriter, Read, Write};
 use std::process::ExitCode;
 
 // Makes the database of the text on one stream on the other, through buffers.
-fn make_stream<R: Read + Drop, W: Write + Drop>(alloc: Global, input: R, output: W) -> Result<(), Fault> {
+fn make_stream<R: Read + Drop, W: Write + Drop>(
+    alloc: Global,
+    input: R,
+    output: W,
+) -> Result<(), Fault> {
     let Ok(reader) = BufReader::with_capacity(alloc, 65536, input) else {
         return Err(Fault::NoMemory);
     };

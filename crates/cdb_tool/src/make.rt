@@ -1,11 +1,13 @@
 // A text made a file.
-ghost use Rattle.std.specs.Prelude.{◌≡◌, ◌+◌, ◌*◌, ◌≤◌, SomeIff, IfOk, IfErr, OnOk};
-ghost use Rattle.cdb_form.specs.Layout.{weight};
-ghost use Rattle.cdb_form.specs.Words.{key_value, key_values};
+ghost use Rattle.std.specs.Prelude.{◌≡◌, ◌+◌, ◌*◌, ◌≤◌, List, SomeIff, IfOk, IfErr, OnOk};
+ghost use Rattle.cdb_form.specs.Layout.{KeyValue, weight};
+ghost use Rattle.cdb_form.specs.Words.{key_value};
+ghost use Rattle.cdb_tool.specs.Stored.{Holds};
 ghost use Rattle.cdb_tool.specs.MakeRun.{ReadsFitting, NotRead, MakesFile, MakeFails};
 
 use crate::fault::{Fault, MakeFault};
 use crate::finishing::write_file;
+use crate::stored::Stored;
 use cdb_form::{Record, TextReader, Width};
 use std::alloc::Global;
 use std::io::{Read, Write};
@@ -27,22 +29,22 @@ fn size_with<L: Width>(size: u64, item: &Record) -> Option<u64>
 }
 
 // The records of a text, up to its end, where their file isn't too large.
-fn fitting_records<L: Width, R: Read + Drop>(alloc: Global, reader: R) -> Result<Vec<Record>, Fault>
-    ensures ok { IfOk result (λ v. ReadsFitting L.WORD L.GREATEST (R.remaining reader) (key_values v.items)) }
+fn fitting_records<L: Width, R: Read + Drop>(alloc: Global, reader: R) -> Result<Stored, Fault>
+    ensures ok { IfOk result (λ s. (records : List KeyValue) × Holds L.WORD s records × ReadsFitting L.WORD L.GREATEST (R.remaining reader) records) }
     ensures err { IfErr result (NotRead L.WORD L.GREATEST (R.remaining reader)) }
 {
     let mut text = TextReader::<R, L>::new(alloc, reader);
-    let mut records = Vec::new(alloc);
+    let mut stored = Stored::new(alloc)?;
     let mut size = 512 * L::WORD as u64;
     loop {
         match text.next() {
             Err(fault) => return Err(Fault::of_text(1, fault)),
-            Ok(None) => return Ok(records),
+            Ok(None) => return Ok(stored),
             Ok(Some(record)) => match size_with::<L>(size, &record) {
                 None => return Err(Fault::Make(MakeFault::TooBig)),
                 Some(more) => {
                     size = more;
-                    records.push(record)?;
+                    stored.add::<L>(&record)?;
                 }
             },
         }
@@ -58,8 +60,8 @@ fn make_unflushed<L: Width, R: Read + Drop, W: Write>(
     ensures ok { OnOk result (MakesFile L.WORD L.GREATEST (R.remaining reader) (W.contents w.old) (W.contents w.new)) }
     ensures err { IfErr result (MakeFails L.WORD L.GREATEST (R.remaining reader) (W.contents w.old) (W.contents w.new)) }
 {
-    let records = fitting_records::<L, R>(alloc, reader)?;
-    write_file::<L, W>(alloc, w, &records)
+    let stored = fitting_records::<L, R>(alloc, reader)?;
+    write_file::<L, W>(alloc, w, &stored)
 }
 
 /// Makes the database file of one native text, in memory, and writes it whole.

@@ -1,4 +1,4 @@
-use Rattle.std.proofs.Common.{◌+◌, ◌*◌, ◌≤◌, length, sum_by, arith, sym}
+use Rattle.std.proofs.Common.{◌+◌, ◌*◌, ◌≤◌, length, sum_by, arith}
 use Rattle.std.proofs.lemmas.List.Elements.{All-same}
 use Rattle.cdb_form.specs.Words.{WordsFit}
 use Rattle.cdb_form.proofs.Sizes.{pointers_fit}

@@ -1,8 +1,6 @@
-use Rattle.std.proofs.Common.{◌≡◌, ◌≤◌}
-use Rattle.cdb_form.specs.Layout.{size_of}
+use Rattle.std.proofs.Common.{◌≤◌}
 use Rattle.cdb_form.specs.TextReader.{IsGoing, asks_left, taken_of, unread}
-use Rattle.cdb_form.specs.Words.{key_values}
-use Rattle.cdb_form.proofs.WholeText.{SoFar}
+use Rattle.cdb_tool.proofs.WholeRuns.{HoldsSoFar}
 use Rattle.cdb_tool.proofs.make.fitting_records.Given as goal
 
 -- the records so far
@@ -10,8 +8,7 @@ abbrev pub invariant-loop-fault : goal.invariant-loop-fault
 invariant-loop-fault g l =
     record {
       going : IsGoing l.text;
-      so_far : SoFar g.L.Width.GREATEST (g.R.Read.remaining l.fn.reader) (unread g.R.Read.remaining l.text) (taken_of l.text) (key_values l.records.items);
-      size : l.size ≡ size_of g.L.Width.WORD (key_values l.records.items);
+      so_far : HoldsSoFar g.L.Width.WORD g.L.Width.GREATEST (g.R.Read.remaining l.fn.reader) (unread g.R.Read.remaining l.text) (taken_of l.text) l.stored l.size;
       fits : l.size ≤ g.L.Width.GREATEST;
     }
 

@@ -1,4 +1,4 @@
-use Rattle.std.proofs.Common.{refl, ap, ℕ, ◌%◌, length}
+use Rattle.std.proofs.Common.{refl}
 use Rattle.cdb_tool.proofs.Filling.{entry_put}
 use Rattle.cdb_tool.proofs.table.put_entry.Goals as goal
 
