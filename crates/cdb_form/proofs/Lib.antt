@@ -8,3 +8,5 @@ pub mod Grammar
 pub mod Stops
 pub mod TextLaws
 pub mod RecordLemmas
+pub mod Sizes
+pub mod WholeText
