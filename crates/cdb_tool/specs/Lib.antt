@@ -3,3 +3,4 @@ pub mod Faults
 pub mod Entries
 pub mod Stored
 pub mod MakeRun
+pub mod Input
