@@ -36,18 +36,21 @@ fn fitting_records<L: Width, R: Read + Drop>(alloc: Global, reader: R) -> Result
     let mut text = TextReader::<R, L>::new(alloc, reader);
     let mut stored = Stored::new(alloc)?;
     let mut size = 512 * L::WORD as u64;
+    let mut record = Record {
+        key: Vec::new(alloc),
+        value: Vec::new(alloc),
+    };
     loop {
-        match text.next() {
+        match text.read_into(&mut record) {
             Err(fault) => return Err(Fault::of_text(1, fault)),
-            Ok(None) => return Ok(stored),
-            Ok(Some(record)) => match size_with::<L>(size, &record) {
-                None => return Err(Fault::Make(MakeFault::TooBig)),
-                Some(more) => {
-                    size = more;
-                    stored.add::<L>(&record)?;
-                }
-            },
+            Ok(false) => return Ok(stored),
+            Ok(true) => {}
         }
+        match size_with::<L>(size, &record) {
+            None => return Err(Fault::Make(MakeFault::TooBig)),
+            Some(more) => size = more,
+        }
+        stored.add::<L>(&record)?;
     }
 }
 
