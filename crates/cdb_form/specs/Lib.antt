@@ -7,4 +7,7 @@ pub mod NativeText
 pub mod TextFaults
 pub mod TextReader
 pub mod Writing
+pub mod Walk
+pub mod WorkedFiles
+pub mod WalkExamples
 pub mod Laws

@@ -1,5 +1,6 @@
 //! Laws of the format. Each is the contract of a function whose parameters are what it ranges over.
-ghost use Rattle.std.specs.Prelude.{All};
+ghost use Rattle.std.specs.Prelude.{◌≡◌, ◌≤◌, All, length};
+ghost use Rattle.cdb_form.specs.Layout.{file_of, size_of};
 ghost use Rattle.cdb_form.specs.Laws.{LengthsFit, TextReadsBack};
 ghost use Rattle.cdb_form.specs.Words.{key_values};
 
@@ -10,5 +11,11 @@ use crate::width::Width;
 /// whatever follows it.
 pub fn text_reads_back<L: Width>(_records: &[Record], _rest: &[u8])
     ensures { All (LengthsFit L.GREATEST) (key_values _records.now) → TextReadsBack L.GREATEST (key_values _records.now) _rest.now }
+{
+}
+
+/// The file of some records has its size: the head, the records, and two slots for each record.
+pub fn file_has_size<L: Width>(_records: &[Record])
+    ensures { length (file_of L.WORD (key_values _records.now)) ≡ size_of L.WORD (key_values _records.now) }
 {
 }

@@ -11,6 +11,7 @@ pub mod laws;
 mod native;
 mod record;
 mod source;
+mod walk_fault;
 mod width;
 mod words;
 mod writing;
@@ -19,6 +20,7 @@ pub use fault::TextFault;
 pub use hashing::hash;
 pub use native::TextReader;
 pub use record::Record;
+pub use walk_fault::WalkFault;
 pub use width::{Narrow, Wide, Width};
 pub use words::{
     Head, Header, Pointer, Slot, read_head, read_header, read_pointer, read_slot, write_head,
