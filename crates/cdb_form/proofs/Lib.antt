@@ -1,5 +1,11 @@
+pub mod ByteLemmas
 pub mod HeadLemmas
 pub mod WordLemmas
+pub mod ReadBack
 pub mod SourceLemmas
 pub mod WritingLemmas
 pub mod Sizes
+pub mod Fronts
+pub mod WalkSteps
+pub mod Standing
+pub mod WalkLaws

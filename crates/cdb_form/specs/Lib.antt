@@ -10,4 +10,5 @@ pub mod Writing
 pub mod Walk
 pub mod WorkedFiles
 pub mod WalkExamples
+pub mod WalkLaws
 pub mod Laws
