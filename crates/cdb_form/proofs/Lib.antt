@@ -4,6 +4,10 @@ pub mod WordLemmas
 pub mod ReadBack
 pub mod SourceLemmas
 pub mod WritingLemmas
+pub mod Grammar
+pub mod Stops
+pub mod TextLaws
+pub mod RecordLemmas
 pub mod Sizes
 pub mod Fronts
 pub mod WalkSteps

@@ -1,14 +1,16 @@
 -- What a source read, piece after piece.
-use Rattle.std.proofs.Common.{◌≡◌, ℕ, ◌+◌, ◌*◌, ◌<◌, ◌≤◌, List, [], ◌∷◌, ◌++◌, length, refl, sym, ap, ◌∙◌, arith, Option, Some, None, append_assoc, length-append, IfSome}
-use Rattle.std.specs.Io.KnownBytes.{Consumes, Keeps, IsAtEnd}
+use Rattle.std.proofs.Common.{◌≡◌, ◌≢◌, ℕ, ◌+◌, ◌*◌, ◌<◌, ◌≤◌, List, [], ◌∷◌, ◌++◌, length, refl, sym, ap, subst, ◌∙◌, arith, Option, Some, None, append_assoc, length-append, IfSome}
+use Rattle.std.proofs.lemmas.List.{append-nil}
+use Rattle.std.specs.Io.KnownBytes.{Consumes, IsAtEnd}
 use Rattle.std.specs.Str.Parse.{AllDigits, digits_value}
 use Rattle.std.specs.Char.{digit_value}
 use Rattle.std.proofs.lemmas.Int.Digits.{digits_push, digits_value_push}
+use Rattle.cdb_form.proofs.ByteLemmas.{AreBytes-front}
 use Rattle.cdb_form.specs.declared.fault.TextFault.{TextFault}
 use Rattle.cdb_form.specs.declared.fault.TextFault.TheVariants.{Syntax, Ended, Large, Input, Endless, NoMemory}
-use Rattle.cdb_form.specs.Layout.{KeyValue, IsRecord}
-use Rattle.cdb_form.specs.NativeText.{IsNumeral, Spells, ReadsRecord}
-use Rattle.cdb_form.specs.TextFaults.{IsReadFault, FailsByte, FailsBytes, FailsNumber, ReadsBehindPlus}
+use Rattle.cdb_form.specs.Layout.{AreBytes, KeyValue, IsRecord}
+use Rattle.cdb_form.specs.NativeText.{IsNumeral, ReadsRecord}
+use Rattle.cdb_form.specs.TextFaults.{IsReadFault, FailsByte, FailsBytes, FailsField, FailsNumber, ReadsBehindPlus}
 
 -- digits were read that stand for a value
 pub record DigitsSoFar (old new : Option (List ℕ)) (greatest start taken value : ℕ) : Type 0 where
@@ -90,8 +92,47 @@ record_behind o m₁ m₂ m₃ m₄ n greatest from to a b r ia ib fk fv bytes c
 -- and the plus
 pub record_whole : (o m n : Option (List ℕ)) (greatest from mid to : ℕ) (r : KeyValue) → Consumes o m (43 ∷ []) → mid ≡ from + 1 → ReadsBehindPlus greatest m n mid to r → ReadsRecord greatest o n from to r
 record_whole o m n greatest from mid to r plus counted behind = record {
-    text = 43 ∷ behind.text;
-    spells = behind.spells;
-    read = consumes_then o m n (43 ∷ []) behind.text plus behind.read;
-    counted = omega (arith, behind.counted);
-  }
+  text = 43 ∷ behind.text;
+  spells = behind.spells;
+  read = consumes_then o m n (43 ∷ []) behind.text plus behind.read;
+  counted = omega (arith, behind.counted);
+}
+
+-- the bytes read are all that there were
+pub ended_within : (o m n : Option (List ℕ)) (len from at : ℕ) (bytes piece : List ℕ) → Consumes o m bytes → Consumes m n piece → piece ≡ [] → IsAtEnd n → AreBytes bytes → length bytes < len → at ≡ from + length bytes
+    → IfSome o (λ text. FailsBytes len from text (Ended at))
+ended_within None m n len from at bytes piece a b e h are short counted = tt
+ended_within (Some o) None n len from at bytes piece a b e h are short counted = absurd a
+ended_within (Some o) (Some m) None len from at bytes piece a b e h are short counted = absurd b
+ended_within (Some o) (Some m) (Some n) len from at bytes piece a b e h are short counted =
+    let nothing : m ≡ [] = b ∙ ap (λ t. t ++ n) e ∙ h in
+    let all : o ≡ bytes = a ∙ ap (λ t. bytes ++ t) nothing ∙ append-nil bytes in
+    (subst AreBytes (sym all) are, omega (arith, ap length all), omega (arith, ap length all))
+
+-- the byte behind a field is another one
+pub other_last : (o n : Option (List ℕ)) (len stop from : ℕ) (bytes items : List ℕ) (last : ℕ) → Consumes o n bytes → AreBytes bytes → length bytes ≡ len + 1 → bytes ≡ items ++ last ∷ [] → last ≢ stop
+    → IfSome o (λ text. FailsField len stop from text (Syntax (from + len)))
+other_last None n len stop from bytes items last a are long e other = tt
+other_last (Some o) None len stop from bytes items last a are long e other = absurd a
+other_last (Some o) (Some n) len stop from bytes items last a are long e other = (
+  record {
+    bytes = items;
+    other = last;
+    rest = n;
+    are = AreBytes-front items (last ∷ []) (subst AreBytes e are);
+    long = omega (arith, long, ap length e, length-append items (last ∷ []));
+    text_is = a ∙ ap (λ t. t ++ n) e ∙ append_assoc items (last ∷ []) n;
+    differs = other;
+  },
+  refl,
+)
+
+-- the bytes of a field and the byte behind it end early together
+pub field_ended : (o : Option (List ℕ)) (len stop from : ℕ) (f : TextFault) → IfSome o (λ text. FailsBytes (len + 1) from text f) → IfSome o (λ text. FailsField len stop from text f)
+field_ended None len stop from f h = tt
+field_ended (Some o) len stop from (Syntax at) h = absurd h
+field_ended (Some o) len stop from (Large at) h = absurd h
+field_ended (Some o) len stop from (Ended at) (are, short, place) = (are, omega arith, place)
+field_ended (Some o) len stop from NoMemory h = tt
+field_ended (Some o) len stop from Input h = tt
+field_ended (Some o) len stop from Endless h = tt

@@ -1,7 +1,6 @@
 -- Laws of the format, as propositions.
 use Rattle.std.specs.Prelude.{ℕ, ◌≤◌, ◌≡◌, List, ◌++◌, length}
-use Rattle.std.specs.List.{AllByRecursion}
-use Rattle.cdb_form.specs.Layout.{KeyValue, IsRecord, file_of, size_of}
+use Rattle.cdb_form.specs.Layout.{KeyValue}
 use Rattle.cdb_form.specs.NativeText.{Reads}
 use Rattle.cdb_form.specs.Writing.{text_of}
 

@@ -7,8 +7,9 @@ pub mod NativeText
 pub mod TextFaults
 pub mod TextReader
 pub mod Writing
-pub mod Walk
 pub mod WorkedFiles
+pub mod Examples
+pub mod Walk
 pub mod WalkExamples
 pub mod WalkLaws
 pub mod Laws

@@ -85,6 +85,7 @@ impl<R: Read> Source<R> {
     // The next `len` bytes. Memory is asked for only as they come.
     fn bytes(&mut self, alloc: Global, len: u64) -> Result<Vec<u8>, TextFault>
         ensures read { IfOk result (λ v. Consumes (R.remaining self.old.reader) (R.remaining self.new.reader) v.items) }
+        ensures are { IfOk result (λ v. AreBytes v.items) }
         ensures long { IfOk result (λ v. length v.items ≡ len) }
         ensures counted { OnOk result (self.new.taken ≡ self.old.taken + len) }
         ensures fewer { OnOk result (self.new.asks ≤ self.old.asks) }
@@ -95,7 +96,11 @@ impl<R: Read> Source<R> {
         let mut piece = [0u8; PIECE];
         while (bytes.len() as u64) < len {
             let left = len - bytes.len() as u64;
-            let most = if left < PIECE as u64 { left as usize } else { PIECE };
+            let most = if left < PIECE as u64 {
+                left as usize
+            } else {
+                PIECE
+            };
             let at = self.taken;
             let n = self.fill(&mut piece[..most])?;
             if n == 0 {
@@ -111,7 +116,7 @@ impl<R: Read> Source<R> {
     fn field(&mut self, alloc: Global, len: u64, stop: u8) -> Result<Vec<u8>, TextFault>
         requires { len < 2 ^ 63 }
         ensures read { IfOk result (λ v. Consumes (R.remaining self.old.reader) (R.remaining self.new.reader) (v.items ++ stop ∷ [])) }
-        ensures bytes { IfOk result (λ v. AreBytes v.items) }
+        ensures are { IfOk result (λ v. AreBytes v.items) }
         ensures long { IfOk result (λ v. length v.items ≡ len) }
         ensures counted { OnOk result (self.new.taken ≡ self.old.taken + (len + 1)) }
         ensures fewer { OnOk result (self.new.asks ≤ self.old.asks) }

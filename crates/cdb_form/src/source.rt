@@ -1,6 +1,7 @@
 // A reader that is asked a bounded number of times.
 ghost use Rattle.std.specs.Prelude.{◌≡◌, ◌+◌, ◌*◌, ◌^◌, ◌<◌, ◌≤◌, [], ◌∷◌, length, take, OnOk, IfOk, IfErr, MatchOption};
 ghost use Rattle.std.specs.Io.KnownBytes.{Keeps, Consumes, IsAtEnd};
+ghost use Rattle.cdb_form.specs.Layout.{AreBytes};
 ghost use Rattle.cdb_form.specs.TextFaults.{IsReadFault, IsSpent};
 
 use crate::fault::TextFault;
@@ -38,6 +39,7 @@ impl<R: Read> Source<R> {
         requires few { length into.old ≤ 4096 }
         ensures bound { IfOk result (λ n. n ≤ length into.new) }
         ensures bytes { IfOk result (λ n. Consumes (R.remaining self.old.reader) (R.remaining self.new.reader) (take n into.new)) }
+        ensures are { IfOk result (λ _. AreBytes into.new) }
         ensures end { IfOk result (λ n. n ≡ 0 → IsAtEnd (R.remaining self.new.reader)) }
         ensures counted { IfOk result (λ n. self.new.taken ≡ self.old.taken + n) }
         ensures fewer { OnOk result (self.new.asks < self.old.asks) }

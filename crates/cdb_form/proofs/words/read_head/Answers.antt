@@ -1,12 +1,12 @@
-use Rattle.std.proofs.Common.{◌≡◌, ◌≢◌, ℕ, ◌<◌, ◌+◌, ◌*◌, length, map, get_or, slice_set, arith, ◌∙◌, below_more, ap, refl}
+use Rattle.std.proofs.Common.{◌≡◌, ◌≢◌, ℕ, ◌<◌, ◌+◌, ◌-◌, ◌*◌, length, map, get_or, slice_set, arith, ◌∙◌, below_more, ap}
 use Rattle.std.proofs.lemmas.List.{get_or-map, length-map, get_or-set_same, get_or-set_other, length-set}
 use Rattle.std.proofs.lemmas.List.Elements.{All-from_get_or, All-map}
 use Rattle.std.proofs.lemmas.List.FromFn.{fill_by_all}
 use Rattle.cdb_form.specs.Layout.{Words}
-use Rattle.cdb_form.specs.Reading.{words_at, head_at, nth_words}
+use Rattle.cdb_form.specs.Reading.{head_at, nth_words}
 use Rattle.cdb_form.specs.Words.{pointer_words, WordsFit}
 use Rattle.cdb_form.specs.declared.words.Pointer.{Pointer}
-use Rattle.cdb_form.proofs.WordLemmas.{words_at_part}
+use Rattle.cdb_form.proofs.WordLemmas.{words_at_part, span_of}
 use Rattle.cdb_form.proofs.words.read_head.Goals as goal
 
 blank : Pointer
@@ -19,7 +19,7 @@ returns-clause-read g c =
     let none : Words = record { first = 0; second = 0 } in
     let long : length ps ≡ 256 = omega arith in
     fill_by_all (nth_words g.L.Width.WORD c.args.from.now) (map pointer_words ps) 256 none (length-map ps pointer_words ∙ long)
-      (λ k h. get_or-map pointer_words ps k blank none (omega arith) ∙ c.loop-n.invariant.read k blank (omega arith))
+    (λ k h. get_or-map pointer_words ps k blank none (omega arith) ∙ c.loop-n.invariant.read k blank (omega arith))
 
 pub returns-clause-fits : goal.returns-clause-fits
 returns-clause-fits g c =
@@ -34,7 +34,10 @@ loop-n-preserved g c =
     let p = c.read_pointer.result in
     let room : n < length ps = omega arith in
     let at : Pointer → ℕ → Pointer = λ d k. get_or (slice_set ps n p) k d in
-    let part = words_at_part w n (c.size * n) c.size c.args.from.now (rw c.loop-n.invariant.size refl) c.loop-n.invariant.size in
+    let size : 2 * c.WORD-size.result ≡ 2 * w = c.loop-n.invariant.size in
+    let at_n : 2 * c.WORD-size.result * n ≡ 2 * w * n = ap (λ (k : ℕ). k * n) size in
+    let long : (2 * c.WORD-size.result * n + 2 * c.WORD-size.result) - 2 * c.WORD-size.result * n ≡ 2 * w = span_of (2 * c.WORD-size.result * n) (2 * c.WORD-size.result) ∙ size in
+    let part = words_at_part w n (2 * c.WORD-size.result * n) _ c.args.from.now at_n long in
     record {
       long = simp length-set (omega arith);
       size = c.loop-n.invariant.size;
