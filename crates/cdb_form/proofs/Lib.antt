@@ -13,3 +13,4 @@ pub mod Fronts
 pub mod WalkSteps
 pub mod Standing
 pub mod WalkLaws
+pub mod AskingLemmas

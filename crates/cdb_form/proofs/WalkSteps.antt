@@ -6,14 +6,10 @@ use Rattle.std.proofs.lemmas.List.Sums.{sum_by-cons}
 use Rattle.std.proofs.lemmas.Bool.{cond-true, cond-false, eq-eqb, ne_eqb, lt-ltb, le-ltb}
 use Rattle.cdb_form.specs.Layout.{KeyValue, Words, weight, head_size}
 use Rattle.cdb_form.specs.Reading.{words_at, head_at}
-use Rattle.cdb_form.specs.Walk.{Walked, front_size, whole_records, walk_from, walk_of, damaged, record_end, first_table_at}
+use Rattle.cdb_form.specs.Walk.{Walked, front_size, whole_records, walk_from, walk_of, no_walk, with_first, damaged, record_end, first_table_at}
 use Rattle.cdb_form.specs.declared.walk_fault.WalkFault.{WalkFault}
 use Rattle.cdb_form.specs.declared.walk_fault.WalkFault.TheVariants.{Short, Table, Record}
 use Rattle.cdb_form.proofs.Fronts.{Begins, Begins-take, all_records, all_records-more, whole_records-none, words_at-front, take_past}
-
--- a record, and then a walk
-abbrev pub with_first : KeyValue → Walked → Walked
-with_first r walk = record { records = r ∷ walk.records; damage = walk.damage }
 
 -- the damage of a walk that stops at a place
 abbrev pub stopped : ℕ → ℕ → Option WalkFault
@@ -45,7 +41,7 @@ walk_from-more w place end bytes r rest some b room =
     ∙ ap (with_first r) (sym (walk_from-is w (place + weight w r) end rest))
 
 -- no record is left at the record end
-pub walk_from-end : (w place end : ℕ) (bytes : List ℕ) → place ≡ end → walk_from w place end bytes ≡ record { records = []; damage = None }
+pub walk_from-end : (w place end : ℕ) (bytes : List ℕ) → place ≡ end → walk_from w place end bytes ≡ no_walk
 unfolding whole_records
 walk_from-end w place end bytes at =
     let none : end - place ≡ 0 = omega arith in

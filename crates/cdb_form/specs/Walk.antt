@@ -1,5 +1,5 @@
 -- The records of a file, one after the other, in words of w bytes.
-use Rattle.std.specs.Prelude.{ℕ, zero, suc, ◌+◌, ◌-◌, ◌*◌, ◌==◌, nat_lt, nat_le, not, min, if◌then◌else◌, Bool, ◌&&◌, List, [], ◌∷◌, length, take, drop, map, filter, sum_by, Option, Some, None, unwrap_or}
+use Rattle.std.specs.Prelude.{ℕ, zero, suc, ◌+◌, ◌-◌, ◌*◌, ◌==◌, nat_lt, nat_le, not, min, if◌then◌else◌, Bool, ◌&&◌, List, [], ◌∷◌, length, take, drop, map, filter, sum_by, Option, Some, None, unwrap_or, ⊤}
 use Rattle.std.specs.List.{reduce, position_or_len}
 use Rattle.cdb_form.specs.Layout.{KeyValue, Words, head_size, weight}
 use Rattle.cdb_form.specs.Reading.{words_at, head_at}
@@ -54,12 +54,26 @@ walk_from w place end bytes =
 abbrev pub damaged : WalkFault → Walked
 damaged fault = record { records = []; damage = Some fault }
 
+-- no record and no damage
+abbrev pub no_walk : Walked
+no_walk = record { records = []; damage = None }
+
+-- a record, and then a walk
+abbrev pub with_first : KeyValue → Walked → Walked
+with_first r walk = record { records = r ∷ walk.records; damage = walk.damage }
+
 -- the walk of a file
 unfoldable pub walk_of : ℕ → List ℕ → Walked
 walk_of w bytes =
     if nat_lt (length bytes) (head_size w) then damaged Short
     else if nat_lt (record_end w bytes) (head_size w) then damaged (Table (first_table_at (record_end w bytes) (head_at w bytes)))
     else walk_from w (head_size w) (record_end w bytes) (drop (head_size w) bytes)
+
+-- the fault is one of the file
+abbrev pub IsDamage : WalkFault → Type 0
+IsDamage Input = ⊥
+IsDamage NoMemory = ⊥
+IsDamage _ = ⊤
 
 -- the number of a fault
 abbrev pub number_of : WalkFault → ℕ
