@@ -31,3 +31,6 @@ pub use words::{
     write_header, write_pointer, write_slot,
 };
 pub use writing::{OutFault, write_pieces, write_whole};
+
+#[cfg(test)]
+mod tests;

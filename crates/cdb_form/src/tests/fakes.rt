@@ -1,0 +1,96 @@
+// Readers and writers that fail when they are told to.
+use std::io::{self, ErrorKind, Read, Write};
+use std::prelude::*;
+
+/// What a reader does behind its text.
+#[derive(Clone, Copy, PartialEq, Eq)]
+pub(super) enum Behind {
+    End,
+    Failure,
+    ZerosForEver,
+}
+
+/// Gives a text in pieces, and notes the greatest ask and the bytes given.
+#[derive(Drop)]
+pub(super) struct FakeReader<'a> {
+    pub(super) text: &'a [u8],
+    pub(super) behind: Behind,
+    pub(super) interrupts: u64,
+    pub(super) most: usize,
+    pub(super) greatest_ask: usize,
+}
+
+impl<'a> FakeReader<'a> {
+    pub(super) fn new(text: &'a [u8], behind: Behind) -> FakeReader<'a> {
+        FakeReader {
+            text,
+            behind,
+            interrupts: 0,
+            most: usize::MAX,
+            greatest_ask: 0,
+        }
+    }
+
+    /// First interrupted so often, and again after nothing.
+    pub(super) fn interrupted(text: &'a [u8], interrupts: u64) -> FakeReader<'a> {
+        let mut reader = FakeReader::new(text, Behind::End);
+        reader.interrupts = interrupts;
+        reader
+    }
+}
+
+impl Read for FakeReader<'_> {
+    fn read(&mut self, buf: &mut [u8]) -> io::Result<usize> {
+        self.greatest_ask = self.greatest_ask.max(buf.len());
+        if self.interrupts > 0 {
+            self.interrupts -= 1;
+            return Err(io::Error::from(ErrorKind::Interrupted));
+        }
+        let n = buf.len().min(self.text.len()).min(self.most);
+        if n == 0 && self.text.is_empty() {
+            return match self.behind {
+                Behind::End => Ok(0),
+                Behind::Failure => Err(io::Error::from(ErrorKind::Other)),
+                Behind::ZerosForEver => {
+                    for byte in buf.iter_mut() {
+                        *byte = b'0';
+                    }
+                    Ok(buf.len())
+                }
+            };
+        }
+        let (piece, rest) = self.text.split_at(n);
+        buf[..n].copy_from_slice(piece);
+        self.text = rest;
+        Ok(n)
+    }
+}
+
+/// Takes so many bytes, a few at a time, and then fails.
+#[derive(Drop)]
+pub(super) struct FakeWriter {
+    pub(super) held: Vec<u8>,
+    pub(super) room: usize,
+    pub(super) most: usize,
+    pub(super) interrupts: u64,
+}
+
+impl Write for FakeWriter {
+    fn write(&mut self, buf: &[u8]) -> io::Result<usize> {
+        if self.interrupts > 0 {
+            self.interrupts -= 1;
+            return Err(io::Error::from(ErrorKind::Interrupted));
+        }
+        let n = buf.len().min(self.most).min(self.room);
+        if n == 0 {
+            return Err(io::Error::from(ErrorKind::Other));
+        }
+        self.held.extend_from_slice(&buf[..n])?;
+        self.room -= n;
+        Ok(n)
+    }
+
+    fn flush(&mut self) -> io::Result<()> {
+        Ok(())
+    }
+}
