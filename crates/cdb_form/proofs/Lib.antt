@@ -14,3 +14,6 @@ pub mod WalkSteps
 pub mod Standing
 pub mod WalkLaws
 pub mod AskingLemmas
+pub mod TableLemmas
+pub mod AreaLemmas
+pub mod RecordReads

@@ -1,8 +1,8 @@
 // Records out of a database file that is read in one pass.
-ghost use Rattle.std.specs.Prelude.{◌≡◌, ℕ, ◌+◌, ◌-◌, ◌*◌, ◌<◌, ◌≤◌, drop, OnOk, IfOk, IfErr, IfSome, IfNone};
+ghost use Rattle.std.specs.Prelude.{◌≡◌, ℕ, ◌+◌, ◌-◌, ◌*◌, ◌^◌, ◌<◌, ◌≤◌, max, List, ◌++◌, drop, OnOk, OnErr, IfOk, IfErr, IfSome, IfNone};
 ghost use Rattle.cdb_form.specs.KnownBytes.{LosesAtMost, FromTo};
-ghost use Rattle.cdb_form.specs.Layout.{weight};
-ghost use Rattle.cdb_form.specs.Walk.{walk_from, damaged, no_walk, with_first, IsDamage};
+ghost use Rattle.cdb_form.specs.Layout.{head_size, weight};
+ghost use Rattle.cdb_form.specs.Walk.{walk_of, walk_from, record_end, damaged, no_walk, with_first, IsDamage};
 ghost use Rattle.cdb_form.specs.Words.{key_value};
 
 use crate::area::{Area, read_area};
@@ -83,6 +83,59 @@ impl<R: Read, L: Width> RecordReader<R, L> {
             walking: Walking::AtHead,
             width: PhantomData,
         }
+    }
+
+    /// The next record, or `None` at the record end.
+    ///
+    /// After the end it answers `Ok(None)` for good, and after a fault that fault. `Short`, `Table`
+    /// and `Record` are the damage of the file, after all whole records before it; `Input` comes
+    /// where the reader failed, or was interrupted more than 1000 times in a row; `NoMemory` where
+    /// a growth was refused.
+    pub fn next(&mut self) -> Result<Option<Record>, WalkFault>
+        // A record that is given is the first of the walk of what was unread.
+        ensures record { IfOk result (λ found. IfSome found (λ r. FromTo (unread R.remaining self.old) (unread R.remaining self.new) (λ text rest.
+            walk_left L.WORD self.old text ≡ with_first (key_value r) (walk_left L.WORD self.new rest)))) }
+        // At `None` that walk has ended, with no damage.
+        ensures end { IfOk result (λ found. IfNone found (IfSome (unread R.remaining self.old) (λ text. walk_left L.WORD self.old text ≡ no_walk) × HasEnded self.new)) }
+        // A fault of the file is the damage of that walk, with no record before it.
+        ensures exact { IfErr result (λ fault. IsDamage fault → IfSome (unread R.remaining self.old) (λ text. walk_left L.WORD self.old text ≡ damaged fault)) }
+        // What stands behind the record end stays unread; after `None` it is all that is unread.
+        ensures behind { OnOk result (FromTo (unread R.remaining self.old) (unread R.remaining self.new) (λ text rest. behind_end L.WORD self.new rest ≡ behind_end L.WORD self.old text)) }
+        ensures still_behind { OnErr result (FromTo (unread R.remaining self.old) (unread R.remaining self.new) (λ text rest. (more : List ℕ) × (rest ≡ more ++ behind_end L.WORD self.old text))) }
+        // After the end and after a fault nothing is read, and the answer stays.
+        ensures ended { HasEnded self.old → (result ≡ Ok None) × (self.new ≡ self.old) }
+        ensures failed { (fault : _) → HasFailed self.old fault → (result ≡ Err fault) × (self.new ≡ self.old) }
+        ensures fails { IfErr result (HasFailed self.new) }
+        ensures goes_on { IfOk result (λ found. IfSome found (λ _. IsGoing self.new × (bytes_left self.new < bytes_left self.old))) }
+    {
+        let answer = match self.walking {
+            Walking::AtHead => self.first(),
+            Walking::At(area) => self.record(area),
+            Walking::AtEnd => return Ok(None),
+            Walking::Failed(fault) => return Err(fault),
+        };
+        match &answer {
+            Ok(Some(_)) => {}
+            Ok(None) => self.walking = Walking::AtEnd,
+            Err(fault) => self.walking = Walking::Failed(*fault),
+        }
+        answer
+    }
+
+    // The first record of the file, behind its head.
+    fn first(&mut self) -> Result<Option<Record>, WalkFault>
+        ensures record { IfOk result (λ found. IfSome found (λ r. FromTo (unread R.remaining self.old) (unread R.remaining self.new) (λ text rest.
+            (walk_of L.WORD text ≡ with_first (key_value r) (walk_left L.WORD self.new rest))
+            × (behind_end L.WORD self.new rest ≡ drop (record_end L.WORD text) text)))) }
+        ensures fewer { IfOk result (λ found. IfSome found (λ _. IsGoing self.new × (bytes_left self.new < 2 ^ 64))) }
+        ensures end { IfOk result (λ found. IfNone found (FromTo (unread R.remaining self.old) (unread R.remaining self.new) (λ text rest.
+            (walk_of L.WORD text ≡ no_walk) × (rest ≡ drop (record_end L.WORD text) text)))) }
+        ensures after_head { OnOk result (IfSome (unread R.remaining self.old) (λ text. head_size L.WORD ≤ record_end L.WORD text)) }
+        ensures fails { IfErr result (λ f. IsDamage f → IfSome (unread R.remaining self.old) (λ text. walk_of L.WORD text ≡ damaged f)) }
+        ensures still_behind { OnErr result (FromTo (unread R.remaining self.old) (unread R.remaining self.new) (λ text rest. (more : List ℕ) × (rest ≡ more ++ drop (max (head_size L.WORD) (record_end L.WORD text)) text))) }
+    {
+        let area = read_area::<R, L>(&mut self.reader)?;
+        self.record(area)
     }
 
     // The record at the next place, unless that is the record end.
