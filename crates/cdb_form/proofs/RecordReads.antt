@@ -1,11 +1,14 @@
 -- What the parts of a record that were read say of the walk of what was unread.
-use Rattle.std.proofs.Common.{◌≡◌, ℕ, ◌+◌, ◌-◌, ◌*◌, ◌<◌, ◌≤◌, ◌⊎◌, List, [], ◌++◌, length, drop, refl, sym, ap, ◌∙◌, arith, inl, inr, Option, Some, None, IfSome, append_assoc, length-append}
+use Rattle.std.proofs.Common.{◌≡◌, ℕ, ◌+◌, ◌-◌, ◌*◌, ◌<◌, ◌≤◌, ◌⊎◌, List, [], ◌++◌, length, take, drop, replicate, refl, sym, ap, subst, ◌∙◌, arith, inl, inr, Option, Some, None, IfSome, append_assoc, length-append}
 use Rattle.std.specs.Io.KnownBytes.{Consumes}
+use Rattle.std.proofs.lemmas.List.{length-take-le, length-replicate, take_at}
 use Rattle.cdb_form.specs.KnownBytes.{LosesAtMost, FromTo}
 use Rattle.cdb_form.specs.Layout.{KeyValue, Words, weight}
 use Rattle.cdb_form.specs.Reading.{words_at}
 use Rattle.cdb_form.specs.Walk.{front_size, walk_from, damaged, with_first}
+use Rattle.cdb_form.specs.Words.{header_words}
 use Rattle.cdb_form.specs.declared.walk_fault.WalkFault.{WalkFault}
+use Rattle.cdb_form.specs.declared.words.Header.{Header}
 use Rattle.cdb_form.specs.declared.walk_fault.WalkFault.TheVariants.{Record}
 use Rattle.cdb_form.proofs.Fronts.{lengths_of, Begins, front_reads}
 use Rattle.cdb_form.proofs.SourceLemmas.{consumes_then}
@@ -13,6 +16,29 @@ use Rattle.cdb_form.proofs.WalkSteps.{walk_from-no_header, walk_from-no_body, wa
 
 abbrev pub StopsAt : ℕ → ℕ → ℕ → WalkFault → Option (List ℕ) → Type 0
 StopsAt w place end fault old = IfSome old (λ text. walk_from w place end text ≡ damaged fault)
+
+-- the bytes that a header is read into
+zeros_long : (w word : ℕ) → word ≡ w → (w ≡ 4) ⊎ (w ≡ 8) → length (take (2 * word) (replicate {A = ℕ} 512 0)) ≡ 2 * w
+zeros_long w word e width =
+    let small : 2 * word ≤ 512 = elim width [ inl a ↦ omega arith | inr b ↦ omega arith ] in
+    length-take-le (2 * word) (replicate {A = ℕ} 512 0) (omega (arith, length-replicate {A = ℕ} 512 0)) ∙ ap (λ (n : ℕ). 2 * n) e
+
+-- a header that was read, and what it tells
+pub record HeaderTold (w : ℕ) (xs : List ℕ) (h : Header) : Type 0 where
+  pub long : length xs ≡ 2 * w
+  pub words : words_at w xs ≡ header_words h
+  pub size : front_size w xs ≡ 2 * w + h.klen + h.vlen
+
+pub header_told : (w word : ℕ) (xs rest : List ℕ) (h : Header) → word ≡ w → (w ≡ 4) ⊎ (w ≡ 8) → length xs ≡ length (take (2 * word) (replicate {A = ℕ} 512 0)) → header_words h ≡ words_at w (take (2 * word) (xs ++ rest)) → HeaderTold w xs h
+header_told w word xs rest h e width same read =
+    let long : length xs ≡ 2 * w = same ∙ zeros_long w word e width in
+    let twice : length xs ≡ 2 * word = long ∙ sym (ap (λ (n : ℕ). 2 * n) e) in
+    let words : words_at w xs ≡ header_words h = sym (read ∙ ap (words_at w) (take_at xs rest (2 * word) twice)) in
+    record { long = long; words = words; size = ap (λ (p : Words). 2 * w + p.first + p.second) words }
+
+-- the file ends within the bytes that were asked for
+pub header_short : (w word : ℕ) (old : Option (List ℕ)) → word ≡ w → (w ≡ 4) ⊎ (w ≡ 8) → IfSome old (λ text. length text < length (take (2 * word) (replicate {A = ℕ} 512 0))) → IfSome old (λ text. length text < 2 * w)
+header_short w word old e width h = subst (λ (n : ℕ). IfSome old (λ t. length t < n)) (zeros_long w word e width) h
 
 -- no header fits before the record end
 pub no_room : (w place end : ℕ) (old : Option (List ℕ)) → place < end → end - place < 2 * w → StopsAt w place end (Record place) old
