@@ -17,3 +17,4 @@ pub mod AskingLemmas
 pub mod TableLemmas
 pub mod AreaLemmas
 pub mod RecordReads
+pub mod StreamLemmas

@@ -128,8 +128,8 @@ impl<R: Read, L: Width> RecordReader<R, L> {
             (walk_of L.WORD text ≡ with_first (key_value r) (walk_left L.WORD self.new rest))
             × (behind_end L.WORD self.new rest ≡ drop (record_end L.WORD text) text)))) }
         ensures fewer { IfOk result (λ found. IfSome found (λ _. IsGoing self.new × (bytes_left self.new < 2 ^ 64))) }
-        ensures end { IfOk result (λ found. IfNone found (FromTo (unread R.remaining self.old) (unread R.remaining self.new) (λ text rest.
-            (walk_of L.WORD text ≡ no_walk) × (rest ≡ drop (record_end L.WORD text) text)))) }
+        ensures end { IfOk result (λ found. IfNone found (IfSome (unread R.remaining self.old) (λ text. walk_of L.WORD text ≡ no_walk))) }
+        ensures behind { IfOk result (λ found. IfNone found (FromTo (unread R.remaining self.old) (unread R.remaining self.new) (λ text rest. rest ≡ drop (record_end L.WORD text) text))) }
         ensures after_head { OnOk result (IfSome (unread R.remaining self.old) (λ text. head_size L.WORD ≤ record_end L.WORD text)) }
         ensures fails { IfErr result (λ f. IsDamage f → IfSome (unread R.remaining self.old) (λ text. walk_of L.WORD text ≡ damaged f)) }
         ensures still_behind { OnErr result (FromTo (unread R.remaining self.old) (unread R.remaining self.new) (λ text rest. (more : List ℕ) × (rest ≡ more ++ drop (max (head_size L.WORD) (record_end L.WORD text)) text))) }
@@ -144,9 +144,9 @@ impl<R: Read, L: Width> RecordReader<R, L> {
             (walk_from L.WORD area.place area.end text ≡ with_first (key_value r) (walk_left L.WORD self.new rest))
             × (behind_end L.WORD self.new rest ≡ drop (area.end - area.place) text)))) }
         ensures fewer { IfOk result (λ found. IfSome found (λ _. IsGoing self.new × (bytes_left self.new < area.end - area.place))) }
-        ensures end { IfOk result (λ found. IfNone found ((area.place ≡ area.end) × (self.new ≡ self.old))) }
+        ensures end { IfOk result (λ found. IfNone found (IfSome (unread R.remaining self.old) (λ text. walk_from L.WORD area.place area.end text ≡ no_walk) × (area.place ≡ area.end) × (self.new ≡ self.old))) }
         ensures fails { IfErr result (λ f. IsDamage f → IfSome (unread R.remaining self.old) (λ text. walk_from L.WORD area.place area.end text ≡ damaged f)) }
-        ensures loses { LosesAtMost (unread R.remaining self.old) (unread R.remaining self.new) (area.end - area.place) }
+        ensures still_behind { OnErr result (FromTo (unread R.remaining self.old) (unread R.remaining self.new) (λ text rest. (more : List ℕ) × (rest ≡ more ++ drop (area.end - area.place) text))) }
     {
         if area.place == area.end {
             return Ok(None);
