@@ -9,6 +9,8 @@ pub mod Stops
 pub mod TextLaws
 pub mod RecordLemmas
 pub mod Sizes
+pub mod Places
+pub mod WholeText
 pub mod Fronts
 pub mod WalkSteps
 pub mod Standing

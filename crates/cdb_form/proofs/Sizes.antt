@@ -1,17 +1,52 @@
 -- How long the parts of a file are.
-use Rattle.std.proofs.Common.{◌≡◌, ℕ, zero, suc, ◌+◌, ◌*◌, ◌<◌, ◌%◌, Bool, true, false, cond, List, [], ◌∷◌, ◌++◌, length, drop, map, flat_map, refl, sym, ap, ◌∙◌, arith, nat_eq, nat_lt, length-append, fold, length-set, append_assoc}
-use Rattle.std.specs.Prelude.{replicate, sum_by}
-use Rattle.std.specs.List.{range_with_len, filter}
+use Rattle.std.proofs.Common.{◌≡◌, ℕ, zero, suc, ◌+◌, ◌*◌, ◌/◌, ◌%◌, ◌<◌, ◌≤◌, Bool, true, false, cond, List, [], ◌∷◌, ◌++◌, length, map, flat_map, refl, sym, ap, ◌∙◌, arith, nat_eq, nat_lt, length-append, fold, length-set, replicate, ◌⊎◌, inl, inr}
+use Rattle.std.specs.List.{filter, range_with_len}
+use Rattle.std.specs.Prelude.{sum_by, All}
 use Rattle.std.proofs.lemmas.Bool.Decides.{nat_tests}
-use Rattle.std.proofs.lemmas.List.{length-replicate, drop_at, drop-drop}
+use Rattle.std.proofs.lemmas.List.{length-replicate, length-map}
+use Rattle.std.proofs.lemmas.List.Concat.{length-flat_map}
 use Rattle.std.proofs.lemmas.List.Sums.{sum_by-cons}
-use Rattle.std.proofs.lemmas.List.FromFn.{length-map-range_with_len, sum_by-map-range_with_len_more}
-use Rattle.byteorder.specs.Numbers.{length-bytes_low_first}
-use Rattle.cdb_form.specs.Layout.{KeyValue, Words, words_bytes, record_bytes, weight, head_size, end_of, size_of, empty_slot, in_table, located_from, located, entries_of, with_entry, filled, table_with, table_of, tables_of, pointers_from, pointers_of, file_of}
+use Rattle.std.proofs.lemmas.List.FromFn.{sum_by-map-range_with_len_more, length-map-range_with_len}
+use Rattle.std.proofs.lemmas.List.Elements.{All-cons, All-nil}
+use Rattle.cdb_form.specs.Layout.{KeyValue, Words, in_table, with_entry, filled, located, located_from, entries_of, table_with, table_of, tables_of, pointers_from, pointers_of, weight, head_size, end_of, size_of, words_bytes, record_bytes, file_of, empty_slot}
+use Rattle.cdb_form.specs.Words.{WordsFit}
 use Rattle.cdb_form.proofs.HeadLemmas.{length-flat_map_words}
+use Rattle.byteorder.specs.Numbers.{length-bytes_low_first}
 
--- entries of the tables below k
-unfoldable pub below_table : ℕ → Words → Bool
+-- a table keeps its number of slots
+length-with_entry : (slots : List Words) (e : Words) → length (with_entry slots e) ≡ length slots
+unfolding with_entry
+length-with_entry slots e = length-set slots _ e
+
+length-filled_from : (es slots : List Words) → length (fold with_entry slots es) ≡ length slots
+length-filled_from [] slots = refl
+length-filled_from (e ∷ es) slots = length-filled_from es (with_entry slots e) ∙ length-with_entry slots e
+
+pub length-table_with : (es : List Words) → length (table_with es) ≡ 2 * length es
+unfolding filled
+length-table_with es = length-filled_from es (replicate (2 * length es) empty_slot) ∙ length-replicate (2 * length es) empty_slot
+
+-- a record, and the records
+pub length-record_bytes : (w : ℕ) (r : KeyValue) → length (record_bytes w r) ≡ weight w r
+unfolding record_bytes
+length-record_bytes w r = simp (length-append, length-bytes_low_first) (omega arith)
+
+pub length-records : (w : ℕ) (rs : List KeyValue) → length (flat_map (record_bytes w) rs) ≡ sum_by (weight w) rs
+length-records w [] = refl
+length-records w (r ∷ rs) =
+    let ih = length-records w rs in
+    let s = sum_by-cons (weight w) r rs in
+    let one : length (record_bytes w r) ≡ weight w r = length-record_bytes w r in
+    let all : length (record_bytes w r ++ flat_map (record_bytes w) rs) ≡ length (record_bytes w r) + length (flat_map (record_bytes w) rs) = length-append (record_bytes w r) (flat_map (record_bytes w) rs) in
+    omega (arith, ih, s, one, all)
+
+pub length-located : (w at : ℕ) (rs : List KeyValue) → length (located_from w at rs) ≡ length rs
+unfolding located_from
+length-located w at [] = refl
+length-located w at (r ∷ rs) = let h = length-located w (at + weight w r) rs in omega (arith, h)
+
+-- the entries of the tables below k, table by table
+below_table : ℕ → Words → Bool
 below_table k e = nat_lt (e.first % 256) k
 
 one_more_table : (k x : ℕ) (a b c : ℕ) → c ≡ a + b → cond (nat_lt x (k + 1)) (suc c) c ≡ cond (nat_lt x k) (suc a) a + cond (nat_eq x k) (suc b) b
@@ -21,149 +56,99 @@ length_kept : (b : Bool) (e : Words) (xs : List Words) → length (cond b (e ∷
 length_kept true e xs = refl
 length_kept false e xs = refl
 
-pub length-filter_below : (k : ℕ) (es : List Words) → length (filter (below_table (k + 1)) es) ≡ length (filter (below_table k) es) + length (filter (in_table k) es)
+length-filter_below : (k : ℕ) (es : List Words) → length (filter (below_table (k + 1)) es) ≡ length (filter (below_table k) es) + length (filter (in_table k) es)
 unfolding below_table
 length-filter_below k [] = omega arith
 length-filter_below k (e ∷ es) =
     let ih = length-filter_below k es in
     simp length_kept (one_more_table k (e.first % 256) (length (filter (below_table k) es)) (length (filter (in_table k) es)) (length (filter (below_table (k + 1)) es)) ih)
 
--- no entry is in a table below 0, and each is in one below 256
-pub none_below : (es : List Words) → length (filter (below_table 0) es) ≡ 0
+none_below : (es : List Words) → length (filter (below_table 0) es) ≡ 0
 unfolding below_table
 none_below [] = refl
 none_below (e ∷ es) = let ih = none_below es in grind (arith, nat_tests)
 
-pub all_below : (es : List Words) → length (filter (below_table 256) es) ≡ length es
+all_below : (es : List Words) → length (filter (below_table 256) es) ≡ length es
 unfolding below_table
 all_below [] = refl
 all_below (e ∷ es) = let ih = all_below es in let small : e.first % 256 < 256 = omega arith in grind (arith, nat_tests)
 
--- a table keeps its number of slots
-pub length-with_entry : (slots : List Words) (e : Words) → length (with_entry slots e) ≡ length slots
-unfolding with_entry
-length-with_entry slots e = length-set slots _ e
-
-pub length-filled_from : (es slots : List Words) → length (fold with_entry slots es) ≡ length slots
-length-filled_from [] slots = refl
-length-filled_from (e ∷ es) slots = length-filled_from es (with_entry slots e) ∙ length-with_entry slots e
-
-pub length-filled : (slots : ℕ) (es : List Words) → length (filled slots es) ≡ slots
-unfolding filled
-length-filled slots es = length-filled_from es (replicate slots empty_slot) ∙ length-replicate slots empty_slot
-
-pub length-record_bytes : (w : ℕ) (r : KeyValue) → length (record_bytes w r) ≡ weight w r
-unfolding record_bytes
-length-record_bytes w r = simp (length-append, length-bytes_low_first) (omega arith)
-
-pub length-records_bytes : (w : ℕ) (rs : List KeyValue) → length (flat_map (record_bytes w) rs) ≡ sum_by (weight w) rs
-length-records_bytes w [] = refl
-length-records_bytes w (r ∷ rs) =
-    let one = length-record_bytes w r in
-    let more = length-records_bytes w rs in
-    let both = sum_by-cons (weight w) r rs in
-    length-append (record_bytes w r) (flat_map (record_bytes w) rs) ∙ omega arith
-
-pub length-located : (w at : ℕ) (rs : List KeyValue) → length (located_from w at rs) ≡ length rs
-unfolding located_from
-length-located w at [] = refl
-length-located w at (r ∷ rs) = let h = length-located w (at + weight w r) rs in omega (arith, h)
-
--- how many slots some tables have
-abbrev pub slot_count : List (List Words) → ℕ
-slot_count ts = sum_by (λ (t : List Words). length t) ts
-
-pub slot_count-cons : (t : List Words) (ts : List (List Words)) → slot_count (t ∷ ts) ≡ length t + slot_count ts
-slot_count-cons t ts = sum_by-cons (λ (s : List Words). length s) t ts
-
--- tables as bytes
-abbrev pub tables_bytes : ℕ → List (List Words) → List ℕ
-tables_bytes w ts = flat_map (flat_map (words_bytes w)) ts
-
-pub length-tables_bytes : (w : ℕ) (ts : List (List Words)) → length (tables_bytes w ts) ≡ 2 * w * slot_count ts
-length-tables_bytes w [] = omega arith
-length-tables_bytes w (t ∷ ts) =
-    let both = slot_count-cons t ts in
-    let here = length-flat_map_words w t in
-    let rest = length-tables_bytes w ts in
-    let all = length-append (flat_map (words_bytes w) t) (tables_bytes w ts) in
-    rw both (omega arith)
-
-pub length-table_of : (w : ℕ) (rs : List KeyValue) (n : ℕ) → length (table_of w rs n) ≡ 2 * length (entries_of w rs n)
-unfolding table_of
-length-table_of w rs n = length-filled (2 * length (entries_of w rs n)) (entries_of w rs n)
-
-pub length-tables_of : (w : ℕ) (rs : List KeyValue) → length (tables_of w rs) ≡ 256
-unfolding tables_of
-length-tables_of w rs = length-map-range_with_len (table_of w rs) 0 256
-
-zero_plus : (n : ℕ) → 0 + n ≡ n
-zero_plus n = omega arith
-
-doubled : (a b c d x : ℕ) → a ≡ 2 * c → b ≡ 2 * d → x ≡ c + d → a + b ≡ 2 * x
-doubled a b c d x p q r = omega arith
-
--- the tables below table k have twice as many slots as entries
-slot_count_below : (w : ℕ) (rs : List KeyValue) (k : ℕ) → slot_count (map (table_of w rs) (range_with_len 0 k)) ≡ 2 * length (filter (below_table k) (located w rs))
+counts_below : (w : ℕ) (rs : List KeyValue) (k : ℕ) → sum_by length (map (entries_of w rs) (range_with_len 0 k)) ≡ length (filter (below_table k) (located w rs))
 unfolding entries_of
-slot_count_below w rs zero = ap (λ n. 2 * n) (sym (none_below (located w rs)))
-slot_count_below w rs (suc k) =
-    let e : suc k ≡ k + 1 = omega arith in
-    let more = sum_by-map-range_with_len_more (λ (t : List Words). length t) (table_of w rs) 0 k k (zero_plus k) in
-    let here = length-table_of w rs k in
-    let ih = slot_count_below w rs k in
+counts_below w rs zero = sym (none_below (located w rs))
+counts_below w rs (suc k) =
+    let ih = counts_below w rs k in
+    let more = sum_by-map-range_with_len_more length (entries_of w rs) 0 k k (omega arith) in
     let split = length-filter_below k (located w rs) in
-    ap (λ n. slot_count (map (table_of w rs) (range_with_len 0 n))) e ∙ more ∙ doubled _ _ _ _ _ ih here split ∙ ap (λ n. 2 * length (filter (below_table n) (located w rs))) (sym e)
+    let e : suc k ≡ k + 1 = omega arith in
+    ap (λ (n : ℕ). sum_by length (map (entries_of w rs) (range_with_len 0 n))) e ∙ more ∙ ap (λ (n : ℕ). n + length (filter (in_table k) (located w rs))) ih ∙ sym split ∙ ap (λ (n : ℕ). length (filter (below_table n) (located w rs))) (sym e)
 
--- each record has two slots
-pub slot_count-tables_of : (w : ℕ) (rs : List KeyValue) → slot_count (tables_of w rs) ≡ 2 * length rs
-unfolding tables_of
-slot_count-tables_of w rs = slot_count_below w rs 256 ∙ ap (λ n. 2 * n) (all_below (located w rs) ∙ length-located w (head_size w) rs)
+-- each record is in one table
+pub sum_by-entries_of : (w : ℕ) (rs : List KeyValue) → sum_by length (map (entries_of w rs) (range_with_len 0 256)) ≡ length rs
+sum_by-entries_of w rs = counts_below w rs 256 ∙ all_below (located w rs) ∙ length-located w (head_size w) rs
+
+-- the tables from the entries
+map_of_map : (w : ℕ) (rs : List KeyValue) (ns : List ℕ) → map (λ n. table_with (entries_of w rs n)) ns ≡ map table_with (map (entries_of w rs) ns)
+map_of_map w rs [] = refl
+map_of_map w rs (n ∷ ns) = ap (λ t. table_with (entries_of w rs n) ∷ t) (map_of_map w rs ns)
+
+pub tables_are : (w : ℕ) (rs : List KeyValue) → tables_of w rs ≡ map table_with (map (entries_of w rs) (range_with_len 0 256))
+unfolding tables_of table_of
+tables_are w rs = map_of_map w rs (range_with_len 0 256)
+
+tables_size : (w : ℕ) (ls : List (List Words)) → sum_by (λ t. length (flat_map (words_bytes w) t)) (map table_with ls) ≡ 4 * w * sum_by length ls
+tables_size w [] = omega arith
+tables_size w (l ∷ ls) =
+    let ih = tables_size w ls in
+    let one : length (flat_map (words_bytes w) (table_with l)) ≡ 4 * w * length l = length-flat_map_words w (table_with l) ∙ ap (λ (n : ℕ). 2 * w * n) (length-table_with l) ∙ omega arith in
+    let s = sum_by-cons (λ t. length (flat_map (words_bytes w) t)) (table_with l) (map table_with ls) in
+    let t = ap (λ (n : ℕ). 4 * w * n) (sum_by-cons length l ls) in
+    omega (arith, ih, one, s, t)
 
 pub length-pointers_from : (w at : ℕ) (ts : List (List Words)) → length (pointers_from w at ts) ≡ length ts
 unfolding pointers_from
 length-pointers_from w at [] = refl
-length-pointers_from w at (t ∷ ts) = let h = length-pointers_from w (at + 2 * w * length t) ts in omega arith
+length-pointers_from w at (t ∷ ts) = let ih = length-pointers_from w (at + 2 * w * length t) ts in omega (arith, ih)
 
-pub length-pointers_of : (w : ℕ) (rs : List KeyValue) → length (pointers_of w rs) ≡ 256
-unfolding pointers_of
-length-pointers_of w rs = length-pointers_from w (end_of w rs) (tables_of w rs) ∙ length-tables_of w rs
+-- the records' own bytes and two slots for each
+pub size_split : (w : ℕ) (rs : List KeyValue) → sum_by (λ r. weight w r + 4 * w) rs ≡ sum_by (weight w) rs + 4 * w * length rs
+size_split w [] = omega arith
+size_split w (x ∷ xs) = omega (arith, size_split w xs, sum_by-cons (weight w) x xs, sum_by-cons (λ r. weight w r + 4 * w) x xs)
 
--- the head as bytes
-abbrev pub head_bytes : ℕ → List KeyValue → List ℕ
-head_bytes w rs = flat_map (words_bytes w) (pointers_of w rs)
-
-pub length-head_bytes : (w : ℕ) (rs : List KeyValue) → length (head_bytes w rs) ≡ head_size w
-length-head_bytes w rs = length-flat_map_words w (pointers_of w rs) ∙ ap (λ n. 2 * w * n) (length-pointers_of w rs) ∙ omega arith
-
--- the file, and what of it stands behind the head
-pub file_of_is : (w : ℕ) (rs : List KeyValue) → file_of w rs ≡ head_bytes w rs ++ (flat_map (record_bytes w) rs ++ tables_bytes w (tables_of w rs))
-unfolding file_of
-file_of_is w rs = append_assoc (head_bytes w rs) (flat_map (record_bytes w) rs) (tables_bytes w (tables_of w rs))
-
-pub drop-head : (w : ℕ) (rs : List KeyValue) → drop (head_size w) (file_of w rs) ≡ flat_map (record_bytes w) rs ++ tables_bytes w (tables_of w rs)
-drop-head w rs = ap (drop (head_size w)) (file_of_is w rs) ∙ drop_at (head_bytes w rs) (flat_map (record_bytes w) rs ++ tables_bytes w (tables_of w rs)) (head_size w) (length-head_bytes w rs)
-
--- the size is the end of the records, and two slots for each
-sizes : (w : ℕ) (rs : List KeyValue) → sum_by (λ r. weight w r + 4 * w) rs ≡ sum_by (weight w) rs + 2 * w * (2 * length rs)
-sizes w [] = omega arith
-sizes w (r ∷ rs) =
-    let a = sum_by-cons (λ q. weight w q + 4 * w) r rs in
-    let b = sum_by-cons (weight w) r rs in
-    let ih = sizes w rs in
-    omega arith
-
-pub size_of_is : (w : ℕ) (rs : List KeyValue) → size_of w rs ≡ end_of w rs + 2 * w * (2 * length rs)
-size_of_is w rs = let h = sizes w rs in omega arith
-
--- the file has its size
+-- the file has the size that is counted
 pub length-file_of : (w : ℕ) (rs : List KeyValue) → length (file_of w rs) ≡ size_of w rs
+unfolding file_of pointers_of
 length-file_of w rs =
-    let whole = ap length (file_of_is w rs) in
-    let a = length-append (head_bytes w rs) (flat_map (record_bytes w) rs ++ tables_bytes w (tables_of w rs)) in
-    let b = length-append (flat_map (record_bytes w) rs) (tables_bytes w (tables_of w rs)) in
-    let c = length-head_bytes w rs in
-    let d = length-records_bytes w rs in
-    let e : length (tables_bytes w (tables_of w rs)) ≡ 2 * w * (2 * length rs) = length-tables_bytes w (tables_of w rs) ∙ ap (λ n. 2 * w * n) (slot_count-tables_of w rs) in
-    let f = size_of_is w rs in
-    omega arith
+    let ls = map (entries_of w rs) (range_with_len 0 256) in
+    let t = tables_are w rs in
+    let n : length (map table_with ls) ≡ 256 = length-map ls table_with ∙ length-map-range_with_len (entries_of w rs) 0 256 in
+    let head : length (flat_map (words_bytes w) (pointers_from w (end_of w rs) (tables_of w rs))) ≡ 2 * w * 256 =
+        length-flat_map_words w (pointers_from w (end_of w rs) (tables_of w rs)) ∙ ap (λ (k : ℕ). 2 * w * k) (length-pointers_from w (end_of w rs) (tables_of w rs) ∙ ap length t ∙ n) in
+    let tables : length (flat_map (flat_map (words_bytes w)) (tables_of w rs)) ≡ 4 * w * length rs =
+        length-flat_map (flat_map (words_bytes w)) (tables_of w rs) ∙ ap (sum_by (λ t. length (flat_map (words_bytes w) t))) t ∙ tables_size w ls ∙ ap (λ (k : ℕ). 4 * w * k) (sum_by-entries_of w rs) in
+    let a = length-append (flat_map (words_bytes w) (pointers_from w (end_of w rs) (tables_of w rs)) ++ flat_map (record_bytes w) rs) (flat_map (flat_map (words_bytes w)) (tables_of w rs)) in
+    let b = length-append (flat_map (words_bytes w) (pointers_from w (end_of w rs) (tables_of w rs))) (flat_map (record_bytes w) rs) in
+    let records = length-records w rs in
+    let split = size_split w rs in
+    omega (arith, a, b, head, tables, records, split)
+
+pub end_below_size : (w : ℕ) (rs : List KeyValue) → end_of w rs ≤ size_of w rs
+end_below_size w rs = let s = size_split w rs in omega arith
+
+-- a count of slots fits where their bytes do
+pub slots_within : (w n : ℕ) → (w ≡ 4) ⊎ (w ≡ 8) → 2 * n ≤ 4 * w * n
+slots_within w n (inl e) = let p : 4 * w * n ≡ 16 * n = ap (λ (k : ℕ). 4 * k * n) e ∙ omega arith in omega arith
+slots_within w n (inr e) = let p : 4 * w * n ≡ 32 * n = ap (λ (k : ℕ). 4 * k * n) e ∙ omega arith in omega arith
+
+-- pointers fit where the tables end within the greatest word
+pub pointers_fit : (w at top : ℕ) (ls : List (List Words)) → (w ≡ 4) ⊎ (w ≡ 8) → at + 4 * w * sum_by length ls ≤ top → All (WordsFit top) (pointers_from w at (map table_with ls))
+unfolding pointers_from
+pointers_fit w at top [] ww h = All-nil (WordsFit top)
+pointers_fit w at top (l ∷ ls) ww h =
+    let t : length (table_with l) ≡ 2 * length l = length-table_with l in
+    let next : at + 2 * w * length (table_with l) ≡ at + 4 * w * length l = ap (λ (n : ℕ). at + 2 * w * n) t ∙ omega arith in
+    let s = ap (λ (n : ℕ). 4 * w * n) (sum_by-cons length l ls) in
+    let few = slots_within w (length l) ww in
+    All-cons (WordsFit top) _ (pointers_from w (at + 2 * w * length (table_with l)) (map table_with ls))
+        (record { first = omega (arith, s, h); second = omega (arith, s, h, few, t) })
+        (pointers_fit w (at + 2 * w * length (table_with l)) top ls ww (omega (arith, s, h, next)))

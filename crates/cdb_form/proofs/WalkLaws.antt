@@ -1,12 +1,13 @@
 -- The walk of any file, and of the file of some records.
-use Rattle.std.proofs.Common.{◌≡◌, ℕ, zero, suc, ◌+◌, ◌-◌, ◌*◌, ◌^◌, ◌<◌, ◌≤◌, List, [], ◌∷◌, ◌++◌, length, take, drop, map, flat_map, fold, refl, sym, ap, ◌∙◌, subst, arith, inl, inr, append_assoc, length-append, length-take, length-drop}
+use Rattle.std.proofs.Common.{◌≡◌, ℕ, zero, suc, ◌+◌, ◌-◌, ◌*◌, ◌^◌, ◌<◌, ◌≤◌, ◌⊎◌, List, [], ◌∷◌, ◌++◌, length, take, drop, map, flat_map, fold, refl, sym, ap, ◌∙◌, subst, arith, inl, inr, append_assoc, length-append, length-take, length-drop}
 use Rattle.std.specs.Prelude.{Option, Some, None, ◌==◌, not, min, unwrap_or, filter, sum_by}
 use Rattle.std.specs.List.{AllByRecursion, range_with_len, reduce}
 use Rattle.std.proofs.lemmas.List.{nil_from_length, append-nil, take_at, take-append-drop, take-take}
 use Rattle.std.proofs.lemmas.List.Sums.{sum_by-cons}
 use Rattle.std.proofs.lemmas.Bool.{cond-true, cond-false, cond_both, ne_eqb, eq-eqb, not_from_true, not_from_false, cases_eq}
+use Rattle.std.proofs.lemmas.List.Elements.{recursion_from_All}
 use Rattle.byteorder.specs.Numbers.{little_from-lt}
-use Rattle.cdb_form.specs.Layout.{AreBytes, KeyValue, Words, words_bytes, weight, record_bytes, tables_of, pointers_from, pointers_of, head_size, end_of, size_of, file_of}
+use Rattle.cdb_form.specs.Layout.{AreBytes, KeyValue, Words, words_bytes, weight, record_bytes, entries_of, table_with, tables_of, pointers_from, pointers_of, head_size, end_of, size_of, file_of}
 use Rattle.cdb_form.specs.Reading.{head_at, nth_words}
 use Rattle.cdb_form.specs.Words.{WordsFit}
 use Rattle.cdb_form.specs.Walk.{Walked, has_slots, least_place, record_end, whole_records, walk_from, walk_of}
@@ -14,7 +15,8 @@ use Rattle.cdb_form.specs.declared.walk_fault.WalkFault.{WalkFault}
 use Rattle.cdb_form.specs.declared.walk_fault.WalkFault.TheVariants.{Record}
 use Rattle.cdb_form.specs.WalkLaws.{Stand, StandLongest, HasHead, IsWalk, WalksBack}
 use Rattle.cdb_form.proofs.ReadBack.{map-nth_words}
-use Rattle.cdb_form.proofs.Sizes.{slot_count, slot_count-cons, tables_bytes, length-pointers_of, slot_count-tables_of, length-records_bytes, file_of_is, drop-head, size_of_is, length-file_of}
+use Rattle.cdb_form.proofs.Places.{slot_count, tables_bytes, length-pointers_of, slot_count-tables_of, file_of_is, drop-head}
+use Rattle.cdb_form.proofs.Sizes.{length-records, size_split, length-file_of, pointers_fit, sum_by-entries_of, tables_are, slots_within}
 use Rattle.cdb_form.proofs.Fronts.{all_records, take_past}
 use Rattle.cdb_form.proofs.WalkSteps.{walk_with, walk_from-is, stopped, walk_of-short, walk_of-table, walk_of-records}
 use Rattle.cdb_form.proofs.Standing.{AreBytes-drop, lengths_fit, all_records-flat_map, whole_records-stand}
@@ -63,7 +65,7 @@ stand_longest w top bytes rs some top_is low s =
     let area : area_of w bytes ≡ flat_map (record_bytes w) rs ++ take (record_end w bytes - end_of w rs) (drop (sum_by (weight w) rs) (drop (head_size w) bytes)) =
     ap (λ k. take k (drop (head_size w) bytes)) long
     ∙ ap (take (sum_by (weight w) rs + (record_end w bytes - end_of w rs))) cut
-    ∙ take_past (flat_map (record_bytes w) rs) (drop (sum_by (weight w) rs) (drop (head_size w) bytes)) (sum_by (weight w) rs) (record_end w bytes - end_of w rs) (length-records_bytes w rs) in (
+    ∙ take_past (flat_map (record_bytes w) rs) (drop (sum_by (weight w) rs) (drop (head_size w) bytes)) (sum_by (weight w) rs) (record_end w bytes - end_of w rs) (length-records w rs) in (
       all_records w (take (record_end w bytes - end_of w rs) (drop (sum_by (weight w) rs) (drop (head_size w) bytes))),
       ap (all_records w) area ∙ all_records-flat_map w top rs (take (record_end w bytes - end_of w rs) (drop (sum_by (weight w) rs) (drop (head_size w) bytes))) some top_is (lengths_fit w top rs (omega arith)),
     )
@@ -74,7 +76,7 @@ all_records-stand w bytes are head =
     let whole = head.whole in
     let behind = head.behind in
     let stands = whole_records-stand w (length (area_of w bytes)) (area_of w bytes) (AreBytes-take (record_end w bytes - head_size w) (drop (head_size w) bytes) (AreBytes-drop (head_size w) bytes are)) in
-    let sum = length-records_bytes w (all_records w (area_of w bytes)) in
+    let sum = length-records w (all_records w (area_of w bytes)) in
     let long : length (area_of w bytes) ≡ sum_by (weight w) (all_records w (area_of w bytes)) + length stands.0 =
     ap length stands.1 ∙ length-append (flat_map (record_bytes w) (all_records w (area_of w bytes))) stands.0 ∙ ap (λ n. n + length stands.0) sum in
     let a = length-take (record_end w bytes - head_size w) (drop (head_size w) bytes) in
@@ -121,7 +123,7 @@ starts-none : (w at : ℕ) (ts : List (List Words)) → slot_count ts ≡ 0 → 
 unfolding pointers_from
 starts-none w at [] none = refl
 starts-none w at (t ∷ ts) none =
-    let both = slot_count-cons t ts in
+    let both = sum_by-cons length t ts in
     starts-empty w at t ts (omega arith) ∙ starts-none w (at + 2 * w * length t) ts (omega arith)
 
 all_above : (a b : ℕ) (xs : List ℕ) → a ≤ b → AllByRecursion (λ x. b ≤ x) xs → AllByRecursion (λ x. a ≤ x) xs
@@ -148,7 +150,7 @@ least_of at (x ∷ xs) all =
 least-some : (w at none : ℕ) (ts : List (List Words)) → 0 < slot_count ts → least_place none (pointers_from w at ts) ≡ at
 least-some w at none [] some = absurd (omega arith)
 least-some w at none (t ∷ ts) some =
-    let both = slot_count-cons t ts in
+    let both = sum_by-cons length t ts in
     elim (cases_eq (length t) 0) [
       | inl e ↦
           (ap (λ xs. unwrap_or (reduce min xs) none) (starts-empty w at t ts e)
@@ -159,42 +161,31 @@ least-some w at none (t ∷ ts) some =
           ∙ least_of at (starts_of (pointers_from w (at + 2 * w * length t) ts)) (all_above at (at + 2 * w * length t) (starts_of (pointers_from w (at + 2 * w * length t) ts)) (omega arith) (starts-above w (at + 2 * w * length t) ts)))
     ]
 
-le_times : (w x : ℕ) → 0 < w → x ≤ 2 * w * x
-le_times zero x h = absurd (omega arith)
-le_times (suc w) x h = omega arith
-
-Fit-pointers_from : (w top at : ℕ) (ts : List (List Words)) → slot_count ts ≤ top → at + 2 * w * slot_count ts ≤ top → AllByRecursion (WordsFit top) (pointers_from w at ts)
-unfolding pointers_from
-Fit-pointers_from w top at [] few room = tt
-Fit-pointers_from w top at (t ∷ ts) few room =
-    let both : slot_count (t ∷ ts) ≡ length t + slot_count ts = slot_count-cons t ts in
-    let room' : at + 2 * w * length t + 2 * w * slot_count ts ≤ top = subst (λ n. n ≤ top) (ap (λ n. at + 2 * w * n) both ∙ omega arith) room in
-    (record { first = omega arith; second = omega arith }, Fit-pointers_from w top (at + 2 * w * length t) ts (omega arith) room')
-
-pub Fit-pointers_of : (w top : ℕ) (rs : List KeyValue) → 0 < w → size_of w rs ≤ top → AllByRecursion (WordsFit top) (pointers_of w rs)
+pub Fit-pointers_of : (w top : ℕ) (rs : List KeyValue) → (w ≡ 4) ⊎ (w ≡ 8) → size_of w rs ≤ top → AllByRecursion (WordsFit top) (pointers_of w rs)
 unfolding pointers_of
-Fit-pointers_of w top rs some room =
-    let count = slot_count-tables_of w rs in
-    let size = size_of_is w rs in
-    let few = le_times w (2 * length rs) some in
-    Fit-pointers_from w top (end_of w rs) (tables_of w rs) (omega arith) (rw count (omega arith))
+Fit-pointers_of w top rs ww room =
+    let ls = map (entries_of w rs) (range_with_len 0 256) in
+    let size = size_split w rs in
+    let count = ap (λ (n : ℕ). 4 * w * n) (sum_by-entries_of w rs) in
+    subst (λ ts. AllByRecursion (WordsFit top) (pointers_from w (end_of w rs) ts)) (sym (tables_are w rs))
+    (recursion_from_All (WordsFit top) (pointers_from w (end_of w rs) (map table_with ls)) (pointers_fit w (end_of w rs) top ls ww (omega arith)))
 
 -- the head of the file reads as its pointers
-pub head_at-file_of : (w top : ℕ) (rs : List KeyValue) → 0 < w → top + 1 ≡ 256 ^ w → size_of w rs ≤ top → head_at w (file_of w rs) ≡ pointers_of w rs
+pub head_at-file_of : (w top : ℕ) (rs : List KeyValue) → (w ≡ 4) ⊎ (w ≡ 8) → top + 1 ≡ 256 ^ w → size_of w rs ≤ top → head_at w (file_of w rs) ≡ pointers_of w rs
 unfolding head_at
-head_at-file_of w top rs some top_is room =
+head_at-file_of w top rs ww top_is room =
     ap (λ b. map (nth_words w b) (range_with_len 0 256)) (file_of_is w rs)
-    ∙ map-nth_words w top 256 (pointers_of w rs) (flat_map (record_bytes w) rs ++ tables_bytes w (tables_of w rs)) top_is (length-pointers_of w rs) (Fit-pointers_of w top rs some room)
+    ∙ map-nth_words w top 256 (pointers_of w rs) (flat_map (record_bytes w) rs ++ tables_bytes w rs) top_is (length-pointers_of w rs) (Fit-pointers_of w top rs ww room)
 
 some_of : (n m : ℕ) → m ≡ 2 * n → (n ≡ 0 → ⊥) → 0 < m
 some_of zero m e h = absurd (h refl)
 some_of (suc n) m e h = omega arith
 
-pub record_end-file_of : (w top : ℕ) (rs : List KeyValue) → 0 < w → top + 1 ≡ 256 ^ w → size_of w rs ≤ top → record_end w (file_of w rs) ≡ end_of w rs
+pub record_end-file_of : (w top : ℕ) (rs : List KeyValue) → (w ≡ 4) ⊎ (w ≡ 8) → top + 1 ≡ 256 ^ w → size_of w rs ≤ top → record_end w (file_of w rs) ≡ end_of w rs
 unfolding record_end pointers_of
-record_end-file_of w top rs some top_is room =
+record_end-file_of w top rs ww top_is room =
     let count = slot_count-tables_of w rs in
-    ap (least_place (head_size w)) (head_at-file_of w top rs some top_is room) ∙ elim (cases_eq (length rs) 0) [
+    ap (least_place (head_size w)) (head_at-file_of w top rs ww top_is room) ∙ elim (cases_eq (length rs) 0) [
       | inl e ↦
           (let none = nil_from_length rs e in
           ap (λ xs. unwrap_or (reduce min xs) (head_size w)) (starts-none w (end_of w rs) (tables_of w rs) (omega arith))
@@ -203,19 +194,20 @@ record_end-file_of w top rs some top_is room =
     ]
 
 -- the law
-pub walk_of-file_of : (w top : ℕ) (rs : List KeyValue) → 0 < w → top + 1 ≡ 256 ^ w → size_of w rs ≤ top → WalksBack w rs
+pub walk_of-file_of : (w top : ℕ) (rs : List KeyValue) → (w ≡ 4) ⊎ (w ≡ 8) → top + 1 ≡ 256 ^ w → size_of w rs ≤ top → WalksBack w rs
 unfolding whole_records
-walk_of-file_of w top rs some top_is room =
+walk_of-file_of w top rs ww top_is room =
+    let some : 0 < w = elim ww [ inl a ↦ omega arith | inr b ↦ omega arith ] in
     let file = file_of w rs in
-    let size = size_of_is w rs in
+    let size = size_split w rs in
     let long = length-file_of w rs in
-    let end = record_end-file_of w top rs some top_is room in
+    let end = record_end-file_of w top rs ww top_is room in
     let head : HasHead w (file_of w rs) = record { whole = omega arith; behind = omega arith } in
     let n : record_end w (file_of w rs) - head_size w ≡ sum_by (weight w) rs = omega arith in
     let area : area_of w (file_of w rs) ≡ flat_map (record_bytes w) rs ++ [] =
     ap (λ k. take k (drop (head_size w) (file_of w rs))) n
     ∙ ap (take (sum_by (weight w) rs)) (drop-head w rs)
-    ∙ take_at (flat_map (record_bytes w) rs) (tables_bytes w (tables_of w rs)) (sum_by (weight w) rs) (length-records_bytes w rs)
+    ∙ take_at (flat_map (record_bytes w) rs) (tables_bytes w rs) (sum_by (weight w) rs) (length-records w rs)
     ∙ sym (append-nil (flat_map (record_bytes w) rs)) in
     let are : all_records w (area_of w (file_of w rs)) ≡ rs = ap (all_records w) area ∙ all_records-flat_map w top rs [] some top_is (lengths_fit w top rs (omega arith)) ∙ append-nil rs in
     walk_of-is w (file_of w rs) head

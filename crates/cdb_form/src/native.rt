@@ -1,6 +1,7 @@
 // Records out of a native text.
-ghost use Rattle.std.specs.Prelude.{◌≡◌, ◌≢◌, ℕ, List, ◌+◌, ◌*◌, ◌^◌, ◌<◌, ◌≤◌, [], ◌∷◌, ◌++◌, length, OnOk, OnErr, IfOk, IfErr, IfSome, IfNone, MatchOption, SomeIff};
-ghost use Rattle.std.specs.Io.KnownBytes.{Keeps, Consumes, IsAtEnd};
+ghost use Rattle.std.specs.Prelude.{◌≡◌, ◌≢◌, true, false, ℕ, List, ◌+◌, ◌*◌, ◌^◌, ◌<◌, ◌≤◌, [], ◌∷◌, ◌++◌, length, OnOk, OnErr, IfOk, IfErr, IfSome, IfNone, MatchBool, SomeIff};
+ghost use Rattle.std.specs.Bool.{OnTrue, OnFalse};
+ghost use Rattle.std.specs.Io.KnownBytes.{Consumes};
 ghost use Rattle.cdb_form.specs.Layout.{AreBytes};
 ghost use Rattle.cdb_form.specs.NativeText.{IsNumeral, ReadsRecord, HasFault, HasNoRecord};
 ghost use Rattle.cdb_form.specs.TextFaults.{FailsNumber, FailsByte, FailsBytes, FailsField, FailsRecord, IsOfText, IsSpent, ReadsBehindPlus};
@@ -15,7 +16,7 @@ use std::io::Read;
 use std::marker::PhantomData;
 
 /// How many bytes of a key or value are asked for at once.
-const PIECE: usize = 512;
+const PIECE: usize = 256;
 
 // The number with one more digit, where it isn't above `greatest`.
 fn with_digit(value: u64, digit: u32, greatest: u64) -> Option<u64>
@@ -82,20 +83,20 @@ impl<R: Read> Source<R> {
         }
     }
 
-    // The next `len` bytes. Memory is asked for only as they come.
-    fn bytes(&mut self, alloc: Global, len: u64) -> Result<Vec<u8>, TextFault>
-        ensures read { IfOk result (λ v. Consumes (R.remaining self.old.reader) (R.remaining self.new.reader) v.items) }
-        ensures are { IfOk result (λ v. AreBytes v.items) }
-        ensures long { IfOk result (λ v. length v.items ≡ len) }
+    // Takes the next `len` bytes. Memory is asked for only as they come.
+    fn bytes(&mut self, into: &mut Vec<u8>, len: u64) -> Result<(), TextFault>
+        ensures read { OnOk result (Consumes (R.remaining self.old.reader) (R.remaining self.new.reader) into.new.items) }
+        ensures are { AreBytes into.new.items }
+        ensures long { OnOk result (length into.new.items ≡ len) }
         ensures counted { OnOk result (self.new.taken ≡ self.old.taken + len) }
         ensures fewer { OnOk result (self.new.asks ≤ self.old.asks) }
         ensures fails { IfErr result (λ f. IfSome (R.remaining self.old.reader) (λ text. FailsBytes len self.old.taken text f)) }
         ensures spent { IfErr result (IsSpent self.new.asks) }
     {
-        let mut bytes = Vec::new(alloc);
+        into.clear();
         let mut piece = [0u8; PIECE];
-        while (bytes.len() as u64) < len {
-            let left = len - bytes.len() as u64;
+        while (into.len() as u64) < len {
+            let left = len - into.len() as u64;
             let most = if left < PIECE as u64 {
                 left as usize
             } else {
@@ -106,55 +107,56 @@ impl<R: Read> Source<R> {
             if n == 0 {
                 return Err(TextFault::Ended(at));
             }
-            bytes.extend_from_slice(&piece[..n])?;
+            into.extend_from_slice(&piece[..n])?;
         }
-        Ok(bytes)
+        Ok(())
     }
 
-    // The next `len` bytes with `stop` behind them: the text goes on with `len + 1` bytes of any
-    // kind or ends early, so they are asked for together.
-    fn field(&mut self, alloc: Global, len: u64, stop: u8) -> Result<Vec<u8>, TextFault>
+    // Takes the next `len` bytes, and `stop` behind them: the text goes on with `len + 1` bytes of
+    // any kind or ends early, so they are asked for together.
+    fn field(&mut self, into: &mut Vec<u8>, len: u64, stop: u8) -> Result<(), TextFault>
         requires { len < 2 ^ 63 }
-        ensures read { IfOk result (λ v. Consumes (R.remaining self.old.reader) (R.remaining self.new.reader) (v.items ++ stop ∷ [])) }
-        ensures are { IfOk result (λ v. AreBytes v.items) }
-        ensures long { IfOk result (λ v. length v.items ≡ len) }
+        ensures read { OnOk result (Consumes (R.remaining self.old.reader) (R.remaining self.new.reader) (into.new.items ++ stop ∷ [])) }
+        ensures are { AreBytes into.new.items }
+        ensures long { OnOk result (length into.new.items ≡ len) }
         ensures counted { OnOk result (self.new.taken ≡ self.old.taken + (len + 1)) }
         ensures fewer { OnOk result (self.new.asks ≤ self.old.asks) }
         ensures fails { IfErr result (λ f. IfSome (R.remaining self.old.reader) (λ text. FailsField len stop self.old.taken text f)) }
         ensures spent { IfErr result (IsSpent self.new.asks) }
     {
         let at = self.taken;
-        let mut bytes = self.bytes(alloc, len + 1)?;
-        match bytes.pop() {
-            Some(last) if last == stop => Ok(bytes),
+        self.bytes(into, len + 1)?;
+        match into.pop() {
+            Some(last) if last == stop => Ok(()),
             _ => Err(TextFault::Syntax(at + len)),
         }
     }
 
-    // The record behind a plus.
-    fn record(&mut self, alloc: Global, greatest: u64) -> Result<Record, TextFault>
+    // Takes the record behind a plus.
+    fn record(&mut self, into: &mut Record, greatest: u64) -> Result<(), TextFault>
         requires least { 9 ≤ greatest }
         requires most { greatest < 2 ^ 63 }
-        ensures read { IfOk result (λ r. ReadsBehindPlus greatest (R.remaining self.old.reader) (R.remaining self.new.reader) self.old.taken self.new.taken (key_value r)) }
+        ensures read { OnOk result (ReadsBehindPlus greatest (R.remaining self.old.reader) (R.remaining self.new.reader) self.old.taken self.new.taken (key_value into.new)) }
         ensures fewer { OnOk result (self.new.asks < self.old.asks) }
         ensures fails { (from : ℕ) → self.old.taken ≡ from + 1 → IfErr result (λ f. IfSome (R.remaining self.old.reader) (λ text. FailsRecord greatest from (43 ∷ text) f)) }
         ensures spent { IfErr result (IsSpent self.new.asks) }
     {
         let klen = self.number(greatest, b',')?;
         let vlen = self.number(greatest, b':')?;
-        let key = self.field(alloc, klen, b'-')?;
+        self.field(&mut into.key, klen, b'-')?;
         self.expect_byte(b'>')?;
-        let value = self.field(alloc, vlen, b'\n')?;
-        Ok(Record { key, value })
+        self.field(&mut into.value, vlen, b'\n')?;
+        Ok(())
     }
 
-    // The next record, or `None` at the newline that ends the text.
-    fn entry(&mut self, alloc: Global, greatest: u64) -> Result<Option<Record>, TextFault>
+    // Takes the next record, and answers whether there is one: none is at the newline that ends
+    // the text.
+    fn entry(&mut self, into: &mut Record, greatest: u64) -> Result<bool, TextFault>
         requires least { 9 ≤ greatest }
         requires most { greatest < 2 ^ 63 }
-        ensures read { IfOk result (λ found. MatchOption found
-            (Consumes (R.remaining self.old.reader) (R.remaining self.new.reader) (10 ∷ []) × (self.new.taken ≡ self.old.taken + 1))
-            (λ r. ReadsRecord greatest (R.remaining self.old.reader) (R.remaining self.new.reader) self.old.taken self.new.taken (key_value r))) }
+        ensures read { IfOk result (λ given. MatchBool given
+            (ReadsRecord greatest (R.remaining self.old.reader) (R.remaining self.new.reader) self.old.taken self.new.taken (key_value into.new))
+            (Consumes (R.remaining self.old.reader) (R.remaining self.new.reader) (10 ∷ []) × (self.new.taken ≡ self.old.taken + 1))) }
         ensures fewer { OnOk result (self.new.asks < self.old.asks) }
         ensures fails { IfErr result (λ f. IfSome (R.remaining self.old.reader) (λ text. FailsRecord greatest self.old.taken text f)) }
         ensures spent { IfErr result (IsSpent self.new.asks) }
@@ -162,8 +164,11 @@ impl<R: Read> Source<R> {
         let at = self.taken;
         match self.byte()? {
             None => Err(TextFault::Ended(at)),
-            Some(b'\n') => Ok(None),
-            Some(b'+') => Ok(Some(self.record(alloc, greatest)?)),
+            Some(b'\n') => Ok(false),
+            Some(b'+') => {
+                self.record(into, greatest)?;
+                Ok(true)
+            }
             Some(_) => Err(TextFault::Syntax(at)),
         }
     }
@@ -241,16 +246,44 @@ impl<R: Read, L: Width> TextReader<R, L> {
         ensures fails { IfErr result (HasFailed self.new) }
         ensures goes_on { IfOk result (λ found. IfSome found (λ _. IsGoing self.new × (asks_left self.new < asks_left self.old))) }
     {
+        let mut record = Record {
+            key: Vec::new(self.alloc),
+            value: Vec::new(self.alloc),
+        };
+        let given = self.read_into(&mut record)?;
+        if given { Ok(Some(record)) } else { Ok(None) }
+    }
+
+    /// Reads the next record over another one, whose memory it takes, and answers whether there is
+    /// one. The answers are those of `next`, with `false` for `None`; after `false` and after a
+    /// fault the record holds anything.
+    pub fn read_into(&mut self, record: &mut Record) -> Result<bool, TextFault>
+        // A record that is given was spelled by what was unread.
+        ensures record { IfOk result (λ given. OnTrue given
+            (ReadsRecord L.GREATEST (unread R.remaining self.old) (unread R.remaining self.new) (taken_of self.old) (taken_of self.new) (key_value record.new))) }
+        // The first `false` took a newline.
+        ensures end { IsGoing self.old → IfOk result (λ given. OnFalse given
+            (Consumes (unread R.remaining self.old) (unread R.remaining self.new) (10 ∷ []) × (taken_of self.new ≡ taken_of self.old + 1) × HasEnded self.new)) }
+        // Which fault it is, and where; then no further whole record stands at what was unread.
+        ensures exact { IsGoing self.old → IfErr result (λ fault. IfSome (unread R.remaining self.old) (λ text. HasFault L.GREATEST (taken_of self.old) text fault)) }
+        ensures no_record { IsGoing self.old → IfErr result (λ fault. IfSome (unread R.remaining self.old) (λ text. IsOfText fault → HasNoRecord L.GREATEST text)) }
+        ensures endless { IsGoing self.old → IfErr result (IsSpent (asks_left self.new)) }
+        // After the end and after a fault nothing is read, and the answer stays.
+        ensures ended { HasEnded self.old → (result ≡ Ok false) × (self.new ≡ self.old) }
+        ensures failed { (fault : _) → HasFailed self.old fault → (result ≡ Err fault) × (self.new ≡ self.old) }
+        ensures fails { IfErr result (HasFailed self.new) }
+        ensures goes_on { IfOk result (λ given. OnTrue given (IsGoing self.new × (asks_left self.new < asks_left self.old))) }
+    {
         match self.going {
             Going::On => {}
-            Going::AtEnd => return Ok(None),
+            Going::AtEnd => return Ok(false),
             Going::Failed(fault) => return Err(fault),
         }
-        let answer = self.source.entry(self.alloc, L::GREATEST);
-        match &answer {
-            Ok(Some(_)) => {}
-            Ok(None) => self.going = Going::AtEnd,
-            Err(fault) => self.going = Going::Failed(*fault),
+        let answer = self.source.entry(record, L::GREATEST);
+        match answer {
+            Ok(true) => {}
+            Ok(false) => self.going = Going::AtEnd,
+            Err(fault) => self.going = Going::Failed(fault),
         }
         answer
     }

@@ -1,6 +1,6 @@
 // Bytes to a writer.
 ghost use Rattle.std.specs.Prelude.{◌≡◌, ◌+◌, ◌<◌, ◌≤◌, length, flat_map, OnOk, OnErr};
-ghost use Rattle.std.specs.Io.KnownBytes.{Appends};
+ghost use Rattle.std.specs.Io.KnownBytes.{Appends, Keeps};
 ghost use Rattle.cdb_form.specs.Writing.{AppendsFront};
 
 use std::io::{ErrorKind, Write};
@@ -46,4 +46,21 @@ pub fn write_pieces<W: Write>(w: &mut W, pieces: &[&[u8]]) -> Result<(), OutFaul
         write_whole(w, piece)?;
     }
     Ok(())
+}
+
+/// Flushes a writer. It is asked again where a signal interrupts it, as in a write.
+pub fn flush_whole<W: Write>(w: &mut W) -> Result<(), OutFault>
+    ensures { Keeps (W.contents w.old) (W.contents w.new) }
+{
+    for _ in 0..RETRIES + 1 {
+        match w.flush() {
+            Ok(()) => return Ok(()),
+            Err(e) => {
+                if e.kind() != ErrorKind::Interrupted {
+                    return Err(OutFault);
+                }
+            }
+        }
+    }
+    Err(OutFault)
 }

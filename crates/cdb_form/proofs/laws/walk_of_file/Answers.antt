@@ -6,6 +6,5 @@ use Rattle.cdb_form.proofs.laws.walk_of_file.Goals as goal
 pub returns : goal.returns
 returns g c fits =
     let w = g.L.Width.WORD in
-    let some : 0 < w = elim g.met.L.Width.four_or_eight [ inl a ↦ omega arith | inr b ↦ omega arith ] in
     let laws = g.met.L.Width.greatest_fits in
-    walk_of-file_of w g.L.Width.TOP (key_values c.args._records.now) some g.met.L.Width.top_is (omega (arith, laws.0))
+    walk_of-file_of w g.L.Width.TOP (key_values c.args._records.now) g.met.L.Width.four_or_eight g.met.L.Width.top_is (omega (arith, laws.0))

@@ -11,6 +11,6 @@ returns-in-Some-clause-are g c = AreBytes-front c.pop.new.self.items (c.in-Some.
 pub returns-in_default-clause-fails : goal.returns-in_default-clause-fails
 returns-in_default-clause-fails g c = elim c.in_default.branch [
   | in_default-via-in-Some+else-last-stop w ↦
-      other_last _ _ c.args.len c.args.stop _ c.in_ok-bytes.bytes.items c.pop.new.self.items w.in-Some.last c.in_ok-bytes.ensures.read c.in_ok-bytes.ensures.are c.in_ok-bytes.ensures.long w.in-Some.ensures.items w.if-last-stop.false
-  | in_default-via-in_default w ↦ let some : 0 < vec_len c.in_ok-bytes.bytes = omega (arith, c.in_ok-bytes.bytes.ok.0, c.in_ok-bytes.ensures.long) in let e : false ≡ true = w.in_default.ensures.variant.1 some in absurd (let no : ⊥ = cc in no)
+      other_last _ _ c.args.len c.args.stop _ c.bytes.new.into.items c.pop.new.self.items w.in-Some.last c.in_ok-bytes.ensures.read c.in_ok-bytes.ensures.are c.in_ok-bytes.ensures.long w.in-Some.ensures.items w.if-last-stop.false
+  | in_default-via-in_default w ↦ let some : 0 < vec_len c.bytes.new.into = omega (arith, c.bytes.new.into.ok.0, c.in_ok-bytes.ensures.long) in let e : false ≡ true = w.in_default.ensures.variant.1 some in absurd (let no : ⊥ = cc in no)
 ]

@@ -1,0 +1,6 @@
+pub mod Filling
+pub mod EntryLists
+pub mod Written
+pub mod HeadPointers
+pub mod WholeFile
+pub mod WholeRuns

@@ -1,0 +1,5 @@
+-- What the runs of the program are to do.
+pub mod Faults
+pub mod Entries
+pub mod Stored
+pub mod MakeRun
