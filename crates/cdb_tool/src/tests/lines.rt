@@ -1,0 +1,67 @@
+// The number and the line of each fault.
+use super::fakes::FakeWriter;
+use crate::fault::{Fault, MakeFault, write_fault};
+use cdb_form::{OutFault, TextFault};
+use std::prelude::*;
+
+#[test]
+fn faults_are_numbered_and_said(rt: HostRuntime) {
+    let cases: [(Fault, u8, &str); 9] = [
+        (
+            Fault::Text(1, TextFault::Syntax(7)),
+            1,
+            "cdb: input 1: byte 7: not a record\n",
+        ),
+        (
+            Fault::Text(1, TextFault::Ended(0)),
+            1,
+            "cdb: input 1: byte 0: text ends early\n",
+        ),
+        (
+            Fault::Text(2, TextFault::Large(10)),
+            1,
+            "cdb: input 2: byte 10: length too large\n",
+        ),
+        (
+            Fault::Text(12, TextFault::Input),
+            1,
+            "cdb: input 12: cannot be read\n",
+        ),
+        (
+            Fault::Text(1, TextFault::Endless),
+            1,
+            "cdb: input 1: has no end\n",
+        ),
+        (Fault::Text(1, TextFault::NoMemory), 1, "cdb: no memory\n"),
+        (
+            Fault::Make(MakeFault::TooBig),
+            2,
+            "cdb: database too large\n",
+        ),
+        (Fault::Output, 7, "cdb: output cannot be written\n"),
+        (Fault::NoMemory, 11, "cdb: no memory\n"),
+    ];
+    for (fault, number, line) in cases {
+        let mut errors = Vec::new(rt.alloc());
+        assert_eq!(rt; fault.number(), number, "{fault:?}");
+        assert_eq!(rt; write_fault(&fault, &mut errors), Ok(()), "{fault:?}");
+        assert_eq!(rt; errors.as_slice(), line.as_bytes(), "{fault:?}");
+    }
+    assert_eq!(rt; MakeFault::TooBig.number(), 3);
+}
+
+#[test]
+fn a_line_that_is_cut_is_a_fault(rt: HostRuntime) {
+    let line = b"cdb: input 1: has no end\n";
+    for room in 0..line.len() {
+        let mut errors = FakeWriter {
+            held: Vec::new(rt.alloc()),
+            room,
+            flushes: 0,
+            flush_fails: false,
+        };
+        let answer = write_fault(&Fault::Text(1, TextFault::Endless), &mut errors);
+        assert_eq!(rt; answer, Err(OutFault), "room for {room}");
+        assert_eq!(rt; errors.held.as_slice(), &line[..room], "room for {room}");
+    }
+}

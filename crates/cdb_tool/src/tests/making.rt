@@ -1,0 +1,191 @@
+// make_bytes, over files worked out by hand and over readers and writers that fail.
+use super::fakes::{FakeReader, FakeWriter};
+use super::worked::{
+    EMPTY_RECORD, FOUR_VALUES, NONE, ONE, Run, TWO, TWO_TEXT, WIDE_NONE, WIDE_ONE, bytes_of,
+};
+use crate::fault::Fault;
+use crate::make::make_bytes;
+use cdb_form::{Narrow, TextFault, Wide};
+use std::alloc::Global;
+use std::io::Read;
+use std::prelude::*;
+use std::test::Fail;
+
+// The answer for a text, and what was written.
+fn made<R: Read + Drop>(alloc: Global, text: R) -> (Result<(), Fault>, Vec<u8>) {
+    let mut out = Vec::new(alloc);
+    let answer = make_bytes::<Narrow, R, Vec<u8>>(alloc, text, &mut out);
+    (answer, out)
+}
+
+fn writer(alloc: Global, room: usize) -> FakeWriter {
+    FakeWriter {
+        held: Vec::new(alloc),
+        room,
+        flushes: 0,
+        flush_fails: false,
+    }
+}
+
+#[test]
+fn worked_files(rt: HostRuntime) -> Result<(), Fail> {
+    let cases: [(&[u8], &[Run], usize); 4] = [
+        (TWO_TEXT, &TWO, 2114),
+        (b"\n", &NONE, 2048),
+        (b"+0,0:->\n\n", &EMPTY_RECORD, 2072),
+        (
+            b"+1,1:a->1\n+1,1:a->2\n+1,1:a->3\n+1,1:a->4\n\n",
+            &FOUR_VALUES,
+            2152,
+        ),
+    ];
+    for (text, runs, size) in cases {
+        let (answer, out) = made(rt.alloc(), text);
+        assert_eq!(rt; answer, Ok(()), "{text:?}");
+        assert_eq!(rt; out.len(), size, "{text:?}");
+        assert_eq!(rt;
+            out.as_slice(),
+            bytes_of(rt.alloc(), runs)?.as_slice(),
+            "{text:?}"
+        );
+    }
+    Ok(())
+}
+
+#[test]
+fn wide_files(rt: HostRuntime) -> Result<(), Fail> {
+    let cases: [(&[u8], &[Run], usize); 2] = [
+        (b"\n", &WIDE_NONE, 4096),
+        (b"+3,5:one->Hello\n\n", &WIDE_ONE, 4152),
+    ];
+    for (text, runs, size) in cases {
+        let mut out = Vec::new(rt.alloc());
+        let answer = make_bytes::<Wide, &[u8], Vec<u8>>(rt.alloc(), text, &mut out);
+        assert_eq!(rt; answer, Ok(()), "{text:?}");
+        assert_eq!(rt; out.len(), size, "{text:?}");
+        assert_eq!(rt;
+            out.as_slice(),
+            bytes_of(rt.alloc(), runs)?.as_slice(),
+            "{text:?}"
+        );
+    }
+    Ok(())
+}
+
+#[test]
+fn refused_texts_leave_nothing_written(rt: HostRuntime) {
+    let cases: [(&[u8], TextFault); 8] = [
+        (b"", TextFault::Ended(0)),
+        (b"*", TextFault::Syntax(0)),
+        (b"+,5:", TextFault::Syntax(1)),
+        (b"+4294967296,0:", TextFault::Large(10)),
+        (b"+3,5:one=>Hello", TextFault::Syntax(8)),
+        (b"+3,5:one->Hell", TextFault::Ended(14)),
+        (b"+3,5:one->Hello!", TextFault::Syntax(15)),
+        (b"+3,5:one->Hello\n", TextFault::Ended(16)),
+    ];
+    for (text, fault) in cases {
+        let mut w = writer(rt.alloc(), 4096);
+        let answer = make_bytes::<Narrow, &[u8], FakeWriter>(rt.alloc(), text, &mut w);
+        assert_eq!(rt; answer, Err(Fault::Text(1, fault)), "{text:?}");
+        assert_eq!(rt; (w.held.len(), w.flushes), (0, 1), "{text:?}");
+    }
+}
+
+#[test]
+fn the_rest_of_the_reader_stays(rt: HostRuntime) -> Result<(), Fail> {
+    let mut rest: &[u8] = b"+003,05:one->Hello\n\nrest";
+    let (answer, out) = made(rt.alloc(), &mut rest);
+    assert_eq!(rt; answer, Ok(()));
+    assert_eq!(rt; out.as_slice(), bytes_of(rt.alloc(), &ONE)?.as_slice());
+    assert_eq!(rt; rest, b"rest".as_slice());
+    Ok(())
+}
+
+#[test]
+fn cut_texts_and_failing_readers(rt: HostRuntime) {
+    for cut in 0..TWO_TEXT.len() {
+        for (fails, fault) in [
+            (false, TextFault::Ended(cut as u64)),
+            (true, TextFault::Input),
+        ] {
+            let reader = FakeReader {
+                interrupts: 0,
+                text: &TWO_TEXT[..cut],
+                fails,
+            };
+            let (answer, out) = made(rt.alloc(), reader);
+            assert_eq!(rt; answer, Err(Fault::Text(1, fault)), "cut at {cut}");
+            assert_eq!(rt; out.len(), 0, "cut at {cut}");
+        }
+    }
+}
+
+#[test]
+fn interruptions_are_asked_again(rt: HostRuntime) {
+    for (interrupts, want) in [
+        (1000, Ok(())),
+        (1001, Err(Fault::Text(1, TextFault::Input))),
+    ] {
+        let reader = FakeReader {
+            interrupts,
+            text: TWO_TEXT,
+            fails: false,
+        };
+        let (answer, _) = made(rt.alloc(), reader);
+        assert_eq!(rt; answer, want, "{interrupts} interruptions");
+    }
+}
+
+#[test]
+fn a_writer_that_fails_holds_a_front(rt: HostRuntime) -> Result<(), Fail> {
+    let file = bytes_of(rt.alloc(), &TWO)?;
+    for room in 0..file.len() + 1 {
+        let mut w = writer(rt.alloc(), room);
+        let answer = make_bytes::<Narrow, &[u8], FakeWriter>(rt.alloc(), TWO_TEXT, &mut w);
+        let want = if room < file.len() {
+            Err(Fault::Output)
+        } else {
+            Ok(())
+        };
+        assert_eq!(rt; answer, want, "room for {room}");
+        assert_eq!(rt; w.held.as_slice(), &file[..room], "room for {room}");
+        assert_eq!(rt; w.flushes, 1, "room for {room}");
+    }
+    Ok(())
+}
+
+#[test]
+fn a_failing_flush_is_output_where_no_other_fault_came(rt: HostRuntime) {
+    let cases: [(&[u8], Fault); 2] = [
+        (TWO_TEXT, Fault::Output),
+        (b"*", Fault::Text(1, TextFault::Syntax(0))),
+    ];
+    for (text, fault) in cases {
+        let mut w = writer(rt.alloc(), 4096);
+        w.flush_fails = true;
+        let answer = make_bytes::<Narrow, &[u8], FakeWriter>(rt.alloc(), text, &mut w);
+        assert_eq!(rt; answer, Err(fault), "{text:?}");
+    }
+}
+
+// No clause refuses a body that always gives up for memory.
+#[test]
+fn always_no_memory(rt: HostRuntime) {
+    let (answer, _) = made(rt.alloc(), TWO_TEXT);
+    assert!(rt; answer != Err(Fault::NoMemory));
+}
+
+// Nor one that always says that its reader or its writer failed.
+#[test]
+fn always_endless_or_output(rt: HostRuntime) {
+    let (answer, _) = made(rt.alloc(), TWO_TEXT);
+    let faults = [
+        Fault::Text(1, TextFault::Endless),
+        Fault::Text(1, TextFault::Input),
+        Fault::Output,
+    ];
+    for fault in faults {
+        assert!(rt; answer != Err(fault));
+    }
+}

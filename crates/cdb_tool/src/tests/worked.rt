@@ -1,0 +1,90 @@
+// Files worked out by hand, in runs of equal pieces.
+use std::alloc::{AllocError, Global};
+use std::prelude::*;
+
+/// A piece of a file, and how often it stands there.
+pub(super) type Run = (usize, &'static [u8]);
+
+pub(super) const TWO_TEXT: &[u8] = b"+3,5:one->Hello\n+3,7:two->Goodbye\n\n";
+
+/// Two records, in tables 41 and 129: 2114 bytes.
+pub(super) const TWO: [Run; 13] = [
+    (41, b"\x22\x08\0\0\0\0\0\0"),
+    (1, b"\x22\x08\0\0\x02\0\0\0"),
+    (87, b"\x32\x08\0\0\0\0\0\0"),
+    (1, b"\x32\x08\0\0\x02\0\0\0"),
+    (126, b"\x42\x08\0\0\0\0\0\0"),
+    (1, b"\x03\0\0\0\x05\0\0\0"),
+    (1, b"oneHello"),
+    (1, b"\x03\0\0\0\x07\0\0\0"),
+    (1, b"twoGoodbye"),
+    (1, b"\x29\x60\x87\x0b\x10\x08\0\0"),
+    (1, b"\0\0\0\0\0\0\0\0"),
+    (1, b"\0\0\0\0\0\0\0\0"),
+    (1, b"\x81\x5b\x87\x0b\0\x08\0\0"),
+];
+
+/// The first of them alone: 2080 bytes.
+pub(super) const ONE: [Run; 7] = [
+    (129, b"\x10\x08\0\0\0\0\0\0"),
+    (1, b"\x10\x08\0\0\x02\0\0\0"),
+    (126, b"\x20\x08\0\0\0\0\0\0"),
+    (1, b"\x03\0\0\0\x05\0\0\0"),
+    (1, b"oneHello"),
+    (1, b"\0\0\0\0\0\0\0\0"),
+    (1, b"\x81\x5b\x87\x0b\0\x08\0\0"),
+];
+
+/// No record: 2048 bytes.
+pub(super) const NONE: [Run; 1] = [(256, b"\0\x08\0\0\0\0\0\0")];
+
+/// An empty key with an empty value, in table 5: 2072 bytes.
+pub(super) const EMPTY_RECORD: [Run; 6] = [
+    (5, b"\x08\x08\0\0\0\0\0\0"),
+    (1, b"\x08\x08\0\0\x02\0\0\0"),
+    (250, b"\x18\x08\0\0\0\0\0\0"),
+    (1, b"\0\0\0\0\0\0\0\0"),
+    (1, b"\0\0\0\0\0\0\0\0"),
+    (1, b"\x05\x15\0\0\0\x08\0\0"),
+];
+
+/// Four values of one key, whose table is filled round its end: 2152 bytes.
+pub(super) const FOUR_VALUES: [Run; 12] = [
+    (196, b"\x28\x08\0\0\0\0\0\0"),
+    (1, b"\x28\x08\0\0\x08\0\0\0"),
+    (59, b"\x68\x08\0\0\0\0\0\0"),
+    (1, b"\x01\0\0\0\x01\0\0\0a1"),
+    (1, b"\x01\0\0\0\x01\0\0\0a2"),
+    (1, b"\x01\0\0\0\x01\0\0\0a3"),
+    (1, b"\x01\0\0\0\x01\0\0\0a4"),
+    (1, b"\xc4\xb5\x02\0\x1e\x08\0\0"),
+    (4, b"\0\0\0\0\0\0\0\0"),
+    (1, b"\xc4\xb5\x02\0\0\x08\0\0"),
+    (1, b"\xc4\xb5\x02\0\x0a\x08\0\0"),
+    (1, b"\xc4\xb5\x02\0\x14\x08\0\0"),
+];
+
+/// Words of 8 bytes, no record: 4096 bytes.
+pub(super) const WIDE_NONE: [Run; 1] = [(256, b"\0\x10\0\0\0\0\0\0\0\0\0\0\0\0\0\0")];
+
+/// Words of 8 bytes, one record, in table 129: 4152 bytes.
+pub(super) const WIDE_ONE: [Run; 7] = [
+    (129, b"\x18\x10\0\0\0\0\0\0\0\0\0\0\0\0\0\0"),
+    (1, b"\x18\x10\0\0\0\0\0\0\x02\0\0\0\0\0\0\0"),
+    (126, b"\x38\x10\0\0\0\0\0\0\0\0\0\0\0\0\0\0"),
+    (1, b"\x03\0\0\0\0\0\0\0\x05\0\0\0\0\0\0\0"),
+    (1, b"oneHello"),
+    (1, b"\0\0\0\0\0\0\0\0\0\0\0\0\0\0\0\0"),
+    (1, b"\x81\x5b\x87\x0b\0\0\0\0\0\x10\0\0\0\0\0\0"),
+];
+
+/// The bytes of some runs.
+pub(super) fn bytes_of(alloc: Global, runs: &[Run]) -> Result<Vec<u8>, AllocError> {
+    let mut bytes = Vec::new(alloc);
+    for (count, piece) in runs {
+        for _ in 0..*count {
+            bytes.extend_from_slice(piece)?;
+        }
+    }
+    Ok(bytes)
+}
