@@ -20,3 +20,4 @@ pub mod TableLemmas
 pub mod AreaLemmas
 pub mod RecordReads
 pub mod StreamLemmas
+pub mod WalkText

@@ -1,7 +1,8 @@
 -- What a clause reads of a reader of the records of a file.
 use Rattle.std.specs.Prelude.{ℕ, ◌≡◌, ◌-◌, ◌^◌, max, List, drop, Option, ⊤}
-use Rattle.cdb_form.specs.Layout.{head_size}
-use Rattle.cdb_form.specs.Walk.{Walked, walk_from, walk_of, no_walk, damaged, record_end}
+use Rattle.cdb_form.specs.KnownBytes.{FromTo}
+use Rattle.cdb_form.specs.Layout.{KeyValue, head_size}
+use Rattle.cdb_form.specs.Walk.{Walked, walk_from, walk_of, no_walk, with_records, damaged, record_end}
 use Rattle.cdb_form.specs.declared.walk_fault.WalkFault.{WalkFault}
 use Rattle.cdb_form.specs.declared.stream.Walking.{Walking}
 use Rattle.cdb_form.specs.declared.stream.Walking.TheVariants.{AtHead, At, AtEnd, Failed}
@@ -65,3 +66,12 @@ HasEnded t = t.walking ≡ AtEnd
 -- it has answered this fault
 abbrev pub HasFailed : {R L : Type 0} → RecordReader R L → WalkFault → Type 0
 HasFailed t fault = t.walking ≡ Failed fault
+
+-- what of a file stands behind its head and its records
+abbrev pub behind_records : ℕ → List ℕ → List ℕ
+behind_records w text = drop (max (head_size w) (record_end w text)) text
+
+-- a reader of a file gave these records so far: the walk of the file is these records and then the walk that is left,
+-- and what stands behind the record end is still unread
+abbrev pub GaveSoFar : {R L : Type 0} → ℕ → (R → Option (List ℕ)) → Option (List ℕ) → RecordReader R L → List KeyValue → Type 0
+GaveSoFar w remaining file t rs = FromTo file (unread remaining t) (λ text rest. (walk_of w text ≡ with_records rs (walk_left w t rest)) × (behind_end w t rest ≡ behind_records w text))

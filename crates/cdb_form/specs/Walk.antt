@@ -1,5 +1,5 @@
 -- The records of a file, one after the other, in words of w bytes.
-use Rattle.std.specs.Prelude.{ℕ, zero, suc, ◌+◌, ◌-◌, ◌*◌, ◌==◌, nat_lt, nat_le, not, min, if◌then◌else◌, Bool, ◌&&◌, List, [], ◌∷◌, length, take, drop, map, filter, sum_by, Option, Some, None, unwrap_or, ⊤}
+use Rattle.std.specs.Prelude.{ℕ, zero, suc, ◌+◌, ◌-◌, ◌*◌, ◌==◌, nat_lt, nat_le, not, min, if◌then◌else◌, Bool, ◌&&◌, List, [], ◌∷◌, ◌++◌, length, take, drop, map, filter, sum_by, Option, Some, None, unwrap_or, ⊤}
 use Rattle.std.specs.List.{reduce, position_or_len}
 use Rattle.cdb_form.specs.Layout.{KeyValue, Words, head_size, weight}
 use Rattle.cdb_form.specs.Reading.{words_at, head_at}
@@ -61,6 +61,10 @@ no_walk = record { records = []; damage = None }
 -- a record, and then a walk
 abbrev pub with_first : KeyValue → Walked → Walked
 with_first r walk = record { records = r ∷ walk.records; damage = walk.damage }
+
+-- some records, and then a walk
+abbrev pub with_records : List KeyValue → Walked → Walked
+with_records rs walk = record { records = rs ++ walk.records; damage = walk.damage }
 
 -- the walk of a file
 unfoldable pub walk_of : ℕ → List ℕ → Walked

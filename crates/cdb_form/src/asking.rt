@@ -6,7 +6,6 @@ ghost use Rattle.cdb_form.specs.KnownBytes.{LosesAtMost};
 ghost use Rattle.cdb_form.specs.Walk.{IsDamage};
 
 use crate::walk_fault::WalkFault;
-use std::alloc::Global;
 use std::io::{ErrorKind, Read};
 
 /// How often in a row a reader is asked again where a signal interrupts it.
@@ -53,19 +52,19 @@ pub(crate) fn fill<R: Read>(reader: &mut R, into: &mut [u8], early: WalkFault) -
     Ok(())
 }
 
-// The next `len` bytes, or `early` where the reader ends before that. They come through `piece`,
-// and memory is asked for only as they come.
-pub(crate) fn bytes<R: Read>(reader: &mut R, alloc: Global, len: u64, piece: &mut [u8], early: WalkFault) -> Result<Vec<u8>, WalkFault>
+// Takes the next `len` bytes, or answers `early` where the reader ends before that. They come
+// through `piece`, and memory is asked for only as they come.
+pub(crate) fn bytes<R: Read>(reader: &mut R, into: &mut Vec<u8>, len: u64, piece: &mut [u8], early: WalkFault) -> Result<(), WalkFault>
     requires { 0 < length piece.old }
-    ensures read { IfOk result (λ v. Consumes (R.remaining reader.old) (R.remaining reader.new) v.items) }
-    ensures are { IfOk result (λ v. AreBytes v.items) }
-    ensures long { IfOk result (λ v. length v.items ≡ len) }
+    ensures read { OnOk result (Consumes (R.remaining reader.old) (R.remaining reader.new) into.new.items) }
+    ensures are { AreBytes into.new.items }
+    ensures long { OnOk result (length into.new.items ≡ len) }
     ensures fails { IfErr result (λ f. IsDamage f → (f ≡ early) × IfSome (R.remaining reader.old) (λ text. length text < len)) }
     ensures loses { LosesAtMost (R.remaining reader.old) (R.remaining reader.new) len }
 {
-    let mut bytes = Vec::new(alloc);
-    while (bytes.len() as u64) < len {
-        let left = len - bytes.len() as u64;
+    into.clear();
+    while (into.len() as u64) < len {
+        let left = len - into.len() as u64;
         let most = if left < piece.len() as u64 {
             left as usize
         } else {
@@ -75,7 +74,7 @@ pub(crate) fn bytes<R: Read>(reader: &mut R, alloc: Global, len: u64, piece: &mu
         if n == 0 {
             return Err(early);
         }
-        bytes.extend_from_slice(&piece[..n])?;
+        into.extend_from_slice(&piece[..n])?;
     }
-    Ok(bytes)
+    Ok(())
 }

@@ -30,7 +30,7 @@ pub use words::{
     Head, Header, Pointer, Slot, read_head, read_header, read_pointer, read_slot, write_head,
     write_header, write_pointer, write_slot,
 };
-pub use writing::{OutFault, flush_whole, write_pieces, write_whole};
+pub use writing::{OutFault, flush_whole, write_end, write_pieces, write_record, write_whole};
 
 #[cfg(test)]
 mod tests;

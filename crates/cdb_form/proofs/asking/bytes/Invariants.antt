@@ -7,11 +7,11 @@ use Rattle.cdb_form.proofs.asking.bytes.Given as goal
 abbrev pub invariant-loop-early : goal.invariant-loop-early
 invariant-loop-early g l =
     record {
-      read : Consumes (g.R.Read.remaining l.fn.reader) (g.R.Read.remaining l.reader) l.bytes.items;
-      are : AreBytes l.bytes.items;
-      within : length l.bytes.items ≤ l.len;
+      read : Consumes (g.R.Read.remaining l.fn.reader) (g.R.Read.remaining l.reader) l.into.items;
+      are : AreBytes l.into.items;
+      within : length l.into.items ≤ l.len;
       piece : length l.piece ≡ length l.fn.piece;
     }
 
 abbrev pub decreases-loop-early : goal.decreases-loop-early
-decreases-loop-early g l = l.len - length l.bytes.items
+decreases-loop-early g l = l.len - length l.into.items

@@ -32,40 +32,40 @@ returns-then-left-header-clause-fails g c = λ damage.
       | then-left-header-via-else-left-header+then-left-header-2 w ↦ omega (arith, told.size, c.WORD-size.ensures, w.if-left-header.false, w.if-left-header-2.true)
     ])
 
-pub returns-in_err-key-clause-fails : goal.returns-in_err-key-clause-fails
-returns-in_err-key-clause-fails g c =
-    let p = err_from_is_err_and c.from_residual-in_err-key.result c.from_residual-in_err-key.ensures.1 in
+pub returns-in_err-bytes-clause-fails : goal.returns-in_err-bytes-clause-fails
+returns-in_err-bytes-clause-fails g c =
+    let p = err_from_is_err_and c.from_residual-in_err-bytes.result c.from_residual-in_err-bytes.ensures.1 in
     let xs = c.fill.new.into in
     let told = header_told g.L.Width.WORD c.WORD-size.result xs _ c.read_header-header.result c.WORD-size.ensures g.met.L.Width.four_or_eight c.fill.auto.into c.read_header-header.ensures.read in
     rw (p.1, p.2) (λ damage.
-    let h = c.in_err-key.ensures.fails damage in
-    body_early g.L.Width.WORD c.args.area.place c.args.area.end c.read_header-header.result.klen (g.R.Read.remaining c.args.reader.now) (g.R.Read.remaining c.fill.new.reader) xs [] c.in_err-key.field-0.0 c.requires h.0
+    let h = c.in_err-bytes.ensures.fails damage in
+    body_early g.L.Width.WORD c.args.area.place c.args.area.end c.read_header-header.result.klen (g.R.Read.remaining c.args.reader.now) (g.R.Read.remaining c.fill.new.reader) xs [] c.in_err-bytes.field-0.0 c.requires h.0
     (subst (Consumes (g.R.Read.remaining c.args.reader.now) (g.R.Read.remaining c.fill.new.reader)) (sym (append-nil xs)) c.in_ok-fill.ensures.bytes) told.long
     (omega (arith, c.WORD-size.ensures, c.if-left-size.false)) (omega (arith, told.size)) h.1)
 
-pub returns-in_err-key-clause-loses : goal.returns-in_err-key-clause-loses
-returns-in_err-key-clause-loses g c =
+pub returns-in_err-bytes-clause-loses : goal.returns-in_err-bytes-clause-loses
+returns-in_err-bytes-clause-loses g c =
     let xs = c.fill.new.into in
     let told = header_told g.L.Width.WORD c.WORD-size.result xs _ c.read_header-header.result c.WORD-size.ensures g.met.L.Width.four_or_eight c.fill.auto.into c.read_header-header.ensures.read in
-    loses_then _ _ _ xs c.read_header-header.result.klen _ c.in_ok-fill.ensures.bytes c.in_err-key.ensures.loses (omega (arith, told.long, c.WORD-size.ensures, c.if-left-size.false, c.if-left-header.false))
+    loses_then _ _ _ xs c.read_header-header.result.klen _ c.in_ok-fill.ensures.bytes c.in_err-bytes.ensures.loses (omega (arith, told.long, c.WORD-size.ensures, c.if-left-size.false, c.if-left-header.false))
 
-pub returns-in_err-value-clause-fails : goal.returns-in_err-value-clause-fails
-returns-in_err-value-clause-fails g c =
-    let p = err_from_is_err_and c.from_residual-in_err-value.result c.from_residual-in_err-value.ensures.1 in
+pub returns-in_err-bytes-2-clause-fails : goal.returns-in_err-bytes-2-clause-fails
+returns-in_err-bytes-2-clause-fails g c =
+    let p = err_from_is_err_and c.from_residual-in_err-bytes-2.result c.from_residual-in_err-bytes-2.ensures.1 in
     let xs = c.fill.new.into in
     let told = header_told g.L.Width.WORD c.WORD-size.result xs _ c.read_header-header.result c.WORD-size.ensures g.met.L.Width.four_or_eight c.fill.auto.into c.read_header-header.ensures.read in
     rw (p.1, p.2) (λ damage.
-    let h = c.in_err-value.ensures.fails damage in
-    body_early g.L.Width.WORD c.args.area.place c.args.area.end c.read_header-header.result.vlen (g.R.Read.remaining c.args.reader.now) (g.R.Read.remaining c.bytes.new.reader) xs c.in_ok-key.key.items c.in_err-value.field-0.0 c.requires h.0
-    (consumes_then _ _ _ xs c.in_ok-key.key.items c.in_ok-fill.ensures.bytes c.in_ok-key.ensures.read) told.long
-    (omega (arith, c.WORD-size.ensures, c.if-left-size.false)) (omega (arith, told.size, c.in_ok-key.ensures.long)) h.1)
+    let h = c.in_err-bytes-2.ensures.fails damage in
+    body_early g.L.Width.WORD c.args.area.place c.args.area.end c.read_header-header.result.vlen (g.R.Read.remaining c.args.reader.now) (g.R.Read.remaining c.bytes.new.reader) xs c.bytes.new.into.items c.in_err-bytes-2.field-0.0 c.requires h.0
+    (consumes_then _ _ _ xs c.bytes.new.into.items c.in_ok-fill.ensures.bytes c.in_ok-bytes.ensures.read) told.long
+    (omega (arith, c.WORD-size.ensures, c.if-left-size.false)) (omega (arith, told.size, c.in_ok-bytes.ensures.long)) h.1)
 
-pub returns-in_err-value-clause-loses : goal.returns-in_err-value-clause-loses
-returns-in_err-value-clause-loses g c =
+pub returns-in_err-bytes-2-clause-loses : goal.returns-in_err-bytes-2-clause-loses
+returns-in_err-bytes-2-clause-loses g c =
     let xs = c.fill.new.into in
     let told = header_told g.L.Width.WORD c.WORD-size.result xs _ c.read_header-header.result c.WORD-size.ensures g.met.L.Width.four_or_eight c.fill.auto.into c.read_header-header.ensures.read in
     loses_then _ _ _ xs (c.read_header-header.result.klen + c.read_header-header.result.vlen) _ c.in_ok-fill.ensures.bytes
-    (loses_then _ _ _ c.in_ok-key.key.items c.read_header-header.result.vlen (c.read_header-header.result.klen + c.read_header-header.result.vlen) c.in_ok-key.ensures.read c.in_err-value.ensures.loses (omega (arith, c.in_ok-key.ensures.long)))
+    (loses_then _ _ _ c.bytes.new.into.items c.read_header-header.result.vlen (c.read_header-header.result.klen + c.read_header-header.result.vlen) c.in_ok-bytes.ensures.read c.in_err-bytes-2.ensures.loses (omega (arith, c.in_ok-bytes.ensures.long)))
     (omega (arith, told.long, c.WORD-size.ensures, c.if-left-size.false, c.if-left-header.false, c.if-left-header-2.false))
 
 pub returns-clause-loses : goal.returns-clause-loses
@@ -73,19 +73,19 @@ returns-clause-loses g c =
     let xs = c.fill.new.into in
     let told = header_told g.L.Width.WORD c.WORD-size.result xs _ c.read_header-header.result c.WORD-size.ensures g.met.L.Width.four_or_eight c.fill.auto.into c.read_header-header.ensures.read in
     loses_then _ _ _ xs (c.read_header-header.result.klen + c.read_header-header.result.vlen) _ c.in_ok-fill.ensures.bytes
-    (loses_then _ _ _ c.in_ok-key.key.items c.read_header-header.result.vlen (c.read_header-header.result.klen + c.read_header-header.result.vlen) c.in_ok-key.ensures.read c.in_ok-value.ensures.loses (omega (arith, c.in_ok-key.ensures.long)))
+    (loses_then _ _ _ c.bytes.new.into.items c.read_header-header.result.vlen (c.read_header-header.result.klen + c.read_header-header.result.vlen) c.in_ok-bytes.ensures.read c.in_ok-bytes-2.ensures.loses (omega (arith, c.in_ok-bytes.ensures.long)))
     (omega (arith, told.long, c.WORD-size.ensures, c.if-left-size.false, c.if-left-header.false, c.if-left-header-2.false))
 
 pub returns-clause-record : goal.returns-clause-record
 returns-clause-record g c =
     let xs = c.fill.new.into in
-    let key = c.in_ok-key.key.items in
-    let value = c.in_ok-value.value.items in
-    let klen : length key ≡ c.read_header-header.result.klen = c.in_ok-key.ensures.long in
-    let vlen : length value ≡ c.read_header-header.result.vlen = c.in_ok-value.ensures.long in
+    let key = c.bytes.new.into.items in
+    let value = c.bytes-2.new.into.items in
+    let klen : length key ≡ c.read_header-header.result.klen = c.in_ok-bytes.ensures.long in
+    let vlen : length value ≡ c.read_header-header.result.vlen = c.in_ok-bytes-2.ensures.long in
     let told = header_told g.L.Width.WORD c.WORD-size.result xs _ c.read_header-header.result c.WORD-size.ensures g.met.L.Width.four_or_eight c.fill.auto.into c.read_header-header.ensures.read in
     record_read g.L.Width.WORD c.args.area.place c.args.area.end _ (g.R.Read.remaining c.args.reader.now) (g.R.Read.remaining c.fill.new.reader) (g.R.Read.remaining c.bytes.new.reader) (g.R.Read.remaining c.bytes-2.new.reader)
     xs (record { key = key; value = value }) (elim g.met.L.Width.four_or_eight [ inl a ↦ omega arith | inr b ↦ omega arith ])
-    c.in_ok-fill.ensures.bytes c.in_ok-key.ensures.read c.in_ok-value.ensures.read told.long
+    c.in_ok-fill.ensures.bytes c.in_ok-bytes.ensures.read c.in_ok-bytes-2.ensures.read told.long
     (told.words ∙ same_words _ _ (sym klen) (sym vlen)) (omega (arith, c.WORD-size.ensures, klen, vlen))
     (omega (arith, c.WORD-size.ensures, c.if-left-size.false, c.if-left-header.false, c.if-left-header-2.false))

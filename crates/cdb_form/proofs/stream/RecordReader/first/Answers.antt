@@ -15,4 +15,4 @@ returns-in_err-area-clause-still_behind g c =
 pub returns-clause-still_behind : goal.returns-clause-still_behind
 returns-clause-still_behind g c =
     let ok = c.in_ok-area.ensures in
-    on_err_weaker c.record.result (λ h. still_then g.L.Width.WORD c.in_ok-area.area.place c.in_ok-area.area.end _ _ _ ok.area ok.place c.in_ok-area.area.ordered h) c.record.ensures.still_behind
+    on_err_weaker c.record_at.result (λ h. still_then g.L.Width.WORD c.in_ok-area.area.place c.in_ok-area.area.end _ _ _ ok.area ok.place c.in_ok-area.area.ordered h) c.record_at.ensures.still_behind
