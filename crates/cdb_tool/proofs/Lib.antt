@@ -5,3 +5,4 @@ pub mod HeadPointers
 pub mod WholeFile
 pub mod WholeRuns
 pub mod InputLemmas
+pub mod WholeDumps

@@ -4,3 +4,4 @@ pub mod Entries
 pub mod Stored
 pub mod MakeRun
 pub mod Input
+pub mod DumpRun

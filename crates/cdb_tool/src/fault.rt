@@ -67,12 +67,11 @@ impl Fault {
     }
 }
 
-impl Fault {
-    /// The fault of a run whose database file was not walked to its end. Want of memory is the
-    /// run's own.
-    pub fn of_walk(fault: WalkFault) -> Fault
-        ensures { result ≡ walk_fault fault }
-    {
+/// Want of memory in a walk is the run's own.
+impl From<WalkFault> for Fault {
+    ghost from_gives = { λ walk fault. fault ≡ walk_fault walk };
+
+    fn from(fault: WalkFault) -> Fault {
         match fault {
             WalkFault::NoMemory => Fault::NoMemory,
             _ => Fault::Walk(fault),

@@ -1,6 +1,7 @@
 //! The program `cdb`: makes constant databases.
 #![tactic(auto)]
 
+pub mod dump;
 mod entries;
 pub mod fault;
 pub mod finishing;

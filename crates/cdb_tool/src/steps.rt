@@ -1,4 +1,5 @@
 // What the program does with its words and its streams.
+use crate::dump::{Style, dump_run};
 use crate::fault::{Fault, write_fault};
 use crate::input::Input;
 use crate::make::make_bytes;
@@ -22,6 +23,8 @@ const FAULT_STATUS: u8 = 111;
 enum Command {
     /// Makes the database of the text on standard input on standard output.
     Create,
+    /// Writes the text of the database on standard input to standard output.
+    Dump,
 }
 
 // The command that the words tell. The first word is the program's name.
@@ -30,13 +33,15 @@ fn command_of(words: &[String]) -> Option<Command> {
         [_, letter, name] if letter.as_str() == "-c" && name.as_str() == "-" => {
             Some(Command::Create)
         }
+        [_, letter] if letter.as_str() == "-d" => Some(Command::Dump),
         _ => None,
     }
 }
 
-// Makes the database of the text on one stream on the other, through buffers made once.
-fn create<I: Read + Drop, O: Write + Drop>(
+// Does what it is told from one stream to the other, through buffers made once.
+fn between<I: Read + Drop, O: Write + Drop>(
     alloc: Global,
+    command: Command,
     input: I,
     output: O,
 ) -> Result<(), Fault> {
@@ -44,7 +49,10 @@ fn create<I: Read + Drop, O: Write + Drop>(
     let Ok(mut writer) = BufWriter::with_capacity(alloc, BUFFER, output) else {
         return Err(Fault::NoMemory);
     };
-    make_bytes::<Narrow, _, _>(alloc, reader, &mut writer)
+    match command {
+        Command::Create => make_bytes::<Narrow, _, _>(alloc, reader, &mut writer),
+        Command::Dump => dump_run::<Narrow, _, _>(alloc, reader, Style::Native, &mut writer),
+    }
 }
 
 /// Does what the words tell, and answers the exit status. A fault has its line on `errors`, as far
@@ -56,11 +64,10 @@ pub(crate) fn run<I: Read + Drop, O: Write + Drop, E: Write>(
     output: O,
     errors: &mut E,
 ) -> u8 {
-    let done = match command_of(words) {
-        Some(Command::Create) => create(alloc, input, output),
-        None => return refuse_words(errors),
+    let Some(command) = command_of(words) else {
+        return refuse_words(errors);
     };
-    match done {
+    match between(alloc, command, input, output) {
         Ok(()) => 0,
         Err(fault) => tell(fault, errors),
     }
