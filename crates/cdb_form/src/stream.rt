@@ -120,10 +120,10 @@ impl<R: Read, L: Width> RecordReader<R, L> {
     /// Reads the next record over another one, whose memory it takes, and answers whether there is
     /// one. The answers are those of `next`, with `false` for `None`; after `false` and after a
     /// fault the record holds anything.
-    pub fn read_into(&mut self, record: &mut Record) -> Result<bool, WalkFault>
+    pub fn read_into(&mut self, into: &mut Record) -> Result<bool, WalkFault>
         // A record that is given is the first of the walk of what was unread.
         ensures record { IfOk result (λ given. OnTrue given (FromTo (unread R.remaining self.old) (unread R.remaining self.new) (λ text rest.
-            walk_left L.WORD self.old text ≡ with_first (key_value record.new) (walk_left L.WORD self.new rest)))) }
+            walk_left L.WORD self.old text ≡ with_first (key_value into.new) (walk_left L.WORD self.new rest)))) }
         // At `false` that walk has ended, with no damage.
         ensures end { IfOk result (λ given. OnFalse given (IfSome (unread R.remaining self.old) (λ text. walk_left L.WORD self.old text ≡ no_walk) × HasEnded self.new)) }
         // A fault of the file is the damage of that walk, with no record before it.
@@ -138,8 +138,8 @@ impl<R: Read, L: Width> RecordReader<R, L> {
         ensures goes_on { IfOk result (λ given. OnTrue given (IsGoing self.new × (bytes_left self.new < bytes_left self.old))) }
     {
         let answer = match self.walking {
-            Walking::AtHead => self.first(record),
-            Walking::At(area) => self.record_at(record, area),
+            Walking::AtHead => self.first(into),
+            Walking::At(area) => self.record_at(into, area),
             Walking::AtEnd => return Ok(false),
             Walking::Failed(fault) => return Err(fault),
         };

@@ -1,6 +1,8 @@
 // Whole writes, over writers that take little or fail.
 use super::fakes::FakeWriter;
-use crate::writing::{OutFault, flush_whole, write_pieces, write_whole};
+use crate::writing::{
+    OutFault, flush_whole, write_end, write_pieces, write_record, write_whole,
+};
 use std::prelude::*;
 
 #[test]
@@ -31,5 +33,28 @@ fn interruptions_are_asked_again(rt: HostRuntime) {
         let mut writer = FakeWriter::new(rt.alloc(), 5, interrupts);
         assert_eq!(rt; flush_whole(&mut writer), want, "{interrupts} in a flush");
         assert_eq!(rt; writer.flushed, want.is_ok());
+    }
+}
+
+// The native text of two records.
+fn write_two(writer: &mut FakeWriter) -> Result<(), OutFault> {
+    write_record(writer, b"one", b"Hello")?;
+    write_record(writer, b"", b"->\n-> +0,0")?;
+    write_end(writer)
+}
+
+#[test]
+fn a_text_is_written_or_a_front_of_it(rt: HostRuntime) {
+    let text = b"+3,5:one->Hello\n+0,10:->->\n-> +0,0\n\n";
+    for room in 0..text.len() + 1 {
+        let mut writer = FakeWriter::new(rt.alloc(), room, 0);
+        let answer = write_two(&mut writer);
+        let want = if room < text.len() {
+            Err(OutFault)
+        } else {
+            Ok(())
+        };
+        assert_eq!(rt; answer, want, "room for {room}");
+        assert_eq!(rt; writer.held.as_slice(), &text[..room]);
     }
 }
