@@ -6,14 +6,14 @@ use Rattle.cdb_tool.proofs.dump.dump_unflushed.Goals as goal
 pub loop-record-preserved : goal.loop-record-preserved
 loop-record-preserved g c =
     let appended = rw (c.deref.ensures.value, c.deref-in-loop-record.ensures.value) at c.in_ok-write_record.ensures.ok in
-    dumped_more _ _ _ c.loop-record.records c.read_into.new.self _ _ _ (key_value c.read_into.new.record) c.loop-record.invariant
+    dumped_more _ _ _ c.loop-record.records c.read_into.new.self _ _ _ (key_value c.read_into.new.into) c.loop-record.invariant
     (rw c.if-branch.true at c.in_ok-read_into.ensures.record) c.in_ok-read_into.ensures.behind appended
 
 pub returns-in_err-write_record-clause-err : goal.returns-in_err-write_record-clause-err
 returns-in_err-write_record-clause-err g c =
     let p = err_from_is_err_and c.from_residual-in_err-write_record.result c.from_residual-in_err-write_record.ensures.1 in
     let front = rw (c.deref.ensures.value, c.deref-in-loop-record.ensures.value) at c.in_err-write_record.ensures.err in
-    rw (p.1, p.2) (record_fails _ _ _ c.loop-record.records c.read_into.new.self _ _ _ (key_value c.read_into.new.record) c.loop-record.invariant
+    rw (p.1, p.2) (record_fails _ _ _ c.loop-record.records c.read_into.new.self _ _ _ (key_value c.read_into.new.into) c.loop-record.invariant
     (rw c.if-branch.true at c.in_ok-read_into.ensures.record) c.in_ok-read_into.ensures.behind front)
 
 pub returns-in_err-write_end-clause-err : goal.returns-in_err-write_end-clause-err
