@@ -1,12 +1,12 @@
 // The number and the line of each fault.
 use super::fakes::FakeWriter;
 use crate::fault::{Fault, MakeFault, write_fault};
-use cdb_form::{OutFault, TextFault};
+use cdb_form::{OutFault, TextFault, WalkFault};
 use std::prelude::*;
 
 #[test]
 fn faults_are_numbered_and_said(rt: HostRuntime) {
-    let cases: [(Fault, u8, &str); 9] = [
+    let cases: [(Fault, u8, &str); 14] = [
         (
             Fault::Text(1, TextFault::Syntax(7)),
             1,
@@ -38,6 +38,27 @@ fn faults_are_numbered_and_said(rt: HostRuntime) {
             2,
             "cdb: database too large\n",
         ),
+        (
+            Fault::Walk(WalkFault::Short),
+            6,
+            "cdb: database shorter than its head\n",
+        ),
+        (
+            Fault::Walk(WalkFault::Table(255)),
+            6,
+            "cdb: table 255: outside the file\n",
+        ),
+        (
+            Fault::Walk(WalkFault::Record(2064)),
+            6,
+            "cdb: record at 2064: not whole\n",
+        ),
+        (
+            Fault::Walk(WalkFault::Input),
+            6,
+            "cdb: database cannot be read or written\n",
+        ),
+        (Fault::Walk(WalkFault::NoMemory), 6, "cdb: no memory\n"),
         (Fault::Output, 7, "cdb: output cannot be written\n"),
         (Fault::NoMemory, 11, "cdb: no memory\n"),
     ];

@@ -1,0 +1,221 @@
+// dump_run, over damaged and foreign files and over readers and writers that fail.
+use super::fakes::{FakeReader, FakeWriter};
+use super::worked::{NONE, Run, TWO, TWO_TEXT, WIDE_NONE, bytes_of};
+use crate::dump::{Style, dump_run};
+use crate::fault::Fault;
+use crate::make::make_bytes;
+use cdb_form::{Narrow, WalkFault, Wide, Width};
+use std::alloc::Global;
+use std::io::Read;
+use std::prelude::*;
+use std::test::Fail;
+
+const FIRST_TEXT: &[u8] = b"+3,5:one->Hello\n";
+
+/// One record, made by another program: a table of one slot, and no place in the other pointers.
+const FOREIGN: [Run; 6] = [
+    (196, b"\0\0\0\0\0\0\0\0"),
+    (1, b"\x0a\x08\0\0\x01\0\0\0"),
+    (59, b"\0\0\0\0\0\0\0\0"),
+    (1, b"\x01\0\0\0\x01\0\0\0"),
+    (1, b"a1"),
+    (1, b"\xc4\xb5\x02\0\0\x08\0\0"),
+];
+
+// The answer for a file, and what was written.
+fn dumped<L: Width, R: Read + Drop>(alloc: Global, file: R) -> (Result<(), Fault>, Vec<u8>) {
+    let mut out = Vec::new(alloc);
+    let answer = dump_run::<L, R, Vec<u8>>(alloc, file, Style::Native, &mut out);
+    (answer, out)
+}
+
+// Some bytes with others from a place on.
+fn with_bytes(mut bytes: Vec<u8>, place: usize, new: &[u8]) -> Vec<u8> {
+    for (k, byte) in new.iter().enumerate() {
+        if let Some(old) = bytes.get_mut(place.saturating_add(k)) {
+            *old = *byte;
+        }
+    }
+    bytes
+}
+
+#[test]
+fn whole_and_foreign_files(rt: HostRuntime) -> Result<(), Fail> {
+    let cases: [(&[Run], &[u8]); 4] = [
+        (&TWO, TWO_TEXT),
+        (&NONE, b"\n"),
+        (&FOREIGN, b"+1,1:a->1\n\n"),
+        (&[(2048, b"\0")], b"\n"),
+    ];
+    for (runs, text) in cases {
+        let file = bytes_of(rt.alloc(), runs)?;
+        let (answer, out) = dumped::<Narrow, &[u8]>(rt.alloc(), &file);
+        assert_eq!(rt; answer, Ok(()));
+        assert_eq!(rt; out.as_slice(), text);
+    }
+    let mut longer = bytes_of(rt.alloc(), &TWO)?;
+    longer.extend_from_slice(b"12345")?;
+    let (answer, out) = dumped::<Narrow, &[u8]>(rt.alloc(), &longer);
+    assert_eq!(rt; answer, Ok(()));
+    assert_eq!(rt; out.as_slice(), TWO_TEXT);
+    Ok(())
+}
+
+#[test]
+fn changed_files(rt: HostRuntime) -> Result<(), Fail> {
+    let cases: [(usize, &[u8], Option<WalkFault>, &[u8]); 6] = [
+        // a table outside of the file, a place in a slot that is no record's, a pointer of ones
+        (56, b"\x42\x08\0\0\x01\0\0\0", None, TWO_TEXT),
+        (2086, b"\x11", None, TWO_TEXT),
+        (1032, b"\xff\xff\xff\xff\xff\xff\xff\xff", None, TWO_TEXT),
+        // a value too long by one, a table within the head, a key that is far too long
+        (2068, b"\x08", Some(WalkFault::Record(2064)), FIRST_TEXT),
+        (0, b"\x64\0\0\0\x01\0\0\0", Some(WalkFault::Table(0)), b""),
+        (
+            2048,
+            b"\xff\xff\xff\xff",
+            Some(WalkFault::Record(2048)),
+            b"",
+        ),
+    ];
+    for (place, new, damage, text) in cases {
+        let file = with_bytes(bytes_of(rt.alloc(), &TWO)?, place, new);
+        let (answer, out) = dumped::<Narrow, &[u8]>(rt.alloc(), &file);
+        let want = match damage {
+            None => Ok(()),
+            Some(damage) => Err(Fault::Walk(damage)),
+        };
+        assert_eq!(rt; answer, want, "changed at {place}");
+        assert_eq!(rt; out.as_slice(), text, "changed at {place}");
+    }
+    Ok(())
+}
+
+// What is written of the two-record file where it is cut, and its damage.
+fn cut_answer(cut: usize) -> (&'static [u8], Option<WalkFault>) {
+    match cut {
+        0..=2047 => (b"", Some(WalkFault::Short)),
+        2048..=2063 => (b"", Some(WalkFault::Record(2048))),
+        2064..=2081 => (FIRST_TEXT, Some(WalkFault::Record(2064))),
+        _ => (TWO_TEXT, None),
+    }
+}
+
+#[test]
+fn cut_files_and_failing_readers(rt: HostRuntime) -> Result<(), Fail> {
+    let file = bytes_of(rt.alloc(), &TWO)?;
+    for cut in 0..file.len() + 1 {
+        let (text, damage) = cut_answer(cut);
+        for fails in [false, true] {
+            let reader = FakeReader {
+                interrupts: 0,
+                text: &file[..cut],
+                fails,
+            };
+            let (answer, out) = dumped::<Narrow, FakeReader<'_>>(rt.alloc(), reader);
+            let want = match damage {
+                None => Ok(()),
+                Some(_) if fails => Err(Fault::Walk(WalkFault::Input)),
+                Some(damage) => Err(Fault::Walk(damage)),
+            };
+            assert_eq!(rt; answer, want, "cut at {cut}");
+            assert_eq!(rt; out.as_slice(), text, "cut at {cut}");
+        }
+    }
+    Ok(())
+}
+
+#[test]
+fn interrupted_reads_are_asked_again(rt: HostRuntime) -> Result<(), Fail> {
+    let file = bytes_of(rt.alloc(), &TWO)?;
+    let failed = Err(Fault::Walk(WalkFault::Input));
+    for (interrupts, want) in [(1000, Ok(())), (1001, failed)] {
+        let reader = FakeReader {
+            interrupts,
+            text: &file,
+            fails: false,
+        };
+        let (answer, _) = dumped::<Narrow, FakeReader<'_>>(rt.alloc(), reader);
+        assert_eq!(rt; answer, want, "{interrupts} interruptions");
+    }
+    Ok(())
+}
+
+#[test]
+fn a_writer_of_a_dump_that_fails_holds_a_front(rt: HostRuntime) -> Result<(), Fail> {
+    let file = bytes_of(rt.alloc(), &TWO)?;
+    for room in 0..TWO_TEXT.len() + 1 {
+        let mut w = FakeWriter {
+            held: Vec::new(rt.alloc()),
+            room,
+            flushes: 0,
+            flush_fails: false,
+        };
+        let answer = dump_run::<Narrow, &[u8], FakeWriter>(
+            rt.alloc(),
+            &file,
+            Style::Native,
+            &mut w,
+        );
+        let want = if room < TWO_TEXT.len() {
+            Err(Fault::Output)
+        } else {
+            Ok(())
+        };
+        assert_eq!(rt; answer, want, "room for {room}");
+        assert_eq!(rt; w.held.as_slice(), &TWO_TEXT[..room], "room for {room}");
+        assert_eq!(rt; w.flushes, 1, "room for {room}");
+    }
+    Ok(())
+}
+
+#[test]
+fn a_failing_flush_of_a_dump(rt: HostRuntime) -> Result<(), Fail> {
+    let file = bytes_of(rt.alloc(), &TWO)?;
+    for (cut, fault) in [
+        (file.len(), Fault::Output),
+        (2070, Fault::Walk(WalkFault::Record(2064))),
+    ] {
+        assert!(rt; cut <= file.len());
+        let mut w = FakeWriter {
+            held: Vec::new(rt.alloc()),
+            room: 4096,
+            flushes: 0,
+            flush_fails: true,
+        };
+        let answer = dump_run::<Narrow, &[u8], FakeWriter>(
+            rt.alloc(),
+            &file[..cut],
+            Style::Native,
+            &mut w,
+        );
+        assert_eq!(rt; answer, Err(fault), "cut at {cut}");
+        assert_eq!(rt; w.flushes, 1, "cut at {cut}");
+    }
+    Ok(())
+}
+
+#[test]
+fn a_dump_made_again_is_the_same_file(rt: HostRuntime) -> Result<(), Fail> {
+    let file = bytes_of(rt.alloc(), &TWO)?;
+    let (_, text) = dumped::<Narrow, &[u8]>(rt.alloc(), &file);
+    let mut again = Vec::new(rt.alloc());
+    assert!(rt; make_bytes::<Narrow, &[u8], Vec<u8>>(rt.alloc(), &text, &mut again).is_ok());
+    assert_eq!(rt; again.as_slice(), file.as_slice());
+    let mut wide = Vec::new(rt.alloc());
+    assert!(rt; make_bytes::<Wide, &[u8], Vec<u8>>(rt.alloc(), &text, &mut wide).is_ok());
+    let (answer, out) = dumped::<Wide, &[u8]>(rt.alloc(), &wide);
+    assert_eq!(rt; answer, Ok(()));
+    assert_eq!(rt; out.as_slice(), TWO_TEXT);
+    Ok(())
+}
+
+#[test]
+fn a_wide_head_cut_one_byte_short(rt: HostRuntime) -> Result<(), Fail> {
+    let mut head = bytes_of(rt.alloc(), &WIDE_NONE)?;
+    let _ = head.pop();
+    let (answer, out) = dumped::<Wide, &[u8]>(rt.alloc(), &head);
+    assert_eq!(rt; answer, Err(Fault::Walk(WalkFault::Short)));
+    assert_eq!(rt; out.len(), 0);
+    Ok(())
+}
