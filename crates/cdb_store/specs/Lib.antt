@@ -1,0 +1,4 @@
+pub mod Images
+pub mod Calls
+pub mod Lengths
+pub mod Contents

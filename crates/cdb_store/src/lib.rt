@@ -1,0 +1,14 @@
+//! Stores: bytes that are read, written and cut at places, in memory and in files.
+#![tactic(auto)]
+
+mod lent;
+mod memory;
+mod raw_file;
+mod store;
+mod trace;
+mod transfer;
+
+pub use memory::MemStore;
+pub use raw_file::{RawFault, RawFile, RealFile};
+pub use store::{Store, StoreFault};
+pub use trace::{Call, Trace};
