@@ -4,3 +4,6 @@ pub mod OverLemmas
 pub mod Sequences
 pub mod Held
 pub mod FuseLemmas
+pub mod RawCalls
+pub mod Puts
+pub mod Answered

@@ -1,12 +1,9 @@
 -- Images with some bytes written over each of them.
-use Rattle.std.proofs.Common.{◌≡◌, ℕ, ◌+◌, ◌≤◌, List, [], ◌++◌, length, take, drop, max, refl, sym, ap, subst, ◌∙◌, arith, add-zero}
-use Rattle.std.proofs.lemmas.List.{take-append-drop, take_all}
+use Rattle.std.proofs.Common.{◌≡◌, ℕ, ◌+◌, ◌≤◌, List, [], ◌++◌, length, take, drop, max, refl, sym, ap, subst, ◌∙◌, arith}
+use Rattle.std.proofs.lemmas.List.{take_all}
 use Rattle.cdb_store.specs.Images.{overwrite, part, Over, SameImages, AfterRead, AfterWrite, AfterTornWrite, AfterCut, Torn, AreSized}
 use Rattle.cdb_store.specs.Lengths.{over_size}
-use Rattle.cdb_store.proofs.Parts.{take-overwrite, drop-overwrite, part_from_take, overwrite-overwrite}
-
-overwrite_nothing : (at : ℕ) (a : List ℕ) → overwrite a at [] ≡ a
-overwrite_nothing at a = ap (λ k. take at a ++ drop k a) (add-zero at) ∙ take-append-drop at a
+use Rattle.cdb_store.proofs.Parts.{take-overwrite, drop-overwrite, part_from_take, overwrite-overwrite, overwrite_nothing}
 
 pub same_refl : (i : List ℕ → Type 0) → SameImages i i
 same_refl i = record { no_other = λ b is. is; none_lost = λ b is. is }

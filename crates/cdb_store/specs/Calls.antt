@@ -111,3 +111,9 @@ pub record Untouched (old new : List (Call × List ℕ)) : Type 0 where
   pub written : written_count new ≡ written_count old
   pub later : failure_count old ≤ failure_count new
   pub known : lost new ≡ lost old
+
+-- it was asked for its length, and told none from least to most
+pub record IsLost (least most : ℕ) (old new : List (Call × List ℕ)) : Type 0 where
+  pub answer : Call × List ℕ
+  pub untold : IsUntold least most (answer ∷ old)
+  pub calls : new ≡ (Lost, []) ∷ (answer ∷ old)

@@ -1,34 +1,30 @@
-use Rattle.std.proofs.Common.{rules, ◌≡◌, ◌+◌, ◌<◌, ◌≤◌, ◌^◌, ◌⊎◌, false, [], ◌∷◌, length, take, IfOk, OnOk, OnErr, IsErrOf, ℕ, ◌-◌, ◌*◌, ◌/◌, ◌%◌, Bool, true, nat_eq, nat_lt, List, ◌++◌, slice_index_or, slice_set, bit_and, bit_or, Fits, w8, w32, w64, Bor, MutBor}
-use Rattle.cdb_store.specs.declared.trace.Call.TheVariants.{Read, Wrote, NotWritten, Length, Cut, Failed, Refused, Lost}
-use Rattle.cdb_store.specs.declared.store.StoreFault.TheVariants.{NoMemory}
-use Rattle.cdb_store.specs.Images.{SameImages}
-use Rattle.cdb_store.specs.Calls.{Agrees, lost, failure_count, written_count, Asked, AskedInVain, Came, AfterPut, AfterTornPut, Untouched}
+use Rattle.std.proofs.Common.{◌≡◌, ◌<◌, ◌≤◌, ℕ, ◌∷◌, [], List, take, inl, inr, ap, subst, ◌∙◌, arith}
+use Rattle.cdb_store.specs.declared.trace.Call.TheVariants.{Read, Failed, Refused}
+use Rattle.cdb_store.specs.Calls.{lost, interrupted, ended}
+use Rattle.cdb_store.proofs.RawCalls.{interrupted_none, interrupted_more, lost_interrupted}
 use Rattle.cdb_store.proofs.transfer.read_some.Goals as goal
 
--- src/transfer.rt:23:5
 pub loop-turn-init : goal.loop-turn-init
-loop-turn-init g c = ?
+loop-turn-init g c = interrupted_none _
 
--- src/transfer.rt:24:15
 pub read_some-requires-clause-known : goal.read_some-requires-clause-known
-read_some-requires-clause-known g c = ?
+read_some-requires-clause-known g c = ap lost c.loop-turn.invariant ∙ lost_interrupted _ _ ∙ c.requires.known
 
--- src/transfer.rt:25:22
 pub returns-in-Ok-clause-ok : goal.returns-in-Ok-clause-ok
-returns-in-Ok-clause-ok g c = ?
+returns-in-Ok-clause-ok g c = record { times = c.loop-turn._turn; at_most = omega arith; calls = c.in-Ok.ensures.ok ∙ ap (λ calls. (Read c.args.at, take c.in-Ok.n c.read_some.new.into) ∷ calls) c.loop-turn.invariant }
 
--- src/transfer.rt:26:38
 pub returns-in-Err-Broken-clause-err : goal.returns-in-Err-Broken-clause-err
-returns-in-Err-Broken-clause-err g c = ?
+returns-in-Err-Broken-clause-err g c = inl (record { times = c.loop-turn._turn; at_most = omega arith; calls = c.in-Err-Broken.ensures.err ∙ (ap (λ f. (ended Failed f, []) ∷ g.F.RawFile.calls c.loop-turn.file) c.in-Err-Broken.field-0-is ∙ ap (λ calls. (Failed, []) ∷ calls) c.loop-turn.invariant) })
 
--- src/transfer.rt:23:5
 pub loop-turn-preserved : goal.loop-turn-preserved
-loop-turn-preserved g c = ?
+loop-turn-preserved g c = interrupted_more _ _ _ _ c.loop-turn.invariant (c.in-Err-Again.ensures.err ∙ ap (λ f. (ended Failed f, []) ∷ g.F.RawFile.calls c.loop-turn.file) c.in-Err-Again.field-0-is)
 
--- src/transfer.rt:30:5
 pub refuse-requires : goal.refuse-requires
-refuse-requires g c = ?
+refuse-requires g c =
+    let e : c.loop-turn._turn ≡ 1001 = omega arith in
+    inr (record { before = g.F.RawFile.calls c.args.file.now; interrupts = c.loop-turn.invariant ∙ ap (λ n. interrupted n (g.F.RawFile.calls c.args.file.now)) e })
 
--- src/transfer.rt:15:1
 pub returns-clause-err : goal.returns-clause-err
-returns-clause-err g c = ?
+returns-clause-err g c =
+    let e : c.loop-turn._turn ≡ 1001 = omega arith in
+    inr (c.refuse.ensures ∙ ap (λ calls. (Refused, []) ∷ calls) (c.loop-turn.invariant ∙ ap (λ n. interrupted n (g.F.RawFile.calls c.args.file.now)) e))

@@ -1,9 +1,6 @@
-use Rattle.std.proofs.Common.{◌≡◌, ◌+◌, ◌<◌, ◌≤◌, ◌^◌, ◌⊎◌, false, [], ◌∷◌, length, take, IfOk, OnOk, OnErr, IsErrOf, ℕ, ◌-◌, ◌*◌}
-use Rattle.cdb_store.specs.declared.trace.Call.TheVariants.{Read, Wrote, NotWritten, Length, Cut, Failed, Refused, Lost}
-use Rattle.cdb_store.specs.declared.store.StoreFault.TheVariants.{NoMemory}
-use Rattle.cdb_store.specs.Images.{SameImages}
-use Rattle.cdb_store.specs.Calls.{Agrees, lost, failure_count, written_count, Asked, AskedInVain, Came, AfterPut, AfterTornPut, Untouched}
+use Rattle.std.proofs.Common.{◌≡◌}
+use Rattle.cdb_store.specs.Calls.{interrupted}
 use Rattle.cdb_store.proofs.transfer.read_some.Given as goal
 
 abbrev pub invariant-loop-turn : goal.invariant-loop-turn
-invariant-loop-turn g l = ?
+invariant-loop-turn g l = g.F.RawFile.calls l.file ≡ interrupted l._turn (g.F.RawFile.calls l.fn.file)
