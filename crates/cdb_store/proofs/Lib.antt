@@ -7,3 +7,5 @@ pub mod FuseLemmas
 pub mod RawCalls
 pub mod Puts
 pub mod Answered
+pub mod FileLemmas
+pub mod FileFaults

@@ -2,7 +2,9 @@
 use Rattle.std.specs.Prelude.{◌≡◌, ℕ, ◌+◌, ◌≤◌, max, List, [], ◌∷◌, ◌++◌, length, take, drop}
 use Rattle.std.proofs.Common.{ap, ◌∙◌, arith, length-append, length-drop}
 use Rattle.std.proofs.lemmas.List.{length-take, length-take-le}
+use Rattle.cdb_store.specs.declared.trace.Call.{Call}
 use Rattle.cdb_store.specs.Images.{overwrite, Over}
+use Rattle.cdb_store.specs.Calls.{FileImage}
 
 pub same_length : (a b : List ℕ) → a ≡ b → length a ≡ length b
 same_length a b e = ap length e
@@ -16,3 +18,6 @@ pub over_size : (at : ℕ) (bytes : List ℕ) (n : ℕ) (images : List ℕ → T
 over_size at bytes n images sized inside b is =
     let l : length is.0 ≡ n = sized is.0 is.1 in
     ap length is.2 ∙ length-overwrite at is.0 bytes (omega arith) ∙ ap (λ k. max k (at + length bytes)) l
+
+pub file_size : (len : ℕ) (calls : List (Call × List ℕ)) (b : List ℕ) → FileImage len calls b → length b ≡ len
+file_size len calls b is = ap length is.3 ∙ length-take-le len is.0 is.2

@@ -2,3 +2,4 @@ pub mod Images
 pub mod Calls
 pub mod Lengths
 pub mod Contents
+pub mod Fuse

@@ -1,6 +1,8 @@
 //! Stores: bytes that are read, written and cut at places, in memory and in files.
 #![tactic(auto)]
 
+mod file;
+mod fuse;
 mod lent;
 mod memory;
 mod raw_file;
@@ -8,6 +10,8 @@ mod store;
 mod trace;
 mod transfer;
 
+pub use file::FileStore;
+pub use fuse::FuseStore;
 pub use memory::MemStore;
 pub use raw_file::{RawFault, RawFile, RealFile};
 pub use store::{Store, StoreFault};
