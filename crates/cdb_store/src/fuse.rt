@@ -71,6 +71,7 @@ impl<S: Store> FuseStore<S> {
 /// Counts a call, and tells whether it is the one to fail.
 fn blows(calls: &mut u64, limit: u64) -> bool
     ensures counted { calls.new ≡ capped (calls.old + 1) }
+    ensures fits { calls.old < 2 ^ 64 }
     ensures at_limit { IsTrue result ↔ Blows calls.old limit }
 {
     let is_last = *calls == limit && limit < u64::MAX;
@@ -98,6 +99,7 @@ impl<S: Store> Store for FuseStore<S> {
     }
 
     fn read_at(&mut self, pos: u64, into: &mut [u8]) -> Result<(), StoreFault>
+        requires { pos + length into.old ≤ S.size self.old.inner }
         ensures ok { OnOk result (AfterRead pos into.new (S.image self.old.inner) (S.image self.new.inner)) }
         ensures err { OnErr result (SameImages (S.image self.old.inner) (S.image self.new.inner)) }
         ensures size { S.size self.new.inner ≡ S.size self.old.inner }
@@ -116,6 +118,8 @@ impl<S: Store> Store for FuseStore<S> {
     }
 
     fn write_at(&mut self, pos: u64, bytes: &[u8]) -> Result<(), StoreFault>
+        requires start { pos ≤ S.size self.old.inner }
+        requires end { pos + length bytes.now < 2 ^ 63 }
         ensures ok { OnOk result (AfterWrite pos bytes.now (S.image self.old.inner) (S.image self.new.inner)) }
         ensures ok_size { OnOk result (S.size self.new.inner ≡ max (S.size self.old.inner) (pos + length bytes.now)) }
         ensures ok_written { OnOk result (S.written self.new.inner ≡ S.written self.old.inner + length bytes.now) }
@@ -149,6 +153,7 @@ impl<S: Store> Store for FuseStore<S> {
     }
 
     fn reserve(&mut self, len: u64) -> Result<(), StoreFault>
+        requires { len < 2 ^ 63 }
         ensures ok { OnOk result (len ≤ S.room self.new.inner) }
         ensures past_room { OnErr result (S.room self.old.inner < len) }
         ensures device { IsErrOf result Device → ⊥ }
@@ -166,6 +171,7 @@ impl<S: Store> Store for FuseStore<S> {
     }
 
     fn cut(&mut self, len: u64) -> Result<(), StoreFault>
+        requires { len ≤ S.size self.old.inner }
         ensures images { AfterCut (S.size self.new.inner) (S.image self.old.inner) (S.image self.new.inner) }
         ensures ok { OnOk result (S.size self.new.inner ≡ len) }
         ensures no_shorter { len ≤ S.size self.new.inner }

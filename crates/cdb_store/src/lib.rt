@@ -1,6 +1,7 @@
 //! Stores: bytes that are read, written and cut at places, in memory and in files.
 #![tactic(auto)]
 
+mod buffered;
 mod file;
 mod fuse;
 mod lent;
@@ -10,6 +11,7 @@ mod store;
 mod trace;
 mod transfer;
 
+pub use buffered::BufferedStore;
 pub use file::FileStore;
 pub use fuse::FuseStore;
 pub use memory::MemStore;
