@@ -3,7 +3,7 @@ use Rattle.std.proofs.Common.{◌≡◌, ℕ, ◌+◌, ◌≤◌, List, [], ◌+
 use Rattle.std.proofs.lemmas.List.{take_all}
 use Rattle.cdb_store.specs.Images.{overwrite, part, Over, SameImages, AfterRead, AfterWrite, AfterTornWrite, AfterCut, Torn, AreSized}
 use Rattle.cdb_store.specs.Lengths.{over_size}
-use Rattle.cdb_store.proofs.Parts.{take-overwrite, drop-overwrite, part_from_take, overwrite-overwrite, overwrite_nothing}
+use Rattle.cdb_store.proofs.Parts.{take-overwrite, drop-overwrite, part_from_take, overwrite-overwrite, overwrite_nothing, part_inside}
 
 pub same_refl : (i : List ℕ → Type 0) → SameImages i i
 same_refl i = record { no_other = λ b is. is; none_lost = λ b is. is }
@@ -126,3 +126,14 @@ torn_from_write {pos = pos} {n = n} {bytes = bytes} {i = i} inside sized w =
       no_other = λ b is. let h = w.no_other b is in (h.0, h.1, subst (λ (z : List ℕ). Torn pos (length bytes) h.0 z) (sym h.2) (torn h.0 h.1));
       none_lost = λ a is. (overwrite a pos bytes, w.none_lost a is, torn a is);
     }
+
+-- what is read from the bytes written over each image
+pub over_inside : (at d : ℕ) (buffer : List ℕ) {pos size : ℕ} {bytes : List ℕ} {i : List ℕ → Type 0} → pos ≡ at + d → d + length bytes ≤ length buffer → at ≤ size → AreSized size i
+    → bytes ≡ part d (length bytes) buffer → AfterRead pos bytes (Over at buffer i) (Over at buffer i)
+over_inside at d buffer {pos = pos} {bytes = bytes} here fits inside sized e = record {
+  no_other = λ b is. is;
+  read = λ b is.
+    let l : length is.0 ≡ _ = sized.each is.0 is.1 in
+    ap (λ p. part p (length bytes) b) here ∙ ap (part (at + d) (length bytes)) is.2 ∙ part_inside at d (length bytes) is.0 buffer (omega arith) fits ∙ sym e;
+  none_lost = λ b is _. is;
+}

@@ -14,13 +14,13 @@ returns-in_err-write_at-clause-torn g c =
 pub returns-in_err-write_at-clause-memory : goal.returns-in_err-write_at-clause-memory
 returns-in_err-write_at-clause-memory g c = λ h. same_trans c.settle.ensures.images (over_same c.settle.new.self.at c.settle.new.self.buffer.items (c.write_at.ensures.memory (search rules)))
 
-pub returns-then-bytes-gt-self-clause-ok : goal.returns-then-bytes-gt-self-clause-ok
-returns-then-bytes-gt-self-clause-ok g c =
+pub returns-then-bytes-self-clause-ok : goal.returns-then-bytes-self-clause-ok
+returns-then-bytes-self-clause-ok g c =
     let e = c.in_ok-settle.ensures.empty in
     write_between (same_trans c.settle.ensures.images (over_emptied _ _ _ e)) c.in_ok-write_at.ensures.ok (same_sym (over_emptied _ _ _ e))
 
-pub returns-then-bytes-gt-self-clause-torn : goal.returns-then-bytes-gt-self-clause-torn
-returns-then-bytes-gt-self-clause-torn g c =
+pub returns-then-bytes-self-clause-torn : goal.returns-then-bytes-self-clause-torn
+returns-then-bytes-self-clause-torn g c =
     let e = c.in_ok-settle.ensures.empty in
     torn_between (same_trans c.settle.ensures.images (over_emptied _ _ _ e)) c.write_at.ensures.torn (same_sym (over_emptied _ _ _ e))
 
