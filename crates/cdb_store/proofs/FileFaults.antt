@@ -4,7 +4,7 @@ use Rattle.cdb_store.specs.declared.trace.Call.{Call}
 use Rattle.cdb_store.specs.declared.trace.Call.TheVariants.{Length, NotCut}
 use Rattle.cdb_store.specs.Images.{AfterTornWrite, AfterCut}
 use Rattle.cdb_store.specs.Calls.{FileImage, AreAtLeast, AfterTornPut, IsLost}
-use Rattle.cdb_store.proofs.OverLemmas.{same_refl, torn_between, cut_between}
+use Rattle.cdb_store.proofs.Moves.{same_refl, torn_between, cut_between}
 use Rattle.cdb_store.proofs.FileLemmas.{file_torn, file_not_cut, file_told, file_lost}
 
 pub torn_told : (pos n len left : ℕ) {c d e : List (Call × List ℕ)} → pos ≤ len → len ≤ left → left ≤ max len (pos + n) → AreAtLeast len c → AfterTornPut pos n c d

@@ -1,8 +1,6 @@
 pub mod Parts
 pub mod Moves
 pub mod OverLemmas
-pub mod Sequences
-pub mod Held
 pub mod FuseLemmas
 pub mod RawCalls
 pub mod Puts

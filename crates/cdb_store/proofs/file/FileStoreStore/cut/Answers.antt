@@ -2,7 +2,7 @@ use Rattle.std.proofs.Common.{rules, arith, ◌≡◌, false}
 use Rattle.cdb_store.specs.Images.{AreSized}
 use Rattle.cdb_store.specs.Calls.{FileImage}
 use Rattle.cdb_store.specs.Lengths.{file_size}
-use Rattle.cdb_store.proofs.OverLemmas.{cut_nothing}
+use Rattle.cdb_store.proofs.Moves.{cut_nothing}
 use Rattle.cdb_store.proofs.FileLemmas.{file_same, refused, file_cut}
 use Rattle.cdb_store.proofs.FileFaults.{cut_told, cut_lost}
 use Rattle.cdb_store.proofs.file.FileStoreStore.cut.Goals as goal

@@ -2,7 +2,7 @@ use Rattle.std.proofs.Common.{rules, arith, sym, ◌∙◌, ap, ◌≡◌, ◌+�
 use Rattle.cdb_store.specs.Images.{AfterWrite, AreSized}
 use Rattle.cdb_store.specs.Calls.{FileImage, AreAtLeast}
 use Rattle.cdb_store.specs.Lengths.{file_size}
-use Rattle.cdb_store.proofs.OverLemmas.{torn_same, torn_from_write}
+use Rattle.cdb_store.proofs.Moves.{torn_same, torn_from_write}
 use Rattle.cdb_store.proofs.FileLemmas.{file_same, refused, file_put, put_long}
 use Rattle.cdb_store.proofs.FileFaults.{torn_told, torn_lost}
 use Rattle.cdb_store.proofs.file.FileStoreStore.write_at.Goals as goal

@@ -1,6 +1,7 @@
 use Rattle.std.proofs.Common.{rules, arith, ◌≤◌, ℕ, length, length-take}
 use Rattle.cdb_store.specs.Fuse.{Blows}
-use Rattle.cdb_store.proofs.FuseLemmas.{fuse_passes, torn_wider}
+use Rattle.cdb_store.proofs.FuseLemmas.{fuse_passes}
+use Rattle.cdb_store.proofs.Moves.{torn_wider}
 use Rattle.cdb_store.proofs.fuse.FuseStoreStore.write_at.Goals as goal
 
 pub returns-in-Ok-clause-torn : goal.returns-in-Ok-clause-torn
