@@ -67,7 +67,7 @@ impl FileStore {
 
 impl<F: RawFile> FileStore<F> {
     /// A file that was just made or emptied.
-    fn empty(file: F) -> FileStore<F>
+    pub(crate) fn empty(file: F) -> FileStore<F>
         requires { lost (F.calls file) ≡ false }
         ensures size { result.len ≡ 0 }
         ensures file { result.file ≡ file }

@@ -18,3 +18,6 @@ pub use memory::MemStore;
 pub use raw_file::{RawFault, RawFile, RealFile};
 pub use store::{Store, StoreFault};
 pub use trace::{Call, Trace};
+
+#[cfg(test)]
+mod tests;

@@ -49,7 +49,7 @@ impl MemStore {
     }
 }
 
-fn write_over(bytes: &mut Vec<u8>, at: usize, new: &[u8]) -> Result<(), AllocError>
+pub(crate) fn write_over(bytes: &mut Vec<u8>, at: usize, new: &[u8]) -> Result<(), AllocError>
     requires start { at ≤ vec_len bytes.old }
     requires end { at + length new.now < 2 ^ 63 }
     ensures ok { OnOk result (bytes.new.items ≡ overwrite bytes.old.items at new.now) }
