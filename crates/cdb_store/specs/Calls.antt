@@ -117,3 +117,8 @@ pub record IsLost (least most : ℕ) (old new : List (Call × List ℕ)) : Type 
   pub answer : Call × List ℕ
   pub untold : IsUntold least most (answer ∷ old)
   pub calls : new ≡ (Lost, []) ∷ (answer ∷ old)
+
+-- the length after a failed call: one from least to most that the file has just told, or the one before where it is lost
+abbrev pub IsMeasured : (least most before now : ℕ) → List (Call × List ℕ) → Type 0
+IsMeasured least most before now calls =
+    ((c : List (Call × List ℕ)) × (calls ≡ (Length now, []) ∷ c) × (least ≤ now) × (now ≤ most)) ⊎ ((lost calls ≡ true) × (now ≡ before))

@@ -196,7 +196,15 @@ impl<S: Store> Store for BufferedStore<S> {
         self.inner.cut(len)
     }
 
-    fn flush(&mut self) -> Result<(), StoreFault> {
+    fn flush(&mut self) -> Result<(), StoreFault>
+        ensures images { SameImages (Over self.old.at self.old.buffer.items (S.image self.old.inner)) (Over self.new.at self.new.buffer.items (S.image self.new.inner)) }
+        ensures size { max (S.size self.new.inner) (self.new.at + length self.new.buffer.items) ≡ max (S.size self.old.inner) (self.old.at + length self.old.buffer.items) }
+        ensures written { written_count self.new.trace.events ≡ written_count self.old.trace.events }
+        ensures room { S.room self.old.inner ≤ S.room self.new.inner }
+        ensures cause { HasCause (S.failures self.old.inner) (S.failures self.new.inner) result }
+        ensures memory { IsErrOf result NoMemory → ⊥ }
+        ensures settled { OnOk result (self.new.buffer.items ≡ []) }
+    {
         self.settle()?;
         self.inner.flush()
     }

@@ -1,10 +1,10 @@
 // A store in a file.
-ghost use Rattle.std.specs.Prelude.{◌≡◌, ◌+◌, ◌<◌, ◌≤◌, ◌^◌, ◌↔◌, false, List, ℕ, [], ◌∷◌, length, IfOk, OnOk, IsErrOf};
+ghost use Rattle.std.specs.Prelude.{◌≡◌, ◌+◌, ◌<◌, ◌≤◌, ◌^◌, ◌↔◌, true, false, max, List, ℕ, [], ◌∷◌, length, IfOk, OnOk, OnErr, IsErrOf};
 ghost use Rattle.std.proofs.Common.{arith};
 ghost use Rattle.cdb_store.specs.declared.trace.Call.TheVariants.{Length, Synced};
-ghost use Rattle.cdb_store.specs.declared.store.StoreFault.TheVariants.{NoMemory};
-ghost use Rattle.cdb_store.specs.Images.{SameImages, HasCause};
-ghost use Rattle.cdb_store.specs.Calls.{failure_count, written_count, lost, FileImage, AreAtLeast};
+ghost use Rattle.cdb_store.specs.declared.store.StoreFault.TheVariants.{Device, NoMemory};
+ghost use Rattle.cdb_store.specs.Images.{SameImages, AfterRead, AfterWrite, AfterTornWrite, AfterCut, HasCause};
+ghost use Rattle.cdb_store.specs.Calls.{failure_count, written_count, lost, FileImage, AreAtLeast, IsMeasured};
 ghost use Rattle.cdb_store.specs.Lengths.{file_size};
 
 use crate::raw_file::{RawFile, RealFile};
@@ -117,7 +117,17 @@ impl<F: RawFile> Store for FileStore<F> {
         self.len
     }
 
-    fn read_at(&mut self, pos: u64, into: &mut [u8]) -> Result<(), StoreFault> {
+    fn read_at(&mut self, pos: u64, into: &mut [u8]) -> Result<(), StoreFault>
+        requires { pos + length into.old ≤ self.old.len }
+        ensures ok { OnOk result (AfterRead pos into.new (FileImage self.old.len (F.calls self.old.file)) (FileImage self.new.len (F.calls self.new.file))) }
+        ensures err { OnErr result (SameImages (FileImage self.old.len (F.calls self.old.file)) (FileImage self.new.len (F.calls self.new.file))) }
+        ensures size { self.new.len ≡ self.old.len }
+        ensures written { written_count (F.calls self.new.file) ≡ written_count (F.calls self.old.file) }
+        ensures room { 2 ^ 63 ≤ 2 ^ 63 }
+        ensures cause { HasCause (failure_count (F.calls self.old.file)) (failure_count (F.calls self.new.file)) result }
+        ensures memory { IsErrOf result NoMemory → ⊥ }
+        ensures lost { lost (F.calls self.old.file) ≡ true → IsErrOf result Device }
+    {
         if self.is_lost {
             self.file.refuse();
             return Err(StoreFault::Device);
@@ -127,7 +137,27 @@ impl<F: RawFile> Store for FileStore<F> {
         Ok(())
     }
 
-    fn write_at(&mut self, pos: u64, bytes: &[u8]) -> Result<(), StoreFault> {
+    fn write_at(&mut self, pos: u64, bytes: &[u8]) -> Result<(), StoreFault>
+        requires start { pos ≤ self.old.len }
+        requires end { pos + length bytes.now < 2 ^ 63 }
+        ensures ok { OnOk result (AfterWrite pos bytes.now (FileImage self.old.len (F.calls self.old.file)) (FileImage self.new.len (F.calls self.new.file))) }
+        ensures ok_size { OnOk result (self.new.len ≡ max self.old.len (pos + length bytes.now)) }
+        ensures ok_written { OnOk result (written_count (F.calls self.new.file) ≡ written_count (F.calls self.old.file) + length bytes.now) }
+        ensures torn { AfterTornWrite pos (length bytes.now) (FileImage self.old.len (F.calls self.old.file)) (FileImage self.new.len (F.calls self.new.file)) }
+        ensures longer { self.old.len ≤ self.new.len }
+        ensures not_past { self.new.len ≤ max self.old.len (pos + length bytes.now) }
+        ensures more_written { written_count (F.calls self.old.file) ≤ written_count (F.calls self.new.file) }
+        ensures at_most_written { written_count (F.calls self.new.file) ≤ written_count (F.calls self.old.file) + length bytes.now }
+        ensures no_memory { IsErrOf result NoMemory → ⊥ }
+        ensures memory { IsErrOf result NoMemory → SameImages (FileImage self.old.len (F.calls self.old.file)) (FileImage self.new.len (F.calls self.new.file)) }
+        ensures memory_size { IsErrOf result NoMemory → self.new.len ≡ self.old.len }
+        ensures memory_written { IsErrOf result NoMemory → written_count (F.calls self.new.file) ≡ written_count (F.calls self.old.file) }
+        ensures past_room { IsErrOf result NoMemory → 2 ^ 63 < pos + length bytes.now }
+        ensures room { 2 ^ 63 ≤ 2 ^ 63 }
+        ensures cause { HasCause (failure_count (F.calls self.old.file)) (failure_count (F.calls self.new.file)) result }
+        ensures lost { lost (F.calls self.old.file) ≡ true → IsErrOf result Device }
+        ensures measured { OnErr result (IsMeasured self.old.len (max self.old.len (pos + length bytes.now)) self.old.len self.new.len (F.calls self.new.file)) }
+    {
         if self.is_lost {
             self.file.refuse();
             return Err(StoreFault::Device);
@@ -152,7 +182,19 @@ impl<F: RawFile> Store for FileStore<F> {
         Ok(())
     }
 
-    fn cut(&mut self, len: u64) -> Result<(), StoreFault> {
+    fn cut(&mut self, len: u64) -> Result<(), StoreFault>
+        requires { len ≤ self.old.len }
+        ensures images { AfterCut self.new.len (FileImage self.old.len (F.calls self.old.file)) (FileImage self.new.len (F.calls self.new.file)) }
+        ensures ok { OnOk result (self.new.len ≡ len) }
+        ensures no_shorter { len ≤ self.new.len }
+        ensures no_longer { self.new.len ≤ self.old.len }
+        ensures written { written_count (F.calls self.new.file) ≡ written_count (F.calls self.old.file) }
+        ensures room { 2 ^ 63 ≤ 2 ^ 63 }
+        ensures cause { HasCause (failure_count (F.calls self.old.file)) (failure_count (F.calls self.new.file)) result }
+        ensures memory { IsErrOf result NoMemory → ⊥ }
+        ensures lost { lost (F.calls self.old.file) ≡ true → IsErrOf result Device }
+        ensures measured { OnErr result (IsMeasured len self.old.len self.old.len self.new.len (F.calls self.new.file)) }
+    {
         if self.is_lost {
             self.file.refuse();
             return Err(StoreFault::Device);
@@ -180,6 +222,7 @@ impl<F: RawFile> Store for FileStore<F> {
         ensures room { 2 ^ 63 ≤ 2 ^ 63 }
         ensures cause { HasCause (failure_count (F.calls self.old.file)) (failure_count (F.calls self.new.file)) result }
         ensures memory { IsErrOf result NoMemory → ⊥ }
+        ensures lost { lost (F.calls self.old.file) ≡ true → IsErrOf result Device }
         ensures synced { OnOk result (F.calls self.new.file ≡ (Synced, []) ∷ F.calls self.old.file) }
     {
         if self.is_lost {

@@ -27,17 +27,15 @@ impl MemStore {
     pub fn from_vec(bytes: Vec<u8>) -> MemStore
         ensures { contents result ≡ bytes.items }
     {
-        MemStore {
-            bytes,
-            trace: Trace::new(),
-        }
+        let trace = Trace::new();
+        MemStore { bytes, trace }
     }
 
     pub fn bytes(&self) -> &[u8]
         ensures bytes { result.now ≡ contents self.now }
         ensures images { (b : List ℕ) → (⟦<MemStore as Store>⟧.image self.now b ↔ (b ≡ result.now)) }
     {
-        &self.bytes
+        self.bytes.as_slice()
     }
 
     pub fn into_vec(self) -> Vec<u8>

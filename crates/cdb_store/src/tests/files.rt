@@ -28,6 +28,8 @@ fn a_file_is_made_written_cut_and_read(rt: HostRuntime) -> Result<(), Fail> {
     drop(store);
     let store = FileStore::create(&rt, "made.store")?;
     assert_eq!(rt; store.len(), 0);
+    drop(store);
+    assert_eq!(rt; FileStore::open(&rt, "made.store")?.len(), 0);
     Ok(())
 }
 

@@ -73,3 +73,20 @@ fn a_failed_last_write_hands_the_store_back(rt: HostRuntime) -> Result<(), Fail>
     assert_eq!(rt; inner.into_inner().bytes(), b"ab".as_slice());
     Ok(())
 }
+
+#[test]
+fn a_flush_reaches_the_inner_store(rt: HostRuntime) -> Result<(), Fail> {
+    let inner = FuseStore::new(MemStore::new(rt.alloc()), u64::MAX, 0);
+    let Ok(mut store) = BufferedStore::new(rt.alloc(), inner, 16) else {
+        return Err(Fail::new("no memory for a buffer"));
+    };
+    store.write_at(0, b"abc")?;
+    store.flush()?;
+    store.flush()?;
+    let (inner, answer) = store.into_inner();
+    answer?;
+    // one write and two flushes
+    assert_eq!(rt; inner.calls(), 3);
+    assert_eq!(rt; inner.written(), 3);
+    Ok(())
+}
