@@ -62,20 +62,20 @@ pub file_put : (pos len : ℕ) (bytes : List ℕ) {c d : List (Call × List ℕ)
     → AfterWrite pos bytes (FileImage len c) (FileImage (max len (pos + length bytes)) d)
 file_put pos len bytes inside long w = record {
   no_other = λ b is. let h = w.no_other is.0 is.1 in
-    let l : len ≤ length h.0 = long.each h.0 h.1 in
-    (take len h.0, (h.0, h.1, l, refl), is.3 ∙ ap (take (max len (pos + length bytes))) h.3 ∙ front_overwrite pos len h.0 bytes inside l);
+      let l : len ≤ length h.0 = long.each h.0 h.1 in
+      (take len h.0, (h.0, h.1, l, refl), is.3 ∙ ap (take (max len (pos + length bytes))) h.3 ∙ front_overwrite pos len h.0 bytes inside l);
   none_lost = λ x is.
-    let l : len ≤ length is.0 = is.2 in
-    let n : length (overwrite is.0 pos bytes) ≡ max (length is.0) (pos + length bytes) = length-overwrite pos is.0 bytes (omega arith) in
-    (overwrite is.0 pos bytes, w.none_lost is.0 is.1 (omega arith), omega arith, ap (λ v. overwrite v pos bytes) is.3 ∙ sym (front_overwrite pos len is.0 bytes inside l));
+      let l : len ≤ length is.0 = is.2 in
+      let n : length (overwrite is.0 pos bytes) ≡ max (length is.0) (pos + length bytes) = length-overwrite pos is.0 bytes (omega arith) in
+      (overwrite is.0 pos bytes, w.none_lost is.0 is.1 (omega arith), omega arith, ap (λ v. overwrite v pos bytes) is.3 ∙ sym (front_overwrite pos len is.0 bytes inside l));
 }
 
 pub put_long : (pos len : ℕ) (bytes : List ℕ) {c d : List (Call × List ℕ)} → pos ≤ len → AreAtLeast len c → AfterPut pos bytes c d → AreAtLeast (max len (pos + length bytes)) d
 put_long pos len bytes inside long w = record {
   each = λ b is. let h = w.no_other b is in
-    let l : len ≤ length h.0 = long.each h.0 h.1 in
-    let n : length b ≡ max (length h.0) (pos + length bytes) = ap length h.3 ∙ length-overwrite pos h.0 bytes h.2 in
-    omega arith;
+      let l : len ≤ length h.0 = long.each h.0 h.1 in
+      let n : length b ≡ max (length h.0) (pos + length bytes) = ap length h.3 ∙ length-overwrite pos h.0 bytes h.2 in
+      omega arith;
 }
 
 torn_front : (pos n len left : ℕ) (a y : List ℕ) → pos ≤ len → len ≤ left → left ≤ max len (pos + n) → Torn pos n a y → Torn pos n (take len a) (take left y)
@@ -84,10 +84,10 @@ torn_front pos n len left a y inside longer not_past t = record {
   after = elim (cases_lt len (pos + n)) [
     | inl h ↦ short left y (omega arith) ∙ sym (short len a (omega arith))
     | inr h ↦
-      let m : ℕ = len - (pos + n) in
-      let e : len ≡ pos + n + m = omega arith in
-      let f : left ≡ pos + n + m = omega arith in
-      ap (λ k. drop (pos + n) (take k y)) f ∙ drop-take (pos + n) m y ∙ ap (take m) t.after ∙ sym (drop-take (pos + n) m a) ∙ ap (λ k. drop (pos + n) (take k a)) (sym e)
+        let m : ℕ = len - (pos + n) in
+        let e : len ≡ pos + n + m = omega arith in
+        let f : left ≡ pos + n + m = omega arith in
+        ap (λ k. drop (pos + n) (take k y)) f ∙ drop-take (pos + n) m y ∙ ap (take m) t.after ∙ sym (drop-take (pos + n) m a) ∙ ap (λ k. drop (pos + n) (take k a)) (sym e)
   ];
 } where
   short : (k : ℕ) (x : List ℕ) → k ≤ pos + n → drop (pos + n) (take k x) ≡ []
@@ -97,13 +97,13 @@ pub file_torn : (pos n len left : ℕ) {c d : List (Call × List ℕ)} → pos �
     → AfterTornWrite pos n (FileImage len c) (FileImage left d)
 file_torn pos n len left inside longer not_past long w = record {
   no_other = λ b is. let h = w.no_other is.0 is.1 in
-    let l : len ≤ length h.0 = long.each h.0 h.1 in
-    (take len h.0, (h.0, h.1, l, refl), subst (λ (z : List ℕ). Torn pos n (take len h.0) z) (sym is.3) (torn_front pos n len left h.0 is.0 inside longer not_past h.3));
+      let l : len ≤ length h.0 = long.each h.0 h.1 in
+      (take len h.0, (h.0, h.1, l, refl), subst (λ (z : List ℕ). Torn pos n (take len h.0) z) (sym is.3) (torn_front pos n len left h.0 is.0 inside longer not_past h.3));
   none_lost = λ x is.
-    let l : len ≤ length is.0 = is.2 in
-    let h = w.none_lost is.0 is.1 (omega arith) in
-    let far : max (length is.0) (pos + n) ≤ length h.0 = h.2 in
-    (take left h.0, (h.0, h.1, omega arith, refl), subst (λ (z : List ℕ). Torn pos n z (take left h.0)) (sym is.3) (torn_front pos n len left is.0 h.0 inside longer not_past h.3));
+      let l : len ≤ length is.0 = is.2 in
+      let h = w.none_lost is.0 is.1 (omega arith) in
+      let far : max (length is.0) (pos + n) ≤ length h.0 = h.2 in
+      (take left h.0, (h.0, h.1, omega arith, refl), subst (λ (z : List ℕ). Torn pos n z (take left h.0)) (sym is.3) (torn_front pos n len left is.0 h.0 inside longer not_past h.3));
 }
 
 -- the length that is told is one that the images can have
@@ -119,10 +119,10 @@ told_long n c = record { each = λ b is. is.1 }
 pub file_cut : (n len : ℕ) (c : List (Call × List ℕ)) → n ≤ len → AreAtLeast len c → AfterCut n (FileImage len c) (FileImage n ((Cut n, []) ∷ c))
 file_cut n len c inside long = record {
   no_other = λ b is. let a : List ℕ = is.1.0 in
-    let l : len ≤ length a = long.each a is.1.1 in
-    (take len a, (a, is.1.1, l, refl), is.3 ∙ ap (take n) is.1.2 ∙ take-take n n a (omega arith) ∙ sym (take-take n len a inside));
+      let l : len ≤ length a = long.each a is.1.1 in
+      (take len a, (a, is.1.1, l, refl), is.3 ∙ ap (take n) is.1.2 ∙ take-take n n a (omega arith) ∙ sym (take-take n len a inside));
   none_lost = λ x is. let l : len ≤ length is.0 = is.2 in
-    (take n is.0, (is.0, is.1, refl), omega (arith, length-take-le n is.0 (omega arith)), ap (take n) is.3 ∙ take-take n len is.0 inside ∙ sym (take-take n n is.0 (omega arith)));
+      (take n is.0, (is.0, is.1, refl), omega (arith, length-take-le n is.0 (omega arith)), ap (take n) is.3 ∙ take-take n len is.0 inside ∙ sym (take-take n n is.0 (omega arith)));
 }
 
 pub cut_long : (n len : ℕ) (c : List (Call × List ℕ)) → n ≤ len → AreAtLeast len c → AreAtLeast n ((Cut n, []) ∷ c)
@@ -133,13 +133,13 @@ cut_long n len c inside long = record {
 pub file_not_cut : (n left len : ℕ) (c : List (Call × List ℕ)) → n ≤ left → left ≤ len → AreAtLeast len c → AfterCut left (FileImage len c) (FileImage left ((NotCut n, []) ∷ c))
 file_not_cut n left len c least most long = record {
   no_other = λ b is. let a : List ℕ = is.1.0 in let m : ℕ = is.1.1 in
-    let l : len ≤ length a = long.each a is.1.2 in
-    let e : is.0 ≡ take m a = is.1.4 in
-    let k : length is.0 ≤ m = omega (arith, ap length e, length-take m a) in
-    let h : left ≤ length is.0 = is.2 in
-    (take len a, (a, is.1.2, l, refl), is.3 ∙ ap (take left) e ∙ take-take left m a (omega arith) ∙ sym (take-take left len a most));
+      let l : len ≤ length a = long.each a is.1.2 in
+      let e : is.0 ≡ take m a = is.1.4 in
+      let k : length is.0 ≤ m = omega (arith, ap length e, length-take m a) in
+      let h : left ≤ length is.0 = is.2 in
+      (take len a, (a, is.1.2, l, refl), is.3 ∙ ap (take left) e ∙ take-take left m a (omega arith) ∙ sym (take-take left len a most));
   none_lost = λ x is. let l : len ≤ length is.0 = is.2 in
-    (take left is.0, (is.0, left, is.1, least, refl), omega (arith, length-take-le left is.0 (omega arith)), ap (take left) is.3 ∙ take-take left len is.0 most ∙ sym (take-take left left is.0 (omega arith)));
+      (take left is.0, (is.0, left, is.1, least, refl), omega (arith, length-take-le left is.0 (omega arith)), ap (take left) is.3 ∙ take-take left len is.0 most ∙ sym (take-take left left is.0 (omega arith)));
 }
 
 -- a length that can't be is not believed

@@ -74,7 +74,7 @@ pub over_inside : (at d : ℕ) (buffer : List ℕ) {pos size : ℕ} {bytes : Lis
 over_inside at d buffer {pos = pos} {bytes = bytes} here fits inside sized e = record {
   no_other = λ b is. is;
   read = λ b is.
-    let l : length is.0 ≡ _ = sized.each is.0 is.1 in
-    ap (λ p. part p (length bytes) b) here ∙ ap (part (at + d) (length bytes)) is.2 ∙ part_inside at d (length bytes) is.0 buffer (omega arith) fits ∙ sym e;
+      let l : length is.0 ≡ _ = sized.each is.0 is.1 in
+      ap (λ p. part p (length bytes) b) here ∙ ap (part (at + d) (length bytes)) is.2 ∙ part_inside at d (length bytes) is.0 buffer (omega arith) fits ∙ sym e;
   none_lost = λ b is _. is;
 }

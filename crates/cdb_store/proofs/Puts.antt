@@ -39,13 +39,13 @@ put_asked {at = at} {bytes = bytes} {old = old} a =
 pub put_more : {at pos : ℕ} {xs ys : List ℕ} {a b c : List (Call × List ℕ)} → pos ≡ at + length xs → AfterPut at xs a b → AfterPut pos ys b c → AfterPut at (xs ++ ys) a c
 put_more {at = at} {pos = pos} {xs = xs} {ys = ys} {c = c} here v w =
     let joined : (x : List ℕ) → at ≤ length x → overwrite (overwrite x at xs) pos ys ≡ overwrite x at (xs ++ ys) =
-      λ x inside. ap (λ p. overwrite (overwrite x at xs) p ys) here ∙ overwrite-overwrite at x xs ys inside in
+    λ x inside. ap (λ p. overwrite (overwrite x at xs) p ys) here ∙ overwrite-overwrite at x xs ys inside in
     record {
       no_other = λ z is. let h = w.no_other z is in let m = v.no_other h.0 h.1 in
-        (m.0, m.1, m.2, h.3 ∙ ap (λ y. overwrite y pos ys) m.3 ∙ joined m.0 m.2);
+          (m.0, m.1, m.2, h.3 ∙ ap (λ y. overwrite y pos ys) m.3 ∙ joined m.0 m.2);
       none_lost = λ x is inside.
-        let l : length (overwrite x at xs) ≡ max (length x) (at + length xs) = length-overwrite at x xs inside in
-        subst (Agrees c) (joined x inside) (w.none_lost (overwrite x at xs) (v.none_lost x is inside) (omega arith));
+          let l : length (overwrite x at xs) ≡ max (length x) (at + length xs) = length-overwrite at x xs inside in
+          subst (Agrees c) (joined x inside) (w.none_lost (overwrite x at xs) (v.none_lost x is inside) (omega arith));
     }
 
 -- a list with any bytes in the range that reaches as far as the range does
@@ -53,11 +53,15 @@ torn_far : (at n : ℕ) (a : List ℕ) → at ≤ length a → (b : List ℕ) ×
 torn_far at n a inside =
     let zeros : List ℕ = replicate n 0 in
     let z : length zeros ≡ n = length-replicate n 0 in
-    let l : length (overwrite a at zeros) ≡ max (length a) (at + n) = length-overwrite at a zeros inside ∙ ap (λ k. max (length a) (at + k)) z in
-    (overwrite a at zeros, omega arith, omega arith, record {
-      before = take-overwrite at at a zeros (omega arith) inside;
-      after = drop-overwrite (at + n) at a zeros (omega arith) inside;
-    })
+    let l : length (overwrite a at zeros) ≡ max (length a) (at + n) = length-overwrite at a zeros inside ∙ ap (λ k. max (length a) (at + k)) z in (
+      overwrite a at zeros,
+      omega arith,
+      omega arith,
+      record {
+        before = take-overwrite at at a zeros (omega arith) inside;
+        after = drop-overwrite (at + n) at a zeros (omega arith) inside;
+      },
+    )
 
 not_written : (at n k : ℕ) (old new : List (Call × List ℕ)) → new ≡ (NotWritten at n, []) ∷ interrupted k old → AfterTornPut at n old new
 not_written at n k old new e =
@@ -76,22 +80,22 @@ torn_vain {at = at} {n = n} {old = old} {new = new} v = elim v [
 pub torn_behind_put : {at pos n m : ℕ} {xs : List ℕ} {a b c : List (Call × List ℕ)} → pos ≡ at + length xs → n ≡ length xs + m → AfterPut at xs a b → AfterTornPut pos m b c → AfterTornPut at n a c
 torn_behind_put {at = at} {pos = pos} {n = n} {m = m} {xs = xs} here sum v w =
     let torn : (x z : List ℕ) → at ≤ length x → Torn pos m (overwrite x at xs) z → Torn at n x z =
-      λ x z inside t.
-      let e : pos + m ≡ at + n = omega arith in
-      record {
-        before = sym (take-take at pos z (omega arith)) ∙ ap (take at) t.before ∙ take-take at pos (overwrite x at xs) (omega arith) ∙ take-overwrite at at x xs (omega arith) inside;
-        after = ap (λ p. drop p z) (sym e) ∙ t.after ∙ drop-overwrite (pos + m) at x xs (omega arith) inside ∙ ap (λ p. drop p x) e;
-      } in
+    λ x z inside t.
+    let e : pos + m ≡ at + n = omega arith in
+    record {
+      before = sym (take-take at pos z (omega arith)) ∙ ap (take at) t.before ∙ take-take at pos (overwrite x at xs) (omega arith) ∙ take-overwrite at at x xs (omega arith) inside;
+      after = ap (λ p. drop p z) (sym e) ∙ t.after ∙ drop-overwrite (pos + m) at x xs (omega arith) inside ∙ ap (λ p. drop p x) e;
+    } in
     record {
       no_other = λ z is. let h = w.no_other z is in let o = v.no_other h.0 h.1 in
-        let l : length h.0 ≡ max (length o.0) (at + length xs) = ap length o.3 ∙ length-overwrite at o.0 xs o.2 in
-        let le : length h.0 ≤ length z = h.2 in
-        (o.0, o.1, omega arith, torn o.0 z o.2 (subst (λ (y : List ℕ). Torn pos m y z) o.3 h.3));
+          let l : length h.0 ≡ max (length o.0) (at + length xs) = ap length o.3 ∙ length-overwrite at o.0 xs o.2 in
+          let le : length h.0 ≤ length z = h.2 in
+          (o.0, o.1, omega arith, torn o.0 z o.2 (subst (λ (y : List ℕ). Torn pos m y z) o.3 h.3));
       none_lost = λ x is inside.
-        let l : length (overwrite x at xs) ≡ max (length x) (at + length xs) = length-overwrite at x xs inside in
-        let h = w.none_lost (overwrite x at xs) (v.none_lost x is inside) (omega arith) in
-        let far : max (length (overwrite x at xs)) (pos + m) ≤ length h.0 = h.2 in
-        (h.0, h.1, omega arith, torn x h.0 inside h.3);
+          let l : length (overwrite x at xs) ≡ max (length x) (at + length xs) = length-overwrite at x xs inside in
+          let h = w.none_lost (overwrite x at xs) (v.none_lost x is inside) (omega arith) in
+          let far : max (length (overwrite x at xs)) (pos + m) ≤ length h.0 = h.2 in
+          (h.0, h.1, omega arith, torn x h.0 inside h.3);
     }
 
 pub written_asked : {at : ℕ} {bytes : List ℕ} {old new : List (Call × List ℕ)} → Asked (Wrote at, bytes) old new

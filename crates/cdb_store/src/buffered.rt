@@ -2,10 +2,11 @@
 ghost use Rattle.std.specs.Prelude.{◌≡◌, ◌+◌, ◌<◌, ◌≤◌, ◌^◌, ◌↔◌, max, [], length, vec_capacity, IsTrue, OnOk, IfOk, IfErr, IsErrOf};
 ghost use Rattle.std.proofs.Common.{arith};
 ghost use Rattle.cdb_store.specs.declared.store.StoreFault.TheVariants.{NoMemory};
-ghost use Rattle.cdb_store.specs.Images.{Over, SameImages, AfterTornWrite, HasCause, part};
+ghost use Rattle.cdb_store.specs.Images.{Over, SameImages, AfterTornWrite, HasCause};
 ghost use Rattle.cdb_store.specs.Calls.{written_count};
 ghost use Rattle.cdb_store.specs.Lengths.{over_size};
 
+use crate::memory::read_from;
 use crate::trace::{Call, Trace};
 use crate::{Store, StoreFault};
 use std::alloc::Global;
@@ -133,14 +134,6 @@ fn lies_within(pos: u64, n: usize, at: u64, held: usize) -> bool
     at <= pos && pos <= at + held as u64 && n as u64 <= at + held as u64 - pos
 }
 
-/// Fills `into` with the bytes from the index `from` on.
-fn copy_part(bytes: &[u8], from: usize, into: &mut [u8])
-    requires { from + length into.old ≤ length bytes.now }
-    ensures { into.new ≡ part from (length into.new) bytes.now }
-{
-    into.copy_from_slice(&bytes[from..from + into.len()]);
-}
-
 impl<S: Store> Store for BufferedStore<S> {
     ghost size = { λ f. max (S.size f.inner) (f.at + length f.buffer.items) };
 
@@ -162,7 +155,7 @@ impl<S: Store> Store for BufferedStore<S> {
 
     fn read_at(&mut self, pos: u64, into: &mut [u8]) -> Result<(), StoreFault> {
         if lies_within(pos, into.len(), self.at, self.buffer.len()) {
-            copy_part(&self.buffer, (pos - self.at) as usize, into);
+            read_from(&self.buffer, (pos - self.at) as usize, into);
             return Ok(());
         }
         if pos <= self.at && into.len() as u64 <= self.at - pos {

@@ -123,7 +123,6 @@ impl<F: RawFile> Store for FileStore<F> {
         ensures err { OnErr result (SameImages (FileImage self.old.len (F.calls self.old.file)) (FileImage self.new.len (F.calls self.new.file))) }
         ensures size { self.new.len ≡ self.old.len }
         ensures written { written_count (F.calls self.new.file) ≡ written_count (F.calls self.old.file) }
-        ensures room { 2 ^ 63 ≤ 2 ^ 63 }
         ensures cause { HasCause (failure_count (F.calls self.old.file)) (failure_count (F.calls self.new.file)) result }
         ensures memory { IsErrOf result NoMemory → ⊥ }
         ensures lost { lost (F.calls self.old.file) ≡ true → IsErrOf result Device }
@@ -148,12 +147,7 @@ impl<F: RawFile> Store for FileStore<F> {
         ensures not_past { self.new.len ≤ max self.old.len (pos + length bytes.now) }
         ensures more_written { written_count (F.calls self.old.file) ≤ written_count (F.calls self.new.file) }
         ensures at_most_written { written_count (F.calls self.new.file) ≤ written_count (F.calls self.old.file) + length bytes.now }
-        ensures no_memory { IsErrOf result NoMemory → ⊥ }
-        ensures memory { IsErrOf result NoMemory → SameImages (FileImage self.old.len (F.calls self.old.file)) (FileImage self.new.len (F.calls self.new.file)) }
-        ensures memory_size { IsErrOf result NoMemory → self.new.len ≡ self.old.len }
-        ensures memory_written { IsErrOf result NoMemory → written_count (F.calls self.new.file) ≡ written_count (F.calls self.old.file) }
-        ensures past_room { IsErrOf result NoMemory → 2 ^ 63 < pos + length bytes.now }
-        ensures room { 2 ^ 63 ≤ 2 ^ 63 }
+        ensures memory { IsErrOf result NoMemory → ⊥ }
         ensures cause { HasCause (failure_count (F.calls self.old.file)) (failure_count (F.calls self.new.file)) result }
         ensures lost { lost (F.calls self.old.file) ≡ true → IsErrOf result Device }
         ensures measured { OnErr result (IsMeasured self.old.len (max self.old.len (pos + length bytes.now)) self.old.len self.new.len (F.calls self.new.file)) }
@@ -189,7 +183,6 @@ impl<F: RawFile> Store for FileStore<F> {
         ensures no_shorter { len ≤ self.new.len }
         ensures no_longer { self.new.len ≤ self.old.len }
         ensures written { written_count (F.calls self.new.file) ≡ written_count (F.calls self.old.file) }
-        ensures room { 2 ^ 63 ≤ 2 ^ 63 }
         ensures cause { HasCause (failure_count (F.calls self.old.file)) (failure_count (F.calls self.new.file)) result }
         ensures memory { IsErrOf result NoMemory → ⊥ }
         ensures lost { lost (F.calls self.old.file) ≡ true → IsErrOf result Device }
@@ -219,7 +212,6 @@ impl<F: RawFile> Store for FileStore<F> {
         ensures images { SameImages (FileImage self.old.len (F.calls self.old.file)) (FileImage self.new.len (F.calls self.new.file)) }
         ensures size { self.new.len ≡ self.old.len }
         ensures written { written_count (F.calls self.new.file) ≡ written_count (F.calls self.old.file) }
-        ensures room { 2 ^ 63 ≤ 2 ^ 63 }
         ensures cause { HasCause (failure_count (F.calls self.old.file)) (failure_count (F.calls self.new.file)) result }
         ensures memory { IsErrOf result NoMemory → ⊥ }
         ensures lost { lost (F.calls self.old.file) ≡ true → IsErrOf result Device }

@@ -17,7 +17,7 @@ pub use fuse::FuseStore;
 pub use memory::MemStore;
 pub use raw_file::{RawFault, RawFile, RealFile};
 pub use store::{Store, StoreFault};
-pub use trace::{Call, Trace};
+pub use trace::Call;
 
 #[cfg(test)]
 mod tests;

@@ -9,6 +9,7 @@ use crate::trace::{Call, Trace};
 use crate::{Store, StoreFault};
 use std::alloc::{AllocError, Global};
 
+/// A store in memory. It never answers `Device`.
 #[derive(Drop)]
 pub struct MemStore {
     bytes: Vec<u8>,
@@ -18,12 +19,14 @@ pub struct MemStore {
 impl MemStore {
     ghost use Rattle.cdb_store.specs.Contents.{contents};
 
+    /// An empty store, which grows by this allocator.
     pub fn new(alloc: Global) -> MemStore
         ensures { contents result ≡ [] }
     {
         MemStore::from_vec(Vec::new(alloc))
     }
 
+    /// A store of these bytes, which grows by the vector's allocator.
     pub fn from_vec(bytes: Vec<u8>) -> MemStore
         ensures { contents result ≡ bytes.items }
     {
@@ -31,6 +34,7 @@ impl MemStore {
         MemStore { bytes, trace }
     }
 
+    /// Its bytes, which are its only image.
     pub fn bytes(&self) -> &[u8]
         ensures bytes { result.now ≡ contents self.now }
         ensures images { (b : List ℕ) → (⟦<MemStore as Store>⟧.image self.now b ↔ (b ≡ result.now)) }
@@ -38,6 +42,7 @@ impl MemStore {
         self.bytes.as_slice()
     }
 
+    /// Its bytes, in the vector that held them.
     pub fn into_vec(self) -> Vec<u8>
         ensures { result.items ≡ contents self }
     {
@@ -47,6 +52,7 @@ impl MemStore {
     }
 }
 
+/// Writes bytes over what stands from `at` on, and past the end.
 pub(crate) fn write_over(bytes: &mut Vec<u8>, at: usize, new: &[u8]) -> Result<(), AllocError>
     requires start { at ≤ vec_len bytes.old }
     requires end { at + length new.now < 2 ^ 63 }
@@ -61,7 +67,8 @@ pub(crate) fn write_over(bytes: &mut Vec<u8>, at: usize, new: &[u8]) -> Result<(
     Ok(())
 }
 
-fn read_from(bytes: &[u8], at: usize, into: &mut [u8])
+/// Fills `into` with the bytes from `at` on.
+pub(crate) fn read_from(bytes: &[u8], at: usize, into: &mut [u8])
     requires { at + length into.old ≤ length bytes.now }
     ensures { into.new ≡ part at (length into.new) bytes.now }
 {

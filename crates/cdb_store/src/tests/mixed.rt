@@ -60,19 +60,22 @@ fn fill(row: usize, bytes: &mut [u8]) {
 }
 
 fn sum_of(bytes: &[u8]) -> u32 {
-    bytes
-        .iter()
-        .fold(0, |sum: u32, b| (sum % 1000003 * 31 + *b as u32 + 1) % 1000003)
+    bytes.iter().fold(
+        0,
+        |sum: u32, b| (sum % 1000003 * 31 + *b as u32 + 1) % 1000003,
+    )
 }
 
 /// Makes a call, and tells whether it answered Ok, and the sum over the bytes that it read.
 fn make<S: Store>(store: &mut S, step: Step, row: usize, bytes: &mut [u8]) -> (bool, u32) {
     match step {
-        Step::Write(pos, n) if pos <= store.len() && pos <= 1 << 32 && n <= bytes.len() && n <= MOST => {
+        Step::Write(pos, n)
+            if pos <= store.len() && pos <= 1 << 32 && n <= bytes.len() && n <= MOST => {
             fill(row, &mut bytes[..n]);
             (store.write_at(pos, &bytes[..n]).is_ok(), 0)
         }
-        Step::Read(pos, n) if pos <= store.len() && n as u64 <= store.len() - pos && n <= bytes.len() => {
+        Step::Read(pos, n)
+            if pos <= store.len() && n as u64 <= store.len() - pos && n <= bytes.len() => {
             let is_ok = store.read_at(pos, &mut bytes[..n]).is_ok();
             (is_ok, sum_of(&bytes[..n]))
         }
@@ -97,7 +100,10 @@ fn rows_met<S: Store>(store: &mut S) -> usize {
 #[test]
 fn plain_stores_meet_each_row(rt: HostRuntime) -> Result<(), Fail> {
     assert_eq!(rt; rows_met(&mut MemStore::new(rt.alloc())), ROWS.len());
-    assert_eq!(rt; rows_met(&mut FileStore::create(&rt, "rows.store")?), ROWS.len());
+    assert_eq!(rt;
+        rows_met(&mut FileStore::create(&rt, "rows.store")?),
+        ROWS.len()
+    );
     let mut boxed = Box::new(rt.alloc(), MemStore::new(rt.alloc()))?;
     assert_eq!(rt; rows_met(&mut boxed), ROWS.len());
     assert_eq!(rt; rows_met(&mut &mut boxed), ROWS.len());

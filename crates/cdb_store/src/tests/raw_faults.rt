@@ -56,7 +56,13 @@ fn each_raw_call_fails_in_turn(rt: HostRuntime) -> Result<(), Fail> {
 #[test]
 fn the_length_is_asked_after_a_failed_write(rt: HostRuntime) -> Result<(), Fail> {
     // what the file tells, the length then, and whether the store goes on
-    for (told, len, goes_on) in [(5, 6, false), (6, 6, true), (7, 7, true), (8, 8, true), (9, 6, false)] {
+    for (told, len, goes_on) in [
+        (5, 6, false),
+        (6, 6, true),
+        (7, 7, true),
+        (8, 8, true),
+        (9, 6, false),
+    ] {
         let file = FakeFile::new(Vec::new(rt.alloc()), 1, 2, Trouble::Tells(told));
         let mut store = FileStore::empty(file);
         store.write_at(0, b"abcdef")?;

@@ -30,7 +30,7 @@ loop-done-preserved g c =
     record {
       inside = omega (arith, fits);
       came = rw (take_piece_put d (length c.loop-done.into - d) n c.loop-done.into c.read_some.new.into (omega arith) fits)
-        (came_more c.args.at (take d c.loop-done.into) (omega arith) c.loop-done.invariant.came c.in_ok-done.ensures.ok);
+          (came_more c.args.at (take d c.loop-done.into) (omega arith) c.loop-done.invariant.came c.in_ok-done.ensures.ok);
       untouched = untouched_trans c.loop-done.invariant.untouched (read_untouched c.in_ok-done.ensures.ok);
     }
 
