@@ -9,3 +9,6 @@ mod moving;
 
 pub use append::append_record;
 pub use moving::move_down;
+
+#[cfg(test)]
+mod tests;
