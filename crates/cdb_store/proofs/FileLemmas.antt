@@ -1,12 +1,12 @@
 -- What calls on a file do to its images.
-use Rattle.std.proofs.Common.{◌≡◌, ℕ, ◌+◌, ◌-◌, ◌≤◌, ◌<◌, max, List, [], ◌∷◌, ◌++◌, ◌⊎◌, inl, inr, length, take, drop, refl, sym, ap, subst, ◌∙◌, arith}
-use Rattle.std.proofs.lemmas.List.{take_all, take-take, drop_all, drop-take, length-take-le, length-take}
+use Rattle.std.proofs.Common.{◌≡◌, ℕ, ◌+◌, ◌-◌, ◌≤◌, max, List, [], ◌∷◌, ◌++◌, inl, inr, length, take, drop, refl, sym, ap, subst, ◌∙◌, arith}
+use Rattle.std.proofs.lemmas.List.{take-take, drop_all, drop-take, length-take-le, length-take}
 use Rattle.std.proofs.lemmas.Bool.{cases_lt}
 use Rattle.std.proofs.Math.Seq.{take-append-add}
 use Rattle.cdb_store.specs.declared.trace.Call.{Call}
-use Rattle.cdb_store.specs.declared.trace.Call.TheVariants.{Made, Gave, Length, Cut, NotCut, Refused, Lost}
+use Rattle.cdb_store.specs.declared.trace.Call.TheVariants.{Made, Gave, Length, Cut, NotCut, Refused}
 use Rattle.cdb_store.specs.Images.{overwrite, part, SameImages, AfterRead, AfterWrite, AfterTornWrite, AfterCut, Torn}
-use Rattle.cdb_store.specs.Calls.{Agrees, FileImage, AreAtLeast, AfterPut, AfterTornPut, IsLost, Untouched}
+use Rattle.cdb_store.specs.Calls.{FileImage, AreAtLeast, AfterPut, AfterTornPut, IsLost, Untouched}
 use Rattle.cdb_store.specs.Lengths.{length-overwrite}
 use Rattle.cdb_store.proofs.Parts.{part_from_take}
 

@@ -1,9 +1,8 @@
 -- Images with some bytes written over each of them.
 use Rattle.std.proofs.Common.{◌≡◌, ℕ, ◌+◌, ◌≤◌, List, [], ◌++◌, length, take, drop, max, refl, sym, ap, subst, ◌∙◌, arith}
-use Rattle.std.proofs.lemmas.List.{take_all}
-use Rattle.cdb_store.specs.Images.{overwrite, part, Over, SameImages, AfterRead, AfterWrite, AfterTornWrite, AfterCut, Torn, AreSized}
+use Rattle.cdb_store.specs.Images.{overwrite, part, Over, SameImages, AfterRead, AfterWrite, AfterTornWrite, Torn, AreSized}
 use Rattle.cdb_store.specs.Lengths.{over_size}
-use Rattle.cdb_store.proofs.Parts.{take-overwrite, drop-overwrite, part_from_take, overwrite-overwrite, overwrite_nothing, part_inside}
+use Rattle.cdb_store.proofs.Parts.{take-overwrite, part_from_take, overwrite-overwrite, overwrite_nothing, part_inside}
 use Rattle.cdb_store.proofs.Moves.{same_sym, same_trans}
 
 pub over_nothing : (at : ℕ) (i : List ℕ → Type 0) → SameImages (Over at [] i) i

@@ -1,9 +1,8 @@
 -- What raw calls that were interrupted, that failed or that did a part leave.
-use Rattle.std.proofs.Common.{◌≡◌, ℕ, ◌+◌, ◌≤◌, ◌<◌, ◌⊎◌, inl, inr, suc, zero, List, [], ◌∷◌, ◌++◌, length, refl, sym, ap, subst, ◌∙◌, arith, add-one, Bool, true, false}
+use Rattle.std.proofs.Common.{◌≡◌, ℕ, ◌+◌, ◌<◌, inl, inr, suc, zero, List, [], ◌∷◌, ◌++◌, length, refl, sym, ap, ◌∙◌, arith, add-one}
 use Rattle.cdb_store.specs.declared.trace.Call.{Call}
 use Rattle.cdb_store.specs.declared.trace.Call.TheVariants.{Made, Read, Gave, Wrote, NotWritten, Length, Cut, NotCut, Synced, Interrupted, Failed, Refused, Lost}
-use Rattle.cdb_store.specs.Images.{SameImages}
-use Rattle.cdb_store.specs.Calls.{Agrees, failure_count, written_count, lost, interrupted, GivenUp, Asked, AskedInVain, Came, Untouched}
+use Rattle.cdb_store.specs.Calls.{Agrees, failure_count, written_count, lost, interrupted, Asked, AskedInVain, Came, Untouched}
 
 pub interrupted_none : (calls : List (Call × List ℕ)) → calls ≡ interrupted 0 calls
 unfolding interrupted

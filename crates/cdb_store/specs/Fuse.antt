@@ -1,5 +1,5 @@
 -- What a fuse does.
-use Rattle.std.specs.Prelude.{◌≡◌, ℕ, ◌+◌, ◌<◌, ◌⊎◌, ◌^◌, ◌-◌, min, List, length, nat_lt, if◌then◌else◌}
+use Rattle.std.specs.Prelude.{◌≡◌, ℕ, ◌+◌, ◌<◌, ◌⊎◌, min, List, length, nat_lt, if◌then◌else◌}
 use Rattle.cdb_store.specs.Images.{AfterWrite}
 
 -- the call after so many that counted is the one that fails; a fuse of 2^64 - 1 calls fails none

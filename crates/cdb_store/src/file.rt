@@ -1,7 +1,7 @@
 // A store in a file.
 ghost use Rattle.std.specs.Prelude.{◌≡◌, ◌+◌, ◌<◌, ◌≤◌, ◌^◌, ◌↔◌, true, false, max, List, ℕ, [], ◌∷◌, length, IfOk, OnOk, OnErr, IsErrOf};
 ghost use Rattle.std.proofs.Common.{arith};
-ghost use Rattle.cdb_store.specs.declared.trace.Call.TheVariants.{Length, Synced};
+ghost use Rattle.cdb_store.specs.declared.trace.Call.TheVariants.{Made, Length, Synced};
 ghost use Rattle.cdb_store.specs.declared.store.StoreFault.TheVariants.{Device, NoMemory};
 ghost use Rattle.cdb_store.specs.Images.{SameImages, AfterRead, AfterWrite, AfterTornWrite, AfterCut, HasCause};
 ghost use Rattle.cdb_store.specs.Calls.{failure_count, written_count, lost, FileImage, AreAtLeast, IsMeasured};
@@ -36,6 +36,7 @@ impl FileStore {
     /// `Device`: it can't be opened so.
     pub fn create(rt: &HostRuntime, path: &str) -> Result<FileStore, StoreFault>
         ensures images { IfOk result (λ f. (b : List ℕ) → (⟦<FileStore as Store>⟧.image f b ↔ (b ≡ []))) }
+        ensures made { IfOk result (λ f. f.file.trace.events ≡ (Made, []) ∷ []) }
         ensures memory { IsErrOf result NoMemory → ⊥ }
     {
         let opened = OpenOptions::new()

@@ -90,3 +90,29 @@ fn a_flush_reaches_the_inner_store(rt: HostRuntime) -> Result<(), Fail> {
     assert_eq!(rt; inner.written(), 3);
     Ok(())
 }
+
+/// One call of each kind that counts. Whether all answered Ok.
+fn four_calls<S: Store>(store: &mut S) -> bool {
+    let mut into = [0; 2];
+    if store.len() > 0 || store.write_at(0, b"abc").is_err() || store.len() < 2 {
+        return false;
+    }
+    let is_read = store.read_at(0, &mut into).is_ok() && into == *b"ab";
+    store.cut(0).is_ok() && store.flush().is_ok() && is_read
+}
+
+#[test]
+fn each_call_is_passed_on(rt: HostRuntime) -> Result<(), Fail> {
+    let mut fuse = FuseStore::new(MemStore::new(rt.alloc()), u64::MAX, 0);
+    assert!(rt; four_calls(&mut fuse));
+    assert!(rt; four_calls(&mut &mut fuse));
+    assert_eq!(rt; fuse.calls(), 8);
+    let mut boxed = Box::new(rt.alloc(), fuse)?;
+    assert!(rt; four_calls(&mut boxed));
+    assert_eq!(rt; boxed.calls(), 12);
+    let mut outer = FuseStore::new(boxed, u64::MAX, 0);
+    assert!(rt; four_calls(&mut outer));
+    assert_eq!(rt; outer.written(), 3);
+    assert_eq!(rt; outer.into_inner().calls(), 16);
+    Ok(())
+}

@@ -1,4 +1,4 @@
-use Rattle.std.proofs.Common.{arith, ◌≡◌, ◌+◌, ◌++◌, ◌≤◌, ℕ, List, length, length-append}
+use Rattle.std.proofs.Common.{arith, ◌+◌, ◌++◌, ℕ, length, length-append}
 use Rattle.std.proofs.lemmas.Result.{on_ok_weaker}
 use Rattle.cdb_store.specs.Images.{AfterWrite, AfterTornWrite, AreSized}
 use Rattle.cdb_store.proofs.Moves.{same_refl, write_between, torn_between, torn_behind, torn_wider, write_more}

@@ -1,5 +1,5 @@
-use Rattle.std.proofs.Common.{rules, arith, ◌≡◌, ◌+◌, ◌<◌, ◌≤◌, length, ℕ}
-use Rattle.cdb_store.specs.Images.{KeepsBelow, Copied, AreSized}
+use Rattle.std.proofs.Common.{rules, arith, ◌≡◌, length}
+use Rattle.cdb_store.specs.Images.{AreSized}
 use Rattle.cdb_store.proofs.Moves.{below_read, below_torn, below_trans, copied_more}
 use Rattle.cdb_make.proofs.moving.move_down.Goals as goal
 

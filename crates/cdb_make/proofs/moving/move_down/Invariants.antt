@@ -1,5 +1,5 @@
-use Rattle.std.proofs.Common.{◌-◌, ◌≡◌, ◌+◌, ◌<◌, ◌≤◌, ℕ}
-use Rattle.cdb_store.specs.Images.{KeepsBelow, Copied, HasCause}
+use Rattle.std.proofs.Common.{◌-◌, ◌≡◌, ◌+◌, ◌≤◌}
+use Rattle.cdb_store.specs.Images.{KeepsBelow, Copied}
 use Rattle.cdb_make.proofs.moving.move_down.Given as goal
 
 abbrev pub invariant-loop-done : goal.invariant-loop-done

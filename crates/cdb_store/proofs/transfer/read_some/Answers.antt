@@ -1,4 +1,4 @@
-use Rattle.std.proofs.Common.{◌≡◌, ◌<◌, ◌≤◌, ℕ, ◌∷◌, [], List, take, inl, inr, ap, subst, ◌∙◌, arith}
+use Rattle.std.proofs.Common.{◌≡◌, ◌∷◌, [], take, inl, inr, ap, ◌∙◌, arith}
 use Rattle.cdb_store.specs.declared.trace.Call.TheVariants.{Read, Failed, Refused}
 use Rattle.cdb_store.specs.Calls.{lost, interrupted, ended}
 use Rattle.cdb_store.proofs.RawCalls.{interrupted_none, interrupted_more, lost_interrupted}

@@ -1,4 +1,4 @@
-use Rattle.std.proofs.Common.{◌≡◌, ◌<◌, ◌≤◌, ℕ, length, ◌∷◌, [], List, take, inl, inr, ap, subst, ◌∙◌, arith}
+use Rattle.std.proofs.Common.{◌≡◌, length, ◌∷◌, [], take, inl, inr, ap, ◌∙◌, arith}
 use Rattle.cdb_store.specs.declared.trace.Call.TheVariants.{Wrote, NotWritten}
 use Rattle.cdb_store.specs.Calls.{lost, interrupted, ended}
 use Rattle.cdb_store.proofs.RawCalls.{interrupted_none, interrupted_more, lost_interrupted}

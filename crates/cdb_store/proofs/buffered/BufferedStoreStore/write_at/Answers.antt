@@ -1,4 +1,4 @@
-use Rattle.std.proofs.Common.{arith, rules, ◌≡◌, ◌+◌, ◌++◌, ◌≤◌, ℕ, List, length, max, subst, sym}
+use Rattle.std.proofs.Common.{arith, rules, ◌≡◌, ◌++◌, ◌≤◌}
 use Rattle.cdb_store.specs.Images.{AreSized, AfterWrite, Over}
 use Rattle.cdb_store.proofs.OverLemmas.{over_emptied, over_more, over_same, sized_over}
 use Rattle.cdb_store.proofs.Moves.{same_trans, same_sym, same_refl, write_between, torn_between, torn_same, torn_from_write}

@@ -1,4 +1,4 @@
-use Rattle.std.proofs.Common.{rules, arith, ◌≡◌, false}
+use Rattle.std.proofs.Common.{rules, ◌≡◌, false}
 use Rattle.cdb_store.specs.Images.{AreSized}
 use Rattle.cdb_store.specs.Calls.{FileImage}
 use Rattle.cdb_store.specs.Lengths.{file_size}

@@ -1,4 +1,4 @@
-use Rattle.std.proofs.Common.{arith, sym, ◌∙◌, ap, ◌≡◌, false}
+use Rattle.std.proofs.Common.{arith, sym, ◌∙◌, ap}
 use Rattle.cdb_store.specs.Calls.{lost}
 use Rattle.cdb_store.proofs.FileLemmas.{file_gave, long_same, gave_long}
 use Rattle.cdb_store.proofs.file.FileStoreStore.read_at.Goals as goal

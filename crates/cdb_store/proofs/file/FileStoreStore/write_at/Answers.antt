@@ -1,6 +1,6 @@
-use Rattle.std.proofs.Common.{rules, arith, sym, ◌∙◌, ap, ◌≡◌, ◌+◌, false, length, max, ℕ}
+use Rattle.std.proofs.Common.{rules, arith, sym, ◌∙◌, ◌≡◌, false, length}
 use Rattle.cdb_store.specs.Images.{AfterWrite, AreSized}
-use Rattle.cdb_store.specs.Calls.{FileImage, AreAtLeast}
+use Rattle.cdb_store.specs.Calls.{FileImage}
 use Rattle.cdb_store.specs.Lengths.{file_size}
 use Rattle.cdb_store.proofs.Moves.{torn_same, torn_from_write}
 use Rattle.cdb_store.proofs.FileLemmas.{file_same, refused, file_put, put_long}

@@ -1,4 +1,4 @@
-use Rattle.std.proofs.Common.{rules, arith, ◌≤◌, ℕ, length, length-take}
+use Rattle.std.proofs.Common.{rules, arith, ℕ, length, length-take}
 use Rattle.cdb_store.specs.Fuse.{Blows}
 use Rattle.cdb_store.proofs.FuseLemmas.{fuse_passes}
 use Rattle.cdb_store.proofs.Moves.{torn_wider}
