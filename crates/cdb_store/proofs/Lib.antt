@@ -1,0 +1,9 @@
+pub mod Parts
+pub mod Moves
+pub mod OverLemmas
+pub mod FuseLemmas
+pub mod RawCalls
+pub mod Puts
+pub mod Answered
+pub mod FileLemmas
+pub mod FileFaults

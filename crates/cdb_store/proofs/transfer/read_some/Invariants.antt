@@ -1,0 +1,6 @@
+use Rattle.std.proofs.Common.{◌≡◌}
+use Rattle.cdb_store.specs.Calls.{interrupted}
+use Rattle.cdb_store.proofs.transfer.read_some.Given as goal
+
+abbrev pub invariant-loop-turn : goal.invariant-loop-turn
+invariant-loop-turn g l = g.F.RawFile.calls l.file ≡ interrupted l._turn (g.F.RawFile.calls l.fn.file)

@@ -1,0 +1,73 @@
+-- The byte lists that a store may hold, and what each call does to them.
+use Rattle.std.specs.Prelude.{◌≡◌, ℕ, ◌+◌, ◌<◌, ◌≤◌, List, ◌++◌, length, take, drop, Result, IsErrOf}
+use Rattle.cdb_store.specs.declared.store.StoreFault.{StoreFault}
+use Rattle.cdb_store.specs.declared.store.StoreFault.TheVariants.{Device, NoMemory}
+
+-- old with these bytes from at on, past its end too
+abbrev pub overwrite : List ℕ → ℕ → List ℕ → List ℕ
+overwrite old at bytes = take at old ++ (bytes ++ drop (at + length bytes) old)
+
+-- n bytes from at on
+abbrev pub part : ℕ → ℕ → List ℕ → List ℕ
+part at n image = take n (drop at image)
+
+-- no image came and none went
+pub record SameImages (old new : List ℕ → Type 0) : Type 0 where
+  pub no_other : (b : List ℕ) → new b → old b
+  pub none_lost : (b : List ℕ) → old b → new b
+
+-- the images are the old ones that have the bytes read
+pub record AfterRead (at : ℕ) (bytes : List ℕ) (old new : List ℕ → Type 0) : Type 0 where
+  pub no_other : (b : List ℕ) → new b → old b
+  pub read : (b : List ℕ) → new b → part at (length bytes) b ≡ bytes
+  pub none_lost : (b : List ℕ) → old b → part at (length bytes) b ≡ bytes → new b
+
+-- the images are the old ones, each with the bytes written
+pub record AfterWrite (at : ℕ) (bytes : List ℕ) (old new : List ℕ → Type 0) : Type 0 where
+  pub no_other : (b : List ℕ) → new b → (a : List ℕ) × old a × (b ≡ overwrite a at bytes)
+  pub none_lost : (a : List ℕ) → old a → new (overwrite a at bytes)
+
+-- the same bytes outside of n bytes from at on
+pub record Torn (at n : ℕ) (old new : List ℕ) : Type 0 where
+  pub before : take at new ≡ take at old
+  pub after : drop (at + n) new ≡ drop (at + n) old
+
+-- each image is an old one with any bytes in the range, and each old one still has one
+pub record AfterTornWrite (at n : ℕ) (old new : List ℕ → Type 0) : Type 0 where
+  pub no_other : (b : List ℕ) → new b → (a : List ℕ) × old a × Torn at n a b
+  pub none_lost : (a : List ℕ) → old a → (b : List ℕ) × new b × Torn at n a b
+
+-- the images are the first n bytes of the old ones
+pub record AfterCut (n : ℕ) (old new : List ℕ → Type 0) : Type 0 where
+  pub no_other : (b : List ℕ) → new b → (a : List ℕ) × old a × (b ≡ take n a)
+  pub none_lost : (a : List ℕ) → old a → new (take n a)
+
+-- the number of a fault
+abbrev pub fault_number : StoreFault → ℕ
+fault_number Device = 1
+fault_number NoMemory = 2
+
+-- Device is answered only where the store has failed in the call, and the count doesn't fall
+pub record HasCause (before now : ℕ) (result : Result (Unit {0}) StoreFault) : Type 0 where
+  pub later : before ≤ now
+  pub failed : IsErrOf result Device → before < now
+
+-- each image has this length
+pub record AreSized (n : ℕ) (images : List ℕ → Type 0) : Type 0 where
+  pub each : (b : List ℕ) → images b → length b ≡ n
+
+-- each image has these bytes from at on
+pub record Holds (at : ℕ) (bytes : List ℕ) (images : List ℕ → Type 0) : Type 0 where
+  pub each : (b : List ℕ) → images b → part at (length bytes) b ≡ bytes
+
+-- each image begins with the first n bytes of an old one
+pub record KeepsBelow (n : ℕ) (old new : List ℕ → Type 0) : Type 0 where
+  pub each : (b : List ℕ) → new b → (a : List ℕ) × old a × (take n b ≡ take n a)
+
+-- each image is an old one, whose n bytes from from on stand at to too, over what was there
+pub record Copied (from to n : ℕ) (old new : List ℕ → Type 0) : Type 0 where
+  pub each : (b : List ℕ) → new b → (a : List ℕ) × old a × (b ≡ overwrite a to (part from n a))
+
+-- the byte lists that some bytes, written over each of these, leave
+abbrev pub Over : ℕ → List ℕ → (List ℕ → Type 0) → List ℕ → Type 0
+Over at bytes images b = (a : List ℕ) × images a × (b ≡ overwrite a at bytes)

@@ -1,0 +1,5 @@
+pub mod Images
+pub mod Calls
+pub mod Lengths
+pub mod Contents
+pub mod Fuse

@@ -1,0 +1,204 @@
+// A store that collects writes which continue one another.
+ghost use Rattle.std.specs.Prelude.{◌≡◌, ◌+◌, ◌<◌, ◌≤◌, ◌^◌, ◌↔◌, max, [], length, vec_capacity, IsTrue, OnOk, IfOk, IfErr, IsErrOf};
+ghost use Rattle.std.proofs.Common.{arith};
+ghost use Rattle.cdb_store.specs.declared.store.StoreFault.TheVariants.{NoMemory};
+ghost use Rattle.cdb_store.specs.Images.{Over, SameImages, AfterTornWrite, HasCause};
+ghost use Rattle.cdb_store.specs.Calls.{written_count};
+ghost use Rattle.cdb_store.specs.Lengths.{over_size};
+
+use crate::memory::read_from;
+use crate::trace::{Call, Trace};
+use crate::{Store, StoreFault};
+use std::alloc::Global;
+
+/// A store over another that collects writes which continue one another in one buffer.
+///
+/// It hands the bytes on when another place is written, when a place is read or cut that the
+/// buffer alone can't answer for, at `flush`, and when the buffer is full. Bytes in the buffer are
+/// read from it. A write first has the inner store reserve its room, so what is in the buffer
+/// takes no memory to be handed on. Where handing on fails the buffer keeps its bytes, and the
+/// next call tries again. A buffer that is let go is lost: call `flush` or `into_inner` first.
+#[derive(Drop)]
+pub struct BufferedStore<S: Store> {
+    inner: S,
+    buffer: Vec<u8>,
+    /// Where the buffer's bytes stand.
+    at: u64,
+    /// How many bytes it holds at most.
+    most: usize,
+    trace: Trace,
+    ghost placed: { at ≤ S.size inner },
+    ghost backed: { at + length buffer.items ≤ S.room inner },
+    ghost bounded: { at + length buffer.items < 2 ^ 63 },
+    ghost kept: { length buffer.items ≤ most },
+    ghost capacity: { most ≤ vec_capacity buffer },
+}
+
+impl<S: Store> BufferedStore<S> {
+    /// A store over `inner` with a buffer of `most` bytes.
+    ///
+    /// Where memory for the buffer is refused, the inner store is handed back as it was.
+    pub fn new(alloc: Global, inner: S, most: usize) -> Result<BufferedStore<S>, S>
+        ensures images { IfOk result (λ f. SameImages (S.image inner) (⟦<BufferedStore<S> as Store>⟧.image f)) }
+        ensures size { IfOk result (λ f. ⟦<BufferedStore<S> as Store>⟧.size f ≡ S.size inner) }
+        ensures failures { IfOk result (λ f. ⟦<BufferedStore<S> as Store>⟧.failures f ≡ S.failures inner) }
+        ensures room { IfOk result (λ f. ⟦<BufferedStore<S> as Store>⟧.room f ≡ S.room inner) }
+        ensures inner { IfOk result (λ f. f.inner ≡ inner) }
+        ensures most { IfOk result (λ f. f.most ≡ most) }
+        ensures err { IfErr result (λ s. s ≡ inner) }
+    {
+        match Vec::with_capacity(alloc, most) {
+            Ok(buffer) => Ok(BufferedStore {
+                inner,
+                buffer,
+                at: 0,
+                most,
+                trace: Trace::new(),
+            }),
+            Err(_) => Err(inner),
+        }
+    }
+
+    /// The inner store, once what is left in the buffer was handed on to it, and how that went.
+    ///
+    /// After `Device` the inner store lacks those bytes: their range may hold anything.
+    pub fn into_inner(mut self) -> (S, Result<(), StoreFault>)
+        ensures images { OnOk result.1 (SameImages (⟦<BufferedStore<S> as Store>⟧.image self) (S.image result.0)) }
+        ensures size { OnOk result.1 (S.size result.0 ≡ ⟦<BufferedStore<S> as Store>⟧.size self) }
+        ensures torn { AfterTornWrite self.at (length self.buffer.items) (S.image self.inner) (S.image result.0) }
+        ensures room { S.room self.inner ≤ S.room result.0 }
+        ensures memory { IsErrOf result.1 NoMemory → ⊥ }
+        ensures cause { HasCause (⟦<BufferedStore<S> as Store>⟧.failures self) (S.failures result.0) result.1 }
+    {
+        let answer = self.settle();
+        let BufferedStore {
+            inner,
+            buffer,
+            at: _,
+            most: _,
+            trace,
+        } = self;
+        drop(buffer);
+        drop(trace);
+        (inner, answer)
+    }
+
+    /// Hands on what was collected.
+    fn settle(&mut self) -> Result<(), StoreFault>
+        ensures images { SameImages (Over self.old.at self.old.buffer.items (S.image self.old.inner)) (Over self.new.at self.new.buffer.items (S.image self.new.inner)) }
+        ensures size { max (S.size self.new.inner) (self.new.at + length self.new.buffer.items) ≡ max (S.size self.old.inner) (self.old.at + length self.old.buffer.items) }
+        ensures torn { AfterTornWrite self.old.at (length self.old.buffer.items) (S.image self.old.inner) (S.image self.new.inner) }
+        ensures empty { OnOk result (self.new.buffer.items ≡ []) }
+        ensures trace { self.new.trace ≡ self.old.trace }
+        ensures most { self.new.most ≡ self.old.most }
+        ensures room { S.room self.old.inner ≤ S.room self.new.inner }
+        ensures memory { IsErrOf result NoMemory → ⊥ }
+        ensures cause { HasCause (S.failures self.old.inner) (S.failures self.new.inner) result }
+    {
+        if !self.buffer.is_empty() {
+            self.inner.write_at(self.at, &self.buffer)?;
+            self.buffer.truncate(0);
+        }
+        Ok(())
+    }
+
+    /// Makes the buffer one that goes on at a place, with room for n bytes more.
+    fn make_room(&mut self, pos: u64, n: usize) -> Result<(), StoreFault>
+        requires start { pos ≤ max (S.size self.old.inner) (self.old.at + length self.old.buffer.items) }
+        requires end { pos < 2 ^ 63 }
+        requires fits { n ≤ self.old.most }
+        ensures images { SameImages (Over self.old.at self.old.buffer.items (S.image self.old.inner)) (Over self.new.at self.new.buffer.items (S.image self.new.inner)) }
+        ensures size { max (S.size self.new.inner) (self.new.at + length self.new.buffer.items) ≡ max (S.size self.old.inner) (self.old.at + length self.old.buffer.items) }
+        ensures place { OnOk result (pos ≡ self.new.at + length self.new.buffer.items) }
+        ensures free { OnOk result (length self.new.buffer.items + n ≤ self.new.most) }
+        ensures trace { self.new.trace ≡ self.old.trace }
+        ensures room { S.room self.old.inner ≤ S.room self.new.inner }
+        ensures memory { IsErrOf result NoMemory → ⊥ }
+        ensures cause { HasCause (S.failures self.old.inner) (S.failures self.new.inner) result }
+    {
+        let held = self.buffer.len();
+        if pos == self.at + held as u64 && n <= self.most - held {
+            return Ok(());
+        }
+        self.settle()?;
+        self.at = pos;
+        Ok(())
+    }
+}
+
+/// Whether these `n` bytes from `pos` on all lie among the `held` bytes from `at` on.
+fn lies_within(pos: u64, n: usize, at: u64, held: usize) -> bool
+    requires { at + held < 2 ^ 63 }
+    ensures { IsTrue result ↔ ((at ≤ pos) × (pos + n ≤ at + held)) }
+{
+    at <= pos && pos <= at + held as u64 && n as u64 <= at + held as u64 - pos
+}
+
+impl<S: Store> Store for BufferedStore<S> {
+    ghost size = { λ f. max (S.size f.inner) (f.at + length f.buffer.items) };
+
+    ghost image = { λ f. Over f.at f.buffer.items (S.image f.inner) };
+
+    ghost failures = { λ f. S.failures f.inner };
+
+    ghost written = { λ f. written_count f.trace.events };
+
+    ghost room = { λ f. S.room f.inner };
+
+    ghost in_room = { λ f. Prim.omega (arith, f.backed, S.in_room f.inner) };
+
+    ghost image_size = { λ f b is. over_size f.at f.buffer.items (S.size f.inner) (S.image f.inner) (S.image_size f.inner) f.placed b is };
+
+    fn len(&self) -> u64 {
+        self.inner.len().max(self.at + self.buffer.len() as u64)
+    }
+
+    fn read_at(&mut self, pos: u64, into: &mut [u8]) -> Result<(), StoreFault> {
+        if lies_within(pos, into.len(), self.at, self.buffer.len()) {
+            read_from(&self.buffer, (pos - self.at) as usize, into);
+            return Ok(());
+        }
+        if pos <= self.at && into.len() as u64 <= self.at - pos {
+            return self.inner.read_at(pos, into);
+        }
+        self.settle()?;
+        self.inner.read_at(pos, into)
+    }
+
+    fn write_at(&mut self, pos: u64, bytes: &[u8]) -> Result<(), StoreFault> {
+        if bytes.len() > self.most {
+            self.settle()?;
+            self.inner.write_at(pos, bytes)?;
+            self.trace.note(&Call::Wrote(pos), bytes);
+            return Ok(());
+        }
+        self.make_room(pos, bytes.len())?;
+        self.inner.reserve(pos + bytes.len() as u64)?;
+        self.buffer.extend_from_slice(bytes)?;
+        self.trace.note(&Call::Wrote(pos), bytes);
+        Ok(())
+    }
+
+    fn reserve(&mut self, len: u64) -> Result<(), StoreFault> {
+        self.inner.reserve(len)
+    }
+
+    fn cut(&mut self, len: u64) -> Result<(), StoreFault> {
+        self.settle()?;
+        self.at = self.at.min(len);
+        self.inner.cut(len)
+    }
+
+    fn flush(&mut self) -> Result<(), StoreFault>
+        ensures images { SameImages (Over self.old.at self.old.buffer.items (S.image self.old.inner)) (Over self.new.at self.new.buffer.items (S.image self.new.inner)) }
+        ensures size { max (S.size self.new.inner) (self.new.at + length self.new.buffer.items) ≡ max (S.size self.old.inner) (self.old.at + length self.old.buffer.items) }
+        ensures written { written_count self.new.trace.events ≡ written_count self.old.trace.events }
+        ensures room { S.room self.old.inner ≤ S.room self.new.inner }
+        ensures cause { HasCause (S.failures self.old.inner) (S.failures self.new.inner) result }
+        ensures memory { IsErrOf result NoMemory → ⊥ }
+        ensures settled { OnOk result (self.new.buffer.items ≡ []) }
+    {
+        self.settle()?;
+        self.inner.flush()
+    }
+}

@@ -1,0 +1,230 @@
+// A store in a file.
+ghost use Rattle.std.specs.Prelude.{◌≡◌, ◌+◌, ◌<◌, ◌≤◌, ◌^◌, ◌↔◌, true, false, max, List, ℕ, [], ◌∷◌, length, IfOk, OnOk, OnErr, IsErrOf};
+ghost use Rattle.std.proofs.Common.{arith};
+ghost use Rattle.cdb_store.specs.declared.trace.Call.TheVariants.{Made, Length, Synced};
+ghost use Rattle.cdb_store.specs.declared.store.StoreFault.TheVariants.{Device, NoMemory};
+ghost use Rattle.cdb_store.specs.Images.{SameImages, AfterRead, AfterWrite, AfterTornWrite, AfterCut, HasCause};
+ghost use Rattle.cdb_store.specs.Calls.{failure_count, written_count, lost, FileImage, AreAtLeast, IsMeasured};
+ghost use Rattle.cdb_store.specs.Lengths.{file_size};
+
+use crate::raw_file::{RawFile, RealFile};
+use crate::transfer::{length_within, read_all, write_all};
+use crate::{Store, StoreFault};
+use std::fs::{File, OpenOptions};
+
+/// The greatest place in a file.
+const MOST: u64 = (1 << 63) - 1;
+
+/// A store in a file.
+///
+/// It takes no memory. After a write or a cut that failed it asks the file for its length. Where
+/// that fails too, or the length is none that the call can have left, `len` keeps its value and
+/// every later call but `len` and `reserve` answers `Device`, without asking the file.
+#[derive(Drop)]
+pub struct FileStore<F: RawFile = RealFile> {
+    file: F,
+    len: u64,
+    is_lost: bool,
+    ghost bounded: { len < 2 ^ 63 },
+    ghost known: { is_lost ≡ lost (F.calls file) },
+    ghost long: { is_lost ≡ false → AreAtLeast len (F.calls file) },
+}
+
+impl FileStore {
+    /// Makes a file, or empties the one of that name, and reads and writes it.
+    ///
+    /// `Device`: it can't be opened so.
+    pub fn create(rt: &HostRuntime, path: &str) -> Result<FileStore, StoreFault>
+        ensures images { IfOk result (λ f. (b : List ℕ) → (⟦<FileStore as Store>⟧.image f b ↔ (b ≡ []))) }
+        ensures made { IfOk result (λ f. f.file.trace.events ≡ (Made, []) ∷ []) }
+        ensures memory { IsErrOf result NoMemory → ⊥ }
+    {
+        let opened = OpenOptions::new()
+            .read(true)
+            .write(true)
+            .create(true)
+            .truncate(true)
+            .open(rt, path);
+        match opened {
+            Ok(file) => Ok(FileStore::empty(RealFile::made(file))),
+            Err(_) => Err(StoreFault::Device),
+        }
+    }
+
+    /// Opens a file to read it. A write or a cut of it is `Device`.
+    ///
+    /// `Device`: it can't be opened, or has 2^63 bytes or more.
+    pub fn open(rt: &HostRuntime, path: &str) -> Result<FileStore, StoreFault>
+        ensures images { IfOk result (λ f. (b : List ℕ) → (⟦<FileStore as Store>⟧.image f b ↔ (length b ≡ ⟦<FileStore as Store>⟧.size f))) }
+        ensures told { IfOk result (λ f. f.file.trace.events ≡ (Length (⟦<FileStore as Store>⟧.size f), []) ∷ []) }
+        ensures memory { IsErrOf result NoMemory → ⊥ }
+    {
+        match File::open(rt, path) {
+            Ok(file) => FileStore::over(RealFile::opened(file)),
+            Err(_) => Err(StoreFault::Device),
+        }
+    }
+}
+
+impl<F: RawFile> FileStore<F> {
+    /// A file that was just made or emptied.
+    pub(crate) fn empty(file: F) -> FileStore<F>
+        requires { lost (F.calls file) ≡ false }
+        ensures size { result.len ≡ 0 }
+        ensures file { result.file ≡ file }
+    {
+        FileStore {
+            file,
+            len: 0,
+            is_lost: false,
+        }
+    }
+}
+
+impl<F: RawFile + Drop> FileStore<F> {
+    /// A file that was just opened, of the length that it tells.
+    pub(crate) fn over(mut file: F) -> Result<FileStore<F>, StoreFault>
+        requires { F.calls file ≡ [] }
+        ensures told { IfOk result (λ f. F.calls f.file ≡ (Length f.len, []) ∷ []) }
+        ensures memory { IsErrOf result NoMemory → ⊥ }
+    {
+        match length_within(&mut file, 0, MOST) {
+            Some(len) => Ok(FileStore {
+                file,
+                len,
+                is_lost: false,
+            }),
+            None => Err(StoreFault::Device),
+        }
+    }
+}
+
+impl<F: RawFile> Store for FileStore<F> {
+    ghost size = { λ f. f.len };
+
+    ghost image = { λ f. FileImage f.len (F.calls f.file) };
+
+    ghost failures = { λ f. failure_count (F.calls f.file) };
+
+    ghost written = { λ f. written_count (F.calls f.file) };
+
+    ghost room = { λ f. 2 ^ 63 };
+
+    ghost in_room = { λ f. Prim.omega (arith, f.bounded) };
+
+    ghost image_size = { λ f b is. file_size f.len (F.calls f.file) b is };
+
+    fn len(&self) -> u64 {
+        self.len
+    }
+
+    fn read_at(&mut self, pos: u64, into: &mut [u8]) -> Result<(), StoreFault>
+        requires { pos + length into.old ≤ self.old.len }
+        ensures ok { OnOk result (AfterRead pos into.new (FileImage self.old.len (F.calls self.old.file)) (FileImage self.new.len (F.calls self.new.file))) }
+        ensures err { OnErr result (SameImages (FileImage self.old.len (F.calls self.old.file)) (FileImage self.new.len (F.calls self.new.file))) }
+        ensures size { self.new.len ≡ self.old.len }
+        ensures written { written_count (F.calls self.new.file) ≡ written_count (F.calls self.old.file) }
+        ensures cause { HasCause (failure_count (F.calls self.old.file)) (failure_count (F.calls self.new.file)) result }
+        ensures memory { IsErrOf result NoMemory → ⊥ }
+        ensures lost { lost (F.calls self.old.file) ≡ true → IsErrOf result Device }
+    {
+        if self.is_lost {
+            self.file.refuse();
+            return Err(StoreFault::Device);
+        }
+        read_all(&mut self.file, pos, into)?;
+        self.file.give(pos, into);
+        Ok(())
+    }
+
+    fn write_at(&mut self, pos: u64, bytes: &[u8]) -> Result<(), StoreFault>
+        requires start { pos ≤ self.old.len }
+        requires end { pos + length bytes.now < 2 ^ 63 }
+        ensures ok { OnOk result (AfterWrite pos bytes.now (FileImage self.old.len (F.calls self.old.file)) (FileImage self.new.len (F.calls self.new.file))) }
+        ensures ok_size { OnOk result (self.new.len ≡ max self.old.len (pos + length bytes.now)) }
+        ensures ok_written { OnOk result (written_count (F.calls self.new.file) ≡ written_count (F.calls self.old.file) + length bytes.now) }
+        ensures torn { AfterTornWrite pos (length bytes.now) (FileImage self.old.len (F.calls self.old.file)) (FileImage self.new.len (F.calls self.new.file)) }
+        ensures longer { self.old.len ≤ self.new.len }
+        ensures not_past { self.new.len ≤ max self.old.len (pos + length bytes.now) }
+        ensures more_written { written_count (F.calls self.old.file) ≤ written_count (F.calls self.new.file) }
+        ensures at_most_written { written_count (F.calls self.new.file) ≤ written_count (F.calls self.old.file) + length bytes.now }
+        ensures memory { IsErrOf result NoMemory → ⊥ }
+        ensures cause { HasCause (failure_count (F.calls self.old.file)) (failure_count (F.calls self.new.file)) result }
+        ensures lost { lost (F.calls self.old.file) ≡ true → IsErrOf result Device }
+        ensures measured { OnErr result (IsMeasured self.old.len (max self.old.len (pos + length bytes.now)) self.old.len self.new.len (F.calls self.new.file)) }
+    {
+        if self.is_lost {
+            self.file.refuse();
+            return Err(StoreFault::Device);
+        }
+        let most = self.len.max(pos + bytes.len() as u64);
+        match write_all(&mut self.file, pos, bytes) {
+            Ok(()) => {
+                self.len = most;
+                Ok(())
+            }
+            Err(fault) => {
+                match length_within(&mut self.file, self.len, most) {
+                    Some(left) => self.len = left,
+                    None => self.is_lost = true,
+                }
+                Err(fault)
+            }
+        }
+    }
+
+    fn reserve(&mut self, _len: u64) -> Result<(), StoreFault> {
+        Ok(())
+    }
+
+    fn cut(&mut self, len: u64) -> Result<(), StoreFault>
+        requires { len ≤ self.old.len }
+        ensures images { AfterCut self.new.len (FileImage self.old.len (F.calls self.old.file)) (FileImage self.new.len (F.calls self.new.file)) }
+        ensures ok { OnOk result (self.new.len ≡ len) }
+        ensures no_shorter { len ≤ self.new.len }
+        ensures no_longer { self.new.len ≤ self.old.len }
+        ensures written { written_count (F.calls self.new.file) ≡ written_count (F.calls self.old.file) }
+        ensures cause { HasCause (failure_count (F.calls self.old.file)) (failure_count (F.calls self.new.file)) result }
+        ensures memory { IsErrOf result NoMemory → ⊥ }
+        ensures lost { lost (F.calls self.old.file) ≡ true → IsErrOf result Device }
+        ensures measured { OnErr result (IsMeasured len self.old.len self.old.len self.new.len (F.calls self.new.file)) }
+    {
+        if self.is_lost {
+            self.file.refuse();
+            return Err(StoreFault::Device);
+        }
+        match self.file.set_length(len) {
+            Ok(()) => {
+                self.len = len;
+                Ok(())
+            }
+            Err(_) => {
+                match length_within(&mut self.file, len, self.len) {
+                    Some(left) => self.len = left,
+                    None => self.is_lost = true,
+                }
+                Err(StoreFault::Device)
+            }
+        }
+    }
+
+    /// Has the file synced, so that a loss of power does not take its bytes.
+    fn flush(&mut self) -> Result<(), StoreFault>
+        ensures images { SameImages (FileImage self.old.len (F.calls self.old.file)) (FileImage self.new.len (F.calls self.new.file)) }
+        ensures size { self.new.len ≡ self.old.len }
+        ensures written { written_count (F.calls self.new.file) ≡ written_count (F.calls self.old.file) }
+        ensures cause { HasCause (failure_count (F.calls self.old.file)) (failure_count (F.calls self.new.file)) result }
+        ensures memory { IsErrOf result NoMemory → ⊥ }
+        ensures lost { lost (F.calls self.old.file) ≡ true → IsErrOf result Device }
+        ensures synced { OnOk result (F.calls self.new.file ≡ (Synced, []) ∷ F.calls self.old.file) }
+    {
+        if self.is_lost {
+            self.file.refuse();
+            return Err(StoreFault::Device);
+        }
+        match self.file.sync() {
+            Ok(()) => Ok(()),
+            Err(_) => Err(StoreFault::Device),
+        }
+    }
+}

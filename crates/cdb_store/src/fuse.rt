@@ -1,0 +1,209 @@
+// A store that fails one call, for tests of what stands on stores.
+ghost use Rattle.std.specs.Prelude.{◌≡◌, ◌+◌, ◌<◌, ◌≤◌, ◌^◌, ◌↔◌, ◌⊎◌, max, length, take, IsTrue, OnOk, OnErr, IsErrOf};
+ghost use Rattle.cdb_store.specs.declared.store.StoreFault.TheVariants.{Device, NoMemory};
+ghost use Rattle.cdb_store.specs.Images.{SameImages, AfterRead, AfterWrite, AfterTornWrite, AfterCut, HasCause};
+ghost use Rattle.cdb_store.specs.Fuse.{Blows, blown, capped, IsCounted, PartWritten};
+
+use crate::{Store, StoreFault};
+
+/// A store that passes so many calls to the inner store, fails the next one, and passes all later ones.
+///
+/// The calls that count are `read_at`, `write_at`, `cut` and `flush`. The write that fails first
+/// writes a part of its bytes; any other call that fails does nothing.
+#[derive(Drop)]
+pub struct FuseStore<S> {
+    inner: S,
+    limit: u64,
+    part: u64,
+    calls: u64,
+    written: u64,
+}
+
+impl<S: Store> FuseStore<S> {
+    /// A fuse that passes `calls` calls and fails the next one; with `u64::MAX` it fails none.
+    ///
+    /// A write that it fails first writes its first `part` bytes, or all if it is shorter.
+    pub fn new(inner: S, calls: u64, part: u64) -> FuseStore<S>
+        ensures inner { result.inner ≡ inner }
+        ensures limit { result.limit ≡ calls }
+        ensures part { result.part ≡ part }
+        ensures calls { result.calls ≡ 0 }
+        ensures written { result.written ≡ 0 }
+    {
+        FuseStore {
+            inner,
+            limit: calls,
+            part,
+            calls: 0,
+            written: 0,
+        }
+    }
+
+    /// The inner store, as it is.
+    pub fn into_inner(self) -> S
+        ensures { result ≡ self.inner }
+    {
+        let FuseStore {
+            inner,
+            limit: _,
+            part: _,
+            calls: _,
+            written: _,
+        } = self;
+        inner
+    }
+
+    /// How many calls counted so far, the failed one too. It stops at `u64::MAX`.
+    pub fn calls(&self) -> u64
+        ensures { result ≡ self.now.calls }
+    {
+        self.calls
+    }
+
+    /// How many bytes the inner store's writes that answered Ok wrote. It stops at `u64::MAX`.
+    pub fn written(&self) -> u64
+        ensures { result ≡ self.now.written }
+    {
+        self.written
+    }
+}
+
+/// Counts a call, and tells whether it is the one to fail.
+fn blows(calls: &mut u64, limit: u64) -> bool
+    ensures counted { calls.new ≡ capped (calls.old + 1) }
+    ensures fits { calls.old < 2 ^ 64 }
+    ensures at_limit { IsTrue result ↔ Blows calls.old limit }
+{
+    let is_last = *calls == limit && limit < u64::MAX;
+    *calls = calls.saturating_add(1);
+    is_last
+}
+
+impl<S: Store> Store for FuseStore<S> {
+    ghost size = { λ f. S.size f.inner };
+
+    ghost image = { λ f. S.image f.inner };
+
+    ghost failures = { λ f. S.failures f.inner + blown f.calls f.limit };
+
+    ghost written = { λ f. S.written f.inner };
+
+    ghost room = { λ f. S.room f.inner };
+
+    ghost in_room = { λ f. S.in_room f.inner };
+
+    ghost image_size = { λ f. S.image_size f.inner };
+
+    fn len(&self) -> u64 {
+        self.inner.len()
+    }
+
+    fn read_at(&mut self, pos: u64, into: &mut [u8]) -> Result<(), StoreFault>
+        requires { pos + length into.old ≤ S.size self.old.inner }
+        ensures ok { OnOk result (AfterRead pos into.new (S.image self.old.inner) (S.image self.new.inner)) }
+        ensures err { OnErr result (SameImages (S.image self.old.inner) (S.image self.new.inner)) }
+        ensures size { S.size self.new.inner ≡ S.size self.old.inner }
+        ensures written { S.written self.new.inner ≡ S.written self.old.inner }
+        ensures room { S.room self.old.inner ≤ S.room self.new.inner }
+        ensures cause { HasCause (S.failures self.old.inner + blown self.old.calls self.old.limit) (S.failures self.new.inner + blown self.new.calls self.new.limit) result }
+        ensures memory { IsErrOf result NoMemory → ⊥ }
+        ensures counted { IsCounted (self.old.calls, self.old.limit, self.old.part) (self.new.calls, self.new.limit, self.new.part) }
+        ensures same_written { self.new.written ≡ self.old.written }
+        ensures fails { Blows self.old.calls self.old.limit → IsErrOf result Device × (self.new.inner ≡ self.old.inner) }
+    {
+        if blows(&mut self.calls, self.limit) {
+            return Err(StoreFault::Device);
+        }
+        self.inner.read_at(pos, into)
+    }
+
+    fn write_at(&mut self, pos: u64, bytes: &[u8]) -> Result<(), StoreFault>
+        requires start { pos ≤ S.size self.old.inner }
+        requires end { pos + length bytes.now < 2 ^ 63 }
+        ensures ok { OnOk result (AfterWrite pos bytes.now (S.image self.old.inner) (S.image self.new.inner)) }
+        ensures ok_size { OnOk result (S.size self.new.inner ≡ max (S.size self.old.inner) (pos + length bytes.now)) }
+        ensures ok_written { OnOk result (S.written self.new.inner ≡ S.written self.old.inner + length bytes.now) }
+        ensures torn { AfterTornWrite pos (length bytes.now) (S.image self.old.inner) (S.image self.new.inner) }
+        ensures longer { S.size self.old.inner ≤ S.size self.new.inner }
+        ensures not_past { S.size self.new.inner ≤ max (S.size self.old.inner) (pos + length bytes.now) }
+        ensures more_written { S.written self.old.inner ≤ S.written self.new.inner }
+        ensures at_most_written { S.written self.new.inner ≤ S.written self.old.inner + length bytes.now }
+        ensures memory { IsErrOf result NoMemory → SameImages (S.image self.old.inner) (S.image self.new.inner) }
+        ensures memory_size { IsErrOf result NoMemory → S.size self.new.inner ≡ S.size self.old.inner }
+        ensures memory_written { IsErrOf result NoMemory → S.written self.new.inner ≡ S.written self.old.inner }
+        ensures past_room { IsErrOf result NoMemory → S.room self.old.inner < pos + length bytes.now }
+        ensures room { S.room self.old.inner ≤ S.room self.new.inner }
+        ensures cause { HasCause (S.failures self.old.inner + blown self.old.calls self.old.limit) (S.failures self.new.inner + blown self.new.calls self.new.limit) result }
+        ensures counted { IsCounted (self.old.calls, self.old.limit, self.old.part) (self.new.calls, self.new.limit, self.new.part) }
+        ensures count_ok { OnOk result (self.new.written ≡ capped (self.old.written + length bytes.now)) }
+        ensures count_err { OnErr result (Blows self.old.calls self.old.limit ⊎ (self.new.written ≡ self.old.written)) }
+        ensures fails { Blows self.old.calls self.old.limit → IsErrOf result Device }
+        ensures part { Blows self.old.calls self.old.limit → PartWritten pos (take self.old.part bytes.now) (S.image self.old.inner) (S.image self.new.inner) (S.failures self.old.inner, S.failures self.new.inner) (S.room self.old.inner) (self.old.written, self.new.written) }
+    {
+        if blows(&mut self.calls, self.limit) {
+            let n = self.part.min(bytes.len() as u64) as usize;
+            if let Ok(()) = self.inner.write_at(pos, &bytes[..n]) {
+                self.written = self.written.saturating_add(n as u64);
+            }
+            return Err(StoreFault::Device);
+        }
+        self.inner.write_at(pos, bytes)?;
+        self.written = self.written.saturating_add(bytes.len() as u64);
+        Ok(())
+    }
+
+    fn reserve(&mut self, len: u64) -> Result<(), StoreFault>
+        requires { len < 2 ^ 63 }
+        ensures ok { OnOk result (len ≤ S.room self.new.inner) }
+        ensures past_room { OnErr result (S.room self.old.inner < len) }
+        ensures device { IsErrOf result Device → ⊥ }
+        ensures images { SameImages (S.image self.old.inner) (S.image self.new.inner) }
+        ensures size { S.size self.new.inner ≡ S.size self.old.inner }
+        ensures written { S.written self.new.inner ≡ S.written self.old.inner }
+        ensures room { S.room self.old.inner ≤ S.room self.new.inner }
+        ensures failures { S.failures self.old.inner + blown self.old.calls self.old.limit ≤ S.failures self.new.inner + blown self.new.calls self.new.limit }
+        ensures same_calls { self.new.calls ≡ self.old.calls }
+        ensures same_limit { self.new.limit ≡ self.old.limit }
+        ensures same_part { self.new.part ≡ self.old.part }
+        ensures same_written { self.new.written ≡ self.old.written }
+    {
+        self.inner.reserve(len)
+    }
+
+    fn cut(&mut self, len: u64) -> Result<(), StoreFault>
+        requires { len ≤ S.size self.old.inner }
+        ensures images { AfterCut (S.size self.new.inner) (S.image self.old.inner) (S.image self.new.inner) }
+        ensures ok { OnOk result (S.size self.new.inner ≡ len) }
+        ensures no_shorter { len ≤ S.size self.new.inner }
+        ensures no_longer { S.size self.new.inner ≤ S.size self.old.inner }
+        ensures written { S.written self.new.inner ≡ S.written self.old.inner }
+        ensures room { S.room self.old.inner ≤ S.room self.new.inner }
+        ensures cause { HasCause (S.failures self.old.inner + blown self.old.calls self.old.limit) (S.failures self.new.inner + blown self.new.calls self.new.limit) result }
+        ensures memory { IsErrOf result NoMemory → ⊥ }
+        ensures counted { IsCounted (self.old.calls, self.old.limit, self.old.part) (self.new.calls, self.new.limit, self.new.part) }
+        ensures same_written { self.new.written ≡ self.old.written }
+        ensures fails { Blows self.old.calls self.old.limit → IsErrOf result Device × (self.new.inner ≡ self.old.inner) }
+    {
+        if blows(&mut self.calls, self.limit) {
+            return Err(StoreFault::Device);
+        }
+        self.inner.cut(len)
+    }
+
+    fn flush(&mut self) -> Result<(), StoreFault>
+        ensures images { SameImages (S.image self.old.inner) (S.image self.new.inner) }
+        ensures size { S.size self.new.inner ≡ S.size self.old.inner }
+        ensures written { S.written self.new.inner ≡ S.written self.old.inner }
+        ensures room { S.room self.old.inner ≤ S.room self.new.inner }
+        ensures cause { HasCause (S.failures self.old.inner + blown self.old.calls self.old.limit) (S.failures self.new.inner + blown self.new.calls self.new.limit) result }
+        ensures memory { IsErrOf result NoMemory → ⊥ }
+        ensures counted { IsCounted (self.old.calls, self.old.limit, self.old.part) (self.new.calls, self.new.limit, self.new.part) }
+        ensures same_written { self.new.written ≡ self.old.written }
+        ensures fails { Blows self.old.calls self.old.limit → IsErrOf result Device × (self.new.inner ≡ self.old.inner) }
+    {
+        if blows(&mut self.calls, self.limit) {
+            return Err(StoreFault::Device);
+        }
+        self.inner.flush()
+    }
+}

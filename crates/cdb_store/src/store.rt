@@ -1,0 +1,153 @@
+// A store as its users see it: the trait, its facts for proofs, and its faults.
+ghost use Rattle.std.specs.Prelude.{◌≡◌, ℕ, ◌+◌, ◌<◌, ◌≤◌, ◌^◌, max, List, length, OnOk, OnErr, IsErrOf};
+ghost use Rattle.cdb_store.specs.declared.store.StoreFault.TheVariants.{Device, NoMemory};
+ghost use Rattle.cdb_store.specs.Images.{SameImages, AfterRead, AfterWrite, AfterTornWrite, AfterCut, HasCause, fault_number};
+
+use std::alloc::AllocError;
+use std::fmt::{self, Display, Formatter, Write};
+
+/// Why a call on a store failed.
+#[derive(Clone, Copy, Debug, PartialEq, Eq)]
+pub enum StoreFault {
+    /// What holds the bytes failed, as a disk that is full.
+    Device,
+    /// Memory was refused, and nothing has changed.
+    NoMemory,
+}
+
+impl StoreFault {
+    /// Its number, by which a program reports it: 1 for `Device`, 2 for `NoMemory`.
+    pub fn number(&self) -> u64
+        ensures { result ≡ fault_number self.now }
+    {
+        match self {
+            StoreFault::Device => 1,
+            StoreFault::NoMemory => 2,
+        }
+    }
+}
+
+impl Display for StoreFault {
+    fn fmt<W: Write>(&self, f: &mut Formatter<W>) -> fmt::Result {
+        f.write_str(match self {
+            StoreFault::Device => "the device failed",
+            StoreFault::NoMemory => "out of memory",
+        })
+    }
+}
+
+impl From<AllocError> for StoreFault {
+    ghost from_gives = { λ _ e. e ≡ NoMemory };
+
+    fn from(_: AllocError) -> Self {
+        StoreFault::NoMemory
+    }
+}
+
+/// Bytes at places, counted in bytes from 0, that are read, written and cut.
+///
+/// A contract speaks of a store by four facts. Its *images* are the byte lists, all of its length,
+/// that agree with all that it was told to write and all that it gave back: a store in memory has
+/// exactly one, a file that was opened every list of its length until it is read. Its *failures*
+/// and *bytes written* are counts without a bound. Its *room* is how far writes go without taking
+/// memory.
+pub trait Store {
+    /// How many bytes it has.
+    ghost size: { Self → ℕ };
+
+    /// The byte lists that agree with all that it was told to write and all that it gave back.
+    ghost image: { Self → List ℕ → Type 0 };
+
+    /// How often it has failed.
+    ghost failures: { Self → ℕ };
+
+    /// How many bytes were written by calls that answered Ok, and at most as many by those that failed.
+    ghost written: { Self → ℕ };
+
+    /// Writes that end at or before it take no memory.
+    ghost room: { Self → ℕ };
+
+    /// How many bytes it has.
+    fn len(&self) -> u64
+        ensures { result ≡ size self.now };
+
+    /// Fills `into` with the bytes from the place `pos` on, all of which lie inside the store.
+    ///
+    /// After `Device` no byte of the store has changed, and `into` may hold anything.
+    fn read_at(&mut self, pos: u64, into: &mut [u8]) -> Result<(), StoreFault>
+        requires { pos + length into.old ≤ size self.old }
+        ensures ok { OnOk result (AfterRead pos into.new (image self.old) (image self.new)) }
+        ensures err { OnErr result (SameImages (image self.old) (image self.new)) }
+        ensures size { size self.new ≡ size self.old }
+        ensures written { written self.new ≡ written self.old }
+        ensures room { room self.old ≤ room self.new }
+        ensures cause { HasCause (failures self.old) (failures self.new) result }
+        ensures memory { IsErrOf result NoMemory → ⊥ };
+
+    /// Writes the bytes from the place `pos` on, which is at most the store's length, over what
+    /// stands there and past the end.
+    ///
+    /// After `Device` the range may hold any bytes and the store may have grown by a part of it,
+    /// but the bytes outside of the range stay. `NoMemory` comes only where the write ends past the
+    /// room, and nothing has changed then.
+    fn write_at(&mut self, pos: u64, bytes: &[u8]) -> Result<(), StoreFault>
+        requires start { pos ≤ size self.old }
+        requires end { pos + length bytes.now < 2 ^ 63 }
+        ensures ok { OnOk result (AfterWrite pos bytes.now (image self.old) (image self.new)) }
+        ensures ok_size { OnOk result (size self.new ≡ max (size self.old) (pos + length bytes.now)) }
+        ensures ok_written { OnOk result (written self.new ≡ written self.old + length bytes.now) }
+        ensures torn { AfterTornWrite pos (length bytes.now) (image self.old) (image self.new) }
+        ensures longer { size self.old ≤ size self.new }
+        ensures not_past { size self.new ≤ max (size self.old) (pos + length bytes.now) }
+        ensures more_written { written self.old ≤ written self.new }
+        ensures at_most_written { written self.new ≤ written self.old + length bytes.now }
+        ensures memory { IsErrOf result NoMemory → SameImages (image self.old) (image self.new) }
+        ensures memory_size { IsErrOf result NoMemory → size self.new ≡ size self.old }
+        ensures memory_written { IsErrOf result NoMemory → written self.new ≡ written self.old }
+        ensures past_room { IsErrOf result NoMemory → room self.old < pos + length bytes.now }
+        ensures room { room self.old ≤ room self.new }
+        ensures cause { HasCause (failures self.old) (failures self.new) result };
+
+    /// Makes room, so that no write that ends at or before the place `len` takes memory.
+    ///
+    /// `NoMemory` is the only fault, and comes only where `len` is past the room.
+    fn reserve(&mut self, len: u64) -> Result<(), StoreFault>
+        requires { len < 2 ^ 63 }
+        ensures ok { OnOk result (len ≤ room self.new) }
+        ensures past_room { OnErr result (room self.old < len) }
+        ensures device { IsErrOf result Device → ⊥ }
+        ensures images { SameImages (image self.old) (image self.new) }
+        ensures size { size self.new ≡ size self.old }
+        ensures written { written self.new ≡ written self.old }
+        ensures room { room self.old ≤ room self.new }
+        ensures failures { failures self.old ≤ failures self.new };
+
+    /// Cuts it to the length `len`, which is at most its own.
+    ///
+    /// After `Device` its length is any from `len` to the old one, and the bytes below that stay.
+    fn cut(&mut self, len: u64) -> Result<(), StoreFault>
+        requires { len ≤ size self.old }
+        ensures images { AfterCut (size self.new) (image self.old) (image self.new) }
+        ensures ok { OnOk result (size self.new ≡ len) }
+        ensures no_shorter { len ≤ size self.new }
+        ensures no_longer { size self.new ≤ size self.old }
+        ensures written { written self.new ≡ written self.old }
+        ensures room { room self.old ≤ room self.new }
+        ensures cause { HasCause (failures self.old) (failures self.new) result }
+        ensures memory { IsErrOf result NoMemory → ⊥ };
+
+    /// Hands everything on to what holds the bytes. After `Device` no byte has changed.
+    fn flush(&mut self) -> Result<(), StoreFault>
+        ensures images { SameImages (image self.old) (image self.new) }
+        ensures size { size self.new ≡ size self.old }
+        ensures written { written self.new ≡ written self.old }
+        ensures room { room self.old ≤ room self.new }
+        ensures cause { HasCause (failures self.old) (failures self.new) result }
+        ensures memory { IsErrOf result NoMemory → ⊥ };
+
+    /// What it has takes no memory.
+    ghost in_room: { (s : Self) → size s ≤ room s };
+
+    /// Each image has the store's length.
+    ghost image_size: { (s : Self) (b : List ℕ) → image s b → length b ≡ size s };
+}

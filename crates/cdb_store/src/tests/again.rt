@@ -1,0 +1,76 @@
+// A script of calls, each of which is called once again where it fails.
+use crate::{Store, StoreFault};
+
+/// What a script met.
+#[derive(Drop)]
+pub struct Outcome {
+    /// How many calls failed.
+    pub failed: u64,
+    /// Whether each call that was called again answered Ok, and each read gave the right bytes.
+    pub is_right: bool,
+}
+
+impl Outcome {
+    fn note(&mut self, first: Result<(), StoreFault>, is_right: bool) {
+        if first.is_err() {
+            self.failed = self.failed.saturating_add(1);
+        }
+        self.is_right = self.is_right && is_right;
+    }
+}
+
+fn write<S: Store>(store: &mut S, pos: u64, bytes: &[u8], outcome: &mut Outcome) {
+    if pos > store.len() || pos > 1 << 32 || bytes.len() > 4096 {
+        outcome.is_right = false;
+        return;
+    }
+    let first = store.write_at(pos, bytes);
+    let is_right = first.is_ok() || store.write_at(pos, bytes).is_ok();
+    outcome.note(first, is_right);
+}
+
+fn read<S: Store>(store: &mut S, want: &[u8], outcome: &mut Outcome) {
+    let mut into = [0; 64];
+    let n = want.len();
+    if n > 64 || n as u64 > store.len() {
+        outcome.is_right = false;
+        return;
+    }
+    let first = store.read_at(0, &mut into[..n]);
+    let is_right = first.is_ok() || store.read_at(0, &mut into[..n]).is_ok();
+    outcome.note(first, is_right && &into[..n] == want);
+}
+
+fn cut<S: Store>(store: &mut S, len: u64, outcome: &mut Outcome) {
+    if len > store.len() {
+        outcome.is_right = false;
+        return;
+    }
+    let first = store.cut(len);
+    let is_right = first.is_ok() || store.cut(len).is_ok();
+    outcome.note(first, is_right && store.len() == len);
+}
+
+fn flush<S: Store>(store: &mut S, outcome: &mut Outcome) {
+    let first = store.flush();
+    let is_right = first.is_ok() || store.flush().is_ok();
+    outcome.note(first, is_right);
+}
+
+/// Writes over what was written and past it, cuts, flushes and reads. It leaves `abXYZfghij`.
+pub fn script<S: Store>(store: &mut S) -> Outcome {
+    let mut outcome = Outcome {
+        failed: 0,
+        is_right: true,
+    };
+    write(store, 0, b"abcdefg", &mut outcome);
+    write(store, 7, b"hi", &mut outcome);
+    write(store, 9, b"jklmn", &mut outcome);
+    write(store, 2, b"XY", &mut outcome);
+    write(store, 4, b"Z", &mut outcome);
+    read(store, b"abXYZfghijklmn", &mut outcome);
+    cut(store, 10, &mut outcome);
+    flush(store, &mut outcome);
+    read(store, b"abXYZfghij", &mut outcome);
+    outcome
+}

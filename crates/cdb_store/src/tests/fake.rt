@@ -1,0 +1,185 @@
+// A raw file in memory that fails, shortens or interrupts its calls.
+ghost use Rattle.std.specs.Prelude.{◌≡◌, ◌<◌, ◌≤◌, [], length, IfOk};
+
+use crate::memory::write_over;
+use crate::raw_file::{RawFault, RawFile, ended_as};
+use crate::trace::{Call, Trace};
+
+/// What befalls a raw call.
+#[derive(Clone, Copy)]
+pub enum Trouble {
+    /// It fails.
+    Fails,
+    /// It reads or writes one byte.
+    OneByte,
+    /// A signal interrupts it.
+    Interrupted,
+    /// It fails, but one that asks for the length is told this.
+    Tells(u64),
+}
+
+/// A file in memory. Some of its calls in a row, from one on, are in trouble.
+#[derive(Drop)]
+pub struct FakeFile {
+    bytes: Vec<u8>,
+    trace: Trace,
+    calls: u64,
+    first: u64,
+    count: u64,
+    trouble: Trouble,
+}
+
+impl FakeFile {
+    /// An empty file, whose calls from the one after `first` on, `count` of them, are in trouble.
+    pub fn new(bytes: Vec<u8>, first: u64, count: u64, trouble: Trouble) -> FakeFile
+        ensures { result.trace.events ≡ [] }
+    {
+        FakeFile {
+            bytes,
+            trace: Trace::new(),
+            calls: 0,
+            first,
+            count,
+            trouble,
+        }
+    }
+
+    /// Counts a call, and tells the trouble that it is in.
+    fn meet(&mut self) -> Option<Trouble>
+        ensures { self.new.trace ≡ self.old.trace }
+    {
+        let call = self.calls;
+        self.calls = call.saturating_add(1);
+        if self.first <= call && call - self.first < self.count {
+            Some(self.trouble)
+        } else {
+            None
+        }
+    }
+}
+
+/// How many bytes a call does that is asked for `n`.
+fn share(trouble: Option<Trouble>, n: usize) -> Result<usize, RawFault>
+    requires { 0 < n }
+    ensures { IfOk result (λ k. (0 < k) × (k ≤ n)) }
+{
+    match trouble {
+        None => Ok(n),
+        Some(Trouble::OneByte) => Ok(1),
+        Some(Trouble::Interrupted) => Err(RawFault::Again),
+        Some(Trouble::Fails) | Some(Trouble::Tells(_)) => Err(RawFault::Broken),
+    }
+}
+
+/// Copies the bytes from a place on, as many as there are.
+fn copy_out(bytes: &[u8], at: u64, into: &mut [u8]) -> Result<usize, RawFault>
+    requires { 0 < length into.old }
+    ensures { IfOk result (λ n. (0 < n) × (n ≤ length into.old)) }
+{
+    if at >= bytes.len() as u64 {
+        return Err(RawFault::Broken);
+    }
+    let rest = &bytes[at as usize..];
+    let n = rest.len().min(into.len());
+    into[..n].copy_from_slice(&rest[..n]);
+    Ok(n)
+}
+
+/// Writes the bytes over what stands there and past the end.
+fn copy_in(bytes: &mut Vec<u8>, at: u64, new: &[u8]) -> Result<(), RawFault> {
+    if at > bytes.len() as u64 || new.len() > 4096 || at > 1 << 32 {
+        return Err(RawFault::Broken);
+    }
+    write_over(bytes, at as usize, new).map_err(|_| RawFault::Broken)
+}
+
+impl RawFile for FakeFile {
+    ghost calls = { λ f. f.trace.events };
+
+    fn read_some(&mut self, at: u64, into: &mut [u8]) -> Result<usize, RawFault> {
+        let trouble = self.meet();
+        let answer = match share(trouble, into.len()) {
+            Ok(n) => copy_out(&self.bytes, at, &mut into[..n]),
+            Err(fault) => Err(fault),
+        };
+        match answer {
+            Ok(n) => self.trace.note(&Call::Read(at), &into[..n]),
+            Err(fault) => self.trace.note(&ended_as(Call::Failed, fault), &[]),
+        }
+        answer
+    }
+
+    fn write_some(&mut self, at: u64, bytes: &[u8]) -> Result<usize, RawFault> {
+        let trouble = self.meet();
+        let answer = match share(trouble, bytes.len()) {
+            Ok(n) => copy_in(&mut self.bytes, at, &bytes[..n]).map(|()| n),
+            Err(fault) => Err(fault),
+        };
+        match answer {
+            Ok(n) => self.trace.note(&Call::Wrote(at), &bytes[..n]),
+            Err(fault) => {
+                let failed = Call::NotWritten(at, bytes.len() as u64);
+                self.trace.note(&ended_as(failed, fault), &[]);
+            }
+        }
+        answer
+    }
+
+    fn length(&mut self) -> Result<u64, RawFault> {
+        let len = match self.meet() {
+            None | Some(Trouble::OneByte) => self.bytes.len() as u64,
+            Some(Trouble::Tells(len)) => len,
+            Some(Trouble::Fails) | Some(Trouble::Interrupted) => {
+                self.trace.note(&Call::Failed, &[]);
+                return Err(RawFault::Broken);
+            }
+        };
+        self.trace.note(&Call::Length(len), &[]);
+        Ok(len)
+    }
+
+    fn set_length(&mut self, len: u64) -> Result<(), RawFault> {
+        let trouble = self.meet();
+        match share(trouble, 1) {
+            Ok(_) if len <= self.bytes.len() as u64 => {
+                self.bytes.truncate(len as usize);
+                self.trace.note(&Call::Cut(len), &[]);
+                Ok(())
+            }
+            _ => {
+                self.trace.note(&Call::NotCut(len), &[]);
+                Err(RawFault::Broken)
+            }
+        }
+    }
+
+    fn sync(&mut self) -> Result<(), RawFault> {
+        let trouble = self.meet();
+        match share(trouble, 1) {
+            Ok(_) => {
+                self.trace.note(&Call::Synced, &[]);
+                Ok(())
+            }
+            Err(_) => {
+                self.trace.note(&Call::Failed, &[]);
+                Err(RawFault::Broken)
+            }
+        }
+    }
+
+    fn give(&mut self, at: u64, bytes: &[u8]) {
+        self.trace.note(&Call::Gave(at), bytes);
+    }
+
+    fn refuse(&mut self) {
+        self.trace.note(&Call::Refused, &[]);
+    }
+
+    fn give_up(&mut self, at: u64, n: u64) {
+        self.trace.note(&Call::NotWritten(at, n), &[]);
+    }
+
+    fn lose(&mut self, _least: u64, _most: u64) {
+        self.trace.note(&Call::Lost, &[]);
+    }
+}

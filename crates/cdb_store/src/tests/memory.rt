@@ -1,0 +1,65 @@
+// Stores in memory.
+use crate::{BufferedStore, MemStore, Store, StoreFault};
+use std::test::Fail;
+
+#[test]
+fn writes_reads_and_cuts(rt: HostRuntime) -> Result<(), Fail> {
+    let mut store = MemStore::new(rt.alloc());
+    store.reserve(4)?;
+    store.write_at(0, b"abc")?;
+    store.write_at(1, b"XY")?;
+    assert!(rt; store.len() >= 3);
+    store.write_at(3, b"d")?;
+    assert_eq!(rt; store.bytes(), b"aXYd".as_slice());
+    assert_eq!(rt; store.len(), 4);
+    let mut into = [0; 2];
+    assert!(rt; store.len() >= 4);
+    store.read_at(1, &mut into)?;
+    assert_eq!(rt; into, *b"XY");
+    assert!(rt; store.len() >= 2);
+    store.cut(2)?;
+    store.flush()?;
+    assert_eq!(rt; store.bytes(), b"aX".as_slice());
+    assert!(rt; store.len() >= 2);
+    store.write_at(2, b"")?;
+    assert!(rt; store.len() >= 2);
+    store.read_at(2, &mut [])?;
+    assert_eq!(rt; store.into_vec().as_slice(), b"aX".as_slice());
+    Ok(())
+}
+
+#[test]
+fn writes_past_the_end(rt: HostRuntime) -> Result<(), Fail> {
+    let mut store = MemStore::from_vec(b"abc".to_vec(rt.alloc())?);
+    store.write_at(1, b"bcde")?;
+    assert_eq!(rt; store.bytes(), b"abcde".as_slice());
+    Ok(())
+}
+
+#[test]
+fn refused_memory_changes_nothing(rt: HostRuntime) -> Result<(), Fail> {
+    let mut store = MemStore::from_vec(b"abc".to_vec(rt.alloc())?);
+    let fault = store.reserve(1 << 62);
+    assert_eq!(rt; fault, Err(StoreFault::NoMemory));
+    assert_eq!(rt; store.bytes(), b"abc".as_slice());
+    match BufferedStore::new(rt.alloc(), store, 1 << 62) {
+        Ok(_) => Err(Fail::new("so much memory was given")),
+        Err(inner) => {
+            assert_eq!(rt; inner.bytes(), b"abc".as_slice());
+            Ok(())
+        }
+    }
+}
+
+#[test]
+fn faults_are_numbered(rt: HostRuntime) -> Result<(), Fail> {
+    for (fault, number, text) in [
+        (StoreFault::Device, 1, "the device failed"),
+        (StoreFault::NoMemory, 2, "out of memory"),
+    ] {
+        assert_eq!(rt; fault.number(), number);
+        let said = format!(in rt.alloc(); "{fault}")?;
+        assert_eq!(rt; said.as_str(), text);
+    }
+    Ok(())
+}

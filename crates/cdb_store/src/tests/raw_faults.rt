@@ -1,0 +1,106 @@
+// A store in a file whose raw calls fail, do a part or are interrupted, each in turn.
+use super::again::script;
+use super::fake::{FakeFile, Trouble};
+use crate::{FileStore, Store, StoreFault};
+use std::test::Fail;
+
+/// How many raw calls the script makes where none is in trouble.
+const CALLS: u64 = 9;
+
+#[test]
+fn parts_and_interrupts_change_nothing(rt: HostRuntime) -> Result<(), Fail> {
+    for first in 0..=CALLS {
+        for (count, trouble) in [
+            (1, Trouble::OneByte),
+            (1000, Trouble::OneByte),
+            (1, Trouble::Interrupted),
+        ] {
+            let file = FakeFile::new(Vec::new(rt.alloc()), first, count, trouble);
+            let mut store = FileStore::empty(file);
+            let outcome = script(&mut store);
+            assert!(rt; outcome.is_right);
+            // a cut and a sync aren't asked again: std does so by itself
+            let is_once = (first == 6 || first == 7) && matches!(trouble, Trouble::Interrupted);
+            assert_eq!(rt; outcome.failed, is_once as u64, "{first}");
+        }
+    }
+    Ok(())
+}
+
+#[test]
+fn reads_and_writes_are_asked_1001_times(rt: HostRuntime) -> Result<(), Fail> {
+    for first in [0, 1, 2, 3, 4, 5, 8] {
+        for (count, failed) in [(1000, 0), (1001, 1)] {
+            let file = FakeFile::new(Vec::new(rt.alloc()), first, count, Trouble::Interrupted);
+            let mut store = FileStore::empty(file);
+            let outcome = script(&mut store);
+            assert!(rt; outcome.is_right);
+            assert_eq!(rt; outcome.failed, failed, "{first} {count}");
+        }
+    }
+    Ok(())
+}
+
+#[test]
+fn each_raw_call_fails_in_turn(rt: HostRuntime) -> Result<(), Fail> {
+    for first in 0..=CALLS {
+        let file = FakeFile::new(Vec::new(rt.alloc()), first, 1, Trouble::Fails);
+        let mut store = FileStore::empty(file);
+        let outcome = script(&mut store);
+        assert!(rt; outcome.is_right);
+        assert_eq!(rt; outcome.failed, (first < CALLS) as u64, "{first}");
+    }
+    Ok(())
+}
+
+#[test]
+fn the_length_is_asked_after_a_failed_write(rt: HostRuntime) -> Result<(), Fail> {
+    // what the file tells, the length then, and whether the store goes on
+    for (told, len, goes_on) in [
+        (5, 6, false),
+        (6, 6, true),
+        (7, 7, true),
+        (8, 8, true),
+        (9, 6, false),
+    ] {
+        let file = FakeFile::new(Vec::new(rt.alloc()), 1, 2, Trouble::Tells(told));
+        let mut store = FileStore::empty(file);
+        store.write_at(0, b"abcdef")?;
+        assert!(rt; store.len() >= 6);
+        assert_eq!(rt; store.write_at(5, b"XYZ"), Err(StoreFault::Device));
+        assert_eq!(rt; store.len(), len);
+        let mut into = [0; 6];
+        assert!(rt; store.len() >= 6);
+        assert_eq!(rt; store.read_at(0, &mut into).is_ok(), goes_on, "{told}");
+        assert_eq!(rt; store.write_at(0, b"a").is_ok(), goes_on, "{told}");
+        assert_eq!(rt; store.flush().is_ok(), goes_on, "{told}");
+        assert!(rt; store.len() >= 1);
+        assert_eq!(rt; store.cut(1).is_ok(), goes_on, "{told}");
+        store.reserve(100)?;
+        assert_eq!(rt; store.len(), if goes_on { 1 } else { 6 });
+    }
+    Ok(())
+}
+
+#[test]
+fn the_length_is_asked_after_a_failed_cut(rt: HostRuntime) -> Result<(), Fail> {
+    for (told, len, goes_on) in [(1, 6, false), (2, 2, true), (6, 6, true), (7, 6, false)] {
+        let file = FakeFile::new(Vec::new(rt.alloc()), 1, 2, Trouble::Tells(told));
+        let mut store = FileStore::empty(file);
+        store.write_at(0, b"abcdef")?;
+        assert!(rt; store.len() >= 2);
+        assert_eq!(rt; store.cut(2), Err(StoreFault::Device));
+        assert_eq!(rt; store.len(), len);
+        assert_eq!(rt; store.flush().is_ok(), goes_on, "{told}");
+    }
+    Ok(())
+}
+
+#[test]
+fn a_file_of_2_to_the_63_bytes_is_refused(rt: HostRuntime) -> Result<(), Fail> {
+    for (told, is_opened) in [((1 << 63) - 1, true), (1 << 63, false)] {
+        let file = FakeFile::new(Vec::new(rt.alloc()), 0, 1, Trouble::Tells(told));
+        assert_eq!(rt; FileStore::over(file).is_ok(), is_opened);
+    }
+    Ok(())
+}

@@ -1,0 +1,63 @@
+//! The calls on a file and what they answered, which only clauses read.
+ghost use Rattle.std.specs.Prelude.{◌≡◌, List, ℕ, [], ◌∷◌};
+ghost use Rattle.std.specs.Borrow.{ftrue};
+ghost use Rattle.cdb_store.specs.declared.trace.Call.{Call};
+
+use std::marker::{Model, PhantomData};
+
+/// What a call on a file answered, or what a store made of the answers.
+#[derive(Clone, Copy)]
+pub enum Call {
+    /// The file was made, or emptied.
+    Made,
+    /// Bytes from this place on came.
+    Read(u64),
+    /// The bytes that came from this place on were given back to the caller.
+    Gave(u64),
+    /// Bytes from this place on were written.
+    Wrote(u64),
+    /// A write at a place, of so many bytes, failed or was given up.
+    NotWritten(u64, u64),
+    /// It told its length.
+    Length(u64),
+    /// It was cut to this length.
+    Cut(u64),
+    /// Cutting it to this length failed.
+    NotCut(u64),
+    /// It was synced.
+    Synced,
+    /// A signal interrupted a call, which did nothing.
+    Interrupted,
+    /// A call that changes no byte failed.
+    Failed,
+    /// The store refused a call without asking the file again.
+    Refused,
+    /// The answer before this one is no length that the file can have.
+    Lost,
+}
+
+/// It takes no memory, and its methods do nothing at run time.
+#[derive(Drop)]
+pub struct Trace {
+    marker: PhantomData<u8>,
+    pub ghost events: { List (Call × List ℕ) },
+}
+
+impl Model for Trace {
+    ghost also_owns = { λ _. ftrue };
+}
+
+impl Trace {
+    pub(crate) fn new() -> Trace
+        ensures { result.events ≡ [] }
+    {
+        Trace {
+            marker: PhantomData,
+        }
+    }
+
+    /// Adds a call with its bytes.
+    pub(crate) fn note(&mut self, _call: &Call, _bytes: &[u8])
+        ensures { self.new.events ≡ (_call.now, _bytes.now) ∷ self.old.events }
+    {}
+}
