@@ -7,6 +7,7 @@
 PREFIX ?= /usr/local
 DESTDIR ?=
 RT ?= rt
+PYTHON ?= python3
 SOURCES := $(shell find crates -name out -prune -o -type f \( -name '*.rt' -o -name '*.antt' \) -print) crates.txt
 
 .PHONY: all demo test install bench clean
@@ -25,6 +26,7 @@ demo: bin/cdb
 
 test:
 	$(RT) ci
+	$(PYTHON) tests/cli/run.py crates/cdb_tool/out/cdb_tool
 
 install: bin/cdb
 	install -D -m 755 bin/cdb $(DESTDIR)$(PREFIX)/bin/cdb

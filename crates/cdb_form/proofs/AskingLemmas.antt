@@ -23,7 +23,7 @@ pub record ReadMore (old new : Option (List ℕ)) (so_far piece : List ℕ) (cou
 pub read_more : (old mid new : Option (List ℕ)) (so_far into : List ℕ) (done n : ℕ) → Consumes old mid so_far → AreBytes so_far → length so_far ≡ done → Consumes mid new (take n into) → AreBytes into → n ≤ length into
     → ReadMore old new so_far (take n into) (done + n)
 read_more old mid new so_far into done n a are long b bytes few = record {
-    read = consumes_then old mid new so_far (take n into) a b;
-    are = AreBytes-append so_far (take n into) are (AreBytes-take n into bytes);
-    long = omega (arith, length-append so_far (take n into), length-take-le n into few);
-  }
+  read = consumes_then old mid new so_far (take n into) a b;
+  are = AreBytes-append so_far (take n into) are (AreBytes-take n into bytes);
+  long = omega (arith, length-append so_far (take n into), length-take-le n into few);
+}

@@ -86,7 +86,7 @@ record_read w place end next (Some text) (Some t₁) (Some t₂) (Some rest) hea
 -- what was lost, part after part
 pub loses_then : (old mid new : Option (List ℕ)) (xs : List ℕ) (n k : ℕ) → Consumes old mid xs → LosesAtMost mid new n → length xs + n ≤ k → LosesAtMost old new k
 loses_then old mid new xs n k a b few = record {
-    lost = xs ++ b.lost;
-    taken = consumes_then old mid new xs b.lost a b.taken;
-    few = omega (arith, length-append xs b.lost, b.few);
-  }
+  lost = xs ++ b.lost;
+  taken = consumes_then old mid new xs b.lost a b.taken;
+  few = omega (arith, length-append xs b.lost, b.few);
+}

@@ -21,11 +21,11 @@ use Rattle.cdb_form.proofs.Fronts.{lengths_of, Begins, all_records, all_records-
 pub Begins-record_bytes : (w top : ℕ) (r : KeyValue) (rest : List ℕ) → top + 1 ≡ 256 ^ w → WordsFit top (lengths_of r) → Begins w (record_bytes w r ++ rest) r rest
 unfolding record_bytes
 Begins-record_bytes w top r rest top_is fit = record {
-    header = words_bytes w (lengths_of r);
-    long = length-words_bytes w (lengths_of r);
-    lengths = ap (words_at w) (sym (append-nil (words_bytes w (lengths_of r)))) ∙ words_at-words_bytes w top (lengths_of r) [] top_is fit;
-    split = append_assoc (words_bytes w (lengths_of r) ++ r.key) r.value rest ∙ append_assoc (words_bytes w (lengths_of r)) r.key (r.value ++ rest);
-  }
+  header = words_bytes w (lengths_of r);
+  long = length-words_bytes w (lengths_of r);
+  lengths = ap (words_at w) (sym (append-nil (words_bytes w (lengths_of r)))) ∙ words_at-words_bytes w top (lengths_of r) [] top_is fit;
+  split = append_assoc (words_bytes w (lengths_of r) ++ r.key) r.value rest ∙ append_assoc (words_bytes w (lengths_of r)) r.key (r.value ++ rest);
+}
 
 -- the bytes of some records, and then others
 pub all_records-flat_map : (w top : ℕ) (rs : List KeyValue) (rest : List ℕ) → 0 < w → top + 1 ≡ 256 ^ w → AllByRecursion (λ r. WordsFit top (lengths_of r)) rs

@@ -100,9 +100,9 @@ walk_of-IsWalk w top bytes some top_is head are =
       short = walk_of-short w bytes;
       table = walk_of-table w bytes;
       longest = λ h. subst (StandLongest w bytes) (sym (rs h)) (record {
-          stand = all_records-stand w bytes are h;
-          longest = λ others s. stand_longest w top bytes others some top_is (record_end-le w top bytes are top_is head) s;
-        });
+        stand = all_records-stand w bytes are h;
+        longest = λ others s. stand_longest w top bytes others some top_is (record_end-le w top bytes are top_is head) s;
+      });
       whole = λ h e. d h ∙ cond-true (end_of w (all_records w (area_of w bytes)) == record_end w bytes) _ _ (eq-eqb _ _ (sym (ap (end_of w) (rs h)) ∙ e));
       damage = λ h e.
           d h ∙ cond-false (end_of w (all_records w (area_of w bytes)) == record_end w bytes) _ _ (ne_eqb _ _ (λ same. let there = ap (end_of w) (rs h) in absurd (omega arith)))
