@@ -86,6 +86,13 @@ def main():
         if found("cdbmake"):
             makers.append(("freecdb cdbmake", ["cdbmake", path("free.cdb"), path("free.tmp")], text, os.devnull))
         compare("create", makers, options.rounds)
+        database = path("ours.cdb")
+        dumpers = [("cdb -d", [ours, "-d"], database, path("ours.text"))]
+        if found("cdb"):
+            dumpers.append(("tinycdb cdb -d", [found("cdb"), "-d", database], os.devnull, path("tiny.text")))
+        if found("cdbdump"):
+            dumpers.append(("freecdb cdbdump", ["cdbdump"], database, path("free.text")))
+        compare("dump", dumpers, options.rounds)
 
 
 if __name__ == "__main__":
