@@ -9,4 +9,15 @@ pub mod Stops
 pub mod TextLaws
 pub mod RecordLemmas
 pub mod Sizes
+pub mod Places
 pub mod WholeText
+pub mod Fronts
+pub mod WalkSteps
+pub mod Standing
+pub mod WalkLaws
+pub mod AskingLemmas
+pub mod TableLemmas
+pub mod AreaLemmas
+pub mod RecordReads
+pub mod StreamLemmas
+pub mod WalkText

@@ -9,4 +9,9 @@ pub mod TextReader
 pub mod Writing
 pub mod WorkedFiles
 pub mod Examples
+pub mod KnownBytes
+pub mod Walk
+pub mod WalkExamples
+pub mod RecordReader
+pub mod WalkLaws
 pub mod Laws

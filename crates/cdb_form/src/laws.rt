@@ -1,6 +1,9 @@
 //! Laws of the format. Each is the contract of a function whose parameters are what it ranges over.
-ghost use Rattle.std.specs.Prelude.{All};
+ghost use Rattle.std.specs.Prelude.{◌≡◌, ◌≤◌, All, length};
+ghost use Rattle.cdb_form.specs.Layout.{file_of, size_of};
 ghost use Rattle.cdb_form.specs.Laws.{LengthsFit, TextReadsBack};
+ghost use Rattle.cdb_form.specs.Walk.{walk_of};
+ghost use Rattle.cdb_form.specs.WalkLaws.{IsWalk, WalksBack};
 ghost use Rattle.cdb_form.specs.Words.{key_values};
 
 use crate::record::Record;
@@ -10,4 +13,20 @@ use crate::width::Width;
 /// whatever follows it.
 pub fn text_reads_back<L: Width>(_records: &[Record], _rest: &[u8])
     ensures { All (LengthsFit L.GREATEST) (key_values _records.now) → TextReadsBack L.GREATEST (key_values _records.now) _rest.now }
+{}
+
+/// The file of some records has its size: the head, the records, and two slots for each record.
+pub fn file_has_size<L: Width>(_records: &[Record])
+    ensures { length (file_of L.WORD (key_values _records.now)) ≡ size_of L.WORD (key_values _records.now) }
+{}
+
+/// A walk gives the longest list of records that stands in a file, inside both the record end and
+/// the file.
+pub fn walk_is_longest<L: Width>(_bytes: &[u8])
+    ensures { IsWalk L.WORD _bytes.now (walk_of L.WORD _bytes.now) }
+{}
+
+/// The walk of the file of some records, where its size fits, gives these records and no damage.
+pub fn walk_of_file<L: Width>(_records: &[Record])
+    ensures { size_of L.WORD (key_values _records.now) ≤ L.GREATEST → WalksBack L.WORD (key_values _records.now) }
 {}

@@ -257,10 +257,10 @@ impl<R: Read, L: Width> TextReader<R, L> {
     /// Reads the next record over another one, whose memory it takes, and answers whether there is
     /// one. The answers are those of `next`, with `false` for `None`; after `false` and after a
     /// fault the record holds anything.
-    pub fn read_into(&mut self, record: &mut Record) -> Result<bool, TextFault>
+    pub fn read_into(&mut self, into: &mut Record) -> Result<bool, TextFault>
         // A record that is given was spelled by what was unread.
         ensures record { IfOk result (λ given. OnTrue given
-            (ReadsRecord L.GREATEST (unread R.remaining self.old) (unread R.remaining self.new) (taken_of self.old) (taken_of self.new) (key_value record.new))) }
+            (ReadsRecord L.GREATEST (unread R.remaining self.old) (unread R.remaining self.new) (taken_of self.old) (taken_of self.new) (key_value into.new))) }
         // The first `false` took a newline.
         ensures end { IsGoing self.old → IfOk result (λ given. OnFalse given
             (Consumes (unread R.remaining self.old) (unread R.remaining self.new) (10 ∷ []) × (taken_of self.new ≡ taken_of self.old + 1) × HasEnded self.new)) }
@@ -279,7 +279,7 @@ impl<R: Read, L: Width> TextReader<R, L> {
             Going::AtEnd => return Ok(false),
             Going::Failed(fault) => return Err(fault),
         }
-        let answer = self.source.entry(record, L::GREATEST);
+        let answer = self.source.entry(into, L::GREATEST);
         match answer {
             Ok(true) => {}
             Ok(false) => self.going = Going::AtEnd,

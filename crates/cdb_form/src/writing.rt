@@ -1,8 +1,9 @@
 // Bytes to a writer.
-ghost use Rattle.std.specs.Prelude.{◌≡◌, ◌+◌, ◌<◌, ◌≤◌, length, flat_map, OnOk, OnErr};
-ghost use Rattle.std.specs.Io.KnownBytes.{Appends};
-ghost use Rattle.cdb_form.specs.Writing.{AppendsFront};
+ghost use Rattle.std.specs.Prelude.{◌≡◌, ◌∷◌, [], ◌+◌, ◌<◌, ◌≤◌, length, flat_map, OnOk, OnErr};
+ghost use Rattle.std.specs.Io.KnownBytes.{Appends, Keeps};
+ghost use Rattle.cdb_form.specs.Writing.{AppendsFront, spelling_of};
 
+use itoa::Buffer;
 use std::io::{ErrorKind, Write};
 
 /// A writer failed, or took nothing, or said that it took more than it was offered.
@@ -46,4 +47,41 @@ pub fn write_pieces<W: Write>(w: &mut W, pieces: &[&[u8]]) -> Result<(), OutFaul
         write_whole(w, piece)?;
     }
     Ok(())
+}
+
+/// Flushes a writer. It is asked again where a signal interrupts it, as in a write.
+pub fn flush_whole<W: Write>(w: &mut W) -> Result<(), OutFault>
+    ensures { Keeps (W.contents w.old) (W.contents w.new) }
+{
+    for _ in 0..RETRIES + 1 {
+        match w.flush() {
+            Ok(()) => return Ok(()),
+            Err(e) => {
+                if e.kind() != ErrorKind::Interrupted {
+                    return Err(OutFault);
+                }
+            }
+        }
+    }
+    Err(OutFault)
+}
+
+/// Writes a record of a native text, with the shortest numerals. After an `OutFault` the writer
+/// holds a front of it.
+pub fn write_record<W: Write>(w: &mut W, key: &[u8], value: &[u8]) -> Result<(), OutFault>
+    ensures ok { OnOk result (Appends (W.contents w.old) (W.contents w.new) (spelling_of (record { key = key.now; value = value.now }))) }
+    ensures err { OnErr result (AppendsFront (W.contents w.old) (W.contents w.new) (spelling_of (record { key = key.now; value = value.now }))) }
+{
+    let (mut klen, mut vlen) = (Buffer::new(), Buffer::new());
+    let klen = klen.format(key.len()).as_bytes();
+    let vlen = vlen.format(value.len()).as_bytes();
+    write_pieces(w, &[b"+", klen, b",", vlen, b":", key, b"->", value, b"\n"])
+}
+
+/// Writes the newline that ends a native text. After an `OutFault` the writer holds a front of it.
+pub fn write_end<W: Write>(w: &mut W) -> Result<(), OutFault>
+    ensures ok { OnOk result (Appends (W.contents w.old) (W.contents w.new) (10 ∷ [])) }
+    ensures err { OnErr result (AppendsFront (W.contents w.old) (W.contents w.new) (10 ∷ [])) }
+{
+    write_whole(w, b"\n")
 }

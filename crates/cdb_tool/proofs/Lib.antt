@@ -4,3 +4,5 @@ pub mod Written
 pub mod HeadPointers
 pub mod WholeFile
 pub mod WholeRuns
+pub mod InputLemmas
+pub mod WholeDumps

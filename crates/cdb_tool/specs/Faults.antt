@@ -3,10 +3,13 @@ use Rattle.std.specs.Prelude.{ℕ, List, ◌++◌, decimal, codes}
 use Rattle.cdb_form.specs.declared.fault.TextFault.{TextFault}
 use Rattle.cdb_form.specs.declared.fault.TextFault.TheVariants as text
 use Rattle.cdb_form.specs.declared.fault.TextFault.TheVariants.{Syntax, Ended, Large, Input, Endless}
+use Rattle.cdb_form.specs.declared.walk_fault.WalkFault.{WalkFault}
+use Rattle.cdb_form.specs.declared.walk_fault.WalkFault.TheVariants as walk
+use Rattle.cdb_form.specs.declared.walk_fault.WalkFault.TheVariants.{Short, Table, Record}
 use Rattle.cdb_tool.specs.declared.fault.MakeFault.{MakeFault}
 use Rattle.cdb_tool.specs.declared.fault.MakeFault.TheVariants.{TooBig}
 use Rattle.cdb_tool.specs.declared.fault.Fault.{Fault}
-use Rattle.cdb_tool.specs.declared.fault.Fault.TheVariants.{Text, Make, Output, NoMemory}
+use Rattle.cdb_tool.specs.declared.fault.Fault.TheVariants.{Text, Make, Walk, Output, NoMemory}
 
 abbrev pub make_number_of : MakeFault → ℕ
 make_number_of TooBig = 3
@@ -14,6 +17,7 @@ make_number_of TooBig = 3
 abbrev pub number_of : Fault → ℕ
 number_of (Text input fault) = 1
 number_of (Make fault) = 2
+number_of (Walk fault) = 6
 number_of Output = 7
 number_of NoMemory = 11
 
@@ -21,6 +25,11 @@ number_of NoMemory = 11
 abbrev pub text_fault : ℕ → TextFault → Fault
 text_fault input text.NoMemory = NoMemory
 text_fault input fault = Text input fault
+
+-- the fault of a run, from that of a walk of a file
+abbrev pub walk_fault : WalkFault → Fault
+walk_fault walk.NoMemory = NoMemory
+walk_fault fault = Walk fault
 
 -- a line with some words; with some words on an input; with some words on a byte of an input
 abbrev pub line_of : List ℕ → List ℕ
@@ -41,9 +50,21 @@ text_line input Input = input_line input (codes "cannot be read")
 text_line input Endless = input_line input (codes "has no end")
 text_line input text.NoMemory = line_of (codes "no memory")
 
+-- the line of a fault of a database file
+abbrev pub part_line : List ℕ → ℕ → List ℕ → List ℕ
+part_line part number words = codes "cdb: " ++ part ++ decimal number ++ codes ": " ++ words ++ codes "\n"
+
+abbrev pub walk_line : WalkFault → List ℕ
+walk_line Short = line_of (codes "database shorter than its head")
+walk_line (Table n) = part_line (codes "table ") n (codes "outside the file")
+walk_line (Record place) = part_line (codes "record at ") place (codes "not whole")
+walk_line walk.Input = line_of (codes "database cannot be read or written")
+walk_line walk.NoMemory = line_of (codes "no memory")
+
 -- the line of a fault
 abbrev pub fault_line : Fault → List ℕ
 fault_line (Text input fault) = text_line input fault
 fault_line (Make TooBig) = line_of (codes "database too large")
+fault_line (Walk fault) = walk_line fault
 fault_line Output = line_of (codes "output cannot be written")
 fault_line NoMemory = line_of (codes "no memory")

@@ -3,3 +3,5 @@ pub mod Faults
 pub mod Entries
 pub mod Stored
 pub mod MakeRun
+pub mod Input
+pub mod DumpRun

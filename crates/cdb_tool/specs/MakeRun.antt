@@ -8,7 +8,7 @@ use Rattle.cdb_form.specs.Writing.{AppendsFront}
 use Rattle.cdb_form.specs.declared.fault.TextFault.{TextFault}
 use Rattle.cdb_form.specs.declared.fault.TextFault.TheVariants as text_fault
 use Rattle.cdb_tool.specs.declared.fault.Fault.{Fault}
-use Rattle.cdb_tool.specs.declared.fault.Fault.TheVariants.{Text, Make, Output, NoMemory}
+use Rattle.cdb_tool.specs.declared.fault.Fault.TheVariants.{Text, Make, Walk, Output, NoMemory}
 use Rattle.cdb_tool.specs.declared.fault.MakeFault.TheVariants.{TooBig}
 
 -- these are the records of a text, where it is known, and their file fits
@@ -35,6 +35,7 @@ pub record PassesGreatest (w greatest : ℕ) (text : List ℕ) : Type 0 where
 abbrev pub NotRead : ℕ → ℕ → Option (List ℕ) → Fault → Type 0
 NotRead w greatest text (Text input fault) = (input ≡ 1) × (fault ≢ text_fault.NoMemory) × IfSome text (λ t. IsOfText fault → FailsText w greatest t fault)
 NotRead w greatest text (Make TooBig) = IfSome text (PassesGreatest w greatest)
+NotRead w greatest text (Walk fault) = ⊥
 NotRead w greatest text Output = ⊥
 NotRead w greatest text NoMemory = ⊤
 

@@ -2,9 +2,9 @@
 ghost use Rattle.std.specs.Prelude.{◌≡◌, OnOk, OnErr};
 ghost use Rattle.std.specs.Io.KnownBytes.{Appends};
 ghost use Rattle.cdb_form.specs.Writing.{AppendsFront};
-ghost use Rattle.cdb_tool.specs.Faults.{make_number_of, number_of, fault_line, text_line, place_line, input_line, line_of, text_fault};
+ghost use Rattle.cdb_tool.specs.Faults.{make_number_of, number_of, fault_line, text_line, place_line, input_line, line_of, text_fault, walk_fault, walk_line, part_line};
 
-use cdb_form::{OutFault, TextFault, write_pieces};
+use cdb_form::{OutFault, TextFault, WalkFault, write_pieces};
 use itoa::Buffer;
 use std::alloc::{AllocError, AllocFailed};
 use std::io::Write;
@@ -34,6 +34,8 @@ pub enum Fault {
     Text(u64, TextFault),
     /// The database was not made.
     Make(MakeFault),
+    /// A database file was not walked to its end.
+    Walk(WalkFault),
     /// A writer failed.
     Output,
     /// Memory ran out.
@@ -48,6 +50,7 @@ impl Fault {
         match self {
             Fault::Text(_, _) => 1,
             Fault::Make(_) => 2,
+            Fault::Walk(_) => 6,
             Fault::Output => 7,
             Fault::NoMemory => 11,
         }
@@ -60,6 +63,18 @@ impl Fault {
         match fault {
             TextFault::NoMemory => Fault::NoMemory,
             _ => Fault::Text(input, fault),
+        }
+    }
+}
+
+/// Want of memory in a walk is the run's own.
+impl From<WalkFault> for Fault {
+    ghost from_gives = { λ walk fault. fault ≡ walk_fault walk };
+
+    fn from(fault: WalkFault) -> Fault {
+        match fault {
+            WalkFault::NoMemory => Fault::NoMemory,
+            _ => Fault::Walk(fault),
         }
     }
 }
@@ -141,6 +156,7 @@ pub fn write_fault<E: Write>(fault: &Fault, errors: &mut E) -> Result<(), OutFau
     match *fault {
         Fault::Text(input, text) => write_text_fault(input, text, errors),
         Fault::Make(MakeFault::TooBig) => write_line(b"database too large", errors),
+        Fault::Walk(walk) => write_walk_fault(walk, errors),
         Fault::Output => write_line(b"output cannot be written", errors),
         Fault::NoMemory => write_line(b"no memory", errors),
     }
@@ -158,5 +174,34 @@ fn write_text_fault<E: Write>(input: u64, fault: TextFault, errors: &mut E) -> R
         TextFault::Input => write_input_line(input, b"cannot be read", errors),
         TextFault::Endless => write_input_line(input, b"has no end", errors),
         TextFault::NoMemory => write_line(b"no memory", errors),
+    }
+}
+
+// A line on a numbered part of a file.
+fn write_part_line<E: Write>(
+    part: &[u8],
+    number: u64,
+    words: &[u8],
+    errors: &mut E,
+) -> Result<(), OutFault>
+    ensures ok { OnOk result (Appends (E.contents errors.old) (E.contents errors.new) (part_line part.now number words.now)) }
+    ensures err { OnErr result (AppendsFront (E.contents errors.old) (E.contents errors.new) (part_line part.now number words.now)) }
+{
+    let mut digits = Buffer::new();
+    let number = digits.format(number).as_bytes();
+    write_pieces(errors, &[b"cdb: ", part, number, b": ", words, b"\n"])
+}
+
+// The line of a fault of a database file.
+fn write_walk_fault<E: Write>(fault: WalkFault, errors: &mut E) -> Result<(), OutFault>
+    ensures ok { OnOk result (Appends (E.contents errors.old) (E.contents errors.new) (walk_line fault)) }
+    ensures err { OnErr result (AppendsFront (E.contents errors.old) (E.contents errors.new) (walk_line fault)) }
+{
+    match fault {
+        WalkFault::Short => write_line(b"database shorter than its head", errors),
+        WalkFault::Table(n) => write_part_line(b"table ", n, b"outside the file", errors),
+        WalkFault::Record(place) => write_part_line(b"record at ", place, b"not whole", errors),
+        WalkFault::Input => write_line(b"database cannot be read or written", errors),
+        WalkFault::NoMemory => write_line(b"no memory", errors),
     }
 }

@@ -8,7 +8,7 @@ ghost use Rattle.cdb_tool.specs.MakeRun.{ReadsFitting, NotRead, MakesFile, MakeF
 use crate::fault::{Fault, MakeFault};
 use crate::finishing::write_file;
 use crate::stored::Stored;
-use cdb_form::{Record, TextReader, Width};
+use cdb_form::{Record, TextReader, Width, flush_whole};
 use std::alloc::Global;
 use std::io::{Read, Write};
 
@@ -88,7 +88,7 @@ pub fn make_bytes<L: Width, R: Read + Drop, W: Write>(
     ensures err { IfErr result (MakeFails L.WORD L.GREATEST (R.remaining reader) (W.contents w.old) (W.contents w.new)) }
 {
     let made = make_unflushed::<L, R, W>(alloc, reader, w);
-    match (made, w.flush()) {
+    match (made, flush_whole(w)) {
         (Ok(()), Err(_)) => Err(Fault::Output),
         (made, _) => made,
     }

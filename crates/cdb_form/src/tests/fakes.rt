@@ -1,4 +1,5 @@
 // Readers and writers that fail when they are told to.
+use std::alloc::Global;
 use std::io::{self, ErrorKind, Read, Write};
 use std::prelude::*;
 
@@ -66,13 +67,26 @@ impl Read for FakeReader<'_> {
     }
 }
 
-/// Takes so many bytes, a few at a time, and then fails.
+/// Takes so many bytes, a few at a time, and then fails. It is first interrupted so often.
 #[derive(Drop)]
 pub(super) struct FakeWriter {
     pub(super) held: Vec<u8>,
     pub(super) room: usize,
     pub(super) most: usize,
     pub(super) interrupts: u64,
+    pub(super) flushed: bool,
+}
+
+impl FakeWriter {
+    pub(super) fn new(alloc: Global, room: usize, interrupts: u64) -> FakeWriter {
+        FakeWriter {
+            held: Vec::new(alloc),
+            room,
+            most: 3,
+            interrupts,
+            flushed: false,
+        }
+    }
 }
 
 impl Write for FakeWriter {
@@ -91,6 +105,11 @@ impl Write for FakeWriter {
     }
 
     fn flush(&mut self) -> io::Result<()> {
+        if self.interrupts > 0 {
+            self.interrupts -= 1;
+            return Err(io::Error::from(ErrorKind::Interrupted));
+        }
+        self.flushed = true;
         Ok(())
     }
 }

@@ -1,19 +1,15 @@
 // Whole writes, over writers that take little or fail.
 use super::fakes::FakeWriter;
-use crate::writing::{OutFault, write_pieces, write_whole};
+use crate::writing::{
+    OutFault, flush_whole, write_end, write_pieces, write_record, write_whole,
+};
 use std::prelude::*;
-use std::test::Fail;
 
 #[test]
 fn a_writer_that_fails_holds_a_front(rt: HostRuntime) {
     let bytes = b"Hello, Goodbye";
     for room in 0..bytes.len() + 1 {
-        let mut writer = FakeWriter {
-            held: Vec::new(rt.alloc()),
-            room,
-            most: 3,
-            interrupts: 0,
-        };
+        let mut writer = FakeWriter::new(rt.alloc(), room, 0);
         let answer = write_pieces(&mut writer, &[&bytes[..5], &bytes[5..]]);
         let want = if room < bytes.len() {
             Err(OutFault)
@@ -26,18 +22,39 @@ fn a_writer_that_fails_holds_a_front(rt: HostRuntime) {
 }
 
 #[test]
-fn interruptions_are_asked_again(rt: HostRuntime) -> Result<(), Fail> {
-    for (interrupts, want) in [(1000, Ok(())), (1001, Err(OutFault))] {
-        let mut writer = FakeWriter {
-            held: Vec::new(rt.alloc()),
-            room: 5,
-            most: 5,
-            interrupts,
-        };
-        assert_eq!(rt; write_whole(&mut writer, b"Hello"), want);
+fn interruptions_are_asked_again(rt: HostRuntime) {
+    for (interrupts, want) in [(0, Ok(())), (1000, Ok(())), (1001, Err(OutFault))] {
+        let mut writer = FakeWriter::new(rt.alloc(), 5, interrupts);
+        assert_eq!(rt;
+            write_whole(&mut writer, b"Hello"),
+            want,
+            "{interrupts} in a write"
+        );
+        let mut writer = FakeWriter::new(rt.alloc(), 5, interrupts);
+        assert_eq!(rt; flush_whole(&mut writer), want, "{interrupts} in a flush");
+        assert_eq!(rt; writer.flushed, want.is_ok());
     }
-    let mut held = Vec::new(rt.alloc());
-    assert_eq!(rt; write_whole(&mut held, b"Hello"), Ok(()));
-    assert_eq!(rt; held.as_slice(), b"Hello".as_slice());
-    Ok(())
+}
+
+// The native text of two records.
+fn write_two(writer: &mut FakeWriter) -> Result<(), OutFault> {
+    write_record(writer, b"one", b"Hello")?;
+    write_record(writer, b"", b"->\n-> +0,0")?;
+    write_end(writer)
+}
+
+#[test]
+fn a_text_is_written_or_a_front_of_it(rt: HostRuntime) {
+    let text = b"+3,5:one->Hello\n+0,10:->->\n-> +0,0\n\n";
+    for room in 0..text.len() + 1 {
+        let mut writer = FakeWriter::new(rt.alloc(), room, 0);
+        let answer = write_two(&mut writer);
+        let want = if room < text.len() {
+            Err(OutFault)
+        } else {
+            Ok(())
+        };
+        assert_eq!(rt; answer, want, "room for {room}");
+        assert_eq!(rt; writer.held.as_slice(), &text[..room]);
+    }
 }

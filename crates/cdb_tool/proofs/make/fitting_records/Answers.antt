@@ -23,7 +23,7 @@ pub returns-in-None-clause-err : goal.returns-in-None-clause-err
 returns-in-None-clause-err g c =
     let held = c.loop-fault.invariant.so_far in
     let read = rw c.in-Ok-true.field-0-test at c.in-Ok-true.ensures.record in
-    let r = key_value c.read_into.new.record in
+    let r = key_value c.read_into.new.into in
     let push = size_push g.L.Width.WORD held.records r in
     too_big g.L.Width.WORD g.L.Width.GREATEST _ _ _ _ _ held.records r held.so_far read (omega (arith, push, held.size_is, c.in-None.ensures))
 
@@ -31,7 +31,7 @@ pub add-requires : goal.add-requires
 add-requires g c =
     let held = c.loop-fault.invariant.so_far in
     let more = c.in-Some.ensures in
-    room_for g.L.Width.WORD g.L.Width.GREATEST c.loop-fault.stored held.records (key_value c.read_into.new.record) c.loop-fault.size held.holds held.size_is more.0
+    room_for g.L.Width.WORD g.L.Width.GREATEST c.loop-fault.stored held.records (key_value c.read_into.new.into) c.loop-fault.size held.holds held.size_is more.0
 
 pub loop-fault-preserved : goal.loop-fault-preserved
 loop-fault-preserved g c =
@@ -41,6 +41,6 @@ loop-fault-preserved g c =
     let more = c.in-Some.ensures in
     record {
       going = on.0;
-      so_far = holds_so_far_more _ _ _ _ _ _ _ _ _ (key_value c.read_into.new.record) _ _ held read (c.in_ok-add.ensures held.records held.holds) more.1;
+      so_far = holds_so_far_more _ _ _ _ _ _ _ _ _ (key_value c.read_into.new.into) _ _ held read (c.in_ok-add.ensures held.records held.holds) more.1;
       fits = omega (arith, more.0, more.1);
     }

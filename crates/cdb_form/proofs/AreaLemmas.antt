@@ -1,0 +1,83 @@
+-- What the head that was read says of the walk of the whole file.
+use Rattle.std.proofs.Common.{◌≡◌, ℕ, ◌+◌, ◌-◌, ◌*◌, ◌<◌, ◌≤◌, ◌⊎◌, List, [], ◌++◌, length, take, replicate, inl, inr, drop, map, get_or, refl, sym, ap, ◌∙◌, arith, Option, Some, None, IfSome, length-append, length-drop}
+use Rattle.std.proofs.Math.Nat.{mul-le-mul_left}
+use Rattle.std.specs.List.{range_with_len}
+use Rattle.std.specs.Io.KnownBytes.{Consumes}
+use Rattle.std.proofs.lemmas.List.{take-append-le, drop-append-le, drop_at, length-take-le, length-replicate}
+use Rattle.std.proofs.lemmas.List.FromFn.{fill_by_all, length-map-range_with_len, get_or-map-range_with_len}
+use Rattle.cdb_form.specs.KnownBytes.{FromTo}
+use Rattle.cdb_form.specs.Layout.{Words, head_size, empty_slot}
+use Rattle.cdb_form.specs.Reading.{words_at, nth_words, head_at}
+use Rattle.cdb_form.specs.Walk.{least_place, record_end, walk_of, walk_from, damaged, first_table_at}
+use Rattle.cdb_form.specs.declared.walk_fault.WalkFault.{WalkFault}
+use Rattle.cdb_form.specs.declared.walk_fault.WalkFault.TheVariants.{Short, Table}
+use Rattle.cdb_form.proofs.WordLemmas.{words_at-take}
+use Rattle.cdb_form.proofs.WalkSteps.{walk_of-short, walk_of-table, walk_of-records}
+
+words_at-append : (w : ℕ) (xs ys : List ℕ) → 2 * w ≤ length xs → words_at w (xs ++ ys) ≡ words_at w xs
+words_at-append w xs ys long =
+    let within : w + w ≤ length xs = omega arith in
+    sym (words_at-take w (xs ++ ys)) ∙ ap (words_at w) (take-append-le (w + w) xs ys within) ∙ words_at-take w xs
+
+nth_words-append : (w n m : ℕ) (xs ys : List ℕ) → 2 * w * m ≤ length xs → n < m → nth_words w (xs ++ ys) n ≡ nth_words w xs n
+nth_words-append w n m xs ys long low =
+    let times : 2 * w * n + 2 * w ≤ 2 * w * m = grind (arith, mul-le-mul_left (2 * w) (let h : n + 1 ≤ m = omega arith in h)) in
+    ap (words_at w) (drop-append-le (2 * w * n) xs ys (omega arith)) ∙ words_at-append w (drop (2 * w * n) xs) ys (omega (arith, length-drop (2 * w * n) xs))
+
+-- only the head is looked at
+heads_agree : (w m : ℕ) (xs ys : List ℕ) → 2 * w * m ≤ length xs → map (nth_words w (xs ++ ys)) (range_with_len 0 m) ≡ map (nth_words w xs) (range_with_len 0 m)
+heads_agree w m xs ys long =
+    fill_by_all (nth_words w xs) (map (nth_words w (xs ++ ys)) (range_with_len 0 m)) m empty_slot (length-map-range_with_len (nth_words w (xs ++ ys)) 0 m)
+    (λ k low. get_or-map-range_with_len (nth_words w (xs ++ ys)) 0 m k k empty_slot low (omega arith) ∙ nth_words-append w k m xs ys long low)
+
+pub head_at-append : (w : ℕ) (xs ys : List ℕ) → length xs ≡ head_size w → head_at w (xs ++ ys) ≡ head_at w xs
+unfolding head_at
+head_at-append w xs ys long = heads_agree w 256 xs ys (omega arith)
+
+pub record_end-append : (w : ℕ) (xs ys : List ℕ) → length xs ≡ head_size w → record_end w (xs ++ ys) ≡ record_end w xs
+unfolding record_end
+record_end-append w xs ys long = ap (least_place (head_size w)) (head_at-append w xs ys long)
+
+-- the bytes that a head is read into
+pub zeros_long : (w word : ℕ) → word ≡ w → (w ≡ 4) ⊎ (w ≡ 8) → length (take (512 * word) (replicate {A = ℕ} 4096 0)) ≡ head_size w
+zeros_long w word e width =
+    let small : 512 * word ≤ 4096 = elim width [ inl a ↦ omega arith | inr b ↦ omega arith ] in
+    length-take-le (512 * word) (replicate {A = ℕ} 4096 0) (omega (arith, length-replicate {A = ℕ} 4096 0)) ∙ ap (λ (n : ℕ). 512 * n) e
+
+pub head_long : (w word : ℕ) (xs : List ℕ) → word ≡ w → (w ≡ 4) ⊎ (w ≡ 8) → length xs ≡ length (take (512 * word) (replicate {A = ℕ} 4096 0)) → length xs ≡ head_size w
+head_long w word xs e width same = same ∙ zeros_long w word e width
+
+-- the file is too short
+pub area_short : (w : ℕ) (old : Option (List ℕ)) (fault : WalkFault) → fault ≡ Short → IfSome old (λ text. length text < head_size w) → IfSome old (λ text. walk_of w text ≡ damaged fault)
+area_short w None fault e h = tt
+area_short w (Some text) fault e h = walk_of-short w text h ∙ ap damaged (sym e)
+
+-- a table stands within the head
+pub area_table : (w n : ℕ) (old new : Option (List ℕ)) (xs : List ℕ) → Consumes old new xs → length xs ≡ head_size w → record_end w xs < head_size w → n ≡ first_table_at (record_end w xs) (head_at w xs)
+    → IfSome old (λ text. walk_of w text ≡ damaged (Table n))
+area_table w n None new xs read long low e = tt
+area_table w n (Some text) None xs read long low e = absurd read
+area_table w n (Some text) (Some rest) xs read long low e =
+    let end = record_end-append w xs rest long in
+    let whole : length (xs ++ rest) ≡ length xs + length rest = length-append xs rest in
+    ap (walk_of w) read ∙ walk_of-table w (xs ++ rest) (omega arith) (omega arith)
+    ∙ ap (λ (k : ℕ). damaged (Table (first_table_at k (head_at w (xs ++ rest))))) end
+    ∙ ap (λ (ps : List Words). damaged (Table (first_table_at (record_end w xs) ps))) (head_at-append w xs rest long)
+    ∙ ap (λ (k : ℕ). damaged (Table k)) (sym e)
+
+-- the records stand behind the head
+pub area_read : (w place end : ℕ) (old new : Option (List ℕ)) (xs : List ℕ) → Consumes old new xs → length xs ≡ head_size w → end ≡ record_end w xs → place ≡ head_size w → place ≤ end
+    → FromTo old new (λ text rest. (walk_of w text ≡ walk_from w place end rest) × (end ≡ record_end w text) × (rest ≡ drop (head_size w) text))
+area_read w place end None new xs read long e at low = tt
+area_read w place end (Some text) None xs read long e at low = absurd read
+area_read w place end (Some text) (Some rest) xs read long e at low =
+    let same : record_end w text ≡ record_end w xs = ap (record_end w) read ∙ record_end-append w xs rest long in
+    let whole : length text ≡ length xs + length rest = ap length read ∙ length-append xs rest in
+    let behind : rest ≡ drop (head_size w) text = sym (ap (drop (head_size w)) read ∙ drop_at xs rest (head_size w) long) in (
+      walk_of-records w text (omega arith) (omega arith)
+          ∙ ap (λ (k : ℕ). walk_from w (head_size w) k (drop (head_size w) text)) (same ∙ sym e)
+          ∙ ap (λ (k : ℕ). walk_from w k end (drop (head_size w) text)) (sym at)
+          ∙ ap (walk_from w place end) (sym behind),
+      e ∙ sym same,
+      behind,
+    )

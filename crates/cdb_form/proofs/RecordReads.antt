@@ -1,0 +1,92 @@
+-- What the parts of a record that were read say of the walk of what was unread.
+use Rattle.std.proofs.Common.{◌≡◌, ℕ, ◌+◌, ◌-◌, ◌*◌, ◌<◌, ◌≤◌, ◌⊎◌, List, [], ◌++◌, length, take, drop, replicate, refl, sym, ap, subst, ◌∙◌, arith, inl, inr, Option, Some, None, IfSome, append_assoc, length-append}
+use Rattle.std.specs.Io.KnownBytes.{Consumes}
+use Rattle.std.proofs.lemmas.List.{length-take-le, length-replicate, take_at}
+use Rattle.cdb_form.specs.KnownBytes.{LosesAtMost, FromTo}
+use Rattle.cdb_form.specs.Layout.{KeyValue, Words, weight}
+use Rattle.cdb_form.specs.Reading.{words_at}
+use Rattle.cdb_form.specs.Walk.{front_size, walk_from, damaged, with_first}
+use Rattle.cdb_form.specs.Words.{header_words}
+use Rattle.cdb_form.specs.declared.walk_fault.WalkFault.{WalkFault}
+use Rattle.cdb_form.specs.declared.words.Header.{Header}
+use Rattle.cdb_form.specs.declared.walk_fault.WalkFault.TheVariants.{Record}
+use Rattle.cdb_form.proofs.Fronts.{lengths_of, Begins, front_reads}
+use Rattle.cdb_form.proofs.SourceLemmas.{consumes_then}
+use Rattle.cdb_form.proofs.WalkSteps.{walk_from-no_header, walk_from-no_body, walk_from-more}
+
+abbrev pub StopsAt : ℕ → ℕ → ℕ → WalkFault → Option (List ℕ) → Type 0
+StopsAt w place end fault old = IfSome old (λ text. walk_from w place end text ≡ damaged fault)
+
+-- the bytes that a header is read into
+zeros_long : (w word : ℕ) → word ≡ w → (w ≡ 4) ⊎ (w ≡ 8) → length (take (2 * word) (replicate {A = ℕ} 512 0)) ≡ 2 * w
+zeros_long w word e width =
+    let small : 2 * word ≤ 512 = elim width [ inl a ↦ omega arith | inr b ↦ omega arith ] in
+    length-take-le (2 * word) (replicate {A = ℕ} 512 0) (omega (arith, length-replicate {A = ℕ} 512 0)) ∙ ap (λ (n : ℕ). 2 * n) e
+
+-- a header that was read, and what it tells
+pub record HeaderTold (w : ℕ) (xs : List ℕ) (h : Header) : Type 0 where
+  pub long : length xs ≡ 2 * w
+  pub words : words_at w xs ≡ header_words h
+  pub size : front_size w xs ≡ 2 * w + h.klen + h.vlen
+
+pub header_told : (w word : ℕ) (xs rest : List ℕ) (h : Header) → word ≡ w → (w ≡ 4) ⊎ (w ≡ 8) → length xs ≡ length (take (2 * word) (replicate {A = ℕ} 512 0)) → header_words h ≡ words_at w (take (2 * word) (xs ++ rest)) → HeaderTold w xs h
+header_told w word xs rest h e width same read =
+    let long : length xs ≡ 2 * w = same ∙ zeros_long w word e width in
+    let twice : length xs ≡ 2 * word = long ∙ sym (ap (λ (n : ℕ). 2 * n) e) in
+    let words : words_at w xs ≡ header_words h = sym (read ∙ ap (words_at w) (take_at xs rest (2 * word) twice)) in
+    record { long = long; words = words; size = ap (λ (p : Words). 2 * w + p.first + p.second) words }
+
+-- the file ends within the bytes that were asked for
+pub header_short : (w word : ℕ) (old : Option (List ℕ)) → word ≡ w → (w ≡ 4) ⊎ (w ≡ 8) → IfSome old (λ text. length text < length (take (2 * word) (replicate {A = ℕ} 512 0))) → IfSome old (λ text. length text < 2 * w)
+header_short w word old e width h = subst (λ (n : ℕ). IfSome old (λ t. length t < n)) (zeros_long w word e width) h
+
+-- no header fits before the record end
+pub no_room : (w place end : ℕ) (old : Option (List ℕ)) → place < end → end - place < 2 * w → StopsAt w place end (Record place) old
+no_room w place end None before few = tt
+no_room w place end (Some text) before few = walk_from-no_header w place end text before (inl few)
+
+-- the file ends within a header
+pub header_early : (w place end : ℕ) (old : Option (List ℕ)) (fault : WalkFault) → place < end → fault ≡ Record place → IfSome old (λ text. length text < 2 * w) → StopsAt w place end fault old
+header_early w place end None fault before e h = tt
+header_early w place end (Some text) fault before e h = walk_from-no_header w place end text before (inr h) ∙ ap damaged (sym e)
+
+-- what the header tells doesn't fit before the record end
+pub body_no_room : (w place end : ℕ) (old new : Option (List ℕ)) (header : List ℕ) → place < end → Consumes old new header → length header ≡ 2 * w → 2 * w ≤ end - place → end - place < front_size w header
+    → StopsAt w place end (Record place) old
+body_no_room w place end None new header before read long room few = tt
+body_no_room w place end (Some text) None header before read long room few = absurd read
+body_no_room w place end (Some text) (Some rest) header before read long room few = walk_from-no_body w place end text header rest before read long room (inl few)
+
+-- the file ends within a key or a value
+pub body_early : (w place end n : ℕ) (old new : Option (List ℕ)) (header some : List ℕ) (fault : WalkFault) → place < end → fault ≡ Record place → Consumes old new (header ++ some) → length header ≡ 2 * w → 2 * w ≤ end - place
+    → 2 * w + length some + n ≤ front_size w header → IfSome new (λ text. length text < n) → StopsAt w place end fault old
+body_early w place end n None new header some fault before e read long room size h = tt
+body_early w place end n (Some text) None header some fault before e read long room size h = absurd read
+body_early w place end n (Some text) (Some rest) header some fault before e read long room size h =
+    let split : text ≡ header ++ (some ++ rest) = read ∙ append_assoc header some rest in
+    let count : length text ≡ length header + (length some + length rest) = ap length split ∙ length-append header (some ++ rest) ∙ ap (λ (k : ℕ). length header + k) (length-append some rest) in
+    walk_from-no_body w place end text header (some ++ rest) before split long room (inr (omega arith)) ∙ ap damaged (sym e)
+
+-- the whole record
+pub record_read : (w place end next : ℕ) (old m₁ m₂ new : Option (List ℕ)) (header : List ℕ) (r : KeyValue) → 0 < w → Consumes old m₁ header → Consumes m₁ m₂ r.key → Consumes m₂ new r.value
+    → length header ≡ 2 * w → words_at w header ≡ lengths_of r → next ≡ place + weight w r → next ≤ end
+    → FromTo old new (λ text rest. (walk_from w place end text ≡ with_first r (walk_from w next end rest)) × (rest ≡ drop (next - place) text))
+record_read w place end next None m₁ m₂ new header r some a b c long lengths at room = tt
+record_read w place end next (Some text) None m₂ new header r some a b c long lengths at room = absurd a
+record_read w place end next (Some text) (Some t₁) None new header r some a b c long lengths at room = absurd b
+record_read w place end next (Some text) (Some t₁) (Some t₂) None header r some a b c long lengths at room = absurd c
+record_read w place end next (Some text) (Some t₁) (Some t₂) (Some rest) header r some a b c long lengths at room =
+    let begins : Begins w text r rest = record { header = header; long = long; lengths = lengths; split = a ∙ ap (λ t. header ++ t) (b ∙ ap (λ t. r.key ++ t) c) } in
+    let reads = front_reads w text r rest begins in
+    let n : next - place ≡ weight w r = omega arith in (
+      walk_from-more w place end text r rest some begins (omega arith) ∙ ap (λ (k : ℕ). with_first r (walk_from w k end rest)) (sym at),
+      sym (ap (λ (k : ℕ). drop k text) n ∙ reads.rest_is),
+    )
+
+-- what was lost, part after part
+pub loses_then : (old mid new : Option (List ℕ)) (xs : List ℕ) (n k : ℕ) → Consumes old mid xs → LosesAtMost mid new n → length xs + n ≤ k → LosesAtMost old new k
+loses_then old mid new xs n k a b few = record {
+    lost = xs ++ b.lost;
+    taken = consumes_then old mid new xs b.lost a b.taken;
+    few = omega (arith, length-append xs b.lost, b.few);
+  }

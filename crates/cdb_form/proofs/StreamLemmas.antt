@@ -1,0 +1,56 @@
+-- What a reader of records leaves unread.
+use Rattle.std.proofs.Common.{◌≡◌, ℕ, ◌+◌, ◌-◌, ◌*◌, ◌≤◌, List, ◌++◌, length, take, drop, refl, sym, ap, ◌∙◌, arith, Option, Some, None, IfSome}
+use Rattle.std.specs.Prelude.{max}
+use Rattle.std.proofs.lemmas.List.{drop_at, drop-drop, take-append-drop}
+use Rattle.cdb_form.specs.KnownBytes.{LosesAtMost, FromTo}
+use Rattle.cdb_form.specs.Layout.{head_size}
+use Rattle.cdb_form.specs.Walk.{walk_of, walk_from, record_end, no_walk}
+use Rattle.cdb_form.proofs.WalkSteps.{walk_from-end}
+
+-- the bytes from a place on are still there
+abbrev pub StillFrom : ℕ → List ℕ → List ℕ → Type 0
+StillFrom n text rest = (more : List ℕ) × (rest ≡ more ++ drop n text)
+
+still_from : (lost rest : List ℕ) (n : ℕ) → length lost ≤ n → StillFrom n (lost ++ rest) rest
+still_from lost rest n few =
+    let m = n - length lost in
+    let e : n ≡ length lost + (n - length lost) = omega arith in
+    let behind : drop n (lost ++ rest) ≡ drop (n - length lost) rest =
+    ap (λ (k : ℕ). drop k (lost ++ rest)) e ∙ sym (drop-drop (n - length lost) (length lost) (lost ++ rest)) ∙ ap (drop (n - length lost)) (drop_at lost rest (length lost) refl) in (
+      take (n - length lost) rest,
+      sym (ap (λ t. take (n - length lost) rest ++ t) behind ∙ take-append-drop (n - length lost) rest),
+    )
+
+-- no more than n bytes were lost
+pub loses_still : (old new : Option (List ℕ)) (n : ℕ) (size : List ℕ → ℕ) → ((text : List ℕ) → n ≤ size text) → LosesAtMost old new n → FromTo old new (λ text rest. StillFrom (size text) text rest)
+loses_still None new n size some l = tt
+loses_still (Some text) None n size some l = absurd l.taken
+loses_still (Some text) (Some rest) n size some l =
+    let room : n ≤ size text = some text in
+    let few = l.few in
+    let still = still_from l.lost rest (size text) (omega arith) in
+    (still.0, still.1 ∙ ap (λ t. still.0 ++ drop (size text) t) (sym l.taken))
+
+-- the head, and then some bytes before the record end
+pub still_then : (w place end : ℕ) (old mid new : Option (List ℕ))
+    → FromTo old mid (λ text rest. (walk_of w text ≡ walk_from w place end rest) × (end ≡ record_end w text) × (rest ≡ drop (head_size w) text))
+    → place ≡ head_size w → place ≤ end → FromTo mid new (λ text rest. StillFrom (end - place) text rest)
+    → FromTo old new (λ text rest. StillFrom (max (head_size w) (record_end w text)) text rest)
+still_then w place end None mid new a at low b = tt
+still_then w place end (Some text) None new a at low b = absurd a
+still_then w place end (Some text) (Some t) None a at low b = absurd b
+still_then w place end (Some text) (Some t) (Some rest) (walk, is, cut) at low (more, e) =
+    let n : head_size w + (end - place) ≡ max (head_size w) (record_end w text) = omega arith in
+    (more, e ∙ ap (λ u. more ++ drop (end - place) u) cut ∙ ap (λ u. more ++ u) (drop-drop (end - place) (head_size w) text ∙ ap (λ (k : ℕ). drop k text) n))
+
+-- no record stands in the file
+pub none_first : (w place end : ℕ) (old new : Option (List ℕ))
+    → FromTo old new (λ text rest. (walk_of w text ≡ walk_from w place end rest) × (end ≡ record_end w text) × (rest ≡ drop (head_size w) text))
+    → place ≡ end → IfSome old (λ text. walk_of w text ≡ no_walk)
+none_first w place end None new a at = tt
+none_first w place end (Some text) None a at = absurd a
+none_first w place end (Some text) (Some rest) (walk, is, cut) at = walk ∙ walk_from-end w place end rest at
+
+pub known_end : (w place end : ℕ) (old : Option (List ℕ)) → place ≡ end → IfSome old (λ text. walk_from w place end text ≡ no_walk)
+known_end w place end None at = tt
+known_end w place end (Some text) at = walk_from-end w place end text at

@@ -1,0 +1,10 @@
+use Rattle.std.proofs.Common.{◌<◌, ◌≤◌, arith, inl, inr}
+use Rattle.cdb_form.specs.Words.{key_values}
+use Rattle.cdb_form.proofs.WalkLaws.{walk_of-file_of}
+use Rattle.cdb_form.proofs.laws.walk_of_file.Goals as goal
+
+pub returns : goal.returns
+returns g c fits =
+    let w = g.L.Width.WORD in
+    let laws = g.met.L.Width.greatest_fits in
+    walk_of-file_of w g.L.Width.TOP (key_values c.args._records.now) g.met.L.Width.four_or_eight g.met.L.Width.top_is (omega (arith, laws.0))

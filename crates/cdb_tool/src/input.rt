@@ -1,0 +1,78 @@
+// Input through a window, from which single bytes come fast.
+ghost use Rattle.std.specs.Prelude.{◌≡◌, ℕ, ◌+◌, ◌<◌, ◌≤◌, length, take, min, IfOk, OnOk, OnErr, vec_len};
+ghost use Rattle.std.specs.Io.KnownBytes.{Keeps, Consumes, IsAtEnd};
+
+use std::alloc::{AllocError, Global};
+use std::io::{self, Read};
+
+/// Gives the bytes of a reader, which is asked for many at once.
+#[derive(Drop)]
+pub struct Input<R> {
+    reader: R,
+    window: Vec<u8>,
+    start: usize,
+    end: usize,
+    ghost some: { 0 < vec_len window },
+    ghost ordered: { start ≤ end },
+    ghost within: { end ≤ vec_len window },
+}
+
+impl<R: Read> Input<R> {
+    ghost use Rattle.cdb_tool.specs.Input.{input_bytes, window_of};
+
+    /// An input over a reader, with a window of so many bytes, which is empty yet.
+    pub fn new(alloc: Global, reader: R, size: usize) -> Result<Input<R>, AllocError>
+    where
+        R: Drop,
+        requires { 0 < size }
+        ensures { IfOk result (λ i. input_bytes R.remaining i ≡ R.remaining reader) }
+    {
+        let window = vec![in alloc; 0u8; size]?;
+        Ok(Input {
+            reader,
+            window,
+            start: 0,
+            end: 0,
+        })
+    }
+
+    // Fills the empty window.
+    fn refill(&mut self) -> io::Result<()>
+        requires { self.old.start ≡ self.old.end }
+        ensures bytes { Keeps (input_bytes R.remaining self.old) (input_bytes R.remaining self.new) }
+        ensures end { OnOk result (self.new.start ≡ self.new.end → IsAtEnd (input_bytes R.remaining self.new)) }
+        ensures empty { OnErr result (self.new.start ≡ self.new.end) }
+    {
+        let n = self.reader.read(&mut self.window)?;
+        self.start = 0;
+        self.end = n;
+        Ok(())
+    }
+
+    // Gives bytes of the window.
+    fn give(&mut self, buf: &mut [u8]) -> usize
+        ensures count { result ≡ min (length buf.old) (length (window_of self.old)) }
+        ensures bytes { Consumes (input_bytes R.remaining self.old) (input_bytes R.remaining self.new) (take result buf.new) }
+    {
+        let n = buf.len().min(self.end - self.start);
+        buf[..n].copy_from_slice(&self.window[self.start..self.start + n]);
+        self.start += n;
+        n
+    }
+}
+
+impl<R: Read> Read for Input<R> {
+    ghost use Rattle.cdb_tool.specs.Input.{input_bytes};
+
+    ghost remaining = { input_bytes R.remaining };
+
+    fn read(&mut self, buf: &mut [u8]) -> io::Result<usize> {
+        if self.start == self.end {
+            self.refill()?;
+        }
+        if self.start == self.end {
+            return Ok(0);
+        }
+        Ok(self.give(buf))
+    }
+}
