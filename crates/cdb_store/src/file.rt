@@ -11,6 +11,7 @@ use crate::raw_file::{RawFile, RealFile};
 use crate::transfer::{length_within, read_all, write_all};
 use crate::{Store, StoreFault};
 use std::fs::{File, OpenOptions};
+use std::rt::Files;
 
 /// The greatest place in a file.
 const MOST: u64 = (1 << 63) - 1;
@@ -34,7 +35,7 @@ impl FileStore {
     /// Makes a file, or empties the one of that name, and reads and writes it.
     ///
     /// `Device`: it can't be opened so.
-    pub fn create(rt: &HostRuntime, path: &str) -> Result<FileStore, StoreFault>
+    pub fn create<R: Files<File = File>>(rt: &R, path: &str) -> Result<FileStore, StoreFault>
         ensures images { IfOk result (λ f. (b : List ℕ) → (⟦<FileStore as Store>⟧.image f b ↔ (b ≡ []))) }
         ensures made { IfOk result (λ f. f.file.trace.events ≡ (Made, []) ∷ []) }
         ensures memory { IsErrOf result NoMemory → ⊥ }
@@ -54,7 +55,7 @@ impl FileStore {
     /// Opens a file to read it. A write or a cut of it is `Device`.
     ///
     /// `Device`: it can't be opened, or has 2^63 bytes or more.
-    pub fn open(rt: &HostRuntime, path: &str) -> Result<FileStore, StoreFault>
+    pub fn open<R: Files<File = File>>(rt: &R, path: &str) -> Result<FileStore, StoreFault>
         ensures images { IfOk result (λ f. (b : List ℕ) → (⟦<FileStore as Store>⟧.image f b ↔ (length b ≡ ⟦<FileStore as Store>⟧.size f))) }
         ensures told { IfOk result (λ f. f.file.trace.events ≡ (Length (⟦<FileStore as Store>⟧.size f), []) ∷ []) }
         ensures memory { IsErrOf result NoMemory → ⊥ }
