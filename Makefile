@@ -32,7 +32,8 @@ install: bin/cdb
 	install -D -m 755 bin/cdb $(DESTDIR)$(PREFIX)/bin/cdb
 
 bench: bin/cdb
-	bench/run.py --cdb bin/cdb
+	$(PYTHON) bench/run.py --cdb bin/cdb
+	$(PYTHON) bench/stores.py
 
 clean:
 	rm -rf bin crates/*/out
