@@ -123,9 +123,9 @@ length-file_of w rs =
     let t = tables_are w rs in
     let n : length (map table_with ls) ≡ 256 = length-map ls table_with ∙ length-map-range_with_len (entries_of w rs) 0 256 in
     let head : length (flat_map (words_bytes w) (pointers_from w (end_of w rs) (tables_of w rs))) ≡ 2 * w * 256 =
-        length-flat_map_words w (pointers_from w (end_of w rs) (tables_of w rs)) ∙ ap (λ (k : ℕ). 2 * w * k) (length-pointers_from w (end_of w rs) (tables_of w rs) ∙ ap length t ∙ n) in
+    length-flat_map_words w (pointers_from w (end_of w rs) (tables_of w rs)) ∙ ap (λ (k : ℕ). 2 * w * k) (length-pointers_from w (end_of w rs) (tables_of w rs) ∙ ap length t ∙ n) in
     let tables : length (flat_map (flat_map (words_bytes w)) (tables_of w rs)) ≡ 4 * w * length rs =
-        length-flat_map (flat_map (words_bytes w)) (tables_of w rs) ∙ ap (sum_by (λ t. length (flat_map (words_bytes w) t))) t ∙ tables_size w ls ∙ ap (λ (k : ℕ). 4 * w * k) (sum_by-entries_of w rs) in
+    length-flat_map (flat_map (words_bytes w)) (tables_of w rs) ∙ ap (sum_by (λ t. length (flat_map (words_bytes w) t))) t ∙ tables_size w ls ∙ ap (λ (k : ℕ). 4 * w * k) (sum_by-entries_of w rs) in
     let a = length-append (flat_map (words_bytes w) (pointers_from w (end_of w rs) (tables_of w rs)) ++ flat_map (record_bytes w) rs) (flat_map (flat_map (words_bytes w)) (tables_of w rs)) in
     let b = length-append (flat_map (words_bytes w) (pointers_from w (end_of w rs) (tables_of w rs))) (flat_map (record_bytes w) rs) in
     let records = length-records w rs in
@@ -150,5 +150,5 @@ pointers_fit w at top (l ∷ ls) ww h =
     let s = ap (λ (n : ℕ). 4 * w * n) (sum_by-cons length l ls) in
     let few = slots_within w (length l) ww in
     All-cons (WordsFit top) _ (pointers_from w (at + 2 * w * length (table_with l)) (map table_with ls))
-        (record { first = omega (arith, s, h); second = omega (arith, s, h, few, t) })
-        (pointers_fit w (at + 2 * w * length (table_with l)) top ls ww (omega (arith, s, h, next)))
+    (record { first = omega (arith, s, h); second = omega (arith, s, h, few, t) })
+    (pointers_fit w (at + 2 * w * length (table_with l)) top ls ww (omega (arith, s, h, next)))

@@ -23,15 +23,15 @@ spelled_push g (q ∷ rs) r t mid first more (first', more', sp', e, reads) sp s
 -- a greater bound spells no less
 spells_more : (g g' : ℕ) (t : List ℕ) (r : KeyValue) → g ≤ g' → Spells g t r → Spells g' t r
 spells_more g g' t r h sp = record {
-    klen = sp.klen;
-    vlen = sp.vlen;
-    klen_is = sp.klen_is;
-    vlen_is = sp.vlen_is;
-    key_fits = omega (arith, h, sp.key_fits);
-    value_fits = omega (arith, h, sp.value_fits);
-    bytes = sp.bytes;
-    text_is = sp.text_is;
-  }
+  klen = sp.klen;
+  vlen = sp.vlen;
+  klen_is = sp.klen_is;
+  vlen_is = sp.vlen_is;
+  key_fits = omega (arith, h, sp.key_fits);
+  value_fits = omega (arith, h, sp.value_fits);
+  bytes = sp.bytes;
+  text_is = sp.text_is;
+}
 
 heads : (x y : ℕ) (s t : List ℕ) → x ∷ s ≡ y ∷ t → x ≡ y
 heads x y s t e = cc
@@ -64,13 +64,13 @@ take_behind first x p q e = ap (λ (n : ℕ). take n (first ++ x)) e ∙ take-ap
 
 longest_behind : (g : ℕ) (first x : List ℕ) (p q : ℕ) (r : KeyValue) → Spells g first r → q ≡ length first + p → LongestFront g x p → LongestFront g (first ++ x) q
 longest_behind g first x p q r sp e l = record {
-    within = omega (arith, e, l.within, length-append first x);
-    front = subst (IsFront g) (sym (take_behind first x p q e)) (front_behind g first (take p x) r sp l.front);
-    longest = λ k h w front.
-        let part : k ≡ length first + (k - length first) = omega (arith, e, h) in
-        l.longest (k - length first) (omega (arith, e, h)) (omega (arith, e, h, w, length-append first x))
-            (front_inside g first (take (k - length first) x) r sp (subst (IsFront g) (take_behind first x (k - length first) k part) front));
-  }
+  within = omega (arith, e, l.within, length-append first x);
+  front = subst (IsFront g) (sym (take_behind first x p q e)) (front_behind g first (take p x) r sp l.front);
+  longest = λ k h w front.
+      let part : k ≡ length first + (k - length first) = omega (arith, e, h) in
+      l.longest (k - length first) (omega (arith, e, h)) (omega (arith, e, h, w, length-append first x))
+      (front_inside g first (take (k - length first) x) r sp (subst (IsFront g) (take_behind first x (k - length first) k part) front));
+}
 
 byte_behind : (first x : List ℕ) (p q : ℕ) → q ≡ length first + p → get_or (first ++ x) q 0 ≡ get_or x p 0
 byte_behind first x p q e = ap (λ (n : ℕ). get_or (first ++ x) n 0) e ∙ get_or-append-add first x p 0

@@ -58,4 +58,3 @@ pub(crate) fn read_area<R: Read, L: Width>(reader: &mut R) -> Result<Area, WalkF
     }
     Ok(Area { place, end })
 }
-

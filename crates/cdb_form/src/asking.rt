@@ -35,7 +35,11 @@ fn ask<R: Read>(reader: &mut R, into: &mut [u8]) -> Result<usize, WalkFault>
 }
 
 // Fills all of `into`, or answers `early` where the reader ends before that.
-pub(crate) fn fill<R: Read>(reader: &mut R, into: &mut [u8], early: WalkFault) -> Result<(), WalkFault>
+pub(crate) fn fill<R: Read>(
+    reader: &mut R,
+    into: &mut [u8],
+    early: WalkFault,
+) -> Result<(), WalkFault>
     ensures bytes { OnOk result (Consumes (R.remaining reader.old) (R.remaining reader.new) into.new) }
     ensures are { OnOk result (AreBytes into.new) }
     ensures fails { IfErr result (λ f. IsDamage f → (f ≡ early) × IfSome (R.remaining reader.old) (λ text. length text < length into.old)) }
@@ -54,7 +58,13 @@ pub(crate) fn fill<R: Read>(reader: &mut R, into: &mut [u8], early: WalkFault) -
 
 // Takes the next `len` bytes, or answers `early` where the reader ends before that. They come
 // through `piece`, and memory is asked for only as they come.
-pub(crate) fn bytes<R: Read>(reader: &mut R, into: &mut Vec<u8>, len: u64, piece: &mut [u8], early: WalkFault) -> Result<(), WalkFault>
+pub(crate) fn bytes<R: Read>(
+    reader: &mut R,
+    into: &mut Vec<u8>,
+    len: u64,
+    piece: &mut [u8],
+    early: WalkFault,
+) -> Result<(), WalkFault>
     requires { 0 < length piece.old }
     ensures read { OnOk result (Consumes (R.remaining reader.old) (R.remaining reader.new) into.new.items) }
     ensures are { AreBytes into.new.items }

@@ -29,7 +29,11 @@ pub(crate) enum Walking {
 }
 
 // Reads the record at the next place, and says where those behind it stand.
-fn read_record<R: Read, L: Width>(reader: &mut R, into: &mut Record, area: Area) -> Result<Area, WalkFault>
+fn read_record<R: Read, L: Width>(
+    reader: &mut R,
+    into: &mut Record,
+    area: Area,
+) -> Result<Area, WalkFault>
     requires { area.place < area.end }
     ensures record { IfOk result (λ behind. FromTo (R.remaining reader.old) (R.remaining reader.new) (λ text rest.
         (walk_from L.WORD area.place area.end text ≡ with_first (key_value into.new) (walk_from L.WORD behind.place area.end rest))
@@ -55,7 +59,10 @@ fn read_record<R: Read, L: Width>(reader: &mut R, into: &mut Record, area: Area)
     bytes(reader, &mut into.key, header.klen, &mut piece, early)?;
     bytes(reader, &mut into.value, header.vlen, &mut piece, early)?;
     let place = area.place + size as u64 + header.klen + header.vlen;
-    Ok(Area { place, end: area.end })
+    Ok(Area {
+        place,
+        end: area.end,
+    })
 }
 
 /// Reads the records of a database file, one after the other, in one pass.

@@ -42,10 +42,7 @@ fn count<L: Width, R: Read + Drop>(
     Ok((records.len(), fault))
 }
 
-fn count_narrow(
-    alloc: Global,
-    file: &[u8],
-) -> Result<(usize, Option<WalkFault>), AllocError> {
+fn count_narrow(alloc: Global, file: &[u8]) -> Result<(usize, Option<WalkFault>), AllocError> {
     count::<Narrow, FakeReader<'_>>(alloc, FakeReader::new(file, Behind::End))
 }
 
@@ -134,7 +131,10 @@ fn whole_and_foreign_files(rt: HostRuntime) -> Result<(), Fail> {
     }
     assert_eq!(rt; count_narrow(rt.alloc(), &empty)?, (0, None));
     assert_eq!(rt; count_narrow(rt.alloc(), &[0u8; 2048])?, (0, None));
-    assert_eq!(rt; count_narrow(rt.alloc(), &foreign_file(rt.alloc())?)?, (1, None));
+    assert_eq!(rt;
+        count_narrow(rt.alloc(), &foreign_file(rt.alloc())?)?,
+        (1, None)
+    );
     let mut longer = two_file(rt.alloc())?;
     longer.extend_from_slice(b"12345")?;
     assert_eq!(rt; count_narrow(rt.alloc(), &longer)?, (2, None));
@@ -156,13 +156,22 @@ fn changed_bytes(rt: HostRuntime) -> Result<(), Fail> {
         (2048, ones, 0, Some(WalkFault::Record(2048))),
         // tables that stand within the head: the first one is told, and one of no slots is none
         (0, b"\x64\0\0\0\x01\0\0\0", 0, Some(WalkFault::Table(0))),
-        (24, b"\x64\0\0\0\x01\0\0\0\x64\0\0\0\x01\0\0\0", 0, Some(WalkFault::Table(3))),
+        (
+            24,
+            b"\x64\0\0\0\x01\0\0\0\x64\0\0\0\x01\0\0\0",
+            0,
+            Some(WalkFault::Table(3)),
+        ),
         (0, b"\x64\0\0\0\0\0\0\0", 2, None),
     ];
     for (at, bytes, records, fault) in cases {
         let mut file = two_file(rt.alloc())?;
         put(&mut file, at, bytes);
-        assert_eq!(rt; count_narrow(rt.alloc(), &file)?, (records, fault), "{bytes:?} at {at}");
+        assert_eq!(rt;
+            count_narrow(rt.alloc(), &file)?,
+            (records, fault),
+            "{bytes:?} at {at}"
+        );
     }
     Ok(())
 }
@@ -182,7 +191,11 @@ fn each_cut_file_and_each_failure(rt: HostRuntime) -> Result<(), Fail> {
     let file = two_file(rt.alloc())?;
     for cut in 0..file.len() + 1 {
         let (records, fault) = answer_of_cut(cut);
-        assert_eq!(rt; count_narrow(rt.alloc(), &file[..cut])?, (records, fault), "cut at {cut}");
+        assert_eq!(rt;
+            count_narrow(rt.alloc(), &file[..cut])?,
+            (records, fault),
+            "cut at {cut}"
+        );
         let reader = FakeReader::new(&file[..cut], Behind::Failure);
         let fault = fault.map(|_| WalkFault::Input);
         assert_eq!(rt;
@@ -227,7 +240,10 @@ fn interruptions_and_small_pieces(rt: HostRuntime) -> Result<(), Fail> {
     }
     let mut reader = FakeReader::new(&file, Behind::Failure);
     reader.most = 1;
-    assert_eq!(rt; count::<Narrow, FakeReader<'_>>(rt.alloc(), reader)?, (2, None));
+    assert_eq!(rt;
+        count::<Narrow, FakeReader<'_>>(rt.alloc(), reader)?,
+        (2, None)
+    );
     Ok(())
 }
 

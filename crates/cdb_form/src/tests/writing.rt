@@ -1,8 +1,6 @@
 // Whole writes, over writers that take little or fail.
 use super::fakes::FakeWriter;
-use crate::writing::{
-    OutFault, flush_whole, write_end, write_pieces, write_record, write_whole,
-};
+use crate::writing::{OutFault, flush_whole, write_end, write_pieces, write_record, write_whole};
 use std::prelude::*;
 
 #[test]
