@@ -1,9 +1,9 @@
 -- What the head that was read says of the walk of the whole file.
-use Rattle.std.proofs.Common.{◌≡◌, ℕ, ◌+◌, ◌-◌, ◌*◌, ◌<◌, ◌≤◌, ◌⊎◌, List, [], ◌++◌, length, take, replicate, inl, inr, drop, map, get_or, refl, sym, ap, ◌∙◌, arith, Option, Some, None, IfSome, length-append, length-drop}
+use Rattle.std.proofs.Common.{◌≡◌, ℕ, ◌+◌, ◌*◌, ◌<◌, ◌≤◌, ◌⊎◌, List, ◌++◌, length, take, replicate, inl, inr, drop, map, sym, ap, ◌∙◌, arith, Option, Some, None, IfSome, length-append, length-drop}
 use Rattle.std.proofs.Math.Nat.{mul-le-mul_left}
 use Rattle.std.specs.List.{range_with_len}
 use Rattle.std.specs.Io.KnownBytes.{Consumes}
-use Rattle.std.proofs.lemmas.List.{take-append-le, drop-append-le, drop_at, length-take-le, length-replicate}
+use Rattle.std.proofs.lemmas.List.{take-append-le, drop-append-le, drop_at}
 use Rattle.std.proofs.lemmas.List.FromFn.{fill_by_all, length-map-range_with_len, get_or-map-range_with_len}
 use Rattle.cdb_form.specs.KnownBytes.{FromTo}
 use Rattle.cdb_form.specs.Layout.{Words, head_size, empty_slot}
@@ -11,6 +11,7 @@ use Rattle.cdb_form.specs.Reading.{words_at, nth_words, head_at}
 use Rattle.cdb_form.specs.Walk.{least_place, record_end, walk_of, walk_from, damaged, first_table_at}
 use Rattle.cdb_form.specs.declared.walk_fault.WalkFault.{WalkFault}
 use Rattle.cdb_form.specs.declared.walk_fault.WalkFault.TheVariants.{Short, Table}
+use Rattle.cdb_form.proofs.AskingLemmas.{words_long}
 use Rattle.cdb_form.proofs.WordLemmas.{words_at-take}
 use Rattle.cdb_form.proofs.WalkSteps.{walk_of-short, walk_of-table, walk_of-records}
 
@@ -40,9 +41,7 @@ record_end-append w xs ys long = ap (least_place (head_size w)) (head_at-append 
 
 -- the bytes that a head is read into
 pub zeros_long : (w word : ℕ) → word ≡ w → (w ≡ 4) ⊎ (w ≡ 8) → length (take (512 * word) (replicate {A = ℕ} 4096 0)) ≡ head_size w
-zeros_long w word e width =
-    let small : 512 * word ≤ 4096 = elim width [ inl a ↦ omega arith | inr b ↦ omega arith ] in
-    length-take-le (512 * word) (replicate {A = ℕ} 4096 0) (omega (arith, length-replicate {A = ℕ} 4096 0)) ∙ ap (λ (n : ℕ). 512 * n) e
+zeros_long w word e width = words_long 512 w word 4096 e (elim width [ inl a ↦ omega arith | inr b ↦ omega arith ])
 
 pub head_long : (w word : ℕ) (xs : List ℕ) → word ≡ w → (w ≡ 4) ⊎ (w ≡ 8) → length xs ≡ length (take (512 * word) (replicate {A = ℕ} 4096 0)) → length xs ≡ head_size w
 head_long w word xs e width same = same ∙ zeros_long w word e width

@@ -1,9 +1,8 @@
 -- What a reader gave, ask after ask.
-use Rattle.std.proofs.Common.{◌≡◌, ℕ, ◌+◌, ◌-◌, ◌≤◌, List, ◌++◌, length, take, drop, ap, ◌∙◌, arith, subst, sym, Option, length-append, length-drop}
-use Rattle.std.proofs.lemmas.List.{take-append-le, length-take-le}
+use Rattle.std.proofs.Common.{◌≡◌, ℕ, ◌+◌, ◌*◌, ◌≤◌, List, ◌++◌, length, take, replicate, ap, ◌∙◌, arith, Option, length-append}
+use Rattle.std.proofs.lemmas.List.{take-append-le, length-take-le, length-replicate}
 use Rattle.std.specs.Io.KnownBytes.{Consumes}
-use borrow.Rule.Slice.PartMut.{put_mid, mid_of, post_of, same_len_mid}
-use Rattle.cdb_form.specs.KnownBytes.{LosesAtMost}
+use borrow.Rule.Slice.PartMut.{put_mid, post_of}
 use Rattle.cdb_form.specs.Layout.{AreBytes}
 use Rattle.cdb_form.proofs.ByteLemmas.{AreBytes-append, AreBytes-take}
 use Rattle.cdb_form.proofs.Fronts.{take_past}
@@ -27,3 +26,8 @@ read_more old mid new so_far into done n a are long b bytes few = record {
   are = AreBytes-append so_far (take n into) are (AreBytes-take n into bytes);
   long = omega (arith, length-append so_far (take n into), length-take-le n into few);
 }
+
+-- the front of some zeros, that words are read into
+pub words_long : (k w word room : ℕ) → word ≡ w → k * word ≤ room → length (take (k * word) (replicate {A = ℕ} room 0)) ≡ k * w
+words_long k w word room e small =
+    length-take-le (k * word) (replicate {A = ℕ} room 0) (omega (arith, length-replicate {A = ℕ} room 0)) ∙ ap (λ (n : ℕ). k * n) e

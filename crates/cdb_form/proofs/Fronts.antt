@@ -1,10 +1,10 @@
 -- A record at the front of some bytes, and all whole records there.
-use Rattle.std.proofs.Common.{◌≡◌, ℕ, zero, suc, ◌+◌, ◌-◌, ◌*◌, ◌<◌, ◌≤◌, Bool, true, false, List, [], ◌∷◌, ◌++◌, length, take, drop, flat_map, refl, sym, ap, ◌∙◌, arith, inl, inr, append_assoc, length-append, length-drop}
-use Rattle.std.specs.Prelude.{nat_le, if◌then◌else◌}
-use Rattle.std.proofs.lemmas.List.{drop_at, take_at, drop-drop, nil_from_length}
+use Rattle.std.proofs.Common.{◌≡◌, ℕ, zero, suc, ◌+◌, ◌*◌, ◌<◌, ◌≤◌, Bool, List, [], ◌∷◌, ◌++◌, length, take, drop, refl, sym, ap, ◌∙◌, arith, inl, inr, append_assoc, length-append, length-drop}
+use Rattle.std.specs.Prelude.{nat_le}
+use Rattle.std.proofs.lemmas.List.{drop_at, take_at, drop-drop}
 use Rattle.std.proofs.lemmas.Bool.{cases_Bool, cond-true, cond-false, le-leb, lt-leb, leb-true}
 use Rattle.std.proofs.Math.Seq.{take-add}
-use Rattle.cdb_form.specs.Layout.{KeyValue, Words, words_bytes, record_bytes, weight}
+use Rattle.cdb_form.specs.Layout.{KeyValue, Words, weight}
 use Rattle.cdb_form.specs.Reading.{words_at}
 use Rattle.cdb_form.specs.Walk.{front_size, front_record, whole_records}
 use Rattle.cdb_form.proofs.WordLemmas.{words_at-take}

@@ -1,13 +1,13 @@
 -- Where the parts of a file stand.
-use Rattle.std.proofs.Common.{◌≡◌, ℕ, ◌+◌, ◌*◌, List, [], ◌∷◌, ◌++◌, length, drop, map, flat_map, sym, ap, ◌∙◌, arith, append_assoc}
+use Rattle.std.proofs.Common.{◌≡◌, ℕ, ◌*◌, List, [], ◌∷◌, ◌++◌, length, drop, map, flat_map, ap, ◌∙◌, arith, append_assoc}
 use Rattle.std.specs.List.{range_with_len}
 use Rattle.std.specs.Prelude.{sum_by}
 use Rattle.std.proofs.lemmas.List.{drop_at, length-map}
 use Rattle.std.proofs.lemmas.List.Sums.{sum_by-cons}
 use Rattle.std.proofs.lemmas.List.FromFn.{length-map-range_with_len}
-use Rattle.cdb_form.specs.Layout.{KeyValue, Words, words_bytes, record_bytes, weight, head_size, end_of, size_of, entries_of, table_with, tables_of, pointers_of, file_of}
+use Rattle.cdb_form.specs.Layout.{KeyValue, Words, words_bytes, record_bytes, head_size, end_of, entries_of, table_with, tables_of, pointers_of, file_of}
 use Rattle.cdb_form.proofs.HeadLemmas.{length-flat_map_words}
-use Rattle.cdb_form.proofs.Sizes.{length-table_with, length-pointers_from, sum_by-entries_of, tables_are, size_split}
+use Rattle.cdb_form.proofs.Sizes.{length-table_with, length-pointers_from, sum_by-entries_of, tables_are}
 
 -- how many slots some tables have
 abbrev pub slot_count : List (List Words) → ℕ

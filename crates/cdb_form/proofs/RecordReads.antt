@@ -1,7 +1,7 @@
 -- What the parts of a record that were read say of the walk of what was unread.
-use Rattle.std.proofs.Common.{◌≡◌, ℕ, ◌+◌, ◌-◌, ◌*◌, ◌<◌, ◌≤◌, ◌⊎◌, List, [], ◌++◌, length, take, drop, replicate, refl, sym, ap, subst, ◌∙◌, arith, inl, inr, Option, Some, None, IfSome, append_assoc, length-append}
+use Rattle.std.proofs.Common.{◌≡◌, ℕ, ◌+◌, ◌-◌, ◌*◌, ◌<◌, ◌≤◌, ◌⊎◌, List, ◌++◌, length, take, drop, replicate, sym, ap, subst, ◌∙◌, arith, inl, inr, Option, Some, None, IfSome, append_assoc, length-append}
 use Rattle.std.specs.Io.KnownBytes.{Consumes}
-use Rattle.std.proofs.lemmas.List.{length-take-le, length-replicate, take_at}
+use Rattle.std.proofs.lemmas.List.{take_at}
 use Rattle.cdb_form.specs.KnownBytes.{LosesAtMost, FromTo}
 use Rattle.cdb_form.specs.Layout.{KeyValue, Words, weight}
 use Rattle.cdb_form.specs.Reading.{words_at}
@@ -10,6 +10,7 @@ use Rattle.cdb_form.specs.Words.{header_words}
 use Rattle.cdb_form.specs.declared.walk_fault.WalkFault.{WalkFault}
 use Rattle.cdb_form.specs.declared.words.Header.{Header}
 use Rattle.cdb_form.specs.declared.walk_fault.WalkFault.TheVariants.{Record}
+use Rattle.cdb_form.proofs.AskingLemmas.{words_long}
 use Rattle.cdb_form.proofs.Fronts.{lengths_of, Begins, front_reads}
 use Rattle.cdb_form.proofs.SourceLemmas.{consumes_then}
 use Rattle.cdb_form.proofs.WalkSteps.{walk_from-no_header, walk_from-no_body, walk_from-more}
@@ -19,9 +20,7 @@ StopsAt w place end fault old = IfSome old (λ text. walk_from w place end text 
 
 -- the bytes that a header is read into
 zeros_long : (w word : ℕ) → word ≡ w → (w ≡ 4) ⊎ (w ≡ 8) → length (take (2 * word) (replicate {A = ℕ} 512 0)) ≡ 2 * w
-zeros_long w word e width =
-    let small : 2 * word ≤ 512 = elim width [ inl a ↦ omega arith | inr b ↦ omega arith ] in
-    length-take-le (2 * word) (replicate {A = ℕ} 512 0) (omega (arith, length-replicate {A = ℕ} 512 0)) ∙ ap (λ (n : ℕ). 2 * n) e
+zeros_long w word e width = words_long 2 w word 512 e (elim width [ inl a ↦ omega arith | inr b ↦ omega arith ])
 
 -- a header that was read, and what it tells
 pub record HeaderTold (w : ℕ) (xs : List ℕ) (h : Header) : Type 0 where

@@ -1,14 +1,14 @@
 -- Records that stand at the front of some bytes are those that are read there.
-use Rattle.std.proofs.Common.{◌≡◌, ℕ, zero, suc, ◌+◌, ◌*◌, ◌/◌, ◌%◌, ◌^◌, ◌<◌, ◌≤◌, List, [], ◌∷◌, ◌++◌, length, take, drop, get_or, map, flat_map, fold, refl, sym, ap, ◌∙◌, arith, append_assoc, length-take, length-drop, length-append}
-use Rattle.std.specs.Prelude.{sum_by, min, unwrap_or, filter, cond}
-use Rattle.std.specs.List.{AllByRecursion, reduce}
+use Rattle.std.proofs.Common.{◌≡◌, ℕ, zero, suc, ◌+◌, ◌*◌, ◌/◌, ◌%◌, ◌^◌, ◌<◌, ◌≤◌, List, [], ◌∷◌, ◌++◌, length, take, drop, flat_map, refl, sym, ap, ◌∙◌, arith, append_assoc, length-take, length-drop}
+use Rattle.std.specs.Prelude.{sum_by}
+use Rattle.std.specs.List.{AllByRecursion}
 use Rattle.std.specs.Int.{byte_at, bytes_low_first}
 use Rattle.std.proofs.Math.Nat.{div-div-eq-div-mul, div-one, pow-succ'}
-use Rattle.std.proofs.lemmas.List.{take-append-drop, drop-drop, append-nil, get_or-drop}
+use Rattle.std.proofs.lemmas.List.{take-append-drop, drop-drop, append-nil}
 use Rattle.std.proofs.lemmas.List.Sums.{sum_by-cons}
 use Rattle.std.proofs.lemmas.Bool.{cond_both, leb-true}
-use Rattle.byteorder.specs.Endian.{little_from, little_bytes}
-use Rattle.byteorder.specs.Numbers.{little_from-cons, little_from-lt}
+use Rattle.byteorder.specs.Endian.{little_from}
+use Rattle.byteorder.specs.Numbers.{little_from-cons}
 use Rattle.cdb_form.specs.Layout.{AreBytes, KeyValue, Words, words_bytes, record_bytes, weight}
 use Rattle.cdb_form.specs.Reading.{words_at}
 use Rattle.cdb_form.specs.Words.{WordsFit}
@@ -88,15 +88,6 @@ words_bytes-words_at w xs bytes l =
     ∙ ap (λ t. take w xs ++ (take w (drop w xs) ++ t)) (sym (drop-drop w w xs ∙ ap (λ n. drop n xs) twice))
     ∙ ap (λ t. take w xs ++ t) (take-append-drop w (drop w xs))
     ∙ take-append-drop w xs
-
--- the weight of the record at the front is the size that its header tells
-pub front_weight : (w : ℕ) (xs : List ℕ) → front_size w xs ≤ length xs → weight w (front_record w xs) ≡ front_size w xs
-front_weight w xs h =
-    let a = length-take (words_at w xs).first (drop (2 * w) xs) in
-    let b = length-drop (2 * w) xs in
-    let c = length-take (words_at w xs).second (drop (2 * w + (words_at w xs).first) xs) in
-    let d = length-drop (2 * w + (words_at w xs).first) xs in
-    omega arith
 
 -- a whole record at the front stands there
 pub front_stands : (w : ℕ) (xs : List ℕ) → AreBytes xs → front_size w xs ≤ length xs → xs ≡ record_bytes w (front_record w xs) ++ drop (front_size w xs) xs

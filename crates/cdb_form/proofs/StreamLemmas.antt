@@ -1,5 +1,5 @@
 -- What a reader of records leaves unread.
-use Rattle.std.proofs.Common.{◌≡◌, ℕ, ◌+◌, ◌-◌, ◌*◌, ◌≤◌, List, ◌++◌, length, take, drop, refl, sym, ap, ◌∙◌, arith, Option, Some, None, IfSome}
+use Rattle.std.proofs.Common.{◌≡◌, ℕ, ◌+◌, ◌-◌, ◌≤◌, List, ◌++◌, length, take, drop, refl, sym, ap, ◌∙◌, arith, Option, Some, None, IfSome}
 use Rattle.std.specs.Prelude.{max}
 use Rattle.std.proofs.lemmas.List.{drop_at, drop-drop, take-append-drop}
 use Rattle.cdb_form.specs.KnownBytes.{LosesAtMost, FromTo}
@@ -43,14 +43,7 @@ still_then w place end (Some text) (Some t) (Some rest) (walk, is, cut) at low (
     let n : head_size w + (end - place) ≡ max (head_size w) (record_end w text) = omega arith in
     (more, e ∙ ap (λ u. more ++ drop (end - place) u) cut ∙ ap (λ u. more ++ u) (drop-drop (end - place) (head_size w) text ∙ ap (λ (k : ℕ). drop k text) n))
 
--- no record stands in the file
-pub none_first : (w place end : ℕ) (old new : Option (List ℕ))
-    → FromTo old new (λ text rest. (walk_of w text ≡ walk_from w place end rest) × (end ≡ record_end w text) × (rest ≡ drop (head_size w) text))
-    → place ≡ end → IfSome old (λ text. walk_of w text ≡ no_walk)
-none_first w place end None new a at = tt
-none_first w place end (Some text) None a at = absurd a
-none_first w place end (Some text) (Some rest) (walk, is, cut) at = walk ∙ walk_from-end w place end rest at
-
+-- no record is left at the record end
 pub known_end : (w place end : ℕ) (old : Option (List ℕ)) → place ≡ end → IfSome old (λ text. walk_from w place end text ≡ no_walk)
 known_end w place end None at = tt
 known_end w place end (Some text) at = walk_from-end w place end text at

@@ -1,22 +1,22 @@
 -- The walk of any file, and of the file of some records.
-use Rattle.std.proofs.Common.{◌≡◌, ℕ, zero, suc, ◌+◌, ◌-◌, ◌*◌, ◌^◌, ◌<◌, ◌≤◌, ◌⊎◌, List, [], ◌∷◌, ◌++◌, length, take, drop, map, flat_map, fold, refl, sym, ap, ◌∙◌, subst, arith, inl, inr, append_assoc, length-append, length-take, length-drop}
-use Rattle.std.specs.Prelude.{Option, Some, None, ◌==◌, not, min, unwrap_or, filter, sum_by}
+use Rattle.std.proofs.Common.{◌≡◌, ℕ, zero, suc, ◌+◌, ◌-◌, ◌*◌, ◌^◌, ◌<◌, ◌≤◌, ◌⊎◌, List, [], ◌∷◌, ◌++◌, length, take, drop, map, flat_map, fold, refl, sym, ap, ◌∙◌, subst, arith, inl, inr, length-append, length-take, length-drop}
+use Rattle.std.specs.Prelude.{Option, Some, ◌==◌, not, min, unwrap_or, filter, sum_by}
 use Rattle.std.specs.List.{AllByRecursion, range_with_len, reduce}
 use Rattle.std.proofs.lemmas.List.{nil_from_length, append-nil, take_at, take-append-drop, take-take}
 use Rattle.std.proofs.lemmas.List.Sums.{sum_by-cons}
 use Rattle.std.proofs.lemmas.Bool.{cond-true, cond-false, cond_both, ne_eqb, eq-eqb, not_from_true, not_from_false, cases_eq}
 use Rattle.std.proofs.lemmas.List.Elements.{recursion_from_All}
 use Rattle.byteorder.specs.Numbers.{little_from-lt}
-use Rattle.cdb_form.specs.Layout.{AreBytes, KeyValue, Words, words_bytes, weight, record_bytes, entries_of, table_with, tables_of, pointers_from, pointers_of, head_size, end_of, size_of, file_of}
+use Rattle.cdb_form.specs.Layout.{AreBytes, KeyValue, Words, weight, record_bytes, entries_of, table_with, tables_of, pointers_from, pointers_of, head_size, end_of, size_of, file_of}
 use Rattle.cdb_form.specs.Reading.{head_at, nth_words}
 use Rattle.cdb_form.specs.Words.{WordsFit}
-use Rattle.cdb_form.specs.Walk.{Walked, has_slots, least_place, record_end, whole_records, walk_from, walk_of}
+use Rattle.cdb_form.specs.Walk.{Walked, has_slots, least_place, record_end, whole_records, walk_of}
 use Rattle.cdb_form.specs.declared.walk_fault.WalkFault.{WalkFault}
 use Rattle.cdb_form.specs.declared.walk_fault.WalkFault.TheVariants.{Record}
 use Rattle.cdb_form.specs.WalkLaws.{Stand, StandLongest, HasHead, IsWalk, WalksBack}
 use Rattle.cdb_form.proofs.ReadBack.{map-nth_words}
 use Rattle.cdb_form.proofs.Places.{slot_count, tables_bytes, length-pointers_of, slot_count-tables_of, file_of_is, drop-head}
-use Rattle.cdb_form.proofs.Sizes.{length-records, size_split, length-file_of, pointers_fit, sum_by-entries_of, tables_are, slots_within}
+use Rattle.cdb_form.proofs.Sizes.{length-records, size_split, length-file_of, pointers_fit, sum_by-entries_of, tables_are}
 use Rattle.cdb_form.proofs.Fronts.{all_records, take_past}
 use Rattle.cdb_form.proofs.WalkSteps.{walk_with, walk_from-is, stopped, walk_of-short, walk_of-table, walk_of-records}
 use Rattle.cdb_form.proofs.Standing.{AreBytes-drop, lengths_fit, all_records-flat_map, whole_records-stand}

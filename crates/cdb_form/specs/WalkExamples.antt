@@ -1,5 +1,5 @@
 -- The walks of worked, damaged and foreign files.
-use Rattle.std.specs.Prelude.{ℕ, ◌≡◌, List, [], ◌∷◌, ◌++◌, Option, Some, None, refl, take, replicate}
+use Rattle.std.specs.Prelude.{◌≡◌, List, [], ◌∷◌, ◌++◌, Option, Some, None, refl, take, replicate}
 use Rattle.cdb_form.specs.Layout.{KeyValue, file_of, pointers_of, pointers_from, tables_of, table_of, filled, with_entry, entries_of, located_from, record_bytes}
 use Rattle.cdb_form.specs.Reading.{head_at}
 use Rattle.cdb_form.specs.Walk.{Walked, walk_of, walk_from, whole_records, record_end}

@@ -5,11 +5,9 @@ ghost use Rattle.cdb_form.specs.Layout.{AreBytes};
 ghost use Rattle.cdb_form.specs.KnownBytes.{LosesAtMost};
 ghost use Rattle.cdb_form.specs.Walk.{IsDamage};
 
+use crate::retries::RETRIES;
 use crate::walk_fault::WalkFault;
 use std::io::{ErrorKind, Read};
-
-/// How often in a row a reader is asked again where a signal interrupts it.
-const RETRIES: u32 = 1000;
 
 // Asks for bytes until some come. None come only at the end.
 fn ask<R: Read>(reader: &mut R, into: &mut [u8]) -> Result<usize, WalkFault>

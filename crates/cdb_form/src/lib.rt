@@ -1,8 +1,9 @@
 //! The file format of constant databases: its words and tables, and its native text.
 //!
 //! The format is said once, in `specs/`: `Hash` and `Layout` are the file of a list of records,
-//! `Reading` is what bytes read as, and `NativeText` is the grammar of the text. The contracts of
-//! this crate cite these definitions, for words of 4 bytes (`Narrow`) and of 8 bytes (`Wide`).
+//! `Reading` is what bytes read as, `Walk` is what records any bytes hold and where they are
+//! damaged, and `NativeText` is the grammar of the text. The contracts of this crate cite these
+//! definitions, for words of 4 bytes (`Narrow`) and of 8 bytes (`Wide`).
 #![tactic(auto)]
 
 mod area;
@@ -12,6 +13,7 @@ mod hashing;
 pub mod laws;
 mod native;
 mod record;
+mod retries;
 mod source;
 mod stream;
 mod walk_fault;

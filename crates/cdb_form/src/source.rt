@@ -5,10 +5,8 @@ ghost use Rattle.cdb_form.specs.Layout.{AreBytes};
 ghost use Rattle.cdb_form.specs.TextFaults.{IsReadFault, IsSpent};
 
 use crate::fault::TextFault;
+use crate::retries::RETRIES;
 use std::io::{ErrorKind, Read};
-
-/// How often in a row a reader is asked again where a signal interrupts it.
-const RETRIES: u32 = 1000;
 
 /// A reader with the count of the bytes that it gave, and of the asks that it has left.
 #[derive(Drop)]

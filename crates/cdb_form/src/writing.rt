@@ -3,15 +3,13 @@ ghost use Rattle.std.specs.Prelude.{◌≡◌, ◌∷◌, [], ◌+◌, ◌<◌, 
 ghost use Rattle.std.specs.Io.KnownBytes.{Appends, Keeps};
 ghost use Rattle.cdb_form.specs.Writing.{AppendsFront, spelling_of};
 
+use crate::retries::RETRIES;
 use itoa::Buffer;
 use std::io::{ErrorKind, Write};
 
 /// A writer failed, or took nothing, or said that it took more than it was offered.
 #[derive(Clone, Copy, Debug, PartialEq, Eq)]
 pub struct OutFault;
-
-/// How often in a row a writer is asked again where a signal interrupts it.
-const RETRIES: u32 = 1000;
 
 /// Writes all the bytes. After an `OutFault` the writer holds a front of them.
 pub fn write_whole<W: Write>(w: &mut W, bytes: &[u8]) -> Result<(), OutFault>

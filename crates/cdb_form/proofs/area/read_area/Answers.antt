@@ -1,4 +1,4 @@
-use Rattle.std.proofs.Common.{◌≡◌, ℕ, ◌*◌, ◌<◌, length, arith, ap, ◌∙◌, sym, subst, IfSome}
+use Rattle.std.proofs.Common.{ℕ, ◌*◌, ◌<◌, length, arith, ap, ◌∙◌, sym, subst, IfSome}
 use Rattle.std.proofs.lemmas.Result.{err_from_is_err_and}
 use Rattle.cdb_form.proofs.AreaLemmas.{zeros_long, head_long, area_short, area_table, area_read}
 use Rattle.cdb_form.proofs.TableLemmas.{head_told, end_told, table_told}

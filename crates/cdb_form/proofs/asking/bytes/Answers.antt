@@ -1,4 +1,4 @@
-use Rattle.std.proofs.Common.{◌≡◌, ◌+◌, ◌-◌, ◌≤◌, length-drop, ◌++◌, length, length-append, take, drop, ap, ◌∙◌, arith, subst, sym, refl}
+use Rattle.std.proofs.Common.{◌≡◌, ◌-◌, ◌≤◌, length-drop, ◌++◌, length, length-append, take, drop, ap, ◌∙◌, arith, subst, sym, refl}
 use Rattle.std.proofs.lemmas.List.{take-append-le, length-take-le}
 use Rattle.std.specs.Io.KnownBytes.{Consumes}
 use Rattle.cdb_form.specs.Layout.{AreBytes}

@@ -1,4 +1,4 @@
-use Rattle.std.proofs.Common.{◌<◌, ◌≤◌, arith, inl, inr}
+use Rattle.std.proofs.Common.{arith}
 use Rattle.cdb_form.specs.Words.{key_values}
 use Rattle.cdb_form.proofs.WalkLaws.{walk_of-file_of}
 use Rattle.cdb_form.proofs.laws.walk_of_file.Goals as goal

@@ -1,4 +1,4 @@
-use Rattle.std.proofs.Common.{◌-◌, ◌≤◌, arith, refl, ℕ, List}
+use Rattle.std.proofs.Common.{◌-◌, arith, refl}
 use Rattle.std.proofs.lemmas.Result.{err_from_is_err_and}
 use Rattle.cdb_form.proofs.StreamLemmas.{known_end, loses_still}
 use Rattle.cdb_form.proofs.stream.RecordReader.record_at.Goals as goal
