@@ -1,22 +1,19 @@
 -- A file up to its record end or its damage.
-use Rattle.std.proofs.Common.{◌≡◌, ℕ, List, [], ◌∷◌, ◌++◌, flat_map, refl, sym, ap, subst, ◌∙◌, Option, Some, None, IfSome, append_assoc}
+use Rattle.std.proofs.Common.{◌≡◌, ℕ, List, [], ◌∷◌, ◌++◌, flat_map, sym, ap, subst, ◌∙◌, Option, Some, None, IfSome, append_assoc}
 use Rattle.std.proofs.lemmas.List.{append-nil}
 use Rattle.std.proofs.lemmas.Option.{IfSome_then}
 use Rattle.std.proofs.lemmas.List.Concat.{flat_map-append}
-use Rattle.std.specs.Io.KnownBytes.{Appends, Keeps}
+use Rattle.std.specs.Io.KnownBytes.{Appends}
 use Rattle.cdb_form.specs.KnownBytes.{FromTo}
 use Rattle.cdb_form.specs.Layout.{KeyValue}
 use Rattle.cdb_form.specs.RecordReader.{unread, walk_left, behind_end, GaveSoFar, IsFresh}
-use Rattle.cdb_form.specs.Walk.{Walked, walk_of, no_walk, damaged, with_first, IsDamage}
+use Rattle.cdb_form.specs.Walk.{Walked, walk_of, no_walk, damaged, with_first}
 use Rattle.cdb_form.specs.Writing.{AppendsFront, spelling_of}
 use Rattle.cdb_form.specs.declared.stream.RecordReader.{RecordReader}
 use Rattle.cdb_form.specs.declared.walk_fault.WalkFault.{WalkFault}
-use Rattle.cdb_form.specs.declared.walk_fault.WalkFault.TheVariants as walk
-use Rattle.cdb_form.specs.declared.walk_fault.WalkFault.TheVariants.{Short, Table, Record, Input}
 use Rattle.cdb_form.proofs.WalkText.{gave_none, gave_more, gave_all, gave_before, gave_front}
-use Rattle.cdb_form.proofs.WritingLemmas.{appends_then, appends_kept, front_then}
-use Rattle.cdb_tool.specs.DumpRun.{closing, dump_of, Dumps, DumpsFirst, DumpFails}
-use Rattle.cdb_tool.specs.Faults as run
+use Rattle.cdb_form.proofs.WritingLemmas.{appends_then, front_then}
+use Rattle.cdb_tool.specs.DumpRun.{closing, dump_of, Dumps, DumpsFirst}
 
 -- the texts of the records that were given were appended
 pub record DumpedSoFar {R L : Type 0} (w : ℕ) (remaining : R → Option (List ℕ)) (file : Option (List ℕ)) (t : RecordReader R L) (old new : Option (List ℕ)) : Type 0 where

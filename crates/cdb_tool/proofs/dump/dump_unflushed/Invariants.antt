@@ -1,5 +1,3 @@
-use Rattle.std.proofs.Common.{List}
-use Rattle.cdb_form.specs.Layout.{KeyValue}
 use Rattle.cdb_form.specs.RecordReader.{bytes_left}
 use Rattle.cdb_tool.proofs.WholeDumps.{DumpedSoFar}
 use Rattle.cdb_tool.proofs.dump.dump_unflushed.Given as goal
