@@ -6,3 +6,4 @@ pub mod WholeFile
 pub mod WholeRuns
 pub mod InputLemmas
 pub mod WholeDumps
+pub mod RestoreLaws

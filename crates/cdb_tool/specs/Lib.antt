@@ -5,3 +5,4 @@ pub mod Stored
 pub mod MakeRun
 pub mod Input
 pub mod DumpRun
+pub mod Laws

@@ -6,6 +6,7 @@ mod entries;
 pub mod fault;
 pub mod finishing;
 pub mod input;
+pub mod laws;
 pub mod make;
 mod steps;
 pub mod stored;
