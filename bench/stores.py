@@ -1,7 +1,7 @@
 #!/usr/bin/env python3
 """Times one million writes of 30 bytes and a flush: in memory, in a file, in a buffered file.
 
-The program is stores/main.rt. It is proved and built in a folder of its own, over this
+The program is stores.rattle. It is proved and built in a folder of its own, over this
 repository's cdb_store, so that the gate has no part in it. The times are from start to end of a
 round, the flush to the disk among them; the median of the rounds is told.
 """
@@ -26,7 +26,7 @@ def main():
             os.path.join(crates, "cdb_store"),
             ignore=shutil.ignore_patterns("must-fail", "*.store", "sealed"),
         )
-        shutil.copy(os.path.join(here, "stores", "main.rt"), source)
+        shutil.copy(os.path.join(here, "stores.rattle"), os.path.join(source, "main.rt"))
         with open(os.path.join(folder, "crates.txt"), "w") as listed:
             listed.write("cdb_store:\nstore_bench: cdb_store anyhow\n")
         with open(os.path.join(folder, "HANDLES"), "w") as handles:
