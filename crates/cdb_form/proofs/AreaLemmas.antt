@@ -5,31 +5,32 @@ use Rattle.std.specs.List.{range_with_len}
 use Rattle.std.specs.Io.KnownBytes.{Consumes}
 use Rattle.std.proofs.lemmas.List.{take-append-le, drop-append-le, drop_at}
 use Rattle.std.proofs.lemmas.List.FromFn.{fill_by_all, length-map-range_with_len, get_or-map-range_with_len}
-use Rattle.cdb_form.specs.KnownBytes.{FromTo}
-use Rattle.cdb_form.specs.Layout.{Words, head_size, empty_slot}
-use Rattle.cdb_form.specs.Reading.{words_at, nth_words, head_at}
-use Rattle.cdb_form.specs.Walk.{least_place, record_end, walk_of, walk_from, damaged, first_table_at}
-use Rattle.cdb_form.specs.declared.walk_fault.WalkFault.{WalkFault}
-use Rattle.cdb_form.specs.declared.walk_fault.WalkFault.TheVariants.{Short, Table}
-use Rattle.cdb_form.proofs.AskingLemmas.{words_long}
-use Rattle.cdb_form.proofs.WordLemmas.{words_at-take}
+use Rattle.cdb_form.specs.Views.KnownBytes.{FromTo}
+use Rattle.cdb_form.specs.Format.Pair.{WordPair, head_size}
+use Rattle.cdb_form.specs.Format.Table.{empty_slot}
+use Rattle.cdb_form.specs.Format.Reading.{pair_at, nth_pair, head_at}
+use Rattle.cdb_form.specs.Format.Walk.{least_place, record_end, walk_of, walk_from, damaged, first_table_at}
+use Rattle.cdb_form.specs.declared.walk.fault.WalkFault.{WalkFault}
+use Rattle.cdb_form.specs.declared.walk.fault.WalkFault.TheVariants.{Short, Table}
+use Rattle.cdb_form.proofs.AskingLemmas.{zeros_long}
+use Rattle.cdb_form.proofs.WordLemmas.{pair_at-take}
 use Rattle.cdb_form.proofs.WalkSteps.{walk_of-short, walk_of-table, walk_of-records}
 
-words_at-append : (w : ℕ) (xs ys : List ℕ) → 2 * w ≤ length xs → words_at w (xs ++ ys) ≡ words_at w xs
-words_at-append w xs ys long =
+pair_at-append : (w : ℕ) (xs ys : List ℕ) → 2 * w ≤ length xs → pair_at w (xs ++ ys) ≡ pair_at w xs
+pair_at-append w xs ys long =
     let within : w + w ≤ length xs = omega arith in
-    sym (words_at-take w (xs ++ ys)) ∙ ap (words_at w) (take-append-le (w + w) xs ys within) ∙ words_at-take w xs
+    sym (pair_at-take w (xs ++ ys)) ∙ ap (pair_at w) (take-append-le (w + w) xs ys within) ∙ pair_at-take w xs
 
-nth_words-append : (w n m : ℕ) (xs ys : List ℕ) → 2 * w * m ≤ length xs → n < m → nth_words w (xs ++ ys) n ≡ nth_words w xs n
-nth_words-append w n m xs ys long low =
+nth_pair-append : (w n m : ℕ) (xs ys : List ℕ) → 2 * w * m ≤ length xs → n < m → nth_pair w (xs ++ ys) n ≡ nth_pair w xs n
+nth_pair-append w n m xs ys long low =
     let times : 2 * w * n + 2 * w ≤ 2 * w * m = grind (arith, mul-le-mul_left (2 * w) (let h : n + 1 ≤ m = omega arith in h)) in
-    ap (words_at w) (drop-append-le (2 * w * n) xs ys (omega arith)) ∙ words_at-append w (drop (2 * w * n) xs) ys (omega (arith, length-drop (2 * w * n) xs))
+    ap (pair_at w) (drop-append-le (2 * w * n) xs ys (omega arith)) ∙ pair_at-append w (drop (2 * w * n) xs) ys (omega (arith, length-drop (2 * w * n) xs))
 
 -- only the head is looked at
-heads_agree : (w m : ℕ) (xs ys : List ℕ) → 2 * w * m ≤ length xs → map (nth_words w (xs ++ ys)) (range_with_len 0 m) ≡ map (nth_words w xs) (range_with_len 0 m)
+heads_agree : (w m : ℕ) (xs ys : List ℕ) → 2 * w * m ≤ length xs → map (nth_pair w (xs ++ ys)) (range_with_len 0 m) ≡ map (nth_pair w xs) (range_with_len 0 m)
 heads_agree w m xs ys long =
-    fill_by_all (nth_words w xs) (map (nth_words w (xs ++ ys)) (range_with_len 0 m)) m empty_slot (length-map-range_with_len (nth_words w (xs ++ ys)) 0 m)
-    (λ k low. get_or-map-range_with_len (nth_words w (xs ++ ys)) 0 m k k empty_slot low (omega arith) ∙ nth_words-append w k m xs ys long low)
+    fill_by_all (nth_pair w xs) (map (nth_pair w (xs ++ ys)) (range_with_len 0 m)) m empty_slot (length-map-range_with_len (nth_pair w (xs ++ ys)) 0 m)
+    (λ k low. get_or-map-range_with_len (nth_pair w (xs ++ ys)) 0 m k k empty_slot low (omega arith) ∙ nth_pair-append w k m xs ys long low)
 
 pub head_at-append : (w : ℕ) (xs ys : List ℕ) → length xs ≡ head_size w → head_at w (xs ++ ys) ≡ head_at w xs
 unfolding head_at
@@ -40,11 +41,11 @@ unfolding record_end
 record_end-append w xs ys long = ap (least_place (head_size w)) (head_at-append w xs ys long)
 
 -- the bytes that a head is read into
-pub zeros_long : (w word : ℕ) → word ≡ w → (w ≡ 4) ⊎ (w ≡ 8) → length (take (512 * word) (replicate {A = ℕ} 4096 0)) ≡ head_size w
-zeros_long w word e width = words_long 512 w word 4096 e (elim width [ inl a ↦ omega arith | inr b ↦ omega arith ])
+pub head_fits : (w size : ℕ) → size ≡ head_size w → (w ≡ 4) ⊎ (w ≡ 8) → length (take size (replicate {A = ℕ} 4096 0)) ≡ head_size w
+head_fits w size e width = zeros_long size 4096 (elim width [ inl a ↦ omega arith | inr b ↦ omega arith ]) ∙ e
 
-pub head_long : (w word : ℕ) (xs : List ℕ) → word ≡ w → (w ≡ 4) ⊎ (w ≡ 8) → length xs ≡ length (take (512 * word) (replicate {A = ℕ} 4096 0)) → length xs ≡ head_size w
-head_long w word xs e width same = same ∙ zeros_long w word e width
+pub head_long : (w size : ℕ) (xs : List ℕ) → size ≡ head_size w → (w ≡ 4) ⊎ (w ≡ 8) → length xs ≡ length (take size (replicate {A = ℕ} 4096 0)) → length xs ≡ head_size w
+head_long w size xs e width same = same ∙ head_fits w size e width
 
 -- the file is too short
 pub area_short : (w : ℕ) (old : Option (List ℕ)) (fault : WalkFault) → fault ≡ Short → IfSome old (λ text. length text < head_size w) → IfSome old (λ text. walk_of w text ≡ damaged fault)
@@ -61,7 +62,7 @@ area_table w n (Some text) (Some rest) xs read long low e =
     let whole : length (xs ++ rest) ≡ length xs + length rest = length-append xs rest in
     ap (walk_of w) read ∙ walk_of-table w (xs ++ rest) (omega arith) (omega arith)
     ∙ ap (λ (k : ℕ). damaged (Table (first_table_at k (head_at w (xs ++ rest))))) end
-    ∙ ap (λ (ps : List Words). damaged (Table (first_table_at (record_end w xs) ps))) (head_at-append w xs rest long)
+    ∙ ap (λ (ps : List WordPair). damaged (Table (first_table_at (record_end w xs) ps))) (head_at-append w xs rest long)
     ∙ ap (λ (k : ℕ). damaged (Table k)) (sym e)
 
 -- the records stand behind the head

@@ -3,7 +3,7 @@ use Rattle.std.proofs.Common.{◌≡◌, ℕ, ◌+◌, ◌*◌, ◌≤◌, List,
 use Rattle.std.proofs.lemmas.List.{take-append-le, length-take-le, length-replicate}
 use Rattle.std.specs.Io.KnownBytes.{Consumes}
 use borrow.Rule.Slice.PartMut.{put_mid, post_of}
-use Rattle.cdb_form.specs.Layout.{AreBytes}
+use Rattle.cdb_form.specs.Format.Record.{AreBytes}
 use Rattle.cdb_form.proofs.ByteLemmas.{AreBytes-append, AreBytes-take}
 use Rattle.cdb_form.proofs.Fronts.{take_past}
 use Rattle.cdb_form.proofs.SourceLemmas.{consumes_then}
@@ -28,6 +28,5 @@ read_more old mid new so_far into done n a are long b bytes few = record {
 }
 
 -- the front of some zeros, that words are read into
-pub words_long : (k w word room : ℕ) → word ≡ w → k * word ≤ room → length (take (k * word) (replicate {A = ℕ} room 0)) ≡ k * w
-words_long k w word room e small =
-    length-take-le (k * word) (replicate {A = ℕ} room 0) (omega (arith, length-replicate {A = ℕ} room 0)) ∙ ap (λ (n : ℕ). k * n) e
+pub zeros_long : (size room : ℕ) → size ≤ room → length (take size (replicate {A = ℕ} room 0)) ≡ size
+zeros_long size room small = length-take-le size (replicate {A = ℕ} room 0) (omega (arith, length-replicate {A = ℕ} room 0))

@@ -1,7 +1,7 @@
 -- Lists of bytes.
 use Rattle.std.proofs.Common.{ℕ, zero, suc, ◌<◌, List, [], ◌∷◌, ◌++◌, take, drop, replicate, lit<, subst, sym}
 use Rattle.std.proofs.lemmas.List.{take-append-drop}
-use Rattle.cdb_form.specs.Layout.{AreBytes}
+use Rattle.cdb_form.specs.Format.Record.{AreBytes}
 
 pub AreBytes-nil : AreBytes []
 AreBytes-nil k = lit< tt

@@ -4,37 +4,38 @@ use Rattle.std.specs.Prelude.{nat_le}
 use Rattle.std.proofs.lemmas.List.{drop_at, take_at, drop-drop}
 use Rattle.std.proofs.lemmas.Bool.{cases_Bool, cond-true, cond-false, le-leb, lt-leb, leb-true}
 use Rattle.std.proofs.Math.Seq.{take-add}
-use Rattle.cdb_form.specs.Layout.{KeyValue, Words, weight}
-use Rattle.cdb_form.specs.Reading.{words_at}
-use Rattle.cdb_form.specs.Walk.{front_size, front_record, whole_records}
-use Rattle.cdb_form.proofs.WordLemmas.{words_at-take}
+use Rattle.cdb_form.specs.Format.Record.{KeyValue, record_size}
+use Rattle.cdb_form.specs.Format.Pair.{WordPair}
+use Rattle.cdb_form.specs.Format.Reading.{pair_at}
+use Rattle.cdb_form.specs.Format.Walk.{front_size, front_record, whole_records}
+use Rattle.cdb_form.proofs.WordLemmas.{pair_at-take}
 
 -- the lengths of a record
-abbrev pub lengths_of : KeyValue → Words
+abbrev pub lengths_of : KeyValue → WordPair
 lengths_of r = record { first = length r.key; second = length r.value }
 
 -- a record stands at the front of some bytes, and then the rest
 pub record Begins (w : ℕ) (bytes : List ℕ) (r : KeyValue) (rest : List ℕ) : Type 0 where
   pub header : List ℕ
   pub long : length header ≡ 2 * w
-  pub lengths : words_at w header ≡ lengths_of r
+  pub lengths : pair_at w header ≡ lengths_of r
   pub split : bytes ≡ header ++ (r.key ++ (r.value ++ rest))
 
 -- only the first 2 * w bytes are looked at
-pub words_at-front : (w : ℕ) (xs ys : List ℕ) → length xs ≡ 2 * w → words_at w (xs ++ ys) ≡ words_at w xs
-words_at-front w xs ys long =
+pub pair_at-front : (w : ℕ) (xs ys : List ℕ) → length xs ≡ 2 * w → pair_at w (xs ++ ys) ≡ pair_at w xs
+pair_at-front w xs ys long =
     let twice : length xs ≡ w + w = omega arith in
-    sym (words_at-take w (xs ++ ys)) ∙ ap (words_at w) (take_at xs ys (w + w) twice)
+    sym (pair_at-take w (xs ++ ys)) ∙ ap (pair_at w) (take_at xs ys (w + w) twice)
 
 pub take_past : (xs ys : List ℕ) (n m : ℕ) → length xs ≡ n → take (n + m) (xs ++ ys) ≡ xs ++ take m ys
 take_past xs ys n m long = take-add n m (xs ++ ys) ∙ ap (λ t. t ++ take m (drop n (xs ++ ys))) (take_at xs ys n long) ∙ ap (λ t. xs ++ take m t) (drop_at xs ys n long)
 
 -- how the record reads
 pub record Reads (w : ℕ) (bytes : List ℕ) (r : KeyValue) (rest : List ℕ) : Type 0 where
-  pub size : front_size w bytes ≡ weight w r
+  pub size : front_size w bytes ≡ record_size w r
   pub is : front_record w bytes ≡ r
-  pub rest_is : drop (weight w r) bytes ≡ rest
-  pub long : weight w r + length rest ≡ length bytes
+  pub rest_is : drop (record_size w r) bytes ≡ rest
+  pub long : record_size w r + length rest ≡ length bytes
 
 same_record : (a b : KeyValue) → a.key ≡ b.key → a.value ≡ b.value → a ≡ b
 same_record a b k v = ap (λ x. let p : KeyValue = record { key = x; value = a.value } in p) k ∙ ap (λ x. let p : KeyValue = record { key = b.key; value = x } in p) v
@@ -42,32 +43,32 @@ same_record a b k v = ap (λ x. let p : KeyValue = record { key = x; value = a.v
 pub front_reads : (w : ℕ) (bytes : List ℕ) (r : KeyValue) (rest : List ℕ) → Begins w bytes r rest → Reads w bytes r rest
 front_reads w bytes r rest b =
     let tail : List ℕ = r.key ++ (r.value ++ rest) in
-    let lens : words_at w bytes ≡ lengths_of r = ap (words_at w) b.split ∙ words_at-front w b.header (r.key ++ (r.value ++ rest)) b.long ∙ b.lengths in
+    let lens : pair_at w bytes ≡ lengths_of r = ap (pair_at w) b.split ∙ pair_at-front w b.header (r.key ++ (r.value ++ rest)) b.long ∙ b.lengths in
     let one : drop (2 * w) bytes ≡ r.key ++ (r.value ++ rest) = ap (drop (2 * w)) b.split ∙ drop_at b.header (r.key ++ (r.value ++ rest)) (2 * w) b.long in
     let two : drop (2 * w + length r.key) bytes ≡ r.value ++ rest = sym (drop-drop (length r.key) (2 * w) bytes) ∙ ap (drop (length r.key)) one ∙ drop_at r.key (r.value ++ rest) (length r.key) refl in
     let three : drop (2 * w + length r.key + length r.value) bytes ≡ rest = sym (drop-drop (length r.value) (2 * w + length r.key) bytes) ∙ ap (drop (length r.value)) two ∙ drop_at r.value rest (length r.value) refl in
-    let long : weight w r + length rest ≡ length bytes =
+    let long : record_size w r + length rest ≡ length bytes =
     omega (arith, ap length b.split, b.long, length-append b.header (r.key ++ (r.value ++ rest)), length-append r.key (r.value ++ rest), length-append r.value rest) in
     record {
-      size = ap (λ (p : Words). 2 * w + p.first + p.second) lens;
+      size = ap (λ (p : WordPair). 2 * w + p.first + p.second) lens;
       is = same_record (front_record w bytes) r
-          (ap (λ (p : Words). take p.first (drop (2 * w) bytes)) lens ∙ ap (take (length r.key)) one ∙ take_at r.key (r.value ++ rest) (length r.key) refl)
-          (ap (λ (p : Words). take p.second (drop (2 * w + p.first) bytes)) lens ∙ ap (take (length r.value)) two ∙ take_at r.value rest (length r.value) refl);
+          (ap (λ (p : WordPair). take p.first (drop (2 * w) bytes)) lens ∙ ap (take (length r.key)) one ∙ take_at r.key (r.value ++ rest) (length r.key) refl)
+          (ap (λ (p : WordPair). take p.second (drop (2 * w + p.first) bytes)) lens ∙ ap (take (length r.value)) two ∙ take_at r.value rest (length r.value) refl);
       rest_is = three;
       long = long;
     }
 
 -- and where the bytes are cut behind it
-pub Begins-take : (w m : ℕ) (bytes : List ℕ) (r : KeyValue) (rest : List ℕ) → Begins w bytes r rest → Begins w (take (weight w r + m) bytes) r (take m rest)
+pub Begins-take : (w m : ℕ) (bytes : List ℕ) (r : KeyValue) (rest : List ℕ) → Begins w bytes r rest → Begins w (take (record_size w r + m) bytes) r (take m rest)
 Begins-take w m bytes r rest b =
     let join : bytes ≡ (b.header ++ (r.key ++ r.value)) ++ rest =
     b.split ∙ ap (λ t. b.header ++ t) (sym (append_assoc r.key r.value rest)) ∙ sym (append_assoc b.header (r.key ++ r.value) rest) in
-    let long : length (b.header ++ (r.key ++ r.value)) ≡ weight w r = omega (arith, b.long, length-append b.header (r.key ++ r.value), length-append r.key r.value) in
+    let long : length (b.header ++ (r.key ++ r.value)) ≡ record_size w r = omega (arith, b.long, length-append b.header (r.key ++ r.value), length-append r.key r.value) in
     record {
       header = b.header;
       long = b.long;
       lengths = b.lengths;
-      split = ap (take (weight w r + m)) join ∙ take_past (b.header ++ (r.key ++ r.value)) rest (weight w r) m long
+      split = ap (take (record_size w r + m)) join ∙ take_past (b.header ++ (r.key ++ r.value)) rest (record_size w r) m long
           ∙ append_assoc b.header (r.key ++ r.value) (take m rest) ∙ ap (λ t. b.header ++ t) (append_assoc r.key r.value (take m rest));
     }
 

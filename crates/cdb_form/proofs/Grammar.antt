@@ -5,8 +5,8 @@ use Rattle.std.proofs.lemmas.Int.Digits.{digits_push, digits_value_push}
 use Rattle.std.proofs.lemmas.Str.Parse.{digits_value-take-le}
 use Rattle.std.specs.Char.{digit_value}
 use Rattle.std.specs.Str.Parse.{AllDigits, digits_value}
-use Rattle.cdb_form.specs.Layout.{AreBytes}
-use Rattle.cdb_form.specs.NativeText.{IsNumeral}
+use Rattle.cdb_form.specs.Format.Record.{AreBytes}
+use Rattle.cdb_form.specs.Text.Native.{IsNumeral}
 use Rattle.cdb_form.proofs.ByteLemmas.{AreBytes-append, AreBytes-replicate}
 
 -- s can go on to a text of L; no front of s is one; s with c behind it can't go on to one

@@ -1,8 +1,8 @@
 -- The records of the code are lists of bytes.
 use Rattle.std.proofs.Common.{List, [], ◌∷◌}
 use Rattle.std.specs.List.{AllByRecursion}
-use Rattle.cdb_form.specs.Layout.{IsRecord}
-use Rattle.cdb_form.specs.Words.{key_values}
+use Rattle.cdb_form.specs.Format.Record.{IsRecord}
+use Rattle.cdb_form.specs.Views.Pairs.{key_values}
 use Rattle.cdb_form.specs.declared.record.Record.{Record}
 
 pub are_records : (rs : List Record) → AllByRecursion IsRecord (key_values rs)

@@ -2,15 +2,16 @@
 use Rattle.std.proofs.Common.{◌≡◌, ℕ, ◌+◌, ◌-◌, ◌*◌, ◌<◌, ◌≤◌, ◌⊎◌, List, ◌++◌, length, take, drop, replicate, sym, ap, subst, ◌∙◌, arith, inl, inr, Option, Some, None, IfSome, append_assoc, length-append}
 use Rattle.std.specs.Io.KnownBytes.{Consumes}
 use Rattle.std.proofs.lemmas.List.{take_at}
-use Rattle.cdb_form.specs.KnownBytes.{LosesAtMost, FromTo}
-use Rattle.cdb_form.specs.Layout.{KeyValue, Words, weight}
-use Rattle.cdb_form.specs.Reading.{words_at}
-use Rattle.cdb_form.specs.Walk.{front_size, walk_from, damaged, with_first}
-use Rattle.cdb_form.specs.Words.{header_words}
-use Rattle.cdb_form.specs.declared.walk_fault.WalkFault.{WalkFault}
-use Rattle.cdb_form.specs.declared.words.Header.{Header}
-use Rattle.cdb_form.specs.declared.walk_fault.WalkFault.TheVariants.{Record}
-use Rattle.cdb_form.proofs.AskingLemmas.{words_long}
+use Rattle.cdb_form.specs.Views.KnownBytes.{LosesAtMost, FromTo}
+use Rattle.cdb_form.specs.Format.Record.{KeyValue, record_size}
+use Rattle.cdb_form.specs.Format.Pair.{WordPair}
+use Rattle.cdb_form.specs.Format.Reading.{pair_at}
+use Rattle.cdb_form.specs.Format.Walk.{front_size, walk_from, damaged, with_first}
+use Rattle.cdb_form.specs.Views.Pairs.{header_pair}
+use Rattle.cdb_form.specs.declared.walk.fault.WalkFault.{WalkFault}
+use Rattle.cdb_form.specs.declared.header.Header.{Header}
+use Rattle.cdb_form.specs.declared.walk.fault.WalkFault.TheVariants.{Record}
+use Rattle.cdb_form.proofs.AskingLemmas.{zeros_long}
 use Rattle.cdb_form.proofs.Fronts.{lengths_of, Begins, front_reads}
 use Rattle.cdb_form.proofs.SourceLemmas.{consumes_then}
 use Rattle.cdb_form.proofs.WalkSteps.{walk_from-no_header, walk_from-no_body, walk_from-more}
@@ -19,25 +20,24 @@ abbrev pub StopsAt : ℕ → ℕ → ℕ → WalkFault → Option (List ℕ) →
 StopsAt w place end fault old = IfSome old (λ text. walk_from w place end text ≡ damaged fault)
 
 -- the bytes that a header is read into
-zeros_long : (w word : ℕ) → word ≡ w → (w ≡ 4) ⊎ (w ≡ 8) → length (take (2 * word) (replicate {A = ℕ} 512 0)) ≡ 2 * w
-zeros_long w word e width = words_long 2 w word 512 e (elim width [ inl a ↦ omega arith | inr b ↦ omega arith ])
+pair_fits : (w size : ℕ) → size ≡ 2 * w → (w ≡ 4) ⊎ (w ≡ 8) → length (take size (replicate {A = ℕ} 512 0)) ≡ 2 * w
+pair_fits w size e width = zeros_long size 512 (elim width [ inl a ↦ omega arith | inr b ↦ omega arith ]) ∙ e
 
 -- a header that was read, and what it tells
 pub record HeaderTold (w : ℕ) (xs : List ℕ) (h : Header) : Type 0 where
   pub long : length xs ≡ 2 * w
-  pub words : words_at w xs ≡ header_words h
+  pub words : pair_at w xs ≡ header_pair h
   pub size : front_size w xs ≡ 2 * w + h.klen + h.vlen
 
-pub header_told : (w word : ℕ) (xs rest : List ℕ) (h : Header) → word ≡ w → (w ≡ 4) ⊎ (w ≡ 8) → length xs ≡ length (take (2 * word) (replicate {A = ℕ} 512 0)) → header_words h ≡ words_at w (take (2 * word) (xs ++ rest)) → HeaderTold w xs h
-header_told w word xs rest h e width same read =
-    let long : length xs ≡ 2 * w = same ∙ zeros_long w word e width in
-    let twice : length xs ≡ 2 * word = long ∙ sym (ap (λ (n : ℕ). 2 * n) e) in
-    let words : words_at w xs ≡ header_words h = sym (read ∙ ap (words_at w) (take_at xs rest (2 * word) twice)) in
-    record { long = long; words = words; size = ap (λ (p : Words). 2 * w + p.first + p.second) words }
+pub header_told : (w size : ℕ) (xs rest : List ℕ) (h : Header) → size ≡ 2 * w → (w ≡ 4) ⊎ (w ≡ 8) → length xs ≡ length (take size (replicate {A = ℕ} 512 0)) → header_pair h ≡ pair_at w (take size (xs ++ rest)) → HeaderTold w xs h
+header_told w size xs rest h e width same read =
+    let long : length xs ≡ 2 * w = same ∙ pair_fits w size e width in
+    let words : pair_at w xs ≡ header_pair h = sym (read ∙ ap (pair_at w) (take_at xs rest size (long ∙ sym e))) in
+    record { long = long; words = words; size = ap (λ (p : WordPair). 2 * w + p.first + p.second) words }
 
 -- the file ends within the bytes that were asked for
-pub header_short : (w word : ℕ) (old : Option (List ℕ)) → word ≡ w → (w ≡ 4) ⊎ (w ≡ 8) → IfSome old (λ text. length text < length (take (2 * word) (replicate {A = ℕ} 512 0))) → IfSome old (λ text. length text < 2 * w)
-header_short w word old e width h = subst (λ (n : ℕ). IfSome old (λ t. length t < n)) (zeros_long w word e width) h
+pub header_short : (w size : ℕ) (old : Option (List ℕ)) → size ≡ 2 * w → (w ≡ 4) ⊎ (w ≡ 8) → IfSome old (λ text. length text < length (take size (replicate {A = ℕ} 512 0))) → IfSome old (λ text. length text < 2 * w)
+header_short w size old e width h = subst (λ (n : ℕ). IfSome old (λ t. length t < n)) (pair_fits w size e width) h
 
 -- no header fits before the record end
 pub no_room : (w place end : ℕ) (old : Option (List ℕ)) → place < end → end - place < 2 * w → StopsAt w place end (Record place) old
@@ -68,7 +68,7 @@ body_early w place end n (Some text) (Some rest) header some fault before e read
 
 -- the whole record
 pub record_read : (w place end next : ℕ) (old m₁ m₂ new : Option (List ℕ)) (header : List ℕ) (r : KeyValue) → 0 < w → Consumes old m₁ header → Consumes m₁ m₂ r.key → Consumes m₂ new r.value
-    → length header ≡ 2 * w → words_at w header ≡ lengths_of r → next ≡ place + weight w r → next ≤ end
+    → length header ≡ 2 * w → pair_at w header ≡ lengths_of r → next ≡ place + record_size w r → next ≤ end
     → FromTo old new (λ text rest. (walk_from w place end text ≡ with_first r (walk_from w next end rest)) × (rest ≡ drop (next - place) text))
 record_read w place end next None m₁ m₂ new header r some a b c long lengths at room = tt
 record_read w place end next (Some text) None m₂ new header r some a b c long lengths at room = absurd a
@@ -77,7 +77,7 @@ record_read w place end next (Some text) (Some t₁) (Some t₂) None header r s
 record_read w place end next (Some text) (Some t₁) (Some t₂) (Some rest) header r some a b c long lengths at room =
     let begins : Begins w text r rest = record { header = header; long = long; lengths = lengths; split = a ∙ ap (λ t. header ++ t) (b ∙ ap (λ t. r.key ++ t) c) } in
     let reads = front_reads w text r rest begins in
-    let n : next - place ≡ weight w r = omega arith in (
+    let n : next - place ≡ record_size w r = omega arith in (
       walk_from-more w place end text r rest some begins (omega arith) ∙ ap (λ (k : ℕ). with_first r (walk_from w k end rest)) (sym at),
       sym (ap (λ (k : ℕ). drop k text) n ∙ reads.rest_is),
     )

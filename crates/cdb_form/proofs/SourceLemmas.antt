@@ -6,11 +6,13 @@ use Rattle.std.specs.Str.Parse.{AllDigits, digits_value}
 use Rattle.std.specs.Char.{digit_value}
 use Rattle.std.proofs.lemmas.Int.Digits.{digits_push, digits_value_push}
 use Rattle.cdb_form.proofs.ByteLemmas.{AreBytes-front}
-use Rattle.cdb_form.specs.declared.fault.TextFault.{TextFault}
-use Rattle.cdb_form.specs.declared.fault.TextFault.TheVariants.{Syntax, Ended, Large, Input, Endless, NoMemory}
-use Rattle.cdb_form.specs.Layout.{AreBytes, KeyValue, IsRecord}
-use Rattle.cdb_form.specs.NativeText.{IsNumeral, ReadsRecord}
-use Rattle.cdb_form.specs.TextFaults.{IsReadFault, FailsByte, FailsBytes, FailsField, FailsNumber, ReadsBehindPlus}
+use Rattle.cdb_form.specs.declared.text.fault.TextFault.{TextFault}
+use Rattle.cdb_form.specs.declared.text.fault.TextFault.TheVariants.{Syntax, Ended, Large, Input, Endless, NoMemory}
+use Rattle.cdb_form.specs.Format.Record.{AreBytes, KeyValue, IsRecord}
+use Rattle.cdb_form.specs.Text.Native.{IsNumeral}
+use Rattle.cdb_form.specs.Views.TextReader.{ReadsRecord}
+use Rattle.cdb_form.specs.Views.TextFault.{IsReadFault}
+use Rattle.cdb_form.specs.Views.NativeParser.{FailsByte, FailsBytes, FailsField, FailsNumber, ReadsBehindPlus}
 
 -- digits were read that stand for a value
 pub record DigitsSoFar (old new : Option (List ℕ)) (greatest start taken value : ℕ) : Type 0 where

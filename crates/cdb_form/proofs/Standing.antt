@@ -9,26 +9,27 @@ use Rattle.std.proofs.lemmas.List.Sums.{sum_by-cons}
 use Rattle.std.proofs.lemmas.Bool.{cond_both, leb-true}
 use Rattle.byteorder.specs.Endian.{little_from}
 use Rattle.byteorder.specs.Numbers.{little_from-cons}
-use Rattle.cdb_form.specs.Layout.{AreBytes, KeyValue, Words, words_bytes, record_bytes, weight}
-use Rattle.cdb_form.specs.Reading.{words_at}
-use Rattle.cdb_form.specs.Words.{WordsFit}
-use Rattle.cdb_form.specs.Walk.{front_size, front_record, whole_records}
-use Rattle.cdb_form.proofs.HeadLemmas.{length-words_bytes}
-use Rattle.cdb_form.proofs.ReadBack.{words_at-words_bytes, same_words}
+use Rattle.cdb_form.specs.Format.Record.{AreBytes, KeyValue, record_bytes, record_size}
+use Rattle.cdb_form.specs.Format.Pair.{WordPair, pair_bytes}
+use Rattle.cdb_form.specs.Format.Reading.{pair_at}
+use Rattle.cdb_form.specs.Views.Pairs.{PairFits}
+use Rattle.cdb_form.specs.Format.Walk.{front_size, front_record, whole_records}
+use Rattle.cdb_form.proofs.HeadLemmas.{length-pair_bytes}
+use Rattle.cdb_form.proofs.ReadBack.{pair_at-pair_bytes, same_words}
 use Rattle.cdb_form.proofs.Fronts.{lengths_of, Begins, all_records, all_records-more, fits_front}
 
 -- the bytes of a record, and then others
-pub Begins-record_bytes : (w top : ℕ) (r : KeyValue) (rest : List ℕ) → top + 1 ≡ 256 ^ w → WordsFit top (lengths_of r) → Begins w (record_bytes w r ++ rest) r rest
+pub Begins-record_bytes : (w top : ℕ) (r : KeyValue) (rest : List ℕ) → top + 1 ≡ 256 ^ w → PairFits top (lengths_of r) → Begins w (record_bytes w r ++ rest) r rest
 unfolding record_bytes
 Begins-record_bytes w top r rest top_is fit = record {
-  header = words_bytes w (lengths_of r);
-  long = length-words_bytes w (lengths_of r);
-  lengths = ap (words_at w) (sym (append-nil (words_bytes w (lengths_of r)))) ∙ words_at-words_bytes w top (lengths_of r) [] top_is fit;
-  split = append_assoc (words_bytes w (lengths_of r) ++ r.key) r.value rest ∙ append_assoc (words_bytes w (lengths_of r)) r.key (r.value ++ rest);
+  header = pair_bytes w (lengths_of r);
+  long = length-pair_bytes w (lengths_of r);
+  lengths = ap (pair_at w) (sym (append-nil (pair_bytes w (lengths_of r)))) ∙ pair_at-pair_bytes w top (lengths_of r) [] top_is fit;
+  split = append_assoc (pair_bytes w (lengths_of r) ++ r.key) r.value rest ∙ append_assoc (pair_bytes w (lengths_of r)) r.key (r.value ++ rest);
 }
 
 -- the bytes of some records, and then others
-pub all_records-flat_map : (w top : ℕ) (rs : List KeyValue) (rest : List ℕ) → 0 < w → top + 1 ≡ 256 ^ w → AllByRecursion (λ r. WordsFit top (lengths_of r)) rs
+pub all_records-flat_map : (w top : ℕ) (rs : List KeyValue) (rest : List ℕ) → 0 < w → top + 1 ≡ 256 ^ w → AllByRecursion (λ r. PairFits top (lengths_of r)) rs
     → all_records w (flat_map (record_bytes w) rs ++ rest) ≡ rs ++ all_records w rest
 all_records-flat_map w top [] rest some top_is fits = refl
 all_records-flat_map w top (r ∷ rs) rest some top_is fits =
@@ -37,10 +38,10 @@ all_records-flat_map w top (r ∷ rs) rest some top_is fits =
     ∙ ap (λ t. r ∷ t) (all_records-flat_map w top rs rest some top_is fits.1)
 
 -- lengths fit where the records do
-pub lengths_fit : (w top : ℕ) (rs : List KeyValue) → sum_by (weight w) rs ≤ top → AllByRecursion (λ r. WordsFit top (lengths_of r)) rs
+pub lengths_fit : (w top : ℕ) (rs : List KeyValue) → sum_by (record_size w) rs ≤ top → AllByRecursion (λ r. PairFits top (lengths_of r)) rs
 lengths_fit w top [] room = tt
 lengths_fit w top (r ∷ rs) room =
-    let both = sum_by-cons (weight w) r rs in
+    let both = sum_by-cons (record_size w) r rs in
     (record { first = omega arith; second = omega arith }, lengths_fit w top rs (omega arith))
 
 byte_at-pow : (k x : ℕ) → byte_at k x ≡ x / 256 ^ k % 256
@@ -77,8 +78,8 @@ AreBytes-drop zero xs all = all
 AreBytes-drop (suc n) [] all = all
 AreBytes-drop (suc n) (x ∷ xs) all = AreBytes-drop n xs (λ i. all (suc i))
 
-words_bytes-words_at : (w : ℕ) (xs : List ℕ) → AreBytes xs → 2 * w ≤ length xs → words_bytes w (words_at w xs) ++ drop (2 * w) xs ≡ xs
-words_bytes-words_at w xs bytes l =
+pair_bytes-pair_at : (w : ℕ) (xs : List ℕ) → AreBytes xs → 2 * w ≤ length xs → pair_bytes w (pair_at w xs) ++ drop (2 * w) xs ≡ xs
+pair_bytes-pair_at w xs bytes l =
     let one = little_bytes-little_from w xs bytes (omega arith) in
     let two = little_bytes-little_from w (drop w xs) (AreBytes-drop w xs bytes) (omega (arith, length-drop w xs)) in
     let twice : w + w ≡ 2 * w = omega arith in
@@ -93,25 +94,25 @@ words_bytes-words_at w xs bytes l =
 pub front_stands : (w : ℕ) (xs : List ℕ) → AreBytes xs → front_size w xs ≤ length xs → xs ≡ record_bytes w (front_record w xs) ++ drop (front_size w xs) xs
 unfolding record_bytes
 front_stands w xs bytes h =
-    let k = (words_at w xs).first in
-    let v = (words_at w xs).second in
+    let k = (pair_at w xs).first in
+    let v = (pair_at w xs).second in
     let r = front_record w xs in
-    let a = length-take (words_at w xs).first (drop (2 * w) xs) in
+    let a = length-take (pair_at w xs).first (drop (2 * w) xs) in
     let b = length-drop (2 * w) xs in
-    let c = length-take (words_at w xs).second (drop (2 * w + (words_at w xs).first) xs) in
-    let d = length-drop (2 * w + (words_at w xs).first) xs in
-    let lens : lengths_of (front_record w xs) ≡ words_at w xs = same_words (lengths_of (front_record w xs)) (words_at w xs) (omega arith) (omega arith) in
-    let key : take (words_at w xs).first (drop (2 * w) xs) ++ drop (2 * w + (words_at w xs).first) xs ≡ drop (2 * w) xs =
-    ap (λ t. take (words_at w xs).first (drop (2 * w) xs) ++ t) (sym (drop-drop (words_at w xs).first (2 * w) xs)) ∙ take-append-drop (words_at w xs).first (drop (2 * w) xs) in
-    let value : take (words_at w xs).second (drop (2 * w + (words_at w xs).first) xs) ++ drop (front_size w xs) xs ≡ drop (2 * w + (words_at w xs).first) xs =
-    ap (λ t. take (words_at w xs).second (drop (2 * w + (words_at w xs).first) xs) ++ t) (sym (drop-drop (words_at w xs).second (2 * w + (words_at w xs).first) xs)) ∙ take-append-drop (words_at w xs).second (drop (2 * w + (words_at w xs).first) xs) in
+    let c = length-take (pair_at w xs).second (drop (2 * w + (pair_at w xs).first) xs) in
+    let d = length-drop (2 * w + (pair_at w xs).first) xs in
+    let lens : lengths_of (front_record w xs) ≡ pair_at w xs = same_words (lengths_of (front_record w xs)) (pair_at w xs) (omega arith) (omega arith) in
+    let key : take (pair_at w xs).first (drop (2 * w) xs) ++ drop (2 * w + (pair_at w xs).first) xs ≡ drop (2 * w) xs =
+    ap (λ t. take (pair_at w xs).first (drop (2 * w) xs) ++ t) (sym (drop-drop (pair_at w xs).first (2 * w) xs)) ∙ take-append-drop (pair_at w xs).first (drop (2 * w) xs) in
+    let value : take (pair_at w xs).second (drop (2 * w + (pair_at w xs).first) xs) ++ drop (front_size w xs) xs ≡ drop (2 * w + (pair_at w xs).first) xs =
+    ap (λ t. take (pair_at w xs).second (drop (2 * w + (pair_at w xs).first) xs) ++ t) (sym (drop-drop (pair_at w xs).second (2 * w + (pair_at w xs).first) xs)) ∙ take-append-drop (pair_at w xs).second (drop (2 * w + (pair_at w xs).first) xs) in
     sym (
-    append_assoc (words_bytes w (lengths_of (front_record w xs)) ++ (front_record w xs).key) (front_record w xs).value (drop (front_size w xs) xs)
-    ∙ ap (λ t. (words_bytes w (lengths_of (front_record w xs)) ++ (front_record w xs).key) ++ t) value
-    ∙ append_assoc (words_bytes w (lengths_of (front_record w xs))) (front_record w xs).key (drop (2 * w + (words_at w xs).first) xs)
-    ∙ ap (λ t. words_bytes w (lengths_of (front_record w xs)) ++ t) key
-    ∙ ap (λ (p : Words). words_bytes w p ++ drop (2 * w) xs) lens
-    ∙ words_bytes-words_at w xs bytes (omega arith))
+    append_assoc (pair_bytes w (lengths_of (front_record w xs)) ++ (front_record w xs).key) (front_record w xs).value (drop (front_size w xs) xs)
+    ∙ ap (λ t. (pair_bytes w (lengths_of (front_record w xs)) ++ (front_record w xs).key) ++ t) value
+    ∙ append_assoc (pair_bytes w (lengths_of (front_record w xs))) (front_record w xs).key (drop (2 * w + (pair_at w xs).first) xs)
+    ∙ ap (λ t. pair_bytes w (lengths_of (front_record w xs)) ++ t) key
+    ∙ ap (λ (p : WordPair). pair_bytes w p ++ drop (2 * w) xs) lens
+    ∙ pair_bytes-pair_at w xs bytes (omega arith))
 
 -- and so do all that are read
 pub whole_records-stand : (w most : ℕ) (xs : List ℕ) → AreBytes xs → (rest : List ℕ) × (xs ≡ flat_map (record_bytes w) (whole_records w most xs) ++ rest)

@@ -7,11 +7,12 @@ use Rattle.std.specs.Char.{digit_value}
 use Rattle.std.specs.Prelude.{⊤}
 use Rattle.std.specs.Str.Parse.{digits_value}
 use Rattle.std.specs.Io.KnownBytes.{Consumes, IsAtEnd}
-use Rattle.cdb_form.specs.Layout.{AreBytes, KeyValue, IsRecord}
-use Rattle.cdb_form.specs.declared.fault.TextFault.{TextFault}
-use Rattle.cdb_form.specs.declared.fault.TextFault.TheVariants.{Syntax, Ended, Large, Input, Endless, NoMemory}
-use Rattle.cdb_form.specs.TextFaults.{IsReadFault, IsOfText, FailsNumber, FailsByte, FailsField, FailsRecord}
-use Rattle.cdb_form.specs.NativeText.{IsNumeral, Spells, Reads, HasNoRecord, IsFront, HasNoText, LongestFront, HasFault}
+use Rattle.cdb_form.specs.Format.Record.{AreBytes, KeyValue, IsRecord}
+use Rattle.cdb_form.specs.declared.text.fault.TextFault.{TextFault}
+use Rattle.cdb_form.specs.declared.text.fault.TextFault.TheVariants.{Syntax, Ended, Large, Input, Endless, NoMemory}
+use Rattle.cdb_form.specs.Views.TextFault.{IsReadFault, IsOfText}
+use Rattle.cdb_form.specs.Views.NativeParser.{FailsNumber, FailsByte, FailsField, FailsRecord}
+use Rattle.cdb_form.specs.Text.Native.{IsNumeral, Spells, Reads, HasNoRecord, IsFront, HasNoText, LongestFront, HasFault}
 use Rattle.cdb_form.proofs.ByteLemmas.{AreBytes-nil}
 use Rattle.cdb_form.proofs.Grammar.{Front, Bare, Never, Lit, Bulk, Num, front_lit, front_lit_none, bare_lit, bare_lit_none, never_lit, never_lit_none, front_bulk, front_bulk_part, bare_bulk, never_bulk, front_num, front_num_part, bare_num, bare_num_part, never_num, never_num_bad, never_num_large}
 

@@ -2,9 +2,9 @@
 use Rattle.std.proofs.Common.{◌≡◌, ℕ, ◌+◌, ◌-◌, ◌≤◌, List, ◌++◌, length, take, drop, refl, sym, ap, ◌∙◌, arith, Option, Some, None, IfSome}
 use Rattle.std.specs.Prelude.{max}
 use Rattle.std.proofs.lemmas.List.{drop_at, drop-drop, take-append-drop}
-use Rattle.cdb_form.specs.KnownBytes.{LosesAtMost, FromTo}
-use Rattle.cdb_form.specs.Layout.{head_size}
-use Rattle.cdb_form.specs.Walk.{walk_of, walk_from, record_end, no_walk}
+use Rattle.cdb_form.specs.Views.KnownBytes.{LosesAtMost, FromTo}
+use Rattle.cdb_form.specs.Format.Pair.{head_size}
+use Rattle.cdb_form.specs.Format.Walk.{walk_of, walk_from, record_end, no_walk}
 use Rattle.cdb_form.proofs.WalkSteps.{walk_from-end}
 
 -- the bytes from a place on are still there

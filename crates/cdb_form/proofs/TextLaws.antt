@@ -5,10 +5,9 @@ use Rattle.std.specs.Str.Parse.{AllDigits, digits_value}
 use Rattle.std.proofs.lemmas.Str.Parse.{IsNumeralModel}
 use Rattle.std.proofs.lemmas.Fmt.{digits_decimal, digits_value-decimal}
 use Rattle.std.specs.Fmt.{digits}
-use Rattle.cdb_form.specs.Layout.{KeyValue, IsRecord}
-use Rattle.cdb_form.specs.NativeText.{IsNumeral, Spells, Spelled, Reads}
-use Rattle.cdb_form.specs.Writing.{spelling_of, text_of}
-use Rattle.cdb_form.specs.Laws.{LengthsFit, TextReadsBack}
+use Rattle.cdb_form.specs.Format.Record.{KeyValue, IsRecord}
+use Rattle.cdb_form.specs.Text.Native.{IsNumeral, Spells, Spelled, Reads, spelling_of, text_of}
+use Rattle.cdb_form.specs.Laws.Text.{LengthsFit, TextReadsBack}
 use Rattle.cdb_form.proofs.Grammar.{same_digits, same_fronts}
 use Rattle.cdb_form.proofs.Stops.{first_of_spelled}
 

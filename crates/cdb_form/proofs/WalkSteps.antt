@@ -3,12 +3,13 @@ use Rattle.std.proofs.Common.{◌≡◌, ℕ, ◌+◌, ◌-◌, ◌*◌, ◌<◌
 use Rattle.std.specs.Prelude.{nat_lt, ◌==◌, if◌then◌else◌, sum_by}
 use Rattle.std.proofs.lemmas.List.Sums.{sum_by-cons}
 use Rattle.std.proofs.lemmas.Bool.{cond-true, cond-false, eq-eqb, ne_eqb, lt-ltb, le-ltb}
-use Rattle.cdb_form.specs.Layout.{KeyValue, Words, weight, head_size}
-use Rattle.cdb_form.specs.Reading.{words_at, head_at}
-use Rattle.cdb_form.specs.Walk.{Walked, front_size, whole_records, walk_from, walk_of, no_walk, with_first, damaged, record_end, first_table_at}
-use Rattle.cdb_form.specs.declared.walk_fault.WalkFault.{WalkFault}
-use Rattle.cdb_form.specs.declared.walk_fault.WalkFault.TheVariants.{Short, Table, Record}
-use Rattle.cdb_form.proofs.Fronts.{Begins, Begins-take, all_records, all_records-more, whole_records-none, words_at-front, take_past}
+use Rattle.cdb_form.specs.Format.Record.{KeyValue, record_size}
+use Rattle.cdb_form.specs.Format.Pair.{WordPair, head_size}
+use Rattle.cdb_form.specs.Format.Reading.{pair_at, head_at}
+use Rattle.cdb_form.specs.Format.Walk.{Walked, front_size, whole_records, walk_from, walk_of, no_walk, with_first, damaged, record_end, first_table_at}
+use Rattle.cdb_form.specs.declared.walk.fault.WalkFault.{WalkFault}
+use Rattle.cdb_form.specs.declared.walk.fault.WalkFault.TheVariants.{Short, Table, Record}
+use Rattle.cdb_form.proofs.Fronts.{Begins, Begins-take, all_records, all_records-more, whole_records-none, pair_at-front, take_past}
 
 -- the damage of a walk that stops at a place
 abbrev pub stopped : ℕ → ℕ → Option WalkFault
@@ -16,12 +17,12 @@ stopped stop end = if stop == end then None else Some (Record stop)
 
 -- the walk of some records
 abbrev pub walk_with : ℕ → ℕ → ℕ → List KeyValue → Walked
-walk_with w place end rs = record { records = rs; damage = stopped (place + sum_by (weight w) rs) end }
+walk_with w place end rs = record { records = rs; damage = stopped (place + sum_by (record_size w) rs) end }
 
-walk_with-more : (w place end : ℕ) (r : KeyValue) (rs : List KeyValue) → walk_with w place end (r ∷ rs) ≡ with_first r (walk_with w (place + weight w r) end rs)
+walk_with-more : (w place end : ℕ) (r : KeyValue) (rs : List KeyValue) → walk_with w place end (r ∷ rs) ≡ with_first r (walk_with w (place + record_size w r) end rs)
 walk_with-more w place end r rs =
-    let both = sum_by-cons (weight w) r rs in
-    let e : place + sum_by (weight w) (r ∷ rs) ≡ place + weight w r + sum_by (weight w) rs = omega arith in
+    let both = sum_by-cons (record_size w) r rs in
+    let e : place + sum_by (record_size w) (r ∷ rs) ≡ place + record_size w r + sum_by (record_size w) rs = omega arith in
     ap (λ stop. let v : Walked = record { records = r ∷ rs; damage = stopped stop end } in v) e
 
 pub walk_from-is : (w place end : ℕ) (bytes : List ℕ) → walk_from w place end bytes ≡ walk_with w place end (all_records w (take (end - place) bytes))
@@ -29,15 +30,15 @@ unfolding walk_from
 walk_from-is w place end bytes = refl
 
 -- a whole record before the record end, and then the walk behind it
-pub walk_from-more : (w place end : ℕ) (bytes : List ℕ) (r : KeyValue) (rest : List ℕ) → 0 < w → Begins w bytes r rest → place + weight w r ≤ end
-    → walk_from w place end bytes ≡ with_first r (walk_from w (place + weight w r) end rest)
+pub walk_from-more : (w place end : ℕ) (bytes : List ℕ) (r : KeyValue) (rest : List ℕ) → 0 < w → Begins w bytes r rest → place + record_size w r ≤ end
+    → walk_from w place end bytes ≡ with_first r (walk_from w (place + record_size w r) end rest)
 walk_from-more w place end bytes r rest some b room =
-    let n : end - place ≡ weight w r + (end - (place + weight w r)) = omega arith in
+    let n : end - place ≡ record_size w r + (end - (place + record_size w r)) = omega arith in
     walk_from-is w place end bytes
     ∙ ap (λ k. walk_with w place end (all_records w (take k bytes))) n
-    ∙ ap (walk_with w place end) (all_records-more w (take (weight w r + (end - (place + weight w r))) bytes) r (take (end - (place + weight w r)) rest) some (Begins-take w (end - (place + weight w r)) bytes r rest b))
-    ∙ walk_with-more w place end r (all_records w (take (end - (place + weight w r)) rest))
-    ∙ ap (with_first r) (sym (walk_from-is w (place + weight w r) end rest))
+    ∙ ap (walk_with w place end) (all_records-more w (take (record_size w r + (end - (place + record_size w r))) bytes) r (take (end - (place + record_size w r)) rest) some (Begins-take w (end - (place + record_size w r)) bytes r rest b))
+    ∙ walk_with-more w place end r (all_records w (take (end - (place + record_size w r)) rest))
+    ∙ ap (with_first r) (sym (walk_from-is w (place + record_size w r) end rest))
 
 -- no record is left at the record end
 pub walk_from-end : (w place end : ℕ) (bytes : List ℕ) → place ≡ end → walk_from w place end bytes ≡ no_walk
@@ -70,8 +71,8 @@ pub walk_from-no_body : (w place end : ℕ) (bytes header more : List ℕ) → p
 walk_from-no_body w place end bytes header more before split long room few =
     let n : end - place ≡ 2 * w + (end - place - 2 * w) = omega arith in
     let area : take (end - place) bytes ≡ header ++ take (end - place - 2 * w) more = ap (λ k. take k bytes) n ∙ ap (take (2 * w + (end - place - 2 * w))) split ∙ take_past header more (2 * w) (end - place - 2 * w) long in
-    let words : words_at w (take (end - place) bytes) ≡ words_at w header = ap (words_at w) area ∙ words_at-front w header (take (end - place - 2 * w) more) long in
-    let size : front_size w (take (end - place) bytes) ≡ front_size w header = ap (λ (p : Words). 2 * w + p.first + p.second) words in
+    let words : pair_at w (take (end - place) bytes) ≡ pair_at w header = ap (pair_at w) area ∙ pair_at-front w header (take (end - place - 2 * w) more) long in
+    let size : front_size w (take (end - place) bytes) ≡ front_size w header = ap (λ (p : WordPair). 2 * w + p.first + p.second) words in
     let l = length-take (end - place) bytes in
     walk_from-stop w place end bytes before (elim few [ inl a ↦ omega arith | inr b ↦ omega arith ])
 

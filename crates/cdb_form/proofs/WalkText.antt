@@ -1,12 +1,12 @@
 -- For callers of a reader of records: from what each call gave to the walk of the whole file.
 use Rattle.std.proofs.Common.{◌≡◌, ℕ, List, [], ◌∷◌, ◌++◌, sym, ap, ◌∙◌, subst, Option, Some, None, IfSome, append_assoc, drop}
 use Rattle.std.proofs.lemmas.List.{append-nil}
-use Rattle.cdb_form.specs.KnownBytes.{FromTo}
-use Rattle.cdb_form.specs.Layout.{KeyValue}
-use Rattle.cdb_form.specs.RecordReader.{walk_of_rest, size_of_rest, unread, walk_left, behind_end, behind_records, IsFresh, GaveSoFar}
-use Rattle.cdb_form.specs.Walk.{Walked, walk_of, no_walk, damaged, with_first, with_records}
-use Rattle.cdb_form.specs.declared.stream.RecordReader.{RecordReader}
-use Rattle.cdb_form.specs.declared.walk_fault.WalkFault.{WalkFault}
+use Rattle.cdb_form.specs.Views.KnownBytes.{FromTo}
+use Rattle.cdb_form.specs.Format.Record.{KeyValue}
+use Rattle.cdb_form.specs.Views.RecordReader.{walk_of_rest, size_of_rest, unread, walk_left, behind_end, behind_records, IsFresh, GaveSoFar}
+use Rattle.cdb_form.specs.Format.Walk.{Walked, walk_of, no_walk, damaged, with_first, with_records}
+use Rattle.cdb_form.specs.declared.walk.record_reader.RecordReader.{RecordReader}
+use Rattle.cdb_form.specs.declared.walk.fault.WalkFault.{WalkFault}
 
 -- the walk of a whole file: some records, and a damage or none
 abbrev pub walked : List KeyValue → Option WalkFault → Walked

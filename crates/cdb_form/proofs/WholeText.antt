@@ -5,11 +5,12 @@ use Rattle.std.specs.Char.{digit_value}
 use Rattle.std.specs.Io.KnownBytes.{Consumes}
 use Rattle.std.proofs.Math.Seq.{take-append-add}
 use Rattle.std.proofs.lemmas.List.{get_or-append-add}
-use Rattle.cdb_form.specs.Layout.{KeyValue}
-use Rattle.cdb_form.specs.declared.fault.TextFault.{TextFault}
-use Rattle.cdb_form.specs.declared.fault.TextFault.TheVariants.{Syntax, Ended, Large, Input, Endless, NoMemory}
-use Rattle.cdb_form.specs.TextFaults.{IsOfText}
-use Rattle.cdb_form.specs.NativeText.{Spells, Spelled, Reads, ReadsRecord, HasNoRecord, WholeRecords, IsFront, HasNoText, LongestFront, LiftsLength, HasFault}
+use Rattle.cdb_form.specs.Format.Record.{KeyValue}
+use Rattle.cdb_form.specs.declared.text.fault.TextFault.{TextFault}
+use Rattle.cdb_form.specs.declared.text.fault.TextFault.TheVariants.{Syntax, Ended, Large, Input, Endless, NoMemory}
+use Rattle.cdb_form.specs.Views.TextFault.{IsOfText}
+use Rattle.cdb_form.specs.Text.Native.{Spells, Spelled, Reads, HasNoRecord, WholeRecords, IsFront, HasNoText, LongestFront, LiftsLength, HasFault}
+use Rattle.cdb_form.specs.Views.TextReader.{ReadsRecord}
 use Rattle.cdb_form.proofs.TextLaws.{same_first}
 
 -- ---- one record more

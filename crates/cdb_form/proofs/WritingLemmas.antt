@@ -4,7 +4,7 @@ use Rattle.std.proofs.lemmas.List.{take-append-drop, append-nil, drop_more}
 use Rattle.std.proofs.lemmas.List.Concat.{flat_map-append}
 use Rattle.std.specs.Io.KnownBytes.{Appends, Keeps}
 use Rattle.std.proofs.Math.Seq.{take-add}
-use Rattle.cdb_form.specs.Writing.{AppendsFront}
+use Rattle.cdb_form.specs.Views.KnownBytes.{AppendsFront}
 
 pub appends_then : (old mid new : Option (List ℕ)) (xs ys : List ℕ) → Appends old mid xs → Appends mid new ys → Appends old new (xs ++ ys)
 appends_then None mid new xs ys a b = tt

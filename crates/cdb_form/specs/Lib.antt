@@ -1,17 +1,6 @@
--- The file format of constant databases, and its native text.
-pub mod Hash
-pub mod Layout
-pub mod Reading
-pub mod Words
-pub mod NativeText
-pub mod TextFaults
-pub mod TextReader
-pub mod Writing
-pub mod WorkedFiles
-pub mod Examples
-pub mod KnownBytes
-pub mod Walk
-pub mod WalkExamples
-pub mod RecordReader
-pub mod WalkLaws
+-- The format of constant databases and its texts, and what clauses read of this crate's types.
+pub mod Format
+pub mod Text
+pub mod Views
 pub mod Laws
+pub mod Examples

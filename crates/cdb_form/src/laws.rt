@@ -1,10 +1,10 @@
 //! Laws of the format. Each is the contract of a function whose parameters are what it ranges over.
 ghost use Rattle.std.specs.Prelude.{◌≡◌, ◌≤◌, All, length};
-ghost use Rattle.cdb_form.specs.Layout.{file_of, size_of};
-ghost use Rattle.cdb_form.specs.Laws.{LengthsFit, TextReadsBack};
-ghost use Rattle.cdb_form.specs.Walk.{walk_of};
-ghost use Rattle.cdb_form.specs.WalkLaws.{IsWalk, WalksBack};
-ghost use Rattle.cdb_form.specs.Words.{key_values};
+ghost use Rattle.cdb_form.specs.Format.File.{file_bytes, file_size};
+ghost use Rattle.cdb_form.specs.Laws.Text.{LengthsFit, TextReadsBack};
+ghost use Rattle.cdb_form.specs.Format.Walk.{walk_of};
+ghost use Rattle.cdb_form.specs.Laws.Walk.{IsWalk, WalksBack};
+ghost use Rattle.cdb_form.specs.Views.Pairs.{key_values};
 
 use crate::record::Record;
 use crate::width::Width;
@@ -17,7 +17,7 @@ pub fn text_reads_back<L: Width>(_records: &[Record], _rest: &[u8])
 
 /// The file of some records has its size: the head, the records, and two slots for each record.
 pub fn file_has_size<L: Width>(_records: &[Record])
-    ensures { length (file_of L.WORD (key_values _records.now)) ≡ size_of L.WORD (key_values _records.now) }
+    ensures { length (file_bytes L.WORD (key_values _records.now)) ≡ file_size L.WORD (key_values _records.now) }
 {}
 
 /// A walk gives the longest list of records that stands in a file, inside both the record end and
@@ -28,5 +28,5 @@ pub fn walk_is_longest<L: Width>(_bytes: &[u8])
 
 /// The walk of the file of some records, where its size fits, gives these records and no damage.
 pub fn walk_of_file<L: Width>(_records: &[Record])
-    ensures { size_of L.WORD (key_values _records.now) ≤ L.GREATEST → WalksBack L.WORD (key_values _records.now) }
+    ensures { file_size L.WORD (key_values _records.now) ≤ L.GREATEST → WalksBack L.WORD (key_values _records.now) }
 {}

@@ -1,38 +1,37 @@
 //! The file format of constant databases: its words and tables, and its native text.
 //!
-//! The format is said once, in `specs/`: `Hash` and `Layout` are the file of a list of records,
-//! `Reading` is what bytes read as, `Walk` is what records any bytes hold and where they are
-//! damaged, and `NativeText` is the grammar of the text. The contracts of this crate cite these
+//! The format is said once, in `specs/`: `Format` is the file of a list of records,
+//! what bytes read as, and what records any bytes hold and where they are damaged; `Text` is the
+//! grammar of the text. The contracts of this crate cite these
 //! definitions, for words of 4 bytes (`Narrow`) and of 8 bytes (`Wide`).
 #![tactic(auto)]
 
-mod area;
-mod asking;
-mod fault;
-mod hashing;
+mod head;
+mod header;
+mod key_hash;
 pub mod laws;
-mod native;
+mod pair;
+mod reading;
 mod record;
-mod retries;
-mod source;
-mod stream;
-mod walk_fault;
+mod slot;
+mod text;
+mod walk;
 mod width;
-mod words;
 mod writing;
 
-pub use fault::TextFault;
-pub use hashing::hash;
-pub use native::TextReader;
+pub use head::{Head, Pointer, head_size, read_head, read_pointer, write_head, write_pointer};
+pub use header::{Header, read_header, write_header};
+pub use key_hash::hash;
+pub use pair::pair_size;
 pub use record::Record;
-pub use stream::RecordReader;
-pub use walk_fault::WalkFault;
+pub use slot::{Slot, read_slot, write_slot};
+pub use text::fault::TextFault;
+pub use text::native_reader::TextReader;
+pub use text::native_writer::{write_end, write_record};
+pub use walk::fault::WalkFault;
+pub use walk::record_reader::RecordReader;
 pub use width::{Narrow, Wide, Width};
-pub use words::{
-    Head, Header, Pointer, Slot, read_head, read_header, read_pointer, read_slot, write_head,
-    write_header, write_pointer, write_slot,
-};
-pub use writing::{OutFault, flush_whole, write_end, write_pieces, write_record, write_whole};
+pub use writing::{OutFault, flush_whole, write_pieces, write_whole};
 
 #[cfg(test)]
 mod tests;

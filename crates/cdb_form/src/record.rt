@@ -1,6 +1,5 @@
 // A record in memory.
-ghost use Rattle.cdb_form.specs.Layout.{AreBytes};
-
+ghost use Rattle.cdb_form.specs.Format.Record.{AreBytes};
 /// A key with its value. Both are bytes of any content, and may be empty.
 #[derive(Debug, Drop)]
 pub struct Record {

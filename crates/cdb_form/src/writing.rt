@@ -1,10 +1,9 @@
 // Bytes to a writer.
 ghost use Rattle.std.specs.Prelude.{◌≡◌, ◌∷◌, [], ◌+◌, ◌<◌, ◌≤◌, length, flat_map, OnOk, OnErr};
 ghost use Rattle.std.specs.Io.KnownBytes.{Appends, Keeps};
-ghost use Rattle.cdb_form.specs.Writing.{AppendsFront, spelling_of};
+ghost use Rattle.cdb_form.specs.Views.KnownBytes.{AppendsFront};
 
-use crate::retries::RETRIES;
-use itoa::Buffer;
+use crate::reading::RETRIES;
 use std::io::{ErrorKind, Write};
 
 /// A writer failed, or took nothing, or said that it took more than it was offered.
@@ -62,24 +61,4 @@ pub fn flush_whole<W: Write>(w: &mut W) -> Result<(), OutFault>
         }
     }
     Err(OutFault)
-}
-
-/// Writes a record of a native text, with the shortest numerals. After an `OutFault` the writer
-/// holds a front of it.
-pub fn write_record<W: Write>(w: &mut W, key: &[u8], value: &[u8]) -> Result<(), OutFault>
-    ensures ok { OnOk result (Appends (W.contents w.old) (W.contents w.new) (spelling_of (record { key = key.now; value = value.now }))) }
-    ensures err { OnErr result (AppendsFront (W.contents w.old) (W.contents w.new) (spelling_of (record { key = key.now; value = value.now }))) }
-{
-    let (mut klen, mut vlen) = (Buffer::new(), Buffer::new());
-    let klen = klen.format(key.len()).as_bytes();
-    let vlen = vlen.format(value.len()).as_bytes();
-    write_pieces(w, &[b"+", klen, b",", vlen, b":", key, b"->", value, b"\n"])
-}
-
-/// Writes the newline that ends a native text. After an `OutFault` the writer holds a front of it.
-pub fn write_end<W: Write>(w: &mut W) -> Result<(), OutFault>
-    ensures ok { OnOk result (Appends (W.contents w.old) (W.contents w.new) (10 ∷ [])) }
-    ensures err { OnErr result (AppendsFront (W.contents w.old) (W.contents w.new) (10 ∷ [])) }
-{
-    write_whole(w, b"\n")
 }

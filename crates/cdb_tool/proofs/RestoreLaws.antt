@@ -3,23 +3,24 @@ use Rattle.std.proofs.Common.{◌≡◌, ℕ, ◌+◌, ◌*◌, ◌^◌, ◌<◌
 use Rattle.std.proofs.lemmas.List.Sums.{sum_by-cons}
 use Rattle.std.specs.List.{AllByRecursion}
 use Rattle.std.specs.Prelude.{sum_by}
-use Rattle.cdb_form.specs.Laws.{LengthsFit}
-use Rattle.cdb_form.specs.Layout.{KeyValue, IsRecord, weight, size_of}
-use Rattle.cdb_form.specs.Walk.{Walked}
+use Rattle.cdb_form.specs.Laws.Text.{LengthsFit}
+use Rattle.cdb_form.specs.Format.Record.{KeyValue, IsRecord, record_size}
+use Rattle.cdb_form.specs.Format.File.{file_size}
+use Rattle.cdb_form.specs.Format.Walk.{Walked}
 use Rattle.cdb_form.proofs.TextLaws.{text_reads_back}
-use Rattle.cdb_form.proofs.WalkLaws.{walk_of-file_of}
+use Rattle.cdb_form.proofs.WalkLaws.{walk_of-file_bytes}
 use Rattle.cdb_tool.specs.DumpRun.{dump_of}
 use Rattle.cdb_tool.specs.Laws.{Restores}
 
 -- no length is above the size of the file
-lengths_fit : (w room : ℕ) (rs : List KeyValue) → sum_by (λ r. weight w r + 4 * w) rs ≤ room → AllByRecursion (LengthsFit room) rs
+lengths_fit : (w room : ℕ) (rs : List KeyValue) → sum_by (λ r. record_size w r + 4 * w) rs ≤ room → AllByRecursion (LengthsFit room) rs
 lengths_fit w room [] fits = tt
 lengths_fit w room (r ∷ rs) fits =
-    let whole = sum_by-cons (λ r. weight w r + 4 * w) r rs in
+    let whole = sum_by-cons (λ r. record_size w r + 4 * w) r rs in
     (record { key = omega (arith, whole, fits); value = omega (arith, whole, fits) }, lengths_fit w room rs (omega (arith, whole, fits)))
 
-pub restores : (w top greatest : ℕ) (rs : List KeyValue) → (w ≡ 4) ⊎ (w ≡ 8) → top + 1 ≡ 256 ^ w → greatest ≤ top → greatest < 2 ^ 64 → AllByRecursion IsRecord rs → size_of w rs ≤ greatest → Restores w greatest rs
+pub restores : (w top greatest : ℕ) (rs : List KeyValue) → (w ≡ 4) ⊎ (w ≡ 8) → top + 1 ≡ 256 ^ w → greatest ≤ top → greatest < 2 ^ 64 → AllByRecursion IsRecord rs → file_size w rs ≤ greatest → Restores w greatest rs
 restores w top greatest rs width top_is within few are fits = record {
-  dump = ap dump_of (walk_of-file_of w top rs width top_is (omega arith));
+  dump = ap dump_of (walk_of-file_bytes w top rs width top_is (omega arith));
   text = text_reads_back greatest rs [] few are (lengths_fit w greatest rs (omega arith));
 }

@@ -4,13 +4,13 @@ use Rattle.std.proofs.lemmas.List.{append-nil}
 use Rattle.std.proofs.lemmas.Option.{IfSome_then}
 use Rattle.std.proofs.lemmas.List.Concat.{flat_map-append}
 use Rattle.std.specs.Io.KnownBytes.{Appends}
-use Rattle.cdb_form.specs.KnownBytes.{FromTo}
-use Rattle.cdb_form.specs.Layout.{KeyValue}
-use Rattle.cdb_form.specs.RecordReader.{unread, walk_left, behind_end, GaveSoFar, IsFresh}
-use Rattle.cdb_form.specs.Walk.{Walked, walk_of, no_walk, damaged, with_first}
-use Rattle.cdb_form.specs.Writing.{AppendsFront, spelling_of}
-use Rattle.cdb_form.specs.declared.stream.RecordReader.{RecordReader}
-use Rattle.cdb_form.specs.declared.walk_fault.WalkFault.{WalkFault}
+use Rattle.cdb_form.specs.Views.KnownBytes.{FromTo, AppendsFront}
+use Rattle.cdb_form.specs.Format.Record.{KeyValue}
+use Rattle.cdb_form.specs.Views.RecordReader.{unread, walk_left, behind_end, GaveSoFar, IsFresh}
+use Rattle.cdb_form.specs.Format.Walk.{Walked, walk_of, no_walk, damaged, with_first}
+use Rattle.cdb_form.specs.Text.Native.{spelling_of}
+use Rattle.cdb_form.specs.declared.walk.record_reader.RecordReader.{RecordReader}
+use Rattle.cdb_form.specs.declared.walk.fault.WalkFault.{WalkFault}
 use Rattle.cdb_form.proofs.WalkText.{gave_none, gave_more, gave_all, gave_before, gave_front}
 use Rattle.cdb_form.proofs.WritingLemmas.{appends_then, front_then}
 use Rattle.cdb_tool.specs.DumpRun.{closing, dump_of, Dumps, DumpsFirst}

@@ -5,12 +5,14 @@ use Rattle.std.proofs.lemmas.List.{append-nil, take_at, get_or-map, length-map}
 use Rattle.std.proofs.lemmas.List.Elements.{All-get_or, All-set, All-replicate, All-head, All-tail}
 use Rattle.std.proofs.lemmas.Nat.{xor_lt}
 use Rattle.std.specs.Io.KnownBytes.{Appends}
-use Rattle.cdb_form.specs.Writing.{AppendsFront}
-use Rattle.cdb_form.specs.Hash.{hash_of, hash_step}
-use Rattle.cdb_form.specs.Layout.{AreBytes, Words, KeyValue, words_bytes, record_bytes, with_entry, filled, table_with, empty_slot}
-use Rattle.cdb_form.specs.Words.{slot_words, WordsFit}
+use Rattle.cdb_form.specs.Views.KnownBytes.{AppendsFront}
+use Rattle.cdb_form.specs.Format.Hash.{key_hash, hash_step}
+use Rattle.cdb_form.specs.Format.Record.{AreBytes, KeyValue, record_bytes}
+use Rattle.cdb_form.specs.Format.Pair.{WordPair, pair_bytes}
+use Rattle.cdb_form.specs.Format.Table.{slots_with, filled_slots, slots_of, empty_slot}
+use Rattle.cdb_form.specs.Views.Pairs.{slot_pair, PairFits}
 use Rattle.cdb_form.proofs.WritingLemmas.{front_then, flat_map_at}
-use Rattle.cdb_form.specs.declared.words.Slot.{Slot}
+use Rattle.cdb_form.specs.declared.slot.Slot.{Slot}
 
 pub on_ok : {T E : Type 0} {P Q : Type 0} (r : Result T E) → (P → Q) → OnOk r P → OnOk r Q
 on_ok (Ok x) f h = f h
@@ -44,20 +46,20 @@ pub flat_map-map : {X Y A : Type 0} (f : Y → List A) (g : X → Y) (xs : List 
 flat_map-map f g [] = refl
 flat_map-map f g (x ∷ xs) = ap (λ t. f (g x) ++ t) (flat_map-map f g xs)
 
-pub slot_fits : (top : ℕ) (slots : List Slot) (i : ℕ) (d : Slot) → i < length slots → All (WordsFit top) (map slot_words slots) → WordsFit top (slot_words (get_or slots i d))
+pub slot_fits : (top : ℕ) (slots : List Slot) (i : ℕ) (d : Slot) → i < length slots → All (PairFits top) (map slot_pair slots) → PairFits top (slot_pair (get_or slots i d))
 slot_fits top slots i d h all =
-    let one = All-get_or (WordsFit top) (map slot_words slots) i (slot_words d) (simp length-map (omega arith)) all in
-    subst (WordsFit top) (get_or-map slot_words slots i d (slot_words d) h) one
+    let one = All-get_or (PairFits top) (map slot_pair slots) i (slot_pair d) (simp length-map (omega arith)) all in
+    subst (PairFits top) (get_or-map slot_pair slots i d (slot_pair d) h) one
 
 -- the words of a table are those of its entries
-fits_from : (top : ℕ) (es slots : List Words) → All (WordsFit top) es → All (WordsFit top) slots → All (WordsFit top) (fold with_entry slots es)
-unfolding with_entry
+fits_from : (top : ℕ) (es slots : List WordPair) → All (PairFits top) es → All (PairFits top) slots → All (PairFits top) (fold slots_with slots es)
+unfolding slots_with
 fits_from top [] slots a b = b
-fits_from top (e ∷ es) slots a b = fits_from top es (with_entry slots e) (All-tail (WordsFit top) e es a) (All-set (WordsFit top) slots _ e (All-head (WordsFit top) e es a) b)
+fits_from top (e ∷ es) slots a b = fits_from top es (slots_with slots e) (All-tail (PairFits top) e es a) (All-set (PairFits top) slots _ e (All-head (PairFits top) e es a) b)
 
-pub table_fits : (top : ℕ) (es : List Words) → All (WordsFit top) es → All (WordsFit top) (table_with es)
-unfolding filled
-table_fits top es a = fits_from top es (replicate (2 * length es) empty_slot) a (All-replicate (WordsFit top) (2 * length es) empty_slot (record { first = omega arith; second = omega arith }))
+pub table_fits : (top : ℕ) (es : List WordPair) → All (PairFits top) es → All (PairFits top) (slots_of es)
+unfolding filled_slots
+table_fits top es a = fits_from top es (replicate (2 * length es) empty_slot) a (All-replicate (PairFits top) (2 * length es) empty_slot (record { first = omega arith; second = omega arith }))
 
 -- a hash has 32 bits
 hash_from : (h : ℕ) (key : List ℕ) → h < 2 ^ 32 → AreBytes key → fold hash_step h key < 2 ^ 32
@@ -67,7 +69,7 @@ hash_from h (b ∷ key) lt bytes =
     let next : bit_xor ((33 * h) % 2 ^ 32) b < 2 ^ 32 = xor_lt 32 ((33 * h) % 2 ^ 32) b (omega arith) (omega (arith, byte)) in
     hash_from (bit_xor ((33 * h) % 2 ^ 32) b) key next (λ k. bytes (suc k))
 
-pub hash_fits : (key : List ℕ) → AreBytes key → hash_of key ≤ 4294967295
+pub hash_fits : (key : List ℕ) → AreBytes key → key_hash key ≤ 4294967295
 hash_fits key bytes = let h = hash_from 5381 key (lit< tt) bytes in omega (arith, h)
 
 -- the greatest word is that of 32 bits at least
@@ -76,13 +78,13 @@ top_fits w top (inl e) t = let p : top + 1 ≡ 256 ^ 4 = t ∙ ap (λ (k : ℕ).
 top_fits w top (inr e) t = let p : top + 1 ≡ 256 ^ 8 = t ∙ ap (λ (k : ℕ). 256 ^ k) e in omega arith
 
 -- a record's three pieces, behind what stood there
-pub record_pieces : (w : ℕ) (r : KeyValue) (a b : ℕ) (old header key value one two three : List ℕ) → a ≡ length r.key → b ≡ length r.value → header ≡ words_bytes w (record { first = a; second = b }) → key ≡ r.key → value ≡ r.value
+pub record_pieces : (w : ℕ) (r : KeyValue) (a b : ℕ) (old header key value one two three : List ℕ) → a ≡ length r.key → b ≡ length r.value → header ≡ pair_bytes w (record { first = a; second = b }) → key ≡ r.key → value ≡ r.value
     → one ≡ old ++ header → two ≡ one ++ key → three ≡ two ++ value → three ≡ old ++ record_bytes w r
 unfolding record_bytes
 record_pieces w r a b old header key value one two three ea eb eh ek ev e₁ e₂ e₃ =
-    let words : header ≡ words_bytes w (record { first = length r.key; second = length r.value }) =
-    eh ∙ ap (λ (n : ℕ). words_bytes w (record { first = n; second = b })) ea ∙ ap (λ (n : ℕ). words_bytes w (record { first = length r.key; second = n })) eb in
+    let words : header ≡ pair_bytes w (record { first = length r.key; second = length r.value }) =
+    eh ∙ ap (λ (n : ℕ). pair_bytes w (record { first = n; second = b })) ea ∙ ap (λ (n : ℕ). pair_bytes w (record { first = length r.key; second = n })) eb in
     let pieces : three ≡ old ++ (header ++ key ++ value) = e₃ ∙ ap (λ t. t ++ value) (e₂ ∙ ap (λ t. t ++ key) e₁ ∙ append_assoc old header key) ∙ append_assoc old (header ++ key) value in
     pieces ∙ ap (λ t. old ++ (t ++ key ++ value)) words
-    ∙ ap (λ t. old ++ (words_bytes w (record { first = length r.key; second = length r.value }) ++ t ++ value)) ek
-    ∙ ap (λ t. old ++ (words_bytes w (record { first = length r.key; second = length r.value }) ++ r.key ++ t)) ev
+    ∙ ap (λ t. old ++ (pair_bytes w (record { first = length r.key; second = length r.value }) ++ t ++ value)) ek
+    ∙ ap (λ t. old ++ (pair_bytes w (record { first = length r.key; second = length r.value }) ++ r.key ++ t)) ev

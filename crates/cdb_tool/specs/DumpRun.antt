@@ -1,11 +1,12 @@
 -- What a dump of a file writes.
 use Rattle.std.specs.Prelude.{ℕ, ◌≡◌, List, [], ◌∷◌, ◌++◌, Option, None, Some, IfSome, flat_map}
 use Rattle.std.specs.Io.KnownBytes.{Appends}
-use Rattle.cdb_form.specs.Layout.{KeyValue}
-use Rattle.cdb_form.specs.Walk.{Walked, walk_of}
-use Rattle.cdb_form.specs.Writing.{AppendsFront, spelling_of}
-use Rattle.cdb_form.specs.declared.walk_fault.WalkFault.{WalkFault}
-use Rattle.cdb_form.specs.declared.walk_fault.WalkFault.TheVariants as walk
+use Rattle.cdb_form.specs.Format.Record.{KeyValue}
+use Rattle.cdb_form.specs.Format.Walk.{Walked, walk_of}
+use Rattle.cdb_form.specs.Views.KnownBytes.{AppendsFront}
+use Rattle.cdb_form.specs.Text.Native.{spelling_of}
+use Rattle.cdb_form.specs.declared.walk.fault.WalkFault.{WalkFault}
+use Rattle.cdb_form.specs.declared.walk.fault.WalkFault.TheVariants as walk
 use Rattle.cdb_tool.specs.declared.fault.Fault.{Fault}
 use Rattle.cdb_tool.specs.declared.fault.Fault.TheVariants.{Walk, Output, NoMemory}
 

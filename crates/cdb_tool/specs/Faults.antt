@@ -1,11 +1,11 @@
 -- The numbers of faults, and their lines.
 use Rattle.std.specs.Prelude.{ℕ, List, ◌++◌, decimal, codes}
-use Rattle.cdb_form.specs.declared.fault.TextFault.{TextFault}
-use Rattle.cdb_form.specs.declared.fault.TextFault.TheVariants as text
-use Rattle.cdb_form.specs.declared.fault.TextFault.TheVariants.{Syntax, Ended, Large, Input, Endless}
-use Rattle.cdb_form.specs.declared.walk_fault.WalkFault.{WalkFault}
-use Rattle.cdb_form.specs.declared.walk_fault.WalkFault.TheVariants as walk
-use Rattle.cdb_form.specs.declared.walk_fault.WalkFault.TheVariants.{Short, Table, Record}
+use Rattle.cdb_form.specs.declared.text.fault.TextFault.{TextFault}
+use Rattle.cdb_form.specs.declared.text.fault.TextFault.TheVariants as text
+use Rattle.cdb_form.specs.declared.text.fault.TextFault.TheVariants.{Syntax, Ended, Large, Input, Endless}
+use Rattle.cdb_form.specs.declared.walk.fault.WalkFault.{WalkFault}
+use Rattle.cdb_form.specs.declared.walk.fault.WalkFault.TheVariants as walk
+use Rattle.cdb_form.specs.declared.walk.fault.WalkFault.TheVariants.{Short, Table, Record}
 use Rattle.cdb_tool.specs.declared.fault.MakeFault.{MakeFault}
 use Rattle.cdb_tool.specs.declared.fault.MakeFault.TheVariants.{TooBig}
 use Rattle.cdb_tool.specs.declared.fault.Fault.{Fault}

@@ -1,7 +1,7 @@
 // Why a run stopped, and the line that says so.
 ghost use Rattle.std.specs.Prelude.{◌≡◌, OnOk, OnErr};
 ghost use Rattle.std.specs.Io.KnownBytes.{Appends};
-ghost use Rattle.cdb_form.specs.Writing.{AppendsFront};
+ghost use Rattle.cdb_form.specs.Views.KnownBytes.{AppendsFront};
 ghost use Rattle.cdb_tool.specs.Faults.{make_number_of, number_of, fault_line, text_line, place_line, input_line, line_of, text_fault, walk_fault, walk_line, part_line};
 
 use cdb_form::{OutFault, TextFault, WalkFault, write_pieces};

@@ -1,7 +1,7 @@
 // A text made a file.
 ghost use Rattle.std.specs.Prelude.{◌≡◌, ◌+◌, ◌*◌, ◌≤◌, List, SomeIff, IfOk, IfErr, OnOk};
-ghost use Rattle.cdb_form.specs.Layout.{KeyValue, weight};
-ghost use Rattle.cdb_form.specs.Words.{key_value};
+ghost use Rattle.cdb_form.specs.Format.Record.{KeyValue, record_size};
+ghost use Rattle.cdb_form.specs.Views.Pairs.{key_value};
 ghost use Rattle.cdb_tool.specs.Stored.{Holds};
 ghost use Rattle.cdb_tool.specs.MakeRun.{ReadsFitting, NotRead, MakesFile, MakeFails};
 
@@ -15,7 +15,7 @@ use std::io::{Read, Write};
 // The size of a file with one more record, where it is within the greatest.
 fn size_with<L: Width>(size: u64, item: &Record) -> Option<u64>
     requires { size ≤ L.GREATEST }
-    ensures { SomeIff result (size + (weight L.WORD (key_value item.now) + 4 * L.WORD) ≤ L.GREATEST) (size + (weight L.WORD (key_value item.now) + 4 * L.WORD)) }
+    ensures { SomeIff result (size + (record_size L.WORD (key_value item.now) + 4 * L.WORD) ≤ L.GREATEST) (size + (record_size L.WORD (key_value item.now) + 4 * L.WORD)) }
 {
     let words = 6 * L::WORD as u64;
     let klen = item.key.len() as u64;

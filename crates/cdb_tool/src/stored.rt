@@ -1,7 +1,7 @@
 // The records of a file, before it is finished.
 ghost use Rattle.std.specs.Prelude.{◌≡◌, ℕ, ◌+◌, ◌*◌, ◌++◌, ◌∷◌, [], ◌≤◌, List, length, IfOk, OnOk};
-ghost use Rattle.cdb_form.specs.Layout.{KeyValue, weight};
-ghost use Rattle.cdb_form.specs.Words.{key_value};
+ghost use Rattle.cdb_form.specs.Format.Record.{KeyValue, record_size};
+ghost use Rattle.cdb_form.specs.Views.Pairs.{key_value};
 
 use crate::entries::{add_entry, empty_lists};
 use cdb_form::{Header, Record, Slot, Width, hash, write_header};
@@ -35,7 +35,7 @@ impl Stored {
     ///
     /// It fails only where memory runs out, and the records are then no longer to be used.
     pub fn add<L: Width>(&mut self, item: &Record) -> Result<(), AllocError>
-        requires { 512 * L.WORD + length self.old.bytes.items + weight L.WORD (key_value item.now) ≤ L.GREATEST }
+        requires { 512 * L.WORD + length self.old.bytes.items + record_size L.WORD (key_value item.now) ≤ L.GREATEST }
         ensures { (records : List KeyValue) → Holds L.WORD self.old records → OnOk result (Holds L.WORD self.new (records ++ key_value item.now ∷ [])) }
     {
         let place = (512 * L::WORD + self.bytes.len()) as u64;

@@ -1,8 +1,8 @@
 // One table, filled.
 ghost use Rattle.std.specs.Prelude.{◌≡◌, ℕ, ◌+◌, ◌*◌, ◌%◌, ◌<◌, ◌≤◌, length, map, replicate};
 ghost use Rattle.std.specs.List.{prefix_len};
-ghost use Rattle.cdb_form.specs.Layout.{is_used, rotated, with_entry, filled, empty_slot};
-ghost use Rattle.cdb_form.specs.Words.{slot_words};
+ghost use Rattle.cdb_form.specs.Format.Table.{is_used, slots_from, slots_with, filled_slots, empty_slot};
+ghost use Rattle.cdb_form.specs.Views.Pairs.{slot_pair};
 
 use cdb_form::Slot;
 
@@ -11,7 +11,7 @@ pub const EMPTY: Slot = Slot { hash: 0, place: 0 };
 
 // How many slots are used from the front on.
 fn used_front(slots: &[Slot]) -> usize
-    ensures { result ≡ prefix_len is_used (map slot_words slots.now) }
+    ensures { result ≡ prefix_len is_used (map slot_pair slots.now) }
 {
     for (n, slot) in slots.iter().enumerate() {
         if slot.place == 0 {
@@ -25,7 +25,7 @@ fn used_front(slots: &[Slot]) -> usize
 fn first_empty(slots: &[Slot], home: usize) -> usize
     requires { home < length slots.now }
     ensures within { result < length slots.now }
-    ensures first { result ≡ (home + prefix_len is_used (rotated home (map slot_words slots.now))) % length slots.now }
+    ensures first { result ≡ (home + prefix_len is_used (slots_from home (map slot_pair slots.now))) % length slots.now }
 {
     let behind = used_front(&slots[home..]);
     if behind < slots.len() - home {
@@ -38,7 +38,7 @@ fn first_empty(slots: &[Slot], home: usize) -> usize
 // Puts an entry into the first empty slot from its home.
 fn put_entry(slots: &mut [Slot], entry: Slot)
     requires { 0 < length slots.old }
-    ensures { map slot_words slots.new ≡ with_entry (map slot_words slots.old) (slot_words entry) }
+    ensures { map slot_pair slots.new ≡ slots_with (map slot_pair slots.old) (slot_pair entry) }
 {
     let home = (entry.hash / 256) % slots.len() as u64;
     let place = first_empty(slots, home as usize);
@@ -47,7 +47,7 @@ fn put_entry(slots: &mut [Slot], entry: Slot)
 
 // Empties each slot.
 fn clear(slots: &mut [Slot])
-    ensures { map slot_words slots.new ≡ replicate (length slots.old) empty_slot }
+    ensures { map slot_pair slots.new ≡ replicate (length slots.old) empty_slot }
 {
     for slot in slots.iter_mut() {
         *slot = EMPTY;
@@ -57,7 +57,7 @@ fn clear(slots: &mut [Slot])
 /// Leaves the table of some entries, filled in their order. It has two slots for each.
 pub fn fill_table(slots: &mut [Slot], entries: &[Slot])
     requires { length slots.old ≡ 2 * length entries.now }
-    ensures { map slot_words slots.new ≡ filled (2 * length entries.now) (map slot_words entries.now) }
+    ensures { map slot_pair slots.new ≡ filled_slots (2 * length entries.now) (map slot_pair entries.now) }
 {
     clear(slots);
     for entry in entries {

@@ -2,8 +2,8 @@
 ghost use Rattle.std.specs.Prelude.{◌≤◌, ◌^◌};
 
 use super::fakes::{Behind, FakeReader};
-use crate::fault::TextFault;
-use crate::native::TextReader;
+use crate::text::fault::TextFault;
+use crate::text::native_reader::TextReader;
 use crate::width::{Narrow, Wide, Width};
 use std::alloc::Global;
 use std::io::Read;

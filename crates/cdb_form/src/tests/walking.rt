@@ -1,12 +1,13 @@
 // The reader of records, on worked, damaged and foreign files, and over readers that fail.
 ghost use Rattle.std.specs.Prelude.{◌≡◌, Some, None, IfOk, IfSome, MatchOption};
-ghost use Rattle.cdb_form.specs.Walk.{walk_of, IsDamage};
-ghost use Rattle.cdb_form.specs.Words.{key_values};
+ghost use Rattle.cdb_form.specs.Format.Walk.{walk_of};
+ghost use Rattle.cdb_form.specs.Views.WalkFault.{IsDamage};
+ghost use Rattle.cdb_form.specs.Views.Pairs.{key_values};
 
 use super::fakes::{Behind, FakeReader};
 use crate::record::Record;
-use crate::stream::RecordReader;
-use crate::walk_fault::WalkFault;
+use crate::walk::fault::WalkFault;
+use crate::walk::record_reader::RecordReader;
 use crate::width::{Narrow, Wide, Width};
 use std::alloc::{AllocError, Global};
 use std::io::Read;

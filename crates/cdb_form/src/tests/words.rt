@@ -1,8 +1,7 @@
 // Hashes and words worked out by hand.
-use crate::hashing::hash;
 use crate::width::{Narrow, Wide};
-use crate::words::{
-    Header, Pointer, Slot, read_head, read_header, read_pointer, read_slot, write_head,
+use crate::{
+    Header, Pointer, Slot, hash, read_head, read_header, read_pointer, read_slot, write_head,
     write_header, write_pointer, write_slot,
 };
 use std::prelude::*;

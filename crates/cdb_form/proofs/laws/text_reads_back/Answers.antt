@@ -1,7 +1,7 @@
 use Rattle.std.proofs.Common.{arith}
 use Rattle.std.proofs.lemmas.List.Elements.{recursion_from_All}
-use Rattle.cdb_form.specs.Laws.{LengthsFit}
-use Rattle.cdb_form.specs.Words.{key_values}
+use Rattle.cdb_form.specs.Laws.Text.{LengthsFit}
+use Rattle.cdb_form.specs.Views.Pairs.{key_values}
 use Rattle.cdb_form.proofs.RecordLemmas.{are_records}
 use Rattle.cdb_form.proofs.TextLaws.{text_reads_back as law}
 use Rattle.cdb_form.proofs.laws.text_reads_back.Goals as goal

@@ -1,5 +1,5 @@
 use Rattle.std.proofs.lemmas.Result.{err_from_is_err_and}
-use Rattle.cdb_form.specs.Words.{key_value}
+use Rattle.cdb_form.specs.Views.Pairs.{key_value}
 use Rattle.cdb_tool.proofs.WholeDumps.{dumped_more, dumped_all, record_fails, end_fails}
 use Rattle.cdb_tool.proofs.dump.dump_unflushed.Goals as goal
 

@@ -1,4 +1,4 @@
-use Rattle.cdb_form.specs.RecordReader.{bytes_left}
+use Rattle.cdb_form.specs.Views.RecordReader.{bytes_left}
 use Rattle.cdb_tool.proofs.WholeDumps.{DumpedSoFar}
 use Rattle.cdb_tool.proofs.dump.dump_unflushed.Given as goal
 

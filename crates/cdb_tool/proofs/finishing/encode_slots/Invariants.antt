@@ -1,6 +1,6 @@
 use Rattle.std.proofs.Common.{◌≡◌, ◌*◌, ◌++◌, take, drop, map, flat_map, length}
-use Rattle.cdb_form.specs.Layout.{words_bytes}
-use Rattle.cdb_form.specs.Words.{slot_words}
+use Rattle.cdb_form.specs.Format.Pair.{pair_bytes}
+use Rattle.cdb_form.specs.Views.Pairs.{slot_pair}
 use Rattle.cdb_tool.proofs.finishing.encode_slots.Given as goal
 
 -- the bytes of the slots so far, and what stood behind them
@@ -9,5 +9,5 @@ invariant-loop-slot g l =
     record {
       at : l.at ≡ 2 * g.L.Width.WORD * l.slot-index;
       long : length l.into ≡ 2 * g.L.Width.WORD * length l.slots;
-      written : l.into ≡ flat_map (words_bytes g.L.Width.WORD) (map slot_words (take l.slot-index l.slots)) ++ drop (2 * g.L.Width.WORD * l.slot-index) l.fn.into;
+      written : l.into ≡ flat_map (pair_bytes g.L.Width.WORD) (map slot_pair (take l.slot-index l.slots)) ++ drop (2 * g.L.Width.WORD * l.slot-index) l.fn.into;
     }

@@ -1,6 +1,6 @@
 use Rattle.std.proofs.Common.{take, length, ◌≤◌, sum_by}
 use Rattle.std.specs.Prelude.{All}
-use Rattle.cdb_tool.specs.Entries.{lists_words}
+use Rattle.cdb_tool.specs.Entries.{lists_pairs}
 use Rattle.cdb_tool.proofs.finishing.longest.Given as goal
 
 -- no list so far is longer, and all of them together are at least as long
@@ -8,5 +8,5 @@ abbrev pub invariant-loop-list : goal.invariant-loop-list
 invariant-loop-list l =
     record {
       most : All (λ list. length list.items ≤ l.most) (take l.list-index l.lists);
-      within : l.most ≤ sum_by length (lists_words l.lists);
+      within : l.most ≤ sum_by length (lists_pairs l.lists);
     }

@@ -1,8 +1,10 @@
 use Rattle.std.proofs.Common.{◌≡◌, ◌++◌, ◌+◌, ◌*◌, ℕ, List, length, sym, ap, arith, map, flat_map, append_assoc}
 use Rattle.std.proofs.lemmas.Result.{err_from_is_err_and}
-use Rattle.cdb_form.specs.Layout.{words_bytes, pointers_from, table_with}
+use Rattle.cdb_form.specs.Format.Pair.{pair_bytes}
+use Rattle.cdb_form.specs.Format.File.{pointers_from}
+use Rattle.cdb_form.specs.Format.Table.{slots_of}
 use Rattle.cdb_form.proofs.WritingLemmas.{front_then, appends_then}
-use Rattle.cdb_tool.specs.Entries.{list_words, lists_words}
+use Rattle.cdb_tool.specs.Entries.{list_pairs, lists_pairs}
 use Rattle.cdb_tool.proofs.Written.{on_ok, on_err, front_in, front_last, same_appends, same_front, flat_map-map}
 use Rattle.cdb_tool.proofs.finishing.write_parts.Goals as goal
 
@@ -11,8 +13,8 @@ returns-in_err-write_pointers-clause-err g c =
     let p = err_from_is_err_and c.from_residual.result c.from_residual.ensures.1 in
     let w = g.L.Width.WORD in
     let records = c.args.records.now in
-    let head : ℕ → List ℕ = λ n. flat_map (words_bytes w) (pointers_from w n (map table_with (lists_words c.args.lists.now))) in
-    let tables = flat_map (λ es. flat_map (words_bytes w) (table_with es)) (lists_words c.args.lists.now) in
+    let head : ℕ → List ℕ = λ n. flat_map (pair_bytes w) (pointers_from w n (map slots_of (lists_pairs c.args.lists.now))) in
+    let tables = flat_map (λ es. flat_map (pair_bytes w) (slots_of es)) (lists_pairs c.args.lists.now) in
     let end : 512 * c.WORD.result + length records ≡ 512 * w + length records = omega (arith, c.WORD.ensures) in
     rw p.1 (front_in _ _ _ (records ++ tables) _ (same_front _ _ _ _ (ap head end) c.in_err-write_pointers.ensures.err) (append_assoc (head (512 * w + length records)) records tables))
 
@@ -21,8 +23,8 @@ returns-in_err-write_whole-clause-err g c =
     let p = err_from_is_err_and c.from_residual-in_err-write_whole.result c.from_residual-in_err-write_whole.ensures.1 in
     let w = g.L.Width.WORD in
     let records = c.args.records.now in
-    let head : ℕ → List ℕ = λ n. flat_map (words_bytes w) (pointers_from w n (map table_with (lists_words c.args.lists.now))) in
-    let tables = flat_map (λ es. flat_map (words_bytes w) (table_with es)) (lists_words c.args.lists.now) in
+    let head : ℕ → List ℕ = λ n. flat_map (pair_bytes w) (pointers_from w n (map slots_of (lists_pairs c.args.lists.now))) in
+    let tables = flat_map (λ es. flat_map (pair_bytes w) (slots_of es)) (lists_pairs c.args.lists.now) in
     let end : 512 * c.WORD.result + length records ≡ 512 * w + length records = omega (arith, c.WORD.ensures) in
     rw p.1 (front_then _ _ _ _ _ tables _ (same_appends _ _ _ _ (ap head end) c.in_ok-write_pointers.ensures.ok) c.in_err-write_whole.ensures.err (append_assoc (head (512 * w + length records)) records tables))
 
@@ -30,17 +32,17 @@ pub returns-clause-ok : goal.returns-clause-ok
 returns-clause-ok g c =
     let w = g.L.Width.WORD in
     let records = c.args.records.now in
-    let head : ℕ → List ℕ = λ n. flat_map (words_bytes w) (pointers_from w n (map table_with (lists_words c.args.lists.now))) in
+    let head : ℕ → List ℕ = λ n. flat_map (pair_bytes w) (pointers_from w n (map slots_of (lists_pairs c.args.lists.now))) in
     let end : 512 * c.WORD.result + length records ≡ 512 * w + length records = omega (arith, c.WORD.ensures) in
-    let tables = flat_map-map (λ es. flat_map (words_bytes w) (table_with es)) list_words c.args.lists.now in
+    let tables = flat_map-map (λ es. flat_map (pair_bytes w) (slots_of es)) list_pairs c.args.lists.now in
     on_ok c.write_tables.result (λ d. appends_then _ _ _ _ _ (appends_then _ _ _ _ _ (same_appends _ _ _ _ (ap head end) c.in_ok-write_pointers.ensures.ok) c.in_ok-write_whole.ensures.ok) (same_appends _ _ _ _ (sym tables) d)) c.write_tables.ensures.ok
 
 pub returns-clause-err : goal.returns-clause-err
 returns-clause-err g c =
     let w = g.L.Width.WORD in
     let records = c.args.records.now in
-    let head : ℕ → List ℕ = λ n. flat_map (words_bytes w) (pointers_from w n (map table_with (lists_words c.args.lists.now))) in
+    let head : ℕ → List ℕ = λ n. flat_map (pair_bytes w) (pointers_from w n (map slots_of (lists_pairs c.args.lists.now))) in
     let end : 512 * c.WORD.result + length records ≡ 512 * w + length records = omega (arith, c.WORD.ensures) in
-    let tables = flat_map-map (λ es. flat_map (words_bytes w) (table_with es)) list_words c.args.lists.now in
+    let tables = flat_map-map (λ es. flat_map (pair_bytes w) (slots_of es)) list_pairs c.args.lists.now in
     on_err c.write_tables.result (λ d. front_last _ _ _ _ _ _ (appends_then _ _ _ _ _ (same_appends _ _ _ _ (ap head end) c.in_ok-write_pointers.ensures.ok) c.in_ok-write_whole.ensures.ok) d
     (ap (λ t. (head (512 * w + length records) ++ records) ++ t) tables)) c.write_tables.ensures.err

@@ -1,5 +1,5 @@
 use Rattle.std.proofs.Common.{[], arith}
-use Rattle.cdb_form.specs.Words.{key_value}
+use Rattle.cdb_form.specs.Views.Pairs.{key_value}
 use Rattle.cdb_form.proofs.WholeText.{so_far_none}
 use Rattle.cdb_tool.proofs.EntryLists.{size_push}
 use Rattle.cdb_tool.proofs.WholeRuns.{text_not_read, too_big, holds_so_far_more, room_for}

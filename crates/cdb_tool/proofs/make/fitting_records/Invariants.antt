@@ -1,5 +1,5 @@
 use Rattle.std.proofs.Common.{◌≤◌}
-use Rattle.cdb_form.specs.TextReader.{IsGoing, asks_left, taken_of, unread}
+use Rattle.cdb_form.specs.Views.TextReader.{IsGoing, asks_left, taken_of, unread}
 use Rattle.cdb_tool.proofs.WholeRuns.{HoldsSoFar}
 use Rattle.cdb_tool.proofs.make.fitting_records.Given as goal
 

@@ -1,5 +1,5 @@
 use Rattle.std.proofs.Common.{◌∙◌, ap, replicate, arith, ℕ, ◌≡◌, length}
-use Rattle.cdb_form.specs.Layout.{empty_slot}
+use Rattle.cdb_form.specs.Format.Table.{empty_slot}
 use Rattle.cdb_tool.proofs.Filling.{all_empty}
 use Rattle.cdb_tool.proofs.table.clear.Goals as goal
 

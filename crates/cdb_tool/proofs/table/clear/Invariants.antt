@@ -1,5 +1,5 @@
 use Rattle.std.proofs.Common.{◌≡◌, ℕ, ◌<◌, get_or}
-use Rattle.cdb_form.specs.declared.words.Slot.{Slot}
+use Rattle.cdb_form.specs.declared.slot.Slot.{Slot}
 use Rattle.cdb_tool.proofs.table.clear.Given as goal
 
 -- the slots so far are empty

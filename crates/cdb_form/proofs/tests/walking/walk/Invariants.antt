@@ -1,5 +1,5 @@
-use Rattle.cdb_form.specs.RecordReader.{GaveSoFar, bytes_left}
-use Rattle.cdb_form.specs.Words.{key_values}
+use Rattle.cdb_form.specs.Views.RecordReader.{GaveSoFar, bytes_left}
+use Rattle.cdb_form.specs.Views.Pairs.{key_values}
 use Rattle.cdb_form.proofs.tests.walking.walk.Given as goal
 
 -- the records so far

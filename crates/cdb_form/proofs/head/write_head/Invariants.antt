@@ -1,0 +1,13 @@
+use Rattle.std.proofs.Common.{◌≡◌, ◌*◌, ◌++◌, take, drop, map, flat_map, length}
+use Rattle.cdb_form.specs.Format.Pair.{pair_bytes}
+use Rattle.cdb_form.specs.Views.Pairs.{pointer_pair}
+use Rattle.cdb_form.proofs.head.write_head.Given as goal
+
+-- what is written so far, and what stands behind it
+abbrev pub invariant-loop-n : goal.invariant-loop-n
+invariant-loop-n g l =
+    record {
+      size : l.size ≡ 2 * g.L.Width.WORD;
+      long : length l.into ≡ 512 * g.L.Width.WORD;
+      written : l.into ≡ flat_map (pair_bytes g.L.Width.WORD) (map pointer_pair (take l.n l.head.pointers)) ++ drop (2 * g.L.Width.WORD * l.n) l.fn.into;
+    }

@@ -1,0 +1,16 @@
+use Rattle.std.proofs.Common.{◌-◌, ◌≤◌, length, take}
+use Rattle.std.specs.Io.KnownBytes.{Consumes}
+use Rattle.cdb_form.specs.Format.Record.{AreBytes}
+use Rattle.cdb_form.proofs.reading.fill.Given as goal
+
+-- the bytes so far
+abbrev pub invariant-loop-done : goal.invariant-loop-done
+invariant-loop-done g l =
+    record {
+      read : Consumes (g.R.Read.remaining l.fn.reader) (g.R.Read.remaining l.reader) (take l.done l.into);
+      are : AreBytes (take l.done l.into);
+      within : l.done ≤ length l.into;
+    }
+
+abbrev pub decreases-loop-done : goal.decreases-loop-done
+decreases-loop-done g l = length l.initial.into - l.done

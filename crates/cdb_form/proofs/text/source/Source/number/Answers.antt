@@ -1,0 +1,17 @@
+use Rattle.std.proofs.Common.{◌≡◌, ◌+◌, ◌*◌, ap, ◌∙◌, arith, rules}
+use Rattle.std.specs.Char.{digit_value}
+use Rattle.cdb_form.proofs.SourceLemmas.{digit_more}
+use Rattle.cdb_form.proofs.text.source.Source.number.Goals as goal
+
+pub loop-byte-preserved : goal.loop-byte-preserved
+loop-byte-preserved g c =
+    let code : digit_value c.from.result ≡ digit_value c.in-Some.byte = ap digit_value c.from.ensures in
+    let digit = c.in-Some-to_digit.ensures.value in
+    let longer = c.in-Some-with_digit.ensures in
+    let counted = rw c.in-Some.is at c.in_ok-byte.ensures.counted in
+    record {
+      start = search rules;
+      asks = search rules;
+      so_far = digit_more _ _ _ _ _ _ _ c.in-Some.byte _ _ c.loop-byte.invariant.so_far (rw c.in-Some.is at c.in_ok-byte.ensures.bytes)
+          (rw (← code) digit.0) (longer.1 ∙ ap (λ d. c.loop-byte.value * 10 + d) (digit.1 ∙ code)) (omega (arith, longer.0, longer.1)) counted;
+    }

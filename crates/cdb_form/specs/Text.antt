@@ -1,0 +1,2 @@
+-- The texts of a list of records.
+pub mod Native

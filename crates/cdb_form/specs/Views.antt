@@ -1,0 +1,8 @@
+-- What clauses read of the types of this crate, of readers and of writers.
+pub mod Pairs
+pub mod KnownBytes
+pub mod TextFault
+pub mod WalkFault
+pub mod NativeParser
+pub mod TextReader
+pub mod RecordReader

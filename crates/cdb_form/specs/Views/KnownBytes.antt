@@ -1,0 +1,22 @@
+-- What a call does to the bytes that a reader has left or a writer holds, where they are known.
+use Rattle.std.specs.Io.KnownBytes.{Consumes, Appends}
+use Rattle.std.specs.Prelude.{ℕ, List, ◌++◌, length, ◌≤◌, Option, ◌≡◌, ⊤, Some, None}
+
+-- no more than n bytes are lost
+pub record LosesAtMost (old new : Option (List ℕ)) (n : ℕ) : Type 0 where
+  pub lost : List ℕ
+  pub taken : Consumes old new lost
+  pub few : length lost ≤ n
+
+-- a relation of the bytes before and after
+abbrev pub FromTo : Option (List ℕ) → Option (List ℕ) → (List ℕ → List ℕ → Type 0) → Type 0
+FromTo None new P = ⊤
+FromTo (Some text) None P = ⊥
+FromTo (Some text) (Some rest) P = P text rest
+
+-- known bytes grow by a front of some bytes
+pub record AppendsFront (old new : Option (List ℕ)) (bytes : List ℕ) : Type 0 where
+  pub front : List ℕ
+  pub more : List ℕ
+  pub split : bytes ≡ front ++ more
+  pub appended : Appends old new front

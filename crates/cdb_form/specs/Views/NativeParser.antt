@@ -1,0 +1,70 @@
+-- What a fault of the native parser says of the part of a record that it was reading. `from` is the place of the text's first byte.
+use Rattle.std.specs.Char.{digit_value}
+use Rattle.std.specs.Io.KnownBytes.{Consumes}
+use Rattle.std.specs.Prelude.{ℕ, ◌*◌, List, ◌+◌, ◌<◌, [], ◌∷◌, ◌++◌, length, ◌≤◌, Option, ◌≡◌, ⊤, ◌≢◌}
+use Rattle.std.specs.Str.Parse.{AllDigits, digits_value}
+use Rattle.cdb_form.specs.Format.Record.{KeyValue, AreBytes}
+use Rattle.cdb_form.specs.Text.Native.{Spells, HasFault, HasNoRecord}
+use Rattle.cdb_form.specs.Views.TextFault.{IsOfText}
+use Rattle.cdb_form.specs.declared.text.fault.TextFault.{TextFault}
+use Rattle.cdb_form.specs.declared.text.fault.TextFault.TheVariants.{Syntax, Ended, Large}
+
+-- digits of a number of at most `greatest` stand at the front of the text, and then c
+pub record DigitsThen (greatest : ℕ) (text : List ℕ) (c count : ℕ) : Type 0 where
+  pub digits : List ℕ
+  pub rest : List ℕ
+  pub each : AllDigits 10 digits
+  pub fits : digits_value 10 digits ≤ greatest
+  pub long : length digits ≡ count
+  pub text_is : text ≡ digits ++ c ∷ rest
+  pub lifts : digit_value c < 10 → greatest < digits_value 10 digits * 10 + digit_value c
+
+-- no numeral of at most `greatest` with `stop` behind it is at the front of the text
+abbrev pub FailsNumber : ℕ → ℕ → ℕ → List ℕ → TextFault → Type 0
+FailsNumber greatest stop from text (Syntax at) = (c n : ℕ) × DigitsThen greatest text c n × (at ≡ from + n) × (10 ≤ digit_value c) × (c ≡ stop → n ≡ 0)
+FailsNumber greatest stop from text (Large at) = (c n : ℕ) × DigitsThen greatest text c n × (at ≡ from + n) × (digit_value c < 10)
+FailsNumber greatest stop from text (Ended at) = AllDigits 10 text × (digits_value 10 text ≤ greatest) × (at ≡ from + length text)
+FailsNumber greatest stop from text _ = ⊤
+
+-- the byte isn't at the front of the text
+abbrev pub FailsByte : ℕ → ℕ → List ℕ → TextFault → Type 0
+FailsByte byte from text (Syntax at) = (c : ℕ) × (rest : List ℕ) × (text ≡ c ∷ rest) × (c ≢ byte) × (at ≡ from)
+FailsByte byte from text (Ended at) = (text ≡ []) × (at ≡ from)
+FailsByte byte from text (Large at) = ⊥
+FailsByte byte from text _ = ⊤
+
+-- the text has fewer than n bytes
+abbrev pub FailsBytes : ℕ → ℕ → List ℕ → TextFault → Type 0
+FailsBytes n from text (Syntax at) = ⊥
+FailsBytes n from text (Large at) = ⊥
+FailsBytes n from text (Ended at) = AreBytes text × (length text < n) × (at ≡ from + length text)
+FailsBytes n from text _ = ⊤
+
+-- n bytes and then another byte than `stop` stand at the front of the text
+pub record BytesThenOther (n stop : ℕ) (text : List ℕ) : Type 0 where
+  pub bytes : List ℕ
+  pub other : ℕ
+  pub rest : List ℕ
+  pub are : AreBytes bytes
+  pub long : length bytes ≡ n
+  pub text_is : text ≡ bytes ++ other ∷ rest
+  pub differs : other ≢ stop
+
+-- n bytes with `stop` behind them aren't at the front of the text
+abbrev pub FailsField : ℕ → ℕ → ℕ → List ℕ → TextFault → Type 0
+FailsField n stop from text (Syntax at) = BytesThenOther n stop text × (at ≡ from + n)
+FailsField n stop from text (Large at) = ⊥
+FailsField n stop from text (Ended at) = AreBytes text × (length text ≤ n) × (at ≡ from + length text)
+FailsField n stop from text _ = ⊤
+
+-- a reader lost a spelling of the record from the byte behind its plus on
+pub record ReadsBehindPlus (greatest : ℕ) (old new : Option (List ℕ)) (from to : ℕ) (r : KeyValue) : Type 0 where
+  pub text : List ℕ
+  pub spells : Spells greatest (43 ∷ text) r
+  pub read : Consumes old new text
+  pub counted : to ≡ from + length text
+
+-- the text has this fault, and no spelled record at its front
+pub record FailsRecord (greatest from : ℕ) (text : List ℕ) (f : TextFault) : Type 0 where
+  pub fault : HasFault greatest from text f
+  pub no_record : IsOfText f → HasNoRecord greatest text

@@ -1,0 +1,78 @@
+-- What a clause reads of a reader of the records of a file.
+use Rattle.std.specs.Prelude.{ℕ, ◌^◌, List, drop, Option, ◌≡◌, ⊤, ◌-◌, max}
+use Rattle.cdb_form.specs.Format.Pair.{head_size}
+use Rattle.cdb_form.specs.Format.Record.{KeyValue}
+use Rattle.cdb_form.specs.Format.Walk.{Walked, walk_of, walk_from, record_end, no_walk, with_records, damaged}
+use Rattle.cdb_form.specs.Views.KnownBytes.{FromTo}
+use Rattle.cdb_form.specs.declared.walk.fault.WalkFault.{WalkFault}
+use Rattle.cdb_form.specs.declared.walk.record_reader.RecordReader.{RecordReader}
+use Rattle.cdb_form.specs.declared.walk.record_reader.Walking.{Walking}
+use Rattle.cdb_form.specs.declared.walk.record_reader.Walking.TheVariants.{AtHead, At, AtEnd, Failed}
+
+-- the walk of what is unread: of a whole file before its head was read, and then from the next place on
+abbrev pub walk_of_rest : ℕ → Walking → List ℕ → Walked
+walk_of_rest w AtHead text = walk_of w text
+walk_of_rest w (At area) text = walk_from w area.place area.end text
+walk_of_rest w AtEnd text = no_walk
+walk_of_rest w (Failed fault) text = damaged fault
+
+-- how many of the unread bytes stand before the record end, or in the head
+abbrev pub size_of_rest : ℕ → Walking → List ℕ → ℕ
+size_of_rest w AtHead text = max (head_size w) (record_end w text)
+size_of_rest w (At area) text = area.end - area.place
+size_of_rest w AtEnd text = 0
+size_of_rest w (Failed fault) text = 0
+
+-- a bound on the bytes that may still be read
+abbrev pub bound_of_rest : Walking → ℕ
+bound_of_rest AtHead = 2 ^ 64
+bound_of_rest (At area) = area.end - area.place
+bound_of_rest AtEnd = 0
+bound_of_rest (Failed fault) = 0
+
+abbrev pub is_going : Walking → Type 0
+is_going AtHead = ⊤
+is_going (At area) = ⊤
+is_going AtEnd = ⊥
+is_going (Failed fault) = ⊥
+
+-- the bytes that its reader has left, where they are known
+abbrev pub unread : {R L : Type 0} → (R → Option (List ℕ)) → RecordReader R L → Option (List ℕ)
+unread remaining t = remaining t.reader
+
+-- the walk that it is still to give, where these bytes are unread
+abbrev pub walk_left : {R L : Type 0} → ℕ → RecordReader R L → List ℕ → Walked
+walk_left w t text = walk_of_rest w t.walking text
+
+-- what of the unread bytes stands behind the record end
+abbrev pub behind_end : {R L : Type 0} → ℕ → RecordReader R L → List ℕ → List ℕ
+behind_end w t text = drop (size_of_rest w t.walking text) text
+
+-- each record that it gives lowers this bound
+abbrev pub bytes_left : {R L : Type 0} → RecordReader R L → ℕ
+bytes_left t = bound_of_rest t.walking
+
+-- nothing was read
+abbrev pub IsFresh : {R L : Type 0} → RecordReader R L → Type 0
+IsFresh t = t.walking ≡ AtHead
+
+-- it has answered neither `None` nor a fault
+abbrev pub IsGoing : {R L : Type 0} → RecordReader R L → Type 0
+IsGoing t = is_going t.walking
+
+-- it has answered `None`
+abbrev pub HasEnded : {R L : Type 0} → RecordReader R L → Type 0
+HasEnded t = t.walking ≡ AtEnd
+
+-- it has answered this fault
+abbrev pub HasFailed : {R L : Type 0} → RecordReader R L → WalkFault → Type 0
+HasFailed t fault = t.walking ≡ Failed fault
+
+-- what of a file stands behind its head and its records
+abbrev pub behind_records : ℕ → List ℕ → List ℕ
+behind_records w text = drop (max (head_size w) (record_end w text)) text
+
+-- a reader of a file gave these records so far: the walk of the file is these records and then the walk that is left,
+-- and what stands behind the record end is still unread
+abbrev pub GaveSoFar : {R L : Type 0} → ℕ → (R → Option (List ℕ)) → Option (List ℕ) → RecordReader R L → List KeyValue → Type 0
+GaveSoFar w remaining file t rs = FromTo file (unread remaining t) (λ text rest. (walk_of w text ≡ with_records rs (walk_left w t rest)) × (behind_end w t rest ≡ behind_records w text))

@@ -1,0 +1,44 @@
+// Two words side by side, of which headers, slots and pointers are made.
+ghost use Rattle.std.specs.Prelude.{◌≡◌, ℕ, ◌+◌, ◌*◌, ◌≤◌, length};
+ghost use Rattle.cdb_form.specs.Format.Pair.{pair_bytes, pair_size};
+ghost use Rattle.cdb_form.specs.Format.Reading.{pair_at};
+ghost use Rattle.cdb_form.specs.Views.Pairs.{pair_of, PairFits};
+
+use crate::width::Width;
+
+/// Two words.
+#[derive(Clone, Copy, Debug, PartialEq, Eq)]
+pub(crate) struct Pair {
+    pub(crate) first: u64,
+    pub(crate) second: u64,
+}
+
+/// How many bytes two words take: those of a header, of a slot or of a pointer.
+pub fn pair_size<L: Width>() -> usize
+    ensures { result ≡ pair_size L.WORD }
+{
+    2 * L::WORD
+}
+
+/// The two words of some bytes.
+pub(crate) fn read_pair<L: Width>(from: &[u8]) -> Pair
+    requires { length from.now ≡ pair_size L.WORD }
+    ensures read { pair_of result ≡ pair_at L.WORD from.now }
+    ensures fits { PairFits L.TOP (pair_of result) }
+{
+    Pair {
+        first: L::read_word(&from[..L::WORD]),
+        second: L::read_word(&from[L::WORD..]),
+    }
+}
+
+/// Leaves the bytes of two words.
+pub(crate) fn write_pair<L: Width>(pair: Pair, into: &mut [u8])
+    requires long { length into.old ≡ pair_size L.WORD }
+    requires fits { PairFits L.TOP (pair_of pair) }
+    ensures written { into.new ≡ pair_bytes L.WORD (pair_of pair) }
+    ensures read_back { pair_at L.WORD into.new ≡ pair_of pair }
+{
+    L::write_word(pair.first, &mut into[..L::WORD]);
+    L::write_word(pair.second, &mut into[L::WORD..]);
+}

@@ -1,0 +1,132 @@
+// Records out of a native text.
+ghost use Rattle.std.specs.Prelude.{◌≡◌, ◌≢◌, true, false, ℕ, List, ◌+◌, ◌*◌, ◌^◌, ◌<◌, ◌≤◌, [], ◌∷◌, ◌++◌, length, OnOk, OnErr, IfOk, IfErr, IfSome, IfNone, MatchBool, SomeIff};
+ghost use Rattle.std.specs.Bool.{OnTrue, OnFalse};
+ghost use Rattle.std.specs.Io.KnownBytes.{Consumes};
+ghost use Rattle.cdb_form.specs.Format.Record.{AreBytes};
+ghost use Rattle.cdb_form.specs.Text.Native.{IsNumeral, HasFault, HasNoRecord};
+ghost use Rattle.cdb_form.specs.Views.TextReader.{ReadsRecord};
+ghost use Rattle.cdb_form.specs.Views.NativeParser.{FailsNumber, FailsByte, FailsBytes, FailsField, FailsRecord, ReadsBehindPlus};
+ghost use Rattle.cdb_form.specs.Views.TextFault.{IsOfText, IsSpent};
+ghost use Rattle.cdb_form.specs.Views.Pairs.{key_value};
+
+use crate::record::Record;
+use crate::text::fault::TextFault;
+use crate::text::source::Source;
+use crate::width::Width;
+use std::alloc::Global;
+use std::io::Read;
+use std::marker::PhantomData;
+
+/// What a reader of a text does next.
+#[derive(Clone, Copy, Debug, PartialEq, Eq)]
+pub(crate) enum Going {
+    On,
+    AtEnd,
+    Failed(TextFault),
+}
+
+/// Reads the records of a native text, one after the other.
+///
+/// Its reader is asked for no byte past those that the answer needs, and for at most 4096 at once.
+/// What stands behind the newline that ends the text stays unread.
+#[derive(Drop)]
+pub struct TextReader<R, L> {
+    alloc: Global,
+    source: Source<R>,
+    going: Going,
+    width: PhantomData<L>,
+}
+
+impl<R: Read, L: Width> TextReader<R, L> {
+    ghost use Rattle.cdb_form.specs.Views.TextReader.{unread, taken_of, asks_left, IsGoing, HasEnded, HasFailed};
+    /// A reader of the text that `reader` gives, which may be asked 2^48 times.
+    pub fn new(alloc: Global, reader: R) -> TextReader<R, L>
+        ensures unread { unread R.remaining result ≡ R.remaining reader }
+        ensures taken { taken_of result ≡ 0 }
+        ensures asks { asks_left result ≡ 2 ^ 48 }
+        ensures going { IsGoing result }
+    {
+        TextReader::with_bound(alloc, reader, 1 << 48)
+    }
+
+    /// A reader of the text that `reader` gives, which may be asked so many times.
+    pub fn with_bound(alloc: Global, reader: R, asks: u64) -> TextReader<R, L>
+        requires { asks ≤ 2 ^ 48 }
+        ensures unread { unread R.remaining result ≡ R.remaining reader }
+        ensures taken { taken_of result ≡ 0 }
+        ensures asks { asks_left result ≡ asks }
+        ensures going { IsGoing result }
+    {
+        TextReader {
+            alloc,
+            source: Source::new(reader, asks),
+            going: Going::On,
+            width: PhantomData,
+        }
+    }
+
+    /// The next record, or `None` at the newline that ends the text.
+    ///
+    /// After the end it answers `Ok(None)` for good, and after a fault that fault. `Syntax`,
+    /// `Ended` and `Large` are the fault of the text, with its place in bytes from the reader's
+    /// first one; `Input` comes where the reader failed, or was interrupted more than 1000 times
+    /// in a row; `Endless` where no ask is left; `NoMemory` where a growth was refused.
+    pub fn next(&mut self) -> Result<Option<Record>, TextFault>
+        // A record that is given was spelled by what was unread.
+        ensures record { IfOk result (λ found. IfSome found (λ r.
+            ReadsRecord L.GREATEST (unread R.remaining self.old) (unread R.remaining self.new) (taken_of self.old) (taken_of self.new) (key_value r))) }
+        // The first `None` took a newline.
+        ensures end { IsGoing self.old → IfOk result (λ found. IfNone found
+            (Consumes (unread R.remaining self.old) (unread R.remaining self.new) (10 ∷ []) × (taken_of self.new ≡ taken_of self.old + 1) × HasEnded self.new)) }
+        // Which fault it is, and where; then no further whole record stands at what was unread.
+        ensures exact { IsGoing self.old → IfErr result (λ fault. IfSome (unread R.remaining self.old) (λ text. HasFault L.GREATEST (taken_of self.old) text fault)) }
+        ensures no_record { IsGoing self.old → IfErr result (λ fault. IfSome (unread R.remaining self.old) (λ text. IsOfText fault → HasNoRecord L.GREATEST text)) }
+        ensures endless { IsGoing self.old → IfErr result (IsSpent (asks_left self.new)) }
+        // After the end and after a fault nothing is read, and the answer stays.
+        ensures ended { HasEnded self.old → (result ≡ Ok None) × (self.new ≡ self.old) }
+        ensures failed { (fault : _) → HasFailed self.old fault → (result ≡ Err fault) × (self.new ≡ self.old) }
+        ensures fails { IfErr result (HasFailed self.new) }
+        ensures goes_on { IfOk result (λ found. IfSome found (λ _. IsGoing self.new × (asks_left self.new < asks_left self.old))) }
+    {
+        let mut record = Record {
+            key: Vec::new(self.alloc),
+            value: Vec::new(self.alloc),
+        };
+        let given = self.read_into(&mut record)?;
+        if given { Ok(Some(record)) } else { Ok(None) }
+    }
+
+    /// Reads the next record over another one, whose memory it takes, and answers whether there is
+    /// one. The answers are those of `next`, with `false` for `None`; after `false` and after a
+    /// fault the record holds anything.
+    pub fn read_into(&mut self, into: &mut Record) -> Result<bool, TextFault>
+        // A record that is given was spelled by what was unread.
+        ensures record { IfOk result (λ given. OnTrue given
+            (ReadsRecord L.GREATEST (unread R.remaining self.old) (unread R.remaining self.new) (taken_of self.old) (taken_of self.new) (key_value into.new))) }
+        // The first `false` took a newline.
+        ensures end { IsGoing self.old → IfOk result (λ given. OnFalse given
+            (Consumes (unread R.remaining self.old) (unread R.remaining self.new) (10 ∷ []) × (taken_of self.new ≡ taken_of self.old + 1) × HasEnded self.new)) }
+        // Which fault it is, and where; then no further whole record stands at what was unread.
+        ensures exact { IsGoing self.old → IfErr result (λ fault. IfSome (unread R.remaining self.old) (λ text. HasFault L.GREATEST (taken_of self.old) text fault)) }
+        ensures no_record { IsGoing self.old → IfErr result (λ fault. IfSome (unread R.remaining self.old) (λ text. IsOfText fault → HasNoRecord L.GREATEST text)) }
+        ensures endless { IsGoing self.old → IfErr result (IsSpent (asks_left self.new)) }
+        // After the end and after a fault nothing is read, and the answer stays.
+        ensures ended { HasEnded self.old → (result ≡ Ok false) × (self.new ≡ self.old) }
+        ensures failed { (fault : _) → HasFailed self.old fault → (result ≡ Err fault) × (self.new ≡ self.old) }
+        ensures fails { IfErr result (HasFailed self.new) }
+        ensures goes_on { IfOk result (λ given. OnTrue given (IsGoing self.new × (asks_left self.new < asks_left self.old))) }
+    {
+        match self.going {
+            Going::On => {}
+            Going::AtEnd => return Ok(false),
+            Going::Failed(fault) => return Err(fault),
+        }
+        let answer = self.source.entry(into, L::GREATEST);
+        match answer {
+            Ok(true) => {}
+            Ok(false) => self.going = Going::AtEnd,
+            Err(fault) => self.going = Going::Failed(fault),
+        }
+        answer
+    }
+}

@@ -1,0 +1,196 @@
+// Records out of a database file that is read in one pass.
+ghost use Rattle.std.specs.Prelude.{◌≡◌, ℕ, ◌+◌, ◌-◌, ◌*◌, ◌^◌, ◌<◌, ◌≤◌, max, List, ◌++◌, false, drop, OnOk, OnErr, IfOk, IfErr, IfSome, IfNone};
+ghost use Rattle.std.specs.Bool.{OnTrue, OnFalse};
+ghost use Rattle.cdb_form.specs.Views.KnownBytes.{LosesAtMost, FromTo};
+ghost use Rattle.cdb_form.specs.Format.Pair.{head_size};
+ghost use Rattle.cdb_form.specs.Format.Record.{record_size};
+ghost use Rattle.cdb_form.specs.Format.Walk.{walk_of, walk_from, record_end, damaged, no_walk, with_first};
+ghost use Rattle.cdb_form.specs.Views.WalkFault.{IsDamage};
+ghost use Rattle.cdb_form.specs.Views.Pairs.{key_value};
+
+use crate::header::read_header;
+use crate::pair::pair_size;
+use crate::reading::{bytes, fill};
+use crate::record::Record;
+use crate::walk::fault::WalkFault;
+use crate::walk::record_area::{Area, read_area};
+use crate::width::Width;
+use std::alloc::Global;
+use std::io::Read;
+use std::marker::PhantomData;
+
+/// How many bytes of a key or value are asked for at once.
+const PIECE: usize = 512;
+
+/// What a reader of records does next.
+#[derive(Clone, Copy, Debug, PartialEq, Eq)]
+pub(crate) enum Walking {
+    AtHead,
+    At(Area),
+    AtEnd,
+    Failed(WalkFault),
+}
+
+// Reads the record at the next place, and says where those behind it stand.
+fn read_record<R: Read, L: Width>(
+    reader: &mut R,
+    into: &mut Record,
+    area: Area,
+) -> Result<Area, WalkFault>
+    requires { area.place < area.end }
+    ensures record { IfOk result (λ behind. FromTo (R.remaining reader.old) (R.remaining reader.new) (λ text rest.
+        (walk_from L.WORD area.place area.end text ≡ with_first (key_value into.new) (walk_from L.WORD behind.place area.end rest))
+        × (rest ≡ drop (behind.place - area.place) text))) }
+    ensures place { IfOk result (λ behind. behind.place ≡ area.place + record_size L.WORD (key_value into.new)) }
+    ensures end { IfOk result (λ behind. behind.end ≡ area.end) }
+    ensures fails { IfErr result (λ f. IsDamage f → IfSome (R.remaining reader.old) (λ text. walk_from L.WORD area.place area.end text ≡ damaged f)) }
+    ensures loses { LosesAtMost (R.remaining reader.old) (R.remaining reader.new) (area.end - area.place) }
+{
+    let early = WalkFault::Record(area.place);
+    let mut piece = [0u8; PIECE];
+    let size = pair_size::<L>();
+    let left = area.end - area.place;
+    if left < size as u64 {
+        return Err(early);
+    }
+    fill(reader, &mut piece[..size], early)?;
+    let header = read_header::<L>(&piece[..size]);
+    let left = left - size as u64;
+    if left < header.klen || left - header.klen < header.vlen {
+        return Err(early);
+    }
+    bytes(reader, &mut into.key, header.klen, &mut piece, early)?;
+    bytes(reader, &mut into.value, header.vlen, &mut piece, early)?;
+    let place = area.place + size as u64 + header.klen + header.vlen;
+    Ok(Area {
+        place,
+        end: area.end,
+    })
+}
+
+/// Reads the records of a database file, one after the other, in one pass.
+///
+/// Its reader is asked for no byte past those that the answer needs. What stands behind the record
+/// end stays unread.
+#[derive(Drop)]
+pub struct RecordReader<R, L> {
+    alloc: Global,
+    reader: R,
+    walking: Walking,
+    width: PhantomData<L>,
+}
+
+impl<R: Read, L: Width> RecordReader<R, L> {
+    ghost use Rattle.cdb_form.specs.Views.RecordReader.{unread, walk_left, behind_end, bytes_left, IsFresh, IsGoing, HasEnded, HasFailed};
+    /// A reader of the records of the file that `reader` gives. Nothing is read yet.
+    pub fn new(alloc: Global, reader: R) -> RecordReader<R, L>
+        ensures unread { unread R.remaining result ≡ R.remaining reader }
+        ensures fresh { IsFresh result }
+    {
+        RecordReader {
+            alloc,
+            reader,
+            walking: Walking::AtHead,
+            width: PhantomData,
+        }
+    }
+
+    /// The next record, or `None` at the record end.
+    ///
+    /// After the end it answers `Ok(None)` for good, and after a fault that fault. `Short`, `Table`
+    /// and `Record` are the damage of the file, after all whole records before it; `Input` comes
+    /// where the reader failed, or was interrupted more than 1000 times in a row; `NoMemory` where
+    /// a growth was refused.
+    pub fn next(&mut self) -> Result<Option<Record>, WalkFault>
+        // A record that is given is the first of the walk of what was unread.
+        ensures record { IfOk result (λ found. IfSome found (λ r. FromTo (unread R.remaining self.old) (unread R.remaining self.new) (λ text rest.
+            walk_left L.WORD self.old text ≡ with_first (key_value r) (walk_left L.WORD self.new rest)))) }
+        // At `None` that walk has ended, with no damage.
+        ensures end { IfOk result (λ found. IfNone found (IfSome (unread R.remaining self.old) (λ text. walk_left L.WORD self.old text ≡ no_walk) × HasEnded self.new)) }
+        // A fault of the file is the damage of that walk, with no record before it.
+        ensures exact { IfErr result (λ fault. IsDamage fault → IfSome (unread R.remaining self.old) (λ text. walk_left L.WORD self.old text ≡ damaged fault)) }
+        // What stands behind the record end stays unread; after `None` it is all that is unread.
+        ensures behind { OnOk result (FromTo (unread R.remaining self.old) (unread R.remaining self.new) (λ text rest. behind_end L.WORD self.new rest ≡ behind_end L.WORD self.old text)) }
+        ensures still_behind { OnErr result (FromTo (unread R.remaining self.old) (unread R.remaining self.new) (λ text rest. (more : List ℕ) × (rest ≡ more ++ behind_end L.WORD self.old text))) }
+        // After the end and after a fault nothing is read, and the answer stays.
+        ensures ended { HasEnded self.old → (result ≡ Ok None) × (self.new ≡ self.old) }
+        ensures failed { (fault : _) → HasFailed self.old fault → (result ≡ Err fault) × (self.new ≡ self.old) }
+        ensures fails { IfErr result (HasFailed self.new) }
+        ensures goes_on { IfOk result (λ found. IfSome found (λ _. IsGoing self.new × (bytes_left self.new < bytes_left self.old))) }
+    {
+        let mut record = Record {
+            key: Vec::new(self.alloc),
+            value: Vec::new(self.alloc),
+        };
+        let given = self.read_into(&mut record)?;
+        if given { Ok(Some(record)) } else { Ok(None) }
+    }
+
+    /// Reads the next record over another one, whose memory it takes, and answers whether there is
+    /// one. The answers are those of `next`, with `false` for `None`; after `false` and after a
+    /// fault the record holds anything.
+    pub fn read_into(&mut self, into: &mut Record) -> Result<bool, WalkFault>
+        // A record that is given is the first of the walk of what was unread.
+        ensures record { IfOk result (λ given. OnTrue given (FromTo (unread R.remaining self.old) (unread R.remaining self.new) (λ text rest.
+            walk_left L.WORD self.old text ≡ with_first (key_value into.new) (walk_left L.WORD self.new rest)))) }
+        // At `false` that walk has ended, with no damage.
+        ensures end { IfOk result (λ given. OnFalse given (IfSome (unread R.remaining self.old) (λ text. walk_left L.WORD self.old text ≡ no_walk) × HasEnded self.new)) }
+        // A fault of the file is the damage of that walk, with no record before it.
+        ensures exact { IfErr result (λ fault. IsDamage fault → IfSome (unread R.remaining self.old) (λ text. walk_left L.WORD self.old text ≡ damaged fault)) }
+        // What stands behind the record end stays unread; after `false` it is all that is unread.
+        ensures behind { OnOk result (FromTo (unread R.remaining self.old) (unread R.remaining self.new) (λ text rest. behind_end L.WORD self.new rest ≡ behind_end L.WORD self.old text)) }
+        ensures still_behind { OnErr result (FromTo (unread R.remaining self.old) (unread R.remaining self.new) (λ text rest. (more : List ℕ) × (rest ≡ more ++ behind_end L.WORD self.old text))) }
+        // After the end and after a fault nothing is read, and the answer stays.
+        ensures ended { HasEnded self.old → (result ≡ Ok false) × (self.new ≡ self.old) }
+        ensures failed { (fault : _) → HasFailed self.old fault → (result ≡ Err fault) × (self.new ≡ self.old) }
+        ensures fails { IfErr result (HasFailed self.new) }
+        ensures goes_on { IfOk result (λ given. OnTrue given (IsGoing self.new × (bytes_left self.new < bytes_left self.old))) }
+    {
+        let answer = match self.walking {
+            Walking::AtHead => self.first(into),
+            Walking::At(area) => self.record_at(into, area),
+            Walking::AtEnd => return Ok(false),
+            Walking::Failed(fault) => return Err(fault),
+        };
+        match answer {
+            Ok(true) => {}
+            Ok(false) => self.walking = Walking::AtEnd,
+            Err(fault) => self.walking = Walking::Failed(fault),
+        }
+        answer
+    }
+
+    // Reads the head, and then the first record.
+    fn first(&mut self, into: &mut Record) -> Result<bool, WalkFault>
+        ensures record { IfOk result (λ given. OnTrue given (FromTo (unread R.remaining self.old) (unread R.remaining self.new) (λ text rest.
+            (walk_of L.WORD text ≡ with_first (key_value into.new) (walk_left L.WORD self.new rest))
+            × (behind_end L.WORD self.new rest ≡ drop (record_end L.WORD text) text)))) }
+        ensures fewer { IfOk result (λ given. OnTrue given (IsGoing self.new × (bytes_left self.new < 2 ^ 64))) }
+        ensures end { IfOk result (λ given. OnFalse given (IfSome (unread R.remaining self.old) (λ text. walk_of L.WORD text ≡ no_walk))) }
+        ensures behind { IfOk result (λ given. OnFalse given (FromTo (unread R.remaining self.old) (unread R.remaining self.new) (λ text rest. rest ≡ drop (record_end L.WORD text) text))) }
+        ensures after_head { OnOk result (IfSome (unread R.remaining self.old) (λ text. head_size L.WORD ≤ record_end L.WORD text)) }
+        ensures fails { IfErr result (λ f. IsDamage f → IfSome (unread R.remaining self.old) (λ text. walk_of L.WORD text ≡ damaged f)) }
+        ensures still_behind { OnErr result (FromTo (unread R.remaining self.old) (unread R.remaining self.new) (λ text rest. (more : List ℕ) × (rest ≡ more ++ drop (max (head_size L.WORD) (record_end L.WORD text)) text))) }
+    {
+        let area = read_area::<R, L>(&mut self.reader)?;
+        self.record_at(into, area)
+    }
+
+    // Reads the record at the next place, unless that is the record end.
+    fn record_at(&mut self, into: &mut Record, area: Area) -> Result<bool, WalkFault>
+        ensures record { IfOk result (λ given. OnTrue given (FromTo (unread R.remaining self.old) (unread R.remaining self.new) (λ text rest.
+            (walk_from L.WORD area.place area.end text ≡ with_first (key_value into.new) (walk_left L.WORD self.new rest))
+            × (behind_end L.WORD self.new rest ≡ drop (area.end - area.place) text)))) }
+        ensures fewer { IfOk result (λ given. OnTrue given (IsGoing self.new × (bytes_left self.new < area.end - area.place))) }
+        ensures end { IfOk result (λ given. OnFalse given (IfSome (unread R.remaining self.old) (λ text. walk_from L.WORD area.place area.end text ≡ no_walk) × (area.place ≡ area.end) × (self.new ≡ self.old))) }
+        ensures fails { IfErr result (λ f. IsDamage f → IfSome (unread R.remaining self.old) (λ text. walk_from L.WORD area.place area.end text ≡ damaged f)) }
+        ensures still_behind { OnErr result (FromTo (unread R.remaining self.old) (unread R.remaining self.new) (λ text rest. (more : List ℕ) × (rest ≡ more ++ drop (area.end - area.place) text))) }
+    {
+        if area.place == area.end {
+            return Ok(false);
+        }
+        let behind = read_record::<R, L>(&mut self.reader, into, area)?;
+        self.walking = Walking::At(behind);
+        Ok(true)
+    }
+}
