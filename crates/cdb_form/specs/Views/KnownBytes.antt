@@ -1,6 +1,6 @@
 -- What a call does to the bytes that a reader has left or a writer holds, where they are known.
 use Rattle.std.specs.Io.KnownBytes.{Consumes, Appends}
-use Rattle.std.specs.Prelude.{ℕ, List, ◌++◌, length, ◌≤◌, Option, ◌≡◌, ⊤, Some, None}
+use Rattle.std.specs.Prelude.{◌+◌, ℕ, List, ◌++◌, length, ◌≤◌, Option, ◌≡◌, ⊤, Some, None}
 
 -- no more than n bytes are lost
 pub record LosesAtMost (old new : Option (List ℕ)) (n : ℕ) : Type 0 where
@@ -20,3 +20,9 @@ pub record AppendsFront (old new : Option (List ℕ)) (bytes : List ℕ) : Type 
   pub more : List ℕ
   pub split : bytes ≡ front ++ more
   pub appended : Appends old new front
+
+-- bytes were read of what was unread, and the count of bytes went from `from` to `to`
+pub record Took (old new : Option (List ℕ)) (from to : ℕ) : Type 0 where
+  pub bytes : List ℕ
+  pub read : Consumes old new bytes
+  pub counted : to ≡ from + length bytes

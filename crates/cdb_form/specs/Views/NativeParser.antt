@@ -1,13 +1,27 @@
 -- What a fault of the native parser says of the part of a record that it was reading. `from` is the place of the text's first byte.
 use Rattle.std.specs.Char.{digit_value}
 use Rattle.std.specs.Io.KnownBytes.{Consumes}
-use Rattle.std.specs.Prelude.{ℕ, ◌*◌, List, ◌+◌, ◌<◌, [], ◌∷◌, ◌++◌, length, ◌≤◌, Option, ◌≡◌, ⊤, ◌≢◌}
+use Rattle.std.specs.Prelude.{option_map, ℕ, ◌*◌, List, ◌+◌, ◌<◌, [], ◌∷◌, ◌++◌, ◌-◌, take, length, ◌≤◌, Option, ◌≡◌, ⊤, ◌≢◌, IfSome}
 use Rattle.std.specs.Str.Parse.{AllDigits, digits_value}
 use Rattle.cdb_form.specs.Format.Record.{KeyValue, AreBytes}
 use Rattle.cdb_form.specs.Text.Native.{Spells, HasFault, HasNoRecord}
+use Rattle.cdb_form.specs.Views.KnownBytes.{Took}
+use Rattle.cdb_form.specs.declared.text.source.Source.{Source}
 use Rattle.cdb_form.specs.Views.TextFault.{IsOfText}
 use Rattle.cdb_form.specs.declared.text.fault.TextFault.{TextFault}
-use Rattle.cdb_form.specs.declared.text.fault.TextFault.TheVariants.{Syntax, Ended, Large}
+use Rattle.cdb_form.specs.declared.text.fault.TextFault.TheVariants.{Syntax, Ended, Large, Input, Endless, NoMemory}
+
+-- the text that a fault is one of: all that was unread, or what was read of it where the reader failed
+abbrev pub seen : ℕ → ℕ → TextFault → Option (List ℕ) → Option (List ℕ)
+seen from to Input old = option_map (take (to - from)) old
+seen from to Endless old = option_map (take (to - from)) old
+seen from to _ old = old
+
+-- and the fault of that text: where the reader failed, it is as though the text had ended there
+abbrev pub told : ℕ → TextFault → TextFault
+told to Input = Ended to
+told to Endless = Ended to
+told to fault = fault
 
 -- digits of a number of at most `greatest` stand at the front of the text, and then c
 pub record DigitsThen (greatest : ℕ) (text : List ℕ) (c count : ℕ) : Type 0 where
@@ -68,3 +82,15 @@ pub record ReadsBehindPlus (greatest : ℕ) (old new : Option (List ℕ)) (from 
 pub record FailsRecord (greatest from : ℕ) (text : List ℕ) (f : TextFault) : Type 0 where
   pub fault : HasFault greatest from text f
   pub no_record : IsOfText f → HasNoRecord greatest text
+
+-- each byte that a source gave took at most 1001 asks
+abbrev pub budget : {R : Type 0} → Source R → ℕ
+budget s = s.asks + 1001 * s.taken
+
+-- P is said of the text that the fault is one of
+abbrev pub FailsIn : {R : Type 0} → (R → Option (List ℕ)) → (old new : Source R) → (List ℕ → TextFault → Type 0) → TextFault → Type 0
+FailsIn remaining old new P f = IfSome (seen old.taken new.taken f (remaining old.reader)) (λ text. P text (told new.taken f))
+
+-- what was read is gone from the reader, and was counted
+abbrev pub TookAll : {R : Type 0} → (R → Option (List ℕ)) → (old new : Source R) → TextFault → Type 0
+TookAll remaining old new f = f ≢ NoMemory → Took (remaining old.reader) (remaining new.reader) old.taken new.taken

@@ -8,8 +8,8 @@ ghost use Rattle.cdb_form.specs.Views.WalkFault.{IsDamage};
 ghost use Rattle.cdb_form.specs.Views.Pairs.{head_pairs};
 
 use crate::head::{head_size, read_head};
-use crate::reading::fill;
 use crate::walk::fault::WalkFault;
+use crate::walk::source::fill;
 use crate::width::Width;
 use std::io::Read;
 

@@ -1,8 +1,9 @@
 // Records out of a database file that is read in one pass.
-ghost use Rattle.std.specs.Prelude.{◌≡◌, ℕ, ◌+◌, ◌-◌, ◌*◌, ◌^◌, ◌<◌, ◌≤◌, max, List, ◌++◌, false, drop, OnOk, OnErr, IfOk, IfErr, IfSome, IfNone};
+ghost use Rattle.std.specs.Prelude.{◌≡◌, ℕ, ◌+◌, ◌-◌, ◌*◌, ◌^◌, ◌<◌, ◌≤◌, max, List, ◌++◌, false, drop, OnOk, OnErr, IfOk, IfErr, IfSome, MatchOption, MatchBool};
 ghost use Rattle.std.specs.Bool.{OnTrue, OnFalse};
 ghost use Rattle.cdb_form.specs.Views.KnownBytes.{LosesAtMost, FromTo};
-ghost use Rattle.cdb_form.specs.Format.Pair.{head_size};
+ghost use Rattle.cdb_form.specs.Format.Pair.{head_size, pair_size};
+ghost use Rattle.cdb_form.specs.Views.Reading.{ReadsNoFurther};
 ghost use Rattle.cdb_form.specs.Format.Record.{record_size};
 ghost use Rattle.cdb_form.specs.Format.Walk.{walk_of, walk_from, record_end, damaged, no_walk, with_first};
 ghost use Rattle.cdb_form.specs.Views.WalkFault.{IsDamage};
@@ -10,10 +11,10 @@ ghost use Rattle.cdb_form.specs.Views.Pairs.{key_value};
 
 use crate::header::read_header;
 use crate::pair::pair_size;
-use crate::reading::{bytes, fill};
 use crate::record::Record;
 use crate::walk::fault::WalkFault;
 use crate::walk::record_area::{Area, read_area};
+use crate::walk::source::{bytes, fill};
 use crate::width::Width;
 use std::alloc::Global;
 use std::io::Read;
@@ -31,7 +32,7 @@ pub(crate) enum Walking {
     Failed(WalkFault),
 }
 
-// Reads the record at the next place, and says where those behind it stand.
+/// Reads the record at the next place, and says where those behind it stand.
 fn read_record<R: Read, L: Width>(
     reader: &mut R,
     into: &mut Record,
@@ -44,6 +45,7 @@ fn read_record<R: Read, L: Width>(
     ensures place { IfOk result (λ behind. behind.place ≡ area.place + record_size L.WORD (key_value into.new)) }
     ensures end { IfOk result (λ behind. behind.end ≡ area.end) }
     ensures fails { IfErr result (λ f. IsDamage f → IfSome (R.remaining reader.old) (λ text. walk_from L.WORD area.place area.end text ≡ damaged f)) }
+    ensures header { IfErr result (λ f. IsDamage f → ReadsNoFurther (pair_size L.WORD) (R.remaining reader.old) (R.remaining reader.new)) }
     ensures loses { LosesAtMost (R.remaining reader.old) (R.remaining reader.new) (area.end - area.place) }
 {
     let early = WalkFault::Record(area.place);
@@ -81,7 +83,7 @@ pub struct RecordReader<R, L> {
 }
 
 impl<R: Read, L: Width> RecordReader<R, L> {
-    ghost use Rattle.cdb_form.specs.Views.RecordReader.{unread, walk_left, behind_end, bytes_left, IsFresh, IsGoing, HasEnded, HasFailed};
+    ghost use Rattle.cdb_form.specs.Views.RecordReader.{unread, walk_left, behind_end, bytes_left, IsFresh, IsGoing, HasEnded, HasFailed, GivesRecord, GivesEnd, Fails};
     /// A reader of the records of the file that `reader` gives. Nothing is read yet.
     pub fn new(alloc: Global, reader: R) -> RecordReader<R, L>
         ensures unread { unread R.remaining result ≡ R.remaining reader }
@@ -102,21 +104,13 @@ impl<R: Read, L: Width> RecordReader<R, L> {
     /// where the reader failed, or was interrupted more than 1000 times in a row; `NoMemory` where
     /// a growth was refused.
     pub fn next(&mut self) -> Result<Option<Record>, WalkFault>
-        // A record that is given is the first of the walk of what was unread.
-        ensures record { IfOk result (λ found. IfSome found (λ r. FromTo (unread R.remaining self.old) (unread R.remaining self.new) (λ text rest.
-            walk_left L.WORD self.old text ≡ with_first (key_value r) (walk_left L.WORD self.new rest)))) }
-        // At `None` that walk has ended, with no damage.
-        ensures end { IfOk result (λ found. IfNone found (IfSome (unread R.remaining self.old) (λ text. walk_left L.WORD self.old text ≡ no_walk) × HasEnded self.new)) }
-        // A fault of the file is the damage of that walk, with no record before it.
-        ensures exact { IfErr result (λ fault. IsDamage fault → IfSome (unread R.remaining self.old) (λ text. walk_left L.WORD self.old text ≡ damaged fault)) }
-        // What stands behind the record end stays unread; after `None` it is all that is unread.
-        ensures behind { OnOk result (FromTo (unread R.remaining self.old) (unread R.remaining self.new) (λ text rest. behind_end L.WORD self.new rest ≡ behind_end L.WORD self.old text)) }
-        ensures still_behind { OnErr result (FromTo (unread R.remaining self.old) (unread R.remaining self.new) (λ text rest. (more : List ℕ) × (rest ≡ more ++ behind_end L.WORD self.old text))) }
+        ensures gives { IfOk result (λ found. MatchOption found
+            (GivesEnd L.WORD R.remaining self.old self.new)
+            (λ r. GivesRecord L.WORD R.remaining self.old self.new (key_value r))) }
+        ensures fails { IfErr result (Fails L.WORD R.remaining self.old self.new) }
         // After the end and after a fault nothing is read, and the answer stays.
         ensures ended { HasEnded self.old → (result ≡ Ok None) × (self.new ≡ self.old) }
         ensures failed { (fault : _) → HasFailed self.old fault → (result ≡ Err fault) × (self.new ≡ self.old) }
-        ensures fails { IfErr result (HasFailed self.new) }
-        ensures goes_on { IfOk result (λ found. IfSome found (λ _. IsGoing self.new × (bytes_left self.new < bytes_left self.old))) }
     {
         let mut record = Record {
             key: Vec::new(self.alloc),
@@ -130,21 +124,13 @@ impl<R: Read, L: Width> RecordReader<R, L> {
     /// one. The answers are those of `next`, with `false` for `None`; after `false` and after a
     /// fault the record holds anything.
     pub fn read_into(&mut self, into: &mut Record) -> Result<bool, WalkFault>
-        // A record that is given is the first of the walk of what was unread.
-        ensures record { IfOk result (λ given. OnTrue given (FromTo (unread R.remaining self.old) (unread R.remaining self.new) (λ text rest.
-            walk_left L.WORD self.old text ≡ with_first (key_value into.new) (walk_left L.WORD self.new rest)))) }
-        // At `false` that walk has ended, with no damage.
-        ensures end { IfOk result (λ given. OnFalse given (IfSome (unread R.remaining self.old) (λ text. walk_left L.WORD self.old text ≡ no_walk) × HasEnded self.new)) }
-        // A fault of the file is the damage of that walk, with no record before it.
-        ensures exact { IfErr result (λ fault. IsDamage fault → IfSome (unread R.remaining self.old) (λ text. walk_left L.WORD self.old text ≡ damaged fault)) }
-        // What stands behind the record end stays unread; after `false` it is all that is unread.
-        ensures behind { OnOk result (FromTo (unread R.remaining self.old) (unread R.remaining self.new) (λ text rest. behind_end L.WORD self.new rest ≡ behind_end L.WORD self.old text)) }
-        ensures still_behind { OnErr result (FromTo (unread R.remaining self.old) (unread R.remaining self.new) (λ text rest. (more : List ℕ) × (rest ≡ more ++ behind_end L.WORD self.old text))) }
+        ensures gives { IfOk result (λ given. MatchBool given
+            (GivesRecord L.WORD R.remaining self.old self.new (key_value into.new))
+            (GivesEnd L.WORD R.remaining self.old self.new)) }
+        ensures fails { IfErr result (Fails L.WORD R.remaining self.old self.new) }
         // After the end and after a fault nothing is read, and the answer stays.
         ensures ended { HasEnded self.old → (result ≡ Ok false) × (self.new ≡ self.old) }
         ensures failed { (fault : _) → HasFailed self.old fault → (result ≡ Err fault) × (self.new ≡ self.old) }
-        ensures fails { IfErr result (HasFailed self.new) }
-        ensures goes_on { IfOk result (λ given. OnTrue given (IsGoing self.new × (bytes_left self.new < bytes_left self.old))) }
     {
         let answer = match self.walking {
             Walking::AtHead => self.first(into),
@@ -160,7 +146,7 @@ impl<R: Read, L: Width> RecordReader<R, L> {
         answer
     }
 
-    // Reads the head, and then the first record.
+    /// Reads the head, and then the first record.
     fn first(&mut self, into: &mut Record) -> Result<bool, WalkFault>
         ensures record { IfOk result (λ given. OnTrue given (FromTo (unread R.remaining self.old) (unread R.remaining self.new) (λ text rest.
             (walk_of L.WORD text ≡ with_first (key_value into.new) (walk_left L.WORD self.new rest))
@@ -170,13 +156,14 @@ impl<R: Read, L: Width> RecordReader<R, L> {
         ensures behind { IfOk result (λ given. OnFalse given (FromTo (unread R.remaining self.old) (unread R.remaining self.new) (λ text rest. rest ≡ drop (record_end L.WORD text) text))) }
         ensures after_head { OnOk result (IfSome (unread R.remaining self.old) (λ text. head_size L.WORD ≤ record_end L.WORD text)) }
         ensures fails { IfErr result (λ f. IsDamage f → IfSome (unread R.remaining self.old) (λ text. walk_of L.WORD text ≡ damaged f)) }
+        ensures header { IfErr result (λ f. IsDamage f → ReadsNoFurther (head_size L.WORD + pair_size L.WORD) (unread R.remaining self.old) (unread R.remaining self.new)) }
         ensures still_behind { OnErr result (FromTo (unread R.remaining self.old) (unread R.remaining self.new) (λ text rest. (more : List ℕ) × (rest ≡ more ++ drop (max (head_size L.WORD) (record_end L.WORD text)) text))) }
     {
         let area = read_area::<R, L>(&mut self.reader)?;
         self.record_at(into, area)
     }
 
-    // Reads the record at the next place, unless that is the record end.
+    /// Reads the record at the next place, unless that is the record end.
     fn record_at(&mut self, into: &mut Record, area: Area) -> Result<bool, WalkFault>
         ensures record { IfOk result (λ given. OnTrue given (FromTo (unread R.remaining self.old) (unread R.remaining self.new) (λ text rest.
             (walk_from L.WORD area.place area.end text ≡ with_first (key_value into.new) (walk_left L.WORD self.new rest))
@@ -184,6 +171,7 @@ impl<R: Read, L: Width> RecordReader<R, L> {
         ensures fewer { IfOk result (λ given. OnTrue given (IsGoing self.new × (bytes_left self.new < area.end - area.place))) }
         ensures end { IfOk result (λ given. OnFalse given (IfSome (unread R.remaining self.old) (λ text. walk_from L.WORD area.place area.end text ≡ no_walk) × (area.place ≡ area.end) × (self.new ≡ self.old))) }
         ensures fails { IfErr result (λ f. IsDamage f → IfSome (unread R.remaining self.old) (λ text. walk_from L.WORD area.place area.end text ≡ damaged f)) }
+        ensures header { IfErr result (λ f. IsDamage f → ReadsNoFurther (pair_size L.WORD) (unread R.remaining self.old) (unread R.remaining self.new)) }
         ensures still_behind { OnErr result (FromTo (unread R.remaining self.old) (unread R.remaining self.new) (λ text rest. (more : List ℕ) × (rest ≡ more ++ drop (area.end - area.place) text))) }
     {
         if area.place == area.end {

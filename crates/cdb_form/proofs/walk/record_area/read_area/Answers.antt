@@ -1,4 +1,4 @@
-use Rattle.std.proofs.Common.{ℕ, ◌<◌, length, map, arith, ap, ◌∙◌, sym, subst, IfSome}
+use Rattle.std.proofs.Common.{ℕ, ◌<◌, length, arith, ap, ◌∙◌, sym, subst, IfSome}
 use Rattle.std.proofs.lemmas.Result.{err_from_is_err_and}
 use Rattle.std.proofs.lemmas.List.{take_at}
 use Rattle.cdb_form.specs.Format.Reading.{head_at}
@@ -14,7 +14,7 @@ returns-in_err-fill-clause-fails g c =
     let long = head_fits w c.head_size-size.result c.head_size-size.ensures g.met.L.Width.four_or_eight in
     rw (p.1, p.2) (λ damage.
     let h = c.in_err-fill.ensures.fails damage in
-    area_short w text c.in_err-fill.field-0.0 h.0 (subst (λ (n : ℕ). IfSome text (λ t. length t < n)) long h.1))
+    area_short w text c.in_err-fill.field-0.0 h.0 (subst (λ (n : ℕ). IfSome text (λ t. length t < n)) long h.1.few))
 
 pub returns-clause-area : goal.returns-clause-area
 returns-clause-area g c =

@@ -1,4 +1,4 @@
-use Rattle.std.proofs.Common.{◌≡◌, ℕ, ◌+◌, ◌*◌, [], length, drop, replicate, arith, ◌∙◌, sym, subst, inl, inr}
+use Rattle.std.proofs.Common.{◌≡◌, ℕ, ◌+◌, [], length, drop, replicate, arith, ◌∙◌, sym, subst, inl, inr}
 use Rattle.std.proofs.lemmas.Result.{err_from_is_err_and}
 use Rattle.std.proofs.lemmas.List.{append-nil}
 use Rattle.std.specs.Io.KnownBytes.{Consumes}
@@ -17,7 +17,7 @@ returns-in_err-fill-clause-fails g c =
     rw (p.1, p.2) (λ damage.
     let h = c.in_err-fill.ensures.fails damage in
     header_early g.L.Width.WORD c.args.area.place c.args.area.end (g.R.Read.remaining c.args.reader.now) c.in_err-fill.field-0.0 c.requires h.0
-    (header_short g.L.Width.WORD c.pair_size-size.result (g.R.Read.remaining c.args.reader.now) c.pair_size-size.ensures g.met.L.Width.four_or_eight h.1))
+    (header_short g.L.Width.WORD c.pair_size-size.result (g.R.Read.remaining c.args.reader.now) c.pair_size-size.ensures g.met.L.Width.four_or_eight h.1.few))
 
 pub returns-then-left-header-clause-fails : goal.returns-then-left-header-clause-fails
 returns-then-left-header-clause-fails g c = λ damage.
@@ -39,7 +39,7 @@ returns-in_err-bytes-clause-fails g c =
     let h = c.in_err-bytes.ensures.fails damage in
     body_early g.L.Width.WORD c.args.area.place c.args.area.end c.read_header-header.result.klen (g.R.Read.remaining c.args.reader.now) (g.R.Read.remaining c.fill.new.reader) xs [] c.in_err-bytes.field-0.0 c.requires h.0
     (subst (Consumes (g.R.Read.remaining c.args.reader.now) (g.R.Read.remaining c.fill.new.reader)) (sym (append-nil xs)) c.in_ok-fill.ensures.bytes) told.long
-    (omega (arith, c.pair_size-size.ensures, c.if-left-size.false)) (omega (arith, told.size)) h.1)
+    (omega (arith, c.pair_size-size.ensures, c.if-left-size.false)) (omega (arith, told.size)) h.1.few)
 
 pub returns-in_err-bytes-clause-loses : goal.returns-in_err-bytes-clause-loses
 returns-in_err-bytes-clause-loses g c =
@@ -56,7 +56,7 @@ returns-in_err-bytes-2-clause-fails g c =
     let h = c.in_err-bytes-2.ensures.fails damage in
     body_early g.L.Width.WORD c.args.area.place c.args.area.end c.read_header-header.result.vlen (g.R.Read.remaining c.args.reader.now) (g.R.Read.remaining c.bytes.new.reader) xs c.bytes.new.into.items c.in_err-bytes-2.field-0.0 c.requires h.0
     (consumes_then _ _ _ xs c.bytes.new.into.items c.in_ok-fill.ensures.bytes c.in_ok-bytes.ensures.read) told.long
-    (omega (arith, c.pair_size-size.ensures, c.if-left-size.false)) (omega (arith, told.size, c.in_ok-bytes.ensures.long)) h.1)
+    (omega (arith, c.pair_size-size.ensures, c.if-left-size.false)) (omega (arith, told.size, c.in_ok-bytes.ensures.long)) h.1.few)
 
 pub returns-in_err-bytes-2-clause-loses : goal.returns-in_err-bytes-2-clause-loses
 returns-in_err-bytes-2-clause-loses g c =
