@@ -133,7 +133,7 @@ record_behind o m₁ m₂ m₃ m₄ n greatest from to a b r ia ib fk fv bytes c
     let all = consumes_then o m₄ n _ _ (consumes_then o m₃ m₄ _ _ (consumes_then o m₂ m₃ _ _ (consumes_then o m₁ m₂ _ _ c₁ c₂) c₃) c₄) c₅ in
     record {
       text = text;
-      spells = record { klen = a; vlen = b; klen_is = ia; vlen_is = ib; key_fits = fk; value_fits = fv; bytes = bytes; text_is = refl };
+      spells = record { klen = a; vlen = b; klen_is = ia; vlen_is = ib; key_fits = fk; value_fits = fv; bytes = bytes; text_is = simp append_assoc refl };
       read = simp append_assoc at all;
       counted = simp length-append (omega (arith, counted));
     }

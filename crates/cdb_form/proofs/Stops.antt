@@ -41,7 +41,7 @@ form_plus g t (a, m₁, k, ia, la, e₁, (b, m₂, n, ib, lb, e₂, (key, m₃, 
       (
         first,
         m₇,
-        record { klen = a; vlen = b; klen_is = subst (IsNumeral a) (sym lk) ia; vlen_is = subst (IsNumeral b) (sym lv) ib; key_fits = omega arith; value_fits = omega arith; bytes = bytes; text_is = refl },
+        record { klen = a; vlen = b; klen_is = subst (IsNumeral a) (sym lk) ia; vlen_is = subst (IsNumeral b) (sym lv) ib; key_fits = omega arith; value_fits = omega arith; bytes = bytes; text_is = simp append_assoc refl },
         ap (λ x. 43 ∷ x) whole ∙ simp append_assoc,
         reads,
       ),

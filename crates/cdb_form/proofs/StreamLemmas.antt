@@ -2,16 +2,12 @@
 use Rattle.std.proofs.Common.{◌≡◌, ℕ, ◌+◌, ◌-◌, ◌≤◌, List, ◌++◌, length, take, drop, refl, sym, ap, ◌∙◌, arith, Option, Some, None, IfSome, inl, inr}
 use Rattle.std.specs.Prelude.{max}
 use Rattle.std.proofs.lemmas.List.{drop_at, drop-drop, take-append-drop}
-use Rattle.cdb_form.specs.Views.KnownBytes.{LosesAtMost, FromTo}
+use Rattle.cdb_form.specs.Views.KnownBytes.{LosesAtMost, FromTo, StillFrom}
 use Rattle.cdb_form.specs.Views.Reading.{ReadsNoFurther}
 use Rattle.cdb_form.proofs.RecordReads.{loses_then}
 use Rattle.cdb_form.specs.Format.Pair.{head_size}
 use Rattle.cdb_form.specs.Format.Walk.{walk_of, walk_from, record_end, no_walk}
 use Rattle.cdb_form.proofs.WalkSteps.{walk_from-end}
-
--- the bytes from a place on are still there
-abbrev pub StillFrom : ℕ → List ℕ → List ℕ → Type 0
-StillFrom n text rest = (more : List ℕ) × (rest ≡ more ++ drop n text)
 
 still_from : (lost rest : List ℕ) (n : ℕ) → length lost ≤ n → StillFrom n (lost ++ rest) rest
 still_from lost rest n few =

@@ -43,7 +43,8 @@ pub(crate) fn some_bytes<R: Read>(
 ) -> Result<usize, Unread>
     requires { 0 < length into.old }
     ensures bound { IfOk result (λ n. n ≤ length into.new) }
-    ensures bytes { IfOk result (λ n. Consumes (R.remaining reader.old) (R.remaining reader.new) (take n into.new)) }
+    ensures bytes { IfOk result (λ n.
+        Consumes (R.remaining reader.old) (R.remaining reader.new) (take n into.new)) }
     ensures are { IfOk result (λ _. AreBytes into.new) }
     ensures end { IfOk result (λ n. n ≡ 0 → IsAtEnd (R.remaining reader.new)) }
     ensures kept { OnErr result (Keeps (R.remaining reader.old) (R.remaining reader.new)) }
@@ -76,10 +77,14 @@ pub(crate) fn all_bytes<R: Read>(
     asks: &mut u64,
     into: &mut [u8],
 ) -> Result<(), Unread>
-    ensures bytes { OnOk result (Consumes (R.remaining reader.old) (R.remaining reader.new) into.new) }
+    ensures bytes { OnOk result (Consumes (R.remaining reader.old)
+        (R.remaining reader.new) into.new) }
     ensures are { OnOk result (AreBytes into.new) }
-    ensures ended { IfErr result (λ f. f ≡ Ended → ReadsShort (length into.old) (R.remaining reader.old) (R.remaining reader.new)) }
-    ensures loses { LosesAtMost (R.remaining reader.old) (R.remaining reader.new) (length into.old) }
+    ensures ended { IfErr result (λ f.
+        f ≡ Ended → ReadsShort (length into.old) (R.remaining reader.old)
+        (R.remaining reader.new)) }
+    ensures loses { LosesAtMost (R.remaining reader.old)
+        (R.remaining reader.new) (length into.old) }
     ensures memory { IfErr result (λ f. f ≢ NoMemory) }
 {
     let mut done = 0;
@@ -106,8 +111,10 @@ pub(crate) fn vector<R: Read>(
 ) -> Result<(), Unread>
     requires some { 0 < length piece.old }
     requires few { length piece.old ≤ 4096 }
-    ensures read { OnOk result (Consumes (R.remaining reader.old) (R.remaining reader.new) into.new.items) }
-    ensures part { IfErr result (λ f. f ≢ NoMemory → Consumes (R.remaining reader.old) (R.remaining reader.new) into.new.items) }
+    ensures read { OnOk result (Consumes (R.remaining reader.old)
+        (R.remaining reader.new) into.new.items) }
+    ensures part { IfErr result (λ f.
+        f ≢ NoMemory → Consumes (R.remaining reader.old) (R.remaining reader.new) into.new.items) }
     ensures are { AreBytes into.new.items }
     ensures long { OnOk result (length into.new.items ≡ len) }
     ensures short { OnErr result (length into.new.items < len) }

@@ -17,7 +17,8 @@ pub struct OutFault;
 pub fn write_some<W: Write>(w: &mut W, bytes: &[u8]) -> Result<usize, OutFault>
     requires { 0 < length bytes.now }
     ensures count { IfOk result (λ n. (0 < n) × (n ≤ length bytes.now)) }
-    ensures ok { IfOk result (λ n. Appends (W.contents w.old) (W.contents w.new) (take n bytes.now)) }
+    ensures ok { IfOk result (λ n.
+        Appends (W.contents w.old) (W.contents w.new) (take n bytes.now)) }
     ensures err { OnErr result (Keeps (W.contents w.old) (W.contents w.new)) }
 {
     for _ in 0..RETRIES + 1 {
@@ -47,8 +48,10 @@ pub fn write_whole<W: Write>(w: &mut W, bytes: &[u8]) -> Result<(), OutFault>
 
 /// Writes one piece after the other. After an `OutFault` the writer holds a front of them all.
 pub fn write_pieces<W: Write>(w: &mut W, pieces: &[&[u8]]) -> Result<(), OutFault>
-    ensures ok { OnOk result (Appends (W.contents w.old) (W.contents w.new) (flat_map (λ p. p.now) pieces.now)) }
-    ensures err { OnErr result (AppendsFront (W.contents w.old) (W.contents w.new) (flat_map (λ p. p.now) pieces.now)) }
+    ensures ok { OnOk result (Appends (W.contents w.old) (W.contents w.new) (flat_map (λ p.
+        p.now) pieces.now)) }
+    ensures err { OnErr result (AppendsFront (W.contents w.old) (W.contents w.new) (flat_map (λ p.
+        p.now) pieces.now)) }
 {
     for piece in pieces {
         write_whole(w, piece)?;

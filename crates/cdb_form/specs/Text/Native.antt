@@ -1,6 +1,6 @@
 -- The native text of a list of records, whose lengths are at most `greatest`.
 use Rattle.std.specs.Char.{digit_value}
-use Rattle.std.specs.Prelude.{ℕ, List, ◌+◌, ◌<◌, [], ◌∷◌, ◌++◌, length, take, flat_map, ◌≤◌, ◌≡◌, ⊤, get_or, decimal}
+use Rattle.std.specs.Prelude.{ℕ, List, ◌+◌, ◌<◌, [], ◌∷◌, ◌++◌, length, take, flat_map, ◌≤◌, ◌≡◌, ⊤, get_or, decimal, codes}
 use Rattle.std.specs.Str.Parse.{AllDigits, digits_value}
 use Rattle.cdb_form.specs.Format.Record.{KeyValue, IsRecord}
 use Rattle.cdb_form.specs.declared.text.fault.TextFault.{TextFault}
@@ -21,7 +21,7 @@ pub record Spells (greatest : ℕ) (text : List ℕ) (r : KeyValue) : Type 0 whe
   pub key_fits : length r.key ≤ greatest
   pub value_fits : length r.value ≤ greatest
   pub bytes : IsRecord r
-  pub text_is : text ≡ 43 ∷ (klen ++ 44 ∷ (vlen ++ 58 ∷ (r.key ++ 45 ∷ 62 ∷ (r.value ++ 10 ∷ []))))
+  pub text_is : text ≡ codes "+" ++ klen ++ codes "," ++ vlen ++ codes ":" ++ r.key ++ codes "->" ++ r.value ++ codes "\n"
 
 -- the text is spelled records, and then the rest
 abbrev pub Spelled : ℕ → List KeyValue → List ℕ → List ℕ → Type 0
@@ -30,7 +30,7 @@ Spelled greatest (r ∷ rs) text rest = (first more : List ℕ) × Spells greate
 
 -- the text is one of the form, spelled records and a newline, and then the rest
 abbrev pub Reads : ℕ → List KeyValue → List ℕ → List ℕ → Type 0
-Reads greatest rs text rest = Spelled greatest rs text (10 ∷ rest)
+Reads greatest rs text rest = Spelled greatest rs text (codes "\n" ++ rest)
 
 -- no spelled record stands at the front of the input
 abbrev pub HasNoRecord : ℕ → List ℕ → Type 0
@@ -68,8 +68,8 @@ HasFault greatest from input _ = ⊤
 
 -- the spelling of a record with the shortest numerals
 abbrev pub spelling_of : KeyValue → List ℕ
-spelling_of r = 43 ∷ (decimal (length r.key) ++ 44 ∷ (decimal (length r.value) ++ 58 ∷ (r.key ++ 45 ∷ 62 ∷ (r.value ++ 10 ∷ []))))
+spelling_of r = codes "+" ++ decimal (length r.key) ++ codes "," ++ decimal (length r.value) ++ codes ":" ++ r.key ++ codes "->" ++ r.value ++ codes "\n"
 
 -- the text of some records, with the shortest numerals
 abbrev pub text_of : List KeyValue → List ℕ
-text_of rs = flat_map spelling_of rs ++ 10 ∷ []
+text_of rs = flat_map spelling_of rs ++ codes "\n"

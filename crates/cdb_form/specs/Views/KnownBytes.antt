@@ -1,6 +1,6 @@
 -- What a call does to the bytes that a reader has left or a writer holds, where they are known.
 use Rattle.std.specs.Io.KnownBytes.{Consumes, Appends}
-use Rattle.std.specs.Prelude.{◌+◌, ℕ, List, ◌++◌, length, ◌≤◌, Option, ◌≡◌, ⊤, Some, None}
+use Rattle.std.specs.Prelude.{drop, ◌+◌, ℕ, List, ◌++◌, length, ◌≤◌, Option, ◌≡◌, ⊤, Some, None}
 
 -- no more than n bytes are lost
 pub record LosesAtMost (old new : Option (List ℕ)) (n : ℕ) : Type 0 where
@@ -13,6 +13,10 @@ abbrev pub FromTo : Option (List ℕ) → Option (List ℕ) → (List ℕ → Li
 FromTo None new P = ⊤
 FromTo (Some text) None P = ⊥
 FromTo (Some text) (Some rest) P = P text rest
+
+-- all bytes from place n on are still there, and no others behind them
+abbrev pub StillFrom : ℕ → List ℕ → List ℕ → Type 0
+StillFrom n text rest = (more : List ℕ) × (rest ≡ more ++ drop n text)
 
 -- known bytes grow by a front of some bytes
 pub record AppendsFront (old new : Option (List ℕ)) (bytes : List ℕ) : Type 0 where

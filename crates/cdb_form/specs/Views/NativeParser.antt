@@ -1,7 +1,7 @@
 -- What a fault of the native parser says of the part of a record that it was reading. `from` is the place of the text's first byte.
 use Rattle.std.specs.Char.{digit_value}
 use Rattle.std.specs.Io.KnownBytes.{Consumes}
-use Rattle.std.specs.Prelude.{option_map, ℕ, ◌*◌, List, ◌+◌, ◌<◌, [], ◌∷◌, ◌++◌, ◌-◌, take, length, ◌≤◌, Option, ◌≡◌, ⊤, ◌≢◌, IfSome}
+use Rattle.std.specs.Prelude.{option_map, ℕ, ◌*◌, List, ◌+◌, ◌<◌, [], ◌∷◌, ◌++◌, codes, ◌-◌, take, length, ◌≤◌, Option, ◌≡◌, ⊤, ◌≢◌, IfSome}
 use Rattle.std.specs.Str.Parse.{AllDigits, digits_value}
 use Rattle.cdb_form.specs.Format.Record.{KeyValue, AreBytes}
 use Rattle.cdb_form.specs.Text.Native.{Spells, HasFault, HasNoRecord}
@@ -74,7 +74,7 @@ FailsField n stop from text _ = ⊤
 -- a reader lost a spelling of the record from the byte behind its plus on
 pub record ReadsBehindPlus (greatest : ℕ) (old new : Option (List ℕ)) (from to : ℕ) (r : KeyValue) : Type 0 where
   pub text : List ℕ
-  pub spells : Spells greatest (43 ∷ text) r
+  pub spells : Spells greatest (codes "+" ++ text) r
   pub read : Consumes old new text
   pub counted : to ≡ from + length text
 

@@ -3,7 +3,7 @@ use Rattle.std.specs.Prelude.{ℕ, ◌^◌, ◌+◌, ◌<◌, ◌++◌, IfSome, 
 use Rattle.cdb_form.specs.Format.Pair.{head_size, pair_size}
 use Rattle.cdb_form.specs.Format.Record.{KeyValue}
 use Rattle.cdb_form.specs.Format.Walk.{Walked, walk_of, walk_from, record_end, no_walk, with_first, with_records, damaged}
-use Rattle.cdb_form.specs.Views.KnownBytes.{FromTo}
+use Rattle.cdb_form.specs.Views.KnownBytes.{FromTo, StillFrom}
 use Rattle.cdb_form.specs.Views.Reading.{ReadsNoFurther}
 use Rattle.cdb_form.specs.Views.WalkFault.{IsDamage}
 use Rattle.cdb_form.specs.declared.walk.fault.WalkFault.{WalkFault}
@@ -41,6 +41,10 @@ is_going (Failed fault) = ⊥
 -- the bytes that its reader has left, where they are known
 abbrev pub unread : {R L : Type 0} → (R → Option (List ℕ)) → RecordReader R L → Option (List ℕ)
 unread remaining t = remaining t.reader
+
+-- a relation of the bytes that were unread before and after a call
+abbrev pub Between : {R L : Type 0} → (R → Option (List ℕ)) → (old new : RecordReader R L) → (List ℕ → List ℕ → Type 0) → Type 0
+Between remaining old new P = FromTo (unread remaining old) (unread remaining new) P
 
 -- the walk that it is still to give, where these bytes are unread
 abbrev pub walk_left : {R L : Type 0} → ℕ → RecordReader R L → List ℕ → Walked
@@ -86,15 +90,15 @@ headers_left w _ = pair_size w
 
 -- a call gave a record: the first of the walk that was left. What stands behind the record end is still unread.
 pub record GivesRecord {R L : Type 0} (w : ℕ) (remaining : R → Option (List ℕ)) (old new : RecordReader R L) (r : KeyValue) : Type 0 where
-  pub walk : FromTo (unread remaining old) (unread remaining new) (λ text rest. walk_left w old text ≡ with_first r (walk_left w new rest))
-  pub behind : FromTo (unread remaining old) (unread remaining new) (λ text rest. behind_end w new rest ≡ behind_end w old text)
+  pub walk : Between remaining old new (λ text rest. walk_left w old text ≡ with_first r (walk_left w new rest))
+  pub behind : Between remaining old new (λ text rest. behind_end w new rest ≡ behind_end w old text)
   pub going : IsGoing new
   pub fewer : bytes_left new < bytes_left old
 
 -- a call told the end: the walk that was left has no record and no damage. What stands behind the record end is all that is unread.
 pub record GivesEnd {R L : Type 0} (w : ℕ) (remaining : R → Option (List ℕ)) (old new : RecordReader R L) : Type 0 where
   pub walk : IfSome (unread remaining old) (λ text. walk_left w old text ≡ no_walk)
-  pub behind : FromTo (unread remaining old) (unread remaining new) (λ text rest. behind_end w new rest ≡ behind_end w old text)
+  pub behind : Between remaining old new (λ text rest. behind_end w new rest ≡ behind_end w old text)
   pub ended : HasEnded new
 
 -- A call answered a fault, as every later one will. One of the file is the damage of the walk that was left, with no record
@@ -102,5 +106,5 @@ pub record GivesEnd {R L : Type 0} (w : ℕ) (remaining : R → Option (List ℕ
 pub record Fails {R L : Type 0} (w : ℕ) (remaining : R → Option (List ℕ)) (old new : RecordReader R L) (fault : WalkFault) : Type 0 where
   pub failed : HasFailed new fault
   pub exact : IsDamage fault → IfSome (unread remaining old) (λ text. walk_left w old text ≡ damaged fault)
-  pub behind : FromTo (unread remaining old) (unread remaining new) (λ text rest. (more : List ℕ) × (rest ≡ more ++ behind_end w old text))
+  pub behind : Between remaining old new (λ text rest. StillFrom (size_of_rest w old.walking text) text rest)
   pub no_further : IsGoing old → IsDamage fault → ReadsNoFurther (headers_left w old.walking) (unread remaining old) (unread remaining new)

@@ -33,11 +33,13 @@ impl<R: Read> Source<R> {
     fn number(&mut self, greatest: u64, stop: u8) -> Result<u64, TextFault>
         requires { 9 ≤ greatest }
         ensures read { IfOk result (λ n. (digits : List ℕ) × IsNumeral digits n
-            × Consumes (R.remaining self.old.reader) (R.remaining self.new.reader) (digits ++ stop ∷ [])
+            × Consumes (R.remaining self.old.reader)
+            (R.remaining self.new.reader) (digits ++ stop ∷ [])
             × (self.new.taken ≡ self.old.taken + (length digits + 1))) }
         ensures fits { IfOk result (λ n. n ≤ greatest) }
         ensures fewer { OnOk result (self.new.asks < self.old.asks) }
-        ensures fails { IfErr result (FailsIn R.remaining self.old self.new (FailsNumber greatest stop self.old.taken)) }
+        ensures fails { IfErr result (FailsIn R.remaining self.old self.new
+            (FailsNumber greatest stop self.old.taken)) }
         ensures later { self.old.taken ≤ self.new.taken }
         ensures took { IfErr result (TookAll R.remaining self.old self.new) }
         ensures last { IfErr result (LastRead self.new.taken) }
@@ -70,10 +72,12 @@ impl<R: Read> Source<R> {
 
     /// The next byte, which is to be this one.
     fn expect_byte(&mut self, byte: u8) -> Result<(), TextFault>
-        ensures read { OnOk result (Consumes (R.remaining self.old.reader) (R.remaining self.new.reader) (byte ∷ [])) }
+        ensures read { OnOk result (Consumes (R.remaining self.old.reader)
+            (R.remaining self.new.reader) (byte ∷ [])) }
         ensures counted { OnOk result (self.new.taken ≡ self.old.taken + 1) }
         ensures fewer { OnOk result (self.new.asks < self.old.asks) }
-        ensures fails { IfErr result (FailsIn R.remaining self.old self.new (FailsByte byte self.old.taken)) }
+        ensures fails { IfErr result (FailsIn R.remaining self.old self.new
+            (FailsByte byte self.old.taken)) }
         ensures later { self.old.taken ≤ self.new.taken }
         ensures took { IfErr result (TookAll R.remaining self.old self.new) }
         ensures last { IfErr result (LastRead self.new.taken) }
@@ -93,12 +97,14 @@ impl<R: Read> Source<R> {
     /// any kind or ends early, so they are asked for together.
     fn field(&mut self, into: &mut Vec<u8>, len: u64, stop: u8) -> Result<(), TextFault>
         requires { len < 2 ^ 63 }
-        ensures read { OnOk result (Consumes (R.remaining self.old.reader) (R.remaining self.new.reader) (into.new.items ++ stop ∷ [])) }
+        ensures read { OnOk result (Consumes (R.remaining self.old.reader)
+            (R.remaining self.new.reader) (into.new.items ++ stop ∷ [])) }
         ensures are { AreBytes into.new.items }
         ensures long { OnOk result (length into.new.items ≡ len) }
         ensures counted { OnOk result (self.new.taken ≡ self.old.taken + (len + 1)) }
         ensures fewer { OnOk result (self.new.asks ≤ self.old.asks) }
-        ensures fails { IfErr result (FailsIn R.remaining self.old self.new (FailsField len stop self.old.taken)) }
+        ensures fails { IfErr result (FailsIn R.remaining self.old self.new
+            (FailsField len stop self.old.taken)) }
         ensures later { self.old.taken ≤ self.new.taken }
         ensures took { IfErr result (TookAll R.remaining self.old self.new) }
         ensures last { IfErr result (LastRead self.new.taken) }
@@ -118,9 +124,12 @@ impl<R: Read> Source<R> {
     fn record(&mut self, into: &mut Record, greatest: u64) -> Result<(), TextFault>
         requires least { 9 ≤ greatest }
         requires most { greatest < 2 ^ 63 }
-        ensures read { OnOk result (ReadsBehindPlus greatest (R.remaining self.old.reader) (R.remaining self.new.reader) self.old.taken self.new.taken (key_value into.new)) }
+        ensures read { OnOk result (ReadsBehindPlus greatest (R.remaining self.old.reader)
+            (R.remaining self.new.reader) self.old.taken self.new.taken (key_value into.new)) }
         ensures fewer { OnOk result (self.new.asks < self.old.asks) }
-        ensures fails { (from : ℕ) → self.old.taken ≡ from + 1 → IfErr result (FailsIn R.remaining self.old self.new (λ text. FailsRecord greatest from (codes "+" ++ text))) }
+        ensures fails { (from : ℕ) → self.old.taken ≡ from + 1 →
+            IfErr result (FailsIn R.remaining self.old self.new (λ text.
+            FailsRecord greatest from (codes "+" ++ text))) }
         ensures later { self.old.taken ≤ self.new.taken }
         ensures took { IfErr result (TookAll R.remaining self.old self.new) }
         ensures last { IfErr result (LastRead self.new.taken) }
@@ -142,10 +151,13 @@ impl<R: Read> Source<R> {
         requires least { 9 ≤ greatest }
         requires most { greatest < 2 ^ 63 }
         ensures read { IfOk result (λ given. MatchBool given
-            (ReadsRecord greatest (R.remaining self.old.reader) (R.remaining self.new.reader) self.old.taken self.new.taken (key_value into.new))
-            (Consumes (R.remaining self.old.reader) (R.remaining self.new.reader) (codes "\n") × (self.new.taken ≡ self.old.taken + 1))) }
+            (ReadsRecord greatest (R.remaining self.old.reader)
+            (R.remaining self.new.reader) self.old.taken self.new.taken (key_value into.new))
+            (Consumes (R.remaining self.old.reader) (R.remaining self.new.reader) (codes "\n")
+            × (self.new.taken ≡ self.old.taken + 1))) }
         ensures fewer { OnOk result (self.new.asks < self.old.asks) }
-        ensures fails { IfErr result (FailsIn R.remaining self.old self.new (FailsRecord greatest self.old.taken)) }
+        ensures fails { IfErr result (FailsIn R.remaining self.old self.new
+            (FailsRecord greatest self.old.taken)) }
         ensures later { self.old.taken ≤ self.new.taken }
         ensures took { IfErr result (TookAll R.remaining self.old self.new) }
         ensures last { IfErr result (LastRead self.new.taken) }

@@ -71,7 +71,8 @@ impl<R: Read, L: Width> TextReader<R, L> {
         ensures fails { IfErr result (Fails L.GREATEST R.remaining self.old self.new) }
         // After the end and after a fault nothing is read, and the answer stays.
         ensures ended { HasEnded self.old → (result ≡ Ok None) × (self.new ≡ self.old) }
-        ensures failed { (fault : _) → HasFailed self.old fault → (result ≡ Err fault) × (self.new ≡ self.old) }
+        ensures failed { (fault : _) → HasFailed self.old fault →
+            (result ≡ Err fault) × (self.new ≡ self.old) }
     {
         let mut record = Record {
             key: Vec::new(self.alloc),
@@ -91,7 +92,8 @@ impl<R: Read, L: Width> TextReader<R, L> {
         ensures fails { IfErr result (Fails L.GREATEST R.remaining self.old self.new) }
         // After the end and after a fault nothing is read, and the answer stays.
         ensures ended { HasEnded self.old → (result ≡ Ok false) × (self.new ≡ self.old) }
-        ensures failed { (fault : _) → HasFailed self.old fault → (result ≡ Err fault) × (self.new ≡ self.old) }
+        ensures failed { (fault : _) → HasFailed self.old fault →
+            (result ≡ Err fault) × (self.new ≡ self.old) }
     {
         match self.going {
             Going::On => {}

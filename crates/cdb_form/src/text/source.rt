@@ -40,13 +40,17 @@ impl<R: Read> Source<R> {
     /// The next byte, or `None` at the end.
     pub(crate) fn byte(&mut self) -> Result<Option<u8>, TextFault>
         ensures bytes { IfOk result (λ found. MatchOption found
-            (IsAtEnd (R.remaining self.old.reader) × Keeps (R.remaining self.old.reader) (R.remaining self.new.reader))
+            (IsAtEnd (R.remaining self.old.reader)
+            × Keeps (R.remaining self.old.reader) (R.remaining self.new.reader))
             (λ b. Consumes (R.remaining self.old.reader) (R.remaining self.new.reader) (b ∷ []))) }
-        ensures counted { IfOk result (λ found. MatchOption found (self.new.taken ≡ self.old.taken) (λ b. self.new.taken ≡ self.old.taken + 1)) }
+        ensures counted { IfOk result (λ found.
+            MatchOption found (self.new.taken ≡ self.old.taken) (λ b.
+            self.new.taken ≡ self.old.taken + 1)) }
         ensures fewer { OnOk result (self.new.asks < self.old.asks) }
         ensures no_more { self.new.asks ≤ self.old.asks }
         ensures spends { self.old.asks ≤ self.new.asks + 1001 }
-        ensures kept { OnErr result (Keeps (R.remaining self.old.reader) (R.remaining self.new.reader)) }
+        ensures kept { OnErr result (Keeps (R.remaining self.old.reader)
+            (R.remaining self.new.reader)) }
         ensures same { OnErr result (self.new.taken ≡ self.old.taken) }
         ensures fails { IfErr result IsReadFault }
         ensures spent { IfErr result (IsSpent self.new.asks) }
@@ -66,12 +70,14 @@ impl<R: Read> Source<R> {
     /// Takes the next `len` bytes. Memory is asked for only as they come.
     pub(crate) fn bytes(&mut self, into: &mut Vec<u8>, len: u64) -> Result<(), TextFault>
         requires { len ≤ 2 ^ 63 }
-        ensures read { OnOk result (Consumes (R.remaining self.old.reader) (R.remaining self.new.reader) into.new.items) }
+        ensures read { OnOk result (Consumes (R.remaining self.old.reader)
+            (R.remaining self.new.reader) into.new.items) }
         ensures are { AreBytes into.new.items }
         ensures long { OnOk result (length into.new.items ≡ len) }
         ensures counted { OnOk result (self.new.taken ≡ self.old.taken + len) }
         ensures fewer { self.new.asks ≤ self.old.asks }
-        ensures fails { IfErr result (FailsIn R.remaining self.old self.new (FailsBytes len self.old.taken)) }
+        ensures fails { IfErr result (FailsIn R.remaining self.old self.new
+            (FailsBytes len self.old.taken)) }
         ensures later { self.old.taken ≤ self.new.taken }
         ensures took { IfErr result (TookAll R.remaining self.old self.new) }
         ensures last { IfErr result (LastRead self.new.taken) }

@@ -26,11 +26,15 @@ pub(crate) struct Area {
 
 // Reads the head, which tells where the records end.
 pub(crate) fn read_area<R: Read, L: Width>(reader: &mut R) -> Result<Area, WalkFault>
-    ensures area { IfOk result (λ area. FromTo (R.remaining reader.old) (R.remaining reader.new) (λ text rest.
-        (walk_of L.WORD text ≡ walk_from L.WORD area.place area.end rest) × (area.end ≡ record_end L.WORD text) × (rest ≡ drop (head_size L.WORD) text))) }
+    ensures area { IfOk result (λ area.
+        FromTo (R.remaining reader.old) (R.remaining reader.new) (λ text rest.
+        (walk_of L.WORD text ≡ walk_from L.WORD area.place area.end rest)
+        × (area.end ≡ record_end L.WORD text) × (rest ≡ drop (head_size L.WORD) text))) }
     ensures place { IfOk result (λ area. area.place ≡ head_size L.WORD) }
-    ensures fails { IfErr result (λ f. IsDamage f → IfSome (R.remaining reader.old) (λ text. walk_of L.WORD text ≡ damaged f)) }
-    ensures loses { LosesAtMost (R.remaining reader.old) (R.remaining reader.new) (head_size L.WORD) }
+    ensures fails { IfErr result (λ f. IsDamage f → IfSome (R.remaining reader.old) (λ text.
+        walk_of L.WORD text ≡ damaged f)) }
+    ensures loses { LosesAtMost (R.remaining reader.old)
+        (R.remaining reader.new) (head_size L.WORD) }
 {
     let mut bytes = [0u8; GREATEST_HEAD];
     let size = head_size::<L>();

@@ -1,7 +1,7 @@
 // Records out of a database file that is read in one pass.
 ghost use Rattle.std.specs.Prelude.{◌≡◌, ℕ, ◌+◌, ◌-◌, ◌*◌, ◌^◌, ◌<◌, ◌≤◌, max, List, ◌++◌, false, drop, OnOk, OnErr, IfOk, IfErr, IfSome, MatchOption, MatchBool};
 ghost use Rattle.std.specs.Bool.{OnTrue, OnFalse};
-ghost use Rattle.cdb_form.specs.Views.KnownBytes.{LosesAtMost, FromTo};
+ghost use Rattle.cdb_form.specs.Views.KnownBytes.{LosesAtMost, FromTo, StillFrom};
 ghost use Rattle.cdb_form.specs.Format.Pair.{head_size, pair_size};
 ghost use Rattle.cdb_form.specs.Views.Reading.{ReadsNoFurther};
 ghost use Rattle.cdb_form.specs.Format.Record.{record_size};
@@ -39,14 +39,21 @@ fn read_record<R: Read, L: Width>(
     area: Area,
 ) -> Result<Area, WalkFault>
     requires { area.place < area.end }
-    ensures record { IfOk result (λ behind. FromTo (R.remaining reader.old) (R.remaining reader.new) (λ text rest.
-        (walk_from L.WORD area.place area.end text ≡ with_first (key_value into.new) (walk_from L.WORD behind.place area.end rest))
+    ensures record { IfOk result (λ behind.
+        FromTo (R.remaining reader.old) (R.remaining reader.new) (λ text rest.
+        (walk_from L.WORD area.place area.end text
+        ≡ with_first (key_value into.new) (walk_from L.WORD behind.place area.end rest))
         × (rest ≡ drop (behind.place - area.place) text))) }
-    ensures place { IfOk result (λ behind. behind.place ≡ area.place + record_size L.WORD (key_value into.new)) }
+    ensures place { IfOk result (λ behind.
+        behind.place ≡ area.place + record_size L.WORD (key_value into.new)) }
     ensures end { IfOk result (λ behind. behind.end ≡ area.end) }
-    ensures fails { IfErr result (λ f. IsDamage f → IfSome (R.remaining reader.old) (λ text. walk_from L.WORD area.place area.end text ≡ damaged f)) }
-    ensures header { IfErr result (λ f. IsDamage f → ReadsNoFurther (pair_size L.WORD) (R.remaining reader.old) (R.remaining reader.new)) }
-    ensures loses { LosesAtMost (R.remaining reader.old) (R.remaining reader.new) (area.end - area.place) }
+    ensures fails { IfErr result (λ f. IsDamage f → IfSome (R.remaining reader.old) (λ text.
+        walk_from L.WORD area.place area.end text ≡ damaged f)) }
+    ensures header { IfErr result (λ f.
+        IsDamage f → ReadsNoFurther (pair_size L.WORD) (R.remaining reader.old)
+        (R.remaining reader.new)) }
+    ensures loses { LosesAtMost (R.remaining reader.old)
+        (R.remaining reader.new) (area.end - area.place) }
 {
     let early = WalkFault::Record(area.place);
     let mut piece = [0u8; PIECE];
@@ -83,7 +90,7 @@ pub struct RecordReader<R, L> {
 }
 
 impl<R: Read, L: Width> RecordReader<R, L> {
-    ghost use Rattle.cdb_form.specs.Views.RecordReader.{unread, walk_left, behind_end, bytes_left, IsFresh, IsGoing, HasEnded, HasFailed, GivesRecord, GivesEnd, Fails};
+    ghost use Rattle.cdb_form.specs.Views.RecordReader.{unread, walk_left, behind_end, bytes_left, IsFresh, IsGoing, HasEnded, HasFailed, Between, GivesRecord, GivesEnd, Fails};
     /// A reader of the records of the file that `reader` gives. Nothing is read yet.
     pub fn new(alloc: Global, reader: R) -> RecordReader<R, L>
         ensures unread { unread R.remaining result ≡ R.remaining reader }
@@ -110,7 +117,8 @@ impl<R: Read, L: Width> RecordReader<R, L> {
         ensures fails { IfErr result (Fails L.WORD R.remaining self.old self.new) }
         // After the end and after a fault nothing is read, and the answer stays.
         ensures ended { HasEnded self.old → (result ≡ Ok None) × (self.new ≡ self.old) }
-        ensures failed { (fault : _) → HasFailed self.old fault → (result ≡ Err fault) × (self.new ≡ self.old) }
+        ensures failed { (fault : _) → HasFailed self.old fault →
+            (result ≡ Err fault) × (self.new ≡ self.old) }
     {
         let mut record = Record {
             key: Vec::new(self.alloc),
@@ -130,7 +138,8 @@ impl<R: Read, L: Width> RecordReader<R, L> {
         ensures fails { IfErr result (Fails L.WORD R.remaining self.old self.new) }
         // After the end and after a fault nothing is read, and the answer stays.
         ensures ended { HasEnded self.old → (result ≡ Ok false) × (self.new ≡ self.old) }
-        ensures failed { (fault : _) → HasFailed self.old fault → (result ≡ Err fault) × (self.new ≡ self.old) }
+        ensures failed { (fault : _) → HasFailed self.old fault →
+            (result ≡ Err fault) × (self.new ≡ self.old) }
     {
         let answer = match self.walking {
             Walking::AtHead => self.first(into),
@@ -148,16 +157,30 @@ impl<R: Read, L: Width> RecordReader<R, L> {
 
     /// Reads the head, and then the first record.
     fn first(&mut self, into: &mut Record) -> Result<bool, WalkFault>
-        ensures record { IfOk result (λ given. OnTrue given (FromTo (unread R.remaining self.old) (unread R.remaining self.new) (λ text rest.
+        ensures record { IfOk result (λ given.
+            OnTrue given (Between R.remaining self.old self.new (λ text rest.
             (walk_of L.WORD text ≡ with_first (key_value into.new) (walk_left L.WORD self.new rest))
             × (behind_end L.WORD self.new rest ≡ drop (record_end L.WORD text) text)))) }
-        ensures fewer { IfOk result (λ given. OnTrue given (IsGoing self.new × (bytes_left self.new < 2 ^ 64))) }
-        ensures end { IfOk result (λ given. OnFalse given (IfSome (unread R.remaining self.old) (λ text. walk_of L.WORD text ≡ no_walk))) }
-        ensures behind { IfOk result (λ given. OnFalse given (FromTo (unread R.remaining self.old) (unread R.remaining self.new) (λ text rest. rest ≡ drop (record_end L.WORD text) text))) }
-        ensures after_head { OnOk result (IfSome (unread R.remaining self.old) (λ text. head_size L.WORD ≤ record_end L.WORD text)) }
-        ensures fails { IfErr result (λ f. IsDamage f → IfSome (unread R.remaining self.old) (λ text. walk_of L.WORD text ≡ damaged f)) }
-        ensures header { IfErr result (λ f. IsDamage f → ReadsNoFurther (head_size L.WORD + pair_size L.WORD) (unread R.remaining self.old) (unread R.remaining self.new)) }
-        ensures still_behind { OnErr result (FromTo (unread R.remaining self.old) (unread R.remaining self.new) (λ text rest. (more : List ℕ) × (rest ≡ more ++ drop (max (head_size L.WORD) (record_end L.WORD text)) text))) }
+        ensures fewer { IfOk result (λ given.
+            OnTrue given (IsGoing self.new × (bytes_left self.new < 2 ^ 64))) }
+        ensures end { IfOk result (λ given.
+            OnFalse given (IfSome (unread R.remaining self.old) (λ text.
+            walk_of L.WORD text ≡ no_walk))) }
+        ensures behind { IfOk result (λ given.
+            OnFalse given (Between R.remaining self.old self.new (λ text rest.
+            rest ≡ drop (record_end L.WORD text) text))) }
+        ensures after_head { OnOk result (IfSome (unread R.remaining self.old) (λ text.
+            head_size L.WORD ≤ record_end L.WORD text)) }
+        ensures fails { IfErr result (λ f.
+            IsDamage f → IfSome (unread R.remaining self.old) (λ text.
+            walk_of L.WORD text ≡ damaged f)) }
+        ensures header { IfErr result (λ f.
+            IsDamage f →
+            ReadsNoFurther (head_size L.WORD + pair_size L.WORD)
+            (unread R.remaining self.old) (unread R.remaining self.new)) }
+        ensures still_behind { OnErr result
+            (Between R.remaining self.old self.new (λ text rest.
+            StillFrom (max (head_size L.WORD) (record_end L.WORD text)) text rest)) }
     {
         let area = read_area::<R, L>(&mut self.reader)?;
         self.record_at(into, area)
@@ -165,14 +188,27 @@ impl<R: Read, L: Width> RecordReader<R, L> {
 
     /// Reads the record at the next place, unless that is the record end.
     fn record_at(&mut self, into: &mut Record, area: Area) -> Result<bool, WalkFault>
-        ensures record { IfOk result (λ given. OnTrue given (FromTo (unread R.remaining self.old) (unread R.remaining self.new) (λ text rest.
-            (walk_from L.WORD area.place area.end text ≡ with_first (key_value into.new) (walk_left L.WORD self.new rest))
+        ensures record { IfOk result (λ given.
+            OnTrue given (Between R.remaining self.old self.new (λ text rest.
+            (walk_from L.WORD area.place area.end text
+            ≡ with_first (key_value into.new) (walk_left L.WORD self.new rest))
             × (behind_end L.WORD self.new rest ≡ drop (area.end - area.place) text)))) }
-        ensures fewer { IfOk result (λ given. OnTrue given (IsGoing self.new × (bytes_left self.new < area.end - area.place))) }
-        ensures end { IfOk result (λ given. OnFalse given (IfSome (unread R.remaining self.old) (λ text. walk_from L.WORD area.place area.end text ≡ no_walk) × (area.place ≡ area.end) × (self.new ≡ self.old))) }
-        ensures fails { IfErr result (λ f. IsDamage f → IfSome (unread R.remaining self.old) (λ text. walk_from L.WORD area.place area.end text ≡ damaged f)) }
-        ensures header { IfErr result (λ f. IsDamage f → ReadsNoFurther (pair_size L.WORD) (unread R.remaining self.old) (unread R.remaining self.new)) }
-        ensures still_behind { OnErr result (FromTo (unread R.remaining self.old) (unread R.remaining self.new) (λ text rest. (more : List ℕ) × (rest ≡ more ++ drop (area.end - area.place) text))) }
+        ensures fewer { IfOk result (λ given.
+            OnTrue given (IsGoing self.new × (bytes_left self.new < area.end - area.place))) }
+        ensures end { IfOk result (λ given.
+            OnFalse given (IfSome (unread R.remaining self.old) (λ text.
+            walk_from L.WORD area.place area.end text ≡ no_walk) × (area.place ≡ area.end)
+            × (self.new ≡ self.old))) }
+        ensures fails { IfErr result (λ f.
+            IsDamage f → IfSome (unread R.remaining self.old) (λ text.
+            walk_from L.WORD area.place area.end text ≡ damaged f)) }
+        ensures header { IfErr result (λ f.
+            IsDamage f →
+            ReadsNoFurther (pair_size L.WORD)
+            (unread R.remaining self.old) (unread R.remaining self.new)) }
+        ensures still_behind { OnErr result
+            (Between R.remaining self.old self.new (λ text rest.
+            StillFrom (area.end - area.place) text rest)) }
     {
         if area.place == area.end {
             return Ok(false);

@@ -20,10 +20,14 @@ pub(crate) fn fill<R: Read>(
     into: &mut [u8],
     early: WalkFault,
 ) -> Result<(), WalkFault>
-    ensures bytes { OnOk result (Consumes (R.remaining reader.old) (R.remaining reader.new) into.new) }
+    ensures bytes { OnOk result (Consumes (R.remaining reader.old)
+        (R.remaining reader.new) into.new) }
     ensures are { OnOk result (AreBytes into.new) }
-    ensures fails { IfErr result (λ f. IsDamage f → (f ≡ early) × ReadsShort (length into.old) (R.remaining reader.old) (R.remaining reader.new)) }
-    ensures loses { LosesAtMost (R.remaining reader.old) (R.remaining reader.new) (length into.old) }
+    ensures fails { IfErr result (λ f.
+        IsDamage f → (f ≡ early) × ReadsShort (length into.old) (R.remaining reader.old)
+        (R.remaining reader.new)) }
+    ensures loses { LosesAtMost (R.remaining reader.old)
+        (R.remaining reader.new) (length into.old) }
 {
     let mut asks = ASKS;
     match all_bytes(reader, &mut asks, into) {
@@ -32,7 +36,7 @@ pub(crate) fn fill<R: Read>(
     }
 }
 
-/// Takes the next `len` bytes through `piece`, or answers `early` where the reader ends before that.
+/// Takes the next `len` bytes through `piece`, or answers `early` where the reader ends before.
 pub(crate) fn bytes<R: Read>(
     reader: &mut R,
     into: &mut Vec<u8>,
@@ -42,10 +46,13 @@ pub(crate) fn bytes<R: Read>(
 ) -> Result<(), WalkFault>
     requires some { 0 < length piece.old }
     requires few { length piece.old ≤ 4096 }
-    ensures read { OnOk result (Consumes (R.remaining reader.old) (R.remaining reader.new) into.new.items) }
+    ensures read { OnOk result (Consumes (R.remaining reader.old)
+        (R.remaining reader.new) into.new.items) }
     ensures are { AreBytes into.new.items }
     ensures long { OnOk result (length into.new.items ≡ len) }
-    ensures fails { IfErr result (λ f. IsDamage f → (f ≡ early) × ReadsShort len (R.remaining reader.old) (R.remaining reader.new)) }
+    ensures fails { IfErr result (λ f.
+        IsDamage f → (f ≡ early) × ReadsShort len (R.remaining reader.old)
+        (R.remaining reader.new)) }
     ensures loses { LosesAtMost (R.remaining reader.old) (R.remaining reader.new) len }
 {
     let mut asks = ASKS;
