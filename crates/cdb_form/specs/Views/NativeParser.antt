@@ -1,4 +1,5 @@
--- What a fault of the native parser says of the part of a record that it was reading. `from` is the place of the text's first byte.
+-- What a fault of the native parser says of the part of a record that it was reading. `from` is the
+-- place of the text's first byte.
 use Rattle.std.specs.Char.{digit_value}
 use Rattle.std.specs.Io.KnownBytes.{Consumes}
 use Rattle.std.specs.Prelude.{option_map, ℕ, ◌*◌, List, ◌+◌, ◌<◌, [], ◌∷◌, ◌++◌, codes, ◌-◌, take, length, ◌≤◌, Option, ◌≡◌, ⊤, ◌≢◌, IfSome}
@@ -11,7 +12,8 @@ use Rattle.cdb_form.specs.Views.TextFault.{IsOfText}
 use Rattle.cdb_form.specs.declared.text.fault.TextFault.{TextFault}
 use Rattle.cdb_form.specs.declared.text.fault.TextFault.TheVariants.{Syntax, Ended, Large, Input, Endless, NoMemory}
 
--- the text that a fault is one of: all that was unread, or what was read of it where the reader failed
+-- the text that a fault is one of: all that was unread, or what was read of it where the reader
+-- failed
 abbrev pub seen : ℕ → ℕ → TextFault → Option (List ℕ) → Option (List ℕ)
 seen from to Input old = option_map (take (to - from)) old
 seen from to Endless old = option_map (take (to - from)) old
@@ -35,14 +37,19 @@ pub record DigitsThen (greatest : ℕ) (text : List ℕ) (c count : ℕ) : Type 
 
 -- no numeral of at most `greatest` with `stop` behind it is at the front of the text
 abbrev pub FailsNumber : ℕ → ℕ → ℕ → List ℕ → TextFault → Type 0
-FailsNumber greatest stop from text (Syntax at) = (c n : ℕ) × DigitsThen greatest text c n × (at ≡ from + n) × (10 ≤ digit_value c) × (c ≡ stop → n ≡ 0)
-FailsNumber greatest stop from text (Large at) = (c n : ℕ) × DigitsThen greatest text c n × (at ≡ from + n) × (digit_value c < 10)
-FailsNumber greatest stop from text (Ended at) = AllDigits 10 text × (digits_value 10 text ≤ greatest) × (at ≡ from + length text)
+FailsNumber greatest stop from text (Syntax at) =
+    (c n : ℕ) × DigitsThen greatest text c n × (at ≡ from + n) × (10 ≤ digit_value c)
+    × (c ≡ stop → n ≡ 0)
+FailsNumber greatest stop from text (Large at) =
+    (c n : ℕ) × DigitsThen greatest text c n × (at ≡ from + n) × (digit_value c < 10)
+FailsNumber greatest stop from text (Ended at) =
+    AllDigits 10 text × (digits_value 10 text ≤ greatest) × (at ≡ from + length text)
 FailsNumber greatest stop from text _ = ⊤
 
 -- the byte isn't at the front of the text
 abbrev pub FailsByte : ℕ → ℕ → List ℕ → TextFault → Type 0
-FailsByte byte from text (Syntax at) = (c : ℕ) × (rest : List ℕ) × (text ≡ c ∷ rest) × (c ≢ byte) × (at ≡ from)
+FailsByte byte from text (Syntax at) =
+    (c : ℕ) × (rest : List ℕ) × (text ≡ c ∷ rest) × (c ≢ byte) × (at ≡ from)
 FailsByte byte from text (Ended at) = (text ≡ []) × (at ≡ from)
 FailsByte byte from text (Large at) = ⊥
 FailsByte byte from text _ = ⊤
@@ -68,11 +75,13 @@ pub record BytesThenOther (n stop : ℕ) (text : List ℕ) : Type 0 where
 abbrev pub FailsField : ℕ → ℕ → ℕ → List ℕ → TextFault → Type 0
 FailsField n stop from text (Syntax at) = BytesThenOther n stop text × (at ≡ from + n)
 FailsField n stop from text (Large at) = ⊥
-FailsField n stop from text (Ended at) = AreBytes text × (length text ≤ n) × (at ≡ from + length text)
+FailsField n stop from text (Ended at) =
+    AreBytes text × (length text ≤ n) × (at ≡ from + length text)
 FailsField n stop from text _ = ⊤
 
 -- a reader lost a spelling of the record from the byte behind its plus on
-pub record ReadsBehindPlus (greatest : ℕ) (old new : Option (List ℕ)) (from to : ℕ) (r : KeyValue) : Type 0 where
+pub record ReadsBehindPlus (greatest : ℕ) (old new : Option (List ℕ)) (from to : ℕ) (r : KeyValue)
+    : Type 0 where
   pub text : List ℕ
   pub spells : Spells greatest (codes "+" ++ text) r
   pub read : Consumes old new text
@@ -88,9 +97,13 @@ abbrev pub budget : {R : Type 0} → Source R → ℕ
 budget s = s.asks + 1001 * s.taken
 
 -- P is said of the text that the fault is one of
-abbrev pub FailsIn : {R : Type 0} → (R → Option (List ℕ)) → (old new : Source R) → (List ℕ → TextFault → Type 0) → TextFault → Type 0
-FailsIn remaining old new P f = IfSome (seen old.taken new.taken f (remaining old.reader)) (λ text. P text (told new.taken f))
+abbrev pub FailsIn : {R : Type 0} → (R → Option (List ℕ)) → (old new : Source R)
+    → (List ℕ → TextFault → Type 0) → TextFault → Type 0
+FailsIn remaining old new P f =
+    IfSome (seen old.taken new.taken f (remaining old.reader)) (λ text. P text (told new.taken f))
 
 -- what was read is gone from the reader, and was counted
-abbrev pub TookAll : {R : Type 0} → (R → Option (List ℕ)) → (old new : Source R) → TextFault → Type 0
-TookAll remaining old new f = f ≢ NoMemory → Took (remaining old.reader) (remaining new.reader) old.taken new.taken
+abbrev pub TookAll : {R : Type 0} → (R → Option (List ℕ)) → (old new : Source R) → TextFault
+    → Type 0
+TookAll remaining old new f =
+    f ≢ NoMemory → Took (remaining old.reader) (remaining new.reader) old.taken new.taken

@@ -53,7 +53,8 @@ text_place (Ended at) = Some at
 text_place (Large at) = Some at
 text_place _ = None
 
--- how many bytes were read in all, where the text has this fault: the byte at its place was the last one
+-- how many bytes were read in all, where the text has this fault: the byte at its place was the
+-- last one
 abbrev pub LastRead : ℕ → TextFault → Type 0
 LastRead taken (Syntax at) = taken ≡ at + 1
 LastRead taken (Large at) = taken ≡ at + 1

@@ -34,13 +34,15 @@ HasEnded t = t.going ≡ AtEnd
 abbrev pub HasFailed : {R L : Type 0} → TextReader R L → TextFault → Type 0
 HasFailed t fault = t.going ≡ Failed fault
 
--- what was read of a text, from the count `from` to the count `to`, is the front of a text, and no whole one; no whole record stands there
+-- what was read of a text, from the count `from` to the count `to`, is the front of a text, and no
+-- whole one; no whole record stands there
 pub record StopsAmid (greatest from to : ℕ) (text : List ℕ) : Type 0 where
   pub front : HasFault greatest from (take (to - from) text) (Ended to)
   pub no_record : HasNoRecord greatest (take (to - from) text)
 
 -- these bytes spell the record
-pub record ReadsRecord (greatest : ℕ) (old new : Option (List ℕ)) (from to : ℕ) (r : KeyValue) : Type 0 where
+pub record ReadsRecord (greatest : ℕ) (old new : Option (List ℕ)) (from to : ℕ) (r : KeyValue) :
+    Type 0 where
   pub text : List ℕ
   pub spells : Spells greatest text r
   pub read : Consumes old new text
@@ -51,31 +53,40 @@ abbrev pub budget : {R L : Type 0} → TextReader R L → ℕ
 budget t = asks_left t + 1001 * taken_of t
 
 -- a call gave a record, which was spelled by what was unread
-pub record GivesRecord {R L : Type 0} (greatest : ℕ) (remaining : R → Option (List ℕ)) (old new : TextReader R L) (r : KeyValue) : Type 0 where
-  pub reads : ReadsRecord greatest (unread remaining old) (unread remaining new) (taken_of old) (taken_of new) r
+pub record GivesRecord {R L : Type 0} (greatest : ℕ) (remaining : R → Option (List ℕ))
+    (old new : TextReader R L) (r : KeyValue) : Type 0 where
+  pub reads : ReadsRecord greatest (unread remaining old) (unread remaining new) (taken_of old)
+      (taken_of new) r
   pub going : IsGoing new
   pub fewer : asks_left new < asks_left old
   pub spends : budget old ≤ budget new
 
 -- a call told the end: the first such call took the newline that ends the text
-pub record GivesEnd {R L : Type 0} (remaining : R → Option (List ℕ)) (old new : TextReader R L) : Type 0 where
+pub record GivesEnd {R L : Type 0} (remaining : R → Option (List ℕ)) (old new : TextReader R L) :
+    Type 0 where
   pub ended : HasEnded new
   pub newline : IsGoing old → Consumes (unread remaining old) (unread remaining new) (codes "\n")
   pub counted : IsGoing old → taken_of new ≡ taken_of old + 1
   pub spends : budget old ≤ budget new
 
--- a reader met a fault: one of the text, in all that was unread; or it failed or was asked too often, and what it gave is
--- the front of a text. No whole record stands there. What was read ends with the byte at the fault's place, and is gone.
-pub record MeetsFault {R L : Type 0} (greatest : ℕ) (remaining : R → Option (List ℕ)) (old new : TextReader R L) (fault : TextFault) : Type 0 where
+-- a reader met a fault: one of the text, in all that was unread; or it failed or was asked too
+-- often, and what it gave is
+-- the front of a text. No whole record stands there. What was read ends with the byte at the
+-- fault's place, and is gone.
+pub record MeetsFault {R L : Type 0} (greatest : ℕ) (remaining : R → Option (List ℕ))
+    (old new : TextReader R L) (fault : TextFault) : Type 0 where
   pub exact : IfSome (unread remaining old) (λ text. HasFault greatest (taken_of old) text fault)
   pub no_record : IfSome (unread remaining old) (λ text. IsOfText fault → HasNoRecord greatest text)
-  pub part : IfSome (unread remaining old) (λ text. IsReadFault fault → StopsAmid greatest (taken_of old) (taken_of new) text)
-  pub took : fault ≢ NoMemory → Took (unread remaining old) (unread remaining new) (taken_of old) (taken_of new)
+  pub part : IfSome (unread remaining old)
+      (λ text. IsReadFault fault → StopsAmid greatest (taken_of old) (taken_of new) text)
+  pub took : fault ≢ NoMemory
+      → Took (unread remaining old) (unread remaining new) (taken_of old) (taken_of new)
   pub last : LastRead (taken_of new) fault
   pub spent : IsSpent (asks_left new) fault
   pub spends : budget old ≤ budget new + 1001
 
 -- a call answered a fault, as every later one will
-pub record Fails {R L : Type 0} (greatest : ℕ) (remaining : R → Option (List ℕ)) (old new : TextReader R L) (fault : TextFault) : Type 0 where
+pub record Fails {R L : Type 0} (greatest : ℕ) (remaining : R → Option (List ℕ))
+    (old new : TextReader R L) (fault : TextFault) : Type 0 where
   pub failed : HasFailed new fault
   pub meets : IsGoing old → MeetsFault greatest remaining old new fault

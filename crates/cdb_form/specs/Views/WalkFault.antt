@@ -19,7 +19,8 @@ walk_number (Record place) = 3
 walk_number Input = 4
 walk_number NoMemory = 5
 
--- the fault of a walk whose reader did not give what it was asked for, where it is `early` that it had no more
+-- the fault of a walk whose reader did not give what it was asked for, where it is `early` that it
+-- had no more
 abbrev pub unread_walk : WalkFault → Unread → WalkFault
 unread_walk early unread.Ended = early
 unread_walk early unread.Failed = Input
