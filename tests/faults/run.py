@@ -7,8 +7,8 @@ The library is refuse.c, built to be loaded ahead of the C library. Each run of 
 with nothing refused, which counts its asks. Then it is made twice for each of them: with that ask
 refused alone, and with that one and all later ones. It must end by the status 111 and the line for
 no memory, with no more on standard output than a fault may leave there; or, where the ask was not
-needed, as with nothing refused. That all asks are done without would show that no refusal reaches
-the program, and fails.
+needed (a vector asks ahead for room), as with nothing refused. Where no refusal is told, none
+reaches the program, which fails.
 """
 
 import os
@@ -19,13 +19,17 @@ import subprocess
 import sys
 import tempfile
 
+sys.path.insert(0, os.path.join(os.path.dirname(os.path.abspath(__file__)), "..", "cli"))
+
+from files import file_of, text_of
+
 LINE = b"cdb: no memory\n"
+BAD_WORDS = b"cdb: bad command line, see cdb -h\n"
 STATUS = 111
+# What may come of a refusal.
+TOLD = "told as no memory"
+DONE = "done without"
 LAST = 2**63 - 1
-
-
-def spelled(key, value):
-    return b"+%d,%d:%s->%s\n" % (len(key), len(value), key, value)
 
 
 def records():
@@ -35,10 +39,18 @@ def records():
     return [*some[:100], (chosen.randbytes(5000), chosen.randbytes(300000)), *some[100:]]
 
 
-SPELLED = [spelled(key, value) for key, value in records()]
-TEXT = b"".join(SPELLED) + b"\n"
+RECORDS = records()
+TEXT = text_of(RECORDS)
+DATABASE = file_of(RECORDS)
 # What a dump may have written when it stops: the text of the first so many records.
-FRONTS = {b"".join(SPELLED[:n]) for n in range(len(SPELLED) + 1)}
+FRONTS = {text_of(RECORDS[:n])[:-1] for n in range(len(RECORDS) + 1)}
+# For each run its words and its input, what it leaves with nothing refused (status, output,
+# errors), and what may stand on standard output where memory was refused.
+RUNS = {
+    "create": (["-c", "-"], TEXT, (0, DATABASE, b""), {b""}),
+    "dump": (["-d"], DATABASE, (0, TEXT, b""), FRONTS),
+    "bad words": (["-Z"], b"", (2, b"", BAD_WORDS), {b""}),
+}
 
 
 class Program:
@@ -67,28 +79,25 @@ class Program:
         return (done.returncode, done.stdout, done.stderr), asks
 
 
-def tell(name, refused):
+def tell(name, came):
     """Says what came of the refusals of a run, and how many of them passed and failed."""
-    count = {what: sum(1 for _, found in refused if found == what) for what in ("told", "done")}
-    wrong = [(how, found) for how, found in refused if found not in count]
-    for how, found in wrong[:5]:
-        print(f"{name}: {how}: {found}")
-    print(
-        f"{name}: {len(refused)} refusals: {count['told']} told as no memory, "
-        f"{count['done']} done without, {len(wrong)} wrong"
-    )
-    if count["told"] == 0:
-        print(f"{name}: no refusal was told")
-        return 0, len(refused) + 1
-    return len(refused) - len(wrong), len(wrong)
+    told = sum(1 for _, it in came if it == TOLD)
+    done = sum(1 for _, it in came if it == DONE)
+    wrong = [f"{name}: {how}: {it}" for how, it in came if it not in (TOLD, DONE)]
+    for line in wrong[:5]:
+        print(line)
+    print(f"{name}: {len(came)} refusals: {told} {TOLD}, {done} {DONE}, {len(wrong)} wrong")
+    if told == 0:
+        print(f"{name}: no refusal reached the program")
+    return told + done, len(wrong) + (told == 0)
 
 
 def refuse_each(program, words, stdin, wanted, fronts):
-    """For each refusal how it was made, and what came of it."""
+    """For each refusal how it was made, and what came of it: TOLD, DONE, or what is wrong."""
     free, asks = program.run(words, stdin)
     if free != wanted:
         return [("nothing refused", f"{free!r:.300} and not {wanted!r:.300}")]
-    refused = []
+    came = []
     for first in range(1, asks + 1):
         for how, last in ((f"ask {first}", first), (f"each ask from {first} on", LAST)):
             left, made = program.run(words, stdin, first, last)
@@ -96,11 +105,11 @@ def refuse_each(program, words, stdin, wanted, fronts):
             if made < first:
                 found = f"only {made} asks were made"
             elif (status, errors) == (STATUS, LINE) and output in fronts:
-                found = "told"
+                found = TOLD
             else:
-                found = "done" if left == free else f"{left!r:.300}"
-            refused.append((how, found))
-    return refused
+                found = DONE if left == free else f"{left!r:.300}"
+            came.append((how, found))
+    return came
 
 
 def main():
@@ -111,14 +120,8 @@ def main():
     passed = failed = 0
     with tempfile.TemporaryDirectory() as folder:
         program = Program(*map(os.path.abspath, sys.argv[1:]), folder)
-        (_, database, _), _ = program.run(["-c", "-"], TEXT)
-        bad_words = b"cdb: bad command line, see cdb -h\n"
-        for name, words, stdin, wanted, fronts in (
-            ("create", ["-c", "-"], TEXT, (0, database, b""), {b""}),
-            ("dump", ["-d"], database, (0, TEXT, b""), FRONTS),
-            ("bad words", ["-Z"], b"", (2, b"", bad_words), {b""}),
-        ):
-            good, bad = tell(name, refuse_each(program, words, stdin, wanted, fronts))
+        for name, run in RUNS.items():
+            good, bad = tell(name, refuse_each(program, *run))
             passed, failed = passed + good, failed + bad
     print(f"{passed} passed, {failed} failed")
     sys.exit(1 if failed else 0)
