@@ -13,10 +13,9 @@ use Rattle.cdb_form.specs.Text.Native.{IsNumeral}
 use Rattle.std.specs.Prelude.{option_map}
 use Rattle.cdb_form.specs.Views.KnownBytes.{Took}
 use Rattle.cdb_form.proofs.Fronts.{take_past}
-use Rattle.cdb_form.specs.Views.TextReader.{ReadsRecord}
 use Rattle.cdb_form.specs.declared.reading.Unread.{Unread}
 use Rattle.cdb_form.specs.declared.reading.Unread.TheVariants as unread
-use Rattle.cdb_form.specs.Views.TextFault.{IsReadFault, LastRead, unread_fault}
+use Rattle.cdb_form.specs.Views.TextFault.{IsReadFault, unread_fault}
 use Rattle.cdb_form.specs.Views.NativeParser.{FailsBytes, FailsField, ReadsBehindPlus, seen, told}
 
 -- digits were read that stand for a value
@@ -34,12 +33,6 @@ consumes_then None mid new xs ys a b = tt
 consumes_then (Some o) None new xs ys a b = absurd a
 consumes_then (Some o) (Some m) None xs ys a b = absurd b
 consumes_then (Some o) (Some m) (Some n) xs ys a b = a ∙ ap (λ t. xs ++ t) b ∙ sym (append_assoc xs ys n)
-
-pub consumes_kept : (old mid new : Option (List ℕ)) (xs : List ℕ) → Consumes old mid xs → Keeps mid new → Consumes old new xs
-consumes_kept None mid new xs a b = tt
-consumes_kept (Some o) None new xs a b = absurd a
-consumes_kept (Some o) (Some m) None xs a b = absurd b
-consumes_kept (Some o) (Some m) (Some n) xs a b = a ∙ ap (λ t. xs ++ t) (sym b)
 
 pub kept_consumes : (old new : Option (List ℕ)) → Keeps old new → Consumes old new []
 kept_consumes None new h = tt
@@ -138,15 +131,6 @@ record_behind o m₁ m₂ m₃ m₄ n greatest from to a b r ia ib fk fv bytes c
       counted = simp length-append (omega (arith, counted));
     }
 
--- and the plus
-pub record_whole : (o m n : Option (List ℕ)) (greatest from mid to : ℕ) (r : KeyValue) → Consumes o m (43 ∷ []) → mid ≡ from + 1 → ReadsBehindPlus greatest m n mid to r → ReadsRecord greatest o n from to r
-record_whole o m n greatest from mid to r plus counted behind = record {
-  text = 43 ∷ behind.text;
-  spells = behind.spells;
-  read = consumes_then o m n (43 ∷ []) behind.text plus behind.read;
-  counted = omega (arith, behind.counted);
-}
-
 -- the bytes read are all that there were, where the reader has no more; else they are what was read
 pub bytes_fail : (o n : Option (List ℕ)) (len from to : ℕ) (bytes : List ℕ) (u : Unread) → (u ≢ unread.NoMemory → Consumes o n bytes) → (u ≡ unread.Ended → IsAtEnd n) → AreBytes bytes → length bytes < len → to ≡ from + length bytes
     → IfSome (seen from to (unread_fault to u) o) (λ text. FailsBytes len from text (told to (unread_fault to u)))
@@ -158,16 +142,6 @@ bytes_fail (Some o) (Some n) len from to bytes unread.Ended read end are short c
 bytes_fail o n len from to bytes unread.Failed read end are short counted = part_seen (λ text f. FailsBytes len from text f) o n from to bytes Input tt (read (λ e. cc)) counted (are, short, counted)
 bytes_fail o n len from to bytes unread.Spent read end are short counted = part_seen (λ text f. FailsBytes len from text f) o n from to bytes Endless tt (read (λ e. cc)) counted (are, short, counted)
 bytes_fail o n len from to bytes unread.NoMemory read end are short counted = known o (λ t. tt)
-
--- what was taken, and that it ends where the reader did
-pub bytes_took : (o n : Option (List ℕ)) (from to : ℕ) (bytes : List ℕ) (u : Unread) → (u ≢ unread.NoMemory → Consumes o n bytes) → to ≡ from + length bytes → unread_fault to u ≢ NoMemory → Took o n from to
-bytes_took o n from to bytes u read counted other = took_these o n from to bytes (read (λ e. other (ap (unread_fault to) e))) counted
-
-pub unread_last : (to : ℕ) (u : Unread) → LastRead to (unread_fault to u)
-unread_last to unread.Ended = refl
-unread_last to unread.Failed = tt
-unread_last to unread.Spent = tt
-unread_last to unread.NoMemory = tt
 
 -- the byte behind a field is another one
 pub other_last : (o n : Option (List ℕ)) (len stop from : ℕ) (bytes items : List ℕ) (last : ℕ) → Consumes o n bytes → AreBytes bytes → length bytes ≡ len + 1 → bytes ≡ items ++ last ∷ [] → last ≢ stop
@@ -186,12 +160,3 @@ other_last (Some o) (Some n) len stop from bytes items last a are long e other =
   },
   refl,
 )
-
--- the bytes of a field and the byte behind it end early together
-pub field_ended : (len stop from : ℕ) (text : List ℕ) (f : TextFault) → FailsBytes (len + 1) from text f → FailsField len stop from text f
-field_ended len stop from text (Syntax at) h = absurd h
-field_ended len stop from text (Large at) h = absurd h
-field_ended len stop from text (Ended at) (are, short, place) = (are, omega arith, place)
-field_ended len stop from text NoMemory h = tt
-field_ended len stop from text Input h = tt
-field_ended len stop from text Endless h = tt

@@ -97,9 +97,9 @@ pub front_any : (g : ℕ) → Front (Any g) []
 front_any g = ([], tt)
 
 pub not_empty : (g : ℕ) → Form g [] → ⊥
-not_empty g ([], e) = let h : [] ≡ 10 ∷ [] = e in cc
+not_empty g ([], e) = let h : ◌≡◌ {A = List ℕ} [] (10 ∷ []) = e in cc
 not_empty g (r ∷ rs, (first, more, sp, e, reads)) =
-    let h : [] ≡ 43 ∷ (sp.klen ++ 44 ∷ (sp.vlen ++ 58 ∷ (r.key ++ 45 ∷ 62 ∷ (r.value ++ 10 ∷ more)))) = e ∙ first_of_spelled g first more r sp in
+    let h : ◌≡◌ {A = List ℕ} [] (43 ∷ (sp.klen ++ 44 ∷ (sp.vlen ++ 58 ∷ (r.key ++ 45 ∷ 62 ∷ (r.value ++ 10 ∷ more))))) = e ∙ first_of_spelled g first more r sp in
     cc
 
 pub front_plus : (g : ℕ) (s : List ℕ) → Front (Behind Form g) s → Front (Form g) (43 ∷ s)

@@ -1,5 +1,5 @@
 -- What a clause reads of a reader of the records of a file.
-use Rattle.std.specs.Prelude.{ℕ, ◌^◌, ◌+◌, ◌<◌, ◌++◌, IfSome, List, drop, Option, ◌≡◌, ⊤, ◌-◌, max}
+use Rattle.std.specs.Prelude.{ℕ, ◌^◌, ◌+◌, ◌<◌, IfSome, List, drop, Option, ◌≡◌, ⊤, ◌-◌, max}
 use Rattle.cdb_form.specs.Format.Pair.{head_size, pair_size}
 use Rattle.cdb_form.specs.Format.Record.{KeyValue}
 use Rattle.cdb_form.specs.Format.Walk.{Walked, walk_of, walk_from, record_end, no_walk, with_first, with_records, damaged}

@@ -9,12 +9,11 @@ ghost use Rattle.cdb_form.specs.Format.Walk.{walk_of, walk_from, record_end, dam
 ghost use Rattle.cdb_form.specs.Views.WalkFault.{IsDamage};
 ghost use Rattle.cdb_form.specs.Views.Pairs.{key_value};
 
-use crate::header::read_header;
 use crate::pair::pair_size;
 use crate::record::Record;
 use crate::walk::fault::WalkFault;
 use crate::walk::record_area::{Area, read_area};
-use crate::walk::source::{bytes, fill};
+use crate::walk::source::{bytes, record_header};
 use crate::width::Width;
 use std::alloc::Global;
 use std::io::Read;
@@ -56,18 +55,17 @@ fn read_record<R: Read, L: Width>(
         (R.remaining reader.new) (area.end - area.place) }
 {
     let early = WalkFault::Record(area.place);
-    let mut piece = [0u8; PIECE];
     let size = pair_size::<L>();
     let left = area.end - area.place;
     if left < size as u64 {
         return Err(early);
     }
-    fill(reader, &mut piece[..size], early)?;
-    let header = read_header::<L>(&piece[..size]);
+    let header = record_header::<R, L>(reader, early)?;
     let left = left - size as u64;
     if left < header.klen || left - header.klen < header.vlen {
         return Err(early);
     }
+    let mut piece = [0u8; PIECE];
     bytes(reader, &mut into.key, header.klen, &mut piece, early)?;
     bytes(reader, &mut into.value, header.vlen, &mut piece, early)?;
     let place = area.place + size as u64 + header.klen + header.vlen;
