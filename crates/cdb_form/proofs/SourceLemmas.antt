@@ -6,6 +6,7 @@ use Rattle.std.specs.Str.Parse.{AllDigits, digits_value}
 use Rattle.std.specs.Char.{digit_value}
 use Rattle.std.proofs.lemmas.Int.Digits.{digits_push, digits_value_push}
 use Rattle.cdb_form.proofs.ByteLemmas.{AreBytes-front}
+use Rattle.cdb_form.specs.declared.text.source.Source.{Source}
 use Rattle.cdb_form.specs.declared.text.fault.TextFault.{TextFault}
 use Rattle.cdb_form.specs.declared.text.fault.TextFault.TheVariants.{Syntax, Ended, Large, Input, Endless, NoMemory}
 use Rattle.cdb_form.specs.Format.Record.{AreBytes, KeyValue, IsRecord}
@@ -16,7 +17,7 @@ use Rattle.cdb_form.proofs.Fronts.{take_past}
 use Rattle.cdb_form.specs.declared.reading.Unread.{Unread}
 use Rattle.cdb_form.specs.declared.reading.Unread.TheVariants as unread
 use Rattle.cdb_form.specs.Views.TextFault.{IsReadFault, unread_fault}
-use Rattle.cdb_form.specs.Views.NativeParser.{FailsBytes, FailsField, ReadsBehindPlus, seen, told}
+use Rattle.cdb_form.specs.Views.NativeParser.{FailsBytes, FailsField, ReadsBehindPlus, seen, told, budget, Leaves}
 
 -- digits were read that stand for a value
 pub record DigitsSoFar (old new : Option (List ℕ)) (greatest start taken value : ℕ) : Type 0 where
@@ -84,8 +85,14 @@ took_behind old mid new from at to first read counted t = record {
 pub seen_past : (old mid : Option (List ℕ)) (from at to : ℕ) (bytes : List ℕ) (c : ℕ) (f : TextFault) → Consumes old mid (bytes ++ c ∷ []) → at ≡ from + (length bytes + 1) → at ≤ to → Consumes (seen from to f old) (seen at to f mid) (bytes ++ c ∷ [])
 seen_past old mid from at to bytes c f read counted later = seen_behind old mid from at to (bytes ++ c ∷ []) f read (omega (arith, counted, length-append bytes (c ∷ []))) later
 
-pub took_past : (old mid new : Option (List ℕ)) (from at to : ℕ) (bytes : List ℕ) (c : ℕ) → Consumes old mid (bytes ++ c ∷ []) → at ≡ from + (length bytes + 1) → Took mid new at to → Took old new from to
-took_past old mid new from at to bytes c read counted t = took_behind old mid new from at to (bytes ++ c ∷ []) read (omega (arith, counted, length-append bytes (c ∷ []))) t
+pub leaves_past : {R : Type 0} (remaining : R → Option (List ℕ)) (old mid new : Source R) (bytes : List ℕ) (c : ℕ) (f : TextFault)
+    → Consumes (remaining old.reader) (remaining mid.reader) (bytes ++ c ∷ []) → mid.taken ≡ old.taken + (length bytes + 1) → budget old ≤ budget mid → Leaves remaining mid new f → Leaves remaining old new f
+leaves_past remaining old mid new bytes c f read counted spends l = record {
+  took = λ other. took_behind _ _ _ _ _ _ (bytes ++ c ∷ []) read (omega (arith, counted, length-append bytes (c ∷ []))) (l.took other);
+  last = l.last;
+  spent = l.spent;
+  spends = omega (arith, l.spends);
+}
 
 pub took_these : (old new : Option (List ℕ)) (from to : ℕ) (bytes : List ℕ) → Consumes old new bytes → to ≡ from + length bytes → Took old new from to
 took_these old new from to bytes read counted = record { bytes = bytes; read = read; counted = counted }

@@ -8,7 +8,7 @@ use Rattle.cdb_form.specs.Format.Record.{KeyValue, AreBytes}
 use Rattle.cdb_form.specs.Text.Native.{Spells, HasFault, HasNoRecord}
 use Rattle.cdb_form.specs.Views.KnownBytes.{Took}
 use Rattle.cdb_form.specs.declared.text.source.Source.{Source}
-use Rattle.cdb_form.specs.Views.TextFault.{IsOfText}
+use Rattle.cdb_form.specs.Views.TextFault.{IsOfText, IsSpent, LastRead}
 use Rattle.cdb_form.specs.declared.text.fault.TextFault.{TextFault}
 use Rattle.cdb_form.specs.declared.text.fault.TextFault.TheVariants.{Syntax, Ended, Large, Input, Endless, NoMemory}
 
@@ -102,8 +102,12 @@ abbrev pub FailsIn : {R : Type 0} → (R → Option (List ℕ)) → (old new : S
 FailsIn remaining old new P f =
     IfSome (seen old.taken new.taken f (remaining old.reader)) (λ text. P text (told new.taken f))
 
--- what was read is gone from the reader, and was counted
-abbrev pub TookAll : {R : Type 0} → (R → Option (List ℕ)) → (old new : Source R) → TextFault
-    → Type 0
-TookAll remaining old new f =
-    f ≢ NoMemory → Took (remaining old.reader) (remaining new.reader) old.taken new.taken
+-- What a fault leaves: what was read is gone from the reader and was counted, and ends with the byte
+-- at the fault's place. Asks last for 1001 a byte.
+pub record Leaves {R : Type 0} (remaining : R → Option (List ℕ)) (old new : Source R)
+    (f : TextFault) : Type 0 where
+  pub took : f ≢ NoMemory
+      → Took (remaining old.reader) (remaining new.reader) old.taken new.taken
+  pub last : LastRead new.taken f
+  pub spent : IsSpent new.asks f
+  pub spends : budget old ≤ budget new + 1001

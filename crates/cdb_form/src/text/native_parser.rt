@@ -5,8 +5,8 @@ ghost use Rattle.std.specs.Io.KnownBytes.{Consumes};
 ghost use Rattle.cdb_form.specs.Format.Record.{AreBytes};
 ghost use Rattle.cdb_form.specs.Text.Native.{IsNumeral};
 ghost use Rattle.cdb_form.specs.Views.TextReader.{ReadsRecord};
-ghost use Rattle.cdb_form.specs.Views.NativeParser.{FailsNumber, FailsByte, FailsBytes, FailsField, FailsRecord, ReadsBehindPlus, FailsIn, TookAll, budget};
-ghost use Rattle.cdb_form.specs.Views.TextFault.{IsSpent, LastRead};
+ghost use Rattle.cdb_form.specs.Views.NativeParser.{FailsNumber, FailsByte, FailsBytes, FailsField, FailsRecord, ReadsBehindPlus, FailsIn, Leaves, budget};
+ghost use Rattle.cdb_form.specs.Views.TextFault.{IsSpent};
 ghost use Rattle.cdb_form.specs.Views.Pairs.{key_value};
 
 use crate::record::Record;
@@ -41,11 +41,8 @@ impl<R: Read> Source<R> {
         ensures fails { IfErr result (FailsIn R.remaining self.old self.new
             (FailsNumber greatest stop self.old.taken)) }
         ensures later { self.old.taken ≤ self.new.taken }
-        ensures took { IfErr result (TookAll R.remaining self.old self.new) }
-        ensures last { IfErr result (LastRead self.new.taken) }
-        ensures spent { IfErr result (IsSpent self.new.asks) }
+        ensures leaves { IfErr result (Leaves R.remaining self.old self.new) }
         ensures spends { OnOk result (budget self.old ≤ budget self.new) }
-        ensures spends_err { OnErr result (budget self.old ≤ budget self.new + 1001) }
     {
         let start = self.taken;
         let mut value = 0;
@@ -79,11 +76,8 @@ impl<R: Read> Source<R> {
         ensures fails { IfErr result (FailsIn R.remaining self.old self.new
             (FailsByte byte self.old.taken)) }
         ensures later { self.old.taken ≤ self.new.taken }
-        ensures took { IfErr result (TookAll R.remaining self.old self.new) }
-        ensures last { IfErr result (LastRead self.new.taken) }
-        ensures spent { IfErr result (IsSpent self.new.asks) }
+        ensures leaves { IfErr result (Leaves R.remaining self.old self.new) }
         ensures spends { OnOk result (budget self.old ≤ budget self.new) }
-        ensures spends_err { OnErr result (budget self.old ≤ budget self.new + 1001) }
     {
         let at = self.taken;
         match self.byte()? {
@@ -106,11 +100,8 @@ impl<R: Read> Source<R> {
         ensures fails { IfErr result (FailsIn R.remaining self.old self.new
             (FailsField len stop self.old.taken)) }
         ensures later { self.old.taken ≤ self.new.taken }
-        ensures took { IfErr result (TookAll R.remaining self.old self.new) }
-        ensures last { IfErr result (LastRead self.new.taken) }
-        ensures spent { IfErr result (IsSpent self.new.asks) }
+        ensures leaves { IfErr result (Leaves R.remaining self.old self.new) }
         ensures spends { OnOk result (budget self.old ≤ budget self.new) }
-        ensures spends_err { OnErr result (budget self.old ≤ budget self.new + 1001) }
     {
         let at = self.taken;
         self.bytes(into, len + 1)?;
@@ -131,11 +122,8 @@ impl<R: Read> Source<R> {
             IfErr result (FailsIn R.remaining self.old self.new (λ text.
             FailsRecord greatest from (codes "+" ++ text))) }
         ensures later { self.old.taken ≤ self.new.taken }
-        ensures took { IfErr result (TookAll R.remaining self.old self.new) }
-        ensures last { IfErr result (LastRead self.new.taken) }
-        ensures spent { IfErr result (IsSpent self.new.asks) }
+        ensures leaves { IfErr result (Leaves R.remaining self.old self.new) }
         ensures spends { OnOk result (budget self.old ≤ budget self.new) }
-        ensures spends_err { OnErr result (budget self.old ≤ budget self.new + 1001) }
     {
         let klen = self.number(greatest, b',')?;
         let vlen = self.number(greatest, b':')?;
@@ -159,11 +147,8 @@ impl<R: Read> Source<R> {
         ensures fails { IfErr result (FailsIn R.remaining self.old self.new
             (FailsRecord greatest self.old.taken)) }
         ensures later { self.old.taken ≤ self.new.taken }
-        ensures took { IfErr result (TookAll R.remaining self.old self.new) }
-        ensures last { IfErr result (LastRead self.new.taken) }
-        ensures spent { IfErr result (IsSpent self.new.asks) }
+        ensures leaves { IfErr result (Leaves R.remaining self.old self.new) }
         ensures spends { OnOk result (budget self.old ≤ budget self.new) }
-        ensures spends_err { OnErr result (budget self.old ≤ budget self.new + 1001) }
     {
         let at = self.taken;
         match self.byte()? {

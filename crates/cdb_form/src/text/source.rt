@@ -20,8 +20,8 @@ pub(crate) struct Source<R> {
 
 impl<R: Read> Source<R> {
     ghost use Rattle.cdb_form.specs.Format.Record.{AreBytes};
-    ghost use Rattle.cdb_form.specs.Views.NativeParser.{FailsBytes, FailsIn, TookAll, budget};
-    ghost use Rattle.cdb_form.specs.Views.TextFault.{IsReadFault, IsSpent, LastRead};
+    ghost use Rattle.cdb_form.specs.Views.NativeParser.{FailsBytes, FailsIn, Leaves, budget};
+    ghost use Rattle.cdb_form.specs.Views.TextFault.{IsReadFault, IsSpent};
 
     /// A reader that gave nothing yet, and may be asked so often.
     pub(crate) fn new(reader: R, asks: u64) -> Source<R>
@@ -79,11 +79,8 @@ impl<R: Read> Source<R> {
         ensures fails { IfErr result (FailsIn R.remaining self.old self.new
             (FailsBytes len self.old.taken)) }
         ensures later { self.old.taken ≤ self.new.taken }
-        ensures took { IfErr result (TookAll R.remaining self.old self.new) }
-        ensures last { IfErr result (LastRead self.new.taken) }
-        ensures spent { IfErr result (IsSpent self.new.asks) }
+        ensures leaves { IfErr result (Leaves R.remaining self.old self.new) }
         ensures spends { OnOk result (budget self.old ≤ budget self.new) }
-        ensures spends_err { OnErr result (budget self.old ≤ budget self.new + 1001) }
     {
         let mut piece = [0u8; PIECE];
         let answer = vector(&mut self.reader, &mut self.asks, into, len, &mut piece);

@@ -8,5 +8,5 @@ returns-in-Err-clause-fails g c =
     let m = met g.L.Width.GREATEST c.args.self.now.source.taken c.entry-answer.new.self.taken (g.R.Read.remaining c.args.self.now.source.reader) c.in-Err.fault (rw c.GREATEST.ensures at e.fails) in
     record {
       failed = refl;
-      meets = λ going. record { exact = m.exact; no_record = m.no_record; part = m.part; took = e.took; last = e.last; spent = e.spent; spends = e.spends_err };
+      meets = λ going. record { exact = m.exact; no_record = m.no_record; part = m.part; took = e.leaves.took; last = e.leaves.last; spent = e.leaves.spent; spends = e.leaves.spends };
     }

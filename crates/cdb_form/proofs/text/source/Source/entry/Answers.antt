@@ -1,6 +1,6 @@
 use Rattle.std.proofs.Common.{◌≡◌, ℕ, [], arith, sym, subst}
 use Rattle.std.proofs.lemmas.Result.{err_from_is_err_and}
-use Rattle.cdb_form.proofs.SourceLemmas.{kept_consumes, part_seen, seen_past, took_past}
+use Rattle.cdb_form.proofs.SourceLemmas.{kept_consumes, part_seen, seen_past, leaves_past}
 use Rattle.cdb_form.specs.Views.NativeParser.{FailsRecord}
 use Rattle.cdb_form.specs.declared.text.fault.TextFault.TheVariants.{Ended}
 use Rattle.cdb_form.proofs.Stops.{ended_first, syntax_first, record_first, nothing_read}
@@ -21,12 +21,12 @@ returns-in_err-record-in-Some-eq43-clause-fails g c =
     let h = c.in_err-record-in-Some-eq43.ensures in
     rw (p.1, p.2) (record_first _ _ _ _ _ (seen_past _ _ _ _ _ [] 43 c.in_err-record-in-Some-eq43.field-0.0 (rw (c.in-Some-eq43.is, plus) at c.in_ok-byte.ensures.bytes) counted h.later) (h.fails c.args.self.now.taken counted))
 
-pub returns-in_err-record-in-Some-eq43-clause-took : goal.returns-in_err-record-in-Some-eq43-clause-took
-returns-in_err-record-in-Some-eq43-clause-took g c =
+pub returns-in_err-record-in-Some-eq43-clause-leaves : goal.returns-in_err-record-in-Some-eq43-clause-leaves
+returns-in_err-record-in-Some-eq43-clause-leaves g c =
     let p = err_from_is_err_and c.from_residual-in_err-record-in-Some-eq43.result c.from_residual-in_err-record-in-Some-eq43.ensures.1 in
     let plus : c.in-Some-eq43.field-0 ≡ 43 = omega arith in
     let counted = rw c.in-Some-eq43.is at c.in_ok-byte.ensures.counted in
-    rw (p.1, p.2) (λ other. took_past _ _ _ _ _ _ [] 43 (rw (c.in-Some-eq43.is, plus) at c.in_ok-byte.ensures.bytes) counted (c.in_err-record-in-Some-eq43.ensures.took other))
+    rw (p.1, p.2) (leaves_past _ _ _ _ [] 43 _ (rw (c.in-Some-eq43.is, plus) at c.in_ok-byte.ensures.bytes) counted (omega (arith, counted, c.in_ok-byte.ensures.spends)) c.in_err-record-in-Some-eq43.ensures.leaves)
 
 pub returns-in-None-clause-fails : goal.returns-in-None-clause-fails
 returns-in-None-clause-fails g c = ended_first _ _ _ (rw c.in-None.is at c.in_ok-byte.ensures.bytes).0

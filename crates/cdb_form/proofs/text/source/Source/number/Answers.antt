@@ -17,10 +17,24 @@ loop-byte-preserved g c =
           (rw (← code) digit.0) (longer.1 ∙ ap (λ d. c.loop-byte.value * 10 + d) (digit.1 ∙ code)) (omega (arith, longer.0, longer.1)) counted;
     }
 
-pub returns-in-None-with_digit-clause-took : goal.returns-in-None-with_digit-clause-took
-returns-in-None-with_digit-clause-took g c = λ other.
-    digits_took _ _ _ _ _ _ _ _ _ _ c.loop-byte.invariant.so_far (rw c.in-Some.is at c.in_ok-byte.ensures.bytes) c.loop-byte.invariant.start (rw c.in-Some.is at c.in_ok-byte.ensures.counted)
+pub returns-in-None-with_digit-clause-leaves : goal.returns-in-None-with_digit-clause-leaves
+returns-in-None-with_digit-clause-leaves g c =
+    let read = rw c.in-Some.is at c.in_ok-byte.ensures.bytes in
+    let counted = rw c.in-Some.is at c.in_ok-byte.ensures.counted in
+    record {
+      took = λ other. digits_took _ _ _ _ _ _ _ _ _ _ c.loop-byte.invariant.so_far read c.loop-byte.invariant.start counted;
+      last = counted;
+      spent = search rules;
+      spends = omega (arith, c.loop-byte.invariant.spent, c.in_ok-byte.ensures.spends, counted);
+    }
 
-pub returns-else-byte-stop-clause-took : goal.returns-else-byte-stop-clause-took
-returns-else-byte-stop-clause-took g c = λ other.
-    digits_took _ _ _ _ _ _ _ _ _ _ c.loop-byte.invariant.so_far (rw c.in-Some.is at c.in_ok-byte.ensures.bytes) c.loop-byte.invariant.start (rw c.in-Some.is at c.in_ok-byte.ensures.counted)
+pub returns-else-byte-stop-clause-leaves : goal.returns-else-byte-stop-clause-leaves
+returns-else-byte-stop-clause-leaves g c =
+    let read = rw c.in-Some.is at c.in_ok-byte.ensures.bytes in
+    let counted = rw c.in-Some.is at c.in_ok-byte.ensures.counted in
+    record {
+      took = λ other. digits_took _ _ _ _ _ _ _ _ _ _ c.loop-byte.invariant.so_far read c.loop-byte.invariant.start counted;
+      last = counted;
+      spent = search rules;
+      spends = omega (arith, c.loop-byte.invariant.spent, c.in_ok-byte.ensures.spends, counted);
+    }
