@@ -1,7 +1,7 @@
 // Bytes of a store are moved to a lower place.
 ghost use Rattle.std.specs.Prelude.{◌≡◌, ◌+◌, ◌<◌, ◌≤◌, ◌^◌, length, OnOk, IsErrOf};
 ghost use Rattle.cdb_store.specs.declared.store.StoreFault.TheVariants.{NoMemory};
-ghost use Rattle.cdb_store.specs.Images.{KeepsBelow, Copied, HasCause};
+ghost use Rattle.cdb_store.specs.Images.{TornWithin, Copied, HasCause};
 
 use cdb_store::{Store, StoreFault};
 
@@ -19,7 +19,7 @@ pub fn move_down<S: Store>(store: &mut S, from: u64, to: u64, len: u64) -> Resul
     requires end { from + len < 2 ^ 63 }
     ensures copied { OnOk result (Copied from to len (S.image store.old) (S.image store.new)) }
     ensures written { OnOk result (S.written store.new ≡ S.written store.old + len) }
-    ensures below { KeepsBelow to (S.image store.old) (S.image store.new) }
+    ensures torn { TornWithin to len (S.image store.old) (S.image store.new) }
     ensures size { S.size store.new ≡ S.size store.old }
     ensures more_written { S.written store.old ≤ S.written store.new }
     ensures at_most_written { S.written store.new ≤ S.written store.old + len }

@@ -37,6 +37,18 @@ failure_count ((Failed, bytes) ∷ calls) = failure_count calls + 1
 failure_count ((Refused, bytes) ∷ calls) = failure_count calls + 1
 failure_count ((_, bytes) ∷ calls) = failure_count calls
 
+-- every byte was synced since it was written
+abbrev pub synced : List (Call × List ℕ) → Type 0
+synced [] = Unit {0}
+synced ((Synced, bytes) ∷ calls) = Unit {0}
+synced ((Read at, bytes) ∷ calls) = synced calls
+synced ((Gave at, bytes) ∷ calls) = synced calls
+synced ((Length n, bytes) ∷ calls) = synced calls
+synced ((Interrupted, bytes) ∷ calls) = synced calls
+synced ((Refused, bytes) ∷ calls) = synced calls
+synced ((Lost, bytes) ∷ calls) = synced calls
+synced ((_, bytes) ∷ calls) = ⊥
+
 -- how many bytes were written
 abbrev pub written_count : List (Call × List ℕ) → ℕ
 written_count [] = 0
@@ -119,6 +131,6 @@ pub record IsLost (least most : ℕ) (old new : List (Call × List ℕ)) : Type 
   pub calls : new ≡ (Lost, []) ∷ (answer ∷ old)
 
 -- the length after a failed call: one from least to most that the file has just told, or the one before where it is lost
-abbrev pub IsMeasured : (least most before now : ℕ) → List (Call × List ℕ) → Type 0
-IsMeasured least most before now calls =
-    ((c : List (Call × List ℕ)) × (calls ≡ (Length now, []) ∷ c) × (least ≤ now) × (now ≤ most)) ⊎ ((lost calls ≡ true) × (now ≡ before))
+abbrev pub IsMeasured : (least most before now : ℕ) → (old calls : List (Call × List ℕ)) → Type 0
+IsMeasured least most before now old calls =
+    ((c : List (Call × List ℕ)) × (calls ≡ (Length now, []) ∷ c) × (least ≤ now) × (now ≤ most)) ⊎ (((lost old ≡ true) ⊎ ((c : List (Call × List ℕ)) × IsLost least most c calls)) × (now ≡ before))

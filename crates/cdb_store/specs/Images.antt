@@ -37,6 +37,10 @@ pub record AfterTornWrite (at n : ℕ) (old new : List ℕ → Type 0) : Type 0 
   pub no_other : (b : List ℕ) → new b → (a : List ℕ) × old a × Torn at n a b
   pub none_lost : (a : List ℕ) → old a → (b : List ℕ) × new b × Torn at n a b
 
+-- each image is an old one with any bytes in the range
+pub record TornWithin (at n : ℕ) (old new : List ℕ → Type 0) : Type 0 where
+  pub each : (b : List ℕ) → new b → (a : List ℕ) × old a × Torn at n a b
+
 -- the images are the first n bytes of the old ones
 pub record AfterCut (n : ℕ) (old new : List ℕ → Type 0) : Type 0 where
   pub no_other : (b : List ℕ) → new b → (a : List ℕ) × old a × (b ≡ take n a)

@@ -1,5 +1,5 @@
 // A store that collects writes which continue one another.
-ghost use Rattle.std.specs.Prelude.{◌≡◌, ◌+◌, ◌<◌, ◌≤◌, ◌^◌, ◌↔◌, max, [], length, vec_capacity, IsTrue, OnOk, IfOk, IfErr, IsErrOf};
+ghost use Rattle.std.specs.Prelude.{◌≡◌, ◌+◌, ◌<◌, ◌≤◌, ◌^◌, ◌↔◌, max, [], length, vec_capacity, IsTrue, OnOk, OnErr, IfOk, IfErr, IsErrOf};
 ghost use Rattle.std.proofs.Common.{arith};
 ghost use Rattle.cdb_store.specs.declared.store.StoreFault.TheVariants.{NoMemory};
 ghost use Rattle.cdb_store.specs.Images.{Over, SameImages, AfterTornWrite, HasCause};
@@ -66,6 +66,7 @@ impl<S: Store> BufferedStore<S> {
         ensures images { OnOk result.1 (SameImages (⟦<BufferedStore<S> as Store>⟧.image self) (S.image result.0)) }
         ensures size { OnOk result.1 (S.size result.0 ≡ ⟦<BufferedStore<S> as Store>⟧.size self) }
         ensures torn { AfterTornWrite self.at (length self.buffer.items) (S.image self.inner) (S.image result.0) }
+        ensures handed { OnOk result.1 (S.written result.0 ≡ S.written self.inner + length self.buffer.items) }
         ensures room { S.room self.inner ≤ S.room result.0 }
         ensures memory { IsErrOf result.1 NoMemory → ⊥ }
         ensures cause { HasCause (⟦<BufferedStore<S> as Store>⟧.failures self) (S.failures result.0) result.1 }
@@ -89,6 +90,8 @@ impl<S: Store> BufferedStore<S> {
         ensures size { max (S.size self.new.inner) (self.new.at + length self.new.buffer.items) ≡ max (S.size self.old.inner) (self.old.at + length self.old.buffer.items) }
         ensures torn { AfterTornWrite self.old.at (length self.old.buffer.items) (S.image self.old.inner) (S.image self.new.inner) }
         ensures empty { OnOk result (self.new.buffer.items ≡ []) }
+        ensures handed { OnOk result (S.written self.new.inner ≡ S.written self.old.inner + length self.old.buffer.items) }
+        ensures kept { OnErr result ((self.new.at ≡ self.old.at) × (self.new.buffer ≡ self.old.buffer)) }
         ensures trace { self.new.trace ≡ self.old.trace }
         ensures most { self.new.most ≡ self.old.most }
         ensures room { S.room self.old.inner ≤ S.room self.new.inner }
@@ -145,6 +148,8 @@ impl<S: Store> Store for BufferedStore<S> {
 
     ghost room = { λ f. S.room f.inner };
 
+    ghost settled = { λ f. (f.buffer.items ≡ []) × S.settled f.inner };
+
     ghost in_room = { λ f. Prim.omega (arith, f.backed, S.in_room f.inner) };
 
     ghost image_size = { λ f b is. over_size f.at f.buffer.items (S.size f.inner) (S.image f.inner) (S.image_size f.inner) f.placed b is };
@@ -196,7 +201,8 @@ impl<S: Store> Store for BufferedStore<S> {
         ensures room { S.room self.old.inner ≤ S.room self.new.inner }
         ensures cause { HasCause (S.failures self.old.inner) (S.failures self.new.inner) result }
         ensures memory { IsErrOf result NoMemory → ⊥ }
-        ensures settled { OnOk result (self.new.buffer.items ≡ []) }
+        ensures settled { OnOk result ((self.new.buffer.items ≡ []) × S.settled self.new.inner) }
+        ensures handed { OnOk result (S.written self.new.inner ≡ S.written self.old.inner + length self.old.buffer.items) }
     {
         self.settle()?;
         self.inner.flush()

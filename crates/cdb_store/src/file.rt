@@ -4,7 +4,7 @@ ghost use Rattle.std.proofs.Common.{arith};
 ghost use Rattle.cdb_store.specs.declared.trace.Call.TheVariants.{Made, Length, Synced};
 ghost use Rattle.cdb_store.specs.declared.store.StoreFault.TheVariants.{Device, NoMemory};
 ghost use Rattle.cdb_store.specs.Images.{SameImages, AfterRead, AfterWrite, AfterTornWrite, AfterCut, HasCause};
-ghost use Rattle.cdb_store.specs.Calls.{failure_count, written_count, lost, FileImage, AreAtLeast, IsMeasured};
+ghost use Rattle.cdb_store.specs.Calls.{failure_count, written_count, lost, synced, FileImage, AreAtLeast, IsMeasured};
 ghost use Rattle.cdb_store.specs.Lengths.{file_size};
 
 use crate::raw_file::{RawFile, RealFile};
@@ -111,6 +111,8 @@ impl<F: RawFile> Store for FileStore<F> {
 
     ghost room = { λ f. 2 ^ 63 };
 
+    ghost settled = { λ f. synced (F.calls f.file) };
+
     ghost in_room = { λ f. Prim.omega (arith, f.bounded) };
 
     ghost image_size = { λ f b is. file_size f.len (F.calls f.file) b is };
@@ -128,6 +130,7 @@ impl<F: RawFile> Store for FileStore<F> {
         ensures cause { HasCause (failure_count (F.calls self.old.file)) (failure_count (F.calls self.new.file)) result }
         ensures memory { IsErrOf result NoMemory → ⊥ }
         ensures lost { lost (F.calls self.old.file) ≡ true → IsErrOf result Device }
+        ensures still_known { lost (F.calls self.new.file) ≡ lost (F.calls self.old.file) }
     {
         if self.is_lost {
             self.file.refuse();
@@ -152,7 +155,7 @@ impl<F: RawFile> Store for FileStore<F> {
         ensures memory { IsErrOf result NoMemory → ⊥ }
         ensures cause { HasCause (failure_count (F.calls self.old.file)) (failure_count (F.calls self.new.file)) result }
         ensures lost { lost (F.calls self.old.file) ≡ true → IsErrOf result Device }
-        ensures measured { OnErr result (IsMeasured self.old.len (max self.old.len (pos + length bytes.now)) self.old.len self.new.len (F.calls self.new.file)) }
+        ensures measured { OnErr result (IsMeasured self.old.len (max self.old.len (pos + length bytes.now)) self.old.len self.new.len (F.calls self.old.file) (F.calls self.new.file)) }
     {
         if self.is_lost {
             self.file.refuse();
@@ -188,7 +191,7 @@ impl<F: RawFile> Store for FileStore<F> {
         ensures cause { HasCause (failure_count (F.calls self.old.file)) (failure_count (F.calls self.new.file)) result }
         ensures memory { IsErrOf result NoMemory → ⊥ }
         ensures lost { lost (F.calls self.old.file) ≡ true → IsErrOf result Device }
-        ensures measured { OnErr result (IsMeasured len self.old.len self.old.len self.new.len (F.calls self.new.file)) }
+        ensures measured { OnErr result (IsMeasured len self.old.len self.old.len self.new.len (F.calls self.old.file) (F.calls self.new.file)) }
     {
         if self.is_lost {
             self.file.refuse();
@@ -217,6 +220,8 @@ impl<F: RawFile> Store for FileStore<F> {
         ensures cause { HasCause (failure_count (F.calls self.old.file)) (failure_count (F.calls self.new.file)) result }
         ensures memory { IsErrOf result NoMemory → ⊥ }
         ensures lost { lost (F.calls self.old.file) ≡ true → IsErrOf result Device }
+        ensures still_known { lost (F.calls self.new.file) ≡ lost (F.calls self.old.file) }
+        ensures settled { OnOk result (synced (F.calls self.new.file)) }
         ensures synced { OnOk result (F.calls self.new.file ≡ (Synced, []) ∷ F.calls self.old.file) }
     {
         if self.is_lost {

@@ -90,6 +90,8 @@ impl<S: Store> Store for FuseStore<S> {
 
     ghost room = { λ f. S.room f.inner };
 
+    ghost settled = { λ f. S.settled f.inner };
+
     ghost in_room = { λ f. S.in_room f.inner };
 
     ghost image_size = { λ f. S.image_size f.inner };
@@ -191,6 +193,7 @@ impl<S: Store> Store for FuseStore<S> {
     }
 
     fn flush(&mut self) -> Result<(), StoreFault>
+        ensures settled { OnOk result (S.settled self.new.inner) }
         ensures images { SameImages (S.image self.old.inner) (S.image self.new.inner) }
         ensures size { S.size self.new.inner ≡ S.size self.old.inner }
         ensures written { S.written self.new.inner ≡ S.written self.old.inner }

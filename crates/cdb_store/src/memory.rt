@@ -86,6 +86,8 @@ impl Store for MemStore {
 
     ghost room = { λ m. max (length m.bytes.items) (vec_capacity m.bytes) };
 
+    ghost settled = { λ m. Unit {0} };
+
     ghost in_room = { λ m. Prim.omega arith };
 
     ghost image_size = { λ m b is. same_length b m.bytes.items is };

@@ -3,10 +3,12 @@ ghost use Rattle.std.specs.Prelude.{◌≡◌, ℕ, ◌+◌, ◌<◌, ◌≤◌,
 ghost use Rattle.cdb_store.specs.declared.trace.Call.{Call};
 ghost use Rattle.cdb_store.specs.declared.trace.Call.TheVariants.{Read, Gave, Wrote, NotWritten, Length, Cut, NotCut, Synced, Failed, Refused, Lost};
 ghost use Rattle.cdb_store.specs.Calls.{lost, ended, GivenUp, Came, IsUntold};
+ghost use Rattle.std.specs.Prelude.{◌↔◌};
+ghost use Rattle.std.specs.IoError.{error_kind};
 
 use crate::trace::{Call, Trace};
 use std::fs::File;
-use std::io;
+use std::io::{self, ErrorKind};
 use std::os::unix::fs::FileExt;
 
 /// Why a read or a write did nothing.
@@ -110,8 +112,10 @@ impl RealFile {
     }
 }
 
-fn fault_of(error: &io::Error) -> RawFault {
-    if error.kind() == io::ErrorKind::Interrupted {
+fn fault_of(error: &io::Error) -> RawFault
+    ensures { (result ≡ RawFault.Again) ↔ (error_kind error.now ≡ ErrorKind.Interrupted) }
+{
+    if error.kind() == ErrorKind::Interrupted {
         RawFault::Again
     } else {
         RawFault::Broken

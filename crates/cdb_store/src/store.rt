@@ -67,6 +67,9 @@ pub trait Store {
     /// Writes that end at or before it take no memory.
     ghost room: { Self → ℕ };
 
+    /// What it was told to write has been handed on to what holds the bytes.
+    ghost settled: { Self → Type 0 };
+
     /// How many bytes it has.
     fn len(&self) -> u64
         ensures { result ≡ size self.now };
@@ -138,6 +141,7 @@ pub trait Store {
 
     /// Hands everything on to what holds the bytes. After `Device` no byte has changed.
     fn flush(&mut self) -> Result<(), StoreFault>
+        ensures settled { OnOk result (settled self.new) }
         ensures images { SameImages (image self.old) (image self.new) }
         ensures size { size self.new ≡ size self.old }
         ensures written { written self.new ≡ written self.old }
