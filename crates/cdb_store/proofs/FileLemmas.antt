@@ -26,8 +26,8 @@ gave_long len pos bytes u e long = rw e (record { each = λ b is. long.each b (u
 pub refused : {c d : List (Call × List ℕ)} → d ≡ (Refused, []) ∷ c → Untouched c d
 refused {c = c} e = rw e (record { same = record { no_other = λ b is. is; none_lost = λ b is. is }; written = refl; later = omega arith; known = refl })
 
-part_front : (at n len : ℕ) (a : List ℕ) → at + n ≤ len → part at n (take len a) ≡ part at n a
-part_front at n len a inside = part_from_take at n (at + n) a (take len a) refl (take-take (at + n) len a inside)
+part_front : (pos n len : ℕ) (a : List ℕ) → pos + n ≤ len → part pos n (take len a) ≡ part pos n a
+part_front pos n len a inside = part_from_take pos n (pos + n) a (take len a) refl (take-take (pos + n) len a inside)
 
 -- bytes that came were given back
 pub file_gave : (pos len : ℕ) (bytes : List ℕ) {c d e : List (Call × List ℕ)} → pos + length bytes ≤ len → Untouched c d → e ≡ (Gave pos, bytes) ∷ d

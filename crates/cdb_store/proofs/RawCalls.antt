@@ -27,10 +27,10 @@ unfolding interrupted
 written_interrupted zero calls = refl
 written_interrupted (suc k) calls = written_interrupted k calls
 
-came_interrupted : (k at : ℕ) (bytes : List ℕ) (calls : List (Call × List ℕ)) → Came at bytes calls → Came at bytes (interrupted k calls)
+came_interrupted : (k pos : ℕ) (bytes : List ℕ) (calls : List (Call × List ℕ)) → Came pos bytes calls → Came pos bytes (interrupted k calls)
 unfolding interrupted
-came_interrupted zero at bytes calls c = c
-came_interrupted (suc k) at bytes calls c = came_interrupted k at bytes calls c
+came_interrupted zero pos bytes calls c = c
+came_interrupted (suc k) pos bytes calls c = came_interrupted k pos bytes calls c
 
 agrees_interrupted : (k : ℕ) (calls : List (Call × List ℕ)) (b : List ℕ) → Agrees (interrupted k calls) b → Agrees calls b
 unfolding interrupted
@@ -62,8 +62,8 @@ untouched_interrupted k calls = record {
 }
 
 -- a piece came
-pub read_untouched : {at : ℕ} {piece : List ℕ} {old new : List (Call × List ℕ)} → Asked (Read at, piece) old new → Untouched old new
-read_untouched {at = at} {piece = piece} {old = old} a = let u = untouched_interrupted a.times old in rw (a.calls) (record { same = u.same; written = u.written; later = u.later; known = u.known })
+pub read_untouched : {pos : ℕ} {piece : List ℕ} {old new : List (Call × List ℕ)} → Asked (Read pos, piece) old new → Untouched old new
+read_untouched {pos = pos} {piece = piece} {old = old} a = let u = untouched_interrupted a.times old in rw (a.calls) (record { same = u.same; written = u.written; later = u.later; known = u.known })
 
 -- no piece came
 pub vain_untouched : {old new : List (Call × List ℕ)} → AskedInVain Failed Refused old new → Untouched old new
@@ -79,21 +79,21 @@ vain_failed {old = old} {new = new} v = elim v [
 ]
 
 -- one piece more came
-pub came_more : (at : ℕ) (bytes : List ℕ) {place : ℕ} {piece : List ℕ} {old new : List (Call × List ℕ)} → place ≡ at + length bytes → Came at bytes old → Asked (Read place, piece) old new → Came at (bytes ++ piece) new
-came_more at bytes {place = place} {piece = piece} {old = old} here c a = rw (a.calls) (inr (bytes, came_interrupted a.times at bytes old c, here, refl))
+pub came_more : (pos : ℕ) (bytes : List ℕ) {next : ℕ} {piece : List ℕ} {old new : List (Call × List ℕ)} → next ≡ pos + length bytes → Came pos bytes old → Asked (Read next, piece) old new → Came pos (bytes ++ piece) new
+came_more pos bytes {next = next} {piece = piece} {old = old} here c a = rw (a.calls) (inr (bytes, came_interrupted a.times pos bytes old c, here, refl))
 
-pub came_none : (at : ℕ) (calls : List (Call × List ℕ)) → Came at [] calls
-came_none at [] = refl
-came_none at ((Interrupted, _) ∷ calls) = came_none at calls
-came_none at ((Read place, _) ∷ calls) = inl refl
-came_none at ((Made, _) ∷ calls) = refl
-came_none at ((Gave _, _) ∷ calls) = refl
-came_none at ((Wrote _, _) ∷ calls) = refl
-came_none at ((NotWritten _ _, _) ∷ calls) = refl
-came_none at ((Length _, _) ∷ calls) = refl
-came_none at ((Cut _, _) ∷ calls) = refl
-came_none at ((NotCut _, _) ∷ calls) = refl
-came_none at ((Synced, _) ∷ calls) = refl
-came_none at ((Failed, _) ∷ calls) = refl
-came_none at ((Refused, _) ∷ calls) = refl
-came_none at ((Lost, _) ∷ calls) = refl
+pub came_none : (pos : ℕ) (calls : List (Call × List ℕ)) → Came pos [] calls
+came_none pos [] = refl
+came_none pos ((Interrupted, _) ∷ calls) = came_none pos calls
+came_none pos ((Read next, _) ∷ calls) = inl refl
+came_none pos ((Made, _) ∷ calls) = refl
+came_none pos ((Gave _, _) ∷ calls) = refl
+came_none pos ((Wrote _, _) ∷ calls) = refl
+came_none pos ((NotWritten _ _, _) ∷ calls) = refl
+came_none pos ((Length _, _) ∷ calls) = refl
+came_none pos ((Cut _, _) ∷ calls) = refl
+came_none pos ((NotCut _, _) ∷ calls) = refl
+came_none pos ((Synced, _) ∷ calls) = refl
+came_none pos ((Failed, _) ∷ calls) = refl
+came_none pos ((Refused, _) ∷ calls) = refl
+came_none pos ((Lost, _) ∷ calls) = refl

@@ -7,14 +7,15 @@ ghost use Rattle.cdb_store.specs.Images.{SameImages, AfterRead, AfterWrite, Afte
 ghost use Rattle.cdb_store.specs.Calls.{failure_count, written_count, lost, synced, FileImage, AreAtLeast, IsMeasured};
 ghost use Rattle.cdb_store.specs.Lengths.{file_size};
 
-use crate::raw_file::{RawFile, RealFile};
+use crate::raw::RawFile;
+use crate::real::RealFile;
 use crate::transfer::{length_within, read_all, write_all};
 use crate::{Store, StoreFault};
 use std::fs::{File, OpenOptions};
 use std::rt::Files;
 
-/// The greatest place in a file.
-const MOST: u64 = (1 << 63) - 1;
+/// The greatest length of a file.
+const GREATEST_LENGTH: u64 = (1 << 63) - 1;
 
 /// A store in a file.
 ///
@@ -89,7 +90,7 @@ impl<F: RawFile + Drop> FileStore<F> {
         ensures told { IfOk result (λ f. F.calls f.file ≡ (Length f.len, []) ∷ []) }
         ensures memory { IsErrOf result NoMemory → ⊥ }
     {
-        match length_within(&mut file, 0, MOST) {
+        match length_within(&mut file, 0, GREATEST_LENGTH) {
             Some(len) => Ok(FileStore {
                 file,
                 len,

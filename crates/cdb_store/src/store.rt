@@ -44,7 +44,7 @@ impl From<AllocError> for StoreFault {
     }
 }
 
-/// Bytes at places, counted in bytes from 0, that are read, written and cut.
+/// Bytes at positions, counted from 0, that are read, written and cut.
 ///
 /// A contract speaks of a store by four facts. Its *images* are the byte lists, all of its length,
 /// that agree with all that it was told to write and all that it gave back: a store in memory has
@@ -74,7 +74,7 @@ pub trait Store {
     fn len(&self) -> u64
         ensures { result ≡ size self.now };
 
-    /// Fills `into` with the bytes from the place `pos` on, all of which lie inside the store.
+    /// Fills `into` with the bytes from `pos` on, all of which lie inside the store.
     ///
     /// After `Device` no byte of the store has changed, and `into` may hold anything.
     fn read_at(&mut self, pos: u64, into: &mut [u8]) -> Result<(), StoreFault>
@@ -87,7 +87,7 @@ pub trait Store {
         ensures cause { HasCause (failures self.old) (failures self.new) result }
         ensures memory { IsErrOf result NoMemory → ⊥ };
 
-    /// Writes the bytes from the place `pos` on, which is at most the store's length, over what
+    /// Writes the bytes from `pos` on, which is at most the store's length, over what
     /// stands there and past the end.
     ///
     /// After `Device` the range may hold any bytes and the store may have grown by a part of it,
@@ -111,7 +111,7 @@ pub trait Store {
         ensures room { room self.old ≤ room self.new }
         ensures cause { HasCause (failures self.old) (failures self.new) result };
 
-    /// Makes room, so that no write that ends at or before the place `len` takes memory.
+    /// Makes room, so that no write that ends at or before `len` takes memory.
     ///
     /// `NoMemory` is the only fault, and comes only where `len` is past the room.
     fn reserve(&mut self, len: u64) -> Result<(), StoreFault>

@@ -10,13 +10,13 @@ use std::marker::{Model, PhantomData};
 pub enum Call {
     /// The file was made, or emptied.
     Made,
-    /// Bytes from this place on came.
+    /// Bytes from this position on came.
     Read(u64),
-    /// The bytes that came from this place on were given back to the caller.
+    /// The bytes that came from this position on were given back to the caller.
     Gave(u64),
-    /// Bytes from this place on were written.
+    /// Bytes from this position on were written.
     Wrote(u64),
-    /// A write at a place, of so many bytes, failed or was given up.
+    /// A write at a position, of so many bytes, failed or was given up.
     NotWritten(u64, u64),
     /// It told its length.
     Length(u64),

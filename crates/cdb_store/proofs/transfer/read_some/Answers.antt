@@ -11,13 +11,13 @@ pub read_some-requires-clause-known : goal.read_some-requires-clause-known
 read_some-requires-clause-known g c = ap lost c.loop-turn.invariant ∙ lost_interrupted _ _ ∙ c.requires.known
 
 pub returns-in-Ok-clause-ok : goal.returns-in-Ok-clause-ok
-returns-in-Ok-clause-ok g c = record { times = c.loop-turn._turn; at_most = omega arith; calls = c.in-Ok.ensures.ok ∙ ap (λ calls. (Read c.args.at, take c.in-Ok.n c.read_some.new.into) ∷ calls) c.loop-turn.invariant }
+returns-in-Ok-clause-ok g c = record { times = c.loop-turn._turn; at_most = omega arith; calls = c.in-Ok.ensures.ok ∙ ap (λ calls. (Read c.args.pos, take c.in-Ok.n c.read_some.new.into) ∷ calls) c.loop-turn.invariant }
 
-pub returns-in-Err-Broken-clause-err : goal.returns-in-Err-Broken-clause-err
-returns-in-Err-Broken-clause-err g c = inl (record { times = c.loop-turn._turn; at_most = omega arith; calls = c.in-Err-Broken.ensures.err ∙ (ap (λ f. (ended Failed f, []) ∷ g.F.RawFile.calls c.loop-turn.file) c.in-Err-Broken.field-0-is ∙ ap (λ calls. (Failed, []) ∷ calls) c.loop-turn.invariant) })
+pub returns-in-Err-Failed-clause-err : goal.returns-in-Err-Failed-clause-err
+returns-in-Err-Failed-clause-err g c = inl (record { times = c.loop-turn._turn; at_most = omega arith; calls = c.in-Err-Failed.ensures.err ∙ (ap (λ f. (ended Failed f, []) ∷ g.F.RawFile.calls c.loop-turn.file) c.in-Err-Failed.field-0-is ∙ ap (λ calls. (Failed, []) ∷ calls) c.loop-turn.invariant) })
 
 pub loop-turn-preserved : goal.loop-turn-preserved
-loop-turn-preserved g c = interrupted_more _ _ _ _ c.loop-turn.invariant (c.in-Err-Again.ensures.err ∙ ap (λ f. (ended Failed f, []) ∷ g.F.RawFile.calls c.loop-turn.file) c.in-Err-Again.field-0-is)
+loop-turn-preserved g c = interrupted_more _ _ _ _ c.loop-turn.invariant (c.in-Err-Interrupted.ensures.err ∙ ap (λ f. (ended Failed f, []) ∷ g.F.RawFile.calls c.loop-turn.file) c.in-Err-Interrupted.field-0-is)
 
 pub refuse-requires : goal.refuse-requires
 refuse-requires g c =

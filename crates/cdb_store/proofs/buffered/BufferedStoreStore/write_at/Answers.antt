@@ -13,7 +13,7 @@ returns-in_err-write_at-clause-torn g c =
     torn_between (same_trans c.settle.ensures.images (over_emptied _ _ _ e)) c.write_at.ensures.torn (same_sym (over_emptied _ _ _ e))
 
 pub returns-in_err-write_at-clause-memory : goal.returns-in_err-write_at-clause-memory
-returns-in_err-write_at-clause-memory g c = λ h. same_trans c.settle.ensures.images (over_same c.settle.new.self.at c.settle.new.self.buffer.items (c.write_at.ensures.memory (search rules)))
+returns-in_err-write_at-clause-memory g c = λ h. same_trans c.settle.ensures.images (over_same c.settle.new.self.pos c.settle.new.self.buffer.items (c.write_at.ensures.memory (search rules)))
 
 pub returns-then-bytes-self-clause-ok : goal.returns-then-bytes-self-clause-ok
 returns-then-bytes-self-clause-ok g c =
@@ -29,22 +29,22 @@ pub returns-in_err-make_room-clause-torn : goal.returns-in_err-make_room-clause-
 returns-in_err-make_room-clause-torn g c = torn_same _ _ c.make_room.ensures.images
 
 pub returns-in_err-reserve-clause-torn : goal.returns-in_err-reserve-clause-torn
-returns-in_err-reserve-clause-torn g c = torn_same _ _ (same_trans c.make_room.ensures.images (over_same c.make_room.new.self.at c.make_room.new.self.buffer.items c.reserve.ensures.images))
+returns-in_err-reserve-clause-torn g c = torn_same _ _ (same_trans c.make_room.ensures.images (over_same c.make_room.new.self.pos c.make_room.new.self.buffer.items c.reserve.ensures.images))
 
 pub returns-in_err-reserve-clause-memory : goal.returns-in_err-reserve-clause-memory
-returns-in_err-reserve-clause-memory g c = λ _. same_trans c.make_room.ensures.images (over_same c.make_room.new.self.at c.make_room.new.self.buffer.items c.reserve.ensures.images)
+returns-in_err-reserve-clause-memory g c = λ _. same_trans c.make_room.ensures.images (over_same c.make_room.new.self.pos c.make_room.new.self.buffer.items c.reserve.ensures.images)
 
 -- the bytes go to the end of the buffer
-done : (g : _) (c : goal.After-self-2-1 g) → AfterWrite c.args.pos c.args.bytes.now (Over c.args.self.now.at c.args.self.now.buffer.items (g.S.Store.image c.args.self.now.inner)) (Over c.make_room.new.self.at c.extend_from_slice.new.self.items (g.S.Store.image c.reserve.new.self))
+done : (g : _) (c : goal.After-self-2-1 g) → AfterWrite c.args.pos c.args.bytes.now (Over c.args.self.now.pos c.args.self.now.buffer.items (g.S.Store.image c.args.self.now.inner)) (Over c.make_room.new.self.pos c.extend_from_slice.new.self.items (g.S.Store.image c.reserve.new.self))
 done g c =
     let m = c.make_room.new.self in
     let sized : AreSized (g.S.Store.size c.reserve.new.self) (g.S.Store.image c.reserve.new.self) = record { each = g.met.S.Store.image_size c.reserve.new.self } in
-    let inside : m.at ≤ g.S.Store.size c.reserve.new.self = omega (arith, m.placed) in
+    let inside : m.pos ≤ g.S.Store.size c.reserve.new.self = omega (arith, m.placed) in
     let items : c.extend_from_slice.new.self.items ≡ m.buffer.items ++ c.args.bytes.now = search rules in
     rw items (write_between
-    (same_trans c.make_room.ensures.images (over_same m.at m.buffer.items c.reserve.ensures.images))
-    (over_more m.buffer.items c.args.bytes.now c.in_ok-make_room.ensures.place inside sized)
-    (same_refl (Over m.at (m.buffer.items ++ c.args.bytes.now) (g.S.Store.image c.reserve.new.self))))
+    (same_trans c.make_room.ensures.images (over_same m.pos m.buffer.items c.reserve.ensures.images))
+    (over_more m.buffer.items c.args.bytes.now c.in_ok-make_room.ensures.continues inside sized)
+    (same_refl (Over m.pos (m.buffer.items ++ c.args.bytes.now) (g.S.Store.image c.reserve.new.self))))
 
 pub returns-clause-ok : goal.returns-clause-ok
 returns-clause-ok g c = done g c
@@ -53,4 +53,4 @@ pub returns-clause-torn : goal.returns-clause-torn
 returns-clause-torn g c =
     let s = c.args.self.now in
     let sized : AreSized (g.S.Store.size s.inner) (g.S.Store.image s.inner) = record { each = g.met.S.Store.image_size s.inner } in
-    torn_from_write c.requires.start (sized_over s.at s.buffer.items s.placed sized) (done g c)
+    torn_from_write c.requires.start (sized_over s.pos s.buffer.items s.placed sized) (done g c)
