@@ -1,8 +1,8 @@
 -- Images with some bytes written over each of them.
-use Rattle.std.proofs.Common.{◌≡◌, ℕ, ◌+◌, ◌≤◌, List, [], ◌++◌, length, take, drop, max, refl, sym, ap, subst, ◌∙◌, arith}
-use Rattle.cdb_store.specs.Images.{overwrite, part, Over, SameImages, AfterRead, AfterWrite, AfterTornWrite, Torn, AreSized}
+use Rattle.std.proofs.Common.{◌≡◌, ℕ, ◌+◌, ◌≤◌, List, [], ◌++◌, length, take, drop, max, inl, inr, refl, sym, ap, subst, ◌∙◌, arith}
+use Rattle.cdb_store.specs.Images.{overwrite, part, Over, AreApart, SameImages, AfterRead, AfterWrite, AfterTornWrite, Torn, AreSized}
 use Rattle.cdb_store.specs.Lengths.{over_size}
-use Rattle.cdb_store.proofs.Parts.{take-overwrite, part_from_take, overwrite-overwrite, overwrite_nothing, part_inside}
+use Rattle.cdb_store.proofs.Parts.{take-overwrite, drop-overwrite, part_from_take, overwrite-overwrite, overwrite_nothing, part_inside}
 use Rattle.cdb_store.proofs.Moves.{same_sym, same_trans}
 
 pub over_nothing : (pos : ℕ) (i : List ℕ → Type 0) → SameImages (Over pos [] i) i
@@ -35,16 +35,19 @@ over_torn pos bytes w = record {
   none_lost = λ b is. let h = w.none_lost is.0 is.1 in (h.0, h.1, is.2 ∙ sym (overwrite_torn pos is.0 h.0 bytes h.2));
 }
 
-pub over_read : (pos : ℕ) (buffer : List ℕ) {next size : ℕ} {bytes : List ℕ} {i j : List ℕ → Type 0} → next + length bytes ≤ pos → pos ≤ size → AreSized size i
-    → AfterRead next bytes i j → AfterRead next bytes (Over pos buffer i) (Over pos buffer j)
-over_read pos buffer {next = next} {bytes = bytes} {i = i} below inside sized r =
-    let below_it : (a b : List ℕ) → i a → b ≡ overwrite a pos buffer → part next (length bytes) b ≡ part next (length bytes) a =
-    λ a b is e. let l : length a ≡ _ = sized.each a is in
-    part_from_take next (length bytes) (next + length bytes) a b refl (ap (take (next + length bytes)) e ∙ take-overwrite (next + length bytes) pos a buffer below (omega arith)) in
+-- what is read beside the bytes written over each image
+pub over_read : (pos : ℕ) (buffer : List ℕ) {from size : ℕ} {bytes : List ℕ} {i j : List ℕ → Type 0} → AreApart from (length bytes) pos (length buffer) → pos ≤ size → AreSized size i
+    → AfterRead from bytes i j → AfterRead from bytes (Over pos buffer i) (Over pos buffer j)
+over_read pos buffer {from = from} {bytes = bytes} {i = i} apart inside sized r =
+    let same : (a b : List ℕ) → i a → b ≡ overwrite a pos buffer → part from (length bytes) b ≡ part from (length bytes) a =
+    λ a b is e. let l : length a ≡ _ = sized.each a is in elim apart [
+      | inl below ↦ part_from_take from (length bytes) (from + length bytes) a b refl (ap (take (from + length bytes)) e ∙ take-overwrite (from + length bytes) pos a buffer below (omega arith))
+      | inr above ↦ ap (part from (length bytes)) e ∙ ap (take (length bytes)) (drop-overwrite from pos a buffer above (omega arith))
+    ] in
     record {
       no_other = λ b is. (is.0, r.no_other is.0 is.1, is.2);
-      read = λ b is. below_it is.0 b (r.no_other is.0 is.1) is.2 ∙ r.read is.0 is.1;
-      none_lost = λ b is h. (is.0, r.none_lost is.0 is.1 (sym (below_it is.0 b is.1 is.2) ∙ h), is.2);
+      read = λ b is. same is.0 b (r.no_other is.0 is.1) is.2 ∙ r.read is.0 is.1;
+      none_lost = λ b is h. (is.0, r.none_lost is.0 is.1 (sym (same is.0 b is.1 is.2) ∙ h), is.2);
     }
 
 pub over_more : {pos next size : ℕ} (buffer bytes : List ℕ) {i : List ℕ → Type 0} → next ≡ pos + length buffer → pos ≤ size → AreSized size i

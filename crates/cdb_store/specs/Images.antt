@@ -1,7 +1,7 @@
 -- The byte lists that a store may hold, and what each call does to them.
-use Rattle.std.specs.Prelude.{◌≡◌, ℕ, ◌+◌, ◌<◌, ◌≤◌, List, ◌++◌, length, take, drop, Result, IsErrOf}
+use Rattle.std.specs.Prelude.{◌≡◌, ℕ, ◌+◌, ◌<◌, ◌≤◌, ◌⊎◌, List, ◌++◌, length, take, drop, Result, IsErrOf}
 use Rattle.cdb_store.specs.declared.store.StoreFault.{StoreFault}
-use Rattle.cdb_store.specs.declared.store.StoreFault.TheVariants.{Device, NoMemory}
+use Rattle.cdb_store.specs.declared.store.StoreFault.TheVariants.{Device}
 
 -- old with these bytes from pos on, past its end too
 abbrev pub overwrite : List ℕ → ℕ → List ℕ → List ℕ
@@ -10,6 +10,10 @@ overwrite old pos bytes = take pos old ++ (bytes ++ drop (pos + length bytes) ol
 -- n bytes from pos on
 abbrev pub part : ℕ → ℕ → List ℕ → List ℕ
 part pos n image = take n (drop pos image)
+
+-- n bytes from pos on, and m bytes from start on, have none in common
+abbrev pub AreApart : (pos n start m : ℕ) → Type 0
+AreApart pos n start m = (pos + n ≤ start) ⊎ (start + m ≤ pos)
 
 -- no image came and none went
 pub record SameImages (old new : List ℕ → Type 0) : Type 0 where
@@ -45,11 +49,6 @@ pub record TornWithin (pos n : ℕ) (old new : List ℕ → Type 0) : Type 0 whe
 pub record AfterCut (n : ℕ) (old new : List ℕ → Type 0) : Type 0 where
   pub no_other : (b : List ℕ) → new b → (a : List ℕ) × old a × (b ≡ take n a)
   pub none_lost : (a : List ℕ) → old a → new (take n a)
-
--- the number of a fault
-abbrev pub fault_number : StoreFault → ℕ
-fault_number Device = 1
-fault_number NoMemory = 2
 
 -- Device is answered only where the store has failed in the call, and the count doesn't fall
 pub record HasCause (before now : ℕ) (result : Result (Unit {0}) StoreFault) : Type 0 where

@@ -2,7 +2,7 @@
 ghost use Rattle.std.specs.Prelude.{◌≡◌, ◌+◌, ◌<◌, ◌≤◌, ◌^◌, ◌↔◌, max, [], length, vec_capacity, IsTrue, OnOk, OnErr, IfOk, IfErr, IsErrOf};
 ghost use Rattle.std.proofs.Common.{arith};
 ghost use Rattle.cdb_store.specs.declared.store.StoreFault.TheVariants.{NoMemory};
-ghost use Rattle.cdb_store.specs.Images.{Over, SameImages, AfterTornWrite, HasCause};
+ghost use Rattle.cdb_store.specs.Images.{Over, AreApart, SameImages, AfterRead, AfterTornWrite, HasCause};
 ghost use Rattle.cdb_store.specs.Calls.{written_count};
 ghost use Rattle.cdb_store.specs.Lengths.{over_size};
 
@@ -13,11 +13,12 @@ use std::alloc::Global;
 
 /// A store over another that collects writes which continue one another in one buffer.
 ///
-/// It hands the bytes on when another position is written, at a read that touches it in part, at a cut, at
-/// `flush`, and when the buffer is full. Bytes in the buffer are
-/// read from it. A write first has the inner store reserve its room, so what is in the buffer
-/// takes no memory to be handed on. Where handing on fails the buffer keeps its bytes, and the
-/// next call tries again. A buffer that is let go is lost: call `flush` or `into_inner` first.
+/// It hands the bytes on when another position is written, at a read of bytes that lie in the buffer
+/// in part, at a cut, at `flush`, and when the buffer is full. Bytes in the buffer are read from it,
+/// and a read that touches none of them is passed straight on. A write first has the inner store
+/// reserve its room, so what is in the buffer takes no memory to be handed on. Where handing on
+/// fails the buffer keeps its bytes, and the next call tries again. A buffer that is let go is lost:
+/// call `flush` or `into_inner` first.
 #[derive(Drop)]
 pub struct BufferedStore<S: Store> {
     inner: S,
@@ -66,7 +67,10 @@ impl<S: Store> BufferedStore<S> {
         ensures images { OnOk result.1 (SameImages (⟦<BufferedStore<S> as Store>⟧.image self) (S.image result.0)) }
         ensures size { OnOk result.1 (S.size result.0 ≡ ⟦<BufferedStore<S> as Store>⟧.size self) }
         ensures torn { AfterTornWrite self.pos (length self.buffer.items) (S.image self.inner) (S.image result.0) }
+        ensures no_shorter { S.size self.inner ≤ S.size result.0 }
+        ensures no_longer { S.size result.0 ≤ ⟦<BufferedStore<S> as Store>⟧.size self }
         ensures handed { OnOk result.1 (S.written result.0 ≡ S.written self.inner + length self.buffer.items) }
+        ensures at_most_handed { S.written result.0 ≤ S.written self.inner + length self.buffer.items }
         ensures room { S.room self.inner ≤ S.room result.0 }
         ensures memory { IsErrOf result.1 NoMemory → ⊥ }
         ensures cause { HasCause (⟦<BufferedStore<S> as Store>⟧.failures self) (S.failures result.0) result.1 }
@@ -91,6 +95,9 @@ impl<S: Store> BufferedStore<S> {
         ensures torn { AfterTornWrite self.old.pos (length self.old.buffer.items) (S.image self.old.inner) (S.image self.new.inner) }
         ensures empty { OnOk result (self.new.buffer.items ≡ []) }
         ensures handed { OnOk result (S.written self.new.inner ≡ S.written self.old.inner + length self.old.buffer.items) }
+        ensures at_most_handed { S.written self.new.inner ≤ S.written self.old.inner + length self.old.buffer.items }
+        ensures longer { S.size self.old.inner ≤ S.size self.new.inner }
+        ensures not_past { S.size self.new.inner ≤ max (S.size self.old.inner) (self.old.pos + length self.old.buffer.items) }
         ensures kept { OnErr result ((self.new.pos ≡ self.old.pos) × (self.new.buffer ≡ self.old.buffer)) }
         ensures trace { self.new.trace ≡ self.old.trace }
         ensures capacity { self.new.capacity ≡ self.old.capacity }
@@ -137,6 +144,14 @@ fn lies_within(pos: u64, n: usize, start: u64, held: usize) -> bool
     start <= pos && pos <= start + held as u64 && n as u64 <= start + held as u64 - pos
 }
 
+/// Whether these `n` bytes from `pos` on share none with the `held` bytes from `start` on.
+fn lies_apart(pos: u64, n: usize, start: u64, held: usize) -> bool
+    requires { start + held < 2 ^ 63 }
+    ensures { IsTrue result ↔ AreApart pos n start held }
+{
+    (pos <= start && n as u64 <= start - pos) || start + held as u64 <= pos
+}
+
 impl<S: Store> Store for BufferedStore<S> {
     ghost size = { λ f. max (S.size f.inner) (f.pos + length f.buffer.items) };
 
@@ -158,12 +173,24 @@ impl<S: Store> Store for BufferedStore<S> {
         self.inner.len().max(self.pos + self.buffer.len() as u64)
     }
 
-    fn read_at(&mut self, pos: u64, into: &mut [u8]) -> Result<(), StoreFault> {
-        if lies_within(pos, into.len(), self.pos, self.buffer.len()) {
+    fn read_at(&mut self, pos: u64, into: &mut [u8]) -> Result<(), StoreFault>
+        requires { pos + length into.old ≤ max (S.size self.old.inner) (self.old.pos + length self.old.buffer.items) }
+        ensures ok { OnOk result (AfterRead pos into.new (Over self.old.pos self.old.buffer.items (S.image self.old.inner)) (Over self.new.pos self.new.buffer.items (S.image self.new.inner))) }
+        ensures err { OnErr result (SameImages (Over self.old.pos self.old.buffer.items (S.image self.old.inner)) (Over self.new.pos self.new.buffer.items (S.image self.new.inner))) }
+        ensures size { max (S.size self.new.inner) (self.new.pos + length self.new.buffer.items) ≡ max (S.size self.old.inner) (self.old.pos + length self.old.buffer.items) }
+        ensures written { written_count self.new.trace.events ≡ written_count self.old.trace.events }
+        ensures room { S.room self.old.inner ≤ S.room self.new.inner }
+        ensures cause { HasCause (S.failures self.old.inner) (S.failures self.new.inner) result }
+        ensures memory { IsErrOf result NoMemory → ⊥ }
+        ensures passed { AreApart pos (length into.old) self.old.pos (length self.old.buffer.items) → pos + length into.old ≤ S.size self.old.inner → (self.new.buffer ≡ self.old.buffer) × (S.written self.new.inner ≡ S.written self.old.inner) }
+    {
+        let (n, held) = (into.len(), self.buffer.len());
+        if lies_within(pos, n, self.pos, held) {
             read_from(&self.buffer, (pos - self.pos) as usize, into);
             return Ok(());
         }
-        if pos <= self.pos && into.len() as u64 <= self.pos - pos {
+        let below = self.inner.len();
+        if lies_apart(pos, n, self.pos, held) && pos <= below && n as u64 <= below - pos {
             return self.inner.read_at(pos, into);
         }
         self.settle()?;
@@ -171,6 +198,7 @@ impl<S: Store> Store for BufferedStore<S> {
     }
 
     fn write_at(&mut self, pos: u64, bytes: &[u8]) -> Result<(), StoreFault> {
+        self.inner.reserve(pos + bytes.len() as u64)?;
         if bytes.len() > self.capacity {
             self.settle()?;
             self.inner.write_at(pos, bytes)?;
@@ -178,7 +206,6 @@ impl<S: Store> Store for BufferedStore<S> {
             return Ok(());
         }
         self.make_room(pos, bytes.len())?;
-        self.inner.reserve(pos + bytes.len() as u64)?;
         self.buffer.extend_from_slice(bytes)?;
         self.trace.note(&Call::Wrote(pos), bytes);
         Ok(())
@@ -201,7 +228,7 @@ impl<S: Store> Store for BufferedStore<S> {
         ensures room { S.room self.old.inner ≤ S.room self.new.inner }
         ensures cause { HasCause (S.failures self.old.inner) (S.failures self.new.inner) result }
         ensures memory { IsErrOf result NoMemory → ⊥ }
-        ensures settled { OnOk result ((self.new.buffer.items ≡ []) × S.settled self.new.inner) }
+        ensures ok { OnOk result ((self.new.buffer.items ≡ []) × S.settled self.new.inner) }
         ensures handed { OnOk result (S.written self.new.inner ≡ S.written self.old.inner + length self.old.buffer.items) }
     {
         self.settle()?;

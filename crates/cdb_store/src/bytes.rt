@@ -11,9 +11,11 @@ pub(crate) fn write_over(bytes: &mut Vec<u8>, pos: usize, new: &[u8]) -> Result<
     ensures ok { OnOk result (bytes.new.items ≡ overwrite bytes.old.items pos new.now) }
     ensures err { OnErr result (bytes.new.items ≡ bytes.old.items) }
     ensures full { OnErr result (vec_capacity bytes.old < pos + length new.now) }
+    ensures err_capacity { OnErr result (vec_capacity bytes.new ≡ vec_capacity bytes.old) }
     ensures capacity { vec_capacity bytes.old ≤ vec_capacity bytes.new }
 {
     let inside = new.len().min(bytes.len() - pos);
+    bytes.reserve(new.len() - inside)?;
     bytes.extend_from_slice(&new[inside..])?;
     bytes[pos..pos + inside].copy_from_slice(&new[..inside]);
     Ok(())

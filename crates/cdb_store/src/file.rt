@@ -1,7 +1,7 @@
 // A store in a file.
 ghost use Rattle.std.specs.Prelude.{◌≡◌, ◌+◌, ◌<◌, ◌≤◌, ◌^◌, ◌↔◌, true, false, max, List, ℕ, [], ◌∷◌, length, IfOk, OnOk, OnErr, IsErrOf};
 ghost use Rattle.std.proofs.Common.{arith};
-ghost use Rattle.cdb_store.specs.declared.trace.Call.TheVariants.{Made, Length, Synced};
+ghost use Rattle.cdb_store.specs.declared.trace.Call.TheVariants.{Made, Length, Synced, Refused};
 ghost use Rattle.cdb_store.specs.declared.store.StoreFault.TheVariants.{Device, NoMemory};
 ghost use Rattle.cdb_store.specs.Images.{SameImages, AfterRead, AfterWrite, AfterTornWrite, AfterCut, HasCause};
 ghost use Rattle.cdb_store.specs.Calls.{failure_count, written_count, lost, synced, FileImage, AreAtLeast, IsMeasured};
@@ -83,6 +83,24 @@ impl<F: RawFile> FileStore<F> {
     }
 }
 
+impl<F: RawFile> FileStore<F> {
+    /// Answers `Device` where the length is lost, without asking the file.
+    fn refuse_if_lost(&mut self) -> Result<(), StoreFault>
+        ensures ok { OnOk result (self.new.is_lost ≡ false) }
+        ensures same { OnOk result (self.new ≡ self.old) }
+        ensures err { OnErr result (lost (F.calls self.old.file) ≡ true) }
+        ensures refused { OnErr result (F.calls self.new.file ≡ (Refused, []) ∷ F.calls self.old.file) }
+        ensures len { self.new.len ≡ self.old.len }
+        ensures memory { IsErrOf result NoMemory → ⊥ }
+    {
+        if self.is_lost {
+            self.file.refuse();
+            return Err(StoreFault::Device);
+        }
+        Ok(())
+    }
+}
+
 impl<F: RawFile + Drop> FileStore<F> {
     /// A file that was just opened, of the length that it tells.
     pub(crate) fn over(mut file: F) -> Result<FileStore<F>, StoreFault>
@@ -133,10 +151,7 @@ impl<F: RawFile> Store for FileStore<F> {
         ensures lost { lost (F.calls self.old.file) ≡ true → IsErrOf result Device }
         ensures still_known { lost (F.calls self.new.file) ≡ lost (F.calls self.old.file) }
     {
-        if self.is_lost {
-            self.file.refuse();
-            return Err(StoreFault::Device);
-        }
+        self.refuse_if_lost()?;
         read_all(&mut self.file, pos, into)?;
         self.file.give(pos, into);
         Ok(())
@@ -158,10 +173,7 @@ impl<F: RawFile> Store for FileStore<F> {
         ensures lost { lost (F.calls self.old.file) ≡ true → IsErrOf result Device }
         ensures measured { OnErr result (IsMeasured self.old.len (max self.old.len (pos + length bytes.now)) self.old.len self.new.len (F.calls self.old.file) (F.calls self.new.file)) }
     {
-        if self.is_lost {
-            self.file.refuse();
-            return Err(StoreFault::Device);
-        }
+        self.refuse_if_lost()?;
         let most = self.len.max(pos + bytes.len() as u64);
         match write_all(&mut self.file, pos, bytes) {
             Ok(()) => {
@@ -194,10 +206,7 @@ impl<F: RawFile> Store for FileStore<F> {
         ensures lost { lost (F.calls self.old.file) ≡ true → IsErrOf result Device }
         ensures measured { OnErr result (IsMeasured len self.old.len self.old.len self.new.len (F.calls self.old.file) (F.calls self.new.file)) }
     {
-        if self.is_lost {
-            self.file.refuse();
-            return Err(StoreFault::Device);
-        }
+        self.refuse_if_lost()?;
         match self.file.set_length(len) {
             Ok(()) => {
                 self.len = len;
@@ -222,13 +231,10 @@ impl<F: RawFile> Store for FileStore<F> {
         ensures memory { IsErrOf result NoMemory → ⊥ }
         ensures lost { lost (F.calls self.old.file) ≡ true → IsErrOf result Device }
         ensures still_known { lost (F.calls self.new.file) ≡ lost (F.calls self.old.file) }
-        ensures settled { OnOk result (synced (F.calls self.new.file)) }
+        ensures ok { OnOk result (synced (F.calls self.new.file)) }
         ensures synced { OnOk result (F.calls self.new.file ≡ (Synced, []) ∷ F.calls self.old.file) }
     {
-        if self.is_lost {
-            self.file.refuse();
-            return Err(StoreFault::Device);
-        }
+        self.refuse_if_lost()?;
         match self.file.sync() {
             Ok(()) => Ok(()),
             Err(_) => Err(StoreFault::Device),

@@ -133,6 +133,8 @@ impl<S: Store> Store for FuseStore<S> {
         ensures memory { IsErrOf result NoMemory → SameImages (S.image self.old.inner) (S.image self.new.inner) }
         ensures memory_size { IsErrOf result NoMemory → S.size self.new.inner ≡ S.size self.old.inner }
         ensures memory_written { IsErrOf result NoMemory → S.written self.new.inner ≡ S.written self.old.inner }
+        ensures memory_room { IsErrOf result NoMemory → S.room self.new.inner ≡ S.room self.old.inner }
+        ensures memory_failures { IsErrOf result NoMemory → S.failures self.new.inner + blown self.new.calls self.new.limit ≡ S.failures self.old.inner + blown self.old.calls self.old.limit }
         ensures past_room { IsErrOf result NoMemory → S.room self.old.inner < pos + length bytes.now }
         ensures room { S.room self.old.inner ≤ S.room self.new.inner }
         ensures cause { HasCause (S.failures self.old.inner + blown self.old.calls self.old.limit) (S.failures self.new.inner + blown self.new.calls self.new.limit) result }
@@ -158,6 +160,8 @@ impl<S: Store> Store for FuseStore<S> {
         requires { len < 2 ^ 63 }
         ensures ok { OnOk result (len ≤ S.room self.new.inner) }
         ensures past_room { OnErr result (S.room self.old.inner < len) }
+        ensures err_room { OnErr result (S.room self.new.inner ≡ S.room self.old.inner) }
+        ensures err_failures { OnErr result (S.failures self.new.inner ≡ S.failures self.old.inner) }
         ensures device { IsErrOf result Device → ⊥ }
         ensures images { SameImages (S.image self.old.inner) (S.image self.new.inner) }
         ensures size { S.size self.new.inner ≡ S.size self.old.inner }
@@ -193,7 +197,7 @@ impl<S: Store> Store for FuseStore<S> {
     }
 
     fn flush(&mut self) -> Result<(), StoreFault>
-        ensures settled { OnOk result (S.settled self.new.inner) }
+        ensures ok { OnOk result (S.settled self.new.inner) }
         ensures images { SameImages (S.image self.old.inner) (S.image self.new.inner) }
         ensures size { S.size self.new.inner ≡ S.size self.old.inner }
         ensures written { S.written self.new.inner ≡ S.written self.old.inner }

@@ -1,9 +1,18 @@
 // A store as its users see it: the trait, its facts for proofs, and its faults.
 ghost use Rattle.std.specs.Prelude.{◌≡◌, ℕ, ◌+◌, ◌<◌, ◌≤◌, ◌^◌, max, List, length, OnOk, OnErr, IsErrOf};
 ghost use Rattle.cdb_store.specs.declared.store.StoreFault.TheVariants.{Device, NoMemory};
-ghost use Rattle.cdb_store.specs.Images.{SameImages, AfterRead, AfterWrite, AfterTornWrite, AfterCut, HasCause, fault_number};
+ghost use Rattle.cdb_store.specs.Images.{
+  SameImages,
+  AfterRead,
+  AfterWrite,
+  AfterTornWrite,
+  AfterCut,
+  HasCause,
+};
+ghost use Rattle.cdb_store.specs.Faults.{fault_number, fault_message};
 
 use std::alloc::AllocError;
+use std::error::Error;
 use std::fmt::{self, Display, Formatter, Write};
 
 /// Why a call on a store failed.
@@ -17,7 +26,7 @@ pub enum StoreFault {
 
 impl StoreFault {
     /// Its number, by which a program reports it: 1 for `Device`, 2 for `NoMemory`.
-    pub fn number(&self) -> u64
+    pub fn number(&self) -> u8
         ensures { result ≡ fault_number self.now }
     {
         match self {
@@ -25,16 +34,25 @@ impl StoreFault {
             StoreFault::NoMemory => 2,
         }
     }
+
+    /// Its words, by which a program tells a person of it. `Display` writes them.
+    pub fn message(&self) -> &'static str
+        ensures { result.now ≡ fault_message self.now }
+    {
+        match self {
+            StoreFault::Device => "the device failed",
+            StoreFault::NoMemory => "no memory",
+        }
+    }
 }
 
 impl Display for StoreFault {
     fn fmt<W: Write>(&self, f: &mut Formatter<W>) -> fmt::Result {
-        f.write_str(match self {
-            StoreFault::Device => "the device failed",
-            StoreFault::NoMemory => "out of memory",
-        })
+        f.write_str(self.message())
     }
 }
+
+impl Error for StoreFault {}
 
 impl From<AllocError> for StoreFault {
     ghost from_gives = { λ _ e. e ≡ NoMemory };
@@ -46,11 +64,12 @@ impl From<AllocError> for StoreFault {
 
 /// Bytes at positions, counted from 0, that are read, written and cut.
 ///
-/// A contract speaks of a store by four facts. Its *images* are the byte lists, all of its length,
+/// A contract speaks of a store by five facts. Its *images* are the byte lists, all of its length,
 /// that agree with all that it was told to write and all that it gave back: a store in memory has
 /// exactly one, a file that was opened every list of its length until it is read. Its *failures*
 /// and *bytes written* are counts without a bound. Its *room* is how far writes go without taking
-/// memory.
+/// memory. It is *settled* where all that it was told to write was handed on to what holds the
+/// bytes.
 pub trait Store {
     /// How many bytes it has.
     ghost size: { Self → ℕ };
@@ -67,7 +86,7 @@ pub trait Store {
     /// Writes that end at or before it take no memory.
     ghost room: { Self → ℕ };
 
-    /// What it was told to write has been handed on to what holds the bytes.
+    /// All that it was told to write was handed on to what holds the bytes.
     ghost settled: { Self → Type 0 };
 
     /// How many bytes it has.
@@ -107,17 +126,21 @@ pub trait Store {
         ensures memory { IsErrOf result NoMemory → SameImages (image self.old) (image self.new) }
         ensures memory_size { IsErrOf result NoMemory → size self.new ≡ size self.old }
         ensures memory_written { IsErrOf result NoMemory → written self.new ≡ written self.old }
+        ensures memory_room { IsErrOf result NoMemory → room self.new ≡ room self.old }
+        ensures memory_failures { IsErrOf result NoMemory → failures self.new ≡ failures self.old }
         ensures past_room { IsErrOf result NoMemory → room self.old < pos + length bytes.now }
         ensures room { room self.old ≤ room self.new }
         ensures cause { HasCause (failures self.old) (failures self.new) result };
 
     /// Makes room, so that no write that ends at or before `len` takes memory.
     ///
-    /// `NoMemory` is the only fault, and comes only where `len` is past the room.
+    /// `NoMemory` is the only fault, comes only where `len` is past the room, and leaves the room.
     fn reserve(&mut self, len: u64) -> Result<(), StoreFault>
         requires { len < 2 ^ 63 }
         ensures ok { OnOk result (len ≤ room self.new) }
         ensures past_room { OnErr result (room self.old < len) }
+        ensures err_room { OnErr result (room self.new ≡ room self.old) }
+        ensures err_failures { OnErr result (failures self.new ≡ failures self.old) }
         ensures device { IsErrOf result Device → ⊥ }
         ensures images { SameImages (image self.old) (image self.new) }
         ensures size { size self.new ≡ size self.old }
@@ -141,7 +164,7 @@ pub trait Store {
 
     /// Hands everything on to what holds the bytes. After `Device` no byte has changed.
     fn flush(&mut self) -> Result<(), StoreFault>
-        ensures settled { OnOk result (settled self.new) }
+        ensures ok { OnOk result (settled self.new) }
         ensures images { SameImages (image self.old) (image self.new) }
         ensures size { size self.new ≡ size self.old }
         ensures written { written self.new ≡ written self.old }

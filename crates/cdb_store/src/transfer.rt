@@ -52,7 +52,11 @@ fn write_some<F: RawFile>(file: &mut F, pos: u64, bytes: &[u8]) -> Result<usize,
 }
 
 /// Fills `into` with the bytes from `pos` on, and notes that they are given back.
-pub(crate) fn read_all<F: RawFile>(file: &mut F, pos: u64, into: &mut [u8]) -> Result<(), StoreFault>
+pub(crate) fn read_all<F: RawFile>(
+    file: &mut F,
+    pos: u64,
+    into: &mut [u8],
+) -> Result<(), StoreFault>
     requires end { pos + length into.old < 2 ^ 63 }
     requires known { lost (F.calls file.old) ≡ false }
     ensures ok { OnOk result (Came pos into.new (F.calls file.new)) }

@@ -55,7 +55,7 @@ fn refused_memory_changes_nothing(rt: HostRuntime) -> Result<(), Fail> {
 fn faults_are_numbered(rt: HostRuntime) -> Result<(), Fail> {
     for (fault, number, text) in [
         (StoreFault::Device, 1, "the device failed"),
-        (StoreFault::NoMemory, 2, "out of memory"),
+        (StoreFault::NoMemory, 2, "no memory"),
     ] {
         assert_eq!(rt; fault.number(), number);
         let said = format!(in rt.alloc(); "{fault}")?;
