@@ -31,6 +31,8 @@ pub(crate) fn append_record<S: Store>(
     ensures memory { IsErrOf result NoMemory → SameImages (S.image store.old) (S.image store.new) }
     ensures memory_size { IsErrOf result NoMemory → S.size store.new ≡ S.size store.old }
     ensures memory_written { IsErrOf result NoMemory → S.written store.new ≡ S.written store.old }
+    ensures memory_room { IsErrOf result NoMemory → S.room store.new ≡ S.room store.old }
+    ensures memory_failures { IsErrOf result NoMemory → S.failures store.new ≡ S.failures store.old }
     ensures past_room { IsErrOf result NoMemory → S.room store.old < pos + length (header.now ++ (key.now ++ value.now)) }
     ensures room { S.room store.old ≤ S.room store.new }
     ensures cause { HasCause (S.failures store.old) (S.failures store.new) result }
