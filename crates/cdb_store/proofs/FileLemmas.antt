@@ -4,7 +4,7 @@ use Rattle.std.proofs.lemmas.List.{take-take, drop_all, drop-take, length-take-l
 use Rattle.std.proofs.lemmas.Bool.{cases_lt}
 use Rattle.std.proofs.Math.Seq.{take-append-add}
 use Rattle.cdb_store.specs.declared.trace.Call.{Call}
-use Rattle.cdb_store.specs.declared.trace.Call.TheVariants.{Made, Gave, Length, Cut, NotCut, Refused}
+use Rattle.cdb_store.specs.declared.trace.Call.TheVariants.{Gave, Length, Cut, NotCut, Refused}
 use Rattle.cdb_store.specs.Images.{overwrite, part, SameImages, AfterRead, AfterWrite, AfterTornWrite, AfterCut, Torn}
 use Rattle.cdb_store.specs.Calls.{FileImage, AreAtLeast, AfterPut, AfterTornPut, IsLost, Untouched}
 use Rattle.cdb_store.specs.Lengths.{length-overwrite}
@@ -113,9 +113,6 @@ file_told n c = record {
   none_lost = λ b is. (is.0, (is.1, is.2), is.2, is.3);
 }
 
-pub told_long : (n : ℕ) (c : List (Call × List ℕ)) → AreAtLeast n ((Length n, []) ∷ c)
-told_long n c = record { each = λ b is. is.1 }
-
 pub file_cut : (n len : ℕ) (c : List (Call × List ℕ)) → n ≤ len → AreAtLeast len c → AfterCut n (FileImage len c) (FileImage n ((Cut n, []) ∷ c))
 file_cut n len c inside long = record {
   no_other = λ b is. let a : List ℕ = is.1.0 in
@@ -123,11 +120,6 @@ file_cut n len c inside long = record {
       (take len a, (a, is.1.1, l, refl), is.3 ∙ ap (take n) is.1.2 ∙ take-take n n a (omega arith) ∙ sym (take-take n len a inside));
   none_lost = λ x is. let l : len ≤ length is.0 = is.2 in
       (take n is.0, (is.0, is.1, refl), omega (arith, length-take-le n is.0 (omega arith)), ap (take n) is.3 ∙ take-take n len is.0 inside ∙ sym (take-take n n is.0 (omega arith)));
-}
-
-pub cut_long : (n len : ℕ) (c : List (Call × List ℕ)) → n ≤ len → AreAtLeast len c → AreAtLeast n ((Cut n, []) ∷ c)
-cut_long n len c inside long = record {
-  each = λ b is. let l : len ≤ length is.0 = long.each is.0 is.1 in let e : length b ≡ n = ap length is.2 ∙ length-take-le n is.0 (omega arith) in omega arith;
 }
 
 pub file_not_cut : (n left len : ℕ) (c : List (Call × List ℕ)) → n ≤ left → left ≤ len → AreAtLeast len c → AfterCut left (FileImage len c) (FileImage left ((NotCut n, []) ∷ c))
@@ -145,6 +137,3 @@ file_not_cut n left len c least most long = record {
 -- a length that can't be is not believed
 pub file_lost : (len : ℕ) {least most : ℕ} {c d : List (Call × List ℕ)} → IsLost least most c d → SameImages (FileImage len c) (FileImage len d)
 file_lost len i = rw (i.calls) (record { no_other = λ b is. is; none_lost = λ b is. is })
-
-pub made_empty : (b : List ℕ) → FileImage 0 ((Made, []) ∷ []) b → b ≡ []
-made_empty b is = is.3

@@ -1,6 +1,6 @@
 -- Images with some bytes written over each of them.
-use Rattle.std.proofs.Common.{◌≡◌, ℕ, ◌+◌, ◌≤◌, List, [], ◌++◌, length, take, drop, max, inl, inr, refl, sym, ap, subst, ◌∙◌, arith}
-use Rattle.cdb_store.specs.Images.{overwrite, part, Over, AreApart, SameImages, AfterRead, AfterWrite, AfterTornWrite, Torn, AreSized}
+use Rattle.std.proofs.Common.{◌≡◌, ℕ, ◌+◌, ◌≤◌, List, [], ◌++◌, length, take, max, inl, inr, refl, sym, ap, subst, ◌∙◌, arith}
+use Rattle.cdb_store.specs.Images.{overwrite, part, Over, AreApart, SameImages, AfterRead, AfterWrite, AreSized}
 use Rattle.cdb_store.specs.Lengths.{over_size}
 use Rattle.cdb_store.proofs.Parts.{take-overwrite, drop-overwrite, part_from_take, overwrite-overwrite, overwrite_nothing, part_inside}
 use Rattle.cdb_store.proofs.Moves.{same_sym, same_trans}
@@ -10,9 +10,6 @@ over_nothing pos i = record {
   no_other = λ b is. (b, is, sym (overwrite_nothing pos b));
   none_lost = λ b is. subst i (sym (is.2 ∙ overwrite_nothing pos is.0)) is.1;
 }
-
-pub over_moved : (pos next : ℕ) (i : List ℕ → Type 0) → SameImages (Over pos [] i) (Over next [] i)
-over_moved pos next i = same_trans (over_nothing pos i) (same_sym (over_nothing next i))
 
 pub over_same : (pos : ℕ) (bytes : List ℕ) {i j : List ℕ → Type 0} → SameImages i j → SameImages (Over pos bytes i) (Over pos bytes j)
 over_same pos bytes s = record {
@@ -24,15 +21,6 @@ pub over_written : {pos : ℕ} {bytes : List ℕ} {i j : List ℕ → Type 0} �
 over_written {j = j} w = record {
   no_other = w.no_other;
   none_lost = λ b is. subst j (sym is.2) (w.none_lost is.0 is.1);
-}
-
-overwrite_torn : (pos : ℕ) (a b bytes : List ℕ) → Torn pos (length bytes) a b → overwrite b pos bytes ≡ overwrite a pos bytes
-overwrite_torn pos a b bytes t = ap (λ f. f ++ (bytes ++ drop (pos + length bytes) b)) t.before ∙ ap (λ r. take pos a ++ (bytes ++ r)) t.after
-
-pub over_torn : (pos : ℕ) (bytes : List ℕ) {i j : List ℕ → Type 0} → AfterTornWrite pos (length bytes) i j → SameImages (Over pos bytes i) (Over pos bytes j)
-over_torn pos bytes w = record {
-  no_other = λ b is. let h = w.no_other is.0 is.1 in (h.0, h.1, is.2 ∙ overwrite_torn pos h.0 is.0 bytes h.2);
-  none_lost = λ b is. let h = w.none_lost is.0 is.1 in (h.0, h.1, is.2 ∙ sym (overwrite_torn pos is.0 h.0 bytes h.2));
 }
 
 -- what is read beside the bytes written over each image

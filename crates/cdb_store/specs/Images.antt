@@ -63,9 +63,9 @@ pub record AreSized (n : ℕ) (images : List ℕ → Type 0) : Type 0 where
 pub record Holds (pos : ℕ) (bytes : List ℕ) (images : List ℕ → Type 0) : Type 0 where
   pub each : (b : List ℕ) → images b → part pos (length bytes) b ≡ bytes
 
--- each image begins with the first n bytes of an old one
-pub record KeepsBelow (n : ℕ) (old new : List ℕ → Type 0) : Type 0 where
-  pub each : (b : List ℕ) → new b → (a : List ℕ) × old a × (take n b ≡ take n a)
+-- each image has the same n bytes from pos on as an old one
+pub record KeepsPart (pos n : ℕ) (old new : List ℕ → Type 0) : Type 0 where
+  pub each : (b : List ℕ) → new b → (a : List ℕ) × old a × (part pos n b ≡ part pos n a)
 
 -- each image is an old one, whose n bytes from from on stand at to too, over what was there
 pub record Copied (from to n : ℕ) (old new : List ℕ → Type 0) : Type 0 where

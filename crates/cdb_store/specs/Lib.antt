@@ -4,3 +4,4 @@ pub mod Calls
 pub mod Lengths
 pub mod Contents
 pub mod Fuse
+pub mod Laws

@@ -6,6 +6,7 @@ mod by_ref;
 mod bytes;
 mod file;
 mod fuse;
+pub mod laws;
 mod memory;
 mod raw;
 mod real;

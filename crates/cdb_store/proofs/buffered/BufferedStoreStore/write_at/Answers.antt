@@ -40,8 +40,9 @@ done g c =
     let m = c.make_room.new.self in
     let sized : AreSized (g.S.Store.size m.inner) (g.S.Store.image m.inner) = record { each = g.met.S.Store.image_size m.inner } in
     let items : c.extend_from_slice.new.self.items ≡ m.buffer.items ++ c.args.bytes.now = search rules in
+    let held = Over m.pos m.buffer.items (g.S.Store.image m.inner) in
     rw items (write_between
-    (same_trans (over_same c.args.self.now.pos c.args.self.now.buffer.items c.reserve.ensures.images) c.make_room.ensures.images)
+    (same_trans {k = held} (over_same c.args.self.now.pos c.args.self.now.buffer.items c.reserve.ensures.images) c.make_room.ensures.images)
     (over_more m.buffer.items c.args.bytes.now c.in_ok-make_room.ensures.continues m.placed sized)
     (same_refl (Over m.pos (m.buffer.items ++ c.args.bytes.now) (g.S.Store.image m.inner))))
 
