@@ -231,6 +231,7 @@ impl<S: Store> Store for BufferedStore<S> {
         ensures ok { OnOk result ((self.new.buffer.items ≡ []) × S.settled self.new.inner) }
         ensures handed { OnOk result (S.written self.new.inner ≡ S.written self.old.inner + length self.old.buffer.items) }
     {
+        // What was collected goes first, so that the inner store hands it on too.
         self.settle()?;
         self.inner.flush()
     }
