@@ -16,6 +16,8 @@ pub enum Trouble {
     Interrupted,
     /// It fails, but one that asks for the length is told this.
     Tells(u64),
+    /// It is interrupted, and so are those after it; the one after so many reads or writes one byte.
+    OneByteAfter(u64),
 }
 
 /// A file in memory. Some of its calls in a row, from one on, are in trouble.
@@ -50,10 +52,14 @@ impl FakeFile {
     {
         let call = self.calls;
         self.calls = call.saturating_add(1);
-        if self.first <= call && call - self.first < self.count {
-            Some(self.trouble)
-        } else {
-            None
+        if call < self.first || call - self.first >= self.count {
+            return None;
+        }
+        match self.trouble {
+            Trouble::OneByteAfter(n) if (call - self.first) % n.saturating_add(1) < n => {
+                Some(Trouble::Interrupted)
+            }
+            trouble => Some(trouble),
         }
     }
 }
@@ -65,7 +71,7 @@ fn share(trouble: Option<Trouble>, n: usize) -> Result<usize, RawFault>
 {
     match trouble {
         None => Ok(n),
-        Some(Trouble::OneByte) => Ok(1),
+        Some(Trouble::OneByte) | Some(Trouble::OneByteAfter(_)) => Ok(1),
         Some(Trouble::Interrupted) => Err(RawFault::Interrupted),
         Some(Trouble::Fails) | Some(Trouble::Tells(_)) => Err(RawFault::Failed),
     }
@@ -127,7 +133,9 @@ impl RawFile for FakeFile {
 
     fn length(&mut self) -> Result<u64, RawFault> {
         let len = match self.meet() {
-            None | Some(Trouble::OneByte) => self.bytes.len() as u64,
+            None | Some(Trouble::OneByte) | Some(Trouble::OneByteAfter(_)) => {
+                self.bytes.len() as u64
+            }
             Some(Trouble::Tells(len)) => len,
             Some(Trouble::Fails) | Some(Trouble::Interrupted) => {
                 self.trace.note(&Call::Failed, &[]);
