@@ -5,3 +5,6 @@ pub mod Lengths
 pub mod Contents
 pub mod Fuse
 pub mod Laws
+pub mod FileStore
+pub mod BufferedStore
+pub mod FuseStore

@@ -2,8 +2,7 @@
 ghost use Rattle.std.specs.Prelude.{◌≡◌, ◌+◌, ◌<◌, ◌≤◌, ◌^◌, ◌↔◌, max, [], length, vec_capacity, IsTrue, OnOk, OnErr, IfOk, IfErr, IsErrOf};
 ghost use Rattle.std.proofs.Common.{arith};
 ghost use Rattle.cdb_store.specs.declared.store.StoreFault.TheVariants.{NoMemory};
-ghost use Rattle.cdb_store.specs.Images.{Over, AreApart, SameImages, AfterRead, AfterTornWrite, HasCause};
-ghost use Rattle.cdb_store.specs.Calls.{written_count};
+ghost use Rattle.cdb_store.specs.Images.{AreApart, SameImages, AfterRead, AfterTornWrite, HasCause};
 ghost use Rattle.cdb_store.specs.Lengths.{over_size};
 
 use crate::bytes::read_from;
@@ -36,14 +35,16 @@ pub struct BufferedStore<S: Store> {
 }
 
 impl<S: Store> BufferedStore<S> {
+    ghost use Rattle.cdb_store.specs.BufferedStore.{held_of, size_of, images_of};
+
     /// A store over `inner` with a buffer of `capacity` bytes.
     ///
     /// Where memory for the buffer is refused, the inner store is handed back as it was.
     pub fn new(alloc: Global, inner: S, capacity: usize) -> Result<BufferedStore<S>, S>
-        ensures images { IfOk result (λ f. SameImages (S.image inner) (⟦<BufferedStore<S> as Store>⟧.image f)) }
-        ensures size { IfOk result (λ f. ⟦<BufferedStore<S> as Store>⟧.size f ≡ S.size inner) }
-        ensures failures { IfOk result (λ f. ⟦<BufferedStore<S> as Store>⟧.failures f ≡ S.failures inner) }
-        ensures room { IfOk result (λ f. ⟦<BufferedStore<S> as Store>⟧.room f ≡ S.room inner) }
+        ensures images { IfOk result (λ f. SameImages (S.image inner) (images_of f)) }
+        ensures size { IfOk result (λ f. size_of f ≡ S.size inner) }
+        ensures failures { IfOk result (λ f. S.failures f.inner ≡ S.failures inner) }
+        ensures room { IfOk result (λ f. S.room f.inner ≡ S.room inner) }
         ensures inner { IfOk result (λ f. f.inner ≡ inner) }
         ensures capacity { IfOk result (λ f. f.capacity ≡ capacity) }
         ensures err { IfErr result (λ s. s ≡ inner) }
@@ -64,16 +65,16 @@ impl<S: Store> BufferedStore<S> {
     ///
     /// After `Device` the inner store lacks those bytes: their range may hold anything.
     pub fn into_inner(mut self) -> (S, Result<(), StoreFault>)
-        ensures images { OnOk result.1 (SameImages (⟦<BufferedStore<S> as Store>⟧.image self) (S.image result.0)) }
-        ensures size { OnOk result.1 (S.size result.0 ≡ ⟦<BufferedStore<S> as Store>⟧.size self) }
-        ensures torn { AfterTornWrite self.pos (length self.buffer.items) (S.image self.inner) (S.image result.0) }
+        ensures images { OnOk result.1 (SameImages (images_of self) (S.image result.0)) }
+        ensures size { OnOk result.1 (S.size result.0 ≡ size_of self) }
+        ensures torn { AfterTornWrite self.pos (held_of self) (S.image self.inner) (S.image result.0) }
         ensures no_shorter { S.size self.inner ≤ S.size result.0 }
-        ensures no_longer { S.size result.0 ≤ ⟦<BufferedStore<S> as Store>⟧.size self }
-        ensures handed { OnOk result.1 (S.written result.0 ≡ S.written self.inner + length self.buffer.items) }
-        ensures at_most_handed { S.written result.0 ≤ S.written self.inner + length self.buffer.items }
+        ensures no_longer { S.size result.0 ≤ size_of self }
+        ensures handed { OnOk result.1 (S.written result.0 ≡ S.written self.inner + held_of self) }
+        ensures at_most_handed { S.written result.0 ≤ S.written self.inner + held_of self }
         ensures room { S.room self.inner ≤ S.room result.0 }
         ensures memory { IsErrOf result.1 NoMemory → ⊥ }
-        ensures cause { HasCause (⟦<BufferedStore<S> as Store>⟧.failures self) (S.failures result.0) result.1 }
+        ensures cause { HasCause (S.failures self.inner) (S.failures result.0) result.1 }
     {
         let answer = self.settle();
         let BufferedStore {
@@ -90,14 +91,14 @@ impl<S: Store> BufferedStore<S> {
 
     /// Hands on what was collected.
     fn settle(&mut self) -> Result<(), StoreFault>
-        ensures images { SameImages (Over self.old.pos self.old.buffer.items (S.image self.old.inner)) (Over self.new.pos self.new.buffer.items (S.image self.new.inner)) }
-        ensures size { max (S.size self.new.inner) (self.new.pos + length self.new.buffer.items) ≡ max (S.size self.old.inner) (self.old.pos + length self.old.buffer.items) }
-        ensures torn { AfterTornWrite self.old.pos (length self.old.buffer.items) (S.image self.old.inner) (S.image self.new.inner) }
+        ensures images { SameImages (images_of self.old) (images_of self.new) }
+        ensures size { size_of self.new ≡ size_of self.old }
+        ensures torn { AfterTornWrite self.old.pos (held_of self.old) (S.image self.old.inner) (S.image self.new.inner) }
         ensures empty { OnOk result (self.new.buffer.items ≡ []) }
-        ensures handed { OnOk result (S.written self.new.inner ≡ S.written self.old.inner + length self.old.buffer.items) }
-        ensures at_most_handed { S.written self.new.inner ≤ S.written self.old.inner + length self.old.buffer.items }
+        ensures handed { OnOk result (S.written self.new.inner ≡ S.written self.old.inner + held_of self.old) }
+        ensures at_most_handed { S.written self.new.inner ≤ S.written self.old.inner + held_of self.old }
         ensures longer { S.size self.old.inner ≤ S.size self.new.inner }
-        ensures not_past { S.size self.new.inner ≤ max (S.size self.old.inner) (self.old.pos + length self.old.buffer.items) }
+        ensures not_past { S.size self.new.inner ≤ size_of self.old }
         ensures kept { OnErr result ((self.new.pos ≡ self.old.pos) × (self.new.buffer ≡ self.old.buffer)) }
         ensures trace { self.new.trace ≡ self.old.trace }
         ensures capacity { self.new.capacity ≡ self.old.capacity }
@@ -114,13 +115,13 @@ impl<S: Store> BufferedStore<S> {
 
     /// Makes the buffer one that goes on at `pos`, with room for `n` bytes more.
     fn make_room(&mut self, pos: u64, n: usize) -> Result<(), StoreFault>
-        requires start { pos ≤ max (S.size self.old.inner) (self.old.pos + length self.old.buffer.items) }
+        requires start { pos ≤ size_of self.old }
         requires end { pos < 2 ^ 63 }
         requires fits { n ≤ self.old.capacity }
-        ensures images { SameImages (Over self.old.pos self.old.buffer.items (S.image self.old.inner)) (Over self.new.pos self.new.buffer.items (S.image self.new.inner)) }
-        ensures size { max (S.size self.new.inner) (self.new.pos + length self.new.buffer.items) ≡ max (S.size self.old.inner) (self.old.pos + length self.old.buffer.items) }
-        ensures continues { OnOk result (pos ≡ self.new.pos + length self.new.buffer.items) }
-        ensures free { OnOk result (length self.new.buffer.items + n ≤ self.new.capacity) }
+        ensures images { SameImages (images_of self.old) (images_of self.new) }
+        ensures size { size_of self.new ≡ size_of self.old }
+        ensures continues { OnOk result (pos ≡ self.new.pos + held_of self.new) }
+        ensures free { OnOk result (held_of self.new + n ≤ self.new.capacity) }
         ensures trace { self.new.trace ≡ self.old.trace }
         ensures room { S.room self.old.inner ≤ S.room self.new.inner }
         ensures memory { IsErrOf result NoMemory → ⊥ }
@@ -153,13 +154,15 @@ fn lies_apart(pos: u64, n: usize, start: u64, held: usize) -> bool
 }
 
 impl<S: Store> Store for BufferedStore<S> {
-    ghost size = { λ f. max (S.size f.inner) (f.pos + length f.buffer.items) };
+    ghost use Rattle.cdb_store.specs.BufferedStore.{held_of, size_of, images_of, written_of};
 
-    ghost image = { λ f. Over f.pos f.buffer.items (S.image f.inner) };
+    ghost size = { λ f. size_of f };
+
+    ghost image = { λ f. images_of f };
 
     ghost failures = { λ f. S.failures f.inner };
 
-    ghost written = { λ f. written_count f.trace.events };
+    ghost written = { λ f. written_of f };
 
     ghost room = { λ f. S.room f.inner };
 
@@ -174,15 +177,15 @@ impl<S: Store> Store for BufferedStore<S> {
     }
 
     fn read_at(&mut self, pos: u64, into: &mut [u8]) -> Result<(), StoreFault>
-        requires { pos + length into.old ≤ max (S.size self.old.inner) (self.old.pos + length self.old.buffer.items) }
-        ensures ok { OnOk result (AfterRead pos into.new (Over self.old.pos self.old.buffer.items (S.image self.old.inner)) (Over self.new.pos self.new.buffer.items (S.image self.new.inner))) }
-        ensures err { OnErr result (SameImages (Over self.old.pos self.old.buffer.items (S.image self.old.inner)) (Over self.new.pos self.new.buffer.items (S.image self.new.inner))) }
-        ensures size { max (S.size self.new.inner) (self.new.pos + length self.new.buffer.items) ≡ max (S.size self.old.inner) (self.old.pos + length self.old.buffer.items) }
-        ensures written { written_count self.new.trace.events ≡ written_count self.old.trace.events }
+        requires { pos + length into.old ≤ size_of self.old }
+        ensures ok { OnOk result (AfterRead pos into.new (images_of self.old) (images_of self.new)) }
+        ensures err { OnErr result (SameImages (images_of self.old) (images_of self.new)) }
+        ensures size { size_of self.new ≡ size_of self.old }
+        ensures written { written_of self.new ≡ written_of self.old }
         ensures room { S.room self.old.inner ≤ S.room self.new.inner }
         ensures cause { HasCause (S.failures self.old.inner) (S.failures self.new.inner) result }
         ensures memory { IsErrOf result NoMemory → ⊥ }
-        ensures passed { AreApart pos (length into.old) self.old.pos (length self.old.buffer.items) → pos + length into.old ≤ S.size self.old.inner → (self.new.buffer ≡ self.old.buffer) × (S.written self.new.inner ≡ S.written self.old.inner) }
+        ensures passed { AreApart pos (length into.old) self.old.pos (held_of self.old) → pos + length into.old ≤ S.size self.old.inner → (self.new.buffer ≡ self.old.buffer) × (S.written self.new.inner ≡ S.written self.old.inner) }
     {
         let (n, held) = (into.len(), self.buffer.len());
         if lies_within(pos, n, self.pos, held) {
@@ -222,14 +225,14 @@ impl<S: Store> Store for BufferedStore<S> {
     }
 
     fn flush(&mut self) -> Result<(), StoreFault>
-        ensures images { SameImages (Over self.old.pos self.old.buffer.items (S.image self.old.inner)) (Over self.new.pos self.new.buffer.items (S.image self.new.inner)) }
-        ensures size { max (S.size self.new.inner) (self.new.pos + length self.new.buffer.items) ≡ max (S.size self.old.inner) (self.old.pos + length self.old.buffer.items) }
-        ensures written { written_count self.new.trace.events ≡ written_count self.old.trace.events }
+        ensures images { SameImages (images_of self.old) (images_of self.new) }
+        ensures size { size_of self.new ≡ size_of self.old }
+        ensures written { written_of self.new ≡ written_of self.old }
         ensures room { S.room self.old.inner ≤ S.room self.new.inner }
         ensures cause { HasCause (S.failures self.old.inner) (S.failures self.new.inner) result }
         ensures memory { IsErrOf result NoMemory → ⊥ }
         ensures ok { OnOk result ((self.new.buffer.items ≡ []) × S.settled self.new.inner) }
-        ensures handed { OnOk result (S.written self.new.inner ≡ S.written self.old.inner + length self.old.buffer.items) }
+        ensures handed { OnOk result (S.written self.new.inner ≡ S.written self.old.inner + held_of self.old) }
     {
         // What was collected goes first, so that the inner store hands it on too.
         self.settle()?;

@@ -4,7 +4,7 @@ ghost use Rattle.std.proofs.Common.{arith};
 ghost use Rattle.cdb_store.specs.declared.trace.Call.TheVariants.{Made, Length, Synced, Refused};
 ghost use Rattle.cdb_store.specs.declared.store.StoreFault.TheVariants.{Device, NoMemory};
 ghost use Rattle.cdb_store.specs.Images.{SameImages, AfterRead, AfterWrite, AfterTornWrite, AfterCut, HasCause};
-ghost use Rattle.cdb_store.specs.Calls.{failure_count, written_count, lost, synced, FileImage, AreAtLeast, IsMeasured};
+ghost use Rattle.cdb_store.specs.Calls.{lost, synced, AreAtLeast, IsMeasured};
 ghost use Rattle.cdb_store.specs.Lengths.{file_size};
 
 use crate::raw::RawFile;
@@ -84,12 +84,14 @@ impl<F: RawFile> FileStore<F> {
 }
 
 impl<F: RawFile> FileStore<F> {
+    ghost use Rattle.cdb_store.specs.FileStore.{calls_of};
+
     /// Answers `Device` where the length is lost, without asking the file.
     fn refuse_if_lost(&mut self) -> Result<(), StoreFault>
         ensures ok { OnOk result (self.new.is_lost ≡ false) }
         ensures same { OnOk result (self.new ≡ self.old) }
-        ensures err { OnErr result (lost (F.calls self.old.file) ≡ true) }
-        ensures refused { OnErr result (F.calls self.new.file ≡ (Refused, []) ∷ F.calls self.old.file) }
+        ensures err { OnErr result (lost (calls_of self.old) ≡ true) }
+        ensures refused { OnErr result (calls_of self.new ≡ (Refused, []) ∷ calls_of self.old) }
         ensures len { self.new.len ≡ self.old.len }
         ensures memory { IsErrOf result NoMemory → ⊥ }
     {
@@ -120,21 +122,23 @@ impl<F: RawFile + Drop> FileStore<F> {
 }
 
 impl<F: RawFile> Store for FileStore<F> {
+    ghost use Rattle.cdb_store.specs.FileStore.{calls_of, images_of, failures_of, written_of};
+
     ghost size = { λ f. f.len };
 
-    ghost image = { λ f. FileImage f.len (F.calls f.file) };
+    ghost image = { λ f. images_of f };
 
-    ghost failures = { λ f. failure_count (F.calls f.file) };
+    ghost failures = { λ f. failures_of f };
 
-    ghost written = { λ f. written_count (F.calls f.file) };
+    ghost written = { λ f. written_of f };
 
     ghost room = { λ f. 2 ^ 63 };
 
-    ghost settled = { λ f. synced (F.calls f.file) };
+    ghost settled = { λ f. synced (calls_of f) };
 
     ghost in_room = { λ f. Prim.omega (arith, f.bounded) };
 
-    ghost image_size = { λ f b is. file_size f.len (F.calls f.file) b is };
+    ghost image_size = { λ f b is. file_size f.len (calls_of f) b is };
 
     fn len(&self) -> u64 {
         self.len
@@ -142,14 +146,14 @@ impl<F: RawFile> Store for FileStore<F> {
 
     fn read_at(&mut self, pos: u64, into: &mut [u8]) -> Result<(), StoreFault>
         requires { pos + length into.old ≤ self.old.len }
-        ensures ok { OnOk result (AfterRead pos into.new (FileImage self.old.len (F.calls self.old.file)) (FileImage self.new.len (F.calls self.new.file))) }
-        ensures err { OnErr result (SameImages (FileImage self.old.len (F.calls self.old.file)) (FileImage self.new.len (F.calls self.new.file))) }
+        ensures ok { OnOk result (AfterRead pos into.new (images_of self.old) (images_of self.new)) }
+        ensures err { OnErr result (SameImages (images_of self.old) (images_of self.new)) }
         ensures size { self.new.len ≡ self.old.len }
-        ensures written { written_count (F.calls self.new.file) ≡ written_count (F.calls self.old.file) }
-        ensures cause { HasCause (failure_count (F.calls self.old.file)) (failure_count (F.calls self.new.file)) result }
+        ensures written { written_of self.new ≡ written_of self.old }
+        ensures cause { HasCause (failures_of self.old) (failures_of self.new) result }
         ensures memory { IsErrOf result NoMemory → ⊥ }
-        ensures lost { lost (F.calls self.old.file) ≡ true → IsErrOf result Device }
-        ensures still_known { lost (F.calls self.new.file) ≡ lost (F.calls self.old.file) }
+        ensures lost { lost (calls_of self.old) ≡ true → IsErrOf result Device }
+        ensures still_known { lost (calls_of self.new) ≡ lost (calls_of self.old) }
     {
         self.refuse_if_lost()?;
         read_all(&mut self.file, pos, into)?;
@@ -160,18 +164,18 @@ impl<F: RawFile> Store for FileStore<F> {
     fn write_at(&mut self, pos: u64, bytes: &[u8]) -> Result<(), StoreFault>
         requires start { pos ≤ self.old.len }
         requires end { pos + length bytes.now < 2 ^ 63 }
-        ensures ok { OnOk result (AfterWrite pos bytes.now (FileImage self.old.len (F.calls self.old.file)) (FileImage self.new.len (F.calls self.new.file))) }
+        ensures ok { OnOk result (AfterWrite pos bytes.now (images_of self.old) (images_of self.new)) }
         ensures ok_size { OnOk result (self.new.len ≡ max self.old.len (pos + length bytes.now)) }
-        ensures ok_written { OnOk result (written_count (F.calls self.new.file) ≡ written_count (F.calls self.old.file) + length bytes.now) }
-        ensures torn { AfterTornWrite pos (length bytes.now) (FileImage self.old.len (F.calls self.old.file)) (FileImage self.new.len (F.calls self.new.file)) }
+        ensures ok_written { OnOk result (written_of self.new ≡ written_of self.old + length bytes.now) }
+        ensures torn { AfterTornWrite pos (length bytes.now) (images_of self.old) (images_of self.new) }
         ensures longer { self.old.len ≤ self.new.len }
         ensures not_past { self.new.len ≤ max self.old.len (pos + length bytes.now) }
-        ensures more_written { written_count (F.calls self.old.file) ≤ written_count (F.calls self.new.file) }
-        ensures at_most_written { written_count (F.calls self.new.file) ≤ written_count (F.calls self.old.file) + length bytes.now }
+        ensures more_written { written_of self.old ≤ written_of self.new }
+        ensures at_most_written { written_of self.new ≤ written_of self.old + length bytes.now }
         ensures memory { IsErrOf result NoMemory → ⊥ }
-        ensures cause { HasCause (failure_count (F.calls self.old.file)) (failure_count (F.calls self.new.file)) result }
-        ensures lost { lost (F.calls self.old.file) ≡ true → IsErrOf result Device }
-        ensures measured { OnErr result (IsMeasured self.old.len (max self.old.len (pos + length bytes.now)) self.old.len self.new.len (F.calls self.old.file) (F.calls self.new.file)) }
+        ensures cause { HasCause (failures_of self.old) (failures_of self.new) result }
+        ensures lost { lost (calls_of self.old) ≡ true → IsErrOf result Device }
+        ensures measured { OnErr result (IsMeasured self.old.len (max self.old.len (pos + length bytes.now)) self.old.len self.new.len (calls_of self.old) (calls_of self.new)) }
     {
         self.refuse_if_lost()?;
         let most = self.len.max(pos + bytes.len() as u64);
@@ -196,15 +200,15 @@ impl<F: RawFile> Store for FileStore<F> {
 
     fn cut(&mut self, len: u64) -> Result<(), StoreFault>
         requires { len ≤ self.old.len }
-        ensures images { AfterCut self.new.len (FileImage self.old.len (F.calls self.old.file)) (FileImage self.new.len (F.calls self.new.file)) }
+        ensures images { AfterCut self.new.len (images_of self.old) (images_of self.new) }
         ensures ok { OnOk result (self.new.len ≡ len) }
         ensures no_shorter { len ≤ self.new.len }
         ensures no_longer { self.new.len ≤ self.old.len }
-        ensures written { written_count (F.calls self.new.file) ≡ written_count (F.calls self.old.file) }
-        ensures cause { HasCause (failure_count (F.calls self.old.file)) (failure_count (F.calls self.new.file)) result }
+        ensures written { written_of self.new ≡ written_of self.old }
+        ensures cause { HasCause (failures_of self.old) (failures_of self.new) result }
         ensures memory { IsErrOf result NoMemory → ⊥ }
-        ensures lost { lost (F.calls self.old.file) ≡ true → IsErrOf result Device }
-        ensures measured { OnErr result (IsMeasured len self.old.len self.old.len self.new.len (F.calls self.old.file) (F.calls self.new.file)) }
+        ensures lost { lost (calls_of self.old) ≡ true → IsErrOf result Device }
+        ensures measured { OnErr result (IsMeasured len self.old.len self.old.len self.new.len (calls_of self.old) (calls_of self.new)) }
     {
         self.refuse_if_lost()?;
         match self.file.set_length(len) {
@@ -224,15 +228,15 @@ impl<F: RawFile> Store for FileStore<F> {
 
     /// Has the file synced, so that a loss of power does not take its bytes.
     fn flush(&mut self) -> Result<(), StoreFault>
-        ensures images { SameImages (FileImage self.old.len (F.calls self.old.file)) (FileImage self.new.len (F.calls self.new.file)) }
+        ensures images { SameImages (images_of self.old) (images_of self.new) }
         ensures size { self.new.len ≡ self.old.len }
-        ensures written { written_count (F.calls self.new.file) ≡ written_count (F.calls self.old.file) }
-        ensures cause { HasCause (failure_count (F.calls self.old.file)) (failure_count (F.calls self.new.file)) result }
+        ensures written { written_of self.new ≡ written_of self.old }
+        ensures cause { HasCause (failures_of self.old) (failures_of self.new) result }
         ensures memory { IsErrOf result NoMemory → ⊥ }
-        ensures lost { lost (F.calls self.old.file) ≡ true → IsErrOf result Device }
-        ensures still_known { lost (F.calls self.new.file) ≡ lost (F.calls self.old.file) }
-        ensures ok { OnOk result (synced (F.calls self.new.file)) }
-        ensures synced { OnOk result (F.calls self.new.file ≡ (Synced, []) ∷ F.calls self.old.file) }
+        ensures lost { lost (calls_of self.old) ≡ true → IsErrOf result Device }
+        ensures still_known { lost (calls_of self.new) ≡ lost (calls_of self.old) }
+        ensures ok { OnOk result (synced (calls_of self.new)) }
+        ensures synced { OnOk result (calls_of self.new ≡ (Synced, []) ∷ calls_of self.old) }
     {
         self.refuse_if_lost()?;
         match self.file.sync() {

@@ -2,7 +2,7 @@
 ghost use Rattle.std.specs.Prelude.{◌≡◌, ◌+◌, ◌<◌, ◌≤◌, ◌^◌, ◌↔◌, ◌⊎◌, max, length, take, IsTrue, OnOk, OnErr, IsErrOf};
 ghost use Rattle.cdb_store.specs.declared.store.StoreFault.TheVariants.{Device, NoMemory};
 ghost use Rattle.cdb_store.specs.Images.{SameImages, AfterRead, AfterWrite, AfterTornWrite, AfterCut, HasCause};
-ghost use Rattle.cdb_store.specs.Fuse.{Blows, blown, capped, IsCounted, PartWritten};
+ghost use Rattle.cdb_store.specs.Fuse.{Blows, capped, PartWritten};
 
 use crate::{Store, StoreFault};
 
@@ -80,11 +80,13 @@ fn blows(calls: &mut u64, limit: u64) -> bool
 }
 
 impl<S: Store> Store for FuseStore<S> {
+    ghost use Rattle.cdb_store.specs.FuseStore.{failures_of, IsLast, IsCounted};
+
     ghost size = { λ f. S.size f.inner };
 
     ghost image = { λ f. S.image f.inner };
 
-    ghost failures = { λ f. S.failures f.inner + blown f.calls f.limit };
+    ghost failures = { λ f. failures_of S.failures f };
 
     ghost written = { λ f. S.written f.inner };
 
@@ -107,11 +109,11 @@ impl<S: Store> Store for FuseStore<S> {
         ensures size { S.size self.new.inner ≡ S.size self.old.inner }
         ensures written { S.written self.new.inner ≡ S.written self.old.inner }
         ensures room { S.room self.old.inner ≤ S.room self.new.inner }
-        ensures cause { HasCause (S.failures self.old.inner + blown self.old.calls self.old.limit) (S.failures self.new.inner + blown self.new.calls self.new.limit) result }
+        ensures cause { HasCause (failures_of S.failures self.old) (failures_of S.failures self.new) result }
         ensures memory { IsErrOf result NoMemory → ⊥ }
-        ensures counted { IsCounted (self.old.calls, self.old.limit, self.old.part) (self.new.calls, self.new.limit, self.new.part) }
+        ensures counted { IsCounted self.old self.new }
         ensures same_written { self.new.written ≡ self.old.written }
-        ensures fails { Blows self.old.calls self.old.limit → IsErrOf result Device × (self.new.inner ≡ self.old.inner) }
+        ensures fails { IsLast self.old → IsErrOf result Device × (self.new.inner ≡ self.old.inner) }
     {
         if blows(&mut self.calls, self.limit) {
             return Err(StoreFault::Device);
@@ -134,15 +136,15 @@ impl<S: Store> Store for FuseStore<S> {
         ensures memory_size { IsErrOf result NoMemory → S.size self.new.inner ≡ S.size self.old.inner }
         ensures memory_written { IsErrOf result NoMemory → S.written self.new.inner ≡ S.written self.old.inner }
         ensures memory_room { IsErrOf result NoMemory → S.room self.new.inner ≡ S.room self.old.inner }
-        ensures memory_failures { IsErrOf result NoMemory → S.failures self.new.inner + blown self.new.calls self.new.limit ≡ S.failures self.old.inner + blown self.old.calls self.old.limit }
+        ensures memory_failures { IsErrOf result NoMemory → failures_of S.failures self.new ≡ failures_of S.failures self.old }
         ensures past_room { IsErrOf result NoMemory → S.room self.old.inner < pos + length bytes.now }
         ensures room { S.room self.old.inner ≤ S.room self.new.inner }
-        ensures cause { HasCause (S.failures self.old.inner + blown self.old.calls self.old.limit) (S.failures self.new.inner + blown self.new.calls self.new.limit) result }
-        ensures counted { IsCounted (self.old.calls, self.old.limit, self.old.part) (self.new.calls, self.new.limit, self.new.part) }
+        ensures cause { HasCause (failures_of S.failures self.old) (failures_of S.failures self.new) result }
+        ensures counted { IsCounted self.old self.new }
         ensures count_ok { OnOk result (self.new.written ≡ capped (self.old.written + length bytes.now)) }
-        ensures count_err { OnErr result (Blows self.old.calls self.old.limit ⊎ (self.new.written ≡ self.old.written)) }
-        ensures fails { Blows self.old.calls self.old.limit → IsErrOf result Device }
-        ensures part { Blows self.old.calls self.old.limit → PartWritten pos (take self.old.part bytes.now) (S.image self.old.inner) (S.image self.new.inner) (S.failures self.old.inner, S.failures self.new.inner) (S.room self.old.inner) (self.old.written, self.new.written) }
+        ensures count_err { OnErr result (IsLast self.old ⊎ (self.new.written ≡ self.old.written)) }
+        ensures fails { IsLast self.old → IsErrOf result Device }
+        ensures part { IsLast self.old → PartWritten pos (take self.old.part bytes.now) (S.image self.old.inner) (S.image self.new.inner) (S.failures self.old.inner, S.failures self.new.inner) (S.room self.old.inner) (self.old.written, self.new.written) }
     {
         if blows(&mut self.calls, self.limit) {
             let n = self.part.min(bytes.len() as u64) as usize;
@@ -167,7 +169,7 @@ impl<S: Store> Store for FuseStore<S> {
         ensures size { S.size self.new.inner ≡ S.size self.old.inner }
         ensures written { S.written self.new.inner ≡ S.written self.old.inner }
         ensures room { S.room self.old.inner ≤ S.room self.new.inner }
-        ensures failures { S.failures self.old.inner + blown self.old.calls self.old.limit ≤ S.failures self.new.inner + blown self.new.calls self.new.limit }
+        ensures failures { failures_of S.failures self.old ≤ failures_of S.failures self.new }
         ensures same_calls { self.new.calls ≡ self.old.calls }
         ensures same_limit { self.new.limit ≡ self.old.limit }
         ensures same_part { self.new.part ≡ self.old.part }
@@ -184,11 +186,11 @@ impl<S: Store> Store for FuseStore<S> {
         ensures no_longer { S.size self.new.inner ≤ S.size self.old.inner }
         ensures written { S.written self.new.inner ≡ S.written self.old.inner }
         ensures room { S.room self.old.inner ≤ S.room self.new.inner }
-        ensures cause { HasCause (S.failures self.old.inner + blown self.old.calls self.old.limit) (S.failures self.new.inner + blown self.new.calls self.new.limit) result }
+        ensures cause { HasCause (failures_of S.failures self.old) (failures_of S.failures self.new) result }
         ensures memory { IsErrOf result NoMemory → ⊥ }
-        ensures counted { IsCounted (self.old.calls, self.old.limit, self.old.part) (self.new.calls, self.new.limit, self.new.part) }
+        ensures counted { IsCounted self.old self.new }
         ensures same_written { self.new.written ≡ self.old.written }
-        ensures fails { Blows self.old.calls self.old.limit → IsErrOf result Device × (self.new.inner ≡ self.old.inner) }
+        ensures fails { IsLast self.old → IsErrOf result Device × (self.new.inner ≡ self.old.inner) }
     {
         if blows(&mut self.calls, self.limit) {
             return Err(StoreFault::Device);
@@ -202,11 +204,11 @@ impl<S: Store> Store for FuseStore<S> {
         ensures size { S.size self.new.inner ≡ S.size self.old.inner }
         ensures written { S.written self.new.inner ≡ S.written self.old.inner }
         ensures room { S.room self.old.inner ≤ S.room self.new.inner }
-        ensures cause { HasCause (S.failures self.old.inner + blown self.old.calls self.old.limit) (S.failures self.new.inner + blown self.new.calls self.new.limit) result }
+        ensures cause { HasCause (failures_of S.failures self.old) (failures_of S.failures self.new) result }
         ensures memory { IsErrOf result NoMemory → ⊥ }
-        ensures counted { IsCounted (self.old.calls, self.old.limit, self.old.part) (self.new.calls, self.new.limit, self.new.part) }
+        ensures counted { IsCounted self.old self.new }
         ensures same_written { self.new.written ≡ self.old.written }
-        ensures fails { Blows self.old.calls self.old.limit → IsErrOf result Device × (self.new.inner ≡ self.old.inner) }
+        ensures fails { IsLast self.old → IsErrOf result Device × (self.new.inner ≡ self.old.inner) }
     {
         if blows(&mut self.calls, self.limit) {
             return Err(StoreFault::Device);

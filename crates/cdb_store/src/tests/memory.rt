@@ -65,7 +65,7 @@ fn any_allocation_may_be_refused(rt: HostRuntime) -> Result<(), Fail> {
         if pos <= store.len() && store.write_at(pos, bytes).is_ok() {
             want = then;
         }
-        assert_eq!(rt; store.bytes().iter().take(8).eq(want.iter()), true);
+        assert!(rt; store.bytes().iter().take(8).eq(want.iter()));
     }
     let len = store.len();
     match BufferedStore::new(rt.alloc(), store, 16) {

@@ -1,18 +1,12 @@
 use Rattle.std.proofs.Common.{arith, subst}
-use Rattle.cdb_store.specs.Images.{AreSized, AfterCut}
+use Rattle.cdb_store.specs.Images.{AfterCut}
 use Rattle.cdb_store.specs.Calls.{FileImage}
-use Rattle.cdb_store.specs.Lengths.{file_size}
-use Rattle.cdb_store.proofs.Moves.{cut_nothing}
-use Rattle.cdb_store.proofs.FileLemmas.{file_same, refused, file_cut}
-use Rattle.cdb_store.proofs.FileFaults.{cut_told, cut_lost}
+use Rattle.cdb_store.proofs.FileLemmas.{file_cut}
+use Rattle.cdb_store.proofs.FileFaults.{cut_refused, cut_told, cut_lost}
 use Rattle.cdb_store.proofs.file.FileStoreStore.cut.Goals as goal
 
 pub returns-in_err-refuse_if_lost-clause-images : goal.returns-in_err-refuse_if_lost-clause-images
-returns-in_err-refuse_if_lost-clause-images g c =
-    let n = c.args.self.now.len in
-    let calls = g.F.RawFile.calls c.refuse_if_lost.new.self.file in
-    let sized : AreSized n (FileImage n calls) = record { each = file_size n calls } in
-    rw (c.refuse_if_lost.ensures.len) (cut_nothing sized (file_same n (refused c.in_err-refuse_if_lost.ensures.refused)))
+returns-in_err-refuse_if_lost-clause-images g c = cut_refused c.refuse_if_lost.ensures.len c.in_err-refuse_if_lost.ensures.refused
 
 pub returns-in-Ok-clause-images : goal.returns-in-Ok-clause-images
 returns-in-Ok-clause-images g c =

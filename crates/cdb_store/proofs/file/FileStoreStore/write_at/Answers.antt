@@ -2,15 +2,13 @@ use Rattle.std.proofs.Common.{arith, sym, subst, ◌∙◌, length}
 use Rattle.cdb_store.specs.Images.{AfterWrite, AfterTornWrite, AreSized}
 use Rattle.cdb_store.specs.Calls.{FileImage}
 use Rattle.cdb_store.specs.Lengths.{file_size}
-use Rattle.cdb_store.proofs.Moves.{torn_same, torn_from_write}
-use Rattle.cdb_store.proofs.FileLemmas.{file_same, refused, file_put, put_long}
-use Rattle.cdb_store.proofs.FileFaults.{torn_told, torn_lost}
+use Rattle.cdb_store.proofs.Moves.{torn_from_write}
+use Rattle.cdb_store.proofs.FileLemmas.{file_put, put_long}
+use Rattle.cdb_store.proofs.FileFaults.{torn_refused, torn_told, torn_lost}
 use Rattle.cdb_store.proofs.file.FileStoreStore.write_at.Goals as goal
 
 pub returns-in_err-refuse_if_lost-clause-torn : goal.returns-in_err-refuse_if_lost-clause-torn
-returns-in_err-refuse_if_lost-clause-torn g c =
-    let n = c.args.self.now.len in
-    rw (c.refuse_if_lost.ensures.len) (torn_same c.args.pos (length c.args.bytes.now) (file_same n (refused c.in_err-refuse_if_lost.ensures.refused)))
+returns-in_err-refuse_if_lost-clause-torn g c = torn_refused c.args.pos (length c.args.bytes.now) c.refuse_if_lost.ensures.len c.in_err-refuse_if_lost.ensures.refused
 
 pub invariant_of-self : goal.invariant_of-self
 invariant_of-self g c =
