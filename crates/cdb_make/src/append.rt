@@ -20,20 +20,31 @@ pub(crate) fn append_record<S: Store>(
 ) -> Result<(), StoreFault>
     requires inside { pos ≤ S.size store.old }
     requires end { pos + length (header.now ++ (key.now ++ value.now)) < 2 ^ 63 }
-    ensures ok { OnOk result (AfterWrite pos (header.now ++ (key.now ++ value.now)) (S.image store.old) (S.image store.new)) }
-    ensures ok_size { OnOk result (S.size store.new ≡ max (S.size store.old) (pos + length (header.now ++ (key.now ++ value.now)))) }
-    ensures ok_written { OnOk result (S.written store.new ≡ S.written store.old + length (header.now ++ (key.now ++ value.now))) }
-    ensures torn { AfterTornWrite pos (length (header.now ++ (key.now ++ value.now))) (S.image store.old) (S.image store.new) }
+    ensures ok { OnOk result
+        (AfterWrite pos (header.now ++ (key.now ++ value.now)) (S.image store.old)
+        (S.image store.new)) }
+    ensures ok_size { OnOk result
+        (S.size store.new
+        ≡ max (S.size store.old) (pos + length (header.now ++ (key.now ++ value.now)))) }
+    ensures ok_written { OnOk result
+        (S.written store.new
+        ≡ S.written store.old + length (header.now ++ (key.now ++ value.now))) }
+    ensures torn { AfterTornWrite pos (length (header.now ++ (key.now ++ value.now)))
+        (S.image store.old) (S.image store.new) }
     ensures longer { S.size store.old ≤ S.size store.new }
-    ensures not_past { S.size store.new ≤ max (S.size store.old) (pos + length (header.now ++ (key.now ++ value.now))) }
+    ensures not_past { S.size store.new
+        ≤ max (S.size store.old) (pos + length (header.now ++ (key.now ++ value.now))) }
     ensures more_written { S.written store.old ≤ S.written store.new }
-    ensures at_most_written { S.written store.new ≤ S.written store.old + length (header.now ++ (key.now ++ value.now)) }
+    ensures at_most_written { S.written store.new
+        ≤ S.written store.old + length (header.now ++ (key.now ++ value.now)) }
     ensures memory { IsErrOf result NoMemory → SameImages (S.image store.old) (S.image store.new) }
     ensures memory_size { IsErrOf result NoMemory → S.size store.new ≡ S.size store.old }
     ensures memory_written { IsErrOf result NoMemory → S.written store.new ≡ S.written store.old }
     ensures memory_room { IsErrOf result NoMemory → S.room store.new ≡ S.room store.old }
-    ensures memory_failures { IsErrOf result NoMemory → S.failures store.new ≡ S.failures store.old }
-    ensures past_room { IsErrOf result NoMemory → S.room store.old < pos + length (header.now ++ (key.now ++ value.now)) }
+    ensures memory_failures { IsErrOf result NoMemory
+        → S.failures store.new ≡ S.failures store.old }
+    ensures past_room { IsErrOf result NoMemory
+        → S.room store.old < pos + length (header.now ++ (key.now ++ value.now)) }
     ensures room { S.room store.old ≤ S.room store.new }
     ensures cause { HasCause (S.failures store.old) (S.failures store.new) result }
 {

@@ -6,6 +6,5 @@
 
 mod append;
 mod moving;
-
 #[cfg(test)]
 mod tests;

@@ -13,7 +13,12 @@ const PIECE: usize = 4096;
 ///
 /// The bytes lie inside the store, whose length stays, and no memory is taken. `Device`: a piece
 /// couldn't be read or written, and the bytes outside of the `len` from `to` on stay.
-pub(crate) fn move_down<S: Store>(store: &mut S, from: u64, to: u64, len: u64) -> Result<(), StoreFault>
+pub(crate) fn move_down<S: Store>(
+    store: &mut S,
+    from: u64,
+    to: u64,
+    len: u64,
+) -> Result<(), StoreFault>
     requires lower { to ≤ from }
     requires inside { from + len ≤ S.size store.old }
     requires end { from + len < 2 ^ 63 }

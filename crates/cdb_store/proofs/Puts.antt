@@ -3,10 +3,9 @@ use Rattle.std.proofs.Common.{◌≡◌, ℕ, ◌+◌, ◌≤◌, ◌<◌, inl, 
 use Rattle.std.proofs.lemmas.List.{take-take, length-replicate, take-append-le, length-take-le}
 use Rattle.std.proofs.Math.Seq.{take-add, take-append-add}
 use borrow.Rule.Slice.PartMut.{put_mid, mid_of, post_of}
-use Rattle.cdb_store.specs.declared.trace.Call.{Call}
 use Rattle.cdb_store.specs.declared.trace.Call.TheVariants.{Wrote, NotWritten}
 use Rattle.cdb_store.specs.Images.{overwrite, Torn}
-use Rattle.cdb_store.specs.Calls.{Agrees, failure_count, written_count, lost, interrupted, Asked, AskedInVain, AfterPut, AfterTornPut, AreAtLeast}
+use Rattle.cdb_store.specs.Calls.{Calls, Agrees, failure_count, written_count, lost, interrupted, Asked, AskedInVain, AfterPut, AfterTornPut, AreAtLeast}
 use Rattle.cdb_store.specs.Lengths.{length-overwrite}
 use Rattle.cdb_store.proofs.Parts.{take-overwrite, drop-overwrite, overwrite-overwrite, overwrite_nothing}
 use Rattle.cdb_store.proofs.RawCalls.{untouched_interrupted}
@@ -22,13 +21,13 @@ take_piece_put d k n xs ys inside fits =
 pub take_piece_of : (d k n : ℕ) (xs : List ℕ) → n ≤ k → take (d + n) xs ≡ take d xs ++ take n (mid_of d k xs)
 take_piece_of d k n xs fits = take-add d n xs ∙ ap (λ r. take d xs ++ r) (sym (take-take n k (drop d xs) fits))
 
-pub put_none : (pos : ℕ) (calls : List (Call × List ℕ)) → AreAtLeast pos calls → AfterPut pos [] calls calls
+pub put_none : (pos : ℕ) (calls : Calls) → AreAtLeast pos calls → AfterPut pos [] calls calls
 put_none pos calls inside = record {
   no_other = λ b is. (b, is, inside.each b is, sym (overwrite_nothing pos b));
   none_lost = λ a is _. subst (Agrees calls) (sym (overwrite_nothing pos a)) is;
 }
 
-pub put_asked : {pos : ℕ} {bytes : List ℕ} {old new : List (Call × List ℕ)} → Asked (Wrote pos, bytes) old new → AfterPut pos bytes old new
+pub put_asked : {pos : ℕ} {bytes : List ℕ} {old new : Calls} → Asked (Wrote pos, bytes) old new → AfterPut pos bytes old new
 put_asked {pos = pos} {bytes = bytes} {old = old} a =
     let u = untouched_interrupted a.times old in
     rw (a.calls) (record {
@@ -36,7 +35,7 @@ put_asked {pos = pos} {bytes = bytes} {old = old} a =
       none_lost = λ x is inside. (x, u.same.none_lost x is, inside, refl);
     })
 
-pub put_more : {pos next : ℕ} {xs ys : List ℕ} {a b c : List (Call × List ℕ)} → next ≡ pos + length xs → AfterPut pos xs a b → AfterPut next ys b c → AfterPut pos (xs ++ ys) a c
+pub put_more : {pos next : ℕ} {xs ys : List ℕ} {a b c : Calls} → next ≡ pos + length xs → AfterPut pos xs a b → AfterPut next ys b c → AfterPut pos (xs ++ ys) a c
 put_more {pos = pos} {next = next} {xs = xs} {ys = ys} {c = c} here v w =
     let joined : (x : List ℕ) → pos ≤ length x → overwrite (overwrite x pos xs) next ys ≡ overwrite x pos (xs ++ ys) =
     λ x inside. ap (λ p. overwrite (overwrite x pos xs) p ys) here ∙ overwrite-overwrite pos x xs ys inside in
@@ -63,7 +62,7 @@ torn_far pos n a inside =
       },
     )
 
-not_written : (pos n k : ℕ) (old new : List (Call × List ℕ)) → new ≡ (NotWritten pos n, []) ∷ interrupted k old → AfterTornPut pos n old new
+not_written : (pos n k : ℕ) (old new : Calls) → new ≡ (NotWritten pos n, []) ∷ interrupted k old → AfterTornPut pos n old new
 not_written pos n k old new e =
     let u = untouched_interrupted k old in
     rw e (record {
@@ -71,13 +70,13 @@ not_written pos n k old new e =
       none_lost = λ a is inside. let t = torn_far pos n a inside in (t.0, (a, u.same.none_lost a is, t.1, t.3), t.2, t.3);
     })
 
-pub torn_vain : {pos n : ℕ} {old new : List (Call × List ℕ)} → AskedInVain (NotWritten pos n) (NotWritten pos n) old new → AfterTornPut pos n old new
+pub torn_vain : {pos n : ℕ} {old new : Calls} → AskedInVain (NotWritten pos n) (NotWritten pos n) old new → AfterTornPut pos n old new
 torn_vain {pos = pos} {n = n} {old = old} {new = new} v = elim v [
   | inl a ↦ not_written pos n a.times old new a.calls
   | inr e ↦ not_written pos n 1001 old new e
 ]
 
-pub torn_behind_put : {pos next n m : ℕ} {xs : List ℕ} {a b c : List (Call × List ℕ)} → next ≡ pos + length xs → n ≡ length xs + m → AfterPut pos xs a b → AfterTornPut next m b c → AfterTornPut pos n a c
+pub torn_behind_put : {pos next n m : ℕ} {xs : List ℕ} {a b c : Calls} → next ≡ pos + length xs → n ≡ length xs + m → AfterPut pos xs a b → AfterTornPut next m b c → AfterTornPut pos n a c
 torn_behind_put {pos = pos} {next = next} {n = n} {m = m} {xs = xs} here sum v w =
     let torn : (x z : List ℕ) → pos ≤ length x → Torn next m (overwrite x pos xs) z → Torn pos n x z =
     λ x z inside t.
@@ -98,16 +97,16 @@ torn_behind_put {pos = pos} {next = next} {n = n} {m = m} {xs = xs} here sum v w
           (h.0, h.1, omega arith, torn x h.0 inside h.3);
     }
 
-pub written_asked : {pos : ℕ} {bytes : List ℕ} {old new : List (Call × List ℕ)} → Asked (Wrote pos, bytes) old new
+pub written_asked : {pos : ℕ} {bytes : List ℕ} {old new : Calls} → Asked (Wrote pos, bytes) old new
     → (written_count new ≡ written_count old + length bytes) × (failure_count old ≤ failure_count new) × (lost new ≡ lost old)
 written_asked {bytes = bytes} {old = old} a = let u = untouched_interrupted a.times old in
     rw (a.calls) (omega (arith, u.written), u.later, u.known)
 
-not_written_counts : (pos n k : ℕ) (old new : List (Call × List ℕ)) → new ≡ (NotWritten pos n, []) ∷ interrupted k old
+not_written_counts : (pos n k : ℕ) (old new : Calls) → new ≡ (NotWritten pos n, []) ∷ interrupted k old
     → (written_count new ≡ written_count old) × (failure_count old < failure_count new) × (lost new ≡ lost old)
 not_written_counts pos n k old new e = let u = untouched_interrupted k old in rw e (u.written, omega (arith, u.later), u.known)
 
-pub written_vain : {pos n : ℕ} {old new : List (Call × List ℕ)} → AskedInVain (NotWritten pos n) (NotWritten pos n) old new
+pub written_vain : {pos n : ℕ} {old new : Calls} → AskedInVain (NotWritten pos n) (NotWritten pos n) old new
     → (written_count new ≡ written_count old) × (failure_count old < failure_count new) × (lost new ≡ lost old)
 written_vain {pos = pos} {n = n} {old = old} {new = new} v = elim v [
   | inl a ↦ not_written_counts pos n a.times old new a.calls

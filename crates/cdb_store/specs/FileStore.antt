@@ -1,12 +1,11 @@
 -- What a clause reads of a store in a file.
 use Rattle.std.specs.Prelude.{ℕ, List}
-use Rattle.cdb_store.specs.declared.trace.Call.{Call}
 use Rattle.cdb_store.specs.declared.raw.RawFile.{Ghosts}
 use Rattle.cdb_store.specs.declared.file.FileStore.{FileStore}
-use Rattle.cdb_store.specs.Calls.{FileImage, failure_count, written_count}
+use Rattle.cdb_store.specs.Calls.{Calls, FileImage, failure_count, written_count}
 
 -- the calls on its file
-abbrev pub calls_of : {F : Type 0} {file : Ghosts F} → FileStore F file → List (Call × List ℕ)
+abbrev pub calls_of : {F : Type 0} {file : Ghosts F} → FileStore F file → Calls
 calls_of {file = file} f = file.calls f.file
 
 -- its images

@@ -10,6 +10,7 @@ StaysHeld pos bytes old new = Holds pos bytes old → Holds pos bytes new
 abbrev pub HasNoImage : (List ℕ → Type 0) → Type 0
 HasNoImage images = (b : List ℕ) → images b → ⊥
 
--- each image is an old one with two pieces of it, n bytes from from on and m from next on, one behind the other over what stood from to on
+-- each image is an old one with two pieces of it over what stood from to on, one behind the other
 pub record Gathered (from n next m to : ℕ) (old new : List ℕ → Type 0) : Type 0 where
-  pub each : (b : List ℕ) → new b → (a : List ℕ) × old a × (b ≡ overwrite a to (part from n a ++ part next m a))
+  pub each : (b : List ℕ) → new b
+      → (a : List ℕ) × old a × (b ≡ overwrite a to (part from n a ++ part next m a))

@@ -67,7 +67,8 @@ impl<S: Store> BufferedStore<S> {
     pub fn into_inner(mut self) -> (S, Result<(), StoreFault>)
         ensures images { OnOk result.1 (SameImages (images_of self) (S.image result.0)) }
         ensures size { OnOk result.1 (S.size result.0 ≡ size_of self) }
-        ensures torn { AfterTornWrite self.pos (held_of self) (S.image self.inner) (S.image result.0) }
+        ensures torn { AfterTornWrite self.pos (held_of self) (S.image self.inner)
+            (S.image result.0) }
         ensures no_shorter { S.size self.inner ≤ S.size result.0 }
         ensures no_longer { S.size result.0 ≤ size_of self }
         ensures handed { OnOk result.1 (S.written result.0 ≡ S.written self.inner + held_of self) }
@@ -93,13 +94,17 @@ impl<S: Store> BufferedStore<S> {
     fn settle(&mut self) -> Result<(), StoreFault>
         ensures images { SameImages (images_of self.old) (images_of self.new) }
         ensures size { size_of self.new ≡ size_of self.old }
-        ensures torn { AfterTornWrite self.old.pos (held_of self.old) (S.image self.old.inner) (S.image self.new.inner) }
+        ensures torn { AfterTornWrite self.old.pos (held_of self.old) (S.image self.old.inner)
+            (S.image self.new.inner) }
         ensures empty { OnOk result (self.new.buffer.items ≡ []) }
-        ensures handed { OnOk result (S.written self.new.inner ≡ S.written self.old.inner + held_of self.old) }
-        ensures at_most_handed { S.written self.new.inner ≤ S.written self.old.inner + held_of self.old }
+        ensures handed { OnOk result
+            (S.written self.new.inner ≡ S.written self.old.inner + held_of self.old) }
+        ensures at_most_handed { S.written self.new.inner
+            ≤ S.written self.old.inner + held_of self.old }
         ensures longer { S.size self.old.inner ≤ S.size self.new.inner }
         ensures not_past { S.size self.new.inner ≤ size_of self.old }
-        ensures kept { OnErr result ((self.new.pos ≡ self.old.pos) × (self.new.buffer ≡ self.old.buffer)) }
+        ensures kept { OnErr result
+            ((self.new.pos ≡ self.old.pos) × (self.new.buffer ≡ self.old.buffer)) }
         ensures trace { self.new.trace ≡ self.old.trace }
         ensures capacity { self.new.capacity ≡ self.old.capacity }
         ensures room { S.room self.old.inner ≤ S.room self.new.inner }
@@ -178,14 +183,18 @@ impl<S: Store> Store for BufferedStore<S> {
 
     fn read_at(&mut self, pos: u64, into: &mut [u8]) -> Result<(), StoreFault>
         requires { pos + length into.old ≤ size_of self.old }
-        ensures ok { OnOk result (AfterRead pos into.new (images_of self.old) (images_of self.new)) }
+        ensures ok { OnOk result
+            (AfterRead pos into.new (images_of self.old) (images_of self.new)) }
         ensures err { OnErr result (SameImages (images_of self.old) (images_of self.new)) }
         ensures size { size_of self.new ≡ size_of self.old }
         ensures written { written_of self.new ≡ written_of self.old }
         ensures room { S.room self.old.inner ≤ S.room self.new.inner }
         ensures cause { HasCause (S.failures self.old.inner) (S.failures self.new.inner) result }
         ensures memory { IsErrOf result NoMemory → ⊥ }
-        ensures passed { AreApart pos (length into.old) self.old.pos (held_of self.old) → pos + length into.old ≤ S.size self.old.inner → (self.new.buffer ≡ self.old.buffer) × (S.written self.new.inner ≡ S.written self.old.inner) }
+        ensures passed { AreApart pos (length into.old) self.old.pos (held_of self.old)
+            → pos + length into.old ≤ S.size self.old.inner
+            → (self.new.buffer ≡ self.old.buffer)
+            × (S.written self.new.inner ≡ S.written self.old.inner) }
     {
         let (n, held) = (into.len(), self.buffer.len());
         if lies_within(pos, n, self.pos, held) {
@@ -232,7 +241,8 @@ impl<S: Store> Store for BufferedStore<S> {
         ensures cause { HasCause (S.failures self.old.inner) (S.failures self.new.inner) result }
         ensures memory { IsErrOf result NoMemory → ⊥ }
         ensures ok { OnOk result ((self.new.buffer.items ≡ []) × S.settled self.new.inner) }
-        ensures handed { OnOk result (S.written self.new.inner ≡ S.written self.old.inner + held_of self.old) }
+        ensures handed { OnOk result
+            (S.written self.new.inner ≡ S.written self.old.inner + held_of self.old) }
     {
         // What was collected goes first, so that the inner store hands it on too.
         self.settle()?;

@@ -33,11 +33,13 @@ pub struct FileStore<F: RawFile = RealFile> {
 }
 
 impl FileStore {
+    ghost use Rattle.cdb_store.specs.FileStore.{images_of};
+
     /// Makes a file, or empties the one of that name, and reads and writes it.
     ///
     /// `Device`: it can't be opened so.
     pub fn create<R: Files<File = File>>(rt: &R, path: &str) -> Result<FileStore, StoreFault>
-        ensures images { IfOk result (λ f. (b : List ℕ) → (⟦<FileStore as Store>⟧.image f b ↔ (b ≡ []))) }
+        ensures images { IfOk result (λ f. (b : List ℕ) → (images_of f b ↔ (b ≡ []))) }
         ensures made { IfOk result (λ f. f.file.trace.events ≡ (Made, []) ∷ []) }
         ensures memory { IsErrOf result NoMemory → ⊥ }
     {
@@ -57,8 +59,8 @@ impl FileStore {
     ///
     /// `Device`: it can't be opened, or has 2^63 bytes or more.
     pub fn open<R: Files<File = File>>(rt: &R, path: &str) -> Result<FileStore, StoreFault>
-        ensures images { IfOk result (λ f. (b : List ℕ) → (⟦<FileStore as Store>⟧.image f b ↔ (length b ≡ ⟦<FileStore as Store>⟧.size f))) }
-        ensures told { IfOk result (λ f. f.file.trace.events ≡ (Length (⟦<FileStore as Store>⟧.size f), []) ∷ []) }
+        ensures images { IfOk result (λ f. (b : List ℕ) → (images_of f b ↔ (length b ≡ f.len))) }
+        ensures told { IfOk result (λ f. f.file.trace.events ≡ (Length f.len, []) ∷ []) }
         ensures memory { IsErrOf result NoMemory → ⊥ }
     {
         match File::open(rt, path) {
@@ -146,7 +148,8 @@ impl<F: RawFile> Store for FileStore<F> {
 
     fn read_at(&mut self, pos: u64, into: &mut [u8]) -> Result<(), StoreFault>
         requires { pos + length into.old ≤ self.old.len }
-        ensures ok { OnOk result (AfterRead pos into.new (images_of self.old) (images_of self.new)) }
+        ensures ok { OnOk result
+            (AfterRead pos into.new (images_of self.old) (images_of self.new)) }
         ensures err { OnErr result (SameImages (images_of self.old) (images_of self.new)) }
         ensures size { self.new.len ≡ self.old.len }
         ensures written { written_of self.new ≡ written_of self.old }
@@ -164,10 +167,13 @@ impl<F: RawFile> Store for FileStore<F> {
     fn write_at(&mut self, pos: u64, bytes: &[u8]) -> Result<(), StoreFault>
         requires start { pos ≤ self.old.len }
         requires end { pos + length bytes.now < 2 ^ 63 }
-        ensures ok { OnOk result (AfterWrite pos bytes.now (images_of self.old) (images_of self.new)) }
+        ensures ok { OnOk result
+            (AfterWrite pos bytes.now (images_of self.old) (images_of self.new)) }
         ensures ok_size { OnOk result (self.new.len ≡ max self.old.len (pos + length bytes.now)) }
-        ensures ok_written { OnOk result (written_of self.new ≡ written_of self.old + length bytes.now) }
-        ensures torn { AfterTornWrite pos (length bytes.now) (images_of self.old) (images_of self.new) }
+        ensures ok_written { OnOk result
+            (written_of self.new ≡ written_of self.old + length bytes.now) }
+        ensures torn { AfterTornWrite pos (length bytes.now) (images_of self.old)
+            (images_of self.new) }
         ensures longer { self.old.len ≤ self.new.len }
         ensures not_past { self.new.len ≤ max self.old.len (pos + length bytes.now) }
         ensures more_written { written_of self.old ≤ written_of self.new }
@@ -175,7 +181,9 @@ impl<F: RawFile> Store for FileStore<F> {
         ensures memory { IsErrOf result NoMemory → ⊥ }
         ensures cause { HasCause (failures_of self.old) (failures_of self.new) result }
         ensures lost { lost (calls_of self.old) ≡ true → IsErrOf result Device }
-        ensures measured { OnErr result (IsMeasured self.old.len (max self.old.len (pos + length bytes.now)) self.old.len self.new.len (calls_of self.old) (calls_of self.new)) }
+        ensures measured { OnErr result
+            (IsMeasured self.old.len (max self.old.len (pos + length bytes.now)) self.old.len
+            self.new.len (calls_of self.old) (calls_of self.new)) }
     {
         self.refuse_if_lost()?;
         let most = self.len.max(pos + bytes.len() as u64);
@@ -208,7 +216,9 @@ impl<F: RawFile> Store for FileStore<F> {
         ensures cause { HasCause (failures_of self.old) (failures_of self.new) result }
         ensures memory { IsErrOf result NoMemory → ⊥ }
         ensures lost { lost (calls_of self.old) ≡ true → IsErrOf result Device }
-        ensures measured { OnErr result (IsMeasured len self.old.len self.old.len self.new.len (calls_of self.old) (calls_of self.new)) }
+        ensures measured { OnErr result
+            (IsMeasured len self.old.len self.old.len self.new.len (calls_of self.old)
+            (calls_of self.new)) }
     {
         self.refuse_if_lost()?;
         match self.file.set_length(len) {

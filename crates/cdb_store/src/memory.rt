@@ -37,7 +37,8 @@ impl MemStore {
     /// Its bytes, which are its only image.
     pub fn bytes(&self) -> &[u8]
         ensures bytes { result.now ≡ contents self.now }
-        ensures images { (b : List ℕ) → (⟦<MemStore as Store>⟧.image self.now b ↔ (b ≡ result.now)) }
+        ensures images { (b : List ℕ)
+            → (⟦<MemStore as Store>⟧.image self.now b ↔ (b ≡ result.now)) }
     {
         self.bytes.as_slice()
     }

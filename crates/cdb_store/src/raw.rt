@@ -29,7 +29,8 @@ pub trait RawFile {
         requires some { 0 < length into.old }
         requires known { lost (calls self.old) ≡ false }
         ensures count { IfOk result (λ n. (0 < n) × (n ≤ length into.new)) }
-        ensures ok { IfOk result (λ n. calls self.new ≡ (Read pos, take n into.new) ∷ calls self.old) }
+        ensures ok { IfOk result
+            (λ n. calls self.new ≡ (Read pos, take n into.new) ∷ calls self.old) }
         ensures err { IfErr result (λ e. calls self.new ≡ (ended Failed e, []) ∷ calls self.old) };
 
     /// Writes at least one byte from `pos` on. A file that takes none is `Failed`.
@@ -37,8 +38,11 @@ pub trait RawFile {
         requires some { 0 < length bytes.now }
         requires known { lost (calls self.old) ≡ false }
         ensures count { IfOk result (λ n. (0 < n) × (n ≤ length bytes.now)) }
-        ensures ok { IfOk result (λ n. calls self.new ≡ (Wrote pos, take n bytes.now) ∷ calls self.old) }
-        ensures err { IfErr result (λ e. calls self.new ≡ (ended (NotWritten pos (length bytes.now)) e, []) ∷ calls self.old) };
+        ensures ok { IfOk result
+            (λ n. calls self.new ≡ (Wrote pos, take n bytes.now) ∷ calls self.old) }
+        ensures err { IfErr result
+            (λ e. calls self.new
+            ≡ (ended (NotWritten pos (length bytes.now)) e, []) ∷ calls self.old) };
 
     /// Asks for the length.
     fn length(&mut self) -> Result<u64, RawFault>

@@ -116,7 +116,8 @@ pub trait Store {
         requires start { pos ≤ size self.old }
         requires end { pos + length bytes.now < 2 ^ 63 }
         ensures ok { OnOk result (AfterWrite pos bytes.now (image self.old) (image self.new)) }
-        ensures ok_size { OnOk result (size self.new ≡ max (size self.old) (pos + length bytes.now)) }
+        ensures ok_size { OnOk result
+            (size self.new ≡ max (size self.old) (pos + length bytes.now)) }
         ensures ok_written { OnOk result (written self.new ≡ written self.old + length bytes.now) }
         ensures torn { AfterTornWrite pos (length bytes.now) (image self.old) (image self.new) }
         ensures longer { size self.old ≤ size self.new }

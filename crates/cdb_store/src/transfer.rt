@@ -16,7 +16,8 @@ fn read_some<F: RawFile>(file: &mut F, pos: u64, into: &mut [u8]) -> Result<usiz
     requires some { 0 < length into.old }
     requires known { lost (F.calls file.old) ≡ false }
     ensures count { IfOk result (λ n. (0 < n) × (n ≤ length into.new)) }
-    ensures ok { IfOk result (λ n. Asked (Read pos, take n into.new) (F.calls file.old) (F.calls file.new)) }
+    ensures ok { IfOk result
+        (λ n. Asked (Read pos, take n into.new) (F.calls file.old) (F.calls file.new)) }
     ensures err { OnErr result (AskedInVain Failed Refused (F.calls file.old) (F.calls file.new)) }
     ensures memory { IsErrOf result NoMemory → ⊥ }
 {
@@ -36,8 +37,11 @@ fn write_some<F: RawFile>(file: &mut F, pos: u64, bytes: &[u8]) -> Result<usize,
     requires some { 0 < length bytes.now }
     requires known { lost (F.calls file.old) ≡ false }
     ensures count { IfOk result (λ n. (0 < n) × (n ≤ length bytes.now)) }
-    ensures ok { IfOk result (λ n. Asked (Wrote pos, take n bytes.now) (F.calls file.old) (F.calls file.new)) }
-    ensures err { OnErr result (AskedInVain (NotWritten pos (length bytes.now)) (NotWritten pos (length bytes.now)) (F.calls file.old) (F.calls file.new)) }
+    ensures ok { IfOk result
+        (λ n. Asked (Wrote pos, take n bytes.now) (F.calls file.old) (F.calls file.new)) }
+    ensures err { OnErr result
+        (AskedInVain (NotWritten pos (length bytes.now)) (NotWritten pos (length bytes.now))
+        (F.calls file.old) (F.calls file.new)) }
     ensures memory { IsErrOf result NoMemory → ⊥ }
 {
     for _turn in 0..ASKS {
@@ -61,7 +65,8 @@ pub(crate) fn read_all<F: RawFile>(
     requires known { lost (F.calls file.old) ≡ false }
     ensures ok { OnOk result (Came pos into.new (F.calls file.new)) }
     ensures untouched { Untouched (F.calls file.old) (F.calls file.new) }
-    ensures cause { OnErr result (failure_count (F.calls file.old) < failure_count (F.calls file.new)) }
+    ensures cause { OnErr result
+        (failure_count (F.calls file.old) < failure_count (F.calls file.new)) }
     ensures memory { IsErrOf result NoMemory → ⊥ }
 {
     let mut done = 0;
@@ -77,11 +82,15 @@ pub(crate) fn write_all<F: RawFile>(file: &mut F, pos: u64, bytes: &[u8]) -> Res
     requires inside { AreAtLeast pos (F.calls file.old) }
     requires known { lost (F.calls file.old) ≡ false }
     ensures ok { OnOk result (AfterPut pos bytes.now (F.calls file.old) (F.calls file.new)) }
-    ensures ok_written { OnOk result (written_count (F.calls file.new) ≡ written_count (F.calls file.old) + length bytes.now) }
-    ensures err { OnErr result (AfterTornPut pos (length bytes.now) (F.calls file.old) (F.calls file.new)) }
-    ensures cause { OnErr result (failure_count (F.calls file.old) < failure_count (F.calls file.new)) }
+    ensures ok_written { OnOk result
+        (written_count (F.calls file.new) ≡ written_count (F.calls file.old) + length bytes.now) }
+    ensures err { OnErr result
+        (AfterTornPut pos (length bytes.now) (F.calls file.old) (F.calls file.new)) }
+    ensures cause { OnErr result
+        (failure_count (F.calls file.old) < failure_count (F.calls file.new)) }
     ensures more_written { written_count (F.calls file.old) ≤ written_count (F.calls file.new) }
-    ensures at_most_written { written_count (F.calls file.new) ≤ written_count (F.calls file.old) + length bytes.now }
+    ensures at_most_written { written_count (F.calls file.new)
+        ≤ written_count (F.calls file.old) + length bytes.now }
     ensures later { failure_count (F.calls file.old) ≤ failure_count (F.calls file.new) }
     ensures still_known { lost (F.calls file.new) ≡ false }
     ensures memory { IsErrOf result NoMemory → ⊥ }
