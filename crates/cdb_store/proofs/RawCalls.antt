@@ -1,5 +1,6 @@
 -- What raw calls that were interrupted, that failed or that did a part leave.
-use Rattle.std.proofs.Common.{◌≡◌, ℕ, ◌+◌, ◌<◌, inl, inr, suc, zero, List, [], ◌∷◌, ◌++◌, length, refl, sym, ap, ◌∙◌, arith, add-one}
+use Rattle.std.proofs.Common.{◌≡◌, ℕ, ◌+◌, ◌<◌, ◌≤◌, inl, inr, suc, zero, List, [], ◌∷◌, ◌++◌, length, refl, sym, ap, ◌∙◌, arith, add-one}
+use Rattle.cdb_store.specs.declared.trace.Call.{Call}
 use Rattle.cdb_store.specs.declared.trace.Call.TheVariants.{Made, Read, Gave, Wrote, NotWritten, Length, Cut, NotCut, Synced, Interrupted, Failed, Refused, Lost}
 use Rattle.cdb_store.specs.Calls.{Calls, Agrees, failure_count, written_count, lost, interrupted, Asked, AskedInVain, Came, Untouched}
 
@@ -10,6 +11,14 @@ interrupted_none calls = refl
 pub interrupted_more : (k : ℕ) (now calls new : Calls) → now ≡ interrupted k calls → new ≡ (Interrupted, []) ∷ now → new ≡ interrupted (k + 1) calls
 unfolding interrupted
 interrupted_more k now calls new e f = f ∙ ap (λ c. (Interrupted, []) ∷ c) e ∙ ap (λ n. interrupted n calls) (sym (add-one k))
+
+-- it answered after some calls that were interrupted
+pub asked_after : {answer : Call × List ℕ} {old now new : Calls} (k : ℕ) → k ≤ 1000 → now ≡ interrupted k old → new ≡ answer ∷ now → Asked answer old new
+asked_after {answer = answer} k few before last = record { times = k; at_most = few; calls = last ∙ ap (λ c. answer ∷ c) before }
+
+-- each call was interrupted
+pub interrupted_all : (k : ℕ) (old : Calls) {now : Calls} → k ≡ 1001 → now ≡ interrupted k old → now ≡ interrupted 1001 old
+interrupted_all k old e before = before ∙ ap (λ n. interrupted n old) e
 
 pub lost_interrupted : (k : ℕ) (calls : Calls) → lost (interrupted k calls) ≡ lost calls
 unfolding interrupted

@@ -13,9 +13,13 @@ use crate::{Store, StoreFault};
 #[derive(Drop)]
 pub struct FuseStore<S> {
     inner: S,
+    /// How many calls it passes before the one that it fails.
     limit: u64,
+    /// How many bytes the failed write writes.
     part: u64,
+    /// How many calls counted.
     calls: u64,
+    /// How many bytes the inner store's writes that answered Ok wrote.
     written: u64,
 }
 

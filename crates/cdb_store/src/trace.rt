@@ -36,7 +36,8 @@ pub enum Call {
     Lost,
 }
 
-/// It takes no memory, and its methods do nothing at run time.
+/// A list of calls, the newest first, each with its bytes. It takes no memory, and its methods do
+/// nothing at run time.
 #[derive(Drop)]
 pub struct Trace {
     marker: PhantomData<u8>,
@@ -48,6 +49,7 @@ impl Model for Trace {
 }
 
 impl Trace {
+    /// No calls.
     pub(crate) fn new() -> Trace
         ensures { result.events ≡ [] }
     {

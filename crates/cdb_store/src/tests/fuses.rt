@@ -41,15 +41,15 @@ fn other_calls_fail_and_do_nothing(rt: HostRuntime) -> Result<(), Fail> {
 
 #[test]
 fn a_buffer_stands_each_fault_below_it(rt: HostRuntime) -> Result<(), Fail> {
-    for most in [0, 3, 7, 4096] {
+    for capacity in [0, 3, 7, 4096] {
         let mut faults = 0u64;
         for limit in 0..32 {
             let inner = FuseStore::new(MemStore::new(rt.alloc()), limit, 1);
-            let Ok(mut store) = BufferedStore::new(rt.alloc(), inner, most) else {
+            let Ok(mut store) = BufferedStore::new(rt.alloc(), inner, capacity) else {
                 return Err(Fail::new("no memory for a buffer"));
             };
             let outcome = script(&mut store);
-            assert!(rt; outcome.is_right, "{most} {limit}");
+            assert!(rt; outcome.is_right, "{capacity} {limit}");
             assert!(rt; outcome.failed <= 1);
             faults |= outcome.failed;
             let (inner, answer) = store.into_inner();
