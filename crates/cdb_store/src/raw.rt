@@ -1,10 +1,11 @@
 // A file by its raw calls.
 ghost use Rattle.std.specs.Prelude.{◌≡◌, ℕ, ◌+◌, ◌<◌, ◌≤◌, ◌⊎◌, false, true, List, [], ◌∷◌, length, take, IfOk, IfErr, OnOk, OnErr};
+ghost use Rattle.std.specs.Result.{ForOk};
 ghost use Rattle.cdb_store.specs.declared.trace.Call.{Call};
 ghost use Rattle.cdb_store.specs.declared.trace.Call.TheVariants.{Read, Gave, Wrote, NotWritten, Length, Cut, NotCut, Synced, Failed, Refused, Lost};
 ghost use Rattle.cdb_store.specs.Calls.{lost, ended, GivenUp, Came, IsUntold};
 
-use crate::trace::Call;
+use crate::trace::{Call, Trace};
 
 /// Why a read or a write did nothing.
 #[derive(Clone, Copy, Debug, PartialEq, Eq)]
@@ -84,11 +85,30 @@ pub trait RawFile {
 }
 
 /// What to note of a call that a fault ended.
-pub(crate) fn ended_as(failed: Call, fault: RawFault) -> Call
+fn ended_as(failed: Call, fault: RawFault) -> Call
     ensures { result ≡ ended failed fault }
 {
     match fault {
         RawFault::Interrupted => Call::Interrupted,
         RawFault::Failed => failed,
+    }
+}
+
+/// Notes what a read or a write answered: the bytes that it did, or how it ended.
+pub(crate) fn note_part(
+    trace: &mut Trace,
+    done: Call,
+    failed: Call,
+    bytes: &[u8],
+    answer: Result<usize, RawFault>,
+)
+    requires { ForOk answer (λ n. n ≤ length bytes.now) }
+    ensures ok { IfOk answer
+        (λ n. trace.new.events ≡ (done, take n bytes.now) ∷ trace.old.events) }
+    ensures err { IfErr answer (λ e. trace.new.events ≡ (ended failed e, []) ∷ trace.old.events) }
+{
+    match answer {
+        Ok(n) => trace.note(&done, &bytes[..n]),
+        Err(fault) => trace.note(&ended_as(failed, fault), &[]),
     }
 }

@@ -1,8 +1,8 @@
 // The file of the system: the lines that call the system and note what it answered.
-ghost use Rattle.std.specs.Prelude.{◌≡◌, ◌↔◌, [], ◌∷◌};
+ghost use Rattle.std.specs.Prelude.{◌≡◌, ◌<◌, ◌↔◌, [], ◌∷◌, IfOk};
 ghost use Rattle.std.specs.IoError.{error_kind};
 
-use crate::raw::{RawFault, RawFile, ended_as};
+use crate::raw::{RawFault, RawFile, note_part};
 use crate::trace::{Call, Trace};
 use std::fs::File;
 use std::io::{self, ErrorKind};
@@ -47,35 +47,31 @@ fn fault_of(error: &io::Error) -> RawFault
     }
 }
 
+/// What a read or a write did: at least one byte, or else why none.
+fn part_of(answer: io::Result<usize>) -> Result<usize, RawFault>
+    ensures some { IfOk result (λ n. 0 < n) }
+    ensures same { IfOk result (λ n. answer ≡ Ok n) }
+{
+    match answer {
+        Ok(0) => Err(RawFault::Failed),
+        Ok(n) => Ok(n),
+        Err(error) => Err(fault_of(&error)),
+    }
+}
+
 impl RawFile for RealFile {
     ghost calls = { λ f. f.trace.events };
 
     fn read_some(&mut self, pos: u64, into: &mut [u8]) -> Result<usize, RawFault> {
-        let answer = match self.file.read_at(into, pos) {
-            Ok(0) => Err(RawFault::Failed),
-            Ok(n) => Ok(n),
-            Err(error) => Err(fault_of(&error)),
-        };
-        match answer {
-            Ok(n) => self.trace.note(&Call::Read(pos), &into[..n]),
-            Err(fault) => self.trace.note(&ended_as(Call::Failed, fault), &[]),
-        }
+        let answer = part_of(self.file.read_at(into, pos));
+        note_part(&mut self.trace, Call::Read(pos), Call::Failed, into, answer);
         answer
     }
 
     fn write_some(&mut self, pos: u64, bytes: &[u8]) -> Result<usize, RawFault> {
-        let answer = match self.file.write_at(bytes, pos) {
-            Ok(0) => Err(RawFault::Failed),
-            Ok(n) => Ok(n),
-            Err(error) => Err(fault_of(&error)),
-        };
-        match answer {
-            Ok(n) => self.trace.note(&Call::Wrote(pos), &bytes[..n]),
-            Err(fault) => {
-                let failed = Call::NotWritten(pos, bytes.len() as u64);
-                self.trace.note(&ended_as(failed, fault), &[]);
-            }
-        }
+        let answer = part_of(self.file.write_at(bytes, pos));
+        let failed = Call::NotWritten(pos, bytes.len() as u64);
+        note_part(&mut self.trace, Call::Wrote(pos), failed, bytes, answer);
         answer
     }
 

@@ -2,7 +2,7 @@
 ghost use Rattle.std.specs.Prelude.{◌≡◌, ◌<◌, ◌≤◌, [], length, IfOk};
 
 use crate::bytes::write_over;
-use crate::raw::{RawFault, RawFile, ended_as};
+use crate::raw::{RawFault, RawFile, note_part};
 use crate::trace::{Call, Trace};
 
 /// What befalls a raw call.
@@ -108,10 +108,7 @@ impl RawFile for FakeFile {
             Ok(n) => copy_out(&self.bytes, pos, &mut into[..n]),
             Err(fault) => Err(fault),
         };
-        match answer {
-            Ok(n) => self.trace.note(&Call::Read(pos), &into[..n]),
-            Err(fault) => self.trace.note(&ended_as(Call::Failed, fault), &[]),
-        }
+        note_part(&mut self.trace, Call::Read(pos), Call::Failed, into, answer);
         answer
     }
 
@@ -121,13 +118,8 @@ impl RawFile for FakeFile {
             Ok(n) => copy_in(&mut self.bytes, pos, &bytes[..n]).map(|()| n),
             Err(fault) => Err(fault),
         };
-        match answer {
-            Ok(n) => self.trace.note(&Call::Wrote(pos), &bytes[..n]),
-            Err(fault) => {
-                let failed = Call::NotWritten(pos, bytes.len() as u64);
-                self.trace.note(&ended_as(failed, fault), &[]);
-            }
-        }
+        let failed = Call::NotWritten(pos, bytes.len() as u64);
+        note_part(&mut self.trace, Call::Wrote(pos), failed, bytes, answer);
         answer
     }
 
