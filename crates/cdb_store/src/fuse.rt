@@ -83,6 +83,7 @@ fn blows(calls: &mut u64, limit: u64) -> bool
     is_last
 }
 
+#[tactic(auto, using(crate::proofs::FuseLemmas::fuse_passes))]
 impl<S: Store> Store for FuseStore<S> {
     ghost use Rattle.cdb_store.specs.FuseStore.{failures_of, IsLast, IsCounted};
 

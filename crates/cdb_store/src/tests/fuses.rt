@@ -91,6 +91,29 @@ fn a_flush_reaches_the_inner_store(rt: HostRuntime) -> Result<(), Fail> {
     Ok(())
 }
 
+#[test]
+fn reads_beside_the_buffer_hand_nothing_on(rt: HostRuntime) -> Result<(), Fail> {
+    let bytes = vec![in rt.alloc(); b'.'; 64]?;
+    let inner = FuseStore::new(MemStore::from_vec(bytes), u64::MAX, 0);
+    let Ok(mut store) = BufferedStore::new(rt.alloc(), inner, 16) else {
+        return Err(Fail::new("no memory for a buffer"));
+    };
+    let mut into = [0; 2];
+    // as bytes are moved down: read above, written below
+    for pos in 0..8u64 {
+        assert!(rt; store.len() >= 64);
+        store.read_at(40 + 2 * pos, &mut into)?;
+        store.write_at(8 + 2 * pos, &into)?;
+        assert!(rt; store.len() >= 64);
+        store.read_at(pos, &mut into)?;
+    }
+    let (inner, answer) = store.into_inner();
+    answer?;
+    // sixteen reads and one write
+    assert_eq!(rt; (inner.calls(), inner.written()), (17, 16));
+    Ok(())
+}
+
 /// One call of each kind that counts. Whether all answered Ok.
 fn four_calls<S: Store>(store: &mut S) -> bool {
     let mut into = [0; 2];
