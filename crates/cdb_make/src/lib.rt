@@ -6,9 +6,5 @@
 
 mod append;
 mod moving;
-
-pub use append::append_record;
-pub use moving::move_down;
-
 #[cfg(test)]
 mod tests;

@@ -1,5 +1,6 @@
 //! Each function once on a store in memory.
-use crate::{append_record, move_down};
+use crate::append::append_record;
+use crate::moving::move_down;
 use cdb_store::{MemStore, Store};
 use std::test::Fail;
 
