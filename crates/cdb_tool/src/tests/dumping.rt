@@ -1,9 +1,9 @@
 // dump_run, over damaged and foreign files and over readers and writers that fail.
 use super::fakes::{FakeReader, FakeWriter};
 use super::worked::{NONE, Run, TWO, TWO_TEXT, WIDE_NONE, bytes_of};
-use crate::dump::{Style, dump_run};
 use crate::fault::Fault;
-use crate::make::make_bytes;
+use crate::runs::dump::{Style, dump_run};
+use crate::runs::make_bytes::make_bytes;
 use cdb_form::{Narrow, WalkFault, Wide, Width};
 use std::alloc::Global;
 use std::io::Read;

@@ -4,7 +4,7 @@ use super::worked::{
     EMPTY_RECORD, FOUR_VALUES, NONE, ONE, Run, TWO, TWO_TEXT, WIDE_NONE, WIDE_ONE, bytes_of,
 };
 use crate::fault::Fault;
-use crate::make::make_bytes;
+use crate::runs::make_bytes::make_bytes;
 use cdb_form::{Narrow, TextFault, Wide};
 use std::alloc::Global;
 use std::io::Read;

@@ -1,0 +1,68 @@
+-- What the making of a file of a text leaves. A text is the bytes of its reader, where they are
+-- known, and the rest is what its reader has left.
+use Rattle.std.specs.Prelude.{ℕ, ◌≡◌, ◌≢◌, ◌<◌, ◌≤◌, ⊤, List, Option, Result, IfSome, OnOk, IfErr}
+use Rattle.std.specs.Io.KnownBytes.{Appends, Keeps}
+use Rattle.cdb_form.specs.Format.Record.{KeyValue}
+use Rattle.cdb_form.specs.Format.File.{file_size, file_bytes}
+use Rattle.cdb_form.specs.Text.Native.{Spelled, Reads, WholeRecords, HasFault}
+use Rattle.cdb_form.specs.Views.TextFault.{IsOfText}
+use Rattle.cdb_form.specs.Views.KnownBytes.{AppendsFront, FromTo}
+use Rattle.cdb_form.specs.declared.text.fault.TextFault.{TextFault}
+use Rattle.cdb_form.specs.declared.text.fault.TextFault.TheVariants as text_fault
+use Rattle.cdb_make.specs.declared.fault.MakeFault.TheVariants.{TooBig}
+use Rattle.cdb_tool.specs.declared.fault.Fault.{Fault}
+use Rattle.cdb_tool.specs.declared.fault.Fault.TheVariants.{Text, Make, Output, NoMemory}
+
+-- these are the records of the text, whose file fits, and what follows the text is unread
+pub record ReadsFitting (w greatest : ℕ) (text rest : Option (List ℕ)) (records : List KeyValue)
+    : Type 0 where
+  pub reads : FromTo text rest (Reads greatest records)
+  pub fits : file_size w records ≤ greatest
+
+-- the text has this fault, and the file of all whole records before it fits
+pub record FailsText (w greatest : ℕ) (text : List ℕ) (fault : TextFault) : Type 0 where
+  pub records : List KeyValue
+  pub rest : List ℕ
+  pub whole : WholeRecords greatest text records rest
+  pub fits : file_size w records ≤ greatest
+  pub has : HasFault greatest 0 text fault
+
+-- records stand at the front of the text whose file doesn't fit
+pub record PassesGreatest (w greatest : ℕ) (text : List ℕ) : Type 0 where
+  pub records : List KeyValue
+  pub rest : List ℕ
+  pub spelled : Spelled greatest records text rest
+  pub larger : greatest < file_size w records
+
+-- why no file is made of a text
+abbrev pub NotRead : ℕ → ℕ → Option (List ℕ) → Fault → Type 0
+NotRead w greatest text (Text input fault) =
+    (input ≡ 1) × (fault ≢ text_fault.NoMemory)
+    × IfSome text (λ t. IsOfText fault → FailsText w greatest t fault)
+NotRead w greatest text (Make TooBig) = IfSome text (PassesGreatest w greatest)
+NotRead w greatest text NoMemory = ⊤
+NotRead w greatest text fault = ⊥
+
+-- the file of the text was appended
+pub record MakesFile (w greatest : ℕ) (text rest old new : Option (List ℕ)) : Type 0 where
+  pub records : List KeyValue
+  pub read : ReadsFitting w greatest text rest records
+  pub appended : Appends old new (file_bytes w records)
+
+-- a front of the file of the text was appended
+pub record MakesFront (w greatest : ℕ) (text rest old new : Option (List ℕ)) : Type 0 where
+  pub records : List KeyValue
+  pub read : ReadsFitting w greatest text rest records
+  pub appended : AppendsFront old new (file_bytes w records)
+
+-- what a fault leaves: a front of the file where the writer failed, else nothing was written
+abbrev pub MakeFails : ℕ → ℕ → Option (List ℕ) → Option (List ℕ) → Option (List ℕ)
+    → Option (List ℕ) → Fault → Type 0
+MakeFails w greatest text rest old new Output = MakesFront w greatest text rest old new
+MakeFails w greatest text rest old new fault = NotRead w greatest text fault × Keeps old new
+
+-- what a run leaves
+pub record Makes (w greatest : ℕ) (text rest old new : Option (List ℕ)) (result : Result Unit Fault)
+    : Type 0 where
+  pub ok : OnOk result (MakesFile w greatest text rest old new)
+  pub err : IfErr result (MakeFails w greatest text rest old new)
