@@ -1,32 +1,48 @@
 # make            builds the proved program, bin/cdb
-# make demo       builds it and makes a small database, saying what it does
+# make demo       builds it and shows it at work on a small alias map
 # make test       the gate: proves everything from nothing and runs every test
+# make faults     builds it and refuses its asks for memory, each in turn (wants a C compiler)
 # make install    installs cdb below $(DESTDIR)$(PREFIX)
 # make bench      times it beside tinycdb and freecdb, where they are installed
+# make clean      removes what was built, and the proofs that were kept
 
 PREFIX ?= /usr/local
 DESTDIR ?=
 RT ?= rt
 PYTHON ?= python3
-SOURCES := $(shell find crates -name out -prune -o -type f \( -name '*.rt' -o -name '*.antt' \) -print) crates.txt
+# Tests, wrong bodies and documents have no part in the program.
+SOURCES := $(shell find crates \( -name out -o -name tests -o -name tests.rt \) -prune -o \
+	-type f \( -name '*.rt' -o -name '*.antt' \) -print) crates.txt
 
-.PHONY: all demo test install bench clean
+.PHONY: all demo test faults install bench clean
 
 all: bin/cdb
 
-# A run proves the program first and leaves it in the crate's folder out/.
 bin/cdb: $(SOURCES)
-	@mkdir -p bin
-	cd crates/cdb_tool && printf '\n' | $(RT) run -- -c - > ../../bin/first-run
-	install -m 755 crates/cdb_tool/out/cdb_tool bin/cdb
-	@rm -f bin/first-run
+	@RT='$(RT)' $(PYTHON) tools/build.py crates/cdb_tool bin/cdb
 
-demo: bin/cdb
+demo:
+	@echo 'The demo: builds cdb unless it is there, then shows it at work, in a second.'
+	@$(MAKE) -s bin/cdb
 	@sh demo/run.sh bin/cdb
 
+# The program that the gate leaves is the one that was proved from nothing.
 test:
 	$(RT) ci
 	$(PYTHON) tests/cli/run.py crates/cdb_tool/out/cdb_tool
+	@if command -v $(firstword $(CC)) > /dev/null; then \
+		$(MAKE) -s bin/refuse.so && \
+		$(PYTHON) tests/faults/run.py crates/cdb_tool/out/cdb_tool bin/refuse.so; \
+	else \
+		echo '0 passed, 0 failed: no C compiler is here, so no ask for memory was refused'; \
+	fi
+
+faults: bin/cdb bin/refuse.so
+	$(PYTHON) tests/faults/run.py bin/cdb bin/refuse.so
+
+bin/refuse.so: tests/faults/refuse.c
+	@mkdir -p bin
+	$(CC) -O2 -Wall -shared -fPIC -o $@ $<
 
 install: bin/cdb
 	install -D -m 755 bin/cdb $(DESTDIR)$(PREFIX)/bin/cdb

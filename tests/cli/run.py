@@ -4,31 +4,47 @@
     tests/cli/run.py PROGRAM
 """
 
+import contextlib
 import os
 import subprocess
 import sys
 import tempfile
 
-from cases import CASES, ROUND_TRIPS
+from cases import CASES, CLOSED, UNREAD
 
 
-def run(program, words, stdin, stdout=b""):
-    """Status, output, errors, and the files left. A path stands for a stream to open there."""
-    with tempfile.TemporaryDirectory() as folder:
-        source = os.open(stdin, os.O_RDONLY) if isinstance(stdin, str) else None
-        target = os.open(stdout, os.O_WRONLY) if isinstance(stdout, str) else None
+def opened(stream, flags, streams):
+    """The descriptor of a case's stream that is no bytes."""
+    if stream is CLOSED:
+        return None
+    if stream is UNREAD:
+        reading, descriptor = os.pipe()
+        os.close(reading)
+    else:
+        descriptor = os.open(stream, flags)
+    streams.callback(os.close, descriptor)
+    return descriptor
+
+
+def run(program, words, stdin, stdout):
+    """Status, output, errors, and the files left."""
+    how = {"stdout": subprocess.PIPE, "input": stdin}
+    with tempfile.TemporaryDirectory() as folder, contextlib.ExitStack() as streams:
+        if not isinstance(stdin, bytes):
+            del how["input"]
+            how["stdin"] = opened(stdin, os.O_RDONLY, streams)
+        if not isinstance(stdout, bytes):
+            how["stdout"] = opened(stdout, os.O_WRONLY, streams)
+        closed = [number for number, it in enumerate((stdin, stdout)) if it is CLOSED]
         done = subprocess.run(
             [program, *words],
             cwd=folder,
             env={},
             timeout=60,
             stderr=subprocess.PIPE,
-            stdout=subprocess.PIPE if target is None else target,
-            **({"input": stdin} if source is None else {"stdin": source}),
+            preexec_fn=lambda: [os.close(number) for number in closed],
+            **how,
         )
-        for stream in (source, target):
-            if stream is not None:
-                os.close(stream)
         return done.returncode, done.stdout, done.stderr, sorted(os.listdir(folder))
 
 
@@ -42,18 +58,11 @@ def wrong_with(program, case):
         ("errors", errors, case["errors"]),
         ("files", files, []),
     ]
-    return [f"{what}: {got!r:.300} and not {want!r:.300}" for what, got, want in found if got != want]
-
-
-def wrong_with_trip(program, text):
-    """Where a text made a database, and that dumped, is another text."""
-    status, database, errors, _ = run(program, ["-c", "-"], text)
-    if status != 0:
-        return [f"create: status {status}, {errors!r}"]
-    status, dump, errors, _ = run(program, ["-d"], database)
-    if status != 0:
-        return [f"dump: status {status}, {errors!r}"]
-    return [] if dump == text else ["the dump is another text"]
+    return [
+        f"{what}: {got!r:.300} and not {want!r:.300}"
+        for what, got, want in found
+        if got != want
+    ]
 
 
 def main():
@@ -61,14 +70,12 @@ def main():
         sys.exit(__doc__)
     program = os.path.abspath(sys.argv[1])
     failed = 0
-    for name, wrong in [
-        *((name, wrong_with(program, case)) for name, case in CASES.items()),
-        *((name, wrong_with_trip(program, text)) for name, text in ROUND_TRIPS.items()),
-    ]:
+    for name, case in CASES.items():
+        wrong = wrong_with(program, case)
         if wrong:
             failed += 1
             print(f"{name}: " + "; ".join(wrong))
-    print(f"{len(CASES) + len(ROUND_TRIPS) - failed} passed, {failed} failed")
+    print(f"{len(CASES) - failed} passed, {failed} failed")
     sys.exit(1 if failed else 0)
 
 

@@ -6,7 +6,7 @@ use Rattle.std.specs.Io.KnownBytes.{Consumes}
 use Rattle.std.proofs.lemmas.List.{take-append-le, drop-append-le, drop_at}
 use Rattle.std.proofs.lemmas.List.FromFn.{fill_by_all, length-map-range_with_len, get_or-map-range_with_len}
 use Rattle.cdb_form.specs.Views.KnownBytes.{FromTo}
-use Rattle.cdb_form.specs.Format.Pair.{WordPair, head_size}
+use Rattle.cdb_form.specs.Format.Pair.{WordPair, pair_size, head_size}
 use Rattle.cdb_form.specs.Format.Table.{empty_slot}
 use Rattle.cdb_form.specs.Format.Reading.{pair_at, nth_pair, head_at}
 use Rattle.cdb_form.specs.Format.Walk.{least_place, record_end, walk_of, walk_from, damaged, first_table_at}
@@ -40,12 +40,12 @@ pub record_end-append : (w : ℕ) (xs ys : List ℕ) → length xs ≡ head_size
 unfolding record_end
 record_end-append w xs ys long = ap (least_place (head_size w)) (head_at-append w xs ys long)
 
--- the bytes that a head is read into
+-- the bytes that a head and that a header is read into
 pub head_fits : (w size : ℕ) → size ≡ head_size w → (w ≡ 4) ⊎ (w ≡ 8) → length (take size (replicate {A = ℕ} 4096 0)) ≡ head_size w
 head_fits w size e width = zeros_long size 4096 (elim width [ inl a ↦ omega arith | inr b ↦ omega arith ]) ∙ e
 
-pub head_long : (w size : ℕ) (xs : List ℕ) → size ≡ head_size w → (w ≡ 4) ⊎ (w ≡ 8) → length xs ≡ length (take size (replicate {A = ℕ} 4096 0)) → length xs ≡ head_size w
-head_long w size xs e width same = same ∙ head_fits w size e width
+pub pair_fits : (w size : ℕ) → size ≡ pair_size w → (w ≡ 4) ⊎ (w ≡ 8) → length (take size (replicate {A = ℕ} 16 0)) ≡ pair_size w
+pair_fits w size e width = zeros_long size 16 (elim width [ inl a ↦ omega arith | inr b ↦ omega arith ]) ∙ e
 
 -- the file is too short
 pub area_short : (w : ℕ) (old : Option (List ℕ)) (fault : WalkFault) → fault ≡ Short → IfSome old (λ text. length text < head_size w) → IfSome old (λ text. walk_of w text ≡ damaged fault)

@@ -1,5 +1,5 @@
 -- What a reader gave, ask after ask.
-use Rattle.std.proofs.Common.{◌≡◌, ℕ, ◌+◌, ◌*◌, ◌≤◌, List, ◌++◌, length, take, replicate, ap, ◌∙◌, arith, Option, length-append}
+use Rattle.std.proofs.Common.{◌≡◌, ℕ, ◌+◌, ◌≤◌, List, ◌++◌, length, take, replicate, ap, ◌∙◌, arith, Option, length-append}
 use Rattle.std.proofs.lemmas.List.{take-append-le, length-take-le, length-replicate}
 use Rattle.std.specs.Io.KnownBytes.{Consumes}
 use borrow.Rule.Slice.PartMut.{put_mid, post_of}

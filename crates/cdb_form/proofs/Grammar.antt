@@ -67,11 +67,6 @@ pub bare_bulk : (n : ℕ) (K : List ℕ → Type 0) (v s : List ℕ) → length 
 bare_bulk n K v s l b u w (v', m, l', are, e, k) h =
     b m w k (same_fronts v v' s (m ++ w) (omega arith) (h ∙ ap (λ t. t ++ w) e ∙ append_assoc v' m w)).1
 
-pub bare_bulk_part : (n : ℕ) (K : List ℕ → Type 0) (v : List ℕ) → length v < n → Bare (Bulk n K) v
-bare_bulk_part n K v l u w (v', m, l', are, e, k) h =
-    let total : length v ≡ length (v' ++ m ++ w) = ap length (h ∙ ap (λ t. t ++ w) e) in
-    omega (arith, total, length-append (v' ++ m) w, length-append v' m)
-
 pub never_bulk : (n d : ℕ) (K : List ℕ → Type 0) (v s : List ℕ) → length v ≡ n → Never K s d → Never (Bulk n K) (v ++ s) d
 never_bulk n d K v s l never m (v', t, l', are, e, k) =
     let same = same_fronts v v' (s ++ d ∷ m) t (omega arith) (sym (append_assoc v s (d ∷ m)) ∙ e) in

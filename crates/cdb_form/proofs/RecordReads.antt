@@ -1,7 +1,6 @@
 -- What the parts of a record that were read say of the walk of what was unread.
-use Rattle.std.proofs.Common.{◌≡◌, ℕ, ◌+◌, ◌-◌, ◌*◌, ◌<◌, ◌≤◌, ◌⊎◌, List, ◌++◌, length, take, drop, replicate, sym, ap, subst, ◌∙◌, arith, inl, inr, Option, Some, None, IfSome, append_assoc, length-append}
+use Rattle.std.proofs.Common.{◌≡◌, ℕ, ◌+◌, ◌-◌, ◌*◌, ◌<◌, ◌≤◌, List, ◌++◌, length, drop, sym, ap, ◌∙◌, arith, inl, inr, Option, Some, None, IfSome, append_assoc, length-append}
 use Rattle.std.specs.Io.KnownBytes.{Consumes}
-use Rattle.std.proofs.lemmas.List.{take_at}
 use Rattle.cdb_form.specs.Views.KnownBytes.{LosesAtMost, FromTo}
 use Rattle.cdb_form.specs.Format.Record.{KeyValue, record_size}
 use Rattle.cdb_form.specs.Format.Pair.{WordPair}
@@ -11,7 +10,6 @@ use Rattle.cdb_form.specs.Views.Pairs.{header_pair}
 use Rattle.cdb_form.specs.declared.walk.fault.WalkFault.{WalkFault}
 use Rattle.cdb_form.specs.declared.header.Header.{Header}
 use Rattle.cdb_form.specs.declared.walk.fault.WalkFault.TheVariants.{Record}
-use Rattle.cdb_form.proofs.AskingLemmas.{zeros_long}
 use Rattle.cdb_form.proofs.Fronts.{lengths_of, Begins, front_reads}
 use Rattle.cdb_form.proofs.SourceLemmas.{consumes_then}
 use Rattle.cdb_form.proofs.WalkSteps.{walk_from-no_header, walk_from-no_body, walk_from-more}
@@ -19,25 +17,9 @@ use Rattle.cdb_form.proofs.WalkSteps.{walk_from-no_header, walk_from-no_body, wa
 abbrev pub StopsAt : ℕ → ℕ → ℕ → WalkFault → Option (List ℕ) → Type 0
 StopsAt w place end fault old = IfSome old (λ text. walk_from w place end text ≡ damaged fault)
 
--- the bytes that a header is read into
-pair_fits : (w size : ℕ) → size ≡ 2 * w → (w ≡ 4) ⊎ (w ≡ 8) → length (take size (replicate {A = ℕ} 512 0)) ≡ 2 * w
-pair_fits w size e width = zeros_long size 512 (elim width [ inl a ↦ omega arith | inr b ↦ omega arith ]) ∙ e
-
--- a header that was read, and what it tells
-pub record HeaderTold (w : ℕ) (xs : List ℕ) (h : Header) : Type 0 where
-  pub long : length xs ≡ 2 * w
-  pub words : pair_at w xs ≡ header_pair h
-  pub size : front_size w xs ≡ 2 * w + h.klen + h.vlen
-
-pub header_told : (w size : ℕ) (xs rest : List ℕ) (h : Header) → size ≡ 2 * w → (w ≡ 4) ⊎ (w ≡ 8) → length xs ≡ length (take size (replicate {A = ℕ} 512 0)) → header_pair h ≡ pair_at w (take size (xs ++ rest)) → HeaderTold w xs h
-header_told w size xs rest h e width same read =
-    let long : length xs ≡ 2 * w = same ∙ pair_fits w size e width in
-    let words : pair_at w xs ≡ header_pair h = sym (read ∙ ap (pair_at w) (take_at xs rest size (long ∙ sym e))) in
-    record { long = long; words = words; size = ap (λ (p : WordPair). 2 * w + p.first + p.second) words }
-
--- the file ends within the bytes that were asked for
-pub header_short : (w size : ℕ) (old : Option (List ℕ)) → size ≡ 2 * w → (w ≡ 4) ⊎ (w ≡ 8) → IfSome old (λ text. length text < length (take size (replicate {A = ℕ} 512 0))) → IfSome old (λ text. length text < 2 * w)
-header_short w size old e width h = subst (λ (n : ℕ). IfSome old (λ t. length t < n)) (pair_fits w size e width) h
+-- how long the record at the front is, as its header tells
+pub front_told : (w : ℕ) (xs : List ℕ) (h : Header) → header_pair h ≡ pair_at w xs → front_size w xs ≡ 2 * w + h.klen + h.vlen
+front_told w xs h lengths = ap (λ (p : WordPair). 2 * w + p.first + p.second) (sym lengths)
 
 -- no header fits before the record end
 pub no_room : (w place end : ℕ) (old : Option (List ℕ)) → place < end → end - place < 2 * w → StopsAt w place end (Record place) old

@@ -135,9 +135,6 @@ length-file_bytes w rs =
     let split = size_split w rs in
     omega (arith, a, b, head, tables, records, split)
 
-pub end_below_size : (w : ℕ) (rs : List KeyValue) → records_end w rs ≤ file_size w rs
-end_below_size w rs = let s = size_split w rs in omega arith
-
 -- a count of slots fits where their bytes do
 pub slots_within : (w n : ℕ) → (w ≡ 4) ⊎ (w ≡ 8) → 2 * n ≤ 4 * w * n
 slots_within w n (inl e) = let p : 4 * w * n ≡ 16 * n = ap (λ (k : ℕ). 4 * k * n) e ∙ omega arith in omega arith

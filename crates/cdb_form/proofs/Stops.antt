@@ -10,8 +10,9 @@ use Rattle.std.specs.Io.KnownBytes.{Consumes, IsAtEnd}
 use Rattle.cdb_form.specs.Format.Record.{AreBytes, KeyValue, IsRecord}
 use Rattle.cdb_form.specs.declared.text.fault.TextFault.{TextFault}
 use Rattle.cdb_form.specs.declared.text.fault.TextFault.TheVariants.{Syntax, Ended, Large, Input, Endless, NoMemory}
-use Rattle.cdb_form.specs.Views.TextFault.{IsReadFault, IsOfText}
-use Rattle.cdb_form.specs.Views.NativeParser.{FailsNumber, FailsByte, FailsField, FailsRecord}
+use Rattle.cdb_form.specs.Views.TextFault.{IsOfText, IsReadFault}
+use Rattle.cdb_form.specs.Views.TextReader.{StopsAmid}
+use Rattle.cdb_form.specs.Views.NativeParser.{FailsNumber, FailsByte, FailsField, FailsRecord, seen, told}
 use Rattle.cdb_form.specs.Text.Native.{IsNumeral, Spells, Reads, HasNoRecord, IsFront, HasNoText, LongestFront, HasFault}
 use Rattle.cdb_form.proofs.ByteLemmas.{AreBytes-nil}
 use Rattle.cdb_form.proofs.Grammar.{Front, Bare, Never, Lit, Bulk, Num, front_lit, front_lit_none, bare_lit, bare_lit_none, never_lit, never_lit_none, front_bulk, front_bulk_part, bare_bulk, never_bulk, front_num, front_num_part, bare_num, bare_num_part, never_num, never_num_bad, never_num_large}
@@ -40,7 +41,7 @@ form_plus g t (a, m₁, k, ia, la, e₁, (b, m₂, n, ib, lb, e₂, (key, m₃, 
       (
         first,
         m₇,
-        record { klen = a; vlen = b; klen_is = subst (IsNumeral a) (sym lk) ia; vlen_is = subst (IsNumeral b) (sym lv) ib; key_fits = omega arith; value_fits = omega arith; bytes = bytes; text_is = refl },
+        record { klen = a; vlen = b; klen_is = subst (IsNumeral a) (sym lk) ia; vlen_is = subst (IsNumeral b) (sym lv) ib; key_fits = omega arith; value_fits = omega arith; bytes = bytes; text_is = simp append_assoc refl },
         ap (λ x. 43 ∷ x) whole ∙ simp append_assoc,
         reads,
       ),
@@ -96,8 +97,10 @@ pub front_any : (g : ℕ) → Front (Any g) []
 front_any g = ([], tt)
 
 pub not_empty : (g : ℕ) → Form g [] → ⊥
-not_empty g ([], e) = let h : [] ≡ 10 ∷ [] = e in cc
-not_empty g (r ∷ rs, (first, more, sp, e, reads)) = let h = e ∙ ap (λ x. x ++ more) sp.text_is in cc
+not_empty g ([], e) = let h : ◌≡◌ {A = List ℕ} [] (10 ∷ []) = e in cc
+not_empty g (r ∷ rs, (first, more, sp, e, reads)) =
+    let h : ◌≡◌ {A = List ℕ} [] (43 ∷ (sp.klen ++ 44 ∷ (sp.vlen ++ 58 ∷ (r.key ++ 45 ∷ 62 ∷ (r.value ++ 10 ∷ more))))) = e ∙ first_of_spelled g first more r sp in
+    cc
 
 pub front_plus : (g : ℕ) (s : List ℕ) → Front (Behind Form g) s → Front (Form g) (43 ∷ s)
 front_plus g s f = (f.0, form_plus g (s ++ f.0) f.1)
@@ -475,10 +478,21 @@ record_first g from None m f h fails = tt
 record_first g from (Some o) None f h fails = absurd h
 record_first g from (Some o) (Some m) f h fails = subst (λ t. FailsRecord g from t f) (sym h) fails
 
-pub read_fails_record : (g from : ℕ) (text : List ℕ) (f : TextFault) → IsReadFault f → FailsRecord g from text f
-read_fails_record g from text (Syntax at) h = absurd h
-read_fails_record g from text (Ended at) h = absurd h
-read_fails_record g from text (Large at) h = absurd h
-read_fails_record g from text NoMemory h = absurd h
-read_fails_record g from text Input h = record { fault = tt; no_record = λ is. absurd is }
-read_fails_record g from text Endless h = record { fault = tt; no_record = λ is. absurd is }
+-- where nothing was read, nothing of a text was
+pub nothing_read : (g from : ℕ) → FailsRecord g from [] (Ended from)
+nothing_read g from = record { fault = stops_form g from [] (Ended from) (front_form g, bare_form g, omega arith); no_record = λ is. no_record_empty g }
+
+-- what a fault says of all that was unread, and of what was read of it
+pub record Met (g from to : ℕ) (old : Option (List ℕ)) (f : TextFault) : Type 0 where
+  pub exact : IfSome old (λ text. HasFault g from text f)
+  pub no_record : IfSome old (λ text. IsOfText f → HasNoRecord g text)
+  pub part : IfSome old (λ text. IsReadFault f → StopsAmid g from to text)
+
+pub met : (g from to : ℕ) (old : Option (List ℕ)) (f : TextFault) → IfSome (seen from to f old) (λ text. FailsRecord g from text (told to f)) → Met g from to old f
+met g from to None f h = record { exact = tt; no_record = tt; part = tt }
+met g from to (Some t) (Syntax at) h = record { exact = h.fault; no_record = h.no_record; part = λ is. absurd is }
+met g from to (Some t) (Ended at) h = record { exact = h.fault; no_record = h.no_record; part = λ is. absurd is }
+met g from to (Some t) (Large at) h = record { exact = h.fault; no_record = h.no_record; part = λ is. absurd is }
+met g from to (Some t) NoMemory h = record { exact = tt; no_record = λ is. absurd is; part = λ is. absurd is }
+met g from to (Some t) Input h = record { exact = tt; no_record = λ is. absurd is; part = λ is. record { front = h.fault; no_record = h.no_record tt } }
+met g from to (Some t) Endless h = record { exact = tt; no_record = λ is. absurd is; part = λ is. record { front = h.fault; no_record = h.no_record tt } }

@@ -1,15 +1,13 @@
 -- What a reader of records leaves unread.
-use Rattle.std.proofs.Common.{◌≡◌, ℕ, ◌+◌, ◌-◌, ◌≤◌, List, ◌++◌, length, take, drop, refl, sym, ap, ◌∙◌, arith, Option, Some, None, IfSome}
+use Rattle.std.proofs.Common.{◌≡◌, ℕ, ◌+◌, ◌-◌, ◌≤◌, List, ◌++◌, length, take, drop, refl, sym, ap, ◌∙◌, arith, Option, Some, None, IfSome, inl, inr}
 use Rattle.std.specs.Prelude.{max}
 use Rattle.std.proofs.lemmas.List.{drop_at, drop-drop, take-append-drop}
-use Rattle.cdb_form.specs.Views.KnownBytes.{LosesAtMost, FromTo}
+use Rattle.cdb_form.specs.Views.KnownBytes.{LosesAtMost, FromTo, StillFrom}
+use Rattle.cdb_form.specs.Views.Reading.{ReadsNoFurther}
+use Rattle.cdb_form.proofs.RecordReads.{loses_then}
 use Rattle.cdb_form.specs.Format.Pair.{head_size}
 use Rattle.cdb_form.specs.Format.Walk.{walk_of, walk_from, record_end, no_walk}
 use Rattle.cdb_form.proofs.WalkSteps.{walk_from-end}
-
--- the bytes from a place on are still there
-abbrev pub StillFrom : ℕ → List ℕ → List ℕ → Type 0
-StillFrom n text rest = (more : List ℕ) × (rest ≡ more ++ drop n text)
 
 still_from : (lost rest : List ℕ) (n : ℕ) → length lost ≤ n → StillFrom n (lost ++ rest) rest
 still_from lost rest n few =
@@ -47,3 +45,8 @@ still_then w place end (Some text) (Some t) (Some rest) (walk, is, cut) at low (
 pub known_end : (w place end : ℕ) (old : Option (List ℕ)) → place ≡ end → IfSome old (λ text. walk_from w place end text ≡ no_walk)
 known_end w place end None at = tt
 known_end w place end (Some text) at = walk_from-end w place end text at
+
+-- no more than n bytes were lost, and then no more than m were read, or all
+pub no_further_then : (old mid new : Option (List ℕ)) (n m : ℕ) → LosesAtMost old mid n → ReadsNoFurther m mid new → ReadsNoFurther (n + m) old new
+no_further_then old mid new n m a (inl b) = inl (loses_then old mid new a.lost m (n + m) a.taken b (omega (arith, a.few)))
+no_further_then old mid new n m a (inr end) = inr end

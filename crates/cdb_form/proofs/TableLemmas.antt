@@ -1,13 +1,11 @@
 -- The tables that have slots, as the code's pointers tell them.
-use Rattle.std.proofs.Common.{◌≡◌, ℕ, ◌+◌, Option, Bool, true, false, cond, List, [], ◌∷◌, ◌++◌, length, map, take, refl, ap, ◌∙◌, sym, arith, inl, inr}
+use Rattle.std.proofs.Common.{◌≡◌, ℕ, ◌+◌, Bool, true, false, cond, List, [], ◌∷◌, length, map, refl, ap, ◌∙◌, arith, inl, inr}
 use Rattle.std.specs.Prelude.{◌==◌, not, ◌&&◌, nat_lt, filter, min, position, unwrap_or, Some, None}
 use Rattle.std.specs.List.{reduce, position_or_len}
-use Rattle.std.proofs.lemmas.List.{length-map, take_at}
-use Rattle.std.proofs.lemmas.List.FromFn.{length-map-range_with_len}
 use Rattle.std.proofs.lemmas.Bool.{cases_lt, cond-true, cond-false, lt-ltb, le-ltb}
 use Rattle.std.proofs.lemmas.List.Sums.{prefix_len-le-length}
 use Rattle.cdb_form.specs.Format.Pair.{WordPair, head_size}
-use Rattle.cdb_form.specs.Format.Reading.{nth_pair, head_at}
+use Rattle.cdb_form.specs.Format.Reading.{head_at}
 use Rattle.cdb_form.specs.Views.Pairs.{pointer_pair}
 use Rattle.cdb_form.specs.Format.Walk.{has_slots, least_place, record_end, first_table_at}
 use Rattle.cdb_form.specs.declared.head.Pointer.{Pointer}

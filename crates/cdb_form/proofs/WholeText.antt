@@ -2,7 +2,6 @@
 use Rattle.std.proofs.Common.{◌≡◌, ℕ, ◌+◌, ◌-◌, ◌≤◌, List, [], ◌∷◌, ◌++◌, length, take, get_or, refl, sym, ap, subst, ◌∙◌, arith, append_assoc, length-append, Option, Some, None, IfSome}
 use Rattle.std.specs.Prelude.{⊤}
 use Rattle.std.specs.Char.{digit_value}
-use Rattle.std.specs.Io.KnownBytes.{Consumes}
 use Rattle.std.proofs.Math.Seq.{take-append-add}
 use Rattle.std.proofs.lemmas.List.{get_or-append-add}
 use Rattle.cdb_form.specs.Format.Record.{KeyValue}
@@ -129,12 +128,6 @@ so_far_more g (Some t) (Some m) None from to rs r a b = absurd b.read
 so_far_more g (Some t) (Some m) (Some n) from to rs r a b =
     let split : m ≡ b.text ++ n = b.read in
     (spelled_push g rs r t m b.text n a.0 b.spells split, omega (arith, a.1, b.counted, ap length split, length-append b.text n))
-
-pub so_far_end : (g : ℕ) (o m n : Option (List ℕ)) (taken : ℕ) (rs : List KeyValue) → SoFar g o m taken rs → Consumes m n (10 ∷ []) → IfSome o (λ t. (rest : List ℕ) × Reads g rs t rest)
-so_far_end g None m n taken rs a b = tt
-so_far_end g (Some t) None n taken rs a b = absurd a
-so_far_end g (Some t) (Some m) None taken rs a b = absurd b
-so_far_end g (Some t) (Some m) (Some n) taken rs a b = (n, subst (Spelled g rs t) b a.0)
 
 pub so_far_spelled : (g : ℕ) (o m : Option (List ℕ)) (taken : ℕ) (rs : List KeyValue) → SoFar g o m taken rs → IfSome o (λ t. (rest : List ℕ) × Spelled g rs t rest)
 so_far_spelled g None m taken rs a = tt

@@ -1,6 +1,6 @@
 -- What a writer holds, piece after piece.
-use Rattle.std.proofs.Common.{◌≡◌, ℕ, ◌+◌, ◌<◌, List, [], ◌++◌, length, flat_map, get_or, take, drop, sym, ap, ◌∙◌, Option, Some, None, append_assoc}
-use Rattle.std.proofs.lemmas.List.{take-append-drop, append-nil, drop_more}
+use Rattle.std.proofs.Common.{◌≡◌, ℕ, ◌+◌, ◌<◌, List, ◌++◌, length, flat_map, get_or, take, drop, sym, ap, ◌∙◌, Option, Some, None, append_assoc}
+use Rattle.std.proofs.lemmas.List.{take-append-drop, drop_more}
 use Rattle.std.proofs.lemmas.List.Concat.{flat_map-append}
 use Rattle.std.specs.Io.KnownBytes.{Appends, Keeps}
 use Rattle.std.proofs.Math.Seq.{take-add}
@@ -36,12 +36,6 @@ front_taken old mid new k xs a b = record { front = take k xs; more = drop k xs;
 pub written_more : (old mid new : Option (List ℕ)) (k n : ℕ) (xs ys : List ℕ) → Appends old mid (take k xs) → Appends mid new (take n ys) → ys ≡ drop k xs → Appends old new (take (k + n) xs)
 written_more old mid new k n xs ys a b e =
     rw (take-add k n xs) (appends_then old mid new (take k xs) (take n (drop k xs)) a (rw e at b))
-
--- nothing was taken
-pub front_none : (old mid new : Option (List ℕ)) (k n : ℕ) (xs ys : List ℕ) → Appends old mid (take k xs) → Appends mid new (take n ys) → n ≡ 0 → AppendsFront old new xs
-front_none old mid new k n xs ys a b e =
-    let nothing : Appends mid new [] = rw e at b in
-    record { front = take k xs; more = drop k xs; split = sym (take-append-drop k xs); appended = rw append-nil at (appends_then old mid new (take k xs) [] a nothing) }
 
 -- a joined list, before a piece, that piece, and after it
 pub flat_map_at : {X A : Type 0} (f : X → List A) (xs : List X) (i : ℕ) (d : X) → i < length xs → flat_map f xs ≡ flat_map f (take i xs) ++ (f (get_or xs i d) ++ flat_map f (drop (i + 1) xs))

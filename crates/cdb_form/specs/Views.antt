@@ -1,6 +1,7 @@
 -- What clauses read of the types of this crate, of readers and of writers.
 pub mod Pairs
 pub mod KnownBytes
+pub mod Reading
 pub mod TextFault
 pub mod WalkFault
 pub mod NativeParser

@@ -27,7 +27,8 @@ pub struct Head {
 
 /// The least place of a table that has slots.
 fn least_place(pointers: &[Pointer]) -> Option<u64>
-    ensures { result ≡ reduce min (map (λ p. p.place) (filter (λ p. not (p.slots == 0)) pointers.now)) }
+    ensures { result ≡ reduce min (map (λ p. p.place) (filter (λ p.
+        not (p.slots == 0)) pointers.now)) }
 {
     let used = pointers.iter().filter(|p| p.slots != 0);
     used.map(|p| p.place).min()
@@ -43,8 +44,8 @@ fn first_at(pointers: &[Pointer], at: u64) -> Option<usize>
 impl Head {
     ghost use Rattle.cdb_form.specs.Format.Walk.{least_place, first_table_at};
 
-    /// Where the records end: at the least place of a table that has slots, or behind the head where
-    /// none has.
+    /// Where the records end: at the least place of a table that has slots, or behind the head
+    /// where none has.
     pub fn record_end<L: Width>(&self) -> u64
         ensures { result ≡ least_place (head_size L.WORD) (head_pairs self.now) }
     {

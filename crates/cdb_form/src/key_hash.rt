@@ -1,6 +1,6 @@
-// The hash of a key.
-ghost use Rattle.std.specs.Prelude.{◌≡◌};
-ghost use Rattle.cdb_form.specs.Format.Hash.{key_hash};
+// The hash of a key, its table, and its slot there.
+ghost use Rattle.std.specs.Prelude.{◌≡◌, ◌<◌};
+ghost use Rattle.cdb_form.specs.Format.Hash.{key_hash, table_number, home_slot};
 /// The hash of a key, of 32 bits, as Bernstein's cdb specification has it: from 5381, each byte
 /// takes 33 times the hash so far, exclusive or the byte.
 pub fn hash(key: &[u8]) -> u32
@@ -11,4 +11,21 @@ pub fn hash(key: &[u8]) -> u32
         hash = (hash << 5).wrapping_add(hash) ^ u32::from(*byte);
     }
     hash
+}
+
+/// The number of the table, from 0 to 255, that the records of a hash stand in.
+pub fn table_number(hash: u64) -> usize
+    ensures number { result ≡ table_number hash }
+    ensures within { result < 256 }
+{
+    (hash % 256) as usize
+}
+
+/// The slot at which the search for a hash begins in a table of so many slots.
+pub fn home_slot(hash: u64, slots: u64) -> u64
+    requires { 0 < slots }
+    ensures slot { result ≡ home_slot hash slots }
+    ensures within { result < slots }
+{
+    (hash / 256) % slots
 }

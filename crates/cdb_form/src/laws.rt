@@ -12,12 +12,14 @@ use crate::width::Width;
 /// The text of some records, in the shortest decimals, is read as these records and as no others,
 /// whatever follows it.
 pub fn text_reads_back<L: Width>(_records: &[Record], _rest: &[u8])
-    ensures { All (LengthsFit L.GREATEST) (key_values _records.now) → TextReadsBack L.GREATEST (key_values _records.now) _rest.now }
+    ensures { All (LengthsFit L.GREATEST) (key_values _records.now) →
+        TextReadsBack L.GREATEST (key_values _records.now) _rest.now }
 {}
 
 /// The file of some records has its size: the head, the records, and two slots for each record.
 pub fn file_has_size<L: Width>(_records: &[Record])
-    ensures { length (file_bytes L.WORD (key_values _records.now)) ≡ file_size L.WORD (key_values _records.now) }
+    ensures { length (file_bytes L.WORD (key_values _records.now))
+        ≡ file_size L.WORD (key_values _records.now) }
 {}
 
 /// A walk gives the longest list of records that stands in a file, inside both the record end and
@@ -28,5 +30,6 @@ pub fn walk_is_longest<L: Width>(_bytes: &[u8])
 
 /// The walk of the file of some records, where its size fits, gives these records and no damage.
 pub fn walk_of_file<L: Width>(_records: &[Record])
-    ensures { file_size L.WORD (key_values _records.now) ≤ L.GREATEST → WalksBack L.WORD (key_values _records.now) }
+    ensures { file_size L.WORD (key_values _records.now) ≤ L.GREATEST →
+        WalksBack L.WORD (key_values _records.now) }
 {}

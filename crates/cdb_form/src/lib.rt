@@ -21,7 +21,7 @@ mod writing;
 
 pub use head::{Head, Pointer, head_size, read_head, read_pointer, write_head, write_pointer};
 pub use header::{Header, read_header, write_header};
-pub use key_hash::hash;
+pub use key_hash::{hash, home_slot, table_number};
 pub use pair::pair_size;
 pub use record::Record;
 pub use slot::{Slot, read_slot, write_slot};
@@ -31,7 +31,7 @@ pub use text::native_writer::{write_end, write_record};
 pub use walk::fault::WalkFault;
 pub use walk::record_reader::RecordReader;
 pub use width::{Narrow, Wide, Width};
-pub use writing::{OutFault, flush_whole, write_pieces, write_whole};
+pub use writing::{OutFault, flush_whole, write_pieces, write_some, write_whole};
 
 #[cfg(test)]
 mod tests;

@@ -1,76 +1,130 @@
-// A reader that is asked until it has given what is wanted.
-ghost use Rattle.std.specs.Prelude.{◌≡◌, ◌<◌, ◌≤◌, length, take, OnOk, OnErr, IfOk, IfErr, IfSome};
+// Bytes from a reader: some of them, all that are wanted, or a vector of them.
+ghost use Rattle.std.specs.Prelude.{◌≡◌, ◌≢◌, ◌+◌, ◌*◌, ◌<◌, ◌≤◌, length, take, OnOk, OnErr, IfOk, IfErr, IfSome};
 ghost use Rattle.std.specs.Io.KnownBytes.{Keeps, Consumes, IsAtEnd};
 ghost use Rattle.cdb_form.specs.Format.Record.{AreBytes};
 ghost use Rattle.cdb_form.specs.Views.KnownBytes.{LosesAtMost};
-ghost use Rattle.cdb_form.specs.Views.WalkFault.{IsDamage};
+ghost use Rattle.cdb_form.specs.Views.Reading.{IsOfReader, ReadsShort};
+ghost use Rattle.cdb_form.specs.declared.reading.Unread.TheVariants.{Ended, Failed, Spent, NoMemory};
 
-use crate::walk::fault::WalkFault;
+use std::alloc::AllocError;
 use std::io::{ErrorKind, Read};
 
 /// How often in a row a reader or a writer is asked again where a signal interrupts it.
 pub(crate) const RETRIES: u32 = 1000;
 
-// Asks for bytes until some come. None come only at the end.
-fn ask<R: Read>(reader: &mut R, into: &mut [u8]) -> Result<usize, WalkFault>
+/// Why a reader did not give what it was asked for.
+#[derive(Clone, Copy, Debug, PartialEq, Eq)]
+pub(crate) enum Unread {
+    /// It had no more bytes.
+    Ended,
+    /// It failed, or was interrupted more often in a row than it is asked again.
+    Failed,
+    /// It was asked as often as it may be.
+    Spent,
+    /// Memory for its bytes was refused.
+    NoMemory,
+}
+
+impl From<AllocError> for Unread {
+    ghost from_gives = { λ _ f. f ≡ NoMemory };
+
+    fn from(_: AllocError) -> Unread {
+        Unread::NoMemory
+    }
+}
+
+/// Asks for bytes until some come. None come only at the end.
+///
+/// Each call of the reader takes one of the asks.
+pub(crate) fn some_bytes<R: Read>(
+    reader: &mut R,
+    asks: &mut u64,
+    into: &mut [u8],
+) -> Result<usize, Unread>
     requires { 0 < length into.old }
     ensures bound { IfOk result (λ n. n ≤ length into.new) }
-    ensures bytes { IfOk result (λ n. Consumes (R.remaining reader.old) (R.remaining reader.new) (take n into.new)) }
+    ensures bytes { IfOk result (λ n.
+        Consumes (R.remaining reader.old) (R.remaining reader.new) (take n into.new)) }
     ensures are { IfOk result (λ _. AreBytes into.new) }
     ensures end { IfOk result (λ n. n ≡ 0 → IsAtEnd (R.remaining reader.new)) }
-    ensures fails { IfErr result (λ f. ¬ IsDamage f) }
     ensures kept { OnErr result (Keeps (R.remaining reader.old) (R.remaining reader.new)) }
+    ensures fewer { OnOk result (asks.new < asks.old) }
+    ensures no_more { asks.new ≤ asks.old }
+    ensures spends { asks.old ≤ asks.new + 1001 }
+    ensures spent { IfErr result (λ f. f ≡ Spent → asks.new ≡ 0) }
+    ensures fails { IfErr result IsOfReader }
 {
     for _ in 0..RETRIES + 1 {
+        if *asks == 0 {
+            return Err(Unread::Spent);
+        }
+        *asks -= 1;
         match reader.read(into) {
             Ok(n) => return Ok(n),
             Err(e) => {
                 if e.kind() != ErrorKind::Interrupted {
-                    return Err(WalkFault::Input);
+                    return Err(Unread::Failed);
                 }
             }
         }
     }
-    Err(WalkFault::Input)
+    Err(Unread::Failed)
 }
 
-// Fills all of `into`, or answers `early` where the reader ends before that.
-pub(crate) fn fill<R: Read>(
+/// Fills all of `into`.
+pub(crate) fn all_bytes<R: Read>(
     reader: &mut R,
+    asks: &mut u64,
     into: &mut [u8],
-    early: WalkFault,
-) -> Result<(), WalkFault>
-    ensures bytes { OnOk result (Consumes (R.remaining reader.old) (R.remaining reader.new) into.new) }
+) -> Result<(), Unread>
+    ensures bytes { OnOk result (Consumes (R.remaining reader.old)
+        (R.remaining reader.new) into.new) }
     ensures are { OnOk result (AreBytes into.new) }
-    ensures fails { IfErr result (λ f. IsDamage f → (f ≡ early) × IfSome (R.remaining reader.old) (λ text. length text < length into.old)) }
-    ensures loses { LosesAtMost (R.remaining reader.old) (R.remaining reader.new) (length into.old) }
+    ensures ended { IfErr result (λ f.
+        f ≡ Ended → ReadsShort (length into.old) (R.remaining reader.old)
+        (R.remaining reader.new)) }
+    ensures loses { LosesAtMost (R.remaining reader.old)
+        (R.remaining reader.new) (length into.old) }
+    ensures memory { IfErr result (λ f. f ≢ NoMemory) }
 {
     let mut done = 0;
     while done < into.len() {
-        let n = ask(reader, &mut into[done..])?;
+        let n = some_bytes(reader, asks, &mut into[done..])?;
         if n == 0 {
-            return Err(early);
+            return Err(Unread::Ended);
         }
         done += n;
     }
     Ok(())
 }
 
-// Takes the next `len` bytes, or answers `early` where the reader ends before that. They come
-// through `piece`, and memory is asked for only as they come.
-pub(crate) fn bytes<R: Read>(
+/// Takes the next `len` bytes into a vector, over what it holds.
+///
+/// They come through `piece`, and memory is asked for only as they come. After a fault the vector
+/// holds those that came before it.
+pub(crate) fn vector<R: Read>(
     reader: &mut R,
+    asks: &mut u64,
     into: &mut Vec<u8>,
     len: u64,
     piece: &mut [u8],
-    early: WalkFault,
-) -> Result<(), WalkFault>
-    requires { 0 < length piece.old }
-    ensures read { OnOk result (Consumes (R.remaining reader.old) (R.remaining reader.new) into.new.items) }
+) -> Result<(), Unread>
+    requires some { 0 < length piece.old }
+    requires few { length piece.old ≤ 4096 }
+    ensures read { OnOk result (Consumes (R.remaining reader.old)
+        (R.remaining reader.new) into.new.items) }
+    ensures part { IfErr result (λ f.
+        f ≢ NoMemory → Consumes (R.remaining reader.old) (R.remaining reader.new) into.new.items) }
     ensures are { AreBytes into.new.items }
     ensures long { OnOk result (length into.new.items ≡ len) }
-    ensures fails { IfErr result (λ f. IsDamage f → (f ≡ early) × IfSome (R.remaining reader.old) (λ text. length text < len)) }
+    ensures short { OnErr result (length into.new.items < len) }
+    ensures ended { IfErr result (λ f. f ≡ Ended → IsAtEnd (R.remaining reader.new)) }
     ensures loses { LosesAtMost (R.remaining reader.old) (R.remaining reader.new) len }
+    ensures no_more { asks.new ≤ asks.old }
+    ensures each { length into.new.items + 4096 * asks.new ≤ 4096 * asks.old }
+    ensures spends { OnOk result (asks.old ≤ asks.new + 1001 * length into.new.items) }
+    ensures spends_err { OnErr result (asks.old ≤ asks.new + 1001 * length into.new.items + 1001) }
+    ensures spent { IfErr result (λ f. f ≡ Spent → asks.new ≡ 0) }
 {
     into.clear();
     while (into.len() as u64) < len {
@@ -80,9 +134,9 @@ pub(crate) fn bytes<R: Read>(
         } else {
             piece.len()
         };
-        let n = ask(reader, &mut piece[..most])?;
+        let n = some_bytes(reader, asks, &mut piece[..most])?;
         if n == 0 {
-            return Err(early);
+            return Err(Unread::Ended);
         }
         into.extend_from_slice(&piece[..n])?;
     }

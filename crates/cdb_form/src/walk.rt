@@ -2,3 +2,4 @@
 pub(crate) mod fault;
 mod record_area;
 pub(crate) mod record_reader;
+mod source;

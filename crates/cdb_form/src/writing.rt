@@ -1,5 +1,5 @@
 // Bytes to a writer.
-ghost use Rattle.std.specs.Prelude.{◌≡◌, ◌∷◌, [], ◌+◌, ◌<◌, ◌≤◌, length, flat_map, OnOk, OnErr};
+ghost use Rattle.std.specs.Prelude.{◌≡◌, ◌∷◌, [], ◌+◌, ◌<◌, ◌≤◌, length, take, flat_map, IfOk, OnOk, OnErr};
 ghost use Rattle.std.specs.Io.KnownBytes.{Appends, Keeps};
 ghost use Rattle.cdb_form.specs.Views.KnownBytes.{AppendsFront};
 
@@ -10,35 +10,48 @@ use std::io::{ErrorKind, Write};
 #[derive(Clone, Copy, Debug, PartialEq, Eq)]
 pub struct OutFault;
 
+/// Writes some of the bytes, at least one, and answers how many.
+///
+/// The writer is asked again where a signal interrupts it, up to 1000 times in a row. After an
+/// `OutFault` it holds what it held.
+pub fn write_some<W: Write>(w: &mut W, bytes: &[u8]) -> Result<usize, OutFault>
+    requires { 0 < length bytes.now }
+    ensures count { IfOk result (λ n. (0 < n) × (n ≤ length bytes.now)) }
+    ensures ok { IfOk result (λ n.
+        Appends (W.contents w.old) (W.contents w.new) (take n bytes.now)) }
+    ensures err { OnErr result (Keeps (W.contents w.old) (W.contents w.new)) }
+{
+    for _ in 0..RETRIES + 1 {
+        match w.write(bytes) {
+            Ok(n) => return if n == 0 { Err(OutFault) } else { Ok(n) },
+            Err(e) => {
+                if e.kind() != ErrorKind::Interrupted {
+                    return Err(OutFault);
+                }
+            }
+        }
+    }
+    Err(OutFault)
+}
+
 /// Writes all the bytes. After an `OutFault` the writer holds a front of them.
 pub fn write_whole<W: Write>(w: &mut W, bytes: &[u8]) -> Result<(), OutFault>
     ensures ok { OnOk result (Appends (W.contents w.old) (W.contents w.new) bytes.now) }
     ensures err { OnErr result (AppendsFront (W.contents w.old) (W.contents w.new) bytes.now) }
 {
     let mut done = 0;
-    let mut refused = 0;
     while done < bytes.len() {
-        match w.write(&bytes[done..]) {
-            Ok(0) => return Err(OutFault),
-            Ok(n) => {
-                done += n;
-                refused = 0;
-            }
-            Err(e) => {
-                if e.kind() != ErrorKind::Interrupted || refused == RETRIES {
-                    return Err(OutFault);
-                }
-                refused += 1;
-            }
-        }
+        done += write_some(w, &bytes[done..])?;
     }
     Ok(())
 }
 
 /// Writes one piece after the other. After an `OutFault` the writer holds a front of them all.
 pub fn write_pieces<W: Write>(w: &mut W, pieces: &[&[u8]]) -> Result<(), OutFault>
-    ensures ok { OnOk result (Appends (W.contents w.old) (W.contents w.new) (flat_map (λ p. p.now) pieces.now)) }
-    ensures err { OnErr result (AppendsFront (W.contents w.old) (W.contents w.new) (flat_map (λ p. p.now) pieces.now)) }
+    ensures ok { OnOk result (Appends (W.contents w.old) (W.contents w.new) (flat_map (λ p.
+        p.now) pieces.now)) }
+    ensures err { OnErr result (AppendsFront (W.contents w.old) (W.contents w.new) (flat_map (λ p.
+        p.now) pieces.now)) }
 {
     for piece in pieces {
         write_whole(w, piece)?;

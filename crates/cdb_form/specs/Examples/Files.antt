@@ -46,8 +46,10 @@ nothing_is = refl
 -- four values of one key: their search begins at slot 5 of 8, and the last one goes round to slot 0
 four_records : List KeyValue
 four_records =
-    record { key = codes "a"; value = codes "1" } ∷ record { key = codes "a"; value = codes "2" }
-    ∷ record { key = codes "a"; value = codes "3" } ∷ record { key = codes "a"; value = codes "4" } ∷ []
+    record { key = codes "a"; value = codes "1" }
+    ∷ record { key = codes "a"; value = codes "2" }
+    ∷ record { key = codes "a"; value = codes "3" }
+    ∷ record { key = codes "a"; value = codes "4" } ∷ []
 
 slot_a : ℕ → WordPair
 slot_a place = record { first = 177604; second = place }
@@ -55,7 +57,9 @@ slot_a place = record { first = 177604; second = place }
 slot_none : WordPair
 slot_none = record { first = 0; second = 0 }
 
-four_table : table_slots 4 four_records 196 ≡ slot_a 2078 ∷ slot_none ∷ slot_none ∷ slot_none ∷ slot_none ∷ slot_a 2048 ∷ slot_a 2058 ∷ slot_a 2068 ∷ []
+four_table : table_slots 4 four_records 196
+    ≡ slot_a 2078 ∷ slot_none ∷ slot_none ∷ slot_none ∷ slot_none
+    ∷ slot_a 2048 ∷ slot_a 2058 ∷ slot_a 2068 ∷ []
 unfolding table_slots filled_slots slots_with table_entries entries_from four_records slot_a slot_none
 four_table = refl
 

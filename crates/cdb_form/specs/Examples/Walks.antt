@@ -63,6 +63,7 @@ wide_walks =
     ∷ []
 
 -- each file has its walk
-walks_are : (map (λ e. walk_of 4 e.0) narrow_walks ≡ map (λ e. e.1) narrow_walks) × (map (λ e. walk_of 8 e.0) wide_walks ≡ map (λ e. e.1) wide_walks)
+walks_are : (map (λ e. walk_of 4 e.0) narrow_walks ≡ map (λ e. e.1) narrow_walks)
+    × (map (λ e. walk_of 8 e.0) wide_walks ≡ map (λ e. e.1) wide_walks)
 unfolding walk_of walk_from whole_records record_end head_at two_file two_records foreign_file wide_file wide_records put_at words_of repeat walked narrow_walks wide_walks file_bytes file_tables table_slots filled_slots slots_with table_entries entries_from file_pointers pointers_from record_bytes
 walks_are = (refl, refl)

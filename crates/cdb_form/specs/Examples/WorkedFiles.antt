@@ -19,13 +19,16 @@ put_at place new bytes = take place bytes ++ new ++ drop (place + length new) by
 
 -- two records
 unfoldable pub two_records : List KeyValue
-two_records = record { key = codes "one"; value = codes "Hello" } ∷ record { key = codes "two"; value = codes "Goodbye" } ∷ []
+two_records =
+    record { key = codes "one"; value = codes "Hello" }
+    ∷ record { key = codes "two"; value = codes "Goodbye" } ∷ []
 
 -- and their file
 unfoldable pub two_file : List ℕ
 unfolding words_of repeat
 two_file =
-    repeat 41 (words_of 4 2082 0) ++ words_of 4 2082 2 ++ repeat 87 (words_of 4 2098 0) ++ words_of 4 2098 2 ++ repeat 126 (words_of 4 2114 0)
+    repeat 41 (words_of 4 2082 0) ++ words_of 4 2082 2 ++ repeat 87 (words_of 4 2098 0)
+    ++ words_of 4 2098 2 ++ repeat 126 (words_of 4 2114 0)
     ++ (3 ∷ 0 ∷ 0 ∷ 0 ∷ 5 ∷ 0 ∷ 0 ∷ 0 ∷ []) ++ codes "oneHello"
     ++ (3 ∷ 0 ∷ 0 ∷ 0 ∷ 7 ∷ 0 ∷ 0 ∷ 0 ∷ []) ++ codes "twoGoodbye"
     ++ (0x29 ∷ 0x60 ∷ 0x87 ∷ 0x0b ∷ 0x10 ∷ 0x08 ∷ 0 ∷ 0 ∷ 0 ∷ 0 ∷ 0 ∷ 0 ∷ 0 ∷ 0 ∷ 0 ∷ 0 ∷ [])

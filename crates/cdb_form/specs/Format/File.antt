@@ -15,7 +15,8 @@ file_size w rs = head_size w + sum_by (whole_size w) rs
 -- the place and the number of slots of each table, where the first stands at `at`
 unfoldable pub pointers_from : ℕ → ℕ → List (List WordPair) → List WordPair
 pointers_from w at [] = []
-pointers_from w at (t ∷ ts) = record { first = at; second = length t } ∷ pointers_from w (at + pair_size w * length t) ts
+pointers_from w at (t ∷ ts) =
+    record { first = at; second = length t } ∷ pointers_from w (at + pair_size w * length t) ts
 
 unfoldable pub file_pointers : ℕ → List KeyValue → List WordPair
 file_pointers w rs = pointers_from w (records_end w rs) (file_tables w rs)

@@ -18,7 +18,8 @@ pub record IsRecord (r : KeyValue) : Type 0 where
 
 -- a record as bytes: its header, its key and its value
 unfoldable pub record_bytes : ℕ → KeyValue → List ℕ
-record_bytes w r = pair_bytes w (record { first = length r.key; second = length r.value }) ++ r.key ++ r.value
+record_bytes w r = pair_bytes w (record { first = length r.key; second = length r.value }) ++ r.key
+    ++ r.value
 
 -- how many they are
 abbrev pub record_size : ℕ → KeyValue → ℕ

@@ -8,7 +8,8 @@ use Rattle.cdb_form.specs.Format.Record.{KeyValue, record_size}
 -- the hash and the place of each record, in order, where the first stands at `at`
 unfoldable pub entries_from : ℕ → ℕ → List KeyValue → List WordPair
 entries_from w at [] = []
-entries_from w at (r ∷ rs) = record { first = key_hash r.key; second = at } ∷ entries_from w (at + record_size w r) rs
+entries_from w at (r ∷ rs) =
+    record { first = key_hash r.key; second = at } ∷ entries_from w (at + record_size w r) rs
 
 abbrev pub file_entries : ℕ → List KeyValue → List WordPair
 file_entries w rs = entries_from w (head_size w) rs

@@ -31,12 +31,17 @@ front_size w bytes = 2 * w + (pair_at w bytes).first + (pair_at w bytes).second
 abbrev pub front_record : ℕ → List ℕ → KeyValue
 front_record w bytes =
     let p = pair_at w bytes in
-    record { key = take p.first (drop (2 * w) bytes); value = take p.second (drop (2 * w + p.first) bytes) }
+    record {
+      key = take p.first (drop (2 * w) bytes);
+      value = take p.second (drop (2 * w + p.first) bytes);
+    }
 
 -- the whole records at the front of some bytes, at most `most` of them
 unfoldable pub whole_records : ℕ → ℕ → List ℕ → List KeyValue
 whole_records w zero bytes = []
-whole_records w (suc most) bytes = if nat_le (front_size w bytes) (length bytes) then front_record w bytes ∷ whole_records w most (drop (front_size w bytes) bytes) else []
+whole_records w (suc most) bytes =
+    if nat_le (front_size w bytes) (length bytes)
+    then front_record w bytes ∷ whole_records w most (drop (front_size w bytes) bytes) else []
 
 -- the records of a walk, and then a damage or none
 pub record Walked : Type 0 where
@@ -71,5 +76,6 @@ with_records rs walk = record { records = rs ++ walk.records; damage = walk.dama
 unfoldable pub walk_of : ℕ → List ℕ → Walked
 walk_of w bytes =
     if nat_lt (length bytes) (head_size w) then damaged Short
-    else if nat_lt (record_end w bytes) (head_size w) then damaged (Table (first_table_at (record_end w bytes) (head_at w bytes)))
+    else if nat_lt (record_end w bytes) (head_size w)
+    then damaged (Table (first_table_at (record_end w bytes) (head_at w bytes)))
     else walk_from w (head_size w) (record_end w bytes) (drop (head_size w) bytes)

@@ -11,4 +11,5 @@ pub record LengthsFit (greatest : ℕ) (r : KeyValue) : Type 0 where
 -- the text of some records reads as these records and no others, whatever follows it
 pub record TextReadsBack (greatest : ℕ) (rs : List KeyValue) (rest : List ℕ) : Type 0 where
   pub reads : Reads greatest rs (text_of rs ++ rest) rest
-  pub only : (others : List KeyValue) (more : List ℕ) → Reads greatest others (text_of rs ++ rest) more → (others ≡ rs) × (more ≡ rest)
+  pub only : (others : List KeyValue) (more : List ℕ)
+      → Reads greatest others (text_of rs ++ rest) more → (others ≡ rs) × (more ≡ rest)

@@ -11,25 +11,30 @@ use Rattle.cdb_form.specs.declared.walk.fault.WalkFault.TheVariants.{Short, Tabl
 pub record Stand (w : ℕ) (bytes : List ℕ) (rs : List KeyValue) : Type 0 where
   pub inside : records_end w rs ≤ length bytes
   pub before_end : records_end w rs ≤ record_end w bytes
-  pub bytes_are : take (sum_by (record_size w) rs) (drop (head_size w) bytes) ≡ flat_map (record_bytes w) rs
+  pub bytes_are : take (sum_by (record_size w) rs) (drop (head_size w) bytes) ≡ flat_map
+      (record_bytes w) rs
 
 -- they are the longest list of records that stands there
 pub record StandLongest (w : ℕ) (bytes : List ℕ) (rs : List KeyValue) : Type 0 where
   pub stand : Stand w bytes rs
-  pub longest : (others : List KeyValue) → Stand w bytes others → (more : List KeyValue) × (rs ≡ others ++ more)
+  pub longest : (others : List KeyValue) → Stand w bytes others → (more : List KeyValue)
+      × (rs ≡ others ++ more)
 
 -- a file has a whole head, and no table that has slots stands within it
 pub record HasHead (w : ℕ) (bytes : List ℕ) : Type 0 where
   pub whole : head_size w ≤ length bytes
   pub behind : head_size w ≤ record_end w bytes
 
--- a walk of a file gives the longest list of records that stands in it, and the damage behind them, if any
+-- a walk of a file gives the longest list of records that stands in it, and the damage behind them,
+-- if any
 pub record IsWalk (w : ℕ) (bytes : List ℕ) (walk : Walked) : Type 0 where
   pub short : length bytes < head_size w → walk ≡ damaged Short
-  pub table : head_size w ≤ length bytes → record_end w bytes < head_size w → walk ≡ damaged (Table (first_table_at (record_end w bytes) (head_at w bytes)))
+  pub table : head_size w ≤ length bytes → record_end w bytes < head_size w
+      → walk ≡ damaged (Table (first_table_at (record_end w bytes) (head_at w bytes)))
   pub longest : HasHead w bytes → StandLongest w bytes walk.records
   pub whole : HasHead w bytes → records_end w walk.records ≡ record_end w bytes → walk.damage ≡ None
-  pub damage : HasHead w bytes → records_end w walk.records < record_end w bytes → walk.damage ≡ Some (Record (records_end w walk.records))
+  pub damage : HasHead w bytes → records_end w walk.records < record_end w bytes
+      → walk.damage ≡ Some (Record (records_end w walk.records))
 
 -- the walk of the file of some records gives these records, and meets no damage
 abbrev pub WalksBack : ℕ → List KeyValue → Type 0

@@ -1,6 +1,6 @@
 -- What a call does to the bytes that a reader has left or a writer holds, where they are known.
 use Rattle.std.specs.Io.KnownBytes.{Consumes, Appends}
-use Rattle.std.specs.Prelude.{ℕ, List, ◌++◌, length, ◌≤◌, Option, ◌≡◌, ⊤, Some, None}
+use Rattle.std.specs.Prelude.{drop, ◌+◌, ℕ, List, ◌++◌, length, ◌≤◌, Option, ◌≡◌, ⊤, Some, None}
 
 -- no more than n bytes are lost
 pub record LosesAtMost (old new : Option (List ℕ)) (n : ℕ) : Type 0 where
@@ -14,9 +14,19 @@ FromTo None new P = ⊤
 FromTo (Some text) None P = ⊥
 FromTo (Some text) (Some rest) P = P text rest
 
+-- all bytes from place n on are still there, and no others behind them
+abbrev pub StillFrom : ℕ → List ℕ → List ℕ → Type 0
+StillFrom n text rest = (more : List ℕ) × (rest ≡ more ++ drop n text)
+
 -- known bytes grow by a front of some bytes
 pub record AppendsFront (old new : Option (List ℕ)) (bytes : List ℕ) : Type 0 where
   pub front : List ℕ
   pub more : List ℕ
   pub split : bytes ≡ front ++ more
   pub appended : Appends old new front
+
+-- bytes were read of what was unread, and the count of bytes went from `from` to `to`
+pub record Took (old new : Option (List ℕ)) (from to : ℕ) : Type 0 where
+  pub bytes : List ℕ
+  pub read : Consumes old new bytes
+  pub counted : to ≡ from + length bytes

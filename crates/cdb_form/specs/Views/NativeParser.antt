@@ -1,13 +1,29 @@
--- What a fault of the native parser says of the part of a record that it was reading. `from` is the place of the text's first byte.
+-- What a fault of the native parser says of the part of a record that it was reading. `from` is the
+-- place of the text's first byte.
 use Rattle.std.specs.Char.{digit_value}
 use Rattle.std.specs.Io.KnownBytes.{Consumes}
-use Rattle.std.specs.Prelude.{ℕ, ◌*◌, List, ◌+◌, ◌<◌, [], ◌∷◌, ◌++◌, length, ◌≤◌, Option, ◌≡◌, ⊤, ◌≢◌}
+use Rattle.std.specs.Prelude.{option_map, ℕ, ◌*◌, List, ◌+◌, ◌<◌, [], ◌∷◌, ◌++◌, codes, ◌-◌, take, length, ◌≤◌, Option, ◌≡◌, ⊤, ◌≢◌, IfSome}
 use Rattle.std.specs.Str.Parse.{AllDigits, digits_value}
 use Rattle.cdb_form.specs.Format.Record.{KeyValue, AreBytes}
 use Rattle.cdb_form.specs.Text.Native.{Spells, HasFault, HasNoRecord}
-use Rattle.cdb_form.specs.Views.TextFault.{IsOfText}
+use Rattle.cdb_form.specs.Views.KnownBytes.{Took}
+use Rattle.cdb_form.specs.declared.text.source.Source.{Source}
+use Rattle.cdb_form.specs.Views.TextFault.{IsOfText, IsSpent, LastRead}
 use Rattle.cdb_form.specs.declared.text.fault.TextFault.{TextFault}
-use Rattle.cdb_form.specs.declared.text.fault.TextFault.TheVariants.{Syntax, Ended, Large}
+use Rattle.cdb_form.specs.declared.text.fault.TextFault.TheVariants.{Syntax, Ended, Large, Input, Endless, NoMemory}
+
+-- the text that a fault is one of: all that was unread, or what was read of it where the reader
+-- failed
+abbrev pub seen : ℕ → ℕ → TextFault → Option (List ℕ) → Option (List ℕ)
+seen from to Input old = option_map (take (to - from)) old
+seen from to Endless old = option_map (take (to - from)) old
+seen from to _ old = old
+
+-- and the fault of that text: where the reader failed, it is as though the text had ended there
+abbrev pub told : ℕ → TextFault → TextFault
+told to Input = Ended to
+told to Endless = Ended to
+told to fault = fault
 
 -- digits of a number of at most `greatest` stand at the front of the text, and then c
 pub record DigitsThen (greatest : ℕ) (text : List ℕ) (c count : ℕ) : Type 0 where
@@ -21,14 +37,19 @@ pub record DigitsThen (greatest : ℕ) (text : List ℕ) (c count : ℕ) : Type 
 
 -- no numeral of at most `greatest` with `stop` behind it is at the front of the text
 abbrev pub FailsNumber : ℕ → ℕ → ℕ → List ℕ → TextFault → Type 0
-FailsNumber greatest stop from text (Syntax at) = (c n : ℕ) × DigitsThen greatest text c n × (at ≡ from + n) × (10 ≤ digit_value c) × (c ≡ stop → n ≡ 0)
-FailsNumber greatest stop from text (Large at) = (c n : ℕ) × DigitsThen greatest text c n × (at ≡ from + n) × (digit_value c < 10)
-FailsNumber greatest stop from text (Ended at) = AllDigits 10 text × (digits_value 10 text ≤ greatest) × (at ≡ from + length text)
+FailsNumber greatest stop from text (Syntax at) =
+    (c n : ℕ) × DigitsThen greatest text c n × (at ≡ from + n) × (10 ≤ digit_value c)
+    × (c ≡ stop → n ≡ 0)
+FailsNumber greatest stop from text (Large at) =
+    (c n : ℕ) × DigitsThen greatest text c n × (at ≡ from + n) × (digit_value c < 10)
+FailsNumber greatest stop from text (Ended at) =
+    AllDigits 10 text × (digits_value 10 text ≤ greatest) × (at ≡ from + length text)
 FailsNumber greatest stop from text _ = ⊤
 
 -- the byte isn't at the front of the text
 abbrev pub FailsByte : ℕ → ℕ → List ℕ → TextFault → Type 0
-FailsByte byte from text (Syntax at) = (c : ℕ) × (rest : List ℕ) × (text ≡ c ∷ rest) × (c ≢ byte) × (at ≡ from)
+FailsByte byte from text (Syntax at) =
+    (c : ℕ) × (rest : List ℕ) × (text ≡ c ∷ rest) × (c ≢ byte) × (at ≡ from)
 FailsByte byte from text (Ended at) = (text ≡ []) × (at ≡ from)
 FailsByte byte from text (Large at) = ⊥
 FailsByte byte from text _ = ⊤
@@ -54,13 +75,15 @@ pub record BytesThenOther (n stop : ℕ) (text : List ℕ) : Type 0 where
 abbrev pub FailsField : ℕ → ℕ → ℕ → List ℕ → TextFault → Type 0
 FailsField n stop from text (Syntax at) = BytesThenOther n stop text × (at ≡ from + n)
 FailsField n stop from text (Large at) = ⊥
-FailsField n stop from text (Ended at) = AreBytes text × (length text ≤ n) × (at ≡ from + length text)
+FailsField n stop from text (Ended at) =
+    AreBytes text × (length text ≤ n) × (at ≡ from + length text)
 FailsField n stop from text _ = ⊤
 
 -- a reader lost a spelling of the record from the byte behind its plus on
-pub record ReadsBehindPlus (greatest : ℕ) (old new : Option (List ℕ)) (from to : ℕ) (r : KeyValue) : Type 0 where
+pub record ReadsBehindPlus (greatest : ℕ) (old new : Option (List ℕ)) (from to : ℕ) (r : KeyValue)
+    : Type 0 where
   pub text : List ℕ
-  pub spells : Spells greatest (43 ∷ text) r
+  pub spells : Spells greatest (codes "+" ++ text) r
   pub read : Consumes old new text
   pub counted : to ≡ from + length text
 
@@ -68,3 +91,23 @@ pub record ReadsBehindPlus (greatest : ℕ) (old new : Option (List ℕ)) (from 
 pub record FailsRecord (greatest from : ℕ) (text : List ℕ) (f : TextFault) : Type 0 where
   pub fault : HasFault greatest from text f
   pub no_record : IsOfText f → HasNoRecord greatest text
+
+-- each byte that a source gave took at most 1001 asks
+abbrev pub budget : {R : Type 0} → Source R → ℕ
+budget s = s.asks + 1001 * s.taken
+
+-- P is said of the text that the fault is one of
+abbrev pub FailsIn : {R : Type 0} → (R → Option (List ℕ)) → (old new : Source R)
+    → (List ℕ → TextFault → Type 0) → TextFault → Type 0
+FailsIn remaining old new P f =
+    IfSome (seen old.taken new.taken f (remaining old.reader)) (λ text. P text (told new.taken f))
+
+-- What a fault leaves: what was read is gone from the reader and was counted, and ends with the byte
+-- at the fault's place. Asks last for 1001 a byte.
+pub record Leaves {R : Type 0} (remaining : R → Option (List ℕ)) (old new : Source R)
+    (f : TextFault) : Type 0 where
+  pub took : f ≢ NoMemory
+      → Took (remaining old.reader) (remaining new.reader) old.taken new.taken
+  pub last : LastRead new.taken f
+  pub spent : IsSpent new.asks f
+  pub spends : budget old ≤ budget new + 1001

@@ -1,15 +1,18 @@
 -- What a clause reads of a reader of the records of a file.
-use Rattle.std.specs.Prelude.{ℕ, ◌^◌, List, drop, Option, ◌≡◌, ⊤, ◌-◌, max}
-use Rattle.cdb_form.specs.Format.Pair.{head_size}
+use Rattle.std.specs.Prelude.{ℕ, ◌^◌, ◌+◌, ◌<◌, IfSome, List, drop, Option, ◌≡◌, ⊤, ◌-◌, max}
+use Rattle.cdb_form.specs.Format.Pair.{head_size, pair_size}
 use Rattle.cdb_form.specs.Format.Record.{KeyValue}
-use Rattle.cdb_form.specs.Format.Walk.{Walked, walk_of, walk_from, record_end, no_walk, with_records, damaged}
-use Rattle.cdb_form.specs.Views.KnownBytes.{FromTo}
+use Rattle.cdb_form.specs.Format.Walk.{Walked, walk_of, walk_from, record_end, no_walk, with_first, with_records, damaged}
+use Rattle.cdb_form.specs.Views.KnownBytes.{FromTo, StillFrom}
+use Rattle.cdb_form.specs.Views.Reading.{ReadsNoFurther}
+use Rattle.cdb_form.specs.Views.WalkFault.{IsDamage}
 use Rattle.cdb_form.specs.declared.walk.fault.WalkFault.{WalkFault}
 use Rattle.cdb_form.specs.declared.walk.record_reader.RecordReader.{RecordReader}
 use Rattle.cdb_form.specs.declared.walk.record_reader.Walking.{Walking}
 use Rattle.cdb_form.specs.declared.walk.record_reader.Walking.TheVariants.{AtHead, At, AtEnd, Failed}
 
--- the walk of what is unread: of a whole file before its head was read, and then from the next place on
+-- the walk of what is unread: of a whole file before its head was read, and then from the next
+-- place on
 abbrev pub walk_of_rest : ℕ → Walking → List ℕ → Walked
 walk_of_rest w AtHead text = walk_of w text
 walk_of_rest w (At area) text = walk_from w area.place area.end text
@@ -39,6 +42,11 @@ is_going (Failed fault) = ⊥
 -- the bytes that its reader has left, where they are known
 abbrev pub unread : {R L : Type 0} → (R → Option (List ℕ)) → RecordReader R L → Option (List ℕ)
 unread remaining t = remaining t.reader
+
+-- a relation of the bytes that were unread before and after a call
+abbrev pub Between : {R L : Type 0} → (R → Option (List ℕ)) → (old new : RecordReader R L)
+    → (List ℕ → List ℕ → Type 0) → Type 0
+Between remaining old new P = FromTo (unread remaining old) (unread remaining new) P
 
 -- the walk that it is still to give, where these bytes are unread
 abbrev pub walk_left : {R L : Type 0} → ℕ → RecordReader R L → List ℕ → Walked
@@ -72,7 +80,51 @@ HasFailed t fault = t.walking ≡ Failed fault
 abbrev pub behind_records : ℕ → List ℕ → List ℕ
 behind_records w text = drop (max (head_size w) (record_end w text)) text
 
--- a reader of a file gave these records so far: the walk of the file is these records and then the walk that is left,
+-- a reader of a file gave these records so far: the walk of the file is these records and then the
+-- walk that is left,
 -- and what stands behind the record end is still unread
-abbrev pub GaveSoFar : {R L : Type 0} → ℕ → (R → Option (List ℕ)) → Option (List ℕ) → RecordReader R L → List KeyValue → Type 0
-GaveSoFar w remaining file t rs = FromTo file (unread remaining t) (λ text rest. (walk_of w text ≡ with_records rs (walk_left w t rest)) × (behind_end w t rest ≡ behind_records w text))
+abbrev pub GaveSoFar : {R L : Type 0} → ℕ → (R → Option (List ℕ)) → Option (List ℕ)
+    → RecordReader R L → List KeyValue → Type 0
+GaveSoFar w remaining file t rs =
+    FromTo file (unread remaining t)
+    (λ text rest. (walk_of w text ≡ with_records rs (walk_left w t rest))
+    × (behind_end w t rest ≡ behind_records w text))
+
+-- how many bytes of the head and of one header are still to be read
+abbrev pub headers_left : ℕ → Walking → ℕ
+headers_left w AtHead = head_size w + pair_size w
+headers_left w _ = pair_size w
+
+-- a call gave a record: the first of the walk that was left. What stands behind the record end is
+-- still unread.
+pub record GivesRecord {R L : Type 0} (w : ℕ) (remaining : R → Option (List ℕ))
+    (old new : RecordReader R L) (r : KeyValue) : Type 0 where
+  pub walk : Between remaining old new
+      (λ text rest. walk_left w old text ≡ with_first r (walk_left w new rest))
+  pub behind : Between remaining old new
+      (λ text rest. behind_end w new rest ≡ behind_end w old text)
+  pub going : IsGoing new
+  pub fewer : bytes_left new < bytes_left old
+
+-- a call told the end: the walk that was left has no record and no damage. What stands behind the
+-- record end is all that is unread.
+pub record GivesEnd {R L : Type 0} (w : ℕ) (remaining : R → Option (List ℕ))
+    (old new : RecordReader R L) : Type 0 where
+  pub walk : IfSome (unread remaining old) (λ text. walk_left w old text ≡ no_walk)
+  pub behind : Between remaining old new
+      (λ text rest. behind_end w new rest ≡ behind_end w old text)
+  pub ended : HasEnded new
+
+-- A call answered a fault, as every later one will. One of the file is the damage of the walk that
+-- was left, with no record
+-- before it; no more was read than what was left of the head and one header, or the reader is at
+-- its end.
+pub record Fails {R L : Type 0} (w : ℕ) (remaining : R → Option (List ℕ))
+    (old new : RecordReader R L) (fault : WalkFault) : Type 0 where
+  pub failed : HasFailed new fault
+  pub exact : IsDamage fault
+      → IfSome (unread remaining old) (λ text. walk_left w old text ≡ damaged fault)
+  pub behind : Between remaining old new
+      (λ text rest. StillFrom (size_of_rest w old.walking text) text rest)
+  pub no_further : IsGoing old → IsDamage fault
+      → ReadsNoFurther (headers_left w old.walking) (unread remaining old) (unread remaining new)

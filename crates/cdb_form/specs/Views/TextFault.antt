@@ -1,5 +1,7 @@
 -- What kind of fault a fault of a text is, and its number.
-use Rattle.std.specs.Prelude.{ℕ, ◌≡◌, ⊤}
+use Rattle.std.specs.Prelude.{ℕ, ◌≡◌, ◌+◌, ⊤, List, codes, Option, Some, None}
+use Rattle.cdb_form.specs.declared.reading.Unread.{Unread}
+use Rattle.cdb_form.specs.declared.reading.Unread.TheVariants as unread
 use Rattle.cdb_form.specs.declared.text.fault.TextFault.{TextFault}
 use Rattle.cdb_form.specs.declared.text.fault.TextFault.TheVariants.{Syntax, Ended, Large, Input, Endless, NoMemory}
 
@@ -28,3 +30,33 @@ text_number (Large at) = 3
 text_number Input = 4
 text_number Endless = 5
 text_number NoMemory = 6
+
+-- the fault of a text whose reader, after so many bytes, did not give what it was asked for
+abbrev pub unread_fault : ℕ → Unread → TextFault
+unread_fault at unread.Ended = Ended at
+unread_fault at unread.Failed = Input
+unread_fault at unread.Spent = Endless
+unread_fault at unread.NoMemory = NoMemory
+
+-- what stands beside the place of a fault, and the place
+abbrev pub text_message : TextFault → List ℕ
+text_message (Syntax at) = codes "not a record"
+text_message (Ended at) = codes "text ends early"
+text_message (Large at) = codes "length too large"
+text_message Input = codes "cannot be read"
+text_message Endless = codes "has no end"
+text_message NoMemory = codes "no memory"
+
+abbrev pub text_place : TextFault → Option ℕ
+text_place (Syntax at) = Some at
+text_place (Ended at) = Some at
+text_place (Large at) = Some at
+text_place _ = None
+
+-- how many bytes were read in all, where the text has this fault: the byte at its place was the
+-- last one
+abbrev pub LastRead : ℕ → TextFault → Type 0
+LastRead taken (Syntax at) = taken ≡ at + 1
+LastRead taken (Large at) = taken ≡ at + 1
+LastRead taken (Ended at) = taken ≡ at
+LastRead taken _ = ⊤

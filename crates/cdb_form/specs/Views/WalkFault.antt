@@ -1,5 +1,7 @@
 -- What kind of fault a fault of a walk is, and its number.
-use Rattle.std.specs.Prelude.{ℕ, ⊤}
+use Rattle.std.specs.Prelude.{ℕ, ⊤, List, codes, Option, Some, None}
+use Rattle.cdb_form.specs.declared.reading.Unread.{Unread}
+use Rattle.cdb_form.specs.declared.reading.Unread.TheVariants as unread
 use Rattle.cdb_form.specs.declared.walk.fault.WalkFault.{WalkFault}
 use Rattle.cdb_form.specs.declared.walk.fault.WalkFault.TheVariants.{Short, Table, Record, Input, NoMemory}
 
@@ -16,3 +18,24 @@ walk_number (Table n) = 2
 walk_number (Record place) = 3
 walk_number Input = 4
 walk_number NoMemory = 5
+
+-- the fault of a walk whose reader did not give what it was asked for, where it is `early` that it
+-- had no more
+abbrev pub unread_walk : WalkFault → Unread → WalkFault
+unread_walk early unread.Ended = early
+unread_walk early unread.Failed = Input
+unread_walk early unread.Spent = Input
+unread_walk early unread.NoMemory = NoMemory
+
+-- what stands beside the numbered part of a file that a fault names, and the part with its number
+abbrev pub walk_message : WalkFault → List ℕ
+walk_message Short = codes "database shorter than its head"
+walk_message (Table n) = codes "outside the file"
+walk_message (Record place) = codes "not whole"
+walk_message Input = codes "database cannot be read or written"
+walk_message NoMemory = codes "no memory"
+
+abbrev pub walk_part : WalkFault → Option (List ℕ × ℕ)
+walk_part (Table n) = Some (codes "table ", n)
+walk_part (Record place) = Some (codes "record at ", place)
+walk_part _ = None

@@ -11,14 +11,17 @@ pub(super) enum Behind {
     ZerosForEver,
 }
 
-/// Gives a text in pieces, and notes the greatest ask and the bytes given.
+/// Gives a text in pieces, and counts the calls and notes the greatest ask. Before each piece it is
+/// interrupted so often.
 #[derive(Drop)]
 pub(super) struct FakeReader<'a> {
     pub(super) text: &'a [u8],
     pub(super) behind: Behind,
     pub(super) interrupts: u64,
+    pub(super) interrupts_each: u64,
     pub(super) most: usize,
     pub(super) greatest_ask: usize,
+    pub(super) calls: u64,
 }
 
 impl<'a> FakeReader<'a> {
@@ -27,8 +30,10 @@ impl<'a> FakeReader<'a> {
             text,
             behind,
             interrupts: 0,
+            interrupts_each: 0,
             most: usize::MAX,
             greatest_ask: 0,
+            calls: 0,
         }
     }
 
@@ -38,11 +43,20 @@ impl<'a> FakeReader<'a> {
         reader.interrupts = interrupts;
         reader
     }
+
+    /// Interrupted so often before each byte.
+    pub(super) fn interrupted_each(text: &'a [u8], interrupts: u64) -> FakeReader<'a> {
+        let mut reader = FakeReader::interrupted(text, interrupts);
+        reader.interrupts_each = interrupts;
+        reader.most = 1;
+        reader
+    }
 }
 
 impl Read for FakeReader<'_> {
     fn read(&mut self, buf: &mut [u8]) -> io::Result<usize> {
         self.greatest_ask = self.greatest_ask.max(buf.len());
+        self.calls = self.calls.saturating_add(1);
         if self.interrupts > 0 {
             self.interrupts -= 1;
             return Err(io::Error::from(ErrorKind::Interrupted));
@@ -63,17 +77,21 @@ impl Read for FakeReader<'_> {
         let (piece, rest) = self.text.split_at(n);
         buf[..n].copy_from_slice(piece);
         self.text = rest;
+        self.interrupts = self.interrupts_each;
         Ok(n)
     }
 }
 
-/// Takes so many bytes, a few at a time, and then fails. It is first interrupted so often.
+/// Takes so many bytes, a few at a time, and then fails or takes none. Before each piece it is
+/// interrupted so often.
 #[derive(Drop)]
 pub(super) struct FakeWriter {
     pub(super) held: Vec<u8>,
     pub(super) room: usize,
     pub(super) most: usize,
     pub(super) interrupts: u64,
+    pub(super) interrupts_each: u64,
+    pub(super) takes_none: bool,
     pub(super) flushed: bool,
 }
 
@@ -84,6 +102,8 @@ impl FakeWriter {
             room,
             most: 3,
             interrupts,
+            interrupts_each: 0,
+            takes_none: false,
             flushed: false,
         }
     }
@@ -96,9 +116,13 @@ impl Write for FakeWriter {
             return Err(io::Error::from(ErrorKind::Interrupted));
         }
         let n = buf.len().min(self.most).min(self.room);
+        if n == 0 && self.takes_none {
+            return Ok(0);
+        }
         if n == 0 {
             return Err(io::Error::from(ErrorKind::Other));
         }
+        self.interrupts = self.interrupts_each;
         self.held.extend_from_slice(&buf[..n])?;
         self.room -= n;
         Ok(n)

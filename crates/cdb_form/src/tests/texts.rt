@@ -61,8 +61,10 @@ fn records_and_refused_texts(rt: HostRuntime) {
 
 #[test]
 fn wide_lengths(rt: HostRuntime) {
-    let cases: [(&[u8], TextFault); 2] = [
+    let cases: [(&[u8], TextFault); 3] = [
         (b"+4294967296,0:", TextFault::Ended(14)),
+        // Memory is asked for only as bytes come.
+        (b"+9223372036854775807,0:", TextFault::Ended(23)),
         (b"+9223372036854775808,0:", TextFault::Large(19)),
     ];
     for (text, fault) in cases {
@@ -129,6 +131,48 @@ fn interruptions_are_asked_again(rt: HostRuntime) {
             (count, fault),
             "{interrupts} interruptions, {asks} asks"
         );
+    }
+}
+
+#[test]
+fn interruptions_are_counted_in_a_row(rt: HostRuntime) {
+    for (interrupts, answer) in [(1000, (2, None)), (1001, (0, Some(TextFault::Input)))] {
+        let reader = FakeReader::interrupted_each(TWO, interrupts);
+        let found = read_all::<Narrow, FakeReader<'_>>(rt.alloc(), reader, 1 << 48);
+        assert_eq!(rt; found, answer, "{interrupts} before each byte");
+    }
+}
+
+#[test]
+fn as_many_asks_as_are_made_suffice(rt: HostRuntime) {
+    let mut counted = FakeReader::new(TWO, Behind::End);
+    let answer = read_all::<Narrow, &mut FakeReader<'_>>(rt.alloc(), &mut counted, 1 << 48);
+    assert_eq!(rt; answer, (2, None));
+    let asks = counted.calls;
+    assert!(rt; asks > 0 && asks <= 1 << 48);
+    for (bound, fault) in [(asks, None), (asks - 1, Some(TextFault::Endless))] {
+        let reader = FakeReader::new(TWO, Behind::End);
+        let answer = read_all::<Narrow, FakeReader<'_>>(rt.alloc(), reader, bound);
+        assert_eq!(rt; answer, (2, fault), "{bound} asks");
+    }
+}
+
+#[test]
+fn what_stands_behind_a_fault_stays(rt: HostRuntime) {
+    let cases: [(&[u8], TextFault, &[u8]); 7] = [
+        (b"*+1,1:", TextFault::Syntax(0), b"+1,1:"),
+        (b"+,5:one", TextFault::Syntax(1), b"5:one"),
+        (b"+4294967296,0:", TextFault::Large(10), b",0:"),
+        (b"+3;5:one", TextFault::Syntax(2), b"5:one"),
+        (b"+1,1:a=>b\n\n", TextFault::Syntax(6), b">b\n\n"),
+        (b"+1,1:a-]b\n\n", TextFault::Syntax(7), b"b\n\n"),
+        (b"+1,1:a->b!\n\n", TextFault::Syntax(9), b"\n\n"),
+    ];
+    for (text, fault, rest) in cases {
+        let mut reader = text;
+        let answer = read_all::<Narrow, &mut &[u8]>(rt.alloc(), &mut reader, 1 << 48);
+        assert_eq!(rt; answer, (0, Some(fault)), "{text:?}");
+        assert_eq!(rt; reader, rest, "{text:?}");
     }
 }
 

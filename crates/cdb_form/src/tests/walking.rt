@@ -249,6 +249,28 @@ fn interruptions_and_small_pieces(rt: HostRuntime) -> Result<(), Fail> {
 }
 
 #[test]
+fn interruptions_are_counted_in_a_row(rt: HostRuntime) -> Result<(), Fail> {
+    let file = foreign_file(rt.alloc())?;
+    for (interrupts, answer) in [(1000, (1, None)), (1001, (0, Some(WalkFault::Input)))] {
+        let reader = FakeReader::interrupted_each(&file, interrupts);
+        let found = count::<Narrow, FakeReader<'_>>(rt.alloc(), reader)?;
+        assert_eq!(rt; found, answer, "{interrupts} before each byte");
+    }
+    Ok(())
+}
+
+#[test]
+fn what_follows_a_damaged_header_stays(rt: HostRuntime) -> Result<(), Fail> {
+    let mut file = two_file(rt.alloc())?;
+    put(&mut file, 2068, &[8]);
+    let mut rest = file.as_slice();
+    let answer = count::<Narrow, &mut &[u8]>(rt.alloc(), &mut rest)?;
+    assert_eq!(rt; answer, (1, Some(WalkFault::Record(2064))));
+    assert_eq!(rt; rest, file.get(2072..).ok_or("short")?);
+    Ok(())
+}
+
+#[test]
 fn what_follows_the_record_end_stays(rt: HostRuntime) -> Result<(), Fail> {
     let file = two_file(rt.alloc())?;
     assert_eq!(rt; file.len(), 2114);

@@ -1,6 +1,7 @@
 // Whole writes, over writers that take little or fail.
 use super::fakes::FakeWriter;
-use crate::writing::{OutFault, flush_whole, write_end, write_pieces, write_record, write_whole};
+use crate::writing::{OutFault, flush_whole, write_pieces, write_some, write_whole};
+use crate::{write_end, write_record};
 use std::prelude::*;
 
 #[test]
@@ -34,7 +35,28 @@ fn interruptions_are_asked_again(rt: HostRuntime) {
     }
 }
 
-// The native text of two records.
+#[test]
+fn interruptions_are_counted_in_a_row(rt: HostRuntime) {
+    for (interrupts, want) in [(1000, Ok(())), (1001, Err(OutFault))] {
+        let mut writer = FakeWriter::new(rt.alloc(), 9, interrupts);
+        writer.interrupts_each = interrupts;
+        writer.most = 1;
+        let answer = write_pieces(&mut writer, &[b"Hel", b"lo"]);
+        assert_eq!(rt; answer, want, "{interrupts} before each byte");
+    }
+}
+
+#[test]
+fn a_writer_that_takes_nothing_has_failed(rt: HostRuntime) {
+    let mut writer = FakeWriter::new(rt.alloc(), 3, 0);
+    writer.takes_none = true;
+    assert_eq!(rt; write_some(&mut writer, b"Hello"), Ok(3));
+    assert_eq!(rt; write_some(&mut writer, b"lo"), Err(OutFault));
+    assert_eq!(rt; write_whole(&mut writer, b"lo"), Err(OutFault));
+    assert_eq!(rt; writer.held.as_slice(), b"Hel".as_slice());
+}
+
+/// The native text of two records.
 fn write_two(writer: &mut FakeWriter) -> Result<(), OutFault> {
     write_record(writer, b"one", b"Hello")?;
     write_record(writer, b"", b"->\n-> +0,0")?;

@@ -1,7 +1,8 @@
 // Why a text was not read.
 ghost use Rattle.std.specs.Prelude.{◌≡◌};
-ghost use Rattle.cdb_form.specs.Views.TextFault.{text_number};
+ghost use Rattle.cdb_form.specs.Views.TextFault.{text_number, text_message, text_place, unread_fault};
 
+use crate::reading::Unread;
 use std::alloc::{AllocError, AllocFailed};
 use std::fmt;
 
@@ -36,17 +37,49 @@ impl TextFault {
             TextFault::NoMemory => 6,
         }
     }
+
+    /// The fault of a text whose reader, after so many bytes, did not give what it was asked for.
+    pub(crate) fn of_reader(unread: Unread, at: u64) -> TextFault
+        ensures { result ≡ unread_fault at unread }
+    {
+        match unread {
+            Unread::Ended => TextFault::Ended(at),
+            Unread::Failed => TextFault::Input,
+            Unread::Spent => TextFault::Endless,
+            Unread::NoMemory => TextFault::NoMemory,
+        }
+    }
+
+    /// What the fault is, in words that stand behind the place where it has one.
+    pub fn message(&self) -> &'static str
+        ensures { result.now ≡ text_message self.now }
+    {
+        match self {
+            TextFault::Syntax(_) => "not a record",
+            TextFault::Ended(_) => "text ends early",
+            TextFault::Large(_) => "length too large",
+            TextFault::Input => "cannot be read",
+            TextFault::Endless => "has no end",
+            TextFault::NoMemory => "no memory",
+        }
+    }
+
+    /// The place of the fault, in bytes from the reader's first one, where it has one.
+    pub fn place(&self) -> Option<u64>
+        ensures { result ≡ text_place self.now }
+    {
+        match *self {
+            TextFault::Syntax(at) | TextFault::Ended(at) | TextFault::Large(at) => Some(at),
+            _ => None,
+        }
+    }
 }
 
 impl fmt::Display for TextFault {
     fn fmt<W: fmt::Write>(&self, f: &mut fmt::Formatter<W>) -> fmt::Result {
-        match self {
-            TextFault::Syntax(at) => write!(f, "byte {at}: not a record"),
-            TextFault::Ended(at) => write!(f, "byte {at}: text ends early"),
-            TextFault::Large(at) => write!(f, "byte {at}: length too large"),
-            TextFault::Input => write!(f, "cannot be read"),
-            TextFault::Endless => write!(f, "has no end"),
-            TextFault::NoMemory => write!(f, "no memory"),
+        match self.place() {
+            Some(at) => write!(f, "byte {at}: {}", self.message()),
+            None => f.write_str(self.message()),
         }
     }
 }

@@ -1,12 +1,12 @@
 // The parser of a native text: a machine that takes byte after byte.
-ghost use Rattle.std.specs.Prelude.{◌≡◌, ◌≢◌, true, false, ℕ, List, ◌+◌, ◌*◌, ◌^◌, ◌<◌, ◌≤◌, [], ◌∷◌, ◌++◌, length, OnOk, OnErr, IfOk, IfErr, IfSome, IfNone, MatchBool, SomeIff};
+ghost use Rattle.std.specs.Prelude.{◌≡◌, ◌≢◌, true, false, ℕ, List, ◌+◌, ◌*◌, ◌^◌, ◌<◌, ◌≤◌, [], ◌∷◌, ◌++◌, codes, length, OnOk, OnErr, IfOk, IfErr, IfSome, IfNone, MatchBool, SomeIff};
 ghost use Rattle.std.specs.Bool.{OnTrue, OnFalse};
 ghost use Rattle.std.specs.Io.KnownBytes.{Consumes};
 ghost use Rattle.cdb_form.specs.Format.Record.{AreBytes};
-ghost use Rattle.cdb_form.specs.Text.Native.{IsNumeral, HasFault, HasNoRecord};
+ghost use Rattle.cdb_form.specs.Text.Native.{IsNumeral};
 ghost use Rattle.cdb_form.specs.Views.TextReader.{ReadsRecord};
-ghost use Rattle.cdb_form.specs.Views.NativeParser.{FailsNumber, FailsByte, FailsBytes, FailsField, FailsRecord, ReadsBehindPlus};
-ghost use Rattle.cdb_form.specs.Views.TextFault.{IsOfText, IsSpent};
+ghost use Rattle.cdb_form.specs.Views.NativeParser.{FailsNumber, FailsByte, FailsBytes, FailsField, FailsRecord, ReadsBehindPlus, FailsIn, Leaves, budget};
+ghost use Rattle.cdb_form.specs.Views.TextFault.{IsSpent};
 ghost use Rattle.cdb_form.specs.Views.Pairs.{key_value};
 
 use crate::record::Record;
@@ -14,10 +14,7 @@ use crate::text::fault::TextFault;
 use crate::text::source::Source;
 use std::io::Read;
 
-/// How many bytes of a key or value are asked for at once.
-const PIECE: usize = 256;
-
-// The number with one more digit, where it isn't above `greatest`.
+/// The number with one more digit, where it isn't above `greatest`.
 fn with_digit(value: u64, digit: u32, greatest: u64) -> Option<u64>
     requires digit { digit < 10 }
     requires room { 9 ≤ greatest }
@@ -32,16 +29,20 @@ fn with_digit(value: u64, digit: u32, greatest: u64) -> Option<u64>
 }
 
 impl<R: Read> Source<R> {
-    // A numeral of at most `greatest` with `stop` behind it.
+    /// A numeral of at most `greatest` with `stop` behind it.
     fn number(&mut self, greatest: u64, stop: u8) -> Result<u64, TextFault>
         requires { 9 ≤ greatest }
         ensures read { IfOk result (λ n. (digits : List ℕ) × IsNumeral digits n
-            × Consumes (R.remaining self.old.reader) (R.remaining self.new.reader) (digits ++ stop ∷ [])
+            × Consumes (R.remaining self.old.reader)
+            (R.remaining self.new.reader) (digits ++ stop ∷ [])
             × (self.new.taken ≡ self.old.taken + (length digits + 1))) }
         ensures fits { IfOk result (λ n. n ≤ greatest) }
         ensures fewer { OnOk result (self.new.asks < self.old.asks) }
-        ensures fails { IfErr result (λ f. IfSome (R.remaining self.old.reader) (λ text. FailsNumber greatest stop self.old.taken text f)) }
-        ensures spent { IfErr result (IsSpent self.new.asks) }
+        ensures fails { IfErr result (FailsIn R.remaining self.old self.new
+            (FailsNumber greatest stop self.old.taken)) }
+        ensures later { self.old.taken ≤ self.new.taken }
+        ensures leaves { IfErr result (Leaves R.remaining self.old self.new) }
+        ensures spends { OnOk result (budget self.old ≤ budget self.new) }
     {
         let start = self.taken;
         let mut value = 0;
@@ -66,13 +67,17 @@ impl<R: Read> Source<R> {
         }
     }
 
-    // The next byte, which is to be this one.
+    /// The next byte, which is to be this one.
     fn expect_byte(&mut self, byte: u8) -> Result<(), TextFault>
-        ensures read { OnOk result (Consumes (R.remaining self.old.reader) (R.remaining self.new.reader) (byte ∷ [])) }
+        ensures read { OnOk result (Consumes (R.remaining self.old.reader)
+            (R.remaining self.new.reader) (byte ∷ [])) }
         ensures counted { OnOk result (self.new.taken ≡ self.old.taken + 1) }
         ensures fewer { OnOk result (self.new.asks < self.old.asks) }
-        ensures fails { IfErr result (λ f. IfSome (R.remaining self.old.reader) (λ text. FailsByte byte self.old.taken text f)) }
-        ensures spent { IfErr result (IsSpent self.new.asks) }
+        ensures fails { IfErr result (FailsIn R.remaining self.old self.new
+            (FailsByte byte self.old.taken)) }
+        ensures later { self.old.taken ≤ self.new.taken }
+        ensures leaves { IfErr result (Leaves R.remaining self.old self.new) }
+        ensures spends { OnOk result (budget self.old ≤ budget self.new) }
     {
         let at = self.taken;
         match self.byte()? {
@@ -82,46 +87,21 @@ impl<R: Read> Source<R> {
         }
     }
 
-    // Takes the next `len` bytes. Memory is asked for only as they come.
-    fn bytes(&mut self, into: &mut Vec<u8>, len: u64) -> Result<(), TextFault>
-        ensures read { OnOk result (Consumes (R.remaining self.old.reader) (R.remaining self.new.reader) into.new.items) }
-        ensures are { AreBytes into.new.items }
-        ensures long { OnOk result (length into.new.items ≡ len) }
-        ensures counted { OnOk result (self.new.taken ≡ self.old.taken + len) }
-        ensures fewer { OnOk result (self.new.asks ≤ self.old.asks) }
-        ensures fails { IfErr result (λ f. IfSome (R.remaining self.old.reader) (λ text. FailsBytes len self.old.taken text f)) }
-        ensures spent { IfErr result (IsSpent self.new.asks) }
-    {
-        into.clear();
-        let mut piece = [0u8; PIECE];
-        while (into.len() as u64) < len {
-            let left = len - into.len() as u64;
-            let most = if left < PIECE as u64 {
-                left as usize
-            } else {
-                PIECE
-            };
-            let at = self.taken;
-            let n = self.fill(&mut piece[..most])?;
-            if n == 0 {
-                return Err(TextFault::Ended(at));
-            }
-            into.extend_from_slice(&piece[..n])?;
-        }
-        Ok(())
-    }
-
-    // Takes the next `len` bytes, and `stop` behind them: the text goes on with `len + 1` bytes of
-    // any kind or ends early, so they are asked for together.
+    /// Takes the next `len` bytes, and `stop` behind them: the text goes on with `len + 1` bytes of
+    /// any kind or ends early, so they are asked for together.
     fn field(&mut self, into: &mut Vec<u8>, len: u64, stop: u8) -> Result<(), TextFault>
         requires { len < 2 ^ 63 }
-        ensures read { OnOk result (Consumes (R.remaining self.old.reader) (R.remaining self.new.reader) (into.new.items ++ stop ∷ [])) }
+        ensures read { OnOk result (Consumes (R.remaining self.old.reader)
+            (R.remaining self.new.reader) (into.new.items ++ stop ∷ [])) }
         ensures are { AreBytes into.new.items }
         ensures long { OnOk result (length into.new.items ≡ len) }
         ensures counted { OnOk result (self.new.taken ≡ self.old.taken + (len + 1)) }
         ensures fewer { OnOk result (self.new.asks ≤ self.old.asks) }
-        ensures fails { IfErr result (λ f. IfSome (R.remaining self.old.reader) (λ text. FailsField len stop self.old.taken text f)) }
-        ensures spent { IfErr result (IsSpent self.new.asks) }
+        ensures fails { IfErr result (FailsIn R.remaining self.old self.new
+            (FailsField len stop self.old.taken)) }
+        ensures later { self.old.taken ≤ self.new.taken }
+        ensures leaves { IfErr result (Leaves R.remaining self.old self.new) }
+        ensures spends { OnOk result (budget self.old ≤ budget self.new) }
     {
         let at = self.taken;
         self.bytes(into, len + 1)?;
@@ -131,14 +111,19 @@ impl<R: Read> Source<R> {
         }
     }
 
-    // Takes the record behind a plus.
+    /// Takes the record behind a plus.
     fn record(&mut self, into: &mut Record, greatest: u64) -> Result<(), TextFault>
         requires least { 9 ≤ greatest }
         requires most { greatest < 2 ^ 63 }
-        ensures read { OnOk result (ReadsBehindPlus greatest (R.remaining self.old.reader) (R.remaining self.new.reader) self.old.taken self.new.taken (key_value into.new)) }
+        ensures read { OnOk result (ReadsBehindPlus greatest (R.remaining self.old.reader)
+            (R.remaining self.new.reader) self.old.taken self.new.taken (key_value into.new)) }
         ensures fewer { OnOk result (self.new.asks < self.old.asks) }
-        ensures fails { (from : ℕ) → self.old.taken ≡ from + 1 → IfErr result (λ f. IfSome (R.remaining self.old.reader) (λ text. FailsRecord greatest from (43 ∷ text) f)) }
-        ensures spent { IfErr result (IsSpent self.new.asks) }
+        ensures fails { (from : ℕ) → self.old.taken ≡ from + 1 →
+            IfErr result (FailsIn R.remaining self.old self.new (λ text.
+            FailsRecord greatest from (codes "+" ++ text))) }
+        ensures later { self.old.taken ≤ self.new.taken }
+        ensures leaves { IfErr result (Leaves R.remaining self.old self.new) }
+        ensures spends { OnOk result (budget self.old ≤ budget self.new) }
     {
         let klen = self.number(greatest, b',')?;
         let vlen = self.number(greatest, b':')?;
@@ -148,17 +133,22 @@ impl<R: Read> Source<R> {
         Ok(())
     }
 
-    // Takes the next record, and answers whether there is one: none is at the newline that ends
-    // the text.
+    /// Takes the next record, and answers whether there is one: none is at the newline that ends
+    /// the text.
     pub(crate) fn entry(&mut self, into: &mut Record, greatest: u64) -> Result<bool, TextFault>
         requires least { 9 ≤ greatest }
         requires most { greatest < 2 ^ 63 }
         ensures read { IfOk result (λ given. MatchBool given
-            (ReadsRecord greatest (R.remaining self.old.reader) (R.remaining self.new.reader) self.old.taken self.new.taken (key_value into.new))
-            (Consumes (R.remaining self.old.reader) (R.remaining self.new.reader) (10 ∷ []) × (self.new.taken ≡ self.old.taken + 1))) }
+            (ReadsRecord greatest (R.remaining self.old.reader)
+            (R.remaining self.new.reader) self.old.taken self.new.taken (key_value into.new))
+            (Consumes (R.remaining self.old.reader) (R.remaining self.new.reader) (codes "\n")
+            × (self.new.taken ≡ self.old.taken + 1))) }
         ensures fewer { OnOk result (self.new.asks < self.old.asks) }
-        ensures fails { IfErr result (λ f. IfSome (R.remaining self.old.reader) (λ text. FailsRecord greatest self.old.taken text f)) }
-        ensures spent { IfErr result (IsSpent self.new.asks) }
+        ensures fails { IfErr result (FailsIn R.remaining self.old self.new
+            (FailsRecord greatest self.old.taken)) }
+        ensures later { self.old.taken ≤ self.new.taken }
+        ensures leaves { IfErr result (Leaves R.remaining self.old self.new) }
+        ensures spends { OnOk result (budget self.old ≤ budget self.new) }
     {
         let at = self.taken;
         match self.byte()? {

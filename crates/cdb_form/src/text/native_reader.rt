@@ -1,12 +1,5 @@
 // Records out of a native text.
-ghost use Rattle.std.specs.Prelude.{◌≡◌, ◌≢◌, true, false, ℕ, List, ◌+◌, ◌*◌, ◌^◌, ◌<◌, ◌≤◌, [], ◌∷◌, ◌++◌, length, OnOk, OnErr, IfOk, IfErr, IfSome, IfNone, MatchBool, SomeIff};
-ghost use Rattle.std.specs.Bool.{OnTrue, OnFalse};
-ghost use Rattle.std.specs.Io.KnownBytes.{Consumes};
-ghost use Rattle.cdb_form.specs.Format.Record.{AreBytes};
-ghost use Rattle.cdb_form.specs.Text.Native.{IsNumeral, HasFault, HasNoRecord};
-ghost use Rattle.cdb_form.specs.Views.TextReader.{ReadsRecord};
-ghost use Rattle.cdb_form.specs.Views.NativeParser.{FailsNumber, FailsByte, FailsBytes, FailsField, FailsRecord, ReadsBehindPlus};
-ghost use Rattle.cdb_form.specs.Views.TextFault.{IsOfText, IsSpent};
+ghost use Rattle.std.specs.Prelude.{◌≡◌, ◌^◌, ◌≤◌, false, IfOk, IfErr, MatchOption, MatchBool};
 ghost use Rattle.cdb_form.specs.Views.Pairs.{key_value};
 
 use crate::record::Record;
@@ -38,7 +31,7 @@ pub struct TextReader<R, L> {
 }
 
 impl<R: Read, L: Width> TextReader<R, L> {
-    ghost use Rattle.cdb_form.specs.Views.TextReader.{unread, taken_of, asks_left, IsGoing, HasEnded, HasFailed};
+    ghost use Rattle.cdb_form.specs.Views.TextReader.{unread, taken_of, asks_left, IsGoing, HasEnded, HasFailed, GivesRecord, GivesEnd, Fails};
     /// A reader of the text that `reader` gives, which may be asked 2^48 times.
     pub fn new(alloc: Global, reader: R) -> TextReader<R, L>
         ensures unread { unread R.remaining result ≡ R.remaining reader }
@@ -72,21 +65,14 @@ impl<R: Read, L: Width> TextReader<R, L> {
     /// first one; `Input` comes where the reader failed, or was interrupted more than 1000 times
     /// in a row; `Endless` where no ask is left; `NoMemory` where a growth was refused.
     pub fn next(&mut self) -> Result<Option<Record>, TextFault>
-        // A record that is given was spelled by what was unread.
-        ensures record { IfOk result (λ found. IfSome found (λ r.
-            ReadsRecord L.GREATEST (unread R.remaining self.old) (unread R.remaining self.new) (taken_of self.old) (taken_of self.new) (key_value r))) }
-        // The first `None` took a newline.
-        ensures end { IsGoing self.old → IfOk result (λ found. IfNone found
-            (Consumes (unread R.remaining self.old) (unread R.remaining self.new) (10 ∷ []) × (taken_of self.new ≡ taken_of self.old + 1) × HasEnded self.new)) }
-        // Which fault it is, and where; then no further whole record stands at what was unread.
-        ensures exact { IsGoing self.old → IfErr result (λ fault. IfSome (unread R.remaining self.old) (λ text. HasFault L.GREATEST (taken_of self.old) text fault)) }
-        ensures no_record { IsGoing self.old → IfErr result (λ fault. IfSome (unread R.remaining self.old) (λ text. IsOfText fault → HasNoRecord L.GREATEST text)) }
-        ensures endless { IsGoing self.old → IfErr result (IsSpent (asks_left self.new)) }
+        ensures gives { IfOk result (λ found. MatchOption found
+            (GivesEnd R.remaining self.old self.new)
+            (λ r. GivesRecord L.GREATEST R.remaining self.old self.new (key_value r))) }
+        ensures fails { IfErr result (Fails L.GREATEST R.remaining self.old self.new) }
         // After the end and after a fault nothing is read, and the answer stays.
         ensures ended { HasEnded self.old → (result ≡ Ok None) × (self.new ≡ self.old) }
-        ensures failed { (fault : _) → HasFailed self.old fault → (result ≡ Err fault) × (self.new ≡ self.old) }
-        ensures fails { IfErr result (HasFailed self.new) }
-        ensures goes_on { IfOk result (λ found. IfSome found (λ _. IsGoing self.new × (asks_left self.new < asks_left self.old))) }
+        ensures failed { (fault : _) → HasFailed self.old fault →
+            (result ≡ Err fault) × (self.new ≡ self.old) }
     {
         let mut record = Record {
             key: Vec::new(self.alloc),
@@ -100,21 +86,14 @@ impl<R: Read, L: Width> TextReader<R, L> {
     /// one. The answers are those of `next`, with `false` for `None`; after `false` and after a
     /// fault the record holds anything.
     pub fn read_into(&mut self, into: &mut Record) -> Result<bool, TextFault>
-        // A record that is given was spelled by what was unread.
-        ensures record { IfOk result (λ given. OnTrue given
-            (ReadsRecord L.GREATEST (unread R.remaining self.old) (unread R.remaining self.new) (taken_of self.old) (taken_of self.new) (key_value into.new))) }
-        // The first `false` took a newline.
-        ensures end { IsGoing self.old → IfOk result (λ given. OnFalse given
-            (Consumes (unread R.remaining self.old) (unread R.remaining self.new) (10 ∷ []) × (taken_of self.new ≡ taken_of self.old + 1) × HasEnded self.new)) }
-        // Which fault it is, and where; then no further whole record stands at what was unread.
-        ensures exact { IsGoing self.old → IfErr result (λ fault. IfSome (unread R.remaining self.old) (λ text. HasFault L.GREATEST (taken_of self.old) text fault)) }
-        ensures no_record { IsGoing self.old → IfErr result (λ fault. IfSome (unread R.remaining self.old) (λ text. IsOfText fault → HasNoRecord L.GREATEST text)) }
-        ensures endless { IsGoing self.old → IfErr result (IsSpent (asks_left self.new)) }
+        ensures gives { IfOk result (λ given. MatchBool given
+            (GivesRecord L.GREATEST R.remaining self.old self.new (key_value into.new))
+            (GivesEnd R.remaining self.old self.new)) }
+        ensures fails { IfErr result (Fails L.GREATEST R.remaining self.old self.new) }
         // After the end and after a fault nothing is read, and the answer stays.
         ensures ended { HasEnded self.old → (result ≡ Ok false) × (self.new ≡ self.old) }
-        ensures failed { (fault : _) → HasFailed self.old fault → (result ≡ Err fault) × (self.new ≡ self.old) }
-        ensures fails { IfErr result (HasFailed self.new) }
-        ensures goes_on { IfOk result (λ given. OnTrue given (IsGoing self.new × (asks_left self.new < asks_left self.old))) }
+        ensures failed { (fault : _) → HasFailed self.old fault →
+            (result ≡ Err fault) × (self.new ≡ self.old) }
     {
         match self.going {
             Going::On => {}

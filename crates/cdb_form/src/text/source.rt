@@ -1,12 +1,13 @@
-// A reader that is asked a bounded number of times.
-ghost use Rattle.std.specs.Prelude.{◌≡◌, ◌+◌, ◌*◌, ◌^◌, ◌<◌, ◌≤◌, [], ◌∷◌, length, take, OnOk, IfOk, IfErr, MatchOption};
+// A reader of a text, with the count of what it gave and of how often it may still be asked.
+ghost use Rattle.std.specs.Prelude.{◌≡◌, ◌+◌, ◌*◌, ◌^◌, ◌<◌, ◌≤◌, [], ◌∷◌, length, OnOk, OnErr, IfOk, IfErr, IfSome, MatchOption};
 ghost use Rattle.std.specs.Io.KnownBytes.{Keeps, Consumes, IsAtEnd};
-ghost use Rattle.cdb_form.specs.Format.Record.{AreBytes};
-ghost use Rattle.cdb_form.specs.Views.TextFault.{IsReadFault, IsSpent};
 
-use crate::reading::RETRIES;
+use crate::reading::{some_bytes, vector};
 use crate::text::fault::TextFault;
-use std::io::{ErrorKind, Read};
+use std::io::Read;
+
+/// How many bytes of a key or value are asked for at once.
+const PIECE: usize = 256;
 
 /// A reader with the count of the bytes that it gave, and of the asks that it has left.
 #[derive(Drop)]
@@ -18,6 +19,11 @@ pub(crate) struct Source<R> {
 }
 
 impl<R: Read> Source<R> {
+    ghost use Rattle.cdb_form.specs.Format.Record.{AreBytes};
+    ghost use Rattle.cdb_form.specs.Views.NativeParser.{FailsBytes, FailsIn, Leaves, budget};
+    ghost use Rattle.cdb_form.specs.Views.TextFault.{IsReadFault, IsSpent};
+
+    /// A reader that gave nothing yet, and may be asked so often.
     pub(crate) fn new(reader: R, asks: u64) -> Source<R>
         requires { asks ≤ 2 ^ 48 }
         ensures reader { result.reader ≡ reader }
@@ -31,51 +37,57 @@ impl<R: Read> Source<R> {
         }
     }
 
-    // Asks for bytes until some come. None come only at the end.
-    pub(crate) fn fill(&mut self, into: &mut [u8]) -> Result<usize, TextFault>
-        requires some { 0 < length into.old }
-        requires few { length into.old ≤ 4096 }
-        ensures bound { IfOk result (λ n. n ≤ length into.new) }
-        ensures bytes { IfOk result (λ n. Consumes (R.remaining self.old.reader) (R.remaining self.new.reader) (take n into.new)) }
-        ensures are { IfOk result (λ _. AreBytes into.new) }
-        ensures end { IfOk result (λ n. n ≡ 0 → IsAtEnd (R.remaining self.new.reader)) }
-        ensures counted { IfOk result (λ n. self.new.taken ≡ self.old.taken + n) }
-        ensures fewer { OnOk result (self.new.asks < self.old.asks) }
-        ensures fails { IfErr result IsReadFault }
-        ensures spent { IfErr result (IsSpent self.new.asks) }
-    {
-        for _ in 0..RETRIES + 1 {
-            if self.asks == 0 {
-                return Err(TextFault::Endless);
-            }
-            self.asks -= 1;
-            match self.reader.read(into) {
-                Ok(n) => {
-                    self.taken += n as u64;
-                    return Ok(n);
-                }
-                Err(e) => {
-                    if e.kind() != ErrorKind::Interrupted {
-                        return Err(TextFault::Input);
-                    }
-                }
-            }
-        }
-        Err(TextFault::Input)
-    }
-
-    // The next byte, or `None` at the end.
+    /// The next byte, or `None` at the end.
     pub(crate) fn byte(&mut self) -> Result<Option<u8>, TextFault>
         ensures bytes { IfOk result (λ found. MatchOption found
-            (IsAtEnd (R.remaining self.old.reader) × Keeps (R.remaining self.old.reader) (R.remaining self.new.reader))
+            (IsAtEnd (R.remaining self.old.reader)
+            × Keeps (R.remaining self.old.reader) (R.remaining self.new.reader))
             (λ b. Consumes (R.remaining self.old.reader) (R.remaining self.new.reader) (b ∷ []))) }
-        ensures counted { IfOk result (λ found. MatchOption found (self.new.taken ≡ self.old.taken) (λ b. self.new.taken ≡ self.old.taken + 1)) }
+        ensures counted { IfOk result (λ found.
+            MatchOption found (self.new.taken ≡ self.old.taken) (λ b.
+            self.new.taken ≡ self.old.taken + 1)) }
         ensures fewer { OnOk result (self.new.asks < self.old.asks) }
+        ensures no_more { self.new.asks ≤ self.old.asks }
+        ensures spends { self.old.asks ≤ self.new.asks + 1001 }
+        ensures kept { OnErr result (Keeps (R.remaining self.old.reader)
+            (R.remaining self.new.reader)) }
+        ensures same { OnErr result (self.new.taken ≡ self.old.taken) }
         ensures fails { IfErr result IsReadFault }
         ensures spent { IfErr result (IsSpent self.new.asks) }
     {
         let mut one = [0u8; 1];
-        let n = self.fill(&mut one)?;
-        if n == 0 { Ok(None) } else { Ok(Some(one[0])) }
+        let n = match some_bytes(&mut self.reader, &mut self.asks, &mut one) {
+            Ok(n) => n,
+            Err(unread) => return Err(TextFault::of_reader(unread, self.taken)),
+        };
+        if n == 0 {
+            return Ok(None);
+        }
+        self.taken += 1;
+        Ok(Some(one[0]))
+    }
+
+    /// Takes the next `len` bytes. Memory is asked for only as they come.
+    pub(crate) fn bytes(&mut self, into: &mut Vec<u8>, len: u64) -> Result<(), TextFault>
+        requires { len ≤ 2 ^ 63 }
+        ensures read { OnOk result (Consumes (R.remaining self.old.reader)
+            (R.remaining self.new.reader) into.new.items) }
+        ensures are { AreBytes into.new.items }
+        ensures long { OnOk result (length into.new.items ≡ len) }
+        ensures counted { OnOk result (self.new.taken ≡ self.old.taken + len) }
+        ensures fewer { self.new.asks ≤ self.old.asks }
+        ensures fails { IfErr result (FailsIn R.remaining self.old self.new
+            (FailsBytes len self.old.taken)) }
+        ensures later { self.old.taken ≤ self.new.taken }
+        ensures leaves { IfErr result (Leaves R.remaining self.old self.new) }
+        ensures spends { OnOk result (budget self.old ≤ budget self.new) }
+    {
+        let mut piece = [0u8; PIECE];
+        let answer = vector(&mut self.reader, &mut self.asks, into, len, &mut piece);
+        self.taken += into.len() as u64;
+        match answer {
+            Ok(()) => Ok(()),
+            Err(unread) => Err(TextFault::of_reader(unread, self.taken)),
+        }
     }
 }

@@ -1,7 +1,8 @@
 // Why a walk of a database file ended before the record end.
-ghost use Rattle.std.specs.Prelude.{◌≡◌};
-ghost use Rattle.cdb_form.specs.Views.WalkFault.{walk_number};
+ghost use Rattle.std.specs.Prelude.{◌≡◌, option_map};
+ghost use Rattle.cdb_form.specs.Views.WalkFault.{walk_number, walk_message, walk_part, unread_walk};
 
+use crate::reading::Unread;
 use std::alloc::{AllocError, AllocFailed};
 use std::fmt;
 
@@ -34,16 +35,49 @@ impl WalkFault {
             WalkFault::NoMemory => 5,
         }
     }
+
+    /// The fault of a walk whose reader did not give what it was asked for, where it is `early`
+    /// that it had no more.
+    pub(crate) fn of_reader(unread: Unread, early: WalkFault) -> WalkFault
+        ensures { result ≡ unread_walk early unread }
+    {
+        match unread {
+            Unread::Ended => early,
+            Unread::Failed | Unread::Spent => WalkFault::Input,
+            Unread::NoMemory => WalkFault::NoMemory,
+        }
+    }
+
+    /// What the fault is, in words that stand behind the part of the file where it names one.
+    pub fn message(&self) -> &'static str
+        ensures { result.now ≡ walk_message self.now }
+    {
+        match self {
+            WalkFault::Short => "database shorter than its head",
+            WalkFault::Table(_) => "outside the file",
+            WalkFault::Record(_) => "not whole",
+            WalkFault::Input => "database cannot be read or written",
+            WalkFault::NoMemory => "no memory",
+        }
+    }
+
+    /// The part of the file that the fault names, and its number or place, where it names one.
+    pub fn part(&self) -> Option<(&'static str, u64)>
+        ensures { option_map (λ p. (p.0.now, p.1)) result ≡ walk_part self.now }
+    {
+        match *self {
+            WalkFault::Table(n) => Some(("table ", n)),
+            WalkFault::Record(place) => Some(("record at ", place)),
+            _ => None,
+        }
+    }
 }
 
 impl fmt::Display for WalkFault {
     fn fmt<W: fmt::Write>(&self, f: &mut fmt::Formatter<W>) -> fmt::Result {
-        match self {
-            WalkFault::Short => write!(f, "database shorter than its head"),
-            WalkFault::Table(n) => write!(f, "table {n}: outside the file"),
-            WalkFault::Record(place) => write!(f, "record at {place}: not whole"),
-            WalkFault::Input => write!(f, "database cannot be read or written"),
-            WalkFault::NoMemory => write!(f, "no memory"),
+        match self.part() {
+            Some((part, number)) => write!(f, "{part}{number}: {}", self.message()),
+            None => f.write_str(self.message()),
         }
     }
 }

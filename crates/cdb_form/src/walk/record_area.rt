@@ -7,14 +7,11 @@ ghost use Rattle.cdb_form.specs.Format.Walk.{record_end, walk_of, walk_from, dam
 ghost use Rattle.cdb_form.specs.Views.WalkFault.{IsDamage};
 ghost use Rattle.cdb_form.specs.Views.Pairs.{head_pairs};
 
-use crate::head::{head_size, read_head};
-use crate::reading::fill;
+use crate::head::head_size;
 use crate::walk::fault::WalkFault;
+use crate::walk::source::file_head;
 use crate::width::Width;
 use std::io::Read;
-
-/// The bytes of the greatest head, that of words of 8 bytes.
-const GREATEST_HEAD: usize = 4096;
 
 /// Where the records stand that weren't given yet: from the next place to the record end.
 #[derive(Clone, Copy, Debug, PartialEq, Eq)]
@@ -24,19 +21,20 @@ pub(crate) struct Area {
     pub(crate) ghost ordered: { place ≤ end },
 }
 
-// Reads the head, which tells where the records end.
+/// Reads the head, which tells where the records end.
 pub(crate) fn read_area<R: Read, L: Width>(reader: &mut R) -> Result<Area, WalkFault>
-    ensures area { IfOk result (λ area. FromTo (R.remaining reader.old) (R.remaining reader.new) (λ text rest.
-        (walk_of L.WORD text ≡ walk_from L.WORD area.place area.end rest) × (area.end ≡ record_end L.WORD text) × (rest ≡ drop (head_size L.WORD) text))) }
+    ensures area { IfOk result (λ area.
+        FromTo (R.remaining reader.old) (R.remaining reader.new) (λ text rest.
+        (walk_of L.WORD text ≡ walk_from L.WORD area.place area.end rest)
+        × (area.end ≡ record_end L.WORD text) × (rest ≡ drop (head_size L.WORD) text))) }
     ensures place { IfOk result (λ area. area.place ≡ head_size L.WORD) }
-    ensures fails { IfErr result (λ f. IsDamage f → IfSome (R.remaining reader.old) (λ text. walk_of L.WORD text ≡ damaged f)) }
-    ensures loses { LosesAtMost (R.remaining reader.old) (R.remaining reader.new) (head_size L.WORD) }
+    ensures fails { IfErr result (λ f. IsDamage f → IfSome (R.remaining reader.old) (λ text.
+        walk_of L.WORD text ≡ damaged f)) }
+    ensures loses { LosesAtMost (R.remaining reader.old)
+        (R.remaining reader.new) (head_size L.WORD) }
 {
-    let mut bytes = [0u8; GREATEST_HEAD];
-    let size = head_size::<L>();
-    fill(reader, &mut bytes[..size], WalkFault::Short)?;
-    let head = read_head::<L>(&bytes[..size]);
-    let place = size as u64;
+    let head = file_head::<R, L>(reader)?;
+    let place = head_size::<L>() as u64;
     let end = head.record_end::<L>();
     if end < place {
         return Err(WalkFault::Table(head.first_table_at(end) as u64));

@@ -1,19 +1,19 @@
 // Records out of a database file that is read in one pass.
-ghost use Rattle.std.specs.Prelude.{◌≡◌, ℕ, ◌+◌, ◌-◌, ◌*◌, ◌^◌, ◌<◌, ◌≤◌, max, List, ◌++◌, false, drop, OnOk, OnErr, IfOk, IfErr, IfSome, IfNone};
+ghost use Rattle.std.specs.Prelude.{◌≡◌, ℕ, ◌+◌, ◌-◌, ◌*◌, ◌^◌, ◌<◌, ◌≤◌, max, List, ◌++◌, false, drop, OnOk, OnErr, IfOk, IfErr, IfSome, MatchOption, MatchBool};
 ghost use Rattle.std.specs.Bool.{OnTrue, OnFalse};
-ghost use Rattle.cdb_form.specs.Views.KnownBytes.{LosesAtMost, FromTo};
-ghost use Rattle.cdb_form.specs.Format.Pair.{head_size};
+ghost use Rattle.cdb_form.specs.Views.KnownBytes.{LosesAtMost, FromTo, StillFrom};
+ghost use Rattle.cdb_form.specs.Format.Pair.{head_size, pair_size};
+ghost use Rattle.cdb_form.specs.Views.Reading.{ReadsNoFurther};
 ghost use Rattle.cdb_form.specs.Format.Record.{record_size};
 ghost use Rattle.cdb_form.specs.Format.Walk.{walk_of, walk_from, record_end, damaged, no_walk, with_first};
 ghost use Rattle.cdb_form.specs.Views.WalkFault.{IsDamage};
 ghost use Rattle.cdb_form.specs.Views.Pairs.{key_value};
 
-use crate::header::read_header;
 use crate::pair::pair_size;
-use crate::reading::{bytes, fill};
 use crate::record::Record;
 use crate::walk::fault::WalkFault;
 use crate::walk::record_area::{Area, read_area};
+use crate::walk::source::{bytes, record_header};
 use crate::width::Width;
 use std::alloc::Global;
 use std::io::Read;
@@ -31,34 +31,41 @@ pub(crate) enum Walking {
     Failed(WalkFault),
 }
 
-// Reads the record at the next place, and says where those behind it stand.
+/// Reads the record at the next place, and says where those behind it stand.
 fn read_record<R: Read, L: Width>(
     reader: &mut R,
     into: &mut Record,
     area: Area,
 ) -> Result<Area, WalkFault>
     requires { area.place < area.end }
-    ensures record { IfOk result (λ behind. FromTo (R.remaining reader.old) (R.remaining reader.new) (λ text rest.
-        (walk_from L.WORD area.place area.end text ≡ with_first (key_value into.new) (walk_from L.WORD behind.place area.end rest))
+    ensures record { IfOk result (λ behind.
+        FromTo (R.remaining reader.old) (R.remaining reader.new) (λ text rest.
+        (walk_from L.WORD area.place area.end text
+        ≡ with_first (key_value into.new) (walk_from L.WORD behind.place area.end rest))
         × (rest ≡ drop (behind.place - area.place) text))) }
-    ensures place { IfOk result (λ behind. behind.place ≡ area.place + record_size L.WORD (key_value into.new)) }
+    ensures place { IfOk result (λ behind.
+        behind.place ≡ area.place + record_size L.WORD (key_value into.new)) }
     ensures end { IfOk result (λ behind. behind.end ≡ area.end) }
-    ensures fails { IfErr result (λ f. IsDamage f → IfSome (R.remaining reader.old) (λ text. walk_from L.WORD area.place area.end text ≡ damaged f)) }
-    ensures loses { LosesAtMost (R.remaining reader.old) (R.remaining reader.new) (area.end - area.place) }
+    ensures fails { IfErr result (λ f. IsDamage f → IfSome (R.remaining reader.old) (λ text.
+        walk_from L.WORD area.place area.end text ≡ damaged f)) }
+    ensures header { IfErr result (λ f.
+        IsDamage f → ReadsNoFurther (pair_size L.WORD) (R.remaining reader.old)
+        (R.remaining reader.new)) }
+    ensures loses { LosesAtMost (R.remaining reader.old)
+        (R.remaining reader.new) (area.end - area.place) }
 {
     let early = WalkFault::Record(area.place);
-    let mut piece = [0u8; PIECE];
     let size = pair_size::<L>();
     let left = area.end - area.place;
     if left < size as u64 {
         return Err(early);
     }
-    fill(reader, &mut piece[..size], early)?;
-    let header = read_header::<L>(&piece[..size]);
+    let header = record_header::<R, L>(reader, early)?;
     let left = left - size as u64;
     if left < header.klen || left - header.klen < header.vlen {
         return Err(early);
     }
+    let mut piece = [0u8; PIECE];
     bytes(reader, &mut into.key, header.klen, &mut piece, early)?;
     bytes(reader, &mut into.value, header.vlen, &mut piece, early)?;
     let place = area.place + size as u64 + header.klen + header.vlen;
@@ -81,7 +88,7 @@ pub struct RecordReader<R, L> {
 }
 
 impl<R: Read, L: Width> RecordReader<R, L> {
-    ghost use Rattle.cdb_form.specs.Views.RecordReader.{unread, walk_left, behind_end, bytes_left, IsFresh, IsGoing, HasEnded, HasFailed};
+    ghost use Rattle.cdb_form.specs.Views.RecordReader.{unread, walk_left, behind_end, bytes_left, IsFresh, IsGoing, HasEnded, HasFailed, Between, GivesRecord, GivesEnd, Fails};
     /// A reader of the records of the file that `reader` gives. Nothing is read yet.
     pub fn new(alloc: Global, reader: R) -> RecordReader<R, L>
         ensures unread { unread R.remaining result ≡ R.remaining reader }
@@ -102,21 +109,14 @@ impl<R: Read, L: Width> RecordReader<R, L> {
     /// where the reader failed, or was interrupted more than 1000 times in a row; `NoMemory` where
     /// a growth was refused.
     pub fn next(&mut self) -> Result<Option<Record>, WalkFault>
-        // A record that is given is the first of the walk of what was unread.
-        ensures record { IfOk result (λ found. IfSome found (λ r. FromTo (unread R.remaining self.old) (unread R.remaining self.new) (λ text rest.
-            walk_left L.WORD self.old text ≡ with_first (key_value r) (walk_left L.WORD self.new rest)))) }
-        // At `None` that walk has ended, with no damage.
-        ensures end { IfOk result (λ found. IfNone found (IfSome (unread R.remaining self.old) (λ text. walk_left L.WORD self.old text ≡ no_walk) × HasEnded self.new)) }
-        // A fault of the file is the damage of that walk, with no record before it.
-        ensures exact { IfErr result (λ fault. IsDamage fault → IfSome (unread R.remaining self.old) (λ text. walk_left L.WORD self.old text ≡ damaged fault)) }
-        // What stands behind the record end stays unread; after `None` it is all that is unread.
-        ensures behind { OnOk result (FromTo (unread R.remaining self.old) (unread R.remaining self.new) (λ text rest. behind_end L.WORD self.new rest ≡ behind_end L.WORD self.old text)) }
-        ensures still_behind { OnErr result (FromTo (unread R.remaining self.old) (unread R.remaining self.new) (λ text rest. (more : List ℕ) × (rest ≡ more ++ behind_end L.WORD self.old text))) }
+        ensures gives { IfOk result (λ found. MatchOption found
+            (GivesEnd L.WORD R.remaining self.old self.new)
+            (λ r. GivesRecord L.WORD R.remaining self.old self.new (key_value r))) }
+        ensures fails { IfErr result (Fails L.WORD R.remaining self.old self.new) }
         // After the end and after a fault nothing is read, and the answer stays.
         ensures ended { HasEnded self.old → (result ≡ Ok None) × (self.new ≡ self.old) }
-        ensures failed { (fault : _) → HasFailed self.old fault → (result ≡ Err fault) × (self.new ≡ self.old) }
-        ensures fails { IfErr result (HasFailed self.new) }
-        ensures goes_on { IfOk result (λ found. IfSome found (λ _. IsGoing self.new × (bytes_left self.new < bytes_left self.old))) }
+        ensures failed { (fault : _) → HasFailed self.old fault →
+            (result ≡ Err fault) × (self.new ≡ self.old) }
     {
         let mut record = Record {
             key: Vec::new(self.alloc),
@@ -130,21 +130,14 @@ impl<R: Read, L: Width> RecordReader<R, L> {
     /// one. The answers are those of `next`, with `false` for `None`; after `false` and after a
     /// fault the record holds anything.
     pub fn read_into(&mut self, into: &mut Record) -> Result<bool, WalkFault>
-        // A record that is given is the first of the walk of what was unread.
-        ensures record { IfOk result (λ given. OnTrue given (FromTo (unread R.remaining self.old) (unread R.remaining self.new) (λ text rest.
-            walk_left L.WORD self.old text ≡ with_first (key_value into.new) (walk_left L.WORD self.new rest)))) }
-        // At `false` that walk has ended, with no damage.
-        ensures end { IfOk result (λ given. OnFalse given (IfSome (unread R.remaining self.old) (λ text. walk_left L.WORD self.old text ≡ no_walk) × HasEnded self.new)) }
-        // A fault of the file is the damage of that walk, with no record before it.
-        ensures exact { IfErr result (λ fault. IsDamage fault → IfSome (unread R.remaining self.old) (λ text. walk_left L.WORD self.old text ≡ damaged fault)) }
-        // What stands behind the record end stays unread; after `false` it is all that is unread.
-        ensures behind { OnOk result (FromTo (unread R.remaining self.old) (unread R.remaining self.new) (λ text rest. behind_end L.WORD self.new rest ≡ behind_end L.WORD self.old text)) }
-        ensures still_behind { OnErr result (FromTo (unread R.remaining self.old) (unread R.remaining self.new) (λ text rest. (more : List ℕ) × (rest ≡ more ++ behind_end L.WORD self.old text))) }
+        ensures gives { IfOk result (λ given. MatchBool given
+            (GivesRecord L.WORD R.remaining self.old self.new (key_value into.new))
+            (GivesEnd L.WORD R.remaining self.old self.new)) }
+        ensures fails { IfErr result (Fails L.WORD R.remaining self.old self.new) }
         // After the end and after a fault nothing is read, and the answer stays.
         ensures ended { HasEnded self.old → (result ≡ Ok false) × (self.new ≡ self.old) }
-        ensures failed { (fault : _) → HasFailed self.old fault → (result ≡ Err fault) × (self.new ≡ self.old) }
-        ensures fails { IfErr result (HasFailed self.new) }
-        ensures goes_on { IfOk result (λ given. OnTrue given (IsGoing self.new × (bytes_left self.new < bytes_left self.old))) }
+        ensures failed { (fault : _) → HasFailed self.old fault →
+            (result ≡ Err fault) × (self.new ≡ self.old) }
     {
         let answer = match self.walking {
             Walking::AtHead => self.first(into),
@@ -160,31 +153,60 @@ impl<R: Read, L: Width> RecordReader<R, L> {
         answer
     }
 
-    // Reads the head, and then the first record.
+    /// Reads the head, and then the first record.
     fn first(&mut self, into: &mut Record) -> Result<bool, WalkFault>
-        ensures record { IfOk result (λ given. OnTrue given (FromTo (unread R.remaining self.old) (unread R.remaining self.new) (λ text rest.
+        ensures record { IfOk result (λ given.
+            OnTrue given (Between R.remaining self.old self.new (λ text rest.
             (walk_of L.WORD text ≡ with_first (key_value into.new) (walk_left L.WORD self.new rest))
             × (behind_end L.WORD self.new rest ≡ drop (record_end L.WORD text) text)))) }
-        ensures fewer { IfOk result (λ given. OnTrue given (IsGoing self.new × (bytes_left self.new < 2 ^ 64))) }
-        ensures end { IfOk result (λ given. OnFalse given (IfSome (unread R.remaining self.old) (λ text. walk_of L.WORD text ≡ no_walk))) }
-        ensures behind { IfOk result (λ given. OnFalse given (FromTo (unread R.remaining self.old) (unread R.remaining self.new) (λ text rest. rest ≡ drop (record_end L.WORD text) text))) }
-        ensures after_head { OnOk result (IfSome (unread R.remaining self.old) (λ text. head_size L.WORD ≤ record_end L.WORD text)) }
-        ensures fails { IfErr result (λ f. IsDamage f → IfSome (unread R.remaining self.old) (λ text. walk_of L.WORD text ≡ damaged f)) }
-        ensures still_behind { OnErr result (FromTo (unread R.remaining self.old) (unread R.remaining self.new) (λ text rest. (more : List ℕ) × (rest ≡ more ++ drop (max (head_size L.WORD) (record_end L.WORD text)) text))) }
+        ensures fewer { IfOk result (λ given.
+            OnTrue given (IsGoing self.new × (bytes_left self.new < 2 ^ 64))) }
+        ensures end { IfOk result (λ given.
+            OnFalse given (IfSome (unread R.remaining self.old) (λ text.
+            walk_of L.WORD text ≡ no_walk))) }
+        ensures behind { IfOk result (λ given.
+            OnFalse given (Between R.remaining self.old self.new (λ text rest.
+            rest ≡ drop (record_end L.WORD text) text))) }
+        ensures after_head { OnOk result (IfSome (unread R.remaining self.old) (λ text.
+            head_size L.WORD ≤ record_end L.WORD text)) }
+        ensures fails { IfErr result (λ f.
+            IsDamage f → IfSome (unread R.remaining self.old) (λ text.
+            walk_of L.WORD text ≡ damaged f)) }
+        ensures header { IfErr result (λ f.
+            IsDamage f →
+            ReadsNoFurther (head_size L.WORD + pair_size L.WORD)
+            (unread R.remaining self.old) (unread R.remaining self.new)) }
+        ensures still_behind { OnErr result
+            (Between R.remaining self.old self.new (λ text rest.
+            StillFrom (max (head_size L.WORD) (record_end L.WORD text)) text rest)) }
     {
         let area = read_area::<R, L>(&mut self.reader)?;
         self.record_at(into, area)
     }
 
-    // Reads the record at the next place, unless that is the record end.
+    /// Reads the record at the next place, unless that is the record end.
     fn record_at(&mut self, into: &mut Record, area: Area) -> Result<bool, WalkFault>
-        ensures record { IfOk result (λ given. OnTrue given (FromTo (unread R.remaining self.old) (unread R.remaining self.new) (λ text rest.
-            (walk_from L.WORD area.place area.end text ≡ with_first (key_value into.new) (walk_left L.WORD self.new rest))
+        ensures record { IfOk result (λ given.
+            OnTrue given (Between R.remaining self.old self.new (λ text rest.
+            (walk_from L.WORD area.place area.end text
+            ≡ with_first (key_value into.new) (walk_left L.WORD self.new rest))
             × (behind_end L.WORD self.new rest ≡ drop (area.end - area.place) text)))) }
-        ensures fewer { IfOk result (λ given. OnTrue given (IsGoing self.new × (bytes_left self.new < area.end - area.place))) }
-        ensures end { IfOk result (λ given. OnFalse given (IfSome (unread R.remaining self.old) (λ text. walk_from L.WORD area.place area.end text ≡ no_walk) × (area.place ≡ area.end) × (self.new ≡ self.old))) }
-        ensures fails { IfErr result (λ f. IsDamage f → IfSome (unread R.remaining self.old) (λ text. walk_from L.WORD area.place area.end text ≡ damaged f)) }
-        ensures still_behind { OnErr result (FromTo (unread R.remaining self.old) (unread R.remaining self.new) (λ text rest. (more : List ℕ) × (rest ≡ more ++ drop (area.end - area.place) text))) }
+        ensures fewer { IfOk result (λ given.
+            OnTrue given (IsGoing self.new × (bytes_left self.new < area.end - area.place))) }
+        ensures end { IfOk result (λ given.
+            OnFalse given (IfSome (unread R.remaining self.old) (λ text.
+            walk_from L.WORD area.place area.end text ≡ no_walk) × (area.place ≡ area.end)
+            × (self.new ≡ self.old))) }
+        ensures fails { IfErr result (λ f.
+            IsDamage f → IfSome (unread R.remaining self.old) (λ text.
+            walk_from L.WORD area.place area.end text ≡ damaged f)) }
+        ensures header { IfErr result (λ f.
+            IsDamage f →
+            ReadsNoFurther (pair_size L.WORD)
+            (unread R.remaining self.old) (unread R.remaining self.new)) }
+        ensures still_behind { OnErr result
+            (Between R.remaining self.old self.new (λ text rest.
+            StillFrom (area.end - area.place) text rest)) }
     {
         if area.place == area.end {
             return Ok(false);

@@ -1,4 +1,4 @@
-use Rattle.std.proofs.Common.{◌≡◌, ℕ, ap, ◌∙◌, map}
+use Rattle.std.proofs.Common.{ℕ, ap, ◌∙◌, map}
 use Rattle.std.specs.Prelude.{unwrap_or}
 use Rattle.cdb_form.specs.Format.Walk.{least_place}
 use Rattle.cdb_form.specs.Views.Pairs.{pointer_pair}

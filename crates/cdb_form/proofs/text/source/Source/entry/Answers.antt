@@ -1,13 +1,32 @@
-use Rattle.std.proofs.Common.{◌≡◌, arith}
+use Rattle.std.proofs.Common.{◌≡◌, ℕ, [], arith, sym, subst}
 use Rattle.std.proofs.lemmas.Result.{err_from_is_err_and}
-use Rattle.cdb_form.proofs.Stops.{ended_first, syntax_first, record_first}
+use Rattle.cdb_form.proofs.SourceLemmas.{kept_consumes, part_seen, seen_past, leaves_past}
+use Rattle.cdb_form.specs.Views.NativeParser.{FailsRecord}
+use Rattle.cdb_form.specs.declared.text.fault.TextFault.TheVariants.{Ended}
+use Rattle.cdb_form.proofs.Stops.{ended_first, syntax_first, record_first, nothing_read}
 use Rattle.cdb_form.proofs.text.source.Source.entry.Goals as goal
+
+pub returns-in_err-byte-clause-fails : goal.returns-in_err-byte-clause-fails
+returns-in_err-byte-clause-fails g c =
+    let p = err_from_is_err_and c.from_residual.result c.from_residual.ensures.1 in
+    let e = c.in_err-byte.ensures in
+    rw (p.1, p.2) (part_seen (FailsRecord c.args.greatest c.args.self.now.taken) _ _ c.args.self.now.taken c.byte.new.self.taken [] c.in_err-byte.field-0.0 e.fails (kept_consumes _ _ e.kept) (omega (arith, e.same))
+    (subst (λ (n : ℕ). FailsRecord c.args.greatest c.args.self.now.taken [] (Ended n)) (sym e.same) (nothing_read c.args.greatest c.args.self.now.taken)))
 
 pub returns-in_err-record-in-Some-eq43-clause-fails : goal.returns-in_err-record-in-Some-eq43-clause-fails
 returns-in_err-record-in-Some-eq43-clause-fails g c =
     let p = err_from_is_err_and c.from_residual-in_err-record-in-Some-eq43.result c.from_residual-in_err-record-in-Some-eq43.ensures.1 in
     let plus : c.in-Some-eq43.field-0 ≡ 43 = omega arith in
-    rw (p.1, p.2) (record_first _ _ _ _ _ (rw (c.in-Some-eq43.is, plus) at c.in_ok-byte.ensures.bytes) (c.in_err-record-in-Some-eq43.ensures.fails c.args.self.now.taken (rw c.in-Some-eq43.is at c.in_ok-byte.ensures.counted)))
+    let counted = rw c.in-Some-eq43.is at c.in_ok-byte.ensures.counted in
+    let h = c.in_err-record-in-Some-eq43.ensures in
+    rw (p.1, p.2) (record_first _ _ _ _ _ (seen_past _ _ _ _ _ [] 43 c.in_err-record-in-Some-eq43.field-0.0 (rw (c.in-Some-eq43.is, plus) at c.in_ok-byte.ensures.bytes) counted h.later) (h.fails c.args.self.now.taken counted))
+
+pub returns-in_err-record-in-Some-eq43-clause-leaves : goal.returns-in_err-record-in-Some-eq43-clause-leaves
+returns-in_err-record-in-Some-eq43-clause-leaves g c =
+    let p = err_from_is_err_and c.from_residual-in_err-record-in-Some-eq43.result c.from_residual-in_err-record-in-Some-eq43.ensures.1 in
+    let plus : c.in-Some-eq43.field-0 ≡ 43 = omega arith in
+    let counted = rw c.in-Some-eq43.is at c.in_ok-byte.ensures.counted in
+    rw (p.1, p.2) (leaves_past _ _ _ _ [] 43 _ (rw (c.in-Some-eq43.is, plus) at c.in_ok-byte.ensures.bytes) counted (omega (arith, counted, c.in_ok-byte.ensures.spends)) c.in_err-record-in-Some-eq43.ensures.leaves)
 
 pub returns-in-None-clause-fails : goal.returns-in-None-clause-fails
 returns-in-None-clause-fails g c = ended_first _ _ _ (rw c.in-None.is at c.in_ok-byte.ensures.bytes).0

@@ -1,6 +1,6 @@
 use Rattle.std.proofs.Common.{◌≡◌, ◌+◌, ◌*◌, ap, ◌∙◌, arith, rules}
 use Rattle.std.specs.Char.{digit_value}
-use Rattle.cdb_form.proofs.SourceLemmas.{digit_more}
+use Rattle.cdb_form.proofs.SourceLemmas.{digit_more, digits_took}
 use Rattle.cdb_form.proofs.text.source.Source.number.Goals as goal
 
 pub loop-byte-preserved : goal.loop-byte-preserved
@@ -12,6 +12,29 @@ loop-byte-preserved g c =
     record {
       start = search rules;
       asks = search rules;
+      spent = omega (arith, c.loop-byte.invariant.spent, c.in_ok-byte.ensures.spends, counted);
       so_far = digit_more _ _ _ _ _ _ _ c.in-Some.byte _ _ c.loop-byte.invariant.so_far (rw c.in-Some.is at c.in_ok-byte.ensures.bytes)
           (rw (← code) digit.0) (longer.1 ∙ ap (λ d. c.loop-byte.value * 10 + d) (digit.1 ∙ code)) (omega (arith, longer.0, longer.1)) counted;
+    }
+
+pub returns-in-None-with_digit-clause-leaves : goal.returns-in-None-with_digit-clause-leaves
+returns-in-None-with_digit-clause-leaves g c =
+    let read = rw c.in-Some.is at c.in_ok-byte.ensures.bytes in
+    let counted = rw c.in-Some.is at c.in_ok-byte.ensures.counted in
+    record {
+      took = λ other. digits_took _ _ _ _ _ _ _ _ _ _ c.loop-byte.invariant.so_far read c.loop-byte.invariant.start counted;
+      last = counted;
+      spent = search rules;
+      spends = omega (arith, c.loop-byte.invariant.spent, c.in_ok-byte.ensures.spends, counted);
+    }
+
+pub returns-else-byte-stop-clause-leaves : goal.returns-else-byte-stop-clause-leaves
+returns-else-byte-stop-clause-leaves g c =
+    let read = rw c.in-Some.is at c.in_ok-byte.ensures.bytes in
+    let counted = rw c.in-Some.is at c.in_ok-byte.ensures.counted in
+    record {
+      took = λ other. digits_took _ _ _ _ _ _ _ _ _ _ c.loop-byte.invariant.so_far read c.loop-byte.invariant.start counted;
+      last = counted;
+      spent = search rules;
+      spends = omega (arith, c.loop-byte.invariant.spent, c.in_ok-byte.ensures.spends, counted);
     }

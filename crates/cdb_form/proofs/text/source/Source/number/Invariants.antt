@@ -1,4 +1,5 @@
 use Rattle.std.proofs.Common.{◌≡◌, ◌≤◌}
+use Rattle.cdb_form.specs.Views.NativeParser.{budget}
 use Rattle.cdb_form.proofs.SourceLemmas.{DigitsSoFar}
 use Rattle.cdb_form.proofs.text.source.Source.number.Given as goal
 
@@ -8,6 +9,7 @@ invariant-loop-byte g l =
     record {
       start : l.start ≡ l.fn.self.taken;
       asks : l.self.asks ≤ l.fn.self.asks;
+      spent : budget l.fn.self ≤ budget l.self;
       so_far : DigitsSoFar (g.R.Read.remaining l.fn.self.reader) (g.R.Read.remaining l.self.reader) l.greatest l.start l.self.taken l.value;
     }
 

@@ -1,11 +1,13 @@
-use Rattle.std.proofs.Common.{◌≡◌, length}
+use Rattle.std.proofs.Common.{◌≡◌, ◌+◌, ◌≤◌, length}
 use Rattle.std.specs.Io.KnownBytes.{Keeps}
-use Rattle.cdb_form.proofs.reading.ask.Given as goal
+use Rattle.cdb_form.proofs.reading.some_bytes.Given as goal
 
--- nothing was read yet
+-- nothing was read yet, and each call took an ask
 abbrev pub invariant-loop : goal.invariant-loop
 invariant-loop g l =
     record {
       kept : Keeps (g.R.Read.remaining l.fn.reader) (g.R.Read.remaining l.reader);
+      asks : l.asks ≤ l.fn.asks;
+      spent : l.fn.asks ≤ l.asks + l.counter;
       room : length l.into ≡ length l.fn.into;
     }

@@ -4,21 +4,21 @@ use Rattle.std.specs.Io.KnownBytes.{Consumes}
 use borrow.Rule.Slice.PartMut.{put_mid, same_len_mid}
 use Rattle.cdb_form.specs.Format.Record.{AreBytes}
 use Rattle.cdb_form.proofs.AskingLemmas.{take_read, read_more}
-use Rattle.cdb_form.proofs.reading.fill.Goals as goal
+use Rattle.cdb_form.proofs.reading.all_bytes.Goals as goal
 
 pub loop-done-preserved : goal.loop-done-preserved
 loop-done-preserved g c =
     let done = c.loop-done.done in
     let n = c.in_ok-n.n in
     let xs = c.loop-done.into in
-    let ys = c.ask.new.into in
+    let ys = c.some_bytes.new.into in
     let inv = c.loop-done.invariant in
     let into = put_mid done (length xs - done) xs ys in
     let front : take (done + n) into ≡ _ = take_read done (length xs - done) n xs ys inv.within c.in_ok-n.ensures.bound in
     let more = read_more _ _ _ (take done xs) ys done n inv.read inv.are (length-take-le done xs inv.within) c.in_ok-n.ensures.bytes c.in_ok-n.ensures.are c.in_ok-n.ensures.bound in
-    let room : length ys ≡ length xs - done = c.ask.auto.into ∙ length-take-le (length xs - done) _ (omega (arith, length-drop done xs)) in
+    let room : length ys ≡ length xs - done = c.some_bytes.auto.into ∙ length-take-le (length xs - done) _ (omega (arith, length-drop done xs)) in
     record {
       read = subst (Consumes _ _) (sym front) more.read;
       are = subst AreBytes (sym front) more.are;
-      within = omega (arith, same_len_mid done (length xs - done) xs ys c.ask.auto.into, inv.within, room, c.in_ok-n.ensures.bound);
+      within = omega (arith, same_len_mid done (length xs - done) xs ys c.some_bytes.auto.into, inv.within, room, c.in_ok-n.ensures.bound);
     }

@@ -1,7 +1,7 @@
 use Rattle.std.proofs.Common.{◌-◌, ◌≤◌, length, take}
 use Rattle.std.specs.Io.KnownBytes.{Consumes}
 use Rattle.cdb_form.specs.Format.Record.{AreBytes}
-use Rattle.cdb_form.proofs.reading.fill.Given as goal
+use Rattle.cdb_form.proofs.reading.all_bytes.Given as goal
 
 -- the bytes so far
 abbrev pub invariant-loop-done : goal.invariant-loop-done

@@ -1,0 +1,27 @@
+use Rattle.std.proofs.Common.{ℕ, ap, ◌∙◌, sym, subst}
+use Rattle.std.proofs.lemmas.Result.{err_from_is_err_and}
+use Rattle.std.proofs.lemmas.List.{take_at}
+use Rattle.cdb_form.specs.Format.Reading.{pair_at}
+use Rattle.cdb_form.specs.Views.Reading.{ReadsShort}
+use Rattle.cdb_form.proofs.AreaLemmas.{pair_fits}
+use Rattle.cdb_form.proofs.walk.source.record_header.Goals as goal
+
+pub returns-clause-read : goal.returns-clause-read
+returns-clause-read g c =
+    let w = g.L.Width.WORD in
+    let f = c.pair_size-size.ensures in
+    let long = c.fill.auto.into ∙ pair_fits w c.pair_size-size.result f g.met.L.Width.four_or_eight in
+    record {
+      bytes = c.fill.new.into;
+      read = c.in_ok-fill.ensures.bytes;
+      long = long;
+      lengths = c.read_header.ensures.read ∙ ap (pair_at w) (take_at c.fill.new.into _ c.pair_size-size.result (long ∙ sym f));
+    }
+
+pub returns-in_err-fill-clause-fails : goal.returns-in_err-fill-clause-fails
+returns-in_err-fill-clause-fails g c =
+    let p = err_from_is_err_and c.from_residual.result c.from_residual.ensures.1 in
+    let long = pair_fits g.L.Width.WORD c.pair_size-size.result c.pair_size-size.ensures g.met.L.Width.four_or_eight in
+    rw (p.1, p.2) (λ damage.
+    let h = c.in_err-fill.ensures.fails damage in
+    (h.0, subst (λ (n : ℕ). ReadsShort n (g.R.Read.remaining c.args.reader.now) (g.R.Read.remaining c.fill.new.reader)) long h.1))

@@ -1,0 +1,102 @@
+// Bytes of a file from a reader. That it has no more is a damage of the file.
+ghost use Rattle.std.specs.Prelude.{◌≡◌, ◌<◌, ◌≤◌, length, OnOk, IfOk, IfErr};
+ghost use Rattle.std.specs.Io.KnownBytes.{Consumes};
+ghost use Rattle.cdb_form.specs.Format.Pair.{head_size, pair_size};
+ghost use Rattle.cdb_form.specs.Format.Record.{AreBytes};
+ghost use Rattle.cdb_form.specs.declared.walk.fault.WalkFault.TheVariants.{Short};
+ghost use Rattle.cdb_form.specs.Views.KnownBytes.{LosesAtMost};
+ghost use Rattle.cdb_form.specs.Views.Reading.{ReadsShort, HeadRead, HeaderRead};
+ghost use Rattle.cdb_form.specs.Views.WalkFault.{IsDamage};
+
+use crate::head::{Head, head_size, read_head};
+use crate::header::{Header, read_header};
+use crate::pair::pair_size;
+use crate::reading::{all_bytes, vector};
+use crate::walk::fault::WalkFault;
+use crate::width::Width;
+use std::io::Read;
+
+/// How often a reader may be asked for the bytes of one vector: each ask gives a byte or is one of
+/// at most 1000 in a row that signals interrupt, so no vector that memory can hold takes as many.
+const ASKS: u64 = u64::MAX;
+
+/// The bytes of the greatest head and of the greatest header, those of words of 8 bytes.
+const GREATEST_HEAD: usize = 4096;
+
+const GREATEST_HEADER: usize = 16;
+
+/// Fills all of `into`, or answers `early` where the reader ends before that.
+fn fill<R: Read>(reader: &mut R, into: &mut [u8], early: WalkFault) -> Result<(), WalkFault>
+    ensures bytes { OnOk result (Consumes (R.remaining reader.old)
+        (R.remaining reader.new) into.new) }
+    ensures are { OnOk result (AreBytes into.new) }
+    ensures fails { IfErr result (λ f.
+        IsDamage f → (f ≡ early) × ReadsShort (length into.old) (R.remaining reader.old)
+        (R.remaining reader.new)) }
+    ensures loses { LosesAtMost (R.remaining reader.old)
+        (R.remaining reader.new) (length into.old) }
+{
+    let mut asks = ASKS;
+    match all_bytes(reader, &mut asks, into) {
+        Ok(()) => Ok(()),
+        Err(unread) => Err(WalkFault::of_reader(unread, early)),
+    }
+}
+
+/// Takes the next `len` bytes through `piece`, or answers `early` where the reader ends before.
+pub(crate) fn bytes<R: Read>(
+    reader: &mut R,
+    into: &mut Vec<u8>,
+    len: u64,
+    piece: &mut [u8],
+    early: WalkFault,
+) -> Result<(), WalkFault>
+    requires some { 0 < length piece.old }
+    requires few { length piece.old ≤ 4096 }
+    ensures read { OnOk result (Consumes (R.remaining reader.old)
+        (R.remaining reader.new) into.new.items) }
+    ensures are { AreBytes into.new.items }
+    ensures long { OnOk result (length into.new.items ≡ len) }
+    ensures fails { IfErr result (λ f.
+        IsDamage f → (f ≡ early) × ReadsShort len (R.remaining reader.old)
+        (R.remaining reader.new)) }
+    ensures loses { LosesAtMost (R.remaining reader.old) (R.remaining reader.new) len }
+{
+    let mut asks = ASKS;
+    match vector(reader, &mut asks, into, len, piece) {
+        Ok(()) => Ok(()),
+        Err(unread) => Err(WalkFault::of_reader(unread, early)),
+    }
+}
+
+/// Reads the head of a file. `Short`: the reader ends before it does.
+pub(crate) fn file_head<R: Read, L: Width>(reader: &mut R) -> Result<Head, WalkFault>
+    ensures read { IfOk result (HeadRead L.WORD (R.remaining reader.old) (R.remaining reader.new)) }
+    ensures fails { IfErr result (λ f. IsDamage f → (f ≡ Short)
+        × ReadsShort (head_size L.WORD) (R.remaining reader.old) (R.remaining reader.new)) }
+    ensures loses { LosesAtMost
+        (R.remaining reader.old) (R.remaining reader.new) (head_size L.WORD) }
+{
+    let mut bytes = [0u8; GREATEST_HEAD];
+    let size = head_size::<L>();
+    fill(reader, &mut bytes[..size], WalkFault::Short)?;
+    Ok(read_head::<L>(&bytes[..size]))
+}
+
+/// Reads the header of a record, or answers `early` where the reader ends before it does.
+pub(crate) fn record_header<R: Read, L: Width>(
+    reader: &mut R,
+    early: WalkFault,
+) -> Result<Header, WalkFault>
+    ensures read { IfOk result
+        (HeaderRead L.WORD (R.remaining reader.old) (R.remaining reader.new)) }
+    ensures fails { IfErr result (λ f. IsDamage f → (f ≡ early)
+        × ReadsShort (pair_size L.WORD) (R.remaining reader.old) (R.remaining reader.new)) }
+    ensures loses { LosesAtMost
+        (R.remaining reader.old) (R.remaining reader.new) (pair_size L.WORD) }
+{
+    let mut bytes = [0u8; GREATEST_HEADER];
+    let size = pair_size::<L>();
+    fill(reader, &mut bytes[..size], early)?;
+    Ok(read_header::<L>(&bytes[..size]))
+}

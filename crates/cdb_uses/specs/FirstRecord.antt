@@ -1,0 +1,13 @@
+-- What stands at the front of a text, where its bytes are known.
+use Rattle.std.specs.Prelude.{ℕ, ◌≡◌, List, ◌++◌, codes, Option, IfSome}
+use Rattle.cdb_form.specs.Format.Record.{KeyValue}
+use Rattle.cdb_form.specs.Text.Native.{Spells}
+
+-- a spelling of the record
+abbrev pub BeginsWith : Option (List ℕ) → KeyValue → Type 0
+BeginsWith text r = IfSome text (λ t.
+    (first rest : List ℕ) × Spells 4294967295 first r × (t ≡ first ++ rest))
+
+-- the newline that ends a text
+abbrev pub HasNone : Option (List ℕ) → Type 0
+HasNone text = IfSome text (λ t. (rest : List ℕ) × (t ≡ codes "\n" ++ rest))

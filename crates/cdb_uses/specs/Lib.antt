@@ -1,0 +1,2 @@
+-- What the callers promise.
+pub mod FirstRecord

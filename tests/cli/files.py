@@ -1,0 +1,106 @@
+"""The texts and the database files that the cases are about.
+
+No program's output is among them: the small files were worked out by hand, and the large one is
+made here in the plainest way.
+"""
+
+import random
+import struct
+
+FIRST_TEXT = b"+3,5:one->Hello\n"
+TWO_TEXT = b"+3,5:one->Hello\n+3,7:two->Goodbye\n\n"
+BARE_TEXT = b"+0,0:->\n\n"
+
+
+def words(*numbers):
+    """Words of 4 bytes, the lowest byte first."""
+    return struct.pack("<%dI" % len(numbers), *numbers)
+
+
+EMPTY_FILE = words(2048, 0) * 256
+BARE_FILE = (
+    words(2056, 0) * 5 + words(2056, 2) + words(2072, 0) * 250
+    + words(0, 0)
+    + words(0, 0, 5381, 2048)
+)
+ONE_FILE = (
+    words(2064, 0) * 129 + words(2064, 2) + words(2080, 0) * 126
+    + words(3, 5) + b"oneHello"
+    + words(0, 0, 193420161, 2048)
+)
+TWO_FILE = (
+    words(2082, 0) * 41 + words(2082, 2)
+    + words(2098, 0) * 87 + words(2098, 2)
+    + words(2114, 0) * 126
+    + words(3, 5) + b"oneHello"
+    + words(3, 7) + b"twoGoodbye"
+    + words(193421353, 2064, 0, 0)
+    + words(0, 0, 193420161, 2048)
+)
+# As another program might make it: tables of one slot, and no place where a table is empty.
+FOREIGN_FILE = (
+    words(0, 0) * 196 + words(2058, 1) + words(0, 0) * 59
+    + words(1, 1) + b"a1"
+    + words(177604, 2048)
+)
+
+
+def two_with(place, new):
+    """The file of two records with other bytes at a place."""
+    return TWO_FILE[:place] + new + TWO_FILE[place + len(new):]
+
+
+def many_records():
+    """3000 records of any bytes, with some keys several times."""
+    chosen = random.Random(7)
+    return [
+        (chosen.randbytes(chosen.randint(0, 12)), chosen.randbytes(chosen.randint(0, 900)))
+        for _ in range(3000)
+    ]
+
+
+def text_of(records):
+    """The native text of some records."""
+    parts = (b"+%d,%d:%s->%s\n" % (len(key), len(value), key, value) for key, value in records)
+    return b"".join(parts) + b"\n"
+
+
+def hash_of(key):
+    """The hash of a key."""
+    number = 5381
+    for byte in key:
+        number = (number * 33 % 2**32) ^ byte
+    return number
+
+
+def table_of(entries):
+    """The table of some hashes and places: each in the first empty slot from its own on."""
+    slots = [(0, 0)] * (2 * len(entries))
+    for number, place in entries:
+        slot = (number >> 8) % len(slots)
+        while slots[slot][1] != 0:
+            slot = (slot + 1) % len(slots)
+        slots[slot] = (number, place)
+    return b"".join(words(*slot) for slot in slots)
+
+
+def file_of(records):
+    """The database of some records."""
+    body, lists = b"", [[] for _ in range(256)]
+    for key, value in records:
+        lists[hash_of(key) % 256].append((hash_of(key), 2048 + len(body)))
+        body += words(len(key), len(value)) + key + value
+    head, tables = b"", b""
+    for entries in lists:
+        head += words(2048 + len(body) + len(tables), 2 * len(entries))
+        tables += table_of(entries)
+    return head + body + tables
+
+
+LARGE = many_records()
+LARGE_TEXT = text_of(LARGE)
+LARGE_FILE = file_of(LARGE)
+# Where the last of these records begins and ends, and the text of those before it.
+LARGE_END = 2048 + sum(8 + len(key) + len(value) for key, value in LARGE)
+LARGE_LAST = LARGE_END - sum(map(len, LARGE[-1])) - 8
+LARGE_FRONT = text_of(LARGE[:-1])[:-1]
