@@ -20,7 +20,7 @@ use std::marker::PhantomData;
 /// The longest header, that of words of 8 bytes.
 const HEADER: usize = 16;
 
-// One more record's bytes. Where memory runs out, a part of them may stand there.
+/// One more record's bytes. Where memory runs out, a part of them may stand there.
 fn push_record<L: Width>(bytes: &mut Vec<u8>, item: &Record) -> Result<(), AllocError>
     requires { record_size L.WORD (key_value item.now) ≤ L.GREATEST }
     ensures ok { OnOk result (bytes.new.items ≡ bytes.old.items ++ record_bytes L.WORD (key_value item.now)) }
@@ -74,7 +74,7 @@ impl<L: Width> Builder<L> {
         })
     }
 
-    // The size of the file with one more record, where it is within the limit.
+    /// The size of the file with one more record, where it is within the limit.
     fn size_with(&self, item: &Record) -> Option<u64>
         ensures { SomeIff result (self.now.size + whole_size L.WORD (key_value item.now) ≤ self.now.limit) (self.now.size + whole_size L.WORD (key_value item.now)) }
     {
@@ -90,7 +90,7 @@ impl<L: Width> Builder<L> {
         }
     }
 
-    // One more record's bytes and entry. Where memory runs out, a part of the bytes may stand there.
+    /// One more record's bytes and entry. Where memory runs out, a part of the bytes may stand there.
     fn push(&mut self, item: &Record) -> Result<(), AllocError>
         requires { record_size L.WORD (key_value item.now) ≤ L.GREATEST }
         ensures bytes { OnOk result (self.new.bytes.items ≡ self.old.bytes.items ++ record_bytes L.WORD (key_value item.now)) }

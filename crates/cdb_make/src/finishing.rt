@@ -21,7 +21,7 @@ use std::io::Write;
 /// The longest head, that of words of 8 bytes.
 const HEAD: usize = 4096;
 
-// The pointers to the tables of some lists of entries, the first of which begins at `end`.
+/// The pointers to the tables of some lists of entries, the first of which begins at `end`.
 fn head_of<L: Width>(end: u64, lists: &[Vec<Slot>]) -> Head
     requires long { length lists.now ≡ 256 }
     requires room { tables_end L.WORD end (lists_pairs lists.now) ≤ L.GREATEST }
@@ -38,7 +38,7 @@ fn head_of<L: Width>(end: u64, lists: &[Vec<Slot>]) -> Head
     Head { pointers }
 }
 
-// Writes the head.
+/// Writes the head.
 fn write_pointers<L: Width, W: Write>(
     w: &mut W,
     end: u64,
@@ -56,7 +56,7 @@ fn write_pointers<L: Width, W: Write>(
     write_whole(w, &bytes[..len])
 }
 
-// Leaves the bytes of some slots.
+/// Leaves the bytes of some slots.
 fn encode_slots<L: Width>(slots: &[Slot], into: &mut [u8])
     requires long { length into.old ≡ pair_size L.WORD * length slots.now }
     requires fits { All (PairFits L.TOP) (map slot_pair slots.now) }
@@ -70,7 +70,7 @@ fn encode_slots<L: Width>(slots: &[Slot], into: &mut [u8])
     }
 }
 
-// Writes the table of some entries, by way of its slots and of its bytes.
+/// Writes the table of some entries, by way of its slots and of its bytes.
 fn write_table<L: Width, W: Write>(
     w: &mut W,
     entries: &[Slot],
@@ -88,7 +88,7 @@ fn write_table<L: Width, W: Write>(
     write_whole(w, bytes)
 }
 
-// Writes one table after another, each by way of the same slots and bytes.
+/// Writes one table after another, each by way of the same slots and bytes.
 fn write_tables<L: Width, W: Write>(
     w: &mut W,
     lists: &[Vec<Slot>],
@@ -109,7 +109,7 @@ fn write_tables<L: Width, W: Write>(
     Ok(())
 }
 
-// How many entries the longest list has.
+/// How many entries the longest list has.
 fn longest(lists: &[Vec<Slot>]) -> usize
     ensures most { All (λ list. length list.items ≤ result) lists.now }
     ensures within { result ≤ sum_by length (lists_pairs lists.now) }
@@ -123,7 +123,7 @@ fn longest(lists: &[Vec<Slot>]) -> usize
     most
 }
 
-// Writes the head, the records' bytes and the tables.
+/// Writes the head, the records' bytes and the tables.
 fn write_parts<L: Width, W: Write>(
     w: &mut W,
     records: &[u8],

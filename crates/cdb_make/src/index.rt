@@ -3,7 +3,7 @@ ghost use Rattle.std.specs.Prelude.{◌≡◌, [], length, replicate, IfOk, OnOk
 ghost use Rattle.cdb_form.specs.Views.Pairs.{slot_pair};
 ghost use Rattle.cdb_make.specs.Views.Index.{lists_pairs, with_entry};
 
-use cdb_form::Slot;
+use cdb_form::{Slot, table_number};
 use std::alloc::{AllocError, Global};
 
 /// 256 empty lists.
@@ -24,6 +24,6 @@ pub(crate) fn add_entry(lists: &mut Vec<Vec<Slot>>, entry: Slot) -> Result<(), A
     ensures added { OnOk result (lists_pairs lists.new.items ≡ with_entry (lists_pairs lists.old.items) (slot_pair entry)) }
     ensures kept { OnErr result (lists_pairs lists.new.items ≡ lists_pairs lists.old.items) }
 {
-    lists[(entry.hash % 256) as usize].push(entry)?;
+    lists[table_number(entry.hash)].push(entry)?;
     Ok(())
 }

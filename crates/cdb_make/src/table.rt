@@ -4,12 +4,12 @@ ghost use Rattle.std.specs.List.{prefix_len};
 ghost use Rattle.cdb_form.specs.Format.Table.{is_used, slots_from, slots_with, filled_slots, empty_slot};
 ghost use Rattle.cdb_form.specs.Views.Pairs.{slot_pair};
 
-use cdb_form::Slot;
+use cdb_form::{Slot, home_slot};
 
 /// A slot that holds no entry.
 pub(crate) const EMPTY: Slot = Slot { hash: 0, place: 0 };
 
-// How many slots are used from the front on.
+/// How many slots are used from the front on.
 fn used_front(slots: &[Slot]) -> usize
     ensures { result ≡ prefix_len is_used (map slot_pair slots.now) }
 {
@@ -21,7 +21,7 @@ fn used_front(slots: &[Slot]) -> usize
     slots.len()
 }
 
-// The first empty slot from `home` on, and round to it; `home` where there is none.
+/// The first empty slot from `home` on, and round to it; `home` where there is none.
 fn first_empty(slots: &[Slot], home: usize) -> usize
     requires { home < length slots.now }
     ensures within { result < length slots.now }
@@ -35,17 +35,17 @@ fn first_empty(slots: &[Slot], home: usize) -> usize
     }
 }
 
-// Puts an entry into the first empty slot from its home.
+/// Puts an entry into the first empty slot from its home.
 fn put_entry(slots: &mut [Slot], entry: Slot)
     requires { 0 < length slots.old }
     ensures { map slot_pair slots.new ≡ slots_with (map slot_pair slots.old) (slot_pair entry) }
 {
-    let home = (entry.hash / 256) % slots.len() as u64;
+    let home = home_slot(entry.hash, slots.len() as u64);
     let place = first_empty(slots, home as usize);
     slots[place] = entry;
 }
 
-// Empties each slot.
+/// Empties each slot.
 fn clear(slots: &mut [Slot])
     ensures { map slot_pair slots.new ≡ replicate (length slots.old) empty_slot }
 {

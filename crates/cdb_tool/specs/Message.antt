@@ -4,28 +4,13 @@ use Rattle.cdb_form.specs.declared.text.fault.TextFault.{TextFault}
 use Rattle.cdb_form.specs.declared.text.fault.TextFault.TheVariants as text
 use Rattle.cdb_form.specs.declared.walk.fault.WalkFault.{WalkFault}
 use Rattle.cdb_form.specs.declared.walk.fault.WalkFault.TheVariants as walk
+use Rattle.cdb_form.specs.Views.TextFault.{text_message}
+use Rattle.cdb_form.specs.Views.WalkFault.{walk_message}
 use Rattle.cdb_make.specs.Views.MakeFault.{make_message}
 use Rattle.cdb_tool.specs.declared.message.Place.{Place}
 use Rattle.cdb_tool.specs.declared.message.Place.TheVariants.{Nowhere, Input, Byte, Table, Record}
 use Rattle.cdb_tool.specs.declared.fault.Fault.{Fault}
 use Rattle.cdb_tool.specs.declared.fault.Fault.TheVariants.{Text, Make, Walk, Output, NoMemory}
-
--- what the fault of a text is
-abbrev pub text_message : TextFault → List ℕ
-text_message (text.Syntax at) = codes "not a record"
-text_message (text.Ended at) = codes "text ends early"
-text_message (text.Large at) = codes "length too large"
-text_message text.Input = codes "cannot be read"
-text_message text.Endless = codes "has no end"
-text_message text.NoMemory = codes "no memory"
-
--- what the fault of a walk is
-abbrev pub walk_message : WalkFault → List ℕ
-walk_message walk.Short = codes "database shorter than its head"
-walk_message (walk.Table n) = codes "outside the file"
-walk_message (walk.Record place) = codes "not whole"
-walk_message walk.Input = codes "database cannot be read or written"
-walk_message walk.NoMemory = codes "no memory"
 
 -- what a fault is
 abbrev pub fault_message : Fault → List ℕ

@@ -2,7 +2,7 @@
 ghost use Rattle.std.specs.Prelude.{◌≡◌, [], ◌++◌, Some, codes, OnOk, OnErr};
 ghost use Rattle.std.specs.Io.KnownBytes.{Appends};
 ghost use Rattle.cdb_form.specs.Views.KnownBytes.{AppendsFront};
-ghost use Rattle.cdb_tool.specs.Message.{text_message, walk_message, fault_message, numbered, said_place, fault_place, fault_text, fault_line};
+ghost use Rattle.cdb_tool.specs.Message.{fault_message, numbered, said_place, fault_place, fault_text, fault_line};
 
 use crate::fault::Fault;
 use cdb_form::{OutFault, TextFault, WalkFault, write_pieces, write_whole};
@@ -10,33 +10,6 @@ use itoa::Buffer;
 use std::error::Error;
 use std::fmt;
 use std::io::Write;
-
-/// What the fault of a text is.
-fn text_message(fault: TextFault) -> &'static str
-    ensures { result.now ≡ text_message fault }
-{
-    match fault {
-        TextFault::Syntax(_) => "not a record",
-        TextFault::Ended(_) => "text ends early",
-        TextFault::Large(_) => "length too large",
-        TextFault::Input => "cannot be read",
-        TextFault::Endless => "has no end",
-        TextFault::NoMemory => "no memory",
-    }
-}
-
-/// What the fault of a walk is.
-fn walk_message(fault: WalkFault) -> &'static str
-    ensures { result.now ≡ walk_message fault }
-{
-    match fault {
-        WalkFault::Short => "database shorter than its head",
-        WalkFault::Table(_) => "outside the file",
-        WalkFault::Record(_) => "not whole",
-        WalkFault::Input => "database cannot be read or written",
-        WalkFault::NoMemory => "no memory",
-    }
-}
 
 /// Where a fault is.
 #[derive(Clone, Copy, Debug, PartialEq, Eq)]
@@ -58,9 +31,9 @@ impl Fault {
         ensures { result.now ≡ fault_message self.now }
     {
         match *self {
-            Fault::Text(_, fault) => text_message(fault),
+            Fault::Text(_, fault) => fault.message(),
             Fault::Make(fault) => fault.message(),
-            Fault::Walk(fault) => walk_message(fault),
+            Fault::Walk(fault) => fault.message(),
             Fault::Output => "output cannot be written",
             Fault::NoMemory => "no memory",
         }

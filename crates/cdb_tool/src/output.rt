@@ -2,31 +2,9 @@
 ghost use Rattle.std.specs.Prelude.{◌≡◌, ℕ, ◌+◌, ◌<◌, ◌≤◌, [], length, take, IfOk, OnOk, OnErr, vec_len};
 ghost use Rattle.std.specs.Io.KnownBytes.{Keeps, Appends};
 
-use cdb_form::OutFault;
+use cdb_form::{OutFault, write_some};
 use std::alloc::{AllocError, Global};
 use std::io::{self, ErrorKind, Write};
-
-/// How often in a row a writer that is interrupted is asked again.
-const RETRIES: u64 = 1000;
-
-/// Writes some of the bytes, and answers how many.
-fn write_some<W: Write>(w: &mut W, bytes: &[u8]) -> Result<usize, OutFault>
-    ensures ok { IfOk result (λ n. (0 < n) × (n ≤ length bytes.now) × Appends (W.contents w.old) (W.contents w.new) (take n bytes.now)) }
-    ensures err { OnErr result (Keeps (W.contents w.old) (W.contents w.new)) }
-{
-    for _ in 0..RETRIES + 1 {
-        match w.write(bytes) {
-            Ok(0) => return Err(OutFault),
-            Ok(n) => return Ok(n),
-            Err(e) => {
-                if e.kind() != ErrorKind::Interrupted {
-                    return Err(OutFault);
-                }
-            }
-        }
-    }
-    Err(OutFault)
-}
 
 /// Takes the bytes for a writer, which is given many at once.
 #[derive(Drop)]

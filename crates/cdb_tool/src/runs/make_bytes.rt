@@ -1,9 +1,9 @@
 // A text made a file.
-ghost use Rattle.std.specs.Prelude.{◌≡◌, ℕ, List, Option, IfOk, IfErr};
+ghost use Rattle.std.specs.Prelude.{ℕ, List, Option, IfOk, IfErr};
 ghost use Rattle.cdb_form.specs.Format.Record.{KeyValue};
-ghost use Rattle.cdb_form.specs.Views.TextReader.{unread, taken_of, IsGoing};
+ghost use Rattle.cdb_form.specs.Views.TextReader.{unread};
 ghost use Rattle.cdb_make.specs.Views.Builder.{Holds};
-ghost use Rattle.cdb_tool.specs.Runs.MakeBytes.{ReadsFitting, NotRead, Makes};
+ghost use Rattle.cdb_tool.specs.Runs.MakeBytes.{IsNewText, ReadsFitting, NotRead, Makes};
 
 use crate::fault::Fault;
 use crate::runs::flushed::flushed;
@@ -20,11 +20,10 @@ fn fitting_records<L: Width, R: Read>(
     alloc: Global,
     text: &mut TextReader<R, L>,
 ) -> Result<Builder<L>, Fault>
-    requires going { IsGoing text.old }
-    requires fresh { taken_of text.old ≡ 0 }
+    requires { IsNewText text.old }
     ensures ok { IfOk result (λ b. (records : List KeyValue) × Holds L.WORD L.GREATEST b records
         × ReadsFitting L.WORD L.GREATEST (unread R.remaining text.old) (unread R.remaining text.new) records) }
-    ensures err { IfErr result (NotRead L.WORD L.GREATEST (unread R.remaining text.old)) }
+    ensures err { IfErr result (NotRead L.WORD L.GREATEST (unread R.remaining text.old) (unread R.remaining text.new)) }
 {
     let mut builder = Builder::new(alloc, L::GREATEST)?;
     let mut record = Record {
@@ -47,8 +46,7 @@ fn make_unflushed<L: Width, R: Read, W: Write>(
     text: &mut TextReader<R, L>,
     w: &mut W,
 ) -> Result<(), Fault>
-    requires going { IsGoing text.old }
-    requires fresh { taken_of text.old ≡ 0 }
+    requires { IsNewText text.old }
     ensures { Makes L.WORD L.GREATEST (unread R.remaining text.old) (unread R.remaining text.new) (W.contents w.old) (W.contents w.new) result }
 {
     let builder = fitting_records::<L, R>(alloc, text)?;
@@ -59,14 +57,13 @@ fn make_unflushed<L: Width, R: Read, W: Write>(
 /// Makes the database file of one native text, of which nothing was read yet.
 ///
 /// It does what `make_bytes` does, and leaves in the reader of the text what it did not read: at Ok
-/// what follows the text.
+/// what follows the text, after a fault of the text what follows the byte at its place.
 pub(crate) fn make_from<L: Width, R: Read, W: Write>(
     alloc: Global,
     text: &mut TextReader<R, L>,
     w: &mut W,
 ) -> Result<(), Fault>
-    requires going { IsGoing text.old }
-    requires fresh { taken_of text.old ≡ 0 }
+    requires { IsNewText text.old }
     ensures { Makes L.WORD L.GREATEST (unread R.remaining text.old) (unread R.remaining text.new) (W.contents w.old) (W.contents w.new) result }
 {
     let made = make_unflushed::<L, R, W>(alloc, text, w);

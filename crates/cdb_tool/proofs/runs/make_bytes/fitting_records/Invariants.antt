@@ -1,4 +1,4 @@
-use Rattle.cdb_form.specs.Views.TextReader.{IsGoing, asks_left, taken_of, unread}
+use Rattle.cdb_form.specs.Views.TextReader.{IsGoing, asks_left, unread}
 use Rattle.cdb_tool.proofs.WholeRuns.{HoldsSoFar}
 use Rattle.cdb_tool.proofs.runs.make_bytes.fitting_records.Given as goal
 
@@ -7,7 +7,7 @@ abbrev pub invariant-loop-fault : goal.invariant-loop-fault
 invariant-loop-fault g l =
     record {
       going : IsGoing l.text;
-      so_far : HoldsSoFar g.L.Width.WORD g.L.Width.GREATEST (unread g.R.Read.remaining l.fn.text) (unread g.R.Read.remaining l.text) (taken_of l.text) l.builder;
+      so_far : HoldsSoFar g.L.Width.WORD g.L.Width.GREATEST (unread g.R.Read.remaining l.fn.text) (unread g.R.Read.remaining l.text) l.text l.builder;
     }
 
 abbrev pub decreases-loop-fault : goal.decreases-loop-fault
