@@ -16,7 +16,7 @@ use Rattle.cdb_form.specs.Views.KnownBytes.{Took}
 use Rattle.cdb_form.proofs.Fronts.{take_past}
 use Rattle.cdb_form.specs.declared.reading.Unread.{Unread}
 use Rattle.cdb_form.specs.declared.reading.Unread.TheVariants as unread
-use Rattle.cdb_form.specs.Views.TextFault.{IsReadFault, unread_fault}
+use Rattle.cdb_form.specs.Views.TextFault.{IsReadFault, IsSpent, LastRead, unread_fault}
 use Rattle.cdb_form.specs.Views.NativeParser.{FailsBytes, FailsField, ReadsBehindPlus, seen, told, budget, Leaves}
 
 -- digits were read that stand for a value
@@ -121,6 +121,18 @@ digit_more old mid new greatest start taken value byte more longer s read digit 
 pub digits_took : (old mid new : Option (List ℕ)) (greatest start at value byte from to : ℕ) → DigitsSoFar old mid greatest start at value → Consumes mid new (byte ∷ []) → start ≡ from → to ≡ at + 1 → Took old new from to
 digits_took old mid new greatest start at value byte from to s read begin counted =
     took_these old new from to (s.digits ++ byte ∷ []) (consumes_then old mid new s.digits (byte ∷ []) s.read read) (omega (arith, s.taken_is, length-append s.digits (byte ∷ [])))
+
+-- what a fault at the byte behind the digits leaves
+pub digits_leave : {R : Type 0} (remaining : R → Option (List ℕ)) (old mid new : Source R) (greatest start value byte : ℕ) (f : TextFault)
+    → DigitsSoFar (remaining old.reader) (remaining mid.reader) greatest start mid.taken value → start ≡ old.taken → budget old ≤ budget mid
+    → Consumes (remaining mid.reader) (remaining new.reader) (byte ∷ []) → new.taken ≡ mid.taken + 1 → mid.asks ≤ new.asks + 1001
+    → LastRead new.taken f → IsSpent new.asks f → Leaves remaining old new f
+digits_leave remaining old mid new greatest start value byte f so_far begin spent read counted spends last is_spent = record {
+  took = λ other. digits_took _ _ _ greatest start mid.taken value byte _ _ so_far read begin counted;
+  last = last;
+  spent = is_spent;
+  spends = omega (arith, spent, spends, counted);
+}
 
 -- a whole record behind a plus
 pub record_behind : (o m₁ m₂ m₃ m₄ n : Option (List ℕ)) (greatest from to : ℕ) (a b : List ℕ) (r : KeyValue)

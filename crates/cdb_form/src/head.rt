@@ -1,5 +1,6 @@
 // The head of a file: the pointers to its tables.
-ghost use Rattle.std.specs.Prelude.{◌≡◌, ℕ, ◌+◌, ◌*◌, ◌<◌, ◌≤◌, ◌++◌, drop, length, map, flat_map, All, MatchOption};
+ghost use Rattle.std.specs.Prelude.{◌≡◌, ◌+◌, ◌*◌, ◌<◌, length, map, flat_map};
+ghost use Rattle.std.specs.Prelude.{All};
 ghost use Rattle.cdb_form.specs.Format.Pair.{pair_bytes, pair_size, head_size};
 ghost use Rattle.cdb_form.specs.Format.Reading.{pair_at, head_at};
 ghost use Rattle.std.specs.Prelude.{◌==◌, ◌&&◌, not, min, filter, position};

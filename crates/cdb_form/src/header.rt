@@ -1,5 +1,5 @@
 // The header of a record.
-ghost use Rattle.std.specs.Prelude.{◌≡◌, ◌≤◌, length};
+ghost use Rattle.std.specs.Prelude.{◌≡◌, length};
 ghost use Rattle.cdb_form.specs.Format.Pair.{pair_bytes, pair_size};
 ghost use Rattle.cdb_form.specs.Format.Reading.{pair_at};
 ghost use Rattle.cdb_form.specs.Views.Pairs.{header_pair, PairFits};

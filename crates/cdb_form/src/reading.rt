@@ -1,10 +1,12 @@
 // Bytes from a reader: some of them, all that are wanted, or a vector of them.
-ghost use Rattle.std.specs.Prelude.{◌≡◌, ◌≢◌, ◌+◌, ◌*◌, ◌<◌, ◌≤◌, length, take, OnOk, OnErr, IfOk, IfErr, IfSome};
+ghost use Rattle.std.specs.Prelude.{◌≡◌, ◌≢◌, ◌+◌, ◌*◌, ◌<◌, ◌≤◌, length, take, OnOk, OnErr, IfOk};
+ghost use Rattle.std.specs.Prelude.{IfErr};
 ghost use Rattle.std.specs.Io.KnownBytes.{Keeps, Consumes, IsAtEnd};
 ghost use Rattle.cdb_form.specs.Format.Record.{AreBytes};
 ghost use Rattle.cdb_form.specs.Views.KnownBytes.{LosesAtMost};
 ghost use Rattle.cdb_form.specs.Views.Reading.{IsOfReader, ReadsShort};
-ghost use Rattle.cdb_form.specs.declared.reading.Unread.TheVariants.{Ended, Failed, Spent, NoMemory};
+ghost use Rattle.cdb_form.specs.declared.reading.Unread.TheVariants.{Ended, Failed, Spent};
+ghost use Rattle.cdb_form.specs.declared.reading.Unread.TheVariants.{NoMemory};
 
 use std::alloc::AllocError;
 use std::io::{ErrorKind, Read};

@@ -1,14 +1,25 @@
 // Bytes to a writer.
-ghost use Rattle.std.specs.Prelude.{◌≡◌, ◌∷◌, [], ◌+◌, ◌<◌, ◌≤◌, length, take, flat_map, IfOk, OnOk, OnErr};
+ghost use Rattle.std.specs.Prelude.{◌+◌, ◌<◌, ◌≤◌, length, take, flat_map, IfOk};
+ghost use Rattle.std.specs.Prelude.{OnOk, OnErr};
 ghost use Rattle.std.specs.Io.KnownBytes.{Appends, Keeps};
 ghost use Rattle.cdb_form.specs.Views.KnownBytes.{AppendsFront};
 
 use crate::reading::RETRIES;
+use std::error::Error;
+use std::fmt;
 use std::io::{ErrorKind, Write};
 
 /// A writer failed, or took nothing, or said that it took more than it was offered.
 #[derive(Clone, Copy, Debug, PartialEq, Eq)]
 pub struct OutFault;
+
+impl fmt::Display for OutFault {
+    fn fmt<W: fmt::Write>(&self, f: &mut fmt::Formatter<W>) -> fmt::Result {
+        f.write_str("output cannot be written")
+    }
+}
+
+impl Error for OutFault {}
 
 /// Writes some of the bytes, at least one, and answers how many.
 ///

@@ -5,40 +5,53 @@ ghost use Rattle.cdb_store.specs.Images.{SameImages, AfterWrite, AfterTornWrite,
 
 use cdb_store::{Store, StoreFault};
 
-/// Writes a record's header, key and value from the place `at` on, one behind another, as one
+/// Writes a record's header, key and value from `pos` on, one behind another, as one
 /// write would: over what stands there, and past the end.
 ///
-/// `at` is at most the store's length. The store's room is made first, so where memory is refused
+/// `pos` is at most the store's length. The store's room is made first, so where memory is refused
 /// (`NoMemory`) nothing has changed. After `Device` the record's range may hold any bytes, and
 /// those outside of it stay.
-pub fn append_record<S: Store>(
+pub(crate) fn append_record<S: Store>(
     store: &mut S,
-    at: u64,
+    pos: u64,
     header: &[u8],
     key: &[u8],
     value: &[u8],
 ) -> Result<(), StoreFault>
-    requires inside { at ≤ S.size store.old }
-    requires end { at + length (header.now ++ (key.now ++ value.now)) < 2 ^ 63 }
-    ensures ok { OnOk result (AfterWrite at (header.now ++ (key.now ++ value.now)) (S.image store.old) (S.image store.new)) }
-    ensures ok_size { OnOk result (S.size store.new ≡ max (S.size store.old) (at + length (header.now ++ (key.now ++ value.now)))) }
-    ensures ok_written { OnOk result (S.written store.new ≡ S.written store.old + length (header.now ++ (key.now ++ value.now))) }
-    ensures torn { AfterTornWrite at (length (header.now ++ (key.now ++ value.now))) (S.image store.old) (S.image store.new) }
+    requires inside { pos ≤ S.size store.old }
+    requires end { pos + length (header.now ++ (key.now ++ value.now)) < 2 ^ 63 }
+    ensures ok { OnOk result
+        (AfterWrite pos (header.now ++ (key.now ++ value.now)) (S.image store.old)
+        (S.image store.new)) }
+    ensures ok_size { OnOk result
+        (S.size store.new
+        ≡ max (S.size store.old) (pos + length (header.now ++ (key.now ++ value.now)))) }
+    ensures ok_written { OnOk result
+        (S.written store.new
+        ≡ S.written store.old + length (header.now ++ (key.now ++ value.now))) }
+    ensures torn { AfterTornWrite pos (length (header.now ++ (key.now ++ value.now)))
+        (S.image store.old) (S.image store.new) }
     ensures longer { S.size store.old ≤ S.size store.new }
-    ensures not_past { S.size store.new ≤ max (S.size store.old) (at + length (header.now ++ (key.now ++ value.now))) }
+    ensures not_past { S.size store.new
+        ≤ max (S.size store.old) (pos + length (header.now ++ (key.now ++ value.now))) }
     ensures more_written { S.written store.old ≤ S.written store.new }
-    ensures at_most_written { S.written store.new ≤ S.written store.old + length (header.now ++ (key.now ++ value.now)) }
+    ensures at_most_written { S.written store.new
+        ≤ S.written store.old + length (header.now ++ (key.now ++ value.now)) }
     ensures memory { IsErrOf result NoMemory → SameImages (S.image store.old) (S.image store.new) }
     ensures memory_size { IsErrOf result NoMemory → S.size store.new ≡ S.size store.old }
     ensures memory_written { IsErrOf result NoMemory → S.written store.new ≡ S.written store.old }
-    ensures past_room { IsErrOf result NoMemory → S.room store.old < at + length (header.now ++ (key.now ++ value.now)) }
+    ensures memory_room { IsErrOf result NoMemory → S.room store.new ≡ S.room store.old }
+    ensures memory_failures { IsErrOf result NoMemory
+        → S.failures store.new ≡ S.failures store.old }
+    ensures past_room { IsErrOf result NoMemory
+        → S.room store.old < pos + length (header.now ++ (key.now ++ value.now)) }
     ensures room { S.room store.old ≤ S.room store.new }
     ensures cause { HasCause (S.failures store.old) (S.failures store.new) result }
 {
-    let key_at = at + header.len() as u64;
-    let value_at = key_at + key.len() as u64;
-    store.reserve(value_at + value.len() as u64)?;
-    store.write_at(at, header)?;
-    store.write_at(key_at, key)?;
-    store.write_at(value_at, value)
+    let key_pos = pos + header.len() as u64;
+    let value_pos = key_pos + key.len() as u64;
+    store.reserve(value_pos + value.len() as u64)?;
+    store.write_at(pos, header)?;
+    store.write_at(key_pos, key)?;
+    store.write_at(value_pos, value)
 }

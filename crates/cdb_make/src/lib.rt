@@ -11,10 +11,8 @@ mod index;
 mod moving;
 mod table;
 
-pub use append::append_record;
 pub use builder::Builder;
 pub use fault::MakeFault;
-pub use moving::move_down;
 
 #[cfg(test)]
 mod tests;

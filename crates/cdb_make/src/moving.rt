@@ -1,25 +1,30 @@
-// Bytes of a store are moved to a lower place.
+// Bytes of a store are moved to a lower position.
 ghost use Rattle.std.specs.Prelude.{◌≡◌, ◌+◌, ◌<◌, ◌≤◌, ◌^◌, length, OnOk, IsErrOf};
 ghost use Rattle.cdb_store.specs.declared.store.StoreFault.TheVariants.{NoMemory};
-ghost use Rattle.cdb_store.specs.Images.{KeepsBelow, Copied, HasCause};
+ghost use Rattle.cdb_store.specs.Images.{TornWithin, Copied, HasCause};
 
 use cdb_store::{Store, StoreFault};
 
 /// How many bytes are moved at once.
 const PIECE: usize = 4096;
 
-/// Copies `len` bytes from the place `from` to the lower place `to`, in pieces of 4096 bytes from
+/// Copies `len` bytes from the position `from` to the lower position `to`, in pieces of 4096 bytes from
 /// the front on. The two ranges may overlap.
 ///
 /// The bytes lie inside the store, whose length stays, and no memory is taken. `Device`: a piece
-/// couldn't be read or written, and the bytes below `to` stay.
-pub fn move_down<S: Store>(store: &mut S, from: u64, to: u64, len: u64) -> Result<(), StoreFault>
+/// couldn't be read or written, and the bytes outside of the `len` from `to` on stay.
+pub(crate) fn move_down<S: Store>(
+    store: &mut S,
+    from: u64,
+    to: u64,
+    len: u64,
+) -> Result<(), StoreFault>
     requires lower { to ≤ from }
     requires inside { from + len ≤ S.size store.old }
     requires end { from + len < 2 ^ 63 }
     ensures copied { OnOk result (Copied from to len (S.image store.old) (S.image store.new)) }
     ensures written { OnOk result (S.written store.new ≡ S.written store.old + len) }
-    ensures below { KeepsBelow to (S.image store.old) (S.image store.new) }
+    ensures torn { TornWithin to len (S.image store.old) (S.image store.new) }
     ensures size { S.size store.new ≡ S.size store.old }
     ensures more_written { S.written store.old ≤ S.written store.new }
     ensures at_most_written { S.written store.new ≤ S.written store.old + len }

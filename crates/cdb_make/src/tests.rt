@@ -1,7 +1,8 @@
 //! Each function once on a store in memory.
 mod building;
 
-use crate::{append_record, move_down};
+use crate::append::append_record;
+use crate::moving::move_down;
 use cdb_store::{MemStore, Store};
 use std::test::Fail;
 

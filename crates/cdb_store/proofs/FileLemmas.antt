@@ -3,34 +3,33 @@ use Rattle.std.proofs.Common.{◌≡◌, ℕ, ◌+◌, ◌-◌, ◌≤◌, max, 
 use Rattle.std.proofs.lemmas.List.{take-take, drop_all, drop-take, length-take-le, length-take}
 use Rattle.std.proofs.lemmas.Bool.{cases_lt}
 use Rattle.std.proofs.Math.Seq.{take-append-add}
-use Rattle.cdb_store.specs.declared.trace.Call.{Call}
-use Rattle.cdb_store.specs.declared.trace.Call.TheVariants.{Made, Gave, Length, Cut, NotCut, Refused}
+use Rattle.cdb_store.specs.declared.trace.Call.TheVariants.{Gave, Length, Cut, NotCut, Refused}
 use Rattle.cdb_store.specs.Images.{overwrite, part, SameImages, AfterRead, AfterWrite, AfterTornWrite, AfterCut, Torn}
-use Rattle.cdb_store.specs.Calls.{FileImage, AreAtLeast, AfterPut, AfterTornPut, IsLost, Untouched}
+use Rattle.cdb_store.specs.Calls.{Calls, FileImage, AreAtLeast, AfterPut, AfterTornPut, IsLost, Untouched}
 use Rattle.cdb_store.specs.Lengths.{length-overwrite}
 use Rattle.cdb_store.proofs.Parts.{part_from_take}
 
-pub file_same : (len : ℕ) {c d : List (Call × List ℕ)} → Untouched c d → SameImages (FileImage len c) (FileImage len d)
+pub file_same : (len : ℕ) {c d : Calls} → Untouched c d → SameImages (FileImage len c) (FileImage len d)
 file_same len u = record {
   no_other = λ b is. (is.0, u.same.no_other is.0 is.1, is.2, is.3);
   none_lost = λ b is. (is.0, u.same.none_lost is.0 is.1, is.2, is.3);
 }
 
-pub long_same : (len : ℕ) {c d : List (Call × List ℕ)} → Untouched c d → AreAtLeast len c → AreAtLeast len d
+pub long_same : (len : ℕ) {c d : Calls} → Untouched c d → AreAtLeast len c → AreAtLeast len d
 long_same len u long = record { each = λ b is. long.each b (u.same.no_other b is) }
 
-pub gave_long : (len pos : ℕ) (bytes : List ℕ) {c d e : List (Call × List ℕ)} → Untouched c d → e ≡ (Gave pos, bytes) ∷ d → AreAtLeast len c → AreAtLeast len e
+pub gave_long : (len pos : ℕ) (bytes : List ℕ) {c d e : Calls} → Untouched c d → e ≡ (Gave pos, bytes) ∷ d → AreAtLeast len c → AreAtLeast len e
 gave_long len pos bytes u e long = rw e (record { each = λ b is. long.each b (u.same.no_other b is.0) })
 
 -- the store refused a call without asking the file
-pub refused : {c d : List (Call × List ℕ)} → d ≡ (Refused, []) ∷ c → Untouched c d
+pub refused : {c d : Calls} → d ≡ (Refused, []) ∷ c → Untouched c d
 refused {c = c} e = rw e (record { same = record { no_other = λ b is. is; none_lost = λ b is. is }; written = refl; later = omega arith; known = refl })
 
-part_front : (at n len : ℕ) (a : List ℕ) → at + n ≤ len → part at n (take len a) ≡ part at n a
-part_front at n len a inside = part_from_take at n (at + n) a (take len a) refl (take-take (at + n) len a inside)
+part_front : (pos n len : ℕ) (a : List ℕ) → pos + n ≤ len → part pos n (take len a) ≡ part pos n a
+part_front pos n len a inside = part_from_take pos n (pos + n) a (take len a) refl (take-take (pos + n) len a inside)
 
 -- bytes that came were given back
-pub file_gave : (pos len : ℕ) (bytes : List ℕ) {c d e : List (Call × List ℕ)} → pos + length bytes ≤ len → Untouched c d → e ≡ (Gave pos, bytes) ∷ d
+pub file_gave : (pos len : ℕ) (bytes : List ℕ) {c d e : Calls} → pos + length bytes ≤ len → Untouched c d → e ≡ (Gave pos, bytes) ∷ d
     → AfterRead pos bytes (FileImage len c) (FileImage len e)
 file_gave pos len bytes inside u e = rw e (record {
   no_other = λ b is. (is.0, u.same.no_other is.0 is.1.0, is.2, is.3);
@@ -58,7 +57,7 @@ front_overwrite pos len a ys before inside =
     ∙ ap (λ r. take pos a ++ (ys ++ r)) (sym after)
     ∙ ap (λ r. r ++ (ys ++ drop (pos + k) (take len a))) (sym (take-take pos len a before))
 
-pub file_put : (pos len : ℕ) (bytes : List ℕ) {c d : List (Call × List ℕ)} → pos ≤ len → AreAtLeast len c → AfterPut pos bytes c d
+pub file_put : (pos len : ℕ) (bytes : List ℕ) {c d : Calls} → pos ≤ len → AreAtLeast len c → AfterPut pos bytes c d
     → AfterWrite pos bytes (FileImage len c) (FileImage (max len (pos + length bytes)) d)
 file_put pos len bytes inside long w = record {
   no_other = λ b is. let h = w.no_other is.0 is.1 in
@@ -70,7 +69,7 @@ file_put pos len bytes inside long w = record {
       (overwrite is.0 pos bytes, w.none_lost is.0 is.1 (omega arith), omega arith, ap (λ v. overwrite v pos bytes) is.3 ∙ sym (front_overwrite pos len is.0 bytes inside l));
 }
 
-pub put_long : (pos len : ℕ) (bytes : List ℕ) {c d : List (Call × List ℕ)} → pos ≤ len → AreAtLeast len c → AfterPut pos bytes c d → AreAtLeast (max len (pos + length bytes)) d
+pub put_long : (pos len : ℕ) (bytes : List ℕ) {c d : Calls} → pos ≤ len → AreAtLeast len c → AfterPut pos bytes c d → AreAtLeast (max len (pos + length bytes)) d
 put_long pos len bytes inside long w = record {
   each = λ b is. let h = w.no_other b is in
       let l : len ≤ length h.0 = long.each h.0 h.1 in
@@ -93,7 +92,7 @@ torn_front pos n len left a y inside longer not_past t = record {
   short : (k : ℕ) (x : List ℕ) → k ≤ pos + n → drop (pos + n) (take k x) ≡ []
   short k x le = drop_all (pos + n) (take k x) (omega (arith, length-take k x))
 
-pub file_torn : (pos n len left : ℕ) {c d : List (Call × List ℕ)} → pos ≤ len → len ≤ left → left ≤ max len (pos + n) → AreAtLeast len c → AfterTornPut pos n c d
+pub file_torn : (pos n len left : ℕ) {c d : Calls} → pos ≤ len → len ≤ left → left ≤ max len (pos + n) → AreAtLeast len c → AfterTornPut pos n c d
     → AfterTornWrite pos n (FileImage len c) (FileImage left d)
 file_torn pos n len left inside longer not_past long w = record {
   no_other = λ b is. let h = w.no_other is.0 is.1 in
@@ -107,16 +106,13 @@ file_torn pos n len left inside longer not_past long w = record {
 }
 
 -- the length that is told is one that the images can have
-pub file_told : (n : ℕ) (c : List (Call × List ℕ)) → SameImages (FileImage n c) (FileImage n ((Length n, []) ∷ c))
+pub file_told : (n : ℕ) (c : Calls) → SameImages (FileImage n c) (FileImage n ((Length n, []) ∷ c))
 file_told n c = record {
   no_other = λ b is. (is.0, is.1.0, is.2, is.3);
   none_lost = λ b is. (is.0, (is.1, is.2), is.2, is.3);
 }
 
-pub told_long : (n : ℕ) (c : List (Call × List ℕ)) → AreAtLeast n ((Length n, []) ∷ c)
-told_long n c = record { each = λ b is. is.1 }
-
-pub file_cut : (n len : ℕ) (c : List (Call × List ℕ)) → n ≤ len → AreAtLeast len c → AfterCut n (FileImage len c) (FileImage n ((Cut n, []) ∷ c))
+pub file_cut : (n len : ℕ) (c : Calls) → n ≤ len → AreAtLeast len c → AfterCut n (FileImage len c) (FileImage n ((Cut n, []) ∷ c))
 file_cut n len c inside long = record {
   no_other = λ b is. let a : List ℕ = is.1.0 in
       let l : len ≤ length a = long.each a is.1.1 in
@@ -125,12 +121,7 @@ file_cut n len c inside long = record {
       (take n is.0, (is.0, is.1, refl), omega (arith, length-take-le n is.0 (omega arith)), ap (take n) is.3 ∙ take-take n len is.0 inside ∙ sym (take-take n n is.0 (omega arith)));
 }
 
-pub cut_long : (n len : ℕ) (c : List (Call × List ℕ)) → n ≤ len → AreAtLeast len c → AreAtLeast n ((Cut n, []) ∷ c)
-cut_long n len c inside long = record {
-  each = λ b is. let l : len ≤ length is.0 = long.each is.0 is.1 in let e : length b ≡ n = ap length is.2 ∙ length-take-le n is.0 (omega arith) in omega arith;
-}
-
-pub file_not_cut : (n left len : ℕ) (c : List (Call × List ℕ)) → n ≤ left → left ≤ len → AreAtLeast len c → AfterCut left (FileImage len c) (FileImage left ((NotCut n, []) ∷ c))
+pub file_not_cut : (n left len : ℕ) (c : Calls) → n ≤ left → left ≤ len → AreAtLeast len c → AfterCut left (FileImage len c) (FileImage left ((NotCut n, []) ∷ c))
 file_not_cut n left len c least most long = record {
   no_other = λ b is. let a : List ℕ = is.1.0 in let m : ℕ = is.1.1 in
       let l : len ≤ length a = long.each a is.1.2 in
@@ -143,8 +134,5 @@ file_not_cut n left len c least most long = record {
 }
 
 -- a length that can't be is not believed
-pub file_lost : (len : ℕ) {least most : ℕ} {c d : List (Call × List ℕ)} → IsLost least most c d → SameImages (FileImage len c) (FileImage len d)
+pub file_lost : (len : ℕ) {least most : ℕ} {c d : Calls} → IsLost least most c d → SameImages (FileImage len c) (FileImage len d)
 file_lost len i = rw (i.calls) (record { no_other = λ b is. is; none_lost = λ b is. is })
-
-pub made_empty : (b : List ℕ) → FileImage 0 ((Made, []) ∷ []) b → b ≡ []
-made_empty b is = is.3

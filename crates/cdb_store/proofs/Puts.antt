@@ -3,10 +3,9 @@ use Rattle.std.proofs.Common.{◌≡◌, ℕ, ◌+◌, ◌≤◌, ◌<◌, inl, 
 use Rattle.std.proofs.lemmas.List.{take-take, length-replicate, take-append-le, length-take-le}
 use Rattle.std.proofs.Math.Seq.{take-add, take-append-add}
 use borrow.Rule.Slice.PartMut.{put_mid, mid_of, post_of}
-use Rattle.cdb_store.specs.declared.trace.Call.{Call}
 use Rattle.cdb_store.specs.declared.trace.Call.TheVariants.{Wrote, NotWritten}
 use Rattle.cdb_store.specs.Images.{overwrite, Torn}
-use Rattle.cdb_store.specs.Calls.{Agrees, failure_count, written_count, lost, interrupted, Asked, AskedInVain, AfterPut, AfterTornPut, AreAtLeast}
+use Rattle.cdb_store.specs.Calls.{Calls, Agrees, failure_count, written_count, lost, interrupted, Asked, AskedInVain, AfterPut, AfterTornPut, AreAtLeast}
 use Rattle.cdb_store.specs.Lengths.{length-overwrite}
 use Rattle.cdb_store.proofs.Parts.{take-overwrite, drop-overwrite, overwrite-overwrite, overwrite_nothing}
 use Rattle.cdb_store.proofs.RawCalls.{untouched_interrupted}
@@ -22,94 +21,94 @@ take_piece_put d k n xs ys inside fits =
 pub take_piece_of : (d k n : ℕ) (xs : List ℕ) → n ≤ k → take (d + n) xs ≡ take d xs ++ take n (mid_of d k xs)
 take_piece_of d k n xs fits = take-add d n xs ∙ ap (λ r. take d xs ++ r) (sym (take-take n k (drop d xs) fits))
 
-pub put_none : (at : ℕ) (calls : List (Call × List ℕ)) → AreAtLeast at calls → AfterPut at [] calls calls
-put_none at calls inside = record {
-  no_other = λ b is. (b, is, inside.each b is, sym (overwrite_nothing at b));
-  none_lost = λ a is _. subst (Agrees calls) (sym (overwrite_nothing at a)) is;
+pub put_none : (pos : ℕ) (calls : Calls) → AreAtLeast pos calls → AfterPut pos [] calls calls
+put_none pos calls inside = record {
+  no_other = λ b is. (b, is, inside.each b is, sym (overwrite_nothing pos b));
+  none_lost = λ a is _. subst (Agrees calls) (sym (overwrite_nothing pos a)) is;
 }
 
-pub put_asked : {at : ℕ} {bytes : List ℕ} {old new : List (Call × List ℕ)} → Asked (Wrote at, bytes) old new → AfterPut at bytes old new
-put_asked {at = at} {bytes = bytes} {old = old} a =
+pub put_asked : {pos : ℕ} {bytes : List ℕ} {old new : Calls} → Asked (Wrote pos, bytes) old new → AfterPut pos bytes old new
+put_asked {pos = pos} {bytes = bytes} {old = old} a =
     let u = untouched_interrupted a.times old in
     rw (a.calls) (record {
       no_other = λ b is. (is.0, u.same.no_other is.0 is.1, is.2, is.3);
       none_lost = λ x is inside. (x, u.same.none_lost x is, inside, refl);
     })
 
-pub put_more : {at pos : ℕ} {xs ys : List ℕ} {a b c : List (Call × List ℕ)} → pos ≡ at + length xs → AfterPut at xs a b → AfterPut pos ys b c → AfterPut at (xs ++ ys) a c
-put_more {at = at} {pos = pos} {xs = xs} {ys = ys} {c = c} here v w =
-    let joined : (x : List ℕ) → at ≤ length x → overwrite (overwrite x at xs) pos ys ≡ overwrite x at (xs ++ ys) =
-    λ x inside. ap (λ p. overwrite (overwrite x at xs) p ys) here ∙ overwrite-overwrite at x xs ys inside in
+pub put_more : {pos next : ℕ} {xs ys : List ℕ} {a b c : Calls} → next ≡ pos + length xs → AfterPut pos xs a b → AfterPut next ys b c → AfterPut pos (xs ++ ys) a c
+put_more {pos = pos} {next = next} {xs = xs} {ys = ys} {c = c} here v w =
+    let joined : (x : List ℕ) → pos ≤ length x → overwrite (overwrite x pos xs) next ys ≡ overwrite x pos (xs ++ ys) =
+    λ x inside. ap (λ p. overwrite (overwrite x pos xs) p ys) here ∙ overwrite-overwrite pos x xs ys inside in
     record {
       no_other = λ z is. let h = w.no_other z is in let m = v.no_other h.0 h.1 in
-          (m.0, m.1, m.2, h.3 ∙ ap (λ y. overwrite y pos ys) m.3 ∙ joined m.0 m.2);
+          (m.0, m.1, m.2, h.3 ∙ ap (λ y. overwrite y next ys) m.3 ∙ joined m.0 m.2);
       none_lost = λ x is inside.
-          let l : length (overwrite x at xs) ≡ max (length x) (at + length xs) = length-overwrite at x xs inside in
-          subst (Agrees c) (joined x inside) (w.none_lost (overwrite x at xs) (v.none_lost x is inside) (omega arith));
+          let l : length (overwrite x pos xs) ≡ max (length x) (pos + length xs) = length-overwrite pos x xs inside in
+          subst (Agrees c) (joined x inside) (w.none_lost (overwrite x pos xs) (v.none_lost x is inside) (omega arith));
     }
 
 -- a list with any bytes in the range that reaches as far as the range does
-torn_far : (at n : ℕ) (a : List ℕ) → at ≤ length a → (b : List ℕ) × (length a ≤ length b) × (max (length a) (at + n) ≤ length b) × Torn at n a b
-torn_far at n a inside =
+torn_far : (pos n : ℕ) (a : List ℕ) → pos ≤ length a → (b : List ℕ) × (length a ≤ length b) × (max (length a) (pos + n) ≤ length b) × Torn pos n a b
+torn_far pos n a inside =
     let zeros : List ℕ = replicate n 0 in
     let z : length zeros ≡ n = length-replicate n 0 in
-    let l : length (overwrite a at zeros) ≡ max (length a) (at + n) = length-overwrite at a zeros inside ∙ ap (λ k. max (length a) (at + k)) z in (
-      overwrite a at zeros,
+    let l : length (overwrite a pos zeros) ≡ max (length a) (pos + n) = length-overwrite pos a zeros inside ∙ ap (λ k. max (length a) (pos + k)) z in (
+      overwrite a pos zeros,
       omega arith,
       omega arith,
       record {
-        before = take-overwrite at at a zeros (omega arith) inside;
-        after = drop-overwrite (at + n) at a zeros (omega arith) inside;
+        before = take-overwrite pos pos a zeros (omega arith) inside;
+        after = drop-overwrite (pos + n) pos a zeros (omega arith) inside;
       },
     )
 
-not_written : (at n k : ℕ) (old new : List (Call × List ℕ)) → new ≡ (NotWritten at n, []) ∷ interrupted k old → AfterTornPut at n old new
-not_written at n k old new e =
+not_written : (pos n k : ℕ) (old new : Calls) → new ≡ (NotWritten pos n, []) ∷ interrupted k old → AfterTornPut pos n old new
+not_written pos n k old new e =
     let u = untouched_interrupted k old in
     rw e (record {
       no_other = λ b is. (is.0, u.same.no_other is.0 is.1, is.2, is.3);
-      none_lost = λ a is inside. let t = torn_far at n a inside in (t.0, (a, u.same.none_lost a is, t.1, t.3), t.2, t.3);
+      none_lost = λ a is inside. let t = torn_far pos n a inside in (t.0, (a, u.same.none_lost a is, t.1, t.3), t.2, t.3);
     })
 
-pub torn_vain : {at n : ℕ} {old new : List (Call × List ℕ)} → AskedInVain (NotWritten at n) (NotWritten at n) old new → AfterTornPut at n old new
-torn_vain {at = at} {n = n} {old = old} {new = new} v = elim v [
-  | inl a ↦ not_written at n a.times old new a.calls
-  | inr e ↦ not_written at n 1001 old new e
+pub torn_vain : {pos n : ℕ} {old new : Calls} → AskedInVain (NotWritten pos n) (NotWritten pos n) old new → AfterTornPut pos n old new
+torn_vain {pos = pos} {n = n} {old = old} {new = new} v = elim v [
+  | inl a ↦ not_written pos n a.times old new a.calls
+  | inr e ↦ not_written pos n 1001 old new e
 ]
 
-pub torn_behind_put : {at pos n m : ℕ} {xs : List ℕ} {a b c : List (Call × List ℕ)} → pos ≡ at + length xs → n ≡ length xs + m → AfterPut at xs a b → AfterTornPut pos m b c → AfterTornPut at n a c
-torn_behind_put {at = at} {pos = pos} {n = n} {m = m} {xs = xs} here sum v w =
-    let torn : (x z : List ℕ) → at ≤ length x → Torn pos m (overwrite x at xs) z → Torn at n x z =
+pub torn_behind_put : {pos next n m : ℕ} {xs : List ℕ} {a b c : Calls} → next ≡ pos + length xs → n ≡ length xs + m → AfterPut pos xs a b → AfterTornPut next m b c → AfterTornPut pos n a c
+torn_behind_put {pos = pos} {next = next} {n = n} {m = m} {xs = xs} here sum v w =
+    let torn : (x z : List ℕ) → pos ≤ length x → Torn next m (overwrite x pos xs) z → Torn pos n x z =
     λ x z inside t.
-    let e : pos + m ≡ at + n = omega arith in
+    let e : next + m ≡ pos + n = omega arith in
     record {
-      before = sym (take-take at pos z (omega arith)) ∙ ap (take at) t.before ∙ take-take at pos (overwrite x at xs) (omega arith) ∙ take-overwrite at at x xs (omega arith) inside;
-      after = ap (λ p. drop p z) (sym e) ∙ t.after ∙ drop-overwrite (pos + m) at x xs (omega arith) inside ∙ ap (λ p. drop p x) e;
+      before = sym (take-take pos next z (omega arith)) ∙ ap (take pos) t.before ∙ take-take pos next (overwrite x pos xs) (omega arith) ∙ take-overwrite pos pos x xs (omega arith) inside;
+      after = ap (λ p. drop p z) (sym e) ∙ t.after ∙ drop-overwrite (next + m) pos x xs (omega arith) inside ∙ ap (λ p. drop p x) e;
     } in
     record {
       no_other = λ z is. let h = w.no_other z is in let o = v.no_other h.0 h.1 in
-          let l : length h.0 ≡ max (length o.0) (at + length xs) = ap length o.3 ∙ length-overwrite at o.0 xs o.2 in
+          let l : length h.0 ≡ max (length o.0) (pos + length xs) = ap length o.3 ∙ length-overwrite pos o.0 xs o.2 in
           let le : length h.0 ≤ length z = h.2 in
-          (o.0, o.1, omega arith, torn o.0 z o.2 (subst (λ (y : List ℕ). Torn pos m y z) o.3 h.3));
+          (o.0, o.1, omega arith, torn o.0 z o.2 (subst (λ (y : List ℕ). Torn next m y z) o.3 h.3));
       none_lost = λ x is inside.
-          let l : length (overwrite x at xs) ≡ max (length x) (at + length xs) = length-overwrite at x xs inside in
-          let h = w.none_lost (overwrite x at xs) (v.none_lost x is inside) (omega arith) in
-          let far : max (length (overwrite x at xs)) (pos + m) ≤ length h.0 = h.2 in
+          let l : length (overwrite x pos xs) ≡ max (length x) (pos + length xs) = length-overwrite pos x xs inside in
+          let h = w.none_lost (overwrite x pos xs) (v.none_lost x is inside) (omega arith) in
+          let far : max (length (overwrite x pos xs)) (next + m) ≤ length h.0 = h.2 in
           (h.0, h.1, omega arith, torn x h.0 inside h.3);
     }
 
-pub written_asked : {at : ℕ} {bytes : List ℕ} {old new : List (Call × List ℕ)} → Asked (Wrote at, bytes) old new
+pub written_asked : {pos : ℕ} {bytes : List ℕ} {old new : Calls} → Asked (Wrote pos, bytes) old new
     → (written_count new ≡ written_count old + length bytes) × (failure_count old ≤ failure_count new) × (lost new ≡ lost old)
 written_asked {bytes = bytes} {old = old} a = let u = untouched_interrupted a.times old in
     rw (a.calls) (omega (arith, u.written), u.later, u.known)
 
-not_written_counts : (at n k : ℕ) (old new : List (Call × List ℕ)) → new ≡ (NotWritten at n, []) ∷ interrupted k old
+not_written_counts : (pos n k : ℕ) (old new : Calls) → new ≡ (NotWritten pos n, []) ∷ interrupted k old
     → (written_count new ≡ written_count old) × (failure_count old < failure_count new) × (lost new ≡ lost old)
-not_written_counts at n k old new e = let u = untouched_interrupted k old in rw e (u.written, omega (arith, u.later), u.known)
+not_written_counts pos n k old new e = let u = untouched_interrupted k old in rw e (u.written, omega (arith, u.later), u.known)
 
-pub written_vain : {at n : ℕ} {old new : List (Call × List ℕ)} → AskedInVain (NotWritten at n) (NotWritten at n) old new
+pub written_vain : {pos n : ℕ} {old new : Calls} → AskedInVain (NotWritten pos n) (NotWritten pos n) old new
     → (written_count new ≡ written_count old) × (failure_count old < failure_count new) × (lost new ≡ lost old)
-written_vain {at = at} {n = n} {old = old} {new = new} v = elim v [
-  | inl a ↦ not_written_counts at n a.times old new a.calls
-  | inr e ↦ not_written_counts at n 1001 old new e
+written_vain {pos = pos} {n = n} {old = old} {new = new} v = elim v [
+  | inl a ↦ not_written_counts pos n a.times old new a.calls
+  | inr e ↦ not_written_counts pos n 1001 old new e
 ]

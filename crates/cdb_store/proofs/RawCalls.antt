@@ -1,51 +1,59 @@
 -- What raw calls that were interrupted, that failed or that did a part leave.
-use Rattle.std.proofs.Common.{◌≡◌, ℕ, ◌+◌, ◌<◌, inl, inr, suc, zero, List, [], ◌∷◌, ◌++◌, length, refl, sym, ap, ◌∙◌, arith, add-one}
+use Rattle.std.proofs.Common.{◌≡◌, ℕ, ◌+◌, ◌<◌, ◌≤◌, inl, inr, suc, zero, List, [], ◌∷◌, ◌++◌, length, refl, sym, ap, ◌∙◌, arith, add-one}
 use Rattle.cdb_store.specs.declared.trace.Call.{Call}
 use Rattle.cdb_store.specs.declared.trace.Call.TheVariants.{Made, Read, Gave, Wrote, NotWritten, Length, Cut, NotCut, Synced, Interrupted, Failed, Refused, Lost}
-use Rattle.cdb_store.specs.Calls.{Agrees, failure_count, written_count, lost, interrupted, Asked, AskedInVain, Came, Untouched}
+use Rattle.cdb_store.specs.Calls.{Calls, Agrees, failure_count, written_count, lost, interrupted, Asked, AskedInVain, Came, Untouched}
 
-pub interrupted_none : (calls : List (Call × List ℕ)) → calls ≡ interrupted 0 calls
+pub interrupted_none : (calls : Calls) → calls ≡ interrupted 0 calls
 unfolding interrupted
 interrupted_none calls = refl
 
-pub interrupted_more : (k : ℕ) (now calls new : List (Call × List ℕ)) → now ≡ interrupted k calls → new ≡ (Interrupted, []) ∷ now → new ≡ interrupted (k + 1) calls
+pub interrupted_more : (k : ℕ) (now calls new : Calls) → now ≡ interrupted k calls → new ≡ (Interrupted, []) ∷ now → new ≡ interrupted (k + 1) calls
 unfolding interrupted
 interrupted_more k now calls new e f = f ∙ ap (λ c. (Interrupted, []) ∷ c) e ∙ ap (λ n. interrupted n calls) (sym (add-one k))
 
-pub lost_interrupted : (k : ℕ) (calls : List (Call × List ℕ)) → lost (interrupted k calls) ≡ lost calls
+-- it answered after some calls that were interrupted
+pub asked_after : {answer : Call × List ℕ} {old now new : Calls} (k : ℕ) → k ≤ 1000 → now ≡ interrupted k old → new ≡ answer ∷ now → Asked answer old new
+asked_after {answer = answer} k few before last = record { times = k; at_most = few; calls = last ∙ ap (λ c. answer ∷ c) before }
+
+-- each call was interrupted
+pub interrupted_all : (k : ℕ) (old : Calls) {now : Calls} → k ≡ 1001 → now ≡ interrupted k old → now ≡ interrupted 1001 old
+interrupted_all k old e before = before ∙ ap (λ n. interrupted n old) e
+
+pub lost_interrupted : (k : ℕ) (calls : Calls) → lost (interrupted k calls) ≡ lost calls
 unfolding interrupted
 lost_interrupted zero calls = refl
 lost_interrupted (suc k) calls = lost_interrupted k calls
 
-failures_interrupted : (k : ℕ) (calls : List (Call × List ℕ)) → failure_count (interrupted k calls) ≡ failure_count calls
+failures_interrupted : (k : ℕ) (calls : Calls) → failure_count (interrupted k calls) ≡ failure_count calls
 unfolding interrupted
 failures_interrupted zero calls = refl
 failures_interrupted (suc k) calls = failures_interrupted k calls
 
-written_interrupted : (k : ℕ) (calls : List (Call × List ℕ)) → written_count (interrupted k calls) ≡ written_count calls
+written_interrupted : (k : ℕ) (calls : Calls) → written_count (interrupted k calls) ≡ written_count calls
 unfolding interrupted
 written_interrupted zero calls = refl
 written_interrupted (suc k) calls = written_interrupted k calls
 
-came_interrupted : (k at : ℕ) (bytes : List ℕ) (calls : List (Call × List ℕ)) → Came at bytes calls → Came at bytes (interrupted k calls)
+came_interrupted : (k pos : ℕ) (bytes : List ℕ) (calls : Calls) → Came pos bytes calls → Came pos bytes (interrupted k calls)
 unfolding interrupted
-came_interrupted zero at bytes calls c = c
-came_interrupted (suc k) at bytes calls c = came_interrupted k at bytes calls c
+came_interrupted zero pos bytes calls c = c
+came_interrupted (suc k) pos bytes calls c = came_interrupted k pos bytes calls c
 
-agrees_interrupted : (k : ℕ) (calls : List (Call × List ℕ)) (b : List ℕ) → Agrees (interrupted k calls) b → Agrees calls b
+agrees_interrupted : (k : ℕ) (calls : Calls) (b : List ℕ) → Agrees (interrupted k calls) b → Agrees calls b
 unfolding interrupted
 agrees_interrupted zero calls b is = is
 agrees_interrupted (suc k) calls b is = agrees_interrupted k calls b is
 
-interrupted_agrees : (k : ℕ) (calls : List (Call × List ℕ)) (b : List ℕ) → Agrees calls b → Agrees (interrupted k calls) b
+interrupted_agrees : (k : ℕ) (calls : Calls) (b : List ℕ) → Agrees calls b → Agrees (interrupted k calls) b
 unfolding interrupted
 interrupted_agrees zero calls b is = is
 interrupted_agrees (suc k) calls b is = interrupted_agrees k calls b is
 
-pub untouched_refl : (calls : List (Call × List ℕ)) → Untouched calls calls
+pub untouched_refl : (calls : Calls) → Untouched calls calls
 untouched_refl calls = record { same = record { no_other = λ b is. is; none_lost = λ b is. is }; written = refl; later = omega arith; known = refl }
 
-pub untouched_trans : {a b c : List (Call × List ℕ)} → Untouched a b → Untouched b c → Untouched a c
+pub untouched_trans : {a b c : Calls} → Untouched a b → Untouched b c → Untouched a c
 untouched_trans p q = record {
   same = record { no_other = λ x is. p.same.no_other x (q.same.no_other x is); none_lost = λ x is. q.same.none_lost x (p.same.none_lost x is) };
   written = q.written ∙ p.written;
@@ -53,7 +61,7 @@ untouched_trans p q = record {
   known = q.known ∙ p.known;
 }
 
-pub untouched_interrupted : (k : ℕ) (calls : List (Call × List ℕ)) → Untouched calls (interrupted k calls)
+pub untouched_interrupted : (k : ℕ) (calls : Calls) → Untouched calls (interrupted k calls)
 untouched_interrupted k calls = record {
   same = record { no_other = agrees_interrupted k calls; none_lost = interrupted_agrees k calls };
   written = written_interrupted k calls;
@@ -62,38 +70,38 @@ untouched_interrupted k calls = record {
 }
 
 -- a piece came
-pub read_untouched : {at : ℕ} {piece : List ℕ} {old new : List (Call × List ℕ)} → Asked (Read at, piece) old new → Untouched old new
-read_untouched {at = at} {piece = piece} {old = old} a = let u = untouched_interrupted a.times old in rw (a.calls) (record { same = u.same; written = u.written; later = u.later; known = u.known })
+pub read_untouched : {pos : ℕ} {piece : List ℕ} {old new : Calls} → Asked (Read pos, piece) old new → Untouched old new
+read_untouched {pos = pos} {piece = piece} {old = old} a = let u = untouched_interrupted a.times old in rw (a.calls) (record { same = u.same; written = u.written; later = u.later; known = u.known })
 
 -- no piece came
-pub vain_untouched : {old new : List (Call × List ℕ)} → AskedInVain Failed Refused old new → Untouched old new
+pub vain_untouched : {old new : Calls} → AskedInVain Failed Refused old new → Untouched old new
 vain_untouched {old = old} {new = new} v = elim v [
   | inl a ↦ let u = untouched_interrupted a.times old in rw (a.calls) (record { same = u.same; written = u.written; later = omega (arith, u.later); known = u.known })
   | inr e ↦ let u = untouched_interrupted 1001 old in rw e (record { same = u.same; written = u.written; later = omega (arith, u.later); known = u.known })
 ]
 
-pub vain_failed : {old new : List (Call × List ℕ)} → AskedInVain Failed Refused old new → failure_count old < failure_count new
+pub vain_failed : {old new : Calls} → AskedInVain Failed Refused old new → failure_count old < failure_count new
 vain_failed {old = old} {new = new} v = elim v [
   | inl a ↦ rw (a.calls) (omega (arith, failures_interrupted a.times old))
   | inr e ↦ rw e (omega (arith, failures_interrupted 1001 old))
 ]
 
 -- one piece more came
-pub came_more : (at : ℕ) (bytes : List ℕ) {place : ℕ} {piece : List ℕ} {old new : List (Call × List ℕ)} → place ≡ at + length bytes → Came at bytes old → Asked (Read place, piece) old new → Came at (bytes ++ piece) new
-came_more at bytes {place = place} {piece = piece} {old = old} here c a = rw (a.calls) (inr (bytes, came_interrupted a.times at bytes old c, here, refl))
+pub came_more : (pos : ℕ) (bytes : List ℕ) {next : ℕ} {piece : List ℕ} {old new : Calls} → next ≡ pos + length bytes → Came pos bytes old → Asked (Read next, piece) old new → Came pos (bytes ++ piece) new
+came_more pos bytes {next = next} {piece = piece} {old = old} here c a = rw (a.calls) (inr (bytes, came_interrupted a.times pos bytes old c, here, refl))
 
-pub came_none : (at : ℕ) (calls : List (Call × List ℕ)) → Came at [] calls
-came_none at [] = refl
-came_none at ((Interrupted, _) ∷ calls) = came_none at calls
-came_none at ((Read place, _) ∷ calls) = inl refl
-came_none at ((Made, _) ∷ calls) = refl
-came_none at ((Gave _, _) ∷ calls) = refl
-came_none at ((Wrote _, _) ∷ calls) = refl
-came_none at ((NotWritten _ _, _) ∷ calls) = refl
-came_none at ((Length _, _) ∷ calls) = refl
-came_none at ((Cut _, _) ∷ calls) = refl
-came_none at ((NotCut _, _) ∷ calls) = refl
-came_none at ((Synced, _) ∷ calls) = refl
-came_none at ((Failed, _) ∷ calls) = refl
-came_none at ((Refused, _) ∷ calls) = refl
-came_none at ((Lost, _) ∷ calls) = refl
+pub came_none : (pos : ℕ) (calls : Calls) → Came pos [] calls
+came_none pos [] = refl
+came_none pos ((Interrupted, _) ∷ calls) = came_none pos calls
+came_none pos ((Read next, _) ∷ calls) = inl refl
+came_none pos ((Made, _) ∷ calls) = refl
+came_none pos ((Gave _, _) ∷ calls) = refl
+came_none pos ((Wrote _, _) ∷ calls) = refl
+came_none pos ((NotWritten _ _, _) ∷ calls) = refl
+came_none pos ((Length _, _) ∷ calls) = refl
+came_none pos ((Cut _, _) ∷ calls) = refl
+came_none pos ((NotCut _, _) ∷ calls) = refl
+came_none pos ((Synced, _) ∷ calls) = refl
+came_none pos ((Failed, _) ∷ calls) = refl
+came_none pos ((Refused, _) ∷ calls) = refl
+came_none pos ((Lost, _) ∷ calls) = refl

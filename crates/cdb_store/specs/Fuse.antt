@@ -14,14 +14,10 @@ blown calls limit = if nat_lt limit calls then 1 else 0
 abbrev pub capped : ℕ → ℕ
 capped n = min n 18446744073709551615
 
--- these bytes were written and counted, or the inner store failed or was refused memory and none were counted
-abbrev pub PartWritten : (pos : ℕ) (bytes : List ℕ) (old new : List ℕ → Type 0) (failed : ℕ × ℕ) (room : ℕ) (count : ℕ × ℕ) → Type 0
+-- these bytes were written and counted, or none were counted since the inner store failed or was
+-- refused memory
+abbrev pub PartWritten : (pos : ℕ) (bytes : List ℕ) (old new : List ℕ → Type 0)
+    (failed : ℕ × ℕ) (room : ℕ) (count : ℕ × ℕ) → Type 0
 PartWritten pos bytes old new failed room count =
     (AfterWrite pos bytes old new × (count.1 ≡ capped (count.0 + length bytes)))
     ⊎ (((failed.0 < failed.1) ⊎ (room < pos + length bytes)) × (count.1 ≡ count.0))
-
--- the call was counted, and the fuse is else the same: calls, limit and part
-pub record IsCounted (old new : ℕ × ℕ × ℕ) : Type 0 where
-  pub calls : new.0 ≡ capped (old.0 + 1)
-  pub limit : new.1 ≡ old.1
-  pub part : new.2 ≡ old.2

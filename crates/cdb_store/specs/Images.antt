@@ -1,15 +1,19 @@
 -- The byte lists that a store may hold, and what each call does to them.
-use Rattle.std.specs.Prelude.{◌≡◌, ℕ, ◌+◌, ◌<◌, ◌≤◌, List, ◌++◌, length, take, drop, Result, IsErrOf}
+use Rattle.std.specs.Prelude.{◌≡◌, ℕ, ◌+◌, ◌<◌, ◌≤◌, ◌⊎◌, List, ◌++◌, length, take, drop, Result, IsErrOf}
 use Rattle.cdb_store.specs.declared.store.StoreFault.{StoreFault}
-use Rattle.cdb_store.specs.declared.store.StoreFault.TheVariants.{Device, NoMemory}
+use Rattle.cdb_store.specs.declared.store.StoreFault.TheVariants.{Device}
 
--- old with these bytes from at on, past its end too
+-- old with these bytes from pos on, past its end too
 abbrev pub overwrite : List ℕ → ℕ → List ℕ → List ℕ
-overwrite old at bytes = take at old ++ (bytes ++ drop (at + length bytes) old)
+overwrite old pos bytes = take pos old ++ (bytes ++ drop (pos + length bytes) old)
 
--- n bytes from at on
+-- n bytes from pos on
 abbrev pub part : ℕ → ℕ → List ℕ → List ℕ
-part at n image = take n (drop at image)
+part pos n image = take n (drop pos image)
+
+-- n bytes from pos on, and m bytes from start on, have none in common
+abbrev pub AreApart : (pos n start m : ℕ) → Type 0
+AreApart pos n start m = (pos + n ≤ start) ⊎ (start + m ≤ pos)
 
 -- no image came and none went
 pub record SameImages (old new : List ℕ → Type 0) : Type 0 where
@@ -17,35 +21,34 @@ pub record SameImages (old new : List ℕ → Type 0) : Type 0 where
   pub none_lost : (b : List ℕ) → old b → new b
 
 -- the images are the old ones that have the bytes read
-pub record AfterRead (at : ℕ) (bytes : List ℕ) (old new : List ℕ → Type 0) : Type 0 where
+pub record AfterRead (pos : ℕ) (bytes : List ℕ) (old new : List ℕ → Type 0) : Type 0 where
   pub no_other : (b : List ℕ) → new b → old b
-  pub read : (b : List ℕ) → new b → part at (length bytes) b ≡ bytes
-  pub none_lost : (b : List ℕ) → old b → part at (length bytes) b ≡ bytes → new b
+  pub read : (b : List ℕ) → new b → part pos (length bytes) b ≡ bytes
+  pub none_lost : (b : List ℕ) → old b → part pos (length bytes) b ≡ bytes → new b
 
 -- the images are the old ones, each with the bytes written
-pub record AfterWrite (at : ℕ) (bytes : List ℕ) (old new : List ℕ → Type 0) : Type 0 where
-  pub no_other : (b : List ℕ) → new b → (a : List ℕ) × old a × (b ≡ overwrite a at bytes)
-  pub none_lost : (a : List ℕ) → old a → new (overwrite a at bytes)
+pub record AfterWrite (pos : ℕ) (bytes : List ℕ) (old new : List ℕ → Type 0) : Type 0 where
+  pub no_other : (b : List ℕ) → new b → (a : List ℕ) × old a × (b ≡ overwrite a pos bytes)
+  pub none_lost : (a : List ℕ) → old a → new (overwrite a pos bytes)
 
--- the same bytes outside of n bytes from at on
-pub record Torn (at n : ℕ) (old new : List ℕ) : Type 0 where
-  pub before : take at new ≡ take at old
-  pub after : drop (at + n) new ≡ drop (at + n) old
+-- the same bytes outside of n bytes from pos on
+pub record Torn (pos n : ℕ) (old new : List ℕ) : Type 0 where
+  pub before : take pos new ≡ take pos old
+  pub after : drop (pos + n) new ≡ drop (pos + n) old
 
 -- each image is an old one with any bytes in the range, and each old one still has one
-pub record AfterTornWrite (at n : ℕ) (old new : List ℕ → Type 0) : Type 0 where
-  pub no_other : (b : List ℕ) → new b → (a : List ℕ) × old a × Torn at n a b
-  pub none_lost : (a : List ℕ) → old a → (b : List ℕ) × new b × Torn at n a b
+pub record AfterTornWrite (pos n : ℕ) (old new : List ℕ → Type 0) : Type 0 where
+  pub no_other : (b : List ℕ) → new b → (a : List ℕ) × old a × Torn pos n a b
+  pub none_lost : (a : List ℕ) → old a → (b : List ℕ) × new b × Torn pos n a b
+
+-- each image is an old one with any bytes in the range
+pub record TornWithin (pos n : ℕ) (old new : List ℕ → Type 0) : Type 0 where
+  pub each : (b : List ℕ) → new b → (a : List ℕ) × old a × Torn pos n a b
 
 -- the images are the first n bytes of the old ones
 pub record AfterCut (n : ℕ) (old new : List ℕ → Type 0) : Type 0 where
   pub no_other : (b : List ℕ) → new b → (a : List ℕ) × old a × (b ≡ take n a)
   pub none_lost : (a : List ℕ) → old a → new (take n a)
-
--- the number of a fault
-abbrev pub fault_number : StoreFault → ℕ
-fault_number Device = 1
-fault_number NoMemory = 2
 
 -- Device is answered only where the store has failed in the call, and the count doesn't fall
 pub record HasCause (before now : ℕ) (result : Result (Unit {0}) StoreFault) : Type 0 where
@@ -56,13 +59,13 @@ pub record HasCause (before now : ℕ) (result : Result (Unit {0}) StoreFault) :
 pub record AreSized (n : ℕ) (images : List ℕ → Type 0) : Type 0 where
   pub each : (b : List ℕ) → images b → length b ≡ n
 
--- each image has these bytes from at on
-pub record Holds (at : ℕ) (bytes : List ℕ) (images : List ℕ → Type 0) : Type 0 where
-  pub each : (b : List ℕ) → images b → part at (length bytes) b ≡ bytes
+-- each image has these bytes from pos on
+pub record Holds (pos : ℕ) (bytes : List ℕ) (images : List ℕ → Type 0) : Type 0 where
+  pub each : (b : List ℕ) → images b → part pos (length bytes) b ≡ bytes
 
--- each image begins with the first n bytes of an old one
-pub record KeepsBelow (n : ℕ) (old new : List ℕ → Type 0) : Type 0 where
-  pub each : (b : List ℕ) → new b → (a : List ℕ) × old a × (take n b ≡ take n a)
+-- each image has the same n bytes from pos on as an old one
+pub record KeepsPart (pos n : ℕ) (old new : List ℕ → Type 0) : Type 0 where
+  pub each : (b : List ℕ) → new b → (a : List ℕ) × old a × (part pos n b ≡ part pos n a)
 
 -- each image is an old one, whose n bytes from from on stand at to too, over what was there
 pub record Copied (from to n : ℕ) (old new : List ℕ → Type 0) : Type 0 where
@@ -70,4 +73,4 @@ pub record Copied (from to n : ℕ) (old new : List ℕ → Type 0) : Type 0 whe
 
 -- the byte lists that some bytes, written over each of these, leave
 abbrev pub Over : ℕ → List ℕ → (List ℕ → Type 0) → List ℕ → Type 0
-Over at bytes images b = (a : List ℕ) × images a × (b ≡ overwrite a at bytes)
+Over pos bytes images b = (a : List ℕ) × images a × (b ≡ overwrite a pos bytes)

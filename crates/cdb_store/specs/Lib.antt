@@ -1,5 +1,10 @@
+pub mod Faults
 pub mod Images
 pub mod Calls
 pub mod Lengths
 pub mod Contents
 pub mod Fuse
+pub mod Laws
+pub mod FileStore
+pub mod BufferedStore
+pub mod FuseStore

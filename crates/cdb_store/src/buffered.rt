@@ -1,58 +1,60 @@
 // A store that collects writes which continue one another.
-ghost use Rattle.std.specs.Prelude.{◌≡◌, ◌+◌, ◌<◌, ◌≤◌, ◌^◌, ◌↔◌, max, [], length, vec_capacity, IsTrue, OnOk, IfOk, IfErr, IsErrOf};
+ghost use Rattle.std.specs.Prelude.{◌≡◌, ◌+◌, ◌<◌, ◌≤◌, ◌^◌, ◌↔◌, max, [], length, vec_capacity, IsTrue, OnOk, OnErr, IfOk, IfErr, IsErrOf};
 ghost use Rattle.std.proofs.Common.{arith};
 ghost use Rattle.cdb_store.specs.declared.store.StoreFault.TheVariants.{NoMemory};
-ghost use Rattle.cdb_store.specs.Images.{Over, SameImages, AfterTornWrite, HasCause};
-ghost use Rattle.cdb_store.specs.Calls.{written_count};
+ghost use Rattle.cdb_store.specs.Images.{AreApart, SameImages, AfterRead, AfterTornWrite, HasCause};
 ghost use Rattle.cdb_store.specs.Lengths.{over_size};
 
-use crate::memory::read_from;
+use crate::bytes::read_from;
 use crate::trace::{Call, Trace};
 use crate::{Store, StoreFault};
 use std::alloc::Global;
 
 /// A store over another that collects writes which continue one another in one buffer.
 ///
-/// It hands the bytes on when another place is written, when a place is read or cut that the
-/// buffer alone can't answer for, at `flush`, and when the buffer is full. Bytes in the buffer are
-/// read from it. A write first has the inner store reserve its room, so what is in the buffer
-/// takes no memory to be handed on. Where handing on fails the buffer keeps its bytes, and the
-/// next call tries again. A buffer that is let go is lost: call `flush` or `into_inner` first.
+/// It hands the bytes on when another position is written, at a read of bytes that lie in the buffer
+/// in part, at a cut, at `flush`, and when the buffer is full. Bytes in the buffer are read from it,
+/// and a read that touches none of them is passed straight on. A write first has the inner store
+/// reserve its room, so what is in the buffer takes no memory to be handed on. Where handing on
+/// fails the buffer keeps its bytes, and the next call tries again. A buffer that is let go is lost:
+/// call `flush` or `into_inner` first.
 #[derive(Drop)]
 pub struct BufferedStore<S: Store> {
     inner: S,
     buffer: Vec<u8>,
     /// Where the buffer's bytes stand.
-    at: u64,
+    pos: u64,
     /// How many bytes it holds at most.
-    most: usize,
+    capacity: usize,
     trace: Trace,
-    ghost placed: { at ≤ S.size inner },
-    ghost backed: { at + length buffer.items ≤ S.room inner },
-    ghost bounded: { at + length buffer.items < 2 ^ 63 },
-    ghost kept: { length buffer.items ≤ most },
-    ghost capacity: { most ≤ vec_capacity buffer },
+    ghost placed: { pos ≤ S.size inner },
+    ghost backed: { pos + length buffer.items ≤ S.room inner },
+    ghost bounded: { pos + length buffer.items < 2 ^ 63 },
+    ghost kept: { length buffer.items ≤ capacity },
+    ghost allocated: { capacity ≤ vec_capacity buffer },
 }
 
 impl<S: Store> BufferedStore<S> {
-    /// A store over `inner` with a buffer of `most` bytes.
+    ghost use Rattle.cdb_store.specs.BufferedStore.{held_of, size_of, images_of};
+
+    /// A store over `inner` with a buffer of `capacity` bytes.
     ///
     /// Where memory for the buffer is refused, the inner store is handed back as it was.
-    pub fn new(alloc: Global, inner: S, most: usize) -> Result<BufferedStore<S>, S>
-        ensures images { IfOk result (λ f. SameImages (S.image inner) (⟦<BufferedStore<S> as Store>⟧.image f)) }
-        ensures size { IfOk result (λ f. ⟦<BufferedStore<S> as Store>⟧.size f ≡ S.size inner) }
-        ensures failures { IfOk result (λ f. ⟦<BufferedStore<S> as Store>⟧.failures f ≡ S.failures inner) }
-        ensures room { IfOk result (λ f. ⟦<BufferedStore<S> as Store>⟧.room f ≡ S.room inner) }
+    pub fn new(alloc: Global, inner: S, capacity: usize) -> Result<BufferedStore<S>, S>
+        ensures images { IfOk result (λ f. SameImages (S.image inner) (images_of f)) }
+        ensures size { IfOk result (λ f. size_of f ≡ S.size inner) }
+        ensures failures { IfOk result (λ f. S.failures f.inner ≡ S.failures inner) }
+        ensures room { IfOk result (λ f. S.room f.inner ≡ S.room inner) }
         ensures inner { IfOk result (λ f. f.inner ≡ inner) }
-        ensures most { IfOk result (λ f. f.most ≡ most) }
+        ensures capacity { IfOk result (λ f. f.capacity ≡ capacity) }
         ensures err { IfErr result (λ s. s ≡ inner) }
     {
-        match Vec::with_capacity(alloc, most) {
+        match Vec::with_capacity(alloc, capacity) {
             Ok(buffer) => Ok(BufferedStore {
                 inner,
                 buffer,
-                at: 0,
-                most,
+                pos: 0,
+                capacity,
                 trace: Trace::new(),
             }),
             Err(_) => Err(inner),
@@ -63,19 +65,24 @@ impl<S: Store> BufferedStore<S> {
     ///
     /// After `Device` the inner store lacks those bytes: their range may hold anything.
     pub fn into_inner(mut self) -> (S, Result<(), StoreFault>)
-        ensures images { OnOk result.1 (SameImages (⟦<BufferedStore<S> as Store>⟧.image self) (S.image result.0)) }
-        ensures size { OnOk result.1 (S.size result.0 ≡ ⟦<BufferedStore<S> as Store>⟧.size self) }
-        ensures torn { AfterTornWrite self.at (length self.buffer.items) (S.image self.inner) (S.image result.0) }
+        ensures images { OnOk result.1 (SameImages (images_of self) (S.image result.0)) }
+        ensures size { OnOk result.1 (S.size result.0 ≡ size_of self) }
+        ensures torn { AfterTornWrite self.pos (held_of self) (S.image self.inner)
+            (S.image result.0) }
+        ensures no_shorter { S.size self.inner ≤ S.size result.0 }
+        ensures no_longer { S.size result.0 ≤ size_of self }
+        ensures handed { OnOk result.1 (S.written result.0 ≡ S.written self.inner + held_of self) }
+        ensures at_most_handed { S.written result.0 ≤ S.written self.inner + held_of self }
         ensures room { S.room self.inner ≤ S.room result.0 }
         ensures memory { IsErrOf result.1 NoMemory → ⊥ }
-        ensures cause { HasCause (⟦<BufferedStore<S> as Store>⟧.failures self) (S.failures result.0) result.1 }
+        ensures cause { HasCause (S.failures self.inner) (S.failures result.0) result.1 }
     {
         let answer = self.settle();
         let BufferedStore {
             inner,
             buffer,
-            at: _,
-            most: _,
+            pos: _,
+            capacity: _,
             trace,
         } = self;
         drop(buffer);
@@ -85,80 +92,117 @@ impl<S: Store> BufferedStore<S> {
 
     /// Hands on what was collected.
     fn settle(&mut self) -> Result<(), StoreFault>
-        ensures images { SameImages (Over self.old.at self.old.buffer.items (S.image self.old.inner)) (Over self.new.at self.new.buffer.items (S.image self.new.inner)) }
-        ensures size { max (S.size self.new.inner) (self.new.at + length self.new.buffer.items) ≡ max (S.size self.old.inner) (self.old.at + length self.old.buffer.items) }
-        ensures torn { AfterTornWrite self.old.at (length self.old.buffer.items) (S.image self.old.inner) (S.image self.new.inner) }
+        ensures images { SameImages (images_of self.old) (images_of self.new) }
+        ensures size { size_of self.new ≡ size_of self.old }
+        ensures torn { AfterTornWrite self.old.pos (held_of self.old) (S.image self.old.inner)
+            (S.image self.new.inner) }
         ensures empty { OnOk result (self.new.buffer.items ≡ []) }
+        ensures handed { OnOk result
+            (S.written self.new.inner ≡ S.written self.old.inner + held_of self.old) }
+        ensures at_most_handed { S.written self.new.inner
+            ≤ S.written self.old.inner + held_of self.old }
+        ensures longer { S.size self.old.inner ≤ S.size self.new.inner }
+        ensures not_past { S.size self.new.inner ≤ size_of self.old }
+        ensures kept { OnErr result
+            ((self.new.pos ≡ self.old.pos) × (self.new.buffer ≡ self.old.buffer)) }
         ensures trace { self.new.trace ≡ self.old.trace }
-        ensures most { self.new.most ≡ self.old.most }
+        ensures capacity { self.new.capacity ≡ self.old.capacity }
         ensures room { S.room self.old.inner ≤ S.room self.new.inner }
         ensures memory { IsErrOf result NoMemory → ⊥ }
         ensures cause { HasCause (S.failures self.old.inner) (S.failures self.new.inner) result }
     {
         if !self.buffer.is_empty() {
-            self.inner.write_at(self.at, &self.buffer)?;
+            self.inner.write_at(self.pos, &self.buffer)?;
             self.buffer.truncate(0);
         }
         Ok(())
     }
 
-    /// Makes the buffer one that goes on at a place, with room for n bytes more.
+    /// Makes the buffer one that goes on at `pos`, with room for `n` bytes more.
     fn make_room(&mut self, pos: u64, n: usize) -> Result<(), StoreFault>
-        requires start { pos ≤ max (S.size self.old.inner) (self.old.at + length self.old.buffer.items) }
+        requires start { pos ≤ size_of self.old }
         requires end { pos < 2 ^ 63 }
-        requires fits { n ≤ self.old.most }
-        ensures images { SameImages (Over self.old.at self.old.buffer.items (S.image self.old.inner)) (Over self.new.at self.new.buffer.items (S.image self.new.inner)) }
-        ensures size { max (S.size self.new.inner) (self.new.at + length self.new.buffer.items) ≡ max (S.size self.old.inner) (self.old.at + length self.old.buffer.items) }
-        ensures place { OnOk result (pos ≡ self.new.at + length self.new.buffer.items) }
-        ensures free { OnOk result (length self.new.buffer.items + n ≤ self.new.most) }
+        requires fits { n ≤ self.old.capacity }
+        ensures images { SameImages (images_of self.old) (images_of self.new) }
+        ensures size { size_of self.new ≡ size_of self.old }
+        ensures continues { OnOk result (pos ≡ self.new.pos + held_of self.new) }
+        ensures free { OnOk result (held_of self.new + n ≤ self.new.capacity) }
         ensures trace { self.new.trace ≡ self.old.trace }
         ensures room { S.room self.old.inner ≤ S.room self.new.inner }
         ensures memory { IsErrOf result NoMemory → ⊥ }
         ensures cause { HasCause (S.failures self.old.inner) (S.failures self.new.inner) result }
     {
         let held = self.buffer.len();
-        if pos == self.at + held as u64 && n <= self.most - held {
+        if pos == self.pos + held as u64 && n <= self.capacity - held {
             return Ok(());
         }
         self.settle()?;
-        self.at = pos;
+        self.pos = pos;
         Ok(())
     }
 }
 
-/// Whether these `n` bytes from `pos` on all lie among the `held` bytes from `at` on.
-fn lies_within(pos: u64, n: usize, at: u64, held: usize) -> bool
-    requires { at + held < 2 ^ 63 }
-    ensures { IsTrue result ↔ ((at ≤ pos) × (pos + n ≤ at + held)) }
+/// Whether these `n` bytes from `pos` on all lie among the `held` bytes from `start` on.
+fn lies_within(pos: u64, n: usize, start: u64, held: usize) -> bool
+    requires { start + held < 2 ^ 63 }
+    ensures { IsTrue result ↔ ((start ≤ pos) × (pos + n ≤ start + held)) }
 {
-    at <= pos && pos <= at + held as u64 && n as u64 <= at + held as u64 - pos
+    start <= pos && pos <= start + held as u64 && n as u64 <= start + held as u64 - pos
+}
+
+/// Whether these `n` bytes from `pos` on share none with the `held` bytes from `start` on.
+fn lies_apart(pos: u64, n: usize, start: u64, held: usize) -> bool
+    requires { start + held < 2 ^ 63 }
+    ensures { IsTrue result ↔ AreApart pos n start held }
+{
+    (pos <= start && n as u64 <= start - pos) || start + held as u64 <= pos
 }
 
 impl<S: Store> Store for BufferedStore<S> {
-    ghost size = { λ f. max (S.size f.inner) (f.at + length f.buffer.items) };
+    ghost use Rattle.cdb_store.specs.BufferedStore.{held_of, size_of, images_of, written_of};
 
-    ghost image = { λ f. Over f.at f.buffer.items (S.image f.inner) };
+    ghost size = { λ f. size_of f };
+
+    ghost image = { λ f. images_of f };
 
     ghost failures = { λ f. S.failures f.inner };
 
-    ghost written = { λ f. written_count f.trace.events };
+    ghost written = { λ f. written_of f };
 
     ghost room = { λ f. S.room f.inner };
 
+    ghost settled = { λ f. (f.buffer.items ≡ []) × S.settled f.inner };
+
     ghost in_room = { λ f. Prim.omega (arith, f.backed, S.in_room f.inner) };
 
-    ghost image_size = { λ f b is. over_size f.at f.buffer.items (S.size f.inner) (S.image f.inner) (S.image_size f.inner) f.placed b is };
+    ghost image_size = { λ f b is. over_size f.pos f.buffer.items (S.size f.inner) (S.image f.inner) (S.image_size f.inner) f.placed b is };
 
     fn len(&self) -> u64 {
-        self.inner.len().max(self.at + self.buffer.len() as u64)
+        self.inner.len().max(self.pos + self.buffer.len() as u64)
     }
 
-    fn read_at(&mut self, pos: u64, into: &mut [u8]) -> Result<(), StoreFault> {
-        if lies_within(pos, into.len(), self.at, self.buffer.len()) {
-            read_from(&self.buffer, (pos - self.at) as usize, into);
+    fn read_at(&mut self, pos: u64, into: &mut [u8]) -> Result<(), StoreFault>
+        requires { pos + length into.old ≤ size_of self.old }
+        ensures ok { OnOk result
+            (AfterRead pos into.new (images_of self.old) (images_of self.new)) }
+        ensures err { OnErr result (SameImages (images_of self.old) (images_of self.new)) }
+        ensures size { size_of self.new ≡ size_of self.old }
+        ensures written { written_of self.new ≡ written_of self.old }
+        ensures room { S.room self.old.inner ≤ S.room self.new.inner }
+        ensures cause { HasCause (S.failures self.old.inner) (S.failures self.new.inner) result }
+        ensures memory { IsErrOf result NoMemory → ⊥ }
+        ensures passed { AreApart pos (length into.old) self.old.pos (held_of self.old)
+            → pos + length into.old ≤ S.size self.old.inner
+            → (self.new.buffer ≡ self.old.buffer)
+            × (S.written self.new.inner ≡ S.written self.old.inner) }
+    {
+        let (n, held) = (into.len(), self.buffer.len());
+        if lies_within(pos, n, self.pos, held) {
+            read_from(&self.buffer, (pos - self.pos) as usize, into);
             return Ok(());
         }
-        if pos <= self.at && into.len() as u64 <= self.at - pos {
+        let below = self.inner.len();
+        if lies_apart(pos, n, self.pos, held) && pos <= below && n as u64 <= below - pos {
             return self.inner.read_at(pos, into);
         }
         self.settle()?;
@@ -166,14 +210,14 @@ impl<S: Store> Store for BufferedStore<S> {
     }
 
     fn write_at(&mut self, pos: u64, bytes: &[u8]) -> Result<(), StoreFault> {
-        if bytes.len() > self.most {
+        self.inner.reserve(pos + bytes.len() as u64)?;
+        if bytes.len() > self.capacity {
             self.settle()?;
             self.inner.write_at(pos, bytes)?;
             self.trace.note(&Call::Wrote(pos), bytes);
             return Ok(());
         }
         self.make_room(pos, bytes.len())?;
-        self.inner.reserve(pos + bytes.len() as u64)?;
         self.buffer.extend_from_slice(bytes)?;
         self.trace.note(&Call::Wrote(pos), bytes);
         Ok(())
@@ -185,19 +229,22 @@ impl<S: Store> Store for BufferedStore<S> {
 
     fn cut(&mut self, len: u64) -> Result<(), StoreFault> {
         self.settle()?;
-        self.at = self.at.min(len);
+        self.pos = self.pos.min(len);
         self.inner.cut(len)
     }
 
     fn flush(&mut self) -> Result<(), StoreFault>
-        ensures images { SameImages (Over self.old.at self.old.buffer.items (S.image self.old.inner)) (Over self.new.at self.new.buffer.items (S.image self.new.inner)) }
-        ensures size { max (S.size self.new.inner) (self.new.at + length self.new.buffer.items) ≡ max (S.size self.old.inner) (self.old.at + length self.old.buffer.items) }
-        ensures written { written_count self.new.trace.events ≡ written_count self.old.trace.events }
+        ensures images { SameImages (images_of self.old) (images_of self.new) }
+        ensures size { size_of self.new ≡ size_of self.old }
+        ensures written { written_of self.new ≡ written_of self.old }
         ensures room { S.room self.old.inner ≤ S.room self.new.inner }
         ensures cause { HasCause (S.failures self.old.inner) (S.failures self.new.inner) result }
         ensures memory { IsErrOf result NoMemory → ⊥ }
-        ensures settled { OnOk result (self.new.buffer.items ≡ []) }
+        ensures ok { OnOk result ((self.new.buffer.items ≡ []) × S.settled self.new.inner) }
+        ensures handed { OnOk result
+            (S.written self.new.inner ≡ S.written self.old.inner + held_of self.old) }
     {
+        // What was collected goes first, so that the inner store hands it on too.
         self.settle()?;
         self.inner.flush()
     }

@@ -1,20 +1,21 @@
 // A store in a file.
 ghost use Rattle.std.specs.Prelude.{◌≡◌, ◌+◌, ◌<◌, ◌≤◌, ◌^◌, ◌↔◌, true, false, max, List, ℕ, [], ◌∷◌, length, IfOk, OnOk, OnErr, IsErrOf};
 ghost use Rattle.std.proofs.Common.{arith};
-ghost use Rattle.cdb_store.specs.declared.trace.Call.TheVariants.{Made, Length, Synced};
+ghost use Rattle.cdb_store.specs.declared.trace.Call.TheVariants.{Made, Length, Synced, Refused};
 ghost use Rattle.cdb_store.specs.declared.store.StoreFault.TheVariants.{Device, NoMemory};
 ghost use Rattle.cdb_store.specs.Images.{SameImages, AfterRead, AfterWrite, AfterTornWrite, AfterCut, HasCause};
-ghost use Rattle.cdb_store.specs.Calls.{failure_count, written_count, lost, FileImage, AreAtLeast, IsMeasured};
+ghost use Rattle.cdb_store.specs.Calls.{lost, synced, AreAtLeast, IsMeasured};
 ghost use Rattle.cdb_store.specs.Lengths.{file_size};
 
-use crate::raw_file::{RawFile, RealFile};
+use crate::raw::RawFile;
+use crate::real::RealFile;
 use crate::transfer::{length_within, read_all, write_all};
 use crate::{Store, StoreFault};
 use std::fs::{File, OpenOptions};
 use std::rt::Files;
 
-/// The greatest place in a file.
-const MOST: u64 = (1 << 63) - 1;
+/// The greatest length of a file.
+const GREATEST_LENGTH: u64 = (1 << 63) - 1;
 
 /// A store in a file.
 ///
@@ -25,6 +26,7 @@ const MOST: u64 = (1 << 63) - 1;
 pub struct FileStore<F: RawFile = RealFile> {
     file: F,
     len: u64,
+    /// Whether a failed write or cut has left a length that couldn't be measured.
     is_lost: bool,
     ghost bounded: { len < 2 ^ 63 },
     ghost known: { is_lost ≡ lost (F.calls file) },
@@ -32,11 +34,13 @@ pub struct FileStore<F: RawFile = RealFile> {
 }
 
 impl FileStore {
+    ghost use Rattle.cdb_store.specs.FileStore.{images_of};
+
     /// Makes a file, or empties the one of that name, and reads and writes it.
     ///
     /// `Device`: it can't be opened so.
     pub fn create<R: Files<File = File>>(rt: &R, path: &str) -> Result<FileStore, StoreFault>
-        ensures images { IfOk result (λ f. (b : List ℕ) → (⟦<FileStore as Store>⟧.image f b ↔ (b ≡ []))) }
+        ensures images { IfOk result (λ f. (b : List ℕ) → (images_of f b ↔ (b ≡ []))) }
         ensures made { IfOk result (λ f. f.file.trace.events ≡ (Made, []) ∷ []) }
         ensures memory { IsErrOf result NoMemory → ⊥ }
     {
@@ -56,8 +60,8 @@ impl FileStore {
     ///
     /// `Device`: it can't be opened, or has 2^63 bytes or more.
     pub fn open<R: Files<File = File>>(rt: &R, path: &str) -> Result<FileStore, StoreFault>
-        ensures images { IfOk result (λ f. (b : List ℕ) → (⟦<FileStore as Store>⟧.image f b ↔ (length b ≡ ⟦<FileStore as Store>⟧.size f))) }
-        ensures told { IfOk result (λ f. f.file.trace.events ≡ (Length (⟦<FileStore as Store>⟧.size f), []) ∷ []) }
+        ensures images { IfOk result (λ f. (b : List ℕ) → (images_of f b ↔ (length b ≡ f.len))) }
+        ensures told { IfOk result (λ f. f.file.trace.events ≡ (Length f.len, []) ∷ []) }
         ensures memory { IsErrOf result NoMemory → ⊥ }
     {
         match File::open(rt, path) {
@@ -82,6 +86,26 @@ impl<F: RawFile> FileStore<F> {
     }
 }
 
+impl<F: RawFile> FileStore<F> {
+    ghost use Rattle.cdb_store.specs.FileStore.{calls_of};
+
+    /// Answers `Device` where the length is lost, without asking the file.
+    fn refuse_if_lost(&mut self) -> Result<(), StoreFault>
+        ensures ok { OnOk result (self.new.is_lost ≡ false) }
+        ensures same { OnOk result (self.new ≡ self.old) }
+        ensures err { OnErr result (lost (calls_of self.old) ≡ true) }
+        ensures refused { OnErr result (calls_of self.new ≡ (Refused, []) ∷ calls_of self.old) }
+        ensures len { self.new.len ≡ self.old.len }
+        ensures memory { IsErrOf result NoMemory → ⊥ }
+    {
+        if self.is_lost {
+            self.file.refuse();
+            return Err(StoreFault::Device);
+        }
+        Ok(())
+    }
+}
+
 impl<F: RawFile + Drop> FileStore<F> {
     /// A file that was just opened, of the length that it tells.
     pub(crate) fn over(mut file: F) -> Result<FileStore<F>, StoreFault>
@@ -89,7 +113,7 @@ impl<F: RawFile + Drop> FileStore<F> {
         ensures told { IfOk result (λ f. F.calls f.file ≡ (Length f.len, []) ∷ []) }
         ensures memory { IsErrOf result NoMemory → ⊥ }
     {
-        match length_within(&mut file, 0, MOST) {
+        match length_within(&mut file, 0, GREATEST_LENGTH) {
             Some(len) => Ok(FileStore {
                 file,
                 len,
@@ -101,19 +125,23 @@ impl<F: RawFile + Drop> FileStore<F> {
 }
 
 impl<F: RawFile> Store for FileStore<F> {
+    ghost use Rattle.cdb_store.specs.FileStore.{calls_of, images_of, failures_of, written_of};
+
     ghost size = { λ f. f.len };
 
-    ghost image = { λ f. FileImage f.len (F.calls f.file) };
+    ghost image = { λ f. images_of f };
 
-    ghost failures = { λ f. failure_count (F.calls f.file) };
+    ghost failures = { λ f. failures_of f };
 
-    ghost written = { λ f. written_count (F.calls f.file) };
+    ghost written = { λ f. written_of f };
 
     ghost room = { λ f. 2 ^ 63 };
 
+    ghost settled = { λ f. synced (calls_of f) };
+
     ghost in_room = { λ f. Prim.omega (arith, f.bounded) };
 
-    ghost image_size = { λ f b is. file_size f.len (F.calls f.file) b is };
+    ghost image_size = { λ f b is. file_size f.len (calls_of f) b is };
 
     fn len(&self) -> u64 {
         self.len
@@ -121,18 +149,17 @@ impl<F: RawFile> Store for FileStore<F> {
 
     fn read_at(&mut self, pos: u64, into: &mut [u8]) -> Result<(), StoreFault>
         requires { pos + length into.old ≤ self.old.len }
-        ensures ok { OnOk result (AfterRead pos into.new (FileImage self.old.len (F.calls self.old.file)) (FileImage self.new.len (F.calls self.new.file))) }
-        ensures err { OnErr result (SameImages (FileImage self.old.len (F.calls self.old.file)) (FileImage self.new.len (F.calls self.new.file))) }
+        ensures ok { OnOk result
+            (AfterRead pos into.new (images_of self.old) (images_of self.new)) }
+        ensures err { OnErr result (SameImages (images_of self.old) (images_of self.new)) }
         ensures size { self.new.len ≡ self.old.len }
-        ensures written { written_count (F.calls self.new.file) ≡ written_count (F.calls self.old.file) }
-        ensures cause { HasCause (failure_count (F.calls self.old.file)) (failure_count (F.calls self.new.file)) result }
+        ensures written { written_of self.new ≡ written_of self.old }
+        ensures cause { HasCause (failures_of self.old) (failures_of self.new) result }
         ensures memory { IsErrOf result NoMemory → ⊥ }
-        ensures lost { lost (F.calls self.old.file) ≡ true → IsErrOf result Device }
+        ensures lost { lost (calls_of self.old) ≡ true → IsErrOf result Device }
+        ensures still_known { lost (calls_of self.new) ≡ lost (calls_of self.old) }
     {
-        if self.is_lost {
-            self.file.refuse();
-            return Err(StoreFault::Device);
-        }
+        self.refuse_if_lost()?;
         read_all(&mut self.file, pos, into)?;
         self.file.give(pos, into);
         Ok(())
@@ -141,23 +168,25 @@ impl<F: RawFile> Store for FileStore<F> {
     fn write_at(&mut self, pos: u64, bytes: &[u8]) -> Result<(), StoreFault>
         requires start { pos ≤ self.old.len }
         requires end { pos + length bytes.now < 2 ^ 63 }
-        ensures ok { OnOk result (AfterWrite pos bytes.now (FileImage self.old.len (F.calls self.old.file)) (FileImage self.new.len (F.calls self.new.file))) }
+        ensures ok { OnOk result
+            (AfterWrite pos bytes.now (images_of self.old) (images_of self.new)) }
         ensures ok_size { OnOk result (self.new.len ≡ max self.old.len (pos + length bytes.now)) }
-        ensures ok_written { OnOk result (written_count (F.calls self.new.file) ≡ written_count (F.calls self.old.file) + length bytes.now) }
-        ensures torn { AfterTornWrite pos (length bytes.now) (FileImage self.old.len (F.calls self.old.file)) (FileImage self.new.len (F.calls self.new.file)) }
+        ensures ok_written { OnOk result
+            (written_of self.new ≡ written_of self.old + length bytes.now) }
+        ensures torn { AfterTornWrite pos (length bytes.now) (images_of self.old)
+            (images_of self.new) }
         ensures longer { self.old.len ≤ self.new.len }
         ensures not_past { self.new.len ≤ max self.old.len (pos + length bytes.now) }
-        ensures more_written { written_count (F.calls self.old.file) ≤ written_count (F.calls self.new.file) }
-        ensures at_most_written { written_count (F.calls self.new.file) ≤ written_count (F.calls self.old.file) + length bytes.now }
+        ensures more_written { written_of self.old ≤ written_of self.new }
+        ensures at_most_written { written_of self.new ≤ written_of self.old + length bytes.now }
         ensures memory { IsErrOf result NoMemory → ⊥ }
-        ensures cause { HasCause (failure_count (F.calls self.old.file)) (failure_count (F.calls self.new.file)) result }
-        ensures lost { lost (F.calls self.old.file) ≡ true → IsErrOf result Device }
-        ensures measured { OnErr result (IsMeasured self.old.len (max self.old.len (pos + length bytes.now)) self.old.len self.new.len (F.calls self.new.file)) }
+        ensures cause { HasCause (failures_of self.old) (failures_of self.new) result }
+        ensures lost { lost (calls_of self.old) ≡ true → IsErrOf result Device }
+        ensures measured { OnErr result
+            (IsMeasured self.old.len (max self.old.len (pos + length bytes.now)) self.old.len
+            self.new.len (calls_of self.old) (calls_of self.new)) }
     {
-        if self.is_lost {
-            self.file.refuse();
-            return Err(StoreFault::Device);
-        }
+        self.refuse_if_lost()?;
         let most = self.len.max(pos + bytes.len() as u64);
         match write_all(&mut self.file, pos, bytes) {
             Ok(()) => {
@@ -180,20 +209,19 @@ impl<F: RawFile> Store for FileStore<F> {
 
     fn cut(&mut self, len: u64) -> Result<(), StoreFault>
         requires { len ≤ self.old.len }
-        ensures images { AfterCut self.new.len (FileImage self.old.len (F.calls self.old.file)) (FileImage self.new.len (F.calls self.new.file)) }
+        ensures images { AfterCut self.new.len (images_of self.old) (images_of self.new) }
         ensures ok { OnOk result (self.new.len ≡ len) }
         ensures no_shorter { len ≤ self.new.len }
         ensures no_longer { self.new.len ≤ self.old.len }
-        ensures written { written_count (F.calls self.new.file) ≡ written_count (F.calls self.old.file) }
-        ensures cause { HasCause (failure_count (F.calls self.old.file)) (failure_count (F.calls self.new.file)) result }
+        ensures written { written_of self.new ≡ written_of self.old }
+        ensures cause { HasCause (failures_of self.old) (failures_of self.new) result }
         ensures memory { IsErrOf result NoMemory → ⊥ }
-        ensures lost { lost (F.calls self.old.file) ≡ true → IsErrOf result Device }
-        ensures measured { OnErr result (IsMeasured len self.old.len self.old.len self.new.len (F.calls self.new.file)) }
+        ensures lost { lost (calls_of self.old) ≡ true → IsErrOf result Device }
+        ensures measured { OnErr result
+            (IsMeasured len self.old.len self.old.len self.new.len (calls_of self.old)
+            (calls_of self.new)) }
     {
-        if self.is_lost {
-            self.file.refuse();
-            return Err(StoreFault::Device);
-        }
+        self.refuse_if_lost()?;
         match self.file.set_length(len) {
             Ok(()) => {
                 self.len = len;
@@ -211,18 +239,17 @@ impl<F: RawFile> Store for FileStore<F> {
 
     /// Has the file synced, so that a loss of power does not take its bytes.
     fn flush(&mut self) -> Result<(), StoreFault>
-        ensures images { SameImages (FileImage self.old.len (F.calls self.old.file)) (FileImage self.new.len (F.calls self.new.file)) }
+        ensures images { SameImages (images_of self.old) (images_of self.new) }
         ensures size { self.new.len ≡ self.old.len }
-        ensures written { written_count (F.calls self.new.file) ≡ written_count (F.calls self.old.file) }
-        ensures cause { HasCause (failure_count (F.calls self.old.file)) (failure_count (F.calls self.new.file)) result }
+        ensures written { written_of self.new ≡ written_of self.old }
+        ensures cause { HasCause (failures_of self.old) (failures_of self.new) result }
         ensures memory { IsErrOf result NoMemory → ⊥ }
-        ensures lost { lost (F.calls self.old.file) ≡ true → IsErrOf result Device }
-        ensures synced { OnOk result (F.calls self.new.file ≡ (Synced, []) ∷ F.calls self.old.file) }
+        ensures lost { lost (calls_of self.old) ≡ true → IsErrOf result Device }
+        ensures still_known { lost (calls_of self.new) ≡ lost (calls_of self.old) }
+        ensures ok { OnOk result (synced (calls_of self.new)) }
+        ensures synced { OnOk result (calls_of self.new ≡ (Synced, []) ∷ calls_of self.old) }
     {
-        if self.is_lost {
-            self.file.refuse();
-            return Err(StoreFault::Device);
-        }
+        self.refuse_if_lost()?;
         match self.file.sync() {
             Ok(()) => Ok(()),
             Err(_) => Err(StoreFault::Device),

@@ -2,7 +2,7 @@
 ghost use Rattle.std.specs.Prelude.{◌≡◌, ◌+◌, ◌<◌, ◌≤◌, ◌^◌, ◌↔◌, ◌⊎◌, max, length, take, IsTrue, OnOk, OnErr, IsErrOf};
 ghost use Rattle.cdb_store.specs.declared.store.StoreFault.TheVariants.{Device, NoMemory};
 ghost use Rattle.cdb_store.specs.Images.{SameImages, AfterRead, AfterWrite, AfterTornWrite, AfterCut, HasCause};
-ghost use Rattle.cdb_store.specs.Fuse.{Blows, blown, capped, IsCounted, PartWritten};
+ghost use Rattle.cdb_store.specs.Fuse.{Blows, capped, PartWritten};
 
 use crate::{Store, StoreFault};
 
@@ -13,9 +13,13 @@ use crate::{Store, StoreFault};
 #[derive(Drop)]
 pub struct FuseStore<S> {
     inner: S,
+    /// How many calls it passes before the one that it fails.
     limit: u64,
+    /// How many bytes the failed write writes.
     part: u64,
+    /// How many calls counted.
     calls: u64,
+    /// How many bytes the inner store's writes that answered Ok wrote.
     written: u64,
 }
 
@@ -79,16 +83,21 @@ fn blows(calls: &mut u64, limit: u64) -> bool
     is_last
 }
 
+#[tactic(auto, using(crate::proofs::FuseLemmas::fuse_passes))]
 impl<S: Store> Store for FuseStore<S> {
+    ghost use Rattle.cdb_store.specs.FuseStore.{failures_of, IsLast, IsCounted};
+
     ghost size = { λ f. S.size f.inner };
 
     ghost image = { λ f. S.image f.inner };
 
-    ghost failures = { λ f. S.failures f.inner + blown f.calls f.limit };
+    ghost failures = { λ f. failures_of S.failures f };
 
     ghost written = { λ f. S.written f.inner };
 
     ghost room = { λ f. S.room f.inner };
+
+    ghost settled = { λ f. S.settled f.inner };
 
     ghost in_room = { λ f. S.in_room f.inner };
 
@@ -100,16 +109,19 @@ impl<S: Store> Store for FuseStore<S> {
 
     fn read_at(&mut self, pos: u64, into: &mut [u8]) -> Result<(), StoreFault>
         requires { pos + length into.old ≤ S.size self.old.inner }
-        ensures ok { OnOk result (AfterRead pos into.new (S.image self.old.inner) (S.image self.new.inner)) }
+        ensures ok { OnOk result
+            (AfterRead pos into.new (S.image self.old.inner) (S.image self.new.inner)) }
         ensures err { OnErr result (SameImages (S.image self.old.inner) (S.image self.new.inner)) }
         ensures size { S.size self.new.inner ≡ S.size self.old.inner }
         ensures written { S.written self.new.inner ≡ S.written self.old.inner }
         ensures room { S.room self.old.inner ≤ S.room self.new.inner }
-        ensures cause { HasCause (S.failures self.old.inner + blown self.old.calls self.old.limit) (S.failures self.new.inner + blown self.new.calls self.new.limit) result }
+        ensures cause { HasCause (failures_of S.failures self.old) (failures_of S.failures self.new)
+            result }
         ensures memory { IsErrOf result NoMemory → ⊥ }
-        ensures counted { IsCounted (self.old.calls, self.old.limit, self.old.part) (self.new.calls, self.new.limit, self.new.part) }
+        ensures counted { IsCounted self.old self.new }
         ensures same_written { self.new.written ≡ self.old.written }
-        ensures fails { Blows self.old.calls self.old.limit → IsErrOf result Device × (self.new.inner ≡ self.old.inner) }
+        ensures fails { IsLast self.old
+            → IsErrOf result Device × (self.new.inner ≡ self.old.inner) }
     {
         if blows(&mut self.calls, self.limit) {
             return Err(StoreFault::Device);
@@ -120,25 +132,44 @@ impl<S: Store> Store for FuseStore<S> {
     fn write_at(&mut self, pos: u64, bytes: &[u8]) -> Result<(), StoreFault>
         requires start { pos ≤ S.size self.old.inner }
         requires end { pos + length bytes.now < 2 ^ 63 }
-        ensures ok { OnOk result (AfterWrite pos bytes.now (S.image self.old.inner) (S.image self.new.inner)) }
-        ensures ok_size { OnOk result (S.size self.new.inner ≡ max (S.size self.old.inner) (pos + length bytes.now)) }
-        ensures ok_written { OnOk result (S.written self.new.inner ≡ S.written self.old.inner + length bytes.now) }
-        ensures torn { AfterTornWrite pos (length bytes.now) (S.image self.old.inner) (S.image self.new.inner) }
+        ensures ok { OnOk result
+            (AfterWrite pos bytes.now (S.image self.old.inner) (S.image self.new.inner)) }
+        ensures ok_size { OnOk result
+            (S.size self.new.inner ≡ max (S.size self.old.inner) (pos + length bytes.now)) }
+        ensures ok_written { OnOk result
+            (S.written self.new.inner ≡ S.written self.old.inner + length bytes.now) }
+        ensures torn { AfterTornWrite pos (length bytes.now) (S.image self.old.inner)
+            (S.image self.new.inner) }
         ensures longer { S.size self.old.inner ≤ S.size self.new.inner }
-        ensures not_past { S.size self.new.inner ≤ max (S.size self.old.inner) (pos + length bytes.now) }
+        ensures not_past { S.size self.new.inner
+            ≤ max (S.size self.old.inner) (pos + length bytes.now) }
         ensures more_written { S.written self.old.inner ≤ S.written self.new.inner }
-        ensures at_most_written { S.written self.new.inner ≤ S.written self.old.inner + length bytes.now }
-        ensures memory { IsErrOf result NoMemory → SameImages (S.image self.old.inner) (S.image self.new.inner) }
-        ensures memory_size { IsErrOf result NoMemory → S.size self.new.inner ≡ S.size self.old.inner }
-        ensures memory_written { IsErrOf result NoMemory → S.written self.new.inner ≡ S.written self.old.inner }
-        ensures past_room { IsErrOf result NoMemory → S.room self.old.inner < pos + length bytes.now }
+        ensures at_most_written { S.written self.new.inner
+            ≤ S.written self.old.inner + length bytes.now }
+        ensures memory { IsErrOf result NoMemory
+            → SameImages (S.image self.old.inner) (S.image self.new.inner) }
+        ensures memory_size { IsErrOf result NoMemory
+            → S.size self.new.inner ≡ S.size self.old.inner }
+        ensures memory_written { IsErrOf result NoMemory
+            → S.written self.new.inner ≡ S.written self.old.inner }
+        ensures memory_room { IsErrOf result NoMemory
+            → S.room self.new.inner ≡ S.room self.old.inner }
+        ensures memory_failures { IsErrOf result NoMemory
+            → failures_of S.failures self.new ≡ failures_of S.failures self.old }
+        ensures past_room { IsErrOf result NoMemory
+            → S.room self.old.inner < pos + length bytes.now }
         ensures room { S.room self.old.inner ≤ S.room self.new.inner }
-        ensures cause { HasCause (S.failures self.old.inner + blown self.old.calls self.old.limit) (S.failures self.new.inner + blown self.new.calls self.new.limit) result }
-        ensures counted { IsCounted (self.old.calls, self.old.limit, self.old.part) (self.new.calls, self.new.limit, self.new.part) }
-        ensures count_ok { OnOk result (self.new.written ≡ capped (self.old.written + length bytes.now)) }
-        ensures count_err { OnErr result (Blows self.old.calls self.old.limit ⊎ (self.new.written ≡ self.old.written)) }
-        ensures fails { Blows self.old.calls self.old.limit → IsErrOf result Device }
-        ensures part { Blows self.old.calls self.old.limit → PartWritten pos (take self.old.part bytes.now) (S.image self.old.inner) (S.image self.new.inner) (S.failures self.old.inner, S.failures self.new.inner) (S.room self.old.inner) (self.old.written, self.new.written) }
+        ensures cause { HasCause (failures_of S.failures self.old) (failures_of S.failures self.new)
+            result }
+        ensures counted { IsCounted self.old self.new }
+        ensures count_ok { OnOk result
+            (self.new.written ≡ capped (self.old.written + length bytes.now)) }
+        ensures count_err { OnErr result (IsLast self.old ⊎ (self.new.written ≡ self.old.written)) }
+        ensures fails { IsLast self.old → IsErrOf result Device }
+        ensures part { IsLast self.old
+            → PartWritten pos (take self.old.part bytes.now) (S.image self.old.inner)
+            (S.image self.new.inner) (S.failures self.old.inner, S.failures self.new.inner)
+            (S.room self.old.inner) (self.old.written, self.new.written) }
     {
         if blows(&mut self.calls, self.limit) {
             let n = self.part.min(bytes.len() as u64) as usize;
@@ -156,12 +187,15 @@ impl<S: Store> Store for FuseStore<S> {
         requires { len < 2 ^ 63 }
         ensures ok { OnOk result (len ≤ S.room self.new.inner) }
         ensures past_room { OnErr result (S.room self.old.inner < len) }
+        ensures err_room { OnErr result (S.room self.new.inner ≡ S.room self.old.inner) }
+        ensures err_failures { OnErr result
+            (S.failures self.new.inner ≡ S.failures self.old.inner) }
         ensures device { IsErrOf result Device → ⊥ }
         ensures images { SameImages (S.image self.old.inner) (S.image self.new.inner) }
         ensures size { S.size self.new.inner ≡ S.size self.old.inner }
         ensures written { S.written self.new.inner ≡ S.written self.old.inner }
         ensures room { S.room self.old.inner ≤ S.room self.new.inner }
-        ensures failures { S.failures self.old.inner + blown self.old.calls self.old.limit ≤ S.failures self.new.inner + blown self.new.calls self.new.limit }
+        ensures failures { failures_of S.failures self.old ≤ failures_of S.failures self.new }
         ensures same_calls { self.new.calls ≡ self.old.calls }
         ensures same_limit { self.new.limit ≡ self.old.limit }
         ensures same_part { self.new.part ≡ self.old.part }
@@ -172,17 +206,20 @@ impl<S: Store> Store for FuseStore<S> {
 
     fn cut(&mut self, len: u64) -> Result<(), StoreFault>
         requires { len ≤ S.size self.old.inner }
-        ensures images { AfterCut (S.size self.new.inner) (S.image self.old.inner) (S.image self.new.inner) }
+        ensures images { AfterCut (S.size self.new.inner) (S.image self.old.inner)
+            (S.image self.new.inner) }
         ensures ok { OnOk result (S.size self.new.inner ≡ len) }
         ensures no_shorter { len ≤ S.size self.new.inner }
         ensures no_longer { S.size self.new.inner ≤ S.size self.old.inner }
         ensures written { S.written self.new.inner ≡ S.written self.old.inner }
         ensures room { S.room self.old.inner ≤ S.room self.new.inner }
-        ensures cause { HasCause (S.failures self.old.inner + blown self.old.calls self.old.limit) (S.failures self.new.inner + blown self.new.calls self.new.limit) result }
+        ensures cause { HasCause (failures_of S.failures self.old) (failures_of S.failures self.new)
+            result }
         ensures memory { IsErrOf result NoMemory → ⊥ }
-        ensures counted { IsCounted (self.old.calls, self.old.limit, self.old.part) (self.new.calls, self.new.limit, self.new.part) }
+        ensures counted { IsCounted self.old self.new }
         ensures same_written { self.new.written ≡ self.old.written }
-        ensures fails { Blows self.old.calls self.old.limit → IsErrOf result Device × (self.new.inner ≡ self.old.inner) }
+        ensures fails { IsLast self.old
+            → IsErrOf result Device × (self.new.inner ≡ self.old.inner) }
     {
         if blows(&mut self.calls, self.limit) {
             return Err(StoreFault::Device);
@@ -191,15 +228,18 @@ impl<S: Store> Store for FuseStore<S> {
     }
 
     fn flush(&mut self) -> Result<(), StoreFault>
+        ensures ok { OnOk result (S.settled self.new.inner) }
         ensures images { SameImages (S.image self.old.inner) (S.image self.new.inner) }
         ensures size { S.size self.new.inner ≡ S.size self.old.inner }
         ensures written { S.written self.new.inner ≡ S.written self.old.inner }
         ensures room { S.room self.old.inner ≤ S.room self.new.inner }
-        ensures cause { HasCause (S.failures self.old.inner + blown self.old.calls self.old.limit) (S.failures self.new.inner + blown self.new.calls self.new.limit) result }
+        ensures cause { HasCause (failures_of S.failures self.old) (failures_of S.failures self.new)
+            result }
         ensures memory { IsErrOf result NoMemory → ⊥ }
-        ensures counted { IsCounted (self.old.calls, self.old.limit, self.old.part) (self.new.calls, self.new.limit, self.new.part) }
+        ensures counted { IsCounted self.old self.new }
         ensures same_written { self.new.written ≡ self.old.written }
-        ensures fails { Blows self.old.calls self.old.limit → IsErrOf result Device × (self.new.inner ≡ self.old.inner) }
+        ensures fails { IsLast self.old
+            → IsErrOf result Device × (self.new.inner ≡ self.old.inner) }
     {
         if blows(&mut self.calls, self.limit) {
             return Err(StoreFault::Device);

@@ -1,12 +1,15 @@
-//! Stores: bytes that are read, written and cut at places, in memory and in files.
+//! Stores: bytes that are read, written and cut at any position, in memory and in files.
 #![tactic(auto)]
 
 mod buffered;
+mod by_ref;
+mod bytes;
 mod file;
 mod fuse;
-mod lent;
+pub mod laws;
 mod memory;
-mod raw_file;
+mod raw;
+mod real;
 mod store;
 mod trace;
 mod transfer;
@@ -15,7 +18,8 @@ pub use buffered::BufferedStore;
 pub use file::FileStore;
 pub use fuse::FuseStore;
 pub use memory::MemStore;
-pub use raw_file::{RawFault, RawFile, RealFile};
+pub use raw::{RawFault, RawFile};
+pub use real::RealFile;
 pub use store::{Store, StoreFault};
 pub use trace::Call;
 

@@ -1,13 +1,13 @@
 // A store in memory.
-ghost use Rattle.std.specs.Prelude.{◌≡◌, ◌+◌, ◌<◌, ◌≤◌, ◌^◌, ◌↔◌, List, ℕ, [], max, length, take, OnOk, OnErr, vec_len, vec_capacity};
+ghost use Rattle.std.specs.Prelude.{◌≡◌, ◌↔◌, List, ℕ, [], max, length, vec_capacity};
 ghost use Rattle.std.proofs.Common.{arith};
-ghost use Rattle.cdb_store.specs.Images.{overwrite, part};
 ghost use Rattle.cdb_store.specs.Lengths.{same_length};
 ghost use Rattle.cdb_store.specs.Calls.{written_count};
 
+use crate::bytes::{read_from, write_over};
 use crate::trace::{Call, Trace};
 use crate::{Store, StoreFault};
-use std::alloc::{AllocError, Global};
+use std::alloc::Global;
 
 /// A store in memory. It never answers `Device`.
 #[derive(Drop)]
@@ -37,7 +37,8 @@ impl MemStore {
     /// Its bytes, which are its only image.
     pub fn bytes(&self) -> &[u8]
         ensures bytes { result.now ≡ contents self.now }
-        ensures images { (b : List ℕ) → (⟦<MemStore as Store>⟧.image self.now b ↔ (b ≡ result.now)) }
+        ensures images { (b : List ℕ)
+            → (⟦<MemStore as Store>⟧.image self.now b ↔ (b ≡ result.now)) }
     {
         self.bytes.as_slice()
     }
@@ -52,29 +53,6 @@ impl MemStore {
     }
 }
 
-/// Writes bytes over what stands from `at` on, and past the end.
-pub(crate) fn write_over(bytes: &mut Vec<u8>, at: usize, new: &[u8]) -> Result<(), AllocError>
-    requires start { at ≤ vec_len bytes.old }
-    requires end { at + length new.now < 2 ^ 63 }
-    ensures ok { OnOk result (bytes.new.items ≡ overwrite bytes.old.items at new.now) }
-    ensures err { OnErr result (bytes.new.items ≡ bytes.old.items) }
-    ensures full { OnErr result (vec_capacity bytes.old < at + length new.now) }
-    ensures capacity { vec_capacity bytes.old ≤ vec_capacity bytes.new }
-{
-    let inside = new.len().min(bytes.len() - at);
-    bytes.extend_from_slice(&new[inside..])?;
-    bytes[at..at + inside].copy_from_slice(&new[..inside]);
-    Ok(())
-}
-
-/// Fills `into` with the bytes from `at` on.
-pub(crate) fn read_from(bytes: &[u8], at: usize, into: &mut [u8])
-    requires { at + length into.old ≤ length bytes.now }
-    ensures { into.new ≡ part at (length into.new) bytes.now }
-{
-    into.copy_from_slice(&bytes[at..at + into.len()]);
-}
-
 impl Store for MemStore {
     ghost size = { λ m. length m.bytes.items };
 
@@ -85,6 +63,8 @@ impl Store for MemStore {
     ghost written = { λ m. written_count m.trace.events };
 
     ghost room = { λ m. max (length m.bytes.items) (vec_capacity m.bytes) };
+
+    ghost settled = { λ m. Unit {0} };
 
     ghost in_room = { λ m. Prim.omega arith };
 

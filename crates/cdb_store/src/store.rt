@@ -1,9 +1,18 @@
 // A store as its users see it: the trait, its facts for proofs, and its faults.
 ghost use Rattle.std.specs.Prelude.{◌≡◌, ℕ, ◌+◌, ◌<◌, ◌≤◌, ◌^◌, max, List, length, OnOk, OnErr, IsErrOf};
 ghost use Rattle.cdb_store.specs.declared.store.StoreFault.TheVariants.{Device, NoMemory};
-ghost use Rattle.cdb_store.specs.Images.{SameImages, AfterRead, AfterWrite, AfterTornWrite, AfterCut, HasCause, fault_number};
+ghost use Rattle.cdb_store.specs.Images.{
+  SameImages,
+  AfterRead,
+  AfterWrite,
+  AfterTornWrite,
+  AfterCut,
+  HasCause,
+};
+ghost use Rattle.cdb_store.specs.Faults.{fault_number, fault_message};
 
 use std::alloc::AllocError;
+use std::error::Error;
 use std::fmt::{self, Display, Formatter, Write};
 
 /// Why a call on a store failed.
@@ -17,7 +26,7 @@ pub enum StoreFault {
 
 impl StoreFault {
     /// Its number, by which a program reports it: 1 for `Device`, 2 for `NoMemory`.
-    pub fn number(&self) -> u64
+    pub fn number(&self) -> u8
         ensures { result ≡ fault_number self.now }
     {
         match self {
@@ -25,16 +34,25 @@ impl StoreFault {
             StoreFault::NoMemory => 2,
         }
     }
+
+    /// Its words, by which a program tells a person of it. `Display` writes them.
+    pub fn message(&self) -> &'static str
+        ensures { result.now ≡ fault_message self.now }
+    {
+        match self {
+            StoreFault::Device => "the device failed",
+            StoreFault::NoMemory => "no memory",
+        }
+    }
 }
 
 impl Display for StoreFault {
     fn fmt<W: Write>(&self, f: &mut Formatter<W>) -> fmt::Result {
-        f.write_str(match self {
-            StoreFault::Device => "the device failed",
-            StoreFault::NoMemory => "out of memory",
-        })
+        f.write_str(self.message())
     }
 }
+
+impl Error for StoreFault {}
 
 impl From<AllocError> for StoreFault {
     ghost from_gives = { λ _ e. e ≡ NoMemory };
@@ -44,13 +62,14 @@ impl From<AllocError> for StoreFault {
     }
 }
 
-/// Bytes at places, counted in bytes from 0, that are read, written and cut.
+/// Bytes at positions, counted from 0, that are read, written and cut.
 ///
-/// A contract speaks of a store by four facts. Its *images* are the byte lists, all of its length,
+/// A contract speaks of a store by five facts. Its *images* are the byte lists, all of its length,
 /// that agree with all that it was told to write and all that it gave back: a store in memory has
 /// exactly one, a file that was opened every list of its length until it is read. Its *failures*
 /// and *bytes written* are counts without a bound. Its *room* is how far writes go without taking
-/// memory.
+/// memory. It is *settled* where all that it was told to write was handed on to what holds the
+/// bytes.
 pub trait Store {
     /// How many bytes it has.
     ghost size: { Self → ℕ };
@@ -67,11 +86,14 @@ pub trait Store {
     /// Writes that end at or before it take no memory.
     ghost room: { Self → ℕ };
 
+    /// All that it was told to write was handed on to what holds the bytes.
+    ghost settled: { Self → Type 0 };
+
     /// How many bytes it has.
     fn len(&self) -> u64
         ensures { result ≡ size self.now };
 
-    /// Fills `into` with the bytes from the place `pos` on, all of which lie inside the store.
+    /// Fills `into` with the bytes from `pos` on, all of which lie inside the store.
     ///
     /// After `Device` no byte of the store has changed, and `into` may hold anything.
     fn read_at(&mut self, pos: u64, into: &mut [u8]) -> Result<(), StoreFault>
@@ -84,7 +106,7 @@ pub trait Store {
         ensures cause { HasCause (failures self.old) (failures self.new) result }
         ensures memory { IsErrOf result NoMemory → ⊥ };
 
-    /// Writes the bytes from the place `pos` on, which is at most the store's length, over what
+    /// Writes the bytes from `pos` on, which is at most the store's length, over what
     /// stands there and past the end.
     ///
     /// After `Device` the range may hold any bytes and the store may have grown by a part of it,
@@ -94,7 +116,8 @@ pub trait Store {
         requires start { pos ≤ size self.old }
         requires end { pos + length bytes.now < 2 ^ 63 }
         ensures ok { OnOk result (AfterWrite pos bytes.now (image self.old) (image self.new)) }
-        ensures ok_size { OnOk result (size self.new ≡ max (size self.old) (pos + length bytes.now)) }
+        ensures ok_size { OnOk result
+            (size self.new ≡ max (size self.old) (pos + length bytes.now)) }
         ensures ok_written { OnOk result (written self.new ≡ written self.old + length bytes.now) }
         ensures torn { AfterTornWrite pos (length bytes.now) (image self.old) (image self.new) }
         ensures longer { size self.old ≤ size self.new }
@@ -104,17 +127,21 @@ pub trait Store {
         ensures memory { IsErrOf result NoMemory → SameImages (image self.old) (image self.new) }
         ensures memory_size { IsErrOf result NoMemory → size self.new ≡ size self.old }
         ensures memory_written { IsErrOf result NoMemory → written self.new ≡ written self.old }
+        ensures memory_room { IsErrOf result NoMemory → room self.new ≡ room self.old }
+        ensures memory_failures { IsErrOf result NoMemory → failures self.new ≡ failures self.old }
         ensures past_room { IsErrOf result NoMemory → room self.old < pos + length bytes.now }
         ensures room { room self.old ≤ room self.new }
         ensures cause { HasCause (failures self.old) (failures self.new) result };
 
-    /// Makes room, so that no write that ends at or before the place `len` takes memory.
+    /// Makes room, so that no write that ends at or before `len` takes memory.
     ///
-    /// `NoMemory` is the only fault, and comes only where `len` is past the room.
+    /// `NoMemory` is the only fault, comes only where `len` is past the room, and leaves the room.
     fn reserve(&mut self, len: u64) -> Result<(), StoreFault>
         requires { len < 2 ^ 63 }
         ensures ok { OnOk result (len ≤ room self.new) }
         ensures past_room { OnErr result (room self.old < len) }
+        ensures err_room { OnErr result (room self.new ≡ room self.old) }
+        ensures err_failures { OnErr result (failures self.new ≡ failures self.old) }
         ensures device { IsErrOf result Device → ⊥ }
         ensures images { SameImages (image self.old) (image self.new) }
         ensures size { size self.new ≡ size self.old }
@@ -138,6 +165,7 @@ pub trait Store {
 
     /// Hands everything on to what holds the bytes. After `Device` no byte has changed.
     fn flush(&mut self) -> Result<(), StoreFault>
+        ensures ok { OnOk result (settled self.new) }
         ensures images { SameImages (image self.old) (image self.new) }
         ensures size { size self.new ≡ size self.old }
         ensures written { written self.new ≡ written self.old }

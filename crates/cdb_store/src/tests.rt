@@ -7,3 +7,4 @@ mod fuses;
 mod memory;
 mod mixed;
 mod raw_faults;
+mod uses;

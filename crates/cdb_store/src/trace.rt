@@ -10,13 +10,13 @@ use std::marker::{Model, PhantomData};
 pub enum Call {
     /// The file was made, or emptied.
     Made,
-    /// Bytes from this place on came.
+    /// Bytes from this position on came.
     Read(u64),
-    /// The bytes that came from this place on were given back to the caller.
+    /// The bytes that came from this position on were given back to the caller.
     Gave(u64),
-    /// Bytes from this place on were written.
+    /// Bytes from this position on were written.
     Wrote(u64),
-    /// A write at a place, of so many bytes, failed or was given up.
+    /// A write at a position, of so many bytes, failed or was given up.
     NotWritten(u64, u64),
     /// It told its length.
     Length(u64),
@@ -36,7 +36,8 @@ pub enum Call {
     Lost,
 }
 
-/// It takes no memory, and its methods do nothing at run time.
+/// A list of calls, the newest first, each with its bytes. It takes no memory, and its methods do
+/// nothing at run time.
 #[derive(Drop)]
 pub struct Trace {
     marker: PhantomData<u8>,
@@ -48,6 +49,7 @@ impl Model for Trace {
 }
 
 impl Trace {
+    /// No calls.
     pub(crate) fn new() -> Trace
         ensures { result.events ≡ [] }
     {

@@ -6,25 +6,26 @@ ghost use Rattle.cdb_store.specs.Images.{SameImages};
 ghost use Rattle.cdb_store.specs.Calls.{Agrees, lost, failure_count, written_count, Asked, AskedInVain, Came, AfterPut, AfterTornPut, Untouched, IsLost, AreAtLeast};
 
 use crate::StoreFault;
-use crate::raw_file::{RawFault, RawFile};
+use crate::raw::{RawFault, RawFile};
 
 /// How often a read or a write is asked in a row where signals interrupt it.
 const ASKS: u32 = 1001;
 
 /// Reads some bytes. An interrupted call is asked again, up to 1000 times in a row.
-fn read_some<F: RawFile>(file: &mut F, at: u64, into: &mut [u8]) -> Result<usize, StoreFault>
+fn read_some<F: RawFile>(file: &mut F, pos: u64, into: &mut [u8]) -> Result<usize, StoreFault>
     requires some { 0 < length into.old }
     requires known { lost (F.calls file.old) ≡ false }
     ensures count { IfOk result (λ n. (0 < n) × (n ≤ length into.new)) }
-    ensures ok { IfOk result (λ n. Asked (Read at, take n into.new) (F.calls file.old) (F.calls file.new)) }
+    ensures ok { IfOk result
+        (λ n. Asked (Read pos, take n into.new) (F.calls file.old) (F.calls file.new)) }
     ensures err { OnErr result (AskedInVain Failed Refused (F.calls file.old) (F.calls file.new)) }
     ensures memory { IsErrOf result NoMemory → ⊥ }
 {
     for _turn in 0..ASKS {
-        match file.read_some(at, into) {
+        match file.read_some(pos, into) {
             Ok(n) => return Ok(n),
-            Err(RawFault::Broken) => return Err(StoreFault::Device),
-            Err(RawFault::Again) => {}
+            Err(RawFault::Failed) => return Err(StoreFault::Device),
+            Err(RawFault::Interrupted) => {}
         }
     }
     file.refuse();
@@ -32,59 +33,71 @@ fn read_some<F: RawFile>(file: &mut F, at: u64, into: &mut [u8]) -> Result<usize
 }
 
 /// Writes some bytes. An interrupted call is asked again, up to 1000 times in a row.
-fn write_some<F: RawFile>(file: &mut F, at: u64, bytes: &[u8]) -> Result<usize, StoreFault>
+fn write_some<F: RawFile>(file: &mut F, pos: u64, bytes: &[u8]) -> Result<usize, StoreFault>
     requires some { 0 < length bytes.now }
     requires known { lost (F.calls file.old) ≡ false }
     ensures count { IfOk result (λ n. (0 < n) × (n ≤ length bytes.now)) }
-    ensures ok { IfOk result (λ n. Asked (Wrote at, take n bytes.now) (F.calls file.old) (F.calls file.new)) }
-    ensures err { OnErr result (AskedInVain (NotWritten at (length bytes.now)) (NotWritten at (length bytes.now)) (F.calls file.old) (F.calls file.new)) }
+    ensures ok { IfOk result
+        (λ n. Asked (Wrote pos, take n bytes.now) (F.calls file.old) (F.calls file.new)) }
+    ensures err { OnErr result
+        (AskedInVain (NotWritten pos (length bytes.now)) (NotWritten pos (length bytes.now))
+        (F.calls file.old) (F.calls file.new)) }
     ensures memory { IsErrOf result NoMemory → ⊥ }
 {
     for _turn in 0..ASKS {
-        match file.write_some(at, bytes) {
+        match file.write_some(pos, bytes) {
             Ok(n) => return Ok(n),
-            Err(RawFault::Broken) => return Err(StoreFault::Device),
-            Err(RawFault::Again) => {}
+            Err(RawFault::Failed) => return Err(StoreFault::Device),
+            Err(RawFault::Interrupted) => {}
         }
     }
-    file.give_up(at, bytes.len() as u64);
+    file.give_up(pos, bytes.len() as u64);
     Err(StoreFault::Device)
 }
 
-/// Fills `into` with the bytes from the place `at` on, and notes that they are given back.
-pub(crate) fn read_all<F: RawFile>(file: &mut F, at: u64, into: &mut [u8]) -> Result<(), StoreFault>
-    requires end { at + length into.old < 2 ^ 63 }
+/// Fills `into` with the bytes from `pos` on, and notes that they are given back.
+pub(crate) fn read_all<F: RawFile>(
+    file: &mut F,
+    pos: u64,
+    into: &mut [u8],
+) -> Result<(), StoreFault>
+    requires end { pos + length into.old < 2 ^ 63 }
     requires known { lost (F.calls file.old) ≡ false }
-    ensures ok { OnOk result (Came at into.new (F.calls file.new)) }
+    ensures ok { OnOk result (Came pos into.new (F.calls file.new)) }
     ensures untouched { Untouched (F.calls file.old) (F.calls file.new) }
-    ensures cause { OnErr result (failure_count (F.calls file.old) < failure_count (F.calls file.new)) }
+    ensures cause { OnErr result
+        (failure_count (F.calls file.old) < failure_count (F.calls file.new)) }
     ensures memory { IsErrOf result NoMemory → ⊥ }
 {
     let mut done = 0;
     while done < into.len() {
-        done += read_some(file, at + done as u64, &mut into[done..])?;
+        done += read_some(file, pos + done as u64, &mut into[done..])?;
     }
     Ok(())
 }
 
-/// Writes all the bytes from the place `at` on.
-pub(crate) fn write_all<F: RawFile>(file: &mut F, at: u64, bytes: &[u8]) -> Result<(), StoreFault>
-    requires end { at + length bytes.now < 2 ^ 63 }
-    requires inside { AreAtLeast at (F.calls file.old) }
+/// Writes all the bytes from `pos` on.
+pub(crate) fn write_all<F: RawFile>(file: &mut F, pos: u64, bytes: &[u8]) -> Result<(), StoreFault>
+    requires end { pos + length bytes.now < 2 ^ 63 }
+    requires inside { AreAtLeast pos (F.calls file.old) }
     requires known { lost (F.calls file.old) ≡ false }
-    ensures ok { OnOk result (AfterPut at bytes.now (F.calls file.old) (F.calls file.new)) }
-    ensures ok_written { OnOk result (written_count (F.calls file.new) ≡ written_count (F.calls file.old) + length bytes.now) }
-    ensures err { OnErr result (AfterTornPut at (length bytes.now) (F.calls file.old) (F.calls file.new)) }
-    ensures cause { OnErr result (failure_count (F.calls file.old) < failure_count (F.calls file.new)) }
+    ensures ok { OnOk result (AfterPut pos bytes.now (F.calls file.old) (F.calls file.new)) }
+    ensures ok_written { OnOk result
+        (written_count (F.calls file.new) ≡ written_count (F.calls file.old) + length bytes.now) }
+    ensures err { OnErr result
+        (AfterTornPut pos (length bytes.now) (F.calls file.old) (F.calls file.new)) }
+    ensures cause { OnErr result
+        (failure_count (F.calls file.old) < failure_count (F.calls file.new)) }
     ensures more_written { written_count (F.calls file.old) ≤ written_count (F.calls file.new) }
-    ensures at_most_written { written_count (F.calls file.new) ≤ written_count (F.calls file.old) + length bytes.now }
+    ensures at_most_written { written_count (F.calls file.new)
+        ≤ written_count (F.calls file.old) + length bytes.now }
     ensures later { failure_count (F.calls file.old) ≤ failure_count (F.calls file.new) }
     ensures still_known { lost (F.calls file.new) ≡ false }
     ensures memory { IsErrOf result NoMemory → ⊥ }
 {
     let mut done = 0;
     while done < bytes.len() {
-        done += write_some(file, at + done as u64, &bytes[done..])?;
+        done += write_some(file, pos + done as u64, &bytes[done..])?;
     }
     Ok(())
 }

@@ -1,9 +1,11 @@
 // Why a text was not read.
 ghost use Rattle.std.specs.Prelude.{◌≡◌};
-ghost use Rattle.cdb_form.specs.Views.TextFault.{text_number, text_message, text_place, unread_fault};
+ghost use Rattle.cdb_form.specs.Views.TextFault.{text_number, text_message, text_place};
+ghost use Rattle.cdb_form.specs.Views.TextFault.{unread_fault};
 
 use crate::reading::Unread;
 use std::alloc::{AllocError, AllocFailed};
+use std::error::Error;
 use std::fmt;
 
 /// Why a native text was not read. A place is counted in bytes from the reader's first one.
@@ -83,6 +85,8 @@ impl fmt::Display for TextFault {
         }
     }
 }
+
+impl Error for TextFault {}
 
 impl From<AllocError> for TextFault {
     ghost use Rattle.cdb_form.specs.declared.text.fault.TextFault.TheVariants.{NoMemory};

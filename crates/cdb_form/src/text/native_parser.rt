@@ -1,12 +1,14 @@
 // The parser of a native text: a machine that takes byte after byte.
-ghost use Rattle.std.specs.Prelude.{◌≡◌, ◌≢◌, true, false, ℕ, List, ◌+◌, ◌*◌, ◌^◌, ◌<◌, ◌≤◌, [], ◌∷◌, ◌++◌, codes, length, OnOk, OnErr, IfOk, IfErr, IfSome, IfNone, MatchBool, SomeIff};
-ghost use Rattle.std.specs.Bool.{OnTrue, OnFalse};
+ghost use Rattle.std.specs.Prelude.{◌≡◌, true, false, ℕ, List, ◌+◌, ◌*◌, ◌^◌, ◌<◌, ◌≤◌, []};
+ghost use Rattle.std.specs.Prelude.{◌∷◌, ◌++◌, codes, length, OnOk, IfOk, IfErr};
+ghost use Rattle.std.specs.Prelude.{MatchBool, SomeIff};
 ghost use Rattle.std.specs.Io.KnownBytes.{Consumes};
 ghost use Rattle.cdb_form.specs.Format.Record.{AreBytes};
 ghost use Rattle.cdb_form.specs.Text.Native.{IsNumeral};
 ghost use Rattle.cdb_form.specs.Views.TextReader.{ReadsRecord};
-ghost use Rattle.cdb_form.specs.Views.NativeParser.{FailsNumber, FailsByte, FailsBytes, FailsField, FailsRecord, ReadsBehindPlus, FailsIn, Leaves, budget};
-ghost use Rattle.cdb_form.specs.Views.TextFault.{IsSpent};
+ghost use Rattle.cdb_form.specs.Views.NativeParser.{FailsNumber, FailsByte, FailsField};
+ghost use Rattle.cdb_form.specs.Views.NativeParser.{FailsRecord, ReadsBehindPlus, FailsIn, Leaves};
+ghost use Rattle.cdb_form.specs.Views.NativeParser.{budget};
 ghost use Rattle.cdb_form.specs.Views.Pairs.{key_value};
 
 use crate::record::Record;

@@ -31,7 +31,9 @@ pub struct TextReader<R, L> {
 }
 
 impl<R: Read, L: Width> TextReader<R, L> {
-    ghost use Rattle.cdb_form.specs.Views.TextReader.{unread, taken_of, asks_left, IsGoing, HasEnded, HasFailed, GivesRecord, GivesEnd, Fails};
+    ghost use Rattle.cdb_form.specs.Views.TextReader.{unread, taken_of, asks_left, IsGoing};
+    ghost use Rattle.cdb_form.specs.Views.TextReader.{HasEnded, HasFailed, GivesRecord, GivesEnd};
+    ghost use Rattle.cdb_form.specs.Views.TextReader.{Fails};
     /// A reader of the text that `reader` gives, which may be asked 2^48 times.
     pub fn new(alloc: Global, reader: R) -> TextReader<R, L>
         ensures unread { unread R.remaining result ≡ R.remaining reader }

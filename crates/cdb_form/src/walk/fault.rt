@@ -4,6 +4,7 @@ ghost use Rattle.cdb_form.specs.Views.WalkFault.{walk_number, walk_message, walk
 
 use crate::reading::Unread;
 use std::alloc::{AllocError, AllocFailed};
+use std::error::Error;
 use std::fmt;
 
 /// Why a walk of a database file ended before the record end. A place is counted in bytes from the
@@ -81,6 +82,8 @@ impl fmt::Display for WalkFault {
         }
     }
 }
+
+impl Error for WalkFault {}
 
 impl From<AllocError> for WalkFault {
     ghost use Rattle.cdb_form.specs.declared.walk.fault.WalkFault.TheVariants.{NoMemory};

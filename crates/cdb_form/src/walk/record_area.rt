@@ -1,11 +1,10 @@
 // Where the records of a database file stand, as its head tells.
-ghost use Rattle.std.specs.Prelude.{◌≡◌, ◌==◌, ◌≤◌, ◌&&◌, not, min, drop, map, filter, position, IfOk, IfErr, IfSome};
-ghost use Rattle.std.specs.List.{reduce};
+ghost use Rattle.std.specs.Prelude.{◌≡◌, ◌≤◌, drop};
+ghost use Rattle.std.specs.Prelude.{IfOk, IfErr, IfSome};
 ghost use Rattle.cdb_form.specs.Views.KnownBytes.{LosesAtMost, FromTo};
 ghost use Rattle.cdb_form.specs.Format.Pair.{head_size};
 ghost use Rattle.cdb_form.specs.Format.Walk.{record_end, walk_of, walk_from, damaged};
 ghost use Rattle.cdb_form.specs.Views.WalkFault.{IsDamage};
-ghost use Rattle.cdb_form.specs.Views.Pairs.{head_pairs};
 
 use crate::head::head_size;
 use crate::walk::fault::WalkFault;

@@ -1,11 +1,13 @@
 // Records out of a database file that is read in one pass.
-ghost use Rattle.std.specs.Prelude.{◌≡◌, ℕ, ◌+◌, ◌-◌, ◌*◌, ◌^◌, ◌<◌, ◌≤◌, max, List, ◌++◌, false, drop, OnOk, OnErr, IfOk, IfErr, IfSome, MatchOption, MatchBool};
+ghost use Rattle.std.specs.Prelude.{◌≡◌, ◌+◌, ◌-◌, ◌^◌, ◌<◌, ◌≤◌, max, false};
+ghost use Rattle.std.specs.Prelude.{drop, OnOk, OnErr, IfOk, IfErr, IfSome, MatchOption, MatchBool};
 ghost use Rattle.std.specs.Bool.{OnTrue, OnFalse};
 ghost use Rattle.cdb_form.specs.Views.KnownBytes.{LosesAtMost, FromTo, StillFrom};
 ghost use Rattle.cdb_form.specs.Format.Pair.{head_size, pair_size};
 ghost use Rattle.cdb_form.specs.Views.Reading.{ReadsNoFurther};
 ghost use Rattle.cdb_form.specs.Format.Record.{record_size};
-ghost use Rattle.cdb_form.specs.Format.Walk.{walk_of, walk_from, record_end, damaged, no_walk, with_first};
+ghost use Rattle.cdb_form.specs.Format.Walk.{walk_of, walk_from, record_end, damaged, no_walk};
+ghost use Rattle.cdb_form.specs.Format.Walk.{with_first};
 ghost use Rattle.cdb_form.specs.Views.WalkFault.{IsDamage};
 ghost use Rattle.cdb_form.specs.Views.Pairs.{key_value};
 
@@ -88,7 +90,9 @@ pub struct RecordReader<R, L> {
 }
 
 impl<R: Read, L: Width> RecordReader<R, L> {
-    ghost use Rattle.cdb_form.specs.Views.RecordReader.{unread, walk_left, behind_end, bytes_left, IsFresh, IsGoing, HasEnded, HasFailed, Between, GivesRecord, GivesEnd, Fails};
+    ghost use Rattle.cdb_form.specs.Views.RecordReader.{unread, walk_left, behind_end, bytes_left};
+    ghost use Rattle.cdb_form.specs.Views.RecordReader.{IsFresh, IsGoing, HasEnded, HasFailed};
+    ghost use Rattle.cdb_form.specs.Views.RecordReader.{Between, GivesRecord, GivesEnd, Fails};
     /// A reader of the records of the file that `reader` gives. Nothing is read yet.
     pub fn new(alloc: Global, reader: R) -> RecordReader<R, L>
         ensures unread { unread R.remaining result ≡ R.remaining reader }

@@ -11,6 +11,7 @@ pub struct Outcome {
 }
 
 impl Outcome {
+    /// Notes how a call went at first, and whether it was right at last.
     fn note(&mut self, first: Result<(), StoreFault>, is_right: bool) {
         if first.is_err() {
             self.failed = self.failed.saturating_add(1);
@@ -19,6 +20,7 @@ impl Outcome {
     }
 }
 
+/// Writes, and again where that fails.
 fn write<S: Store>(store: &mut S, pos: u64, bytes: &[u8], outcome: &mut Outcome) {
     if pos > store.len() || pos > 1 << 32 || bytes.len() > 4096 {
         outcome.is_right = false;
@@ -29,6 +31,7 @@ fn write<S: Store>(store: &mut S, pos: u64, bytes: &[u8], outcome: &mut Outcome)
     outcome.note(first, is_right);
 }
 
+/// Reads from the start, and again where that fails.
 fn read<S: Store>(store: &mut S, want: &[u8], outcome: &mut Outcome) {
     let mut into = [0; 64];
     let n = want.len();
@@ -41,6 +44,7 @@ fn read<S: Store>(store: &mut S, want: &[u8], outcome: &mut Outcome) {
     outcome.note(first, is_right && &into[..n] == want);
 }
 
+/// Cuts, and again where that fails.
 fn cut<S: Store>(store: &mut S, len: u64, outcome: &mut Outcome) {
     if len > store.len() {
         outcome.is_right = false;
@@ -51,6 +55,7 @@ fn cut<S: Store>(store: &mut S, len: u64, outcome: &mut Outcome) {
     outcome.note(first, is_right && store.len() == len);
 }
 
+/// Flushes, and again where that fails.
 fn flush<S: Store>(store: &mut S, outcome: &mut Outcome) {
     let first = store.flush();
     let is_right = first.is_ok() || store.flush().is_ok();

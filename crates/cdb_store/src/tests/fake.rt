@@ -1,8 +1,8 @@
 // A raw file in memory that fails, shortens or interrupts its calls.
 ghost use Rattle.std.specs.Prelude.{◌≡◌, ◌<◌, ◌≤◌, [], length, IfOk};
 
-use crate::memory::write_over;
-use crate::raw_file::{RawFault, RawFile, ended_as};
+use crate::bytes::write_over;
+use crate::raw::{RawFault, RawFile, note_part};
 use crate::trace::{Call, Trace};
 
 /// What befalls a raw call.
@@ -16,6 +16,8 @@ pub enum Trouble {
     Interrupted,
     /// It fails, but one that asks for the length is told this.
     Tells(u64),
+    /// It is interrupted, and so are those after it; the one after so many reads or writes one byte.
+    OneByteAfter(u64),
 }
 
 /// A file in memory. Some of its calls in a row, from one on, are in trouble.
@@ -50,10 +52,14 @@ impl FakeFile {
     {
         let call = self.calls;
         self.calls = call.saturating_add(1);
-        if self.first <= call && call - self.first < self.count {
-            Some(self.trouble)
-        } else {
-            None
+        if call < self.first || call - self.first >= self.count {
+            return None;
+        }
+        match self.trouble {
+            Trouble::OneByteAfter(n) if (call - self.first) % n.saturating_add(1) < n => {
+                Some(Trouble::Interrupted)
+            }
+            trouble => Some(trouble),
         }
     }
 }
@@ -65,73 +71,67 @@ fn share(trouble: Option<Trouble>, n: usize) -> Result<usize, RawFault>
 {
     match trouble {
         None => Ok(n),
-        Some(Trouble::OneByte) => Ok(1),
-        Some(Trouble::Interrupted) => Err(RawFault::Again),
-        Some(Trouble::Fails) | Some(Trouble::Tells(_)) => Err(RawFault::Broken),
+        Some(Trouble::OneByte) | Some(Trouble::OneByteAfter(_)) => Ok(1),
+        Some(Trouble::Interrupted) => Err(RawFault::Interrupted),
+        Some(Trouble::Fails) | Some(Trouble::Tells(_)) => Err(RawFault::Failed),
     }
 }
 
-/// Copies the bytes from a place on, as many as there are.
-fn copy_out(bytes: &[u8], at: u64, into: &mut [u8]) -> Result<usize, RawFault>
+/// Copies the bytes from a position on, as many as there are.
+fn copy_out(bytes: &[u8], pos: u64, into: &mut [u8]) -> Result<usize, RawFault>
     requires { 0 < length into.old }
     ensures { IfOk result (λ n. (0 < n) × (n ≤ length into.old)) }
 {
-    if at >= bytes.len() as u64 {
-        return Err(RawFault::Broken);
+    if pos >= bytes.len() as u64 {
+        return Err(RawFault::Failed);
     }
-    let rest = &bytes[at as usize..];
+    let rest = &bytes[pos as usize..];
     let n = rest.len().min(into.len());
     into[..n].copy_from_slice(&rest[..n]);
     Ok(n)
 }
 
 /// Writes the bytes over what stands there and past the end.
-fn copy_in(bytes: &mut Vec<u8>, at: u64, new: &[u8]) -> Result<(), RawFault> {
-    if at > bytes.len() as u64 || new.len() > 4096 || at > 1 << 32 {
-        return Err(RawFault::Broken);
+fn copy_in(bytes: &mut Vec<u8>, pos: u64, new: &[u8]) -> Result<(), RawFault> {
+    if pos > bytes.len() as u64 || new.len() > 4096 || pos > 1 << 32 {
+        return Err(RawFault::Failed);
     }
-    write_over(bytes, at as usize, new).map_err(|_| RawFault::Broken)
+    write_over(bytes, pos as usize, new).map_err(|_| RawFault::Failed)
 }
 
 impl RawFile for FakeFile {
     ghost calls = { λ f. f.trace.events };
 
-    fn read_some(&mut self, at: u64, into: &mut [u8]) -> Result<usize, RawFault> {
+    fn read_some(&mut self, pos: u64, into: &mut [u8]) -> Result<usize, RawFault> {
         let trouble = self.meet();
         let answer = match share(trouble, into.len()) {
-            Ok(n) => copy_out(&self.bytes, at, &mut into[..n]),
+            Ok(n) => copy_out(&self.bytes, pos, &mut into[..n]),
             Err(fault) => Err(fault),
         };
-        match answer {
-            Ok(n) => self.trace.note(&Call::Read(at), &into[..n]),
-            Err(fault) => self.trace.note(&ended_as(Call::Failed, fault), &[]),
-        }
+        note_part(&mut self.trace, Call::Read(pos), Call::Failed, into, answer);
         answer
     }
 
-    fn write_some(&mut self, at: u64, bytes: &[u8]) -> Result<usize, RawFault> {
+    fn write_some(&mut self, pos: u64, bytes: &[u8]) -> Result<usize, RawFault> {
         let trouble = self.meet();
         let answer = match share(trouble, bytes.len()) {
-            Ok(n) => copy_in(&mut self.bytes, at, &bytes[..n]).map(|()| n),
+            Ok(n) => copy_in(&mut self.bytes, pos, &bytes[..n]).map(|()| n),
             Err(fault) => Err(fault),
         };
-        match answer {
-            Ok(n) => self.trace.note(&Call::Wrote(at), &bytes[..n]),
-            Err(fault) => {
-                let failed = Call::NotWritten(at, bytes.len() as u64);
-                self.trace.note(&ended_as(failed, fault), &[]);
-            }
-        }
+        let failed = Call::NotWritten(pos, bytes.len() as u64);
+        note_part(&mut self.trace, Call::Wrote(pos), failed, bytes, answer);
         answer
     }
 
     fn length(&mut self) -> Result<u64, RawFault> {
         let len = match self.meet() {
-            None | Some(Trouble::OneByte) => self.bytes.len() as u64,
+            None | Some(Trouble::OneByte) | Some(Trouble::OneByteAfter(_)) => {
+                self.bytes.len() as u64
+            }
             Some(Trouble::Tells(len)) => len,
             Some(Trouble::Fails) | Some(Trouble::Interrupted) => {
                 self.trace.note(&Call::Failed, &[]);
-                return Err(RawFault::Broken);
+                return Err(RawFault::Failed);
             }
         };
         self.trace.note(&Call::Length(len), &[]);
@@ -148,7 +148,7 @@ impl RawFile for FakeFile {
             }
             _ => {
                 self.trace.note(&Call::NotCut(len), &[]);
-                Err(RawFault::Broken)
+                Err(RawFault::Failed)
             }
         }
     }
@@ -162,21 +162,21 @@ impl RawFile for FakeFile {
             }
             Err(_) => {
                 self.trace.note(&Call::Failed, &[]);
-                Err(RawFault::Broken)
+                Err(RawFault::Failed)
             }
         }
     }
 
-    fn give(&mut self, at: u64, bytes: &[u8]) {
-        self.trace.note(&Call::Gave(at), bytes);
+    fn give(&mut self, pos: u64, bytes: &[u8]) {
+        self.trace.note(&Call::Gave(pos), bytes);
     }
 
     fn refuse(&mut self) {
         self.trace.note(&Call::Refused, &[]);
     }
 
-    fn give_up(&mut self, at: u64, n: u64) {
-        self.trace.note(&Call::NotWritten(at, n), &[]);
+    fn give_up(&mut self, pos: u64, n: u64) {
+        self.trace.note(&Call::NotWritten(pos, n), &[]);
     }
 
     fn lose(&mut self, _least: u64, _most: u64) {

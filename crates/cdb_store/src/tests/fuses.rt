@@ -41,15 +41,15 @@ fn other_calls_fail_and_do_nothing(rt: HostRuntime) -> Result<(), Fail> {
 
 #[test]
 fn a_buffer_stands_each_fault_below_it(rt: HostRuntime) -> Result<(), Fail> {
-    for most in [0, 3, 7, 4096] {
+    for capacity in [0, 3, 7, 4096] {
         let mut faults = 0u64;
         for limit in 0..32 {
             let inner = FuseStore::new(MemStore::new(rt.alloc()), limit, 1);
-            let Ok(mut store) = BufferedStore::new(rt.alloc(), inner, most) else {
+            let Ok(mut store) = BufferedStore::new(rt.alloc(), inner, capacity) else {
                 return Err(Fail::new("no memory for a buffer"));
             };
             let outcome = script(&mut store);
-            assert!(rt; outcome.is_right, "{most} {limit}");
+            assert!(rt; outcome.is_right, "{capacity} {limit}");
             assert!(rt; outcome.failed <= 1);
             faults |= outcome.failed;
             let (inner, answer) = store.into_inner();
@@ -88,6 +88,29 @@ fn a_flush_reaches_the_inner_store(rt: HostRuntime) -> Result<(), Fail> {
     // one write and two flushes
     assert_eq!(rt; inner.calls(), 3);
     assert_eq!(rt; inner.written(), 3);
+    Ok(())
+}
+
+#[test]
+fn reads_beside_the_buffer_hand_nothing_on(rt: HostRuntime) -> Result<(), Fail> {
+    let bytes = vec![in rt.alloc(); b'.'; 64]?;
+    let inner = FuseStore::new(MemStore::from_vec(bytes), u64::MAX, 0);
+    let Ok(mut store) = BufferedStore::new(rt.alloc(), inner, 16) else {
+        return Err(Fail::new("no memory for a buffer"));
+    };
+    let mut into = [0; 2];
+    // as bytes are moved down: read above, written below
+    for pos in 0..8u64 {
+        assert!(rt; store.len() >= 64);
+        store.read_at(40 + 2 * pos, &mut into)?;
+        store.write_at(8 + 2 * pos, &into)?;
+        assert!(rt; store.len() >= 64);
+        store.read_at(pos, &mut into)?;
+    }
+    let (inner, answer) = store.into_inner();
+    answer?;
+    // sixteen reads and one write
+    assert_eq!(rt; (inner.calls(), inner.written()), (17, 16));
     Ok(())
 }
 

@@ -52,14 +52,43 @@ fn refused_memory_changes_nothing(rt: HostRuntime) -> Result<(), Fail> {
 }
 
 #[test]
+fn any_allocation_may_be_refused(rt: HostRuntime) -> Result<(), Fail> {
+    let mut store = MemStore::new(rt.alloc());
+    let mut want: &[u8] = b"";
+    if store.reserve(8).is_err() {
+        assert_eq!(rt; store.bytes(), want);
+    }
+    for (pos, bytes, then) in [
+        (0, b"abcdefgh".as_slice(), b"abcdefgh".as_slice()),
+        (6, [b'x'; 64].as_slice(), b"abcdefxx".as_slice()),
+    ] {
+        if pos <= store.len() && store.write_at(pos, bytes).is_ok() {
+            want = then;
+        }
+        assert!(rt; store.bytes().iter().take(8).eq(want.iter()));
+    }
+    let len = store.len();
+    match BufferedStore::new(rt.alloc(), store, 16) {
+        Ok(buffered) => {
+            let (inner, answer) = buffered.into_inner();
+            assert_eq!(rt; answer, Ok(()));
+            assert_eq!(rt; inner.len(), len);
+        }
+        Err(inner) => assert_eq!(rt; inner.len(), len),
+    }
+    Ok(())
+}
+
+#[test]
 fn faults_are_numbered(rt: HostRuntime) -> Result<(), Fail> {
     for (fault, number, text) in [
         (StoreFault::Device, 1, "the device failed"),
-        (StoreFault::NoMemory, 2, "out of memory"),
+        (StoreFault::NoMemory, 2, "no memory"),
     ] {
         assert_eq!(rt; fault.number(), number);
         let said = format!(in rt.alloc(); "{fault}")?;
         assert_eq!(rt; said.as_str(), text);
+        assert_eq!(rt; fault.message(), text);
     }
     Ok(())
 }

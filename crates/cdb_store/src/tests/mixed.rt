@@ -49,8 +49,10 @@ const ROWS: [(Step, u64, u32); 32] = [
     (Step::Flush, 3, 0),
 ];
 
-const MOST: usize = 8192;
+/// How many bytes a row writes or reads at most.
+const GREATEST_ROW: usize = 8192;
 
+/// Fills with the bytes that a row writes.
 fn fill(row: usize, bytes: &mut [u8]) {
     let mut byte = (7 * (row % 251) % 251) as u8;
     for b in bytes.iter_mut() {
@@ -59,6 +61,7 @@ fn fill(row: usize, bytes: &mut [u8]) {
     }
 }
 
+/// The sum over bytes.
 fn sum_of(bytes: &[u8]) -> u32 {
     bytes.iter().fold(
         0,
@@ -70,7 +73,7 @@ fn sum_of(bytes: &[u8]) -> u32 {
 fn make<S: Store>(store: &mut S, step: Step, row: usize, bytes: &mut [u8]) -> (bool, u32) {
     match step {
         Step::Write(pos, n)
-            if pos <= store.len() && pos <= 1 << 32 && n <= bytes.len() && n <= MOST => {
+            if pos <= store.len() && pos <= 1 << 32 && n <= bytes.len() && n <= GREATEST_ROW => {
             fill(row, &mut bytes[..n]);
             (store.write_at(pos, &bytes[..n]).is_ok(), 0)
         }
@@ -87,7 +90,7 @@ fn make<S: Store>(store: &mut S, step: Step, row: usize, bytes: &mut [u8]) -> (b
 
 /// The first row whose answer, length or bytes are others, or else how many rows there are.
 fn rows_met<S: Store>(store: &mut S) -> usize {
-    let mut bytes = [0; MOST];
+    let mut bytes = [0; GREATEST_ROW];
     for (row, (step, len, sum)) in ROWS.iter().enumerate() {
         let (is_ok, got) = make(store, *step, row, &mut bytes);
         if !is_ok || store.len() != *len || got != *sum {
@@ -112,16 +115,17 @@ fn plain_stores_meet_each_row(rt: HostRuntime) -> Result<(), Fail> {
 
 #[test]
 fn buffered_stores_meet_each_row(rt: HostRuntime) -> Result<(), Fail> {
-    for most in [0, 1, 7, 4096] {
-        let Ok(mut store) = BufferedStore::new(rt.alloc(), MemStore::new(rt.alloc()), most) else {
+    for capacity in [0, 1, 7, 4096] {
+        let Ok(mut store) = BufferedStore::new(rt.alloc(), MemStore::new(rt.alloc()), capacity)
+        else {
             return Err(Fail::new("no memory for a buffer"));
         };
-        assert_eq!(rt; rows_met(&mut store), ROWS.len(), "{most}");
+        assert_eq!(rt; rows_met(&mut store), ROWS.len(), "{capacity}");
         let file = FileStore::create(&rt, "buffered.store")?;
-        let Ok(mut store) = BufferedStore::new(rt.alloc(), file, most) else {
+        let Ok(mut store) = BufferedStore::new(rt.alloc(), file, capacity) else {
             return Err(Fail::new("no memory for a buffer"));
         };
-        assert_eq!(rt; rows_met(&mut store), ROWS.len(), "{most}");
+        assert_eq!(rt; rows_met(&mut store), ROWS.len(), "{capacity}");
     }
     Ok(())
 }

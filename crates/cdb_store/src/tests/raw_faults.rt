@@ -42,6 +42,23 @@ fn reads_and_writes_are_asked_1001_times(rt: HostRuntime) -> Result<(), Fail> {
 }
 
 #[test]
+fn interrupts_are_counted_anew_at_each_byte(rt: HostRuntime) -> Result<(), Fail> {
+    for (interrupts, is_ok) in [(1000, true), (1001, false)] {
+        let trouble = Trouble::OneByteAfter(interrupts);
+        let file = FakeFile::new(b"abc".to_vec(rt.alloc())?, 1, u64::MAX, trouble);
+        let mut store = FileStore::over(file)?;
+        let mut into = [0; 3];
+        assert!(rt; store.len() >= 3);
+        assert_eq!(rt; store.read_at(0, &mut into).is_ok(), is_ok);
+        assert_eq!(rt; into == *b"abc", is_ok);
+        assert!(rt; store.len() >= 3);
+        assert_eq!(rt; store.write_at(3, b"def").is_ok(), is_ok);
+        assert_eq!(rt; store.len() == 6, is_ok);
+    }
+    Ok(())
+}
+
+#[test]
 fn each_raw_call_fails_in_turn(rt: HostRuntime) -> Result<(), Fail> {
     for first in 0..=CALLS {
         let file = FakeFile::new(Vec::new(rt.alloc()), first, 1, Trouble::Fails);

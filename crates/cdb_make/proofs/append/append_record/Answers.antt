@@ -6,21 +6,21 @@ use Rattle.cdb_make.proofs.append.append_record.Goals as goal
 
 pub returns-in_err-write_at-clause-torn : goal.returns-in_err-write_at-clause-torn
 returns-in_err-write_at-clause-torn g c =
-    torn_wider c.args.at _ _ _ _ (omega (arith, length-append {A = ℕ}))
+    torn_wider c.args.pos _ _ _ _ (omega (arith, length-append {A = ℕ}))
     (torn_between c.reserve.ensures.images c.write_at.ensures.torn (same_refl (g.S.Store.image c.write_at.new.self)))
 
 pub returns-in_err-write_at-2-clause-torn : goal.returns-in_err-write_at-2-clause-torn
 returns-in_err-write_at-2-clause-torn g c =
     let sized : AreSized (g.S.Store.size c.reserve.new.self) (g.S.Store.image c.reserve.new.self) = record { each = g.met.S.Store.image_size c.reserve.new.self } in
-    let both : AfterTornWrite c.args.at (length c.args.header.now + length c.args.key.now) (g.S.Store.image c.reserve.new.self) (g.S.Store.image c.write_at-2.new.self) =
+    let both : AfterTornWrite c.args.pos (length c.args.header.now + length c.args.key.now) (g.S.Store.image c.reserve.new.self) (g.S.Store.image c.write_at-2.new.self) =
     torn_behind (omega arith) (omega arith) (omega arith) sized c.in_ok-write_at.ensures.ok c.write_at-2.ensures.torn in
-    torn_wider c.args.at _ _ _ _ (omega (arith, length-append {A = ℕ})) (torn_between c.reserve.ensures.images both (same_refl (g.S.Store.image c.write_at-2.new.self)))
+    torn_wider c.args.pos _ _ _ _ (omega (arith, length-append {A = ℕ})) (torn_between c.reserve.ensures.images both (same_refl (g.S.Store.image c.write_at-2.new.self)))
 
 pub returns-clause-ok : goal.returns-clause-ok
 returns-clause-ok g c =
     let sized : (s : _) → AreSized (g.S.Store.size s) (g.S.Store.image s) = λ s. record { each = g.met.S.Store.image_size s } in
     on_ok_weaker c.write_at-3.result (λ w.
-    let rest : AfterWrite (c.args.at + length c.args.header.now) (c.args.key.now ++ c.args.value.now) (g.S.Store.image c.write_at.new.self) (g.S.Store.image c.write_at-3.new.self) =
+    let rest : AfterWrite (c.args.pos + length c.args.header.now) (c.args.key.now ++ c.args.value.now) (g.S.Store.image c.write_at.new.self) (g.S.Store.image c.write_at-3.new.self) =
     write_more (omega arith) (omega (arith, c.in_ok-write_at.ensures.ok_size)) (sized c.write_at.new.self) c.in_ok-write_at-2.ensures.ok w in
     write_between c.reserve.ensures.images
     (write_more (omega arith) (omega arith) (sized c.reserve.new.self) c.in_ok-write_at.ensures.ok rest)
@@ -30,7 +30,7 @@ returns-clause-ok g c =
 pub returns-clause-torn : goal.returns-clause-torn
 returns-clause-torn g c =
     let sized : (s : _) → AreSized (g.S.Store.size s) (g.S.Store.image s) = λ s. record { each = g.met.S.Store.image_size s } in
-    let rest : AfterTornWrite (c.args.at + length c.args.header.now) (length c.args.key.now + length c.args.value.now) (g.S.Store.image c.write_at.new.self) (g.S.Store.image c.write_at-3.new.self) =
+    let rest : AfterTornWrite (c.args.pos + length c.args.header.now) (length c.args.key.now + length c.args.value.now) (g.S.Store.image c.write_at.new.self) (g.S.Store.image c.write_at-3.new.self) =
     torn_behind (omega arith) (omega arith) (omega (arith, c.in_ok-write_at.ensures.ok_size)) (sized c.write_at.new.self) c.in_ok-write_at-2.ensures.ok c.write_at-3.ensures.torn in
     torn_between c.reserve.ensures.images
     (torn_behind (omega arith) (omega (arith, length-append c.args.header.now (c.args.key.now ++ c.args.value.now), length-append c.args.key.now c.args.value.now)) (omega arith) (sized c.reserve.new.self) c.in_ok-write_at.ensures.ok rest)

@@ -1,11 +1,23 @@
-use Rattle.std.proofs.Common.{rules, arith, ◌≡◌, length}
+use Rattle.std.proofs.Common.{rules, arith, ◌≡◌, length, refl}
 use Rattle.cdb_store.specs.Images.{AreSized}
-use Rattle.cdb_store.proofs.Moves.{below_read, below_torn, below_trans, copied_more}
+use Rattle.cdb_store.proofs.Moves.{copied_none, copied_more, within_none, within_more}
 use Rattle.cdb_make.proofs.moving.move_down.Goals as goal
 
-pub returns-in_err-write_at-clause-below : goal.returns-in_err-write_at-clause-below
-returns-in_err-write_at-clause-below g c =
-    below_trans c.loop-done.invariant.below (below_trans (below_read c.args.to c.in_ok-read_at.ensures.ok) (below_torn c.args.to (omega arith) c.write_at.ensures.torn))
+pub loop-done-init : goal.loop-done-init
+loop-done-init g c = record {
+  inside = omega arith;
+  copied = copied_none _ _ _;
+  torn = within_none _ _ _;
+  size = refl;
+  written = omega arith;
+  failures = omega arith;
+  room = omega arith;
+}
+
+pub returns-in_err-write_at-clause-torn : goal.returns-in_err-write_at-clause-torn
+returns-in_err-write_at-clause-torn g c =
+    let l : length c.read_at.new.into ≡ c.min-n.result = search rules in
+    within_more (omega arith) (omega arith) c.loop-done.invariant.torn c.in_ok-read_at.ensures.ok c.write_at.ensures.torn
 
 pub loop-done-preserved : goal.loop-done-preserved
 loop-done-preserved g c =
@@ -14,7 +26,7 @@ loop-done-preserved g c =
     record {
       inside = omega arith;
       copied = copied_more {size = g.S.Store.size c.args.store.now} c.requires.lower (omega arith) (omega arith) sized c.loop-done.invariant.copied c.in_ok-read_at.ensures.ok c.in_ok-write_at.ensures.ok;
-      below = below_trans c.loop-done.invariant.below (below_trans (below_read c.args.to c.in_ok-read_at.ensures.ok) (below_torn c.args.to (omega arith) c.write_at.ensures.torn));
+      torn = within_more (omega arith) (omega arith) c.loop-done.invariant.torn c.in_ok-read_at.ensures.ok c.write_at.ensures.torn;
       size = omega (arith, c.in_ok-write_at.ensures.longer, c.in_ok-write_at.ensures.not_past);
       written = omega (arith, c.in_ok-write_at.ensures.ok_written);
       failures = omega (arith, c.in_ok-write_at.ensures.cause.later);

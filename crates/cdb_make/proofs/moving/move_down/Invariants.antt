@@ -1,12 +1,12 @@
 use Rattle.std.proofs.Common.{◌-◌, ◌≡◌, ◌+◌, ◌≤◌}
-use Rattle.cdb_store.specs.Images.{KeepsBelow, Copied}
+use Rattle.cdb_store.specs.Images.{TornWithin, Copied}
 use Rattle.cdb_make.proofs.moving.move_down.Given as goal
 
 abbrev pub invariant-loop-done : goal.invariant-loop-done
 invariant-loop-done g l = record {
   inside : l.done ≤ l.len;
   copied : Copied l.from l.to l.done (g.S.Store.image l.fn.store) (g.S.Store.image l.store);
-  below : KeepsBelow l.to (g.S.Store.image l.fn.store) (g.S.Store.image l.store);
+  torn : TornWithin l.to l.len (g.S.Store.image l.fn.store) (g.S.Store.image l.store);
   size : g.S.Store.size l.store ≡ g.S.Store.size l.fn.store;
   written : g.S.Store.written l.store ≡ g.S.Store.written l.fn.store + l.done;
   failures : g.S.Store.failures l.fn.store ≤ g.S.Store.failures l.store;

@@ -7,7 +7,7 @@ use Rattle.cdb_store.proofs.Answered.{held_on_err}
 use Rattle.cdb_store.proofs.transfer.read_all.Goals as goal
 
 pub loop-done-init : goal.loop-done-init
-loop-done-init g c = record { inside = omega arith; came = came_none c.args.at (g.F.RawFile.calls c.args.file.now); untouched = untouched_refl _ }
+loop-done-init g c = record { inside = omega arith; came = came_none c.args.pos (g.F.RawFile.calls c.args.file.now); untouched = untouched_refl _ }
 
 pub read_some-requires-clause-known : goal.read_some-requires-clause-known
 read_some-requires-clause-known g c = c.loop-done.invariant.untouched.known ∙ c.requires.known
@@ -30,7 +30,7 @@ loop-done-preserved g c =
     record {
       inside = omega (arith, fits);
       came = rw (take_piece_put d (length c.loop-done.into - d) n c.loop-done.into c.read_some.new.into (omega arith) fits)
-          (came_more c.args.at (take d c.loop-done.into) (omega arith) c.loop-done.invariant.came c.in_ok-done.ensures.ok);
+          (came_more c.args.pos (take d c.loop-done.into) (omega arith) c.loop-done.invariant.came c.in_ok-done.ensures.ok);
       untouched = untouched_trans c.loop-done.invariant.untouched (read_untouched c.in_ok-done.ensures.ok);
     }
 

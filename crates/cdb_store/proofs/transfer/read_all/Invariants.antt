@@ -5,7 +5,7 @@ use Rattle.cdb_store.proofs.transfer.read_all.Given as goal
 abbrev pub invariant-loop-done : goal.invariant-loop-done
 invariant-loop-done g l = record {
   inside : l.done ≤ length l.into;
-  came : Came l.at (take l.done l.into) (g.F.RawFile.calls l.file);
+  came : Came l.pos (take l.done l.into) (g.F.RawFile.calls l.file);
   untouched : Untouched (g.F.RawFile.calls l.fn.file) (g.F.RawFile.calls l.file);
 }
 

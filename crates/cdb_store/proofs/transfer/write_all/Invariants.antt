@@ -5,7 +5,7 @@ use Rattle.cdb_store.proofs.transfer.write_all.Given as goal
 abbrev pub invariant-loop-done : goal.invariant-loop-done
 invariant-loop-done g l = record {
   inside : l.done ≤ length l.bytes;
-  put : AfterPut l.at (take l.done l.bytes) (g.F.RawFile.calls l.fn.file) (g.F.RawFile.calls l.file);
+  put : AfterPut l.pos (take l.done l.bytes) (g.F.RawFile.calls l.fn.file) (g.F.RawFile.calls l.file);
   written : written_count (g.F.RawFile.calls l.file) ≡ written_count (g.F.RawFile.calls l.fn.file) + l.done;
   later : failure_count (g.F.RawFile.calls l.fn.file) ≤ failure_count (g.F.RawFile.calls l.file);
   known : lost (g.F.RawFile.calls l.file) ≡ false;

@@ -1,7 +1,7 @@
-use Rattle.std.proofs.Common.{◌≡◌, length, ◌∷◌, [], take, inl, inr, ap, ◌∙◌, arith}
-use Rattle.cdb_store.specs.declared.trace.Call.TheVariants.{Wrote, NotWritten}
-use Rattle.cdb_store.specs.Calls.{lost, interrupted, ended}
-use Rattle.cdb_store.proofs.RawCalls.{interrupted_none, interrupted_more, lost_interrupted}
+use Rattle.std.proofs.Common.{length, ◌∷◌, [], inl, inr, ap, ◌∙◌, arith}
+use Rattle.cdb_store.specs.declared.trace.Call.TheVariants.{NotWritten}
+use Rattle.cdb_store.specs.Calls.{lost, ended}
+use Rattle.cdb_store.proofs.RawCalls.{interrupted_none, interrupted_more, interrupted_all, lost_interrupted, asked_after}
 use Rattle.cdb_store.proofs.transfer.write_some.Goals as goal
 
 pub loop-turn-init : goal.loop-turn-init
@@ -11,20 +11,17 @@ pub write_some-requires-clause-known : goal.write_some-requires-clause-known
 write_some-requires-clause-known g c = ap lost c.loop-turn.invariant ∙ lost_interrupted _ _ ∙ c.requires.known
 
 pub returns-in-Ok-clause-ok : goal.returns-in-Ok-clause-ok
-returns-in-Ok-clause-ok g c = record { times = c.loop-turn._turn; at_most = omega arith; calls = c.in-Ok.ensures.ok ∙ ap (λ calls. (Wrote c.args.at, take c.in-Ok.n c.args.bytes.now) ∷ calls) c.loop-turn.invariant }
+returns-in-Ok-clause-ok g c = asked_after c.loop-turn._turn (omega arith) c.loop-turn.invariant c.in-Ok.ensures.ok
 
-pub returns-in-Err-Broken-clause-err : goal.returns-in-Err-Broken-clause-err
-returns-in-Err-Broken-clause-err g c = inl (record { times = c.loop-turn._turn; at_most = omega arith; calls = c.in-Err-Broken.ensures.err ∙ (ap (λ f. (ended (NotWritten c.args.at (length c.args.bytes.now)) f, []) ∷ g.F.RawFile.calls c.loop-turn.file) c.in-Err-Broken.field-0-is ∙ ap (λ calls. ((NotWritten c.args.at (length c.args.bytes.now)), []) ∷ calls) c.loop-turn.invariant) })
+pub returns-in-Err-Failed-clause-err : goal.returns-in-Err-Failed-clause-err
+returns-in-Err-Failed-clause-err g c = inl (asked_after c.loop-turn._turn (omega arith) c.loop-turn.invariant
+    (c.in-Err-Failed.ensures.err ∙ ap (λ f. (ended (NotWritten c.args.pos (length c.args.bytes.now)) f, []) ∷ g.F.RawFile.calls c.loop-turn.file) c.in-Err-Failed.field-0-is))
 
 pub loop-turn-preserved : goal.loop-turn-preserved
-loop-turn-preserved g c = interrupted_more _ _ _ _ c.loop-turn.invariant (c.in-Err-Again.ensures.err ∙ ap (λ f. (ended (NotWritten c.args.at (length c.args.bytes.now)) f, []) ∷ g.F.RawFile.calls c.loop-turn.file) c.in-Err-Again.field-0-is)
+loop-turn-preserved g c = interrupted_more _ _ _ _ c.loop-turn.invariant (c.in-Err-Interrupted.ensures.err ∙ ap (λ f. (ended (NotWritten c.args.pos (length c.args.bytes.now)) f, []) ∷ g.F.RawFile.calls c.loop-turn.file) c.in-Err-Interrupted.field-0-is)
 
 pub give_up-requires : goal.give_up-requires
-give_up-requires g c =
-    let e : c.loop-turn._turn ≡ 1001 = omega arith in
-    (record { before = g.F.RawFile.calls c.args.file.now; interrupts = c.loop-turn.invariant ∙ ap (λ n. interrupted n (g.F.RawFile.calls c.args.file.now)) e })
+give_up-requires g c = record { before = g.F.RawFile.calls c.args.file.now; interrupts = interrupted_all c.loop-turn._turn _ (omega arith) c.loop-turn.invariant }
 
 pub returns-clause-err : goal.returns-clause-err
-returns-clause-err g c =
-    let e : c.loop-turn._turn ≡ 1001 = omega arith in
-    inr (c.give_up.ensures ∙ ap (λ calls. (NotWritten c.args.at (length c.args.bytes.now), []) ∷ calls) (c.loop-turn.invariant ∙ ap (λ n. interrupted n (g.F.RawFile.calls c.args.file.now)) e))
+returns-clause-err g c = inr (c.give_up.ensures ∙ ap (λ calls. (NotWritten c.args.pos (length c.args.bytes.now), []) ∷ calls) (interrupted_all c.loop-turn._turn _ (omega arith) c.loop-turn.invariant))

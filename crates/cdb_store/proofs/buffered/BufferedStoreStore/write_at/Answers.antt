@@ -1,50 +1,50 @@
-use Rattle.std.proofs.Common.{arith, rules, ◌≡◌, ◌++◌, ◌≤◌}
+use Rattle.std.proofs.Common.{rules, ◌≡◌, ◌++◌}
 use Rattle.cdb_store.specs.Images.{AreSized, AfterWrite, Over}
 use Rattle.cdb_store.proofs.OverLemmas.{over_emptied, over_more, over_same, sized_over}
 use Rattle.cdb_store.proofs.Moves.{same_trans, same_sym, same_refl, write_between, torn_between, torn_same, torn_from_write}
 use Rattle.cdb_store.proofs.buffered.BufferedStoreStore.write_at.Goals as goal
 
+pub returns-in_err-reserve-clause-torn : goal.returns-in_err-reserve-clause-torn
+returns-in_err-reserve-clause-torn g c = torn_same _ _ (over_same c.args.self.now.pos c.args.self.now.buffer.items c.reserve.ensures.images)
+
+pub returns-in_err-reserve-clause-memory : goal.returns-in_err-reserve-clause-memory
+returns-in_err-reserve-clause-memory g c = λ _. over_same c.args.self.now.pos c.args.self.now.buffer.items c.reserve.ensures.images
+
 pub returns-in_err-settle-clause-torn : goal.returns-in_err-settle-clause-torn
-returns-in_err-settle-clause-torn g c = torn_same _ _ c.settle.ensures.images
+returns-in_err-settle-clause-torn g c = torn_same _ _ (same_trans (over_same c.args.self.now.pos c.args.self.now.buffer.items c.reserve.ensures.images) c.settle.ensures.images)
 
 pub returns-in_err-write_at-clause-torn : goal.returns-in_err-write_at-clause-torn
 returns-in_err-write_at-clause-torn g c =
-    let e = c.in_ok-settle.ensures.empty in
-    torn_between (same_trans c.settle.ensures.images (over_emptied _ _ _ e)) c.write_at.ensures.torn (same_sym (over_emptied _ _ _ e))
-
-pub returns-in_err-write_at-clause-memory : goal.returns-in_err-write_at-clause-memory
-returns-in_err-write_at-clause-memory g c = λ h. same_trans c.settle.ensures.images (over_same c.settle.new.self.at c.settle.new.self.buffer.items (c.write_at.ensures.memory (search rules)))
+    let emptied = same_trans (over_same c.args.self.now.pos c.args.self.now.buffer.items c.reserve.ensures.images)
+    (same_trans c.settle.ensures.images (over_emptied _ _ _ c.in_ok-settle.ensures.empty)) in
+    torn_between emptied c.write_at.ensures.torn (same_sym (over_emptied _ _ _ c.in_ok-settle.ensures.empty))
 
 pub returns-then-bytes-self-clause-ok : goal.returns-then-bytes-self-clause-ok
 returns-then-bytes-self-clause-ok g c =
-    let e = c.in_ok-settle.ensures.empty in
-    write_between (same_trans c.settle.ensures.images (over_emptied _ _ _ e)) c.in_ok-write_at.ensures.ok (same_sym (over_emptied _ _ _ e))
+    let emptied = same_trans (over_same c.args.self.now.pos c.args.self.now.buffer.items c.reserve.ensures.images)
+    (same_trans c.settle.ensures.images (over_emptied _ _ _ c.in_ok-settle.ensures.empty)) in
+    write_between emptied c.in_ok-write_at.ensures.ok (same_sym (over_emptied _ _ _ c.in_ok-settle.ensures.empty))
 
 pub returns-then-bytes-self-clause-torn : goal.returns-then-bytes-self-clause-torn
 returns-then-bytes-self-clause-torn g c =
-    let e = c.in_ok-settle.ensures.empty in
-    torn_between (same_trans c.settle.ensures.images (over_emptied _ _ _ e)) c.write_at.ensures.torn (same_sym (over_emptied _ _ _ e))
+    let emptied = same_trans (over_same c.args.self.now.pos c.args.self.now.buffer.items c.reserve.ensures.images)
+    (same_trans c.settle.ensures.images (over_emptied _ _ _ c.in_ok-settle.ensures.empty)) in
+    torn_between emptied c.write_at.ensures.torn (same_sym (over_emptied _ _ _ c.in_ok-settle.ensures.empty))
 
 pub returns-in_err-make_room-clause-torn : goal.returns-in_err-make_room-clause-torn
-returns-in_err-make_room-clause-torn g c = torn_same _ _ c.make_room.ensures.images
-
-pub returns-in_err-reserve-clause-torn : goal.returns-in_err-reserve-clause-torn
-returns-in_err-reserve-clause-torn g c = torn_same _ _ (same_trans c.make_room.ensures.images (over_same c.make_room.new.self.at c.make_room.new.self.buffer.items c.reserve.ensures.images))
-
-pub returns-in_err-reserve-clause-memory : goal.returns-in_err-reserve-clause-memory
-returns-in_err-reserve-clause-memory g c = λ _. same_trans c.make_room.ensures.images (over_same c.make_room.new.self.at c.make_room.new.self.buffer.items c.reserve.ensures.images)
+returns-in_err-make_room-clause-torn g c = torn_same _ _ (same_trans (over_same c.args.self.now.pos c.args.self.now.buffer.items c.reserve.ensures.images) c.make_room.ensures.images)
 
 -- the bytes go to the end of the buffer
-done : (g : _) (c : goal.After-self-2-1 g) → AfterWrite c.args.pos c.args.bytes.now (Over c.args.self.now.at c.args.self.now.buffer.items (g.S.Store.image c.args.self.now.inner)) (Over c.make_room.new.self.at c.extend_from_slice.new.self.items (g.S.Store.image c.reserve.new.self))
+done : (g : _) (c : goal.After-self-2-1 g) → AfterWrite c.args.pos c.args.bytes.now (Over c.args.self.now.pos c.args.self.now.buffer.items (g.S.Store.image c.args.self.now.inner)) (Over c.make_room.new.self.pos c.extend_from_slice.new.self.items (g.S.Store.image c.make_room.new.self.inner))
 done g c =
     let m = c.make_room.new.self in
-    let sized : AreSized (g.S.Store.size c.reserve.new.self) (g.S.Store.image c.reserve.new.self) = record { each = g.met.S.Store.image_size c.reserve.new.self } in
-    let inside : m.at ≤ g.S.Store.size c.reserve.new.self = omega (arith, m.placed) in
+    let sized : AreSized (g.S.Store.size m.inner) (g.S.Store.image m.inner) = record { each = g.met.S.Store.image_size m.inner } in
     let items : c.extend_from_slice.new.self.items ≡ m.buffer.items ++ c.args.bytes.now = search rules in
+    let held = Over m.pos m.buffer.items (g.S.Store.image m.inner) in
     rw items (write_between
-    (same_trans c.make_room.ensures.images (over_same m.at m.buffer.items c.reserve.ensures.images))
-    (over_more m.buffer.items c.args.bytes.now c.in_ok-make_room.ensures.place inside sized)
-    (same_refl (Over m.at (m.buffer.items ++ c.args.bytes.now) (g.S.Store.image c.reserve.new.self))))
+    (same_trans {k = held} (over_same c.args.self.now.pos c.args.self.now.buffer.items c.reserve.ensures.images) c.make_room.ensures.images)
+    (over_more m.buffer.items c.args.bytes.now c.in_ok-make_room.ensures.continues m.placed sized)
+    (same_refl (Over m.pos (m.buffer.items ++ c.args.bytes.now) (g.S.Store.image m.inner))))
 
 pub returns-clause-ok : goal.returns-clause-ok
 returns-clause-ok g c = done g c
@@ -53,4 +53,4 @@ pub returns-clause-torn : goal.returns-clause-torn
 returns-clause-torn g c =
     let s = c.args.self.now in
     let sized : AreSized (g.S.Store.size s.inner) (g.S.Store.image s.inner) = record { each = g.met.S.Store.image_size s.inner } in
-    torn_from_write c.requires.start (sized_over s.at s.buffer.items s.placed sized) (done g c)
+    torn_from_write c.requires.start (sized_over s.pos s.buffer.items s.placed sized) (done g c)

@@ -1,6 +1,6 @@
 use Rattle.std.proofs.Common.{◌≡◌, ◌+◌, ◌*◌, ap, ◌∙◌, arith, rules}
 use Rattle.std.specs.Char.{digit_value}
-use Rattle.cdb_form.proofs.SourceLemmas.{digit_more, digits_took}
+use Rattle.cdb_form.proofs.SourceLemmas.{digit_more, digits_leave}
 use Rattle.cdb_form.proofs.text.source.Source.number.Goals as goal
 
 pub loop-byte-preserved : goal.loop-byte-preserved
@@ -19,22 +19,12 @@ loop-byte-preserved g c =
 
 pub returns-in-None-with_digit-clause-leaves : goal.returns-in-None-with_digit-clause-leaves
 returns-in-None-with_digit-clause-leaves g c =
-    let read = rw c.in-Some.is at c.in_ok-byte.ensures.bytes in
     let counted = rw c.in-Some.is at c.in_ok-byte.ensures.counted in
-    record {
-      took = λ other. digits_took _ _ _ _ _ _ _ _ _ _ c.loop-byte.invariant.so_far read c.loop-byte.invariant.start counted;
-      last = counted;
-      spent = search rules;
-      spends = omega (arith, c.loop-byte.invariant.spent, c.in_ok-byte.ensures.spends, counted);
-    }
+    digits_leave _ _ c.loop-byte.self _ _ _ _ _ _ c.loop-byte.invariant.so_far c.loop-byte.invariant.start c.loop-byte.invariant.spent
+    (rw c.in-Some.is at c.in_ok-byte.ensures.bytes) counted c.in_ok-byte.ensures.spends counted (search rules)
 
 pub returns-else-byte-stop-clause-leaves : goal.returns-else-byte-stop-clause-leaves
 returns-else-byte-stop-clause-leaves g c =
-    let read = rw c.in-Some.is at c.in_ok-byte.ensures.bytes in
     let counted = rw c.in-Some.is at c.in_ok-byte.ensures.counted in
-    record {
-      took = λ other. digits_took _ _ _ _ _ _ _ _ _ _ c.loop-byte.invariant.so_far read c.loop-byte.invariant.start counted;
-      last = counted;
-      spent = search rules;
-      spends = omega (arith, c.loop-byte.invariant.spent, c.in_ok-byte.ensures.spends, counted);
-    }
+    digits_leave _ _ c.loop-byte.self _ _ _ _ _ _ c.loop-byte.invariant.so_far c.loop-byte.invariant.start c.loop-byte.invariant.spent
+    (rw c.in-Some.is at c.in_ok-byte.ensures.bytes) counted c.in_ok-byte.ensures.spends counted (search rules)

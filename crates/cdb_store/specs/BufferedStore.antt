@@ -1,0 +1,22 @@
+-- What a clause reads of a buffered store.
+use Rattle.std.specs.Prelude.{ℕ, ◌+◌, max, List, length}
+use Rattle.cdb_store.specs.declared.store.Store.{Ghosts}
+use Rattle.cdb_store.specs.declared.buffered.BufferedStore.{BufferedStore}
+use Rattle.cdb_store.specs.Images.{Over}
+use Rattle.cdb_store.specs.Calls.{written_count}
+
+-- how many bytes it has collected
+abbrev pub held_of : {S : Type 0} {inner : Ghosts S} → BufferedStore S inner → ℕ
+held_of f = length f.buffer.items
+
+-- its length
+abbrev pub size_of : {S : Type 0} {inner : Ghosts S} → BufferedStore S inner → ℕ
+size_of {inner = inner} f = max (inner.size f.inner) (f.pos + held_of f)
+
+-- its images: those of the inner store, with the buffer over them
+abbrev pub images_of : {S : Type 0} {inner : Ghosts S} → BufferedStore S inner → List ℕ → Type 0
+images_of {inner = inner} f = Over f.pos f.buffer.items (inner.image f.inner)
+
+-- how many bytes were written to it
+abbrev pub written_of : {S : Type 0} {inner : Ghosts S} → BufferedStore S inner → ℕ
+written_of f = written_count f.trace.events

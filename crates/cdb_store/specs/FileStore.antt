@@ -1,0 +1,21 @@
+-- What a clause reads of a store in a file.
+use Rattle.std.specs.Prelude.{ℕ, List}
+use Rattle.cdb_store.specs.declared.raw.RawFile.{Ghosts}
+use Rattle.cdb_store.specs.declared.file.FileStore.{FileStore}
+use Rattle.cdb_store.specs.Calls.{Calls, FileImage, failure_count, written_count}
+
+-- the calls on its file
+abbrev pub calls_of : {F : Type 0} {file : Ghosts F} → FileStore F file → Calls
+calls_of {file = file} f = file.calls f.file
+
+-- its images
+abbrev pub images_of : {F : Type 0} {file : Ghosts F} → FileStore F file → List ℕ → Type 0
+images_of f = FileImage f.len (calls_of f)
+
+-- how often it has failed
+abbrev pub failures_of : {F : Type 0} {file : Ghosts F} → FileStore F file → ℕ
+failures_of f = failure_count (calls_of f)
+
+-- how many bytes were written to it
+abbrev pub written_of : {F : Type 0} {file : Ghosts F} → FileStore F file → ℕ
+written_of f = written_count (calls_of f)

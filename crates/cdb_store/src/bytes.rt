@@ -1,0 +1,30 @@
+// Bytes in memory, read and overwritten at a position.
+ghost use Rattle.std.specs.Prelude.{◌≡◌, ◌+◌, ◌<◌, ◌≤◌, ◌^◌, length, OnOk, OnErr, vec_len, vec_capacity};
+ghost use Rattle.cdb_store.specs.Images.{overwrite, part};
+
+use std::alloc::AllocError;
+
+/// Writes bytes over what stands from `pos` on, and past the end.
+pub(crate) fn write_over(bytes: &mut Vec<u8>, pos: usize, new: &[u8]) -> Result<(), AllocError>
+    requires start { pos ≤ vec_len bytes.old }
+    requires end { pos + length new.now < 2 ^ 63 }
+    ensures ok { OnOk result (bytes.new.items ≡ overwrite bytes.old.items pos new.now) }
+    ensures err { OnErr result (bytes.new.items ≡ bytes.old.items) }
+    ensures full { OnErr result (vec_capacity bytes.old < pos + length new.now) }
+    ensures err_capacity { OnErr result (vec_capacity bytes.new ≡ vec_capacity bytes.old) }
+    ensures capacity { vec_capacity bytes.old ≤ vec_capacity bytes.new }
+{
+    let inside = new.len().min(bytes.len() - pos);
+    bytes.reserve(new.len() - inside)?;
+    bytes.extend_from_slice(&new[inside..])?;
+    bytes[pos..pos + inside].copy_from_slice(&new[..inside]);
+    Ok(())
+}
+
+/// Fills `into` with the bytes from `pos` on.
+pub(crate) fn read_from(bytes: &[u8], pos: usize, into: &mut [u8])
+    requires { pos + length into.old ≤ length bytes.now }
+    ensures { into.new ≡ part pos (length into.new) bytes.now }
+{
+    into.copy_from_slice(&bytes[pos..pos + into.len()]);
+}

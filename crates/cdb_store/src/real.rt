@@ -1,0 +1,133 @@
+// The file of the system: the lines that call the system and note what it answered.
+ghost use Rattle.std.specs.Prelude.{◌≡◌, ◌<◌, ◌↔◌, [], ◌∷◌, IfOk};
+ghost use Rattle.std.specs.IoError.{error_kind};
+
+use crate::raw::{RawFault, RawFile, note_part};
+use crate::trace::{Call, Trace};
+use std::fs::File;
+use std::io::{self, ErrorKind};
+use std::os::unix::fs::FileExt;
+
+/// A file of the system.
+#[derive(Drop)]
+pub struct RealFile {
+    file: File,
+    trace: Trace,
+}
+
+impl RealFile {
+    /// A file that was just opened, of which nothing is known.
+    pub(crate) fn opened(file: File) -> RealFile
+        ensures { result.trace.events ≡ [] }
+    {
+        RealFile {
+            file,
+            trace: Trace::new(),
+        }
+    }
+
+    /// A file that was just made or emptied.
+    pub(crate) fn made(file: File) -> RealFile
+        ensures { result.trace.events ≡ (Call.Made, []) ∷ [] }
+    {
+        let mut made = RealFile::opened(file);
+        made.trace.note(&Call::Made, &[]);
+        made
+    }
+}
+
+/// Why the system's call did nothing: a signal that interrupted it is told apart from all else.
+fn fault_of(error: &io::Error) -> RawFault
+    ensures { (result ≡ RawFault.Interrupted) ↔ (error_kind error.now ≡ ErrorKind.Interrupted) }
+{
+    if error.kind() == ErrorKind::Interrupted {
+        RawFault::Interrupted
+    } else {
+        RawFault::Failed
+    }
+}
+
+/// What a read or a write did: at least one byte, or else why none.
+fn part_of(answer: io::Result<usize>) -> Result<usize, RawFault>
+    ensures some { IfOk result (λ n. 0 < n) }
+    ensures same { IfOk result (λ n. answer ≡ Ok n) }
+{
+    match answer {
+        Ok(0) => Err(RawFault::Failed),
+        Ok(n) => Ok(n),
+        Err(error) => Err(fault_of(&error)),
+    }
+}
+
+impl RawFile for RealFile {
+    ghost calls = { λ f. f.trace.events };
+
+    fn read_some(&mut self, pos: u64, into: &mut [u8]) -> Result<usize, RawFault> {
+        let answer = part_of(self.file.read_at(into, pos));
+        note_part(&mut self.trace, Call::Read(pos), Call::Failed, into, answer);
+        answer
+    }
+
+    fn write_some(&mut self, pos: u64, bytes: &[u8]) -> Result<usize, RawFault> {
+        let answer = part_of(self.file.write_at(bytes, pos));
+        let failed = Call::NotWritten(pos, bytes.len() as u64);
+        note_part(&mut self.trace, Call::Wrote(pos), failed, bytes, answer);
+        answer
+    }
+
+    fn length(&mut self) -> Result<u64, RawFault> {
+        match self.file.metadata() {
+            Ok(metadata) => {
+                let len = metadata.len();
+                self.trace.note(&Call::Length(len), &[]);
+                Ok(len)
+            }
+            Err(_) => {
+                self.trace.note(&Call::Failed, &[]);
+                Err(RawFault::Failed)
+            }
+        }
+    }
+
+    fn set_length(&mut self, len: u64) -> Result<(), RawFault> {
+        match self.file.set_len(len) {
+            Ok(()) => {
+                self.trace.note(&Call::Cut(len), &[]);
+                Ok(())
+            }
+            Err(_) => {
+                self.trace.note(&Call::NotCut(len), &[]);
+                Err(RawFault::Failed)
+            }
+        }
+    }
+
+    fn sync(&mut self) -> Result<(), RawFault> {
+        match self.file.sync_all() {
+            Ok(()) => {
+                self.trace.note(&Call::Synced, &[]);
+                Ok(())
+            }
+            Err(_) => {
+                self.trace.note(&Call::Failed, &[]);
+                Err(RawFault::Failed)
+            }
+        }
+    }
+
+    fn give(&mut self, pos: u64, bytes: &[u8]) {
+        self.trace.note(&Call::Gave(pos), bytes);
+    }
+
+    fn refuse(&mut self) {
+        self.trace.note(&Call::Refused, &[]);
+    }
+
+    fn give_up(&mut self, pos: u64, n: u64) {
+        self.trace.note(&Call::NotWritten(pos, n), &[]);
+    }
+
+    fn lose(&mut self, _least: u64, _most: u64) {
+        self.trace.note(&Call::Lost, &[]);
+    }
+}
