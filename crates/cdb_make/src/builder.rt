@@ -23,7 +23,8 @@ const HEADER: usize = 16;
 /// One more record's bytes. Where memory runs out, a part of them may stand there.
 fn push_record<L: Width>(bytes: &mut Vec<u8>, item: &Record) -> Result<(), AllocError>
     requires { record_size L.WORD (key_value item.now) ≤ L.GREATEST }
-    ensures ok { OnOk result (bytes.new.items ≡ bytes.old.items ++ record_bytes L.WORD (key_value item.now)) }
+    ensures ok { OnOk result
+        (bytes.new.items ≡ bytes.old.items ++ record_bytes L.WORD (key_value item.now)) }
     ensures err { OnErr result ((part : List ℕ) × (bytes.new.items ≡ bytes.old.items ++ part)) }
 {
     let header = Header {
@@ -76,7 +77,9 @@ impl<L: Width> Builder<L> {
 
     /// The size of the file with one more record, where it is within the limit.
     fn size_with(&self, item: &Record) -> Option<u64>
-        ensures { SomeIff result (self.now.size + whole_size L.WORD (key_value item.now) ≤ self.now.limit) (self.now.size + whole_size L.WORD (key_value item.now)) }
+        ensures { SomeIff result
+            (self.now.size + whole_size L.WORD (key_value item.now) ≤ self.now.limit)
+            (self.now.size + whole_size L.WORD (key_value item.now)) }
     {
         // The header, and two slots.
         let words = 3 * pair_size::<L>() as u64;
@@ -90,14 +93,22 @@ impl<L: Width> Builder<L> {
         }
     }
 
-    /// One more record's bytes and entry. Where memory runs out, a part of the bytes may stand there.
+    /// One more record's bytes and entry. Where memory runs out, a part of the bytes may be there.
     fn push(&mut self, item: &Record) -> Result<(), AllocError>
         requires { record_size L.WORD (key_value item.now) ≤ L.GREATEST }
-        ensures bytes { OnOk result (self.new.bytes.items ≡ self.old.bytes.items ++ record_bytes L.WORD (key_value item.now)) }
-        ensures entry { OnOk result (lists_pairs self.new.lists.items ≡ with_entry (lists_pairs self.old.lists.items)
-            (record { first = key_hash (key_value item.now).key; second = head_size L.WORD + length self.old.bytes.items })) }
-        ensures part { OnErr result ((part : List ℕ) × (self.new.bytes.items ≡ self.old.bytes.items ++ part)) }
-        ensures lists { OnErr result (lists_pairs self.new.lists.items ≡ lists_pairs self.old.lists.items) }
+        ensures bytes { OnOk result
+            (self.new.bytes.items
+            ≡ self.old.bytes.items ++ record_bytes L.WORD (key_value item.now)) }
+        ensures entry { OnOk result
+            (lists_pairs self.new.lists.items ≡ with_entry (lists_pairs self.old.lists.items)
+            (record {
+              first = key_hash item.now.key.items;
+              second = head_size L.WORD + length self.old.bytes.items;
+            })) }
+        ensures part { OnErr result
+            ((part : List ℕ) × (self.new.bytes.items ≡ self.old.bytes.items ++ part)) }
+        ensures lists { OnErr result
+            (lists_pairs self.new.lists.items ≡ lists_pairs self.old.lists.items) }
         ensures size { self.new.size ≡ self.old.size }
         ensures limit { self.new.limit ≡ self.old.limit }
     {
@@ -139,9 +150,11 @@ impl<L: Width> Builder<L> {
     pub fn write<W: Write>(&self, alloc: Global, w: &mut W) -> Result<(), MakeFault>
         requires { (records : List KeyValue) × Holds L.WORD L.GREATEST self.now records }
         ensures ok { (records : List KeyValue) → Holds L.WORD L.GREATEST self.now records
-            → OnOk result (Appends (W.contents w.old) (W.contents w.new) (file_bytes L.WORD records)) }
+            → OnOk result (Appends (W.contents w.old) (W.contents w.new)
+            (file_bytes L.WORD records)) }
         ensures err { (records : List KeyValue) → Holds L.WORD L.GREATEST self.now records
-            → IfErr result (FileFails (W.contents w.old) (W.contents w.new) (file_bytes L.WORD records)) }
+            → IfErr result (FileFails (W.contents w.old) (W.contents w.new)
+            (file_bytes L.WORD records)) }
     {
         write_file::<L, W>(alloc, w, &self.bytes, &self.lists)
     }

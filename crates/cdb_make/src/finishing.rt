@@ -46,8 +46,11 @@ fn write_pointers<L: Width, W: Write>(
 ) -> Result<(), OutFault>
     requires long { length lists.now ≡ 256 }
     requires room { tables_end L.WORD end (lists_pairs lists.now) ≤ L.GREATEST }
-    ensures ok { OnOk result (Appends (W.contents w.old) (W.contents w.new) (head_bytes L.WORD end (lists_pairs lists.now))) }
-    ensures err { OnErr result (AppendsFront (W.contents w.old) (W.contents w.new) (head_bytes L.WORD end (lists_pairs lists.now))) }
+    ensures ok { OnOk result (Appends (W.contents w.old) (W.contents w.new)
+        (head_bytes L.WORD end (lists_pairs lists.now))) }
+    ensures err { OnErr result
+        (AppendsFront (W.contents w.old) (W.contents w.new)
+        (head_bytes L.WORD end (lists_pairs lists.now))) }
 {
     let head = head_of::<L>(end, lists);
     let mut bytes = [0u8; HEAD];
@@ -80,8 +83,11 @@ fn write_table<L: Width, W: Write>(
     requires slots { length slots.old ≡ 2 * length entries.now }
     requires bytes { length bytes.old ≡ pair_size L.WORD * length slots.old }
     requires fits { All (PairFits L.TOP) (map slot_pair entries.now) }
-    ensures ok { OnOk result (Appends (W.contents w.old) (W.contents w.new) (table_bytes L.WORD (map slot_pair entries.now))) }
-    ensures err { OnErr result (AppendsFront (W.contents w.old) (W.contents w.new) (table_bytes L.WORD (map slot_pair entries.now))) }
+    ensures ok { OnOk result (Appends (W.contents w.old) (W.contents w.new)
+        (table_bytes L.WORD (map slot_pair entries.now))) }
+    ensures err { OnErr result
+        (AppendsFront (W.contents w.old) (W.contents w.new)
+        (table_bytes L.WORD (map slot_pair entries.now))) }
 {
     fill_table(slots, entries);
     encode_slots::<L>(slots, bytes);
@@ -98,8 +104,11 @@ fn write_tables<L: Width, W: Write>(
     requires slots { All (λ list. 2 * length list.items ≤ length slots.old) lists.now }
     requires bytes { length bytes.old ≡ pair_size L.WORD * length slots.old }
     requires fits { All (λ list. All (PairFits L.TOP) (list_pairs list)) lists.now }
-    ensures ok { OnOk result (Appends (W.contents w.old) (W.contents w.new) (flat_map (λ list. table_bytes L.WORD (list_pairs list)) lists.now)) }
-    ensures err { OnErr result (AppendsFront (W.contents w.old) (W.contents w.new) (flat_map (λ list. table_bytes L.WORD (list_pairs list)) lists.now)) }
+    ensures ok { OnOk result (Appends (W.contents w.old) (W.contents w.new)
+        (flat_map (λ list. table_bytes L.WORD (list_pairs list)) lists.now)) }
+    ensures err { OnErr result
+        (AppendsFront (W.contents w.old) (W.contents w.new)
+        (flat_map (λ list. table_bytes L.WORD (list_pairs list)) lists.now)) }
 {
     let size = pair_size::<L>();
     for list in lists {
@@ -136,8 +145,11 @@ fn write_parts<L: Width, W: Write>(
     requires slots { All (λ list. 2 * length list.items ≤ length slots.old) lists.now }
     requires bytes { length bytes.old ≡ pair_size L.WORD * length slots.old }
     requires fits { All (λ list. All (PairFits L.TOP) (list_pairs list)) lists.now }
-    ensures ok { OnOk result (Appends (W.contents w.old) (W.contents w.new) (parts_of L.WORD records.now (lists_pairs lists.now))) }
-    ensures err { OnErr result (AppendsFront (W.contents w.old) (W.contents w.new) (parts_of L.WORD records.now (lists_pairs lists.now))) }
+    ensures ok { OnOk result (Appends (W.contents w.old) (W.contents w.new)
+        (parts_of L.WORD records.now (lists_pairs lists.now))) }
+    ensures err { OnErr result
+        (AppendsFront (W.contents w.old) (W.contents w.new)
+        (parts_of L.WORD records.now (lists_pairs lists.now))) }
 {
     let end = (head_size::<L>() + records.len()) as u64;
     write_pointers::<L, W>(w, end, lists)?;
@@ -158,8 +170,11 @@ pub(crate) fn write_file<L: Width, W: Write>(
     requires long { length lists.now ≡ 256 }
     requires room { parts_size L.WORD records.now (lists_pairs lists.now) ≤ L.GREATEST }
     requires fits { All (λ list. All (PairFits L.TOP) (list_pairs list)) lists.now }
-    ensures ok { OnOk result (Appends (W.contents w.old) (W.contents w.new) (parts_of L.WORD records.now (lists_pairs lists.now))) }
-    ensures err { IfErr result (FileFails (W.contents w.old) (W.contents w.new) (parts_of L.WORD records.now (lists_pairs lists.now))) }
+    ensures ok { OnOk result (Appends (W.contents w.old) (W.contents w.new)
+        (parts_of L.WORD records.now (lists_pairs lists.now))) }
+    ensures err { IfErr result
+        (FileFails (W.contents w.old) (W.contents w.new)
+        (parts_of L.WORD records.now (lists_pairs lists.now))) }
 {
     let most = 2 * longest(lists);
     let mut slots = vec![in alloc; EMPTY; most]?;

@@ -21,7 +21,8 @@ pub(crate) fn empty_lists(alloc: Global) -> Result<Vec<Vec<Slot>>, AllocError>
 pub(crate) fn add_entry(lists: &mut Vec<Vec<Slot>>, entry: Slot) -> Result<(), AllocError>
     requires { length lists.old.items ≡ 256 }
     ensures long { length lists.new.items ≡ 256 }
-    ensures added { OnOk result (lists_pairs lists.new.items ≡ with_entry (lists_pairs lists.old.items) (slot_pair entry)) }
+    ensures added { OnOk result
+        (lists_pairs lists.new.items ≡ with_entry (lists_pairs lists.old.items) (slot_pair entry)) }
     ensures kept { OnErr result (lists_pairs lists.new.items ≡ lists_pairs lists.old.items) }
 {
     lists[table_number(entry.hash)].push(entry)?;

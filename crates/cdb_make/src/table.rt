@@ -25,7 +25,9 @@ fn used_front(slots: &[Slot]) -> usize
 fn first_empty(slots: &[Slot], home: usize) -> usize
     requires { home < length slots.now }
     ensures within { result < length slots.now }
-    ensures first { result ≡ (home + prefix_len is_used (slots_from home (map slot_pair slots.now))) % length slots.now }
+    ensures first { result
+        ≡ (home + prefix_len is_used (slots_from home (map slot_pair slots.now)))
+        % length slots.now }
 {
     let behind = used_front(&slots[home..]);
     if behind < slots.len() - home {
@@ -57,7 +59,8 @@ fn clear(slots: &mut [Slot])
 /// Leaves the table of some entries, filled in their order. It has two slots for each.
 pub(crate) fn fill_table(slots: &mut [Slot], entries: &[Slot])
     requires { length slots.old ≡ 2 * length entries.now }
-    ensures { map slot_pair slots.new ≡ filled_slots (2 * length entries.now) (map slot_pair entries.now) }
+    ensures { map slot_pair slots.new
+        ≡ filled_slots (2 * length entries.now) (map slot_pair entries.now) }
 {
     clear(slots);
     for entry in entries {

@@ -35,7 +35,8 @@ impl Fault {
         }
     }
 
-    /// The fault of a run whose input, counted from 1, was not read. Want of memory is the run's own.
+    /// The fault of a run whose input, counted from 1, was not read. Want of memory is the
+    /// run's own.
     pub(crate) fn of_text(input: u64, fault: TextFault) -> Fault
         ensures { result ≡ text_fault input fault }
     {

@@ -41,8 +41,10 @@ impl<R: Read> Input<R> {
     /// Fills the empty window, by one ask of the reader.
     fn refill(&mut self) -> io::Result<()>
         requires { self.old.start ≡ self.old.end }
-        ensures bytes { Keeps (input_bytes R.remaining self.old) (input_bytes R.remaining self.new) }
-        ensures end { OnOk result (self.new.start ≡ self.new.end → IsAtEnd (input_bytes R.remaining self.new)) }
+        ensures bytes { Keeps (input_bytes R.remaining self.old)
+            (input_bytes R.remaining self.new) }
+        ensures end { OnOk result
+            (self.new.start ≡ self.new.end → IsAtEnd (input_bytes R.remaining self.new)) }
         ensures empty { OnErr result (self.new.start ≡ self.new.end) }
     {
         let n = self.reader.read(&mut self.window)?;
@@ -54,7 +56,8 @@ impl<R: Read> Input<R> {
     /// Gives bytes of the window.
     fn give(&mut self, buf: &mut [u8]) -> usize
         ensures count { result ≡ min (length buf.old) (length (window_of self.old)) }
-        ensures bytes { Consumes (input_bytes R.remaining self.old) (input_bytes R.remaining self.new) (take result buf.new) }
+        ensures bytes { Consumes (input_bytes R.remaining self.old)
+            (input_bytes R.remaining self.new) (take result buf.new) }
     {
         let n = buf.len().min(self.end - self.start);
         buf[..n].copy_from_slice(&self.window[self.start..self.start + n]);

@@ -75,8 +75,10 @@ impl Error for Fault {}
 
 /// Writes what is named by a number.
 fn write_numbered<E: Write>(part: &[u8], number: u64, errors: &mut E) -> Result<(), OutFault>
-    ensures ok { OnOk result (Appends (E.contents errors.old) (E.contents errors.new) (numbered part.now number)) }
-    ensures err { OnErr result (AppendsFront (E.contents errors.old) (E.contents errors.new) (numbered part.now number)) }
+    ensures ok { OnOk result (Appends (E.contents errors.old) (E.contents errors.new)
+        (numbered part.now number)) }
+    ensures err { OnErr result
+        (AppendsFront (E.contents errors.old) (E.contents errors.new) (numbered part.now number)) }
 {
     let mut digits = Buffer::new();
     let number = digits.format(number).as_bytes();
@@ -85,8 +87,10 @@ fn write_numbered<E: Write>(part: &[u8], number: u64, errors: &mut E) -> Result<
 
 /// Writes where a fault is.
 fn write_place<E: Write>(place: Place, errors: &mut E) -> Result<(), OutFault>
-    ensures ok { OnOk result (Appends (E.contents errors.old) (E.contents errors.new) (said_place place)) }
-    ensures err { OnErr result (AppendsFront (E.contents errors.old) (E.contents errors.new) (said_place place)) }
+    ensures ok { OnOk result (Appends (E.contents errors.old) (E.contents errors.new)
+        (said_place place)) }
+    ensures err { OnErr result
+        (AppendsFront (E.contents errors.old) (E.contents errors.new) (said_place place)) }
 {
     match place {
         Place::Nowhere => Ok(()),
@@ -103,8 +107,10 @@ fn write_place<E: Write>(place: Place, errors: &mut E) -> Result<(), OutFault>
 /// Writes the line that says what a fault is, with its newline. After an `OutFault` the writer
 /// holds a front of it.
 pub(crate) fn write_fault<E: Write>(fault: &Fault, errors: &mut E) -> Result<(), OutFault>
-    ensures ok { OnOk result (Appends (E.contents errors.old) (E.contents errors.new) (fault_line fault.now)) }
-    ensures err { OnErr result (AppendsFront (E.contents errors.old) (E.contents errors.new) (fault_line fault.now)) }
+    ensures ok { OnOk result (Appends (E.contents errors.old) (E.contents errors.new)
+        (fault_line fault.now)) }
+    ensures err { OnErr result
+        (AppendsFront (E.contents errors.old) (E.contents errors.new) (fault_line fault.now)) }
 {
     write_whole(errors, b"cdb: ")?;
     write_place(fault.place(), errors)?;

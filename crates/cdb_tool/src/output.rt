@@ -40,9 +40,10 @@ impl<W: Write> Output<W> {
         })
     }
 
-    /// Hands all bytes on to the writer. After a fault those that it did not take stay in the buffer.
+    /// Hands all bytes on to the writer. After a fault those that it did not take stay here.
     fn hand_on(&mut self) -> Result<(), OutFault>
-        ensures bytes { Keeps (output_bytes W.contents self.old) (output_bytes W.contents self.new) }
+        ensures bytes { Keeps (output_bytes W.contents self.old)
+            (output_bytes W.contents self.new) }
         ensures empty { OnOk result (held_by self.new ≡ []) }
     {
         while self.start < self.buffer.len() {
@@ -56,8 +57,10 @@ impl<W: Write> Output<W> {
     /// Takes bytes into the buffer, as many as it has room for.
     fn take(&mut self, bytes: &[u8]) -> Result<usize, AllocError>
         ensures count { IfOk result (λ n. n ≤ length bytes.now) }
-        ensures ok { IfOk result (λ n. Appends (output_bytes W.contents self.old) (output_bytes W.contents self.new) (take n bytes.now)) }
-        ensures err { OnErr result (Keeps (output_bytes W.contents self.old) (output_bytes W.contents self.new)) }
+        ensures ok { IfOk result (λ n. Appends (output_bytes W.contents self.old)
+            (output_bytes W.contents self.new) (take n bytes.now)) }
+        ensures err { OnErr result
+            (Keeps (output_bytes W.contents self.old) (output_bytes W.contents self.new)) }
     {
         let n = bytes.len().min(self.size - self.buffer.len());
         self.buffer.extend_from_slice(&bytes[..n])?;

@@ -56,8 +56,8 @@ fn between<I: Read + Drop, O: Write + Drop>(
     }
 }
 
-/// Does what the arguments tell, and answers the exit status. A fault has its line on `errors`, as far
-/// as that takes it.
+/// Does what the arguments tell, and answers the exit status. A fault has its line on `errors`, as
+/// far as that takes it.
 pub(crate) fn run<I: Read + Drop, O: Write + Drop, E: Write>(
     alloc: Global,
     args: &[String],

@@ -14,7 +14,8 @@ abbrev pub limit_of : {L : Type 0} → Builder L → ℕ
 limit_of b = b.limit
 
 -- it holds these records, in words of w bytes, and their file is within the limit
-pub record Holds {L : Type 0} (w greatest : ℕ) (b : Builder L) (records : List KeyValue) : Type 0 where
+pub record Holds {L : Type 0} (w greatest : ℕ) (b : Builder L) (records : List KeyValue)
+    : Type 0 where
   pub are : All IsRecord records
   pub bytes : b.bytes.items ≡ flat_map (record_bytes w) records
   pub entries : lists_pairs b.lists.items ≡ map (table_entries w records) (range_with_len 0 256)
@@ -23,7 +24,9 @@ pub record Holds {L : Type 0} (w greatest : ℕ) (b : Builder L) (records : List
   pub limit : limit_of b ≤ greatest
 
 -- a record was refused, since the file would pass the limit or memory ran out; nothing was added
-abbrev pub RefusesRecord : {L : Type 0} → ℕ → ℕ → Builder L → List KeyValue → KeyValue → MakeFault → Type 0
-RefusesRecord w greatest new records r TooBig = (limit_of new < file_size w (records ++ r ∷ [])) × Holds w greatest new records
+abbrev pub RefusesRecord : {L : Type 0} → ℕ → ℕ → Builder L → List KeyValue → KeyValue → MakeFault
+    → Type 0
+RefusesRecord w greatest new records r TooBig =
+    (limit_of new < file_size w (records ++ r ∷ [])) × Holds w greatest new records
 RefusesRecord w greatest new records r NoMemory = Holds w greatest new records
 RefusesRecord w greatest new records r fault = ⊥

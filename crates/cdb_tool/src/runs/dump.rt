@@ -23,7 +23,8 @@ fn dump_unflushed<L: Width, R: Read, W: Write>(
     w: &mut W,
 ) -> Result<(), Fault>
     requires { IsFresh records.old }
-    ensures { DumpRuns L.WORD (unread R.remaining records.old) (unread R.remaining records.new) (W.contents w.old) (W.contents w.new) result }
+    ensures { DumpRuns L.WORD (unread R.remaining records.old) (unread R.remaining records.new)
+        (W.contents w.old) (W.contents w.new) result }
 {
     let mut record = Record {
         key: Vec::new(alloc),
@@ -47,7 +48,8 @@ pub(crate) fn dump_from<L: Width, R: Read, W: Write>(
     w: &mut W,
 ) -> Result<(), Fault>
     requires { IsFresh records.old }
-    ensures { DumpRuns L.WORD (unread R.remaining records.old) (unread R.remaining records.new) (W.contents w.old) (W.contents w.new) result }
+    ensures { DumpRuns L.WORD (unread R.remaining records.old) (unread R.remaining records.new)
+        (W.contents w.old) (W.contents w.new) result }
 {
     let dumped = match style {
         Style::Native => dump_unflushed::<L, R, W>(alloc, records, w),
@@ -72,7 +74,8 @@ pub(crate) fn dump_run<L: Width, R: Read + Drop, W: Write>(
     style: Style,
     w: &mut W,
 ) -> Result<(), Fault>
-    ensures { (rest : Option (List ℕ)) × DumpRuns L.WORD (R.remaining reader) rest (W.contents w.old) (W.contents w.new) result }
+    ensures { (rest : Option (List ℕ)) × DumpRuns L.WORD (R.remaining reader) rest
+        (W.contents w.old) (W.contents w.new) result }
 {
     let mut records = RecordReader::<R, L>::new(alloc, reader);
     dump_from::<L, R, W>(alloc, &mut records, style, w)

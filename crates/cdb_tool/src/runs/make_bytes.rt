@@ -22,8 +22,10 @@ fn fitting_records<L: Width, R: Read>(
 ) -> Result<Builder<L>, Fault>
     requires { IsNewText text.old }
     ensures ok { IfOk result (λ b. (records : List KeyValue) × Holds L.WORD L.GREATEST b records
-        × ReadsFitting L.WORD L.GREATEST (unread R.remaining text.old) (unread R.remaining text.new) records) }
-    ensures err { IfErr result (NotRead L.WORD L.GREATEST (unread R.remaining text.old) (unread R.remaining text.new)) }
+        × ReadsFitting L.WORD L.GREATEST (unread R.remaining text.old) (unread R.remaining text.new)
+        records) }
+    ensures err { IfErr result
+        (NotRead L.WORD L.GREATEST (unread R.remaining text.old) (unread R.remaining text.new)) }
 {
     let mut builder = Builder::new(alloc, L::GREATEST)?;
     let mut record = Record {
@@ -47,7 +49,8 @@ fn make_unflushed<L: Width, R: Read, W: Write>(
     w: &mut W,
 ) -> Result<(), Fault>
     requires { IsNewText text.old }
-    ensures { Makes L.WORD L.GREATEST (unread R.remaining text.old) (unread R.remaining text.new) (W.contents w.old) (W.contents w.new) result }
+    ensures { Makes L.WORD L.GREATEST (unread R.remaining text.old) (unread R.remaining text.new)
+        (W.contents w.old) (W.contents w.new) result }
 {
     let builder = fitting_records::<L, R>(alloc, text)?;
     builder.write(alloc, w)?;
@@ -64,7 +67,8 @@ pub(crate) fn make_from<L: Width, R: Read, W: Write>(
     w: &mut W,
 ) -> Result<(), Fault>
     requires { IsNewText text.old }
-    ensures { Makes L.WORD L.GREATEST (unread R.remaining text.old) (unread R.remaining text.new) (W.contents w.old) (W.contents w.new) result }
+    ensures { Makes L.WORD L.GREATEST (unread R.remaining text.old) (unread R.remaining text.new)
+        (W.contents w.old) (W.contents w.new) result }
 {
     let made = make_unflushed::<L, R, W>(alloc, text, w);
     flushed(w, made)
@@ -75,7 +79,7 @@ pub(crate) fn make_from<L: Width, R: Read, W: Write>(
 /// The text is read up to its end, and no further, before the first byte is written. Each of its
 /// records is added, so a key may have several. The faults, in their order:
 /// - `Make(TooBig)`: the file of the whole records so far would be longer than `L::GREATEST` bytes;
-/// - `Text(1, fault)`: the text has this fault, with its place in bytes from the reader's first one,
+/// - `Text(1, fault)`: the text has this fault, its place in bytes from the reader's first one,
 ///   or the reader failed or has no end;
 /// - `NoMemory`: a growth was refused;
 /// - `Output`: the writer failed, and holds a front of the file.
@@ -87,7 +91,8 @@ pub(crate) fn make_bytes<L: Width, R: Read + Drop, W: Write>(
     reader: R,
     w: &mut W,
 ) -> Result<(), Fault>
-    ensures { (rest : Option (List ℕ)) × Makes L.WORD L.GREATEST (R.remaining reader) rest (W.contents w.old) (W.contents w.new) result }
+    ensures { (rest : Option (List ℕ)) × Makes L.WORD L.GREATEST (R.remaining reader) rest
+        (W.contents w.old) (W.contents w.new) result }
 {
     let mut text = TextReader::<R, L>::new(alloc, reader);
     make_from::<L, R, W>(alloc, &mut text, w)

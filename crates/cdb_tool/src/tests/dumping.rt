@@ -247,8 +247,12 @@ fn interrupts_of_a_writer_of_a_dump_are_counted_in_a_row(rt: HostRuntime) -> Res
     let file = bytes_of(rt.alloc(), &TWO)?;
     for (interrupts, want) in [(1000, Ok(())), (1001, Err(Fault::Output))] {
         let mut w = SlowWriter::new(rt.alloc(), interrupts);
-        let answer =
-            dump_run::<Narrow, &[u8], SlowWriter>(rt.alloc(), &file, Style::Native, &mut w);
+        let answer = dump_run::<Narrow, &[u8], SlowWriter>(
+            rt.alloc(),
+            &file,
+            Style::Native,
+            &mut w,
+        );
         assert_eq!(rt; answer, want, "{interrupts} interruptions");
         if want.is_ok() {
             assert_eq!(rt; w.held.as_slice(), TWO_TEXT);

@@ -197,7 +197,10 @@ fn always_endless_or_output(rt: HostRuntime) {
 fn interrupts_of_a_writer_are_counted_in_a_row(rt: HostRuntime) -> Result<(), Fail> {
     let file = bytes_of(rt.alloc(), &NONE)?;
     let mut w = SlowWriter::new(rt.alloc(), 1000);
-    assert_eq!(rt; make_bytes::<Narrow, &[u8], SlowWriter>(rt.alloc(), b"\n", &mut w), Ok(()));
+    assert_eq!(rt;
+        make_bytes::<Narrow, &[u8], SlowWriter>(rt.alloc(), b"\n", &mut w),
+        Ok(())
+    );
     assert_eq!(rt; w.held.as_slice(), file.as_slice());
     let mut w = SlowWriter::new(rt.alloc(), 1001);
     let answer = make_bytes::<Narrow, &[u8], SlowWriter>(rt.alloc(), b"\n", &mut w);
@@ -209,7 +212,11 @@ fn interrupts_of_a_writer_are_counted_in_a_row(rt: HostRuntime) -> Result<(), Fa
 
 #[test]
 fn the_flush_comes_last(rt: HostRuntime) {
-    for (text, fails) in [(TWO_TEXT, false), (TWO_TEXT, true), (b"*".as_slice(), false)] {
+    for (text, fails) in [
+        (TWO_TEXT, false),
+        (TWO_TEXT, true),
+        (b"*".as_slice(), false),
+    ] {
         let mut w = NotingWriter {
             calls: Vec::new(rt.alloc()),
             fails,

@@ -25,7 +25,7 @@ fn read_in(alloc: Global, sizes: &[usize]) -> Result<(Vec<u8>, u64), Fail> {
     Ok((given, reader.asked))
 }
 
-// Five bytes in pieces of two are three asks. A read of more than the window has gives what is there.
+// Five bytes in pieces of two are three asks. A read gives no more than the window has.
 #[test]
 fn a_read_asks_its_reader_once_at_most(rt: HostRuntime) -> Result<(), Fail> {
     let cases: [(&[usize], &[u8], u64); 4] = [
