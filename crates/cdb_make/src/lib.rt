@@ -1,10 +1,18 @@
-//! The first rooms of the maker of databases: writing a record to a store, and closing a gap in it.
+//! Makes constant databases: the file of some records, and the first rooms of a maker in a store.
 //!
-//! The maker itself isn't here yet. Both functions are proved from the contract of a store alone,
-//! so they hold for every store.
+//! A `Builder` holds records as they stand in a file, and writes the whole file to any writer.
 #![tactic(auto)]
 
 mod append;
+mod builder;
+mod fault;
+mod finishing;
+mod index;
 mod moving;
+mod table;
+
+pub use builder::Builder;
+pub use fault::MakeFault;
+
 #[cfg(test)]
 mod tests;

@@ -1,4 +1,6 @@
 //! Each function once on a store in memory.
+mod building;
+
 use crate::append::append_record;
 use crate::moving::move_down;
 use cdb_store::{MemStore, Store};

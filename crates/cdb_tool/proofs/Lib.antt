@@ -1,9 +1,5 @@
-pub mod Filling
-pub mod EntryLists
-pub mod Written
-pub mod HeadPointers
-pub mod WholeFile
 pub mod WholeRuns
-pub mod InputLemmas
 pub mod WholeDumps
+pub mod InputLemmas
+pub mod OutputLemmas
 pub mod RestoreLaws

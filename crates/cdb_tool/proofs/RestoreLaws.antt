@@ -1,15 +1,14 @@
 -- A dump of a made file is made into the same file.
-use Rattle.std.proofs.Common.{◌≡◌, ℕ, ◌+◌, ◌*◌, ◌^◌, ◌<◌, ◌≤◌, ◌⊎◌, List, [], ◌∷◌, length, ap, arith, None}
+use Rattle.std.proofs.Common.{◌≡◌, ℕ, ◌+◌, ◌*◌, ◌^◌, ◌<◌, ◌≤◌, ◌⊎◌, List, [], ◌∷◌, ap, arith}
 use Rattle.std.proofs.lemmas.List.Sums.{sum_by-cons}
 use Rattle.std.specs.List.{AllByRecursion}
 use Rattle.std.specs.Prelude.{sum_by}
 use Rattle.cdb_form.specs.Laws.Text.{LengthsFit}
 use Rattle.cdb_form.specs.Format.Record.{KeyValue, IsRecord, record_size}
 use Rattle.cdb_form.specs.Format.File.{file_size}
-use Rattle.cdb_form.specs.Format.Walk.{Walked}
 use Rattle.cdb_form.proofs.TextLaws.{text_reads_back}
 use Rattle.cdb_form.proofs.WalkLaws.{walk_of-file_bytes}
-use Rattle.cdb_tool.specs.DumpRun.{dump_of}
+use Rattle.cdb_tool.specs.Runs.Dump.{dump_of}
 use Rattle.cdb_tool.specs.Laws.{Restores}
 
 -- no length is above the size of the file

@@ -1,31 +1,87 @@
 -- A text up to its end or its fault, and then the file.
-use Rattle.std.proofs.Common.{◌≡◌, ℕ, ◌+◌, ◌*◌, ◌<◌, ◌≤◌, List, [], ◌∷◌, ◌++◌, refl, Option, Some, None, IfSome, sym, length, arith}
-use Rattle.std.proofs.lemmas.List.{append-nil}
-use Rattle.std.specs.Io.KnownBytes.{Keeps}
-use Rattle.cdb_form.specs.Format.Record.{KeyValue, record_size}
+use Rattle.std.proofs.Common.{◌≡◌, ◌≢◌, true, false, ℕ, ◌+◌, ◌-◌, ◌*◌, ◌^◌, ◌<◌, ◌≤◌, inl, inr, List, [], ◌∷◌, ◌++◌, refl, Option, Some, None, IfSome, Result, Ok, Err, sym, ap, subst, ◌∙◌, length, length-append, append_assoc, take, replicate, arith}
+use Rattle.std.specs.Prelude.{IsOk, codes}
+use Rattle.std.proofs.lemmas.List.{append-nil, length-take-le, length-replicate}
+use Rattle.std.proofs.Math.Seq.{take-append-add}
+use Rattle.std.specs.Io.KnownBytes.{Keeps, Consumes, Appends}
+use Rattle.cdb_form.specs.Format.Record.{KeyValue}
 use Rattle.cdb_form.specs.Format.File.{file_size, file_bytes}
 use Rattle.cdb_form.specs.declared.text.fault.TextFault.{TextFault}
 use Rattle.cdb_form.specs.declared.text.fault.TextFault.TheVariants as text_fault
 use Rattle.cdb_form.specs.declared.text.fault.TextFault.TheVariants.{Syntax, Ended, Large, Input, Endless}
-use Rattle.cdb_form.specs.Views.TextReader.{ReadsRecord}
-use Rattle.cdb_form.specs.Text.Native.{HasFault, HasNoRecord}
-use Rattle.cdb_form.specs.Views.TextFault.{IsOfText}
-use Rattle.cdb_form.proofs.WholeText.{SoFar, so_far_more, so_far_fault, so_far_spelled}
-use Rattle.cdb_form.proofs.Sizes.{size_split}
+use Rattle.cdb_form.specs.Views.TextReader.{unread, taken_of, budget, ReadsRecord, StopsAmid, MeetsFault}
+use Rattle.cdb_form.specs.Views.KnownBytes.{AppendsFront, FromTo, Took}
+use Rattle.cdb_form.specs.declared.text.native_reader.TextReader.{TextReader}
+use Rattle.cdb_form.specs.Text.Native.{Spelled, Reads, HasFault, HasNoRecord}
+use Rattle.cdb_form.specs.Views.TextFault.{IsOfText, IsReadFault}
+use Rattle.cdb_form.proofs.WholeText.{SoFar, so_far_none, so_far_more, so_far_fault, fault_behind}
 use Rattle.cdb_form.proofs.WritingLemmas.{appends_kept}
-use Rattle.cdb_tool.proofs.EntryLists.{size_push}
-use Rattle.cdb_tool.proofs.WholeFile.{stored_end}
-use Rattle.cdb_tool.specs.Faults as run
-use Rattle.cdb_tool.specs.MakeRun.{FailsText, PassesGreatest, NotRead, MakesFile, MakesFront}
-use Rattle.cdb_tool.specs.Stored.{Holds}
-use Rattle.cdb_tool.specs.declared.stored.Stored.{Stored}
+use Rattle.cdb_make.specs.Views.Builder.{Holds, RefusesRecord, limit_of}
+use Rattle.cdb_make.specs.Views.MakeFault.{FileFails}
+use Rattle.cdb_make.specs.declared.builder.Builder.{Builder}
+use Rattle.cdb_make.specs.declared.fault.MakeFault.{MakeFault}
+use Rattle.cdb_make.specs.declared.fault.MakeFault.TheVariants as make
+use Rattle.cdb_tool.specs.Views.Fault as run
+use Rattle.cdb_tool.specs.Runs.Flushed.{Flushed}
+use Rattle.cdb_tool.specs.Runs.MakeBytes.{IsNewText, FailsText, FailsRead, PassesGreatest, NotRead, ReadsFitting, MakesFile, Makes}
+use Rattle.cdb_tool.specs.declared.fault.Fault.{Fault}
+use Rattle.cdb_tool.specs.declared.fault.Fault.TheVariants.{Text, Make, Walk, Output, NoMemory}
 
--- the records so far, and the size of their file
-pub record HoldsSoFar (w g : ℕ) (old new : Option (List ℕ)) (taken : ℕ) (s : Stored) (size : ℕ) : Type 0 where
+-- ---- what a writer holds
+
+pub keeps_self : (o : Option (List ℕ)) → Keeps o o
+keeps_self None = tt
+keeps_self (Some xs) = refl
+
+keeps_same : (old new : Option (List ℕ)) → new ≡ old → Keeps old new
+keeps_same old new e = subst (Keeps old) (sym e) (keeps_self old)
+
+pub keeps_then : (old mid new : Option (List ℕ)) → Keeps old mid → Keeps mid new → Keeps old new
+keeps_then None mid new a b = tt
+keeps_then (Some o) None new a b = absurd a
+keeps_then (Some o) (Some m) None a b = absurd b
+keeps_then (Some o) (Some m) (Some n) a b = b ∙ a
+
+pub front_kept : (old mid new : Option (List ℕ)) (bytes : List ℕ) → AppendsFront old mid bytes → Keeps mid new → AppendsFront old new bytes
+front_kept old mid new bytes a k = record { front = a.front; more = a.more; split = a.split; appended = appends_kept old mid new a.front a.appended k }
+
+-- the whole is a front
+pub whole_front : (old new : Option (List ℕ)) (bytes : List ℕ) → Appends old new bytes → AppendsFront old new bytes
+whole_front old new bytes a = record { front = bytes; more = []; split = sym (append-nil bytes); appended = a }
+
+-- ---- the records of a text
+
+-- the records so far, and the asks that were spent for them
+pub record HoldsSoFar {R L K : Type 0} (w g : ℕ) (old new : Option (List ℕ)) (t : TextReader R L) (b : Builder K) : Type 0 where
   pub records : List KeyValue
-  pub holds : Holds w s records
-  pub so_far : SoFar g old new taken records
-  pub size_is : size ≡ file_size w records
+  pub holds : Holds w g b records
+  pub so_far : SoFar g old new (taken_of t) records
+  pub limit : limit_of b ≡ g
+  pub asks : 2 ^ 48 ≤ budget t
+
+pub holds_so_far_none : {R L K : Type 0} (w g : ℕ) (o : Option (List ℕ)) (t : TextReader R L) (b : Builder K) → Holds w g b [] → limit_of b ≡ g → IsNewText t → HoldsSoFar w g o o t b
+holds_so_far_none w g o t b h l new = record { records = []; holds = h; so_far = subst (λ n. SoFar g o o n []) (sym new.taken) (so_far_none g o o refl); limit = l; asks = omega (arith, new.taken, new.asks) }
+
+-- one record more of the text that is held
+pub holds_so_far_more : {R L K : Type 0} (w g : ℕ) (o m n : Option (List ℕ)) (t u : TextReader R L) (b c : Builder K) (r : KeyValue) → (h : HoldsSoFar w g o m t b) → ReadsRecord g m n (taken_of t) (taken_of u) r
+    → budget t ≤ budget u → Holds w g c (h.records ++ r ∷ []) → limit_of c ≡ limit_of b → HoldsSoFar w g o n u c
+holds_so_far_more w g o m n t u b c r h read spends holds l =
+    record { records = h.records ++ r ∷ []; holds = holds; so_far = so_far_more g o m n (taken_of t) (taken_of u) h.records r h.so_far read; limit = l ∙ h.limit; asks = omega (arith, h.asks, spends) }
+
+fits : {K : Type 0} (w g : ℕ) (b : Builder K) (rs : List KeyValue) → Holds w g b rs → file_size w rs ≤ g
+fits w g b rs h = omega (arith, h.fits, h.limit)
+
+-- the text has ended
+ended : (g : ℕ) (o m n : Option (List ℕ)) (taken : ℕ) (rs : List KeyValue) → SoFar g o m taken rs → Consumes m n (codes "\n") → FromTo o n (Reads g rs)
+ended g None m n taken rs a b = tt
+ended g (Some t) None n taken rs a b = absurd a
+ended g (Some t) (Some m) None taken rs a b = absurd b
+ended g (Some t) (Some m) (Some n) taken rs a b = subst (Spelled g rs t) b a.0
+
+pub reads_fitting : {R L K : Type 0} (w g : ℕ) (o m n : Option (List ℕ)) (t : TextReader R L) (b : Builder K) → (h : HoldsSoFar w g o m t b) → Consumes m n (codes "\n") → ReadsFitting w g o n h.records
+reads_fitting w g o m n t b h end = record { reads = ended g o m n (taken_of t) h.records h.so_far end; fits = fits w g b h.records h.holds }
+
+-- ---- a text up to its fault
 
 fails_text : (w g : ℕ) (o m : Option (List ℕ)) (taken : ℕ) (rs : List KeyValue) (f : TextFault) → SoFar g o m taken rs
     → IfSome m (λ mid. HasFault g taken mid f) → IfSome m (λ mid. IsOfText f → HasNoRecord g mid) → file_size w rs ≤ g → IfSome o (λ t. IsOfText f → FailsText w g t f)
@@ -35,40 +91,160 @@ fails_text w g (Some t) (Some m) taken rs f a b n h = λ of_text.
     let all = so_far_fault g (Some t) (Some m) taken rs f a b n of_text in
     record { records = rs; rest = all.0.0; whole = all.0.1; fits = h; has = all.1 }
 
+-- what spells some records, whatever follows it
+record Spelling (g : ℕ) (rs : List KeyValue) (t mid : List ℕ) : Type 0 where
+  front : List ℕ
+  split : t ≡ front ++ mid
+  spelled : (x : List ℕ) → Spelled g rs (front ++ x) x
+
+spelling : (g : ℕ) (rs : List KeyValue) (t mid : List ℕ) → Spelled g rs t mid → Spelling g rs t mid
+spelling g [] t mid e = record { front = []; split = e; spelled = λ x. refl }
+spelling g (r ∷ rs) t mid (first, more, sp, e, reads) =
+    let s = spelling g rs more mid reads in
+    record {
+      front = first ++ s.front;
+      split = e ∙ ap (λ z. first ++ z) s.split ∙ sym (append_assoc first s.front mid);
+      spelled = λ x. (first, s.front ++ x, sp, append_assoc first s.front x, s.spelled x);
+    }
+
+-- a reader that failed gave the front of a text
+part_fails : (w g from to k : ℕ) (t mid : List ℕ) (rs : List KeyValue) → Spelled g rs t mid → from + length mid ≡ length t → to ≡ from + k → k ≤ length mid
+    → HasFault g from (take (to - from) mid) (Ended to) → HasNoRecord g (take (to - from) mid) → file_size w rs ≤ g → FailsText w g (take to t) (Ended to)
+part_fails w g from to k t mid rs sp long e few has none fit =
+    let s = spelling g rs t mid sp in
+    let place : from ≡ length s.front = omega (arith, long, ap length s.split, length-append s.front mid) in
+    let part : to - from ≡ k = omega (arith, e) in
+    let read : take to t ≡ s.front ++ take k mid =
+    ap (λ (n : ℕ). take n t) (e ∙ ap (λ (n : ℕ). n + k) place) ∙ ap (take (length s.front + k)) s.split ∙ take-append-add s.front mid k in
+    let spelled : Spelled g rs (take to t) (take k mid) = subst (λ z. Spelled g rs z (take k mid)) (sym read) (s.spelled (take k mid)) in
+    let short : length (take k mid) ≡ k = length-take-le k mid few in
+    let all : length (take to t) ≡ length s.front + k = ap length read ∙ length-append s.front (take k mid) ∙ ap (λ (n : ℕ). length s.front + n) short in
+    let fault : HasFault g from (take k mid) (Ended to) = subst (λ (n : ℕ). HasFault g from (take n mid) (Ended to)) part has in
+    let no_more : HasNoRecord g (take k mid) = subst (λ (n : ℕ). HasNoRecord g (take n mid)) part none in
+    record {
+      records = rs;
+      rest = take k mid;
+      whole = record { spelled = spelled; no_more = no_more };
+      fits = fit;
+      has = fault_behind g rs 0 from (take to t) (take k mid) (Ended to) spelled (omega (arith, short, all, place)) fault;
+    }
+
+read_part : (w g : ℕ) (o m n : Option (List ℕ)) (from to : ℕ) (rs : List KeyValue) (f : TextFault) → SoFar g o m from rs → Took m n from to
+    → IfSome m (λ mid. IsReadFault f → StopsAmid g from to mid) → file_size w rs ≤ g → IfSome o (λ t. IsReadFault f → FailsText w g (take to t) (Ended to))
+read_part w g None m n from to rs f a took b h = tt
+read_part w g (Some t) None n from to rs f a took b h = absurd a
+read_part w g (Some t) (Some m) None from to rs f a took b h = absurd took.read
+read_part w g (Some t) (Some m) (Some n) from to rs f a took b h = λ is.
+    let split : m ≡ took.bytes ++ n = took.read in
+    let stops = b is in
+    part_fails w g from to (length took.bytes) t m rs a.0 a.1 took.counted (omega (arith, ap length split, length-append took.bytes n)) stops.front stops.no_record h
+
+-- all that was read
+took_all : (g : ℕ) (o m n : Option (List ℕ)) (from to : ℕ) (rs : List KeyValue) → SoFar g o m from rs → Took m n from to → Took o n 0 to
+took_all g None m n from to rs a took = record { bytes = replicate to 0; read = tt; counted = omega (arith, length-replicate {A = ℕ} to 0) }
+took_all g (Some t) None n from to rs a took = absurd a
+took_all g (Some t) (Some m) None from to rs a took = absurd took.read
+took_all g (Some t) (Some m) (Some n) from to rs a took =
+    let split : m ≡ took.bytes ++ n = took.read in
+    let s = spelling g rs t m a.0 in
+    record {
+      bytes = s.front ++ took.bytes;
+      read = s.split ∙ ap (λ z. s.front ++ z) split ∙ sym (append_assoc s.front took.bytes n);
+      counted = omega (arith, a.1, took.counted, ap length s.split, length-append s.front m, length-append s.front took.bytes);
+    }
+
+fails_read : {R L K : Type 0} (w g : ℕ) (remaining : R → Option (List ℕ)) (o : Option (List ℕ)) (t u : TextReader R L) (b : Builder K) (f : TextFault) → HoldsSoFar w g o (unread remaining t) t b → MeetsFault g remaining t u f
+    → f ≢ text_fault.NoMemory → FailsRead w g o (unread remaining u) 1 f
+fails_read w g remaining o t u b f h meets no_memory =
+    let fit = fits w g b h.records h.holds in
+    let took = meets.took no_memory in
+    record {
+      first = refl;
+      memory = no_memory;
+      read = record {
+        taken = taken_of u;
+        took = took_all g o (unread remaining t) (unread remaining u) (taken_of t) (taken_of u) h.records h.so_far took;
+        last = meets.last;
+        part = read_part w g o (unread remaining t) (unread remaining u) (taken_of t) (taken_of u) h.records f h.so_far took meets.part fit;
+        asked = λ endless. omega (arith, meets.spent endless, meets.spends, h.asks);
+      };
+      fails = fails_text w g o (unread remaining t) (taken_of t) h.records f h.so_far meets.exact meets.no_record fit;
+    }
+
 -- a fault of the text that the reader gave
-pub text_not_read : (w g : ℕ) (o m : Option (List ℕ)) (taken : ℕ) (rs : List KeyValue) (f : TextFault) → SoFar g o m taken rs
-    → IfSome m (λ mid. HasFault g taken mid f) → IfSome m (λ mid. IsOfText f → HasNoRecord g mid) → file_size w rs ≤ g → NotRead w g o (run.text_fault 1 f)
-text_not_read w g o m taken rs (Syntax at) a b n h = (refl, (λ e. let i : Syntax at ≡ text_fault.NoMemory = e in cc), fails_text w g o m taken rs (Syntax at) a b n h)
-text_not_read w g o m taken rs (Ended at) a b n h = (refl, (λ e. let i : Ended at ≡ text_fault.NoMemory = e in cc), fails_text w g o m taken rs (Ended at) a b n h)
-text_not_read w g o m taken rs (Large at) a b n h = (refl, (λ e. let i : Large at ≡ text_fault.NoMemory = e in cc), fails_text w g o m taken rs (Large at) a b n h)
-text_not_read w g o m taken rs Input a b n h = (refl, (λ e. let i : Input ≡ text_fault.NoMemory = e in cc), fails_text w g o m taken rs Input a b n h)
-text_not_read w g o m taken rs Endless a b n h = (refl, (λ e. let i : Endless ≡ text_fault.NoMemory = e in cc), fails_text w g o m taken rs Endless a b n h)
-text_not_read w g o m taken rs text_fault.NoMemory a b n h = tt
+pub text_not_read : {R L K : Type 0} (w g : ℕ) (remaining : R → Option (List ℕ)) (o : Option (List ℕ)) (t u : TextReader R L) (b : Builder K) (f : TextFault) → HoldsSoFar w g o (unread remaining t) t b → MeetsFault g remaining t u f
+    → NotRead w g o (unread remaining u) (run.text_fault 1 f)
+text_not_read w g remaining o t u b (Syntax at) h meets = fails_read w g remaining o t u b (Syntax at) h meets (λ e. let i : Syntax at ≡ text_fault.NoMemory = e in cc)
+text_not_read w g remaining o t u b (Ended at) h meets = fails_read w g remaining o t u b (Ended at) h meets (λ e. let i : Ended at ≡ text_fault.NoMemory = e in cc)
+text_not_read w g remaining o t u b (Large at) h meets = fails_read w g remaining o t u b (Large at) h meets (λ e. let i : Large at ≡ text_fault.NoMemory = e in cc)
+text_not_read w g remaining o t u b Input h meets = fails_read w g remaining o t u b Input h meets (λ e. let i : Input ≡ text_fault.NoMemory = e in cc)
+text_not_read w g remaining o t u b Endless h meets = fails_read w g remaining o t u b Endless h meets (λ e. let i : Endless ≡ text_fault.NoMemory = e in cc)
+text_not_read w g remaining o t u b text_fault.NoMemory h meets = tt
 
 -- one record more is too much
-pub too_big : (w g : ℕ) (o m n : Option (List ℕ)) (from to : ℕ) (rs : List KeyValue) (r : KeyValue) → SoFar g o m from rs → ReadsRecord g m n from to r → g < file_size w (rs ++ r ∷ []) → IfSome o (PassesGreatest w g)
+too_big : (w g : ℕ) (o m n : Option (List ℕ)) (from to : ℕ) (rs : List KeyValue) (r : KeyValue) → SoFar g o m from rs → ReadsRecord g m n from to r → g < file_size w (rs ++ r ∷ []) → FromTo o n (PassesGreatest w g)
 too_big w g None m n from to rs r a b h = tt
-too_big w g (Some t) m n from to rs r a b h =
-    let all = so_far_spelled g (Some t) n to (rs ++ r ∷ []) (so_far_more g (Some t) m n from to rs r a b) in
-    record { records = rs ++ r ∷ []; rest = all.0; spelled = all.1; larger = h }
+too_big w g (Some t) m None from to rs r a b h = absurd (so_far_more g (Some t) m None from to rs r a b)
+too_big w g (Some t) m (Some n) from to rs r a b h =
+    let all = so_far_more g (Some t) m (Some n) from to rs r a b in
+    record { records = rs ++ r ∷ []; spelled = all.0; larger = h }
+
+-- a record that the builder refused
+pub refused : {R L K : Type 0} (w g : ℕ) (o m n : Option (List ℕ)) (t u : TextReader R L) (b c : Builder K) (r : KeyValue) (f : MakeFault) → (h : HoldsSoFar w g o m t b) → ReadsRecord g m n (taken_of t) (taken_of u) r
+    → limit_of c ≡ limit_of b → RefusesRecord w g c h.records r f → NotRead w g o n (run.make_fault f)
+refused w g o m n t u b c r make.TooBig h read l x = too_big w g o m n (taken_of t) (taken_of u) h.records r h.so_far read (omega (arith, l, h.limit, x.0))
+refused w g o m n t u b c r make.NoMemory h read l x = tt
+refused w g o m n t u b c r make.Broken h read l x = absurd x
+refused w g o m n t u b c r make.Lookup h read l x = absurd x
+refused w g o m n t u b c r make.Writing h read l x = absurd x
+
+-- ---- the file
+
+-- nothing was written where the text was not read
+pub nothing_made : (w g : ℕ) (text rest o : Option (List ℕ)) (f : Fault) → NotRead w g text rest f → Makes w g text rest o o (Err f)
+nothing_made w g text rest o (Text input f) x = record { ok = tt; err = (x, keeps_self o) }
+nothing_made w g text rest o (Make f) x = record { ok = tt; err = (x, keeps_self o) }
+nothing_made w g text rest o (Walk f) x = absurd x
+nothing_made w g text rest o Output x = absurd x
+nothing_made w g text rest o NoMemory x = record { ok = tt; err = (x, keeps_self o) }
+
+pub file_made : (w g : ℕ) (text rest old new : Option (List ℕ)) (rs : List KeyValue) → ReadsFitting w g text rest rs → Appends old new (file_bytes w rs) → Makes w g text rest old new (Ok tt)
+file_made w g text rest old new rs read a = record { ok = record { records = rs; read = read; appended = a }; err = tt }
+
+pub file_fails : (w g : ℕ) (text rest old new : Option (List ℕ)) (rs : List KeyValue) (f : MakeFault) → ReadsFitting w g text rest rs → FileFails old new (file_bytes w rs) f → Makes w g text rest old new (Err (run.make_fault f))
+file_fails w g text rest old new rs make.Writing read x = record { ok = tt; err = record { records = rs; read = read; appended = x } }
+file_fails w g text rest old new rs make.NoMemory read x = record { ok = tt; err = (tt, keeps_same old new x) }
+file_fails w g text rest old new rs make.Broken read x = absurd x
+file_fails w g text rest old new rs make.Lookup read x = absurd x
+file_fails w g text rest old new rs make.TooBig read x = absurd x
+
+-- ---- the flush
+
+file_kept : (w g : ℕ) (text rest old mid new : Option (List ℕ)) → MakesFile w g text rest old mid → Keeps mid new → MakesFile w g text rest old new
+file_kept w g text rest old mid new a k = record { records = a.records; read = a.read; appended = appends_kept old mid new (file_bytes w a.records) a.appended k }
+
+makes_kept : (w g : ℕ) (text rest old mid new : Option (List ℕ)) (r : Result Unit Fault) → Makes w g text rest old mid r → Keeps mid new → Makes w g text rest old new r
+makes_kept w g text rest old mid new (Ok u) m k = record { ok = file_kept w g text rest old mid new m.ok k; err = tt }
+makes_kept w g text rest old mid new (Err (Text input f)) m k = record { ok = tt; err = (m.err.0, keeps_then old mid new m.err.1 k) }
+makes_kept w g text rest old mid new (Err (Make f)) m k = record { ok = tt; err = (m.err.0, keeps_then old mid new m.err.1 k) }
+makes_kept w g text rest old mid new (Err (Walk f)) m k = record { ok = tt; err = (m.err.0, keeps_then old mid new m.err.1 k) }
+makes_kept w g text rest old mid new (Err NoMemory) m k = record { ok = tt; err = (m.err.0, keeps_then old mid new m.err.1 k) }
+makes_kept w g text rest old mid new (Err Output) m k =
+    record { ok = tt; err = record { records = m.err.records; read = m.err.read; appended = front_kept old mid new (file_bytes w m.err.records) m.err.appended k } }
+
+-- a fault is no Ok
+pub not_ok : false ≡ true → ⊥
+not_ok e = cc
 
 -- the whole file was written, but it wasn't flushed
-pub flush_fails : (w g : ℕ) (o old mid new : Option (List ℕ)) → MakesFile w g o old mid → Keeps mid new → MakesFront w g o old new
-flush_fails w g o old mid new a k =
-    let file = file_bytes w a.records in
-    record { records = a.records; read = a.read; appended = record { front = file; more = []; split = sym (append-nil file); appended = appends_kept old mid new file a.appended k } }
+flush_fails : (w g : ℕ) (text rest old mid new : Option (List ℕ)) (r : Result Unit Fault) → Makes w g text rest old mid r → Keeps mid new → IsOk r → Makes w g text rest old new (Err Output)
+flush_fails w g text rest old mid new (Ok u) m k is =
+    let a = file_kept w g text rest old mid new m.ok k in
+    record { ok = tt; err = record { records = a.records; read = a.read; appended = whole_front old new (file_bytes w a.records) a.appended } }
+flush_fails w g text rest old mid new (Err f) m k is = absurd (not_ok is)
 
--- one record more of the text that is stored
-pub holds_so_far_more : (w g : ℕ) (o m n : Option (List ℕ)) (from to : ℕ) (s t : Stored) (r : KeyValue) (size more : ℕ) → (h : HoldsSoFar w g o m from s size) → ReadsRecord g m n from to r
-    → Holds w t (h.records ++ r ∷ []) → more ≡ size + (record_size w r + 4 * w) → HoldsSoFar w g o n to t more
-holds_so_far_more w g o m n from to s t r size more h read holds e =
-    let push = size_push w h.records r in
-    let size_is : size ≡ file_size w h.records = h.size_is in
-    record { records = h.records ++ r ∷ []; holds = holds; so_far = so_far_more g o m n from to h.records r h.so_far read; size_is = omega (arith, e, push, size_is) }
-
--- a record that fits has room behind those before it
-pub room_for : (w g : ℕ) (s : Stored) (rs : List KeyValue) (r : KeyValue) (size : ℕ) → Holds w s rs → size ≡ file_size w rs → size + (record_size w r + 4 * w) ≤ g → 512 * w + length s.bytes.items + record_size w r ≤ g
-room_for w g s rs r size h e fits =
-    let end = stored_end w s rs h in
-    let split = size_split w rs in
-    omega (arith, end, split, e, fits)
+pub makes_flushed : (w g : ℕ) (text rest old mid new : Option (List ℕ)) (answer result : Result Unit Fault) → Makes w g text rest old mid answer → Flushed mid new answer result → Makes w g text rest old new result
+makes_flushed w g text rest old mid new answer result m f = elim f.answered as (λ _. Makes w g text rest old new result) [
+  | inl e ↦ subst (Makes w g text rest old new) (sym e) (makes_kept w g text rest old mid new answer m f.kept)
+  | inr e ↦ subst (Makes w g text rest old new) (sym e.1) (flush_fails w g text rest old mid new answer m f.kept e.0)
+]

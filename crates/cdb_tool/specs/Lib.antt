@@ -1,8 +1,5 @@
--- What the runs of the program are to do.
-pub mod Faults
-pub mod Entries
-pub mod Stored
-pub mod MakeRun
-pub mod Input
-pub mod DumpRun
+-- What the runs of the program are to do, and what clauses read of its types.
+pub mod Message
+pub mod Runs
+pub mod Views
 pub mod Laws

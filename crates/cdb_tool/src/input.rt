@@ -1,5 +1,5 @@
 // Input through a window, from which single bytes come fast.
-ghost use Rattle.std.specs.Prelude.{◌≡◌, ℕ, ◌+◌, ◌<◌, ◌≤◌, length, take, min, IfOk, OnOk, OnErr, vec_len};
+ghost use Rattle.std.specs.Prelude.{◌≡◌, ℕ, ◌+◌, ◌<◌, ◌≤◌, [], length, take, min, IfOk, OnOk, OnErr, vec_len};
 ghost use Rattle.std.specs.Io.KnownBytes.{Keeps, Consumes, IsAtEnd};
 
 use std::alloc::{AllocError, Global};
@@ -7,7 +7,7 @@ use std::io::{self, Read};
 
 /// Gives the bytes of a reader, which is asked for many at once.
 #[derive(Drop)]
-pub struct Input<R> {
+pub(crate) struct Input<R> {
     reader: R,
     window: Vec<u8>,
     start: usize,
@@ -18,14 +18,16 @@ pub struct Input<R> {
 }
 
 impl<R: Read> Input<R> {
-    ghost use Rattle.cdb_tool.specs.Input.{input_bytes, window_of};
+    ghost use Rattle.cdb_tool.specs.Views.Input.{input_bytes, window_of};
 
     /// An input over a reader, with a window of so many bytes, which is empty yet.
-    pub fn new(alloc: Global, reader: R, size: usize) -> Result<Input<R>, AllocError>
+    pub(crate) fn new(alloc: Global, reader: R, size: usize) -> Result<Input<R>, AllocError>
     where
         R: Drop,
         requires { 0 < size }
-        ensures { IfOk result (λ i. input_bytes R.remaining i ≡ R.remaining reader) }
+        ensures bytes { IfOk result (λ i. input_bytes R.remaining i ≡ R.remaining reader) }
+        ensures empty { IfOk result (λ i. window_of i ≡ []) }
+        ensures size { IfOk result (λ i. vec_len i.window ≡ size) }
     {
         let window = vec![in alloc; 0u8; size]?;
         Ok(Input {
@@ -36,11 +38,13 @@ impl<R: Read> Input<R> {
         })
     }
 
-    // Fills the empty window.
+    /// Fills the empty window, by one ask of the reader.
     fn refill(&mut self) -> io::Result<()>
         requires { self.old.start ≡ self.old.end }
-        ensures bytes { Keeps (input_bytes R.remaining self.old) (input_bytes R.remaining self.new) }
-        ensures end { OnOk result (self.new.start ≡ self.new.end → IsAtEnd (input_bytes R.remaining self.new)) }
+        ensures bytes { Keeps (input_bytes R.remaining self.old)
+            (input_bytes R.remaining self.new) }
+        ensures end { OnOk result
+            (self.new.start ≡ self.new.end → IsAtEnd (input_bytes R.remaining self.new)) }
         ensures empty { OnErr result (self.new.start ≡ self.new.end) }
     {
         let n = self.reader.read(&mut self.window)?;
@@ -49,10 +53,11 @@ impl<R: Read> Input<R> {
         Ok(())
     }
 
-    // Gives bytes of the window.
+    /// Gives bytes of the window.
     fn give(&mut self, buf: &mut [u8]) -> usize
         ensures count { result ≡ min (length buf.old) (length (window_of self.old)) }
-        ensures bytes { Consumes (input_bytes R.remaining self.old) (input_bytes R.remaining self.new) (take result buf.new) }
+        ensures bytes { Consumes (input_bytes R.remaining self.old)
+            (input_bytes R.remaining self.new) (take result buf.new) }
     {
         let n = buf.len().min(self.end - self.start);
         buf[..n].copy_from_slice(&self.window[self.start..self.start + n]);
@@ -62,7 +67,7 @@ impl<R: Read> Input<R> {
 }
 
 impl<R: Read> Read for Input<R> {
-    ghost use Rattle.cdb_tool.specs.Input.{input_bytes};
+    ghost use Rattle.cdb_tool.specs.Views.Input.{input_bytes};
 
     ghost remaining = { input_bytes R.remaining };
 

@@ -9,5 +9,6 @@ use cdb_form::{Record, Width};
 /// A dump made again is the same file: what `dump_run` writes of the file of some records, where
 /// its size fits, is a text that `make_bytes` reads as these records and no others.
 pub fn dump_and_make_restore<L: Width>(_records: &[Record])
-    ensures { file_size L.WORD (key_values _records.now) ≤ L.GREATEST → Restores L.WORD L.GREATEST (key_values _records.now) }
+    ensures { file_size L.WORD (key_values _records.now) ≤ L.GREATEST
+        → Restores L.WORD L.GREATEST (key_values _records.now) }
 {}

@@ -1,16 +1,13 @@
 //! The program `cdb`: makes constant databases.
 #![tactic(auto)]
 
-pub mod dump;
-mod entries;
-pub mod fault;
-pub mod finishing;
-pub mod input;
+mod fault;
+mod input;
 pub mod laws;
-pub mod make;
+mod message;
+mod output;
+mod runs;
 mod steps;
-pub mod stored;
-pub mod table;
 
 use fault::Fault;
 use std::io::ErrorKind;
@@ -21,11 +18,11 @@ fn main(rt: HostRuntime) -> ExitCode {
     let mut errors = rt.stderr();
     let status = match std::env::args(&rt) {
         Err(e) if e.kind() == ErrorKind::OutOfMemory => steps::tell(Fault::NoMemory, &mut errors),
-        // A word that is no text is not understood.
-        Err(_) => steps::refuse_words(&mut errors),
+        // An argument that is no text is not understood.
+        Err(_) => steps::refuse_args(&mut errors),
         Ok(args) => match args.collect::<Vec<String>>(alloc) {
             Err(_) => steps::tell(Fault::NoMemory, &mut errors),
-            Ok(words) => steps::run(alloc, &words, rt.stdin(), rt.stdout(), &mut errors),
+            Ok(args) => steps::run(alloc, &args, rt.stdin(), rt.stdout(), &mut errors),
         },
     };
     ExitCode::from(status)

@@ -1,21 +1,24 @@
-// What the program does with its words and its streams.
-use crate::dump::{Style, dump_run};
-use crate::fault::{Fault, write_fault};
+// What the program does with its arguments and its streams.
+use crate::fault::Fault;
 use crate::input::Input;
-use crate::make::make_bytes;
+use crate::message::write_fault;
+use crate::output::Output;
+use crate::runs::dump::{Style, dump_run};
+use crate::runs::make_bytes::make_bytes;
 use cdb_form::{Narrow, write_whole};
 use std::alloc::Global;
-use std::io::{BufWriter, Read, Write};
+use std::io::{Read, Write};
 
-/// How many bytes the buffer of a stream holds.
-const BUFFER: usize = 65536;
+/// How many bytes the window of a stream has.
+const WINDOW: usize = 65536;
 
-/// The line for words that are not understood.
-const BAD_WORDS: &[u8] = b"cdb: bad command line, see cdb -h\n";
+/// The line for arguments that are not understood.
+const BAD_ARGS: &[u8] = b"cdb: bad command line, see cdb -h\n";
 
-/// The exit status for words that are not understood, and for every other fault.
+/// The exit status for arguments that are not understood.
 const USAGE_STATUS: u8 = 2;
 
+/// The exit status for every other fault.
 const FAULT_STATUS: u8 = 111;
 
 /// What the program is told to do.
@@ -27,9 +30,9 @@ enum Command {
     Dump,
 }
 
-// The command that the words tell. The first word is the program's name.
-fn command_of(words: &[String]) -> Option<Command> {
-    match words {
+/// The command that the arguments tell. The first is the program's name.
+fn command_of(args: &[String]) -> Option<Command> {
+    match args {
         [_, letter, name] if letter.as_str() == "-c" && name.as_str() == "-" => {
             Some(Command::Create)
         }
@@ -38,34 +41,32 @@ fn command_of(words: &[String]) -> Option<Command> {
     }
 }
 
-// Does what it is told from one stream to the other, through buffers made once.
+/// Does what it is told from one stream to the other, each through a window made once.
 fn between<I: Read + Drop, O: Write + Drop>(
     alloc: Global,
     command: Command,
     input: I,
     output: O,
 ) -> Result<(), Fault> {
-    let reader = Input::new(alloc, input, BUFFER)?;
-    let Ok(mut writer) = BufWriter::with_capacity(alloc, BUFFER, output) else {
-        return Err(Fault::NoMemory);
-    };
+    let reader = Input::new(alloc, input, WINDOW)?;
+    let mut writer = Output::new(alloc, output, WINDOW)?;
     match command {
         Command::Create => make_bytes::<Narrow, _, _>(alloc, reader, &mut writer),
         Command::Dump => dump_run::<Narrow, _, _>(alloc, reader, Style::Native, &mut writer),
     }
 }
 
-/// Does what the words tell, and answers the exit status. A fault has its line on `errors`, as far
-/// as that takes it.
+/// Does what the arguments tell, and answers the exit status. A fault has its line on `errors`, as
+/// far as that takes it.
 pub(crate) fn run<I: Read + Drop, O: Write + Drop, E: Write>(
     alloc: Global,
-    words: &[String],
+    args: &[String],
     input: I,
     output: O,
     errors: &mut E,
 ) -> u8 {
-    let Some(command) = command_of(words) else {
-        return refuse_words(errors);
+    let Some(command) = command_of(args) else {
+        return refuse_args(errors);
     };
     match between(alloc, command, input, output) {
         Ok(()) => 0,
@@ -73,9 +74,9 @@ pub(crate) fn run<I: Read + Drop, O: Write + Drop, E: Write>(
     }
 }
 
-/// Says that the words are not understood, and answers the exit status.
-pub(crate) fn refuse_words<E: Write>(errors: &mut E) -> u8 {
-    let _ = write_whole(errors, BAD_WORDS);
+/// Says that the arguments are not understood, and answers the exit status.
+pub(crate) fn refuse_args<E: Write>(errors: &mut E) -> u8 {
+    let _ = write_whole(errors, BAD_ARGS);
     USAGE_STATUS
 }
 

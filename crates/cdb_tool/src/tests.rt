@@ -4,4 +4,5 @@ mod dumping;
 mod fakes;
 mod lines;
 mod making;
+mod streams;
 mod worked;

@@ -1,9 +1,9 @@
 // dump_run, over damaged and foreign files and over readers and writers that fail.
-use super::fakes::{FakeReader, FakeWriter};
+use super::fakes::{FakeReader, FakeWriter, NotingWriter, SlowWriter};
 use super::worked::{NONE, Run, TWO, TWO_TEXT, WIDE_NONE, bytes_of};
-use crate::dump::{Style, dump_run};
 use crate::fault::Fault;
-use crate::make::make_bytes;
+use crate::runs::dump::{Style, dump_run};
+use crate::runs::make_bytes::make_bytes;
 use cdb_form::{Narrow, WalkFault, Wide, Width};
 use std::alloc::Global;
 use std::io::Read;
@@ -217,5 +217,61 @@ fn a_wide_head_cut_one_byte_short(rt: HostRuntime) -> Result<(), Fail> {
     let (answer, out) = dumped::<Wide, &[u8]>(rt.alloc(), &head);
     assert_eq!(rt; answer, Err(Fault::Walk(WalkFault::Short)));
     assert_eq!(rt; out.len(), 0);
+    Ok(())
+}
+
+// What is left stands behind the record end, or behind the head and the header of a damaged record.
+#[test]
+fn the_rest_of_the_reader_stays(rt: HostRuntime) -> Result<(), Fail> {
+    let cases: [(usize, &[u8], usize); 4] = [
+        (0, b"", 2082),
+        // a value too long by one
+        (2068, b"\x08", 2072),
+        // a table within the head
+        (0, b"\x64\0\0\0\x01\0\0\0", 2048),
+        // a key that is far too long
+        (2048, b"\xff\xff\xff\xff", 2056),
+    ];
+    for (place, new, left) in cases {
+        let file = with_bytes(bytes_of(rt.alloc(), &TWO)?, place, new);
+        assert!(rt; left <= file.len());
+        let mut rest = file.as_slice();
+        let _ = dumped::<Narrow, &mut &[u8]>(rt.alloc(), &mut rest);
+        assert_eq!(rt; rest, &file[left..], "changed at {place}");
+    }
+    Ok(())
+}
+
+#[test]
+fn interrupts_of_a_writer_of_a_dump_are_counted_in_a_row(rt: HostRuntime) -> Result<(), Fail> {
+    let file = bytes_of(rt.alloc(), &TWO)?;
+    for (interrupts, want) in [(1000, Ok(())), (1001, Err(Fault::Output))] {
+        let mut w = SlowWriter::new(rt.alloc(), interrupts);
+        let answer = dump_run::<Narrow, &[u8], SlowWriter>(
+            rt.alloc(),
+            &file,
+            Style::Native,
+            &mut w,
+        );
+        assert_eq!(rt; answer, want, "{interrupts} interruptions");
+        if want.is_ok() {
+            assert_eq!(rt; w.held.as_slice(), TWO_TEXT);
+        }
+    }
+    Ok(())
+}
+
+#[test]
+fn the_flush_of_a_dump_comes_last(rt: HostRuntime) -> Result<(), Fail> {
+    let file = bytes_of(rt.alloc(), &TWO)?;
+    for (cut, fails) in [(file.len(), false), (file.len(), true), (2070, false)] {
+        let mut w = NotingWriter {
+            calls: Vec::new(rt.alloc()),
+            fails,
+        };
+        let piece = file.get(..cut).unwrap_or(&[]);
+        let _ = dump_run::<Narrow, &[u8], NotingWriter>(rt.alloc(), piece, Style::Native, &mut w);
+        assert!(rt; w.was_flushed_last(), "cut at {cut}");
+    }
     Ok(())
 }

@@ -1,4 +1,5 @@
 // Readers and writers that fail when they are told to.
+use std::alloc::Global;
 use std::io::{self, ErrorKind, Read, Write};
 use std::prelude::*;
 
@@ -49,5 +50,130 @@ impl Write for FakeWriter {
             return Err(io::Error::from(ErrorKind::Other));
         }
         Ok(())
+    }
+}
+
+/// Takes one byte at once, and is interrupted so often before each.
+#[derive(Drop)]
+pub(super) struct SlowWriter {
+    pub(super) held: Vec<u8>,
+    pub(super) interrupts_each: u64,
+    pub(super) interrupts: u64,
+}
+
+impl SlowWriter {
+    pub(super) fn new(alloc: Global, interrupts_each: u64) -> SlowWriter {
+        SlowWriter {
+            held: Vec::new(alloc),
+            interrupts_each,
+            interrupts: interrupts_each,
+        }
+    }
+}
+
+impl Write for SlowWriter {
+    fn write(&mut self, buf: &[u8]) -> io::Result<usize> {
+        if self.interrupts > 0 {
+            self.interrupts -= 1;
+            return Err(io::Error::from(ErrorKind::Interrupted));
+        }
+        self.interrupts = self.interrupts_each;
+        let n = buf.len().min(1);
+        self.held.extend_from_slice(&buf[..n])?;
+        Ok(n)
+    }
+
+    fn flush(&mut self) -> io::Result<()> {
+        Ok(())
+    }
+}
+
+/// Takes nothing, and says so.
+#[derive(Drop)]
+pub(super) struct FullWriter;
+
+impl Write for FullWriter {
+    fn write(&mut self, _: &[u8]) -> io::Result<usize> {
+        Ok(0)
+    }
+
+    fn flush(&mut self) -> io::Result<()> {
+        Ok(())
+    }
+}
+
+/// Takes so many bytes, fails once, and then takes all.
+#[derive(Drop)]
+pub(super) struct FlakyWriter {
+    pub(super) held: Vec<u8>,
+    pub(super) room: usize,
+    pub(super) failed: bool,
+}
+
+impl Write for FlakyWriter {
+    fn write(&mut self, buf: &[u8]) -> io::Result<usize> {
+        if self.room == 0 && !self.failed {
+            self.failed = true;
+            return Err(io::Error::from(ErrorKind::Other));
+        }
+        let n = if self.failed {
+            buf.len()
+        } else {
+            buf.len().min(self.room)
+        };
+        self.held.extend_from_slice(&buf[..n])?;
+        self.room = self.room.saturating_sub(n);
+        Ok(n)
+    }
+
+    fn flush(&mut self) -> io::Result<()> {
+        Ok(())
+    }
+}
+
+/// Notes its calls: `w` a write, `f` a flush.
+#[derive(Drop)]
+pub(super) struct NotingWriter {
+    pub(super) calls: Vec<u8>,
+    pub(super) fails: bool,
+}
+
+impl Write for NotingWriter {
+    fn write(&mut self, buf: &[u8]) -> io::Result<usize> {
+        self.calls.extend_from_slice(b"w")?;
+        if self.fails {
+            return Err(io::Error::from(ErrorKind::Other));
+        }
+        Ok(buf.len())
+    }
+
+    fn flush(&mut self) -> io::Result<()> {
+        self.calls.extend_from_slice(b"f")?;
+        Ok(())
+    }
+}
+
+impl NotingWriter {
+    /// It was flushed once, last.
+    pub(super) fn was_flushed_last(&self) -> bool {
+        match self.calls.as_slice() {
+            [writes @ .., b'f'] => writes.iter().all(|call| *call == b'w'),
+            _ => false,
+        }
+    }
+}
+
+/// Gives a text in pieces of two bytes, and counts how often it is asked.
+#[derive(Drop)]
+pub(super) struct CountingReader<'a> {
+    pub(super) text: &'a [u8],
+    pub(super) asked: u64,
+}
+
+impl Read for CountingReader<'_> {
+    fn read(&mut self, buf: &mut [u8]) -> io::Result<usize> {
+        self.asked = self.asked.saturating_add(1);
+        let n = buf.len().min(2);
+        self.text.read(&mut buf[..n])
     }
 }

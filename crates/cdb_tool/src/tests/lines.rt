@@ -1,11 +1,14 @@
 // The number and the line of each fault.
 use super::fakes::FakeWriter;
-use crate::fault::{Fault, MakeFault, write_fault};
+use crate::fault::Fault;
+use crate::message::write_fault;
 use cdb_form::{OutFault, TextFault, WalkFault};
+use cdb_make::MakeFault;
 use std::prelude::*;
+use std::test::Fail;
 
 #[test]
-fn faults_are_numbered_and_said(rt: HostRuntime) {
+fn faults_are_numbered_and_said(rt: HostRuntime) -> Result<(), Fail> {
     let cases: [(Fault, u8, &str); 14] = [
         (
             Fault::Text(1, TextFault::Syntax(7)),
@@ -67,8 +70,10 @@ fn faults_are_numbered_and_said(rt: HostRuntime) {
         assert_eq!(rt; fault.number(), number, "{fault:?}");
         assert_eq!(rt; write_fault(&fault, &mut errors), Ok(()), "{fault:?}");
         assert_eq!(rt; errors.as_slice(), line.as_bytes(), "{fault:?}");
+        let said = format!(in rt.alloc(); "cdb: {fault}\n")?;
+        assert_eq!(rt; said.as_str(), line, "{fault:?}");
     }
-    assert_eq!(rt; MakeFault::TooBig.number(), 3);
+    Ok(())
 }
 
 #[test]

@@ -1,10 +1,10 @@
 // make_bytes, over files worked out by hand and over readers and writers that fail.
-use super::fakes::{FakeReader, FakeWriter};
+use super::fakes::{FakeReader, FakeWriter, FullWriter, NotingWriter, SlowWriter};
 use super::worked::{
     EMPTY_RECORD, FOUR_VALUES, NONE, ONE, Run, TWO, TWO_TEXT, WIDE_NONE, WIDE_ONE, bytes_of,
 };
 use crate::fault::Fault;
-use crate::make::make_bytes;
+use crate::runs::make_bytes::make_bytes;
 use cdb_form::{Narrow, TextFault, Wide};
 use std::alloc::Global;
 use std::io::Read;
@@ -72,23 +72,26 @@ fn wide_files(rt: HostRuntime) -> Result<(), Fail> {
     Ok(())
 }
 
+// What is left is what stands behind the byte at the fault's place.
 #[test]
-fn refused_texts_leave_nothing_written(rt: HostRuntime) {
-    let cases: [(&[u8], TextFault); 8] = [
-        (b"", TextFault::Ended(0)),
-        (b"*", TextFault::Syntax(0)),
-        (b"+,5:", TextFault::Syntax(1)),
-        (b"+4294967296,0:", TextFault::Large(10)),
-        (b"+3,5:one=>Hello", TextFault::Syntax(8)),
-        (b"+3,5:one->Hell", TextFault::Ended(14)),
-        (b"+3,5:one->Hello!", TextFault::Syntax(15)),
-        (b"+3,5:one->Hello\n", TextFault::Ended(16)),
+fn refused_texts_leave_nothing_written_and_their_rest_unread(rt: HostRuntime) {
+    let cases: [(&[u8], TextFault, &[u8]); 8] = [
+        (b"", TextFault::Ended(0), b""),
+        (b"*rest", TextFault::Syntax(0), b"rest"),
+        (b"+,5:", TextFault::Syntax(1), b"5:"),
+        (b"+4294967296,0:", TextFault::Large(10), b",0:"),
+        (b"+3,5:one=>Hello", TextFault::Syntax(8), b">Hello"),
+        (b"+3,5:one->Hell", TextFault::Ended(14), b""),
+        (b"+3,5:one->Hello!\n\n", TextFault::Syntax(15), b"\n\n"),
+        (b"+3,5:one->Hello\n", TextFault::Ended(16), b""),
     ];
-    for (text, fault) in cases {
+    for (text, fault, left) in cases {
         let mut w = writer(rt.alloc(), 4096);
-        let answer = make_bytes::<Narrow, &[u8], FakeWriter>(rt.alloc(), text, &mut w);
+        let mut rest = text;
+        let answer = make_bytes::<Narrow, _, FakeWriter>(rt.alloc(), &mut rest, &mut w);
         assert_eq!(rt; answer, Err(Fault::Text(1, fault)), "{text:?}");
         assert_eq!(rt; (w.held.len(), w.flushes), (0, 1), "{text:?}");
+        assert_eq!(rt; rest, left, "{text:?}");
     }
 }
 
@@ -187,5 +190,38 @@ fn always_endless_or_output(rt: HostRuntime) {
     ];
     for fault in faults {
         assert!(rt; answer != Err(fault));
+    }
+}
+
+#[test]
+fn interrupts_of_a_writer_are_counted_in_a_row(rt: HostRuntime) -> Result<(), Fail> {
+    let file = bytes_of(rt.alloc(), &NONE)?;
+    let mut w = SlowWriter::new(rt.alloc(), 1000);
+    assert_eq!(rt;
+        make_bytes::<Narrow, &[u8], SlowWriter>(rt.alloc(), b"\n", &mut w),
+        Ok(())
+    );
+    assert_eq!(rt; w.held.as_slice(), file.as_slice());
+    let mut w = SlowWriter::new(rt.alloc(), 1001);
+    let answer = make_bytes::<Narrow, &[u8], SlowWriter>(rt.alloc(), b"\n", &mut w);
+    assert_eq!(rt; answer, Err(Fault::Output));
+    let answer = make_bytes::<Narrow, &[u8], FullWriter>(rt.alloc(), b"\n", &mut FullWriter);
+    assert_eq!(rt; answer, Err(Fault::Output));
+    Ok(())
+}
+
+#[test]
+fn the_flush_comes_last(rt: HostRuntime) {
+    for (text, fails) in [
+        (TWO_TEXT, false),
+        (TWO_TEXT, true),
+        (b"*".as_slice(), false),
+    ] {
+        let mut w = NotingWriter {
+            calls: Vec::new(rt.alloc()),
+            fails,
+        };
+        let _ = make_bytes::<Narrow, &[u8], NotingWriter>(rt.alloc(), text, &mut w);
+        assert!(rt; w.was_flushed_last(), "{text:?}");
     }
 }

@@ -1,0 +1,80 @@
+-- The entries of each table.
+use Rattle.std.proofs.Common.{◌≡◌, ℕ, ◌+◌, ◌*◌, ◌%◌, ◌<◌, inl, inr, List, [], ◌∷◌, ◌++◌, length, map, get_or, sym, ap, ◌∙◌, arith, replicate, slice_set}
+use Rattle.std.specs.List.{range_with_len, filter}
+use Rattle.std.specs.Prelude.{sum_by}
+use Rattle.std.specs.declared.vec.Vec.{Vec}
+use Rattle.std.proofs.lemmas.List.{map-set, map_push, get_or-map, get_or-set_same, get_or-set_other, append-nil, length-set, length-replicate, get_or-replicate}
+use Rattle.std.proofs.lemmas.List.Sums.{sum_by-cons, sum_by_push}
+use Rattle.std.proofs.lemmas.List.Elements.{filter-append}
+use Rattle.std.proofs.lemmas.List.FromFn.{fill_by_all, get_or-map-range_with_len, length-map-range_with_len}
+use Rattle.std.proofs.lemmas.Bool.{cases_eq}
+use Rattle.std.proofs.lemmas.Bool.Decides.{nat_tests}
+use Rattle.cdb_form.specs.Format.Hash.{key_hash, table_number}
+use Rattle.cdb_form.specs.Format.Record.{KeyValue, record_size, records_end}
+use Rattle.cdb_form.specs.Format.Pair.{WordPair, head_size}
+use Rattle.cdb_form.specs.Format.Table.{entries_from, table_entries, in_table}
+use Rattle.cdb_form.specs.Format.File.{file_size}
+use Rattle.cdb_make.specs.Views.Index.{list_pairs, lists_pairs, with_entry}
+use Rattle.cdb_form.specs.Views.Pairs.{slot_pair}
+use Rattle.cdb_form.specs.declared.slot.Slot.{Slot}
+
+-- one entry more in the list of its table
+pub entry_added : {Z : Type 0} (vs : List (Vec Slot Z)) (e : Slot) (i : ℕ) (v new : Vec Slot Z) → i ≡ table_number e.hash → i < length vs → v ≡ get_or vs i v → new.items ≡ v.items ++ e ∷ []
+    → lists_pairs (slice_set vs i new) ≡ with_entry (lists_pairs vs) (slot_pair e)
+entry_added vs e i v new n h is items =
+    let old : get_or (lists_pairs vs) i [] ≡ list_pairs v = get_or-map list_pairs vs i v [] h ∙ ap list_pairs (sym is) in
+    let more : list_pairs new ≡ get_or (lists_pairs vs) i [] ++ slot_pair e ∷ [] = ap (map slot_pair) items ∙ map_push slot_pair v.items e ∙ ap (λ t. t ++ slot_pair e ∷ []) (sym old) in
+    map-set list_pairs vs i new ∙ ap (slice_set (lists_pairs vs) i) more ∙ ap (λ (k : ℕ). slice_set (lists_pairs vs) k (get_or (lists_pairs vs) k [] ++ slot_pair e ∷ [])) n
+
+-- one record more
+pub located_push : (w at : ℕ) (rs : List KeyValue) (r : KeyValue) → entries_from w at (rs ++ r ∷ []) ≡ entries_from w at rs ++ record { first = key_hash r.key; second = at + sum_by (record_size w) rs } ∷ []
+unfolding entries_from
+located_push w at [] r = let e : at ≡ at + sum_by (record_size w) [] = omega arith in
+    ap (λ (n : ℕ). let p : WordPair = record { first = key_hash r.key; second = n } in p ∷ []) e
+located_push w at (x ∷ xs) r =
+    let ih = located_push w (at + record_size w x) xs r in
+    let e : at + record_size w x + sum_by (record_size w) xs ≡ at + sum_by (record_size w) (x ∷ xs) = omega (arith, sum_by-cons (record_size w) x xs) in
+    ap (λ t. record { first = key_hash x.key; second = at } ∷ t) ih ∙ ap (λ (n : ℕ). record { first = key_hash x.key; second = at } ∷ (entries_from w (at + record_size w x) xs ++ record { first = key_hash r.key; second = n } ∷ [])) e
+
+pub entries_push : (w : ℕ) (rs : List KeyValue) (r : KeyValue) (n : ℕ) → table_entries w (rs ++ r ∷ []) n ≡ table_entries w rs n ++ filter (in_table n) (record { first = key_hash r.key; second = records_end w rs } ∷ [])
+unfolding table_entries
+entries_push w rs r n = ap (filter (in_table n)) (located_push w (head_size w) rs r) ∙ filter-append (in_table n) (entries_from w (head_size w) rs) (record { first = key_hash r.key; second = records_end w rs } ∷ [])
+
+filter_one : (n : ℕ) (e : WordPair) → e.first % 256 ≡ n → filter (in_table n) (e ∷ []) ≡ e ∷ []
+filter_one n e h = grind (arith, nat_tests)
+
+filter_none : (n : ℕ) (e : WordPair) → (e.first % 256 ≡ n → ⊥) → filter (in_table n) (e ∷ []) ≡ []
+filter_none n e h = grind (arith, nat_tests)
+
+-- the lists after a record, from those before it
+pub lists_push : (w : ℕ) (rs : List KeyValue) (r : KeyValue) (h : ℕ) (before : List (List WordPair)) → h ≡ key_hash r.key → before ≡ map (table_entries w rs) (range_with_len 0 256)
+    → slice_set before (h % 256) (get_or before (h % 256) [] ++ record { first = h; second = records_end w rs } ∷ []) ≡ map (table_entries w (rs ++ r ∷ [])) (range_with_len 0 256)
+lists_push w rs r h before eh eb =
+    let e : WordPair = record { first = key_hash r.key; second = records_end w rs } in
+    let same : record { first = h; second = records_end w rs } ≡ e = ap (λ (n : ℕ). let p : WordPair = record { first = n; second = records_end w rs } in p) eh in
+    let long : length before ≡ 256 = ap length eb ∙ length-map-range_with_len (table_entries w rs) 0 256 in
+    let at : (k : ℕ) → k < 256 → get_or before k [] ≡ table_entries w rs k = λ k lt. ap (λ b. get_or b k []) eb ∙ get_or-map-range_with_len (table_entries w rs) 0 256 k k [] lt (omega arith) in
+    let small : h % 256 < 256 = omega arith in
+    fill_by_all (table_entries w (rs ++ r ∷ [])) _ 256 [] (length-set before _ _ ∙ long) (λ k lt. elim (cases_eq k (h % 256)) as (λ s. get_or (slice_set before (h % 256) (get_or before (h % 256) [] ++ record { first = h; second = records_end w rs } ∷ [])) k [] ≡ table_entries w (rs ++ r ∷ []) k) [
+      | inl here ↦ let room : h % 256 < length before = omega arith in
+          ap (λ (j : ℕ). get_or (slice_set before (h % 256) (get_or before (h % 256) [] ++ record { first = h; second = records_end w rs } ∷ [])) j []) here
+          ∙ get_or-set_same before (h % 256) _ [] room ∙ ap (λ (j : ℕ). get_or before j [] ++ record { first = h; second = records_end w rs } ∷ []) (sym here)
+          ∙ ap (λ t. t ++ record { first = h; second = records_end w rs } ∷ []) (at k lt) ∙ ap (λ p. table_entries w rs k ++ p ∷ []) same
+          ∙ ap (λ t. table_entries w rs k ++ t) (sym (filter_one k e (ap (λ (m : ℕ). m % 256) (sym eh) ∙ sym here))) ∙ sym (entries_push w rs r k)
+      | inr other ↦ get_or-set_other before (h % 256) k _ [] other ∙ at k lt ∙ sym (append-nil (table_entries w rs k))
+          ∙ ap (λ t. table_entries w rs k ++ t) (sym (filter_none k e (λ y. other (sym y ∙ ap (λ (m : ℕ). m % 256) (sym eh))))) ∙ sym (entries_push w rs r k)
+    ])
+
+-- no records
+pub lists_none : (w : ℕ) (rs : List KeyValue) → rs ≡ [] → replicate 256 [] ≡ map (table_entries w rs) (range_with_len 0 256)
+unfolding table_entries entries_from
+lists_none w rs h = fill_by_all (table_entries w rs) (replicate {A = List WordPair} 256 []) 256 [] (length-replicate {A = List WordPair} 256 []) (λ k lt. get_or-replicate {A = List WordPair} 256 k [] [] lt ∙ ap (λ t. table_entries w t k) (sym h))
+
+-- the lists after one record more
+pub lists_more : (w : ℕ) (rs : List KeyValue) (r : KeyValue) (h place : ℕ) (before after : List (List WordPair)) → h ≡ key_hash r.key → place ≡ records_end w rs → before ≡ map (table_entries w rs) (range_with_len 0 256)
+    → after ≡ slice_set before (h % 256) (get_or before (h % 256) [] ++ record { first = h; second = place } ∷ []) → after ≡ map (table_entries w (rs ++ r ∷ [])) (range_with_len 0 256)
+lists_more w rs r h place before after eh ep eb ea =
+    ea ∙ ap (λ (n : ℕ). slice_set before (h % 256) (get_or before (h % 256) [] ++ record { first = h; second = n } ∷ [])) ep ∙ lists_push w rs r h before eh eb
+
+pub size_push : (w : ℕ) (rs : List KeyValue) (r : KeyValue) → file_size w (rs ++ r ∷ []) ≡ file_size w rs + (record_size w r + 4 * w)
+size_push w rs r = omega (arith, sum_by_push (λ r. record_size w r + 4 * w) rs r)

@@ -1,0 +1,72 @@
+-- The pointers to the tables of some lists of entries.
+use Rattle.std.proofs.Common.{◌≡◌, ℕ, ◌+◌, ◌*◌, ◌<◌, ◌≤◌, List, [], ◌∷◌, ◌++◌, length, take, map, get_or, refl, sym, ap, ◌∙◌, arith, sum_by}
+use Rattle.std.proofs.lemmas.List.{take_more, length-map, take-map, get_or-map, map_push, take_more_set}
+use Rattle.std.proofs.lemmas.List.Sums.{sum_by-cons, sum_by_more_le, sum_by_more}
+use Rattle.std.proofs.Math.Nat.{mul-le-mul_left}
+use Rattle.std.specs.List.{slice_set}
+use Rattle.std.specs.declared.vec.Vec.{Vec}
+use Rattle.cdb_form.specs.Format.Pair.{WordPair}
+use Rattle.cdb_form.specs.Format.File.{pointers_from}
+use Rattle.cdb_form.specs.Format.Table.{slots_of}
+use Rattle.cdb_form.specs.Views.Pairs.{slot_pair, pointer_pair}
+use Rattle.cdb_form.specs.declared.slot.Slot.{Slot}
+use Rattle.cdb_form.specs.declared.head.Pointer.{Pointer}
+use Rattle.cdb_form.proofs.Sizes.{length-slots_of}
+use Rattle.cdb_make.specs.Views.Index.{list_pairs, lists_pairs}
+
+pointers_append : (w at : ℕ) (ls more : List (List WordPair)) → pointers_from w at (map slots_of (ls ++ more)) ≡ pointers_from w at (map slots_of ls) ++ pointers_from w (at + 4 * w * sum_by length ls) (map slots_of more)
+unfolding pointers_from
+pointers_append w at [] more = let e : at ≡ at + 4 * w * sum_by {X = List WordPair} length [] = omega arith in ap (λ (n : ℕ). pointers_from w n (map slots_of more)) e
+pointers_append w at (l ∷ ls) more =
+    let t : length (slots_of l) ≡ 2 * length l = length-slots_of l in
+    let next : at + 2 * w * length (slots_of l) ≡ at + 4 * w * length l = ap (λ (n : ℕ). at + 2 * w * n) t ∙ omega arith in
+    let total : at + 2 * w * length (slots_of l) + 4 * w * sum_by length ls ≡ at + 4 * w * sum_by length (l ∷ ls) =
+    ap (λ (n : ℕ). n + 4 * w * sum_by length ls) next ∙ (let s = sum_by-cons length l ls in omega (arith, ap (λ (n : ℕ). 4 * w * n) s)) in
+    ap (λ r. record { first = at; second = length (slots_of l) } ∷ r) (pointers_append w (at + 2 * w * length (slots_of l)) ls more ∙ ap (λ (n : ℕ). pointers_from w (at + 2 * w * length (slots_of l)) (map slots_of ls) ++ pointers_from w n (map slots_of more)) total)
+
+pointer_one : (w at place slots : ℕ) (l : List WordPair) → place ≡ at → slots ≡ 2 * length l → pointers_from w at (map slots_of (l ∷ [])) ≡ record { first = place; second = slots } ∷ []
+unfolding pointers_from
+pointer_one w at place slots l ea es =
+    ap (λ (n : ℕ). let p : WordPair = record { first = n; second = length (slots_of l) } in p ∷ []) (sym ea)
+    ∙ ap (λ (n : ℕ). let p : WordPair = record { first = place; second = n } in p ∷ []) (length-slots_of l ∙ sym es)
+
+pub pointers_none : (w at : ℕ) → [] ≡ pointers_from w at []
+unfolding pointers_from
+pointers_none w at = refl
+
+-- one pointer more
+pub pointers_more : {Z : Type 0} (w at : ℕ) (vs : List (Vec Slot Z)) (ps : List Pointer) (i place slots : ℕ) (v : Vec Slot Z) → i < length vs → i < length ps → v ≡ get_or vs i v
+    → place ≡ at + 4 * w * sum_by length (lists_pairs (take i vs)) → slots ≡ 2 * length v.items → map pointer_pair (take i ps) ≡ pointers_from w at (map slots_of (lists_pairs (take i vs)))
+    → map pointer_pair (take (i + 1) (slice_set ps i (record { place = place; slots = slots }))) ≡ pointers_from w at (map slots_of (lists_pairs (take (i + 1) vs)))
+pointers_more w at vs ps i place slots v h hp is ep es before =
+    let p : WordPair = record { first = place; second = slots } in
+    let lists : lists_pairs (take (i + 1) vs) ≡ lists_pairs (take i vs) ++ list_pairs v ∷ [] =
+    ap lists_pairs (take_more vs i v h ∙ ap (λ y. take i vs ++ y ∷ []) (sym is)) ∙ map_push list_pairs (take i vs) v in
+    let last = pointer_one w (at + 4 * w * sum_by length (lists_pairs (take i vs))) place slots (list_pairs v) ep (es ∙ ap (λ (n : ℕ). 2 * n) (sym (length-map v.items slot_pair))) in
+    ap (map pointer_pair) (take_more_set ps i (record { place = place; slots = slots }) hp) ∙ map_push pointer_pair (take i ps) (record { place = place; slots = slots })
+    ∙ ap (λ t. t ++ p ∷ []) before ∙ ap (λ t. pointers_from w at (map slots_of (lists_pairs (take i vs))) ++ t) (sym last)
+    ∙ sym (ap (λ ls. pointers_from w at (map slots_of ls)) lists ∙ pointers_append w at (lists_pairs (take i vs)) (list_pairs v ∷ []))
+
+words_at_list : {Z : Type 0} (vs : List (Vec Slot Z)) (i : ℕ) (v : Vec Slot Z) → i < length vs → v ≡ get_or vs i v → list_pairs v ≡ get_or (lists_pairs vs) i (list_pairs v)
+words_at_list vs i v h is = ap list_pairs is ∙ sym (get_or-map list_pairs vs i v (list_pairs v) h)
+
+-- the lists so far and the next one are no longer than all
+pub sum_within : {Z : Type 0} (k : ℕ) (vs : List (Vec Slot Z)) (i : ℕ) (v : Vec Slot Z) → i < length vs → v ≡ get_or vs i v → k * sum_by length (lists_pairs (take i vs)) + k * length v.items ≤ k * sum_by length (lists_pairs vs)
+sum_within k vs i v h is =
+    let all = sum_by_more_le length (lists_pairs vs) i (list_pairs v) (simp length-map (omega arith)) in
+    let e : length (get_or (lists_pairs vs) i (list_pairs v)) ≡ length v.items = sym (ap length (words_at_list vs i v h is)) ∙ length-map v.items slot_pair in
+    let t : sum_by length (take i (lists_pairs vs)) ≡ sum_by length (lists_pairs (take i vs)) = ap (sum_by length) (take-map list_pairs i vs) in
+    let sum : sum_by length (lists_pairs (take i vs)) + length v.items ≤ sum_by length (lists_pairs vs) = omega (arith, all, e, t) in
+    omega (arith, mul-le-mul_left k sum)
+
+pub sum_more : {Z : Type 0} (k : ℕ) (vs : List (Vec Slot Z)) (i : ℕ) (v : Vec Slot Z) → i < length vs → v ≡ get_or vs i v → k * sum_by length (lists_pairs (take (i + 1) vs)) ≡ k * sum_by length (lists_pairs (take i vs)) + k * length v.items
+sum_more k vs i v h is =
+    let all = sum_by_more length (lists_pairs vs) i (list_pairs v) (simp length-map (omega arith)) in
+    let e : length (get_or (lists_pairs vs) i (list_pairs v)) ≡ length v.items = sym (ap length (words_at_list vs i v h is)) ∙ length-map v.items slot_pair in
+    let t : sum_by length (take i (lists_pairs vs)) ≡ sum_by length (lists_pairs (take i vs)) = ap (sum_by length) (take-map list_pairs i vs) in
+    let t' : sum_by length (take (i + 1) (lists_pairs vs)) ≡ sum_by length (lists_pairs (take (i + 1) vs)) = ap (sum_by length) (take-map list_pairs (i + 1) vs) in
+    let sum : sum_by length (lists_pairs (take (i + 1) vs)) ≡ sum_by length (lists_pairs (take i vs)) + length v.items = omega (arith, all, e, t, t') in
+    ap (λ (n : ℕ). k * n) sum ∙ omega arith
+
+pub table_size : (w size n len : ℕ) → size ≡ 2 * w → len ≡ n → size * (2 * len) ≡ 4 * w * n
+table_size w size n len es en = ap (λ (k : ℕ). k * (2 * len)) es ∙ ap (λ (k : ℕ). 2 * w * (2 * k)) en ∙ omega arith

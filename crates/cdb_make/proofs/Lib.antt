@@ -1,0 +1,5 @@
+pub mod Filling
+pub mod EntryLists
+pub mod Written
+pub mod HeadPointers
+pub mod WholeFile

@@ -1,0 +1,99 @@
+-- What a writer holds, part after part.
+use Rattle.std.proofs.Common.{◌≡◌, ℕ, suc, ◌+◌, ◌*◌, ◌^◌, ◌%◌, ◌<◌, ◌≤◌, ◌⊎◌, inl, inr, List, [], ◌∷◌, ◌++◌, length, take, drop, map, flat_map, get_or, refl, sym, ap, subst, ◌∙◌, arith, Option, Result, Ok, Err, OnOk, OnErr, IfErr, append_assoc, fold, replicate, bit_xor, lit<}
+use Rattle.std.specs.Prelude.{All}
+use Rattle.std.proofs.lemmas.List.{append-nil, take_at, get_or-map, length-map}
+use Rattle.std.proofs.lemmas.List.Elements.{All-get_or, All-set, All-replicate, All-head, All-tail}
+use Rattle.std.proofs.lemmas.Nat.{xor_lt}
+use Rattle.std.specs.Io.KnownBytes.{Appends}
+use Rattle.cdb_form.specs.Views.KnownBytes.{AppendsFront}
+use Rattle.cdb_form.specs.Format.Hash.{key_hash, hash_step}
+use Rattle.cdb_form.specs.Format.Record.{AreBytes, KeyValue, record_bytes}
+use Rattle.cdb_form.specs.Format.Pair.{WordPair, pair_bytes}
+use Rattle.cdb_form.specs.Format.Table.{slots_with, filled_slots, slots_of, empty_slot}
+use Rattle.cdb_form.specs.Views.Pairs.{slot_pair, PairFits}
+use Rattle.cdb_form.proofs.WritingLemmas.{front_then, flat_map_at}
+use Rattle.cdb_form.specs.declared.slot.Slot.{Slot}
+
+pub on_ok : {T E : Type 0} {P Q : Type 0} (r : Result T E) → (P → Q) → OnOk r P → OnOk r Q
+on_ok (Ok x) f h = f h
+on_ok (Err e) f h = tt
+
+pub on_err : {T E : Type 0} {P Q : Type 0} (r : Result T E) → (P → Q) → OnErr r P → OnErr r Q
+on_err (Ok x) f h = tt
+on_err (Err e) f h = f h
+
+pub on_any_err : {T E : Type 0} {P : Type 0} (r : Result T E) → P → OnErr r P
+on_any_err (Ok x) h = tt
+on_any_err (Err e) h = h
+
+-- what holds of a fault
+pub on_fault : {T E : Type 0} {P Q : E → Type 0} (r : Result T E) → ((e : E) → P e → Q e) → IfErr r P → IfErr r Q
+on_fault (Ok x) f h = tt
+on_fault (Err e) f h = f e h
+
+pub same_front : (old new : Option (List ℕ)) (xs ys : List ℕ) → xs ≡ ys → AppendsFront old new xs → AppendsFront old new ys
+same_front old new xs ys e a = subst (AppendsFront old new) e a
+
+pub same_appends : (old new : Option (List ℕ)) (xs ys : List ℕ) → xs ≡ ys → Appends old new xs → Appends old new ys
+same_appends old new xs ys e a = subst (Appends old new) e a
+
+-- a front of the first part
+pub front_in : (old new : Option (List ℕ)) (ys zs all : List ℕ) → AppendsFront old new ys → all ≡ ys ++ zs → AppendsFront old new all
+front_in old new ys zs all a e = record { front = a.front; more = a.more ++ zs; split = e ∙ ap (λ t. t ++ zs) a.split ∙ append_assoc a.front a.more zs; appended = a.appended }
+
+-- a front of the last part
+pub front_last : (old mid new : Option (List ℕ)) (xs ys all : List ℕ) → Appends old mid xs → AppendsFront mid new ys → all ≡ xs ++ ys → AppendsFront old new all
+front_last old mid new xs ys all a b e = front_then old mid new xs ys [] all a b (e ∙ ap (λ t. xs ++ t) (sym (append-nil ys)))
+
+pub written_front : (k : ℕ) (into xs rest : List ℕ) → into ≡ xs → length xs ≡ k → take k (into ++ rest) ≡ xs
+written_front k into xs rest e l = ap (λ t. take k (t ++ rest)) e ∙ take_at xs rest k l
+
+pub flat_map_item : {X A : Type 0} (f : X → List A) (xs : List X) (i : ℕ) (x : X) → i < length xs → x ≡ get_or xs i x → flat_map f xs ≡ flat_map f (take i xs) ++ (f x ++ flat_map f (drop (i + 1) xs))
+flat_map_item f xs i x h is = flat_map_at f xs i x h ∙ ap (λ y. flat_map f (take i xs) ++ (f y ++ flat_map f (drop (i + 1) xs))) (sym is)
+
+pub flat_map-map : {X Y A : Type 0} (f : Y → List A) (g : X → Y) (xs : List X) → flat_map f (map g xs) ≡ flat_map (λ x. f (g x)) xs
+flat_map-map f g [] = refl
+flat_map-map f g (x ∷ xs) = ap (λ t. f (g x) ++ t) (flat_map-map f g xs)
+
+pub slot_fits : (top : ℕ) (slots : List Slot) (i : ℕ) (d : Slot) → i < length slots → All (PairFits top) (map slot_pair slots) → PairFits top (slot_pair (get_or slots i d))
+slot_fits top slots i d h all =
+    let one = All-get_or (PairFits top) (map slot_pair slots) i (slot_pair d) (simp length-map (omega arith)) all in
+    subst (PairFits top) (get_or-map slot_pair slots i d (slot_pair d) h) one
+
+-- the words of a table are those of its entries
+fits_from : (top : ℕ) (es slots : List WordPair) → All (PairFits top) es → All (PairFits top) slots → All (PairFits top) (fold slots_with slots es)
+unfolding slots_with
+fits_from top [] slots a b = b
+fits_from top (e ∷ es) slots a b = fits_from top es (slots_with slots e) (All-tail (PairFits top) e es a) (All-set (PairFits top) slots _ e (All-head (PairFits top) e es a) b)
+
+pub table_fits : (top : ℕ) (es : List WordPair) → All (PairFits top) es → All (PairFits top) (slots_of es)
+unfolding filled_slots
+table_fits top es a = fits_from top es (replicate (2 * length es) empty_slot) a (All-replicate (PairFits top) (2 * length es) empty_slot (record { first = omega arith; second = omega arith }))
+
+-- a hash has 32 bits
+hash_from : (h : ℕ) (key : List ℕ) → h < 2 ^ 32 → AreBytes key → fold hash_step h key < 2 ^ 32
+hash_from h [] lt bytes = lt
+hash_from h (b ∷ key) lt bytes =
+    let byte : b < 256 = bytes 0 in
+    let next : bit_xor ((33 * h) % 2 ^ 32) b < 2 ^ 32 = xor_lt 32 ((33 * h) % 2 ^ 32) b (omega arith) (omega (arith, byte)) in
+    hash_from (bit_xor ((33 * h) % 2 ^ 32) b) key next (λ k. bytes (suc k))
+
+pub hash_fits : (key : List ℕ) → AreBytes key → key_hash key ≤ 4294967295
+hash_fits key bytes = let h = hash_from 5381 key (lit< tt) bytes in omega (arith, h)
+
+-- the greatest word is that of 32 bits at least
+pub top_fits : (w top : ℕ) → (w ≡ 4) ⊎ (w ≡ 8) → top + 1 ≡ 256 ^ w → 4294967295 ≤ top
+top_fits w top (inl e) t = let p : top + 1 ≡ 256 ^ 4 = t ∙ ap (λ (k : ℕ). 256 ^ k) e in omega arith
+top_fits w top (inr e) t = let p : top + 1 ≡ 256 ^ 8 = t ∙ ap (λ (k : ℕ). 256 ^ k) e in omega arith
+
+-- a record's three pieces, behind what stood there
+pub record_pieces : (w : ℕ) (r : KeyValue) (a b : ℕ) (old header key value one two three : List ℕ) → a ≡ length r.key → b ≡ length r.value → header ≡ pair_bytes w (record { first = a; second = b }) → key ≡ r.key → value ≡ r.value
+    → one ≡ old ++ header → two ≡ one ++ key → three ≡ two ++ value → three ≡ old ++ record_bytes w r
+unfolding record_bytes
+record_pieces w r a b old header key value one two three ea eb eh ek ev e₁ e₂ e₃ =
+    let words : header ≡ pair_bytes w (record { first = length r.key; second = length r.value }) =
+    eh ∙ ap (λ (n : ℕ). pair_bytes w (record { first = n; second = b })) ea ∙ ap (λ (n : ℕ). pair_bytes w (record { first = length r.key; second = n })) eb in
+    let pieces : three ≡ old ++ (header ++ key ++ value) = e₃ ∙ ap (λ t. t ++ value) (e₂ ∙ ap (λ t. t ++ key) e₁ ∙ append_assoc old header key) ∙ append_assoc old (header ++ key) value in
+    pieces ∙ ap (λ t. old ++ (t ++ key ++ value)) words
+    ∙ ap (λ t. old ++ (pair_bytes w (record { first = length r.key; second = length r.value }) ++ t ++ value)) ek
+    ∙ ap (λ t. old ++ (pair_bytes w (record { first = length r.key; second = length r.value }) ++ r.key ++ t)) ev

@@ -1,0 +1,3 @@
+-- What making a database is to do.
+pub mod Parts
+pub mod Views

@@ -1,0 +1,25 @@
+-- The faults of a maker: their numbers and messages, and what a writer holds after one.
+use Rattle.std.specs.Prelude.{ℕ, ◌≡◌, List, Option, codes}
+use Rattle.cdb_form.specs.Views.KnownBytes.{AppendsFront}
+use Rattle.cdb_make.specs.declared.fault.MakeFault.{MakeFault}
+use Rattle.cdb_make.specs.declared.fault.MakeFault.TheVariants.{Broken, Lookup, TooBig, NoMemory, Writing}
+
+abbrev pub make_number : MakeFault → ℕ
+make_number Broken = 1
+make_number Lookup = 2
+make_number TooBig = 3
+make_number NoMemory = 4
+make_number Writing = 5
+
+abbrev pub make_message : MakeFault → List ℕ
+make_message Broken = codes "database broken by an earlier fault"
+make_message Lookup = codes "database cannot be read or written"
+make_message TooBig = codes "database too large"
+make_message NoMemory = codes "no memory"
+make_message Writing = codes "database cannot be read or written"
+
+-- a writer that failed holds a front of the file; where memory ran out it holds no more than it did
+abbrev pub FileFails : Option (List ℕ) → Option (List ℕ) → List ℕ → MakeFault → Type 0
+FileFails old new file Writing = AppendsFront old new file
+FileFails old new file NoMemory = new ≡ old
+FileFails old new file fault = ⊥

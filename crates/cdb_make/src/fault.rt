@@ -1,0 +1,90 @@
+// Why a database was not made.
+ghost use Rattle.std.specs.Prelude.{◌≡◌, Some};
+ghost use Rattle.cdb_make.specs.Views.MakeFault.{make_number, make_message};
+
+use cdb_form::OutFault;
+use std::alloc::{AllocError, AllocFailed};
+use std::error::Error;
+use std::fmt;
+
+/// Why a database was not made.
+#[derive(Clone, Copy, Debug, PartialEq, Eq)]
+pub enum MakeFault {
+    /// An earlier call broke the maker, or its store gave back other bytes than were written.
+    Broken,
+    /// The store failed while earlier records were read.
+    Lookup,
+    /// The finished file would pass the limit.
+    TooBig,
+    /// Memory ran out.
+    NoMemory,
+    /// The store or the writer failed while it was written.
+    Writing,
+}
+
+impl MakeFault {
+    /// The number of the fault, from 1 on in the order of the variants.
+    pub fn number(&self) -> u8
+        ensures { result ≡ make_number self.now }
+    {
+        match self {
+            MakeFault::Broken => 1,
+            MakeFault::Lookup => 2,
+            MakeFault::TooBig => 3,
+            MakeFault::NoMemory => 4,
+            MakeFault::Writing => 5,
+        }
+    }
+
+    /// What the fault is, in words.
+    pub fn message(&self) -> &'static str
+        ensures { result.now ≡ make_message self.now }
+    {
+        match self {
+            MakeFault::Broken => "database broken by an earlier fault",
+            MakeFault::Lookup | MakeFault::Writing => "database cannot be read or written",
+            MakeFault::TooBig => "database too large",
+            MakeFault::NoMemory => "no memory",
+        }
+    }
+}
+
+impl fmt::Display for MakeFault {
+    ghost output = { λ f. Some (make_message f) };
+
+    fn fmt<W: fmt::Write>(&self, f: &mut fmt::Formatter<W>) -> fmt::Result {
+        f.write_str(self.message())
+    }
+}
+
+impl Error for MakeFault {}
+
+impl From<AllocError> for MakeFault {
+    ghost use Rattle.cdb_make.specs.declared.fault.MakeFault.TheVariants.{NoMemory};
+
+    ghost from_gives = { λ _ f. f ≡ NoMemory };
+
+    fn from(_: AllocError) -> MakeFault {
+        MakeFault::NoMemory
+    }
+}
+
+impl<T: Drop> From<AllocFailed<T>> for MakeFault {
+    ghost use Rattle.cdb_make.specs.declared.fault.MakeFault.TheVariants.{NoMemory};
+
+    ghost from_gives = { λ _ f. f ≡ NoMemory };
+
+    fn from(_: AllocFailed<T>) -> MakeFault {
+        MakeFault::NoMemory
+    }
+}
+
+impl From<OutFault> for MakeFault {
+    ghost use Rattle.cdb_make.specs.declared.fault.MakeFault.TheVariants.{Writing};
+
+    ghost from_gives = { λ _ f. f ≡ Writing };
+
+    fn from(_: OutFault) -> MakeFault {
+        MakeFault::Writing
+    }
+}

@@ -1,0 +1,69 @@
+// One table, filled.
+ghost use Rattle.std.specs.Prelude.{◌≡◌, ℕ, ◌+◌, ◌*◌, ◌%◌, ◌<◌, ◌≤◌, length, map, replicate};
+ghost use Rattle.std.specs.List.{prefix_len};
+ghost use Rattle.cdb_form.specs.Format.Table.{is_used, slots_from, slots_with, filled_slots, empty_slot};
+ghost use Rattle.cdb_form.specs.Views.Pairs.{slot_pair};
+
+use cdb_form::{Slot, home_slot};
+
+/// A slot that holds no entry.
+pub(crate) const EMPTY: Slot = Slot { hash: 0, place: 0 };
+
+/// How many slots are used from the front on.
+fn used_front(slots: &[Slot]) -> usize
+    ensures { result ≡ prefix_len is_used (map slot_pair slots.now) }
+{
+    for (n, slot) in slots.iter().enumerate() {
+        if slot.place == 0 {
+            return n;
+        }
+    }
+    slots.len()
+}
+
+/// The first empty slot from `home` on, and round to it; `home` where there is none.
+fn first_empty(slots: &[Slot], home: usize) -> usize
+    requires { home < length slots.now }
+    ensures within { result < length slots.now }
+    ensures first { result
+        ≡ (home + prefix_len is_used (slots_from home (map slot_pair slots.now)))
+        % length slots.now }
+{
+    let behind = used_front(&slots[home..]);
+    if behind < slots.len() - home {
+        home + behind
+    } else {
+        used_front(&slots[..home])
+    }
+}
+
+/// Puts an entry into the first empty slot from its home.
+fn put_entry(slots: &mut [Slot], entry: Slot)
+    requires { 0 < length slots.old }
+    ensures { map slot_pair slots.new ≡ slots_with (map slot_pair slots.old) (slot_pair entry) }
+{
+    let home = home_slot(entry.hash, slots.len() as u64);
+    let place = first_empty(slots, home as usize);
+    slots[place] = entry;
+}
+
+/// Empties each slot.
+fn clear(slots: &mut [Slot])
+    ensures { map slot_pair slots.new ≡ replicate (length slots.old) empty_slot }
+{
+    for slot in slots.iter_mut() {
+        *slot = EMPTY;
+    }
+}
+
+/// Leaves the table of some entries, filled in their order. It has two slots for each.
+pub(crate) fn fill_table(slots: &mut [Slot], entries: &[Slot])
+    requires { length slots.old ≡ 2 * length entries.now }
+    ensures { map slot_pair slots.new
+        ≡ filled_slots (2 * length entries.now) (map slot_pair entries.now) }
+{
+    clear(slots);
+    for entry in entries {
+        put_entry(slots, *entry);
+    }
+}

@@ -1,0 +1,36 @@
+-- Bytes through a buffer to a writer.
+use Rattle.std.proofs.Common.{◌≡◌, ℕ, ◌+◌, ◌≤◌, List, [], ◌++◌, length, take, drop, refl, sym, ap, ◌∙◌, append_assoc, Option, Some, None}
+use Rattle.std.proofs.lemmas.List.{append-nil, drop-append-le, drop-drop, take-append-drop}
+use Rattle.std.specs.Io.KnownBytes.{append_known, Appends, Keeps}
+
+pub append_none : (o : Option (List ℕ)) → append_known o [] ≡ o
+append_none None = refl
+append_none (Some xs) = ap Some (append-nil xs)
+
+-- what is written to a writer that kept its bytes
+pub kept_appends : (old mid new : Option (List ℕ)) (xs : List ℕ) → Keeps old mid → Appends mid new xs → Appends old new xs
+kept_appends None mid new xs a b = tt
+kept_appends (Some o) None new xs a b = absurd a
+kept_appends (Some o) (Some m) None xs a b = absurd b
+kept_appends (Some o) (Some m) (Some n) xs a b = b ∙ ap (λ t. t ++ xs) a
+
+-- no byte was written
+pub appends_nothing : (old new : Option (List ℕ)) (k : ℕ) (xs : List ℕ) → Appends old new (take k xs) → k ≡ 0 → Keeps old new
+appends_nothing None new k xs a e = tt
+appends_nothing (Some o) None k xs a e = absurd a
+appends_nothing (Some o) (Some n) k xs a e = a ∙ ap (λ (j : ℕ). o ++ take j xs) e ∙ append-nil o
+
+-- n bytes of the buffer went to the writer
+pub handed_on : (xs rest : List ℕ) (start n : ℕ) (w v : Option (List ℕ)) → rest ≡ drop start xs → Appends w v (take n rest) → Keeps (append_known w (drop start xs)) (append_known v (drop (start + n) xs))
+handed_on xs rest start n None v e a = tt
+handed_on xs rest start n (Some o) None e a = absurd a
+handed_on xs rest start n (Some o) (Some p) e a =
+    ap (λ t. t ++ drop (start + n) xs) (a ∙ ap (λ t. o ++ take n t) e)
+    ∙ append_assoc o (take n (drop start xs)) (drop (start + n) xs)
+    ∙ ap (λ t. o ++ (take n (drop start xs) ++ t)) (sym (drop-drop n start xs))
+    ∙ ap (λ t. o ++ t) (take-append-drop n (drop start xs))
+
+-- bytes came into the buffer
+pub taken_in : (xs ys zs : List ℕ) (start : ℕ) (w : Option (List ℕ)) → start ≤ length xs → ys ≡ xs ++ zs → Appends (append_known w (drop start xs)) (append_known w (drop start ys)) zs
+taken_in xs ys zs start None h e = tt
+taken_in xs ys zs start (Some o) h e = ap (λ t. o ++ drop start t) e ∙ ap (λ t. o ++ t) (drop-append-le start xs zs h) ∙ sym (append_assoc o (drop start xs) zs)

@@ -1,0 +1,13 @@
+use Rattle.std.proofs.Common.{refl, codes}
+use Rattle.cdb_make.proofs.Written.{on_any_err, on_err, front_in, front_last}
+use Rattle.cdb_tool.specs.Message.{numbered}
+use Rattle.cdb_tool.proofs.message.write_place.Goals as goal
+
+pub returns-in_err-write_numbered-in-Byte-clause-err : goal.returns-in_err-write_numbered-in-Byte-clause-err
+returns-in_err-write_numbered-in-Byte-clause-err g c =
+    let second = numbered (codes "byte ") c.in-Byte.at in
+    rw c.in-Byte.is (on_any_err c.from_residual.result (front_in _ _ (numbered (codes "input ") c.in-Byte.input) second _ c.in_err-write_numbered-in-Byte.ensures.err refl))
+
+pub returns-in_ok-write_numbered-in-Byte-clause-err : goal.returns-in_ok-write_numbered-in-Byte-clause-err
+returns-in_ok-write_numbered-in-Byte-clause-err g c =
+    rw c.in-Byte.is (on_err c.write_numbered-in-Byte-2.result (λ front. front_last _ _ _ (numbered (codes "input ") c.in-Byte.input) _ _ c.in_ok-write_numbered-in-Byte.ensures.ok front refl) c.write_numbered-in-Byte-2.ensures.err)

@@ -1,6 +1,0 @@
-use Rattle.std.proofs.Common.{refl}
-use Rattle.cdb_tool.proofs.Filling.{entry_put}
-use Rattle.cdb_tool.proofs.table.put_entry.Goals as goal
-
-pub returns : goal.returns
-returns c = entry_put c.args.slots.now c.args.entry _ _ _ refl refl c.first_empty-place.ensures.first

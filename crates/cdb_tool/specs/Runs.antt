@@ -1,0 +1,4 @@
+-- What the runs of the program leave.
+pub mod MakeBytes
+pub mod Dump
+pub mod Flushed

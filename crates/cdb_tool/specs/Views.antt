@@ -1,0 +1,4 @@
+-- What clauses read of the types of this crate.
+pub mod Fault
+pub mod Input
+pub mod Output

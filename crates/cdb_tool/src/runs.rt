@@ -1,0 +1,4 @@
+// What the program is asked to do, a run each.
+pub(crate) mod dump;
+mod flushed;
+pub(crate) mod make_bytes;
