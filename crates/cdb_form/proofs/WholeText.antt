@@ -129,11 +129,6 @@ so_far_more g (Some t) (Some m) (Some n) from to rs r a b =
     let split : m ≡ b.text ++ n = b.read in
     (spelled_push g rs r t m b.text n a.0 b.spells split, omega (arith, a.1, b.counted, ap length split, length-append b.text n))
 
-pub so_far_spelled : (g : ℕ) (o m : Option (List ℕ)) (taken : ℕ) (rs : List KeyValue) → SoFar g o m taken rs → IfSome o (λ t. (rest : List ℕ) × Spelled g rs t rest)
-so_far_spelled g None m taken rs a = tt
-so_far_spelled g (Some t) None taken rs a = absurd a
-so_far_spelled g (Some t) (Some m) taken rs a = (m, a.0)
-
 -- a fault of what is left is one of the whole, and these were all of its records
 pub so_far_fault : (g : ℕ) (o m : Option (List ℕ)) (taken : ℕ) (rs : List KeyValue) (f : TextFault) → SoFar g o m taken rs
     → IfSome m (λ mid. HasFault g taken mid f) → IfSome m (λ mid. IsOfText f → HasNoRecord g mid)
