@@ -49,15 +49,14 @@ body_early w place end n (Some text) (Some rest) header some fault before e read
     walk_from-no_body w place end text header (some ++ rest) before split long room (inr (omega arith)) ∙ ap damaged (sym e)
 
 -- the whole record
-pub record_read : (w place end next : ℕ) (old m₁ m₂ new : Option (List ℕ)) (header : List ℕ) (r : KeyValue) → 0 < w → Consumes old m₁ header → Consumes m₁ m₂ r.key → Consumes m₂ new r.value
+pub record_read : (w place end next : ℕ) (old mid new : Option (List ℕ)) (header : List ℕ) (r : KeyValue) → 0 < w → Consumes old mid header → Consumes mid new (r.key ++ r.value)
     → length header ≡ 2 * w → pair_at w header ≡ lengths_of r → next ≡ place + record_size w r → next ≤ end
     → FromTo old new (λ text rest. (walk_from w place end text ≡ with_first r (walk_from w next end rest)) × (rest ≡ drop (next - place) text))
-record_read w place end next None m₁ m₂ new header r some a b c long lengths at room = tt
-record_read w place end next (Some text) None m₂ new header r some a b c long lengths at room = absurd a
-record_read w place end next (Some text) (Some t₁) None new header r some a b c long lengths at room = absurd b
-record_read w place end next (Some text) (Some t₁) (Some t₂) None header r some a b c long lengths at room = absurd c
-record_read w place end next (Some text) (Some t₁) (Some t₂) (Some rest) header r some a b c long lengths at room =
-    let begins : Begins w text r rest = record { header = header; long = long; lengths = lengths; split = a ∙ ap (λ t. header ++ t) (b ∙ ap (λ t. r.key ++ t) c) } in
+record_read w place end next None mid new header r some a b long lengths at room = tt
+record_read w place end next (Some text) None new header r some a b long lengths at room = absurd a
+record_read w place end next (Some text) (Some t) None header r some a b long lengths at room = absurd b
+record_read w place end next (Some text) (Some t) (Some rest) header r some a b long lengths at room =
+    let begins : Begins w text r rest = record { header = header; long = long; lengths = lengths; split = a ∙ ap (λ t. header ++ t) (b ∙ append_assoc r.key r.value rest) } in
     let reads = front_reads w text r rest begins in
     let n : next - place ≡ record_size w r = omega arith in (
       walk_from-more w place end text r rest some begins (omega arith) ∙ ap (λ (k : ℕ). with_first r (walk_from w k end rest)) (sym at),

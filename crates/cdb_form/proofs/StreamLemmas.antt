@@ -1,6 +1,12 @@
 -- What a reader of records leaves unread.
-use Rattle.std.proofs.Common.{◌≡◌, ℕ, ◌+◌, ◌-◌, ◌≤◌, List, ◌++◌, length, take, drop, refl, sym, ap, ◌∙◌, arith, Option, Some, None, IfSome, inl, inr}
-use Rattle.std.specs.Prelude.{max}
+use Rattle.std.proofs.Common.{◌≡◌, ℕ, ◌+◌, ◌-◌, ◌≤◌, List, ◌++◌, length, take, drop, refl, sym, ap, subst, ◌∙◌, arith, Option, Some, None, IfSome, inl, inr}
+use Rattle.std.specs.Prelude.{max, Bool, true, false, MatchBool}
+use Rattle.cdb_form.specs.Format.Record.{KeyValue}
+use Rattle.cdb_form.specs.Views.Pairs.{key_value}
+use Rattle.cdb_form.specs.Views.RecordReader.{GivesKept, GivesRecord}
+use Rattle.cdb_form.specs.declared.record.Record.{Record}
+use Rattle.cdb_form.specs.declared.walk.record_reader.RecordReader.{RecordReader}
+use Rattle.cdb_form.specs.declared.walk.source.Keeping.TheVariants.{Both}
 use Rattle.std.proofs.lemmas.List.{drop_at, drop-drop, take-append-drop}
 use Rattle.cdb_form.specs.Views.KnownBytes.{LosesAtMost, FromTo, StillFrom}
 use Rattle.cdb_form.specs.Views.Reading.{ReadsNoFurther}
@@ -50,3 +56,16 @@ known_end w place end (Some text) at = walk_from-end w place end text at
 pub no_further_then : (old mid new : Option (List ℕ)) (n m : ℕ) → LosesAtMost old mid n → ReadsNoFurther m mid new → ReadsNoFurther (n + m) old new
 no_further_then old mid new n m a (inl b) = inl (loses_then old mid new a.lost m (n + m) a.taken b (omega (arith, a.few)))
 no_further_then old mid new n m a (inr end) = inr end
+
+-- a record of which both parts were kept
+same_record : (r : KeyValue) (key value : List ℕ) → r.key ≡ key → r.value ≡ value → r ≡ record { key = key; value = value }
+same_record r key value a b =
+    ap (λ (k : List ℕ). let s : KeyValue = record { key = k; value = r.value } in s) a
+    ∙ ap (λ (v : List ℕ). let s : KeyValue = record { key = key; value = v } in s) b
+
+pub kept_both : {R L : Type 0} (w : ℕ) (remaining : R → Option (List ℕ)) (old new : RecordReader R L) (into : Record) → GivesKept w remaining old new Both into → GivesRecord w remaining old new (key_value into)
+kept_both w remaining old new into (r, kept, gives) = subst (GivesRecord w remaining old new) (same_record r into.key.items into.value.items kept.key (kept.value refl)) gives
+
+pub match_weaker : (A B E : Type 0) (b : Bool) → (A → B) → MatchBool b A E → MatchBool b B E
+match_weaker A B E true f h = f h
+match_weaker A B E false f h = h

@@ -4,7 +4,7 @@ ghost use Rattle.std.specs.Prelude.{IfErr};
 ghost use Rattle.std.specs.Io.KnownBytes.{Keeps, Consumes, IsAtEnd};
 ghost use Rattle.cdb_form.specs.Format.Record.{AreBytes};
 ghost use Rattle.cdb_form.specs.Views.KnownBytes.{LosesAtMost};
-ghost use Rattle.cdb_form.specs.Views.Reading.{IsOfReader, ReadsShort};
+ghost use Rattle.cdb_form.specs.Views.Reading.{IsOfReader, ReadsShort, Passes};
 ghost use Rattle.cdb_form.specs.declared.reading.Unread.TheVariants.{Ended, Failed, Spent};
 ghost use Rattle.cdb_form.specs.declared.reading.Unread.TheVariants.{NoMemory};
 
@@ -141,6 +141,33 @@ pub(crate) fn vector<R: Read>(
             return Err(Unread::Ended);
         }
         into.extend_from_slice(&piece[..n])?;
+    }
+    Ok(())
+}
+
+/// Passes over the next `len` bytes, which come through `piece`.
+pub(crate) fn skip<R: Read>(
+    reader: &mut R,
+    asks: &mut u64,
+    len: u64,
+    piece: &mut [u8],
+) -> Result<(), Unread>
+    requires some { 0 < length piece.old }
+    ensures read { OnOk result
+        (Passes len (R.remaining reader.old) (R.remaining reader.new)) }
+    ensures ended { IfErr result (λ f. f ≡ Ended →
+        ReadsShort len (R.remaining reader.old) (R.remaining reader.new)) }
+    ensures loses { LosesAtMost (R.remaining reader.old) (R.remaining reader.new) len }
+    ensures memory { IfErr result (λ f. f ≢ NoMemory) }
+{
+    let mut done = 0;
+    while done < len {
+        let most = (len - done).min(piece.len() as u64);
+        let n = some_bytes(reader, asks, &mut piece[..most as usize])?;
+        if n == 0 {
+            return Err(Unread::Ended);
+        }
+        done += n as u64;
     }
     Ok(())
 }

@@ -1,8 +1,12 @@
 -- What a clause says of a reader that did not give what it was asked for.
-use Rattle.std.specs.Prelude.{ℕ, ◌≡◌, ◌<◌, ◌⊎◌, List, length, Option, ⊤, IfSome}
+use Rattle.std.specs.Prelude.{ℕ, ◌≡◌, ◌<◌, ◌⊎◌, ◌++◌, List, length, Option, ⊤, IfSome}
 use Rattle.std.specs.Io.KnownBytes.{Consumes, IsAtEnd}
 use Rattle.cdb_form.specs.Format.Pair.{head_size, pair_size}
 use Rattle.cdb_form.specs.Format.Reading.{head_at, pair_at}
+use Rattle.cdb_form.specs.Format.Record.{KeyValue}
+use Rattle.cdb_form.specs.declared.record.Record.{Record}
+use Rattle.cdb_form.specs.declared.walk.source.Keeping.{Keeping}
+use Rattle.cdb_form.specs.declared.walk.source.Keeping.TheVariants.{Both}
 use Rattle.cdb_form.specs.Views.Pairs.{head_pairs, header_pair}
 use Rattle.cdb_form.specs.declared.head.Head.{Head}
 use Rattle.cdb_form.specs.declared.header.Header.{Header}
@@ -22,6 +26,12 @@ pub record ReadsShort (n : ℕ) (old new : Option (List ℕ)) : Type 0 where
   pub few : IfSome old (λ text. length text < n)
   pub end : IsAtEnd new
 
+-- n bytes were read
+pub record Passes (n : ℕ) (old new : Option (List ℕ)) : Type 0 where
+  pub bytes : List ℕ
+  pub read : Consumes old new bytes
+  pub long : length bytes ≡ n
+
 -- no more than n bytes were read, or the reader has none left
 abbrev pub ReadsNoFurther : ℕ → Option (List ℕ) → Option (List ℕ) → Type 0
 ReadsNoFurther n old new = LosesAtMost old new n ⊎ IsAtEnd new
@@ -39,3 +49,22 @@ pub record HeaderRead (w : ℕ) (old new : Option (List ℕ)) (header : Header) 
   pub read : Consumes old new bytes
   pub long : length bytes ≡ pair_size w
   pub lengths : header_pair header ≡ pair_at w bytes
+
+-- n bytes of a value were read, and kept or not
+pub record ValueRead (keeping : Keeping) (n : ℕ) (old new : Option (List ℕ)) (into : List ℕ)
+    : Type 0 where
+  pub bytes : List ℕ
+  pub kept : keeping ≡ Both → bytes ≡ into
+  pub read : Consumes old new bytes
+  pub long : length bytes ≡ n
+
+-- the key and the value of a record were read, with the lengths that its header tells
+pub record BodyRead (old new : Option (List ℕ)) (header : Header) (r : KeyValue) : Type 0 where
+  pub read : Consumes old new (r.key ++ r.value)
+  pub klen : length r.key ≡ header.klen
+  pub vlen : length r.value ≡ header.vlen
+
+-- what was kept of a record that was read
+pub record IsKept (keeping : Keeping) (into : Record) (r : KeyValue) : Type 0 where
+  pub key : r.key ≡ into.key.items
+  pub value : keeping ≡ Both → r.value ≡ into.value.items

@@ -4,8 +4,10 @@ use Rattle.cdb_form.specs.Format.Pair.{head_size, pair_size}
 use Rattle.cdb_form.specs.Format.Record.{KeyValue}
 use Rattle.cdb_form.specs.Format.Walk.{Walked, walk_of, walk_from, record_end, no_walk, with_first, with_records, damaged}
 use Rattle.cdb_form.specs.Views.KnownBytes.{FromTo, StillFrom}
-use Rattle.cdb_form.specs.Views.Reading.{ReadsNoFurther}
+use Rattle.cdb_form.specs.Views.Reading.{ReadsNoFurther, IsKept}
 use Rattle.cdb_form.specs.Views.WalkFault.{IsDamage}
+use Rattle.cdb_form.specs.declared.record.Record.{Record}
+use Rattle.cdb_form.specs.declared.walk.source.Keeping.{Keeping}
 use Rattle.cdb_form.specs.declared.walk.fault.WalkFault.{WalkFault}
 use Rattle.cdb_form.specs.declared.walk.record_reader.RecordReader.{RecordReader}
 use Rattle.cdb_form.specs.declared.walk.record_reader.Walking.{Walking}
@@ -105,6 +107,17 @@ pub record GivesRecord {R L : Type 0} (w : ℕ) (remaining : R → Option (List 
       (λ text rest. behind_end w new rest ≡ behind_end w old text)
   pub going : IsGoing new
   pub fewer : bytes_left new < bytes_left old
+
+-- the same, of a record of which so much was kept; and of one with this key
+abbrev pub GivesKept : {R L : Type 0} → ℕ → (R → Option (List ℕ)) → (old new : RecordReader R L)
+    → Keeping → Record → Type 0
+GivesKept w remaining old new keeping into =
+    (r : KeyValue) × IsKept keeping into r × GivesRecord w remaining old new r
+
+abbrev pub GivesKey : {R L : Type 0} → ℕ → (R → Option (List ℕ)) → (old new : RecordReader R L)
+    → List ℕ → Type 0
+GivesKey w remaining old new key =
+    (r : KeyValue) × (r.key ≡ key) × GivesRecord w remaining old new r
 
 -- a call told the end: the walk that was left has no record and no damage. What stands behind the
 -- record end is all that is unread.

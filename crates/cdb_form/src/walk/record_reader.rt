@@ -4,8 +4,8 @@ ghost use Rattle.std.specs.Prelude.{drop, OnOk, OnErr, IfOk, IfErr, IfSome, Matc
 ghost use Rattle.std.specs.Bool.{OnTrue, OnFalse};
 ghost use Rattle.cdb_form.specs.Views.KnownBytes.{LosesAtMost, FromTo, StillFrom};
 ghost use Rattle.cdb_form.specs.Format.Pair.{head_size, pair_size};
-ghost use Rattle.cdb_form.specs.Views.Reading.{ReadsNoFurther};
-ghost use Rattle.cdb_form.specs.Format.Record.{record_size};
+ghost use Rattle.cdb_form.specs.Views.Reading.{ReadsNoFurther, IsKept};
+ghost use Rattle.cdb_form.specs.Format.Record.{KeyValue, record_size};
 ghost use Rattle.cdb_form.specs.Format.Walk.{walk_of, walk_from, record_end, damaged, no_walk};
 ghost use Rattle.cdb_form.specs.Format.Walk.{with_first};
 ghost use Rattle.cdb_form.specs.Views.WalkFault.{IsDamage};
@@ -15,14 +15,11 @@ use crate::pair::pair_size;
 use crate::record::Record;
 use crate::walk::fault::WalkFault;
 use crate::walk::record_area::{Area, read_area};
-use crate::walk::source::{bytes, record_header};
+use crate::walk::source::{Keeping, record_body, record_header};
 use crate::width::Width;
 use std::alloc::Global;
 use std::io::Read;
 use std::marker::PhantomData;
-
-/// How many bytes of a key or value are asked for at once.
-const PIECE: usize = 512;
 
 /// What a reader of records does next.
 #[derive(Clone, Copy, Debug, PartialEq, Eq)]
@@ -38,15 +35,16 @@ fn read_record<R: Read, L: Width>(
     reader: &mut R,
     into: &mut Record,
     area: Area,
+    keeping: Keeping,
 ) -> Result<Area, WalkFault>
     requires { area.place < area.end }
-    ensures record { IfOk result (λ behind.
-        FromTo (R.remaining reader.old) (R.remaining reader.new) (λ text rest.
+    ensures record { IfOk result (λ behind. (r : KeyValue) × IsKept keeping into.new r
+        × (behind.place ≡ area.place + record_size L.WORD r)
+        × FromTo (R.remaining reader.old) (R.remaining reader.new) (λ text rest.
         (walk_from L.WORD area.place area.end text
-        ≡ with_first (key_value into.new) (walk_from L.WORD behind.place area.end rest))
+        ≡ with_first r (walk_from L.WORD behind.place area.end rest))
         × (rest ≡ drop (behind.place - area.place) text))) }
-    ensures place { IfOk result (λ behind.
-        behind.place ≡ area.place + record_size L.WORD (key_value into.new)) }
+    ensures place { IfOk result (λ behind. area.place < behind.place) }
     ensures end { IfOk result (λ behind. behind.end ≡ area.end) }
     ensures fails { IfErr result (λ f. IsDamage f → IfSome (R.remaining reader.old) (λ text.
         walk_from L.WORD area.place area.end text ≡ damaged f)) }
@@ -67,9 +65,7 @@ fn read_record<R: Read, L: Width>(
     if left < header.klen || left - header.klen < header.vlen {
         return Err(early);
     }
-    let mut piece = [0u8; PIECE];
-    bytes(reader, &mut into.key, header.klen, &mut piece, early)?;
-    bytes(reader, &mut into.value, header.vlen, &mut piece, early)?;
+    record_body(reader, into, header, keeping, early)?;
     let place = area.place + size as u64 + header.klen + header.vlen;
     Ok(Area {
         place,
@@ -93,6 +89,7 @@ impl<R: Read, L: Width> RecordReader<R, L> {
     ghost use Rattle.cdb_form.specs.Views.RecordReader.{unread, walk_left, behind_end, bytes_left};
     ghost use Rattle.cdb_form.specs.Views.RecordReader.{IsFresh, IsGoing, HasEnded, HasFailed};
     ghost use Rattle.cdb_form.specs.Views.RecordReader.{Between, GivesRecord, GivesEnd, Fails};
+    ghost use Rattle.cdb_form.specs.Views.RecordReader.{GivesKey, GivesKept};
     /// A reader of the records of the file that `reader` gives. Nothing is read yet.
     pub fn new(alloc: Global, reader: R) -> RecordReader<R, L>
         ensures unread { unread R.remaining result ≡ R.remaining reader }
@@ -143,9 +140,37 @@ impl<R: Read, L: Width> RecordReader<R, L> {
         ensures failed { (fault : _) → HasFailed self.old fault →
             (result ≡ Err fault) × (self.new ≡ self.old) }
     {
+        self.read_kept(into, Keeping::Both)
+    }
+
+    /// Reads the key of the next record over another record, and passes over the value, which takes
+    /// no memory. The answers are those of `read_into`.
+    pub fn read_key(&mut self, into: &mut Record) -> Result<bool, WalkFault>
+        ensures gives { IfOk result (λ given. MatchBool given
+            (GivesKey L.WORD R.remaining self.old self.new into.new.key.items)
+            (GivesEnd L.WORD R.remaining self.old self.new)) }
+        ensures fails { IfErr result (Fails L.WORD R.remaining self.old self.new) }
+        // After the end and after a fault nothing is read, and the answer stays.
+        ensures ended { HasEnded self.old → (result ≡ Ok false) × (self.new ≡ self.old) }
+        ensures failed { (fault : _) → HasFailed self.old fault →
+            (result ≡ Err fault) × (self.new ≡ self.old) }
+    {
+        self.read_kept(into, Keeping::Key)
+    }
+
+    /// Reads the next record, of which so much is kept, and notes what to do next.
+    fn read_kept(&mut self, into: &mut Record, keeping: Keeping) -> Result<bool, WalkFault>
+        ensures gives { IfOk result (λ given. MatchBool given
+            (GivesKept L.WORD R.remaining self.old self.new keeping into.new)
+            (GivesEnd L.WORD R.remaining self.old self.new)) }
+        ensures fails { IfErr result (Fails L.WORD R.remaining self.old self.new) }
+        ensures ended { HasEnded self.old → (result ≡ Ok false) × (self.new ≡ self.old) }
+        ensures failed { (fault : _) → HasFailed self.old fault →
+            (result ≡ Err fault) × (self.new ≡ self.old) }
+    {
         let answer = match self.walking {
-            Walking::AtHead => self.first(into),
-            Walking::At(area) => self.record_at(into, area),
+            Walking::AtHead => self.first(into, keeping),
+            Walking::At(area) => self.record_at(into, area, keeping),
             Walking::AtEnd => return Ok(false),
             Walking::Failed(fault) => return Err(fault),
         };
@@ -158,10 +183,11 @@ impl<R: Read, L: Width> RecordReader<R, L> {
     }
 
     /// Reads the head, and then the first record.
-    fn first(&mut self, into: &mut Record) -> Result<bool, WalkFault>
-        ensures record { IfOk result (λ given.
-            OnTrue given (Between R.remaining self.old self.new (λ text rest.
-            (walk_of L.WORD text ≡ with_first (key_value into.new) (walk_left L.WORD self.new rest))
+    fn first(&mut self, into: &mut Record, keeping: Keeping) -> Result<bool, WalkFault>
+        ensures record { IfOk result (λ given. OnTrue given
+            ((r : KeyValue) × IsKept keeping into.new r
+            × Between R.remaining self.old self.new (λ text rest.
+            (walk_of L.WORD text ≡ with_first r (walk_left L.WORD self.new rest))
             × (behind_end L.WORD self.new rest ≡ drop (record_end L.WORD text) text)))) }
         ensures fewer { IfOk result (λ given.
             OnTrue given (IsGoing self.new × (bytes_left self.new < 2 ^ 64))) }
@@ -185,15 +211,20 @@ impl<R: Read, L: Width> RecordReader<R, L> {
             StillFrom (max (head_size L.WORD) (record_end L.WORD text)) text rest)) }
     {
         let area = read_area::<R, L>(&mut self.reader)?;
-        self.record_at(into, area)
+        self.record_at(into, area, keeping)
     }
 
     /// Reads the record at the next place, unless that is the record end.
-    fn record_at(&mut self, into: &mut Record, area: Area) -> Result<bool, WalkFault>
-        ensures record { IfOk result (λ given.
-            OnTrue given (Between R.remaining self.old self.new (λ text rest.
-            (walk_from L.WORD area.place area.end text
-            ≡ with_first (key_value into.new) (walk_left L.WORD self.new rest))
+    fn record_at(
+        &mut self,
+        into: &mut Record,
+        area: Area,
+        keeping: Keeping,
+    ) -> Result<bool, WalkFault>
+        ensures record { IfOk result (λ given. OnTrue given
+            ((r : KeyValue) × IsKept keeping into.new r
+            × Between R.remaining self.old self.new (λ text rest.
+            (walk_from L.WORD area.place area.end text ≡ with_first r (walk_left L.WORD self.new rest))
             × (behind_end L.WORD self.new rest ≡ drop (area.end - area.place) text)))) }
         ensures fewer { IfOk result (λ given.
             OnTrue given (IsGoing self.new × (bytes_left self.new < area.end - area.place))) }
@@ -215,7 +246,7 @@ impl<R: Read, L: Width> RecordReader<R, L> {
         if area.place == area.end {
             return Ok(false);
         }
-        let behind = read_record::<R, L>(&mut self.reader, into, area)?;
+        let behind = read_record::<R, L>(&mut self.reader, into, area, keeping)?;
         self.walking = Walking::At(behind);
         Ok(true)
     }

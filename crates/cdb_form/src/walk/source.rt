@@ -1,17 +1,19 @@
 // Bytes of a file from a reader. That it has no more is a damage of the file.
-ghost use Rattle.std.specs.Prelude.{◌≡◌, ◌<◌, ◌≤◌, length, OnOk, IfOk, IfErr};
+ghost use Rattle.std.specs.Prelude.{◌+◌, ◌≡◌, ◌<◌, ◌≤◌, length, OnOk, IfOk, IfErr};
 ghost use Rattle.std.specs.Io.KnownBytes.{Consumes};
 ghost use Rattle.cdb_form.specs.Format.Pair.{head_size, pair_size};
-ghost use Rattle.cdb_form.specs.Format.Record.{AreBytes};
+ghost use Rattle.cdb_form.specs.Format.Record.{AreBytes, KeyValue};
 ghost use Rattle.cdb_form.specs.declared.walk.fault.WalkFault.TheVariants.{Short};
 ghost use Rattle.cdb_form.specs.Views.KnownBytes.{LosesAtMost};
-ghost use Rattle.cdb_form.specs.Views.Reading.{ReadsShort, HeadRead, HeaderRead};
+ghost use Rattle.cdb_form.specs.Views.Reading.{ReadsShort, HeadRead, HeaderRead, Passes, ValueRead};
+ghost use Rattle.cdb_form.specs.Views.Reading.{BodyRead, IsKept};
 ghost use Rattle.cdb_form.specs.Views.WalkFault.{IsDamage};
 
 use crate::head::{Head, head_size, read_head};
 use crate::header::{Header, read_header};
 use crate::pair::pair_size;
-use crate::reading::{all_bytes, vector};
+use crate::reading::{all_bytes, skip, vector};
+use crate::record::Record;
 use crate::walk::fault::WalkFault;
 use crate::width::Width;
 use std::io::Read;
@@ -24,6 +26,9 @@ const ASKS: u64 = u64::MAX;
 const GREATEST_HEAD: usize = 4096;
 
 const GREATEST_HEADER: usize = 16;
+
+/// How many bytes of a key or value are asked for at once.
+const PIECE: usize = 512;
 
 /// Fills all of `into`, or answers `early` where the reader ends before that.
 fn fill<R: Read>(reader: &mut R, into: &mut [u8], early: WalkFault) -> Result<(), WalkFault>
@@ -44,7 +49,7 @@ fn fill<R: Read>(reader: &mut R, into: &mut [u8], early: WalkFault) -> Result<()
 }
 
 /// Takes the next `len` bytes through `piece`, or answers `early` where the reader ends before.
-pub(crate) fn bytes<R: Read>(
+fn bytes<R: Read>(
     reader: &mut R,
     into: &mut Vec<u8>,
     len: u64,
@@ -99,4 +104,89 @@ pub(crate) fn record_header<R: Read, L: Width>(
     let size = pair_size::<L>();
     fill(reader, &mut bytes[..size], early)?;
     Ok(read_header::<L>(&bytes[..size]))
+}
+
+/// What is kept of a record that is read.
+#[derive(Clone, Copy, Debug, PartialEq, Eq)]
+pub(crate) enum Keeping {
+    /// The key and the value.
+    Both,
+    /// The key alone. The value is passed over, and takes no memory.
+    Key,
+}
+
+/// Passes over the next `len` bytes, or answers `early` where the reader ends before.
+fn pass<R: Read>(
+    reader: &mut R,
+    len: u64,
+    piece: &mut [u8],
+    early: WalkFault,
+) -> Result<(), WalkFault>
+    requires { 0 < length piece.old }
+    ensures read { OnOk result
+        (Passes len (R.remaining reader.old) (R.remaining reader.new)) }
+    ensures fails { IfErr result (λ f. IsDamage f → (f ≡ early)
+        × ReadsShort len (R.remaining reader.old) (R.remaining reader.new)) }
+    ensures loses { LosesAtMost (R.remaining reader.old) (R.remaining reader.new) len }
+{
+    let mut asks = ASKS;
+    match skip(reader, &mut asks, len, piece) {
+        Ok(()) => Ok(()),
+        Err(unread) => Err(WalkFault::of_reader(unread, early)),
+    }
+}
+
+/// Reads the value of a record, or passes it over and leaves an empty one.
+fn record_value<R: Read>(
+    reader: &mut R,
+    into: &mut Vec<u8>,
+    len: u64,
+    keeping: Keeping,
+    piece: &mut [u8],
+    early: WalkFault,
+) -> Result<(), WalkFault>
+    requires some { 0 < length piece.old }
+    requires few { length piece.old ≤ 4096 }
+    ensures read { OnOk result (ValueRead keeping len
+        (R.remaining reader.old) (R.remaining reader.new) into.new.items) }
+    ensures are { AreBytes into.new.items }
+    ensures fails { IfErr result (λ f. IsDamage f → (f ≡ early)
+        × ReadsShort len (R.remaining reader.old) (R.remaining reader.new)) }
+    ensures loses { LosesAtMost (R.remaining reader.old) (R.remaining reader.new) len }
+{
+    match keeping {
+        Keeping::Both => bytes(reader, into, len, piece, early),
+        Keeping::Key => {
+            into.clear();
+            pass(reader, len, piece, early)
+        }
+    }
+}
+
+/// Reads the key and the value of a record, whose lengths its header tells.
+pub(crate) fn record_body<R: Read>(
+    reader: &mut R,
+    into: &mut Record,
+    header: Header,
+    keeping: Keeping,
+    early: WalkFault,
+) -> Result<(), WalkFault>
+    ensures read { OnOk result ((r : KeyValue) × IsKept keeping into.new r
+        × BodyRead (R.remaining reader.old) (R.remaining reader.new) header r) }
+    ensures fails { IfErr result (λ f. IsDamage f → (f ≡ early)
+        × ReadsShort (header.klen + header.vlen)
+        (R.remaining reader.old) (R.remaining reader.new)) }
+    ensures loses { LosesAtMost
+        (R.remaining reader.old) (R.remaining reader.new) (header.klen + header.vlen) }
+{
+    let mut piece = [0u8; PIECE];
+    bytes(reader, &mut into.key, header.klen, &mut piece, early)?;
+    record_value(
+        reader,
+        &mut into.value,
+        header.vlen,
+        keeping,
+        &mut piece,
+        early,
+    )
 }

@@ -1,9 +1,8 @@
-use Rattle.std.proofs.Common.{[], ◌+◌, length, arith, ◌≡◌, ◌∙◌, sym, subst, inl, inr}
+use Rattle.std.proofs.Common.{[], ◌+◌, arith, ◌∙◌, sym, subst, inl, inr}
 use Rattle.std.proofs.lemmas.Result.{err_from_is_err_and}
 use Rattle.std.proofs.lemmas.List.{append-nil}
 use Rattle.std.specs.Io.KnownBytes.{Consumes}
 use Rattle.cdb_form.proofs.ReadBack.{same_words}
-use Rattle.cdb_form.proofs.SourceLemmas.{consumes_then}
 use Rattle.cdb_form.proofs.RecordReads.{front_told, no_room, header_early, body_no_room, body_early, record_read, loses_then}
 use Rattle.cdb_form.proofs.walk.record_reader.read_record.Goals as goal
 use Rattle.cdb_form.proofs.walk.record_reader.read_record.Goals.{then-left-header-via-then-left-header, then-left-header-via-else-left-header+then-left-header-2}
@@ -28,58 +27,39 @@ returns-then-left-header-clause-fails g c = λ damage.
       | then-left-header-via-else-left-header+then-left-header-2 w ↦ omega (arith, told, c.pair_size-size.ensures, w.if-left-header.false, w.if-left-header-2.true)
     ])
 
-pub returns-in_err-bytes-clause-fails : goal.returns-in_err-bytes-clause-fails
-returns-in_err-bytes-clause-fails g c =
-    let p = err_from_is_err_and c.from_residual-in_err-bytes.result c.from_residual-in_err-bytes.ensures.1 in
+pub returns-in_err-record_body-clause-fails : goal.returns-in_err-record_body-clause-fails
+returns-in_err-record_body-clause-fails g c =
+    let p = err_from_is_err_and c.from_residual-in_err-record_body.result c.from_residual-in_err-record_body.ensures.1 in
     let r = c.in_ok-header.ensures.read in
     let told = front_told g.L.Width.WORD r.bytes c.in_ok-header.header r.lengths in
     rw (p.1, p.2) (λ damage.
-    let h = c.in_err-bytes.ensures.fails damage in
-    body_early g.L.Width.WORD c.args.area.place c.args.area.end c.in_ok-header.header.klen _ _ r.bytes [] c.in_err-bytes.field-0.0 c.requires h.0
+    let h = c.in_err-record_body.ensures.fails damage in
+    body_early g.L.Width.WORD c.args.area.place c.args.area.end (c.in_ok-header.header.klen + c.in_ok-header.header.vlen) _ _ r.bytes [] c.in_err-record_body.field-0.0 c.requires h.0
     (subst (Consumes _ _) (sym (append-nil r.bytes)) r.read) r.long
     (omega (arith, c.pair_size-size.ensures, c.if-left-size.false)) (omega (arith, told)) h.1.few)
 
-pub returns-in_err-bytes-clause-loses : goal.returns-in_err-bytes-clause-loses
-returns-in_err-bytes-clause-loses g c =
+pub returns-in_err-record_body-clause-loses : goal.returns-in_err-record_body-clause-loses
+returns-in_err-record_body-clause-loses g c =
     let r = c.in_ok-header.ensures.read in
-    loses_then _ _ _ r.bytes c.in_ok-header.header.klen _ r.read c.in_err-bytes.ensures.loses (omega (arith, r.long, c.pair_size-size.ensures, c.if-left-size.false, c.if-left-header.false))
-
-pub returns-in_err-bytes-2-clause-fails : goal.returns-in_err-bytes-2-clause-fails
-returns-in_err-bytes-2-clause-fails g c =
-    let p = err_from_is_err_and c.from_residual-in_err-bytes-2.result c.from_residual-in_err-bytes-2.ensures.1 in
-    let r = c.in_ok-header.ensures.read in
-    let told = front_told g.L.Width.WORD r.bytes c.in_ok-header.header r.lengths in
-    rw (p.1, p.2) (λ damage.
-    let h = c.in_err-bytes-2.ensures.fails damage in
-    body_early g.L.Width.WORD c.args.area.place c.args.area.end c.in_ok-header.header.vlen _ _ r.bytes c.bytes.new.into.items c.in_err-bytes-2.field-0.0 c.requires h.0
-    (consumes_then _ _ _ r.bytes c.bytes.new.into.items r.read c.in_ok-bytes.ensures.read) r.long
-    (omega (arith, c.pair_size-size.ensures, c.if-left-size.false)) (omega (arith, told, c.in_ok-bytes.ensures.long)) h.1.few)
-
-pub returns-in_err-bytes-2-clause-loses : goal.returns-in_err-bytes-2-clause-loses
-returns-in_err-bytes-2-clause-loses g c =
-    let r = c.in_ok-header.ensures.read in
-    let h = c.in_ok-header.header in
-    loses_then _ _ _ r.bytes (h.klen + h.vlen) _ r.read
-    (loses_then _ _ _ c.bytes.new.into.items h.vlen (h.klen + h.vlen) c.in_ok-bytes.ensures.read c.in_err-bytes-2.ensures.loses (omega (arith, c.in_ok-bytes.ensures.long)))
+    loses_then _ _ _ r.bytes (c.in_ok-header.header.klen + c.in_ok-header.header.vlen) _ r.read c.in_err-record_body.ensures.loses
     (omega (arith, r.long, c.pair_size-size.ensures, c.if-left-size.false, c.if-left-header.false, c.if-left-header-2.false))
 
 pub returns-clause-loses : goal.returns-clause-loses
 returns-clause-loses g c =
     let r = c.in_ok-header.ensures.read in
-    let h = c.in_ok-header.header in
-    loses_then _ _ _ r.bytes (h.klen + h.vlen) _ r.read
-    (loses_then _ _ _ c.bytes.new.into.items h.vlen (h.klen + h.vlen) c.in_ok-bytes.ensures.read c.in_ok-bytes-2.ensures.loses (omega (arith, c.in_ok-bytes.ensures.long)))
+    loses_then _ _ _ r.bytes (c.in_ok-header.header.klen + c.in_ok-header.header.vlen) _ r.read c.in_ok-record_body.ensures.loses
     (omega (arith, r.long, c.pair_size-size.ensures, c.if-left-size.false, c.if-left-header.false, c.if-left-header-2.false))
 
 pub returns-clause-record : goal.returns-clause-record
 returns-clause-record g c =
-    let key = c.bytes.new.into.items in
-    let value = c.bytes-2.new.into.items in
-    let klen : length key ≡ c.in_ok-header.header.klen = c.in_ok-bytes.ensures.long in
-    let vlen : length value ≡ c.in_ok-header.header.vlen = c.in_ok-bytes-2.ensures.long in
     let r = c.in_ok-header.ensures.read in
-    record_read g.L.Width.WORD c.args.area.place c.args.area.end _ _ _ _ _ r.bytes (record { key = key; value = value })
-    (elim g.met.L.Width.four_or_eight [ inl a ↦ omega arith | inr b ↦ omega arith ])
-    r.read c.in_ok-bytes.ensures.read c.in_ok-bytes-2.ensures.read r.long
-    (sym r.lengths ∙ same_words _ _ (sym klen) (sym vlen)) (omega (arith, c.pair_size-size.ensures, klen, vlen))
-    (omega (arith, c.pair_size-size.ensures, c.if-left-size.false, c.if-left-header.false, c.if-left-header-2.false))
+    let body = c.in_ok-record_body.ensures.read in
+    let b = body.2 in (
+      body.0,
+      body.1,
+      omega (arith, c.pair_size-size.ensures, b.klen, b.vlen),
+      record_read g.L.Width.WORD c.args.area.place c.args.area.end _ _ _ _ r.bytes body.0
+          (elim g.met.L.Width.four_or_eight [ inl a ↦ omega arith | inr b ↦ omega arith ])
+          r.read b.read r.long (sym r.lengths ∙ same_words _ _ (sym b.klen) (sym b.vlen)) (omega (arith, c.pair_size-size.ensures, b.klen, b.vlen))
+          (omega (arith, c.pair_size-size.ensures, c.if-left-size.false, c.if-left-header.false, c.if-left-header-2.false)),
+    )

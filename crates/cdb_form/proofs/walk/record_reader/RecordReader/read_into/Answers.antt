@@ -1,25 +1,6 @@
-use Rattle.std.proofs.Common.{refl, sym, ◌∙◌}
+use Rattle.std.proofs.lemmas.Result.{IfOk-weaker}
+use Rattle.cdb_form.proofs.StreamLemmas.{kept_both, match_weaker}
 use Rattle.cdb_form.proofs.walk.record_reader.RecordReader.read_into.Goals as goal
-use Rattle.cdb_form.proofs.walk.record_reader.RecordReader.read_into.Goals.{in-AtHead, in-At}
 
-pub returns-in-Err-clause-fails : goal.returns-in-Err-clause-fails
-returns-in-Err-clause-fails g c = elim c.match-self.branch [
-  | in-AtHead w ↦
-      let is = sym w.answer-is ∙ c.in-Err.is in
-      let e = w.first-answer.ensures in
-      record {
-        failed = refl;
-        exact = rw w.in-AtHead.is (rw is at e.fails);
-        behind = rw (w.self-is, w.in-AtHead.is) (rw is at e.still_behind);
-        no_further = λ going. rw (w.self-is, w.in-AtHead.is) (rw is at e.header);
-      }
-  | in-At w ↦
-      let is = sym w.answer-is ∙ c.in-Err.is in
-      let e = w.record_at-answer.ensures in
-      record {
-        failed = refl;
-        exact = rw w.in-At.is (rw is at e.fails);
-        behind = rw (w.self-is, w.in-At.is) (rw is at e.still_behind);
-        no_further = λ going. rw (w.self-is, w.in-At.is) (rw is at e.header);
-      }
-]
+pub returns-clause-gives : goal.returns-clause-gives
+returns-clause-gives g c = IfOk-weaker c.read_kept.result _ _ (λ given h. match_weaker _ _ _ given (kept_both g.L.Width.WORD g.R.Read.remaining c.args.self.now c.read_kept.new.self c.read_kept.new.into) h) c.read_kept.ensures.gives
