@@ -102,8 +102,8 @@ abbrev pub FailsIn : {R : Type 0} → (R → Option (List ℕ)) → (old new : S
 FailsIn remaining old new P f =
     IfSome (seen old.taken new.taken f (remaining old.reader)) (λ text. P text (told new.taken f))
 
--- What a fault leaves: what was read is gone from the reader and was counted, and ends with the byte
--- at the fault's place. Asks last for 1001 a byte.
+-- What a fault leaves: what was read is gone from the reader and was counted, and ends with the
+-- byte at the fault's place. Asks last for 1001 a byte.
 pub record Leaves {R : Type 0} (remaining : R → Option (List ℕ)) (old new : Source R)
     (f : TextFault) : Type 0 where
   pub took : f ≢ NoMemory

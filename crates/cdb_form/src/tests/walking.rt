@@ -295,6 +295,27 @@ fn what_follows_the_record_end_stays(rt: HostRuntime) -> Result<(), Fail> {
 }
 
 #[test]
+fn keys_are_read_without_their_values(rt: HostRuntime) -> Result<(), Fail> {
+    let file = two_file(rt.alloc())?;
+    let mut rest = file.as_slice();
+    {
+        let mut reader: RecordReader<&mut &[u8], Narrow> = RecordReader::new(rt.alloc(), &mut rest);
+        let mut record = Record {
+            key: Vec::new(rt.alloc()),
+            value: Vec::new(rt.alloc()),
+        };
+        for key in [b"one", b"two"] {
+            assert_eq!(rt; reader.read_key(&mut record), Ok(true));
+            assert_eq!(rt; record.key.as_slice(), key.as_slice());
+            assert!(rt; record.value.is_empty());
+        }
+        assert_eq!(rt; reader.read_key(&mut record), Ok(false));
+    }
+    assert_eq!(rt; rest, &file[2082..]);
+    Ok(())
+}
+
+#[test]
 fn a_fault_stays(rt: HostRuntime) -> Result<(), Fail> {
     let file = two_file(rt.alloc())?;
     let cut = file.get(..2070).ok_or("short")?;

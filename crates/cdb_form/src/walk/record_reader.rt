@@ -224,7 +224,8 @@ impl<R: Read, L: Width> RecordReader<R, L> {
         ensures record { IfOk result (λ given. OnTrue given
             ((r : KeyValue) × IsKept keeping into.new r
             × Between R.remaining self.old self.new (λ text rest.
-            (walk_from L.WORD area.place area.end text ≡ with_first r (walk_left L.WORD self.new rest))
+            (walk_from L.WORD area.place area.end text
+            ≡ with_first r (walk_left L.WORD self.new rest))
             × (behind_end L.WORD self.new rest ≡ drop (area.end - area.place) text)))) }
         ensures fewer { IfOk result (λ given.
             OnTrue given (IsGoing self.new × (bytes_left self.new < area.end - area.place))) }
