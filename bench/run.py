@@ -13,6 +13,7 @@ import os
 import random
 import shutil
 import statistics
+import subprocess
 import sys
 import tempfile
 
@@ -61,8 +62,15 @@ def compare(title, programs, rounds):
         print(f"  {name:24} {median:7.3f} s   {peaks[name] // 1024:5} MiB   ours takes {ours / median:4.2f} of it")
 
 
-def found(name):
-    return shutil.which(name)
+def tinycdb():
+    """The path of tinycdb's `cdb`, where one is found that is not this project's."""
+    for folder in os.get_exec_path():
+        path = os.path.join(folder, "cdb")
+        if os.access(path, os.X_OK):
+            told = subprocess.run([path, "-h"], capture_output=True)
+            if b"Constant DataBase" in told.stdout + told.stderr:
+                return path
+    return None
 
 
 def main():
@@ -81,16 +89,17 @@ def main():
         write_text(text, options.records)
         print(f"{options.records} records, {os.path.getsize(text)} bytes of text")
         makers = [("cdb -c -", [ours, "-c", "-"], text, path("ours.cdb"))]
-        if found("cdb"):
-            makers.append(("tinycdb cdb -c", [found("cdb"), "-c", path("tiny.cdb")], text, os.devnull))
-        if found("cdbmake"):
+        tiny = tinycdb()
+        if tiny:
+            makers.append(("tinycdb cdb -c", [tiny, "-c", path("tiny.cdb")], text, os.devnull))
+        if shutil.which("cdbmake"):
             makers.append(("freecdb cdbmake", ["cdbmake", path("free.cdb"), path("free.tmp")], text, os.devnull))
         compare("create", makers, options.rounds)
         database = path("ours.cdb")
         dumpers = [("cdb -d", [ours, "-d"], database, path("ours.text"))]
-        if found("cdb"):
-            dumpers.append(("tinycdb cdb -d", [found("cdb"), "-d", database], os.devnull, path("tiny.text")))
-        if found("cdbdump"):
+        if tiny:
+            dumpers.append(("tinycdb cdb -d", [tiny, "-d", database], os.devnull, path("tiny.text")))
+        if shutil.which("cdbdump"):
             dumpers.append(("freecdb cdbdump", ["cdbdump"], database, path("free.text")))
         compare("dump", dumpers, options.rounds)
 

@@ -1,5 +1,5 @@
 // Bytes to a writer.
-ghost use Rattle.std.specs.Prelude.{◌+◌, ◌<◌, ◌≤◌, length, take, flat_map, IfOk};
+ghost use Rattle.std.specs.Prelude.{codes, ◌+◌, ◌<◌, ◌≤◌, length, take, flat_map, IfOk};
 ghost use Rattle.std.specs.Prelude.{OnOk, OnErr};
 ghost use Rattle.std.specs.Io.KnownBytes.{Appends, Keeps};
 ghost use Rattle.cdb_form.specs.Views.KnownBytes.{AppendsFront};
@@ -14,6 +14,10 @@ use std::io::{ErrorKind, Write};
 pub struct OutFault;
 
 impl fmt::Display for OutFault {
+    ghost use Rattle.std.specs.Prelude.{Some};
+
+    ghost output = { λ _. Some (codes "output cannot be written") };
+
     fn fmt<W: fmt::Write>(&self, f: &mut fmt::Formatter<W>) -> fmt::Result {
         f.write_str("output cannot be written")
     }

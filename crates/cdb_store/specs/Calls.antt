@@ -40,17 +40,17 @@ failure_count ((Failed, bytes) ∷ calls) = failure_count calls + 1
 failure_count ((Refused, bytes) ∷ calls) = failure_count calls + 1
 failure_count ((_, bytes) ∷ calls) = failure_count calls
 
--- every byte was synced since it was written
-abbrev pub synced : Calls → Type 0
-synced [] = Unit {0}
-synced ((Synced, bytes) ∷ calls) = Unit {0}
-synced ((Read pos, bytes) ∷ calls) = synced calls
-synced ((Gave pos, bytes) ∷ calls) = synced calls
-synced ((Length n, bytes) ∷ calls) = synced calls
-synced ((Interrupted, bytes) ∷ calls) = synced calls
-synced ((Refused, bytes) ∷ calls) = synced calls
-synced ((Lost, bytes) ∷ calls) = synced calls
-synced ((_, bytes) ∷ calls) = ⊥
+-- nothing was made, written or cut since the file was opened or synced, and no call failed
+abbrev pub IsSynced : Calls → Type 0
+IsSynced [] = Unit {0}
+IsSynced ((Synced, bytes) ∷ calls) = Unit {0}
+IsSynced ((Read pos, bytes) ∷ calls) = IsSynced calls
+IsSynced ((Gave pos, bytes) ∷ calls) = IsSynced calls
+IsSynced ((Length n, bytes) ∷ calls) = IsSynced calls
+IsSynced ((Interrupted, bytes) ∷ calls) = IsSynced calls
+IsSynced ((Refused, bytes) ∷ calls) = IsSynced calls
+IsSynced ((Lost, bytes) ∷ calls) = IsSynced calls
+IsSynced ((_, bytes) ∷ calls) = ⊥
 
 -- how many bytes were written
 abbrev pub written_count : Calls → ℕ

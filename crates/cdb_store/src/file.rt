@@ -4,7 +4,7 @@ ghost use Rattle.std.proofs.Common.{arith};
 ghost use Rattle.cdb_store.specs.declared.trace.Call.TheVariants.{Made, Length, Synced, Refused};
 ghost use Rattle.cdb_store.specs.declared.store.StoreFault.TheVariants.{Device, NoMemory};
 ghost use Rattle.cdb_store.specs.Images.{SameImages, AfterRead, AfterWrite, AfterTornWrite, AfterCut, HasCause};
-ghost use Rattle.cdb_store.specs.Calls.{lost, synced, AreAtLeast, IsMeasured};
+ghost use Rattle.cdb_store.specs.Calls.{lost, IsSynced, AreAtLeast, IsMeasured};
 ghost use Rattle.cdb_store.specs.Lengths.{file_size};
 
 use crate::raw::RawFile;
@@ -137,7 +137,7 @@ impl<F: RawFile> Store for FileStore<F> {
 
     ghost room = { λ f. 2 ^ 63 };
 
-    ghost settled = { λ f. synced (calls_of f) };
+    ghost settled = { λ f. IsSynced (calls_of f) };
 
     ghost in_room = { λ f. Prim.omega (arith, f.bounded) };
 
@@ -246,7 +246,7 @@ impl<F: RawFile> Store for FileStore<F> {
         ensures memory { IsErrOf result NoMemory → ⊥ }
         ensures lost { lost (calls_of self.old) ≡ true → IsErrOf result Device }
         ensures still_known { lost (calls_of self.new) ≡ lost (calls_of self.old) }
-        ensures ok { OnOk result (synced (calls_of self.new)) }
+        ensures ok { OnOk result (IsSynced (calls_of self.new)) }
         ensures synced { OnOk result (calls_of self.new ≡ (Synced, []) ∷ calls_of self.old) }
     {
         self.refuse_if_lost()?;

@@ -47,6 +47,10 @@ impl StoreFault {
 }
 
 impl Display for StoreFault {
+    ghost use Rattle.std.specs.Prelude.{Some};
+
+    ghost output = { λ f. Some (fault_message f) };
+
     fn fmt<W: Write>(&self, f: &mut Formatter<W>) -> fmt::Result {
         f.write_str(self.message())
     }

@@ -1,10 +1,9 @@
 //! What no contract says: the worked rows, the causes of faults of real files, and the fake raw
 //! file and the fuse that fail each call in turn.
-mod again;
-mod fake;
 mod files;
 mod fuses;
 mod memory;
 mod mixed;
 mod raw_faults;
+mod support;
 mod uses;

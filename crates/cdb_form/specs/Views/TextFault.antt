@@ -1,5 +1,5 @@
 -- What kind of fault a fault of a text is, and its number.
-use Rattle.std.specs.Prelude.{ℕ, ◌≡◌, ◌+◌, ⊤, List, codes, Option, Some, None}
+use Rattle.std.specs.Prelude.{ℕ, ◌≡◌, ◌+◌, ⊤, List, ◌++◌, codes, decimal, Option, Some, None}
 use Rattle.cdb_form.specs.declared.reading.Unread.{Unread}
 use Rattle.cdb_form.specs.declared.reading.Unread.TheVariants as unread
 use Rattle.cdb_form.specs.declared.text.fault.TextFault.{TextFault}
@@ -52,6 +52,13 @@ text_place (Syntax at) = Some at
 text_place (Ended at) = Some at
 text_place (Large at) = Some at
 text_place _ = None
+
+-- what a person reads of a fault: its place, where it has one, and its message
+abbrev pub text_display : TextFault → List ℕ
+text_display (Syntax at) = codes "byte " ++ decimal at ++ codes ": " ++ text_message (Syntax at)
+text_display (Ended at) = codes "byte " ++ decimal at ++ codes ": " ++ text_message (Ended at)
+text_display (Large at) = codes "byte " ++ decimal at ++ codes ": " ++ text_message (Large at)
+text_display fault = text_message fault
 
 -- how many bytes were read in all, where the text has this fault: the byte at its place was the
 -- last one

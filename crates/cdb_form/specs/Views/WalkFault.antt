@@ -1,5 +1,5 @@
 -- What kind of fault a fault of a walk is, and its number.
-use Rattle.std.specs.Prelude.{ℕ, ⊤, List, codes, Option, Some, None}
+use Rattle.std.specs.Prelude.{ℕ, ⊤, List, ◌++◌, codes, decimal, Option, Some, None}
 use Rattle.cdb_form.specs.declared.reading.Unread.{Unread}
 use Rattle.cdb_form.specs.declared.reading.Unread.TheVariants as unread
 use Rattle.cdb_form.specs.declared.walk.fault.WalkFault.{WalkFault}
@@ -39,3 +39,10 @@ abbrev pub walk_part : WalkFault → Option (List ℕ × ℕ)
 walk_part (Table n) = Some (codes "table ", n)
 walk_part (Record place) = Some (codes "record at ", place)
 walk_part _ = None
+
+-- what a person reads of a fault: the part that it names, where it names one, and its message
+abbrev pub walk_display : WalkFault → List ℕ
+walk_display (Table n) = codes "table " ++ decimal n ++ codes ": " ++ walk_message (Table n)
+walk_display (Record place) =
+    codes "record at " ++ decimal place ++ codes ": " ++ walk_message (Record place)
+walk_display fault = walk_message fault

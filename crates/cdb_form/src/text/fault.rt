@@ -78,6 +78,11 @@ impl TextFault {
 }
 
 impl fmt::Display for TextFault {
+    ghost use Rattle.std.specs.Prelude.{Some};
+    ghost use Rattle.cdb_form.specs.Views.TextFault.{text_display};
+
+    ghost output = { λ f. Some (text_display f) };
+
     fn fmt<W: fmt::Write>(&self, f: &mut fmt::Formatter<W>) -> fmt::Result {
         match self.place() {
             Some(at) => write!(f, "byte {at}: {}", self.message()),

@@ -152,15 +152,15 @@ impl<R: Read> Source<R> {
         ensures leaves { IfErr result (Leaves R.remaining self.old self.new) }
         ensures spends { OnOk result (budget self.old ≤ budget self.new) }
     {
-        let at = self.taken;
+        let start = self.taken;
         match self.byte()? {
-            None => Err(TextFault::Ended(at)),
+            None => Err(TextFault::Ended(start)),
             Some(b'\n') => Ok(false),
             Some(b'+') => {
                 self.record(into, greatest)?;
                 Ok(true)
             }
-            Some(_) => Err(TextFault::Syntax(at)),
+            Some(_) => Err(TextFault::Syntax(start)),
         }
     }
 }

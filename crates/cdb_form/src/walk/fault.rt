@@ -75,6 +75,11 @@ impl WalkFault {
 }
 
 impl fmt::Display for WalkFault {
+    ghost use Rattle.std.specs.Prelude.{Some};
+    ghost use Rattle.cdb_form.specs.Views.WalkFault.{walk_display};
+
+    ghost output = { λ f. Some (walk_display f) };
+
     fn fmt<W: fmt::Write>(&self, f: &mut fmt::Formatter<W>) -> fmt::Result {
         match self.part() {
             Some((part, number)) => write!(f, "{part}{number}: {}", self.message()),

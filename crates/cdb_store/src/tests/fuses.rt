@@ -1,5 +1,5 @@
 // A fuse, and a buffered store over one.
-use super::again::script;
+use super::support::again::script;
 use crate::{BufferedStore, FuseStore, MemStore, Store, StoreFault};
 use std::test::Fail;
 

@@ -1,6 +1,6 @@
 // A store in a file whose raw calls fail, do a part or are interrupted, each in turn.
-use super::again::script;
-use super::fake::{FakeFile, Trouble};
+use super::support::again::script;
+use super::support::fake::{FakeFile, Trouble};
 use crate::{FileStore, Store, StoreFault};
 use std::test::Fail;
 
