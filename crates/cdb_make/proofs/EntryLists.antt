@@ -40,29 +40,29 @@ pub entries_push : (w : ℕ) (rs : List KeyValue) (r : KeyValue) (n : ℕ) → t
 unfolding table_entries
 entries_push w rs r n = ap (filter (in_table n)) (located_push w (head_size w) rs r) ∙ filter-append (in_table n) (entries_from w (head_size w) rs) (record { first = key_hash r.key; second = records_end w rs } ∷ [])
 
-filter_one : (n : ℕ) (e : WordPair) → e.first % 256 ≡ n → filter (in_table n) (e ∷ []) ≡ e ∷ []
+filter_one : (n : ℕ) (e : WordPair) → table_number e.first ≡ n → filter (in_table n) (e ∷ []) ≡ e ∷ []
 filter_one n e h = grind (arith, nat_tests)
 
-filter_none : (n : ℕ) (e : WordPair) → (e.first % 256 ≡ n → ⊥) → filter (in_table n) (e ∷ []) ≡ []
+filter_none : (n : ℕ) (e : WordPair) → (table_number e.first ≡ n → ⊥) → filter (in_table n) (e ∷ []) ≡ []
 filter_none n e h = grind (arith, nat_tests)
 
 -- the lists after a record, from those before it
 pub lists_push : (w : ℕ) (rs : List KeyValue) (r : KeyValue) (h : ℕ) (before : List (List WordPair)) → h ≡ key_hash r.key → before ≡ map (table_entries w rs) (range_with_len 0 256)
-    → slice_set before (h % 256) (get_or before (h % 256) [] ++ record { first = h; second = records_end w rs } ∷ []) ≡ map (table_entries w (rs ++ r ∷ [])) (range_with_len 0 256)
+    → slice_set before (table_number h) (get_or before (table_number h) [] ++ record { first = h; second = records_end w rs } ∷ []) ≡ map (table_entries w (rs ++ r ∷ [])) (range_with_len 0 256)
 lists_push w rs r h before eh eb =
     let e : WordPair = record { first = key_hash r.key; second = records_end w rs } in
     let same : record { first = h; second = records_end w rs } ≡ e = ap (λ (n : ℕ). let p : WordPair = record { first = n; second = records_end w rs } in p) eh in
     let long : length before ≡ 256 = ap length eb ∙ length-map-range_with_len (table_entries w rs) 0 256 in
     let at : (k : ℕ) → k < 256 → get_or before k [] ≡ table_entries w rs k = λ k lt. ap (λ b. get_or b k []) eb ∙ get_or-map-range_with_len (table_entries w rs) 0 256 k k [] lt (omega arith) in
-    let small : h % 256 < 256 = omega arith in
-    fill_by_all (table_entries w (rs ++ r ∷ [])) _ 256 [] (length-set before _ _ ∙ long) (λ k lt. elim (cases_eq k (h % 256)) as (λ s. get_or (slice_set before (h % 256) (get_or before (h % 256) [] ++ record { first = h; second = records_end w rs } ∷ [])) k [] ≡ table_entries w (rs ++ r ∷ []) k) [
-      | inl here ↦ let room : h % 256 < length before = omega arith in
-          ap (λ (j : ℕ). get_or (slice_set before (h % 256) (get_or before (h % 256) [] ++ record { first = h; second = records_end w rs } ∷ [])) j []) here
-          ∙ get_or-set_same before (h % 256) _ [] room ∙ ap (λ (j : ℕ). get_or before j [] ++ record { first = h; second = records_end w rs } ∷ []) (sym here)
+    let small : table_number h < 256 = omega arith in
+    fill_by_all (table_entries w (rs ++ r ∷ [])) _ 256 [] (length-set before _ _ ∙ long) (λ k lt. elim (cases_eq k (table_number h)) as (λ s. get_or (slice_set before (table_number h) (get_or before (table_number h) [] ++ record { first = h; second = records_end w rs } ∷ [])) k [] ≡ table_entries w (rs ++ r ∷ []) k) [
+      | inl here ↦ let room : table_number h < length before = omega arith in
+          ap (λ (j : ℕ). get_or (slice_set before (table_number h) (get_or before (table_number h) [] ++ record { first = h; second = records_end w rs } ∷ [])) j []) here
+          ∙ get_or-set_same before (table_number h) _ [] room ∙ ap (λ (j : ℕ). get_or before j [] ++ record { first = h; second = records_end w rs } ∷ []) (sym here)
           ∙ ap (λ t. t ++ record { first = h; second = records_end w rs } ∷ []) (at k lt) ∙ ap (λ p. table_entries w rs k ++ p ∷ []) same
-          ∙ ap (λ t. table_entries w rs k ++ t) (sym (filter_one k e (ap (λ (m : ℕ). m % 256) (sym eh) ∙ sym here))) ∙ sym (entries_push w rs r k)
-      | inr other ↦ get_or-set_other before (h % 256) k _ [] other ∙ at k lt ∙ sym (append-nil (table_entries w rs k))
-          ∙ ap (λ t. table_entries w rs k ++ t) (sym (filter_none k e (λ y. other (sym y ∙ ap (λ (m : ℕ). m % 256) (sym eh))))) ∙ sym (entries_push w rs r k)
+          ∙ ap (λ t. table_entries w rs k ++ t) (sym (filter_one k e (ap table_number (sym eh) ∙ sym here))) ∙ sym (entries_push w rs r k)
+      | inr other ↦ get_or-set_other before (table_number h) k _ [] other ∙ at k lt ∙ sym (append-nil (table_entries w rs k))
+          ∙ ap (λ t. table_entries w rs k ++ t) (sym (filter_none k e (λ y. other (sym y ∙ ap table_number (sym eh))))) ∙ sym (entries_push w rs r k)
     ])
 
 -- no records
@@ -72,9 +72,9 @@ lists_none w rs h = fill_by_all (table_entries w rs) (replicate {A = List WordPa
 
 -- the lists after one record more
 pub lists_more : (w : ℕ) (rs : List KeyValue) (r : KeyValue) (h place : ℕ) (before after : List (List WordPair)) → h ≡ key_hash r.key → place ≡ records_end w rs → before ≡ map (table_entries w rs) (range_with_len 0 256)
-    → after ≡ slice_set before (h % 256) (get_or before (h % 256) [] ++ record { first = h; second = place } ∷ []) → after ≡ map (table_entries w (rs ++ r ∷ [])) (range_with_len 0 256)
+    → after ≡ slice_set before (table_number h) (get_or before (table_number h) [] ++ record { first = h; second = place } ∷ []) → after ≡ map (table_entries w (rs ++ r ∷ [])) (range_with_len 0 256)
 lists_more w rs r h place before after eh ep eb ea =
-    ea ∙ ap (λ (n : ℕ). slice_set before (h % 256) (get_or before (h % 256) [] ++ record { first = h; second = n } ∷ [])) ep ∙ lists_push w rs r h before eh eb
+    ea ∙ ap (λ (n : ℕ). slice_set before (table_number h) (get_or before (table_number h) [] ++ record { first = h; second = n } ∷ [])) ep ∙ lists_push w rs r h before eh eb
 
 pub size_push : (w : ℕ) (rs : List KeyValue) (r : KeyValue) → file_size w (rs ++ r ∷ []) ≡ file_size w rs + (record_size w r + 4 * w)
 size_push w rs r = omega (arith, sum_by_push (λ r. record_size w r + 4 * w) rs r)

@@ -12,20 +12,6 @@ use Rattle.cdb_form.specs.Format.Hash.{home_slot}
 use Rattle.cdb_form.specs.Views.Pairs.{slot_pair}
 use Rattle.cdb_form.specs.declared.slot.Slot.{Slot}
 
--- how many slots are used from the front on
-pub front_of : List Slot → ℕ
-front_of slots = prefix_len is_used (map slot_pair slots)
-
-pub front_used : (xs : List Slot) (i : ℕ) (d : Slot) → i < length xs → ((get_or xs i d).place ≡ 0 → ⊥) → prefix_len is_used (map slot_pair (drop i xs)) ≡ 1 + prefix_len is_used (map slot_pair (drop (i + 1) xs))
-front_used xs i d h n =
-    let e = at_drop_more (λ t. prefix_len is_used (map slot_pair t)) xs i d h in
-    grind (arith, nat_tests)
-
-pub front_empty : (xs : List Slot) (i : ℕ) (d : Slot) → i < length xs → (get_or xs i d).place ≡ 0 → prefix_len is_used (map slot_pair (drop i xs)) ≡ 0
-front_empty xs i d h n =
-    let e = at_drop_more (λ t. prefix_len is_used (map slot_pair t)) xs i d h in
-    grind (arith, nat_tests)
-
 -- the first empty slot stands behind home
 pub first_behind : (p : WordPair → Bool) (xs : List WordPair) (home n b : ℕ) → length xs ≡ n → home < n → b ≡ prefix_len p (drop home xs) → b < n - home → home + b ≡ (home + prefix_len p (slots_from home xs)) % n
 first_behind p xs home n b l h e small =

@@ -5,7 +5,7 @@ use Rattle.std.proofs.lemmas.List.Sums.{sum_by-cons, sum_by_more_le, sum_by_more
 use Rattle.std.proofs.Math.Nat.{mul-le-mul_left}
 use Rattle.std.specs.List.{slice_set}
 use Rattle.std.specs.declared.vec.Vec.{Vec}
-use Rattle.cdb_form.specs.Format.Pair.{WordPair}
+use Rattle.cdb_form.specs.Format.Pair.{WordPair, pair_size}
 use Rattle.cdb_form.specs.Format.File.{pointers_from}
 use Rattle.cdb_form.specs.Format.Table.{slots_of}
 use Rattle.cdb_form.specs.Views.Pairs.{slot_pair, pointer_pair}
@@ -19,10 +19,10 @@ unfolding pointers_from
 pointers_append w at [] more = let e : at ≡ at + 4 * w * sum_by {X = List WordPair} length [] = omega arith in ap (λ (n : ℕ). pointers_from w n (map slots_of more)) e
 pointers_append w at (l ∷ ls) more =
     let t : length (slots_of l) ≡ 2 * length l = length-slots_of l in
-    let next : at + 2 * w * length (slots_of l) ≡ at + 4 * w * length l = ap (λ (n : ℕ). at + 2 * w * n) t ∙ omega arith in
-    let total : at + 2 * w * length (slots_of l) + 4 * w * sum_by length ls ≡ at + 4 * w * sum_by length (l ∷ ls) =
+    let next : at + pair_size w * length (slots_of l) ≡ at + 4 * w * length l = ap (λ (n : ℕ). at + pair_size w * n) t ∙ omega arith in
+    let total : at + pair_size w * length (slots_of l) + 4 * w * sum_by length ls ≡ at + 4 * w * sum_by length (l ∷ ls) =
     ap (λ (n : ℕ). n + 4 * w * sum_by length ls) next ∙ (let s = sum_by-cons length l ls in omega (arith, ap (λ (n : ℕ). 4 * w * n) s)) in
-    ap (λ r. record { first = at; second = length (slots_of l) } ∷ r) (pointers_append w (at + 2 * w * length (slots_of l)) ls more ∙ ap (λ (n : ℕ). pointers_from w (at + 2 * w * length (slots_of l)) (map slots_of ls) ++ pointers_from w n (map slots_of more)) total)
+    ap (λ r. record { first = at; second = length (slots_of l) } ∷ r) (pointers_append w (at + pair_size w * length (slots_of l)) ls more ∙ ap (λ (n : ℕ). pointers_from w (at + pair_size w * length (slots_of l)) (map slots_of ls) ++ pointers_from w n (map slots_of more)) total)
 
 pointer_one : (w at place slots : ℕ) (l : List WordPair) → place ≡ at → slots ≡ 2 * length l → pointers_from w at (map slots_of (l ∷ [])) ≡ record { first = place; second = slots } ∷ []
 unfolding pointers_from
@@ -68,5 +68,5 @@ sum_more k vs i v h is =
     let sum : sum_by length (lists_pairs (take (i + 1) vs)) ≡ sum_by length (lists_pairs (take i vs)) + length v.items = omega (arith, all, e, t, t') in
     ap (λ (n : ℕ). k * n) sum ∙ omega arith
 
-pub table_size : (w size n len : ℕ) → size ≡ 2 * w → len ≡ n → size * (2 * len) ≡ 4 * w * n
-table_size w size n len es en = ap (λ (k : ℕ). k * (2 * len)) es ∙ ap (λ (k : ℕ). 2 * w * (2 * k)) en ∙ omega arith
+pub table_size : (w size n len : ℕ) → size ≡ pair_size w → len ≡ n → size * (2 * len) ≡ 4 * w * n
+table_size w size n len es en = ap (λ (k : ℕ). k * (2 * len)) es ∙ ap (λ (k : ℕ). pair_size w * (2 * k)) en ∙ omega arith

@@ -54,19 +54,6 @@ holds_none w greatest b bytes lists size fits limit =
       limit = limit;
     }
 
--- nothing more is held
-pub holds_same : {L : Type 0} (w greatest : ℕ) (b c : Builder L) (rs : List KeyValue) → Holds w greatest b rs → c.bytes.items ≡ b.bytes.items → lists_pairs c.lists.items ≡ lists_pairs b.lists.items → c.size ≡ b.size → limit_of c ≡ limit_of b
-    → Holds w greatest c rs
-holds_same w greatest b c rs h bytes lists size limit =
-    record {
-      are = h.are;
-      bytes = bytes ∙ h.bytes;
-      entries = lists ∙ h.entries;
-      size = size ∙ h.size;
-      fits = omega (arith, h.fits, limit);
-      limit = omega (arith, h.limit, limit);
-    }
-
 -- the parts of the file are the file
 pub parts_are : {L : Type 0} (w greatest : ℕ) (b : Builder L) (rs : List KeyValue) → Holds w greatest b rs → parts_of w b.bytes.items (lists_pairs b.lists.items) ≡ file_bytes w rs
 unfolding file_bytes file_pointers
@@ -107,12 +94,6 @@ entries_fit w greatest top b rs h t within = λ k d lt.
     let split = size_split w rs in
     let at : list_pairs (get_or vs k d) ≡ table_entries w rs k = sym (get_or-map list_pairs vs k d [] lt) ∙ ap (λ x. get_or x k []) h.entries ∙ get_or-map-range_with_len (table_entries w rs) 0 256 k k [] (omega arith) (omega arith) in
     All-same (PairFits top) _ _ at (All-filter (in_table k) (PairFits top) (file_entries w rs) (located_fits w (head_size w) top rs h.are t (omega (arith, split, h.fits, h.limit, within))))
-
--- so many entries fit
-pub few_entries : (w top end : ℕ) (lists : List (List WordPair)) → (w ≡ 4) ⊎ (w ≡ 8) → tables_end w end lists ≤ top → 2 * sum_by length lists ≤ top
-few_entries w top end lists ww fits =
-    let q = slots_within w (sum_by length lists) ww in
-    omega arith
 
 -- what a failed writing leaves, told of the file
 pub file_fails : (old new : Option (List ℕ)) (parts file : List ℕ) → parts ≡ file → (f : MakeFault) → FileFails old new parts f → FileFails old new file f

@@ -56,13 +56,14 @@ pub struct Builder<L> {
 }
 
 impl<L: Width> Builder<L> {
-    ghost use Rattle.cdb_make.specs.Views.Builder.{Holds, RefusesRecord, limit_of};
+    ghost use Rattle.cdb_make.specs.Views.Builder.{Holds, IsSound, RefusesRecord, limit_of};
 
     /// No records, for a file of at most `limit` bytes. It fails only where memory runs out.
     pub fn new(alloc: Global, limit: u64) -> Result<Builder<L>, AllocError>
         requires head { head_size L.WORD ≤ limit }
         requires words { limit ≤ L.GREATEST }
         ensures holds { IfOk result (λ b. Holds L.WORD L.GREATEST b []) }
+        ensures sound { IfOk result (IsSound L.WORD L.GREATEST) }
         ensures limit { IfOk result (λ b. limit_of b ≡ limit) }
     {
         let lists = empty_lists(alloc)?;
@@ -124,11 +125,12 @@ impl<L: Width> Builder<L> {
     /// `TooBig`: their file would pass the limit; `NoMemory`: a growth was refused. The builder
     /// then holds what it held.
     pub fn add(&mut self, item: &Record) -> Result<(), MakeFault>
-        requires { (records : List KeyValue) × Holds L.WORD L.GREATEST self.old records }
+        requires { IsSound L.WORD L.GREATEST self.old }
         ensures ok { (records : List KeyValue) → Holds L.WORD L.GREATEST self.old records
             → OnOk result (Holds L.WORD L.GREATEST self.new (records ++ key_value item.now ∷ [])) }
         ensures err { (records : List KeyValue) → Holds L.WORD L.GREATEST self.old records
             → IfErr result (RefusesRecord L.WORD L.GREATEST self.new records (key_value item.now)) }
+        ensures sound { IsSound L.WORD L.GREATEST self.new }
         ensures limit { limit_of self.new ≡ limit_of self.old }
     {
         let Some(size) = self.size_with(item) else {
@@ -148,7 +150,7 @@ impl<L: Width> Builder<L> {
     /// All memory is taken before the first byte is written, so `NoMemory` leaves the writer as it
     /// was. After `Writing` the writer holds a front of the file.
     pub fn write<W: Write>(&self, alloc: Global, w: &mut W) -> Result<(), MakeFault>
-        requires { (records : List KeyValue) × Holds L.WORD L.GREATEST self.now records }
+        requires { IsSound L.WORD L.GREATEST self.now }
         ensures ok { (records : List KeyValue) → Holds L.WORD L.GREATEST self.now records
             → OnOk result (Appends (W.contents w.old) (W.contents w.new)
             (file_bytes L.WORD records)) }

@@ -3,23 +3,6 @@ use Rattle.std.proofs.Common.{◌≡◌, ℕ, ◌+◌, ◌≤◌, List, [], ◌+
 use Rattle.std.proofs.lemmas.List.{append-nil, drop-append-le, drop-drop, take-append-drop}
 use Rattle.std.specs.Io.KnownBytes.{append_known, Appends, Keeps}
 
-pub append_none : (o : Option (List ℕ)) → append_known o [] ≡ o
-append_none None = refl
-append_none (Some xs) = ap Some (append-nil xs)
-
--- what is written to a writer that kept its bytes
-pub kept_appends : (old mid new : Option (List ℕ)) (xs : List ℕ) → Keeps old mid → Appends mid new xs → Appends old new xs
-kept_appends None mid new xs a b = tt
-kept_appends (Some o) None new xs a b = absurd a
-kept_appends (Some o) (Some m) None xs a b = absurd b
-kept_appends (Some o) (Some m) (Some n) xs a b = b ∙ ap (λ t. t ++ xs) a
-
--- no byte was written
-pub appends_nothing : (old new : Option (List ℕ)) (k : ℕ) (xs : List ℕ) → Appends old new (take k xs) → k ≡ 0 → Keeps old new
-appends_nothing None new k xs a e = tt
-appends_nothing (Some o) None k xs a e = absurd a
-appends_nothing (Some o) (Some n) k xs a e = a ∙ ap (λ (j : ℕ). o ++ take j xs) e ∙ append-nil o
-
 -- n bytes of the buffer went to the writer
 pub handed_on : (xs rest : List ℕ) (start n : ℕ) (w v : Option (List ℕ)) → rest ≡ drop start xs → Appends w v (take n rest) → Keeps (append_known w (drop start xs)) (append_known v (drop (start + n) xs))
 handed_on xs rest start n None v e a = tt

@@ -34,14 +34,6 @@ pub record DumpedSoFar {R L : Type 0} (w : ℕ) (remaining : R → Option (List 
   pub gave : GaveSoFar w remaining file t records
   pub appended : Appends old new (flat_map spelling_of records)
 
-appends_none : (o : Option (List ℕ)) → Appends o o []
-appends_none None = tt
-appends_none (Some xs) = sym (append-nil xs)
-
--- nothing was given yet
-pub dumped_none : {R L : Type 0} (w : ℕ) (remaining : R → Option (List ℕ)) (file : Option (List ℕ)) (t : RecordReader R L) (old : Option (List ℕ)) → IsFresh t → unread remaining t ≡ file → DumpedSoFar w remaining file t old old
-dumped_none w remaining file t old fresh same = record { records = []; gave = gave_none w remaining file t fresh same; appended = appends_none old }
-
 texts_more : (rs : List KeyValue) (r : KeyValue) → flat_map spelling_of (rs ++ r ∷ []) ≡ flat_map spelling_of rs ++ spelling_of r
 texts_more rs r = flat_map-append spelling_of rs (r ∷ []) ∙ ap (λ t. flat_map spelling_of rs ++ t) (append-nil (spelling_of r))
 

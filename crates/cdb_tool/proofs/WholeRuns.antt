@@ -182,17 +182,17 @@ text_not_read w g remaining o t u b Endless h meets = fails_read w g remaining o
 text_not_read w g remaining o t u b text_fault.NoMemory h meets = tt
 
 -- one record more is too much
-too_big : (w g : ℕ) (o m n : Option (List ℕ)) (from to : ℕ) (rs : List KeyValue) (r : KeyValue) → SoFar g o m from rs → ReadsRecord g m n from to r → g < file_size w (rs ++ r ∷ []) → FromTo o n (PassesGreatest w g)
-too_big w g None m n from to rs r a b h = tt
-too_big w g (Some t) m None from to rs r a b h = absurd (so_far_more g (Some t) m None from to rs r a b)
-too_big w g (Some t) m (Some n) from to rs r a b h =
+too_big : (w g : ℕ) (o m n : Option (List ℕ)) (from to : ℕ) (rs : List KeyValue) (r : KeyValue) → SoFar g o m from rs → ReadsRecord g m n from to r → file_size w rs ≤ g → g < file_size w (rs ++ r ∷ []) → FromTo o n (PassesGreatest w g)
+too_big w g None m n from to rs r a b fit h = tt
+too_big w g (Some t) m None from to rs r a b fit h = absurd (so_far_more g (Some t) m None from to rs r a b)
+too_big w g (Some t) m (Some n) from to rs r a b fit h =
     let all = so_far_more g (Some t) m (Some n) from to rs r a b in
-    record { records = rs ++ r ∷ []; spelled = all.0; larger = h }
+    record { before = rs; last = r; spelled = all.0; fits = fit; larger = h }
 
 -- a record that the builder refused
 pub refused : {R L K : Type 0} (w g : ℕ) (o m n : Option (List ℕ)) (t u : TextReader R L) (b c : Builder K) (r : KeyValue) (f : MakeFault) → (h : HoldsSoFar w g o m t b) → ReadsRecord g m n (taken_of t) (taken_of u) r
     → limit_of c ≡ limit_of b → RefusesRecord w g c h.records r f → NotRead w g o n (run.make_fault f)
-refused w g o m n t u b c r make.TooBig h read l x = too_big w g o m n (taken_of t) (taken_of u) h.records r h.so_far read (omega (arith, l, h.limit, x.0))
+refused w g o m n t u b c r make.TooBig h read l x = too_big w g o m n (taken_of t) (taken_of u) h.records r h.so_far read (fits w g c h.records x.1) (omega (arith, l, h.limit, x.0))
 refused w g o m n t u b c r make.NoMemory h read l x = tt
 refused w g o m n t u b c r make.Broken h read l x = absurd x
 refused w g o m n t u b c r make.Lookup h read l x = absurd x

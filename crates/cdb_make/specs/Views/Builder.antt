@@ -23,6 +23,11 @@ pub record Holds {L : Type 0} (w greatest : ℕ) (b : Builder L) (records : List
   pub fits : file_size w records ≤ limit_of b
   pub limit : limit_of b ≤ greatest
 
+-- it holds some records
+pub record IsSound {L : Type 0} (w greatest : ℕ) (b : Builder L) : Type 0 where
+  pub records : List KeyValue
+  pub holds : Holds w greatest b records
+
 -- a record was refused, since the file would pass the limit or memory ran out; nothing was added
 abbrev pub RefusesRecord : {L : Type 0} → ℕ → ℕ → Builder L → List KeyValue → KeyValue → MakeFault
     → Type 0

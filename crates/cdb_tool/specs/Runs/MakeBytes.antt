@@ -1,6 +1,6 @@
 -- What the making of a file of a text leaves. A text is the bytes of its reader, where they are
 -- known, and the rest is what its reader has left.
-use Rattle.std.specs.Prelude.{ℕ, ◌≡◌, ◌≢◌, ◌+◌, ◌*◌, ◌^◌, ◌<◌, ◌≤◌, ⊤, take, List, Option, Result, IfSome, OnOk, IfErr}
+use Rattle.std.specs.Prelude.{ℕ, ◌≡◌, ◌≢◌, ◌+◌, ◌*◌, ◌^◌, ◌<◌, ◌≤◌, ⊤, take, List, [], ◌∷◌, ◌++◌, Option, Result, IfSome, OnOk, IfErr}
 use Rattle.std.specs.Io.KnownBytes.{Appends, Keeps}
 use Rattle.cdb_form.specs.Format.Record.{KeyValue}
 use Rattle.cdb_form.specs.Format.File.{file_size, file_bytes}
@@ -43,14 +43,17 @@ pub record ReadsTo (w greatest : ℕ) (text rest : Option (List ℕ)) (fault : T
   pub taken : ℕ
   pub took : Took text rest 0 taken
   pub last : LastRead taken fault
-  pub part : IfSome text (λ t. IsReadFault fault → FailsText w greatest (take taken t) (Ended taken))
+  pub part : IfSome text
+      (λ t. IsReadFault fault → FailsText w greatest (take taken t) (Ended taken))
   pub asked : fault ≡ Endless → 2 ^ 48 ≤ 1001 * (taken + 1)
 
--- some records were read whose file doesn't fit
+-- records were read up to the first with which their file doesn't fit
 pub record PassesGreatest (w greatest : ℕ) (text rest : List ℕ) : Type 0 where
-  pub records : List KeyValue
-  pub spelled : Spelled greatest records text rest
-  pub larger : greatest < file_size w records
+  pub before : List KeyValue
+  pub last : KeyValue
+  pub spelled : Spelled greatest (before ++ last ∷ []) text rest
+  pub fits : file_size w before ≤ greatest
+  pub larger : greatest < file_size w (before ++ last ∷ [])
 
 -- a text was read up to this fault
 pub record FailsRead (w greatest : ℕ) (text rest : Option (List ℕ)) (input : ℕ) (fault : TextFault)

@@ -165,12 +165,12 @@ impl NotingWriter {
 
 /// Gives a text in pieces of two bytes, and counts how often it is asked.
 #[derive(Drop)]
-pub(super) struct CountingReader<'a> {
-    pub(super) text: &'a [u8],
+pub(super) struct CountingReader {
+    pub(super) text: &'static [u8],
     pub(super) asked: u64,
 }
 
-impl Read for CountingReader<'_> {
+impl Read for CountingReader {
     fn read(&mut self, buf: &mut [u8]) -> io::Result<usize> {
         self.asked = self.asked.saturating_add(1);
         let n = buf.len().min(2);

@@ -1,5 +1,5 @@
 use Rattle.std.proofs.Common.{◌≡◌, ◌*◌, ◌++◌, take, drop, map, flat_map, length}
-use Rattle.cdb_form.specs.Format.Pair.{pair_bytes}
+use Rattle.cdb_form.specs.Format.Pair.{pair_bytes, pair_size}
 use Rattle.cdb_form.specs.Views.Pairs.{slot_pair}
 use Rattle.cdb_make.proofs.finishing.encode_slots.Given as goal
 
@@ -7,7 +7,7 @@ use Rattle.cdb_make.proofs.finishing.encode_slots.Given as goal
 abbrev pub invariant-loop-slot : goal.invariant-loop-slot
 invariant-loop-slot g l =
     record {
-      at : l.at ≡ 2 * g.L.Width.WORD * l.slot-index;
-      long : length l.into ≡ 2 * g.L.Width.WORD * length l.slots;
-      written : l.into ≡ flat_map (pair_bytes g.L.Width.WORD) (map slot_pair (take l.slot-index l.slots)) ++ drop (2 * g.L.Width.WORD * l.slot-index) l.fn.into;
+      at : l.at ≡ pair_size g.L.Width.WORD * l.slot-index;
+      long : length l.into ≡ pair_size g.L.Width.WORD * length l.slots;
+      written : l.into ≡ flat_map (pair_bytes g.L.Width.WORD) (map slot_pair (take l.slot-index l.slots)) ++ drop (pair_size g.L.Width.WORD * l.slot-index) l.fn.into;
     }

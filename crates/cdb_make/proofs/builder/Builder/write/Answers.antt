@@ -11,7 +11,7 @@ use Rattle.cdb_make.proofs.builder.Builder.write.Goals as goal
 
 pub write_file-requires-clause-room : goal.write_file-requires-clause-room
 write_file-requires-clause-room g c =
-    let fits = parts_fit g.L.Width.WORD g.L.Width.GREATEST c.args.self.now c.requires.0 c.requires.1 in
+    let fits = parts_fit g.L.Width.WORD g.L.Width.GREATEST c.args.self.now c.requires.records c.requires.holds in
     rw (c.deref.ensures.value, c.deref-2.ensures.value) fits
 
 pub write_file-requires-clause-fits : goal.write_file-requires-clause-fits
@@ -19,7 +19,7 @@ write_file-requires-clause-fits g c =
     let top = g.L.Width.TOP in
     let w = g.L.Width.WORD in
     All-same (λ v. All (PairFits top) (list_pairs v)) _ _ c.deref-2.ensures.value
-    (entries_fit w g.L.Width.GREATEST top c.args.self.now c.requires.0 c.requires.1 (top_fits w top g.met.L.Width.four_or_eight g.met.L.Width.top_is) g.met.L.Width.greatest_fits.0)
+    (entries_fit w g.L.Width.GREATEST top c.args.self.now c.requires.records c.requires.holds (top_fits w top g.met.L.Width.four_or_eight g.met.L.Width.top_is) g.met.L.Width.greatest_fits.0)
 
 pub returns-clause-ok : goal.returns-clause-ok
 returns-clause-ok g c = λ records h.
