@@ -38,6 +38,7 @@ impl From<AllocError> for Unread {
 /// Asks for bytes until some come. None come only at the end.
 ///
 /// Each call of the reader takes one of the asks.
+#[inline(always)]
 pub(crate) fn some_bytes<R: Read>(
     reader: &mut R,
     asks: &mut u64,

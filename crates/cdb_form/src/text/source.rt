@@ -39,6 +39,7 @@ impl<R: Read> Source<R> {
     }
 
     /// The next byte, or `None` at the end.
+    #[inline(always)]
     pub(crate) fn byte(&mut self) -> Result<Option<u8>, TextFault>
         ensures bytes { IfOk result (λ found. MatchOption found
             (IsAtEnd (R.remaining self.old.reader)
