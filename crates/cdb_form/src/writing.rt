@@ -29,6 +29,7 @@ impl Error for OutFault {}
 ///
 /// The writer is asked again where a signal interrupts it, up to 1000 times in a row. After an
 /// `OutFault` it holds what it held.
+#[inline(always)]
 pub fn write_some<W: Write>(w: &mut W, bytes: &[u8]) -> Result<usize, OutFault>
     requires { 0 < length bytes.now }
     ensures count { IfOk result (λ n. (0 < n) × (n ≤ length bytes.now)) }

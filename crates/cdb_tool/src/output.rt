@@ -41,6 +41,8 @@ impl<W: Write> Output<W> {
     }
 
     /// Hands all bytes on to the writer. After a fault those that it did not take stay here.
+    #[cold]
+    #[inline(never)]
     fn hand_on(&mut self) -> Result<(), OutFault>
         ensures bytes { Keeps (output_bytes W.contents self.old)
             (output_bytes W.contents self.new) }
@@ -73,6 +75,7 @@ impl<W: Write> Write for Output<W> {
 
     ghost contents = { output_bytes W.contents };
 
+    #[inline(always)]
     fn write(&mut self, buf: &[u8]) -> io::Result<usize> {
         if self.buffer.len() == self.size {
             let Ok(()) = self.hand_on() else {
