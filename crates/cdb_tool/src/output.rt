@@ -1,6 +1,7 @@
 // Output through a buffer, from which many bytes go at once.
-ghost use Rattle.std.specs.Prelude.{◌≡◌, ℕ, ◌+◌, ◌<◌, ◌≤◌, [], length, take, IfOk, OnOk, OnErr, vec_len};
-ghost use Rattle.std.specs.Io.KnownBytes.{Keeps, Appends};
+ghost use Rattle.std.specs.Prelude.{◌≡◌, ℕ, ◌+◌, ◌<◌, ◌≤◌, [], ◌-◌, length, take, min, IfOk, OnOk, OnErr, vec_len};
+ghost use Rattle.std.specs.Io.{WritesAtMost};
+ghost use Rattle.std.specs.Io.KnownBytes.{Keeps, Appends, WriteAppends};
 
 use cdb_form::{OutFault, write_some};
 use std::alloc::{AllocError, Global};
@@ -46,7 +47,7 @@ impl<W: Write> Output<W> {
     fn hand_on(&mut self) -> Result<(), OutFault>
         ensures bytes { Keeps (output_bytes W.contents self.old)
             (output_bytes W.contents self.new) }
-        ensures empty { OnOk result (held_by self.new ≡ []) }
+        ensures empty { OnOk result (vec_len self.new.buffer ≡ 0) }
     {
         while self.start < self.buffer.len() {
             self.start += write_some(&mut self.writer, &self.buffer[self.start..])?;
@@ -58,7 +59,8 @@ impl<W: Write> Output<W> {
 
     /// Takes bytes into the buffer, as many as it has room for.
     fn take(&mut self, bytes: &[u8]) -> Result<usize, AllocError>
-        ensures count { IfOk result (λ n. n ≤ length bytes.now) }
+        ensures count { IfOk result (λ n.
+            n ≡ min (length bytes.now) (self.old.size - vec_len self.old.buffer)) }
         ensures ok { IfOk result (λ n. Appends (output_bytes W.contents self.old)
             (output_bytes W.contents self.new) (take n bytes.now)) }
         ensures err { OnErr result
@@ -76,7 +78,13 @@ impl<W: Write> Write for Output<W> {
     ghost contents = { output_bytes W.contents };
 
     #[inline(always)]
-    fn write(&mut self, buf: &[u8]) -> io::Result<usize> {
+    fn write(&mut self, buf: &[u8]) -> io::Result<usize>
+        ensures bound { WritesAtMost result buf.now }
+        ensures bytes { WriteAppends (output_bytes W.contents self.old)
+            (output_bytes W.contents self.new) result buf.now }
+        // Some bytes are taken where there are any.
+        ensures some { IfOk result (λ n. 0 < length buf.now → 0 < n) }
+    {
         if self.buffer.len() == self.size {
             let Ok(()) = self.hand_on() else {
                 return Err(io::Error::from(ErrorKind::Other));
