@@ -1,2 +1,4 @@
 -- The texts of a list of records.
 pub mod Native
+pub mod Map
+pub mod List
