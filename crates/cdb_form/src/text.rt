@@ -1,5 +1,7 @@
 // The texts of a list of records.
 pub(crate) mod fault;
+pub(crate) mod list_writer;
+pub(crate) mod map_writer;
 mod native_parser;
 pub(crate) mod native_reader;
 pub(crate) mod native_writer;

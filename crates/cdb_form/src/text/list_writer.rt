@@ -1,0 +1,30 @@
+// The texts of keys to a writer.
+ghost use Rattle.std.specs.Prelude.{OnOk, OnErr};
+ghost use Rattle.std.specs.Io.KnownBytes.{Appends};
+ghost use Rattle.cdb_form.specs.Text.List.{key_line, list_line};
+ghost use Rattle.cdb_form.specs.Views.KnownBytes.{AppendsFront};
+
+use crate::writing::{OutFault, write_pieces};
+use itoa::Buffer;
+use std::io::Write;
+
+/// Writes a key of a list text, with its length in the shortest decimal. After an `OutFault` the
+/// writer holds a front of it.
+pub fn write_list_record<W: Write>(w: &mut W, key: &[u8]) -> Result<(), OutFault>
+    ensures ok { OnOk result (Appends (W.contents w.old) (W.contents w.new) (list_line key.now)) }
+    ensures err { OnErr result (AppendsFront (W.contents w.old)
+        (W.contents w.new) (list_line key.now)) }
+{
+    let mut klen = Buffer::new();
+    let klen = klen.format(key.len()).as_bytes();
+    write_pieces(w, &[b"+", klen, b":", key, b"\n"])
+}
+
+/// Writes a key and a newline. After an `OutFault` the writer holds a front of them.
+pub fn write_map_key<W: Write>(w: &mut W, key: &[u8]) -> Result<(), OutFault>
+    ensures ok { OnOk result (Appends (W.contents w.old) (W.contents w.new) (key_line key.now)) }
+    ensures err { OnErr result (AppendsFront (W.contents w.old)
+        (W.contents w.new) (key_line key.now)) }
+{
+    write_pieces(w, &[key, b"\n"])
+}
