@@ -21,3 +21,4 @@ pub mod AreaLemmas
 pub mod RecordReads
 pub mod StreamLemmas
 pub mod WalkText
+pub mod MapLines

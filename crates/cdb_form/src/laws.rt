@@ -1,8 +1,9 @@
 //! Laws of the format. Each is the contract of a function whose parameters are what it ranges over.
 ghost use Rattle.std.specs.Prelude.{◌≡◌, ◌≤◌, All, length};
 ghost use Rattle.cdb_form.specs.Format.File.{file_bytes, file_size};
-ghost use Rattle.cdb_form.specs.Laws.Text.{LengthsFit, TextReadsBack};
+ghost use Rattle.cdb_form.specs.Laws.Text.{LengthsFit, MapReadsBack, TextReadsBack};
 ghost use Rattle.cdb_form.specs.Format.Walk.{walk_of};
+ghost use Rattle.cdb_form.specs.Text.Map.{IsMapWord};
 ghost use Rattle.cdb_form.specs.Laws.Walk.{IsWalk, WalksBack};
 ghost use Rattle.cdb_form.specs.Views.Pairs.{key_values};
 
@@ -14,6 +15,11 @@ use crate::width::Width;
 pub fn text_reads_back<L: Width>(_records: &[Record], _rest: &[u8])
     ensures { All (LengthsFit L.GREATEST) (key_values _records.now) →
         TextReadsBack L.GREATEST (key_values _records.now) _rest.now }
+{}
+
+/// The map text of some records that it can hold is read as these records.
+pub fn map_reads_back(_records: &[Record])
+    ensures { All IsMapWord (key_values _records.now) → MapReadsBack (key_values _records.now) }
 {}
 
 /// The file of some records has its size: the head, the records, and two slots for each record.

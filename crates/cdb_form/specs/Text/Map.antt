@@ -1,5 +1,5 @@
 -- The map text of a list of records: a line for each, its key, a blank, and its value.
-use Rattle.std.specs.List.{after_first, before_first, position_or_len, prefix_len, slice_split}
+use Rattle.std.specs.List.{position_or_len, prefix_len, slice_split}
 use Rattle.std.specs.Prelude.{All, Bool, List, [], codes, drop, flat_map, ◌++◌, ◌==◌, ◌||◌, ◌∷◌, ◌≡◌, false, if◌then◌else◌, take, true, ℕ}
 use Rattle.cdb_form.specs.Format.Record.{KeyValue}
 
@@ -65,3 +65,17 @@ pub record IsMapWord (r : KeyValue) : Type 0 where
   pub key_line : Lacks is_newline r.key
   pub value_line : Lacks is_newline r.value
   pub value_blank : BeginsOther is_blank r.value
+
+-- a line, without its newline, that holds no record
+pub record IsIgnoredLine (line : List ℕ) : Type 0 where
+  pub whole : Lacks is_newline line
+  pub none : line_records line ≡ []
+
+-- and one that holds a record
+pub record IsLineOf (r : KeyValue) (line : List ℕ) : Type 0 where
+  pub whole : Lacks is_newline line
+  pub holds : line_records line ≡ r ∷ []
+
+-- lines, each with its newline
+abbrev pub with_newlines : List (List ℕ) → List ℕ
+with_newlines lines = flat_map (λ line. line ++ codes "\n") lines
