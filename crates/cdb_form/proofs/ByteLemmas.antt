@@ -1,5 +1,5 @@
 -- Lists of bytes.
-use Rattle.std.proofs.Common.{ℕ, zero, suc, ◌<◌, List, [], ◌∷◌, ◌++◌, take, drop, replicate, lit<, subst, sym}
+use Rattle.std.proofs.Common.{◌≡◌, ℕ, zero, suc, ◌<◌, List, [], ◌∷◌, ◌++◌, take, drop, replicate, lit<, subst, sym}
 use Rattle.std.proofs.lemmas.List.{take-append-drop}
 use Rattle.cdb_form.specs.Format.Record.{AreBytes}
 
@@ -13,6 +13,9 @@ AreBytes-cons x xs h hs (suc k) = hs k
 pub AreBytes-append : (xs ys : List ℕ) → AreBytes xs → AreBytes ys → AreBytes (xs ++ ys)
 AreBytes-append [] ys a b = b
 AreBytes-append (x ∷ xs) ys a b = AreBytes-cons x (xs ++ ys) (a 0) (AreBytes-append xs ys (λ k. a (suc k)) b)
+
+pub AreBytes-push : (old new : List ℕ) (x : ℕ) → new ≡ old ++ x ∷ [] → AreBytes old → x < 256 → AreBytes new
+AreBytes-push old new x e a h = subst AreBytes (sym e) (AreBytes-append old (x ∷ []) a (AreBytes-cons x [] h AreBytes-nil))
 
 pub AreBytes-front : (xs ys : List ℕ) → AreBytes (xs ++ ys) → AreBytes xs
 AreBytes-front [] ys a = AreBytes-nil

@@ -22,3 +22,4 @@ pub mod RecordReads
 pub mod StreamLemmas
 pub mod WalkText
 pub mod MapLines
+pub mod MapReads

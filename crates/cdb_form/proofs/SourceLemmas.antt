@@ -17,7 +17,8 @@ use Rattle.cdb_form.proofs.Fronts.{take_past}
 use Rattle.cdb_form.specs.declared.reading.Unread.{Unread}
 use Rattle.cdb_form.specs.declared.reading.Unread.TheVariants as unread
 use Rattle.cdb_form.specs.Views.TextFault.{IsReadFault, IsSpent, LastRead, unread_fault}
-use Rattle.cdb_form.specs.Views.NativeParser.{FailsBytes, FailsField, ReadsBehindPlus, seen, told, budget, Leaves}
+use Rattle.cdb_form.specs.Views.NativeParser.{FailsBytes, FailsField, ReadsBehindPlus, seen, told, Leaves}
+use Rattle.cdb_form.specs.Views.Source.{budget}
 
 -- digits were read that stand for a value
 pub record DigitsSoFar (old new : Option (List ℕ)) (greatest start taken value : ℕ) : Type 0 where

@@ -4,6 +4,9 @@ pub mod KnownBytes
 pub mod Reading
 pub mod TextFault
 pub mod WalkFault
+pub mod Source
 pub mod NativeParser
+pub mod MapParser
 pub mod TextReader
+pub mod MapReader
 pub mod RecordReader

@@ -27,6 +27,7 @@ pub use record::Record;
 pub use slot::{Slot, read_slot, write_slot};
 pub use text::fault::TextFault;
 pub use text::list_writer::{write_list_record, write_map_key};
+pub use text::map_reader::MapReader;
 pub use text::map_writer::write_map_record;
 pub use text::native_reader::TextReader;
 pub use text::native_writer::{write_end, write_record};

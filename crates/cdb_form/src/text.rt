@@ -1,6 +1,9 @@
 // The texts of a list of records.
 pub(crate) mod fault;
+pub(crate) mod going;
 pub(crate) mod list_writer;
+mod map_parser;
+pub(crate) mod map_reader;
 pub(crate) mod map_writer;
 mod native_parser;
 pub(crate) mod native_reader;

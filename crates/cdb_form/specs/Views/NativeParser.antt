@@ -8,6 +8,7 @@ use Rattle.cdb_form.specs.Format.Record.{KeyValue, AreBytes}
 use Rattle.cdb_form.specs.Text.Native.{Spells, HasFault, HasNoRecord}
 use Rattle.cdb_form.specs.Views.KnownBytes.{Took}
 use Rattle.cdb_form.specs.declared.text.source.Source.{Source}
+use Rattle.cdb_form.specs.Views.Source.{budget}
 use Rattle.cdb_form.specs.Views.TextFault.{IsOfText, IsSpent, LastRead}
 use Rattle.cdb_form.specs.declared.text.fault.TextFault.{TextFault}
 use Rattle.cdb_form.specs.declared.text.fault.TextFault.TheVariants.{Syntax, Ended, Large, Input, Endless, NoMemory}
@@ -91,10 +92,6 @@ pub record ReadsBehindPlus (greatest : ℕ) (old new : Option (List ℕ)) (from 
 pub record FailsRecord (greatest from : ℕ) (text : List ℕ) (f : TextFault) : Type 0 where
   pub fault : HasFault greatest from text f
   pub no_record : IsOfText f → HasNoRecord greatest text
-
--- each byte that a source gave took at most 1001 asks
-abbrev pub budget : {R : Type 0} → Source R → ℕ
-budget s = s.asks + 1001 * s.taken
 
 -- P is said of the text that the fault is one of
 abbrev pub FailsIn : {R : Type 0} → (R → Option (List ℕ)) → (old new : Source R)

@@ -7,7 +7,7 @@ use Rattle.cdb_form.specs.Views.KnownBytes.{Took}
 use Rattle.cdb_form.specs.Views.TextFault.{IsOfText, IsReadFault, IsSpent, LastRead}
 use Rattle.cdb_form.specs.declared.text.fault.TextFault.{TextFault}
 use Rattle.cdb_form.specs.declared.text.fault.TextFault.TheVariants.{Ended, NoMemory}
-use Rattle.cdb_form.specs.declared.text.native_reader.Going.TheVariants.{On, AtEnd, Failed}
+use Rattle.cdb_form.specs.declared.text.going.Going.TheVariants.{On, AtEnd, Failed}
 use Rattle.cdb_form.specs.declared.text.native_reader.TextReader.{TextReader}
 
 -- the bytes that its reader has left, where they are known

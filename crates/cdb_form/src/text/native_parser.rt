@@ -8,7 +8,7 @@ ghost use Rattle.cdb_form.specs.Text.Native.{IsNumeral};
 ghost use Rattle.cdb_form.specs.Views.TextReader.{ReadsRecord};
 ghost use Rattle.cdb_form.specs.Views.NativeParser.{FailsNumber, FailsByte, FailsField};
 ghost use Rattle.cdb_form.specs.Views.NativeParser.{FailsRecord, ReadsBehindPlus, FailsIn, Leaves};
-ghost use Rattle.cdb_form.specs.Views.NativeParser.{budget};
+ghost use Rattle.cdb_form.specs.Views.Source.{budget};
 ghost use Rattle.cdb_form.specs.Views.Pairs.{key_value};
 
 use crate::record::Record;

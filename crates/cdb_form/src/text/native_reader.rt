@@ -4,19 +4,12 @@ ghost use Rattle.cdb_form.specs.Views.Pairs.{key_value};
 
 use crate::record::Record;
 use crate::text::fault::TextFault;
+use crate::text::going::Going;
 use crate::text::source::Source;
 use crate::width::Width;
 use std::alloc::Global;
 use std::io::Read;
 use std::marker::PhantomData;
-
-/// What a reader of a text does next.
-#[derive(Clone, Copy, Debug, PartialEq, Eq)]
-pub(crate) enum Going {
-    On,
-    AtEnd,
-    Failed(TextFault),
-}
 
 /// Reads the records of a native text, one after the other.
 ///

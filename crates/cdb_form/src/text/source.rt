@@ -21,7 +21,8 @@ pub(crate) struct Source<R> {
 
 impl<R: Read> Source<R> {
     ghost use Rattle.cdb_form.specs.Format.Record.{AreBytes};
-    ghost use Rattle.cdb_form.specs.Views.NativeParser.{FailsBytes, FailsIn, Leaves, budget};
+    ghost use Rattle.cdb_form.specs.Views.NativeParser.{FailsBytes, FailsIn, Leaves};
+    ghost use Rattle.cdb_form.specs.Views.Source.{budget};
     ghost use Rattle.cdb_form.specs.Views.TextFault.{IsReadFault, IsSpent};
 
     /// A reader that gave nothing yet, and may be asked so often.
@@ -43,7 +44,8 @@ impl<R: Read> Source<R> {
     pub(crate) fn byte(&mut self) -> Result<Option<u8>, TextFault>
         ensures bytes { IfOk result (λ found. MatchOption found
             (IsAtEnd (R.remaining self.old.reader)
-            × Keeps (R.remaining self.old.reader) (R.remaining self.new.reader))
+            × Keeps (R.remaining self.old.reader) (R.remaining self.new.reader)
+            × IsAtEnd (R.remaining self.new.reader))
             (λ b. Consumes (R.remaining self.old.reader) (R.remaining self.new.reader) (b ∷ []))) }
         ensures counted { IfOk result (λ found.
             MatchOption found (self.new.taken ≡ self.old.taken) (λ b.

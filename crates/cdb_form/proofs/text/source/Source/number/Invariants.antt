@@ -1,5 +1,5 @@
 use Rattle.std.proofs.Common.{◌≡◌, ◌≤◌}
-use Rattle.cdb_form.specs.Views.NativeParser.{budget}
+use Rattle.cdb_form.specs.Views.Source.{budget}
 use Rattle.cdb_form.proofs.SourceLemmas.{DigitsSoFar}
 use Rattle.cdb_form.proofs.text.source.Source.number.Given as goal
 

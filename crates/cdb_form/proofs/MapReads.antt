@@ -1,0 +1,348 @@
+-- What the parser of a map text read, piece after piece.
+use Rattle.std.proofs.Common.{All, List, None, Option, Some, [], append_assoc, ap, arith, false, get_or, length-append, refl, subst, sym, true, ◌++◌, ◌+◌, ◌<◌, ◌∙◌, ◌∷◌, ◌≡◌, ◌≢◌, ◌≤◌, ℕ}
+use Rattle.std.specs.List.{AllPass}
+use Rattle.std.specs.Prelude.{◌==◌}
+use Rattle.std.specs.Io.KnownBytes.{Consumes, IsAtEnd, Keeps}
+use Rattle.std.proofs.lemmas.Bool.{eqb-true}
+use Rattle.std.proofs.lemmas.List.{append-nil}
+use Rattle.std.proofs.lemmas.List.Concat.{flat_map-append}
+use Rattle.std.proofs.lemmas.List.Elements.{All-append, All-nil, All-push}
+use Rattle.cdb_form.specs.Format.Record.{KeyValue}
+use Rattle.cdb_form.specs.Text.Map.{IsIgnoredLine, IsLineOf, Lacks, behind_blanks, is_blank, is_newline, pair_of, with_newlines}
+use Rattle.cdb_form.specs.Views.MapParser.{ReadsLine, ReadsPair, ReadsRun, ReadsToEnding, ReadsValue, is_of}
+use Rattle.cdb_form.specs.Views.MapReader.{IsAmidLines, ReadsIgnored, ReadsLinesOf}
+use Rattle.cdb_form.specs.Views.Source.{LeavesAmid, Takes, budget}
+use Rattle.cdb_form.specs.Views.TextFault.{IsOfText, IsReadFault, IsSpent}
+use Rattle.cdb_form.specs.declared.text.fault.TextFault.{TextFault}
+use Rattle.cdb_form.specs.declared.text.fault.TextFault.TheVariants.{Ended, Endless, Input, Large, NoMemory, Syntax}
+use Rattle.cdb_form.specs.declared.text.map_parser.Kind.{Kind}
+use Rattle.cdb_form.specs.declared.text.map_parser.Kind.TheVariants.{Blank, InLine, InWord}
+use Rattle.cdb_form.specs.declared.text.map_parser.LineRead.TheVariants.{Ignored, Last, Pair}
+use Rattle.cdb_form.specs.declared.text.source.Source.{Source}
+use Rattle.cdb_form.proofs.MapLines.{behind_blanks-run, blank_line, noted_line, pair_line, pair_of-key}
+use Rattle.cdb_form.proofs.SourceLemmas.{consumes_then, kept_consumes}
+
+-- ---- kinds of bytes
+
+blank_other : (c : ℕ) → is_blank c ≡ true → is_newline c ≡ false
+blank_other c h = grind (arith, eqb-true)
+
+-- no kind has a newline
+of_no_newline : (kind : Kind) (c : ℕ) → is_of kind c ≡ true → is_newline c ≡ false
+of_no_newline Blank c h = blank_other c h
+of_no_newline InWord c h = grind arith
+of_no_newline InLine c h = grind arith
+
+pub run_lacks : (kind : Kind) (bytes : List ℕ) → AllPass (is_of kind) bytes → Lacks is_newline bytes
+run_lacks kind bytes each k d l = of_no_newline kind (get_or bytes k d) (each k d l)
+
+word_no_blank : (c : ℕ) → is_of InWord c ≡ true → is_blank c ≡ false
+word_no_blank c h = grind arith
+
+pub word_lacks : (bytes : List ℕ) → AllPass (is_of InWord) bytes → Lacks is_blank bytes
+word_lacks bytes each k d l = word_no_blank (get_or bytes k d) (each k d l)
+
+-- ---- bytes taken
+
+none_read : (o : Option (List ℕ)) → Consumes o o []
+none_read None = tt
+none_read (Some t) = refl
+
+pub takes_none : {R : Type 0} (remaining : R → Option (List ℕ)) (s : Source R) → Takes remaining s s []
+takes_none remaining s = record { read = none_read (remaining s.reader); counted = omega arith }
+
+pub takes_then : {R : Type 0} (remaining : R → Option (List ℕ)) (old mid new : Source R) (xs ys : List ℕ) → Takes remaining old mid xs → Takes remaining mid new ys → Takes remaining old new (xs ++ ys)
+takes_then remaining old mid new xs ys a b = record {
+  read = consumes_then _ _ _ xs ys a.read b.read;
+  counted = omega (arith, a.counted, b.counted, length-append xs ys);
+}
+
+-- the reader gave nothing more
+pub takes_kept : {R : Type 0} (remaining : R → Option (List ℕ)) (old mid new : Source R) (xs : List ℕ) → Takes remaining old mid xs → Keeps (remaining mid.reader) (remaining new.reader) → new.taken ≡ mid.taken → Takes remaining old new xs
+takes_kept remaining old mid new xs a kept same =
+    subst (λ t. Takes remaining old new t) (append-nil xs) (takes_then remaining old mid new xs [] a (record { read = kept_consumes _ _ kept; counted = omega (arith, same) }))
+
+-- ---- one run of bytes
+
+-- bytes of a kind were read so far
+pub record RunSoFar {R : Type 0} (kind : Kind) (remaining : R → Option (List ℕ)) (old new : Source R) (bytes : List ℕ) : Type 0 where
+  pub each : AllPass (is_of kind) bytes
+  pub takes : Takes remaining old new bytes
+  pub asks : new.asks ≤ old.asks
+  pub spends : budget old ≤ budget new
+
+pub run_begins : {R : Type 0} (kind : Kind) (remaining : R → Option (List ℕ)) (s : Source R) → RunSoFar kind remaining s s []
+run_begins kind remaining s = record { each = All-nil _; takes = takes_none remaining s; asks = omega arith; spends = omega arith }
+
+-- one more byte
+byte_takes : {R : Type 0} (remaining : R → Option (List ℕ)) (mid new : Source R) (b : ℕ) → Consumes (remaining mid.reader) (remaining new.reader) (b ∷ []) → new.taken ≡ mid.taken + 1 → Takes remaining mid new (b ∷ [])
+byte_takes remaining mid new b read counted = record { read = read; counted = omega (arith, counted) }
+
+pub run_more : {R : Type 0} (kind : Kind) (remaining : R → Option (List ℕ)) (old mid new : Source R) (bytes : List ℕ) (b : ℕ) → RunSoFar kind remaining old mid bytes
+    → Consumes (remaining mid.reader) (remaining new.reader) (b ∷ []) → new.taken ≡ mid.taken + 1 → new.asks < mid.asks → mid.asks ≤ new.asks + 1001 → is_of kind b ≡ true
+    → RunSoFar kind remaining old new (bytes ++ b ∷ [])
+run_more kind remaining old mid new bytes b so read counted fewer spends of_kind = record {
+  each = All-push (λ c. is_of kind c ≡ true) bytes b so.each of_kind;
+  takes = takes_then remaining old mid new bytes (b ∷ []) so.takes (byte_takes remaining mid new b read counted);
+  asks = omega (arith, so.asks, fewer);
+  spends = omega (arith, so.spends, spends, counted);
+}
+
+-- what was kept of it
+pub kept_more : (old new bytes : List ℕ) (first b : ℕ) → new ≡ old ++ b ∷ [] → old ≡ first ∷ bytes → new ≡ first ∷ (bytes ++ b ∷ [])
+kept_more old new bytes first b e so = e ∙ ap (λ t. t ++ b ∷ []) so
+
+-- it stops at a byte of another kind, or at the end
+pub run_stops : {R : Type 0} (kind : Kind) (remaining : R → Option (List ℕ)) (old mid new : Source R) (bytes : List ℕ) (b : ℕ) → RunSoFar kind remaining old mid bytes
+    → Consumes (remaining mid.reader) (remaining new.reader) (b ∷ []) → new.taken ≡ mid.taken + 1 → mid.asks ≤ new.asks + 1001 → is_of kind b ≡ false
+    → ReadsRun kind remaining old new bytes (Some b)
+run_stops kind remaining old mid new bytes b so read counted spends other = record {
+  each = so.each;
+  takes = takes_then remaining old mid new bytes (b ∷ []) so.takes (byte_takes remaining mid new b read counted);
+  other = other;
+  end = tt;
+  spends = omega (arith, so.spends, spends, counted);
+}
+
+pub run_ends : {R : Type 0} (kind : Kind) (remaining : R → Option (List ℕ)) (old mid new : Source R) (bytes : List ℕ) → RunSoFar kind remaining old mid bytes
+    → Keeps (remaining mid.reader) (remaining new.reader) → IsAtEnd (remaining new.reader) → new.taken ≡ mid.taken → mid.asks ≤ new.asks + 1001
+    → ReadsRun kind remaining old new bytes None
+run_ends kind remaining old mid new bytes so kept end same spends = record {
+  each = so.each;
+  takes = subst (λ t. Takes remaining old new t) (sym (append-nil bytes)) (takes_kept remaining old mid new bytes so.takes kept same);
+  other = tt;
+  end = end;
+  spends = omega (arith, so.spends, spends, same);
+}
+
+-- or the reader fails amid it
+outside_text : (f : TextFault) → IsReadFault f → IsOfText f → ⊥
+outside_text (Syntax at) h t = absurd h
+outside_text (Ended at) h t = absurd h
+outside_text (Large at) h t = absurd h
+outside_text Input h t = absurd t
+outside_text Endless h t = absurd t
+outside_text NoMemory h t = absurd t
+
+pub run_fails : {R : Type 0} (kind : Kind) (remaining : R → Option (List ℕ)) (old mid new : Source R) (bytes : List ℕ) (f : TextFault) → RunSoFar kind remaining old mid bytes
+    → Keeps (remaining mid.reader) (remaining new.reader) → new.taken ≡ mid.taken → mid.asks ≤ new.asks + 1001 → IsReadFault f → IsSpent new.asks f
+    → LeavesAmid (Lacks is_newline) remaining old new f
+run_fails kind remaining old mid new bytes f so kept same spends fault spent = record {
+  outside = outside_text f fault;
+  part = λ other. (bytes, run_lacks kind bytes so.each, takes_kept remaining old mid new bytes so.takes kept same);
+  spent = spent;
+  spends = omega (arith, so.spends, spends, same);
+}
+
+-- or memory is refused
+pub no_memory : {R : Type 0} (P : List ℕ → Type 0) (remaining : R → Option (List ℕ)) (old new : Source R) (f : TextFault) → f ≡ NoMemory → budget old ≤ budget new + 1001 → LeavesAmid P remaining old new f
+no_memory P remaining old new f e spends = record {
+  outside = λ text. subst IsOfText e text;
+  part = λ other. absurd (other e);
+  spent = λ endless. absurd (let no : Endless ≡ NoMemory = sym endless ∙ e in let none : ⊥ = cc in none);
+  spends = spends;
+}
+
+-- ---- one piece after another
+
+pub leaves_behind : {R : Type 0} (P Q : List ℕ → Type 0) (remaining : R → Option (List ℕ)) (old mid new : Source R) (first : List ℕ) (f : TextFault)
+    → Takes remaining old mid first → budget old ≤ budget mid → ((bytes : List ℕ) → P bytes → Q (first ++ bytes)) → LeavesAmid P remaining mid new f → LeavesAmid Q remaining old new f
+leaves_behind P Q remaining old mid new first f takes spends grows l = record {
+  outside = l.outside;
+  part = λ other. let more = l.part other in (first ++ more.0, grows more.0 more.1, takes_then remaining old mid new first more.0 takes more.2);
+  spent = l.spent;
+  spends = omega (arith, spends, l.spends);
+}
+
+lacks_append : (first bytes : List ℕ) → Lacks is_newline first → Lacks is_newline bytes → Lacks is_newline (first ++ bytes)
+lacks_append first bytes a b = All-append (λ c. is_newline c ≡ false) first bytes a b
+
+lacks_one : (c : ℕ) → is_newline c ≡ false → Lacks is_newline (c ∷ [])
+lacks_one c h = All-push (λ c. is_newline c ≡ false) [] c (All-nil _) h
+
+-- behind a run that stopped at no newline
+pub leaves_past : {R : Type 0} (kind : Kind) (remaining : R → Option (List ℕ)) (old mid new : Source R) (run : List ℕ) (c : ℕ) (f : TextFault) → ReadsRun kind remaining old mid run (Some c) → is_newline c ≡ false
+    → LeavesAmid (Lacks is_newline) remaining mid new f → LeavesAmid (Lacks is_newline) remaining old new f
+leaves_past kind remaining old mid new run c f reads other l =
+    leaves_behind (Lacks is_newline) (Lacks is_newline) remaining old mid new (run ++ c ∷ []) f reads.takes (omega (arith, reads.spends))
+    (λ bytes lacks. lacks_append (run ++ c ∷ []) bytes (lacks_append run (c ∷ []) (run_lacks kind run reads.each) (lacks_one c other)) lacks) l
+
+-- a run to the end of its line
+pub run_to_end : {R : Type 0} (kind : Kind) (remaining : R → Option (List ℕ)) (old new : Source R) (run : List ℕ) → ReadsRun kind remaining old new run None → ReadsToEnding remaining old new run []
+run_to_end kind remaining old new run reads = record { takes = reads.takes; ends = reads.end; spends = reads.spends }
+
+pub run_to_newline : {R : Type 0} (kind : Kind) (remaining : R → Option (List ℕ)) (old new : Source R) (run : List ℕ) (c : ℕ) → ReadsRun kind remaining old new run (Some c) → c ≡ 10 → ReadsToEnding remaining old new run (10 ∷ [])
+run_to_newline kind remaining old new run c reads newline =
+    let line = subst (λ b. ReadsRun kind remaining old new run (Some b)) newline reads in
+    record { takes = line.takes; ends = refl; spends = line.spends }
+
+in_line_stop : (c : ℕ) → is_of InLine c ≡ false → c ≡ 10
+in_line_stop c h = grind (arith, eqb-true)
+
+in_line_ending : {R : Type 0} (remaining : R → Option (List ℕ)) (old new : Source R) (run : List ℕ) (stop : Option ℕ) → ReadsRun InLine remaining old new run stop → (ending : List ℕ) × ReadsToEnding remaining old new run ending
+in_line_ending remaining old new run None reads = ([], run_to_end InLine remaining old new run reads)
+in_line_ending remaining old new run (Some c) reads = (10 ∷ [], run_to_newline InLine remaining old new run c reads (in_line_stop c reads.other))
+
+-- and what is read to the end of its line behind other bytes
+pub to_ending_behind : {R : Type 0} (remaining : R → Option (List ℕ)) (old mid new : Source R) (first text all ending : List ℕ) → Takes remaining old mid first → budget old ≤ budget mid → ReadsToEnding remaining mid new text ending → all ≡ first ++ text → ReadsToEnding remaining old new all ending
+to_ending_behind remaining old mid new first text all ending takes spends reads e = record {
+  takes = subst (λ t. Takes remaining old new t) (sym (ap (λ t. t ++ ending) e ∙ append_assoc first text ending)) (takes_then remaining old mid new first (text ++ ending) takes reads.takes);
+  ends = reads.ends;
+  spends = omega (arith, spends, reads.spends);
+}
+
+-- behind the byte that a run stopped at
+behind_stop : {R : Type 0} (kind : Kind) (remaining : R → Option (List ℕ)) (old mid new : Source R) (run text ending : List ℕ) (c : ℕ) → ReadsRun kind remaining old mid run (Some c) → ReadsToEnding remaining mid new text ending → ReadsToEnding remaining old new (run ++ c ∷ text) ending
+behind_stop kind remaining old mid new run text ending c a b = to_ending_behind remaining old mid new (run ++ c ∷ []) text (run ++ c ∷ text) ending a.takes (omega (arith, a.spends)) b (sym (append_assoc run (c ∷ []) text))
+
+lacks_behind : (run text : List ℕ) (c : ℕ) → Lacks is_newline run → is_newline c ≡ false → Lacks is_newline text → Lacks is_newline (run ++ c ∷ text)
+lacks_behind run text c a h b = lacks_append run (c ∷ text) a (lacks_append (c ∷ []) text (lacks_one c h) b)
+
+pub other_than : (c d : ℕ) → c ≢ d → (c == d) ≡ false
+other_than c d h = grind arith
+
+-- ---- a value
+
+pub value_none : {R : Type 0} (remaining : R → Option (List ℕ)) (old new : Source R) (blanks ending : List ℕ) → AllPass is_blank blanks → ReadsToEnding remaining old new blanks ending → ReadsValue remaining old new []
+value_none remaining old new blanks ending each reads = record {
+  blanks = blanks;
+  ending = ending;
+  each = each;
+  begins = refl;
+  whole = All-nil _;
+  reads = subst (λ t. ReadsToEnding remaining old new t ending) (sym (append-nil blanks)) reads;
+}
+
+pub value_some : {R : Type 0} (remaining : R → Option (List ℕ)) (old mid new : Source R) (blanks bytes value : List ℕ) (c : ℕ) (stop : Option ℕ) → ReadsRun Blank remaining old mid blanks (Some c) → c ≢ 10 → ReadsRun InLine remaining mid new bytes stop → value ≡ c ∷ bytes → ReadsValue remaining old new value
+value_some remaining old mid new blanks bytes value c stop a h b e =
+    let other : is_blank c ≡ false = a.other in
+    let line = in_line_ending remaining mid new bytes stop b in
+    subst (λ v. ReadsValue remaining old new v) (sym e) (record {
+      blanks = blanks;
+      ending = line.0;
+      each = a.each;
+      begins = rw other refl;
+      whole = lacks_append (c ∷ []) bytes (lacks_one c (other_than c 10 h)) (run_lacks InLine bytes b.each);
+      reads = behind_stop Blank remaining old mid new blanks bytes line.0 c a line.1;
+    })
+
+-- ---- a record behind its first byte
+
+first_lacks : (first : ℕ) (word : List ℕ) → is_of InWord first ≡ true → AllPass (is_of InWord) word → Lacks is_blank (first ∷ word)
+first_lacks first word h each = All-append (λ c. is_blank c ≡ false) (first ∷ []) word (All-push (λ c. is_blank c ≡ false) [] first (All-nil _) (word_no_blank first h)) (word_lacks word each)
+
+pub pair_none : {R : Type 0} (remaining : R → Option (List ℕ)) (old new : Source R) (word ending : List ℕ) (first : ℕ) → is_of InWord first ≡ true → AllPass (is_of InWord) word → ReadsToEnding remaining old new word ending → ReadsPair remaining old new first (record { key = first ∷ word; value = [] })
+pair_none remaining old new word ending first h each reads = record {
+  tail = word;
+  ending = ending;
+  whole = run_lacks InWord word each;
+  pair = ap pair_of (sym (append-nil (first ∷ word))) ∙ pair_of-key (first ∷ word) [] (first_lacks first word h each) refl;
+  reads = reads;
+}
+
+word_stop : (c : ℕ) → is_of InWord c ≡ false → (c == 10) ≡ false → is_blank c ≡ true
+word_stop c h other = grind arith
+
+pub pair_value : {R : Type 0} (remaining : R → Option (List ℕ)) (old mid new : Source R) (word value : List ℕ) (first c : ℕ) → is_of InWord first ≡ true → ReadsRun InWord remaining old mid word (Some c) → c ≢ 10 → ReadsValue remaining mid new value
+    → ReadsPair remaining old new first (record { key = first ∷ word; value = value })
+pair_value remaining old mid new word value first c h a other b =
+    let no_newline = other_than c 10 other in
+    let blank : is_blank c ≡ true = word_stop c a.other no_newline in
+    let blanks : AllPass is_blank (c ∷ b.blanks) = All-append (λ c. is_blank c ≡ true) (c ∷ []) b.blanks (All-push (λ c. is_blank c ≡ true) [] c (All-nil _) blank) b.each in
+    let v : behind_blanks (c ∷ (b.blanks ++ value)) ≡ value = behind_blanks-run (c ∷ b.blanks) value blanks b.begins in
+    record {
+      tail = word ++ c ∷ (b.blanks ++ value);
+      ending = b.ending;
+      whole = lacks_behind word (b.blanks ++ value) c (run_lacks InWord word a.each) no_newline (lacks_append b.blanks value (run_lacks Blank b.blanks b.each) b.whole);
+      pair = pair_of-key (first ∷ word) (c ∷ (b.blanks ++ value)) (first_lacks first word h a.each) (rw blank refl) ∙ ap (λ t. let p : KeyValue = record { key = first ∷ word; value = t } in p) v;
+      reads = behind_stop InWord remaining old mid new word (b.blanks ++ value) b.ending c a b.reads;
+    }
+
+-- in the bytes of a record in memory
+pub pair_is : {R : Type 0} (remaining : R → Option (List ℕ)) (old new : Source R) (first : ℕ) (k v key value : List ℕ) → ReadsPair remaining old new first (record { key = k; value = v }) → key ≡ k → value ≡ v → ReadsPair remaining old new first (record { key = key; value = value })
+pair_is remaining old new first k v key value p ek ev =
+    let q = subst (λ t. ReadsPair remaining old new first (record { key = t; value = v })) (sym ek) p in
+    subst (λ t. ReadsPair remaining old new first (record { key = key; value = t })) (sym ev) q
+
+-- ---- a line
+
+blank_ignored : (blanks : List ℕ) → AllPass is_blank blanks → IsIgnoredLine blanks
+blank_ignored blanks each = record { whole = run_lacks Blank blanks each; none = blank_line blanks each }
+
+noted_ignored : (blanks bytes : List ℕ) → AllPass is_blank blanks → AllPass (is_of InLine) bytes → IsIgnoredLine (blanks ++ 35 ∷ bytes)
+noted_ignored blanks bytes each rest = record {
+  whole = lacks_behind blanks bytes 35 (run_lacks Blank blanks each) refl (run_lacks InLine bytes rest);
+  none = noted_line blanks bytes each;
+}
+
+pub line_last : {R : Type 0} (remaining : R → Option (List ℕ)) (old new : Source R) (blanks : List ℕ) (r : KeyValue) → ReadsRun Blank remaining old new blanks None → ReadsLine remaining old new r Last
+line_last remaining old new blanks r a = (blanks, blank_ignored blanks a.each, run_to_end Blank remaining old new blanks a)
+
+pub line_ignored : {R : Type 0} (remaining : R → Option (List ℕ)) (old new : Source R) (blanks : List ℕ) (c : ℕ) (r : KeyValue) → ReadsRun Blank remaining old new blanks (Some c) → c ≡ 10 → ReadsLine remaining old new r Ignored
+line_ignored remaining old new blanks c r a h = (blanks, blank_ignored blanks a.each, run_to_newline Blank remaining old new blanks c a h)
+
+pub note_last : {R : Type 0} (remaining : R → Option (List ℕ)) (old mid new : Source R) (blanks bytes : List ℕ) (c : ℕ) (r : KeyValue) → ReadsRun Blank remaining old mid blanks (Some c) → c ≡ 35 → ReadsRun InLine remaining mid new bytes None → ReadsLine remaining old new r Last
+note_last remaining old mid new blanks bytes c r a h b =
+    let note = subst (λ b. ReadsRun Blank remaining old mid blanks (Some b)) h a in
+    (blanks ++ 35 ∷ bytes, noted_ignored blanks bytes a.each b.each, behind_stop Blank remaining old mid new blanks bytes [] 35 note (run_to_end InLine remaining mid new bytes b))
+
+pub note_ignored : {R : Type 0} (remaining : R → Option (List ℕ)) (old mid new : Source R) (blanks bytes : List ℕ) (c d : ℕ) (r : KeyValue) → ReadsRun Blank remaining old mid blanks (Some c) → c ≡ 35 → ReadsRun InLine remaining mid new bytes (Some d) → ReadsLine remaining old new r Ignored
+note_ignored remaining old mid new blanks bytes c d r a h b =
+    let note = subst (λ b. ReadsRun Blank remaining old mid blanks (Some b)) h a in
+    (blanks ++ 35 ∷ bytes, noted_ignored blanks bytes a.each b.each, behind_stop Blank remaining old mid new blanks bytes (10 ∷ []) 35 note (run_to_newline InLine remaining mid new bytes d b (in_line_stop d b.other)))
+
+pub line_pair : {R : Type 0} (remaining : R → Option (List ℕ)) (old mid new : Source R) (blanks : List ℕ) (c : ℕ) (r : KeyValue) → ReadsRun Blank remaining old mid blanks (Some c) → c ≢ 10 → c ≢ 35 → ReadsPair remaining mid new c r → ReadsLine remaining old new r Pair
+line_pair remaining old mid new blanks c r a no_newline no_note b =
+    let other : is_blank c ≡ false = a.other in
+    let is : IsLineOf r (blanks ++ c ∷ b.tail) = record {
+      whole = lacks_behind blanks b.tail c (run_lacks Blank blanks a.each) (other_than c 10 no_newline) b.whole;
+      holds = pair_line blanks (c ∷ b.tail) r a.each (rw other refl) (other_than c 35 no_note) b.pair;
+    } in
+    (blanks ++ c ∷ b.tail, b.ending, is, behind_stop Blank remaining old mid new blanks b.tail b.ending c a b.reads)
+
+-- ---- lines
+
+-- ignored lines were read so far
+pub record LinesSoFar {R : Type 0} (remaining : R → Option (List ℕ)) (old new : Source R) (ignored : List (List ℕ)) : Type 0 where
+  pub are : All IsIgnoredLine ignored
+  pub takes : Takes remaining old new (with_newlines ignored)
+  pub asks : new.asks ≤ old.asks
+  pub spends : budget old ≤ budget new
+
+pub lines_begin : {R : Type 0} (remaining : R → Option (List ℕ)) (s : Source R) → LinesSoFar remaining s s []
+lines_begin remaining s = record { are = All-nil _; takes = takes_none remaining s; asks = omega arith; spends = omega arith }
+
+with_newlines-push : (lines : List (List ℕ)) (line : List ℕ) → with_newlines (lines ++ line ∷ []) ≡ with_newlines lines ++ (line ++ 10 ∷ [])
+with_newlines-push lines line = flat_map-append (λ l. l ++ 10 ∷ []) lines (line ∷ []) ∙ ap (λ t. with_newlines lines ++ t) (append-nil (line ++ 10 ∷ []))
+
+pub lines_more : {R : Type 0} (remaining : R → Option (List ℕ)) (old mid new : Source R) (ignored : List (List ℕ)) (line : List ℕ) → LinesSoFar remaining old mid ignored → IsIgnoredLine line → ReadsToEnding remaining mid new line (10 ∷ []) → new.asks < mid.asks → LinesSoFar remaining old new (ignored ++ line ∷ [])
+lines_more remaining old mid new ignored line so is reads fewer = record {
+  are = All-push IsIgnoredLine ignored line so.are is;
+  takes = subst (λ t. Takes remaining old new t) (sym (with_newlines-push ignored line)) (takes_then remaining old mid new (with_newlines ignored) (line ++ 10 ∷ []) so.takes reads.takes);
+  asks = omega (arith, so.asks, fewer);
+  spends = omega (arith, so.spends, reads.spends);
+}
+
+pub lines_of_record : {R : Type 0} (remaining : R → Option (List ℕ)) (old mid new : Source R) (ignored : List (List ℕ)) (r : KeyValue) → LinesSoFar remaining old mid ignored → ReadsLine remaining mid new r Pair → ReadsLinesOf remaining old new r
+lines_of_record remaining old mid new ignored r so (line, ending, is, reads) = record {
+  ignored = ignored;
+  line = line;
+  ending = ending;
+  are_ignored = so.are;
+  is = is;
+  reads = to_ending_behind remaining old mid new (with_newlines ignored) line (with_newlines ignored ++ line) ending so.takes so.spends reads refl;
+}
+
+pub lines_last : {R : Type 0} (remaining : R → Option (List ℕ)) (old mid new : Source R) (ignored : List (List ℕ)) (r : KeyValue) → LinesSoFar remaining old mid ignored → ReadsLine remaining mid new r Last → ReadsIgnored remaining old new
+lines_last remaining old mid new ignored r so (line, is, reads) = record {
+  ignored = ignored;
+  line = line;
+  are_ignored = so.are;
+  is = is;
+  reads = to_ending_behind remaining old mid new (with_newlines ignored) line (with_newlines ignored ++ line) [] so.takes so.spends reads refl;
+}
+
+pub lines_fail : {R : Type 0} (remaining : R → Option (List ℕ)) (old mid new : Source R) (ignored : List (List ℕ)) (f : TextFault) → LinesSoFar remaining old mid ignored → LeavesAmid (Lacks is_newline) remaining mid new f → LeavesAmid IsAmidLines remaining old new f
+lines_fail remaining old mid new ignored f so l =
+    leaves_behind (Lacks is_newline) IsAmidLines remaining old mid new (with_newlines ignored) f so.takes so.spends
+    (λ bytes lacks. record { ignored = ignored; part = bytes; are_ignored = so.are; within = lacks; bytes_are = refl }) l

@@ -1,0 +1,74 @@
+-- What the parser of a map text read of a line.
+use Rattle.std.specs.Io.KnownBytes.{IsAtEnd}
+use Rattle.std.specs.List.{AllPass}
+use Rattle.std.specs.Prelude.{Bool, IfNone, IfSome, List, None, Option, Some, [], codes, false, length, not, ◌*◌, ◌+◌, ◌++◌, ◌||◌, ◌∷◌, ◌≡◌, ◌≤◌, ℕ}
+use Rattle.cdb_form.specs.Format.Record.{KeyValue}
+use Rattle.cdb_form.specs.Text.Map.{BeginsOther, IsIgnoredLine, IsLineOf, Lacks, is_blank, is_newline, pair_of}
+use Rattle.cdb_form.specs.Views.Source.{Takes, budget}
+use Rattle.cdb_form.specs.declared.text.map_parser.Kind.{Kind}
+use Rattle.cdb_form.specs.declared.text.map_parser.Kind.TheVariants.{Blank, InLine, InWord}
+use Rattle.cdb_form.specs.declared.text.map_parser.LineRead.{LineRead}
+use Rattle.cdb_form.specs.declared.text.map_parser.LineRead.TheVariants.{Ignored, Last, Pair}
+use Rattle.cdb_form.specs.declared.text.source.Source.{Source}
+
+-- whether a byte is of a kind
+abbrev pub is_of : Kind → ℕ → Bool
+is_of Blank c = is_blank c
+is_of InWord c = not (is_blank c || is_newline c)
+is_of InLine c = not (is_newline c)
+
+-- the byte that was read behind a run, where there is one
+abbrev pub stop_bytes : Option ℕ → List ℕ
+stop_bytes None = []
+stop_bytes (Some c) = c ∷ []
+
+-- bytes of a kind were read, up to one of another kind, which was read too, or up to the end
+pub record ReadsRun {R : Type 0} (kind : Kind) (remaining : R → Option (List ℕ))
+    (old new : Source R) (bytes : List ℕ) (stop : Option ℕ) : Type 0 where
+  pub each : AllPass (is_of kind) bytes
+  pub takes : Takes remaining old new (bytes ++ stop_bytes stop)
+  pub other : IfSome stop (λ c. is_of kind c ≡ false)
+  pub end : IfNone stop (IsAtEnd (remaining new.reader))
+  pub spends : budget old + 1001 * length (stop_bytes stop) ≤ budget new + 1001
+
+-- how a line ends: with a newline, or at the end of the input
+abbrev pub EndsLine : List ℕ → Option (List ℕ) → Type 0
+EndsLine [] unread = IsAtEnd unread
+EndsLine (c ∷ bytes) unread = c ∷ bytes ≡ codes "\n"
+
+-- A text was read, and how its line ends. The end of the input takes as many asks as a byte.
+pub record ReadsToEnding {R : Type 0} (remaining : R → Option (List ℕ)) (old new : Source R)
+    (text ending : List ℕ) : Type 0 where
+  pub takes : Takes remaining old new (text ++ ending)
+  pub ends : EndsLine ending (remaining new.reader)
+  pub spends : budget old + 1001 * length ending ≤ budget new + 1001
+
+-- blanks were read, and then a value, up to the end of its line
+pub record ReadsValue {R : Type 0} (remaining : R → Option (List ℕ)) (old new : Source R)
+    (value : List ℕ) : Type 0 where
+  pub blanks : List ℕ
+  pub ending : List ℕ
+  pub each : AllPass is_blank blanks
+  pub begins : BeginsOther is_blank value
+  pub whole : Lacks is_newline value
+  pub reads : ReadsToEnding remaining old new (blanks ++ value) ending
+
+-- behind its first byte a record was read, up to the end of its line
+pub record ReadsPair {R : Type 0} (remaining : R → Option (List ℕ)) (old new : Source R)
+    (first : ℕ) (r : KeyValue) : Type 0 where
+  pub tail : List ℕ
+  pub ending : List ℕ
+  pub whole : Lacks is_newline tail
+  pub pair : pair_of (first ∷ tail) ≡ r
+  pub reads : ReadsToEnding remaining old new tail ending
+
+-- a line was read: an ignored one with its newline, an ignored one at the end of the input, or that
+-- of a record
+abbrev pub ReadsLine : {R : Type 0} → (R → Option (List ℕ)) → Source R → Source R → KeyValue
+    → LineRead → Type 0
+ReadsLine remaining old new r Ignored =
+    (line : List ℕ) × IsIgnoredLine line × ReadsToEnding remaining old new line (codes "\n")
+ReadsLine remaining old new r Last =
+    (line : List ℕ) × IsIgnoredLine line × ReadsToEnding remaining old new line []
+ReadsLine remaining old new r Pair =
+    (line ending : List ℕ) × IsLineOf r line × ReadsToEnding remaining old new line ending

@@ -1,0 +1,13 @@
+// How far a reader of a text has come.
+use crate::text::fault::TextFault;
+
+/// What a reader of a text does next.
+#[derive(Clone, Copy, Debug, PartialEq, Eq)]
+pub(crate) enum Going {
+    /// It reads on.
+    On,
+    /// It tells the end again.
+    AtEnd,
+    /// It tells this fault again.
+    Failed(TextFault),
+}

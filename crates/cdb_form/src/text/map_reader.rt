@@ -1,0 +1,99 @@
+// Records out of a map text.
+ghost use Rattle.std.specs.Prelude.{◌≡◌, ◌^◌, ◌≤◌, false, IfOk, IfErr, MatchOption, MatchBool};
+ghost use Rattle.cdb_form.specs.Views.Pairs.{key_value};
+
+use crate::record::Record;
+use crate::text::fault::TextFault;
+use crate::text::going::Going;
+use crate::text::source::Source;
+use std::alloc::Global;
+use std::io::Read;
+
+/// Reads the records of a map text, one after the other.
+///
+/// Every input is a map text, so `Input`, `Endless` and `NoMemory` are its only faults. Its reader is
+/// asked for one byte at once, and for none behind the newline of the record that it gives.
+#[derive(Drop)]
+pub struct MapReader<R> {
+    alloc: Global,
+    source: Source<R>,
+    going: Going,
+}
+
+impl<R: Read> MapReader<R> {
+    ghost use Rattle.cdb_form.specs.Views.MapReader.{unread, taken_of, asks_left, IsGoing, HasEnded, HasFailed, GivesRecord, GivesEnd, Fails};
+    /// A reader of the text that `reader` gives, which may be asked 2^48 times.
+    pub fn new(alloc: Global, reader: R) -> MapReader<R>
+        ensures unread { unread R.remaining result ≡ R.remaining reader }
+        ensures taken { taken_of result ≡ 0 }
+        ensures asks { asks_left result ≡ 2 ^ 48 }
+        ensures going { IsGoing result }
+    {
+        MapReader::with_bound(alloc, reader, 1 << 48)
+    }
+
+    /// A reader of the text that `reader` gives, which may be asked so many times.
+    pub fn with_bound(alloc: Global, reader: R, asks: u64) -> MapReader<R>
+        requires { asks ≤ 2 ^ 48 }
+        ensures unread { unread R.remaining result ≡ R.remaining reader }
+        ensures taken { taken_of result ≡ 0 }
+        ensures asks { asks_left result ≡ asks }
+        ensures going { IsGoing result }
+    {
+        MapReader {
+            alloc,
+            source: Source::new(reader, asks),
+            going: Going::On,
+        }
+    }
+
+    /// The next record, or `None` at the end of the input.
+    ///
+    /// After the end it answers `Ok(None)` for good, and after a fault that fault. `Input` comes where
+    /// the reader failed, or was interrupted more than 1000 times in a row; `Endless` where no ask is
+    /// left; `NoMemory` where a growth was refused.
+    pub fn next(&mut self) -> Result<Option<Record>, TextFault>
+        ensures gives { IfOk result (λ found. MatchOption found
+            (GivesEnd R.remaining self.old self.new)
+            (λ r. GivesRecord R.remaining self.old self.new (key_value r))) }
+        ensures fails { IfErr result (Fails R.remaining self.old self.new) }
+        // After the end and after a fault nothing is read, and the answer stays.
+        ensures ended { HasEnded self.old → (result ≡ Ok None) × (self.new ≡ self.old) }
+        ensures failed { (fault : _) → HasFailed self.old fault →
+            (result ≡ Err fault) × (self.new ≡ self.old) }
+    {
+        let mut record = Record {
+            key: Vec::new(self.alloc),
+            value: Vec::new(self.alloc),
+        };
+        let given = self.read_into(&mut record)?;
+        if given { Ok(Some(record)) } else { Ok(None) }
+    }
+
+    /// Reads the next record over another one, whose memory it takes, and answers whether there is
+    /// one. The answers are those of `next`, with `false` for `None`; after `false` and after a
+    /// fault the record holds anything.
+    pub fn read_into(&mut self, into: &mut Record) -> Result<bool, TextFault>
+        ensures gives { IfOk result (λ given. MatchBool given
+            (GivesRecord R.remaining self.old self.new (key_value into.new))
+            (GivesEnd R.remaining self.old self.new)) }
+        ensures fails { IfErr result (Fails R.remaining self.old self.new) }
+        // After the end and after a fault nothing is read, and the answer stays.
+        ensures ended { HasEnded self.old → (result ≡ Ok false) × (self.new ≡ self.old) }
+        ensures failed { (fault : _) → HasFailed self.old fault →
+            (result ≡ Err fault) × (self.new ≡ self.old) }
+    {
+        match self.going {
+            Going::On => {}
+            Going::AtEnd => return Ok(false),
+            Going::Failed(fault) => return Err(fault),
+        }
+        let answer = self.source.map_entry(into);
+        match answer {
+            Ok(true) => {}
+            Ok(false) => self.going = Going::AtEnd,
+            Err(fault) => self.going = Going::Failed(fault),
+        }
+        answer
+    }
+}
