@@ -8,7 +8,7 @@ use std::prelude::*;
 pub(super) enum Behind {
     End,
     Failure,
-    ZerosForEver,
+    ForEver(u8),
 }
 
 /// Gives a text in pieces, and counts the calls and notes the greatest ask. Before each piece it is
@@ -66,9 +66,9 @@ impl Read for FakeReader<'_> {
             return match self.behind {
                 Behind::End => Ok(0),
                 Behind::Failure => Err(io::Error::from(ErrorKind::Other)),
-                Behind::ZerosForEver => {
-                    for byte in buf.iter_mut() {
-                        *byte = b'0';
+                Behind::ForEver(byte) => {
+                    for place in buf.iter_mut() {
+                        *place = byte;
                     }
                     Ok(buf.len())
                 }

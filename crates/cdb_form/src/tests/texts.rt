@@ -92,7 +92,7 @@ fn records_are_given_and_the_rest_stays(rt: HostRuntime) -> Result<(), Fail> {
 
 #[test]
 fn a_text_without_end_is_given_up_for_good(rt: HostRuntime) {
-    let reader = FakeReader::new(b"+", Behind::ZerosForEver);
+    let reader = FakeReader::new(b"+", Behind::ForEver(b'0'));
     let mut texts: TextReader<FakeReader<'_>, Narrow> = TextReader::with_bound(
         rt.alloc(),
         reader,

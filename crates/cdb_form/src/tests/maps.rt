@@ -1,0 +1,235 @@
+// The map reader and the writers of maps and keys, on texts worked out by hand, and over readers
+// and writers that fail.
+ghost use Rattle.std.specs.Prelude.{◌≤◌, ◌^◌};
+
+use super::fakes::{Behind, FakeReader, FakeWriter};
+use crate::text::fault::TextFault;
+use crate::text::map_reader::MapReader;
+use crate::writing::OutFault;
+use crate::{write_end, write_list_record, write_map_key, write_map_record};
+use std::alloc::Global;
+use std::io::Read;
+use std::prelude::*;
+use std::test::Fail;
+
+const SIX_LINES: &[u8] = b"  one Hello\n# note\n\n  # more\n \t\nkey\ntwo\t \tGood bye";
+
+/// Each record as `<key|value>`, and the fault behind them.
+fn read_all<R: Read + Drop>(
+    alloc: Global,
+    reader: R,
+    asks: u64,
+) -> Result<(Vec<u8>, Option<TextFault>), Fail>
+    requires { asks ≤ 2 ^ 48 }
+{
+    let mut maps = MapReader::with_bound(alloc, reader, asks);
+    let mut given = Vec::new(alloc);
+    for _ in 0..1000 {
+        match maps.next() {
+            Ok(Some(record)) => {
+                given.push(b'<')?;
+                given.extend_from_slice(&record.key)?;
+                given.push(b'|')?;
+                given.extend_from_slice(&record.value)?;
+                given.push(b'>')?;
+            }
+            Ok(None) => return Ok((given, None)),
+            Err(fault) => return Ok((given, Some(fault))),
+        }
+    }
+    Ok((given, None))
+}
+
+#[test]
+fn records_of_texts(rt: HostRuntime) -> Result<(), Fail> {
+    let cases: [(&[u8], &[u8]); 14] = [
+        (SIX_LINES, b"<one|Hello><key|><two|Good bye>"),
+        (b"", b""),
+        (b"\n", b""),
+        (b" \t\n\t", b""),
+        (b"#", b""),
+        (b"\t# a b", b""),
+        (b"key", b"<key|>"),
+        (b"key \t", b"<key|>"),
+        (b"a # b", b"<a|# b>"),
+        (b"a# b", b"<a#|b>"),
+        (b"a b \t\n", b"<a|b \t>"),
+        (b"a b\r\n\r\n", b"<a|b\r><\r|>"),
+        (b"a\n\n\na\n", b"<a|><a|>"),
+        (b"\0\xff \xfe\0 \x80", b"<\0\xff|\xfe\0 \x80>"),
+    ];
+    for (text, records) in cases {
+        let reader = FakeReader::new(text, Behind::End);
+        let (given, fault) = read_all(rt.alloc(), reader, 1 << 48)?;
+        assert_eq!(rt; fault, None, "{text:?}");
+        assert_eq!(rt; given.as_slice(), records, "{text:?}");
+    }
+    Ok(())
+}
+
+#[test]
+fn no_byte_behind_a_record_is_read(rt: HostRuntime) {
+    let mut rest: &[u8] = SIX_LINES;
+    let left: [&[u8]; 3] = [
+        b"# note\n\n  # more\n \t\nkey\ntwo\t \tGood bye",
+        b"two\t \tGood bye",
+        b"",
+    ];
+    for want in left {
+        {
+            let mut maps = MapReader::new(rt.alloc(), &mut rest);
+            assert!(rt; matches!(maps.next(), Ok(Some(_))));
+        }
+        assert_eq!(rt; rest, want);
+    }
+    let mut maps = MapReader::new(rt.alloc(), &mut rest);
+    for _ in 0..3 {
+        assert!(rt; matches!(maps.next(), Ok(None)));
+    }
+}
+
+#[test]
+fn one_byte_is_asked_for_at_once(rt: HostRuntime) -> Result<(), Fail> {
+    let mut reader = FakeReader::new(SIX_LINES, Behind::End);
+    read_all(rt.alloc(), &mut reader, 1 << 48)?;
+    assert_eq!(rt; reader.greatest_ask, 1);
+    // The end is met by the last record's line and by the call behind it.
+    assert_eq!(rt; reader.calls, SIX_LINES.len() as u64 + 2);
+    Ok(())
+}
+
+#[test]
+fn a_text_without_end_is_given_up_for_good(rt: HostRuntime) {
+    for behind in [b' ', b'\n', b'#', b'a'] {
+        let reader = FakeReader::new(b"", Behind::ForEver(behind));
+        let mut maps = MapReader::with_bound(rt.alloc(), reader, 100);
+        for _ in 0..2 {
+            assert!(rt; matches!(maps.next(), Err(TextFault::Endless)), "{behind}");
+        }
+    }
+}
+
+#[test]
+fn each_cut_text_is_a_map_text(rt: HostRuntime) -> Result<(), Fail> {
+    let text = b"ab c\n#d\n e";
+    let cases: [&[u8]; 11] = [
+        b"",
+        b"<a|>",
+        b"<ab|>",
+        b"<ab|>",
+        b"<ab|c>",
+        b"<ab|c>",
+        b"<ab|c>",
+        b"<ab|c>",
+        b"<ab|c>",
+        b"<ab|c>",
+        b"<ab|c><e|>",
+    ];
+    for (cut, records) in cases.iter().enumerate() {
+        let reader = FakeReader::new(&text[..cut], Behind::End);
+        let (given, fault) = read_all(rt.alloc(), reader, 1 << 48)?;
+        assert_eq!(rt; fault, None, "cut at {cut}");
+        assert_eq!(rt; given.as_slice(), *records, "cut at {cut}");
+    }
+    Ok(())
+}
+
+#[test]
+fn lines_that_are_whole_are_given_before_a_failure(rt: HostRuntime) -> Result<(), Fail> {
+    let text = b"ab c\n#d\n e\n";
+    for cut in 0..text.len() + 1 {
+        let records: &[u8] = match cut {
+            0..=4 => b"",
+            5..=10 => b"<ab|c>",
+            _ => b"<ab|c><e|>",
+        };
+        let reader = FakeReader::new(&text[..cut], Behind::Failure);
+        let (given, fault) = read_all(rt.alloc(), reader, 1 << 48)?;
+        assert_eq!(rt; fault, Some(TextFault::Input), "failure at {cut}");
+        assert_eq!(rt; given.as_slice(), records, "failure at {cut}");
+    }
+    Ok(())
+}
+
+#[test]
+fn interruptions_are_asked_again(rt: HostRuntime) -> Result<(), Fail> {
+    let all: &[u8] = b"<one|Hello><key|><two|Good bye>";
+    let cases: [(u64, u64, &[u8], Option<TextFault>); 4] = [
+        (1000, 1 << 48, all, None),
+        (1001, 1 << 48, b"", Some(TextFault::Input)),
+        (u64::MAX, 100, b"", Some(TextFault::Endless)),
+        (u64::MAX, 2000, b"", Some(TextFault::Input)),
+    ];
+    for (interrupts, asks, records, fault) in cases {
+        assert!(rt; asks <= 1 << 48);
+        let reader = FakeReader::interrupted(SIX_LINES, interrupts);
+        let (given, found) = read_all(rt.alloc(), reader, asks)?;
+        assert_eq!(rt; found, fault, "{interrupts} interruptions, {asks} asks");
+        assert_eq!(rt; given.as_slice(), records);
+    }
+    Ok(())
+}
+
+#[test]
+fn interruptions_are_counted_in_a_row(rt: HostRuntime) -> Result<(), Fail> {
+    let reader = FakeReader::interrupted_each(SIX_LINES, 1000);
+    let (given, fault) = read_all(rt.alloc(), reader, 1 << 48)?;
+    assert_eq!(rt; fault, None);
+    assert_eq!(rt;
+        given.as_slice(),
+        b"<one|Hello><key|><two|Good bye>".as_slice()
+    );
+    let reader = FakeReader::interrupted_each(SIX_LINES, 1001);
+    let (given, fault) = read_all(rt.alloc(), reader, 1 << 48)?;
+    assert_eq!(rt; fault, Some(TextFault::Input));
+    assert!(rt; given.is_empty());
+    Ok(())
+}
+
+#[test]
+fn as_many_asks_as_are_made_suffice(rt: HostRuntime) -> Result<(), Fail> {
+    let asks = SIX_LINES.len() as u64 + 2;
+    assert!(rt; asks <= 1 << 48);
+    let two: &[u8] = b"<one|Hello><key|>";
+    let three: &[u8] = b"<one|Hello><key|><two|Good bye>";
+    let cases = [
+        (asks, three, None),
+        (asks - 1, three, Some(TextFault::Endless)),
+        (asks - 2, two, Some(TextFault::Endless)),
+    ];
+    for (bound, records, fault) in cases {
+        let reader = FakeReader::new(SIX_LINES, Behind::End);
+        let (given, found) = read_all(rt.alloc(), reader, bound)?;
+        assert_eq!(rt; found, fault, "{bound} asks");
+        assert_eq!(rt; given.as_slice(), records, "{bound} asks");
+    }
+    Ok(())
+}
+
+/// The map text of two records, their list text, and their keys.
+fn write_all(writer: &mut FakeWriter) -> Result<(), OutFault> {
+    write_map_record(writer, b"one", b"Hello")?;
+    write_map_record(writer, b"two", b"Goodbye")?;
+    write_list_record(writer, b"one")?;
+    write_list_record(writer, b"")?;
+    write_list_record(writer, b"0123456789")?;
+    write_end(writer)?;
+    write_map_key(writer, b"one")?;
+    write_map_key(writer, b"two")
+}
+
+#[test]
+fn texts_are_written_or_a_front_of_them(rt: HostRuntime) {
+    let text = b"one Hello\ntwo Goodbye\n+3:one\n+0:\n+10:0123456789\n\none\ntwo\n";
+    for room in 0..text.len() + 1 {
+        let mut writer = FakeWriter::new(rt.alloc(), room, 0);
+        let answer = write_all(&mut writer);
+        let want = if room < text.len() {
+            Err(OutFault)
+        } else {
+            Ok(())
+        };
+        assert_eq!(rt; answer, want, "room for {room}");
+        assert_eq!(rt; writer.held.as_slice(), &text[..room]);
+    }
+}
