@@ -23,3 +23,4 @@ pub mod StreamLemmas
 pub mod WalkText
 pub mod MapLines
 pub mod MapReads
+pub mod WholeMap

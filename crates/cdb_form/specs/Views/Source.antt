@@ -16,8 +16,8 @@ pub record Takes {R : Type 0} (remaining : R → Option (List ℕ)) (old new : S
   pub read : Consumes (remaining old.reader) (remaining new.reader) bytes
   pub counted : new.taken ≡ old.taken + length bytes
 
--- What a fault leaves that is not one of the text: bytes with the property P were read. Asks last for
--- 1001 a byte.
+-- What a fault leaves that is not one of the text: bytes with the property P were read. Asks last
+-- for 1001 a byte.
 pub record LeavesAmid {R : Type 0} (P : List ℕ → Type 0) (remaining : R → Option (List ℕ))
     (old new : Source R) (f : TextFault) : Type 0 where
   pub outside : IsOfText f → ⊥

@@ -99,13 +99,14 @@ impl<R: Read> Source<R> {
             R.remaining self.old self.new) }
     {
         into.clear();
-        match self.pass(Kind::Blank)? {
-            None | Some(b'\n') => Ok(()),
-            Some(first) => {
-                self.keep(first, Kind::InLine, into)?;
-                Ok(())
-            }
+        let Some(first) = self.pass(Kind::Blank)? else {
+            return Ok(());
+        };
+        if first == b'\n' {
+            return Ok(());
         }
+        self.keep(first, Kind::InLine, into)?;
+        Ok(())
     }
 
     /// Takes the rest of a record's line behind its first byte, which is one of its key.

@@ -11,8 +11,8 @@ use std::io::Read;
 
 /// Reads the records of a map text, one after the other.
 ///
-/// Every input is a map text, so `Input`, `Endless` and `NoMemory` are its only faults. Its reader is
-/// asked for one byte at once, and for none behind the newline of the record that it gives.
+/// Every input is a map text, so `Input`, `Endless` and `NoMemory` are its only faults. Its reader
+/// is asked for one byte at once, and for none behind the newline of the record that it gives.
 #[derive(Drop)]
 pub struct MapReader<R> {
     alloc: Global,
@@ -49,9 +49,9 @@ impl<R: Read> MapReader<R> {
 
     /// The next record, or `None` at the end of the input.
     ///
-    /// After the end it answers `Ok(None)` for good, and after a fault that fault. `Input` comes where
-    /// the reader failed, or was interrupted more than 1000 times in a row; `Endless` where no ask is
-    /// left; `NoMemory` where a growth was refused.
+    /// After the end it answers `Ok(None)` for good, and after a fault that fault. `Input` comes
+    /// where the reader failed, or was interrupted more than 1000 times in a row; `Endless` where
+    /// no ask is left; `NoMemory` where a growth was refused.
     pub fn next(&mut self) -> Result<Option<Record>, TextFault>
         ensures gives { IfOk result (λ found. MatchOption found
             (GivesEnd R.remaining self.old self.new)

@@ -3,16 +3,16 @@ use Rattle.std.proofs.lemmas.Result.{err_from_is_err_and}
 use Rattle.cdb_form.proofs.MapReads.{leaves_past, other_than, value_some}
 use Rattle.cdb_form.proofs.text.source.Source.value.Goals as goal
 
-pub returns-in_err-keep-in-Some-clause-leaves : goal.returns-in_err-keep-in-Some-clause-leaves
-returns-in_err-keep-in-Some-clause-leaves g c =
-    let p = err_from_is_err_and c.from_residual-in_err-keep-in-Some.result c.from_residual-in_err-keep-in-Some.ensures.1 in
-    let run = rw c.in-Some.is at c.in_ok-pass.ensures.run in
+pub returns-in_err-keep-clause-leaves : goal.returns-in_err-keep-clause-leaves
+returns-in_err-keep-clause-leaves g c =
+    let p = err_from_is_err_and c.from_residual-in_err-keep.result c.from_residual-in_err-keep.ensures.1 in
+    let run = rw c.in-Some.is at c.in_ok-first.ensures.run in
     let other : c.in-Some.first ≢ 10 = omega arith in
-    rw (p.1, p.2) (leaves_past _ _ _ _ _ run.0 _ _ run.1 (other_than _ 10 other) c.in_err-keep-in-Some.ensures.leaves)
+    rw (p.1, p.2) (leaves_past _ _ _ _ _ run.0 _ _ run.1 (other_than _ 10 other) c.in_err-keep.ensures.leaves)
 
-pub returns-in_ok-keep-in-Some-clause-reads : goal.returns-in_ok-keep-in-Some-clause-reads
-returns-in_ok-keep-in-Some-clause-reads g c =
-    let run = rw c.in-Some.is at c.in_ok-pass.ensures.run in
-    let kept = c.in_ok-keep-in-Some.ensures.run in
+pub returns-clause-reads : goal.returns-clause-reads
+returns-clause-reads g c =
+    let run = rw c.in-Some.is at c.in_ok-first.ensures.run in
+    let kept = c.in_ok-keep.ensures.run in
     let other : c.in-Some.first ≢ 10 = omega arith in
     value_some _ _ _ _ run.0 kept.0 _ _ _ run.1 other kept.2 kept.1
