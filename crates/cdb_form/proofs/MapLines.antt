@@ -68,10 +68,6 @@ no_blank_first (c ∷ key) rest kept lacks =
     let other : is_blank c ≡ false = (recursion_from_All (λ b. is_blank b ≡ false) (c ∷ key) lacks).0 in
     (rw other refl, kept)
 
--- a value that begins with no blank is all that is left of it
-value_stays : (value : List ℕ) → BeginsOther is_blank value → behind_blanks value ≡ value
-value_stays value h = ap (λ n. drop n value) h
-
 pub written_line : (r : KeyValue) (rest : List ℕ) → IsMapWord r → map_lines (map_line r ++ rest) ≡ r ∷ map_lines rest
 written_line r rest word =
     let line : List ℕ = r.key ++ 32 ∷ r.value in

@@ -2,7 +2,7 @@
 use Rattle.std.proofs.Common.{All, List, None, Option, Some, [], append_assoc, ap, arith, false, get_or, length-append, refl, subst, sym, true, ◌++◌, ◌+◌, ◌<◌, ◌∙◌, ◌∷◌, ◌≡◌, ◌≢◌, ◌≤◌, ℕ}
 use Rattle.std.specs.List.{AllPass}
 use Rattle.std.specs.Prelude.{◌==◌}
-use Rattle.std.specs.Io.KnownBytes.{Consumes, IsAtEnd, Keeps}
+use Rattle.std.specs.Io.KnownBytes.{Consumes}
 use Rattle.std.proofs.lemmas.Bool.{eqb-true}
 use Rattle.std.proofs.lemmas.List.{append-nil}
 use Rattle.std.proofs.lemmas.List.Concat.{flat_map-append}
@@ -10,17 +10,15 @@ use Rattle.std.proofs.lemmas.List.Elements.{All-append, All-nil, All-push}
 use Rattle.cdb_form.specs.Format.Record.{KeyValue}
 use Rattle.cdb_form.specs.Text.Map.{IsIgnoredLine, IsLineOf, Lacks, behind_blanks, is_blank, is_newline, pair_of, with_newlines}
 use Rattle.cdb_form.specs.Views.MapParser.{ReadsLine, ReadsPair, ReadsRun, ReadsToEnding, ReadsValue, is_of}
-use Rattle.cdb_form.specs.Views.MapReader.{IsAmidLines, ReadsIgnored, ReadsLinesOf}
+use Rattle.cdb_form.specs.Views.MapReader.{IsAmidLines}
 use Rattle.cdb_form.specs.Views.Source.{LeavesAmid, Takes, budget}
-use Rattle.cdb_form.specs.Views.TextFault.{IsOfText, IsReadFault, IsSpent}
 use Rattle.cdb_form.specs.declared.text.fault.TextFault.{TextFault}
-use Rattle.cdb_form.specs.declared.text.fault.TextFault.TheVariants.{Ended, Endless, Input, Large, NoMemory, Syntax}
 use Rattle.cdb_form.specs.declared.text.map_parser.Kind.{Kind}
 use Rattle.cdb_form.specs.declared.text.map_parser.Kind.TheVariants.{Blank, InLine, InWord}
 use Rattle.cdb_form.specs.declared.text.map_parser.LineRead.TheVariants.{Ignored, Last, Pair}
 use Rattle.cdb_form.specs.declared.text.source.Source.{Source}
 use Rattle.cdb_form.proofs.MapLines.{behind_blanks-run, blank_line, noted_line, pair_line, pair_of-key}
-use Rattle.cdb_form.proofs.SourceLemmas.{consumes_then, kept_consumes}
+use Rattle.cdb_form.proofs.SourceLemmas.{consumes_then}
 
 -- ---- kinds of bytes
 
@@ -57,11 +55,6 @@ takes_then remaining old mid new xs ys a b = record {
   counted = omega (arith, a.counted, b.counted, length-append xs ys);
 }
 
--- the reader gave nothing more
-pub takes_kept : {R : Type 0} (remaining : R → Option (List ℕ)) (old mid new : Source R) (xs : List ℕ) → Takes remaining old mid xs → Keeps (remaining mid.reader) (remaining new.reader) → new.taken ≡ mid.taken → Takes remaining old new xs
-takes_kept remaining old mid new xs a kept same =
-    subst (λ t. Takes remaining old new t) (append-nil xs) (takes_then remaining old mid new xs [] a (record { read = kept_consumes _ _ kept; counted = omega (arith, same) }))
-
 -- ---- one run of bytes
 
 -- bytes of a kind were read so far
@@ -70,9 +63,6 @@ pub record RunSoFar {R : Type 0} (kind : Kind) (remaining : R → Option (List �
   pub takes : Takes remaining old new bytes
   pub asks : new.asks ≤ old.asks
   pub spends : budget old ≤ budget new
-
-pub run_begins : {R : Type 0} (kind : Kind) (remaining : R → Option (List ℕ)) (s : Source R) → RunSoFar kind remaining s s []
-run_begins kind remaining s = record { each = All-nil _; takes = takes_none remaining s; asks = omega arith; spends = omega arith }
 
 -- one more byte
 byte_takes : {R : Type 0} (remaining : R → Option (List ℕ)) (mid new : Source R) (b : ℕ) → Consumes (remaining mid.reader) (remaining new.reader) (b ∷ []) → new.taken ≡ mid.taken + 1 → Takes remaining mid new (b ∷ [])
@@ -91,57 +81,6 @@ run_more kind remaining old mid new bytes b so read counted fewer spends of_kind
 -- what was kept of it
 pub kept_more : (old new bytes : List ℕ) (first b : ℕ) → new ≡ old ++ b ∷ [] → old ≡ first ∷ bytes → new ≡ first ∷ (bytes ++ b ∷ [])
 kept_more old new bytes first b e so = e ∙ ap (λ t. t ++ b ∷ []) so
-
--- it stops at a byte of another kind, or at the end
-pub run_stops : {R : Type 0} (kind : Kind) (remaining : R → Option (List ℕ)) (old mid new : Source R) (bytes : List ℕ) (b : ℕ) → RunSoFar kind remaining old mid bytes
-    → Consumes (remaining mid.reader) (remaining new.reader) (b ∷ []) → new.taken ≡ mid.taken + 1 → mid.asks ≤ new.asks + 1001 → is_of kind b ≡ false
-    → ReadsRun kind remaining old new bytes (Some b)
-run_stops kind remaining old mid new bytes b so read counted spends other = record {
-  each = so.each;
-  takes = takes_then remaining old mid new bytes (b ∷ []) so.takes (byte_takes remaining mid new b read counted);
-  other = other;
-  end = tt;
-  spends = omega (arith, so.spends, spends, counted);
-}
-
-pub run_ends : {R : Type 0} (kind : Kind) (remaining : R → Option (List ℕ)) (old mid new : Source R) (bytes : List ℕ) → RunSoFar kind remaining old mid bytes
-    → Keeps (remaining mid.reader) (remaining new.reader) → IsAtEnd (remaining new.reader) → new.taken ≡ mid.taken → mid.asks ≤ new.asks + 1001
-    → ReadsRun kind remaining old new bytes None
-run_ends kind remaining old mid new bytes so kept end same spends = record {
-  each = so.each;
-  takes = subst (λ t. Takes remaining old new t) (sym (append-nil bytes)) (takes_kept remaining old mid new bytes so.takes kept same);
-  other = tt;
-  end = end;
-  spends = omega (arith, so.spends, spends, same);
-}
-
--- or the reader fails amid it
-outside_text : (f : TextFault) → IsReadFault f → IsOfText f → ⊥
-outside_text (Syntax at) h t = absurd h
-outside_text (Ended at) h t = absurd h
-outside_text (Large at) h t = absurd h
-outside_text Input h t = absurd t
-outside_text Endless h t = absurd t
-outside_text NoMemory h t = absurd t
-
-pub run_fails : {R : Type 0} (kind : Kind) (remaining : R → Option (List ℕ)) (old mid new : Source R) (bytes : List ℕ) (f : TextFault) → RunSoFar kind remaining old mid bytes
-    → Keeps (remaining mid.reader) (remaining new.reader) → new.taken ≡ mid.taken → mid.asks ≤ new.asks + 1001 → IsReadFault f → IsSpent new.asks f
-    → LeavesAmid (Lacks is_newline) remaining old new f
-run_fails kind remaining old mid new bytes f so kept same spends fault spent = record {
-  outside = outside_text f fault;
-  part = λ other. (bytes, run_lacks kind bytes so.each, takes_kept remaining old mid new bytes so.takes kept same);
-  spent = spent;
-  spends = omega (arith, so.spends, spends, same);
-}
-
--- or memory is refused
-pub no_memory : {R : Type 0} (P : List ℕ → Type 0) (remaining : R → Option (List ℕ)) (old new : Source R) (f : TextFault) → f ≡ NoMemory → budget old ≤ budget new + 1001 → LeavesAmid P remaining old new f
-no_memory P remaining old new f e spends = record {
-  outside = λ text. subst IsOfText e text;
-  part = λ other. absurd (other e);
-  spent = λ endless. absurd (let no : Endless ≡ NoMemory = sym endless ∙ e in let none : ⊥ = cc in none);
-  spends = spends;
-}
 
 -- ---- one piece after another
 
@@ -202,16 +141,6 @@ pub other_than : (c d : ℕ) → c ≢ d → (c == d) ≡ false
 other_than c d h = grind arith
 
 -- ---- a value
-
-pub value_none : {R : Type 0} (remaining : R → Option (List ℕ)) (old new : Source R) (blanks ending : List ℕ) → AllPass is_blank blanks → ReadsToEnding remaining old new blanks ending → ReadsValue remaining old new []
-value_none remaining old new blanks ending each reads = record {
-  blanks = blanks;
-  ending = ending;
-  each = each;
-  begins = refl;
-  whole = All-nil _;
-  reads = subst (λ t. ReadsToEnding remaining old new t ending) (sym (append-nil blanks)) reads;
-}
 
 pub value_some : {R : Type 0} (remaining : R → Option (List ℕ)) (old mid new : Source R) (blanks bytes value : List ℕ) (c : ℕ) (stop : Option ℕ) → ReadsRun Blank remaining old mid blanks (Some c) → c ≢ 10 → ReadsRun InLine remaining mid new bytes stop → value ≡ c ∷ bytes → ReadsValue remaining old new value
 value_some remaining old mid new blanks bytes value c stop a h b e =
@@ -309,9 +238,6 @@ pub record LinesSoFar {R : Type 0} (remaining : R → Option (List ℕ)) (old ne
   pub asks : new.asks ≤ old.asks
   pub spends : budget old ≤ budget new
 
-pub lines_begin : {R : Type 0} (remaining : R → Option (List ℕ)) (s : Source R) → LinesSoFar remaining s s []
-lines_begin remaining s = record { are = All-nil _; takes = takes_none remaining s; asks = omega arith; spends = omega arith }
-
 with_newlines-push : (lines : List (List ℕ)) (line : List ℕ) → with_newlines (lines ++ line ∷ []) ≡ with_newlines lines ++ (line ++ 10 ∷ [])
 with_newlines-push lines line = flat_map-append (λ l. l ++ 10 ∷ []) lines (line ∷ []) ∙ ap (λ t. with_newlines lines ++ t) (append-nil (line ++ 10 ∷ []))
 
@@ -321,25 +247,6 @@ lines_more remaining old mid new ignored line so is reads fewer = record {
   takes = subst (λ t. Takes remaining old new t) (sym (with_newlines-push ignored line)) (takes_then remaining old mid new (with_newlines ignored) (line ++ 10 ∷ []) so.takes reads.takes);
   asks = omega (arith, so.asks, fewer);
   spends = omega (arith, so.spends, reads.spends);
-}
-
-pub lines_of_record : {R : Type 0} (remaining : R → Option (List ℕ)) (old mid new : Source R) (ignored : List (List ℕ)) (r : KeyValue) → LinesSoFar remaining old mid ignored → ReadsLine remaining mid new r Pair → ReadsLinesOf remaining old new r
-lines_of_record remaining old mid new ignored r so (line, ending, is, reads) = record {
-  ignored = ignored;
-  line = line;
-  ending = ending;
-  are_ignored = so.are;
-  is = is;
-  reads = to_ending_behind remaining old mid new (with_newlines ignored) line (with_newlines ignored ++ line) ending so.takes so.spends reads refl;
-}
-
-pub lines_last : {R : Type 0} (remaining : R → Option (List ℕ)) (old mid new : Source R) (ignored : List (List ℕ)) (r : KeyValue) → LinesSoFar remaining old mid ignored → ReadsLine remaining mid new r Last → ReadsIgnored remaining old new
-lines_last remaining old mid new ignored r so (line, is, reads) = record {
-  ignored = ignored;
-  line = line;
-  are_ignored = so.are;
-  is = is;
-  reads = to_ending_behind remaining old mid new (with_newlines ignored) line (with_newlines ignored ++ line) [] so.takes so.spends reads refl;
 }
 
 pub lines_fail : {R : Type 0} (remaining : R → Option (List ℕ)) (old mid new : Source R) (ignored : List (List ℕ)) (f : TextFault) → LinesSoFar remaining old mid ignored → LeavesAmid (Lacks is_newline) remaining mid new f → LeavesAmid IsAmidLines remaining old new f
