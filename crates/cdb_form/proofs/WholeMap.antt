@@ -5,10 +5,10 @@ use Rattle.std.specs.Io.KnownBytes.{Consumes, IsAtEnd}
 use Rattle.std.proofs.lemmas.List.{append-nil}
 use Rattle.std.proofs.lemmas.List.Elements.{recursion_from_All}
 use Rattle.cdb_form.specs.Format.Record.{KeyValue}
-use Rattle.cdb_form.specs.Text.Map.{IsIgnoredLine, IsLineOf, Lacks, is_newline, line_records, map_lines, with_newlines}
+use Rattle.cdb_form.specs.Text.Map.{IsIgnoredLine, IsLineOf, line_records, map_lines, with_newlines}
 use Rattle.cdb_form.specs.Views.KnownBytes.{FromTo}
-use Rattle.cdb_form.specs.Views.MapParser.{EndsLine, ReadsToEnding}
-use Rattle.cdb_form.specs.Views.MapReader.{IsAmidLines, ReadsIgnored, ReadsLinesOf}
+use Rattle.cdb_form.specs.Views.MapParser.{EndsLine}
+use Rattle.cdb_form.specs.Views.MapReader.{IsAmidLines, ReadAmid, ReadsIgnored, ReadsLinesOf}
 use Rattle.cdb_form.specs.Views.Source.{LeavesAmid}
 use Rattle.cdb_form.specs.declared.text.fault.TextFault.{TextFault}
 use Rattle.cdb_form.specs.declared.text.fault.TextFault.TheVariants.{NoMemory}
@@ -61,10 +61,10 @@ gave_line : (text mid rest : List ℕ) (rs : List KeyValue) (r : KeyValue) (igno
 gave_line text mid rest rs r ignored line g apart are is e =
     let read : List ℕ = (with_newlines ignored ++ line) ++ 10 ∷ [] in
     let more : (x : List ℕ) → map_lines (read ++ x) ≡ r ∷ map_lines x = λ x.
-        let whole : read ++ x ≡ with_newlines ignored ++ (line ++ 10 ∷ x) = simp append_assoc refl in
-        ap map_lines whole ∙ behind_ignored ignored (line ++ 10 ∷ x) are ∙ map_lines-line line x is.whole ∙ ap (λ t. t ++ map_lines x) is.holds in
+    let whole : read ++ x ≡ with_newlines ignored ++ (line ++ 10 ∷ x) = simp append_assoc refl in
+    ap map_lines whole ∙ behind_ignored ignored (line ++ 10 ∷ x) are ∙ map_lines-line line x is.whole ∙ ap (λ t. t ++ map_lines x) is.holds in
     let all : (x : List ℕ) → map_lines ((g.lines ++ read) ++ x) ≡ (rs ++ r ∷ []) ++ map_lines x = λ x.
-        ap map_lines (append_assoc g.lines read x) ∙ apart (read ++ x) ∙ ap (λ t. rs ++ t) (more x) ∙ sym (append_assoc rs (r ∷ []) (map_lines x)) in
+    ap map_lines (append_assoc g.lines read x) ∙ apart (read ++ x) ∙ ap (λ t. rs ++ t) (more x) ∙ sym (append_assoc rs (r ∷ []) (map_lines x)) in
     record {
       lines = g.lines ++ read;
       split = g.split ∙ ap (λ t. g.lines ++ t) e ∙ sym (append_assoc g.lines read rest);
@@ -112,14 +112,6 @@ gave_all text mid rest rs ignored line g are is e end =
     let here : mid ≡ read = e ∙ ap (λ t. (read ++ []) ++ t) end ∙ append-nil (read ++ []) ∙ append-nil read in
     let none : map_lines mid ≡ [] = ap map_lines here ∙ behind_ignored ignored line are ∙ map_lines-last line is.whole ∙ is.none in
     gave_rest text mid rs g ∙ ap (λ t. rs ++ t) none ∙ append-nil rs
-
--- what was read of a text: lines that hold these records, and a part of one more line
-pub record ReadAmid (text rest : List ℕ) (rs : List KeyValue) : Type 0 where
-  pub lines : List ℕ
-  pub part : List ℕ
-  pub split : text ≡ (lines ++ part) ++ rest
-  pub records : map_lines lines ≡ rs
-  pub within : Lacks is_newline part
 
 gave_amid : (text mid rest bytes : List ℕ) (rs : List KeyValue) → GaveOf text mid rs → IsAmidLines bytes → mid ≡ bytes ++ rest → ReadAmid text rest rs
 gave_amid text mid rest bytes rs g amid e =

@@ -1,7 +1,7 @@
 -- What a clause reads of a reader of a map text.
 use Rattle.std.specs.Prelude.{All, List, Option, [], ◌++◌, ◌<◌, ◌≡◌, ℕ}
 use Rattle.cdb_form.specs.Format.Record.{KeyValue}
-use Rattle.cdb_form.specs.Text.Map.{IsIgnoredLine, IsLineOf, Lacks, is_newline, with_newlines}
+use Rattle.cdb_form.specs.Text.Map.{IsIgnoredLine, IsLineOf, Lacks, is_newline, map_lines, with_newlines}
 use Rattle.cdb_form.specs.Views.MapParser.{ReadsToEnding}
 use Rattle.cdb_form.specs.Views.Source.{LeavesAmid}
 use Rattle.cdb_form.specs.declared.text.fault.TextFault.{TextFault}
@@ -59,6 +59,14 @@ pub record IsAmidLines (bytes : List ℕ) : Type 0 where
   pub are_ignored : All IsIgnoredLine ignored
   pub within : Lacks is_newline part
   pub bytes_are : bytes ≡ with_newlines ignored ++ part
+
+-- of a text lines were read that hold these records, and a part of one more line
+pub record ReadAmid (text rest : List ℕ) (rs : List KeyValue) : Type 0 where
+  pub lines : List ℕ
+  pub part : List ℕ
+  pub split : text ≡ (lines ++ part) ++ rest
+  pub records : map_lines lines ≡ rs
+  pub within : Lacks is_newline part
 
 -- a call gave a record: its line was the first one unread that is not ignored
 pub record GivesRecord {R : Type 0} (remaining : R → Option (List ℕ)) (old new : MapReader R)

@@ -1,8 +1,15 @@
 // The map reader and the writers of maps and keys, on texts worked out by hand, and over readers
 // and writers that fail.
-ghost use Rattle.std.specs.Prelude.{◌≤◌, ◌^◌};
+ghost use Rattle.std.specs.Prelude.{◌≡◌, ◌≢◌, ◌≤◌, ◌^◌, ◌++◌, List, IfOk, IfErr, IfSome};
+ghost use Rattle.cdb_form.specs.Format.Record.{KeyValue};
+ghost use Rattle.cdb_form.specs.Text.Map.{map_lines};
+ghost use Rattle.cdb_form.specs.Views.KnownBytes.{FromTo};
+ghost use Rattle.cdb_form.specs.Views.MapReader.{HasEnded, IsGoing, ReadAmid, unread};
+ghost use Rattle.cdb_form.specs.Views.Pairs.{key_values};
+ghost use Rattle.cdb_form.specs.declared.text.fault.TextFault.TheVariants.{NoMemory};
 
 use super::fakes::{Behind, FakeReader, FakeWriter};
+use crate::record::Record;
 use crate::text::fault::TextFault;
 use crate::text::map_reader::MapReader;
 use crate::writing::OutFault;
@@ -38,6 +45,43 @@ fn read_all<R: Read + Drop>(
         }
     }
     Ok((given, None))
+}
+
+/// As many of the next records, or fewer at the end of the input. It shows that the clauses of each
+/// call lead to the whole text.
+fn next_records<R: Read>(
+    alloc: Global,
+    maps: &mut MapReader<R>,
+    most: usize,
+) -> Result<Vec<Record>, TextFault>
+    requires { IsGoing maps.old }
+    ensures some { IfOk result (λ given. IsGoing maps.new
+        → FromTo (unread R.remaining maps.old) (unread R.remaining maps.new) (λ text rest.
+        map_lines text ≡ key_values given.items ++ map_lines rest)) }
+    ensures all { IfOk result (λ given. HasEnded maps.new
+        → IfSome (unread R.remaining maps.old) (λ text. map_lines text ≡ key_values given.items)) }
+    ensures amid { IfErr result (λ fault. fault ≢ NoMemory
+        → FromTo (unread R.remaining maps.old) (unread R.remaining maps.new) (λ text rest.
+        (given : List KeyValue) × ReadAmid text rest given)) }
+{
+    let mut given = Vec::new(alloc);
+    for _ in 0..most {
+        match maps.next()? {
+            Some(record) => given.push(record)?,
+            None => return Ok(given),
+        }
+    }
+    Ok(given)
+}
+
+#[test]
+fn next_records_are_those_of_the_text(rt: HostRuntime) -> Result<(), Fail> {
+    for (most, count) in [(0, 0), (1, 1), (3, 3), (4, 3)] {
+        let mut maps = MapReader::new(rt.alloc(), SIX_LINES);
+        let given = next_records(rt.alloc(), &mut maps, most).map_err(|_| "fault")?;
+        assert_eq!(rt; given.len(), count);
+    }
+    Ok(())
 }
 
 #[test]
