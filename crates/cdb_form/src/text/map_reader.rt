@@ -21,7 +21,9 @@ pub struct MapReader<R> {
 }
 
 impl<R: Read> MapReader<R> {
-    ghost use Rattle.cdb_form.specs.Views.MapReader.{unread, taken_of, asks_left, IsGoing, HasEnded, HasFailed, GivesRecord, GivesEnd, Fails};
+    ghost use Rattle.cdb_form.specs.Views.MapReader.{unread, taken_of, asks_left, IsGoing};
+    ghost use Rattle.cdb_form.specs.Views.MapReader.{HasEnded, HasFailed, GivesRecord, GivesEnd};
+    ghost use Rattle.cdb_form.specs.Views.MapReader.{Fails};
     /// A reader of the text that `reader` gives, which may be asked 2^48 times.
     pub fn new(alloc: Global, reader: R) -> MapReader<R>
         ensures unread { unread R.remaining result ≡ R.remaining reader }
