@@ -297,6 +297,7 @@ fn what_follows_the_record_end_stays(rt: HostRuntime) -> Result<(), Fail> {
 #[test]
 fn keys_are_read_without_their_values(rt: HostRuntime) -> Result<(), Fail> {
     let file = two_file(rt.alloc())?;
+    assert_eq!(rt; file.len(), 2114);
     let mut rest = file.as_slice();
     {
         let mut reader: RecordReader<&mut &[u8], Narrow> = RecordReader::new(rt.alloc(), &mut rest);
