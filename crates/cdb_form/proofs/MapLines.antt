@@ -6,7 +6,7 @@ use Rattle.std.proofs.lemmas.List.{append-nil, drop_at, take_at}
 use Rattle.std.proofs.lemmas.List.Elements.{All-append, All-nil, recursion_from_All, All-from_recursion}
 use Rattle.std.proofs.lemmas.List.Splits.{slice_split_at, slice_split_none}
 use Rattle.cdb_form.specs.Format.Record.{KeyValue}
-use Rattle.cdb_form.specs.Text.Map.{BeginsOther, IsMapWord, Lacks, behind_blanks, is_blank, is_ignored, is_newline, line_records, lines_of, map_line, map_lines, map_text, pair_of}
+use Rattle.cdb_form.specs.Text.Map.{BeginsOther, IsMapWord, Lacks, behind_blanks, is_blank, is_ignored, is_newline, line_records, lines_of, map_line, map_lines, map_text, line_pair}
 
 -- ---- a run of bytes at the front
 
@@ -25,8 +25,8 @@ pub behind_blanks-run : (bs rest : List ℕ) → AllPass is_blank bs → BeginsO
 behind_blanks-run bs rest each other = drop_at bs rest (prefix_len is_blank (bs ++ rest)) (sym (prefix_len-run is_blank bs rest each other))
 
 -- a key, and what begins with the blank behind it
-pub pair_of-key : (key rest : List ℕ) → Lacks is_blank key → position_or_len is_blank rest ≡ 0 → pair_of (key ++ rest) ≡ record { key = key; value = behind_blanks rest }
-pair_of-key key rest lacks stop =
+pub line_pair-key : (key rest : List ℕ) → Lacks is_blank key → position_or_len is_blank rest ≡ 0 → line_pair (key ++ rest) ≡ record { key = key; value = behind_blanks rest }
+line_pair-key key rest lacks stop =
     let n : ℕ = position_or_len is_blank (key ++ rest) in
     let long : length key ≡ n = sym (prefix_len-run (λ c. not (is_blank c)) key rest (lacks_pass is_blank key lacks) stop) in
     let k : take n (key ++ rest) ≡ key = take_at key rest n long in
@@ -49,14 +49,14 @@ map_lines-last line lacks = ap (flat_map line_records) (slice_split_none is_newl
 pub blank_line : (bs : List ℕ) → AllPass is_blank bs → line_records bs ≡ []
 blank_line bs each =
     let none : behind_blanks bs ≡ [] = ap behind_blanks (sym (append-nil bs)) ∙ behind_blanks-run bs [] each refl in
-    ap (λ t. if is_ignored t then [] else pair_of t ∷ []) none
+    ap (λ t. if is_ignored t then [] else line_pair t ∷ []) none
 
 pub noted_line : (bs rest : List ℕ) → AllPass is_blank bs → line_records (bs ++ 35 ∷ rest) ≡ []
-noted_line bs rest each = ap (λ t. if is_ignored t then [] else pair_of t ∷ []) (behind_blanks-run bs (35 ∷ rest) each refl)
+noted_line bs rest each = ap (λ t. if is_ignored t then [] else line_pair t ∷ []) (behind_blanks-run bs (35 ∷ rest) each refl)
 
-pub pair_line : (bs words : List ℕ) (r : KeyValue) → AllPass is_blank bs → BeginsOther is_blank words → is_ignored words ≡ false → pair_of words ≡ r → line_records (bs ++ words) ≡ r ∷ []
-pair_line bs words r each other kept pair =
-    ap (λ t. if is_ignored t then [] else pair_of t ∷ []) (behind_blanks-run bs words each other)
+pub kept_line : (bs words : List ℕ) (r : KeyValue) → AllPass is_blank bs → BeginsOther is_blank words → is_ignored words ≡ false → line_pair words ≡ r → line_records (bs ++ words) ≡ r ∷ []
+kept_line bs words r each other kept pair =
+    ap (λ t. if is_ignored t then [] else line_pair t ∷ []) (behind_blanks-run bs words each other)
     ∙ rw (kept, pair) refl
 
 -- ---- what is written is read
@@ -75,8 +75,8 @@ written_line r rest word =
     let lacks : Lacks is_newline line = All-append (λ c. is_newline c ≡ false) r.key (32 ∷ r.value) word.key_line (All-append (λ c. is_newline c ≡ false) (32 ∷ []) r.value (All-from_recursion (λ c. is_newline c ≡ false) (32 ∷ []) (refl, tt)) word.value_line) in
     let first = no_blank_first r.key (32 ∷ r.value) word.kept word.key_blank in
     let value : behind_blanks (32 ∷ r.value) ≡ r.value = behind_blanks-run (32 ∷ []) r.value (All-from_recursion (λ c. is_blank c ≡ true) (32 ∷ []) (refl, tt)) word.value_blank in
-    let pair : pair_of line ≡ r = pair_of-key r.key (32 ∷ r.value) word.key_blank refl ∙ ap (λ t. let p : KeyValue = record { key = r.key; value = t } in p) value in
-    ap map_lines whole ∙ map_lines-line line rest lacks ∙ ap (λ t. t ++ map_lines rest) (pair_line [] line r (All-nil _) first.0 first.1 pair)
+    let pair : line_pair line ≡ r = line_pair-key r.key (32 ∷ r.value) word.key_blank refl ∙ ap (λ t. let p : KeyValue = record { key = r.key; value = t } in p) value in
+    ap map_lines whole ∙ map_lines-line line rest lacks ∙ ap (λ t. t ++ map_lines rest) (kept_line [] line r (All-nil _) first.0 first.1 pair)
 
 written_text : (rs : List KeyValue) → AllByRecursion IsMapWord rs → map_lines (map_text rs) ≡ rs
 written_text [] words = refl

@@ -8,7 +8,7 @@ use Rattle.std.proofs.lemmas.List.{append-nil}
 use Rattle.std.proofs.lemmas.List.Concat.{flat_map-append}
 use Rattle.std.proofs.lemmas.List.Elements.{All-append, All-nil, All-push}
 use Rattle.cdb_form.specs.Format.Record.{KeyValue}
-use Rattle.cdb_form.specs.Text.Map.{IsIgnoredLine, IsLineOf, Lacks, behind_blanks, is_blank, is_newline, pair_of, with_newlines}
+use Rattle.cdb_form.specs.Text.Map.{IsIgnoredLine, IsLineOf, Lacks, behind_blanks, is_blank, is_newline, line_pair, with_newlines}
 use Rattle.cdb_form.specs.Views.MapParser.{ReadsLine, ReadsPair, ReadsRun, ReadsToEnding, ReadsValue, is_of}
 use Rattle.cdb_form.specs.Views.MapReader.{IsAmidLines}
 use Rattle.cdb_form.specs.Views.Source.{LeavesAmid, Takes, budget}
@@ -17,7 +17,7 @@ use Rattle.cdb_form.specs.declared.text.map_parser.Kind.{Kind}
 use Rattle.cdb_form.specs.declared.text.map_parser.Kind.TheVariants.{Blank, InLine, InWord}
 use Rattle.cdb_form.specs.declared.text.map_parser.LineRead.TheVariants.{Ignored, Last, Pair}
 use Rattle.cdb_form.specs.declared.text.source.Source.{Source}
-use Rattle.cdb_form.proofs.MapLines.{behind_blanks-run, blank_line, noted_line, pair_line, pair_of-key}
+use Rattle.cdb_form.proofs.MapLines.{behind_blanks-run, blank_line, noted_line, kept_line, line_pair-key}
 use Rattle.cdb_form.proofs.SourceLemmas.{consumes_then}
 
 -- ---- kinds of bytes
@@ -165,7 +165,7 @@ pair_none remaining old new word ending first h each reads = record {
   tail = word;
   ending = ending;
   whole = run_lacks InWord word each;
-  pair = ap pair_of (sym (append-nil (first ∷ word))) ∙ pair_of-key (first ∷ word) [] (first_lacks first word h each) refl;
+  pair = ap line_pair (sym (append-nil (first ∷ word))) ∙ line_pair-key (first ∷ word) [] (first_lacks first word h each) refl;
   reads = reads;
 }
 
@@ -183,7 +183,7 @@ pair_value remaining old mid new word value first c h a other b =
       tail = word ++ c ∷ (b.blanks ++ value);
       ending = b.ending;
       whole = lacks_behind word (b.blanks ++ value) c (run_lacks InWord word a.each) no_newline (lacks_append b.blanks value (run_lacks Blank b.blanks b.each) b.whole);
-      pair = pair_of-key (first ∷ word) (c ∷ (b.blanks ++ value)) (first_lacks first word h a.each) (rw blank refl) ∙ ap (λ t. let p : KeyValue = record { key = first ∷ word; value = t } in p) v;
+      pair = line_pair-key (first ∷ word) (c ∷ (b.blanks ++ value)) (first_lacks first word h a.each) (rw blank refl) ∙ ap (λ t. let p : KeyValue = record { key = first ∷ word; value = t } in p) v;
       reads = behind_stop InWord remaining old mid new word (b.blanks ++ value) b.ending c a b.reads;
     }
 
@@ -220,12 +220,12 @@ note_ignored remaining old mid new blanks bytes c d r a h b =
     let note = subst (λ b. ReadsRun Blank remaining old mid blanks (Some b)) h a in
     (blanks ++ 35 ∷ bytes, noted_ignored blanks bytes a.each b.each, behind_stop Blank remaining old mid new blanks bytes (10 ∷ []) 35 note (run_to_newline InLine remaining mid new bytes d b (in_line_stop d b.other)))
 
-pub line_pair : {R : Type 0} (remaining : R → Option (List ℕ)) (old mid new : Source R) (blanks : List ℕ) (c : ℕ) (r : KeyValue) → ReadsRun Blank remaining old mid blanks (Some c) → c ≢ 10 → c ≢ 35 → ReadsPair remaining mid new c r → ReadsLine remaining old new r Pair
-line_pair remaining old mid new blanks c r a no_newline no_note b =
+pub line_of_pair : {R : Type 0} (remaining : R → Option (List ℕ)) (old mid new : Source R) (blanks : List ℕ) (c : ℕ) (r : KeyValue) → ReadsRun Blank remaining old mid blanks (Some c) → c ≢ 10 → c ≢ 35 → ReadsPair remaining mid new c r → ReadsLine remaining old new r Pair
+line_of_pair remaining old mid new blanks c r a no_newline no_note b =
     let other : is_blank c ≡ false = a.other in
     let is : IsLineOf r (blanks ++ c ∷ b.tail) = record {
       whole = lacks_behind blanks b.tail c (run_lacks Blank blanks a.each) (other_than c 10 no_newline) b.whole;
-      holds = pair_line blanks (c ∷ b.tail) r a.each (rw other refl) (other_than c 35 no_note) b.pair;
+      holds = kept_line blanks (c ∷ b.tail) r a.each (rw other refl) (other_than c 35 no_note) b.pair;
     } in
     (blanks ++ c ∷ b.tail, b.ending, is, behind_stop Blank remaining old mid new blanks b.tail b.ending c a b.reads)
 

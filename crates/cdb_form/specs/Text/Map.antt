@@ -22,8 +22,8 @@ abbrev pub from_blank : List ℕ → List ℕ
 from_blank line = drop (position_or_len is_blank line) line
 
 -- the key goes up to the first blank, and the value is what follows that run of blanks
-abbrev pub pair_of : List ℕ → KeyValue
-pair_of words = record { key = before_blank words; value = behind_blanks (from_blank words) }
+abbrev pub line_pair : List ℕ → KeyValue
+line_pair words = record { key = before_blank words; value = behind_blanks (from_blank words) }
 
 -- a line is ignored that is empty behind its first blanks, or has a number sign there
 abbrev pub is_ignored : List ℕ → Bool
@@ -32,7 +32,7 @@ is_ignored (c ∷ words) = c == 35
 
 abbrev pub line_records : List ℕ → List KeyValue
 line_records line =
-    if is_ignored (behind_blanks line) then [] else pair_of (behind_blanks line) ∷ []
+    if is_ignored (behind_blanks line) then [] else line_pair (behind_blanks line) ∷ []
 
 -- a text is cut at its newlines: behind the last one stands one more line, which may be empty
 abbrev pub lines_of : List ℕ → List (List ℕ)

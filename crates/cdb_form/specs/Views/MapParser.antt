@@ -3,7 +3,7 @@ use Rattle.std.specs.Io.KnownBytes.{IsAtEnd}
 use Rattle.std.specs.List.{AllPass}
 use Rattle.std.specs.Prelude.{Bool, IfNone, IfSome, List, None, Option, Some, [], codes, false, length, not, ◌*◌, ◌+◌, ◌++◌, ◌||◌, ◌∷◌, ◌≡◌, ◌≤◌, ℕ}
 use Rattle.cdb_form.specs.Format.Record.{KeyValue}
-use Rattle.cdb_form.specs.Text.Map.{BeginsOther, IsIgnoredLine, IsLineOf, Lacks, is_blank, is_newline, pair_of}
+use Rattle.cdb_form.specs.Text.Map.{BeginsOther, IsIgnoredLine, IsLineOf, Lacks, is_blank, is_newline, line_pair}
 use Rattle.cdb_form.specs.Views.Source.{Takes, budget}
 use Rattle.cdb_form.specs.declared.text.map_parser.Kind.{Kind}
 use Rattle.cdb_form.specs.declared.text.map_parser.Kind.TheVariants.{Blank, InLine, InWord}
@@ -59,7 +59,7 @@ pub record ReadsPair {R : Type 0} (remaining : R → Option (List ℕ)) (old new
   pub tail : List ℕ
   pub ending : List ℕ
   pub whole : Lacks is_newline tail
-  pub pair : pair_of (first ∷ tail) ≡ r
+  pub pair : line_pair (first ∷ tail) ≡ r
   pub reads : ReadsToEnding remaining old new tail ending
 
 -- a line was read: an ignored one with its newline, an ignored one at the end of the input, or that

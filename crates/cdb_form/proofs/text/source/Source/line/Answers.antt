@@ -1,7 +1,7 @@
 use Rattle.std.proofs.Common.{◌≡◌, ◌≢◌, arith}
 use Rattle.std.proofs.lemmas.Result.{err_from_is_err_and}
 use Rattle.cdb_form.specs.Views.Pairs.{key_value}
-use Rattle.cdb_form.proofs.MapReads.{leaves_past, line_ignored, line_last, line_pair, note_ignored, note_last, other_than}
+use Rattle.cdb_form.proofs.MapReads.{leaves_past, line_ignored, line_last, line_of_pair, note_ignored, note_last, other_than}
 use Rattle.cdb_form.proofs.text.source.Source.line.Goals as goal
 
 pub returns-in_err-pass-in-Some-eq35-clause-leaves :
@@ -49,4 +49,4 @@ returns-in_ok-pair-in-Some-clause-reads g c =
     let run = rw c.in-Some.is at c.in_ok-pass.ensures.run in
     let newline : c.in-Some.first ≢ 10 = omega arith in
     let note : c.in-Some.first ≢ 35 = omega arith in
-    line_pair _ _ _ _ run.0 _ _ run.1 newline note c.in_ok-pair-in-Some.ensures.reads
+    line_of_pair _ _ _ _ run.0 _ _ run.1 newline note c.in_ok-pair-in-Some.ensures.reads
