@@ -1,5 +1,5 @@
 pub mod WholeRuns
-pub mod WholeDumps
+pub mod WholeTexts
 pub mod InputLemmas
 pub mod OutputLemmas
 pub mod RestoreLaws

@@ -8,7 +8,9 @@ use Rattle.cdb_form.specs.Format.Record.{KeyValue, IsRecord, record_size}
 use Rattle.cdb_form.specs.Format.File.{file_size}
 use Rattle.cdb_form.proofs.TextLaws.{text_reads_back}
 use Rattle.cdb_form.proofs.WalkLaws.{walk_of-file_bytes}
-use Rattle.cdb_tool.specs.Runs.Dump.{dump_of}
+use Rattle.cdb_tool.specs.Runs.Form.{dump_form}
+use Rattle.cdb_tool.specs.Runs.WalkText.{walk_text}
+use Rattle.cdb_tool.specs.declared.runs.style.Style.TheVariants.{Native}
 use Rattle.cdb_tool.specs.Laws.{Restores}
 
 -- no length is above the size of the file
@@ -20,6 +22,6 @@ lengths_fit w room (r ∷ rs) fits =
 
 pub restores : (w top greatest : ℕ) (rs : List KeyValue) → (w ≡ 4) ⊎ (w ≡ 8) → top + 1 ≡ 256 ^ w → greatest ≤ top → greatest < 2 ^ 64 → AllByRecursion IsRecord rs → file_size w rs ≤ greatest → Restores w greatest rs
 restores w top greatest rs width top_is within few are fits = record {
-  dump = ap dump_of (walk_of-file_bytes w top rs width top_is (omega arith));
+  dump = ap (walk_text (dump_form Native)) (walk_of-file_bytes w top rs width top_is (omega arith));
   text = text_reads_back greatest rs [] few are (lengths_fit w greatest rs (omega arith));
 }

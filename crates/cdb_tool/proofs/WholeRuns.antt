@@ -1,5 +1,5 @@
 -- A text up to its end or its fault, and then the file.
-use Rattle.std.proofs.Common.{◌≡◌, ◌≢◌, true, false, ℕ, ◌+◌, ◌-◌, ◌*◌, ◌^◌, ◌<◌, ◌≤◌, inl, inr, List, [], ◌∷◌, ◌++◌, refl, Option, Some, None, IfSome, Result, Ok, Err, sym, ap, subst, ◌∙◌, length, length-append, append_assoc, take, replicate, arith}
+use Rattle.std.proofs.Common.{◌≡◌, ◌≢◌, true, false, ℕ, ◌+◌, ◌-◌, ◌^◌, ◌<◌, ◌≤◌, inl, inr, List, [], ◌∷◌, ◌++◌, refl, Option, Some, None, IfSome, Result, Ok, Err, sym, ap, subst, ◌∙◌, length, length-append, append_assoc, take, replicate, arith}
 use Rattle.std.specs.Prelude.{IsOk, codes}
 use Rattle.std.proofs.lemmas.List.{append-nil, length-take-le, length-replicate}
 use Rattle.std.proofs.Math.Seq.{take-append-add}

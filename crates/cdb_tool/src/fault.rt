@@ -8,7 +8,7 @@ use std::alloc::AllocError;
 
 /// Why a run stopped.
 #[derive(Clone, Copy, Debug, PartialEq, Eq)]
-pub(crate) enum Fault {
+pub enum Fault {
     /// An input, counted from 1, was not read as a text.
     Text(u64, TextFault),
     /// The database was not made.
@@ -23,7 +23,7 @@ pub(crate) enum Fault {
 
 impl Fault {
     /// The number of the fault. The numbers left out are of faults that come with other runs.
-    pub(crate) fn number(&self) -> u8
+    pub fn number(&self) -> u8
         ensures { result ≡ fault_number self.now }
     {
         match self {
@@ -37,7 +37,7 @@ impl Fault {
 
     /// The fault of a run whose input, counted from 1, was not read. Want of memory is the
     /// run's own.
-    pub(crate) fn of_text(input: u64, fault: TextFault) -> Fault
+    pub fn of_text(input: u64, fault: TextFault) -> Fault
         ensures { result ≡ text_fault input fault }
     {
         match fault {

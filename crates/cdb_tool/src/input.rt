@@ -3,7 +3,7 @@ ghost use Rattle.std.specs.Prelude.{◌≡◌, ℕ, ◌+◌, ◌<◌, ◌≤◌,
 ghost use Rattle.std.specs.Io.KnownBytes.{Keeps, Consumes, IsAtEnd};
 
 use std::alloc::{AllocError, Global};
-use std::io::{self, Read};
+use std::io::{self, ErrorKind, Read};
 
 /// Gives the bytes of a reader, which is asked for many at once.
 #[derive(Drop)]
@@ -39,7 +39,9 @@ impl<R: Read> Input<R> {
     }
 
     /// Fills the empty window, by one ask of the reader.
-    fn refill(&mut self) -> io::Result<()>
+    #[cold]
+    #[inline(never)]
+    fn refill(&mut self) -> Result<(), ErrorKind>
         requires { self.old.start ≡ self.old.end }
         ensures bytes { Keeps (input_bytes R.remaining self.old)
             (input_bytes R.remaining self.new) }
@@ -47,10 +49,14 @@ impl<R: Read> Input<R> {
             (self.new.start ≡ self.new.end → IsAtEnd (input_bytes R.remaining self.new)) }
         ensures empty { OnErr result (self.new.start ≡ self.new.end) }
     {
-        let n = self.reader.read(&mut self.window)?;
-        self.start = 0;
-        self.end = n;
-        Ok(())
+        match self.reader.read(&mut self.window) {
+            Ok(n) => {
+                self.start = 0;
+                self.end = n;
+                Ok(())
+            }
+            Err(e) => Err(e.kind()),
+        }
     }
 
     /// Gives bytes of the window.
@@ -71,9 +77,12 @@ impl<R: Read> Read for Input<R> {
 
     ghost remaining = { input_bytes R.remaining };
 
+    #[inline(always)]
     fn read(&mut self, buf: &mut [u8]) -> io::Result<usize> {
-        if self.start == self.end {
-            self.refill()?;
+        if self.start == self.end
+            && let Err(kind) = self.refill()
+        {
+            return Err(io::Error::from(kind));
         }
         if self.start == self.end {
             return Ok(0);

@@ -1,12 +1,12 @@
 //! The program `cdb`: makes constant databases.
 #![tactic(auto)]
 
-mod fault;
+pub mod fault;
 mod input;
 pub mod laws;
-mod message;
+pub mod message;
 mod output;
-mod runs;
+pub mod runs;
 mod steps;
 
 use fault::Fault;

@@ -27,7 +27,7 @@ enum Place {
 
 impl Fault {
     /// What the fault is, in words.
-    pub(crate) fn message(&self) -> &'static str
+    pub fn message(&self) -> &'static str
         ensures { result.now ≡ fault_message self.now }
     {
         match *self {
@@ -106,7 +106,7 @@ fn write_place<E: Write>(place: Place, errors: &mut E) -> Result<(), OutFault>
 
 /// Writes the line that says what a fault is, with its newline. After an `OutFault` the writer
 /// holds a front of it.
-pub(crate) fn write_fault<E: Write>(fault: &Fault, errors: &mut E) -> Result<(), OutFault>
+pub fn write_fault<E: Write>(fault: &Fault, errors: &mut E) -> Result<(), OutFault>
     ensures ok { OnOk result (Appends (E.contents errors.old) (E.contents errors.new)
         (fault_line fault.now)) }
     ensures err { OnErr result

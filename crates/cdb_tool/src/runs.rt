@@ -1,4 +1,7 @@
 // What the program is asked to do, a run each.
-pub(crate) mod dump;
+pub mod dump;
 mod flushed;
-pub(crate) mod make_bytes;
+pub mod list;
+pub mod make_bytes;
+pub mod style;
+mod walk_text;

@@ -3,6 +3,7 @@
 mod dumping;
 mod fakes;
 mod lines;
+mod listing;
 mod making;
 mod streams;
 mod worked;

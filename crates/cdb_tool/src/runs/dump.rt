@@ -1,60 +1,31 @@
-// A file made a text.
+// A file made a text of its records.
 ghost use Rattle.std.specs.Prelude.{ℕ, List, Option};
 ghost use Rattle.cdb_form.specs.Views.RecordReader.{unread, IsFresh};
-ghost use Rattle.cdb_tool.specs.Runs.Dump.{DumpRuns};
+ghost use Rattle.cdb_tool.specs.Runs.Form.{dump_form};
+ghost use Rattle.cdb_tool.specs.Runs.WalkText.{WritesWalk};
 
 use crate::fault::Fault;
-use crate::runs::flushed::flushed;
-use cdb_form::{Record, RecordReader, Width, write_end, write_record};
+use crate::runs::style::{Content, Style};
+use crate::runs::walk_text::write_walk;
+use cdb_form::{RecordReader, Width};
 use std::alloc::Global;
 use std::io::{Read, Write};
-
-/// How a text says its records.
-#[derive(Clone, Copy, Debug, PartialEq, Eq)]
-pub(crate) enum Style {
-    /// The native text, `+klen,vlen:key->value` and a newline for each record.
-    Native,
-}
-
-/// Writes the text of a file, which the writer may keep in a buffer.
-fn dump_unflushed<L: Width, R: Read, W: Write>(
-    alloc: Global,
-    records: &mut RecordReader<R, L>,
-    w: &mut W,
-) -> Result<(), Fault>
-    requires { IsFresh records.old }
-    ensures { DumpRuns L.WORD (unread R.remaining records.old) (unread R.remaining records.new)
-        (W.contents w.old) (W.contents w.new) result }
-{
-    let mut record = Record {
-        key: Vec::new(alloc),
-        value: Vec::new(alloc),
-    };
-    while records.read_into(&mut record)? {
-        write_record(w, &record.key, &record.value)?;
-    }
-    write_end(w)?;
-    Ok(())
-}
 
 /// Writes the text of the records of a database file, of which nothing was read yet.
 ///
 /// It does what `dump_run` does, and leaves in the reader of the records what it did not read: at
 /// Ok what stands behind the record end.
-pub(crate) fn dump_from<L: Width, R: Read, W: Write>(
+pub fn dump_from<L: Width, R: Read, W: Write>(
     alloc: Global,
     records: &mut RecordReader<R, L>,
     style: Style,
     w: &mut W,
 ) -> Result<(), Fault>
     requires { IsFresh records.old }
-    ensures { DumpRuns L.WORD (unread R.remaining records.old) (unread R.remaining records.new)
-        (W.contents w.old) (W.contents w.new) result }
+    ensures { WritesWalk L.WORD (dump_form style) (unread R.remaining records.old)
+        (unread R.remaining records.new) (W.contents w.old) (W.contents w.new) result }
 {
-    let dumped = match style {
-        Style::Native => dump_unflushed::<L, R, W>(alloc, records, w),
-    };
-    flushed(w, dumped)
+    write_walk::<L, R, W>(alloc, records, Content::Records, style, w)
 }
 
 /// Writes the text of the records of a database file, in one pass over the file.
@@ -68,14 +39,14 @@ pub(crate) fn dump_from<L: Width, R: Read, W: Write>(
 /// - `Output`: the writer failed, and holds a front of the text.
 ///
 /// The writer is flushed last, after a fault too.
-pub(crate) fn dump_run<L: Width, R: Read + Drop, W: Write>(
+pub fn dump_run<L: Width, R: Read + Drop, W: Write>(
     alloc: Global,
     reader: R,
     style: Style,
     w: &mut W,
 ) -> Result<(), Fault>
-    ensures { (rest : Option (List ℕ)) × DumpRuns L.WORD (R.remaining reader) rest
-        (W.contents w.old) (W.contents w.new) result }
+    ensures { (rest : Option (List ℕ)) × WritesWalk L.WORD (dump_form style)
+        (R.remaining reader) rest (W.contents w.old) (W.contents w.new) result }
 {
     let mut records = RecordReader::<R, L>::new(alloc, reader);
     dump_from::<L, R, W>(alloc, &mut records, style, w)

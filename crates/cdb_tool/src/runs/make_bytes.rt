@@ -61,7 +61,7 @@ fn make_unflushed<L: Width, R: Read, W: Write>(
 ///
 /// It does what `make_bytes` does, and leaves in the reader of the text what it did not read: at Ok
 /// what follows the text, after a fault of the text what follows the byte at its place.
-pub(crate) fn make_from<L: Width, R: Read, W: Write>(
+pub fn make_from<L: Width, R: Read, W: Write>(
     alloc: Global,
     text: &mut TextReader<R, L>,
     w: &mut W,
@@ -86,7 +86,7 @@ pub(crate) fn make_from<L: Width, R: Read, W: Write>(
 ///
 /// After any other fault than `Output` nothing was written. The writer is flushed last, after a
 /// fault too.
-pub(crate) fn make_bytes<L: Width, R: Read + Drop, W: Write>(
+pub fn make_bytes<L: Width, R: Read + Drop, W: Write>(
     alloc: Global,
     reader: R,
     w: &mut W,

@@ -2,8 +2,9 @@
 use super::fakes::{FakeReader, FakeWriter, NotingWriter, SlowWriter};
 use super::worked::{NONE, Run, TWO, TWO_TEXT, WIDE_NONE, bytes_of};
 use crate::fault::Fault;
-use crate::runs::dump::{Style, dump_run};
+use crate::runs::dump::dump_run;
 use crate::runs::make_bytes::make_bytes;
+use crate::runs::style::Style;
 use cdb_form::{Narrow, WalkFault, Wide, Width};
 use std::alloc::Global;
 use std::io::Read;

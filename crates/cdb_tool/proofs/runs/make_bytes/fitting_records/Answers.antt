@@ -1,4 +1,4 @@
-use Rattle.std.proofs.Common.{◌∙◌, arith}
+use Rattle.std.proofs.Common.{◌∙◌}
 use Rattle.std.proofs.lemmas.Result.{err_from_is_err_and}
 use Rattle.cdb_form.specs.Views.Pairs.{key_value}
 use Rattle.cdb_tool.proofs.WholeRuns.{holds_so_far_none, holds_so_far_more, reads_fitting, text_not_read, refused}

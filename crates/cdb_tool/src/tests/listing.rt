@@ -1,0 +1,187 @@
+// Lists of keys, and both texts in the style of maps, over whole and damaged files and over readers
+// and writers that fail.
+use super::fakes::{FakeReader, FakeWriter};
+use super::worked::{FOUR_VALUES, NONE, Run, TWO, bytes_of};
+use crate::fault::Fault;
+use crate::runs::dump::dump_run;
+use crate::runs::list::list_run;
+use crate::runs::style::Style;
+use cdb_form::{Narrow, WalkFault};
+use std::alloc::Global;
+use std::io::{Read, Write};
+use std::prelude::*;
+use std::test::Fail;
+
+/// A text of a file, and where each of its two items ends in that of two records.
+#[derive(Clone, Copy)]
+struct Text {
+    list: bool,
+    style: Style,
+    two: &'static [u8],
+    first: usize,
+    none: &'static [u8],
+    four: &'static [u8],
+}
+
+const TEXTS: [Text; 3] = [
+    Text {
+        list: true,
+        style: Style::Native,
+        two: b"+3:one\n+3:two\n\n",
+        first: 7,
+        none: b"\n",
+        four: b"+1:a\n+1:a\n+1:a\n+1:a\n\n",
+    },
+    Text {
+        list: true,
+        style: Style::Map,
+        two: b"one\ntwo\n",
+        first: 4,
+        none: b"",
+        four: b"a\na\na\na\n",
+    },
+    Text {
+        list: false,
+        style: Style::Map,
+        two: b"one Hello\ntwo Goodbye\n",
+        first: 10,
+        none: b"",
+        four: b"a 1\na 2\na 3\na 4\n",
+    },
+];
+
+fn write_text<R: Read + Drop, W: Write>(
+    alloc: Global,
+    file: R,
+    text: Text,
+    w: &mut W,
+) -> Result<(), Fault> {
+    if text.list {
+        list_run::<Narrow, R, W>(alloc, file, text.style, w)
+    } else {
+        dump_run::<Narrow, R, W>(alloc, file, text.style, w)
+    }
+}
+
+fn writer(alloc: Global, room: usize) -> FakeWriter {
+    FakeWriter {
+        held: Vec::new(alloc),
+        room,
+        flushes: 0,
+        flush_fails: false,
+    }
+}
+
+#[test]
+fn whole_files(rt: HostRuntime) -> Result<(), Fail> {
+    for text in TEXTS {
+        let cases: [(&[Run], &[u8]); 3] = [
+            (&TWO, text.two),
+            (&NONE, text.none),
+            (&FOUR_VALUES, text.four),
+        ];
+        for (runs, want) in cases {
+            let file = bytes_of(rt.alloc(), runs)?;
+            let mut out = Vec::new(rt.alloc());
+            let answer = write_text::<&[u8], Vec<u8>>(rt.alloc(), &file, text, &mut out);
+            assert_eq!(rt; answer, Ok(()));
+            assert_eq!(rt; out.as_slice(), want);
+        }
+    }
+    Ok(())
+}
+
+/// How many bytes of a text stand before the damage of the two-record file that is cut here.
+fn cut_answer(text: Text, cut: usize) -> (usize, Option<WalkFault>) {
+    match cut {
+        0..=2047 => (0, Some(WalkFault::Short)),
+        2048..=2063 => (0, Some(WalkFault::Record(2048))),
+        2064..=2081 => (text.first, Some(WalkFault::Record(2064))),
+        _ => (text.two.len(), None),
+    }
+}
+
+#[test]
+fn cut_files_and_failing_readers(rt: HostRuntime) -> Result<(), Fail> {
+    let file = bytes_of(rt.alloc(), &TWO)?;
+    for text in TEXTS {
+        for cut in 0..file.len() + 1 {
+            let (len, damage) = cut_answer(text, cut);
+            for fails in [false, true] {
+                let reader = FakeReader {
+                    interrupts: 0,
+                    text: &file[..cut],
+                    fails,
+                };
+                let mut out = Vec::new(rt.alloc());
+                let answer = write_text::<FakeReader<'_>, _>(rt.alloc(), reader, text, &mut out);
+                let want = match damage {
+                    None => Ok(()),
+                    Some(_) if fails => Err(Fault::Walk(WalkFault::Input)),
+                    Some(damage) => Err(Fault::Walk(damage)),
+                };
+                assert_eq!(rt; answer, want, "cut at {cut}");
+                assert_eq!(rt; out.as_slice(), &text.two[..len], "cut at {cut}");
+            }
+        }
+    }
+    Ok(())
+}
+
+#[test]
+fn interrupted_reads_are_asked_again(rt: HostRuntime) -> Result<(), Fail> {
+    let file = bytes_of(rt.alloc(), &TWO)?;
+    let failed = Err(Fault::Walk(WalkFault::Input));
+    for text in TEXTS {
+        for (interrupts, want) in [(1000, Ok(())), (1001, failed)] {
+            let reader = FakeReader {
+                interrupts,
+                text: &file,
+                fails: false,
+            };
+            let mut out = Vec::new(rt.alloc());
+            let answer = write_text::<FakeReader<'_>, _>(rt.alloc(), reader, text, &mut out);
+            assert_eq!(rt; answer, want, "{interrupts} interruptions");
+        }
+    }
+    Ok(())
+}
+
+#[test]
+fn a_writer_that_fails_holds_a_front(rt: HostRuntime) -> Result<(), Fail> {
+    let file = bytes_of(rt.alloc(), &TWO)?;
+    for text in TEXTS {
+        for room in 0..text.two.len() + 1 {
+            let mut w = writer(rt.alloc(), room);
+            let answer = write_text::<&[u8], _>(rt.alloc(), &file, text, &mut w);
+            let want = if room < text.two.len() {
+                Err(Fault::Output)
+            } else {
+                Ok(())
+            };
+            assert_eq!(rt; answer, want, "room for {room}");
+            assert_eq!(rt; w.held.as_slice(), &text.two[..room], "room for {room}");
+            assert_eq!(rt; w.flushes, 1, "room for {room}");
+        }
+    }
+    Ok(())
+}
+
+#[test]
+fn a_failing_flush_is_output_where_no_other_fault_came(rt: HostRuntime) -> Result<(), Fail> {
+    let file = bytes_of(rt.alloc(), &TWO)?;
+    for text in TEXTS {
+        for (cut, fault) in [
+            (file.len(), Fault::Output),
+            (2070, Fault::Walk(WalkFault::Record(2064))),
+        ] {
+            assert!(rt; cut <= file.len());
+            let mut w = writer(rt.alloc(), 4096);
+            w.flush_fails = true;
+            let answer = write_text::<&[u8], _>(rt.alloc(), &file[..cut], text, &mut w);
+            assert_eq!(rt; answer, Err(fault), "cut at {cut}");
+            assert_eq!(rt; w.flushes, 1, "cut at {cut}");
+        }
+    }
+    Ok(())
+}
