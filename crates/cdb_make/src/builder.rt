@@ -1,5 +1,6 @@
 // The records of a file, before it is written.
-ghost use Rattle.std.specs.Prelude.{◌≡◌, ℕ, ◌+◌, ◌%◌, ◌∷◌, [], ◌++◌, ◌≤◌, List, length, slice_set, get_or, SomeIff, IfOk, IfErr, OnOk, OnErr};
+ghost use Rattle.std.specs.Prelude.{◌≡◌, ℕ, ◌+◌, ◌%◌, ◌∷◌, [], ◌++◌, ◌≤◌, List, length, slice_set};
+ghost use Rattle.std.specs.Prelude.{get_or, SomeIff, IfOk, IfErr, OnOk, OnErr};
 ghost use Rattle.std.specs.Io.KnownBytes.{Appends};
 ghost use Rattle.cdb_form.specs.Format.Pair.{head_size};
 ghost use Rattle.cdb_form.specs.Format.Record.{KeyValue, record_size, record_bytes};

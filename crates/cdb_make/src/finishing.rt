@@ -1,5 +1,6 @@
 // The file of some records, to any writer.
-ghost use Rattle.std.specs.Prelude.{◌≡◌, ℕ, ◌+◌, ◌*◌, ◌<◌, ◌≤◌, ◌++◌, List, length, map, flat_map, sum_by, All, OnOk, OnErr, IfErr};
+ghost use Rattle.std.specs.Prelude.{◌≡◌, ℕ, ◌+◌, ◌*◌, ◌<◌, ◌≤◌, ◌++◌, List, length, map, flat_map};
+ghost use Rattle.std.specs.Prelude.{sum_by, All, OnOk, OnErr, IfErr};
 ghost use Rattle.std.specs.Io.KnownBytes.{Appends};
 ghost use Rattle.cdb_form.specs.Views.KnownBytes.{AppendsFront};
 ghost use Rattle.cdb_form.specs.Format.Pair.{pair_bytes, pair_size};

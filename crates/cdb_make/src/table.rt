@@ -1,7 +1,8 @@
 // One table, filled.
 ghost use Rattle.std.specs.Prelude.{◌≡◌, ℕ, ◌+◌, ◌*◌, ◌%◌, ◌<◌, ◌≤◌, length, map, replicate};
 ghost use Rattle.std.specs.List.{prefix_len};
-ghost use Rattle.cdb_form.specs.Format.Table.{is_used, slots_from, slots_with, filled_slots, empty_slot};
+ghost use Rattle.cdb_form.specs.Format.Table.{is_used, slots_from, slots_with, filled_slots};
+ghost use Rattle.cdb_form.specs.Format.Table.{empty_slot};
 ghost use Rattle.cdb_form.specs.Views.Pairs.{slot_pair};
 
 use cdb_form::{Slot, home_slot};

@@ -1,9 +1,13 @@
 -- What the calls on a file answered, and what that says of its bytes. The newest call stands first.
-use Rattle.std.specs.Prelude.{◌≡◌, ℕ, ◌+◌, ◌≤◌, ◌<◌, ◌⊎◌, max, Bool, true, false, List, [], ◌∷◌, length, take, ◌++◌, zero, suc}
+use Rattle.std.specs.Prelude.{◌≡◌, ℕ, ◌+◌, ◌≤◌, ◌<◌, ◌⊎◌, max, Bool, true, false, List, [], ◌∷◌}
+use Rattle.std.specs.Prelude.{length, take, ◌++◌, zero, suc}
 use Rattle.cdb_store.specs.declared.trace.Call.{Call}
-use Rattle.cdb_store.specs.declared.trace.Call.TheVariants.{Made, Read, Gave, Wrote, NotWritten, Length, Cut, NotCut, Synced, Interrupted, Failed, Refused, Lost}
+use Rattle.cdb_store.specs.declared.trace.Call.TheVariants.{Made, Read, Gave, Wrote, NotWritten}
+use Rattle.cdb_store.specs.declared.trace.Call.TheVariants.{Length, Cut, NotCut, Synced}
+use Rattle.cdb_store.specs.declared.trace.Call.TheVariants.{Interrupted, Failed, Refused, Lost}
 use Rattle.cdb_store.specs.declared.raw.RawFault.{RawFault}
-use Rattle.cdb_store.specs.declared.raw.RawFault.TheVariants.{Interrupted as WasInterrupted, Failed as HasFailed}
+use Rattle.cdb_store.specs.declared.raw.RawFault.TheVariants.{Interrupted as WasInterrupted}
+use Rattle.cdb_store.specs.declared.raw.RawFault.TheVariants.{Failed as HasFailed}
 use Rattle.cdb_store.specs.Images.{overwrite, part, Torn, SameImages}
 
 -- the calls, each with its bytes

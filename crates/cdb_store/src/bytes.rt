@@ -1,5 +1,6 @@
 // Bytes in memory, read and overwritten at a position.
-ghost use Rattle.std.specs.Prelude.{◌≡◌, ◌+◌, ◌<◌, ◌≤◌, ◌^◌, length, OnOk, OnErr, vec_len, vec_capacity};
+ghost use Rattle.std.specs.Prelude.{◌≡◌, ◌+◌, ◌<◌, ◌≤◌, ◌^◌, length, OnOk, OnErr, vec_len};
+ghost use Rattle.std.specs.Prelude.{vec_capacity};
 ghost use Rattle.cdb_store.specs.Images.{overwrite, part};
 
 use std::alloc::AllocError;

@@ -1,9 +1,11 @@
 // A store in a file.
-ghost use Rattle.std.specs.Prelude.{◌≡◌, ◌+◌, ◌<◌, ◌≤◌, ◌^◌, ◌↔◌, true, false, max, List, ℕ, [], ◌∷◌, length, IfOk, OnOk, OnErr, IsErrOf};
+ghost use Rattle.std.specs.Prelude.{◌≡◌, ◌+◌, ◌<◌, ◌≤◌, ◌^◌, ◌↔◌, true, false, max, List, ℕ, []};
+ghost use Rattle.std.specs.Prelude.{◌∷◌, length, IfOk, OnOk, OnErr, IsErrOf};
 ghost use Rattle.std.proofs.Common.{arith};
 ghost use Rattle.cdb_store.specs.declared.trace.Call.TheVariants.{Made, Length, Synced, Refused};
 ghost use Rattle.cdb_store.specs.declared.store.StoreFault.TheVariants.{Device, NoMemory};
-ghost use Rattle.cdb_store.specs.Images.{SameImages, AfterRead, AfterWrite, AfterTornWrite, AfterCut, HasCause};
+ghost use Rattle.cdb_store.specs.Images.{SameImages, AfterRead, AfterWrite, AfterTornWrite};
+ghost use Rattle.cdb_store.specs.Images.{AfterCut, HasCause};
 ghost use Rattle.cdb_store.specs.Calls.{lost, IsSynced, AreAtLeast, IsMeasured};
 ghost use Rattle.cdb_store.specs.Lengths.{file_size};
 

@@ -1,8 +1,11 @@
 // A file by its raw calls.
-ghost use Rattle.std.specs.Prelude.{◌≡◌, ℕ, ◌+◌, ◌<◌, ◌≤◌, ◌⊎◌, false, true, List, [], ◌∷◌, length, take, IfOk, IfErr, OnOk, OnErr};
+ghost use Rattle.std.specs.Prelude.{◌≡◌, ℕ, ◌+◌, ◌<◌, ◌≤◌, ◌⊎◌, false, true, List, [], ◌∷◌, length};
+ghost use Rattle.std.specs.Prelude.{take, IfOk, IfErr, OnOk, OnErr};
 ghost use Rattle.std.specs.Result.{ForOk};
 ghost use Rattle.cdb_store.specs.declared.trace.Call.{Call};
-ghost use Rattle.cdb_store.specs.declared.trace.Call.TheVariants.{Read, Gave, Wrote, NotWritten, Length, Cut, NotCut, Synced, Failed, Refused, Lost};
+ghost use Rattle.cdb_store.specs.declared.trace.Call.TheVariants.{Read, Gave, Wrote, NotWritten};
+ghost use Rattle.cdb_store.specs.declared.trace.Call.TheVariants.{Length, Cut, NotCut, Synced};
+ghost use Rattle.cdb_store.specs.declared.trace.Call.TheVariants.{Failed, Refused, Lost};
 ghost use Rattle.cdb_store.specs.Calls.{lost, ended, GivenUp, Came, IsUntold};
 
 use crate::trace::{Call, Trace};
@@ -68,7 +71,8 @@ pub trait RawFile {
         requires { Came pos bytes.now (calls self.old) }
         ensures { calls self.new ≡ (Gave pos, bytes.now) ∷ calls self.old };
 
-    /// Notes that the store refuses a call: the length is lost, or each of 1001 calls was interrupted.
+    /// Notes that the store refuses a call: the length is lost, or each of 1001 calls was
+    /// interrupted.
     fn refuse(&mut self)
         requires { (lost (calls self.old) ≡ true) ⊎ GivenUp (calls self.old) }
         ensures { calls self.new ≡ (Refused, []) ∷ calls self.old };

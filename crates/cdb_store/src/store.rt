@@ -1,5 +1,6 @@
 // A store as its users see it: the trait, its facts for proofs, and its faults.
-ghost use Rattle.std.specs.Prelude.{◌≡◌, ℕ, ◌+◌, ◌<◌, ◌≤◌, ◌^◌, max, List, length, OnOk, OnErr, IsErrOf};
+ghost use Rattle.std.specs.Prelude.{◌≡◌, ℕ, ◌+◌, ◌<◌, ◌≤◌, ◌^◌, max, List, length, OnOk, OnErr};
+ghost use Rattle.std.specs.Prelude.{IsErrOf};
 ghost use Rattle.cdb_store.specs.declared.store.StoreFault.TheVariants.{Device, NoMemory};
 ghost use Rattle.cdb_store.specs.Images.{
   SameImages,
@@ -84,7 +85,8 @@ pub trait Store {
     /// How often it has failed.
     ghost failures: { Self → ℕ };
 
-    /// How many bytes were written by calls that answered Ok, and at most as many by those that failed.
+    /// How many bytes were written by calls that answered Ok, and at most as many by those that
+    /// failed.
     ghost written: { Self → ℕ };
 
     /// Writes that end at or before it take no memory.

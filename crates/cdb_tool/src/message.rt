@@ -2,7 +2,8 @@
 ghost use Rattle.std.specs.Prelude.{◌≡◌, [], ◌++◌, Some, codes, OnOk, OnErr};
 ghost use Rattle.std.specs.Io.KnownBytes.{Appends};
 ghost use Rattle.cdb_form.specs.Views.KnownBytes.{AppendsFront};
-ghost use Rattle.cdb_tool.specs.Message.{fault_message, numbered, said_place, fault_place, fault_text, fault_line};
+ghost use Rattle.cdb_tool.specs.Message.{fault_message, numbered, said_place, fault_place};
+ghost use Rattle.cdb_tool.specs.Message.{fault_text, fault_line};
 
 use crate::fault::Fault;
 use cdb_form::{OutFault, TextFault, WalkFault, write_pieces, write_whole};

@@ -5,7 +5,8 @@ use Rattle.cdb_form.specs.Format.File.{file_bytes, file_pointers, pointers_from}
 use Rattle.cdb_form.specs.Format.Hash.{key_hash}
 use Rattle.cdb_form.specs.Format.Pair.{WordPair}
 use Rattle.cdb_form.specs.Format.Record.{KeyValue, record_bytes}
-use Rattle.cdb_form.specs.Format.Table.{file_tables, table_slots, filled_slots, slots_with, table_entries, entries_from}
+use Rattle.cdb_form.specs.Format.Table.{file_tables, table_slots, filled_slots, slots_with}
+use Rattle.cdb_form.specs.Format.Table.{table_entries, entries_from}
 
 -- Worked examples: hashes, tables and files, computed from the definitions.
 hash_none : key_hash [] ≡ 5381

@@ -1,11 +1,14 @@
 -- The walks of worked, damaged and foreign files.
-use Rattle.std.specs.Prelude.{ℕ, ◌≡◌, List, [], ◌∷◌, ◌++◌, map, Option, Some, None, refl, take, replicate, codes}
+use Rattle.std.specs.Prelude.{ℕ, ◌≡◌, List, [], ◌∷◌, ◌++◌, map, Option, Some, None, refl, take}
+use Rattle.std.specs.Prelude.{replicate, codes}
 use Rattle.cdb_form.specs.Format.File.{file_bytes, file_pointers, pointers_from}
 use Rattle.cdb_form.specs.Format.Reading.{head_at}
 use Rattle.cdb_form.specs.Format.Record.{KeyValue, record_bytes}
-use Rattle.cdb_form.specs.Format.Table.{file_tables, table_slots, filled_slots, slots_with, table_entries, entries_from}
+use Rattle.cdb_form.specs.Format.Table.{file_tables, table_slots, filled_slots, slots_with}
+use Rattle.cdb_form.specs.Format.Table.{table_entries, entries_from}
 use Rattle.cdb_form.specs.Format.Walk.{Walked, walk_of, walk_from, whole_records, record_end}
-use Rattle.cdb_form.specs.Examples.WorkedFiles.{words_of, repeat, put_at, two_records, two_file, foreign_file, wide_records, wide_file}
+use Rattle.cdb_form.specs.Examples.WorkedFiles.{words_of, repeat, put_at, two_records, two_file}
+use Rattle.cdb_form.specs.Examples.WorkedFiles.{foreign_file, wide_records, wide_file}
 use Rattle.cdb_form.specs.declared.walk.fault.WalkFault.{WalkFault}
 use Rattle.cdb_form.specs.declared.walk.fault.WalkFault.TheVariants.{Short, Table, Record}
 

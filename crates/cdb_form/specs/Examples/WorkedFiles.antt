@@ -1,9 +1,11 @@
 -- Files that were worked out by hand.
-use Rattle.std.specs.Prelude.{ℕ, List, ◌+◌, [], ◌∷◌, ◌++◌, length, take, drop, flat_map, replicate, ◌≡◌, codes, refl}
+use Rattle.std.specs.Prelude.{ℕ, List, ◌+◌, [], ◌∷◌, ◌++◌, length, take, drop, flat_map, replicate}
+use Rattle.std.specs.Prelude.{◌≡◌, codes, refl}
 use Rattle.cdb_form.specs.Format.File.{file_bytes, file_pointers, pointers_from}
 use Rattle.cdb_form.specs.Format.Pair.{pair_bytes}
 use Rattle.cdb_form.specs.Format.Record.{KeyValue, record_bytes}
-use Rattle.cdb_form.specs.Format.Table.{file_tables, table_slots, filled_slots, slots_with, table_entries, entries_from}
+use Rattle.cdb_form.specs.Format.Table.{file_tables, table_slots, filled_slots, slots_with}
+use Rattle.cdb_form.specs.Format.Table.{table_entries, entries_from}
 
 -- two words
 unfoldable pub words_of : ℕ → ℕ → ℕ → List ℕ

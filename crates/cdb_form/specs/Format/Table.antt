@@ -1,5 +1,6 @@
 -- The tables of a list of records, in words of w bytes.
-use Rattle.std.specs.Prelude.{ℕ, ◌+◌, ◌*◌, ◌%◌, ◌==◌, Bool, not, List, [], ◌∷◌, ◌++◌, length, take, drop, map, filter, fold, replicate}
+use Rattle.std.specs.Prelude.{ℕ, ◌+◌, ◌*◌, ◌%◌, ◌==◌, Bool, not, List, [], ◌∷◌, ◌++◌, length, take}
+use Rattle.std.specs.Prelude.{drop, map, filter, fold, replicate}
 use Rattle.std.specs.List.{range_with_len, prefix_len, slice_set}
 use Rattle.cdb_form.specs.Format.Pair.{WordPair, head_size}
 use Rattle.cdb_form.specs.Format.Hash.{key_hash, table_number, home_slot}

@@ -1,6 +1,8 @@
 -- The records of a file, one after the other, in words of w bytes.
 use Rattle.std.specs.List.{reduce, position_or_len}
-use Rattle.std.specs.Prelude.{ℕ, ◌*◌, List, ◌+◌, ◌==◌, Bool, not, [], ◌∷◌, ◌++◌, length, take, drop, map, filter, sum_by, Option, Some, None, zero, suc, ◌-◌, nat_lt, nat_le, min, if◌then◌else◌, ◌&&◌, unwrap_or}
+use Rattle.std.specs.Prelude.{ℕ, ◌*◌, List, ◌+◌, ◌==◌, Bool, not, [], ◌∷◌, ◌++◌, length, take, drop}
+use Rattle.std.specs.Prelude.{map, filter, sum_by, Option, Some, None, zero, suc, ◌-◌, nat_lt}
+use Rattle.std.specs.Prelude.{nat_le, min, if◌then◌else◌, ◌&&◌, unwrap_or}
 use Rattle.cdb_form.specs.Format.Pair.{WordPair, head_size}
 use Rattle.cdb_form.specs.Format.Reading.{pair_at, head_at}
 use Rattle.cdb_form.specs.Format.Record.{KeyValue, record_size}

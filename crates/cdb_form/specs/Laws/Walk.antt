@@ -1,5 +1,6 @@
 -- Laws of the walk.
-use Rattle.std.specs.Prelude.{ℕ, List, ◌<◌, ◌++◌, length, take, drop, flat_map, sum_by, ◌≤◌, ◌≡◌, Some, None}
+use Rattle.std.specs.Prelude.{ℕ, List, ◌<◌, ◌++◌, length, take, drop, flat_map, sum_by, ◌≤◌, ◌≡◌}
+use Rattle.std.specs.Prelude.{Some, None}
 use Rattle.cdb_form.specs.Format.File.{file_bytes}
 use Rattle.cdb_form.specs.Format.Pair.{head_size}
 use Rattle.cdb_form.specs.Format.Reading.{head_at}

@@ -1,6 +1,7 @@
 -- The native text of a list of records, whose lengths are at most `greatest`.
 use Rattle.std.specs.Char.{digit_value}
-use Rattle.std.specs.Prelude.{ℕ, List, ◌+◌, ◌<◌, [], ◌∷◌, ◌++◌, length, take, flat_map, ◌≤◌, ◌≡◌, ⊤, get_or, decimal, codes}
+use Rattle.std.specs.Prelude.{ℕ, List, ◌+◌, ◌<◌, [], ◌∷◌, ◌++◌, length, take, flat_map, ◌≤◌, ◌≡◌, ⊤}
+use Rattle.std.specs.Prelude.{get_or, decimal, codes}
 use Rattle.std.specs.Str.Parse.{AllDigits, digits_value}
 use Rattle.cdb_form.specs.Format.Record.{KeyValue, IsRecord}
 use Rattle.cdb_form.specs.declared.text.fault.TextFault.{TextFault}

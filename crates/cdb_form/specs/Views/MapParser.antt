@@ -1,9 +1,11 @@
 -- What the parser of a map text read of a line.
 use Rattle.std.specs.Io.KnownBytes.{IsAtEnd}
 use Rattle.std.specs.List.{AllPass}
-use Rattle.std.specs.Prelude.{Bool, IfNone, IfSome, List, None, Option, Some, [], codes, false, length, not, ◌*◌, ◌+◌, ◌++◌, ◌||◌, ◌∷◌, ◌≡◌, ◌≤◌, ℕ}
+use Rattle.std.specs.Prelude.{Bool, IfNone, IfSome, List, None, Option, Some, [], codes, false}
+use Rattle.std.specs.Prelude.{length, not, ◌*◌, ◌+◌, ◌++◌, ◌||◌, ◌∷◌, ◌≡◌, ◌≤◌, ℕ}
 use Rattle.cdb_form.specs.Format.Record.{KeyValue}
-use Rattle.cdb_form.specs.Text.Map.{BeginsOther, IsIgnoredLine, IsLineOf, Lacks, is_blank, is_newline, line_pair}
+use Rattle.cdb_form.specs.Text.Map.{BeginsOther, IsIgnoredLine, IsLineOf, Lacks, is_blank}
+use Rattle.cdb_form.specs.Text.Map.{is_newline, line_pair}
 use Rattle.cdb_form.specs.Views.Source.{Takes, budget}
 use Rattle.cdb_form.specs.declared.text.map_parser.Kind.{Kind}
 use Rattle.cdb_form.specs.declared.text.map_parser.Kind.TheVariants.{Blank, InLine, InWord}

@@ -1,7 +1,8 @@
 -- What a clause reads of a reader of a map text.
 use Rattle.std.specs.Prelude.{All, List, Option, [], ◌++◌, ◌<◌, ◌≡◌, ℕ}
 use Rattle.cdb_form.specs.Format.Record.{KeyValue}
-use Rattle.cdb_form.specs.Text.Map.{IsIgnoredLine, IsLineOf, Lacks, is_newline, map_lines, with_newlines}
+use Rattle.cdb_form.specs.Text.Map.{IsIgnoredLine, IsLineOf, Lacks, is_newline, map_lines}
+use Rattle.cdb_form.specs.Text.Map.{with_newlines}
 use Rattle.cdb_form.specs.Views.MapParser.{ReadsToEnding}
 use Rattle.cdb_form.specs.Views.Source.{LeavesAmid}
 use Rattle.cdb_form.specs.declared.text.fault.TextFault.{TextFault}

@@ -2,7 +2,8 @@
 -- place of the text's first byte.
 use Rattle.std.specs.Char.{digit_value}
 use Rattle.std.specs.Io.KnownBytes.{Consumes}
-use Rattle.std.specs.Prelude.{option_map, ℕ, ◌*◌, List, ◌+◌, ◌<◌, [], ◌∷◌, ◌++◌, codes, ◌-◌, take, length, ◌≤◌, Option, ◌≡◌, ⊤, ◌≢◌, IfSome}
+use Rattle.std.specs.Prelude.{option_map, ℕ, ◌*◌, List, ◌+◌, ◌<◌, [], ◌∷◌, ◌++◌, codes, ◌-◌, take}
+use Rattle.std.specs.Prelude.{length, ◌≤◌, Option, ◌≡◌, ⊤, ◌≢◌, IfSome}
 use Rattle.std.specs.Str.Parse.{AllDigits, digits_value}
 use Rattle.cdb_form.specs.Format.Record.{KeyValue, AreBytes}
 use Rattle.cdb_form.specs.Text.Native.{Spells, HasFault, HasNoRecord}
@@ -11,7 +12,8 @@ use Rattle.cdb_form.specs.declared.text.source.Source.{Source}
 use Rattle.cdb_form.specs.Views.Source.{budget}
 use Rattle.cdb_form.specs.Views.TextFault.{IsOfText, IsSpent, LastRead}
 use Rattle.cdb_form.specs.declared.text.fault.TextFault.{TextFault}
-use Rattle.cdb_form.specs.declared.text.fault.TextFault.TheVariants.{Syntax, Ended, Large, Input, Endless, NoMemory}
+use Rattle.cdb_form.specs.declared.text.fault.TextFault.TheVariants.{Syntax, Ended, Large, Input}
+use Rattle.cdb_form.specs.declared.text.fault.TextFault.TheVariants.{Endless, NoMemory}
 
 -- the text that a fault is one of: all that was unread, or what was read of it where the reader
 -- failed

@@ -2,7 +2,8 @@
 use Rattle.std.specs.Prelude.{ℕ, ◌^◌, ◌+◌, ◌<◌, IfSome, List, drop, Option, ◌≡◌, ⊤, ◌-◌, max}
 use Rattle.cdb_form.specs.Format.Pair.{head_size, pair_size}
 use Rattle.cdb_form.specs.Format.Record.{KeyValue}
-use Rattle.cdb_form.specs.Format.Walk.{Walked, walk_of, walk_from, record_end, no_walk, with_first, with_records, damaged}
+use Rattle.cdb_form.specs.Format.Walk.{Walked, walk_of, walk_from, record_end, no_walk, with_first}
+use Rattle.cdb_form.specs.Format.Walk.{with_records, damaged}
 use Rattle.cdb_form.specs.Views.KnownBytes.{FromTo, StillFrom}
 use Rattle.cdb_form.specs.Views.Reading.{ReadsNoFurther, IsKept}
 use Rattle.cdb_form.specs.Views.WalkFault.{IsDamage}
@@ -11,7 +12,8 @@ use Rattle.cdb_form.specs.declared.walk.source.Keeping.{Keeping}
 use Rattle.cdb_form.specs.declared.walk.fault.WalkFault.{WalkFault}
 use Rattle.cdb_form.specs.declared.walk.record_reader.RecordReader.{RecordReader}
 use Rattle.cdb_form.specs.declared.walk.record_reader.Walking.{Walking}
-use Rattle.cdb_form.specs.declared.walk.record_reader.Walking.TheVariants.{AtHead, At, AtEnd, Failed}
+use Rattle.cdb_form.specs.declared.walk.record_reader.Walking.TheVariants.{AtHead, At, AtEnd}
+use Rattle.cdb_form.specs.declared.walk.record_reader.Walking.TheVariants.{Failed}
 
 -- the walk of what is unread: of a whole file before its head was read, and then from the next
 -- place on

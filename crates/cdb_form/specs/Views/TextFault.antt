@@ -3,7 +3,8 @@ use Rattle.std.specs.Prelude.{ℕ, ◌≡◌, ◌+◌, ⊤, List, ◌++◌, code
 use Rattle.cdb_form.specs.declared.reading.Unread.{Unread}
 use Rattle.cdb_form.specs.declared.reading.Unread.TheVariants as unread
 use Rattle.cdb_form.specs.declared.text.fault.TextFault.{TextFault}
-use Rattle.cdb_form.specs.declared.text.fault.TextFault.TheVariants.{Syntax, Ended, Large, Input, Endless, NoMemory}
+use Rattle.cdb_form.specs.declared.text.fault.TextFault.TheVariants.{Syntax, Ended, Large, Input}
+use Rattle.cdb_form.specs.declared.text.fault.TextFault.TheVariants.{Endless, NoMemory}
 
 -- the fault is one of the text
 abbrev pub IsOfText : TextFault → Type 0

@@ -1,6 +1,7 @@
 -- What a clause reads of a reader of a native text.
 use Rattle.std.specs.Io.KnownBytes.{Consumes}
-use Rattle.std.specs.Prelude.{ℕ, List, ◌+◌, ◌-◌, ◌*◌, ◌<◌, ◌≤◌, length, take, codes, Option, ◌≡◌, ◌≢◌, IfSome}
+use Rattle.std.specs.Prelude.{ℕ, List, ◌+◌, ◌-◌, ◌*◌, ◌<◌, ◌≤◌, length, take, codes, Option, ◌≡◌}
+use Rattle.std.specs.Prelude.{◌≢◌, IfSome}
 use Rattle.cdb_form.specs.Format.Record.{KeyValue}
 use Rattle.cdb_form.specs.Text.Native.{Spells, HasFault, HasNoRecord}
 use Rattle.cdb_form.specs.Views.KnownBytes.{Took}

@@ -3,7 +3,8 @@ use Rattle.std.specs.Prelude.{ℕ, ⊤, List, ◌++◌, codes, decimal, Option, 
 use Rattle.cdb_form.specs.declared.reading.Unread.{Unread}
 use Rattle.cdb_form.specs.declared.reading.Unread.TheVariants as unread
 use Rattle.cdb_form.specs.declared.walk.fault.WalkFault.{WalkFault}
-use Rattle.cdb_form.specs.declared.walk.fault.WalkFault.TheVariants.{Short, Table, Record, Input, NoMemory}
+use Rattle.cdb_form.specs.declared.walk.fault.WalkFault.TheVariants.{Short, Table, Record, Input}
+use Rattle.cdb_form.specs.declared.walk.fault.WalkFault.TheVariants.{NoMemory}
 
 -- the fault is one of the file
 abbrev pub IsDamage : WalkFault → Type 0

@@ -20,8 +20,10 @@ fn walk<L: Width, R: Read + Drop>(
     reader: R,
 ) -> Result<(Vec<Record>, Option<WalkFault>), AllocError>
     ensures { IfOk result (λ p. MatchOption p.1
-        (IfSome (R.remaining reader) (λ text. walk_of L.WORD text ≡ record { records = key_values p.0.items; damage = None }))
-        (λ f. IsDamage f → IfSome (R.remaining reader) (λ text. walk_of L.WORD text ≡ record { records = key_values p.0.items; damage = Some f }))) }
+        (IfSome (R.remaining reader) (λ text. walk_of L.WORD text
+        ≡ record { records = key_values p.0.items; damage = None }))
+        (λ f. IsDamage f → IfSome (R.remaining reader) (λ text. walk_of L.WORD text
+        ≡ record { records = key_values p.0.items; damage = Some f }))) }
 {
     let mut records = Vec::new(alloc);
     let mut reader: RecordReader<R, L> = RecordReader::new(alloc, reader);

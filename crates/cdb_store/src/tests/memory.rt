@@ -53,7 +53,8 @@ fn refused_memory_changes_nothing(rt: HostRuntime) -> Result<(), Fail> {
 
 #[test]
 fn any_allocation_may_be_refused(rt: HostRuntime) -> Result<(), Fail> {
-    // each call leaves what was where its memory is refused, as `rt try --test --fail-alloc N` has it
+    // each call leaves what was where its memory is refused, as `rt try --test --fail-alloc N`
+    // has it
     let mut store = MemStore::new(rt.alloc());
     let mut want: &[u8] = b"";
     if store.reserve(8).is_err() {

@@ -1,6 +1,7 @@
 -- What the text of a file leaves, of each form. A file is the bytes of its reader, where they are
 -- known, and the rest is what its reader has left.
-use Rattle.std.specs.Prelude.{ℕ, ◌≡◌, List, [], ◌++◌, Option, None, Some, Result, IfSome, OnOk, IfErr, flat_map}
+use Rattle.std.specs.Prelude.{ℕ, ◌≡◌, List, [], ◌++◌, Option, None, Some, Result, IfSome, OnOk}
+use Rattle.std.specs.Prelude.{IfErr, flat_map}
 use Rattle.std.specs.Io.KnownBytes.{Appends}
 use Rattle.cdb_form.specs.Format.Record.{KeyValue}
 use Rattle.cdb_form.specs.Format.Walk.{Walked, walk_of}

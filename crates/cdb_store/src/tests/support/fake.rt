@@ -16,7 +16,8 @@ pub enum Trouble {
     Interrupted,
     /// It fails, but one that asks for the length is told this.
     Tells(u64),
-    /// It is interrupted, and so are those after it; the one after so many reads or writes one byte.
+    /// It is interrupted, and so are those after it; the one after so many reads or writes one
+    /// byte.
     OneByteAfter(u64),
 }
 
