@@ -146,12 +146,7 @@ fn interrupted_reads_are_asked_again(rt: HostRuntime) -> Result<(), Fail> {
 fn a_writer_of_a_dump_that_fails_holds_a_front(rt: HostRuntime) -> Result<(), Fail> {
     let file = bytes_of(rt.alloc(), &TWO)?;
     for room in 0..TWO_TEXT.len() + 1 {
-        let mut w = FakeWriter {
-            held: Vec::new(rt.alloc()),
-            room,
-            flushes: 0,
-            flush_fails: false,
-        };
+        let mut w = FakeWriter::new(rt.alloc(), room);
         let answer = dump_run::<Narrow, &[u8], FakeWriter>(
             rt.alloc(),
             &file,
@@ -178,12 +173,8 @@ fn a_failing_flush_of_a_dump(rt: HostRuntime) -> Result<(), Fail> {
         (2070, Fault::Walk(WalkFault::Record(2064))),
     ] {
         assert!(rt; cut <= file.len());
-        let mut w = FakeWriter {
-            held: Vec::new(rt.alloc()),
-            room: 4096,
-            flushes: 0,
-            flush_fails: true,
-        };
+        let mut w = FakeWriter::new(rt.alloc(), 4096);
+        w.flush_fails = true;
         let answer = dump_run::<Narrow, &[u8], FakeWriter>(
             rt.alloc(),
             &file[..cut],

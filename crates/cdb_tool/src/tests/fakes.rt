@@ -33,6 +33,18 @@ pub(super) struct FakeWriter {
     pub(super) flush_fails: bool,
 }
 
+impl FakeWriter {
+    /// A writer with room for so many bytes, whose flushes do not fail.
+    pub(super) fn new(alloc: Global, room: usize) -> FakeWriter {
+        FakeWriter {
+            held: Vec::new(alloc),
+            room,
+            flushes: 0,
+            flush_fails: false,
+        }
+    }
+}
+
 impl Write for FakeWriter {
     fn write(&mut self, buf: &[u8]) -> io::Result<usize> {
         let n = buf.len().min(self.room);

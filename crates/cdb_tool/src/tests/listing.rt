@@ -63,15 +63,6 @@ fn write_text<R: Read + Drop, W: Write>(
     }
 }
 
-fn writer(alloc: Global, room: usize) -> FakeWriter {
-    FakeWriter {
-        held: Vec::new(alloc),
-        room,
-        flushes: 0,
-        flush_fails: false,
-    }
-}
-
 #[test]
 fn whole_files(rt: HostRuntime) -> Result<(), Fail> {
     for text in TEXTS {
@@ -152,7 +143,7 @@ fn a_writer_that_fails_holds_a_front(rt: HostRuntime) -> Result<(), Fail> {
     let file = bytes_of(rt.alloc(), &TWO)?;
     for text in TEXTS {
         for room in 0..text.two.len() + 1 {
-            let mut w = writer(rt.alloc(), room);
+            let mut w = FakeWriter::new(rt.alloc(), room);
             let answer = write_text::<&[u8], _>(rt.alloc(), &file, text, &mut w);
             let want = if room < text.two.len() {
                 Err(Fault::Output)
@@ -176,7 +167,7 @@ fn a_failing_flush_is_output_where_no_other_fault_came(rt: HostRuntime) -> Resul
             (2070, Fault::Walk(WalkFault::Record(2064))),
         ] {
             assert!(rt; cut <= file.len());
-            let mut w = writer(rt.alloc(), 4096);
+            let mut w = FakeWriter::new(rt.alloc(), 4096);
             w.flush_fails = true;
             let answer = write_text::<&[u8], _>(rt.alloc(), &file[..cut], text, &mut w);
             assert_eq!(rt; answer, Err(fault), "cut at {cut}");

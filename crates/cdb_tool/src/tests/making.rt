@@ -18,15 +18,6 @@ fn made<R: Read + Drop>(alloc: Global, text: R) -> (Result<(), Fault>, Vec<u8>) 
     (answer, out)
 }
 
-fn writer(alloc: Global, room: usize) -> FakeWriter {
-    FakeWriter {
-        held: Vec::new(alloc),
-        room,
-        flushes: 0,
-        flush_fails: false,
-    }
-}
-
 #[test]
 fn worked_files(rt: HostRuntime) -> Result<(), Fail> {
     let cases: [(&[u8], &[Run], usize); 4] = [
@@ -86,7 +77,7 @@ fn refused_texts_leave_nothing_written_and_their_rest_unread(rt: HostRuntime) {
         (b"+3,5:one->Hello\n", TextFault::Ended(16), b""),
     ];
     for (text, fault, left) in cases {
-        let mut w = writer(rt.alloc(), 4096);
+        let mut w = FakeWriter::new(rt.alloc(), 4096);
         let mut rest = text;
         let answer = make_bytes::<Narrow, _, FakeWriter>(rt.alloc(), &mut rest, &mut w);
         assert_eq!(rt; answer, Err(Fault::Text(1, fault)), "{text:?}");
@@ -144,7 +135,7 @@ fn interruptions_are_asked_again(rt: HostRuntime) {
 fn a_writer_that_fails_holds_a_front(rt: HostRuntime) -> Result<(), Fail> {
     let file = bytes_of(rt.alloc(), &TWO)?;
     for room in 0..file.len() + 1 {
-        let mut w = writer(rt.alloc(), room);
+        let mut w = FakeWriter::new(rt.alloc(), room);
         let answer = make_bytes::<Narrow, &[u8], FakeWriter>(rt.alloc(), TWO_TEXT, &mut w);
         let want = if room < file.len() {
             Err(Fault::Output)
@@ -165,7 +156,7 @@ fn a_failing_flush_is_output_where_no_other_fault_came(rt: HostRuntime) {
         (b"*", Fault::Text(1, TextFault::Syntax(0))),
     ];
     for (text, fault) in cases {
-        let mut w = writer(rt.alloc(), 4096);
+        let mut w = FakeWriter::new(rt.alloc(), 4096);
         w.flush_fails = true;
         let answer = make_bytes::<Narrow, &[u8], FakeWriter>(rt.alloc(), text, &mut w);
         assert_eq!(rt; answer, Err(fault), "{text:?}");
