@@ -12,13 +12,13 @@ use std::io::{Read, Write};
 use std::prelude::*;
 use std::test::Fail;
 
-/// A text of a file, and where each of its two items ends in that of two records.
+/// A text of some files, and of the first record alone.
 #[derive(Clone, Copy)]
 struct Text {
     list: bool,
     style: Style,
     two: &'static [u8],
-    first: usize,
+    first: &'static [u8],
     none: &'static [u8],
     four: &'static [u8],
 }
@@ -28,7 +28,7 @@ const TEXTS: [Text; 3] = [
         list: true,
         style: Style::Native,
         two: b"+3:one\n+3:two\n\n",
-        first: 7,
+        first: b"+3:one\n",
         none: b"\n",
         four: b"+1:a\n+1:a\n+1:a\n+1:a\n\n",
     },
@@ -36,7 +36,7 @@ const TEXTS: [Text; 3] = [
         list: true,
         style: Style::Map,
         two: b"one\ntwo\n",
-        first: 4,
+        first: b"one\n",
         none: b"",
         four: b"a\na\na\na\n",
     },
@@ -44,7 +44,7 @@ const TEXTS: [Text; 3] = [
         list: false,
         style: Style::Map,
         two: b"one Hello\ntwo Goodbye\n",
-        first: 10,
+        first: b"one Hello\n",
         none: b"",
         four: b"a 1\na 2\na 3\na 4\n",
     },
@@ -82,13 +82,13 @@ fn whole_files(rt: HostRuntime) -> Result<(), Fail> {
     Ok(())
 }
 
-/// How many bytes of a text stand before the damage of the two-record file that is cut here.
-fn cut_answer(text: Text, cut: usize) -> (usize, Option<WalkFault>) {
+/// What is written of the two-record file where it is cut, and its damage.
+fn cut_answer(text: Text, cut: usize) -> (&'static [u8], Option<WalkFault>) {
     match cut {
-        0..=2047 => (0, Some(WalkFault::Short)),
-        2048..=2063 => (0, Some(WalkFault::Record(2048))),
+        0..=2047 => (b"", Some(WalkFault::Short)),
+        2048..=2063 => (b"", Some(WalkFault::Record(2048))),
         2064..=2081 => (text.first, Some(WalkFault::Record(2064))),
-        _ => (text.two.len(), None),
+        _ => (text.two, None),
     }
 }
 
@@ -97,7 +97,7 @@ fn cut_files_and_failing_readers(rt: HostRuntime) -> Result<(), Fail> {
     let file = bytes_of(rt.alloc(), &TWO)?;
     for text in TEXTS {
         for cut in 0..file.len() + 1 {
-            let (len, damage) = cut_answer(text, cut);
+            let (written, damage) = cut_answer(text, cut);
             for fails in [false, true] {
                 let reader = FakeReader {
                     interrupts: 0,
@@ -112,7 +112,7 @@ fn cut_files_and_failing_readers(rt: HostRuntime) -> Result<(), Fail> {
                     Some(damage) => Err(Fault::Walk(damage)),
                 };
                 assert_eq!(rt; answer, want, "cut at {cut}");
-                assert_eq!(rt; out.as_slice(), &text.two[..len], "cut at {cut}");
+                assert_eq!(rt; out.as_slice(), written, "cut at {cut}");
             }
         }
     }
