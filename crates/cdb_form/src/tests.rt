@@ -1,5 +1,6 @@
 // Tests of what no contract says: values worked out by hand, and faults of readers and writers.
 mod fakes;
+mod reading;
 mod texts;
 mod walking;
 mod words;
