@@ -19,7 +19,7 @@ use Rattle.cdb_tool.specs.Views.Fault.{walk_fault}
 use Rattle.cdb_tool.specs.Runs.Flushed.{Flushed}
 use Rattle.cdb_tool.specs.Runs.Dump.{closing, dump_of, Dumps, DumpsFront, DumpsFirst, DumpFails, LeavesBehind, KeepsBehind, DumpRuns}
 use Rattle.cdb_tool.specs.declared.fault.Fault.{Fault}
-use Rattle.cdb_tool.specs.declared.fault.Fault.TheVariants.{Text, Make, Walk, Output, NoMemory}
+use Rattle.cdb_tool.specs.declared.fault.Fault.TheVariants.{Text, Make, Walk, Output, Long, NoMemory}
 use Rattle.cdb_tool.proofs.WholeRuns.{front_kept, whole_front, not_ok}
 
 -- a weaker relation
@@ -178,6 +178,7 @@ fails_kept w file old mid new NoMemory d k = first_kept w file old mid new d k
 fails_kept w file old mid new Output d k = record { walked = d.walked; is = d.is; appended = front_kept old mid new (dump_of d.walked) d.appended k }
 fails_kept w file old mid new (Text input f) d k = absurd d
 fails_kept w file old mid new (Make f) d k = absurd d
+fails_kept w file old mid new Long d k = absurd d
 
 runs_kept : (w : ℕ) (file rest old mid new : Option (List ℕ)) (r : Result Unit Fault) → DumpRuns w file rest old mid r → Keeps mid new → DumpRuns w file rest old new r
 runs_kept w file rest old mid new (Ok u) d k = record { ok = (dumps_kept w file None old mid new d.ok.0 k, d.ok.1); err = tt; behind = d.behind }

@@ -17,6 +17,8 @@ pub(crate) enum Fault {
     Walk(WalkFault),
     /// A writer failed.
     Output,
+    /// More bytes came than were allowed.
+    Long,
     /// Memory ran out.
     NoMemory,
 }
@@ -31,6 +33,7 @@ impl Fault {
             Fault::Make(_) => 2,
             Fault::Walk(_) => 6,
             Fault::Output => 7,
+            Fault::Long => 8,
             Fault::NoMemory => 11,
         }
     }

@@ -6,6 +6,7 @@ ghost use Rattle.cdb_tool.specs.Message.{fault_message, numbered, said_place, fa
 
 use crate::fault::Fault;
 use cdb_form::{OutFault, TextFault, WalkFault, write_pieces, write_whole};
+use cdb_make::MakeFault;
 use itoa::Buffer;
 use std::error::Error;
 use std::fmt;
@@ -35,6 +36,7 @@ impl Fault {
             Fault::Make(fault) => fault.message(),
             Fault::Walk(fault) => fault.message(),
             Fault::Output => "output cannot be written",
+            Fault::Long => MakeFault::TooBig.message(),
             Fault::NoMemory => "no memory",
         }
     }

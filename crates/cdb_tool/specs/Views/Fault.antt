@@ -7,13 +7,14 @@ use Rattle.cdb_form.specs.declared.walk.fault.WalkFault.TheVariants as walk
 use Rattle.cdb_make.specs.declared.fault.MakeFault.{MakeFault}
 use Rattle.cdb_make.specs.declared.fault.MakeFault.TheVariants as make
 use Rattle.cdb_tool.specs.declared.fault.Fault.{Fault}
-use Rattle.cdb_tool.specs.declared.fault.Fault.TheVariants.{Text, Make, Walk, Output, NoMemory}
+use Rattle.cdb_tool.specs.declared.fault.Fault.TheVariants.{Text, Make, Walk, Output, Long, NoMemory}
 
 abbrev pub fault_number : Fault → ℕ
 fault_number (Text input fault) = 1
 fault_number (Make fault) = 2
 fault_number (Walk fault) = 6
 fault_number Output = 7
+fault_number Long = 8
 fault_number NoMemory = 11
 
 -- the fault of a run, from that of an input: want of memory is the run's own
