@@ -1,4 +1,5 @@
 -- What the runs of the program leave.
 pub mod MakeBytes
 pub mod Dump
+pub mod Load
 pub mod Flushed

@@ -1,8 +1,9 @@
 // Why a run stopped.
 ghost use Rattle.std.specs.Prelude.{◌≡◌};
 ghost use Rattle.cdb_tool.specs.Views.Fault.{fault_number, text_fault, walk_fault, make_fault};
+ghost use Rattle.cdb_tool.specs.Views.Fault.{in_fault};
 
-use cdb_form::{OutFault, TextFault, WalkFault};
+use cdb_form::{InFault, OutFault, TextFault, WalkFault};
 use cdb_make::MakeFault;
 use std::alloc::AllocError;
 
@@ -58,6 +59,18 @@ impl From<WalkFault> for Fault {
         match fault {
             WalkFault::NoMemory => Fault::NoMemory,
             _ => Fault::Walk(fault),
+        }
+    }
+}
+
+/// A reader that fails where a file is taken whole is told as one that fails in a walk.
+impl From<InFault> for Fault {
+    ghost from_gives = { λ input fault. fault ≡ in_fault input };
+
+    fn from(fault: InFault) -> Fault {
+        match fault {
+            InFault::NoMemory => Fault::NoMemory,
+            InFault::Failed => Fault::Walk(WalkFault::Input),
         }
     }
 }

@@ -3,6 +3,7 @@
 mod dumping;
 mod fakes;
 mod lines;
+mod loading;
 mod making;
 mod streams;
 mod worked;

@@ -4,6 +4,8 @@ use Rattle.cdb_form.specs.declared.text.fault.TextFault.{TextFault}
 use Rattle.cdb_form.specs.declared.text.fault.TextFault.TheVariants as text
 use Rattle.cdb_form.specs.declared.walk.fault.WalkFault.{WalkFault}
 use Rattle.cdb_form.specs.declared.walk.fault.WalkFault.TheVariants as walk
+use Rattle.cdb_form.specs.declared.reading_whole.InFault.{InFault}
+use Rattle.cdb_form.specs.declared.reading_whole.InFault.TheVariants as input
 use Rattle.cdb_make.specs.declared.fault.MakeFault.{MakeFault}
 use Rattle.cdb_make.specs.declared.fault.MakeFault.TheVariants as make
 use Rattle.cdb_tool.specs.declared.fault.Fault.{Fault}
@@ -26,6 +28,11 @@ text_fault input fault = Text input fault
 abbrev pub walk_fault : WalkFault → Fault
 walk_fault walk.NoMemory = NoMemory
 walk_fault fault = Walk fault
+
+-- from that of a file that is taken whole
+abbrev pub in_fault : InFault → Fault
+in_fault input.NoMemory = NoMemory
+in_fault input.Failed = Walk walk.Input
 
 -- from that of a maker: a fault of the writing is the output's
 abbrev pub make_fault : MakeFault → Fault
