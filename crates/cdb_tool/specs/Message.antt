@@ -11,7 +11,8 @@ use Rattle.cdb_make.specs.declared.fault.MakeFault.TheVariants.{TooBig}
 use Rattle.cdb_tool.specs.declared.message.Place.{Place}
 use Rattle.cdb_tool.specs.declared.message.Place.TheVariants.{Nowhere, Input, Byte, Table, Record}
 use Rattle.cdb_tool.specs.declared.fault.Fault.{Fault}
-use Rattle.cdb_tool.specs.declared.fault.Fault.TheVariants.{Text, Make, Walk, Output, Long, NoMemory}
+use Rattle.cdb_tool.specs.declared.fault.Fault.TheVariants.{Text, Make, Walk, Output}
+use Rattle.cdb_tool.specs.declared.fault.Fault.TheVariants.{Long, NoMemory}
 
 -- what a fault is
 abbrev pub fault_message : Fault → List ℕ

@@ -9,7 +9,8 @@ use Rattle.cdb_form.specs.declared.reading_whole.InFault.TheVariants as input
 use Rattle.cdb_make.specs.declared.fault.MakeFault.{MakeFault}
 use Rattle.cdb_make.specs.declared.fault.MakeFault.TheVariants as make
 use Rattle.cdb_tool.specs.declared.fault.Fault.{Fault}
-use Rattle.cdb_tool.specs.declared.fault.Fault.TheVariants.{Text, Make, Walk, Output, Long, NoMemory}
+use Rattle.cdb_tool.specs.declared.fault.Fault.TheVariants.{Text, Make, Walk, Output}
+use Rattle.cdb_tool.specs.declared.fault.Fault.TheVariants.{Long, NoMemory}
 
 abbrev pub fault_number : Fault → ℕ
 fault_number (Text input fault) = 1
