@@ -2,6 +2,7 @@
 pub mod Pairs
 pub mod KnownBytes
 pub mod Reading
+pub mod InFault
 pub mod TextFault
 pub mod WalkFault
 pub mod Source

@@ -12,6 +12,7 @@ mod key_hash;
 pub mod laws;
 mod pair;
 mod reading;
+mod reading_whole;
 mod record;
 mod slot;
 mod text;
@@ -23,6 +24,7 @@ pub use head::{Head, Pointer, head_size, read_head, read_pointer, write_head, wr
 pub use header::{Header, read_header, write_header};
 pub use key_hash::{hash, home_slot, table_number};
 pub use pair::pair_size;
+pub use reading_whole::{Extent, InFault, read_whole};
 pub use record::Record;
 pub use slot::{Slot, read_slot, write_slot};
 pub use text::fault::TextFault;

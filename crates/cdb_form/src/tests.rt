@@ -1,6 +1,7 @@
 // Tests of what no contract says: values worked out by hand, and faults of readers and writers.
 mod fakes;
 mod maps;
+mod reading;
 mod texts;
 mod walking;
 mod words;

@@ -25,7 +25,7 @@ use Rattle.cdb_tool.specs.Views.Fault as run
 use Rattle.cdb_tool.specs.Runs.Flushed.{Flushed}
 use Rattle.cdb_tool.specs.Runs.MakeBytes.{IsNewText, FailsText, FailsRead, PassesGreatest, NotRead, ReadsFitting, MakesFile, Makes}
 use Rattle.cdb_tool.specs.declared.fault.Fault.{Fault}
-use Rattle.cdb_tool.specs.declared.fault.Fault.TheVariants.{Text, Make, Walk, Output, NoMemory}
+use Rattle.cdb_tool.specs.declared.fault.Fault.TheVariants.{Text, Make, Walk, Output, Long, NoMemory}
 
 -- ---- what a writer holds
 
@@ -206,6 +206,7 @@ nothing_made w g text rest o (Text input f) x = record { ok = tt; err = (x, keep
 nothing_made w g text rest o (Make f) x = record { ok = tt; err = (x, keeps_self o) }
 nothing_made w g text rest o (Walk f) x = absurd x
 nothing_made w g text rest o Output x = absurd x
+nothing_made w g text rest o Long x = absurd x
 nothing_made w g text rest o NoMemory x = record { ok = tt; err = (x, keeps_self o) }
 
 pub file_made : (w g : ℕ) (text rest old new : Option (List ℕ)) (rs : List KeyValue) → ReadsFitting w g text rest rs → Appends old new (file_bytes w rs) → Makes w g text rest old new (Ok tt)
@@ -228,6 +229,7 @@ makes_kept w g text rest old mid new (Ok u) m k = record { ok = file_kept w g te
 makes_kept w g text rest old mid new (Err (Text input f)) m k = record { ok = tt; err = (m.err.0, keeps_then old mid new m.err.1 k) }
 makes_kept w g text rest old mid new (Err (Make f)) m k = record { ok = tt; err = (m.err.0, keeps_then old mid new m.err.1 k) }
 makes_kept w g text rest old mid new (Err (Walk f)) m k = record { ok = tt; err = (m.err.0, keeps_then old mid new m.err.1 k) }
+makes_kept w g text rest old mid new (Err Long) m k = record { ok = tt; err = (m.err.0, keeps_then old mid new m.err.1 k) }
 makes_kept w g text rest old mid new (Err NoMemory) m k = record { ok = tt; err = (m.err.0, keeps_then old mid new m.err.1 k) }
 makes_kept w g text rest old mid new (Err Output) m k =
     record { ok = tt; err = record { records = m.err.records; read = m.err.read; appended = front_kept old mid new (file_bytes w m.err.records) m.err.appended k } }

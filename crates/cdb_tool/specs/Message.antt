@@ -7,10 +7,12 @@ use Rattle.cdb_form.specs.declared.walk.fault.WalkFault.TheVariants as walk
 use Rattle.cdb_form.specs.Views.TextFault.{text_message}
 use Rattle.cdb_form.specs.Views.WalkFault.{walk_message}
 use Rattle.cdb_make.specs.Views.MakeFault.{make_message}
+use Rattle.cdb_make.specs.declared.fault.MakeFault.TheVariants.{TooBig}
 use Rattle.cdb_tool.specs.declared.message.Place.{Place}
 use Rattle.cdb_tool.specs.declared.message.Place.TheVariants.{Nowhere, Input, Byte, Table, Record}
 use Rattle.cdb_tool.specs.declared.fault.Fault.{Fault}
-use Rattle.cdb_tool.specs.declared.fault.Fault.TheVariants.{Text, Make, Walk, Output, NoMemory}
+use Rattle.cdb_tool.specs.declared.fault.Fault.TheVariants.{Text, Make, Walk, Output}
+use Rattle.cdb_tool.specs.declared.fault.Fault.TheVariants.{Long, NoMemory}
 
 -- what a fault is
 abbrev pub fault_message : Fault → List ℕ
@@ -18,6 +20,7 @@ fault_message (Text input fault) = text_message fault
 fault_message (Make fault) = make_message fault
 fault_message (Walk fault) = walk_message fault
 fault_message Output = codes "output cannot be written"
+fault_message Long = make_message TooBig
 fault_message NoMemory = codes "no memory"
 
 -- a part of what is named by its number

@@ -2,4 +2,5 @@
 pub mod MakeBytes
 pub mod Form
 pub mod WalkText
+pub mod Load
 pub mod Flushed

@@ -1,8 +1,9 @@
 // Why a run stopped.
 ghost use Rattle.std.specs.Prelude.{◌≡◌};
 ghost use Rattle.cdb_tool.specs.Views.Fault.{fault_number, text_fault, walk_fault, make_fault};
+ghost use Rattle.cdb_tool.specs.Views.Fault.{in_fault};
 
-use cdb_form::{OutFault, TextFault, WalkFault};
+use cdb_form::{InFault, OutFault, TextFault, WalkFault};
 use cdb_make::MakeFault;
 use std::alloc::AllocError;
 
@@ -17,6 +18,8 @@ pub enum Fault {
     Walk(WalkFault),
     /// A writer failed.
     Output,
+    /// More bytes came than were allowed.
+    Long,
     /// Memory ran out.
     NoMemory,
 }
@@ -31,6 +34,7 @@ impl Fault {
             Fault::Make(_) => 2,
             Fault::Walk(_) => 6,
             Fault::Output => 7,
+            Fault::Long => 8,
             Fault::NoMemory => 11,
         }
     }
@@ -55,6 +59,18 @@ impl From<WalkFault> for Fault {
         match fault {
             WalkFault::NoMemory => Fault::NoMemory,
             _ => Fault::Walk(fault),
+        }
+    }
+}
+
+/// A reader that fails where a file is taken whole is told as one that fails in a walk.
+impl From<InFault> for Fault {
+    ghost from_gives = { λ input fault. fault ≡ in_fault input };
+
+    fn from(fault: InFault) -> Fault {
+        match fault {
+            InFault::NoMemory => Fault::NoMemory,
+            InFault::Failed => Fault::Walk(WalkFault::Input),
         }
     }
 }

@@ -7,6 +7,7 @@ ghost use Rattle.cdb_tool.specs.Message.{fault_text, fault_line};
 
 use crate::fault::Fault;
 use cdb_form::{OutFault, TextFault, WalkFault, write_pieces, write_whole};
+use cdb_make::MakeFault;
 use itoa::Buffer;
 use std::error::Error;
 use std::fmt;
@@ -36,6 +37,7 @@ impl Fault {
             Fault::Make(fault) => fault.message(),
             Fault::Walk(fault) => fault.message(),
             Fault::Output => "output cannot be written",
+            Fault::Long => MakeFault::TooBig.message(),
             Fault::NoMemory => "no memory",
         }
     }

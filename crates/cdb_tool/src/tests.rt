@@ -4,6 +4,7 @@ mod dumping;
 mod fakes;
 mod lines;
 mod listing;
+mod loading;
 mod making;
 mod streams;
 mod worked;

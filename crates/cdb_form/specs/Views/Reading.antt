@@ -1,5 +1,5 @@
 -- What a clause says of a reader that did not give what it was asked for.
-use Rattle.std.specs.Prelude.{ℕ, ◌≡◌, ◌<◌, ◌⊎◌, ◌++◌, List, length, Option, ⊤, IfSome}
+use Rattle.std.specs.Prelude.{ℕ, ◌≡◌, ◌+◌, ◌<◌, ◌≤◌, ◌⊎◌, ◌++◌, List, length, Option, ⊤, IfSome}
 use Rattle.std.specs.Io.KnownBytes.{Consumes, IsAtEnd}
 use Rattle.cdb_form.specs.Format.Pair.{head_size, pair_size}
 use Rattle.cdb_form.specs.Format.Reading.{head_at, pair_at}
@@ -11,6 +11,8 @@ use Rattle.cdb_form.specs.Views.Pairs.{head_pairs, header_pair}
 use Rattle.cdb_form.specs.declared.head.Head.{Head}
 use Rattle.cdb_form.specs.declared.header.Header.{Header}
 use Rattle.cdb_form.specs.Views.KnownBytes.{LosesAtMost}
+use Rattle.cdb_form.specs.declared.reading_whole.Extent.{Extent}
+use Rattle.cdb_form.specs.declared.reading_whole.Extent.TheVariants.{All, More}
 use Rattle.cdb_form.specs.declared.reading.Unread.{Unread}
 use Rattle.cdb_form.specs.declared.reading.Unread.TheVariants.{Ended, Failed, Spent, NoMemory}
 
@@ -31,6 +33,22 @@ pub record Passes (n : ℕ) (old new : Option (List ℕ)) : Type 0 where
   pub bytes : List ℕ
   pub read : Consumes old new bytes
   pub long : length bytes ≡ n
+
+-- all that a reader had was read, n bytes at most
+pub record GivesAll (n : ℕ) (old new : Option (List ℕ)) (bytes : List ℕ) : Type 0 where
+  pub read : Consumes old new bytes
+  pub few : length bytes ≤ n
+  pub end : IsAtEnd new
+
+-- a reader had more than n bytes, and those and one more were read
+pub record GivesMore (n : ℕ) (old new : Option (List ℕ)) (bytes : List ℕ) : Type 0 where
+  pub read : Consumes old new bytes
+  pub long : length bytes ≡ n + 1
+
+-- all that a reader had was read, or more than n bytes
+abbrev pub Gives : ℕ → Option (List ℕ) → Option (List ℕ) → List ℕ → Extent → Type 0
+Gives n old new bytes All = GivesAll n old new bytes
+Gives n old new bytes More = GivesMore n old new bytes
 
 -- no more than n bytes were read, or the reader has none left
 abbrev pub ReadsNoFurther : ℕ → Option (List ℕ) → Option (List ℕ) → Type 0

@@ -4,16 +4,20 @@ use Rattle.cdb_form.specs.declared.text.fault.TextFault.{TextFault}
 use Rattle.cdb_form.specs.declared.text.fault.TextFault.TheVariants as text
 use Rattle.cdb_form.specs.declared.walk.fault.WalkFault.{WalkFault}
 use Rattle.cdb_form.specs.declared.walk.fault.WalkFault.TheVariants as walk
+use Rattle.cdb_form.specs.declared.reading_whole.InFault.{InFault}
+use Rattle.cdb_form.specs.declared.reading_whole.InFault.TheVariants as input
 use Rattle.cdb_make.specs.declared.fault.MakeFault.{MakeFault}
 use Rattle.cdb_make.specs.declared.fault.MakeFault.TheVariants as make
 use Rattle.cdb_tool.specs.declared.fault.Fault.{Fault}
-use Rattle.cdb_tool.specs.declared.fault.Fault.TheVariants.{Text, Make, Walk, Output, NoMemory}
+use Rattle.cdb_tool.specs.declared.fault.Fault.TheVariants.{Text, Make, Walk, Output}
+use Rattle.cdb_tool.specs.declared.fault.Fault.TheVariants.{Long, NoMemory}
 
 abbrev pub fault_number : Fault → ℕ
 fault_number (Text input fault) = 1
 fault_number (Make fault) = 2
 fault_number (Walk fault) = 6
 fault_number Output = 7
+fault_number Long = 8
 fault_number NoMemory = 11
 
 -- the fault of a run, from that of an input: want of memory is the run's own
@@ -25,6 +29,11 @@ text_fault input fault = Text input fault
 abbrev pub walk_fault : WalkFault → Fault
 walk_fault walk.NoMemory = NoMemory
 walk_fault fault = Walk fault
+
+-- from that of a file that is taken whole
+abbrev pub in_fault : InFault → Fault
+in_fault input.NoMemory = NoMemory
+in_fault input.Failed = Walk walk.Input
 
 -- from that of a maker: a fault of the writing is the output's
 abbrev pub make_fault : MakeFault → Fault

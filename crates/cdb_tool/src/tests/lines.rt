@@ -9,7 +9,7 @@ use std::test::Fail;
 
 #[test]
 fn faults_are_numbered_and_said(rt: HostRuntime) -> Result<(), Fail> {
-    let cases: [(Fault, u8, &str); 14] = [
+    let cases: [(Fault, u8, &str); 15] = [
         (
             Fault::Text(1, TextFault::Syntax(7)),
             1,
@@ -63,6 +63,7 @@ fn faults_are_numbered_and_said(rt: HostRuntime) -> Result<(), Fail> {
         ),
         (Fault::Walk(WalkFault::NoMemory), 6, "cdb: no memory\n"),
         (Fault::Output, 7, "cdb: output cannot be written\n"),
+        (Fault::Long, 8, "cdb: database too large\n"),
         (Fault::NoMemory, 11, "cdb: no memory\n"),
     ];
     for (fault, number, line) in cases {

@@ -1,0 +1,77 @@
+// All that a reader has, into a vector, up to so many bytes.
+ghost use Rattle.std.specs.Prelude.{◌≡◌, ◌+◌, ◌-◌, ◌^◌, ◌<◌, ◌≤◌, Some, codes, length, IfOk, IfErr};
+ghost use Rattle.std.specs.Io.KnownBytes.{Consumes};
+ghost use Rattle.cdb_form.specs.Format.Record.{AreBytes};
+ghost use Rattle.cdb_form.specs.Views.InFault.{in_message};
+ghost use Rattle.cdb_form.specs.Views.KnownBytes.{LosesAtMost};
+ghost use Rattle.cdb_form.specs.Views.Reading.{Gives};
+ghost use Rattle.cdb_form.specs.declared.reading_whole.InFault.TheVariants.{Failed};
+
+use crate::reading::{Unread, vector};
+use std::error::Error;
+use std::fmt;
+use std::io::Read;
+
+/// How much of a reader's bytes came.
+#[derive(Clone, Copy, Debug, PartialEq, Eq)]
+pub enum Extent {
+    /// All of them: the reader is at its end.
+    All,
+    /// More than were allowed.
+    More,
+}
+
+/// Why not all of a reader's bytes came.
+#[derive(Clone, Copy, Debug, PartialEq, Eq)]
+pub enum InFault {
+    /// The reader failed.
+    Failed,
+    /// Memory for its bytes was refused.
+    NoMemory,
+}
+
+impl InFault {
+    /// What the fault is, in words.
+    pub fn message(&self) -> &'static str
+        ensures { result.now ≡ in_message self.now }
+    {
+        match self {
+            InFault::Failed => "input cannot be read",
+            InFault::NoMemory => "no memory",
+        }
+    }
+}
+
+impl fmt::Display for InFault {
+    ghost output = { λ f. Some (in_message f) };
+
+    fn fmt<W: fmt::Write>(&self, f: &mut fmt::Formatter<W>) -> fmt::Result {
+        f.write_str(self.message())
+    }
+}
+
+impl Error for InFault {}
+
+/// Takes all that a reader has into a vector, over what it holds, if that is `most` bytes or fewer.
+///
+/// One byte more is asked for, to see that there is none. At `More` the vector holds `most + 1`
+/// bytes, and the reader has what follows them. At `Failed` it holds the bytes that came before
+/// the fault. Memory is asked for only as bytes come.
+pub fn read_whole<R: Read>(reader: &mut R, into: &mut Vec<u8>, most: u64) -> Result<Extent, InFault>
+    requires { most < 2 ^ 64 - 1 }
+    ensures given { IfOk result (Gives most (R.remaining reader.old)
+        (R.remaining reader.new) into.new.items) }
+    ensures part { IfErr result (λ f.
+        f ≡ Failed → Consumes (R.remaining reader.old) (R.remaining reader.new) into.new.items) }
+    ensures few { IfErr result (λ _. length into.new.items ≤ most) }
+    ensures are { AreBytes into.new.items }
+    ensures loses { LosesAtMost (R.remaining reader.old) (R.remaining reader.new) (most + 1) }
+{
+    let mut asks = u64::MAX;
+    match vector(reader, &mut asks, into, most + 1, &mut [0; 4096]) {
+        Ok(()) => Ok(Extent::More),
+        Err(Unread::Ended) => Ok(Extent::All),
+        Err(Unread::Failed | Unread::Spent) => Err(InFault::Failed),
+        Err(Unread::NoMemory) => Err(InFault::NoMemory),
+    }
+}
