@@ -15,11 +15,7 @@ use std::io::Read;
 ///
 /// It does what `load` does, and leaves the reader at its end at Ok. One byte above `most` is taken
 /// where the reader has more, and what follows it stays.
-pub fn load_from<R: Read>(
-    alloc: Global,
-    reader: &mut R,
-    most: u64,
-) -> Result<MemStore, Fault>
+pub fn load_from<R: Read>(alloc: Global, reader: &mut R, most: u64) -> Result<MemStore, Fault>
     requires { most < 2 ^ 64 - 1 }
     ensures all { IfOk result (λ store.
         GivesAll most (R.remaining reader.old) (R.remaining reader.new) (contents store)) }
@@ -40,11 +36,7 @@ pub fn load_from<R: Read>(
 /// - `Long`: the file has more bytes;
 /// - `Walk(Input)`: the reader failed;
 /// - `NoMemory`: a growth was refused.
-pub fn load<R: Read + Drop>(
-    alloc: Global,
-    mut reader: R,
-    most: u64,
-) -> Result<MemStore, Fault>
+pub fn load<R: Read + Drop>(alloc: Global, mut reader: R, most: u64) -> Result<MemStore, Fault>
     requires { most < 2 ^ 64 - 1 }
     ensures whole { IfOk result (λ store.
         IfSome (R.remaining reader) (λ file. contents store ≡ file)) }
