@@ -1,3 +1,4 @@
 -- What making a database is to do.
 pub mod Parts
 pub mod Views
+pub mod Survivors

@@ -8,11 +8,13 @@ mod builder;
 mod fault;
 mod finishing;
 mod index;
+mod mode;
 mod moving;
 mod table;
 
 pub use builder::Builder;
 pub use fault::MakeFault;
+pub use mode::{Mode, Put};
 
 #[cfg(test)]
 mod tests;
