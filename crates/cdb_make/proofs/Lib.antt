@@ -3,3 +3,8 @@ pub mod EntryLists
 pub mod Written
 pub mod HeadPointers
 pub mod WholeFile
+pub mod Apart
+pub mod Sides
+pub mod Places
+pub mod Merge
+pub mod ClosedLists

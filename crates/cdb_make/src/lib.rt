@@ -7,9 +7,13 @@ mod append;
 mod builder;
 mod fault;
 mod finishing;
+mod gap;
 mod index;
+mod list;
+mod lists;
 mod mode;
 mod moving;
+mod repair;
 mod table;
 
 pub use builder::Builder;
