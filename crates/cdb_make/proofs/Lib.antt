@@ -4,7 +4,11 @@ pub mod Written
 pub mod HeadPointers
 pub mod WholeFile
 pub mod Apart
+pub mod Compare
 pub mod Sides
+pub mod Headers
+pub mod Nowhere
 pub mod Places
+pub mod Picking
 pub mod Merge
 pub mod ClosedLists

@@ -3,3 +3,4 @@ pub mod Parts
 pub mod Views
 pub mod Gaps
 pub mod Survivors
+pub mod Looks

@@ -6,14 +6,17 @@
 mod append;
 mod builder;
 mod fault;
+mod finding;
 mod finishing;
 mod gap;
 mod index;
 mod list;
 mod lists;
+mod looking;
 mod mode;
 mod moving;
 mod repair;
+mod scan;
 mod table;
 
 pub use builder::Builder;
