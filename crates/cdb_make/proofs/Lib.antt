@@ -4,6 +4,7 @@ pub mod Written
 pub mod HeadPointers
 pub mod WholeFile
 pub mod Apart
+pub mod Squeeze
 pub mod Compare
 pub mod Sides
 pub mod Headers
@@ -11,4 +12,6 @@ pub mod Nowhere
 pub mod Places
 pub mod Picking
 pub mod Merge
+pub mod Survive
 pub mod ClosedLists
+pub mod Found

@@ -4,3 +4,4 @@ pub mod Views
 pub mod Gaps
 pub mod Survivors
 pub mod Looks
+pub mod Stands

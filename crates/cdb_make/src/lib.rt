@@ -5,6 +5,7 @@
 
 mod append;
 mod builder;
+mod closing;
 mod fault;
 mod finding;
 mod finishing;
