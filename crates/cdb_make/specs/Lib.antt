@@ -5,3 +5,4 @@ pub mod Gaps
 pub mod Survivors
 pub mod Looks
 pub mod Stands
+pub mod Laws

@@ -11,6 +11,7 @@ mod finding;
 mod finishing;
 mod gap;
 mod index;
+pub mod laws;
 mod list;
 mod lists;
 mod looking;
