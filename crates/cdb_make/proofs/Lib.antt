@@ -2,6 +2,7 @@ pub mod Filling
 pub mod EntryLists
 pub mod Written
 pub mod HeadPointers
+pub mod WholeFile
 pub mod Apart
 pub mod Squeeze
 pub mod Compare
@@ -14,3 +15,4 @@ pub mod Merge
 pub mod Survive
 pub mod ClosedLists
 pub mod Found
+pub mod Whole

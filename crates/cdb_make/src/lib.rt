@@ -20,6 +20,7 @@ mod moving;
 mod repair;
 mod scan;
 mod table;
+mod taking_out;
 
 pub use builder::Builder;
 pub use fault::MakeFault;

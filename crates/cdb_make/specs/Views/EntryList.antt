@@ -41,3 +41,7 @@ pub record AreClosed (gaps : List Gap) (old new : List EntryList) : Type 0 where
 abbrev pub IsNowhereIn : ℕ → List ℕ → ℕ → ℕ → Type 0
 IsNowhereIn hash hashes from end =
     (k : ℕ) → from ≤ k → k < end → slice_index hashes k ≢ hash
+
+-- no list has more than n entries
+abbrev pub AreShort : ℕ → List EntryList → Type 0
+AreShort n ls = (k : ℕ) (d : EntryList) → k < length ls → length (list_entries (get_or ls k d)) ≤ n
