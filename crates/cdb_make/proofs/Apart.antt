@@ -4,9 +4,6 @@ use Rattle.std.proofs.lemmas.List.{at_drop_more, at_drop_all}
 use Rattle.cdb_make.specs.declared.gap.Gap.{Gap}
 use Rattle.cdb_make.specs.Gaps.{AreApart}
 
-pub no_gap : Gap
-no_gap = record { place = 0; size = 0 }
-
 pub next_gap : (gs : List Gap) (i : ℕ) (d : Gap) → i < length gs → drop i gs ≡ get_or gs i d ∷ drop (i + 1) gs
 next_gap gs i d h = at_drop_more (λ v. v) gs i d h
 

@@ -52,9 +52,6 @@ agrees_more at done n key p b inside l e f same =
 pub read_new : {at : ℕ} {bytes : List ℕ} {old new : List ℕ → Type 0} → AfterRead at bytes old new → NoNewImage old new
 read_new r = record { no_other = r.no_other }
 
-pub same_new : {old new : List ℕ → Type 0} → SameImages old new → NoNewImage old new
-same_new r = record { no_other = r.no_other }
-
 pub new_trans : {a b c : List ℕ → Type 0} → NoNewImage a b → NoNewImage b c → NoNewImage a c
 new_trans p q = record { no_other = λ x is. p.no_other x (q.no_other x is) }
 

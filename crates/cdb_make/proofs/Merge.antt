@@ -43,9 +43,6 @@ keep_step s end (g ∷ gs) e rest q f apart far =
 pub pass_step : (s : ℕ) (g : Gap) (gs : List Gap) (e : WordPair) (rest : List WordPair) → g.place < e.second → IsRising 0 (e ∷ rest) → closed_by s (g ∷ gs) (e ∷ rest) ≡ closed_by (s + g.size) gs (e ∷ rest)
 pass_step s g gs e rest lt rise = closed_past s (s + g.size) g gs (e ∷ rest) e.second refl lt (omega arith, rise.1)
 
-pub next_entry : (es : List WordPair) (i : ℕ) (e : WordPair) → i < length es → e ≡ get_or es i e → drop i es ≡ e ∷ drop (i + 1) es
-next_entry es i e h is = at_drop_more (λ v. v) es i e h ∙ ap (λ v. v ∷ drop (i + 1) es) (sym is)
-
 pub rising_next : (all : List WordPair) (e : WordPair) (rest : List WordPair) → all ≡ e ∷ rest → IsRising 0 all → IsRising 0 rest
 rising_next all e rest same h = let k : IsRising 0 (e ∷ rest) = subst (λ v. IsRising 0 v) same h in rising_lower 0 (e.second + 1) rest (omega arith) k.1
 

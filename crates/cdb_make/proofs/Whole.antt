@@ -81,10 +81,6 @@ none_stands {w = w} {start = start} {es = es} h top end ls d rs words fits long 
     (subst (λ (v : List WordPair). AreChained w start b v end) (sym whole)
     (chained_is w top (table_number h) start (head_size w) end b rs words low t.ends (record_bytes_fit w top end rs t.ends fits) t.held))
 
-pub apart_first : (at end : ℕ) (gs : List Gap) → AreApart at gs end → AreApart (first_place gs end) gs end
-apart_first at end [] h = omega arith
-apart_first at end (g ∷ gs) h = ((omega arith), h.1)
-
 -- the gaps are no more than what lies between
 pub apart_sizes : (from : ℕ) (gs : List Gap) (end : ℕ) → AreApart from gs end → from + sum_by (λ g. g.size) gs ≤ end
 apart_sizes from [] end h = omega arith
@@ -232,3 +228,7 @@ writes_behind {w = w} {end = end} {k = k} before now sum found stands closed = r
 pub no_gaps : (gs : List Gap) → length gs ≡ 0 → gs ≡ []
 no_gaps [] e = refl
 no_gaps (g ∷ gs) e = absurd (omega arith)
+
+-- records that stood before a look stand after it: so what `find` gives is what `close` takes
+pub stands_fewer : {w end : ℕ} {ls : List (List WordPair)} {rs : List KeyValue} {old new : List ℕ → Type 0} → NoNewImage old new → Stands w end ls rs old → Stands w end ls rs new
+stands_fewer few stands = record { each = λ b is. stands.each b (few.no_other b is) }

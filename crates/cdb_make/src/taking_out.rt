@@ -10,7 +10,7 @@ ghost use Rattle.cdb_make.specs.declared.looking.LookFault.TheVariants.{Failed, 
 ghost use Rattle.cdb_make.specs.Gaps.{AreApart, first_place, kept_len};
 ghost use Rattle.cdb_make.specs.Looks.{NoNewImage};
 ghost use Rattle.cdb_make.specs.Stands.{Stands, AreGapsOf, IsCount, IsThere, AreTakenOut, WritesSurvivors};
-ghost use Rattle.cdb_make.specs.Views.EntryList.{lists_entries, AreShort, AreClosed};
+ghost use Rattle.cdb_make.specs.Views.EntryList.{lists_entries, entry_count, AreClosed};
 
 use crate::closing::close_gaps;
 use crate::finding::{find_gaps, some_has};
@@ -37,7 +37,7 @@ pub(crate) fn find<S: Store, L: Width>(
     requires start { head_size L.WORD ≤ end }
     requires fits { end ≤ L.GREATEST }
     requires all { length lists.now ≡ 256 }
-    requires room { AreShort (vec_capacity gaps.old) lists.now }
+    requires room { entry_count lists.now hash ≤ vec_capacity gaps.old }
     requires hash { hash ≡ key_hash key.now }
     ensures gaps { (rs : List KeyValue)
         → Stands L.WORD end (lists_entries lists.now) rs (S.image store.old)

@@ -1,5 +1,6 @@
 -- What a list of entries holds.
 use Rattle.std.specs.Prelude.{ℕ, ◌≡◌, ◌<◌, ◌≤◌, min, List, [], ◌∷◌, length, map, ◌≢◌, slice_index, get_or, vec_capacity}
+use Rattle.cdb_form.specs.Format.Hash.{table_number}
 use Rattle.cdb_form.specs.Format.Pair.{WordPair}
 use Rattle.cdb_make.specs.declared.gap.Gap.{Gap}
 use Rattle.cdb_make.specs.declared.list.EntryList.{EntryList}
@@ -42,6 +43,6 @@ abbrev pub IsNowhereIn : ℕ → List ℕ → ℕ → ℕ → Type 0
 IsNowhereIn hash hashes from end =
     (k : ℕ) → from ≤ k → k < end → slice_index hashes k ≢ hash
 
--- no list has more than n entries
-abbrev pub AreShort : ℕ → List EntryList → Type 0
-AreShort n ls = (k : ℕ) (d : EntryList) → k < length ls → length (list_entries (get_or ls k d)) ≤ n
+-- how many entries the list of a hash has
+abbrev pub entry_count : List EntryList → ℕ → ℕ
+entry_count ls hash = length (get_or (lists_entries ls) (table_number hash) [])

@@ -1,7 +1,9 @@
-use Rattle.std.proofs.Common.{arith, ap, ◌∙◌, ◌≡◌, ◌≤◌, ℕ, length, get_or}
+use Rattle.std.proofs.Common.{arith, sym, ap, ◌<◌, ◌∙◌, ◌≡◌, ◌≤◌, ℕ, List, [], length, get_or}
+use Rattle.std.proofs.lemmas.List.{get_or-map}
 use Rattle.std.proofs.lemmas.Result.{on_ok_weaker}
 use Rattle.cdb_form.specs.Format.Hash.{table_number}
-use Rattle.cdb_make.specs.Views.EntryList.{entries_of, list_entries}
+use Rattle.cdb_make.specs.Views.EntryList.{entries_of, list_entries, lists_entries}
+use Rattle.cdb_make.specs.declared.list.EntryList.{EntryList}
 use Rattle.cdb_make.proofs.Sides.{length-entries_of}
 use Rattle.cdb_make.proofs.Whole.{gaps_found, count_found, none_stands}
 use Rattle.cdb_make.proofs.taking_out.find.Goals as goal
@@ -9,11 +11,14 @@ use Rattle.cdb_make.proofs.taking_out.find.Goals as goal
 pub find_gaps-requires-clause-room : goal.find_gaps-requires-clause-room
 find_gaps-requires-clause-room g c =
     let d = c.index-lists-table_number.result in
-    let n : ℕ = c.table_number.result in
-    let here : length (list_entries d) ≡ length (list_entries (get_or c.args.lists.now n d)) = ap (λ v. length (list_entries v)) c.index-lists-table_number.is in
-    let short : length (list_entries (get_or c.args.lists.now n d)) ≤ _ = c.requires.room n d (omega (arith, c.table_number.ensures.within, c.requires.all)) in
+    let ls : List EntryList = c.args.lists.now in
+    let n : ℕ = table_number c.args.hash in
+    let lt : n < length ls = omega (arith, c.requires.all) in
+    let here : length (list_entries d) ≡ length (get_or (lists_entries ls) n []) =
+    ap (λ v. length (list_entries v)) (c.index-lists-table_number.is ∙ ap (λ (k : ℕ). get_or ls k d) (c.table_number.ensures.number ∙ ap table_number c.from.ensures))
+    ∙ ap length (sym (get_or-map list_entries ls n d [] lt)) in
     let same : length c.hashes.result.now ≡ length d.hashes.items = ap length c.hashes.ensures in
-    omega (arith, length-entries_of d.hashes.items d.places.items d.paired)
+    omega (arith, length-entries_of d.hashes.items d.places.items d.paired, c.requires.room)
 
 pub returns-clause-gaps : goal.returns-clause-gaps
 returns-clause-gaps g c = λ rs stands.
