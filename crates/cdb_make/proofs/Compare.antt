@@ -66,12 +66,5 @@ tells_other {at = at} done n key {p = p} inside l r other = record {
   each = λ b is. (λ e. cc, λ e. absurd (other (sym (r.read b is) ∙ ap (λ k. part (at + done) k b) l ∙ part_inner at done n key b inside e)));
 }
 
-pub tells_same : {at : ℕ} (done : ℕ) (key : List ℕ) {images : List ℕ → Type 0} → done ≡ length key → AgreesSoFar at (take done key) images → TellsSame true at key images
-tells_same {at = at} done key e a = record {
-  each = λ b is.
-      let t : take done key ≡ key = take_all done key (omega arith) in
-      (λ k. sym (ap (λ v. part at (length v) b) t) ∙ a.each b is ∙ t, λ k. refl);
-}
-
 pub new_same : (images : List ℕ → Type 0) → NoNewImage images images
 new_same images = record { no_other = λ b is. is }

@@ -10,11 +10,6 @@ use Rattle.cdb_make.specs.Gaps.{kept, Closed}
 pub record Squeezing (start from to : ℕ) (gaps rest : List Gap) (end : ℕ) (old new : List ℕ → Type 0) : Type 0 where
   pub each : (b : List ℕ) → new b → (a : List ℕ) × old a × (s : List ℕ) × (b ≡ overwrite a start s) × (start + length s ≡ to) × (kept start gaps end a ≡ s ++ kept from rest end a)
 
-pub squeezing_none : (start : ℕ) (gaps : List Gap) (end : ℕ) (old : List ℕ → Type 0) → Squeezing start start start gaps gaps end old old
-squeezing_none start gaps end old = record {
-  each = λ b is. (b, is, [], sym (ap (λ k. take start b ++ drop k b) (add-zero start) ∙ take-append-drop start b), add-zero start, refl);
-}
-
 -- what a move leaves, over plain byte lists
 moved : (start from to len size : ℕ) (a s y z : List ℕ) → length a ≡ size → start + length s ≡ to → to ≤ from → from + len ≤ size → y ≡ overwrite a start s → z ≡ overwrite y to (part from len y)
     → z ≡ overwrite a start (s ++ part from len a)
