@@ -1,10 +1,10 @@
 -- Bytes that are read piece by piece and compared.
 use Rattle.std.proofs.Common.{◌≡◌, ◌≢◌, ℕ, ◌+◌, ◌-◌, ◌≤◌, Bool, true, false, not, List, ◌++◌, length, take, drop, refl, sym, ap, ◌∙◌, arith}
 use Rattle.std.specs.Prelude.{bytes_eq}
-use Rattle.std.proofs.lemmas.List.{take_at, take-take, drop-take, drop-drop, length-take-le, take_all}
+use Rattle.std.proofs.lemmas.List.{take_at, take-take, drop-take, drop-drop, length-take-le}
 use Rattle.std.proofs.lemmas.Slice.Eq.{bytes_eq-Decides}
 use Rattle.std.proofs.Math.Seq.{take-add}
-use Rattle.cdb_store.specs.Images.{part, AfterRead, SameImages}
+use Rattle.cdb_store.specs.Images.{part, AfterRead}
 use Rattle.cdb_store.proofs.Parts.{part_add}
 use Rattle.cdb_make.specs.Looks.{NoNewImage, TellsSame}
 

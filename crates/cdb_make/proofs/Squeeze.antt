@@ -1,6 +1,6 @@
 -- One gap after another is closed.
-use Rattle.std.proofs.Common.{◌≡◌, ℕ, ◌+◌, ◌-◌, ◌≤◌, List, [], ◌∷◌, ◌++◌, length, take, drop, refl, sym, ap, ◌∙◌, arith, append_assoc, length-append, add-zero}
-use Rattle.std.proofs.lemmas.List.{take-append-drop, take-take, drop-drop}
+use Rattle.std.proofs.Common.{◌≡◌, ℕ, ◌+◌, ◌-◌, ◌≤◌, List, [], ◌∷◌, ◌++◌, length, take, drop, sym, ap, ◌∙◌, arith, append_assoc, length-append}
+use Rattle.std.proofs.lemmas.List.{take-take, drop-drop}
 use Rattle.cdb_store.specs.Images.{overwrite, part, AreSized, Copied, TornWithin}
 use Rattle.cdb_store.proofs.Parts.{drop-overwrite, overwrite-overwrite, length-part}
 use Rattle.cdb_make.specs.declared.gap.Gap.{Gap}

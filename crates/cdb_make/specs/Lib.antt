@@ -6,3 +6,4 @@ pub mod Survivors
 pub mod Looks
 pub mod Stands
 pub mod Laws
+pub mod Examples

@@ -23,7 +23,8 @@ use cdb_store::{Store, StoreFault};
 
 /// Leaves the gaps that the records of a key would leave.
 ///
-/// Nothing is written, no list changes, and no memory is taken. `Failed`: the store failed.
+/// Nothing is written, no list changes, records that stood still stand, and no memory is taken.
+/// `Failed`: the store failed.
 /// `Foreign`: no byte list is an image any more in which the records stood.
 pub(crate) fn find<S: Store, L: Width>(
     store: &mut S,
@@ -46,6 +47,9 @@ pub(crate) fn find<S: Store, L: Width>(
         → Stands L.WORD end (lists_entries lists.now) rs (S.image store.old)
         → OnOk result (IsCount (length gaps.new.items) key.now rs (S.image store.new)) }
     ensures apart { OnOk result (AreApart (head_size L.WORD) gaps.new.items end) }
+    ensures stands { (rs : List KeyValue)
+        → Stands L.WORD end (lists_entries lists.now) rs (S.image store.old)
+        → Stands L.WORD end (lists_entries lists.now) rs (S.image store.new) }
     ensures foreign { result ≡ Err Foreign → (rs : List KeyValue)
         → Stands L.WORD end (lists_entries lists.now) rs (S.image store.old)
         → HasNoImage (S.image store.new) }
@@ -88,6 +92,9 @@ pub(crate) fn exists<S: Store, L: Width>(
     ensures there { (rs : List KeyValue)
         → Stands L.WORD end (lists_entries lists.now) rs (S.image store.old)
         → IfOk result (λ there. IsThere there key.now rs (S.image store.new)) }
+    ensures stands { (rs : List KeyValue)
+        → Stands L.WORD end (lists_entries lists.now) rs (S.image store.old)
+        → Stands L.WORD end (lists_entries lists.now) rs (S.image store.new) }
     ensures foreign { result ≡ Err Foreign → (rs : List KeyValue)
         → Stands L.WORD end (lists_entries lists.now) rs (S.image store.old)
         → HasNoImage (S.image store.new) }

@@ -79,8 +79,14 @@ fn take<S: Store>(records: &mut Records<S>, key: &[u8]) -> Result<Outcome, Fail>
         return Err(Fail::new("no room for gaps"));
     }
     let gaps = &mut records.gaps;
-    if let Err(fault) = find::<S, Narrow>(&mut records.store, &records.lists, hash, key, end, gaps)
-    {
+    if let Err(fault) = find::<S, Narrow>(
+        &mut records.store,
+        &records.lists,
+        hash,
+        key,
+        end,
+        gaps,
+    ) {
         return Ok(Outcome::Looking(fault));
     }
     match close::<S, Narrow>(&mut records.store, &mut records.lists, gaps, end) {
@@ -137,7 +143,12 @@ fn left(
 
 #[test]
 fn the_first_a_middle_and_the_last_record_are_taken_out(rt: HostRuntime) -> Result<(), Fail> {
-    let all: [(&[u8], &[u8]); 4] = [(b"one", b"1"), (b"two", b"22"), (b"three", b""), (b"", b"4")];
+    let all: [(&[u8], &[u8]); 4] = [
+        (b"one", b"1"),
+        (b"two", b"22"),
+        (b"three", b""),
+        (b"", b"4"),
+    ];
     let keys: [&[u8]; 5] = [b"one", b"two", b"three", b"", b"none"];
     for (n, key) in keys.iter().enumerate() {
         let (taken, others, outcome) = left(rt.alloc(), &all, key)?;
@@ -218,7 +229,11 @@ fn a_fault_of_the_store_is_told_at_each_call(rt: HostRuntime) -> Result<(), Fail
             _ => Outcome::Taken(2),
         };
         assert_eq!(rt; outcome, wanted, "{calls}");
-        let stays = if outcome == Outcome::Taken(2) { 2048 + 15 } else { 2048 + 35 };
+        let stays = if outcome == Outcome::Taken(2) {
+            2048 + 15
+        } else {
+            2048 + 35
+        };
         assert_eq!(rt; records.end, stays);
     }
     Ok(())

@@ -1,4 +1,4 @@
-use Rattle.std.proofs.Common.{arith, sym, ap, ◌∙◌, ◌≡◌, ℕ, [], length, get_or}
+use Rattle.std.proofs.Common.{arith, sym, ap, ◌∙◌, ℕ, [], length, get_or}
 use Rattle.std.proofs.lemmas.List.{get_or-map}
 use Rattle.cdb_form.specs.Format.Hash.{table_number}
 use Rattle.cdb_make.specs.Views.EntryList.{list_entries, lists_entries}

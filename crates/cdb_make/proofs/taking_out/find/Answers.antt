@@ -1,11 +1,11 @@
-use Rattle.std.proofs.Common.{arith, sym, ap, ◌<◌, ◌∙◌, ◌≡◌, ◌≤◌, ℕ, List, [], length, get_or}
+use Rattle.std.proofs.Common.{arith, sym, ap, ◌<◌, ◌∙◌, ◌≡◌, ℕ, List, [], length, get_or}
 use Rattle.std.proofs.lemmas.List.{get_or-map}
 use Rattle.std.proofs.lemmas.Result.{on_ok_weaker}
 use Rattle.cdb_form.specs.Format.Hash.{table_number}
 use Rattle.cdb_make.specs.Views.EntryList.{entries_of, list_entries, lists_entries}
 use Rattle.cdb_make.specs.declared.list.EntryList.{EntryList}
 use Rattle.cdb_make.proofs.Sides.{length-entries_of}
-use Rattle.cdb_make.proofs.Whole.{gaps_found, count_found, none_stands}
+use Rattle.cdb_make.proofs.Whole.{gaps_found, count_found, none_stands, stands_fewer}
 use Rattle.cdb_make.proofs.taking_out.find.Goals as goal
 
 pub find_gaps-requires-clause-room : goal.find_gaps-requires-clause-room
@@ -44,3 +44,6 @@ returns-clause-foreign g c = λ err rs stands.
     ∙ ap list_entries c.index-lists-table_number.is
     ∙ ap (λ (n : ℕ). list_entries (get_or c.args.lists.now n d)) (c.table_number.ensures.number ∙ ap table_number c.from.ensures) in
     none_stands c.args.hash g.L.Width.TOP c.args.end c.args.lists.now d rs g.met.L.Width.top_is (omega (arith, c.requires.fits, g.met.L.Width.greatest_fits.0)) c.requires.all (omega (arith, c.head_size-start.ensures)) here c.find_gaps.ensures.images stands (c.find_gaps.ensures.foreign err)
+
+pub returns-clause-stands : goal.returns-clause-stands
+returns-clause-stands g c = λ rs stands. stands_fewer c.find_gaps.ensures.images stands
