@@ -1,5 +1,6 @@
 -- What the bytes of an image say of a record that stands at a place, in words of w bytes.
-use Rattle.std.specs.Prelude.{◌≡◌, ℕ, ◌+◌, ◌==◌, ◌<◌, ◌≤◌, Bool, true, false, cond, List, [], ◌∷◌, length, drop, bytes_eq, Result, Ok, Err, Option, Some, None}
+use Rattle.std.specs.Prelude.{◌≡◌, ℕ, ◌+◌, ◌==◌, ◌<◌, ◌≤◌, Bool, true, false, cond, List, []}
+use Rattle.std.specs.Prelude.{◌∷◌, length, drop, bytes_eq, Result, Ok, Err, Option, Some, None}
 use Rattle.std.specs.Bool.{Decides}
 use Rattle.cdb_store.specs.Images.{part}
 use Rattle.cdb_form.specs.Format.Pair.{WordPair}

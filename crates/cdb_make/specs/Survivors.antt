@@ -1,5 +1,6 @@
 -- The records that stand after puts and removals.
-use Rattle.std.specs.Prelude.{ℕ, Bool, cond, not, nat_le, if◌then◌else◌, List, [], ◌∷◌, ◌++◌, filter, fold, bytes_eq, Result, Ok, Err}
+use Rattle.std.specs.Prelude.{ℕ, Bool, cond, not, nat_le, if◌then◌else◌, List, [], ◌∷◌, ◌++◌}
+use Rattle.std.specs.Prelude.{filter, fold, bytes_eq, Result, Ok, Err}
 use Rattle.std.specs.List.{count_by, list_any}
 use Rattle.cdb_form.specs.Format.File.{file_size}
 use Rattle.cdb_form.specs.Format.Record.{KeyValue}

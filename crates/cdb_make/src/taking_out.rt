@@ -1,5 +1,6 @@
 // All records of a key, taken out of a store and of the lists: found first, and then closed over.
-ghost use Rattle.std.specs.Prelude.{◌≡◌, ℕ, [], List, ◌+◌, ◌-◌, ◌<◌, ◌≤◌, length, vec_capacity, IfOk, OnOk, OnErr, IsErrOf};
+ghost use Rattle.std.specs.Prelude.{◌≡◌, ℕ, [], List, ◌+◌, ◌-◌, ◌<◌, ◌≤◌, length, vec_capacity};
+ghost use Rattle.std.specs.Prelude.{IfOk, OnOk, OnErr, IsErrOf};
 ghost use Rattle.cdb_store.specs.declared.store.StoreFault.TheVariants.{NoMemory};
 ghost use Rattle.cdb_store.specs.Images.{TornWithin, HasCause};
 ghost use Rattle.cdb_store.specs.Laws.{HasNoImage};
@@ -9,7 +10,8 @@ ghost use Rattle.cdb_form.specs.Format.Record.{KeyValue};
 ghost use Rattle.cdb_make.specs.declared.looking.LookFault.TheVariants.{Failed, Foreign};
 ghost use Rattle.cdb_make.specs.Gaps.{AreApart, first_place, kept_len};
 ghost use Rattle.cdb_make.specs.Looks.{NoNewImage};
-ghost use Rattle.cdb_make.specs.Stands.{Stands, AreGapsOf, IsCount, IsThere, AreTakenOut, WritesSurvivors};
+ghost use Rattle.cdb_make.specs.Stands.{Stands, AreGapsOf, IsCount, IsThere, AreTakenOut};
+ghost use Rattle.cdb_make.specs.Stands.{WritesSurvivors};
 ghost use Rattle.cdb_make.specs.Views.EntryList.{lists_entries, entry_count, AreClosed};
 
 use crate::closing::close_gaps;

@@ -14,17 +14,24 @@ use std::test::Fail;
 /// Records in a store, and where they stand.
 #[derive(Drop)]
 struct Records<S> {
+    /// What holds their bytes.
     store: S,
+    /// The entries of each table.
     lists: Vec<EntryList>,
+    /// Where gaps are noted.
     gaps: Vec<Gap>,
+    /// The place behind the last record.
     end: u64,
 }
 
 /// What taking out the records of a key came to.
 #[derive(Clone, Copy, Debug, PartialEq, Eq)]
 enum Outcome {
+    /// So many records were taken out.
     Taken(usize),
+    /// A look failed.
     Looking(LookFault),
+    /// A move failed.
     Moving(StoreFault),
 }
 
