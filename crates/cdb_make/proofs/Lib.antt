@@ -3,3 +3,16 @@ pub mod EntryLists
 pub mod Written
 pub mod HeadPointers
 pub mod WholeFile
+pub mod Apart
+pub mod Squeeze
+pub mod Compare
+pub mod Sides
+pub mod Headers
+pub mod Nowhere
+pub mod Places
+pub mod Picking
+pub mod Merge
+pub mod Survive
+pub mod ClosedLists
+pub mod Found
+pub mod Whole

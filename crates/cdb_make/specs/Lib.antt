@@ -1,3 +1,9 @@
 -- What making a database is to do.
 pub mod Parts
 pub mod Views
+pub mod Gaps
+pub mod Survivors
+pub mod Looks
+pub mod Stands
+pub mod Laws
+pub mod Examples

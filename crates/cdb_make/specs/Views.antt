@@ -2,3 +2,4 @@
 pub mod Index
 pub mod Builder
 pub mod MakeFault
+pub mod EntryList

@@ -5,14 +5,26 @@
 
 mod append;
 mod builder;
+mod closing;
 mod fault;
+mod finding;
 mod finishing;
+mod gap;
 mod index;
+pub mod laws;
+mod list;
+mod lists;
+mod looking;
+mod mode;
 mod moving;
+mod repair;
+mod scan;
 mod table;
+mod taking_out;
 
 pub use builder::Builder;
 pub use fault::MakeFault;
+pub use mode::{Mode, Put};
 
 #[cfg(test)]
 mod tests;

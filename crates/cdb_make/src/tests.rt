@@ -1,5 +1,6 @@
 //! Each function once on a store in memory.
 mod building;
+mod taking;
 
 use crate::append::append_record;
 use crate::moving::move_down;

@@ -1,0 +1,46 @@
+-- Hashes and places side by side.
+use Rattle.std.proofs.Common.{◌≡◌, ℕ, zero, suc, ◌+◌, ◌<◌, List, [], ◌∷◌, ◌++◌, length, get_or, set, take, drop, refl, ap, ◌∙◌, arith}
+use Rattle.std.proofs.lemmas.List.{at_drop_more}
+use Rattle.cdb_form.specs.Format.Pair.{WordPair}
+use Rattle.cdb_make.specs.Views.EntryList.{entries_of}
+
+pub length-entries_of : (hs ps : List ℕ) → length hs ≡ length ps → length (entries_of hs ps) ≡ length hs
+length-entries_of [] ps e = refl
+length-entries_of (h ∷ hs) [] e = absurd (omega arith)
+length-entries_of (h ∷ hs) (p ∷ ps) e = ap suc (length-entries_of hs ps (omega arith))
+
+pub entries_of-push : (hs ps : List ℕ) (h p : ℕ) → length hs ≡ length ps
+    → entries_of (hs ++ h ∷ []) (ps ++ p ∷ []) ≡ entries_of hs ps ++ record { first = h; second = p } ∷ []
+entries_of-push [] [] h p e = refl
+entries_of-push [] (q ∷ ps) h p e = absurd (omega arith)
+entries_of-push (g ∷ hs) [] h p e = absurd (omega arith)
+entries_of-push (g ∷ hs) (q ∷ ps) h p e = ap (λ t. record { first = g; second = q } ∷ t) (entries_of-push hs ps h p (omega arith))
+
+pub get_or-entries_of : (hs ps : List ℕ) (n : ℕ) (d : WordPair) → length hs ≡ length ps → n < length hs
+    → get_or (entries_of hs ps) n d ≡ record { first = get_or hs n d.first; second = get_or ps n d.second }
+get_or-entries_of [] ps n d e h = absurd (omega arith)
+get_or-entries_of (h ∷ hs) [] n d e lt = absurd (omega arith)
+get_or-entries_of (h ∷ hs) (p ∷ ps) zero d e lt = refl
+get_or-entries_of (h ∷ hs) (p ∷ ps) (suc n) d e lt = get_or-entries_of hs ps n d (omega arith) (omega arith)
+
+pub entries_of-set : (hs ps : List ℕ) (n h p : ℕ) → length hs ≡ length ps
+    → entries_of (set hs n h) (set ps n p) ≡ set (entries_of hs ps) n (record { first = h; second = p })
+entries_of-set [] [] n h p e = refl
+entries_of-set [] (q ∷ ps) n h p e = absurd (omega arith)
+entries_of-set (g ∷ hs) [] n h p e = absurd (omega arith)
+entries_of-set (g ∷ hs) (q ∷ ps) zero h p e = refl
+entries_of-set (g ∷ hs) (q ∷ ps) (suc n) h p e = ap (λ t. record { first = g; second = q } ∷ t) (entries_of-set hs ps n h p (omega arith))
+
+pub entries_of-take : (hs ps : List ℕ) (n : ℕ) → entries_of (take n hs) (take n ps) ≡ take n (entries_of hs ps)
+entries_of-take hs ps zero = refl
+entries_of-take [] ps (suc n) = refl
+entries_of-take (h ∷ hs) [] (suc n) = refl
+entries_of-take (h ∷ hs) (p ∷ ps) (suc n) = ap (λ t. record { first = h; second = p } ∷ t) (entries_of-take hs ps n)
+
+pub entry_here : (hs ps : List ℕ) (i : ℕ) → length hs ≡ length ps → i < length ps
+    → drop i (entries_of hs ps) ≡ record { first = get_or hs i 0; second = get_or ps i 0 } ∷ drop (i + 1) (entries_of hs ps)
+entry_here hs ps i paired lt =
+    let d : WordPair = record { first = 0; second = 0 } in
+    let n : i < length (entries_of hs ps) = omega (arith, length-entries_of hs ps paired) in
+    at_drop_more (λ v. v) (entries_of hs ps) i d n
+    ∙ ap (λ (v : WordPair). v ∷ drop (i + 1) (entries_of hs ps)) (get_or-entries_of hs ps i d paired (omega arith))

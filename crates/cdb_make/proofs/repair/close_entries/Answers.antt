@@ -1,0 +1,147 @@
+use Rattle.std.proofs.Common.{arith, sym, ap, subst, ◌∙◌, ◌≡◌, ◌+◌, ◌-◌, ◌<◌, ◌≤◌, ◌^◌, ℕ, length, List, [], ◌∷◌, ◌++◌, get_or, set, drop, take, length-set}
+use Rattle.std.proofs.lemmas.List.{at_drop_all, append-nil}
+use Rattle.cdb_form.specs.Format.Pair.{WordPair}
+use Rattle.cdb_make.specs.declared.gap.Gap.{Gap}
+use Rattle.cdb_make.specs.Gaps.{IsRising, closed_by, first_place}
+use Rattle.cdb_make.specs.Views.EntryList.{entries_of}
+use Rattle.cdb_make.proofs.Apart.{next_gap, last_gap, apart_next, NextApart}
+use Rattle.cdb_make.proofs.Merge.{FarFrom, apart_lower, keep_step, pass_step, rising_next, set_drop, sofar_kept, closed_front, rising_drop, not_falling}
+use Rattle.cdb_make.proofs.Places.{closed_here}
+use Rattle.cdb_make.proofs.Sides.{entry_here, entries_of-set, length-entries_of}
+use Rattle.cdb_make.proofs.repair.close_entries.Goals as goal
+use Rattle.cdb_make.proofs.repair.close_entries.Goals.{else-next-gaps-via-then-next-gaps+else-gaps-next, else-next-gaps-via-else-next-gaps, else-next-gaps-2-via-then-next-gaps-2+else-gaps-next-2, else-next-gaps-2-via-else-next-gaps-2}
+
+pub loop-entry-init : goal.loop-entry-init
+loop-entry-init c =
+    let hs : List ℕ = c.args.hashes.now in
+    let ps : List ℕ = c.args.places.now in
+    let es : List WordPair = entries_of hs ps in
+    let k : ℕ = c.below-kept.result in
+    let front : (i : ℕ) → IsRising 0 es → i < k → get_or ps i 0 < first_place c.args.gaps.now (2 ^ 64 - 1) =
+    λ i r lt. omega (arith, c.below-kept.ensures.below (not_falling 0 hs ps c.requires.paired r) i lt, c.first_place.ensures) in
+    record {
+      behind = omega arith;
+      within = c.below-kept.ensures.within;
+      gap_within = omega arith;
+      paired = c.requires.paired;
+      apart = c.requires.apart;
+      rising = λ r. rising_drop k es r;
+      sofar = λ r. closed_front hs ps k c.args.gaps.now (2 ^ 63) (2 ^ 64 - 1) c.requires.paired c.requires.apart (λ i lt. front i r lt);
+    }
+
+pub overflow_add-gone : goal.overflow_add-gone
+overflow_add-gone c =
+    let gs : List Gap = c.args.gaps.now in
+    let gap : Gap = get_or gs c.loop-entry.next (record { place = 0; size = 0 }) in
+    let e : drop c.loop-entry.next gs ≡ gap ∷ drop (c.loop-entry.next + 1) gs = next_gap gs c.loop-entry.next (record { place = 0; size = 0 }) c.if-next-gaps.true in
+    let n : NextApart c.loop-entry.gone gap (drop (c.loop-entry.next + 1) gs) (2 ^ 63) = apart_next gap (drop (c.loop-entry.next + 1) gs) e c.loop-entry.invariant.apart in
+    omega (arith, n.order, n.within)
+
+pub loop-entry-preserved-then-gaps-next : goal.loop-entry-preserved-then-gaps-next
+loop-entry-preserved-then-gaps-next c =
+    let gs : List Gap = c.args.gaps.now in
+    let hs : List ℕ = c.loop-entry.hashes in
+    let ps : List ℕ = c.loop-entry.places in
+    let es : List WordPair = entries_of hs ps in
+    let i : ℕ = c.loop-entry.entry in
+    let x : WordPair = record { first = get_or hs i 0; second = get_or ps i 0 } in
+    let gap : Gap = get_or gs c.loop-entry.next (record { place = 0; size = 0 }) in
+    let rest : List Gap = drop (c.loop-entry.next + 1) gs in
+    let e : drop c.loop-entry.next gs ≡ gap ∷ rest = next_gap gs c.loop-entry.next (record { place = 0; size = 0 }) c.if-next-gaps.true in
+    let n : NextApart c.loop-entry.gone gap rest (2 ^ 63) = apart_next gap rest e c.loop-entry.invariant.apart in
+    let d : drop i es ≡ x ∷ drop (i + 1) es = entry_here hs ps i c.loop-entry.invariant.paired c.loop-entry-test.true in
+    record {
+      behind = c.loop-entry.invariant.behind;
+      within = c.loop-entry.invariant.within;
+      gap_within = omega arith;
+      paired = c.loop-entry.invariant.paired;
+      apart = apart_lower (c.loop-entry.gone + gap.size) (gap.place + gap.size) rest (2 ^ 63) (omega (arith, n.order)) n.rest_apart;
+      rising = c.loop-entry.invariant.rising;
+      sofar = λ r.
+          c.loop-entry.invariant.sofar r
+          ∙ ap (λ (v : List WordPair). take c.loop-entry.kept es ++ v)
+          (ap (λ (v : List Gap). closed_by c.loop-entry.gone v (drop i es)) e
+          ∙ ap (λ (v : List WordPair). closed_by c.loop-entry.gone (gap ∷ rest) v) d
+          ∙ pass_step c.loop-entry.gone gap rest x (drop (i + 1) es) c.if-gaps-next.true (subst (λ (v : List WordPair). IsRising 0 v) d (c.loop-entry.invariant.rising r))
+          ∙ ap (λ (v : List WordPair). closed_by (c.loop-entry.gone + gap.size) rest v) (sym d));
+    }
+
+pub loop-entry-preserved-then-gaps-next-2 : goal.loop-entry-preserved-then-gaps-next-2
+loop-entry-preserved-then-gaps-next-2 c =
+    let gs : List Gap = c.args.gaps.now in
+    let hs : List ℕ = c.loop-entry.hashes in
+    let ps : List ℕ = c.loop-entry.places in
+    let es : List WordPair = entries_of hs ps in
+    let i : ℕ = c.loop-entry.entry in
+    let x : WordPair = record { first = get_or hs i 0; second = get_or ps i 0 } in
+    let gap : Gap = get_or gs c.loop-entry.next (record { place = 0; size = 0 }) in
+    let rest : List Gap = drop (c.loop-entry.next + 1) gs in
+    let e : drop c.loop-entry.next gs ≡ gap ∷ rest = next_gap gs c.loop-entry.next (record { place = 0; size = 0 }) c.if-next-gaps-2.true in
+    let d : drop i es ≡ x ∷ drop (i + 1) es = entry_here hs ps i c.loop-entry.invariant.paired c.loop-entry-test.true in
+    record {
+      behind = omega (arith, c.loop-entry.invariant.behind);
+      within = omega arith;
+      gap_within = c.loop-entry.invariant.gap_within;
+      paired = c.loop-entry.invariant.paired;
+      apart = c.loop-entry.invariant.apart;
+      rising = λ r. rising_next (drop i es) x (drop (i + 1) es) d (c.loop-entry.invariant.rising r);
+      sofar = λ r.
+          c.loop-entry.invariant.sofar r
+          ∙ ap (λ (v : List WordPair). take c.loop-entry.kept es ++ v)
+          (ap (λ (v : List Gap). closed_by c.loop-entry.gone v (drop i es)) e
+          ∙ ap (λ (v : List WordPair). closed_by c.loop-entry.gone (gap ∷ rest) v) d
+          ∙ closed_here c.loop-entry.gone gap rest x (drop (i + 1) es) c.if-gaps-next-2.true
+          ∙ ap (λ (v : List Gap). closed_by c.loop-entry.gone v (drop (i + 1) es)) (sym e));
+    }
+
+pub loop-entry-preserved : goal.loop-entry-preserved
+loop-entry-preserved c =
+    let gs : List Gap = c.args.gaps.now in
+    let hs : List ℕ = c.loop-entry.hashes in
+    let ps : List ℕ = c.loop-entry.places in
+    let es : List WordPair = entries_of hs ps in
+    let i : ℕ = c.loop-entry.entry in
+    let j : ℕ = c.loop-entry.next in
+    let n : ℕ = c.loop-entry.kept in
+    let x : WordPair = record { first = get_or hs i 0; second = get_or ps i 0 } in
+    let gap : Gap = get_or gs j (record { place = 0; size = 0 }) in
+    let new : WordPair = record { first = x.first; second = c.saturating_sub.result } in
+    let d : drop i es ≡ x ∷ drop (i + 1) es = entry_here hs ps i c.loop-entry.invariant.paired c.loop-entry-test.true in
+    let none : length gs ≤ j → FarFrom x.second (drop j gs) = λ h. subst (λ (v : List Gap). FarFrom x.second v) (sym (last_gap gs j h)) tt in
+    let some : j < length gs → x.second < gap.place → FarFrom x.second (drop j gs) =
+    λ h k. subst (λ (v : List Gap). FarFrom x.second v) (sym (next_gap gs j (record { place = 0; size = 0 }) h)) k in
+    let far : FarFrom x.second (drop j gs) = elim c.else-next-gaps.branch [
+      | else-next-gaps-via-then-next-gaps+else-gaps-next w ↦ elim c.else-next-gaps-2.branch [
+        | else-next-gaps-2-via-then-next-gaps-2+else-gaps-next-2 v ↦ some w.if-next-gaps.true (omega arith)
+        | else-next-gaps-2-via-else-next-gaps-2 v ↦ none v.if-next-gaps-2.false
+      ]
+      | else-next-gaps-via-else-next-gaps w ↦ none w.if-next-gaps.false
+    ] in
+    let whole : List WordPair = closed_by 0 gs (entries_of c.args.hashes.now c.args.places.now) in
+    let long : length es ≡ length hs = length-entries_of hs ps c.loop-entry.invariant.paired in
+    let short : n < length es = omega (arith, c.loop-entry.invariant.behind) in
+    let same : entries_of (set hs n x.first) (set ps n c.saturating_sub.result) ≡ set es n new = entries_of-set hs ps n x.first c.saturating_sub.result c.loop-entry.invariant.paired in
+    record {
+      behind = omega (arith, c.loop-entry.invariant.behind);
+      within = omega (arith, length-set {A = ℕ});
+      gap_within = c.loop-entry.invariant.gap_within;
+      paired = length-set hs n x.first ∙ c.loop-entry.invariant.paired ∙ sym (length-set ps n c.saturating_sub.result);
+      apart = c.loop-entry.invariant.apart;
+      rising = λ r.
+          subst (λ (v : List WordPair). IsRising 0 (drop (i + 1) v)) (sym same)
+          (subst (λ (v : List WordPair). IsRising 0 v) (sym (set_drop n i es new c.loop-entry.invariant.behind)) (rising_next (drop i es) x (drop (i + 1) es) d (c.loop-entry.invariant.rising r)));
+      sofar = λ r.
+          subst (λ (v : List WordPair). whole ≡ take (n + 1) v ++ closed_by c.loop-entry.gone (drop j gs) (drop (i + 1) v)) (sym same)
+          (sofar_kept c.loop-entry.gone n i (drop j gs) es whole new short c.loop-entry.invariant.behind
+          (c.loop-entry.invariant.sofar r
+          ∙ ap (λ (v : List WordPair). take n es ++ v)
+          (ap (λ (v : List WordPair). closed_by c.loop-entry.gone (drop j gs) v) d
+          ∙ keep_step c.loop-entry.gone (2 ^ 63) (drop j gs) x (drop (i + 1) es) c.saturating_sub.result c.saturating_sub.ensures c.loop-entry.invariant.apart far)));
+    }
+
+pub returns-clause-entries : goal.returns-clause-entries
+returns-clause-entries c = λ r.
+    let es : List WordPair = entries_of c.loop-entry.hashes c.loop-entry.places in
+    let gs : List Gap = drop c.loop-entry.next c.args.gaps.now in
+    let over : drop c.loop-entry.entry es ≡ [] = at_drop_all (λ (v : List WordPair). v) es c.loop-entry.entry (omega (arith, length-entries_of c.loop-entry.hashes c.loop-entry.places c.loop-entry.invariant.paired, c.loop-entry-test.false)) in
+    sym (c.loop-entry.invariant.sofar r ∙ ap (λ (v : List WordPair). take c.loop-entry.kept es ++ closed_by c.loop-entry.gone gs v) over ∙ append-nil (take c.loop-entry.kept es))

@@ -1,0 +1,20 @@
+use Rattle.std.proofs.Common.{◌≡◌, ◌+◌, ◌-◌, ◌≤◌, ◌^◌, ◌++◌, take, drop, length}
+use Rattle.cdb_make.specs.Gaps.{AreApart, IsRising, closed_by}
+use Rattle.cdb_make.specs.Views.EntryList.{entries_of}
+use Rattle.cdb_make.proofs.repair.close_entries.Given as goal
+
+abbrev pub invariant-loop-entry : goal.invariant-loop-entry
+invariant-loop-entry l = record {
+  behind : l.kept ≤ l.entry;
+  within : l.entry ≤ length l.places;
+  gap_within : l.next ≤ length l.gaps;
+  paired : length l.hashes ≡ length l.places;
+  apart : AreApart l.gone (drop l.next l.gaps) (2 ^ 63);
+  rising : IsRising 0 (entries_of l.fn.hashes l.fn.places) → IsRising 0 (drop l.entry (entries_of l.hashes l.places));
+  sofar : IsRising 0 (entries_of l.fn.hashes l.fn.places)
+      → closed_by 0 l.gaps (entries_of l.fn.hashes l.fn.places)
+      ≡ take l.kept (entries_of l.hashes l.places) ++ closed_by l.gone (drop l.next l.gaps) (drop l.entry (entries_of l.hashes l.places));
+}
+
+abbrev pub decreases-loop-entry : goal.decreases-loop-entry
+decreases-loop-entry l = (length l.places - l.entry) + (length l.gaps - l.next)

@@ -1,0 +1,6 @@
+use Rattle.std.proofs.Common.{◌≡◌, false}
+use Rattle.cdb_make.specs.Views.EntryList.{IsNowhereIn}
+use Rattle.cdb_make.proofs.scan.is_among.Given as goal
+
+abbrev pub invariant-loop-other : goal.invariant-loop-other
+invariant-loop-other l = l.found ≡ false → IsNowhereIn l.hash l.hashes 0 l.other-index

@@ -1,0 +1,49 @@
+use Rattle.std.proofs.Common.{arith, sym, ap, ◌<◌, ◌∙◌, ◌≡◌, ℕ, List, [], length, get_or}
+use Rattle.std.proofs.lemmas.List.{get_or-map}
+use Rattle.std.proofs.lemmas.Result.{on_ok_weaker}
+use Rattle.cdb_form.specs.Format.Hash.{table_number}
+use Rattle.cdb_make.specs.Views.EntryList.{entries_of, list_entries, lists_entries}
+use Rattle.cdb_make.specs.declared.list.EntryList.{EntryList}
+use Rattle.cdb_make.proofs.Sides.{length-entries_of}
+use Rattle.cdb_make.proofs.Whole.{gaps_found, count_found, none_stands, stands_fewer}
+use Rattle.cdb_make.proofs.taking_out.find.Goals as goal
+
+pub find_gaps-requires-clause-room : goal.find_gaps-requires-clause-room
+find_gaps-requires-clause-room g c =
+    let d = c.index-lists-table_number.result in
+    let ls : List EntryList = c.args.lists.now in
+    let n : ℕ = table_number c.args.hash in
+    let lt : n < length ls = omega (arith, c.requires.all) in
+    let here : length (list_entries d) ≡ length (get_or (lists_entries ls) n []) =
+    ap (λ v. length (list_entries v)) (c.index-lists-table_number.is ∙ ap (λ (k : ℕ). get_or ls k d) (c.table_number.ensures.number ∙ ap table_number c.from.ensures))
+    ∙ ap length (sym (get_or-map list_entries ls n d [] lt)) in
+    let same : length c.hashes.result.now ≡ length d.hashes.items = ap length c.hashes.ensures in
+    omega (arith, length-entries_of d.hashes.items d.places.items d.paired, c.requires.room)
+
+pub returns-clause-gaps : goal.returns-clause-gaps
+returns-clause-gaps g c = λ rs stands.
+    let d = c.index-lists-table_number.result in
+    let here : entries_of c.hashes.result.now c.places.result.now ≡ list_entries (get_or c.args.lists.now (table_number c.args.hash) d) =
+    ap (λ v. entries_of v c.places.result.now) c.hashes.ensures
+    ∙ ap (entries_of d.hashes.items) c.places.ensures
+    ∙ ap list_entries c.index-lists-table_number.is
+    ∙ ap (λ (n : ℕ). list_entries (get_or c.args.lists.now n d)) (c.table_number.ensures.number ∙ ap table_number c.from.ensures) in
+    on_ok_weaker c.find_gaps.result
+    (λ picks. gaps_found g.L.Width.TOP c.args.end c.args.lists.now d rs g.met.L.Width.top_is (omega (arith, c.requires.fits, g.met.L.Width.greatest_fits.0)) c.requires.all c.requires.hash here c.find_gaps.ensures.images stands picks)
+    c.find_gaps.ensures.picks
+
+pub returns-clause-count : goal.returns-clause-count
+returns-clause-count g c = λ rs stands. on_ok_weaker c.find_gaps.result (λ found. count_found found) (returns-clause-gaps g c rs stands)
+
+pub returns-clause-foreign : goal.returns-clause-foreign
+returns-clause-foreign g c = λ err rs stands.
+    let d = c.index-lists-table_number.result in
+    let here : entries_of c.hashes.result.now c.places.result.now ≡ list_entries (get_or c.args.lists.now (table_number c.args.hash) d) =
+    ap (λ v. entries_of v c.places.result.now) c.hashes.ensures
+    ∙ ap (entries_of d.hashes.items) c.places.ensures
+    ∙ ap list_entries c.index-lists-table_number.is
+    ∙ ap (λ (n : ℕ). list_entries (get_or c.args.lists.now n d)) (c.table_number.ensures.number ∙ ap table_number c.from.ensures) in
+    none_stands c.args.hash g.L.Width.TOP c.args.end c.args.lists.now d rs g.met.L.Width.top_is (omega (arith, c.requires.fits, g.met.L.Width.greatest_fits.0)) c.requires.all (omega (arith, c.head_size-start.ensures)) here c.find_gaps.ensures.images stands (c.find_gaps.ensures.foreign err)
+
+pub returns-clause-stands : goal.returns-clause-stands
+returns-clause-stands g c = λ rs stands. stands_fewer c.find_gaps.ensures.images stands

@@ -1,0 +1,49 @@
+-- What a list of entries holds.
+use Rattle.std.specs.Prelude.{ℕ, ◌≡◌, ◌<◌, ◌≤◌, min, List, [], ◌∷◌, length, map, ◌≢◌}
+use Rattle.std.specs.Prelude.{slice_index, get_or, vec_capacity}
+use Rattle.cdb_form.specs.Format.Hash.{table_number}
+use Rattle.cdb_form.specs.Format.Pair.{WordPair}
+use Rattle.cdb_make.specs.declared.gap.Gap.{Gap}
+use Rattle.cdb_make.specs.declared.list.EntryList.{EntryList}
+use Rattle.cdb_make.specs.Gaps.{IsRising, closed_by}
+
+-- hashes and places side by side
+abbrev pub entries_of : List ℕ → List ℕ → List WordPair
+entries_of [] places = []
+entries_of (h ∷ hashes) [] = []
+entries_of (h ∷ hashes) (p ∷ places) =
+    record { first = h; second = p } ∷ entries_of hashes places
+
+-- the entries of a list
+abbrev pub list_entries : EntryList → List WordPair
+list_entries l = entries_of l.hashes.items l.places.items
+
+-- those of each list
+abbrev pub lists_entries : List EntryList → List (List WordPair)
+lists_entries ls = map list_entries ls
+
+-- how many entries a list holds without taking memory
+abbrev pub list_room : EntryList → ℕ
+list_room l = min (vec_capacity l.hashes) (vec_capacity l.places)
+
+-- the k-th list is the old one with the gaps closed
+pub record IsClosed (gaps : List Gap) (old new : EntryList) : Type 0 where
+  pub entries : IsRising 0 (list_entries old)
+      → list_entries new ≡ closed_by 0 gaps (list_entries old)
+  pub fewer : length (list_entries new) ≤ length (list_entries old)
+  pub room : list_room new ≡ list_room old
+
+-- each list is the old one with the gaps closed
+pub record AreClosed (gaps : List Gap) (old new : List EntryList) : Type 0 where
+  pub long : length new ≡ length old
+  pub each : (k : ℕ) (d : EntryList) → k < length old
+      → IsClosed gaps (get_or old k d) (get_or new k d)
+
+-- none of these hashes, from number `from` to before `end`, is this one
+abbrev pub IsNowhereIn : ℕ → List ℕ → ℕ → ℕ → Type 0
+IsNowhereIn hash hashes from end =
+    (k : ℕ) → from ≤ k → k < end → slice_index hashes k ≢ hash
+
+-- how many entries the list of a hash has
+abbrev pub entry_count : List EntryList → ℕ → ℕ
+entry_count ls hash = length (get_or (lists_entries ls) (table_number hash) [])

@@ -1,0 +1,96 @@
+// The records of a key, found among the entries of its table.
+ghost use Rattle.std.specs.Prelude.{◌≡◌, ℕ, ◌+◌, ◌<◌, ◌≤◌, ◌^◌, length, vec_capacity, IfOk, OnOk};
+ghost use Rattle.cdb_make.specs.declared.looking.LookFault.TheVariants.{Failed, Foreign};
+ghost use Rattle.cdb_make.specs.Gaps.{AreApart};
+ghost use Rattle.cdb_make.specs.Looks.{NoNewImage, Picks, TellsThere, NoneChained};
+ghost use Rattle.cdb_make.specs.Views.EntryList.{entries_of};
+
+use crate::gap::Gap;
+use crate::looking::{LookFault, look_at};
+use crate::scan::next_place;
+use cdb_form::Width;
+use cdb_store::Store;
+
+/// Leaves the gaps that the records of a key would leave, of those at these entries. It takes no
+/// memory, since there is room for a gap an entry.
+///
+/// `Foreign`: the records at these entries don't stand one behind another up to `end`.
+pub(crate) fn find_gaps<S: Store, L: Width>(
+    store: &mut S,
+    hashes: &[u32],
+    places: &[u64],
+    hash: u32,
+    key: &[u8],
+    start: u64,
+    end: u64,
+    gaps: &mut Vec<Gap>,
+) -> Result<(), LookFault>
+    requires paired { length hashes.now ≡ length places.now }
+    requires inside { end ≤ S.size store.old }
+    requires fits { end < 2 ^ 63 }
+    requires start { start ≤ end }
+    requires room { length hashes.now ≤ vec_capacity gaps.old }
+    ensures picks { OnOk result (Picks L.WORD hash key.now gaps.new.items
+        (entries_of hashes.now places.now) (S.image store.new)) }
+    ensures apart { OnOk result (AreApart start gaps.new.items end) }
+    ensures foreign { result ≡ Err Foreign → NoneChained L.WORD start
+        (entries_of hashes.now places.now) end (S.image store.new) }
+    ensures failed { result ≡ Err Failed → S.failures store.old < S.failures store.new }
+    ensures images { NoNewImage (S.image store.old) (S.image store.new) }
+    ensures size { S.size store.new ≡ S.size store.old }
+    ensures written { S.written store.new ≡ S.written store.old }
+    ensures room { S.room store.old ≤ S.room store.new }
+    ensures failures { S.failures store.old ≤ S.failures store.new }
+    ensures capacity { vec_capacity gaps.new ≡ vec_capacity gaps.old }
+{
+    gaps.clear();
+    let mut last = start;
+    let mut next = next_place(hashes, hash, 0);
+    while next < hashes.len() {
+        let place = places[next];
+        if let Some(size) = look_at::<S, L>(store, place, end, key)? {
+            if place < last {
+                return Err(LookFault::Foreign);
+            }
+            gaps.push_reserved(Gap { place, size });
+            last = place + size;
+        }
+        next = next_place(hashes, hash, next + 1);
+    }
+    Ok(())
+}
+
+/// Whether some record at these entries has a key.
+///
+/// `Foreign`: the records at these entries don't stand one behind another up to `end`.
+pub(crate) fn some_has<S: Store, L: Width>(
+    store: &mut S,
+    hashes: &[u32],
+    places: &[u64],
+    hash: u32,
+    key: &[u8],
+    end: u64,
+) -> Result<bool, LookFault>
+    requires paired { length hashes.now ≡ length places.now }
+    requires inside { end ≤ S.size store.old }
+    requires fits { end < 2 ^ 63 }
+    ensures tells { IfOk result (λ there. TellsThere L.WORD hash key.now there
+        (entries_of hashes.now places.now) (S.image store.new)) }
+    ensures foreign { result ≡ Err Foreign → (start : ℕ) → NoneChained L.WORD start
+        (entries_of hashes.now places.now) end (S.image store.new) }
+    ensures failed { result ≡ Err Failed → S.failures store.old < S.failures store.new }
+    ensures images { NoNewImage (S.image store.old) (S.image store.new) }
+    ensures size { S.size store.new ≡ S.size store.old }
+    ensures written { S.written store.new ≡ S.written store.old }
+    ensures room { S.room store.old ≤ S.room store.new }
+    ensures failures { S.failures store.old ≤ S.failures store.new }
+{
+    let mut next = next_place(hashes, hash, 0);
+    while next < hashes.len() {
+        if look_at::<S, L>(store, places[next], end, key)?.is_some() {
+            return Ok(true);
+        }
+        next = next_place(hashes, hash, next + 1);
+    }
+    Ok(false)
+}

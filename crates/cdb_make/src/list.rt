@@ -1,0 +1,103 @@
+// The entries of one table, as a maker keeps them.
+ghost use Rattle.std.specs.Prelude.{◌≡◌, ◌<◌, ◌≤◌, ◌^◌, [], ◌∷◌, ◌++◌, length, get_or, OnOk, OnErr};
+
+use crate::gap::Gap;
+use crate::repair::close_entries;
+use cdb_form::Slot;
+use std::alloc::{AllocError, Global};
+
+/// The entries of one table, in the order of their places: 12 bytes each.
+///
+/// Hashes and places stand apart, so that a search for a hash reads nothing else.
+#[derive(Drop)]
+pub(crate) struct EntryList {
+    /// The hash of each record's key.
+    hashes: Vec<u32>,
+    /// Where each record stands, in bytes from the file's start.
+    places: Vec<u64>,
+    ghost paired: { length hashes.items ≡ length places.items },
+}
+
+impl EntryList {
+    ghost use Rattle.cdb_form.specs.Views.Pairs.{slot_pair};
+    ghost use Rattle.cdb_make.specs.Gaps.{AreApart, IsRising, closed_by};
+    ghost use Rattle.cdb_make.specs.Views.EntryList.{list_entries, list_room};
+
+    /// No entries.
+    pub(crate) fn new(alloc: Global) -> EntryList
+        ensures { list_entries result ≡ [] }
+    {
+        EntryList {
+            hashes: Vec::new(alloc),
+            places: Vec::new(alloc),
+        }
+    }
+
+    /// How many entries there are.
+    pub(crate) fn len(&self) -> usize
+        ensures { result ≡ length (list_entries self.now) }
+    {
+        self.hashes.len()
+    }
+
+    /// The hash of each entry.
+    pub(crate) fn hashes(&self) -> &[u32]
+        ensures { result.now ≡ self.now.hashes.items }
+    {
+        &self.hashes
+    }
+
+    /// The place of each entry.
+    pub(crate) fn places(&self) -> &[u64]
+        ensures { result.now ≡ self.now.places.items }
+    {
+        &self.places
+    }
+
+    /// An entry, as a slot of its table holds it.
+    pub(crate) fn entry(&self, n: usize) -> Slot
+        requires { n < length (list_entries self.now) }
+        ensures { slot_pair result ≡ get_or (list_entries self.now) n (slot_pair result) }
+    {
+        Slot {
+            hash: u64::from(self.hashes[n]),
+            place: self.places[n],
+        }
+    }
+
+    /// Makes room for one more entry. Where memory is refused, the entries stay.
+    pub(crate) fn reserve(&mut self) -> Result<(), AllocError>
+        ensures entries { list_entries self.new ≡ list_entries self.old }
+        ensures ok { OnOk result (length (list_entries self.new) < list_room self.new) }
+        ensures full { OnErr result (list_room self.old ≤ length (list_entries self.old)) }
+        ensures room { list_room self.old ≤ list_room self.new }
+    {
+        self.hashes.reserve(1)?;
+        self.places.reserve(1)
+    }
+
+    /// One more entry, for which there is room.
+    pub(crate) fn push(&mut self, hash: u32, place: u64)
+        requires { length (list_entries self.old) < list_room self.old }
+        ensures entries { list_entries self.new
+            ≡ list_entries self.old ++ record { first = hash; second = place } ∷ [] }
+        ensures room { list_room self.new ≡ list_room self.old }
+    {
+        self.hashes.push_reserved(hash);
+        self.places.push_reserved(place);
+    }
+
+    /// Takes out the entries at the gaps, and lowers each other place by the gaps below it. The
+    /// room stays.
+    pub(crate) fn close(&mut self, gaps: &[Gap])
+        requires { AreApart 0 gaps.now (2 ^ 63) }
+        ensures entries { IsRising 0 (list_entries self.old) → list_entries self.new
+            ≡ closed_by 0 gaps.now (list_entries self.old) }
+        ensures fewer { length (list_entries self.new) ≤ length (list_entries self.old) }
+        ensures room { list_room self.new ≡ list_room self.old }
+    {
+        let kept = close_entries(&mut self.hashes, &mut self.places, gaps);
+        self.hashes.truncate(kept);
+        self.places.truncate(kept);
+    }
+}

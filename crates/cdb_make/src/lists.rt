@@ -1,0 +1,27 @@
+// The lists of all tables.
+ghost use Rattle.std.specs.Prelude.{◌≡◌, ◌^◌, length};
+ghost use Rattle.cdb_make.specs.Gaps.{AreApart};
+ghost use Rattle.cdb_make.specs.Views.EntryList.{entry_count, AreClosed};
+
+use crate::gap::Gap;
+use crate::list::EntryList;
+use cdb_form::table_number;
+
+/// How many entries the list of a hash has.
+pub(crate) fn entry_count(lists: &[EntryList], hash: u32) -> usize
+    requires { length lists.now ≡ 256 }
+    ensures { result ≡ entry_count lists.now hash }
+{
+    lists[table_number(u64::from(hash))].len()
+}
+
+/// Takes the entries at the gaps out of each list, and lowers each other place by the gaps below
+/// it. Each list's room stays.
+pub(crate) fn close_lists(lists: &mut [EntryList], gaps: &[Gap])
+    requires { AreApart 0 gaps.now (2 ^ 63) }
+    ensures { AreClosed gaps.now lists.old lists.new }
+{
+    for list in lists.iter_mut() {
+        list.close(gaps);
+    }
+}
