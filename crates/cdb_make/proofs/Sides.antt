@@ -1,6 +1,8 @@
 -- Hashes and places side by side.
-use Rattle.std.proofs.Common.{◌≡◌, ℕ, zero, suc, ◌+◌, ◌<◌, List, [], ◌∷◌, ◌++◌, length, get_or, set, take, drop, refl, ap, ◌∙◌, arith}
+use Rattle.std.proofs.Common.{◌≡◌, ℕ, zero, suc, ◌+◌, ◌<◌, ◌≤◌, List, [], ◌∷◌, ◌++◌, length, get_or, set, take, drop, refl, ap, ◌∙◌, arith}
+use Rattle.std.specs.Prelude.{All}
 use Rattle.std.proofs.lemmas.List.{at_drop_more}
+use Rattle.std.proofs.lemmas.List.Elements.{All-cons, All-nil, All-head, All-tail}
 use Rattle.cdb_form.specs.Format.Pair.{WordPair}
 use Rattle.cdb_make.specs.Views.EntryList.{entries_of}
 
@@ -44,3 +46,18 @@ entry_here hs ps i paired lt =
     let n : i < length (entries_of hs ps) = omega (arith, length-entries_of hs ps paired) in
     at_drop_more (λ v. v) (entries_of hs ps) i d n
     ∙ ap (λ (v : WordPair). v ∷ drop (i + 1) (entries_of hs ps)) (get_or-entries_of hs ps i d paired (omega arith))
+
+-- a bound of the places, told of the entries and of the places
+pub places_below : (most : ℕ) (hs ps : List ℕ) → length hs ≡ length ps → All (λ e. e.second ≤ most) (entries_of hs ps) → All (λ p. p ≤ most) ps
+places_below most hs [] e all = All-nil (λ p. p ≤ most)
+places_below most [] (p ∷ ps) e all = absurd (omega arith)
+places_below most (h ∷ hs) (p ∷ ps) e all =
+    let first : WordPair = record { first = h; second = p } in
+    All-cons (λ p. p ≤ most) p ps (All-head (λ e. e.second ≤ most) first (entries_of hs ps) all)
+    (places_below most hs ps (omega arith) (All-tail (λ e. e.second ≤ most) first (entries_of hs ps) all))
+
+pub entries_below : (most : ℕ) (hs ps : List ℕ) → All (λ p. p ≤ most) ps → All (λ e. e.second ≤ most) (entries_of hs ps)
+entries_below most [] ps all = All-nil (λ e. e.second ≤ most)
+entries_below most (h ∷ hs) [] all = All-nil (λ e. e.second ≤ most)
+entries_below most (h ∷ hs) (p ∷ ps) all =
+    All-cons (λ e. e.second ≤ most) (record { first = h; second = p }) (entries_of hs ps) (All-head (λ p. p ≤ most) p ps all) (entries_below most hs ps (All-tail (λ p. p ≤ most) p ps all))

@@ -33,6 +33,7 @@ pub(crate) fn find_gaps<S: Store, L: Width>(
     ensures picks { OnOk result (Picks L.WORD hash key.now gaps.new.items
         (entries_of hashes.now places.now) (S.image store.new)) }
     ensures apart { OnOk result (AreApart start gaps.new.items end) }
+    ensures few { OnOk result (length gaps.new.items ≤ length hashes.now) }
     ensures foreign { result ≡ Err Foreign → NoneChained L.WORD start
         (entries_of hashes.now places.now) end (S.image store.new) }
     ensures failed { result ≡ Err Failed → S.failures store.old < S.failures store.new }

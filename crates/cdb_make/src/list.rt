@@ -1,5 +1,6 @@
 // The entries of one table, as a maker keeps them.
-ghost use Rattle.std.specs.Prelude.{◌≡◌, ◌<◌, ◌≤◌, ◌^◌, [], ◌∷◌, ◌++◌, length, get_or, OnOk, OnErr};
+ghost use Rattle.std.specs.Prelude.{◌≡◌, ℕ, ◌<◌, ◌≤◌, ◌^◌, [], ◌∷◌, ◌++◌, length, get_or, All};
+ghost use Rattle.std.specs.Prelude.{OnOk, OnErr};
 
 use crate::gap::Gap;
 use crate::repair::close_entries;
@@ -57,7 +58,8 @@ impl EntryList {
     /// An entry, as a slot of its table holds it.
     pub(crate) fn entry(&self, n: usize) -> Slot
         requires { n < length (list_entries self.now) }
-        ensures { slot_pair result ≡ get_or (list_entries self.now) n (slot_pair result) }
+        ensures entry { slot_pair result ≡ get_or (list_entries self.now) n (slot_pair result) }
+        ensures hash { result.hash < 2 ^ 32 }
     {
         Slot {
             hash: u64::from(self.hashes[n]),
@@ -94,6 +96,8 @@ impl EntryList {
         ensures entries { IsRising 0 (list_entries self.old) → list_entries self.new
             ≡ closed_by 0 gaps.now (list_entries self.old) }
         ensures fewer { length (list_entries self.new) ≤ length (list_entries self.old) }
+        ensures bounded { (most : ℕ) → All (λ e. e.second ≤ most) (list_entries self.old)
+            → All (λ e. e.second ≤ most) (list_entries self.new) }
         ensures room { list_room self.new ≡ list_room self.old }
     {
         let kept = close_entries(&mut self.hashes, &mut self.places, gaps);

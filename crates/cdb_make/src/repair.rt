@@ -1,5 +1,5 @@
 // The entries of one table once gaps are closed.
-ghost use Rattle.std.specs.Prelude.{◌≡◌, ℕ, ◌<◌, ◌≤◌, ◌^◌, length, slice_index, take};
+ghost use Rattle.std.specs.Prelude.{◌≡◌, ℕ, ◌<◌, ◌≤◌, ◌^◌, length, slice_index, take, All};
 ghost use Rattle.std.specs.List.Sorted.{IsNonDecreasing};
 ghost use Rattle.cdb_make.specs.Gaps.{AreApart, IsRising, closed_by};
 ghost use Rattle.cdb_make.specs.Views.EntryList.{entries_of};
@@ -24,6 +24,7 @@ pub(crate) fn close_entries(hashes: &mut [u32], places: &mut [u64], gaps: &[Gap]
         → take result (entries_of hashes.new places.new)
         ≡ closed_by 0 gaps.now (entries_of hashes.old places.old) }
     ensures within { result ≤ length places.old }
+    ensures bounded { (most : ℕ) → All (λ p. p ≤ most) places.old → All (λ p. p ≤ most) places.new }
 {
     let mut kept = below(places, first_place(gaps, u64::MAX));
     let mut gone = 0;

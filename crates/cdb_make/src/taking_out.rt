@@ -49,6 +49,7 @@ pub(crate) fn find<S: Store, L: Width>(
         → Stands L.WORD end (lists_entries lists.now) rs (S.image store.old)
         → OnOk result (IsCount (length gaps.new.items) key.now rs (S.image store.new)) }
     ensures apart { OnOk result (AreApart (head_size L.WORD) gaps.new.items end) }
+    ensures few { OnOk result (length gaps.new.items ≤ entry_count lists.now hash) }
     ensures stands { (rs : List KeyValue)
         → Stands L.WORD end (lists_entries lists.now) rs (S.image store.old)
         → Stands L.WORD end (lists_entries lists.now) rs (S.image store.new) }

@@ -1,6 +1,6 @@
 -- What a list of entries holds.
 use Rattle.std.specs.Prelude.{ℕ, ◌≡◌, ◌<◌, ◌≤◌, min, List, [], ◌∷◌, length, map, ◌≢◌}
-use Rattle.std.specs.Prelude.{slice_index, get_or, vec_capacity}
+use Rattle.std.specs.Prelude.{slice_index, get_or, vec_capacity, All}
 use Rattle.cdb_form.specs.Format.Hash.{table_number}
 use Rattle.cdb_form.specs.Format.Pair.{WordPair}
 use Rattle.cdb_make.specs.declared.gap.Gap.{Gap}
@@ -31,6 +31,8 @@ pub record IsClosed (gaps : List Gap) (old new : EntryList) : Type 0 where
   pub entries : IsRising 0 (list_entries old)
       → list_entries new ≡ closed_by 0 gaps (list_entries old)
   pub fewer : length (list_entries new) ≤ length (list_entries old)
+  pub bounded : (most : ℕ) → All (λ e. e.second ≤ most) (list_entries old)
+      → All (λ e. e.second ≤ most) (list_entries new)
   pub room : list_room new ≡ list_room old
 
 -- each list is the old one with the gaps closed

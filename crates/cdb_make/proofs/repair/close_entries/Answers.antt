@@ -1,5 +1,7 @@
 use Rattle.std.proofs.Common.{arith, sym, ap, subst, ◌∙◌, ◌≡◌, ◌+◌, ◌-◌, ◌<◌, ◌≤◌, ◌^◌, ℕ, length, List, [], ◌∷◌, ◌++◌, get_or, set, drop, take, length-set}
+use Rattle.std.specs.Prelude.{All}
 use Rattle.std.proofs.lemmas.List.{at_drop_all, append-nil}
+use Rattle.std.proofs.lemmas.List.Elements.{All-get_or, All-set}
 use Rattle.cdb_form.specs.Format.Pair.{WordPair}
 use Rattle.cdb_make.specs.declared.gap.Gap.{Gap}
 use Rattle.cdb_make.specs.Gaps.{IsRising, closed_by, first_place}
@@ -27,6 +29,7 @@ loop-entry-init c =
       apart = c.requires.apart;
       rising = λ r. rising_drop k es r;
       sofar = λ r. closed_front hs ps k c.args.gaps.now (2 ^ 63) (2 ^ 64 - 1) c.requires.paired c.requires.apart (λ i lt. front i r lt);
+      bounded = λ most all. all;
     }
 
 pub overflow_add-gone : goal.overflow_add-gone
@@ -57,6 +60,7 @@ loop-entry-preserved-then-gaps-next c =
       paired = c.loop-entry.invariant.paired;
       apart = apart_lower (c.loop-entry.gone + gap.size) (gap.place + gap.size) rest (2 ^ 63) (omega (arith, n.order)) n.rest_apart;
       rising = c.loop-entry.invariant.rising;
+      bounded = c.loop-entry.invariant.bounded;
       sofar = λ r.
           c.loop-entry.invariant.sofar r
           ∙ ap (λ (v : List WordPair). take c.loop-entry.kept es ++ v)
@@ -85,6 +89,7 @@ loop-entry-preserved-then-gaps-next-2 c =
       paired = c.loop-entry.invariant.paired;
       apart = c.loop-entry.invariant.apart;
       rising = λ r. rising_next (drop i es) x (drop (i + 1) es) d (c.loop-entry.invariant.rising r);
+      bounded = c.loop-entry.invariant.bounded;
       sofar = λ r.
           c.loop-entry.invariant.sofar r
           ∙ ap (λ (v : List WordPair). take c.loop-entry.kept es ++ v)
@@ -119,6 +124,7 @@ loop-entry-preserved c =
     ] in
     let whole : List WordPair = closed_by 0 gs (entries_of c.args.hashes.now c.args.places.now) in
     let long : length es ≡ length hs = length-entries_of hs ps c.loop-entry.invariant.paired in
+    let lower : c.saturating_sub.result ≤ get_or ps i 0 = omega (arith, c.saturating_sub.ensures) in
     let short : n < length es = omega (arith, c.loop-entry.invariant.behind) in
     let same : entries_of (set hs n x.first) (set ps n c.saturating_sub.result) ≡ set es n new = entries_of-set hs ps n x.first c.saturating_sub.result c.loop-entry.invariant.paired in
     record {
@@ -130,6 +136,10 @@ loop-entry-preserved c =
       rising = λ r.
           subst (λ (v : List WordPair). IsRising 0 (drop (i + 1) v)) (sym same)
           (subst (λ (v : List WordPair). IsRising 0 v) (sym (set_drop n i es new c.loop-entry.invariant.behind)) (rising_next (drop i es) x (drop (i + 1) es) d (c.loop-entry.invariant.rising r)));
+      bounded = λ most all.
+          let here : All (λ p. p ≤ most) ps = c.loop-entry.invariant.bounded most all in
+          let last : get_or ps i 0 ≤ most = All-get_or (λ p. p ≤ most) ps i 0 c.loop-entry-test.true here in
+          All-set (λ p. p ≤ most) ps n c.saturating_sub.result (omega arith) here;
       sofar = λ r.
           subst (λ (v : List WordPair). whole ≡ take (n + 1) v ++ closed_by c.loop-entry.gone (drop j gs) (drop (i + 1) v)) (sym same)
           (sofar_kept c.loop-entry.gone n i (drop j gs) es whole new short c.loop-entry.invariant.behind
@@ -145,3 +155,6 @@ returns-clause-entries c = λ r.
     let gs : List Gap = drop c.loop-entry.next c.args.gaps.now in
     let over : drop c.loop-entry.entry es ≡ [] = at_drop_all (λ (v : List WordPair). v) es c.loop-entry.entry (omega (arith, length-entries_of c.loop-entry.hashes c.loop-entry.places c.loop-entry.invariant.paired, c.loop-entry-test.false)) in
     sym (c.loop-entry.invariant.sofar r ∙ ap (λ (v : List WordPair). take c.loop-entry.kept es ++ closed_by c.loop-entry.gone gs v) over ∙ append-nil (take c.loop-entry.kept es))
+
+pub returns-clause-bounded : goal.returns-clause-bounded
+returns-clause-bounded c = c.loop-entry.invariant.bounded

@@ -1,4 +1,5 @@
-use Rattle.std.proofs.Common.{◌≡◌, ◌+◌, ◌-◌, ◌≤◌, ◌^◌, ◌++◌, take, drop, length}
+use Rattle.std.specs.Prelude.{All}
+use Rattle.std.proofs.Common.{ℕ, ◌≡◌, ◌+◌, ◌-◌, ◌≤◌, ◌^◌, ◌++◌, take, drop, length}
 use Rattle.cdb_make.specs.Gaps.{AreApart, IsRising, closed_by}
 use Rattle.cdb_make.specs.Views.EntryList.{entries_of}
 use Rattle.cdb_make.proofs.repair.close_entries.Given as goal
@@ -14,6 +15,7 @@ invariant-loop-entry l = record {
   sofar : IsRising 0 (entries_of l.fn.hashes l.fn.places)
       → closed_by 0 l.gaps (entries_of l.fn.hashes l.fn.places)
       ≡ take l.kept (entries_of l.hashes l.places) ++ closed_by l.gone (drop l.next l.gaps) (drop l.entry (entries_of l.hashes l.places));
+  bounded : (most : ℕ) → All (λ p. p ≤ most) l.fn.places → All (λ p. p ≤ most) l.places;
 }
 
 abbrev pub decreases-loop-entry : goal.decreases-loop-entry

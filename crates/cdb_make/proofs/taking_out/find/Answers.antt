@@ -20,6 +20,19 @@ find_gaps-requires-clause-room g c =
     let same : length c.hashes.result.now ≡ length d.hashes.items = ap length c.hashes.ensures in
     omega (arith, length-entries_of d.hashes.items d.places.items d.paired, c.requires.room)
 
+pub returns-clause-few : goal.returns-clause-few
+returns-clause-few g c =
+    let d = c.index-lists-table_number.result in
+    let ls : List EntryList = c.args.lists.now in
+    let n : ℕ = table_number c.args.hash in
+    let lt : n < length ls = omega (arith, c.requires.all) in
+    let here : length (list_entries d) ≡ length (get_or (lists_entries ls) n []) =
+    ap (λ v. length (list_entries v)) (c.index-lists-table_number.is ∙ ap (λ (k : ℕ). get_or ls k d) (c.table_number.ensures.number ∙ ap table_number c.from.ensures))
+    ∙ ap length (sym (get_or-map list_entries ls n d [] lt)) in
+    let same : length c.hashes.result.now ≡ length d.hashes.items = ap length c.hashes.ensures in
+    let long = length-entries_of d.hashes.items d.places.items d.paired in
+    on_ok_weaker c.find_gaps.result (λ few. omega (arith, long)) c.find_gaps.ensures.few
+
 pub returns-clause-gaps : goal.returns-clause-gaps
 returns-clause-gaps g c = λ rs stands.
     let d = c.index-lists-table_number.result in

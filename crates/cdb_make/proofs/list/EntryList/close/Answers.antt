@@ -1,9 +1,11 @@
-use Rattle.std.proofs.Common.{arith, ap, sym, subst, ◌∙◌, ◌≡◌, ◌++◌, ℕ, List, length, take, length-take}
+use Rattle.std.proofs.Common.{arith, ap, sym, subst, ◌∙◌, ◌≡◌, ◌++◌, ◌≤◌, ℕ, List, length, take, length-take}
+use Rattle.std.specs.Prelude.{All}
 use Rattle.std.proofs.lemmas.List.{take_at}
+use Rattle.std.proofs.lemmas.List.Elements.{All-same, All-take}
 use Rattle.cdb_form.specs.Format.Pair.{WordPair}
 use Rattle.cdb_make.specs.Gaps.{IsRising, closed_by}
 use Rattle.cdb_make.specs.Views.EntryList.{entries_of}
-use Rattle.cdb_make.proofs.Sides.{entries_of-take, length-entries_of}
+use Rattle.cdb_make.proofs.Sides.{entries_of-take, length-entries_of, places_below, entries_below}
 use Rattle.cdb_make.proofs.list.EntryList.close.Goals as goal
 
 -- what is left where both sides were lent, and then cut
@@ -38,3 +40,17 @@ returns-clause-fewer c =
     let cut : length (entries_of c.truncate.new.self.items c.truncate-2.new.self.items) ≡ length (take k (entries_of hs ps)) =
     ap length (cut_entries _ _ k hs ps _ _ _ _ (omega (arith, s.hashes.ok.0)) (omega (arith, s.places.ok.0)) c.truncate.ensures.items c.truncate-2.ensures.items) in
     omega (arith, length-take {A = WordPair}, length-entries_of hs ps (omega (arith, s.paired)), length-entries_of s.hashes.items s.places.items s.paired)
+
+pub returns-clause-bounded : goal.returns-clause-bounded
+returns-clause-bounded c = λ most all.
+    let s = c.args.self.now in
+    let hs : List ℕ = c.close_entries-kept.new.hashes in
+    let ps : List ℕ = c.close_entries-kept.new.places in
+    let k : ℕ = c.close_entries-kept.result in
+    let was : All (λ p. p ≤ most) c.deref_mut-2.result.now = All-same (λ p. p ≤ most) _ _ c.deref_mut-2.ensures.value (places_below most s.hashes.items s.places.items s.paired all) in
+    let now : All (λ p. p ≤ most) ps = c.close_entries-kept.ensures.bounded most was in
+    All-same (λ e. e.second ≤ most) _ _
+    (cut_entries _ _ k hs ps _ _ _ _
+    (omega (arith, c.close_entries-kept.auto.hashes, c.deref_mut.ensures.len, s.hashes.ok.0)) (omega (arith, c.close_entries-kept.auto.places, c.deref_mut-2.ensures.len, s.places.ok.0))
+    c.truncate.ensures.items c.truncate-2.ensures.items)
+    (All-take (λ e. e.second ≤ most) k (entries_of hs ps) (entries_below most hs ps now))

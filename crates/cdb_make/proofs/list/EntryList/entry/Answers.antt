@@ -14,8 +14,8 @@ index-requires-2 c =
     let s = c.args.self.now in
     omega (arith, length-entries_of s.hashes.items s.places.items s.paired, s.places.ok.0, s.paired, c.requires)
 
-pub returns : goal.returns
-returns c =
+pub returns-clause-entry : goal.returns-clause-entry
+returns-clause-entry c =
     let s = c.args.self.now in
     let hs : List ℕ = s.hashes.items in
     let ps : List ℕ = s.places.items in
