@@ -1,5 +1,5 @@
 -- The pointers to the tables of some lists of entries.
-use Rattle.std.proofs.Common.{◌≡◌, ℕ, ◌+◌, ◌*◌, ◌<◌, ◌≤◌, List, [], ◌∷◌, ◌++◌, length, take, map, get_or, refl, sym, ap, ◌∙◌, arith, sum_by}
+use Rattle.std.proofs.Common.{◌≡◌, ℕ, ◌+◌, ◌*◌, ◌<◌, ◌≤◌, List, [], ◌∷◌, ◌++◌, length, take, map, get_or, refl, sym, ap, subst, ◌∙◌, arith, sum_by}
 use Rattle.std.proofs.lemmas.List.{take_more, length-map, take-map, get_or-map, map_push, take_more_set}
 use Rattle.std.proofs.lemmas.List.Sums.{sum_by-cons, sum_by_more_le, sum_by_more}
 use Rattle.std.proofs.Math.Nat.{mul-le-mul_left}
@@ -34,39 +34,49 @@ pub pointers_none : (w at : ℕ) → [] ≡ pointers_from w at []
 unfolding pointers_from
 pointers_none w at = refl
 
--- one pointer more
+-- one pointer more, of whatever has entries
+pub pointers_next : {X : Type 0} (f : X → List WordPair) (w at : ℕ) (xs : List X) (ps : List Pointer) (i place slots : ℕ) (x : X) → i < length xs → i < length ps → x ≡ get_or xs i x
+    → place ≡ at + 4 * w * sum_by length (map f (take i xs)) → slots ≡ 2 * length (f x) → map pointer_pair (take i ps) ≡ pointers_from w at (map slots_of (map f (take i xs)))
+    → map pointer_pair (take (i + 1) (slice_set ps i (record { place = place; slots = slots }))) ≡ pointers_from w at (map slots_of (map f (take (i + 1) xs)))
+pointers_next f w at xs ps i place slots x h hp is ep es before =
+    let p : WordPair = record { first = place; second = slots } in
+    let lists : map f (take (i + 1) xs) ≡ map f (take i xs) ++ f x ∷ [] =
+    ap (map f) (take_more xs i x h ∙ ap (λ y. take i xs ++ y ∷ []) (sym is)) ∙ map_push f (take i xs) x in
+    let last = pointer_one w (at + 4 * w * sum_by length (map f (take i xs))) place slots (f x) ep es in
+    ap (map pointer_pair) (take_more_set ps i (record { place = place; slots = slots }) hp) ∙ map_push pointer_pair (take i ps) (record { place = place; slots = slots })
+    ∙ ap (λ t. t ++ p ∷ []) before ∙ ap (λ t. pointers_from w at (map slots_of (map f (take i xs))) ++ t) (sym last)
+    ∙ sym (ap (λ ls. pointers_from w at (map slots_of ls)) lists ∙ pointers_append w at (map f (take i xs)) (f x ∷ []))
+
+-- the lists so far and the next one are no longer than all
+pub sums_within : {X : Type 0} (f : X → List WordPair) (k : ℕ) (xs : List X) (i : ℕ) (x : X) → i < length xs → x ≡ get_or xs i x → k * sum_by length (map f (take i xs)) + k * length (f x) ≤ k * sum_by length (map f xs)
+sums_within f k xs i x h is =
+    let all = sum_by_more_le length (map f xs) i (f x) (simp length-map (omega arith)) in
+    let e : length (get_or (map f xs) i (f x)) ≡ length (f x) = ap length (get_or-map f xs i x (f x) h ∙ ap f (sym is)) in
+    let t : sum_by length (take i (map f xs)) ≡ sum_by length (map f (take i xs)) = ap (sum_by length) (take-map f i xs) in
+    let sum : sum_by length (map f (take i xs)) + length (f x) ≤ sum_by length (map f xs) = omega (arith, all, e, t) in
+    omega (arith, mul-le-mul_left k sum)
+
+pub sums_more : {X : Type 0} (f : X → List WordPair) (k : ℕ) (xs : List X) (i : ℕ) (x : X) → i < length xs → x ≡ get_or xs i x → k * sum_by length (map f (take (i + 1) xs)) ≡ k * sum_by length (map f (take i xs)) + k * length (f x)
+sums_more f k xs i x h is =
+    let all = sum_by_more length (map f xs) i (f x) (simp length-map (omega arith)) in
+    let e : length (get_or (map f xs) i (f x)) ≡ length (f x) = ap length (get_or-map f xs i x (f x) h ∙ ap f (sym is)) in
+    let t : sum_by length (take i (map f xs)) ≡ sum_by length (map f (take i xs)) = ap (sum_by length) (take-map f i xs) in
+    let t' : sum_by length (take (i + 1) (map f xs)) ≡ sum_by length (map f (take (i + 1) xs)) = ap (sum_by length) (take-map f (i + 1) xs) in
+    let sum : sum_by length (map f (take (i + 1) xs)) ≡ sum_by length (map f (take i xs)) + length (f x) = omega (arith, all, e, t, t') in
+    ap (λ (n : ℕ). k * n) sum ∙ omega arith
+
+-- the same of vectors of slots
 pub pointers_more : {Z : Type 0} (w at : ℕ) (vs : List (Vec Slot Z)) (ps : List Pointer) (i place slots : ℕ) (v : Vec Slot Z) → i < length vs → i < length ps → v ≡ get_or vs i v
     → place ≡ at + 4 * w * sum_by length (lists_pairs (take i vs)) → slots ≡ 2 * length v.items → map pointer_pair (take i ps) ≡ pointers_from w at (map slots_of (lists_pairs (take i vs)))
     → map pointer_pair (take (i + 1) (slice_set ps i (record { place = place; slots = slots }))) ≡ pointers_from w at (map slots_of (lists_pairs (take (i + 1) vs)))
-pointers_more w at vs ps i place slots v h hp is ep es before =
-    let p : WordPair = record { first = place; second = slots } in
-    let lists : lists_pairs (take (i + 1) vs) ≡ lists_pairs (take i vs) ++ list_pairs v ∷ [] =
-    ap lists_pairs (take_more vs i v h ∙ ap (λ y. take i vs ++ y ∷ []) (sym is)) ∙ map_push list_pairs (take i vs) v in
-    let last = pointer_one w (at + 4 * w * sum_by length (lists_pairs (take i vs))) place slots (list_pairs v) ep (es ∙ ap (λ (n : ℕ). 2 * n) (sym (length-map v.items slot_pair))) in
-    ap (map pointer_pair) (take_more_set ps i (record { place = place; slots = slots }) hp) ∙ map_push pointer_pair (take i ps) (record { place = place; slots = slots })
-    ∙ ap (λ t. t ++ p ∷ []) before ∙ ap (λ t. pointers_from w at (map slots_of (lists_pairs (take i vs))) ++ t) (sym last)
-    ∙ sym (ap (λ ls. pointers_from w at (map slots_of ls)) lists ∙ pointers_append w at (lists_pairs (take i vs)) (list_pairs v ∷ []))
+pointers_more w at vs ps i place slots v h hp is ep es before = pointers_next list_pairs w at vs ps i place slots v h hp is ep (es ∙ ap (λ (n : ℕ). 2 * n) (sym (length-map v.items slot_pair))) before
 
-words_at_list : {Z : Type 0} (vs : List (Vec Slot Z)) (i : ℕ) (v : Vec Slot Z) → i < length vs → v ≡ get_or vs i v → list_pairs v ≡ get_or (lists_pairs vs) i (list_pairs v)
-words_at_list vs i v h is = ap list_pairs is ∙ sym (get_or-map list_pairs vs i v (list_pairs v) h)
-
--- the lists so far and the next one are no longer than all
 pub sum_within : {Z : Type 0} (k : ℕ) (vs : List (Vec Slot Z)) (i : ℕ) (v : Vec Slot Z) → i < length vs → v ≡ get_or vs i v → k * sum_by length (lists_pairs (take i vs)) + k * length v.items ≤ k * sum_by length (lists_pairs vs)
 sum_within k vs i v h is =
-    let all = sum_by_more_le length (lists_pairs vs) i (list_pairs v) (simp length-map (omega arith)) in
-    let e : length (get_or (lists_pairs vs) i (list_pairs v)) ≡ length v.items = sym (ap length (words_at_list vs i v h is)) ∙ length-map v.items slot_pair in
-    let t : sum_by length (take i (lists_pairs vs)) ≡ sum_by length (lists_pairs (take i vs)) = ap (sum_by length) (take-map list_pairs i vs) in
-    let sum : sum_by length (lists_pairs (take i vs)) + length v.items ≤ sum_by length (lists_pairs vs) = omega (arith, all, e, t) in
-    omega (arith, mul-le-mul_left k sum)
+    subst (λ (n : ℕ). k * sum_by length (lists_pairs (take i vs)) + k * n ≤ k * sum_by length (lists_pairs vs)) (length-map v.items slot_pair) (sums_within list_pairs k vs i v h is)
 
 pub sum_more : {Z : Type 0} (k : ℕ) (vs : List (Vec Slot Z)) (i : ℕ) (v : Vec Slot Z) → i < length vs → v ≡ get_or vs i v → k * sum_by length (lists_pairs (take (i + 1) vs)) ≡ k * sum_by length (lists_pairs (take i vs)) + k * length v.items
-sum_more k vs i v h is =
-    let all = sum_by_more length (lists_pairs vs) i (list_pairs v) (simp length-map (omega arith)) in
-    let e : length (get_or (lists_pairs vs) i (list_pairs v)) ≡ length v.items = sym (ap length (words_at_list vs i v h is)) ∙ length-map v.items slot_pair in
-    let t : sum_by length (take i (lists_pairs vs)) ≡ sum_by length (lists_pairs (take i vs)) = ap (sum_by length) (take-map list_pairs i vs) in
-    let t' : sum_by length (take (i + 1) (lists_pairs vs)) ≡ sum_by length (lists_pairs (take (i + 1) vs)) = ap (sum_by length) (take-map list_pairs (i + 1) vs) in
-    let sum : sum_by length (lists_pairs (take (i + 1) vs)) ≡ sum_by length (lists_pairs (take i vs)) + length v.items = omega (arith, all, e, t, t') in
-    ap (λ (n : ℕ). k * n) sum ∙ omega arith
+sum_more k vs i v h is = sums_more list_pairs k vs i v h is ∙ ap (λ (n : ℕ). k * sum_by length (lists_pairs (take i vs)) + k * n) (length-map v.items slot_pair)
 
 pub table_size : (w size n len : ℕ) → size ≡ pair_size w → len ≡ n → size * (2 * len) ≡ 4 * w * n
 table_size w size n len es en = ap (λ (k : ℕ). k * (2 * len)) es ∙ ap (λ (k : ℕ). pair_size w * (2 * k)) en ∙ omega arith

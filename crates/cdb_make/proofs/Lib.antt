@@ -16,3 +16,5 @@ pub mod Survive
 pub mod ClosedLists
 pub mod Found
 pub mod Whole
+pub mod TableBytes
+pub mod FinishedFile

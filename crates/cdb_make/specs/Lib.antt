@@ -5,5 +5,6 @@ pub mod Gaps
 pub mod Survivors
 pub mod Looks
 pub mod Stands
+pub mod Finished
 pub mod Laws
 pub mod Examples

@@ -3,6 +3,7 @@ ghost use Rattle.std.specs.Prelude.{◌≡◌, Some};
 ghost use Rattle.cdb_make.specs.Views.MakeFault.{make_number, make_message};
 
 use cdb_form::OutFault;
+use cdb_store::StoreFault;
 use std::alloc::{AllocError, AllocFailed};
 use std::error::Error;
 use std::fmt;
@@ -86,5 +87,18 @@ impl From<OutFault> for MakeFault {
 
     fn from(_: OutFault) -> MakeFault {
         MakeFault::Writing
+    }
+}
+
+impl From<StoreFault> for MakeFault {
+    ghost use Rattle.cdb_make.specs.Views.MakeFault.{fault_of};
+
+    ghost from_gives = { λ e f. f ≡ fault_of e };
+
+    fn from(fault: StoreFault) -> MakeFault {
+        match fault {
+            StoreFault::Device => MakeFault::Writing,
+            StoreFault::NoMemory => MakeFault::NoMemory,
+        }
     }
 }

@@ -61,7 +61,7 @@ fn write_pointers<L: Width, W: Write>(
 }
 
 /// Leaves the bytes of some slots.
-fn encode_slots<L: Width>(slots: &[Slot], into: &mut [u8])
+pub(crate) fn encode_slots<L: Width>(slots: &[Slot], into: &mut [u8])
     requires long { length into.old ≡ pair_size L.WORD * length slots.now }
     requires fits { All (PairFits L.TOP) (map slot_pair slots.now) }
     ensures { into.new ≡ flat_map (pair_bytes L.WORD) (map slot_pair slots.now) }

@@ -1,7 +1,7 @@
 // The lists of all tables.
-ghost use Rattle.std.specs.Prelude.{◌≡◌, ◌^◌, length};
+ghost use Rattle.std.specs.Prelude.{◌≡◌, ◌<◌, ◌≤◌, ◌^◌, length, sum_by, All};
 ghost use Rattle.cdb_make.specs.Gaps.{AreApart};
-ghost use Rattle.cdb_make.specs.Views.EntryList.{entry_count, AreClosed};
+ghost use Rattle.cdb_make.specs.Views.EntryList.{entry_count, lists_entries, AreClosed};
 
 use crate::gap::Gap;
 use crate::list::EntryList;
@@ -13,6 +13,30 @@ pub(crate) fn entry_count(lists: &[EntryList], hash: u32) -> usize
     ensures { result ≡ entry_count lists.now hash }
 {
     lists[table_number(u64::from(hash))].len()
+}
+
+/// How many entries all lists have.
+pub(crate) fn count_all(lists: &[EntryList]) -> u64
+    requires { sum_by length (lists_entries lists.now) < 2 ^ 64 }
+    ensures { result ≡ sum_by length (lists_entries lists.now) }
+{
+    let mut count = 0;
+    for list in lists {
+        count += list.len() as u64;
+    }
+    count
+}
+
+/// How many entries the longest list has.
+pub(crate) fn longest(lists: &[EntryList]) -> usize
+    ensures most { All (λ list. length list ≤ result) (lists_entries lists.now) }
+    ensures within { result ≤ sum_by length (lists_entries lists.now) }
+{
+    let mut most = 0;
+    for list in lists {
+        most = most.max(list.len());
+    }
+    most
 }
 
 /// Takes the entries at the gaps out of each list, and lowers each other place by the gaps below

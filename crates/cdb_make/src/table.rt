@@ -39,7 +39,7 @@ fn first_empty(slots: &[Slot], home: usize) -> usize
 }
 
 /// Puts an entry into the first empty slot from its home.
-fn put_entry(slots: &mut [Slot], entry: Slot)
+pub(crate) fn put_entry(slots: &mut [Slot], entry: Slot)
     requires { 0 < length slots.old }
     ensures { map slot_pair slots.new ≡ slots_with (map slot_pair slots.old) (slot_pair entry) }
 {
@@ -49,7 +49,7 @@ fn put_entry(slots: &mut [Slot], entry: Slot)
 }
 
 /// Empties each slot.
-fn clear(slots: &mut [Slot])
+pub(crate) fn clear(slots: &mut [Slot])
     ensures { map slot_pair slots.new ≡ replicate (length slots.old) empty_slot }
 {
     for slot in slots.iter_mut() {

@@ -1,6 +1,9 @@
 -- The faults of a maker: their numbers and messages, and what a writer holds after one.
 use Rattle.std.specs.Prelude.{ℕ, ◌≡◌, List, Option, codes}
 use Rattle.cdb_form.specs.Views.KnownBytes.{AppendsFront}
+use Rattle.cdb_store.specs.declared.store.StoreFault.{StoreFault}
+use Rattle.cdb_store.specs.declared.store.StoreFault.TheVariants.{Device}
+use Rattle.cdb_store.specs.declared.store.StoreFault.TheVariants.{NoMemory as Refused}
 use Rattle.cdb_make.specs.declared.fault.MakeFault.{MakeFault}
 use Rattle.cdb_make.specs.declared.fault.MakeFault.TheVariants.{Broken, Lookup, TooBig, NoMemory}
 use Rattle.cdb_make.specs.declared.fault.MakeFault.TheVariants.{Writing}
@@ -24,3 +27,8 @@ abbrev pub FileFails : Option (List ℕ) → Option (List ℕ) → List ℕ → 
 FileFails old new file Writing = AppendsFront old new file
 FileFails old new file NoMemory = new ≡ old
 FileFails old new file fault = ⊥
+
+-- what a fault of a store is to a maker that writes
+abbrev pub fault_of : StoreFault → MakeFault
+fault_of Device = Writing
+fault_of Refused = NoMemory

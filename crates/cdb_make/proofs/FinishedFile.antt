@@ -1,0 +1,54 @@
+-- What a store holds once the tables and the head are written and the rest is cut.
+use Rattle.std.proofs.Common.{◌≡◌, ℕ, ◌+◌, ◌-◌, ◌*◌, ◌≤◌, List, ◌++◌, length, take, drop, map, flat_map, sym, ap, ◌∙◌, arith, append_assoc, length-append}
+use Rattle.std.proofs.lemmas.List.{drop-append-le, length-take-le, take_at, drop-take, length-map}
+use Rattle.cdb_store.specs.Images.{overwrite, part, AfterWrite, AfterCut, AreSized, KeepsPart}
+use Rattle.cdb_store.proofs.Parts.{length-part}
+use Rattle.cdb_form.specs.Format.Pair.{WordPair, head_size}
+use Rattle.cdb_form.specs.Format.File.{pointers_from}
+use Rattle.cdb_form.specs.Format.Table.{slots_of}
+use Rattle.cdb_form.proofs.HeadLemmas.{length-flat_map_words}
+use Rattle.cdb_form.proofs.Sizes.{length-pointers_from}
+use Rattle.cdb_make.specs.Finished.{IsFinished}
+use Rattle.cdb_make.specs.Parts.{head_bytes, table_bytes, tables_end}
+use Rattle.cdb_make.proofs.TableBytes.{length-tables}
+
+pub length-head_bytes : (w end : ℕ) (ls : List (List WordPair)) → length ls ≡ 256 → length (head_bytes w end ls) ≡ head_size w
+length-head_bytes w end ls long =
+    length-flat_map_words w (pointers_from w end (map slots_of ls)) ∙ ap (λ (n : ℕ). 2 * w * n) (length-pointers_from w end (map slots_of ls) ∙ length-map ls slots_of ∙ long) ∙ omega arith
+
+-- a list with bytes over its end and others over its front, cut behind the first
+both_written : (first end last : ℕ) (a head tables : List ℕ) → length head ≡ first → first ≤ end → end ≤ length a → last ≡ end + length tables
+    → take last (overwrite (overwrite a end tables) 0 head) ≡ (head ++ part first (end - first) a) ++ tables
+both_written first end last a head tables eh le inside el =
+    let rest : List ℕ = drop (end + length tables) a in
+    let middle : List ℕ = part first (end - first) a in
+    let front : length (take end a) ≡ end = length-take-le end a inside in
+    let e : first + (end - first) ≡ end = omega arith in
+    let cut : drop first (take end a) ≡ middle = ap (λ (n : ℕ). drop first (take n a)) (sym e) ∙ drop-take first (end - first) a in
+    let zero : 0 + length head ≡ first = omega arith in
+    let behind : drop (0 + length head) (overwrite a end tables) ≡ middle ++ (tables ++ rest) =
+    ap (λ (n : ℕ). drop n (overwrite a end tables)) zero ∙ drop-append-le first (take end a) (tables ++ rest) (omega arith) ∙ ap (λ v. v ++ (tables ++ rest)) cut in
+    let whole : overwrite (overwrite a end tables) 0 head ≡ ((head ++ middle) ++ tables) ++ rest =
+    ap (λ v. head ++ v) behind ∙ sym (append_assoc head middle (tables ++ rest)) ∙ sym (append_assoc (head ++ middle) tables rest) in
+    let m : length middle ≡ end - first = length-part first (end - first) a (omega arith) in
+    let len : length ((head ++ middle) ++ tables) ≡ last = omega (arith, length-append (head ++ middle) tables, length-append head middle) in
+    ap (take last) whole ∙ take_at ((head ++ middle) ++ tables) rest last len
+
+pub finished : {w end last size : ℕ} {ls : List (List WordPair)} {i j k l : List ℕ → Type 0} → length ls ≡ 256 → head_size w ≤ end → end ≤ size → last ≡ tables_end w end ls → AreSized size i
+    → AfterWrite end (flat_map (table_bytes w) ls) i j → AfterWrite 0 (head_bytes w end ls) j k → AfterCut last k l → IsFinished w end ls i l
+finished {w = w} {end = end} {last = last} {ls = ls} long start inside behind sized tables head cut = record {
+  each = λ b is.
+      let c = cut.no_other b is in
+      let h = head.no_other c.0 c.1 in
+      let t = tables.no_other h.0 h.1 in
+      let len : length t.0 ≡ _ = sized.each t.0 t.1 in
+      let bytes = length-tables w ls in (
+        t.0,
+        t.1,
+        c.2 ∙ ap (take last) (h.2 ∙ ap (λ v. overwrite v 0 (head_bytes w end ls)) t.2)
+            ∙ both_written (head_size w) end last t.0 (head_bytes w end ls) (flat_map (table_bytes w) ls) (length-head_bytes w end ls long) start (omega arith) (omega (arith, bytes)),
+      );
+}
+
+pub kept_then : {pos n : ℕ} {i j k : List ℕ → Type 0} → KeepsPart pos n i j → KeepsPart pos n j k → KeepsPart pos n i k
+kept_then p q = record { each = λ b is. let h = q.each b is in let o = p.each h.0 h.1 in (o.0, o.1, h.2 ∙ o.2) }

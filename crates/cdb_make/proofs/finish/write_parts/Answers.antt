@@ -1,0 +1,46 @@
+use Rattle.std.proofs.Common.{arith, inl, inr, ℕ, subst, ◌-◌}
+use Rattle.std.proofs.lemmas.List.{length-map}
+use Rattle.std.proofs.lemmas.Result.{on_ok_weaker}
+use Rattle.cdb_store.specs.Images.{AfterCut, AreSized, KeepsPart}
+use Rattle.cdb_store.proofs.Moves.{kept_torn, kept_cut, kept_same, cut_between, same_refl}
+use Rattle.cdb_form.specs.Format.Pair.{head_size}
+use Rattle.cdb_make.proofs.FinishedFile.{finished, kept_then}
+use Rattle.cdb_make.proofs.finish.write_parts.Goals as goal
+
+pub returns-in_err-write_tables-clause-kept : goal.returns-in_err-write_tables-clause-kept
+returns-in_err-write_tables-clause-kept g c =
+    let first : ℕ = head_size g.L.Width.WORD in
+    let tables : KeepsPart first (c.args.end - first) (g.S.Store.image c.args.store.now) (g.S.Store.image c.write_tables.new.store) = kept_torn first (c.args.end - first) (inl (omega arith)) c.write_tables.ensures.torn in
+    tables
+
+pub returns-in_err-write_pointers-clause-kept : goal.returns-in_err-write_pointers-clause-kept
+returns-in_err-write_pointers-clause-kept g c =
+    let first : ℕ = head_size g.L.Width.WORD in
+    let tables : KeepsPart first (c.args.end - first) (g.S.Store.image c.args.store.now) (g.S.Store.image c.write_tables.new.store) = kept_torn first (c.args.end - first) (inl (omega arith)) c.write_tables.ensures.torn in
+    let head : KeepsPart first (c.args.end - first) (g.S.Store.image c.args.store.now) (g.S.Store.image c.write_pointers.new.store) = kept_then tables (kept_torn first (c.args.end - first) (inr (omega arith)) c.write_pointers.ensures.torn) in
+    head
+
+pub returns-in_err-cut-clause-kept : goal.returns-in_err-cut-clause-kept
+returns-in_err-cut-clause-kept g c =
+    let first : ℕ = head_size g.L.Width.WORD in
+    let tables : KeepsPart first (c.args.end - first) (g.S.Store.image c.args.store.now) (g.S.Store.image c.write_tables.new.store) = kept_torn first (c.args.end - first) (inl (omega arith)) c.write_tables.ensures.torn in
+    let head : KeepsPart first (c.args.end - first) (g.S.Store.image c.args.store.now) (g.S.Store.image c.write_pointers.new.store) = kept_then tables (kept_torn first (c.args.end - first) (inr (omega arith)) c.write_pointers.ensures.torn) in
+    let cut : KeepsPart first (c.args.end - first) (g.S.Store.image c.args.store.now) (g.S.Store.image c.cut.new.self) = kept_then head (kept_cut first (c.args.end - first) (omega (arith, c.cut.ensures.no_shorter)) c.cut.ensures.images) in
+    cut
+
+pub returns-clause-kept : goal.returns-clause-kept
+returns-clause-kept g c =
+    let first : ℕ = head_size g.L.Width.WORD in
+    let tables : KeepsPart first (c.args.end - first) (g.S.Store.image c.args.store.now) (g.S.Store.image c.write_tables.new.store) = kept_torn first (c.args.end - first) (inl (omega arith)) c.write_tables.ensures.torn in
+    let head : KeepsPart first (c.args.end - first) (g.S.Store.image c.args.store.now) (g.S.Store.image c.write_pointers.new.store) = kept_then tables (kept_torn first (c.args.end - first) (inr (omega arith)) c.write_pointers.ensures.torn) in
+    let cut : KeepsPart first (c.args.end - first) (g.S.Store.image c.args.store.now) (g.S.Store.image c.cut.new.self) = kept_then head (kept_cut first (c.args.end - first) (omega (arith, c.cut.ensures.no_shorter)) c.cut.ensures.images) in
+    kept_then cut (kept_same first (c.args.end - first) c.flush.ensures.images)
+
+pub returns-clause-file : goal.returns-clause-file
+returns-clause-file g c =
+    let sized : AreSized (g.S.Store.size c.args.store.now) (g.S.Store.image c.args.store.now) = record { each = g.met.S.Store.image_size c.args.store.now } in
+    let cut : AfterCut c.args.last (g.S.Store.image c.write_pointers.new.store) (g.S.Store.image c.cut.new.self) =
+    subst (λ (n : ℕ). AfterCut n (g.S.Store.image c.write_pointers.new.store) (g.S.Store.image c.cut.new.self)) c.in_ok-cut.ensures.ok c.cut.ensures.images in
+    on_ok_weaker c.flush.result
+    (λ settled. finished (simp length-map c.requires.long) c.requires.start c.requires.inside c.requires.last sized c.in_ok-write_tables.ensures.ok c.in_ok-write_pointers.ensures.ok (cut_between (same_refl (g.S.Store.image c.write_pointers.new.store)) cut c.flush.ensures.images))
+    c.flush.ensures.ok
