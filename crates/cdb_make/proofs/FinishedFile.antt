@@ -1,16 +1,20 @@
--- What a store holds once the tables and the head are written and the rest is cut.
-use Rattle.std.proofs.Common.{◌≡◌, ℕ, ◌+◌, ◌-◌, ◌*◌, ◌≤◌, List, ◌++◌, length, take, drop, map, flat_map, sym, ap, ◌∙◌, arith, append_assoc, length-append}
+-- What a store holds once the tables and the head are written and the rest is cut: the whole file.
+use Rattle.std.proofs.Common.{◌≡◌, ℕ, ◌+◌, ◌-◌, ◌*◌, ◌≤◌, List, ◌++◌, length, take, drop, map, flat_map, sym, ap, ◌∙◌, arith, append_assoc, length-append, sum_by}
+use Rattle.std.specs.List.{range_with_len}
 use Rattle.std.proofs.lemmas.List.{drop-append-le, length-take-le, take_at, drop-take, length-map}
 use Rattle.cdb_store.specs.Images.{overwrite, part, AfterWrite, AfterCut, AreSized, KeepsPart}
 use Rattle.cdb_store.proofs.Parts.{length-part}
-use Rattle.cdb_form.specs.Format.Pair.{WordPair, head_size}
-use Rattle.cdb_form.specs.Format.File.{pointers_from}
-use Rattle.cdb_form.specs.Format.Table.{slots_of}
+use Rattle.cdb_form.specs.Format.Pair.{WordPair, head_size, pair_bytes}
+use Rattle.cdb_form.specs.Format.File.{file_bytes, file_pointers, file_size, pointers_from}
+use Rattle.cdb_form.specs.Format.Record.{KeyValue, record_bytes, record_size, records_end}
+use Rattle.cdb_form.specs.Format.Table.{file_tables, slots_of, table_entries}
 use Rattle.cdb_form.proofs.HeadLemmas.{length-flat_map_words}
-use Rattle.cdb_form.proofs.Sizes.{length-pointers_from}
+use Rattle.cdb_form.proofs.Sizes.{length-pointers_from, size_split, sum_by-table_entries, tables_are}
 use Rattle.cdb_make.specs.Finished.{IsFinished}
 use Rattle.cdb_make.specs.Parts.{head_bytes, table_bytes, tables_end}
+use Rattle.cdb_make.specs.Stands.{Tells, Stands}
 use Rattle.cdb_make.proofs.TableBytes.{length-tables}
+use Rattle.cdb_make.proofs.Written.{flat_map-map}
 
 pub length-head_bytes : (w end : ℕ) (ls : List (List WordPair)) → length ls ≡ 256 → length (head_bytes w end ls) ≡ head_size w
 length-head_bytes w end ls long =
@@ -52,3 +56,52 @@ finished {w = w} {end = end} {last = last} {ls = ls} long start inside behind si
 
 pub kept_then : {pos n : ℕ} {i j k : List ℕ → Type 0} → KeepsPart pos n i j → KeepsPart pos n j k → KeepsPart pos n i k
 kept_then p q = record { each = λ b is. let h = q.each b is in let o = p.each h.0 h.1 in (o.0, o.1, h.2 ∙ o.2) }
+
+-- the head, the records and the tables of the records' entries are the file
+pub file_of_parts : (w end : ℕ) (bytes : List ℕ) (ls : List (List WordPair)) (rs : List KeyValue) → end ≡ records_end w rs → bytes ≡ flat_map (record_bytes w) rs → ls ≡ map (table_entries w rs) (range_with_len 0 256)
+    → (head_bytes w end ls ++ bytes) ++ flat_map (table_bytes w) ls ≡ file_bytes w rs
+unfolding file_bytes file_pointers
+file_of_parts w end bytes ls rs e held entries =
+    let ts : List (List WordPair) = map slots_of ls in
+    let t : ts ≡ file_tables w rs = ap (map slots_of) entries ∙ sym (tables_are w rs) in
+    let tables : flat_map (table_bytes w) ls ≡ flat_map (flat_map (pair_bytes w)) (file_tables w rs) =
+    sym (flat_map-map (flat_map (pair_bytes w)) slots_of ls) ∙ ap (flat_map (flat_map (pair_bytes w))) t in
+    ap (λ (n : ℕ). (flat_map (pair_bytes w) (pointers_from w n ts) ++ bytes) ++ flat_map (table_bytes w) ls) e
+    ∙ ap (λ v. (flat_map (pair_bytes w) (pointers_from w (records_end w rs) v) ++ bytes) ++ flat_map (table_bytes w) ls) t
+    ∙ ap (λ v. (flat_map (pair_bytes w) (pointers_from w (records_end w rs) (file_tables w rs)) ++ v) ++ flat_map (table_bytes w) ls) held
+    ∙ ap (λ v. (flat_map (pair_bytes w) (pointers_from w (records_end w rs) (file_tables w rs)) ++ flat_map (record_bytes w) rs) ++ v) tables
+
+-- it ends where the file's size is counted to be
+pub tables_end_is : (w end : ℕ) (ls : List (List WordPair)) (rs : List KeyValue) → end ≡ records_end w rs → ls ≡ map (table_entries w rs) (range_with_len 0 256) → tables_end w end ls ≡ file_size w rs
+tables_end_is w end ls rs e entries =
+    let n : sum_by length ls ≡ length rs = ap (sum_by length) entries ∙ sum_by-table_entries w rs in
+    let m : 4 * w * sum_by length ls ≡ 4 * w * length rs = ap (λ (k : ℕ). 4 * w * k) n in
+    let at : end ≡ head_size w + sum_by (record_size w) rs = e in
+    omega (arith, m, at, size_split w rs)
+
+-- a finished image, where the records stood, is their file
+pub finished_file : {w end : ℕ} {ls : List (List WordPair)} {rs : List KeyValue} {a b : List ℕ} → Tells w end ls rs a
+    → b ≡ (head_bytes w end ls ++ part (head_size w) (end - head_size w) a) ++ flat_map (table_bytes w) ls → b ≡ file_bytes w rs
+finished_file {w = w} {end = end} {ls = ls} {rs = rs} {a = a} t e =
+    let at : end ≡ head_size w + sum_by (record_size w) rs = t.ends in
+    let n : end - head_size w ≡ sum_by (record_size w) rs = omega arith in
+    e ∙ file_of_parts w end (part (head_size w) (end - head_size w) a) ls rs t.ends (ap (λ (k : ℕ). part (head_size w) k a) n ∙ t.held) t.entries
+
+pub all_finished : {w end : ℕ} {ls : List (List WordPair)} {rs : List KeyValue} {old new : List ℕ → Type 0} → Stands w end ls rs old → IsFinished w end ls old new
+    → (b : List ℕ) → new b → b ≡ file_bytes w rs
+all_finished stands finished = λ b is. let h = finished.each b is in finished_file (stands.each h.0 h.1) h.2
+
+-- records stand where their bytes stay
+pub stands_kept : {w end : ℕ} {ls : List (List WordPair)} {rs : List KeyValue} {old new : List ℕ → Type 0} → KeepsPart (head_size w) (end - head_size w) old new → Stands w end ls rs old → Stands w end ls rs new
+stands_kept {w = w} {end = end} {ls = ls} {rs = rs} keeps stands = record {
+  each = λ b is.
+      let h = keeps.each b is in
+      let t : Tells w end ls rs h.0 = stands.each h.0 h.1 in
+      let at : end ≡ head_size w + sum_by (record_size w) rs = t.ends in
+      let n : end - head_size w ≡ sum_by (record_size w) rs = omega arith in
+      record {
+        held = ap (λ (k : ℕ). part (head_size w) k b) (sym n) ∙ h.2 ∙ ap (λ (k : ℕ). part (head_size w) k h.0) n ∙ t.held;
+        ends = t.ends;
+        entries = t.entries;
+      };
+}

@@ -1,5 +1,5 @@
 -- The whole file, in the parts that are written.
-use Rattle.std.proofs.Common.{◌≡◌, ℕ, ◌+◌, ◌*◌, ◌≤◌, ◌⊎◌, List, [], ◌∷◌, ◌++◌, length, map, flat_map, refl, sym, ap, subst, Option, ◌∙◌, arith, sum_by, get_or, ◌%◌, replicate, slice_set}
+use Rattle.std.proofs.Common.{◌≡◌, ℕ, ◌+◌, ◌≤◌, List, [], ◌∷◌, ◌++◌, length, flat_map, refl, sym, ap, subst, Option, ◌∙◌, arith, sum_by, get_or, replicate}
 use Rattle.std.specs.Prelude.{All}
 use Rattle.std.proofs.lemmas.List.{get_or-map, append-nil}
 use Rattle.std.proofs.lemmas.List.Concat.{flat_map-append}
@@ -8,19 +8,20 @@ use Rattle.std.proofs.lemmas.List.FromFn.{get_or-map-range_with_len}
 use Rattle.std.proofs.lemmas.List.Elements.{All-filter, All-cons, All-nil, All-same, All-head, All-tail, All-append}
 use Rattle.cdb_form.specs.Format.Hash.{key_hash}
 use Rattle.cdb_form.specs.Format.Record.{KeyValue, IsRecord, record_size, records_end, record_bytes}
-use Rattle.cdb_form.specs.Format.Table.{entries_from, file_entries, table_entries, in_table, file_tables, slots_of}
-use Rattle.cdb_form.specs.Format.File.{file_size, whole_size, file_pointers, pointers_from, file_bytes}
-use Rattle.cdb_form.specs.Format.Pair.{WordPair, head_size, pair_bytes}
+use Rattle.cdb_form.specs.Format.Table.{entries_from, file_entries, table_entries, in_table}
+use Rattle.cdb_form.specs.Format.File.{file_size, whole_size, file_bytes}
+use Rattle.cdb_form.specs.Format.Pair.{head_size}
 use Rattle.cdb_form.specs.Views.Pairs.{PairFits}
-use Rattle.cdb_form.proofs.Sizes.{size_split, sum_by-table_entries, tables_are, slots_within, length-records}
+use Rattle.cdb_form.proofs.Sizes.{size_split, length-records}
 use Rattle.cdb_make.specs.Views.Index.{list_pairs, lists_pairs, with_entry}
 use Rattle.cdb_make.specs.Views.Builder.{Holds, limit_of}
-use Rattle.cdb_make.specs.Parts.{parts_of, parts_size, tables_end, table_bytes}
+use Rattle.cdb_make.specs.Parts.{parts_of, parts_size}
 use Rattle.cdb_make.specs.Views.MakeFault.{FileFails}
 use Rattle.cdb_make.specs.declared.fault.MakeFault.{MakeFault}
 use Rattle.cdb_make.specs.declared.builder.Builder.{Builder}
 use Rattle.cdb_make.proofs.EntryLists.{lists_more, lists_none, size_push}
-use Rattle.cdb_make.proofs.Written.{flat_map-map, hash_fits}
+use Rattle.cdb_make.proofs.FinishedFile.{file_of_parts, tables_end_is}
+use Rattle.cdb_make.proofs.Written.{hash_fits}
 
 -- the records' bytes end where the tables begin
 pub stored_end : {L : Type 0} (w greatest : ℕ) (b : Builder L) (rs : List KeyValue) → Holds w greatest b rs → head_size w + length b.bytes.items ≡ records_end w rs
@@ -56,25 +57,13 @@ holds_none w greatest b bytes lists size fits limit =
 
 -- the parts of the file are the file
 pub parts_are : {L : Type 0} (w greatest : ℕ) (b : Builder L) (rs : List KeyValue) → Holds w greatest b rs → parts_of w b.bytes.items (lists_pairs b.lists.items) ≡ file_bytes w rs
-unfolding file_bytes file_pointers
-parts_are w greatest b rs h =
-    let ls = lists_pairs b.lists.items in
-    let t : map slots_of ls ≡ file_tables w rs = ap (map slots_of) h.entries ∙ sym (tables_are w rs) in
-    let tables : flat_map (table_bytes w) ls ≡ flat_map (flat_map (pair_bytes w)) (file_tables w rs) =
-    sym (flat_map-map (flat_map (pair_bytes w)) slots_of ls) ∙ ap (flat_map (flat_map (pair_bytes w))) t in
-    ap (λ (n : ℕ). (flat_map (pair_bytes w) (pointers_from w n (map slots_of ls)) ++ b.bytes.items) ++ flat_map (table_bytes w) ls) (stored_end w greatest b rs h)
-    ∙ ap (λ ts. (flat_map (pair_bytes w) (pointers_from w (records_end w rs) ts) ++ b.bytes.items) ++ flat_map (table_bytes w) ls) t
-    ∙ ap (λ x. (flat_map (pair_bytes w) (pointers_from w (records_end w rs) (file_tables w rs)) ++ x) ++ flat_map (table_bytes w) ls) h.bytes
-    ∙ ap (λ x. (flat_map (pair_bytes w) (pointers_from w (records_end w rs) (file_tables w rs)) ++ flat_map (record_bytes w) rs) ++ x) tables
+parts_are w greatest b rs h = file_of_parts w (head_size w + length b.bytes.items) b.bytes.items (lists_pairs b.lists.items) rs (stored_end w greatest b rs h) h.bytes h.entries
 
 -- and they are as long as the finished size
 pub parts_fit : {L : Type 0} (w greatest : ℕ) (b : Builder L) (rs : List KeyValue) → Holds w greatest b rs → parts_size w b.bytes.items (lists_pairs b.lists.items) ≤ greatest
 parts_fit w greatest b rs h =
-    let n : sum_by length (lists_pairs b.lists.items) ≡ length rs = ap (sum_by length) h.entries ∙ sum_by-table_entries w rs in
-    let m : 4 * w * sum_by length (lists_pairs b.lists.items) ≡ 4 * w * length rs = ap (λ (k : ℕ). 4 * w * k) n in
-    let e = stored_end w greatest b rs h in
-    let split = size_split w rs in
-    omega (arith, m, e, split, h.fits, h.limit)
+    let size : parts_size w b.bytes.items (lists_pairs b.lists.items) ≡ file_size w rs = tables_end_is w (head_size w + length b.bytes.items) (lists_pairs b.lists.items) rs (stored_end w greatest b rs h) h.entries in
+    omega (arith, size, h.fits, h.limit)
 
 located_fits : (w at top : ℕ) (rs : List KeyValue) → All IsRecord rs → 4294967295 ≤ top → at + sum_by (record_size w) rs ≤ top → All (PairFits top) (entries_from w at rs)
 unfolding entries_from
