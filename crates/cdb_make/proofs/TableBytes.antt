@@ -1,10 +1,12 @@
 -- What the tables of some lists are.
-use Rattle.std.proofs.Common.{◌≡◌, ℕ, ◌+◌, ◌*◌, ◌^◌, ◌<◌, ◌≤◌, ◌⊎◌, List, [], ◌∷◌, ◌++◌, length, take, map, flat_map, get_or, refl, sym, ap, ◌∙◌, arith, sum_by, length-append}
+use Rattle.std.proofs.Common.{◌≡◌, ℕ, ◌+◌, ◌*◌, ◌^◌, ◌<◌, ◌≤◌, ◌⊎◌, List, [], ◌∷◌, ◌++◌, length, take, map, flat_map, get_or, refl, sym, ap, ◌∙◌, arith, sum_by, length-append, subst}
 use Rattle.std.specs.Prelude.{All}
 use Rattle.std.proofs.Math.Nat.{mul-le-mul_left}
-use Rattle.std.proofs.lemmas.List.{take_more, map_push, append-nil, length-map, get_or-map}
+use Rattle.std.proofs.lemmas.List.{nil_from_length, take_more, map_push, append-nil, length-map, get_or-map}
 use Rattle.std.proofs.lemmas.List.Concat.{flat_map-append}
 use Rattle.std.proofs.lemmas.List.Sums.{sum_by-cons}
+use Rattle.cdb_store.specs.Images.{overwrite, AfterWrite}
+use Rattle.cdb_store.proofs.Parts.{overwrite_nothing}
 use Rattle.cdb_form.specs.Format.Pair.{WordPair, pair_size}
 use Rattle.cdb_form.specs.Format.Table.{slots_of}
 use Rattle.cdb_form.specs.Views.Pairs.{PairFits}
@@ -34,6 +36,14 @@ length-tables w (l ∷ ls) =
     let s = ap (λ (n : ℕ). 4 * w * n) (sum_by-cons length l ls) in
     let both : length (table_bytes w l ++ flat_map (table_bytes w) ls) ≡ length (table_bytes w l) + length (flat_map (table_bytes w) ls) = length-append (table_bytes w l) (flat_map (table_bytes w) ls) in
     omega (arith, ih, one, s, both)
+
+-- a table with no entries has no bytes to write
+pub nothing_written : (w pos : ℕ) (es : List WordPair) (i : List ℕ → Type 0) → length es ≡ 0 → AfterWrite pos (table_bytes w es) i i
+nothing_written w pos es i none =
+    let l : length (table_bytes w es) ≡ 0 = length-table_bytes w es ∙ ap (λ (n : ℕ). 4 * w * n) none ∙ omega arith in
+    let e : table_bytes w es ≡ [] = nil_from_length (table_bytes w es) l in
+    let same : (a : List ℕ) → overwrite a pos (table_bytes w es) ≡ a = λ a. ap (overwrite a pos) e ∙ overwrite_nothing pos a in
+    record { no_other = λ b is. (b, is, sym (same b)); none_lost = λ a is. subst i (sym (same a)) is }
 
 -- one table more
 pub tables_next : {X : Type 0} (f : X → List WordPair) (w : ℕ) (xs : List X) (i : ℕ) (x : X) → i < length xs → x ≡ get_or xs i x

@@ -28,7 +28,7 @@ fn fill_table_of(slots: &mut [Slot], list: &EntryList)
 }
 
 /// Writes the table of a list's entries at a place, by way of its slots and of its bytes. It takes
-/// no memory.
+/// no memory. A table with no slots isn't written.
 ///
 /// `Device`: the table's bytes may be any, and those before and behind it stay.
 fn write_table<S: Store, L: Width>(
@@ -55,6 +55,9 @@ fn write_table<S: Store, L: Width>(
     ensures memory { IsErrOf result NoMemory → ⊥ }
     ensures cause { HasCause (S.failures store.old) (S.failures store.new) result }
 {
+    if slots.is_empty() {
+        return Ok(());
+    }
     fill_table_of(slots, list);
     encode_slots::<L>(slots, bytes);
     store.write_at(place, bytes)
