@@ -22,6 +22,10 @@ pub on_err : {T E : Type 0} {P Q : Type 0} (r : Result T E) → (P → Q) → On
 on_err (Ok x) f h = tt
 on_err (Err e) f h = f h
 
+pub on_any_ok : {T E : Type 0} {P : Type 0} (r : Result T E) → P → OnOk r P
+on_any_ok (Ok x) h = h
+on_any_ok (Err e) h = tt
+
 pub on_any_err : {T E : Type 0} {P : Type 0} (r : Result T E) → P → OnErr r P
 on_any_err (Ok x) h = tt
 on_any_err (Err e) h = h

@@ -1,10 +1,10 @@
 use Rattle.std.proofs.Common.{arith, inl, inr, ℕ, subst, ◌-◌}
 use Rattle.std.proofs.lemmas.List.{length-map}
-use Rattle.std.proofs.lemmas.Result.{on_ok_weaker}
 use Rattle.cdb_store.specs.Images.{AfterCut, AreSized, KeepsPart}
 use Rattle.cdb_store.proofs.Moves.{kept_torn, kept_cut, kept_same, cut_between, same_refl}
 use Rattle.cdb_form.specs.Format.Pair.{head_size}
 use Rattle.cdb_make.proofs.FinishedFile.{finished, kept_then}
+use Rattle.cdb_make.proofs.Written.{on_any_ok}
 use Rattle.cdb_make.proofs.finish.write_parts.Goals as goal
 
 pub returns-in_err-write_tables-clause-kept : goal.returns-in_err-write_tables-clause-kept
@@ -41,6 +41,5 @@ returns-clause-file g c =
     let sized : AreSized (g.S.Store.size c.args.store.now) (g.S.Store.image c.args.store.now) = record { each = g.met.S.Store.image_size c.args.store.now } in
     let cut : AfterCut c.args.last (g.S.Store.image c.write_pointers.new.store) (g.S.Store.image c.cut.new.self) =
     subst (λ (n : ℕ). AfterCut n (g.S.Store.image c.write_pointers.new.store) (g.S.Store.image c.cut.new.self)) c.in_ok-cut.ensures.ok c.cut.ensures.images in
-    on_ok_weaker c.flush.result
-    (λ settled. finished (simp length-map c.requires.long) c.requires.start c.requires.inside c.requires.last sized c.in_ok-write_tables.ensures.ok c.in_ok-write_pointers.ensures.ok (cut_between (same_refl (g.S.Store.image c.write_pointers.new.store)) cut c.flush.ensures.images))
-    c.flush.ensures.ok
+    on_any_ok c.flush.result
+    (finished (simp length-map c.requires.long) c.requires.start c.requires.inside c.requires.last sized c.in_ok-write_tables.ensures.ok c.in_ok-write_pointers.ensures.ok (cut_between (same_refl (g.S.Store.image c.write_pointers.new.store)) cut c.flush.ensures.images))
