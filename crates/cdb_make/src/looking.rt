@@ -10,6 +10,9 @@ use cdb_store::{Store, StoreFault};
 /// How many bytes of a key are read at once.
 const PIECE: usize = 4096;
 
+/// The longest key for which a piece of this length does.
+const SHORT: usize = 256;
+
 /// The longest header, in bytes.
 const HEADER: usize = 16;
 
@@ -30,7 +33,39 @@ impl From<StoreFault> for LookFault {
     }
 }
 
-/// Whether a key's bytes stand at a place. They are read in pieces.
+/// Whether a key's bytes stand at a place. As many are read at once as a piece has.
+fn is_read_at<S: Store>(
+    store: &mut S,
+    place: u64,
+    key: &[u8],
+    piece: &mut [u8],
+) -> Result<bool, StoreFault>
+    requires piece { 0 < length piece.old }
+    requires inside { place + length key.now ≤ S.size store.old }
+    requires fits { place + length key.now < 2 ^ 63 }
+    ensures same { IfOk result (λ same. TellsSame same place key.now (S.image store.new)) }
+    ensures images { NoNewImage (S.image store.old) (S.image store.new) }
+    ensures size { S.size store.new ≡ S.size store.old }
+    ensures written { S.written store.new ≡ S.written store.old }
+    ensures room { S.room store.old ≤ S.room store.new }
+    ensures failures { S.failures store.old ≤ S.failures store.new }
+    ensures failed { OnErr result (S.failures store.old < S.failures store.new) }
+    ensures memory { IsErrOf result NoMemory → ⊥ }
+{
+    let mut done = 0;
+    while done < key.len() {
+        let n = (key.len() - done).min(piece.len());
+        store.read_at(place + done as u64, &mut piece[..n])?;
+        if piece[..n] != key[done..done + n] {
+            return Ok(false);
+        }
+        done += n;
+    }
+    Ok(true)
+}
+
+/// Whether a key's bytes stand at a place. A piece is zeroed at each call, so short keys have a
+/// short one.
 pub(crate) fn key_is_at<S: Store>(store: &mut S, place: u64, key: &[u8]) -> Result<bool, StoreFault>
     requires inside { place + length key.now ≤ S.size store.old }
     requires fits { place + length key.now < 2 ^ 63 }
@@ -43,17 +78,11 @@ pub(crate) fn key_is_at<S: Store>(store: &mut S, place: u64, key: &[u8]) -> Resu
     ensures failed { OnErr result (S.failures store.old < S.failures store.new) }
     ensures memory { IsErrOf result NoMemory → ⊥ }
 {
-    let mut piece = [0; PIECE];
-    let mut done = 0;
-    while done < key.len() {
-        let n = (key.len() - done).min(PIECE);
-        store.read_at(place + done as u64, &mut piece[..n])?;
-        if piece[..n] != key[done..done + n] {
-            return Ok(false);
-        }
-        done += n;
+    if key.len() <= SHORT {
+        is_read_at(store, place, key, &mut [0; SHORT])
+    } else {
+        is_read_at(store, place, key, &mut [0; PIECE])
     }
-    Ok(true)
 }
 
 /// How many bytes the record at a place takes, where it has this key.

@@ -1,6 +1,6 @@
-use Rattle.std.proofs.Common.{rules, arith, ◌≡◌, length}
+use Rattle.std.proofs.Common.{rules, arith, ◌≡◌, length, length-append, length-drop}
 use Rattle.cdb_make.proofs.Compare.{differs, agrees, read_new, new_trans, agrees_piece, tells_other}
-use Rattle.cdb_make.proofs.looking.key_is_at.Goals as goal
+use Rattle.cdb_make.proofs.looking.is_read_at.Goals as goal
 
 pub returns-then-ne-clause-same : goal.returns-then-ne-clause-same
 returns-then-ne-clause-same g c =
@@ -13,6 +13,7 @@ loop-done-preserved g c =
     let l : length c.read_at.new.into ≡ c.min-n.result = search rules in
     record {
       inside = omega arith;
+      piece = simp (length-append, length-drop) (omega (arith, l, c.loop-done.invariant.piece));
       agrees = agrees_piece c.loop-done.done c.min-n.result c.args.key.now (omega arith) l c.loop-done.invariant.agrees c.in_ok-read_at.ensures.ok (agrees c.min-n.result c.loop-done.done c.read_at.new.into c.loop-done.piece c.args.key.now l c.if-ne.ensures);
       images = new_trans c.loop-done.invariant.images (read_new c.in_ok-read_at.ensures.ok);
       size = omega (arith, c.read_at.ensures.size);

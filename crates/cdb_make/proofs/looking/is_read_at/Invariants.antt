@@ -1,11 +1,12 @@
 use Rattle.std.proofs.Common.{◌-◌, ◌≡◌, ◌≤◌, length, take}
 use Rattle.cdb_make.specs.Looks.{NoNewImage}
 use Rattle.cdb_make.proofs.Compare.{AgreesSoFar}
-use Rattle.cdb_make.proofs.looking.key_is_at.Given as goal
+use Rattle.cdb_make.proofs.looking.is_read_at.Given as goal
 
 abbrev pub invariant-loop-done : goal.invariant-loop-done
 invariant-loop-done g l = record {
   inside : l.done ≤ length l.key;
+  piece : length l.piece ≡ length l.fn.piece;
   agrees : AgreesSoFar l.place (take l.done l.key) (g.S.Store.image l.store);
   images : NoNewImage (g.S.Store.image l.fn.store) (g.S.Store.image l.store);
   size : g.S.Store.size l.store ≡ g.S.Store.size l.fn.store;
