@@ -16,5 +16,13 @@ pub mod Survive
 pub mod ClosedLists
 pub mod Found
 pub mod Whole
+pub mod Entering
+pub mod Added
+pub mod Makers
 pub mod TableBytes
 pub mod FinishedFile
+pub mod ClosedAll
+pub mod Puts
+pub mod Exchanged
+pub mod Replacing
+pub mod Finishes

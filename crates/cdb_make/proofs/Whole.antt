@@ -106,7 +106,7 @@ unfolding table_entries
 rising_table w n rs pos = rising_filter n 0 (entries_from w (head_size w) rs) (rising_lower 0 (head_size w) (entries_from w (head_size w) rs) (omega arith) (rising_entries w (head_size w) pos rs))
 
 -- the sizes of the gaps, and of the records that stay
-gaps_sum : (goes : KeyValue → Bool) (w at : ℕ) (rs : List KeyValue) → sum_by (λ g. g.size) (gaps_by goes w at rs) + sum_by (record_size w) (filter (λ r. not (goes r)) rs) ≡ sum_by (record_size w) rs
+pub gaps_sum : (goes : KeyValue → Bool) (w at : ℕ) (rs : List KeyValue) → sum_by (λ g. g.size) (gaps_by goes w at rs) + sum_by (record_size w) (filter (λ r. not (goes r)) rs) ≡ sum_by (record_size w) rs
 gaps_sum goes w at [] = refl
 gaps_sum goes w at (r ∷ rs) =
     let n : ℕ = record_size w r in
@@ -181,7 +181,7 @@ lists_stay gs ls e = record {
   };
 }
 
-none_goes : (goes : KeyValue → Bool) (w at : ℕ) (rs : List KeyValue) → gaps_by goes w at rs ≡ [] → filter (λ r. not (goes r)) rs ≡ rs
+pub none_goes : (goes : KeyValue → Bool) (w at : ℕ) (rs : List KeyValue) → gaps_by goes w at rs ≡ [] → filter (λ r. not (goes r)) rs ≡ rs
 none_goes goes w at [] e = refl
 none_goes goes w at (r ∷ rs) e =
     let n : ℕ = record_size w r in
@@ -191,7 +191,7 @@ none_goes goes w at (r ∷ rs) e =
     let t : gs ≡ [] → fs ≡ rs = none_goes goes w (at + n) rs in
     elim (goes r) as (λ v. cond v (g ∷ gs) gs ≡ [] → cond (not v) (r ∷ fs) fs ≡ r ∷ rs) [ true ↦ λ h. absurd (omega (arith, ap length h)) | false ↦ λ h. ap (λ v. r ∷ v) (t h) ] e
 
-none_behind : (goes : KeyValue → Bool) (w at : ℕ) (rs : List KeyValue) → gaps_by goes w at rs ≡ [] → behind_first goes rs ≡ []
+pub none_behind : (goes : KeyValue → Bool) (w at : ℕ) (rs : List KeyValue) → gaps_by goes w at rs ≡ [] → behind_first goes rs ≡ []
 none_behind goes w at [] e = refl
 none_behind goes w at (r ∷ rs) e =
     let n : ℕ = record_size w r in

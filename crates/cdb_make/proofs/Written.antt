@@ -101,3 +101,11 @@ record_pieces w r a b old header key value one two three ea eb eh ek ev e₁ e�
     pieces ∙ ap (λ t. old ++ (t ++ key ++ value)) words
     ∙ ap (λ t. old ++ (pair_bytes w (record { first = length r.key; second = length r.value }) ++ t ++ value)) ek
     ∙ ap (λ t. old ++ (pair_bytes w (record { first = length r.key; second = length r.value }) ++ r.key ++ t)) ev
+
+-- a record's three pieces are its bytes
+pub pieces_are : (w : ℕ) (r : KeyValue) (a b : ℕ) (header : List ℕ) → a ≡ length r.key → b ≡ length r.value → header ≡ pair_bytes w (record { first = a; second = b }) → header ++ (r.key ++ r.value) ≡ record_bytes w r
+unfolding record_bytes
+pieces_are w r a b header ea eb eh =
+    sym (append_assoc header r.key r.value)
+    ∙ ap (λ t. t ++ r.key ++ r.value)
+    (eh ∙ ap (λ (n : ℕ). pair_bytes w (record { first = n; second = b })) ea ∙ ap (λ (n : ℕ). pair_bytes w (record { first = length r.key; second = n })) eb)

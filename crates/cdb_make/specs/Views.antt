@@ -3,3 +3,6 @@ pub mod Index
 pub mod Builder
 pub mod MakeFault
 pub mod EntryList
+pub mod Maker
+pub mod Adding
+pub mod Making

@@ -1,6 +1,6 @@
 // The entries of one table, as a maker keeps them.
 ghost use Rattle.std.specs.Prelude.{◌≡◌, ℕ, ◌<◌, ◌≤◌, ◌^◌, [], ◌∷◌, ◌++◌, length, get_or, All};
-ghost use Rattle.std.specs.Prelude.{OnOk, OnErr};
+ghost use Rattle.std.specs.Prelude.{OnOk, OnErr, vec_capacity};
 
 use crate::gap::Gap;
 use crate::repair::close_entries;
@@ -17,6 +17,8 @@ pub(crate) struct EntryList {
     /// Where each record stands, in bytes from the file's start.
     places: Vec<u64>,
     ghost paired: { length hashes.items ≡ length places.items },
+    ghost hash_room: { length hashes.items ≤ vec_capacity hashes },
+    ghost place_room: { length places.items ≤ vec_capacity places },
 }
 
 impl EntryList {

@@ -1,6 +1,6 @@
 // All records of a key, taken out of a store and of the lists: found first, and then closed over.
 ghost use Rattle.std.specs.Prelude.{◌≡◌, ℕ, [], List, ◌+◌, ◌-◌, ◌<◌, ◌≤◌, length, vec_capacity};
-ghost use Rattle.std.specs.Prelude.{IfOk, OnOk, OnErr, IsErrOf};
+ghost use Rattle.std.specs.Prelude.{IfOk, OnOk, OnErr, IsErrOf, sum_by};
 ghost use Rattle.cdb_store.specs.declared.store.StoreFault.TheVariants.{NoMemory};
 ghost use Rattle.cdb_store.specs.Images.{TornWithin, HasCause};
 ghost use Rattle.cdb_store.specs.Laws.{HasNoImage};
@@ -138,6 +138,7 @@ pub(crate) fn close<S: Store, L: Width>(
         → OnOk result (WritesSurvivors L.WORD key rs (S.image store.new)
         (S.written store.old) (S.written store.new)) }
     ensures within { IfOk result (λ last. (head_size L.WORD ≤ last) × (last ≤ end)) }
+    ensures lower { IfOk result (λ last. last + sum_by (λ g. g.size) gaps.now ≡ end) }
     ensures none { gaps.now ≡ [] → result ≡ Ok end }
     ensures none_lists { gaps.now ≡ [] → lists.new ≡ lists.old }
     ensures none_store { gaps.now ≡ [] → store.new ≡ store.old }

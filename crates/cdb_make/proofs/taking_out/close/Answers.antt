@@ -38,6 +38,12 @@ returns-clause-within g c =
     let most : head_size g.L.Width.WORD + sum_by (λ (v : Gap). v.size) c.args.gaps.now ≤ c.args.end = apart_sizes (head_size g.L.Width.WORD) c.args.gaps.now c.args.end c.requires.apart in
     (omega (arith, c.all_sizes.ensures), omega arith)
 
+pub returns-clause-lower : goal.returns-clause-lower
+returns-clause-lower g c =
+    let most : head_size g.L.Width.WORD + sum_by (λ (v : Gap). v.size) c.args.gaps.now ≤ c.args.end = apart_sizes (head_size g.L.Width.WORD) c.args.gaps.now c.args.end c.requires.apart in
+    let size : c.all_sizes.result ≡ sum_by (λ (v : Gap). v.size) c.args.gaps.now = c.all_sizes.ensures in
+    omega arith
+
 pub returns-clause-stands : goal.returns-clause-stands
 returns-clause-stands g c = λ rs key stands found.
     let gs : List Gap = c.args.gaps.now in

@@ -1,0 +1,158 @@
+-- A record in the place of those of its key.
+use Rattle.std.proofs.Common.{◌≡◌, ℕ, zero, suc, ◌+◌, ◌-◌, ◌*◌, ◌<◌, ◌≤◌, ◌⊎◌, inl, inr, Bool, true, false, cond, not, List, [], ◌∷◌, ◌++◌, length, map, get_or, refl, sym, ap, subst, ◌∙◌, arith, sum_by}
+use Rattle.std.specs.Prelude.{All, ◌==◌}
+use Rattle.std.specs.List.{filter, range_with_len, count_by}
+use Rattle.std.proofs.lemmas.List.{get_or-map, nil_from_length, length-map}
+use Rattle.std.proofs.lemmas.List.FromFn.{get_or-map-range_with_len}
+use Rattle.std.proofs.lemmas.List.Elements.{All-filter, All-append, All-cons, All-nil}
+use Rattle.std.proofs.lemmas.List.Sums.{sum_by-cons, length-filter}
+use Rattle.std.proofs.lemmas.List.Filters.{length-filter_both}
+use Rattle.std.proofs.lemmas.Slice.Eq.{bytes_eq-Decides}
+use Rattle.std.proofs.lemmas.Bool.Decides.{nat_tests}
+use Rattle.cdb_store.specs.declared.store.Store.{Ghosts}
+use Rattle.cdb_store.specs.Laws.{HasNoImage}
+use Rattle.cdb_form.specs.declared.width.Width.{Ghosts as Widths}
+use Rattle.cdb_form.specs.Format.Hash.{key_hash, table_number}
+use Rattle.cdb_form.specs.Format.Pair.{WordPair, head_size}
+use Rattle.cdb_form.specs.Format.Record.{KeyValue, IsRecord, record_size, records_end}
+use Rattle.cdb_form.specs.Format.File.{file_size, whole_size}
+use Rattle.cdb_form.specs.Format.Table.{entries_from, in_table, table_entries}
+use Rattle.cdb_form.proofs.Sizes.{size_split}
+use Rattle.cdb_make.specs.declared.fault.MakeFault.{MakeFault}
+use Rattle.cdb_make.specs.declared.fault.MakeFault.TheVariants.{Broken, Lookup, TooBig, NoMemory, Writing}
+use Rattle.cdb_make.specs.declared.gap.Gap.{Gap}
+use Rattle.cdb_make.specs.declared.list.EntryList.{EntryList}
+use Rattle.cdb_make.specs.declared.maker.Maker.{Maker}
+use Rattle.cdb_make.specs.declared.mode.Mode.TheVariants.{Replace}
+use Rattle.cdb_make.specs.declared.mode.Put.{Put}
+use Rattle.cdb_make.specs.declared.mode.Put.TheVariants.{Added, Replaced}
+use Rattle.cdb_make.specs.Stands.{Tells, Stands, AreGapsOf, WritesSurvivors, gaps_of}
+use Rattle.cdb_make.specs.Survivors.{has_key, is_there, count_of, without, behind_first, put_list, put_answer}
+use Rattle.cdb_make.specs.Views.Adding.{AddFails}
+use Rattle.cdb_make.specs.Views.EntryList.{list_entries, lists_entries, list_room, entry_count, entry_room, AreClosed, HasSpareGaps}
+use Rattle.cdb_make.specs.Views.Maker.{Holds, HoldsIn, WhereHonest, ComesFrom, StaysWhole, WritesNothing, HasStoreFailed, IsBroken, IsTorn, Exchanges, FailsClosing, Puts, FailsPutting, put_bytes, made_size}
+use Rattle.cdb_make.proofs.EntryLists.{size_push}
+use Rattle.cdb_make.proofs.Found.{some_gap, length-gaps_by}
+use Rattle.cdb_make.proofs.Makers.{held_stand, held_count, held_size, found_there, honest_comes}
+use Rattle.cdb_make.proofs.Puts.{JustAdds, comes_then, stays_then, writes_then}
+use Rattle.cdb_make.proofs.Sides.{length-entries_of}
+use Rattle.cdb_make.proofs.Whole.{count_found, gaps_sum, none_goes, none_behind}
+
+-- how many records have a test, by their hashes
+entries_counted : (w n at : ℕ) (rs : List KeyValue) → length (filter (in_table n) (entries_from w at rs)) ≡ length (filter (λ r. table_number (key_hash r.key) == n) rs)
+unfolding entries_from
+entries_counted w n at [] = refl
+entries_counted w n at (r ∷ rs) =
+    let t = entries_counted w n (at + record_size w r) rs in
+    let e : WordPair = record { first = key_hash r.key; second = at } in
+    elim (table_number (key_hash r.key) == n) as (λ v. length (cond v (e ∷ filter (in_table n) (entries_from w (at + record_size w r) rs)) (filter (in_table n) (entries_from w (at + record_size w r) rs)))
+    ≡ length (cond v (r ∷ filter (λ r. table_number (key_hash r.key) == n) rs) (filter (λ r. table_number (key_hash r.key) == n) rs))) [ true ↦ ap suc t | false ↦ t ]
+
+-- a test that all that go have
+fewer_left : (goes picks : KeyValue → Bool) → ((r : KeyValue) → goes r ≡ true → picks r ≡ true) → (rs : List KeyValue)
+    → length (filter picks (filter (λ r. not (goes r)) rs)) + count_by goes rs ≡ length (filter picks rs)
+fewer_left goes picks all [] = refl
+fewer_left goes picks all (r ∷ rs) =
+    let t = fewer_left goes picks all rs in
+    let fs : List KeyValue = filter (λ r. not (goes r)) rs in
+    let s : count_by goes (r ∷ rs) ≡ cond (goes r) 1 0 + count_by goes rs = sum_by-cons (λ x. cond (goes x) 1 0) r rs in
+    let here : (b : Bool) → goes r ≡ b → length (filter picks (cond (not b) (r ∷ fs) fs)) + (cond b 1 0 + count_by goes rs) ≡ length (filter picks (r ∷ rs)) =
+    λ b. elim b as (λ b. goes r ≡ b → length (filter picks (cond (not b) (r ∷ fs) fs)) + (cond b 1 0 + count_by goes rs) ≡ length (filter picks (r ∷ rs))) [
+      | true ↦ λ e. (let p : picks r ≡ true = all r e in
+          let q : length (filter picks (r ∷ rs)) ≡ suc (length (filter picks rs)) = ap (λ (v : Bool). length (cond v (r ∷ filter picks rs) (filter picks rs))) p in omega arith)
+      | false ↦ λ e. elim (picks r) as (λ v. length (cond v (r ∷ filter picks fs) (filter picks fs)) + (0 + count_by goes rs) ≡ length (cond v (r ∷ filter picks rs) (filter picks rs))) [ true ↦ omega arith | false ↦ omega arith ]
+    ] in
+    ap (λ (n : ℕ). length (filter picks (filter (λ r. not (goes r)) (r ∷ rs))) + n) s ∙ here (goes r) refl
+
+-- without the records of a key their table has fewer entries
+pub table_fewer : (w h : ℕ) (k : List ℕ) (rs : List KeyValue) → h ≡ key_hash k → length (table_entries w (without k rs) (table_number h)) + count_of k rs ≡ length (table_entries w rs (table_number h))
+unfolding table_entries
+table_fewer w h k rs hashed =
+    let n : ℕ = table_number h in
+    let picks : KeyValue → Bool = λ r. table_number (key_hash r.key) == n in
+    let all : (r : KeyValue) → has_key k r ≡ true → picks r ≡ true = λ r e.
+    let same : r.key ≡ k = (bytes_eq-Decides r.key k).0 e in
+    let number : table_number (key_hash r.key) ≡ n = ap (λ v. table_number (key_hash v)) same ∙ ap table_number (sym hashed) in
+    grind (arith, nat_tests) in
+    ap (λ (v : ℕ). v + count_of k rs) (entries_counted w n (head_size w) (without k rs)) ∙ fewer_left (has_key k) picks all rs ∙ sym (entries_counted w n (head_size w) rs)
+
+-- a list holds no more than it has room for
+list_within : (l : EntryList) → length (list_entries l) ≤ list_room l
+list_within l = omega (arith, length-entries_of l.hashes.items l.places.items l.paired, l.paired, l.hash_room, l.place_room)
+
+first_of : (ls : List EntryList) → 0 < length ls → EntryList
+first_of [] h = absurd (omega arith)
+first_of (l ∷ ls) h = l
+
+-- where an entry of a key was taken out, its list has room for one more
+pub room_left : {w end last h room : ℕ} (k : List ℕ) {gs : List Gap} {ls ls₁ : List EntryList} {rs : List KeyValue} (a b : List ℕ) → length ls ≡ 256 → h ≡ key_hash k → AreClosed gs ls ls₁
+    → Tells w end (lists_entries ls) rs a → Tells w last (lists_entries ls₁) (without k rs) b → 0 < count_of k rs → HasSpareGaps (lists_entries ls) room
+    → (entry_room ls₁ h ≤ entry_count ls₁ h) ⊎ (room ≤ entry_count ls₁ h) → ⊥
+room_left {w = w} {h = h} {room = room} k {ls = ls} {ls₁ = ls₁} {rs = rs} a b long hashed closed was now some spare full =
+    let n : ℕ = table_number h in
+    let lt : n < length ls = omega arith in
+    let d : EntryList = first_of ls (omega arith) in
+    let at : entry_count ls h ≡ length (table_entries w rs n) = ap (λ v. length (get_or v n [])) was.entries ∙ ap length (get_or-map-range_with_len (table_entries w rs) 0 256 n n [] (omega arith) (omega arith)) in
+    let at₁ : entry_count ls₁ h ≡ length (table_entries w (without k rs) n) =
+    ap (λ v. length (get_or v n [])) now.entries ∙ ap length (get_or-map-range_with_len (table_entries w (without k rs)) 0 256 n n [] (omega arith) (omega arith)) in
+    let fewer = table_fewer w h k rs hashed in
+    let one = closed.each n d lt in
+    let count : entry_count ls h ≡ length (list_entries (get_or ls n d)) = ap length (get_or-map list_entries ls n d [] lt) in
+    let rooms : entry_room ls₁ h ≡ list_room (get_or ls₁ n d) = get_or-map list_room ls₁ n d 0 (omega (arith, closed.long)) in
+    let most : length (get_or (lists_entries ls) n []) ≤ room = spare n [] (omega (arith, length-map ls list_entries)) in
+    let within = list_within (get_or ls n d) in
+    elim full [ inl f ↦ omega (arith, one.room) | inr f ↦ omega arith ]
+
+-- the size and the count of what is left, and of one record more
+pub exchange_within : (w end last sum size count taken limit : ℕ) → (w ≡ 4) ⊎ (w ≡ 8) → taken ≤ count → last + sum ≡ end → end + 4 * w * count + (size + 4 * w) ≤ limit + sum + 4 * w * taken
+    → last + size + 4 * w * (count - taken + 1) ≤ limit
+exchange_within w end last sum size count taken limit (inl e) few low fits =
+    let a : 4 * w * count ≡ 16 * count = ap (λ (v : ℕ). 4 * v * count) e in
+    let b : 4 * w * taken ≡ 16 * taken = ap (λ (v : ℕ). 4 * v * taken) e in
+    let c : 4 * w * (count - taken + 1) ≡ 16 * (count - taken + 1) = ap (λ (v : ℕ). 4 * v * (count - taken + 1)) e in
+    omega arith
+exchange_within w end last sum size count taken limit (inr e) few low fits =
+    let a : 4 * w * count ≡ 32 * count = ap (λ (v : ℕ). 4 * v * count) e in
+    let b : 4 * w * taken ≡ 32 * taken = ap (λ (v : ℕ). 4 * v * taken) e in
+    let c : 4 * w * (count - taken + 1) ≡ 32 * (count - taken + 1) = ap (λ (v : ℕ). 4 * v * (count - taken + 1)) e in
+    omega arith
+
+-- the record stands behind those of other keys
+pub exchanged : {S L : Type 0} {s : Ghosts S} {l : Widths L} (old new : Maker S L s l) (r : KeyValue) (between : List ℕ → Type 0) (written : ℕ) → IsRecord r → new.broken ≡ false
+    → ((rs : List KeyValue) → Holds old rs → AreGapsOf l.WORD r.key old.gaps.items rs (s.image old.store) → Stands l.WORD new.end (lists_entries new.lists.items) (without r.key rs ++ r ∷ []) (s.image new.store))
+    → ((rs : List KeyValue) → Holds old rs → AreGapsOf l.WORD r.key old.gaps.items rs (s.image old.store) → WritesSurvivors l.WORD r.key rs between (s.written old.store) written)
+    → s.written new.store ≡ written + record_size l.WORD r → ComesFrom (s.image old.store) between → ComesFrom between (s.image new.store) → Exchanges old new r
+exchanged {s = s} {l = l} old new r between written is_record whole stands writes more comes₀ comes₁ = record {
+  whole = whole;
+  holds = λ rs h found. record {
+    whole = whole;
+    each = λ b is.
+        let a = (comes_then comes₀ comes₁).each b is in
+        let o : HoldsIn old rs a.0 = h.each a.0 a.1 in
+        record {
+          are = All-append IsRecord (without r.key rs) (r ∷ []) (All-filter (λ v. not (has_key r.key v)) IsRecord rs o.are) (All-cons IsRecord r [] is_record (All-nil IsRecord));
+          stand = (stands rs h found).each b is;
+        };
+  };
+  written = λ rs h found. record {
+    each = λ b is.
+        let a = comes₁.each b is in
+        let k = (writes rs h found).each a.0 a.1 in
+        omega arith;
+  };
+}
+
+abbrev IsWriting : MakeFault → Type 0
+IsWriting Writing = Unit {0}
+IsWriting fault = ⊥
+
+-- why memory was wanted
+pub add_wants : (written written₁ failures failures₁ : ℕ) (full past : Type 0) (fault : MakeFault) → fault ≡ NoMemory → AddFails written written₁ failures failures₁ full past fault → full ⊎ past
+add_wants a b c d full past NoMemory e fails = fails.1
+add_wants a b c d full past Broken e fails = absurd fails
+add_wants a b c d full past Lookup e fails = absurd fails
+add_wants a b c d full past TooBig e fails = absurd fails
+add_wants a b c d full past Writing e fails = absurd (subst IsWriting e tt)
+
+pub room_same : {A : Type 0} {n : ℕ} (old new : ℕ) → new ≡ old → A ⊎ (new ≤ n) → A ⊎ (old ≤ n)
+room_same {A = A} {n = n} old new e full = subst (λ (v : ℕ). A ⊎ (v ≤ n)) e full

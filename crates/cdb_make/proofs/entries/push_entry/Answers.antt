@@ -1,0 +1,9 @@
+use Rattle.std.proofs.Common.{◌≡◌, ℕ, ap, ◌∙◌, arith}
+use Rattle.cdb_form.specs.Format.Hash.{table_number}
+use Rattle.cdb_make.proofs.Entering.{list_added}
+use Rattle.cdb_make.proofs.entries.push_entry.Goals as goal
+
+pub returns-clause-entries : goal.returns-clause-entries
+returns-clause-entries c =
+    list_added c.args.lists.now.items (record { first = c.args.hash; second = c.args.place }) c.table_number.result c.index_mut.result.now c.push.new.self
+    (c.table_number.ensures.number ∙ ap table_number c.from.ensures) (omega (arith, c.table_number.ensures.within, c.requires.all)) c.index_mut.ensures.value c.push.ensures.entries

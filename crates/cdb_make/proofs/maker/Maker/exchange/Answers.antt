@@ -1,0 +1,47 @@
+use Rattle.std.proofs.Common.{arith, refl, sym, ap, subst, ◌∙◌, ◌≡◌, ◌+◌, ◌-◌, ◌<◌, ◌≤◌, ◌++◌, ◌*◌, ◌⊎◌, ℕ, List, [], ◌∷◌, length, sum_by, vec_capacity, inl, inr}
+use Rattle.std.proofs.lemmas.Result.{err_from_is_err_and}
+use Rattle.cdb_form.specs.Format.Record.{KeyValue, record_size}
+use Rattle.cdb_make.specs.declared.gap.Gap.{Gap}
+use Rattle.cdb_make.specs.Stands.{Stands, AreGapsOf}
+use Rattle.cdb_make.specs.Survivors.{without, has_key, count_of}
+use Rattle.cdb_make.specs.Views.EntryList.{lists_entries, AreWithin}
+use Rattle.cdb_make.specs.Views.Maker.{Holds, ComesFrom}
+use Rattle.cdb_make.proofs.Exchanged.{exchanged, exchange_within, room_left, add_wants, room_same}
+use Rattle.cdb_make.proofs.Makers.{comes_torn}
+use Rattle.cdb_make.proofs.Puts.{comes_then}
+use Rattle.cdb_make.proofs.Whole.{count_found}
+use Rattle.cdb_make.proofs.maker.Maker.exchange.Goals as goal
+
+pub returns-in_err-last-clause-fails : goal.returns-in_err-last-clause-fails
+returns-in_err-last-clause-fails g c =
+    let p = err_from_is_err_and c.from_residual.result c.from_residual.ensures.1 in
+    rw (p.1, p.2) (c.in_err-last.ensures.fails c.args.key.now)
+
+pub returns-in-Ok-clause-ok : goal.returns-in-Ok-clause-ok
+returns-in-Ok-clause-ok g c =
+    let e = c.in_ok-last.ensures in
+    exchanged {s = g.S.Store} {l = g.L.Width} _ _ (record { key = c.args.key.now; value = c.args.value.now }) (g.S.Store.image c.take_out.new.self.store) _
+    (record { key = λ k. omega (arith, c.type_inv.key k); value = λ k. omega (arith, c.type_inv.value k) }) refl
+    (λ rs h found. c.in-Ok.ensures.stands (without c.args.key.now rs) (e.stands rs c.args.key.now h found))
+    (λ rs h found. e.written rs c.args.key.now h found)
+    c.in-Ok.ensures.written (comes_torn c.take_out.ensures.torn) c.add.ensures.comes
+
+pub returns-in-Ok-clause-comes : goal.returns-in-Ok-clause-comes
+returns-in-Ok-clause-comes g c = comes_then (comes_torn c.take_out.ensures.torn) c.add.ensures.comes
+
+pub returns-in-Err-NoMemory-clause-fails : goal.returns-in-Err-NoMemory-clause-fails
+returns-in-Err-NoMemory-clause-fails g c = λ rs h found b is.
+    let w : ℕ = g.L.Width.WORD in
+    let m = c.args.self.now in
+    let r : KeyValue = record { key = c.args.key.now; value = c.args.value.now } in
+    let e = c.in_ok-last.ensures in
+    let z = c.add.ensures.comes.each b is in
+    let a = (comes_torn c.take_out.ensures.torn).each z.0 z.1 in
+    let was = (h.each a.0 a.1).stand in
+    let now = (e.stands rs c.args.key.now h found).each z.0 z.1 in
+    let some : 0 < count_of c.args.key.now rs = omega (arith, (count_found found).each a.0 a.1, c.requires.some) in
+    let why = add_wants _ _ _ _ _ _ c.in-Err-NoMemory.field-0 c.in-Err-NoMemory.field-0-is c.in-Err-NoMemory.ensures.fails in
+    elim why [
+      | inl full ↦ room_left c.args.key.now a.0 z.0 m.all c.hash.ensures e.lists was now some m.spare (room_same _ _ (ap (λ v. vec_capacity v) c.take_out.ensures.gaps) full)
+      | inr past ↦ omega (arith, past, c.requires.room, e.end, c.take_out.ensures.room)
+    ]

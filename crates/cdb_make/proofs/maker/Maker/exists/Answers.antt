@@ -1,0 +1,14 @@
+use Rattle.std.proofs.Common.{refl, ap, ◌∙◌, ◌≡◌, ◌<◌, Err, ℕ, List, sym, subst}
+use Rattle.std.proofs.lemmas.Result.{IfOk-weaker}
+use Rattle.cdb_make.proofs.Makers.{writes_looked, fails_looked}
+use Rattle.cdb_make.proofs.maker.Maker.exists.Goals as goal
+
+pub returns-in-Ok-clause-ok : goal.returns-in-Ok-clause-ok
+returns-in-Ok-clause-ok g c = writes_looked c.if-self.false c.if-self.false refl refl c.exists.ensures.images c.exists.ensures.written
+
+pub returns-in-Err-clause-fails : goal.returns-in-Err-clause-fails
+returns-in-Err-clause-fails g c =
+    let e = c.failed_look.ensures in
+    let f = c.in-Err.fault in
+    fails_looked {s = g.S.Store} {l = g.L.Width} _ _ c.exists.new.store c.deref.result.now f _ c.deref.ensures.value e.fault c.if-self.false e.broken e.counts.end e.lists e.store c.exists.ensures.images c.exists.ensures.written
+    (λ h. c.exists.ensures.failed (c.in-Err.is ∙ ap Err h)) (λ h. c.exists.ensures.foreign (c.in-Err.is ∙ ap Err h))

@@ -1,0 +1,14 @@
+use Rattle.std.proofs.Common.{arith, refl, ap, ◌∙◌, ◌≡◌, Err}
+use Rattle.std.proofs.lemmas.Result.{on_ok_weaker}
+use Rattle.cdb_make.proofs.Finishes.{is_file, fails_finishing, on_fault_is}
+use Rattle.cdb_make.proofs.maker.Maker.finish_store.Goals as goal
+
+pub returns-clause-file : goal.returns-clause-file
+returns-clause-file g c = λ rs h. on_ok_weaker c.finish.result (λ finished. is_file {s = g.S.Store} {l = g.L.Width} c.args.self.now rs c.deref.result.now c.deref.ensures.value h finished) c.finish.ensures.file
+
+pub returns-clause-fails : goal.returns-clause-fails
+returns-clause-fails g c =
+    let e = c.finish.ensures in
+    on_fault_is c.finish.result
+    (λ f is which. fails_finishing {s = g.S.Store} {l = g.L.Width} _ _ f c.if-self.false c.if-self.false refl refl refl refl e.kept (λ n. e.memory_written (is ∙ ap Err n)) (λ n. e.failed (is ∙ ap Err n)) which)
+    e.faults

@@ -1,0 +1,106 @@
+use Rattle.std.proofs.Common.{arith, refl, sym, ap, subst, ◌∙◌, ◌≡◌, ◌+◌, ◌-◌, ◌*◌, ◌<◌, ◌≤◌, ◌^◌, ℕ, List, [], ◌∷◌, length, sum_by}
+use Rattle.std.proofs.lemmas.List.{nil_from_length}
+use Rattle.std.proofs.lemmas.Result.{err_from_is_err_and}
+use Rattle.cdb_form.specs.Format.Pair.{head_size}
+use Rattle.cdb_form.specs.Format.Record.{KeyValue, record_size}
+use Rattle.cdb_make.specs.declared.gap.Gap.{Gap}
+use Rattle.cdb_make.specs.declared.mode.Mode.TheVariants.{Replace}
+use Rattle.cdb_make.specs.declared.mode.Put.TheVariants.{Added}
+use Rattle.cdb_make.specs.Gaps.{AreApart}
+use Rattle.cdb_make.proofs.Merge.{apart_lower}
+use Rattle.cdb_make.proofs.Picking.{apart_higher}
+use Rattle.cdb_make.proofs.Whole.{apart_sizes}
+use Rattle.cdb_make.proofs.Makers.{writes_looked}
+use Rattle.cdb_make.proofs.Puts.{puts_added, fails_added, comes_same, writes_then}
+use Rattle.cdb_make.proofs.Replacing.{just_replace, fewer_bytes, wants_memory, fails_too_big, fails_wanting, fails_exchange, puts_exchanged, gaps_same}
+use Rattle.cdb_make.proofs.maker.Maker.replace.Goals as goal
+
+pub returns-in_err-add-clause-fails : goal.returns-in_err-add-clause-fails
+returns-in_err-add-clause-fails g c =
+    let p = err_from_is_err_and c.from_residual-in_err-add.result c.from_residual-in_err-add.ensures.1 in
+    let e = c.in_ok-taken.ensures in
+    let none : c.find.new.self.gaps.items ≡ [] = nil_from_length c.find.new.self.gaps.items (omega (arith, e.count, c.if-taken-eq0.true)) in
+    rw (p.1, p.2) (fails_added {s = g.S.Store} {l = g.L.Width} _ c.find.new.self _ Replace _ Added _ e.ok c.find.ensures.counts.limit c.find.ensures.failures c.add.ensures.comes (λ rs h. just_replace rs _ none (e.gaps rs h)) c.in_err-add.ensures.fails)
+
+pub returns-then-taken-eq0-clause-puts : goal.returns-then-taken-eq0-clause-puts
+returns-then-taken-eq0-clause-puts g c =
+    let e = c.in_ok-taken.ensures in
+    let none : c.find.new.self.gaps.items ≡ [] = nil_from_length c.find.new.self.gaps.items (omega (arith, e.count, c.if-taken-eq0.true)) in
+    puts_added {s = g.S.Store} {l = g.L.Width} _ c.find.new.self _ Replace _ Added e.ok c.in_ok-add.ensures.ok (λ rs h. just_replace rs _ none (e.gaps rs h))
+
+pub all_sizes-gone-requires : goal.all_sizes-gone-requires
+all_sizes-gone-requires g c =
+    let m = c.find.new.self in
+    let at : ℕ = head_size g.L.Width.WORD in
+    let apart : AreApart 0 m.gaps.items (2 ^ 63) =
+    apart_lower 0 at m.gaps.items (2 ^ 63) (omega arith) (apart_higher at m.end (2 ^ 63) m.gaps.items (omega (arith, m.within, m.limited, g.met.L.Width.greatest_fits.1)) c.in_ok-taken.ensures.apart) in
+    subst (λ (v : List Gap). AreApart 0 v (2 ^ 63)) (sym c.deref.ensures.value) apart
+
+pub overflow_sub-left : goal.overflow_sub-left
+overflow_sub-left g c =
+    let m = c.find.new.self in
+    let sum : c.all_sizes-gone.result ≡ sum_by (λ (v : Gap). v.size) m.gaps.items = c.all_sizes-gone.ensures ∙ ap (sum_by (λ (v : Gap). v.size)) c.deref.ensures.value in
+    let most = apart_sizes (head_size g.L.Width.WORD) m.gaps.items m.end c.in_ok-taken.ensures.apart in
+    omega (arith, c.size.ensures.is)
+
+pub overflow_sub-left-2 : goal.overflow_sub-left-2
+overflow_sub-left-2 g c =
+    let m = c.find.new.self in
+    let w : ℕ = g.L.Width.WORD in
+    let t : ℕ = c.in_ok-taken.taken in
+    let sum : c.all_sizes-gone.result ≡ sum_by (λ (v : Gap). v.size) m.gaps.items = c.all_sizes-gone.ensures ∙ ap (sum_by (λ (v : Gap). v.size)) c.deref.ensures.value in
+    let most = apart_sizes (head_size w) m.gaps.items m.end c.in_ok-taken.ensures.apart in
+    let n : 2 * c.pair_size.result ≡ 4 * w = omega (arith, c.pair_size.ensures) in
+    let p : 2 * c.pair_size.result * t ≡ 4 * w * t = ap (λ (v : ℕ). v * t) n in
+    let few = fewer_bytes w t m.count g.met.L.Width.four_or_eight c.in_ok-taken.ensures.few in
+    omega (arith, c.size.ensures.is)
+
+pub returns-then-not-has_room-clause-fails : goal.returns-then-not-has_room-clause-fails
+returns-then-not-has_room-clause-fails g c =
+    let m = c.find.new.self in
+    let e = c.in_ok-taken.ensures in
+    let w : ℕ = g.L.Width.WORD in
+    let t : ℕ = c.in_ok-taken.taken in
+    let sum : c.all_sizes-gone.result ≡ sum_by (λ (v : Gap). v.size) m.gaps.items = c.all_sizes-gone.ensures ∙ ap (sum_by (λ (v : Gap). v.size)) c.deref.ensures.value in
+    let most = apart_sizes (head_size w) m.gaps.items m.end e.apart in
+    let n : 2 * c.pair_size.result ≡ 4 * w = omega (arith, c.pair_size.ensures) in
+    let p : 2 * c.pair_size.result * t ≡ 4 * w * length m.gaps.items = ap (λ (v : ℕ). v * t) n ∙ ap (λ (v : ℕ). 4 * w * v) e.count in
+    let q : 4 * w * t ≡ 4 * w * length m.gaps.items = ap (λ (v : ℕ). 4 * w * v) e.count in
+    let few = fewer_bytes w t m.count g.met.L.Width.four_or_eight e.few in
+    fails_too_big {s = g.S.Store} {l = g.L.Width} _ m _ _ e.ok c.find.ensures.counts.limit e.gaps (omega (arith, c.size.ensures.is)) (c.if-not-has_room.ensures.none refl)
+
+pub overflow_sub-self : goal.overflow_sub-self
+overflow_sub-self g c =
+    let m = c.find.new.self in
+    let sum : c.all_sizes-gone.result ≡ sum_by (λ (v : Gap). v.size) m.gaps.items = c.all_sizes-gone.ensures ∙ ap (sum_by (λ (v : Gap). v.size)) c.deref.ensures.value in
+    let most = apart_sizes (head_size g.L.Width.WORD) m.gaps.items m.end c.in_ok-taken.ensures.apart in
+    omega arith
+
+pub returns-in_err-reserve-clause-fails : goal.returns-in_err-reserve-clause-fails
+returns-in_err-reserve-clause-fails g c =
+    let p = err_from_is_err_and c.from_residual-in_err-reserve.result c.from_residual-in_err-reserve.ensures.1 in
+    let m = c.find.new.self in
+    let e = c.in_ok-taken.ensures in
+    let sum : c.all_sizes-gone.result ≡ sum_by (λ (v : Gap). v.size) m.gaps.items = c.all_sizes-gone.ensures ∙ ap (sum_by (λ (v : Gap). v.size)) c.deref.ensures.value in
+    let most = apart_sizes (head_size g.L.Width.WORD) m.gaps.items m.end e.apart in
+    let fault = wants_memory c.in_err-reserve.field-0.0 c.in_err-reserve.ensures.device in
+    rw (p.1, p.2, fault)
+    (fails_wanting {s = g.S.Store} {l = g.L.Width} _ m _ _ (m.end - c.all_sizes-gone.result) e.ok (writes_looked e.ok.stays.whole e.ok.stays.whole refl refl (record { no_other = c.reserve.ensures.images.no_other }) c.reserve.ensures.written)
+    c.find.ensures.room e.gaps (omega arith) (omega (arith, c.in_err-reserve.ensures.past_room, c.pair_size-2.ensures)) (comes_same c.reserve.ensures.images))
+
+pub returns-in_err-exchange-clause-fails : goal.returns-in_err-exchange-clause-fails
+returns-in_err-exchange-clause-fails g c =
+    let p = err_from_is_err_and c.from_residual-in_err-exchange.result c.from_residual-in_err-exchange.ensures.1 in
+    let m = c.find.new.self in
+    let e = c.in_ok-taken.ensures in
+    let more = writes_looked e.ok.stays.whole e.ok.stays.whole refl refl (record { no_other = c.reserve.ensures.images.no_other }) c.reserve.ensures.written in
+    rw (p.1, p.2)
+    (fails_exchange {s = g.S.Store} {l = g.L.Width} _ _ _ _ _ (writes_then _ m _ e.ok more) (omega (arith, c.find.ensures.failures, c.reserve.ensures.failures)) (λ rs h. gaps_same c.reserve.ensures.images (e.gaps rs h))
+    (omega (arith, c.if-taken-eq0.false, e.count)) c.in_err-exchange.ensures.broken c.exchange.ensures.comes c.in_err-exchange.ensures.fails)
+
+pub returns-clause-puts : goal.returns-clause-puts
+returns-clause-puts g c =
+    let m = c.find.new.self in
+    let e = c.in_ok-taken.ensures in
+    let more = writes_looked e.ok.stays.whole e.ok.stays.whole refl refl (record { no_other = c.reserve.ensures.images.no_other }) c.reserve.ensures.written in
+    puts_exchanged {s = g.S.Store} {l = g.L.Width} _ _ _ _ _ (writes_then _ m _ e.ok more) (λ rs h. gaps_same c.reserve.ensures.images (e.gaps rs h)) e.count (omega (arith, c.if-taken-eq0.false)) c.exchange.ensures.comes c.in_ok-exchange.ensures.ok

@@ -1,0 +1,221 @@
+-- What a maker holds, and what its calls leave.
+use Rattle.std.specs.Prelude.{ℕ, ◌≡◌, ◌+◌, ◌*◌, ◌<◌, ◌≤◌, ◌⊎◌, Bool, true, false, cond, List, [], ◌∷◌, ◌++◌, All}
+use Rattle.std.specs.Prelude.{sum_by, ◌≢◌}
+use Rattle.cdb_store.specs.declared.store.Store.{Ghosts}
+use Rattle.cdb_store.specs.Laws.{HasNoImage}
+use Rattle.cdb_form.specs.declared.width.Width.{Ghosts as Widths}
+use Rattle.cdb_form.specs.Format.File.{file_size, whole_size, file_bytes}
+use Rattle.cdb_form.specs.Format.Record.{KeyValue, IsRecord, record_size, records_end}
+use Rattle.cdb_make.specs.declared.fault.MakeFault.{MakeFault}
+use Rattle.cdb_make.specs.declared.fault.MakeFault.TheVariants.{Broken, Lookup, TooBig, NoMemory}
+use Rattle.cdb_make.specs.declared.fault.MakeFault.TheVariants.{Writing}
+use Rattle.cdb_make.specs.declared.maker.Maker.{Maker}
+use Rattle.cdb_make.specs.declared.mode.Mode.{Mode}
+use Rattle.cdb_make.specs.declared.mode.Mode.TheVariants.{Add, Warn, Insert, Replace}
+use Rattle.cdb_make.specs.declared.mode.Put.{Put}
+use Rattle.cdb_make.specs.declared.looking.LookFault.{LookFault}
+use Rattle.cdb_make.specs.declared.looking.LookFault.TheVariants.{Failed, Foreign}
+use Rattle.cdb_make.specs.Stands.{Tells, AreGapsOf}
+use Rattle.cdb_make.specs.Survivors.{has_key, is_there, count_of, without, behind_first, put_list}
+use Rattle.cdb_make.specs.Survivors.{put_answer}
+use Rattle.cdb_make.specs.Views.EntryList.{lists_entries}
+
+-- this holds where some byte list is an image
+pub record WhereHonest (images : List ℕ → Type 0) (P : Type 0) : Type 0 where
+  pub each : (b : List ℕ) → images b → P
+
+-- every image of a store was one before, or is made of one
+pub record ComesFrom (old new : List ℕ → Type 0) : Type 0 where
+  pub each : (b : List ℕ) → new b → (a : List ℕ) × old a
+
+-- the greatest size that its file may have, and the size that it would have now
+abbrev pub limit_of : {S L : Type 0} {s : Ghosts S} {l : Widths L} → Maker S L s l → ℕ
+limit_of m = m.limit
+
+abbrev pub made_size : {S L : Type 0} {s : Ghosts S} {l : Widths L} → Maker S L s l → ℕ
+made_size {l = l} m = m.end + 4 * l.WORD * m.count
+
+-- in an image it holds these records, from behind the head on and nowhere else
+pub record HoldsIn {S L : Type 0} {s : Ghosts S} {l : Widths L} (m : Maker S L s l)
+    (rs : List KeyValue) (b : List ℕ) : Type 0 where
+  pub are : All IsRecord rs
+  pub stand : Tells l.WORD m.end (lists_entries m.lists.items) rs b
+
+-- it is whole, and holds these records in each image
+pub record Holds {S L : Type 0} {s : Ghosts S} {l : Widths L} (m : Maker S L s l)
+    (rs : List KeyValue) : Type 0 where
+  pub whole : m.broken ≡ false
+  pub each : (b : List ℕ) → s.image m.store b → HoldsIn m rs b
+
+-- it stays whole, and holds what it held
+pub record StaysWhole {S L : Type 0} {s : Ghosts S} {l : Widths L} (old new : Maker S L s l)
+    : Type 0 where
+  pub was : old.broken ≡ false
+  pub whole : new.broken ≡ false
+  pub holds : (rs : List KeyValue) → Holds old rs → Holds new rs
+
+-- nothing was written
+pub record WritesNothing {S L : Type 0} {s : Ghosts S} {l : Widths L} (old new : Maker S L s l)
+    : Type 0 where
+  pub stays : StaysWhole old new
+  pub written : s.written new.store ≡ s.written old.store
+
+-- its store failed
+abbrev pub HasStoreFailed : {S L : Type 0} {s : Ghosts S} {l : Widths L} → Maker S L s l
+    → Maker S L s l → Type 0
+HasStoreFailed {s = s} old new = s.failures old.store < s.failures new.store
+
+-- it is broken, since it was or since its store has given back other bytes than it was told to
+-- write
+pub record IsBroken {S L : Type 0} {s : Ghosts S} {l : Widths L} (old new : Maker S L s l)
+    : Type 0 where
+  pub broken : new.broken ≡ true
+  pub same : old.broken ≡ true → new ≡ old
+  pub cause : (rs : List KeyValue) → Holds old rs → HasNoImage (s.image new.store)
+
+-- it is broken, since its store failed amid a move that takes out the records of a key
+pub record IsTorn {S L : Type 0} {s : Ghosts S} {l : Widths L} (old new : Maker S L s l)
+    (key : List ℕ) : Type 0 where
+  pub was : old.broken ≡ false
+  pub broken : new.broken ≡ true
+  pub failed : HasStoreFailed old new
+  pub found : (rs : List KeyValue) → Holds old rs
+      → WhereHonest (s.image new.store) (is_there key rs ≡ true)
+
+-- its counts are what they were
+pub record SameCounts {S L : Type 0} {s : Ghosts S} {l : Widths L} (old new : Maker S L s l)
+    : Type 0 where
+  pub end : new.end ≡ old.end
+  pub count : new.count ≡ old.count
+  pub limit : new.limit ≡ old.limit
+
+-- what a fault of a look is to its caller, and whether it breaks the maker
+abbrev pub look_fault : LookFault → MakeFault
+look_fault Failed = Lookup
+look_fault Foreign = Broken
+
+abbrev pub is_foreign : LookFault → Bool
+is_foreign Failed = false
+is_foreign Foreign = true
+
+-- what a look that failed leaves
+abbrev pub FailsLooking : {S L : Type 0} {s : Ghosts S} {l : Widths L} → Maker S L s l
+    → Maker S L s l → MakeFault → Type 0
+FailsLooking old new Broken = IsBroken old new
+FailsLooking old new Lookup = WritesNothing old new × HasStoreFailed old new
+FailsLooking old new fault = ⊥
+
+-- what closing the gaps of a key leaves where it failed, a record behind the others or not
+abbrev pub FailsClosing : {S L : Type 0} {s : Ghosts S} {l : Widths L} → Maker S L s l
+    → Maker S L s l → List ℕ → MakeFault → Type 0
+FailsClosing {s = s} {l = l} old new key Broken = (rs : List KeyValue) → Holds old rs
+    → AreGapsOf l.WORD key old.gaps.items rs (s.image old.store) → HasNoImage (s.image new.store)
+FailsClosing old new key Writing = HasStoreFailed old new
+FailsClosing old new key fault = ⊥
+
+-- a removal of the records of a key that answered so many
+pub record Removes {S L : Type 0} {s : Ghosts S} {l : Widths L} (old new : Maker S L s l)
+    (key : List ℕ) (count : ℕ) : Type 0 where
+  pub was : old.broken ≡ false
+  pub whole : new.broken ≡ false
+  pub holds : (rs : List KeyValue) → Holds old rs → Holds new (without key rs)
+  pub answer : (rs : List KeyValue) → Holds old rs
+      → WhereHonest (s.image new.store) (count ≡ count_of key rs)
+  pub written : (rs : List KeyValue) → Holds old rs
+      → WhereHonest (s.image new.store) (s.written new.store
+      ≡ s.written old.store + sum_by (record_size l.WORD) (behind_first (has_key key) rs))
+
+-- what one that failed leaves
+abbrev pub FailsRemoving : {S L : Type 0} {s : Ghosts S} {l : Widths L} → Maker S L s l
+    → Maker S L s l → List ℕ → MakeFault → Type 0
+FailsRemoving old new key Broken = IsBroken old new
+FailsRemoving old new key Lookup = WritesNothing old new × HasStoreFailed old new
+FailsRemoving old new key Writing = IsTorn old new key
+FailsRemoving old new key fault = ⊥
+
+-- one record more, behind the others
+pub record Adds {S L : Type 0} {s : Ghosts S} {l : Widths L} (old new : Maker S L s l)
+    (r : KeyValue) : Type 0 where
+  pub was : old.broken ≡ false
+  pub whole : new.broken ≡ false
+  pub holds : (rs : List KeyValue) → Holds old rs → Holds new (rs ++ r ∷ [])
+  pub written : s.written new.store ≡ s.written old.store + record_size l.WORD r
+  pub comes : ComesFrom (s.image old.store) (s.image new.store)
+
+-- none more, and why
+abbrev pub FailsAdding : {S L : Type 0} {s : Ghosts S} {l : Widths L} → Maker S L s l
+    → Maker S L s l → KeyValue → MakeFault → Type 0
+FailsAdding old new r Broken = (old.broken ≡ true) × (new ≡ old)
+FailsAdding {s = s} {l = l} old new r TooBig =
+    (new ≡ old) × (old.broken ≡ false) × (old.limit < made_size old + whole_size l.WORD r)
+FailsAdding old new r NoMemory = WritesNothing old new
+FailsAdding old new r Writing = StaysWhole old new × HasStoreFailed old new
+FailsAdding old new r Lookup = ⊥
+
+-- how many bytes a put writes: the records that it moves, and its own
+abbrev pub put_bytes : ℕ → Mode → KeyValue → List KeyValue → ℕ
+put_bytes w Add r rs = record_size w r
+put_bytes w Warn r rs = record_size w r
+put_bytes w Insert r rs = cond (is_there r.key rs) 0 (record_size w r)
+put_bytes w Replace r rs =
+    sum_by (record_size w) (behind_first (has_key r.key) rs) + record_size w r
+
+-- the records of a key were taken out, and one was added behind the others
+pub record Exchanges {S L : Type 0} {s : Ghosts S} {l : Widths L} (old new : Maker S L s l)
+    (r : KeyValue) : Type 0 where
+  pub whole : new.broken ≡ false
+  pub holds : (rs : List KeyValue) → Holds old rs
+      → AreGapsOf l.WORD r.key old.gaps.items rs (s.image old.store)
+      → Holds new (without r.key rs ++ r ∷ [])
+  pub written : (rs : List KeyValue) → Holds old rs
+      → AreGapsOf l.WORD r.key old.gaps.items rs (s.image old.store)
+      → WhereHonest (s.image new.store) (s.written new.store
+      ≡ s.written old.store + put_bytes l.WORD Replace r rs)
+
+-- a put of a record that answered so
+pub record Puts {S L : Type 0} {s : Ghosts S} {l : Widths L} (old new : Maker S L s l)
+    (mode : Mode) (r : KeyValue) (answer : Put) : Type 0 where
+  pub was : old.broken ≡ false
+  pub whole : new.broken ≡ false
+  pub holds : (rs : List KeyValue) → Holds old rs → Holds new (put_list mode r rs)
+  pub answers : (rs : List KeyValue) → Holds old rs
+      → WhereHonest (s.image new.store) (answer ≡ put_answer mode r rs)
+  pub written : (rs : List KeyValue) → Holds old rs
+      → WhereHonest (s.image new.store)
+      (s.written new.store ≡ s.written old.store + put_bytes l.WORD mode r rs)
+
+-- the file with the record would pass the limit
+abbrev pub IsTooBig : {S L : Type 0} {s : Ghosts S} {l : Widths L} → Maker S L s l → Maker S L s l
+    → Mode → KeyValue → Type 0
+IsTooBig {s = s} {l = l} old new mode r = (rs : List KeyValue) → Holds old rs
+    → WhereHonest (s.image new.store) (old.limit < file_size l.WORD (put_list mode r rs))
+
+-- a replacement that takes records out wants no memory but the store's
+abbrev pub WantsRoom : {S L : Type 0} {s : Ghosts S} {l : Widths L} → Maker S L s l → Maker S L s l
+    → Mode → KeyValue → Type 0
+WantsRoom {s = s} {l = l} old new mode r = (rs : List KeyValue) → Holds old rs → mode ≡ Replace
+    → WhereHonest (s.image new.store) (is_there r.key rs ≡ true
+    → s.room old.store < records_end l.WORD (put_list mode r rs))
+
+-- what a put that failed leaves
+abbrev pub FailsPutting : {S L : Type 0} {s : Ghosts S} {l : Widths L} → Maker S L s l
+    → Maker S L s l → Mode → KeyValue → MakeFault → Type 0
+FailsPutting old new mode r Broken = IsBroken old new
+FailsPutting old new mode r Lookup =
+    WritesNothing old new × HasStoreFailed old new × (mode ≢ Add)
+FailsPutting old new mode r TooBig = WritesNothing old new × IsTooBig old new mode r
+FailsPutting old new mode r NoMemory = WritesNothing old new × WantsRoom old new mode r
+FailsPutting old new mode r Writing = (StaysWhole old new × HasStoreFailed old new)
+    ⊎ (IsTorn old new r.key × (mode ≡ Replace))
+
+-- every image is the file of these records
+pub record IsFile (w : ℕ) (rs : List KeyValue) (images : List ℕ → Type 0) : Type 0 where
+  pub each : (b : List ℕ) → images b → b ≡ file_bytes w rs
+
+-- why a file was not finished, and what the maker is then
+abbrev pub FailsFinishing : {S L : Type 0} {s : Ghosts S} {l : Widths L} → Maker S L s l
+    → Maker S L s l → MakeFault → Type 0
+FailsFinishing old new Broken = (old.broken ≡ true) × (new ≡ old)
+FailsFinishing old new NoMemory = WritesNothing old new × SameCounts old new
+FailsFinishing old new Writing = StaysWhole old new × SameCounts old new × HasStoreFailed old new
+FailsFinishing old new fault = ⊥

@@ -1,0 +1,152 @@
+// A maker of a database: records put and taken out in place.
+ghost use Rattle.std.specs.Prelude.{◌≡◌, ℕ, ◌+◌, ◌-◌, ◌*◌, ◌≤◌, ◌<◌, true, false, [], List, length};
+ghost use Rattle.std.specs.Prelude.{sum_by, vec_capacity, All, IfOk, IfErr, OnOk, OnErr};
+ghost use Rattle.cdb_form.specs.Format.Pair.{head_size};
+ghost use Rattle.cdb_form.specs.Format.Record.{KeyValue};
+ghost use Rattle.cdb_form.specs.Format.File.{file_size};
+ghost use Rattle.cdb_make.specs.Looks.{NoNewImage};
+ghost use Rattle.cdb_make.specs.Stands.{IsThere};
+ghost use Rattle.cdb_make.specs.Views.EntryList.{lists_entries, AreWithin, HasSpareGaps};
+
+use crate::fault::MakeFault;
+use crate::gap::Gap;
+use crate::list::EntryList;
+use crate::looking::LookFault;
+use crate::mode::{Mode, Put};
+use crate::taking_out;
+use cdb_form::{Width, hash, pair_size};
+use cdb_store::Store;
+use std::alloc::Global;
+use std::marker::PhantomData;
+
+/// Makes a database in a store: each record is written as it is put.
+///
+/// The store holds the records one behind another, from behind the head on, and the maker keeps
+/// the hash of each key and the record's place: 12 bytes a record.
+#[derive(Drop)]
+pub struct Maker<S: Store, L: Width> {
+    pub(crate) alloc: Global,
+    pub(crate) store: S,
+    /// The entries of each table.
+    pub(crate) lists: Vec<EntryList>,
+    /// Where a removal notes what it takes out. There is room for the longest list.
+    pub(crate) gaps: Vec<Gap>,
+    /// Where the records end.
+    pub(crate) end: u64,
+    /// How many they are.
+    pub(crate) count: u64,
+    /// The greatest size that their file may have.
+    pub(crate) limit: u64,
+    /// A fault amid a move left the records torn, or the store gave back other bytes than were
+    /// written.
+    pub(crate) broken: bool,
+    pub(crate) width: PhantomData<L>,
+    ghost all: { length lists.items ≡ 256 },
+    ghost start: { head_size L.WORD ≤ end },
+    ghost inside: { end ≤ S.size store },
+    ghost within: { end + 4 * L.WORD * count ≤ limit },
+    ghost limited: { limit ≤ L.GREATEST },
+    ghost counted: { broken ≡ false → sum_by length (lists_entries lists.items) ≡ count },
+    ghost placed: { AreWithin L.GREATEST (lists_entries lists.items) },
+    ghost spare: { HasSpareGaps (lists_entries lists.items) (vec_capacity gaps) },
+}
+
+impl<S: Store, L: Width> Maker<S, L> {
+    ghost use Rattle.cdb_make.specs.Views.Maker.{Holds, WhereHonest, made_size, StaysWhole};
+    ghost use Rattle.cdb_make.specs.Views.Maker.{FailsLooking, SameCounts, WritesNothing};
+    ghost use Rattle.cdb_make.specs.Views.Maker.{look_fault, is_foreign};
+
+    /// How many records it holds.
+    ///
+    /// In a broken maker it is what it was before the call that broke it.
+    pub fn count(&self) -> u64
+        ensures holds { (rs : List KeyValue) → Holds self.now rs
+            → WhereHonest (S.image self.now.store) (result ≡ length rs) }
+        ensures is { result ≡ self.now.count }
+    {
+        self.count
+    }
+
+    /// How many bytes the file of its records would have.
+    ///
+    /// In a broken maker it is what it was before the call that broke it.
+    pub fn size(&self) -> u64
+        ensures holds { (rs : List KeyValue) → Holds self.now rs
+            → WhereHonest (S.image self.now.store) (result ≡ file_size L.WORD rs) }
+        ensures is { result ≡ made_size self.now }
+        ensures within { result ≤ self.now.limit }
+    {
+        self.end + 2 * pair_size::<L>() as u64 * self.count
+    }
+
+    /// Whether an earlier call broke it, or found that its store gave back other bytes than were
+    /// written. Then every call that can fail answers `Broken`.
+    pub fn is_broken(&self) -> bool
+        ensures { result ≡ self.now.broken }
+    {
+        self.broken
+    }
+
+    /// Its store, as it is.
+    pub fn into_store(self) -> S
+        ensures { result ≡ self.store }
+    {
+        let Maker {
+            alloc: _,
+            store,
+            lists,
+            gaps,
+            end: _,
+            count: _,
+            limit: _,
+            broken: _,
+            width: _,
+        } = self;
+        drop(lists);
+        drop(gaps);
+        store
+    }
+
+    /// Why a look failed. Where the store gave back other bytes than were written, the maker is
+    /// broken from then on.
+    pub(crate) fn failed_look(&mut self, fault: LookFault) -> MakeFault
+        requires { self.old.broken ≡ false }
+        ensures fault { result ≡ look_fault fault }
+        ensures broken { self.new.broken ≡ is_foreign fault }
+        ensures store { self.new.store ≡ self.old.store }
+        ensures lists { self.new.lists ≡ self.old.lists }
+        ensures counts { SameCounts self.old self.new }
+    {
+        match fault {
+            LookFault::Failed => MakeFault::Lookup,
+            LookFault::Foreign => {
+                self.broken = true;
+                MakeFault::Broken
+            }
+        }
+    }
+
+    /// Whether some record has a key.
+    ///
+    /// It writes nothing and takes no memory. `Lookup`: the store failed while it was read.
+    /// `Broken`: an earlier call broke the maker, or the store gave back other bytes than were
+    /// written.
+    pub fn exists(&mut self, key: &[u8]) -> Result<bool, MakeFault>
+        ensures there { (rs : List KeyValue) → Holds self.old rs
+            → IfOk result (λ there. IsThere there key.now rs (S.image self.new.store)) }
+        ensures ok { OnOk result (WritesNothing self.old self.new) }
+        ensures fails { IfErr result (FailsLooking self.old self.new) }
+        ensures counts { SameCounts self.old self.new }
+        ensures images { NoNewImage (S.image self.old.store) (S.image self.new.store) }
+        ensures room { S.room self.old.store ≤ S.room self.new.store }
+        ensures failures { S.failures self.old.store ≤ S.failures self.new.store }
+    {
+        if self.broken {
+            return Err(MakeFault::Broken);
+        }
+        match taking_out::exists::<S, L>(&mut self.store, &self.lists, hash(key), key, self.end) {
+            Ok(there) => Ok(there),
+            Err(fault) => Err(self.failed_look(fault)),
+        }
+    }
+}
