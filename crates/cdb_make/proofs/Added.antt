@@ -1,15 +1,15 @@
 -- One record more stands on a store.
-use Rattle.std.proofs.Common.{◌≡◌, ℕ, ◌+◌, ◌<◌, ◌≤◌, List, [], ◌∷◌, ◌++◌, length, map, flat_map, get_or, slice_set, take, length-append, refl, sym, ap, subst, ◌∙◌, arith}
+use Rattle.std.proofs.Common.{◌≡◌, ℕ, ◌+◌, ◌<◌, ◌≤◌, List, [], ◌∷◌, ◌++◌, length, flat_map, get_or, take, length-append, sym, ap, subst, ◌∙◌, arith}
 use Rattle.std.specs.Prelude.{sum_by, All}
-use Rattle.std.proofs.lemmas.List.{append-nil, length-set}
+use Rattle.std.proofs.lemmas.List.{append-nil}
 use Rattle.std.proofs.lemmas.List.Concat.{flat_map-append}
 use Rattle.std.proofs.lemmas.List.Sums.{sum_by_push}
-use Rattle.std.proofs.lemmas.List.Elements.{All-set, All-append, All-get_or, All-cons, All-nil, All-weaker, All-same}
+use Rattle.std.proofs.lemmas.List.Elements.{All-set, All-append, All-get_or, All-cons, All-nil, All-weaker}
 use Rattle.cdb_store.specs.Images.{part, overwrite, AreSized, AfterWrite}
 use Rattle.cdb_store.proofs.Parts.{part_add, part_from_take, take-overwrite, part-overwrite}
 use Rattle.cdb_form.specs.Format.Hash.{key_hash, table_number}
 use Rattle.cdb_form.specs.Format.Pair.{WordPair, head_size}
-use Rattle.cdb_form.specs.Format.Record.{KeyValue, record_size, record_bytes, records_end}
+use Rattle.cdb_form.specs.Format.Record.{KeyValue, record_size, record_bytes}
 use Rattle.cdb_form.proofs.Sizes.{length-record_bytes}
 use Rattle.cdb_make.specs.Stands.{Tells, Stands}
 use Rattle.cdb_make.specs.Views.EntryList.{AreWithin, HasSpareGaps}

@@ -1,10 +1,10 @@
 -- One list of entries among all.
-use Rattle.std.proofs.Common.{◌≡◌, ℕ, ◌+◌, ◌<◌, ◌≤◌, List, [], ◌∷◌, ◌++◌, length, map, get_or, slice_set, refl, sym, ap, ◌∙◌, arith}
-use Rattle.std.proofs.lemmas.List.{map-set, get_or-map, get_or-set_same, length-map, length-set}
+use Rattle.std.proofs.Common.{◌≡◌, ℕ, ◌<◌, List, [], ◌∷◌, ◌++◌, length, map, get_or, slice_set, refl, sym, ap, ◌∙◌, arith}
+use Rattle.std.proofs.lemmas.List.{map-set, get_or-map, get_or-set_same, length-set}
 use Rattle.cdb_form.specs.Format.Hash.{table_number}
 use Rattle.cdb_form.specs.Format.Pair.{WordPair}
 use Rattle.cdb_make.specs.declared.list.EntryList.{EntryList}
-use Rattle.cdb_make.specs.Views.EntryList.{list_entries, lists_entries, list_room, entry_count, entry_room}
+use Rattle.cdb_make.specs.Views.EntryList.{list_entries, lists_entries}
 use Rattle.cdb_make.specs.Views.Index.{with_entry}
 
 -- what is told of a list that took another's place

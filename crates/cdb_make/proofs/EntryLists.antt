@@ -1,5 +1,5 @@
 -- The entries of each table.
-use Rattle.std.proofs.Common.{◌≡◌, ℕ, ◌+◌, ◌*◌, ◌%◌, ◌<◌, inl, inr, List, [], ◌∷◌, ◌++◌, length, map, get_or, sym, ap, ◌∙◌, arith, replicate, slice_set}
+use Rattle.std.proofs.Common.{◌≡◌, ℕ, ◌+◌, ◌*◌, ◌<◌, inl, inr, List, [], ◌∷◌, ◌++◌, length, map, get_or, sym, ap, ◌∙◌, arith, replicate, slice_set}
 use Rattle.std.specs.List.{range_with_len, filter}
 use Rattle.std.specs.Prelude.{sum_by}
 use Rattle.std.specs.declared.vec.Vec.{Vec}

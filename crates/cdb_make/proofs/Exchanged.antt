@@ -1,42 +1,31 @@
 -- A record in the place of those of its key.
-use Rattle.std.proofs.Common.{◌≡◌, ℕ, zero, suc, ◌+◌, ◌-◌, ◌*◌, ◌<◌, ◌≤◌, ◌⊎◌, inl, inr, Bool, true, false, cond, not, List, [], ◌∷◌, ◌++◌, length, map, get_or, refl, sym, ap, subst, ◌∙◌, arith, sum_by}
-use Rattle.std.specs.Prelude.{All, ◌==◌}
-use Rattle.std.specs.List.{filter, range_with_len, count_by}
-use Rattle.std.proofs.lemmas.List.{get_or-map, nil_from_length, length-map}
+use Rattle.std.proofs.Common.{◌≡◌, ℕ, suc, ◌+◌, ◌-◌, ◌*◌, ◌<◌, ◌≤◌, ◌⊎◌, inl, inr, Bool, true, false, cond, not, List, [], ◌∷◌, ◌++◌, length, get_or, refl, sym, ap, subst, ◌∙◌, arith}
+use Rattle.std.specs.Prelude.{◌==◌}
+use Rattle.std.specs.List.{filter, count_by}
+use Rattle.std.proofs.lemmas.List.{get_or-map, length-map}
 use Rattle.std.proofs.lemmas.List.FromFn.{get_or-map-range_with_len}
 use Rattle.std.proofs.lemmas.List.Elements.{All-filter, All-append, All-cons, All-nil}
-use Rattle.std.proofs.lemmas.List.Sums.{sum_by-cons, length-filter}
-use Rattle.std.proofs.lemmas.List.Filters.{length-filter_both}
+use Rattle.std.proofs.lemmas.List.Sums.{sum_by-cons}
 use Rattle.std.proofs.lemmas.Slice.Eq.{bytes_eq-Decides}
 use Rattle.std.proofs.lemmas.Bool.Decides.{nat_tests}
 use Rattle.cdb_store.specs.declared.store.Store.{Ghosts}
-use Rattle.cdb_store.specs.Laws.{HasNoImage}
 use Rattle.cdb_form.specs.declared.width.Width.{Ghosts as Widths}
 use Rattle.cdb_form.specs.Format.Hash.{key_hash, table_number}
 use Rattle.cdb_form.specs.Format.Pair.{WordPair, head_size}
-use Rattle.cdb_form.specs.Format.Record.{KeyValue, IsRecord, record_size, records_end}
-use Rattle.cdb_form.specs.Format.File.{file_size, whole_size}
+use Rattle.cdb_form.specs.Format.Record.{KeyValue, IsRecord, record_size}
 use Rattle.cdb_form.specs.Format.Table.{entries_from, in_table, table_entries}
-use Rattle.cdb_form.proofs.Sizes.{size_split}
 use Rattle.cdb_make.specs.declared.fault.MakeFault.{MakeFault}
 use Rattle.cdb_make.specs.declared.fault.MakeFault.TheVariants.{Broken, Lookup, TooBig, NoMemory, Writing}
 use Rattle.cdb_make.specs.declared.gap.Gap.{Gap}
 use Rattle.cdb_make.specs.declared.list.EntryList.{EntryList}
 use Rattle.cdb_make.specs.declared.maker.Maker.{Maker}
-use Rattle.cdb_make.specs.declared.mode.Mode.TheVariants.{Replace}
-use Rattle.cdb_make.specs.declared.mode.Put.{Put}
-use Rattle.cdb_make.specs.declared.mode.Put.TheVariants.{Added, Replaced}
-use Rattle.cdb_make.specs.Stands.{Tells, Stands, AreGapsOf, WritesSurvivors, gaps_of}
-use Rattle.cdb_make.specs.Survivors.{has_key, is_there, count_of, without, behind_first, put_list, put_answer}
+use Rattle.cdb_make.specs.Stands.{Tells, Stands, AreGapsOf, WritesSurvivors}
+use Rattle.cdb_make.specs.Survivors.{has_key, count_of, without}
 use Rattle.cdb_make.specs.Views.Adding.{AddFails}
 use Rattle.cdb_make.specs.Views.EntryList.{list_entries, lists_entries, list_room, entry_count, entry_room, AreClosed, HasSpareGaps}
-use Rattle.cdb_make.specs.Views.Maker.{Holds, HoldsIn, WhereHonest, ComesFrom, StaysWhole, WritesNothing, HasStoreFailed, IsBroken, IsTorn, Exchanges, FailsClosing, Puts, FailsPutting, put_bytes, made_size}
-use Rattle.cdb_make.proofs.EntryLists.{size_push}
-use Rattle.cdb_make.proofs.Found.{some_gap, length-gaps_by}
-use Rattle.cdb_make.proofs.Makers.{held_stand, held_count, held_size, found_there, honest_comes}
-use Rattle.cdb_make.proofs.Puts.{JustAdds, comes_then, stays_then, writes_then}
+use Rattle.cdb_make.specs.Views.Maker.{Holds, HoldsIn, ComesFrom, Exchanges}
+use Rattle.cdb_make.proofs.Puts.{comes_then}
 use Rattle.cdb_make.proofs.Sides.{length-entries_of}
-use Rattle.cdb_make.proofs.Whole.{count_found, gaps_sum, none_goes, none_behind}
 
 -- how many records have a test, by their hashes
 entries_counted : (w n at : ℕ) (rs : List KeyValue) → length (filter (in_table n) (entries_from w at rs)) ≡ length (filter (λ r. table_number (key_hash r.key) == n) rs)
@@ -102,20 +91,6 @@ room_left {w = w} {h = h} {room = room} k {ls = ls} {ls₁ = ls₁} {rs = rs} a 
     let most : length (get_or (lists_entries ls) n []) ≤ room = spare n [] (omega (arith, length-map ls list_entries)) in
     let within = list_within (get_or ls n d) in
     elim full [ inl f ↦ omega (arith, one.room) | inr f ↦ omega arith ]
-
--- the size and the count of what is left, and of one record more
-pub exchange_within : (w end last sum size count taken limit : ℕ) → (w ≡ 4) ⊎ (w ≡ 8) → taken ≤ count → last + sum ≡ end → end + 4 * w * count + (size + 4 * w) ≤ limit + sum + 4 * w * taken
-    → last + size + 4 * w * (count - taken + 1) ≤ limit
-exchange_within w end last sum size count taken limit (inl e) few low fits =
-    let a : 4 * w * count ≡ 16 * count = ap (λ (v : ℕ). 4 * v * count) e in
-    let b : 4 * w * taken ≡ 16 * taken = ap (λ (v : ℕ). 4 * v * taken) e in
-    let c : 4 * w * (count - taken + 1) ≡ 16 * (count - taken + 1) = ap (λ (v : ℕ). 4 * v * (count - taken + 1)) e in
-    omega arith
-exchange_within w end last sum size count taken limit (inr e) few low fits =
-    let a : 4 * w * count ≡ 32 * count = ap (λ (v : ℕ). 4 * v * count) e in
-    let b : 4 * w * taken ≡ 32 * taken = ap (λ (v : ℕ). 4 * v * taken) e in
-    let c : 4 * w * (count - taken + 1) ≡ 32 * (count - taken + 1) = ap (λ (v : ℕ). 4 * v * (count - taken + 1)) e in
-    omega arith
 
 -- the record stands behind those of other keys
 pub exchanged : {S L : Type 0} {s : Ghosts S} {l : Widths L} (old new : Maker S L s l) (r : KeyValue) (between : List ℕ → Type 0) (written : ℕ) → IsRecord r → new.broken ≡ false

@@ -1,21 +1,21 @@
 -- A maker at its start and at its end.
-use Rattle.std.proofs.Common.{◌≡◌, ℕ, ◌+◌, ◌-◌, ◌*◌, ◌<◌, ◌≤◌, ◌⊎◌, inl, inr, false, List, [], ◌∷◌, length, map, flat_map, replicate, refl, sym, ap, subst, ◌∙◌, arith, sum_by}
-use Rattle.std.specs.Prelude.{All, Result, Ok, Err, OnOk, IfErr}
+use Rattle.std.proofs.Common.{◌≡◌, ℕ, ◌-◌, ◌<◌, ◌≤◌, ◌⊎◌, inl, inr, false, List, [], length, replicate, refl, sym, ap, subst, ◌∙◌, arith, sum_by}
+use Rattle.std.specs.Prelude.{All, Result, Ok, Err, IfErr}
 use Rattle.std.proofs.lemmas.List.{length-map, length-replicate}
 use Rattle.std.proofs.lemmas.List.Elements.{All-nil, All-replicate}
 use Rattle.std.proofs.lemmas.List.Folds.{sum_by-replicate}
 use Rattle.cdb_store.specs.declared.store.Store.{Ghosts}
-use Rattle.cdb_store.specs.Images.{KeepsPart, part}
+use Rattle.cdb_store.specs.Images.{KeepsPart}
 use Rattle.cdb_form.specs.declared.width.Width.{Ghosts as Widths}
 use Rattle.cdb_form.specs.Format.Pair.{WordPair, head_size}
 use Rattle.cdb_form.specs.Format.Record.{KeyValue, IsRecord}
 use Rattle.cdb_make.specs.declared.fault.MakeFault.{MakeFault}
-use Rattle.cdb_make.specs.declared.fault.MakeFault.TheVariants.{Broken, Lookup, TooBig, NoMemory, Writing}
+use Rattle.cdb_make.specs.declared.fault.MakeFault.TheVariants.{NoMemory, Writing}
 use Rattle.cdb_make.specs.declared.list.EntryList.{EntryList}
 use Rattle.cdb_make.specs.declared.maker.Maker.{Maker}
 use Rattle.cdb_make.specs.Finished.{IsFinished}
 use Rattle.cdb_make.specs.Views.EntryList.{list_entries, lists_entries, AreWithin, HasSpareGaps}
-use Rattle.cdb_make.specs.Views.Maker.{Holds, IsFile, FailsFinishing, SameCounts, StaysWhole, WritesNothing}
+use Rattle.cdb_make.specs.Views.Maker.{Holds, IsFile, FailsFinishing, SameCounts, StaysWhole}
 use Rattle.cdb_make.proofs.EntryLists.{lists_none}
 use Rattle.cdb_make.proofs.FinishedFile.{all_finished}
 use Rattle.cdb_make.proofs.Makers.{held_stand}

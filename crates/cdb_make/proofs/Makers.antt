@@ -1,5 +1,5 @@
 -- What a maker holds, from one call to the next.
-use Rattle.std.proofs.Common.{◌≡◌, ℕ, ◌+◌, ◌*◌, ◌<◌, ◌≤◌, true, false, not, List, [], ◌∷◌, length, map, refl, sym, ap, subst, ◌∙◌, arith, sum_by}
+use Rattle.std.proofs.Common.{◌≡◌, ℕ, ◌+◌, ◌*◌, ◌<◌, ◌≤◌, true, false, not, List, [], length, refl, sym, ap, subst, ◌∙◌, arith, sum_by}
 use Rattle.std.specs.List.{filter}
 use Rattle.std.proofs.lemmas.List.{nil_from_length}
 use Rattle.std.proofs.lemmas.List.Sums.{length-filter}
@@ -7,7 +7,7 @@ use Rattle.std.proofs.lemmas.List.Filters.{length-filter_both}
 use Rattle.std.proofs.lemmas.List.Elements.{All-filter}
 use Rattle.cdb_store.specs.declared.store.Store.{Ghosts}
 use Rattle.cdb_store.specs.Laws.{HasNoImage}
-use Rattle.cdb_store.specs.Images.{TornWithin, KeepsPart}
+use Rattle.cdb_store.specs.Images.{TornWithin}
 use Rattle.cdb_form.specs.declared.width.Width.{Ghosts as Widths}
 use Rattle.cdb_form.specs.Format.Pair.{head_size}
 use Rattle.cdb_form.specs.Format.Record.{KeyValue, IsRecord, record_size}
@@ -88,9 +88,6 @@ fails_looked {s = s} {l = l} old new t ls Foreign fault own is was broken end li
 -- images of a store of which a part was moved or written
 pub comes_torn : {at n : ℕ} {old new : List ℕ → Type 0} → TornWithin at n old new → ComesFrom old new
 comes_torn torn = record { each = λ b is. let h = torn.each b is in (h.0, h.1) }
-
-pub comes_kept : {at n : ℕ} {old new : List ℕ → Type 0} → KeepsPart at n old new → ComesFrom old new
-comes_kept keeps = record { each = λ b is. let h = keeps.each b is in (h.0, h.1) }
 
 -- the entries that are left and the gaps are as many as the records were
 pub left_counted : {S L : Type 0} {s : Ghosts S} {l : Widths L} (m : Maker S L s l) (rs : List KeyValue) (key : List ℕ) (last : ℕ) (ls : List EntryList) {new : List ℕ → Type 0} → Holds m rs

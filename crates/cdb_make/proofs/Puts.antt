@@ -1,39 +1,27 @@
 -- A record put: behind the others, or in the place of those of its key.
-use Rattle.std.proofs.Common.{◌≡◌, ℕ, zero, suc, ◌+◌, ◌-◌, ◌*◌, ◌<◌, ◌≤◌, ◌⊎◌, inl, inr, Bool, true, false, cond, not, List, [], ◌∷◌, ◌++◌, length, map, get_or, refl, sym, ap, subst, ◌∙◌, arith, sum_by, length-append}
-use Rattle.std.specs.Prelude.{All, ◌==◌}
-use Rattle.std.specs.List.{filter, range_with_len}
-use Rattle.std.proofs.lemmas.List.{get_or-map}
-use Rattle.std.proofs.lemmas.List.FromFn.{get_or-map-range_with_len}
-use Rattle.std.proofs.lemmas.List.Elements.{All-filter, All-append, All-cons, All-nil}
-use Rattle.std.proofs.lemmas.List.Sums.{sum_by-cons}
-use Rattle.std.proofs.lemmas.Slice.Eq.{bytes_eq-Decides}
+use Rattle.std.proofs.Common.{◌≡◌, ℕ, ◌+◌, ◌-◌, ◌<◌, ◌≤◌, inl, Bool, true, false, cond, List, [], ◌∷◌, ◌++◌, refl, sym, ap, subst, ◌∙◌, arith}
+use Rattle.std.proofs.lemmas.List.Elements.{All-append, All-cons, All-nil}
 use Rattle.cdb_store.specs.declared.store.Store.{Ghosts}
-use Rattle.cdb_store.specs.Images.{KeepsPart, SameImages, AfterTornWrite, part}
-use Rattle.cdb_store.specs.Laws.{HasNoImage}
+use Rattle.cdb_store.specs.Images.{KeepsPart, SameImages, AfterTornWrite}
 use Rattle.cdb_form.specs.declared.width.Width.{Ghosts as Widths}
-use Rattle.cdb_form.specs.Format.Hash.{key_hash, table_number}
-use Rattle.cdb_form.specs.Format.Pair.{WordPair, head_size}
-use Rattle.cdb_form.specs.Format.Record.{KeyValue, IsRecord, record_size, records_end}
+use Rattle.cdb_form.specs.Format.Pair.{head_size}
+use Rattle.cdb_form.specs.Format.Record.{KeyValue, IsRecord, record_size}
 use Rattle.cdb_form.specs.Format.File.{file_size, whole_size}
-use Rattle.cdb_form.specs.Format.Table.{entries_from, in_table, table_entries}
-use Rattle.cdb_form.proofs.Sizes.{size_split}
 use Rattle.cdb_make.specs.declared.fault.MakeFault.{MakeFault}
 use Rattle.cdb_make.specs.declared.fault.MakeFault.TheVariants.{Broken, Lookup, TooBig, NoMemory, Writing}
-use Rattle.cdb_make.specs.declared.gap.Gap.{Gap}
-use Rattle.cdb_make.specs.declared.list.EntryList.{EntryList}
 use Rattle.cdb_make.specs.declared.maker.Maker.{Maker}
 use Rattle.cdb_make.specs.declared.mode.Mode.{Mode}
 use Rattle.cdb_make.specs.declared.mode.Mode.TheVariants.{Add, Warn, Insert, Replace}
 use Rattle.cdb_make.specs.declared.mode.Put.{Put}
-use Rattle.cdb_make.specs.declared.mode.Put.TheVariants.{Added, AddedAgain, Present, Replaced}
-use Rattle.cdb_make.specs.Stands.{Tells, Stands, AreGapsOf, IsThere, WritesSurvivors}
-use Rattle.cdb_make.specs.Survivors.{has_key, is_there, count_of, without, behind_first, put_list, put_answer}
+use Rattle.cdb_make.specs.declared.mode.Put.TheVariants.{Added, AddedAgain, Present}
+use Rattle.cdb_make.specs.Stands.{Tells, Stands, IsThere}
+use Rattle.cdb_make.specs.Survivors.{is_there, put_list, put_answer}
 use Rattle.cdb_make.specs.Views.Adding.{AddFails}
-use Rattle.cdb_make.specs.Views.EntryList.{list_entries, lists_entries, list_room, entry_count, entry_room, AreClosed}
-use Rattle.cdb_make.specs.Views.Maker.{Holds, HoldsIn, WhereHonest, ComesFrom, StaysWhole, WritesNothing, HasStoreFailed, IsBroken, IsTorn, Adds, FailsAdding, Exchanges, FailsClosing, Puts, FailsPutting, put_bytes, made_size}
+use Rattle.cdb_make.specs.Views.EntryList.{lists_entries}
+use Rattle.cdb_make.specs.Views.Maker.{Holds, HoldsIn, WhereHonest, ComesFrom, StaysWhole, WritesNothing, Adds, FailsAdding, Puts, FailsPutting, put_bytes, made_size}
 use Rattle.cdb_make.proofs.EntryLists.{size_push}
-use Rattle.cdb_make.proofs.Makers.{held_stand, held_count, held_size, found_there, honest_comes}
-use Rattle.cdb_make.proofs.Whole.{count_found, gaps_sum, none_goes, none_behind}
+use Rattle.cdb_make.proofs.FinishedFile.{stands_kept}
+use Rattle.cdb_make.proofs.Makers.{held_stand, held_size, honest_comes}
 
 pub comes_same : {old new : List ℕ → Type 0} → SameImages old new → ComesFrom old new
 comes_same same = record { each = λ b is. (b, same.no_other b is) }
@@ -54,18 +42,8 @@ stays_kept {l = l} old new was whole end lists keeps = record {
     whole = whole;
     each = λ b is.
         let k = keeps.each b is in
-        let a : List ℕ = k.0 in
-        let o : HoldsIn old rs a = h.each a k.1 in
-        let at : ℕ = head_size l.WORD in
-        let n : old.end - at ≡ sum_by (record_size l.WORD) rs = (let e : old.end ≡ at + sum_by (record_size l.WORD) rs = o.stand.ends in omega arith) in
-        record {
-          are = o.are;
-          stand = record {
-            held = ap (λ (v : ℕ). part at v b) (sym n) ∙ k.2 ∙ ap (λ (v : ℕ). part at v a) n ∙ o.stand.held;
-            ends = end ∙ o.stand.ends;
-            entries = lists ∙ o.stand.entries;
-          };
-        };
+        let t : Tells l.WORD old.end (lists_entries old.lists.items) rs b = (stands_kept keeps (held_stand old rs h)).each b is in
+        record { are = (h.each k.0 k.1).are; stand = record { held = t.held; ends = end ∙ t.ends; entries = lists ∙ t.entries } };
   };
 }
 
@@ -200,9 +178,6 @@ fails_add old new r Lookup comes fails = absurd fails
 fails_add old new r TooBig comes fails = fails_added old old new Add r Added TooBig (writes_same old fails.1) refl (omega arith) comes (λ rs h. just_add _ rs r) fails
 fails_add old new r NoMemory comes fails = fails_added old old new Add r Added NoMemory (writes_same old fails.stays.was) refl (omega arith) comes (λ rs h. just_add _ rs r) fails
 fails_add old new r Writing comes fails = fails_added old old new Add r Added Writing (writes_same old fails.0.was) refl (omega arith) comes (λ rs h. just_add _ rs r) fails
-
-pub comes_self : (images : List ℕ → Type 0) → ComesFrom images images
-comes_self images = record { each = λ b is. (b, is) }
 
 -- an insertion of a record whose key is there
 pub puts_present : {S L : Type 0} {s : Ghosts S} {l : Widths L} (old new : Maker S L s l) (r : KeyValue) (there : Bool) → WritesNothing old new → there ≡ true

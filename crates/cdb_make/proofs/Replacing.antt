@@ -1,5 +1,5 @@
 -- A put that replaces.
-use Rattle.std.proofs.Common.{◌≡◌, ℕ, ◌+◌, ◌-◌, ◌*◌, ◌<◌, ◌≤◌, ◌⊎◌, inl, inr, Bool, true, false, cond, not, List, [], ◌∷◌, ◌++◌, length, refl, sym, ap, subst, ◌∙◌, arith, sum_by}
+use Rattle.std.proofs.Common.{◌≡◌, ℕ, ◌+◌, ◌*◌, ◌<◌, ◌≤◌, ◌⊎◌, inl, inr, Bool, true, false, cond, not, List, [], ◌∷◌, ◌++◌, length, refl, sym, ap, ◌∙◌, arith, sum_by}
 use Rattle.std.specs.List.{filter}
 use Rattle.std.specs.Prelude.{Err, IsErrOf}
 use Rattle.std.proofs.lemmas.List.Sums.{length-filter, sum_by_push}
@@ -11,7 +11,7 @@ use Rattle.cdb_store.specs.declared.store.StoreFault.{StoreFault}
 use Rattle.cdb_store.specs.declared.store.StoreFault.TheVariants.{Device, NoMemory as Refused}
 use Rattle.cdb_form.specs.declared.width.Width.{Ghosts as Widths}
 use Rattle.cdb_form.specs.Format.Pair.{head_size}
-use Rattle.cdb_form.specs.Format.Record.{KeyValue, record_size, records_end}
+use Rattle.cdb_form.specs.Format.Record.{KeyValue, record_size}
 use Rattle.cdb_form.specs.Format.File.{file_size, whole_size}
 use Rattle.cdb_form.proofs.Sizes.{size_split}
 use Rattle.cdb_make.specs.declared.fault.MakeFault.{MakeFault}
@@ -21,13 +21,13 @@ use Rattle.cdb_make.specs.declared.maker.Maker.{Maker}
 use Rattle.cdb_make.specs.declared.mode.Mode.TheVariants.{Replace}
 use Rattle.cdb_make.specs.declared.mode.Put.TheVariants.{Added, Replaced}
 use Rattle.cdb_make.specs.Stands.{AreGapsOf, gaps_of}
-use Rattle.cdb_make.specs.Survivors.{has_key, is_there, count_of, without, behind_first, put_list, put_answer}
-use Rattle.cdb_make.specs.Views.Maker.{Holds, HoldsIn, WhereHonest, ComesFrom, WritesNothing, Exchanges, FailsClosing, Puts, FailsPutting, made_size}
+use Rattle.cdb_make.specs.Survivors.{has_key, is_there, count_of, without, behind_first, put_list}
+use Rattle.cdb_make.specs.Views.Maker.{Holds, WhereHonest, ComesFrom, WritesNothing, Exchanges, FailsClosing, Puts, FailsPutting, made_size}
 use Rattle.cdb_make.specs.Views.MakeFault.{fault_of}
 use Rattle.cdb_make.proofs.EntryLists.{size_push}
 use Rattle.cdb_make.proofs.Found.{some_gap}
-use Rattle.cdb_make.proofs.Makers.{held_size, held_count, found_there, honest_comes}
-use Rattle.cdb_make.proofs.Puts.{JustAdds, stays_then, writes_then}
+use Rattle.cdb_make.proofs.Makers.{held_size, found_there, honest_comes}
+use Rattle.cdb_make.proofs.Puts.{JustAdds, writes_then}
 use Rattle.cdb_make.proofs.Whole.{count_found, gaps_sum, none_goes, none_behind}
 
 -- where no gap was found the record is only added

@@ -1,2 +1,3 @@
 -- What the callers promise.
 pub mod FirstRecord
+pub mod Latest

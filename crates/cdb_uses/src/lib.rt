@@ -3,8 +3,10 @@
 #![tactic(auto)]
 
 mod form;
+mod make;
 
 pub use form::first_record;
+pub use make::file_of_latest;
 
 #[cfg(test)]
 mod tests;

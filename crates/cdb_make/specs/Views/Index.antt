@@ -1,5 +1,5 @@
 -- The code's lists of entries as lists of words.
-use Rattle.std.specs.Prelude.{List, [], ◌∷◌, ◌++◌, ◌%◌, map, slice_set, get_or}
+use Rattle.std.specs.Prelude.{List, [], ◌∷◌, ◌++◌, map, slice_set, get_or}
 use Rattle.std.specs.declared.vec.Vec.{Vec}
 use Rattle.cdb_form.specs.Format.Pair.{WordPair}
 use Rattle.cdb_form.specs.Format.Hash.{table_number}

@@ -2,7 +2,7 @@
 use Rattle.std.specs.Prelude.{ℕ, ◌≡◌, ◌<◌, List}
 use Rattle.cdb_store.specs.Images.{SameImages}
 use Rattle.cdb_make.specs.declared.fault.MakeFault.{MakeFault}
-use Rattle.cdb_make.specs.declared.fault.MakeFault.TheVariants.{Broken, Lookup, TooBig, NoMemory}
+use Rattle.cdb_make.specs.declared.fault.MakeFault.TheVariants.{NoMemory}
 use Rattle.cdb_make.specs.declared.fault.MakeFault.TheVariants.{Writing}
 
 -- where memory was refused it is as it was, and else it failed

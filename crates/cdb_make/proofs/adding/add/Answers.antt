@@ -1,9 +1,8 @@
-use Rattle.std.proofs.Common.{arith, ap, refl, sym, subst, inl, inr, ◌∙◌, ◌≡◌, ◌+◌, ◌-◌, ◌<◌, ◌≤◌, ◌++◌, ℕ, List, [], ◌∷◌, length, get_or}
-use Rattle.cdb_store.specs.Images.{AreSized, KeepsPart}
+use Rattle.std.proofs.Common.{arith, ap, refl, inl, ◌∙◌, ◌≡◌, ◌-◌, ℕ, List, length}
+use Rattle.cdb_store.specs.Images.{AreSized}
 use Rattle.cdb_store.proofs.Moves.{kept_torn}
-use Rattle.cdb_form.specs.Format.Hash.{table_number}
 use Rattle.cdb_form.specs.Format.Pair.{WordPair, head_size, pair_bytes}
-use Rattle.cdb_form.specs.Format.Record.{KeyValue, record_bytes, record_size}
+use Rattle.cdb_form.specs.Format.Record.{KeyValue}
 use Rattle.cdb_form.proofs.HeadLemmas.{length-pair_bytes}
 use Rattle.std.proofs.lemmas.List.{length-map}
 use Rattle.cdb_make.specs.Views.EntryList.{list_entries, lists_entries}

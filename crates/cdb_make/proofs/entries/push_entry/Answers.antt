@@ -1,4 +1,4 @@
-use Rattle.std.proofs.Common.{◌≡◌, ℕ, ap, ◌∙◌, arith}
+use Rattle.std.proofs.Common.{ap, ◌∙◌, arith}
 use Rattle.cdb_form.specs.Format.Hash.{table_number}
 use Rattle.cdb_make.proofs.Entering.{list_added}
 use Rattle.cdb_make.proofs.entries.push_entry.Goals as goal

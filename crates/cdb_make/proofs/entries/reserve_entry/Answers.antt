@@ -1,6 +1,6 @@
-use Rattle.std.proofs.Common.{◌≡◌, ◌<◌, ℕ, [], ap, sym, ◌∙◌, arith, length, get_or, inl, inr}
+use Rattle.std.proofs.Common.{◌≡◌, ◌<◌, [], ap, sym, ◌∙◌, arith, length, inr}
 use Rattle.std.proofs.Math.Seq.{map-set_same}
-use Rattle.std.proofs.lemmas.Result.{on_ok_weaker, on_err_weaker}
+use Rattle.std.proofs.lemmas.Result.{on_ok_weaker}
 use Rattle.cdb_form.specs.Format.Hash.{table_number}
 use Rattle.cdb_make.specs.Views.EntryList.{list_entries, list_room}
 use Rattle.cdb_make.proofs.Entering.{told_of_set, told_of_list}

@@ -1,9 +1,9 @@
-use Rattle.std.proofs.Common.{◌≡◌, arith}
+use Rattle.std.proofs.Common.{◌≡◌}
 use Rattle.std.specs.Prelude.{All}
 use Rattle.cdb_form.specs.Format.File.{file_bytes}
 use Rattle.std.proofs.lemmas.List.Elements.{All-same}
 use Rattle.cdb_form.specs.Views.Pairs.{PairFits}
-use Rattle.cdb_make.specs.Parts.{parts_of, parts_size}
+use Rattle.cdb_make.specs.Parts.{parts_of}
 use Rattle.cdb_make.specs.Views.Index.{list_pairs, lists_pairs}
 use Rattle.cdb_make.proofs.WholeFile.{parts_are, parts_fit, entries_fit, file_fails}
 use Rattle.cdb_make.proofs.Written.{top_fits, on_ok, on_fault, same_appends}

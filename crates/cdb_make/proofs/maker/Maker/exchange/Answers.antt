@@ -1,12 +1,8 @@
-use Rattle.std.proofs.Common.{arith, refl, sym, ap, subst, ◌∙◌, ◌≡◌, ◌+◌, ◌-◌, ◌<◌, ◌≤◌, ◌++◌, ◌*◌, ◌⊎◌, ℕ, List, [], ◌∷◌, length, sum_by, vec_capacity, inl, inr}
+use Rattle.std.proofs.Common.{arith, refl, ap, ◌<◌, ℕ, vec_capacity, inl, inr}
 use Rattle.std.proofs.lemmas.Result.{err_from_is_err_and}
-use Rattle.cdb_form.specs.Format.Record.{KeyValue, record_size}
-use Rattle.cdb_make.specs.declared.gap.Gap.{Gap}
-use Rattle.cdb_make.specs.Stands.{Stands, AreGapsOf}
-use Rattle.cdb_make.specs.Survivors.{without, has_key, count_of}
-use Rattle.cdb_make.specs.Views.EntryList.{lists_entries, AreWithin}
-use Rattle.cdb_make.specs.Views.Maker.{Holds, ComesFrom}
-use Rattle.cdb_make.proofs.Exchanged.{exchanged, exchange_within, room_left, add_wants, room_same}
+use Rattle.cdb_form.specs.Format.Record.{KeyValue}
+use Rattle.cdb_make.specs.Survivors.{without, count_of}
+use Rattle.cdb_make.proofs.Exchanged.{exchanged, room_left, add_wants, room_same}
 use Rattle.cdb_make.proofs.Makers.{comes_torn}
 use Rattle.cdb_make.proofs.Puts.{comes_then}
 use Rattle.cdb_make.proofs.Whole.{count_found}

@@ -1,5 +1,4 @@
-use Rattle.std.proofs.Common.{refl, ap, ◌∙◌, ◌≡◌, ◌<◌, Err, ℕ, List, sym, subst}
-use Rattle.std.proofs.lemmas.Result.{IfOk-weaker}
+use Rattle.std.proofs.Common.{refl, ap, ◌∙◌, Err}
 use Rattle.cdb_make.proofs.Makers.{writes_looked, fails_looked}
 use Rattle.cdb_make.proofs.maker.Maker.exists.Goals as goal
 

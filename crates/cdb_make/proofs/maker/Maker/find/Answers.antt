@@ -1,4 +1,4 @@
-use Rattle.std.proofs.Common.{refl, ap, ◌∙◌, ◌≡◌, Err}
+use Rattle.std.proofs.Common.{refl, ap, ◌∙◌, Err}
 use Rattle.cdb_make.proofs.Makers.{writes_looked, fails_looked}
 use Rattle.cdb_make.proofs.maker.Maker.find.Goals as goal
 

@@ -1,4 +1,4 @@
-use Rattle.std.proofs.Common.{arith, refl}
+use Rattle.std.proofs.Common.{refl}
 use Rattle.cdb_make.proofs.Finishes.{holds_none, lists_long, lists_counted, lists_within, lists_spare}
 use Rattle.cdb_make.proofs.maker.Maker.new.Goals as goal
 

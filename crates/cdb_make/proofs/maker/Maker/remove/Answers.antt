@@ -1,4 +1,4 @@
-use Rattle.std.proofs.Common.{arith, refl, ◌≡◌, ◌<◌, ℕ, length}
+use Rattle.std.proofs.Common.{arith, refl, ◌<◌, length}
 use Rattle.std.proofs.lemmas.Result.{err_from_is_err_and}
 use Rattle.cdb_make.proofs.Makers.{removes_none, removes_some, fails_removing, comes_torn}
 use Rattle.cdb_make.proofs.maker.Maker.remove.Goals as goal

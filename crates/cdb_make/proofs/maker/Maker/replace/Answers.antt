@@ -1,8 +1,7 @@
-use Rattle.std.proofs.Common.{arith, refl, sym, ap, subst, ◌∙◌, ◌≡◌, ◌+◌, ◌-◌, ◌*◌, ◌<◌, ◌≤◌, ◌^◌, ℕ, List, [], ◌∷◌, length, sum_by}
+use Rattle.std.proofs.Common.{arith, refl, sym, ap, subst, ◌∙◌, ◌≡◌, ◌-◌, ◌*◌, ◌^◌, ℕ, List, [], length, sum_by}
 use Rattle.std.proofs.lemmas.List.{nil_from_length}
 use Rattle.std.proofs.lemmas.Result.{err_from_is_err_and}
 use Rattle.cdb_form.specs.Format.Pair.{head_size}
-use Rattle.cdb_form.specs.Format.Record.{KeyValue, record_size}
 use Rattle.cdb_make.specs.declared.gap.Gap.{Gap}
 use Rattle.cdb_make.specs.declared.mode.Mode.TheVariants.{Replace}
 use Rattle.cdb_make.specs.declared.mode.Put.TheVariants.{Added}

@@ -1,4 +1,4 @@
-use Rattle.std.proofs.Common.{◌≡◌, ◌*◌, ap, ◌∙◌, arith, ℕ}
+use Rattle.std.proofs.Common.{◌≡◌, ◌*◌, ap, arith, ℕ}
 use Rattle.cdb_make.proofs.Makers.{held_size}
 use Rattle.cdb_make.proofs.maker.Maker.size.Goals as goal
 

@@ -1,7 +1,7 @@
-use Rattle.std.proofs.Common.{arith, inl, inr, refl, sym, ap, subst, ◌∙◌, ◌≡◌, ◌<◌, ◌≤◌, ◌+◌, ◌*◌, ℕ, List, length, sum_by, vec_capacity}
+use Rattle.std.proofs.Common.{arith, sym, ap, subst, ◌∙◌, ◌≡◌, ◌≤◌, ℕ, List, length, sum_by, vec_capacity}
 use Rattle.std.proofs.lemmas.List.{take_at}
 use Rattle.cdb_make.specs.declared.list.EntryList.{EntryList}
-use Rattle.cdb_make.specs.Views.EntryList.{lists_entries, AreWithin, HasSpareGaps, AreClosed}
+use Rattle.cdb_make.specs.Views.EntryList.{lists_entries, AreWithin, HasSpareGaps}
 use Rattle.cdb_make.proofs.ClosedAll.{within_taken, spare_taken, sum_closed, count_small}
 use Rattle.cdb_make.specs.declared.gap.Gap.{Gap}
 use Rattle.cdb_make.specs.Stands.{Stands, AreGapsOf}
