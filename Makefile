@@ -50,6 +50,7 @@ install: bin/cdb
 bench: bin/cdb
 	$(PYTHON) bench/run.py --cdb bin/cdb
 	$(PYTHON) bench/stores.py
+	$(PYTHON) bench/makers.py
 
 clean:
 	rm -rf bin crates/*/out
