@@ -1,6 +1,6 @@
 // Bytes from a reader: some of them, all that are wanted, or a vector of them.
-ghost use Rattle.std.specs.Prelude.{◌≡◌, ◌≢◌, ◌+◌, ◌*◌, ◌<◌, ◌≤◌, length, take, OnOk, OnErr, IfOk};
-ghost use Rattle.std.specs.Prelude.{IfErr};
+ghost use Rattle.std.specs.Prelude.{◌≡◌, ◌≢◌, ℕ, ◌+◌, ◌*◌, ◌<◌, ◌≤◌, List, ◌++◌, length, take};
+ghost use Rattle.std.specs.Prelude.{OnOk, OnErr, IfOk, IfErr};
 ghost use Rattle.std.specs.Io.KnownBytes.{Keeps, Consumes, IsAtEnd};
 ghost use Rattle.cdb_form.specs.Format.Record.{AreBytes};
 ghost use Rattle.cdb_form.specs.Views.KnownBytes.{LosesAtMost};
@@ -13,6 +13,9 @@ use std::io::{ErrorKind, Read};
 
 /// How often in a row a reader or a writer is asked again where a signal interrupts it.
 pub(crate) const RETRIES: u32 = 1000;
+
+/// How many bytes of a vector are asked for at once.
+const PIECE: u64 = 4096;
 
 /// Why a reader did not give what it was asked for.
 #[derive(Clone, Copy, Debug, PartialEq, Eq)]
@@ -101,19 +104,51 @@ pub(crate) fn all_bytes<R: Read>(
     Ok(())
 }
 
+/// Takes some of the next bytes onto a vector, `most` of them at most. None come only at the end.
+///
+/// After a fault the vector holds what it held.
+#[inline(always)]
+fn some_onto<R: Read>(
+    reader: &mut R,
+    asks: &mut u64,
+    into: &mut Vec<u8>,
+    most: usize,
+) -> Result<usize, Unread>
+    requires some { 0 < most }
+    requires few { most ≤ 4096 }
+    ensures read { IfOk result (λ n. (piece : List ℕ)
+        × Consumes (R.remaining reader.old) (R.remaining reader.new) piece
+        × (into.new.items ≡ into.old.items ++ piece) × AreBytes piece × (length piece ≡ n)) }
+    ensures bound { IfOk result (λ n. n ≤ most) }
+    ensures end { IfOk result (λ n. n ≡ 0 → IsAtEnd (R.remaining reader.new)) }
+    ensures kept { OnErr result (Keeps (R.remaining reader.old) (R.remaining reader.new)) }
+    ensures holds { OnErr result (into.new.items ≡ into.old.items) }
+    ensures fewer { OnOk result (asks.new < asks.old) }
+    ensures no_more { asks.new ≤ asks.old }
+    ensures spends { asks.old ≤ asks.new + 1001 }
+    ensures spent { IfErr result (λ f. f ≡ Spent → asks.new ≡ 0) }
+    ensures fails { IfErr result (λ f. f ≢ Ended) }
+{
+    let held = into.len();
+    into.resize(held + most, 0)?;
+    let answer = some_bytes(reader, asks, &mut into[held..]);
+    let came = match answer {
+        Ok(n) => n,
+        Err(_) => 0,
+    };
+    into.truncate(held + came);
+    answer
+}
+
 /// Takes the next `len` bytes into a vector, over what it holds.
 ///
-/// They come through `piece`, and memory is asked for only as they come. After a fault the vector
-/// holds those that came before it.
+/// Memory is asked for only as they come. After a fault the vector holds those that came before it.
 pub(crate) fn vector<R: Read>(
     reader: &mut R,
     asks: &mut u64,
     into: &mut Vec<u8>,
     len: u64,
-    piece: &mut [u8],
 ) -> Result<(), Unread>
-    requires some { 0 < length piece.old }
-    requires few { length piece.old ≤ 4096 }
     ensures read { OnOk result (Consumes (R.remaining reader.old)
         (R.remaining reader.new) into.new.items) }
     ensures part { IfErr result (λ f.
@@ -131,17 +166,11 @@ pub(crate) fn vector<R: Read>(
 {
     into.clear();
     while (into.len() as u64) < len {
-        let left = len - into.len() as u64;
-        let most = if left < piece.len() as u64 {
-            left as usize
-        } else {
-            piece.len()
-        };
-        let n = some_bytes(reader, asks, &mut piece[..most])?;
+        let most = (len - into.len() as u64).min(PIECE);
+        let n = some_onto(reader, asks, into, most as usize)?;
         if n == 0 {
             return Err(Unread::Ended);
         }
-        into.extend_from_slice(&piece[..n])?;
     }
     Ok(())
 }

@@ -17,13 +17,14 @@ use crate::text::source::Source;
 use std::io::Read;
 
 /// The number with one more digit, where it isn't above `greatest`.
+#[inline(always)]
 fn with_digit(value: u64, digit: u32, greatest: u64) -> Option<u64>
     requires digit { digit < 10 }
-    requires room { 9 ≤ greatest }
     ensures { SomeIff result (value * 10 + digit ≤ greatest) (value * 10 + digit) }
 {
     let digit = u64::from(digit);
-    if value <= (greatest - digit) / 10 {
+    let tenth = greatest / 10;
+    if value < tenth || value == tenth && digit <= greatest % 10 {
         Some(value * 10 + digit)
     } else {
         None
@@ -32,6 +33,7 @@ fn with_digit(value: u64, digit: u32, greatest: u64) -> Option<u64>
 
 impl<R: Read> Source<R> {
     /// A numeral of at most `greatest` with `stop` behind it.
+    #[inline(always)]
     fn number(&mut self, greatest: u64, stop: u8) -> Result<u64, TextFault>
         requires { 9 ≤ greatest }
         ensures read { IfOk result (λ n. (digits : List ℕ) × IsNumeral digits n

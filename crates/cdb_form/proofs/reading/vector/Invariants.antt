@@ -1,4 +1,4 @@
-use Rattle.std.proofs.Common.{◌≡◌, ◌+◌, ◌*◌, ◌-◌, ◌≤◌, length}
+use Rattle.std.proofs.Common.{◌+◌, ◌*◌, ◌-◌, ◌≤◌, length}
 use Rattle.std.specs.Io.KnownBytes.{Consumes}
 use Rattle.cdb_form.specs.Format.Record.{AreBytes}
 use Rattle.cdb_form.proofs.reading.vector.Given as goal
@@ -12,7 +12,6 @@ invariant-loop-into g l =
       within : length l.into.items ≤ l.len;
       each : length l.into.items + 4096 * l.asks ≤ 4096 * l.fn.asks;
       spent : l.fn.asks ≤ l.asks + 1001 * length l.into.items;
-      piece : length l.piece ≡ length l.fn.piece;
     }
 
 abbrev pub decreases-loop-into : goal.decreases-loop-into
