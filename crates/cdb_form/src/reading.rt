@@ -143,6 +143,7 @@ fn some_onto<R: Read>(
 /// Takes the next `len` bytes into a vector, over what it holds.
 ///
 /// Memory is asked for only as they come. After a fault the vector holds those that came before it.
+#[inline(always)]
 pub(crate) fn vector<R: Read>(
     reader: &mut R,
     asks: &mut u64,

@@ -22,10 +22,9 @@ fn with_digit(value: u64, digit: u32, greatest: u64) -> Option<u64>
     requires digit { digit < 10 }
     ensures { SomeIff result (value * 10 + digit ≤ greatest) (value * 10 + digit) }
 {
-    let digit = u64::from(digit);
-    let tenth = greatest / 10;
-    if value < tenth || value == tenth && digit <= greatest % 10 {
-        Some(value * 10 + digit)
+    let longer = value.checked_mul(10)?.checked_add(u64::from(digit))?;
+    if longer <= greatest {
+        Some(longer)
     } else {
         None
     }
@@ -93,6 +92,7 @@ impl<R: Read> Source<R> {
 
     /// Takes the next `len` bytes, and `stop` behind them: the text goes on with `len + 1` bytes of
     /// any kind or ends early, so they are asked for together.
+    #[inline(always)]
     fn field(&mut self, into: &mut Vec<u8>, len: u64, stop: u8) -> Result<(), TextFault>
         requires { len < 2 ^ 63 }
         ensures read { OnOk result (Consumes (R.remaining self.old.reader)

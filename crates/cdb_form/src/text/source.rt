@@ -69,6 +69,7 @@ impl<R: Read> Source<R> {
     }
 
     /// Takes the next `len` bytes. Memory is asked for only as they come.
+    #[inline(always)]
     pub(crate) fn bytes(&mut self, into: &mut Vec<u8>, len: u64) -> Result<(), TextFault>
         requires { len ≤ 2 ^ 63 }
         ensures read { OnOk result (Consumes (R.remaining self.old.reader)
