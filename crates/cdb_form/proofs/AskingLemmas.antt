@@ -1,6 +1,6 @@
 -- What a reader gave, ask after ask.
-use Rattle.std.proofs.Common.{◌≡◌, ℕ, ◌+◌, ◌≤◌, List, ◌++◌, length, take, replicate, ap, ◌∙◌, arith, Option, append_assoc, length-append}
-use Rattle.std.proofs.lemmas.List.{take-append-le, take-take, take_all, length-take-le, length-replicate}
+use Rattle.std.proofs.Common.{◌≡◌, ℕ, ◌+◌, ◌≤◌, List, ◌++◌, length, take, replicate, ap, sym, ◌∙◌, arith, Option, append_assoc, length-append}
+use Rattle.std.proofs.lemmas.List.{take-append-le, take-take, length-take-le, length-replicate}
 use Rattle.std.specs.Io.KnownBytes.{Consumes}
 use borrow.Rule.Slice.PartMut.{put_mid, post_of}
 use Rattle.cdb_form.specs.Format.Record.{AreBytes}
@@ -31,19 +31,14 @@ read_more old mid new so_far into done n a are long b bytes few = record {
 pub zeros_long : (size room : ℕ) → size ≤ room → length (take size (replicate {A = ℕ} room 0)) ≡ size
 zeros_long size room small = length-take-le size (replicate {A = ℕ} room 0) (omega (arith, length-replicate {A = ℕ} room 0))
 
--- what a vector held, of which a copy with room behind it was made
-pub held_front : (held most spare : ℕ) (old xs : List ℕ) → held ≡ length old → xs ≡ take (held + most) old ++ replicate {A = ℕ} spare 0 → take held xs ≡ old
-held_front held most spare old xs long e =
-    ap (take held) e
-    ∙ ap (λ t. take held (t ++ replicate {A = ℕ} spare 0)) (take_all (held + most) old (omega (arith, long)))
-    ∙ take-append-le held old (replicate {A = ℕ} spare 0) (omega (arith, long))
-    ∙ take_all held old (omega (arith, long))
+-- a front of what a vector held before it was made longer
+pub same_front : (held : ℕ) (old longer : List ℕ) → held ≤ length old → take (length old) longer ≡ old → take held longer ≡ take held old
+same_front held old longer within front = sym (take-take held (length old) longer within) ∙ ap (take held) front
 
--- n bytes came behind a front, and the rest was cut off
-pub cut_behind : (held n len : ℕ) (front ys post rest cut : List ℕ) → length front ≡ held → n ≤ length ys → held + n ≤ len → cut ≡ take (held + n) (take len (front ++ (ys ++ post) ++ rest)) → cut ≡ front ++ take n ys
-cut_behind held n len front ys post rest cut long few within e =
-    e
-    ∙ take-take (held + n) len (front ++ (ys ++ post) ++ rest) within
+-- n bytes came behind a front
+pub came_behind : (held n len : ℕ) (front ys post rest : List ℕ) → length front ≡ held → n ≤ length ys → held + n ≤ len → take (held + n) (take len (front ++ (ys ++ post) ++ rest)) ≡ front ++ take n ys
+came_behind held n len front ys post rest long few within =
+    take-take (held + n) len (front ++ (ys ++ post) ++ rest) within
     ∙ ap (take (held + n)) (append_assoc front (ys ++ post) rest)
     ∙ take_past front (ys ++ post ++ rest) held n long
     ∙ ap (λ t. front ++ t) (take-append-le n (ys ++ post) rest (omega (arith, few, length-append ys post)) ∙ take-append-le n ys post few)

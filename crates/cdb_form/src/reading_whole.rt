@@ -68,7 +68,7 @@ pub fn read_whole<R: Read>(reader: &mut R, into: &mut Vec<u8>, most: u64) -> Res
     ensures loses { LosesAtMost (R.remaining reader.old) (R.remaining reader.new) (most + 1) }
 {
     let mut asks = u64::MAX;
-    match vector(reader, &mut asks, into, most + 1) {
+    match vector(reader, &mut asks, into, most + 1, 4096) {
         Ok(()) => Ok(Extent::More),
         Err(Unread::Ended) => Ok(Extent::All),
         Err(Unread::Failed | Unread::Spent) => Err(InFault::Failed),

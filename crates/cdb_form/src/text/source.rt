@@ -7,6 +7,9 @@ use crate::reading::{some_bytes, vector};
 use crate::text::fault::TextFault;
 use std::io::Read;
 
+/// How many bytes of a key or value are asked for at once.
+const PIECE: u64 = 4096;
+
 /// A reader with the count of the bytes that it gave, and of the asks that it has left.
 #[derive(Drop)]
 pub(crate) struct Source<R> {
@@ -84,7 +87,7 @@ impl<R: Read> Source<R> {
         ensures leaves { IfErr result (Leaves R.remaining self.old self.new) }
         ensures spends { OnOk result (budget self.old ≤ budget self.new) }
     {
-        let answer = vector(&mut self.reader, &mut self.asks, into, len);
+        let answer = vector(&mut self.reader, &mut self.asks, into, len, PIECE);
         self.taken += into.len() as u64;
         match answer {
             Ok(()) => Ok(()),

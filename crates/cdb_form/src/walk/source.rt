@@ -27,8 +27,11 @@ const GREATEST_HEAD: usize = 4096;
 
 const GREATEST_HEADER: usize = 16;
 
+/// How many bytes of a key or value are asked for at once, as many as a pipe holds.
+const PIECE: u64 = 65536;
+
 /// How many bytes of a value that is passed over are asked for at once.
-const PIECE: usize = 512;
+const PASSED: usize = 512;
 
 /// Fills all of `into`, or answers `early` where the reader ends before that.
 fn fill<R: Read>(reader: &mut R, into: &mut [u8], early: WalkFault) -> Result<(), WalkFault>
@@ -65,7 +68,7 @@ fn bytes<R: Read>(
     ensures loses { LosesAtMost (R.remaining reader.old) (R.remaining reader.new) len }
 {
     let mut asks = ASKS;
-    match vector(reader, &mut asks, into, len) {
+    match vector(reader, &mut asks, into, len, PIECE) {
         Ok(()) => Ok(()),
         Err(unread) => Err(WalkFault::of_reader(unread, early)),
     }
@@ -121,7 +124,7 @@ fn pass<R: Read>(reader: &mut R, len: u64, early: WalkFault) -> Result<(), WalkF
     ensures loses { LosesAtMost (R.remaining reader.old) (R.remaining reader.new) len }
 {
     let mut asks = ASKS;
-    match skip(reader, &mut asks, len, &mut [0; PIECE]) {
+    match skip(reader, &mut asks, len, &mut [0; PASSED]) {
         Ok(()) => Ok(()),
         Err(unread) => Err(WalkFault::of_reader(unread, early)),
     }
