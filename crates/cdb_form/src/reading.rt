@@ -163,7 +163,7 @@ fn some_behind<R: Read>(
 
 /// Takes the next `len` bytes into a vector, over what it holds, `piece` at once at most.
 ///
-/// Memory is asked for only as they come. After a fault the vector holds those that came before it.
+/// Memory is asked for as they come, a piece ahead. After a fault the vector holds those that came.
 #[inline(always)]
 pub(crate) fn vector<R: Read>(
     reader: &mut R,

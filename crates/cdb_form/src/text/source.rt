@@ -71,7 +71,7 @@ impl<R: Read> Source<R> {
         Ok(Some(one[0]))
     }
 
-    /// Takes the next `len` bytes. Memory is asked for only as they come.
+    /// Takes the next `len` bytes. Memory is asked for as they come, a piece ahead.
     #[inline(always)]
     pub(crate) fn bytes(&mut self, into: &mut Vec<u8>, len: u64) -> Result<(), TextFault>
         requires { len ≤ 2 ^ 63 }
