@@ -1,6 +1,6 @@
 -- Bytes through a buffer to a writer.
-use Rattle.std.proofs.Common.{◌≡◌, ℕ, ◌+◌, ◌≤◌, List, [], ◌∷◌, ◌++◌, length, take, drop, sym, ap, ◌∙◌, append_assoc, arith, Option, Some, None, Result, Ok, Err, IfOk}
-use Rattle.std.proofs.lemmas.List.{append-nil, drop-append-le, drop-drop, take-append-drop}
+use Rattle.std.proofs.Common.{◌≡◌, ℕ, ◌+◌, ◌<◌, ◌≤◌, List, [], ◌∷◌, ◌++◌, length, take, drop, sym, subst, ap, ◌∙◌, append_assoc, arith, Option, Some, None, Result, Ok, Err, IfOk}
+use Rattle.std.proofs.lemmas.List.{append-nil, length-take, drop-append-le, drop-drop, take-append-drop, take-take}
 use Rattle.std.proofs.Math.Seq.{drop-nil}
 use Rattle.std.specs.Io.KnownBytes.{append_known, Appends, Keeps}
 
@@ -29,6 +29,7 @@ passed_on [] zs start (Some o) (Some m) (Some n) e k a =
     none n ∙ a ∙ ap (λ t. t ++ zs) (sym (none m) ∙ k)
 passed_on (x ∷ xs) zs start (Some o) (Some m) (Some n) e k a = absurd (omega (arith, e))
 
-pub some_passed_on : {E : Type 0} (r : Result ℕ E) (xs bytes : List ℕ) (start : ℕ) (old mid new : Option (List ℕ)) → length xs ≡ 0 → Keeps old (append_known mid (drop start xs)) → IfOk r (λ n. Appends mid new (take n bytes)) → IfOk r (λ n. Appends old (append_known new (drop start xs)) (take n bytes))
-some_passed_on (Ok n) xs bytes start old mid new e k a = passed_on xs (take n bytes) start old mid new e k a
-some_passed_on (Err f) xs bytes start old mid new e k a = tt
+pub some_passed_on : {E : Type 0} (r : Result ℕ E) (xs bytes : List ℕ) (most start : ℕ) (old mid new : Option (List ℕ)) → length xs ≡ 0 → Keeps old (append_known mid (drop start xs)) → IfOk r (λ n. (0 < n) × (n ≤ length (take most bytes)))
+    → IfOk r (λ n. Appends mid new (take n (take most bytes))) → IfOk r (λ n. Appends old (append_known new (drop start xs)) (take n bytes))
+some_passed_on (Ok n) xs bytes most start old mid new e k few a = passed_on xs (take n bytes) start old mid new e k (subst (Appends mid new) (take-take n most bytes (omega (arith, few.1, length-take most bytes))) a)
+some_passed_on (Err f) xs bytes most start old mid new e k few a = tt

@@ -8,6 +8,10 @@ use cdb_form::{OutFault, write_some};
 use std::alloc::{AllocError, Global};
 use std::io::{self, ErrorKind, Write};
 
+/// How many bytes go straight on at once. Of more a file's cache takes memory in larger blocks,
+/// which costs the system more.
+const MOST: usize = 131072;
+
 /// Takes the bytes for a writer, which is given many at once.
 #[derive(Drop)]
 pub(crate) struct Output<W> {
@@ -70,7 +74,8 @@ impl<W: Write> Output<W> {
             (Keeps (output_bytes W.contents self.old) (output_bytes W.contents self.new)) }
     {
         self.hand_on()?;
-        write_some(&mut self.writer, bytes)
+        let most = bytes.len().min(MOST);
+        write_some(&mut self.writer, &bytes[..most])
     }
 
     /// Takes bytes into the buffer, as many as it has room for.
