@@ -1,17 +1,20 @@
 #!/usr/bin/env python3
 """Times `cdb` beside tinycdb and freecdb, where they are installed.
 
-The input is made from a fixed seed: records with keys of 10 bytes and values of 20 to 100. The
-programs run in turns, so that a change of the machine's pace meets them all alike, and what
-counts is the processor time (user and system) of each run, of which the median is told.
+The input is made from a fixed seed: records with keys of 10 bytes and values of 20 to 100, which
+come from files, and then a few records with values of 5 MB, which come through a pipe. The
+programs run in turns, each of them first in some, so that a change of the machine's pace and what
+the run before has left in its memory meet them all alike. What counts is the processor time
+(user and system) of each run, of which the median is told.
 
-    bench/run.py [--records N] [--rounds N] [--cdb PATH]
+    bench/run.py [--records N] [--large N] [--rounds N] [--cdb PATH]
 """
 
 import argparse
 import os
 import random
 import shutil
+import signal
 import statistics
 import subprocess
 import sys
@@ -19,6 +22,7 @@ import tempfile
 
 SEED = 20261122
 ALPHABET = b"abcdefghijklmnopqrstuvwxyz0123456789"
+LARGE_VALUE = 5_000_000
 
 
 def write_text(path, records):
@@ -31,28 +35,56 @@ def write_text(path, records):
         out.write(b"\n")
 
 
-def run(words, stdin, stdout):
+def write_large_text(path, records):
+    chosen = random.Random(SEED)
+    with open(path, "wb") as out:
+        for _ in range(records):
+            key = bytes(chosen.choices(ALPHABET, k=10))
+            out.write(b"+%d,%d:%s->" % (len(key), LARGE_VALUE, key))
+            out.write(chosen.randbytes(LARGE_VALUE))
+            out.write(b"\n")
+        out.write(b"\n")
+
+
+def feed(path):
+    """A pipe that a process fills from a file: its end to read from, and the process."""
+    source, target = os.pipe()
+    feeder = os.fork()
+    if feeder == 0:
+        signal.signal(signal.SIGPIPE, signal.SIG_DFL)
+        os.dup2(os.open(path, os.O_RDONLY), 0)
+        os.dup2(target, 1)
+        os.execvp("cat", ["cat"])
+    os.close(target)
+    return source, feeder
+
+
+def run(words, stdin, stdout, piped):
     """Processor seconds and peak kilobytes of one run."""
+    source, feeder = feed(stdin) if piped else (os.open(stdin, os.O_RDONLY), None)
     child = os.fork()
     if child == 0:
-        source = os.open(stdin, os.O_RDONLY)
         target = os.open(stdout, os.O_WRONLY | os.O_CREAT | os.O_TRUNC, 0o644)
         os.dup2(source, 0)
         os.dup2(target, 1)
         os.execvp(words[0], words)
+    os.close(source)
     _, status, usage = os.wait4(child, 0)
+    if feeder:
+        os.waitpid(feeder, 0)
     if status != 0:
         sys.exit(f"{' '.join(words)}: status {status}")
     return usage.ru_utime + usage.ru_stime, usage.ru_maxrss
 
 
-def compare(title, programs, rounds):
+def compare(title, programs, rounds, piped=False):
     """Each program is a name, its words, and the files of its standard input and output."""
     seconds = {name: [] for name, *_ in programs}
     peaks = {}
-    for _ in range(rounds):
-        for name, words, stdin, stdout in programs:
-            used, peak = run(words, stdin, stdout)
+    for turn in range(rounds):
+        first = turn % len(programs)
+        for name, words, stdin, stdout in programs[first:] + programs[:first]:
+            used, peak = run(words, stdin, stdout, piped)
             seconds[name].append(used)
             peaks[name] = max(peak, peaks.get(name, 0))
     print(f"{title}, median processor seconds of {rounds} runs")
@@ -73,14 +105,34 @@ def tinycdb():
     return None
 
 
+def compare_large(ours, tiny, records, rounds):
+    """Compares the programs on a few long records that come through a pipe."""
+    with tempfile.TemporaryDirectory() as folder:
+        def path(name):
+            return os.path.join(folder, name)
+
+        text = path("text")
+        write_large_text(text, records)
+        print(f"{records} records of {LARGE_VALUE} bytes, through a pipe")
+        makers = [("cdb -c -", [ours, "-c", "-"], text, path("ours.cdb"))]
+        dumpers = [("cdb -d", [ours, "-d"], path("ours.cdb"), path("ours.text"))]
+        if tiny:
+            makers.append(("tinycdb cdb -c", [tiny, "-c", path("tiny.cdb")], text, os.devnull))
+            dumpers.append(("tinycdb cdb -d -", [tiny, "-d", "-"], path("ours.cdb"), path("tiny.text")))
+        compare("create", makers, rounds, piped=True)
+        compare("dump", dumpers, rounds, piped=True)
+
+
 def main():
     here = os.path.dirname(os.path.abspath(__file__))
     parser = argparse.ArgumentParser()
     parser.add_argument("--records", type=int, default=1_000_000)
+    parser.add_argument("--large", type=int, default=60)
     parser.add_argument("--rounds", type=int, default=9)
     parser.add_argument("--cdb", default=os.path.join(here, "..", "bin", "cdb"))
     options = parser.parse_args()
     ours = os.path.abspath(options.cdb)
+    tiny = tinycdb()
     with tempfile.TemporaryDirectory() as folder:
         def path(name):
             return os.path.join(folder, name)
@@ -89,7 +141,6 @@ def main():
         write_text(text, options.records)
         print(f"{options.records} records, {os.path.getsize(text)} bytes of text")
         makers = [("cdb -c -", [ours, "-c", "-"], text, path("ours.cdb"))]
-        tiny = tinycdb()
         if tiny:
             makers.append(("tinycdb cdb -c", [tiny, "-c", path("tiny.cdb")], text, os.devnull))
         if shutil.which("cdbmake"):
@@ -102,6 +153,8 @@ def main():
         if shutil.which("cdbdump"):
             dumpers.append(("freecdb cdbdump", ["cdbdump"], database, path("free.text")))
         compare("dump", dumpers, options.rounds)
+    if options.large:
+        compare_large(ours, tiny, options.large, options.rounds)
 
 
 if __name__ == "__main__":

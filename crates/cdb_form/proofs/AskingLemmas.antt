@@ -1,6 +1,6 @@
 -- What a reader gave, ask after ask.
-use Rattle.std.proofs.Common.{◌≡◌, ℕ, ◌+◌, ◌≤◌, List, ◌++◌, length, take, replicate, ap, ◌∙◌, arith, Option, length-append}
-use Rattle.std.proofs.lemmas.List.{take-append-le, length-take-le, length-replicate}
+use Rattle.std.proofs.Common.{◌≡◌, ℕ, ◌+◌, ◌≤◌, List, ◌++◌, length, take, replicate, ap, sym, ◌∙◌, arith, Option, append_assoc, length-append}
+use Rattle.std.proofs.lemmas.List.{take-append-le, take-take, length-take-le, length-replicate}
 use Rattle.std.specs.Io.KnownBytes.{Consumes}
 use borrow.Rule.Slice.PartMut.{put_mid, post_of}
 use Rattle.cdb_form.specs.Format.Record.{AreBytes}
@@ -30,3 +30,15 @@ read_more old mid new so_far into done n a are long b bytes few = record {
 -- the front of some zeros, that words are read into
 pub zeros_long : (size room : ℕ) → size ≤ room → length (take size (replicate {A = ℕ} room 0)) ≡ size
 zeros_long size room small = length-take-le size (replicate {A = ℕ} room 0) (omega (arith, length-replicate {A = ℕ} room 0))
+
+-- a front of what a vector held before it was made longer
+pub same_front : (held : ℕ) (old longer : List ℕ) → held ≤ length old → take (length old) longer ≡ old → take held longer ≡ take held old
+same_front held old longer within front = sym (take-take held (length old) longer within) ∙ ap (take held) front
+
+-- n bytes came behind a front
+pub came_behind : (held n len : ℕ) (front ys post rest : List ℕ) → length front ≡ held → n ≤ length ys → held + n ≤ len → take (held + n) (take len (front ++ (ys ++ post) ++ rest)) ≡ front ++ take n ys
+came_behind held n len front ys post rest long few within =
+    take-take (held + n) len (front ++ (ys ++ post) ++ rest) within
+    ∙ ap (take (held + n)) (append_assoc front (ys ++ post) rest)
+    ∙ take_past front (ys ++ post ++ rest) held n long
+    ∙ ap (λ t. front ++ t) (take-append-le n (ys ++ post) rest (omega (arith, few, length-append ys post)) ∙ take-append-le n ys post few)

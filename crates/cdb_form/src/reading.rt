@@ -1,6 +1,6 @@
 // Bytes from a reader: some of them, all that are wanted, or a vector of them.
-ghost use Rattle.std.specs.Prelude.{◌≡◌, ◌≢◌, ◌+◌, ◌*◌, ◌<◌, ◌≤◌, length, take, OnOk, OnErr, IfOk};
-ghost use Rattle.std.specs.Prelude.{IfErr};
+ghost use Rattle.std.specs.Prelude.{◌≡◌, ◌≢◌, ℕ, ◌+◌, ◌*◌, ◌^◌, ◌<◌, ◌≤◌, List, ◌++◌, length, take};
+ghost use Rattle.std.specs.Prelude.{OnOk, OnErr, IfOk, IfErr};
 ghost use Rattle.std.specs.Io.KnownBytes.{Keeps, Consumes, IsAtEnd};
 ghost use Rattle.cdb_form.specs.Format.Record.{AreBytes};
 ghost use Rattle.cdb_form.specs.Views.KnownBytes.{LosesAtMost};
@@ -101,19 +101,78 @@ pub(crate) fn all_bytes<R: Read>(
     Ok(())
 }
 
-/// Takes the next `len` bytes into a vector, over what it holds.
+/// Makes a vector so long at least, by zeros. Where memory runs out it stays as it is.
+#[inline(always)]
+fn lengthen(into: &mut Vec<u8>, len: usize) -> Result<(), AllocError>
+    ensures front { take (length into.old.items) into.new.items ≡ into.old.items }
+    ensures long { OnOk result (len ≤ length into.new.items) }
+    ensures longer { length into.old.items ≤ length into.new.items }
+{
+    if into.len() < len {
+        into.resize(len, 0)?;
+    }
+    Ok(())
+}
+
+/// Takes some of the next bytes into a vector, behind its first `held` and over what it holds
+/// there: one at least and `most` at most.
 ///
-/// They come through `piece`, and memory is asked for only as they come. After a fault the vector
-/// holds those that came before it.
+/// After a fault the vector holds its first `held` bytes alone.
+#[inline(always)]
+fn some_behind<R: Read>(
+    reader: &mut R,
+    asks: &mut u64,
+    into: &mut Vec<u8>,
+    held: usize,
+    most: usize,
+) -> Result<usize, Unread>
+    requires some { 0 < most }
+    requires room { held + most < 2 ^ 64 }
+    requires within { held ≤ length into.old.items }
+    ensures read { IfOk result (λ n. (piece : List ℕ)
+        × Consumes (R.remaining reader.old) (R.remaining reader.new) piece
+        × (take (held + n) into.new.items ≡ take held into.old.items ++ piece)
+        × AreBytes piece × (length piece ≡ n)) }
+    ensures within { IfOk result (λ n. held + n ≤ length into.new.items) }
+    ensures bound { IfOk result (λ n. (0 < n) × (n ≤ most)) }
+    ensures ended { IfErr result (λ f. f ≡ Ended → IsAtEnd (R.remaining reader.new)) }
+    ensures kept { OnErr result (Keeps (R.remaining reader.old) (R.remaining reader.new)) }
+    ensures holds { OnErr result (into.new.items ≡ take held into.old.items) }
+    ensures fewer { OnOk result (asks.new < asks.old) }
+    ensures no_more { asks.new ≤ asks.old }
+    ensures spends { asks.old ≤ asks.new + 1001 }
+    ensures spent { IfErr result (λ f. f ≡ Spent → asks.new ≡ 0) }
+{
+    let end = held + most;
+    if lengthen(into, end).is_err() {
+        into.truncate(held);
+        return Err(Unread::NoMemory);
+    }
+    match some_bytes(reader, asks, &mut into[held..end]) {
+        Ok(0) => {
+            into.truncate(held);
+            Err(Unread::Ended)
+        }
+        Ok(n) => Ok(n),
+        Err(unread) => {
+            into.truncate(held);
+            Err(unread)
+        }
+    }
+}
+
+/// Takes the next `len` bytes into a vector, over what it holds, `piece` at once at most.
+///
+/// Memory is asked for as they come, a piece ahead. After a fault the vector holds those that came.
+#[inline(always)]
 pub(crate) fn vector<R: Read>(
     reader: &mut R,
     asks: &mut u64,
     into: &mut Vec<u8>,
     len: u64,
-    piece: &mut [u8],
+    piece: u64,
 ) -> Result<(), Unread>
-    requires some { 0 < length piece.old }
-    requires few { length piece.old ≤ 4096 }
+    requires { 0 < piece }
     ensures read { OnOk result (Consumes (R.remaining reader.old)
         (R.remaining reader.new) into.new.items) }
     ensures part { IfErr result (λ f.
@@ -124,25 +183,17 @@ pub(crate) fn vector<R: Read>(
     ensures ended { IfErr result (λ f. f ≡ Ended → IsAtEnd (R.remaining reader.new)) }
     ensures loses { LosesAtMost (R.remaining reader.old) (R.remaining reader.new) len }
     ensures no_more { asks.new ≤ asks.old }
-    ensures each { length into.new.items + 4096 * asks.new ≤ 4096 * asks.old }
+    ensures each { piece ≤ 4096 → length into.new.items + 4096 * asks.new ≤ 4096 * asks.old }
     ensures spends { OnOk result (asks.old ≤ asks.new + 1001 * length into.new.items) }
     ensures spends_err { OnErr result (asks.old ≤ asks.new + 1001 * length into.new.items + 1001) }
     ensures spent { IfErr result (λ f. f ≡ Spent → asks.new ≡ 0) }
 {
-    into.clear();
-    while (into.len() as u64) < len {
-        let left = len - into.len() as u64;
-        let most = if left < piece.len() as u64 {
-            left as usize
-        } else {
-            piece.len()
-        };
-        let n = some_bytes(reader, asks, &mut piece[..most])?;
-        if n == 0 {
-            return Err(Unread::Ended);
-        }
-        into.extend_from_slice(&piece[..n])?;
+    let mut done = 0;
+    while (done as u64) < len {
+        let most = (len - done as u64).min(piece);
+        done += some_behind(reader, asks, into, done, most as usize)?;
     }
+    into.truncate(done);
     Ok(())
 }
 

@@ -56,7 +56,7 @@ impl Error for InFault {}
 ///
 /// One byte more is asked for, to see that there is none. At `More` the vector holds `most + 1`
 /// bytes, and the reader has what follows them. At `Failed` it holds the bytes that came before
-/// the fault. Memory is asked for only as bytes come.
+/// the fault. Memory is asked for as bytes come, a piece ahead.
 pub fn read_whole<R: Read>(reader: &mut R, into: &mut Vec<u8>, most: u64) -> Result<Extent, InFault>
     requires { most < 2 ^ 64 - 1 }
     ensures given { IfOk result (Gives most (R.remaining reader.old)
@@ -68,7 +68,7 @@ pub fn read_whole<R: Read>(reader: &mut R, into: &mut Vec<u8>, most: u64) -> Res
     ensures loses { LosesAtMost (R.remaining reader.old) (R.remaining reader.new) (most + 1) }
 {
     let mut asks = u64::MAX;
-    match vector(reader, &mut asks, into, most + 1, &mut [0; 4096]) {
+    match vector(reader, &mut asks, into, most + 1, 4096) {
         Ok(()) => Ok(Extent::More),
         Err(Unread::Ended) => Ok(Extent::All),
         Err(Unread::Failed | Unread::Spent) => Err(InFault::Failed),

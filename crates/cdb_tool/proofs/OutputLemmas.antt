@@ -1,6 +1,7 @@
 -- Bytes through a buffer to a writer.
-use Rattle.std.proofs.Common.{◌≡◌, ℕ, ◌+◌, ◌≤◌, List, ◌++◌, length, take, drop, sym, ap, ◌∙◌, append_assoc, Option, Some, None}
-use Rattle.std.proofs.lemmas.List.{drop-append-le, drop-drop, take-append-drop}
+use Rattle.std.proofs.Common.{◌≡◌, ℕ, ◌+◌, ◌<◌, ◌≤◌, List, [], ◌∷◌, ◌++◌, length, take, drop, sym, subst, ap, ◌∙◌, append_assoc, arith, Option, Some, None, Result, Ok, Err, IfOk}
+use Rattle.std.proofs.lemmas.List.{append-nil, length-take, drop-append-le, drop-drop, take-append-drop, take-take}
+use Rattle.std.proofs.Math.Seq.{drop-nil}
 use Rattle.std.specs.Io.KnownBytes.{append_known, Appends, Keeps}
 
 -- n bytes of the buffer went to the writer
@@ -17,3 +18,18 @@ handed_on xs rest start n (Some o) (Some p) e a =
 pub taken_in : (xs ys zs : List ℕ) (start : ℕ) (w : Option (List ℕ)) → start ≤ length xs → ys ≡ xs ++ zs → Appends (append_known w (drop start xs)) (append_known w (drop start ys)) zs
 taken_in xs ys zs start None h e = tt
 taken_in xs ys zs start (Some o) h e = ap (λ t. o ++ drop start t) e ∙ ap (λ t. o ++ t) (drop-append-le start xs zs h) ∙ sym (append_assoc o (drop start xs) zs)
+
+-- all that the buffer held went on, and then some more bytes
+passed_on : (xs zs : List ℕ) (start : ℕ) (old mid new : Option (List ℕ)) → length xs ≡ 0 → Keeps old (append_known mid (drop start xs)) → Appends mid new zs → Appends old (append_known new (drop start xs)) zs
+passed_on xs zs start None mid new e k a = tt
+passed_on xs zs start (Some o) None new e k a = absurd k
+passed_on xs zs start (Some o) (Some m) None e k a = absurd a
+passed_on [] zs start (Some o) (Some m) (Some n) e k a =
+    let none : (t : List ℕ) → t ++ drop start [] ≡ t = λ t. ap (λ d. t ++ d) (drop-nil start) ∙ append-nil t in
+    none n ∙ a ∙ ap (λ t. t ++ zs) (sym (none m) ∙ k)
+passed_on (x ∷ xs) zs start (Some o) (Some m) (Some n) e k a = absurd (omega (arith, e))
+
+pub some_passed_on : {E : Type 0} (r : Result ℕ E) (xs bytes : List ℕ) (most start : ℕ) (old mid new : Option (List ℕ)) → length xs ≡ 0 → Keeps old (append_known mid (drop start xs)) → IfOk r (λ n. (0 < n) × (n ≤ length (take most bytes)))
+    → IfOk r (λ n. Appends mid new (take n (take most bytes))) → IfOk r (λ n. Appends old (append_known new (drop start xs)) (take n bytes))
+some_passed_on (Ok n) xs bytes most start old mid new e k few a = passed_on xs (take n bytes) start old mid new e k (subst (Appends mid new) (take-take n most bytes (omega (arith, few.1, length-take most bytes))) a)
+some_passed_on (Err f) xs bytes most start old mid new e k few a = tt

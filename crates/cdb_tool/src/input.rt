@@ -6,6 +6,10 @@ ghost use Rattle.std.specs.Io.KnownBytes.{Keeps, Consumes, IsAtEnd};
 use std::alloc::{AllocError, Global};
 use std::io::{self, ErrorKind, Read};
 
+/// From so many bytes on a read goes past the empty window, which saves a copy. That it is known
+/// when the program is compiled keeps shorter reads as fast as they are without it.
+const LONG: usize = 65536;
+
 /// Gives the bytes of a reader, which is asked for many at once.
 #[derive(Drop)]
 pub(crate) struct Input<R> {
@@ -60,6 +64,25 @@ impl<R: Read> Input<R> {
         }
     }
 
+    /// Gives bytes of the reader past the empty window, by one ask.
+    #[cold]
+    #[inline(never)]
+    fn read_past(&mut self, buf: &mut [u8]) -> Result<usize, ErrorKind>
+        requires { self.old.start ≡ self.old.end }
+        ensures bound { IfOk result (λ n. n ≤ length buf.old) }
+        ensures bytes { IfOk result (λ n. Consumes (input_bytes R.remaining self.old)
+            (input_bytes R.remaining self.new) (take n buf.new)) }
+        ensures end { IfOk result (λ n.
+            n ≡ 0 → 0 < length buf.old → IsAtEnd (input_bytes R.remaining self.new)) }
+        ensures kept { OnErr result (Keeps (input_bytes R.remaining self.old)
+            (input_bytes R.remaining self.new)) }
+    {
+        match self.reader.read(buf) {
+            Ok(n) => Ok(n),
+            Err(e) => Err(e.kind()),
+        }
+    }
+
     /// Gives bytes of the window.
     fn give(&mut self, buf: &mut [u8]) -> usize
         ensures count { result ≡ min (length buf.old) (length (window_of self.old)) }
@@ -80,6 +103,12 @@ impl<R: Read> Read for Input<R> {
 
     #[inline(always)]
     fn read(&mut self, buf: &mut [u8]) -> io::Result<usize> {
+        if LONG <= buf.len() && self.start == self.end {
+            return match self.read_past(buf) {
+                Ok(n) => Ok(n),
+                Err(kind) => Err(io::Error::from(kind)),
+            };
+        }
         if self.start == self.end
             && let Err(kind) = self.refill()
         {

@@ -8,6 +8,10 @@ use cdb_form::{OutFault, write_some};
 use std::alloc::{AllocError, Global};
 use std::io::{self, ErrorKind, Write};
 
+/// How many bytes go straight on at once. Of more a file's cache takes memory in larger blocks,
+/// which costs the system more.
+const MOST: usize = 131072;
+
 /// Takes the bytes for a writer, which is given many at once.
 #[derive(Drop)]
 pub(crate) struct Output<W> {
@@ -58,6 +62,22 @@ impl<W: Write> Output<W> {
         Ok(())
     }
 
+    /// Hands the bytes on that are held, and some more straight to the writer, at least one.
+    #[cold]
+    #[inline(never)]
+    fn pass_on(&mut self, bytes: &[u8]) -> Result<usize, OutFault>
+        requires { 0 < length bytes.now }
+        ensures count { IfOk result (λ n. (0 < n) × (n ≤ length bytes.now)) }
+        ensures ok { IfOk result (λ n. Appends (output_bytes W.contents self.old)
+            (output_bytes W.contents self.new) (take n bytes.now)) }
+        ensures err { OnErr result
+            (Keeps (output_bytes W.contents self.old) (output_bytes W.contents self.new)) }
+    {
+        self.hand_on()?;
+        let most = bytes.len().min(MOST);
+        write_some(&mut self.writer, &bytes[..most])
+    }
+
     /// Takes bytes into the buffer, as many as it has room for.
     fn take(&mut self, bytes: &[u8]) -> Result<usize, AllocError>
         ensures count { IfOk result (λ n.
@@ -86,6 +106,13 @@ impl<W: Write> Write for Output<W> {
         // Some bytes are taken where there are any.
         ensures some { IfOk result (λ n. 0 < length buf.now → 0 < n) }
     {
+        // More than the buffer has room for isn't copied.
+        if self.size < buf.len() {
+            let Ok(n) = self.pass_on(buf) else {
+                return Err(io::Error::from(ErrorKind::Other));
+            };
+            return Ok(n);
+        }
         if self.buffer.len() == self.size {
             let Ok(()) = self.hand_on() else {
                 return Err(io::Error::from(ErrorKind::Other));

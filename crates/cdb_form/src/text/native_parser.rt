@@ -17,14 +17,14 @@ use crate::text::source::Source;
 use std::io::Read;
 
 /// The number with one more digit, where it isn't above `greatest`.
+#[inline(always)]
 fn with_digit(value: u64, digit: u32, greatest: u64) -> Option<u64>
     requires digit { digit < 10 }
-    requires room { 9 ≤ greatest }
     ensures { SomeIff result (value * 10 + digit ≤ greatest) (value * 10 + digit) }
 {
-    let digit = u64::from(digit);
-    if value <= (greatest - digit) / 10 {
-        Some(value * 10 + digit)
+    let longer = value.checked_mul(10)?.checked_add(u64::from(digit))?;
+    if longer <= greatest {
+        Some(longer)
     } else {
         None
     }
@@ -32,6 +32,7 @@ fn with_digit(value: u64, digit: u32, greatest: u64) -> Option<u64>
 
 impl<R: Read> Source<R> {
     /// A numeral of at most `greatest` with `stop` behind it.
+    #[inline(always)]
     fn number(&mut self, greatest: u64, stop: u8) -> Result<u64, TextFault>
         requires { 9 ≤ greatest }
         ensures read { IfOk result (λ n. (digits : List ℕ) × IsNumeral digits n
@@ -91,6 +92,7 @@ impl<R: Read> Source<R> {
 
     /// Takes the next `len` bytes, and `stop` behind them: the text goes on with `len + 1` bytes of
     /// any kind or ends early, so they are asked for together.
+    #[inline(always)]
     fn field(&mut self, into: &mut Vec<u8>, len: u64, stop: u8) -> Result<(), TextFault>
         requires { len < 2 ^ 63 }
         ensures read { OnOk result (Consumes (R.remaining self.old.reader)

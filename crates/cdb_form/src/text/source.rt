@@ -8,7 +8,7 @@ use crate::text::fault::TextFault;
 use std::io::Read;
 
 /// How many bytes of a key or value are asked for at once.
-const PIECE: usize = 256;
+const PIECE: u64 = 4096;
 
 /// A reader with the count of the bytes that it gave, and of the asks that it has left.
 #[derive(Drop)]
@@ -71,7 +71,8 @@ impl<R: Read> Source<R> {
         Ok(Some(one[0]))
     }
 
-    /// Takes the next `len` bytes. Memory is asked for only as they come.
+    /// Takes the next `len` bytes. Memory is asked for as they come, a piece ahead.
+    #[inline(always)]
     pub(crate) fn bytes(&mut self, into: &mut Vec<u8>, len: u64) -> Result<(), TextFault>
         requires { len ≤ 2 ^ 63 }
         ensures read { OnOk result (Consumes (R.remaining self.old.reader)
@@ -86,8 +87,7 @@ impl<R: Read> Source<R> {
         ensures leaves { IfErr result (Leaves R.remaining self.old self.new) }
         ensures spends { OnOk result (budget self.old ≤ budget self.new) }
     {
-        let mut piece = [0u8; PIECE];
-        let answer = vector(&mut self.reader, &mut self.asks, into, len, &mut piece);
+        let answer = vector(&mut self.reader, &mut self.asks, into, len, PIECE);
         self.taken += into.len() as u64;
         match answer {
             Ok(()) => Ok(()),

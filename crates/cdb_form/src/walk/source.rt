@@ -27,8 +27,11 @@ const GREATEST_HEAD: usize = 4096;
 
 const GREATEST_HEADER: usize = 16;
 
-/// How many bytes of a key or value are asked for at once.
-const PIECE: usize = 512;
+/// How many bytes of a key or value are asked for at once, as many as a pipe holds.
+const PIECE: u64 = 65536;
+
+/// How many bytes of a value that is passed over are asked for at once.
+const PASSED: usize = 512;
 
 /// Fills all of `into`, or answers `early` where the reader ends before that.
 fn fill<R: Read>(reader: &mut R, into: &mut [u8], early: WalkFault) -> Result<(), WalkFault>
@@ -48,16 +51,13 @@ fn fill<R: Read>(reader: &mut R, into: &mut [u8], early: WalkFault) -> Result<()
     }
 }
 
-/// Takes the next `len` bytes through `piece`, or answers `early` where the reader ends before.
+/// Takes the next `len` bytes, or answers `early` where the reader ends before.
 fn bytes<R: Read>(
     reader: &mut R,
     into: &mut Vec<u8>,
     len: u64,
-    piece: &mut [u8],
     early: WalkFault,
 ) -> Result<(), WalkFault>
-    requires some { 0 < length piece.old }
-    requires few { length piece.old ≤ 4096 }
     ensures read { OnOk result (Consumes (R.remaining reader.old)
         (R.remaining reader.new) into.new.items) }
     ensures are { AreBytes into.new.items }
@@ -68,7 +68,7 @@ fn bytes<R: Read>(
     ensures loses { LosesAtMost (R.remaining reader.old) (R.remaining reader.new) len }
 {
     let mut asks = ASKS;
-    match vector(reader, &mut asks, into, len, piece) {
+    match vector(reader, &mut asks, into, len, PIECE) {
         Ok(()) => Ok(()),
         Err(unread) => Err(WalkFault::of_reader(unread, early)),
     }
@@ -116,13 +116,7 @@ pub(crate) enum Keeping {
 }
 
 /// Passes over the next `len` bytes, or answers `early` where the reader ends before.
-fn pass<R: Read>(
-    reader: &mut R,
-    len: u64,
-    piece: &mut [u8],
-    early: WalkFault,
-) -> Result<(), WalkFault>
-    requires { 0 < length piece.old }
+fn pass<R: Read>(reader: &mut R, len: u64, early: WalkFault) -> Result<(), WalkFault>
     ensures read { OnOk result
         (Passes len (R.remaining reader.old) (R.remaining reader.new)) }
     ensures fails { IfErr result (λ f. IsDamage f → (f ≡ early)
@@ -130,7 +124,7 @@ fn pass<R: Read>(
     ensures loses { LosesAtMost (R.remaining reader.old) (R.remaining reader.new) len }
 {
     let mut asks = ASKS;
-    match skip(reader, &mut asks, len, piece) {
+    match skip(reader, &mut asks, len, &mut [0; PASSED]) {
         Ok(()) => Ok(()),
         Err(unread) => Err(WalkFault::of_reader(unread, early)),
     }
@@ -142,11 +136,8 @@ fn record_value<R: Read>(
     into: &mut Vec<u8>,
     len: u64,
     keeping: Keeping,
-    piece: &mut [u8],
     early: WalkFault,
 ) -> Result<(), WalkFault>
-    requires some { 0 < length piece.old }
-    requires few { length piece.old ≤ 4096 }
     ensures read { OnOk result (ValueRead keeping len
         (R.remaining reader.old) (R.remaining reader.new) into.new.items) }
     ensures are { AreBytes into.new.items }
@@ -155,10 +146,10 @@ fn record_value<R: Read>(
     ensures loses { LosesAtMost (R.remaining reader.old) (R.remaining reader.new) len }
 {
     match keeping {
-        Keeping::Both => bytes(reader, into, len, piece, early),
+        Keeping::Both => bytes(reader, into, len, early),
         Keeping::Key => {
             into.clear();
-            pass(reader, len, piece, early)
+            pass(reader, len, early)
         }
     }
 }
@@ -179,14 +170,6 @@ pub(crate) fn record_body<R: Read>(
     ensures loses { LosesAtMost
         (R.remaining reader.old) (R.remaining reader.new) (header.klen + header.vlen) }
 {
-    let mut piece = [0u8; PIECE];
-    bytes(reader, &mut into.key, header.klen, &mut piece, early)?;
-    record_value(
-        reader,
-        &mut into.value,
-        header.vlen,
-        keeping,
-        &mut piece,
-        early,
-    )
+    bytes(reader, &mut into.key, header.klen, early)?;
+    record_value(reader, &mut into.value, header.vlen, keeping, early)
 }

@@ -1,19 +1,20 @@
-use Rattle.std.proofs.Common.{◌≡◌, ◌+◌, ◌*◌, ◌-◌, ◌≤◌, length}
+use Rattle.std.proofs.Common.{◌+◌, ◌*◌, ◌-◌, ◌≤◌, length, take}
 use Rattle.std.specs.Io.KnownBytes.{Consumes}
 use Rattle.cdb_form.specs.Format.Record.{AreBytes}
 use Rattle.cdb_form.proofs.reading.vector.Given as goal
 
 -- the bytes so far, each of which took an ask at least and 1001 at most
-abbrev pub invariant-loop-into : goal.invariant-loop-into
-invariant-loop-into g l =
+abbrev pub invariant-loop-done : goal.invariant-loop-done
+invariant-loop-done g l =
     record {
-      read : Consumes (g.R.Read.remaining l.fn.reader) (g.R.Read.remaining l.reader) l.into.items;
-      are : AreBytes l.into.items;
-      within : length l.into.items ≤ l.len;
-      each : length l.into.items + 4096 * l.asks ≤ 4096 * l.fn.asks;
-      spent : l.fn.asks ≤ l.asks + 1001 * length l.into.items;
-      piece : length l.piece ≡ length l.fn.piece;
+      read : Consumes (g.R.Read.remaining l.fn.reader) (g.R.Read.remaining l.reader) (take l.done l.into.items);
+      are : AreBytes (take l.done l.into.items);
+      held : l.done ≤ length l.into.items;
+      within : l.done ≤ l.len;
+      each : l.piece ≤ 4096 → l.done + 4096 * l.asks ≤ 4096 * l.fn.asks;
+      fewer : l.asks ≤ l.fn.asks;
+      spent : l.fn.asks ≤ l.asks + 1001 * l.done;
     }
 
-abbrev pub decreases-loop-into : goal.decreases-loop-into
-decreases-loop-into g l = l.len - length l.into.items
+abbrev pub decreases-loop-done : goal.decreases-loop-done
+decreases-loop-done g l = l.len - l.done

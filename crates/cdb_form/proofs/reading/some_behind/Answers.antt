@@ -1,0 +1,25 @@
+use Rattle.std.proofs.Common.{◌≡◌, ◌+◌, ◌-◌, ◌≤◌, ◌++◌, length, length-drop, take, drop, arith, ap, ◌∙◌}
+use Rattle.std.proofs.lemmas.List.{length-take, length-take-le}
+use Rattle.cdb_form.proofs.ByteLemmas.{AreBytes-take}
+use Rattle.cdb_form.proofs.AskingLemmas.{same_front, came_behind}
+use Rattle.cdb_form.proofs.reading.some_behind.Goals as goal
+
+pub returns-in-Ok-clause-read : goal.returns-in-Ok-clause-read
+returns-in-Ok-clause-read g c =
+    let held = c.args.held in
+    let old = c.args.into.now.items in
+    let longer = c.lengthen.new.into.items in
+    let xs = c.deref_mut.result.now in
+    let ys = c.some_bytes.new.into in
+    let n = c.in-Ok.n in
+    let e = c.in-Ok.ensures in
+    let front : take held xs ≡ take held old = ap (take held) c.deref_mut.ensures.value ∙ same_front held old longer c.requires.within c.lengthen.ensures.front in
+    let fits : held ≤ length xs = omega (arith, c.requires.within, c.lengthen.ensures.longer, ap length c.deref_mut.ensures.value) in
+    let within : held + n ≤ c.lengthen.new.into.len =
+    omega (arith, fits, e.bound, c.some_bytes.auto.into, length-take (held + c.args.most - held) (drop held xs), length-drop held xs, c.deref_mut.ensures.len) in (
+      take n ys,
+      e.bytes,
+      came_behind held n c.lengthen.new.into.len (take held xs) ys _ _ (length-take-le held xs fits) e.bound within ∙ ap (λ t. t ++ take n ys) front,
+      AreBytes-take n ys e.are,
+      length-take-le n ys e.bound,
+    )
