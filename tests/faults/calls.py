@@ -5,9 +5,10 @@
 
 The library is refuse.c, built to be loaded ahead of the C library. Each test of TESTS makes a call,
 asserts its answer, and prints what came: `Whole`, `NoMemory` where the call answered that and then,
-on fresh inputs, gave all, or `NoInputs` where the call could not be made. It is run once with
-nothing refused, which counts its asks, and then once for each of them. Of a call to which no
-refusal came nothing is known, which fails.
+on fresh inputs, gave all, or `NoInputs` where there was no memory to make the call. It is run once
+with nothing refused, which counts its asks, and then once for each of them. A refusal is told as
+`NoMemory`, or was not needed (a vector asks ahead for room). Of a call to which no refusal came
+nothing is known, which fails.
 """
 
 import os
@@ -27,6 +28,8 @@ TESTS = {
     ],
 }
 PASSED = b"test result: ok"
+# What a test prints, and what that is called here.
+CAME = {"NoMemory": "told", "Whole": "done without", "NoInputs": "before the call"}
 
 
 def came_of(left):
@@ -53,15 +56,15 @@ def refuse_each(program, test):
 
 def tell(test, came):
     """Says what came of the refusals of a test, and how many of them passed and failed."""
-    told = sum(1 for _, it in came if it == "NoMemory")
-    before = sum(1 for _, it in came if it == "NoInputs")
-    wrong = [f"{test}: {how}: {it}" for how, it in came if it not in ("NoMemory", "NoInputs")]
+    count = {it: sum(1 for _, what in came if what == it) for it in CAME}
+    wrong = [f"{test}: {how}: {it}" for how, it in came if it not in CAME]
     for line in wrong[:5]:
         print(line)
-    print(f"{test}: {len(came)} refusals: {told} told, {before} before the call, {len(wrong)} wrong")
-    if told == 0:
+    told = ", ".join(f"{number} {CAME[it]}" for it, number in count.items())
+    print(f"{test}: {len(came)} refusals: {told}, {len(wrong)} wrong")
+    if count["NoMemory"] == 0:
         print(f"{test}: no refusal reached the call")
-    return told, len(wrong) + (told == 0)
+    return count["NoMemory"] + count["Whole"], len(wrong) + (count["NoMemory"] == 0)
 
 
 def main():
