@@ -125,23 +125,43 @@ fn put_words(file: &mut [u8], table: usize, place: u32, slots: u32) {
     put(file, at.saturating_add(4), &slots.to_le_bytes());
 }
 
+// Whether a file has exactly these records, and no fault.
+fn gives(alloc: Global, file: &[u8], want: &[(&[u8], &[u8])]) -> Result<bool, AllocError> {
+    let (records, fault) = walk::<Narrow, &[u8]>(alloc, file)?;
+    let mut is_same = fault.is_none() && records.len() == want.len();
+    for (record, (key, value)) in records.iter().zip(want.iter()) {
+        is_same = is_same && record.key.as_slice() == *key && record.value.as_slice() == *value;
+    }
+    Ok(is_same)
+}
+
+// The file of no record.
+fn empty_file(alloc: Global) -> Result<Vec<u8>, AllocError> {
+    let mut file = Vec::new(alloc);
+    for _ in 0..256usize {
+        push_words(&mut file, 2048, 0, 4)?;
+    }
+    Ok(file)
+}
+
 #[test]
 fn whole_and_foreign_files(rt: HostRuntime) -> Result<(), Fail> {
-    let (records, fault) = walk::<Narrow, &[u8]>(rt.alloc(), &two_file(rt.alloc())?)?;
-    assert_eq!(rt; fault, None);
     let want: [(&[u8], &[u8]); 2] = [(b"one", b"Hello"), (b"two", b"Goodbye")];
-    assert_eq!(rt; records.len(), want.len());
-    for (record, (key, value)) in records.iter().zip(want.iter()) {
-        assert_eq!(rt; record.key.as_slice(), *key);
-        assert_eq!(rt; record.value.as_slice(), *value);
-    }
-    let mut empty = Vec::new(rt.alloc());
-    for _ in 0..256usize {
-        push_words(&mut empty, 2048, 0, 4)?;
-    }
-    assert!(rt; walks_narrow(rt.alloc(), &empty, 0, None)?);
-    assert!(rt; walks_narrow(rt.alloc(), &[0u8; 2048], 0, None)?);
+    assert!(rt; gives(rt.alloc(), &two_file(rt.alloc())?, &want)?);
     assert!(rt; walks_narrow(rt.alloc(), &foreign_file(rt.alloc())?, 1, None)?);
+    Ok(())
+}
+
+#[test]
+fn files_of_no_record(rt: HostRuntime) -> Result<(), Fail> {
+    assert!(rt; walks_narrow(rt.alloc(), &empty_file(rt.alloc())?, 0, None)?);
+    let zeros = vec![in rt.alloc(); 0u8; 2048]?;
+    assert!(rt; walks_narrow(rt.alloc(), &zeros, 0, None)?);
+    Ok(())
+}
+
+#[test]
+fn a_longer_file(rt: HostRuntime) -> Result<(), Fail> {
     let mut longer = two_file(rt.alloc())?;
     longer.extend_from_slice(b"12345")?;
     assert!(rt; walks_narrow(rt.alloc(), &longer, 2, None)?);
@@ -271,49 +291,59 @@ fn what_follows_a_damaged_header_stays(rt: HostRuntime) -> Result<(), Fail> {
     Ok(())
 }
 
+// Whether the two records are read, and then the end for good.
+fn reads_to_the_end(alloc: Global, rest: &mut &[u8]) -> bool {
+    let mut reader: RecordReader<&mut &[u8], Narrow> = RecordReader::new(alloc, rest);
+    let mut record = Record {
+        key: Vec::new(alloc),
+        value: Vec::new(alloc),
+    };
+    for key in [b"one", b"two"] {
+        let is_given = reader.read_into(&mut record) == Ok(true);
+        if !is_given || record.key.as_slice() != key.as_slice() {
+            return false;
+        }
+    }
+    for _ in 0..3 {
+        let is_end = reader.read_into(&mut record) == Ok(false);
+        if !is_end || !matches!(reader.next(), Ok(None)) {
+            return false;
+        }
+    }
+    true
+}
+
 #[test]
 fn what_follows_the_record_end_stays(rt: HostRuntime) -> Result<(), Fail> {
     let file = two_file(rt.alloc())?;
-    assert_eq!(rt; file.len(), 2114);
     let mut rest = file.as_slice();
-    {
-        let mut reader: RecordReader<&mut &[u8], Narrow> = RecordReader::new(rt.alloc(), &mut rest);
-        let mut record = Record {
-            key: Vec::new(rt.alloc()),
-            value: Vec::new(rt.alloc()),
-        };
-        for key in [b"one", b"two"] {
-            assert_eq!(rt; reader.read_into(&mut record), Ok(true));
-            assert_eq!(rt; record.key.as_slice(), key.as_slice());
-        }
-        for _ in 0..3 {
-            assert_eq!(rt; reader.read_into(&mut record), Ok(false));
-            assert!(rt; matches!(reader.next(), Ok(None)));
+    assert!(rt; reads_to_the_end(rt.alloc(), &mut rest));
+    assert!(rt; file.len() == 2114 && Some(rest) == file.get(2082..));
+    Ok(())
+}
+
+// Whether the keys of the two records are read without their values, and then the end.
+fn reads_keys(alloc: Global, rest: &mut &[u8]) -> bool {
+    let mut reader: RecordReader<&mut &[u8], Narrow> = RecordReader::new(alloc, rest);
+    let mut record = Record {
+        key: Vec::new(alloc),
+        value: Vec::new(alloc),
+    };
+    for key in [b"one", b"two"] {
+        let is_given = reader.read_key(&mut record) == Ok(true) && record.value.is_empty();
+        if !is_given || record.key.as_slice() != key.as_slice() {
+            return false;
         }
     }
-    assert_eq!(rt; rest, &file[2082..]);
-    Ok(())
+    reader.read_key(&mut record) == Ok(false)
 }
 
 #[test]
 fn keys_are_read_without_their_values(rt: HostRuntime) -> Result<(), Fail> {
     let file = two_file(rt.alloc())?;
-    assert_eq!(rt; file.len(), 2114);
     let mut rest = file.as_slice();
-    {
-        let mut reader: RecordReader<&mut &[u8], Narrow> = RecordReader::new(rt.alloc(), &mut rest);
-        let mut record = Record {
-            key: Vec::new(rt.alloc()),
-            value: Vec::new(rt.alloc()),
-        };
-        for key in [b"one", b"two"] {
-            assert_eq!(rt; reader.read_key(&mut record), Ok(true));
-            assert_eq!(rt; record.key.as_slice(), key.as_slice());
-            assert!(rt; record.value.is_empty());
-        }
-        assert_eq!(rt; reader.read_key(&mut record), Ok(false));
-    }
-    assert_eq!(rt; rest, &file[2082..]);
+    assert!(rt; reads_keys(rt.alloc(), &mut rest));
+    assert!(rt; file.len() == 2114 && Some(rest) == file.get(2082..));
     Ok(())
 }
 
