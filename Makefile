@@ -32,7 +32,8 @@ test:
 	$(PYTHON) tests/cli/run.py crates/cdb_tool/out/cdb_tool
 	@if command -v $(firstword $(CC)) > /dev/null; then \
 		$(MAKE) -s bin/refuse.so && \
-		$(PYTHON) tests/faults/run.py crates/cdb_tool/out/cdb_tool bin/refuse.so; \
+		$(PYTHON) tests/faults/run.py crates/cdb_tool/out/cdb_tool bin/refuse.so && \
+		$(PYTHON) tests/faults/calls.py bin/refuse.so; \
 	else \
 		echo '0 passed, 0 failed: no C compiler is here, so no ask for memory was refused'; \
 	fi

@@ -2,6 +2,7 @@
 mod fakes;
 mod maps;
 mod reading;
+mod refusals;
 mod texts;
 mod walking;
 mod words;

@@ -6,5 +6,6 @@ mod lines;
 mod listing;
 mod loading;
 mod making;
+mod refusals;
 mod streams;
 mod worked;

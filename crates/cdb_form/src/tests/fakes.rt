@@ -1,4 +1,5 @@
 // Readers and writers that fail when they are told to.
+use crate::OutFault;
 use std::alloc::Global;
 use std::io::{self, ErrorKind, Read, Write};
 use std::prelude::*;
@@ -106,6 +107,21 @@ impl FakeWriter {
             takes_none: false,
             flushed: false,
         }
+    }
+}
+
+impl FakeWriter {
+    /// Whether it holds as much of a text as it had room for, and the answer says whether that is
+    /// the whole text.
+    pub(super) fn holds_front(
+        &self,
+        answer: Result<(), OutFault>,
+        text: &[u8],
+        room: usize,
+    ) -> bool {
+        let front = text.get(..room).unwrap_or(text);
+        let is_whole = room >= text.len();
+        self.held.as_slice() == front && answer.is_ok() == is_whole
     }
 }
 

@@ -14,37 +14,50 @@ use crate::text::fault::TextFault;
 use crate::text::map_reader::MapReader;
 use crate::writing::OutFault;
 use crate::{write_end, write_list_record, write_map_key, write_map_record};
-use std::alloc::Global;
+use std::alloc::{AllocError, Global};
 use std::io::Read;
 use std::prelude::*;
 use std::test::Fail;
 
 const SIX_LINES: &[u8] = b"  one Hello\n# note\n\n  # more\n \t\nkey\ntwo\t \tGood bye";
 
-/// Each record as `<key|value>`, and the fault behind them.
+/// Puts a record as `<key|value>` behind others.
+fn show(record: &Record, shown: &mut Vec<u8>) -> Result<(), AllocError> {
+    let parts: [&[u8]; 5] = [b"<", &record.key, b"|", &record.value, b">"];
+    for part in parts {
+        shown.extend_from_slice(part)?;
+    }
+    Ok(())
+}
+
+/// Each record as `<key|value>`, and the fault behind them. No more than 2^48 asks are allowed.
 fn read_all<R: Read + Drop>(
     alloc: Global,
     reader: R,
     asks: u64,
-) -> Result<(Vec<u8>, Option<TextFault>), Fail>
-    requires { asks ≤ 2 ^ 48 }
-{
-    let mut maps = MapReader::with_bound(alloc, reader, asks);
+) -> Result<(Vec<u8>, Option<TextFault>), AllocError> {
+    let mut maps = MapReader::with_bound(alloc, reader, asks.min(1 << 48));
     let mut given = Vec::new(alloc);
     for _ in 0..1000 {
         match maps.next() {
-            Ok(Some(record)) => {
-                given.push(b'<')?;
-                given.extend_from_slice(&record.key)?;
-                given.push(b'|')?;
-                given.extend_from_slice(&record.value)?;
-                given.push(b'>')?;
-            }
+            Ok(Some(record)) => show(&record, &mut given)?,
             Ok(None) => return Ok((given, None)),
             Err(fault) => return Ok((given, Some(fault))),
         }
     }
     Ok((given, None))
+}
+
+/// Whether a text is read as these records, shown, and this fault.
+fn reads<R: Read + Drop>(
+    alloc: Global,
+    reader: R,
+    asks: u64,
+    records: &[u8],
+    fault: Option<TextFault>,
+) -> Result<bool, AllocError> {
+    let (given, found) = read_all(alloc, reader, asks)?;
+    Ok(given.as_slice() == records && found == fault)
 }
 
 /// As many of the next records, or fewer at the end of the input. It shows that the clauses of each
@@ -104,11 +117,23 @@ fn records_of_texts(rt: HostRuntime) -> Result<(), Fail> {
     ];
     for (text, records) in cases {
         let reader = FakeReader::new(text, Behind::End);
-        let (given, fault) = read_all(rt.alloc(), reader, 1 << 48)?;
-        assert_eq!(rt; fault, None, "{text:?}");
-        assert_eq!(rt; given.as_slice(), records, "{text:?}");
+        assert!(rt;
+            reads(rt.alloc(), reader, 1 << 48, records, None)?,
+            "{text:?}"
+        );
     }
     Ok(())
+}
+
+/// Whether there is one more record, of which a new reader takes no byte too many.
+fn gives_one(alloc: Global, rest: &mut &[u8]) -> bool {
+    matches!(MapReader::new(alloc, rest).next(), Ok(Some(_)))
+}
+
+/// Whether the text is at its end, for good.
+fn is_at_end(alloc: Global, rest: &[u8]) -> bool {
+    let mut maps = MapReader::new(alloc, rest);
+    (0..3).all(|_| matches!(maps.next(), Ok(None)))
 }
 
 #[test]
@@ -120,16 +145,9 @@ fn no_byte_behind_a_record_is_read(rt: HostRuntime) {
         b"",
     ];
     for want in left {
-        {
-            let mut maps = MapReader::new(rt.alloc(), &mut rest);
-            assert!(rt; matches!(maps.next(), Ok(Some(_))));
-        }
-        assert_eq!(rt; rest, want);
+        assert!(rt; gives_one(rt.alloc(), &mut rest) && rest == want);
     }
-    let mut maps = MapReader::new(rt.alloc(), &mut rest);
-    for _ in 0..3 {
-        assert!(rt; matches!(maps.next(), Ok(None)));
-    }
+    assert!(rt; is_at_end(rt.alloc(), rest));
 }
 
 #[test]
@@ -142,14 +160,18 @@ fn one_byte_is_asked_for_at_once(rt: HostRuntime) -> Result<(), Fail> {
     Ok(())
 }
 
+/// Whether a text of this byte without end is given up, for good.
+fn is_given_up(alloc: Global, byte: u8) -> bool {
+    let reader = FakeReader::new(b"", Behind::ForEver(byte));
+    let mut maps = MapReader::with_bound(alloc, reader, 100);
+    let first = matches!(maps.next(), Err(TextFault::Endless));
+    first && matches!(maps.next(), Err(TextFault::Endless))
+}
+
 #[test]
 fn a_text_without_end_is_given_up_for_good(rt: HostRuntime) {
-    for behind in [b' ', b'\n', b'#', b'a'] {
-        let reader = FakeReader::new(b"", Behind::ForEver(behind));
-        let mut maps = MapReader::with_bound(rt.alloc(), reader, 100);
-        for _ in 0..2 {
-            assert!(rt; matches!(maps.next(), Err(TextFault::Endless)), "{behind}");
-        }
+    for byte in [b' ', b'\n', b'#', b'a'] {
+        assert!(rt; is_given_up(rt.alloc(), byte), "{byte}");
     }
 }
 
@@ -171,9 +193,8 @@ fn each_cut_text_is_a_map_text(rt: HostRuntime) -> Result<(), Fail> {
     ];
     for (cut, records) in cases.iter().enumerate() {
         let reader = FakeReader::new(&text[..cut], Behind::End);
-        let (given, fault) = read_all(rt.alloc(), reader, 1 << 48)?;
-        assert_eq!(rt; fault, None, "cut at {cut}");
-        assert_eq!(rt; given.as_slice(), *records, "cut at {cut}");
+        let is_read = reads(rt.alloc(), reader, 1 << 48, records, None)?;
+        assert!(rt; is_read, "cut at {cut}");
     }
     Ok(())
 }
@@ -188,9 +209,9 @@ fn lines_that_are_whole_are_given_before_a_failure(rt: HostRuntime) -> Result<()
             _ => b"<ab|c><e|>",
         };
         let reader = FakeReader::new(&text[..cut], Behind::Failure);
-        let (given, fault) = read_all(rt.alloc(), reader, 1 << 48)?;
-        assert_eq!(rt; fault, Some(TextFault::Input), "failure at {cut}");
-        assert_eq!(rt; given.as_slice(), records, "failure at {cut}");
+        let failed = Some(TextFault::Input);
+        let is_read = reads(rt.alloc(), reader, 1 << 48, records, failed)?;
+        assert!(rt; is_read, "failure at {cut}");
     }
     Ok(())
 }
@@ -205,35 +226,31 @@ fn interruptions_are_asked_again(rt: HostRuntime) -> Result<(), Fail> {
         (u64::MAX, 2000, b"", Some(TextFault::Input)),
     ];
     for (interrupts, asks, records, fault) in cases {
-        assert!(rt; asks <= 1 << 48);
         let reader = FakeReader::interrupted(SIX_LINES, interrupts);
-        let (given, found) = read_all(rt.alloc(), reader, asks)?;
-        assert_eq!(rt; found, fault, "{interrupts} interruptions, {asks} asks");
-        assert_eq!(rt; given.as_slice(), records);
+        let is_read = reads(rt.alloc(), reader, asks, records, fault)?;
+        assert!(rt; is_read, "{interrupts} interruptions, {asks} asks");
     }
     Ok(())
 }
 
 #[test]
 fn interruptions_are_counted_in_a_row(rt: HostRuntime) -> Result<(), Fail> {
-    let reader = FakeReader::interrupted_each(SIX_LINES, 1000);
-    let (given, fault) = read_all(rt.alloc(), reader, 1 << 48)?;
-    assert_eq!(rt; fault, None);
-    assert_eq!(rt;
-        given.as_slice(),
-        b"<one|Hello><key|><two|Good bye>".as_slice()
-    );
-    let reader = FakeReader::interrupted_each(SIX_LINES, 1001);
-    let (given, fault) = read_all(rt.alloc(), reader, 1 << 48)?;
-    assert_eq!(rt; fault, Some(TextFault::Input));
-    assert!(rt; given.is_empty());
+    let all: &[u8] = b"<one|Hello><key|><two|Good bye>";
+    let cases: [(u64, &[u8], Option<TextFault>); 2] = [
+        (1000, all, None),
+        (1001, b"", Some(TextFault::Input)),
+    ];
+    for (interrupts, records, fault) in cases {
+        let reader = FakeReader::interrupted_each(SIX_LINES, interrupts);
+        let is_read = reads(rt.alloc(), reader, 1 << 48, records, fault)?;
+        assert!(rt; is_read, "{interrupts} before each byte");
+    }
     Ok(())
 }
 
 #[test]
 fn as_many_asks_as_are_made_suffice(rt: HostRuntime) -> Result<(), Fail> {
     let asks = SIX_LINES.len() as u64 + 2;
-    assert!(rt; asks <= 1 << 48);
     let two: &[u8] = b"<one|Hello><key|>";
     let three: &[u8] = b"<one|Hello><key|><two|Good bye>";
     let cases = [
@@ -243,9 +260,10 @@ fn as_many_asks_as_are_made_suffice(rt: HostRuntime) -> Result<(), Fail> {
     ];
     for (bound, records, fault) in cases {
         let reader = FakeReader::new(SIX_LINES, Behind::End);
-        let (given, found) = read_all(rt.alloc(), reader, bound)?;
-        assert_eq!(rt; found, fault, "{bound} asks");
-        assert_eq!(rt; given.as_slice(), records, "{bound} asks");
+        assert!(rt;
+            reads(rt.alloc(), reader, bound, records, fault)?,
+            "{bound} asks"
+        );
     }
     Ok(())
 }
@@ -268,12 +286,6 @@ fn texts_are_written_or_a_front_of_them(rt: HostRuntime) {
     for room in 0..text.len() + 1 {
         let mut writer = FakeWriter::new(rt.alloc(), room, 0);
         let answer = write_all(&mut writer);
-        let want = if room < text.len() {
-            Err(OutFault)
-        } else {
-            Ok(())
-        };
-        assert_eq!(rt; answer, want, "room for {room}");
-        assert_eq!(rt; writer.held.as_slice(), &text[..room]);
+        assert!(rt; writer.holds_front(answer, text, room), "room for {room}");
     }
 }

@@ -1,6 +1,7 @@
 // Whole reads, at the edges of what is allowed, and over readers that fail.
 use super::fakes::{Behind, FakeReader};
 use crate::{Extent, InFault, read_whole};
+use std::alloc::Global;
 use std::prelude::*;
 use std::test::Fail;
 
@@ -24,12 +25,23 @@ fn no_more_than_one_byte_above_the_most_is_taken(rt: HostRuntime) -> Result<(), 
         let mut reader = FakeReader::new(&text, Behind::End);
         let mut held = vec![in rt.alloc(); b'y'; 3]?;
         let answer = read_whole(&mut reader, &mut held, u64::from(most));
-        assert_eq!(rt; answer, Ok(extent), "{most} of {len}");
-        assert_eq!(rt; held, vec![in rt.alloc(); b'x'; taken]?, "{most} of {len}");
-        assert_eq!(rt; reader.text.len(), left, "{most} of {len}");
-        assert!(rt; reader.greatest_ask <= 4096);
+        let is_front = held.len() == taken && held.iter().all(|byte| *byte == b'x');
+        let is_right = answer == Ok(extent) && is_front && reader.text.len() == left;
+        assert!(rt; is_right && reader.greatest_ask <= 4096, "{most} of {len}");
     }
     Ok(())
+}
+
+/// Whether a read of so many bytes at most answers so, and holds these bytes then.
+fn reads_so(
+    alloc: Global,
+    mut reader: FakeReader<'_>,
+    most: u32,
+    want: Result<Extent, InFault>,
+    bytes: &[u8],
+) -> bool {
+    let mut held = Vec::new(alloc);
+    read_whole(&mut reader, &mut held, u64::from(most)) == want && held.as_slice() == bytes
 }
 
 #[test]
@@ -40,21 +52,26 @@ fn a_reader_that_fails_gave_what_came_before(rt: HostRuntime) {
         (6, Err(InFault::Failed)),
     ];
     for (most, want) in cases {
-        let mut reader = FakeReader::new(b"Hello", Behind::Failure);
-        let mut held = Vec::new(rt.alloc());
-        assert_eq!(rt; read_whole(&mut reader, &mut held, most), want, "{most}");
-        assert_eq!(rt; held.as_slice(), b"Hello".as_slice(), "{most}");
+        let reader = FakeReader::new(b"Hello", Behind::Failure);
+        assert!(rt;
+            reads_so(rt.alloc(), reader, most, want, b"Hello"),
+            "{most}"
+        );
     }
 }
 
 #[test]
 fn interrupts_of_a_reader_are_counted_in_a_row(rt: HostRuntime) {
-    for (interrupts, want, came) in [(1000, Ok(Extent::All), 5), (1001, Err(InFault::Failed), 0)] {
-        let mut reader = FakeReader::interrupted_each(b"Hello", interrupts);
-        let mut held = Vec::new(rt.alloc());
-        let answer = read_whole(&mut reader, &mut held, 5);
-        assert_eq!(rt; answer, want, "{interrupts} before each byte");
-        assert_eq!(rt; held.as_slice(), &b"Hello"[..came]);
+    let cases: [(u64, Result<Extent, InFault>, &[u8]); 2] = [
+        (1000, Ok(Extent::All), b"Hello"),
+        (1001, Err(InFault::Failed), b""),
+    ];
+    for (interrupts, want, bytes) in cases {
+        let reader = FakeReader::interrupted_each(b"Hello", interrupts);
+        assert!(rt;
+            reads_so(rt.alloc(), reader, 5, want, bytes),
+            "{interrupts} before each byte"
+        );
     }
 }
 
@@ -65,8 +82,11 @@ fn faults_of_a_reader_are_said(rt: HostRuntime) -> Result<(), Fail> {
         (InFault::NoMemory, "no memory"),
     ];
     for (fault, words) in cases {
-        assert_eq!(rt; fault.message(), words);
-        assert_eq!(rt; format!(in rt.alloc(); "{fault}")?.as_str(), words);
+        let said = fault.to_string(rt.alloc())?;
+        assert!(rt;
+            fault.message() == words && said.as_str() == words,
+            "{words}"
+        );
     }
     Ok(())
 }

@@ -36,17 +36,24 @@ fn walk<L: Width, R: Read + Drop>(
     }
 }
 
-// How many records a file has, and its fault.
-fn count<L: Width, R: Read + Drop>(
+// Whether a file has so many records, and this fault.
+fn walks<L: Width, R: Read + Drop>(
     alloc: Global,
     reader: R,
-) -> Result<(usize, Option<WalkFault>), AllocError> {
-    let (records, fault) = walk::<L, R>(alloc, reader)?;
-    Ok((records.len(), fault))
+    records: usize,
+    fault: Option<WalkFault>,
+) -> Result<bool, AllocError> {
+    let (given, found) = walk::<L, R>(alloc, reader)?;
+    Ok(given.len() == records && found == fault)
 }
 
-fn count_narrow(alloc: Global, file: &[u8]) -> Result<(usize, Option<WalkFault>), AllocError> {
-    count::<Narrow, FakeReader<'_>>(alloc, FakeReader::new(file, Behind::End))
+fn walks_narrow(
+    alloc: Global,
+    file: &[u8],
+    records: usize,
+    fault: Option<WalkFault>,
+) -> Result<bool, AllocError> {
+    walks::<Narrow, FakeReader<'_>>(alloc, FakeReader::new(file, Behind::End), records, fault)
 }
 
 // Two words of so many bytes.
@@ -118,29 +125,46 @@ fn put_words(file: &mut [u8], table: usize, place: u32, slots: u32) {
     put(file, at.saturating_add(4), &slots.to_le_bytes());
 }
 
+// Whether a file has exactly these records, and no fault.
+fn gives(alloc: Global, file: &[u8], want: &[(&[u8], &[u8])]) -> Result<bool, AllocError> {
+    let (records, fault) = walk::<Narrow, &[u8]>(alloc, file)?;
+    let mut is_same = fault.is_none() && records.len() == want.len();
+    for (record, (key, value)) in records.iter().zip(want.iter()) {
+        is_same = is_same && record.key.as_slice() == *key && record.value.as_slice() == *value;
+    }
+    Ok(is_same)
+}
+
+// The file of no record.
+fn empty_file(alloc: Global) -> Result<Vec<u8>, AllocError> {
+    let mut file = Vec::new(alloc);
+    for _ in 0..256usize {
+        push_words(&mut file, 2048, 0, 4)?;
+    }
+    Ok(file)
+}
+
 #[test]
 fn whole_and_foreign_files(rt: HostRuntime) -> Result<(), Fail> {
-    let (records, fault) = walk::<Narrow, &[u8]>(rt.alloc(), &two_file(rt.alloc())?)?;
-    assert_eq!(rt; fault, None);
     let want: [(&[u8], &[u8]); 2] = [(b"one", b"Hello"), (b"two", b"Goodbye")];
-    assert_eq!(rt; records.len(), want.len());
-    for (record, (key, value)) in records.iter().zip(want.iter()) {
-        assert_eq!(rt; record.key.as_slice(), *key);
-        assert_eq!(rt; record.value.as_slice(), *value);
-    }
-    let mut empty = Vec::new(rt.alloc());
-    for _ in 0..256usize {
-        push_words(&mut empty, 2048, 0, 4)?;
-    }
-    assert_eq!(rt; count_narrow(rt.alloc(), &empty)?, (0, None));
-    assert_eq!(rt; count_narrow(rt.alloc(), &[0u8; 2048])?, (0, None));
-    assert_eq!(rt;
-        count_narrow(rt.alloc(), &foreign_file(rt.alloc())?)?,
-        (1, None)
-    );
+    assert!(rt; gives(rt.alloc(), &two_file(rt.alloc())?, &want)?);
+    assert!(rt; walks_narrow(rt.alloc(), &foreign_file(rt.alloc())?, 1, None)?);
+    Ok(())
+}
+
+#[test]
+fn files_of_no_record(rt: HostRuntime) -> Result<(), Fail> {
+    assert!(rt; walks_narrow(rt.alloc(), &empty_file(rt.alloc())?, 0, None)?);
+    let zeros = vec![in rt.alloc(); 0u8; 2048]?;
+    assert!(rt; walks_narrow(rt.alloc(), &zeros, 0, None)?);
+    Ok(())
+}
+
+#[test]
+fn a_longer_file(rt: HostRuntime) -> Result<(), Fail> {
     let mut longer = two_file(rt.alloc())?;
     longer.extend_from_slice(b"12345")?;
-    assert_eq!(rt; count_narrow(rt.alloc(), &longer)?, (2, None));
+    assert!(rt; walks_narrow(rt.alloc(), &longer, 2, None)?);
     Ok(())
 }
 
@@ -170,9 +194,8 @@ fn changed_bytes(rt: HostRuntime) -> Result<(), Fail> {
     for (at, bytes, records, fault) in cases {
         let mut file = two_file(rt.alloc())?;
         put(&mut file, at, bytes);
-        assert_eq!(rt;
-            count_narrow(rt.alloc(), &file)?,
-            (records, fault),
+        assert!(rt;
+            walks_narrow(rt.alloc(), &file, records, fault)?,
             "{bytes:?} at {at}"
         );
     }
@@ -194,18 +217,14 @@ fn each_cut_file_and_each_failure(rt: HostRuntime) -> Result<(), Fail> {
     let file = two_file(rt.alloc())?;
     for cut in 0..file.len() + 1 {
         let (records, fault) = answer_of_cut(cut);
-        assert_eq!(rt;
-            count_narrow(rt.alloc(), &file[..cut])?,
-            (records, fault),
+        assert!(rt;
+            walks_narrow(rt.alloc(), &file[..cut], records, fault)?,
             "cut at {cut}"
         );
         let reader = FakeReader::new(&file[..cut], Behind::Failure);
         let fault = fault.map(|_| WalkFault::Input);
-        assert_eq!(rt;
-            count::<Narrow, FakeReader<'_>>(rt.alloc(), reader)?,
-            (records, fault),
-            "failure at {cut}"
-        );
+        let is_walked = walks::<Narrow, FakeReader<'_>>(rt.alloc(), reader, records, fault)?;
+        assert!(rt; is_walked, "failure at {cut}");
     }
     Ok(())
 }
@@ -223,13 +242,14 @@ fn wide_files(rt: HostRuntime) -> Result<(), Fail> {
     ];
     for (cut, records, fault) in cases {
         let reader = FakeReader::new(&file[..cut], Behind::End);
-        let answer = count::<Wide, FakeReader<'_>>(rt.alloc(), reader)?;
-        assert_eq!(rt; answer, (records, fault), "cut at {cut}");
+        let is_walked = walks::<Wide, FakeReader<'_>>(rt.alloc(), reader, records, fault)?;
+        assert!(rt; is_walked, "cut at {cut}");
     }
     let mut file = file;
     put(&mut file, 4096, &[255; 16]);
-    let answer = count::<Wide, &[u8]>(rt.alloc(), &file)?;
-    assert_eq!(rt; answer, (0, Some(WalkFault::Record(4096))));
+    let reader = FakeReader::new(&file, Behind::End);
+    let fault = Some(WalkFault::Record(4096));
+    assert!(rt; walks::<Wide, FakeReader<'_>>(rt.alloc(), reader, 0, fault)?);
     Ok(())
 }
 
@@ -238,15 +258,13 @@ fn interruptions_and_small_pieces(rt: HostRuntime) -> Result<(), Fail> {
     let file = two_file(rt.alloc())?;
     for (interrupts, answer) in [(1000, (2, None)), (1001, (0, Some(WalkFault::Input)))] {
         let reader = FakeReader::interrupted(&file, interrupts);
-        let found = count::<Narrow, FakeReader<'_>>(rt.alloc(), reader)?;
-        assert_eq!(rt; found, answer, "{interrupts} interruptions");
+        let (records, fault) = answer;
+        let is_walked = walks::<Narrow, FakeReader<'_>>(rt.alloc(), reader, records, fault)?;
+        assert!(rt; is_walked, "{interrupts} interruptions");
     }
     let mut reader = FakeReader::new(&file, Behind::Failure);
     reader.most = 1;
-    assert_eq!(rt;
-        count::<Narrow, FakeReader<'_>>(rt.alloc(), reader)?,
-        (2, None)
-    );
+    assert!(rt; walks::<Narrow, FakeReader<'_>>(rt.alloc(), reader, 2, None)?);
     Ok(())
 }
 
@@ -255,8 +273,9 @@ fn interruptions_are_counted_in_a_row(rt: HostRuntime) -> Result<(), Fail> {
     let file = foreign_file(rt.alloc())?;
     for (interrupts, answer) in [(1000, (1, None)), (1001, (0, Some(WalkFault::Input)))] {
         let reader = FakeReader::interrupted_each(&file, interrupts);
-        let found = count::<Narrow, FakeReader<'_>>(rt.alloc(), reader)?;
-        assert_eq!(rt; found, answer, "{interrupts} before each byte");
+        let (records, fault) = answer;
+        let is_walked = walks::<Narrow, FakeReader<'_>>(rt.alloc(), reader, records, fault)?;
+        assert!(rt; is_walked, "{interrupts} before each byte");
     }
     Ok(())
 }
@@ -266,55 +285,65 @@ fn what_follows_a_damaged_header_stays(rt: HostRuntime) -> Result<(), Fail> {
     let mut file = two_file(rt.alloc())?;
     put(&mut file, 2068, &[8]);
     let mut rest = file.as_slice();
-    let answer = count::<Narrow, &mut &[u8]>(rt.alloc(), &mut rest)?;
-    assert_eq!(rt; answer, (1, Some(WalkFault::Record(2064))));
+    let fault = Some(WalkFault::Record(2064));
+    assert!(rt; walks::<Narrow, &mut &[u8]>(rt.alloc(), &mut rest, 1, fault)?);
     assert_eq!(rt; rest, file.get(2072..).ok_or("short")?);
     Ok(())
+}
+
+// Whether the two records are read, and then the end for good.
+fn reads_to_the_end(alloc: Global, rest: &mut &[u8]) -> bool {
+    let mut reader: RecordReader<&mut &[u8], Narrow> = RecordReader::new(alloc, rest);
+    let mut record = Record {
+        key: Vec::new(alloc),
+        value: Vec::new(alloc),
+    };
+    for key in [b"one", b"two"] {
+        let is_given = reader.read_into(&mut record) == Ok(true);
+        if !is_given || record.key.as_slice() != key.as_slice() {
+            return false;
+        }
+    }
+    for _ in 0..3 {
+        let is_end = reader.read_into(&mut record) == Ok(false);
+        if !is_end || !matches!(reader.next(), Ok(None)) {
+            return false;
+        }
+    }
+    true
 }
 
 #[test]
 fn what_follows_the_record_end_stays(rt: HostRuntime) -> Result<(), Fail> {
     let file = two_file(rt.alloc())?;
-    assert_eq!(rt; file.len(), 2114);
     let mut rest = file.as_slice();
-    {
-        let mut reader: RecordReader<&mut &[u8], Narrow> = RecordReader::new(rt.alloc(), &mut rest);
-        let mut record = Record {
-            key: Vec::new(rt.alloc()),
-            value: Vec::new(rt.alloc()),
-        };
-        for key in [b"one", b"two"] {
-            assert_eq!(rt; reader.read_into(&mut record), Ok(true));
-            assert_eq!(rt; record.key.as_slice(), key.as_slice());
-        }
-        for _ in 0..3 {
-            assert_eq!(rt; reader.read_into(&mut record), Ok(false));
-            assert!(rt; matches!(reader.next(), Ok(None)));
+    assert!(rt; reads_to_the_end(rt.alloc(), &mut rest));
+    assert!(rt; file.len() == 2114 && Some(rest) == file.get(2082..));
+    Ok(())
+}
+
+// Whether the keys of the two records are read without their values, and then the end.
+fn reads_keys(alloc: Global, rest: &mut &[u8]) -> bool {
+    let mut reader: RecordReader<&mut &[u8], Narrow> = RecordReader::new(alloc, rest);
+    let mut record = Record {
+        key: Vec::new(alloc),
+        value: Vec::new(alloc),
+    };
+    for key in [b"one", b"two"] {
+        let is_given = reader.read_key(&mut record) == Ok(true) && record.value.is_empty();
+        if !is_given || record.key.as_slice() != key.as_slice() {
+            return false;
         }
     }
-    assert_eq!(rt; rest, &file[2082..]);
-    Ok(())
+    reader.read_key(&mut record) == Ok(false)
 }
 
 #[test]
 fn keys_are_read_without_their_values(rt: HostRuntime) -> Result<(), Fail> {
     let file = two_file(rt.alloc())?;
-    assert_eq!(rt; file.len(), 2114);
     let mut rest = file.as_slice();
-    {
-        let mut reader: RecordReader<&mut &[u8], Narrow> = RecordReader::new(rt.alloc(), &mut rest);
-        let mut record = Record {
-            key: Vec::new(rt.alloc()),
-            value: Vec::new(rt.alloc()),
-        };
-        for key in [b"one", b"two"] {
-            assert_eq!(rt; reader.read_key(&mut record), Ok(true));
-            assert_eq!(rt; record.key.as_slice(), key.as_slice());
-            assert!(rt; record.value.is_empty());
-        }
-        assert_eq!(rt; reader.read_key(&mut record), Ok(false));
-    }
-    assert_eq!(rt; rest, &file[2082..]);
+    assert!(rt; reads_keys(rt.alloc(), &mut rest));
+    assert!(rt; file.len() == 2114 && Some(rest) == file.get(2082..));
     Ok(())
 }
 
@@ -339,9 +368,12 @@ fn faults_are_numbered_and_said(rt: HostRuntime) -> Result<(), Fail> {
         (WalkFault::Input, 4, "database cannot be read or written"),
         (WalkFault::NoMemory, 5, "no memory"),
     ];
-    for (fault, number, said) in cases {
-        assert_eq!(rt; fault.number(), number);
-        assert_eq!(rt; fault.to_string(rt.alloc())?.as_str(), said);
+    for (fault, number, words) in cases {
+        let said = fault.to_string(rt.alloc())?;
+        assert!(rt;
+            fault.number() == number && said.as_str() == words,
+            "{words}"
+        );
     }
     Ok(())
 }

@@ -2,6 +2,7 @@
 use super::fakes::FakeWriter;
 use crate::writing::{OutFault, flush_whole, write_pieces, write_some, write_whole};
 use crate::{write_end, write_record};
+use std::alloc::Global;
 use std::prelude::*;
 
 #[test]
@@ -10,28 +11,26 @@ fn a_writer_that_fails_holds_a_front(rt: HostRuntime) {
     for room in 0..bytes.len() + 1 {
         let mut writer = FakeWriter::new(rt.alloc(), room, 0);
         let answer = write_pieces(&mut writer, &[&bytes[..5], &bytes[5..]]);
-        let want = if room < bytes.len() {
-            Err(OutFault)
-        } else {
-            Ok(())
-        };
-        assert_eq!(rt; answer, want, "room for {room}");
-        assert_eq!(rt; writer.held.as_slice(), &bytes[..room]);
+        assert!(rt; writer.holds_front(answer, bytes, room), "room for {room}");
     }
+}
+
+/// Whether a write and a flush that are interrupted so often answer so.
+fn answer_so(alloc: Global, interrupts: u64, want: Result<(), OutFault>) -> bool {
+    let mut written = FakeWriter::new(alloc, 5, interrupts);
+    let mut flushed = FakeWriter::new(alloc, 5, interrupts);
+    let is_written = write_whole(&mut written, b"Hello") == want;
+    let is_flushed = flush_whole(&mut flushed) == want;
+    is_written && is_flushed && flushed.flushed == want.is_ok()
 }
 
 #[test]
 fn interruptions_are_asked_again(rt: HostRuntime) {
     for (interrupts, want) in [(0, Ok(())), (1000, Ok(())), (1001, Err(OutFault))] {
-        let mut writer = FakeWriter::new(rt.alloc(), 5, interrupts);
-        assert_eq!(rt;
-            write_whole(&mut writer, b"Hello"),
-            want,
-            "{interrupts} in a write"
+        assert!(rt;
+            answer_so(rt.alloc(), interrupts, want),
+            "{interrupts} interruptions"
         );
-        let mut writer = FakeWriter::new(rt.alloc(), 5, interrupts);
-        assert_eq!(rt; flush_whole(&mut writer), want, "{interrupts} in a flush");
-        assert_eq!(rt; writer.flushed, want.is_ok());
     }
 }
 
@@ -69,12 +68,6 @@ fn a_text_is_written_or_a_front_of_it(rt: HostRuntime) {
     for room in 0..text.len() + 1 {
         let mut writer = FakeWriter::new(rt.alloc(), room, 0);
         let answer = write_two(&mut writer);
-        let want = if room < text.len() {
-            Err(OutFault)
-        } else {
-            Ok(())
-        };
-        assert_eq!(rt; answer, want, "room for {room}");
-        assert_eq!(rt; writer.held.as_slice(), &text[..room]);
+        assert!(rt; writer.holds_front(answer, text, room), "room for {room}");
     }
 }

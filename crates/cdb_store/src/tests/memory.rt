@@ -2,29 +2,35 @@
 use crate::{BufferedStore, MemStore, Store, StoreFault};
 use std::test::Fail;
 
+/// Whether writes in a new store, over what is there and behind it, leave `aXYd`.
+fn writes(store: &mut MemStore) -> bool {
+    let is_written = store.write_at(0, b"abc").is_ok() && store.write_at(1, b"XY").is_ok();
+    let is_longer = store.len() == 3 && store.write_at(3, b"d").is_ok();
+    is_written && is_longer && store.bytes() == b"aXYd".as_slice() && store.len() == 4
+}
+
+/// Whether a store of `aXYd` gives what stands in its middle, and leaves its first two bytes.
+fn reads_and_cuts(store: &mut MemStore) -> bool {
+    let mut into = [0; 2];
+    let is_read = store.len() >= 4 && store.read_at(1, &mut into).is_ok() && into == *b"XY";
+    let is_cut = store.len() >= 2 && store.cut(2).is_ok() && store.flush().is_ok();
+    is_read && is_cut && store.bytes() == b"aX".as_slice()
+}
+
+/// Whether nothing is written and read at the end of a store of two bytes.
+fn takes_nothing<S: Store>(store: &mut S) -> bool {
+    let is_written = store.len() == 2 && store.write_at(2, b"").is_ok();
+    is_written && store.len() == 2 && store.read_at(2, &mut []).is_ok()
+}
+
 #[test]
 fn writes_reads_and_cuts(rt: HostRuntime) -> Result<(), Fail> {
     let mut store = MemStore::new(rt.alloc());
     store.reserve(4)?;
-    store.write_at(0, b"abc")?;
-    store.write_at(1, b"XY")?;
-    assert!(rt; store.len() >= 3);
-    store.write_at(3, b"d")?;
-    assert_eq!(rt; store.bytes(), b"aXYd".as_slice());
-    assert_eq!(rt; store.len(), 4);
-    let mut into = [0; 2];
-    assert!(rt; store.len() >= 4);
-    store.read_at(1, &mut into)?;
-    assert_eq!(rt; into, *b"XY");
-    assert!(rt; store.len() >= 2);
-    store.cut(2)?;
-    store.flush()?;
-    assert_eq!(rt; store.bytes(), b"aX".as_slice());
-    assert!(rt; store.len() >= 2);
-    store.write_at(2, b"")?;
-    assert!(rt; store.len() >= 2);
-    store.read_at(2, &mut [])?;
-    assert_eq!(rt; store.into_vec().as_slice(), b"aX".as_slice());
+    assert!(rt; writes(&mut store));
+    assert!(rt; reads_and_cuts(&mut store));
+    assert!(rt; takes_nothing(&mut store));
+    assert!(rt; store.into_vec().as_slice() == b"aX".as_slice());
     Ok(())
 }
 
@@ -87,10 +93,9 @@ fn faults_are_numbered(rt: HostRuntime) -> Result<(), Fail> {
         (StoreFault::Device, 1, "the device failed"),
         (StoreFault::NoMemory, 2, "no memory"),
     ] {
-        assert_eq!(rt; fault.number(), number);
         let said = format!(in rt.alloc(); "{fault}")?;
-        assert_eq!(rt; said.as_str(), text);
-        assert_eq!(rt; fault.message(), text);
+        let is_said = said.as_str() == text && fault.message() == text;
+        assert!(rt; is_said && fault.number() == number, "{text}");
     }
     Ok(())
 }

@@ -41,19 +41,22 @@ fn reads_and_writes_are_asked_1001_times(rt: HostRuntime) -> Result<(), Fail> {
     Ok(())
 }
 
+/// Of a store of `abc`, whether a read answered Ok and gave that, and whether a write behind it
+/// answered Ok and the store is longer then.
+fn reads_and_writes<S: Store>(store: &mut S) -> [bool; 4] {
+    let mut into = [0; 3];
+    let read = store.len() == 3 && store.read_at(0, &mut into).is_ok();
+    let written = store.len() == 3 && store.write_at(3, b"def").is_ok();
+    [read, into == *b"abc", written, store.len() == 6]
+}
+
 #[test]
 fn interrupts_are_counted_anew_at_each_byte(rt: HostRuntime) -> Result<(), Fail> {
     for (interrupts, is_ok) in [(1000, true), (1001, false)] {
         let trouble = Trouble::OneByteAfter(interrupts);
         let file = FakeFile::new(b"abc".to_vec(rt.alloc())?, 1, u64::MAX, trouble);
         let mut store = FileStore::over(file)?;
-        let mut into = [0; 3];
-        assert!(rt; store.len() >= 3);
-        assert_eq!(rt; store.read_at(0, &mut into).is_ok(), is_ok);
-        assert_eq!(rt; into == *b"abc", is_ok);
-        assert!(rt; store.len() >= 3);
-        assert_eq!(rt; store.write_at(3, b"def").is_ok(), is_ok);
-        assert_eq!(rt; store.len() == 6, is_ok);
+        assert!(rt; reads_and_writes(&mut store) == [is_ok; 4], "{interrupts}");
     }
     Ok(())
 }
@@ -70,6 +73,16 @@ fn each_raw_call_fails_in_turn(rt: HostRuntime) -> Result<(), Fail> {
     Ok(())
 }
 
+/// Whether a read, a write, a flush and a cut to one byte answered Ok.
+fn each_other_call<S: Store>(store: &mut S) -> [bool; 4] {
+    let mut into = [0; 6];
+    let read = store.len() >= 6 && store.read_at(0, &mut into).is_ok();
+    let written = store.write_at(0, b"a").is_ok();
+    let flushed = store.flush().is_ok();
+    let cut = store.len() >= 1 && store.cut(1).is_ok();
+    [read, written, flushed, cut]
+}
+
 #[test]
 fn the_length_is_asked_after_a_failed_write(rt: HostRuntime) -> Result<(), Fail> {
     // what the file tells, the length then, and whether the store goes on
@@ -83,18 +96,11 @@ fn the_length_is_asked_after_a_failed_write(rt: HostRuntime) -> Result<(), Fail>
         let file = FakeFile::new(Vec::new(rt.alloc()), 1, 2, Trouble::Tells(told));
         let mut store = FileStore::empty(file);
         store.write_at(0, b"abcdef")?;
-        assert!(rt; store.len() >= 6);
-        assert_eq!(rt; store.write_at(5, b"XYZ"), Err(StoreFault::Device));
-        assert_eq!(rt; store.len(), len);
-        let mut into = [0; 6];
-        assert!(rt; store.len() >= 6);
-        assert_eq!(rt; store.read_at(0, &mut into).is_ok(), goes_on, "{told}");
-        assert_eq!(rt; store.write_at(0, b"a").is_ok(), goes_on, "{told}");
-        assert_eq!(rt; store.flush().is_ok(), goes_on, "{told}");
-        assert!(rt; store.len() >= 1);
-        assert_eq!(rt; store.cut(1).is_ok(), goes_on, "{told}");
+        let refused = store.len() >= 6 && store.write_at(5, b"XYZ") == Err(StoreFault::Device);
+        assert!(rt; refused && store.len() == len, "{told}");
+        assert!(rt; each_other_call(&mut store) == [goes_on; 4], "{told}");
         store.reserve(100)?;
-        assert_eq!(rt; store.len(), if goes_on { 1 } else { 6 });
+        assert!(rt; store.len() == if goes_on { 1 } else { 6 }, "{told}");
     }
     Ok(())
 }
@@ -105,10 +111,13 @@ fn the_length_is_asked_after_a_failed_cut(rt: HostRuntime) -> Result<(), Fail> {
         let file = FakeFile::new(Vec::new(rt.alloc()), 1, 2, Trouble::Tells(told));
         let mut store = FileStore::empty(file);
         store.write_at(0, b"abcdef")?;
-        assert!(rt; store.len() >= 2);
-        assert_eq!(rt; store.cut(2), Err(StoreFault::Device));
-        assert_eq!(rt; store.len(), len);
-        assert_eq!(rt; store.flush().is_ok(), goes_on, "{told}");
+        let is_refused = store.len() >= 2 && store.cut(2) == Err(StoreFault::Device);
+        let left = store.len();
+        let is_flushed = store.flush().is_ok();
+        assert!(rt;
+            is_refused && left == len && is_flushed == goes_on,
+            "{told}"
+        );
     }
     Ok(())
 }

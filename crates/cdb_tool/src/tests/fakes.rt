@@ -1,4 +1,5 @@
 // Readers and writers that fail when they are told to.
+use crate::fault::Fault;
 use std::alloc::Global;
 use std::io::{self, ErrorKind, Read, Write};
 use std::prelude::*;
@@ -42,6 +43,17 @@ impl FakeWriter {
             flushes: 0,
             flush_fails: false,
         }
+    }
+}
+
+impl FakeWriter {
+    /// Whether a run that answered so left in it as much of a text as it had room for, and flushed
+    /// it once.
+    pub(super) fn holds_front(&self, answer: Result<(), Fault>, text: &[u8], room: usize) -> bool {
+        let is_whole = room >= text.len();
+        let want = if is_whole { Ok(()) } else { Err(Fault::Output) };
+        let front = text.get(..room).unwrap_or(text);
+        answer == want && self.held.as_slice() == front && self.flushes == 1
     }
 }
 

@@ -68,11 +68,11 @@ fn faults_are_numbered_and_said(rt: HostRuntime) -> Result<(), Fail> {
     ];
     for (fault, number, line) in cases {
         let mut errors = Vec::new(rt.alloc());
-        assert_eq!(rt; fault.number(), number, "{fault:?}");
-        assert_eq!(rt; write_fault(&fault, &mut errors), Ok(()), "{fault:?}");
-        assert_eq!(rt; errors.as_slice(), line.as_bytes(), "{fault:?}");
+        let is_written = write_fault(&fault, &mut errors).is_ok();
+        let is_line = is_written && errors.as_slice() == line.as_bytes();
         let said = format!(in rt.alloc(); "cdb: {fault}\n")?;
-        assert_eq!(rt; said.as_str(), line, "{fault:?}");
+        let is_said = fault.number() == number && said.as_str() == line;
+        assert!(rt; is_line && is_said, "{fault:?}");
     }
     Ok(())
 }
@@ -88,7 +88,7 @@ fn a_line_that_is_cut_is_a_fault(rt: HostRuntime) {
             flush_fails: false,
         };
         let answer = write_fault(&Fault::Text(1, TextFault::Endless), &mut errors);
-        assert_eq!(rt; answer, Err(OutFault), "room for {room}");
-        assert_eq!(rt; errors.held.as_slice(), &line[..room], "room for {room}");
+        let is_front = Some(errors.held.as_slice()) == line.get(..room);
+        assert!(rt; answer == Err(OutFault) && is_front, "room for {room}");
     }
 }

@@ -42,8 +42,8 @@ fn what_follows_a_file_that_is_too_long_stays(rt: HostRuntime) -> Result<(), Fai
     longer.extend_from_slice(b"12345")?;
     let mut rest = longer.as_slice();
     let loaded = load_from(rt.alloc(), &mut rest, 2113);
-    assert_eq!(rt; bytes_in(loaded), Err(Fault::Long));
-    assert_eq!(rt; rest, b"12345".as_slice());
+    let is_long = bytes_in(loaded) == Err(Fault::Long);
+    assert!(rt; is_long && rest == b"12345".as_slice());
     Ok(())
 }
 

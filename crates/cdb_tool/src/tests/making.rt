@@ -18,6 +18,12 @@ fn made<R: Read + Drop>(alloc: Global, text: R) -> (Result<(), Fault>, Vec<u8>) 
     (answer, out)
 }
 
+// Whether the answer for a text is this one, and this file was written.
+fn makes<R: Read + Drop>(alloc: Global, text: R, want: Result<(), Fault>, file: &[u8]) -> bool {
+    let (answer, out) = made(alloc, text);
+    answer == want && out.as_slice() == file
+}
+
 #[test]
 fn worked_files(rt: HostRuntime) -> Result<(), Fail> {
     let cases: [(&[u8], &[Run], usize); 4] = [
@@ -31,14 +37,9 @@ fn worked_files(rt: HostRuntime) -> Result<(), Fail> {
         ),
     ];
     for (text, runs, size) in cases {
-        let (answer, out) = made(rt.alloc(), text);
-        assert_eq!(rt; answer, Ok(()), "{text:?}");
-        assert_eq!(rt; out.len(), size, "{text:?}");
-        assert_eq!(rt;
-            out.as_slice(),
-            bytes_of(rt.alloc(), runs)?.as_slice(),
-            "{text:?}"
-        );
+        let file = bytes_of(rt.alloc(), runs)?;
+        let is_made = makes(rt.alloc(), text, Ok(()), &file);
+        assert!(rt; is_made && file.len() == size, "{text:?}");
     }
     Ok(())
 }
@@ -52,13 +53,9 @@ fn wide_files(rt: HostRuntime) -> Result<(), Fail> {
     for (text, runs, size) in cases {
         let mut out = Vec::new(rt.alloc());
         let answer = make_bytes::<Wide, &[u8], Vec<u8>>(rt.alloc(), text, &mut out);
-        assert_eq!(rt; answer, Ok(()), "{text:?}");
-        assert_eq!(rt; out.len(), size, "{text:?}");
-        assert_eq!(rt;
-            out.as_slice(),
-            bytes_of(rt.alloc(), runs)?.as_slice(),
-            "{text:?}"
-        );
+        let file = bytes_of(rt.alloc(), runs)?;
+        let is_made = out.len() == size && out.as_slice() == file.as_slice();
+        assert!(rt; answer == Ok(()) && is_made, "{text:?}");
     }
     Ok(())
 }
@@ -80,19 +77,18 @@ fn refused_texts_leave_nothing_written_and_their_rest_unread(rt: HostRuntime) {
         let mut w = FakeWriter::new(rt.alloc(), 4096);
         let mut rest = text;
         let answer = make_bytes::<Narrow, _, FakeWriter>(rt.alloc(), &mut rest, &mut w);
-        assert_eq!(rt; answer, Err(Fault::Text(1, fault)), "{text:?}");
-        assert_eq!(rt; (w.held.len(), w.flushes), (0, 1), "{text:?}");
-        assert_eq!(rt; rest, left, "{text:?}");
+        let is_untouched = w.held.is_empty() && w.flushes == 1;
+        let is_refused = answer == Err(Fault::Text(1, fault)) && rest == left;
+        assert!(rt; is_refused && is_untouched, "{text:?}");
     }
 }
 
 #[test]
 fn the_rest_of_the_reader_stays(rt: HostRuntime) -> Result<(), Fail> {
     let mut rest: &[u8] = b"+003,05:one->Hello\n\nrest";
-    let (answer, out) = made(rt.alloc(), &mut rest);
-    assert_eq!(rt; answer, Ok(()));
-    assert_eq!(rt; out.as_slice(), bytes_of(rt.alloc(), &ONE)?.as_slice());
-    assert_eq!(rt; rest, b"rest".as_slice());
+    let file = bytes_of(rt.alloc(), &ONE)?;
+    assert!(rt; makes(rt.alloc(), &mut rest, Ok(()), &file));
+    assert!(rt; rest == b"rest".as_slice());
     Ok(())
 }
 
@@ -108,9 +104,8 @@ fn cut_texts_and_failing_readers(rt: HostRuntime) {
                 text: &TWO_TEXT[..cut],
                 fails,
             };
-            let (answer, out) = made(rt.alloc(), reader);
-            assert_eq!(rt; answer, Err(Fault::Text(1, fault)), "cut at {cut}");
-            assert_eq!(rt; out.len(), 0, "cut at {cut}");
+            let want = Err(Fault::Text(1, fault));
+            assert!(rt; makes(rt.alloc(), reader, want, b""), "cut at {cut}");
         }
     }
 }
@@ -137,14 +132,7 @@ fn a_writer_that_fails_holds_a_front(rt: HostRuntime) -> Result<(), Fail> {
     for room in 0..file.len() + 1 {
         let mut w = FakeWriter::new(rt.alloc(), room);
         let answer = make_bytes::<Narrow, &[u8], FakeWriter>(rt.alloc(), TWO_TEXT, &mut w);
-        let want = if room < file.len() {
-            Err(Fault::Output)
-        } else {
-            Ok(())
-        };
-        assert_eq!(rt; answer, want, "room for {room}");
-        assert_eq!(rt; w.held.as_slice(), &file[..room], "room for {room}");
-        assert_eq!(rt; w.flushes, 1, "room for {room}");
+        assert!(rt; w.holds_front(answer, &file, room), "room for {room}");
     }
     Ok(())
 }
@@ -187,17 +175,14 @@ fn always_endless_or_output(rt: HostRuntime) {
 #[test]
 fn interrupts_of_a_writer_are_counted_in_a_row(rt: HostRuntime) -> Result<(), Fail> {
     let file = bytes_of(rt.alloc(), &NONE)?;
-    let mut w = SlowWriter::new(rt.alloc(), 1000);
-    assert_eq!(rt;
-        make_bytes::<Narrow, &[u8], SlowWriter>(rt.alloc(), b"\n", &mut w),
-        Ok(())
-    );
-    assert_eq!(rt; w.held.as_slice(), file.as_slice());
-    let mut w = SlowWriter::new(rt.alloc(), 1001);
-    let answer = make_bytes::<Narrow, &[u8], SlowWriter>(rt.alloc(), b"\n", &mut w);
-    assert_eq!(rt; answer, Err(Fault::Output));
+    for (interrupts, want) in [(1000, Ok(())), (1001, Err(Fault::Output))] {
+        let mut w = SlowWriter::new(rt.alloc(), interrupts);
+        let answer = make_bytes::<Narrow, &[u8], SlowWriter>(rt.alloc(), b"\n", &mut w);
+        let is_written = want.is_err() || w.held.as_slice() == file.as_slice();
+        assert!(rt; answer == want && is_written, "{interrupts} interruptions");
+    }
     let answer = make_bytes::<Narrow, &[u8], FullWriter>(rt.alloc(), b"\n", &mut FullWriter);
-    assert_eq!(rt; answer, Err(Fault::Output));
+    assert!(rt; answer == Err(Fault::Output));
     Ok(())
 }
 

@@ -1,0 +1,89 @@
+#!/usr/bin/env python3
+"""Refuses each ask for memory of some tests in turn, and looks at what their calls answer.
+
+    tests/faults/calls.py LIBRARY
+
+The library is refuse.c, built to be loaded ahead of the C library. Each test of TESTS makes a call,
+asserts its answer, and prints what came: `Whole`, `NoMemory` where the call answered that and then,
+on fresh inputs, gave all, or `NoInputs` where there was no memory to make the call. It is run once
+with nothing refused, which counts its asks, and then once for each of them. A refusal is told as
+`NoMemory`, or was not needed (a vector asks ahead for room). Of a call to which no refusal came
+nothing is known, which fails.
+"""
+
+import os
+import resource
+import sys
+import tempfile
+
+from run import Program
+
+CRATES = os.path.join(os.path.dirname(os.path.abspath(__file__)), "..", "..", "crates")
+TESTS = {
+    "cdb_form": ["a_map_reader_tells_refused_memory"],
+    "cdb_tool": [
+        "a_list_tells_refused_memory",
+        "a_list_of_a_map_tells_refused_memory",
+        "a_load_tells_refused_memory",
+    ],
+}
+PASSED = b"test result: ok"
+# What a test prints, and what that is called here.
+CAME = {"NoMemory": "told", "Whole": "done without", "NoInputs": "before the call"}
+
+
+def came_of(left):
+    """What a test printed of its call, or what is wrong with the test's end."""
+    status, output, _ = left
+    lines = output.split()
+    if status or PASSED not in output:
+        return f"{left!r:.300}"
+    return lines[0].decode()
+
+
+def refuse_each(program, test):
+    """For each refusal its number, and what came of it."""
+    words = [f"tests::refusals::{test}"]
+    free, asks = program.run(words, b"")
+    if came_of(free) != "Whole":
+        return [("nothing refused", f"{free!r:.300}")]
+    came = []
+    for number in range(1, asks + 1):
+        left, _ = program.run(words, b"", number, number)
+        came.append((f"ask {number}", came_of(left)))
+    return came
+
+
+def tell(test, came):
+    """Says what came of the refusals of a test, and how many of them passed and failed."""
+    count = {it: sum(1 for _, what in came if what == it) for it in CAME}
+    wrong = [f"{test}: {how}: {it}" for how, it in came if it not in CAME]
+    for line in wrong[:5]:
+        print(line)
+    told = ", ".join(f"{number} {CAME[it]}" for it, number in count.items())
+    print(f"{test}: {len(came)} refusals: {told}, {len(wrong)} wrong")
+    if count["NoMemory"] == 0:
+        print(f"{test}: no refusal reached the call")
+    return count["NoMemory"] + count["Whole"], len(wrong) + (count["NoMemory"] == 0)
+
+
+def main():
+    if len(sys.argv) != 2:
+        sys.exit(__doc__)
+    # A failed assertion is to leave no file.
+    resource.setrlimit(resource.RLIMIT_CORE, (0, 0))
+    library = os.path.abspath(sys.argv[1])
+    passed = failed = 0
+    with tempfile.TemporaryDirectory() as folder:
+        for crate, tests in TESTS.items():
+            built = os.path.join(CRATES, crate, "out", f"{crate}_tests")
+            program = Program(os.path.abspath(built), library, folder)
+            for test in tests:
+                good, bad = tell(test, refuse_each(program, test))
+                passed, failed = passed + good, failed + bad
+    print(f"{passed} passed, {failed} failed")
+    sys.exit(1 if failed else 0)
+
+
+if __name__ == "__main__":
+    main()
