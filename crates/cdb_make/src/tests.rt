@@ -1,5 +1,7 @@
 //! Each function once on a store in memory.
 mod building;
+mod maker;
+mod scripts;
 mod taking;
 
 use crate::append::append_record;
