@@ -1,5 +1,6 @@
 //! Each function once on a store in memory.
 mod building;
+mod faults;
 mod maker;
 mod scripts;
 mod taking;
