@@ -1,5 +1,6 @@
 //! Each function once on a store in memory.
 mod building;
+mod drawn;
 mod faults;
 mod maker;
 mod scripts;
