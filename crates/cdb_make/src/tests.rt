@@ -5,6 +5,7 @@ mod faults;
 mod maker;
 mod scripts;
 mod taking;
+mod uses;
 
 use crate::append::append_record;
 use crate::moving::move_down;
