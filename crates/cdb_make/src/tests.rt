@@ -3,6 +3,7 @@ mod building;
 mod drawn;
 mod faults;
 mod maker;
+mod scarce;
 mod scripts;
 mod taking;
 mod uses;
