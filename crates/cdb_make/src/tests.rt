@@ -1,6 +1,12 @@
 //! Each function once on a store in memory.
 mod building;
+mod drawn;
+mod faults;
+mod maker;
+mod scarce;
+mod scripts;
 mod taking;
+mod uses;
 
 use crate::append::append_record;
 use crate::moving::move_down;

@@ -1,0 +1,119 @@
+//! A maker over a store that refuses memory.
+ghost use Rattle.std.specs.Prelude.{◌≡◌, ◌≤◌};
+
+use super::scripts::{add, expected};
+use crate::{MakeFault, Maker, Mode, Put};
+use cdb_form::{Narrow, Width};
+use cdb_store::{MemStore, Store, StoreFault};
+use std::prelude::*;
+use std::test::Fail;
+
+/// A store that refuses memory on demand.
+#[derive(Drop)]
+struct ScarceStore<S: Store> {
+    inner: S,
+    /// What a write needs no memory below.
+    room: u64,
+    /// Memory is refused.
+    refuses: bool,
+    ghost sized: { S.size inner ≤ room },
+    ghost within: { room ≤ S.room inner },
+}
+
+/// A store that gives memory at first.
+fn scarce<S: Store>(inner: S) -> ScarceStore<S> {
+    let room = inner.len();
+    ScarceStore {
+        inner,
+        room,
+        refuses: false,
+    }
+}
+
+impl<S: Store> Store for ScarceStore<S> {
+    ghost size = { λ s. S.size s.inner };
+
+    ghost image = { λ s. S.image s.inner };
+
+    ghost failures = { λ s. S.failures s.inner };
+
+    ghost written = { λ s. S.written s.inner };
+
+    ghost room = { λ s. s.room };
+
+    ghost settled = { λ s. S.settled s.inner };
+
+    ghost in_room = { λ s. s.sized };
+
+    ghost image_size = { λ s. S.image_size s.inner };
+
+    fn len(&self) -> u64 {
+        self.inner.len()
+    }
+
+    fn read_at(&mut self, pos: u64, into: &mut [u8]) -> Result<(), StoreFault> {
+        self.inner.read_at(pos, into)
+    }
+
+    fn write_at(&mut self, pos: u64, bytes: &[u8]) -> Result<(), StoreFault> {
+        if self.refuses && pos + bytes.len() as u64 > self.room {
+            return Err(StoreFault::NoMemory);
+        }
+        let answer = self.inner.write_at(pos, bytes);
+        self.room = self.room.max(self.inner.len());
+        answer
+    }
+
+    fn reserve(&mut self, len: u64) -> Result<(), StoreFault> {
+        if self.refuses && len > self.room {
+            return Err(StoreFault::NoMemory);
+        }
+        self.inner.reserve(len)?;
+        self.room = self.room.max(len);
+        Ok(())
+    }
+
+    fn cut(&mut self, len: u64) -> Result<(), StoreFault> {
+        self.inner.cut(len)
+    }
+
+    fn flush(&mut self) -> Result<(), StoreFault> {
+        self.inner.flush()
+    }
+}
+
+#[test]
+fn refused_memory_leaves_what_was_held(rt: HostRuntime) -> Result<(), Fail> {
+    let store = scarce(MemStore::new(rt.alloc()));
+    let made = Maker::<ScarceStore<MemStore>, Narrow>::new(rt.alloc(), store, Narrow::GREATEST);
+    let Ok(mut maker) = made else {
+        return Err(Fail::new("no maker was made"));
+    };
+    maker.put(Mode::Add, b"one", b"Hello")?;
+    maker.put(Mode::Add, b"two", b"Goodbye")?;
+    maker.store.refuses = true;
+    let refused = maker.put(Mode::Add, b"a", b"1");
+    assert_eq!(rt; refused, Err(MakeFault::NoMemory));
+    let refused = maker.put(Mode::Replace, b"one", b"a longer value");
+    assert_eq!(rt; refused, Err(MakeFault::NoMemory));
+    let Err(unfinished) = maker.finish() else {
+        return Err(Fail::new("a file was finished without memory"));
+    };
+    assert_eq!(rt; unfinished.fault, MakeFault::NoMemory);
+    let mut maker = unfinished.maker;
+    assert!(rt; !maker.is_broken() && maker.count() == 2);
+    maker.store.refuses = false;
+    assert_eq!(rt; maker.put(Mode::Add, b"a", b"1"), Ok(Put::Added));
+    let Ok(store) = maker.finish() else {
+        return Err(Fail::new("a file was not finished"));
+    };
+    let calls = [
+        add(b"one", b"Hello"),
+        add(b"two", b"Goodbye"),
+        add(b"a", b"1"),
+    ];
+    let wanted = expected::<Narrow>(rt.alloc(), &calls)?;
+    assert_eq!(rt; wanted.file.len(), 2140);
+    assert!(rt; store.inner.bytes() == wanted.file.as_slice());
+    Ok(())
+}
