@@ -1,4 +1,3 @@
-use Rattle.std.proofs.Common.{◌≡◌, ℕ, ◌+◌, ◌-◌, ◌*◌, ◌<◌, ◌≤◌, length}
 use Rattle.cdb_make.proofs.tests.scripts.from_scratch.Given as goal
 use Rattle.cdb_make.specs.Views.Builder.{IsSound}
 
