@@ -13,7 +13,7 @@ use Rattle.cdb_form.specs.Format.Record.{KeyValue, record_size, record_bytes}
 use Rattle.cdb_form.proofs.Sizes.{length-record_bytes}
 use Rattle.cdb_make.specs.Stands.{Tells, Stands}
 use Rattle.cdb_make.specs.Views.EntryList.{AreWithin, HasSpareGaps}
-use Rattle.cdb_make.specs.Views.Index.{with_entry}
+use Rattle.cdb_make.specs.Views.EntryList.{with_entry}
 use Rattle.cdb_make.proofs.EntryLists.{lists_more}
 
 -- what an image holds from a place on, and what was written behind that

@@ -5,7 +5,7 @@ use Rattle.cdb_form.specs.Format.Hash.{table_number}
 use Rattle.cdb_form.specs.Format.Pair.{WordPair}
 use Rattle.cdb_make.specs.declared.list.EntryList.{EntryList}
 use Rattle.cdb_make.specs.Views.EntryList.{list_entries, lists_entries}
-use Rattle.cdb_make.specs.Views.Index.{with_entry}
+use Rattle.cdb_make.specs.Views.EntryList.{with_entry}
 
 -- what is told of a list that took another's place
 pub told_of_set : {A : Type 0} (f : EntryList → A) (ls : List EntryList) (i j : ℕ) (l : EntryList) (d : A) → j ≡ i → i < length ls → get_or (map f (slice_set ls i l)) j d ≡ f l

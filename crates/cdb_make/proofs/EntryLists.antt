@@ -2,8 +2,7 @@
 use Rattle.std.proofs.Common.{◌≡◌, ℕ, ◌+◌, ◌*◌, ◌<◌, inl, inr, List, [], ◌∷◌, ◌++◌, length, map, get_or, sym, ap, ◌∙◌, arith, replicate, slice_set}
 use Rattle.std.specs.List.{range_with_len, filter}
 use Rattle.std.specs.Prelude.{sum_by}
-use Rattle.std.specs.declared.vec.Vec.{Vec}
-use Rattle.std.proofs.lemmas.List.{map-set, map_push, get_or-map, get_or-set_same, get_or-set_other, append-nil, length-set, length-replicate, get_or-replicate}
+use Rattle.std.proofs.lemmas.List.{get_or-set_same, get_or-set_other, append-nil, length-set, length-replicate, get_or-replicate}
 use Rattle.std.proofs.lemmas.List.Sums.{sum_by-cons, sum_by_push}
 use Rattle.std.proofs.lemmas.List.Elements.{filter-append}
 use Rattle.std.proofs.lemmas.List.FromFn.{fill_by_all, get_or-map-range_with_len, length-map-range_with_len}
@@ -14,17 +13,6 @@ use Rattle.cdb_form.specs.Format.Record.{KeyValue, record_size, records_end}
 use Rattle.cdb_form.specs.Format.Pair.{WordPair, head_size}
 use Rattle.cdb_form.specs.Format.Table.{entries_from, table_entries, in_table}
 use Rattle.cdb_form.specs.Format.File.{file_size}
-use Rattle.cdb_make.specs.Views.Index.{list_pairs, lists_pairs, with_entry}
-use Rattle.cdb_form.specs.Views.Pairs.{slot_pair}
-use Rattle.cdb_form.specs.declared.slot.Slot.{Slot}
-
--- one entry more in the list of its table
-pub entry_added : {Z : Type 0} (vs : List (Vec Slot Z)) (e : Slot) (i : ℕ) (v new : Vec Slot Z) → i ≡ table_number e.hash → i < length vs → v ≡ get_or vs i v → new.items ≡ v.items ++ e ∷ []
-    → lists_pairs (slice_set vs i new) ≡ with_entry (lists_pairs vs) (slot_pair e)
-entry_added vs e i v new n h is items =
-    let old : get_or (lists_pairs vs) i [] ≡ list_pairs v = get_or-map list_pairs vs i v [] h ∙ ap list_pairs (sym is) in
-    let more : list_pairs new ≡ get_or (lists_pairs vs) i [] ++ slot_pair e ∷ [] = ap (map slot_pair) items ∙ map_push slot_pair v.items e ∙ ap (λ t. t ++ slot_pair e ∷ []) (sym old) in
-    map-set list_pairs vs i new ∙ ap (slice_set (lists_pairs vs) i) more ∙ ap (λ (k : ℕ). slice_set (lists_pairs vs) k (get_or (lists_pairs vs) k [] ++ slot_pair e ∷ [])) n
 
 -- one record more
 pub located_push : (w at : ℕ) (rs : List KeyValue) (r : KeyValue) → entries_from w at (rs ++ r ∷ []) ≡ entries_from w at rs ++ record { first = key_hash r.key; second = at + sum_by (record_size w) rs } ∷ []

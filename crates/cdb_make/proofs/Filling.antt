@@ -1,6 +1,6 @@
 -- The search for an empty slot.
 use Rattle.std.proofs.Common.{◌≡◌, ℕ, ◌+◌, ◌-◌, ◌%◌, ◌<◌, ◌≤◌, Bool, true, eqb, List, [], ◌∷◌, length, take, drop, map, get_or, refl, sym, ap, ◌∙◌, arith, length-drop, fold, replicate, slice_set, suc}
-use Rattle.std.proofs.lemmas.List.{length-map, drop-map, take-map, length-take-le, take_more, get_or-map, map-set}
+use Rattle.std.proofs.lemmas.List.{length-map, drop-map, take-map, length-take-le, take_more, map-set}
 use Rattle.std.proofs.lemmas.List.Sums.{prefix_len-le-length, fold-append}
 use Rattle.std.proofs.Math.Nat.{mod-eq_of_lt, add-mod_left}
 use Rattle.std.proofs.lemmas.List.Folds.{prefix_len-append}
@@ -71,14 +71,3 @@ filled_next n i slots es e new h is before put =
     put ∙ ap (λ s. slots_with s e) before
     ∙ ap (λ x. slots_with (fold slots_with (replicate n empty_slot) (take i es)) x) is
     ∙ sym (ap (fold slots_with (replicate n empty_slot)) (take_more es i e h) ∙ fold-append slots_with (replicate n empty_slot) (take i es) (get_or es i e ∷ []))
-
--- the same of slots
-pub filled_none : (n : ℕ) (slots : List Slot) (es : List Slot) → map slot_pair slots ≡ replicate n empty_slot → map slot_pair slots ≡ filled_slots n (map slot_pair (take 0 es))
-filled_none n slots es e = filled_nothing n (map slot_pair slots) e
-
-pub filled_more : (n i : ℕ) (slots es : List Slot) (e d : Slot) (new : List WordPair) → i < length es → e ≡ get_or es i d → map slot_pair slots ≡ filled_slots n (map slot_pair (take i es)) → new ≡ slots_with (map slot_pair slots) (slot_pair e) → new ≡ filled_slots n (map slot_pair (take (i + 1) es))
-filled_more n i slots es e d new h is before put =
-    let lt : i < length (map slot_pair es) = simp length-map (omega arith) in
-    let here : slot_pair e ≡ get_or (map slot_pair es) i (slot_pair e) = ap slot_pair is ∙ sym (get_or-map slot_pair es i d (slot_pair e) h) in
-    filled_next n i (map slot_pair slots) (map slot_pair es) (slot_pair e) new lt here (before ∙ ap (filled_slots n) (sym (take-map slot_pair i es))) put
-    ∙ ap (filled_slots n) (take-map slot_pair (i + 1) es)

@@ -5,11 +5,11 @@ use Rattle.std.proofs.lemmas.List.{drop-append-le, length-take-le, take_at, drop
 use Rattle.cdb_store.specs.Images.{overwrite, part, AfterWrite, AfterCut, AreSized, KeepsPart}
 use Rattle.cdb_store.proofs.Parts.{length-part}
 use Rattle.cdb_form.specs.Format.Pair.{WordPair, head_size, pair_bytes}
-use Rattle.cdb_form.specs.Format.File.{file_bytes, file_pointers, file_size, pointers_from}
+use Rattle.cdb_form.specs.Format.File.{file_bytes, file_pointers, pointers_from}
 use Rattle.cdb_form.specs.Format.Record.{KeyValue, record_bytes, record_size, records_end}
 use Rattle.cdb_form.specs.Format.Table.{file_tables, slots_of, table_entries}
 use Rattle.cdb_form.proofs.HeadLemmas.{length-flat_map_words}
-use Rattle.cdb_form.proofs.Sizes.{length-pointers_from, size_split, sum_by-table_entries, tables_are}
+use Rattle.cdb_form.proofs.Sizes.{length-pointers_from, tables_are}
 use Rattle.cdb_make.specs.Finished.{IsFinished}
 use Rattle.cdb_make.specs.Parts.{head_bytes, table_bytes, tables_end}
 use Rattle.cdb_make.specs.Stands.{Tells, Stands}
@@ -70,14 +70,6 @@ file_of_parts w end bytes ls rs e held entries =
     ∙ ap (λ v. (flat_map (pair_bytes w) (pointers_from w (records_end w rs) v) ++ bytes) ++ flat_map (table_bytes w) ls) t
     ∙ ap (λ v. (flat_map (pair_bytes w) (pointers_from w (records_end w rs) (file_tables w rs)) ++ v) ++ flat_map (table_bytes w) ls) held
     ∙ ap (λ v. (flat_map (pair_bytes w) (pointers_from w (records_end w rs) (file_tables w rs)) ++ flat_map (record_bytes w) rs) ++ v) tables
-
--- it ends where the file's size is counted to be
-pub tables_end_is : (w end : ℕ) (ls : List (List WordPair)) (rs : List KeyValue) → end ≡ records_end w rs → ls ≡ map (table_entries w rs) (range_with_len 0 256) → tables_end w end ls ≡ file_size w rs
-tables_end_is w end ls rs e entries =
-    let n : sum_by length ls ≡ length rs = ap (sum_by length) entries ∙ sum_by-table_entries w rs in
-    let m : 4 * w * sum_by length ls ≡ 4 * w * length rs = ap (λ (k : ℕ). 4 * w * k) n in
-    let at : end ≡ head_size w + sum_by (record_size w) rs = e in
-    omega (arith, m, at, size_split w rs)
 
 -- a finished image, where the records stood, is their file
 pub finished_file : {w end : ℕ} {ls : List (List WordPair)} {rs : List KeyValue} {a b : List ℕ} → Tells w end ls rs a

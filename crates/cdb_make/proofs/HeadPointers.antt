@@ -1,18 +1,15 @@
 -- The pointers to the tables of some lists of entries.
-use Rattle.std.proofs.Common.{◌≡◌, ℕ, ◌+◌, ◌*◌, ◌<◌, ◌≤◌, List, [], ◌∷◌, ◌++◌, length, take, map, get_or, refl, sym, ap, subst, ◌∙◌, arith, sum_by}
+use Rattle.std.proofs.Common.{◌≡◌, ℕ, ◌+◌, ◌*◌, ◌<◌, ◌≤◌, List, [], ◌∷◌, ◌++◌, length, take, map, get_or, refl, sym, ap, ◌∙◌, arith, sum_by}
 use Rattle.std.proofs.lemmas.List.{take_more, length-map, take-map, get_or-map, map_push, take_more_set}
 use Rattle.std.proofs.lemmas.List.Sums.{sum_by-cons, sum_by_more_le, sum_by_more}
 use Rattle.std.proofs.Math.Nat.{mul-le-mul_left}
 use Rattle.std.specs.List.{slice_set}
-use Rattle.std.specs.declared.vec.Vec.{Vec}
 use Rattle.cdb_form.specs.Format.Pair.{WordPair, pair_size}
 use Rattle.cdb_form.specs.Format.File.{pointers_from}
 use Rattle.cdb_form.specs.Format.Table.{slots_of}
-use Rattle.cdb_form.specs.Views.Pairs.{slot_pair, pointer_pair}
-use Rattle.cdb_form.specs.declared.slot.Slot.{Slot}
+use Rattle.cdb_form.specs.Views.Pairs.{pointer_pair}
 use Rattle.cdb_form.specs.declared.head.Pointer.{Pointer}
 use Rattle.cdb_form.proofs.Sizes.{length-slots_of}
-use Rattle.cdb_make.specs.Views.Index.{list_pairs, lists_pairs}
 
 pointers_append : (w at : ℕ) (ls more : List (List WordPair)) → pointers_from w at (map slots_of (ls ++ more)) ≡ pointers_from w at (map slots_of ls) ++ pointers_from w (at + 4 * w * sum_by length ls) (map slots_of more)
 unfolding pointers_from
@@ -64,19 +61,6 @@ sums_more f k xs i x h is =
     let t' : sum_by length (take (i + 1) (map f xs)) ≡ sum_by length (map f (take (i + 1) xs)) = ap (sum_by length) (take-map f (i + 1) xs) in
     let sum : sum_by length (map f (take (i + 1) xs)) ≡ sum_by length (map f (take i xs)) + length (f x) = omega (arith, all, e, t, t') in
     ap (λ (n : ℕ). k * n) sum ∙ omega arith
-
--- the same of vectors of slots
-pub pointers_more : {Z : Type 0} (w at : ℕ) (vs : List (Vec Slot Z)) (ps : List Pointer) (i place slots : ℕ) (v : Vec Slot Z) → i < length vs → i < length ps → v ≡ get_or vs i v
-    → place ≡ at + 4 * w * sum_by length (lists_pairs (take i vs)) → slots ≡ 2 * length v.items → map pointer_pair (take i ps) ≡ pointers_from w at (map slots_of (lists_pairs (take i vs)))
-    → map pointer_pair (take (i + 1) (slice_set ps i (record { place = place; slots = slots }))) ≡ pointers_from w at (map slots_of (lists_pairs (take (i + 1) vs)))
-pointers_more w at vs ps i place slots v h hp is ep es before = pointers_next list_pairs w at vs ps i place slots v h hp is ep (es ∙ ap (λ (n : ℕ). 2 * n) (sym (length-map v.items slot_pair))) before
-
-pub sum_within : {Z : Type 0} (k : ℕ) (vs : List (Vec Slot Z)) (i : ℕ) (v : Vec Slot Z) → i < length vs → v ≡ get_or vs i v → k * sum_by length (lists_pairs (take i vs)) + k * length v.items ≤ k * sum_by length (lists_pairs vs)
-sum_within k vs i v h is =
-    subst (λ (n : ℕ). k * sum_by length (lists_pairs (take i vs)) + k * n ≤ k * sum_by length (lists_pairs vs)) (length-map v.items slot_pair) (sums_within list_pairs k vs i v h is)
-
-pub sum_more : {Z : Type 0} (k : ℕ) (vs : List (Vec Slot Z)) (i : ℕ) (v : Vec Slot Z) → i < length vs → v ≡ get_or vs i v → k * sum_by length (lists_pairs (take (i + 1) vs)) ≡ k * sum_by length (lists_pairs (take i vs)) + k * length v.items
-sum_more k vs i v h is = sums_more list_pairs k vs i v h is ∙ ap (λ (n : ℕ). k * sum_by length (lists_pairs (take i vs)) + k * n) (length-map v.items slot_pair)
 
 pub table_size : (w size n len : ℕ) → size ≡ pair_size w → len ≡ n → size * (2 * len) ≡ 4 * w * n
 table_size w size n len es en = ap (λ (k : ℕ). k * (2 * len)) es ∙ ap (λ (k : ℕ). pair_size w * (2 * k)) en ∙ omega arith

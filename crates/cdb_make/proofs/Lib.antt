@@ -2,7 +2,6 @@ pub mod Filling
 pub mod EntryLists
 pub mod Written
 pub mod HeadPointers
-pub mod WholeFile
 pub mod Apart
 pub mod Squeeze
 pub mod Compare

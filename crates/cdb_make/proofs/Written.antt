@@ -1,22 +1,18 @@
 -- What a writer holds, part after part.
-use Rattle.std.proofs.Common.{◌≡◌, ℕ, suc, ◌+◌, ◌*◌, ◌^◌, ◌%◌, ◌<◌, ◌≤◌, ◌⊎◌, inl, inr, List, [], ◌∷◌, ◌++◌, length, take, drop, map, flat_map, get_or, refl, sym, ap, subst, ◌∙◌, arith, Option, Result, Ok, Err, OnOk, OnErr, IfErr, append_assoc, fold, replicate, bit_xor, lit<}
+use Rattle.std.proofs.Common.{◌≡◌, ℕ, suc, ◌+◌, ◌*◌, ◌^◌, ◌%◌, ◌<◌, ◌≤◌, ◌⊎◌, inl, inr, List, [], ◌∷◌, ◌++◌, length, take, map, flat_map, get_or, refl, sym, ap, subst, ◌∙◌, arith, Option, Result, Ok, Err, OnOk, OnErr, append_assoc, fold, replicate, bit_xor}
 use Rattle.std.specs.Prelude.{All}
 use Rattle.std.proofs.lemmas.List.{append-nil, take_at, get_or-map, length-map}
 use Rattle.std.proofs.lemmas.List.Elements.{All-get_or, All-set, All-replicate, All-head, All-tail}
 use Rattle.std.proofs.lemmas.Nat.{xor_lt}
 use Rattle.std.specs.Io.KnownBytes.{Appends}
 use Rattle.cdb_form.specs.Views.KnownBytes.{AppendsFront}
-use Rattle.cdb_form.specs.Format.Hash.{key_hash, hash_step}
+use Rattle.cdb_form.specs.Format.Hash.{hash_step}
 use Rattle.cdb_form.specs.Format.Record.{AreBytes, KeyValue, record_bytes}
 use Rattle.cdb_form.specs.Format.Pair.{WordPair, pair_bytes}
 use Rattle.cdb_form.specs.Format.Table.{slots_with, filled_slots, slots_of, empty_slot}
 use Rattle.cdb_form.specs.Views.Pairs.{slot_pair, PairFits}
-use Rattle.cdb_form.proofs.WritingLemmas.{front_then, flat_map_at}
+use Rattle.cdb_form.proofs.WritingLemmas.{front_then}
 use Rattle.cdb_form.specs.declared.slot.Slot.{Slot}
-
-pub on_ok : {T E : Type 0} {P Q : Type 0} (r : Result T E) → (P → Q) → OnOk r P → OnOk r Q
-on_ok (Ok x) f h = f h
-on_ok (Err e) f h = tt
 
 pub on_err : {T E : Type 0} {P Q : Type 0} (r : Result T E) → (P → Q) → OnErr r P → OnErr r Q
 on_err (Ok x) f h = tt
@@ -29,11 +25,6 @@ on_any_ok (Err e) h = tt
 pub on_any_err : {T E : Type 0} {P : Type 0} (r : Result T E) → P → OnErr r P
 on_any_err (Ok x) h = tt
 on_any_err (Err e) h = h
-
--- what holds of a fault
-pub on_fault : {T E : Type 0} {P Q : E → Type 0} (r : Result T E) → ((e : E) → P e → Q e) → IfErr r P → IfErr r Q
-on_fault (Ok x) f h = tt
-on_fault (Err e) f h = f e h
 
 pub same_front : (old new : Option (List ℕ)) (xs ys : List ℕ) → xs ≡ ys → AppendsFront old new xs → AppendsFront old new ys
 same_front old new xs ys e a = subst (AppendsFront old new) e a
@@ -51,9 +42,6 @@ front_last old mid new xs ys all a b e = front_then old mid new xs ys [] all a b
 
 pub written_front : (k : ℕ) (into xs rest : List ℕ) → into ≡ xs → length xs ≡ k → take k (into ++ rest) ≡ xs
 written_front k into xs rest e l = ap (λ t. take k (t ++ rest)) e ∙ take_at xs rest k l
-
-pub flat_map_item : {X A : Type 0} (f : X → List A) (xs : List X) (i : ℕ) (x : X) → i < length xs → x ≡ get_or xs i x → flat_map f xs ≡ flat_map f (take i xs) ++ (f x ++ flat_map f (drop (i + 1) xs))
-flat_map_item f xs i x h is = flat_map_at f xs i x h ∙ ap (λ y. flat_map f (take i xs) ++ (f y ++ flat_map f (drop (i + 1) xs))) (sym is)
 
 pub flat_map-map : {X Y A : Type 0} (f : Y → List A) (g : X → Y) (xs : List X) → flat_map f (map g xs) ≡ flat_map (λ x. f (g x)) xs
 flat_map-map f g [] = refl
@@ -82,25 +70,10 @@ hash_from h (b ∷ key) lt bytes =
     let next : bit_xor ((33 * h) % 2 ^ 32) b < 2 ^ 32 = xor_lt 32 ((33 * h) % 2 ^ 32) b (omega arith) (omega (arith, byte)) in
     hash_from (bit_xor ((33 * h) % 2 ^ 32) b) key next (λ k. bytes (suc k))
 
-pub hash_fits : (key : List ℕ) → AreBytes key → key_hash key ≤ 4294967295
-hash_fits key bytes = let h = hash_from 5381 key (lit< tt) bytes in omega (arith, h)
-
 -- the greatest word is that of 32 bits at least
 pub top_fits : (w top : ℕ) → (w ≡ 4) ⊎ (w ≡ 8) → top + 1 ≡ 256 ^ w → 4294967295 ≤ top
 top_fits w top (inl e) t = let p : top + 1 ≡ 256 ^ 4 = t ∙ ap (λ (k : ℕ). 256 ^ k) e in omega arith
 top_fits w top (inr e) t = let p : top + 1 ≡ 256 ^ 8 = t ∙ ap (λ (k : ℕ). 256 ^ k) e in omega arith
-
--- a record's three pieces, behind what stood there
-pub record_pieces : (w : ℕ) (r : KeyValue) (a b : ℕ) (old header key value one two three : List ℕ) → a ≡ length r.key → b ≡ length r.value → header ≡ pair_bytes w (record { first = a; second = b }) → key ≡ r.key → value ≡ r.value
-    → one ≡ old ++ header → two ≡ one ++ key → three ≡ two ++ value → three ≡ old ++ record_bytes w r
-unfolding record_bytes
-record_pieces w r a b old header key value one two three ea eb eh ek ev e₁ e₂ e₃ =
-    let words : header ≡ pair_bytes w (record { first = length r.key; second = length r.value }) =
-    eh ∙ ap (λ (n : ℕ). pair_bytes w (record { first = n; second = b })) ea ∙ ap (λ (n : ℕ). pair_bytes w (record { first = length r.key; second = n })) eb in
-    let pieces : three ≡ old ++ (header ++ key ++ value) = e₃ ∙ ap (λ t. t ++ value) (e₂ ∙ ap (λ t. t ++ key) e₁ ∙ append_assoc old header key) ∙ append_assoc old (header ++ key) value in
-    pieces ∙ ap (λ t. old ++ (t ++ key ++ value)) words
-    ∙ ap (λ t. old ++ (pair_bytes w (record { first = length r.key; second = length r.value }) ++ t ++ value)) ek
-    ∙ ap (λ t. old ++ (pair_bytes w (record { first = length r.key; second = length r.value }) ++ r.key ++ t)) ev
 
 -- a record's three pieces are its bytes
 pub pieces_are : (w : ℕ) (r : KeyValue) (a b : ℕ) (header : List ℕ) → a ≡ length r.key → b ≡ length r.value → header ≡ pair_bytes w (record { first = a; second = b }) → header ++ (r.key ++ r.value) ≡ record_bytes w r

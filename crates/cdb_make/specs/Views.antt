@@ -1,6 +1,4 @@
 -- What clauses read of the types of this crate.
-pub mod Index
-pub mod Builder
 pub mod MakeFault
 pub mod EntryList
 pub mod Maker

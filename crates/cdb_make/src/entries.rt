@@ -2,7 +2,7 @@
 ghost use Rattle.std.specs.Prelude.{◌≡◌, ℕ, ◌<◌, ◌≤◌, ◌⊎◌, [], length, replicate, vec_capacity};
 ghost use Rattle.std.specs.Prelude.{IfOk, OnOk, OnErr};
 ghost use Rattle.cdb_make.specs.Views.EntryList.{lists_entries, entry_count, entry_room};
-ghost use Rattle.cdb_make.specs.Views.Index.{with_entry};
+ghost use Rattle.cdb_make.specs.Views.EntryList.{with_entry};
 
 use crate::gap::Gap;
 use crate::list::EntryList;

@@ -2,7 +2,6 @@
 ghost use Rattle.std.specs.Prelude.{◌≡◌, Some};
 ghost use Rattle.cdb_make.specs.Views.MakeFault.{make_number, make_message};
 
-use cdb_form::OutFault;
 use cdb_store::StoreFault;
 use std::alloc::{AllocError, AllocFailed};
 use std::error::Error;
@@ -19,7 +18,7 @@ pub enum MakeFault {
     TooBig,
     /// Memory ran out.
     NoMemory,
-    /// The store or the writer failed while it was written.
+    /// The store failed while it was written.
     Writing,
 }
 
@@ -77,16 +76,6 @@ impl<T: Drop> From<AllocFailed<T>> for MakeFault {
 
     fn from(_: AllocFailed<T>) -> MakeFault {
         MakeFault::NoMemory
-    }
-}
-
-impl From<OutFault> for MakeFault {
-    ghost use Rattle.cdb_make.specs.declared.fault.MakeFault.TheVariants.{Writing};
-
-    ghost from_gives = { λ _ f. f ≡ Writing };
-
-    fn from(_: OutFault) -> MakeFault {
-        MakeFault::Writing
     }
 }
 

@@ -1,11 +1,13 @@
 // One table, filled.
 ghost use Rattle.std.specs.Prelude.{◌≡◌, ℕ, ◌+◌, ◌*◌, ◌%◌, ◌<◌, ◌≤◌, length, map, replicate};
+ghost use Rattle.std.specs.Prelude.{flat_map, All};
+ghost use Rattle.cdb_form.specs.Format.Pair.{pair_bytes, pair_size};
 ghost use Rattle.std.specs.List.{prefix_len};
 ghost use Rattle.cdb_form.specs.Format.Table.{is_used, slots_from, slots_with, filled_slots};
 ghost use Rattle.cdb_form.specs.Format.Table.{empty_slot};
-ghost use Rattle.cdb_form.specs.Views.Pairs.{slot_pair};
+ghost use Rattle.cdb_form.specs.Views.Pairs.{slot_pair, PairFits};
 
-use cdb_form::{Slot, home_slot};
+use cdb_form::{Slot, Width, home_slot, pair_size, write_slot};
 
 /// A slot that holds no entry.
 pub(crate) const EMPTY: Slot = Slot { hash: 0, place: 0 };
@@ -57,14 +59,16 @@ pub(crate) fn clear(slots: &mut [Slot])
     }
 }
 
-/// Leaves the table of some entries, filled in their order. It has two slots for each.
-pub(crate) fn fill_table(slots: &mut [Slot], entries: &[Slot])
-    requires { length slots.old ≡ 2 * length entries.now }
-    ensures { map slot_pair slots.new
-        ≡ filled_slots (2 * length entries.now) (map slot_pair entries.now) }
+/// Leaves the bytes of some slots.
+pub(crate) fn encode_slots<L: Width>(slots: &[Slot], into: &mut [u8])
+    requires long { length into.old ≡ pair_size L.WORD * length slots.now }
+    requires fits { All (PairFits L.TOP) (map slot_pair slots.now) }
+    ensures { into.new ≡ flat_map (pair_bytes L.WORD) (map slot_pair slots.now) }
 {
-    clear(slots);
-    for entry in entries {
-        put_entry(slots, *entry);
+    let size = pair_size::<L>();
+    let mut at = 0;
+    for slot in slots {
+        write_slot::<L>(*slot, &mut into[at..at + size]);
+        at += size;
     }
 }

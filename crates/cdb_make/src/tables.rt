@@ -9,9 +9,8 @@ ghost use Rattle.cdb_form.specs.Views.Pairs.{slot_pair};
 ghost use Rattle.cdb_make.specs.Parts.{table_bytes, tables_end};
 ghost use Rattle.cdb_make.specs.Views.EntryList.{list_entries, lists_entries};
 
-use crate::finishing::encode_slots;
 use crate::list::EntryList;
-use crate::table::{clear, put_entry};
+use crate::table::{clear, encode_slots, put_entry};
 use cdb_form::{Slot, Width, pair_size};
 use cdb_store::{Store, StoreFault};
 

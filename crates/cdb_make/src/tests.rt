@@ -1,5 +1,4 @@
 //! Each function once on a store in memory.
-mod building;
 mod drawn;
 mod faults;
 mod maker;

@@ -18,7 +18,9 @@ pub(crate) fn write_over(bytes: &mut Vec<u8>, pos: usize, new: &[u8]) -> Result<
     let inside = new.len().min(bytes.len() - pos);
     bytes.reserve(new.len() - inside)?;
     bytes.extend_from_slice(&new[inside..])?;
-    bytes[pos..pos + inside].copy_from_slice(&new[..inside]);
+    if inside > 0 {
+        bytes[pos..pos + inside].copy_from_slice(&new[..inside]);
+    }
     Ok(())
 }
 

@@ -16,9 +16,11 @@ use Rattle.cdb_form.specs.Text.Native.{Spelled, Reads, HasFault, HasNoRecord}
 use Rattle.cdb_form.specs.Views.TextFault.{IsOfText, IsReadFault}
 use Rattle.cdb_form.proofs.WholeText.{SoFar, so_far_none, so_far_more, so_far_fault, fault_behind}
 use Rattle.cdb_form.proofs.WritingLemmas.{appends_kept}
-use Rattle.cdb_make.specs.Views.Builder.{Holds, RefusesRecord, limit_of}
-use Rattle.cdb_make.specs.Views.MakeFault.{FileFails}
-use Rattle.cdb_make.specs.declared.builder.Builder.{Builder}
+use Rattle.cdb_store.specs.declared.store.Store.{Ghosts}
+use Rattle.cdb_form.specs.declared.width.Width.{Ghosts as Widths}
+use Rattle.cdb_make.specs.Views.Maker.{Holds, FailsPutting, limit_of}
+use Rattle.cdb_make.specs.declared.maker.Maker.{Maker}
+use Rattle.cdb_make.specs.declared.mode.Mode.TheVariants as mode
 use Rattle.cdb_make.specs.declared.fault.MakeFault.{MakeFault}
 use Rattle.cdb_make.specs.declared.fault.MakeFault.TheVariants as make
 use Rattle.cdb_tool.specs.Views.Fault as run
@@ -32,9 +34,6 @@ use Rattle.cdb_tool.specs.declared.fault.Fault.TheVariants.{Text, Make, Walk, Ou
 pub keeps_self : (o : Option (List ℕ)) → Keeps o o
 keeps_self None = tt
 keeps_self (Some xs) = refl
-
-keeps_same : (old new : Option (List ℕ)) → new ≡ old → Keeps old new
-keeps_same old new e = subst (Keeps old) (sym e) (keeps_self old)
 
 pub keeps_then : (old mid new : Option (List ℕ)) → Keeps old mid → Keeps mid new → Keeps old new
 keeps_then None mid new a b = tt
@@ -51,25 +50,30 @@ whole_front old new bytes a = record { front = bytes; more = []; split = sym (ap
 
 -- ---- the records of a text
 
--- the records so far, and the asks that were spent for them
-pub record HoldsSoFar {R L K : Type 0} (w g : ℕ) (old new : Option (List ℕ)) (t : TextReader R L) (b : Builder K) : Type 0 where
+-- the records so far, whose file fits, and the asks that were spent for them
+pub record HoldsSoFar {R L S K : Type 0} {s : Ghosts S} {k : Widths K} (w g : ℕ) (old new : Option (List ℕ)) (t : TextReader R L) (m : Maker S K s k) : Type 0 where
   pub records : List KeyValue
-  pub holds : Holds w g b records
+  pub holds : Holds m records
+  pub fits : file_size w records ≤ g
   pub so_far : SoFar g old new (taken_of t) records
-  pub limit : limit_of b ≡ g
+  pub limit : limit_of m ≡ g
   pub asks : 2 ^ 48 ≤ budget t
 
-pub holds_so_far_none : {R L K : Type 0} (w g : ℕ) (o : Option (List ℕ)) (t : TextReader R L) (b : Builder K) → Holds w g b [] → limit_of b ≡ g → IsNewText t → HoldsSoFar w g o o t b
-holds_so_far_none w g o t b h l new = record { records = []; holds = h; so_far = subst (λ n. SoFar g o o n []) (sym new.taken) (so_far_none g o o refl); limit = l; asks = omega (arith, new.taken, new.asks) }
+pub holds_so_far_none : {R L S K : Type 0} {s : Ghosts S} {k : Widths K} (w g : ℕ) (o : Option (List ℕ)) (t : TextReader R L) (m : Maker S K s k) → Holds m [] → file_size w [] ≤ g → limit_of m ≡ g → IsNewText t → HoldsSoFar w g o o t m
+holds_so_far_none w g o t m h fit l new =
+    record { records = []; holds = h; fits = fit; so_far = subst (λ n. SoFar g o o n []) (sym new.taken) (so_far_none g o o refl); limit = l; asks = omega (arith, new.taken, new.asks) }
 
 -- one record more of the text that is held
-pub holds_so_far_more : {R L K : Type 0} (w g : ℕ) (o m n : Option (List ℕ)) (t u : TextReader R L) (b c : Builder K) (r : KeyValue) → (h : HoldsSoFar w g o m t b) → ReadsRecord g m n (taken_of t) (taken_of u) r
-    → budget t ≤ budget u → Holds w g c (h.records ++ r ∷ []) → limit_of c ≡ limit_of b → HoldsSoFar w g o n u c
-holds_so_far_more w g o m n t u b c r h read spends holds l =
-    record { records = h.records ++ r ∷ []; holds = holds; so_far = so_far_more g o m n (taken_of t) (taken_of u) h.records r h.so_far read; limit = l ∙ h.limit; asks = omega (arith, h.asks, spends) }
-
-fits : {K : Type 0} (w g : ℕ) (b : Builder K) (rs : List KeyValue) → Holds w g b rs → file_size w rs ≤ g
-fits w g b rs h = omega (arith, h.fits, h.limit)
+pub holds_so_far_more : {R L S K : Type 0} {s : Ghosts S} {k : Widths K} (w g : ℕ) (o m n : Option (List ℕ)) (t u : TextReader R L) (b c : Maker S K s k) (r : KeyValue) → (h : HoldsSoFar w g o m t b) → ReadsRecord g m n (taken_of t) (taken_of u) r
+    → budget t ≤ budget u → Holds c (h.records ++ r ∷ []) → file_size w (h.records ++ r ∷ []) ≤ g → limit_of c ≡ limit_of b → HoldsSoFar w g o n u c
+holds_so_far_more w g o m n t u b c r h read spends holds fit l = record {
+  records = h.records ++ r ∷ [];
+  holds = holds;
+  fits = fit;
+  so_far = so_far_more g o m n (taken_of t) (taken_of u) h.records r h.so_far read;
+  limit = l ∙ h.limit;
+  asks = omega (arith, h.asks, spends);
+}
 
 -- the text has ended
 ended : (g : ℕ) (o m n : Option (List ℕ)) (taken : ℕ) (rs : List KeyValue) → SoFar g o m taken rs → Consumes m n (codes "\n") → FromTo o n (Reads g rs)
@@ -78,8 +82,8 @@ ended g (Some t) None n taken rs a b = absurd a
 ended g (Some t) (Some m) None taken rs a b = absurd b
 ended g (Some t) (Some m) (Some n) taken rs a b = subst (Spelled g rs t) b a.0
 
-pub reads_fitting : {R L K : Type 0} (w g : ℕ) (o m n : Option (List ℕ)) (t : TextReader R L) (b : Builder K) → (h : HoldsSoFar w g o m t b) → Consumes m n (codes "\n") → ReadsFitting w g o n h.records
-reads_fitting w g o m n t b h end = record { reads = ended g o m n (taken_of t) h.records h.so_far end; fits = fits w g b h.records h.holds }
+pub reads_fitting : {R L S K : Type 0} {s : Ghosts S} {k : Widths K} (w g : ℕ) (o m n : Option (List ℕ)) (t : TextReader R L) (b : Maker S K s k) → (h : HoldsSoFar w g o m t b) → Consumes m n (codes "\n") → ReadsFitting w g o n h.records
+reads_fitting w g o m n t b h end = record { reads = ended g o m n (taken_of t) h.records h.so_far end; fits = h.fits }
 
 -- ---- a text up to its fault
 
@@ -153,10 +157,10 @@ took_all g (Some t) (Some m) (Some n) from to rs a took =
       counted = omega (arith, a.1, took.counted, ap length s.split, length-append s.front m, length-append s.front took.bytes);
     }
 
-fails_read : {R L K : Type 0} (w g : ℕ) (remaining : R → Option (List ℕ)) (o : Option (List ℕ)) (t u : TextReader R L) (b : Builder K) (f : TextFault) → HoldsSoFar w g o (unread remaining t) t b → MeetsFault g remaining t u f
+fails_read : {R L S K : Type 0} {s : Ghosts S} {k : Widths K} (w g : ℕ) (remaining : R → Option (List ℕ)) (o : Option (List ℕ)) (t u : TextReader R L) (b : Maker S K s k) (f : TextFault) → HoldsSoFar w g o (unread remaining t) t b → MeetsFault g remaining t u f
     → f ≢ text_fault.NoMemory → FailsRead w g o (unread remaining u) 1 f
 fails_read w g remaining o t u b f h meets no_memory =
-    let fit = fits w g b h.records h.holds in
+    let fit = h.fits in
     let took = meets.took no_memory in
     record {
       first = refl;
@@ -172,7 +176,7 @@ fails_read w g remaining o t u b f h meets no_memory =
     }
 
 -- a fault of the text that the reader gave
-pub text_not_read : {R L K : Type 0} (w g : ℕ) (remaining : R → Option (List ℕ)) (o : Option (List ℕ)) (t u : TextReader R L) (b : Builder K) (f : TextFault) → HoldsSoFar w g o (unread remaining t) t b → MeetsFault g remaining t u f
+pub text_not_read : {R L S K : Type 0} {s : Ghosts S} {k : Widths K} (w g : ℕ) (remaining : R → Option (List ℕ)) (o : Option (List ℕ)) (t u : TextReader R L) (b : Maker S K s k) (f : TextFault) → HoldsSoFar w g o (unread remaining t) t b → MeetsFault g remaining t u f
     → NotRead w g o (unread remaining u) (run.text_fault 1 f)
 text_not_read w g remaining o t u b (Syntax at) h meets = fails_read w g remaining o t u b (Syntax at) h meets (λ e. let i : Syntax at ≡ text_fault.NoMemory = e in cc)
 text_not_read w g remaining o t u b (Ended at) h meets = fails_read w g remaining o t u b (Ended at) h meets (λ e. let i : Ended at ≡ text_fault.NoMemory = e in cc)
@@ -189,14 +193,15 @@ too_big w g (Some t) m (Some n) from to rs r a b fit h =
     let all = so_far_more g (Some t) m (Some n) from to rs r a b in
     record { before = rs; last = r; spelled = all.0; fits = fit; larger = h }
 
--- a record that the builder refused
-pub refused : {R L K : Type 0} (w g : ℕ) (o m n : Option (List ℕ)) (t u : TextReader R L) (b c : Builder K) (r : KeyValue) (f : MakeFault) → (h : HoldsSoFar w g o m t b) → ReadsRecord g m n (taken_of t) (taken_of u) r
-    → limit_of c ≡ limit_of b → RefusesRecord w g c h.records r f → NotRead w g o n (run.make_fault f)
-refused w g o m n t u b c r make.TooBig h read l x = too_big w g o m n (taken_of t) (taken_of u) h.records r h.so_far read (fits w g c h.records x.1) (omega (arith, l, h.limit, x.0))
-refused w g o m n t u b c r make.NoMemory h read l x = tt
-refused w g o m n t u b c r make.Broken h read l x = absurd x
-refused w g o m n t u b c r make.Lookup h read l x = absurd x
-refused w g o m n t u b c r make.Writing h read l x = absurd x
+-- a record that the maker refused, on a store that is honest and doesn't fail
+pub refused : {R L S K : Type 0} {s : Ghosts S} {k : Widths K} (g : ℕ) (o m n : Option (List ℕ)) (t u : TextReader R L) (b c : Maker S K s k) (r : KeyValue) (f : MakeFault) (image : List ℕ) → (h : HoldsSoFar k.WORD g o m t b)
+    → ReadsRecord g m n (taken_of t) (taken_of u) r → s.image c.store image → (s.failures b.store < s.failures c.store → ⊥) → FailsPutting b c mode.Add r f → NotRead k.WORD g o n (run.make_fault f)
+refused {k = k} g o m n t u b c r make.TooBig image h read is never x =
+    too_big k.WORD g o m n (taken_of t) (taken_of u) h.records r h.so_far read h.fits (let large : limit_of b < file_size k.WORD (h.records ++ r ∷ []) = (x.1 h.records h.holds).each image is in omega (arith, h.limit))
+refused g o m n t u b c r make.NoMemory image h read is never x = tt
+refused g o m n t u b c r make.Broken image h read is never x = absurd (x.cause h.records h.holds image is)
+refused g o m n t u b c r make.Lookup image h read is never x = absurd (x.2 refl)
+refused g o m n t u b c r make.Writing image h read is never x = elim x [ inl stays ↦ absurd (never stays.1) | inr torn ↦ absurd (never torn.0.failed) ]
 
 -- ---- the file
 
@@ -212,12 +217,8 @@ nothing_made w g text rest o NoMemory x = record { ok = tt; err = (x, keeps_self
 pub file_made : (w g : ℕ) (text rest old new : Option (List ℕ)) (rs : List KeyValue) → ReadsFitting w g text rest rs → Appends old new (file_bytes w rs) → Makes w g text rest old new (Ok tt)
 file_made w g text rest old new rs read a = record { ok = record { records = rs; read = read; appended = a }; err = tt }
 
-pub file_fails : (w g : ℕ) (text rest old new : Option (List ℕ)) (rs : List KeyValue) (f : MakeFault) → ReadsFitting w g text rest rs → FileFails old new (file_bytes w rs) f → Makes w g text rest old new (Err (run.make_fault f))
-file_fails w g text rest old new rs make.Writing read x = record { ok = tt; err = record { records = rs; read = read; appended = x } }
-file_fails w g text rest old new rs make.NoMemory read x = record { ok = tt; err = (tt, keeps_same old new x) }
-file_fails w g text rest old new rs make.Broken read x = absurd x
-file_fails w g text rest old new rs make.Lookup read x = absurd x
-file_fails w g text rest old new rs make.TooBig read x = absurd x
+pub file_fails : (w g : ℕ) (text rest old new : Option (List ℕ)) (rs : List KeyValue) → ReadsFitting w g text rest rs → AppendsFront old new (file_bytes w rs) → Makes w g text rest old new (Err Output)
+file_fails w g text rest old new rs read x = record { ok = tt; err = record { records = rs; read = read; appended = x } }
 
 -- ---- the flush
 

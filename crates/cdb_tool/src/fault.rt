@@ -75,14 +75,13 @@ impl From<InFault> for Fault {
     }
 }
 
-/// Want of memory in a maker is the run's own, and a writer that failed is its output.
+/// Want of memory in a maker is the run's own.
 impl From<MakeFault> for Fault {
     ghost from_gives = { λ make fault. fault ≡ make_fault make };
 
     fn from(fault: MakeFault) -> Fault {
         match fault {
             MakeFault::NoMemory => Fault::NoMemory,
-            MakeFault::Writing => Fault::Output,
             _ => Fault::Make(fault),
         }
     }

@@ -1,6 +1,6 @@
 -- What a list of entries holds.
 use Rattle.std.specs.Prelude.{ℕ, ◌≡◌, ◌<◌, ◌≤◌, min, List, [], ◌∷◌, length, map, ◌≢◌}
-use Rattle.std.specs.Prelude.{slice_index, get_or, vec_capacity, All}
+use Rattle.std.specs.Prelude.{slice_index, slice_set, ◌++◌, get_or, vec_capacity, All}
 use Rattle.cdb_form.specs.Format.Hash.{table_number}
 use Rattle.cdb_form.specs.Format.Pair.{WordPair}
 use Rattle.cdb_make.specs.declared.gap.Gap.{Gap}
@@ -61,3 +61,7 @@ AreWithin most lists = All (All (λ e. e.second ≤ most)) lists
 -- so many gaps are enough for the records of any key
 abbrev pub HasSpareGaps : List (List WordPair) → ℕ → Type 0
 HasSpareGaps lists room = All (λ es. length es ≤ room) lists
+
+-- one entry more, in the list of its table
+abbrev pub with_entry : List (List WordPair) → WordPair → List (List WordPair)
+with_entry lists e = let n = table_number e.first in slice_set lists n (get_or lists n [] ++ e ∷ [])

@@ -1,6 +1,5 @@
--- The faults of a maker: their numbers and messages, and what a writer holds after one.
-use Rattle.std.specs.Prelude.{ℕ, ◌≡◌, List, Option, codes}
-use Rattle.cdb_form.specs.Views.KnownBytes.{AppendsFront}
+-- The faults of a maker: their numbers and messages.
+use Rattle.std.specs.Prelude.{ℕ, List, codes}
 use Rattle.cdb_store.specs.declared.store.StoreFault.{StoreFault}
 use Rattle.cdb_store.specs.declared.store.StoreFault.TheVariants.{Device}
 use Rattle.cdb_store.specs.declared.store.StoreFault.TheVariants.{NoMemory as Refused}
@@ -21,12 +20,6 @@ make_message Lookup = codes "database cannot be read or written"
 make_message TooBig = codes "database too large"
 make_message NoMemory = codes "no memory"
 make_message Writing = codes "database cannot be read or written"
-
--- a writer that failed holds a front of the file; where memory ran out it holds no more than it did
-abbrev pub FileFails : Option (List ℕ) → Option (List ℕ) → List ℕ → MakeFault → Type 0
-FileFails old new file Writing = AppendsFront old new file
-FileFails old new file NoMemory = new ≡ old
-FileFails old new file fault = ⊥
 
 -- what a fault of a store is to a maker that writes
 abbrev pub fault_of : StoreFault → MakeFault

@@ -1,8 +1,8 @@
 //! Scripts of calls to a maker, and what a plain list of records makes of them.
-use crate::{Builder, MakeFault, Maker, Mode, Put};
-use cdb_form::{Record, Width};
+use crate::{MakeFault, Maker, Mode, Put};
+use cdb_form::Width;
 use cdb_store::{FuseStore, MemStore, Store};
-use std::alloc::{AllocError, Global};
+use std::alloc::Global;
 use std::prelude::*;
 use std::test::Fail;
 
@@ -184,25 +184,21 @@ pub(super) fn expected<L: Width>(alloc: Global, calls: &[Call]) -> Result<Wanted
     })
 }
 
-/// A record of bytes.
-fn record(alloc: Global, key: &[u8], value: &[u8]) -> Result<Record, AllocError> {
-    Ok(Record {
-        key: key.to_vec(alloc)?,
-        value: value.to_vec(alloc)?,
-    })
-}
-
-/// The file of the records that stand, made by a builder.
+/// The file of the records that stand, made by adding them.
 fn from_scratch<L: Width>(alloc: Global, calls: &[Call], stands: &[bool]) -> Result<Vec<u8>, Fail> {
-    let mut builder = Builder::<L>::new(alloc, L::GREATEST)?;
+    let store = MemStore::new(alloc);
+    let Ok(mut maker) = Maker::<MemStore, L>::new(alloc, store, L::GREATEST) else {
+        return Err(Fail::new("no maker was made"));
+    };
     for (call, mark) in calls.iter().zip(stands.iter()) {
         if *mark {
-            builder.add(&record(alloc, call.key, call.value)?)?;
+            maker.put(Mode::Add, call.key, call.value)?;
         }
     }
-    let mut file = Vec::new(alloc);
-    builder.write(alloc, &mut file)?;
-    Ok(file)
+    match maker.finish() {
+        Ok(store) => Ok(store.into_vec()),
+        Err(_) => Err(Fail::new("a file was not finished")),
+    }
 }
 
 /// Whether these words of 4 bytes stand in a file from a place on, and nothing behind them.

@@ -38,5 +38,4 @@ in_fault input.Failed = Walk walk.Input
 -- from that of a maker: a fault of the writing is the output's
 abbrev pub make_fault : MakeFault → Fault
 make_fault make.NoMemory = NoMemory
-make_fault make.Writing = Output
 make_fault fault = Make fault

@@ -1,33 +1,48 @@
 // A text made a file.
-ghost use Rattle.std.specs.Prelude.{ℕ, List, Option, IfOk, IfErr};
+ghost use Rattle.std.specs.Prelude.{◌≡◌, ℕ, [], List, Option, IfOk, IfErr};
+ghost use Rattle.cdb_form.specs.Format.File.{file_bytes};
 ghost use Rattle.cdb_form.specs.Format.Record.{KeyValue};
 ghost use Rattle.cdb_form.specs.Views.TextReader.{unread};
-ghost use Rattle.cdb_make.specs.Views.Builder.{Holds};
+ghost use Rattle.cdb_make.specs.Views.Maker.{Holds, limit_of};
+ghost use Rattle.cdb_tool.specs.declared.fault.Fault.TheVariants.{NoMemory};
 ghost use Rattle.cdb_tool.specs.Runs.MakeBytes.{IsNewText, ReadsFitting, NotRead, Makes};
 
 use crate::fault::Fault;
 use crate::runs::flushed::flushed;
-use cdb_form::{Record, TextReader, Width};
-use cdb_make::Builder;
+use cdb_form::{Record, TextReader, Width, write_whole};
+use cdb_make::{Maker, Mode};
+use cdb_store::MemStore;
 use std::alloc::Global;
 use std::io::{Read, Write};
 
 /// The number of the one input.
 const INPUT: u64 = 1;
 
+/// A maker of a file in memory. It fails only where memory runs out.
+fn maker_in_memory<L: Width>(alloc: Global) -> Result<Maker<MemStore, L>, Fault>
+    ensures holds { IfOk result (λ m. Holds m []) }
+    ensures limit { IfOk result (λ m. limit_of m ≡ L.GREATEST) }
+    ensures err { IfErr result (λ f. f ≡ NoMemory) }
+{
+    match Maker::new(alloc, MemStore::new(alloc), L::GREATEST) {
+        Ok(maker) => Ok(maker),
+        Err(refused) => Err(Fault::from(refused.fault)),
+    }
+}
+
 /// The records of a text, up to its end, where their file isn't too large.
 fn fitting_records<L: Width, R: Read>(
     alloc: Global,
     text: &mut TextReader<R, L>,
-) -> Result<Builder<L>, Fault>
+) -> Result<Maker<MemStore, L>, Fault>
     requires { IsNewText text.old }
-    ensures ok { IfOk result (λ b. (records : List KeyValue) × Holds L.WORD L.GREATEST b records
+    ensures ok { IfOk result (λ m. (records : List KeyValue) × Holds m records
         × ReadsFitting L.WORD L.GREATEST (unread R.remaining text.old) (unread R.remaining text.new)
         records) }
     ensures err { IfErr result
         (NotRead L.WORD L.GREATEST (unread R.remaining text.old) (unread R.remaining text.new)) }
 {
-    let mut builder = Builder::new(alloc, L::GREATEST)?;
+    let mut maker = maker_in_memory::<L>(alloc)?;
     let mut record = Record {
         key: Vec::new(alloc),
         value: Vec::new(alloc),
@@ -35,10 +50,23 @@ fn fitting_records<L: Width, R: Read>(
     loop {
         match text.read_into(&mut record) {
             Err(fault) => return Err(Fault::of_text(INPUT, fault)),
-            Ok(false) => return Ok(builder),
+            Ok(false) => return Ok(maker),
             Ok(true) => {}
         }
-        builder.add(&record)?;
+        maker.put(Mode::Add, &record.key, &record.value)?;
+    }
+}
+
+/// The file that a maker finishes in memory. It fails only where memory runs out.
+fn file_in_memory<L: Width>(maker: Maker<MemStore, L>) -> Result<Vec<u8>, Fault>
+    ensures ok { (records : List KeyValue) → Holds maker records
+        → IfOk result (λ v. v.items ≡ file_bytes L.WORD records) }
+    ensures err { (records : List KeyValue) → Holds maker records
+        → IfErr result (λ f. f ≡ NoMemory) }
+{
+    match maker.finish() {
+        Ok(store) => Ok(store.into_vec()),
+        Err(unfinished) => Err(Fault::from(unfinished.fault)),
     }
 }
 
@@ -52,8 +80,9 @@ fn make_unflushed<L: Width, R: Read, W: Write>(
     ensures { Makes L.WORD L.GREATEST (unread R.remaining text.old) (unread R.remaining text.new)
         (W.contents w.old) (W.contents w.new) result }
 {
-    let builder = fitting_records::<L, R>(alloc, text)?;
-    builder.write(alloc, w)?;
+    let maker = fitting_records::<L, R>(alloc, text)?;
+    let file = file_in_memory::<L>(maker)?;
+    write_whole(w, &file)?;
     Ok(())
 }
 

@@ -6,7 +6,7 @@ use Rattle.cdb_form.specs.Format.Record.{KeyValue}
 use Rattle.cdb_form.proofs.HeadLemmas.{length-pair_bytes}
 use Rattle.std.proofs.lemmas.List.{length-map}
 use Rattle.cdb_make.specs.Views.EntryList.{list_entries, lists_entries}
-use Rattle.cdb_make.specs.Views.Index.{with_entry}
+use Rattle.cdb_make.specs.Views.EntryList.{with_entry}
 use Rattle.cdb_make.proofs.Added.{stands_more, within_more, spare_more}
 use Rattle.cdb_make.proofs.Written.{on_any_err, written_front, pieces_are}
 use Rattle.cdb_make.proofs.Puts.{comes_write}

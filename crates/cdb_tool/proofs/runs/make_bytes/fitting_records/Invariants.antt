@@ -7,7 +7,7 @@ abbrev pub invariant-loop-fault : goal.invariant-loop-fault
 invariant-loop-fault g l =
     record {
       going : IsGoing l.text;
-      so_far : HoldsSoFar g.L.Width.WORD g.L.Width.GREATEST (unread g.R.Read.remaining l.fn.text) (unread g.R.Read.remaining l.text) l.text l.builder;
+      so_far : HoldsSoFar g.L.Width.WORD g.L.Width.GREATEST (unread g.R.Read.remaining l.fn.text) (unread g.R.Read.remaining l.text) l.text l.maker;
     }
 
 abbrev pub decreases-loop-fault : goal.decreases-loop-fault

@@ -1,7 +1,7 @@
 use Rattle.std.proofs.Common.{◌≡◌, ◌*◌, ◌++◌, take, drop, map, flat_map, length}
 use Rattle.cdb_form.specs.Format.Pair.{pair_bytes, pair_size}
 use Rattle.cdb_form.specs.Views.Pairs.{slot_pair}
-use Rattle.cdb_make.proofs.finishing.encode_slots.Given as goal
+use Rattle.cdb_make.proofs.table.encode_slots.Given as goal
 
 -- the bytes of the slots so far, and what stood behind them
 abbrev pub invariant-loop-slot : goal.invariant-loop-slot
