@@ -61,6 +61,7 @@ fn emptied<S: Store, L: Width>(alloc: Global, store: &mut S) -> Result<Vec<Entry
 
 impl<S: Store, L: Width> Maker<S, L> {
     ghost use Rattle.cdb_make.specs.Views.Maker.{Holds, limit_of, made_size, IsFile, FailsFinishing};
+    ghost use Rattle.cdb_make.specs.Views.Maker.{ComesFrom};
 
     /// A maker of a file of at most `limit` bytes in a store, which is emptied.
     ///
@@ -104,6 +105,8 @@ impl<S: Store, L: Width> Maker<S, L> {
         ensures written { OnOk result (S.written self.new.store + self.old.end
             ≡ S.written self.old.store + (head_size L.WORD + made_size self.old)) }
         ensures settled { OnOk result (S.settled self.new.store) }
+        ensures comes { ComesFrom (S.image self.old.store) (S.image self.new.store) }
+        ensures failures { S.failures self.old.store ≤ S.failures self.new.store }
         ensures fails { IfErr result (FailsFinishing self.old self.new) }
     {
         if self.broken {
@@ -126,7 +129,10 @@ impl<S: Store, L: Width> Maker<S, L> {
         ensures written { IfOk result (λ s.
             S.written s + self.end ≡ S.written self.store + (head_size L.WORD + made_size self)) }
         ensures settled { IfOk result S.settled }
+        ensures comes { IfOk result (λ s. ComesFrom (S.image self.store) (S.image s)) }
         ensures fails { IfErr result (λ u. FailsFinishing self u.maker u.fault) }
+        ensures fails_comes { IfErr result (λ u.
+            ComesFrom (S.image self.store) (S.image u.maker.store)) }
     {
         match self.finish_store() {
             Ok(()) => Ok(self.into_store()),

@@ -59,8 +59,8 @@ impl<S: Store, L: Width> Maker<S, L> {
         Ok(())
     }
 
-    /// Takes out the records whose gaps are noted, so many, and adds one behind the others. There is room
-    /// for it in the store.
+    /// Takes out the records whose gaps are noted, so many, and adds one behind the others. There
+    /// is room for it in the store.
     ///
     /// `Broken`: the store gave back other bytes than were written.
     fn exchange(&mut self, taken: u64, key: &[u8], value: &[u8]) -> Result<(), MakeFault>
@@ -107,6 +107,7 @@ impl<S: Store, L: Width> Maker<S, L> {
             (Puts self.old self.new Replace (record { key = key.now; value = value.now })) }
         ensures fails { IfErr result
             (FailsPutting self.old self.new Replace (record { key = key.now; value = value.now })) }
+        ensures comes { ComesFrom (S.image self.old.store) (S.image self.new.store) }
         ensures limit { self.new.limit ≡ self.old.limit }
         ensures counts { OnErr result (SameCounts self.old self.new) }
         ensures room { S.room self.old.store ≤ S.room self.new.store }
@@ -140,6 +141,7 @@ impl<S: Store, L: Width> Maker<S, L> {
             (Puts self.old self.new mode (record { key = key.now; value = value.now })) }
         ensures fails { IfErr result
             (FailsPutting self.old self.new mode (record { key = key.now; value = value.now })) }
+        ensures comes { ComesFrom (S.image self.old.store) (S.image self.new.store) }
         ensures limit { self.new.limit ≡ self.old.limit }
         ensures counts { OnErr result (SameCounts self.old self.new) }
         ensures room { S.room self.old.store ≤ S.room self.new.store }

@@ -20,6 +20,7 @@ use cdb_store::Store;
 impl<S: Store, L: Width> Maker<S, L> {
     ghost use Rattle.cdb_make.specs.Views.Maker.{Holds, Removes, FailsRemoving, FailsLooking};
     ghost use Rattle.cdb_make.specs.Views.Maker.{SameCounts, WritesNothing, FailsClosing};
+    ghost use Rattle.cdb_make.specs.Views.Maker.{ComesFrom};
 
     /// How many records have a key, whose gaps are noted.
     pub(crate) fn find(&mut self, key: &[u8]) -> Result<u64, MakeFault>
@@ -107,6 +108,7 @@ impl<S: Store, L: Width> Maker<S, L> {
     pub fn remove(&mut self, key: &[u8]) -> Result<u64, MakeFault>
         ensures removes { IfOk result (Removes self.old self.new key.now) }
         ensures fails { IfErr result (FailsRemoving self.old self.new key.now) }
+        ensures comes { ComesFrom (S.image self.old.store) (S.image self.new.store) }
         ensures limit { self.new.limit ≡ self.old.limit }
         ensures counts { OnErr result (SameCounts self.old self.new) }
         ensures room { S.room self.old.store ≤ S.room self.new.store }
