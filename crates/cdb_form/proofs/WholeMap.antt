@@ -49,7 +49,7 @@ rest_nil [] ys e = e
 rest_nil (x ∷ xs) ys e = absurd (let no : ⊥ = cc in no)
 
 -- where nothing is unread there is no record's line
-no_line : (ignored line ending rest : List ℕ) (r : KeyValue) → line_records line ≡ r ∷ [] → ((ignored ++ line) ++ ending) ++ rest ≡ [] → ⊥
+pub no_line : (ignored line ending rest : List ℕ) (r : KeyValue) → line_records line ≡ r ∷ [] → ((ignored ++ line) ++ ending) ++ rest ≡ [] → ⊥
 no_line ignored line ending rest r holds e =
     let none : line ≡ [] = rest_nil ignored line (front_nil (ignored ++ line) ending (front_nil ((ignored ++ line) ++ ending) rest e)) in
     let no : [] ≡ r ∷ [] = sym (ap line_records none) ∙ holds in

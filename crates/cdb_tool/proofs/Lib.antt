@@ -1,4 +1,9 @@
+pub mod NativeInputs
 pub mod WholeRuns
+pub mod InputTexts
+pub mod Courses
+pub mod InputRuns
+pub mod RunEnds
 pub mod WholeTexts
 pub mod InputLemmas
 pub mod OutputLemmas

@@ -1,8 +1,7 @@
 -- A text up to its end or its fault, and then the file.
-use Rattle.std.proofs.Common.{◌≡◌, ◌≢◌, true, false, ℕ, ◌+◌, ◌-◌, ◌^◌, ◌<◌, ◌≤◌, inl, inr, List, [], ◌∷◌, ◌++◌, refl, Option, Some, None, IfSome, Result, Ok, Err, sym, ap, subst, ◌∙◌, length, length-append, append_assoc, take, replicate, arith}
+use Rattle.std.proofs.Common.{◌≡◌, ◌≢◌, true, false, ℕ, ◌^◌, ◌<◌, ◌≤◌, inl, inr, List, [], ◌∷◌, ◌++◌, refl, Option, Some, None, IfSome, Result, Ok, Err, sym, ap, subst, ◌∙◌, length, length-append, append_assoc, take, replicate, arith}
 use Rattle.std.specs.Prelude.{IsOk, codes}
-use Rattle.std.proofs.lemmas.List.{append-nil, length-take-le, length-replicate}
-use Rattle.std.proofs.Math.Seq.{take-append-add}
+use Rattle.std.proofs.lemmas.List.{append-nil, length-replicate}
 use Rattle.std.specs.Io.KnownBytes.{Keeps, Consumes, Appends}
 use Rattle.cdb_form.specs.Format.Record.{KeyValue}
 use Rattle.cdb_form.specs.Format.File.{file_size, file_bytes}
@@ -14,7 +13,7 @@ use Rattle.cdb_form.specs.Views.KnownBytes.{AppendsFront, FromTo, Took}
 use Rattle.cdb_form.specs.declared.text.native_reader.TextReader.{TextReader}
 use Rattle.cdb_form.specs.Text.Native.{Spelled, Reads, HasFault, HasNoRecord}
 use Rattle.cdb_form.specs.Views.TextFault.{IsOfText, IsReadFault}
-use Rattle.cdb_form.proofs.WholeText.{SoFar, so_far_none, so_far_more, so_far_fault, fault_behind}
+use Rattle.cdb_form.proofs.WholeText.{SoFar, so_far_none, so_far_more}
 use Rattle.cdb_form.proofs.WritingLemmas.{appends_kept}
 use Rattle.cdb_store.specs.declared.store.Store.{Ghosts}
 use Rattle.cdb_form.specs.declared.width.Width.{Ghosts as Widths}
@@ -24,10 +23,11 @@ use Rattle.cdb_make.specs.declared.mode.Mode.TheVariants as mode
 use Rattle.cdb_make.specs.declared.fault.MakeFault.{MakeFault}
 use Rattle.cdb_make.specs.declared.fault.MakeFault.TheVariants as make
 use Rattle.cdb_tool.specs.Views.Fault as run
+use Rattle.cdb_tool.proofs.NativeInputs.{some_weaker, fault_of_text, fault_of_part, front_of}
 use Rattle.cdb_tool.specs.Runs.Flushed.{Flushed}
 use Rattle.cdb_tool.specs.Runs.MakeBytes.{IsNewText, FailsText, FailsRead, PassesGreatest, NotRead, ReadsFitting, MakesFile, Makes}
 use Rattle.cdb_tool.specs.declared.fault.Fault.{Fault}
-use Rattle.cdb_tool.specs.declared.fault.Fault.TheVariants.{Text, Make, Walk, Output, Long, NoMemory}
+use Rattle.cdb_tool.specs.declared.fault.Fault.TheVariants.{Text, Make, Duplicate, Walk, Output, Long, NoMemory}
 
 -- ---- what a writer holds
 
@@ -89,59 +89,11 @@ reads_fitting w g o m n t b h end = record { reads = ended g o m n (taken_of t) 
 
 fails_text : (w g : ℕ) (o m : Option (List ℕ)) (taken : ℕ) (rs : List KeyValue) (f : TextFault) → SoFar g o m taken rs
     → IfSome m (λ mid. HasFault g taken mid f) → IfSome m (λ mid. IsOfText f → HasNoRecord g mid) → file_size w rs ≤ g → IfSome o (λ t. IsOfText f → FailsText w g t f)
-fails_text w g None m taken rs f a b n h = tt
-fails_text w g (Some t) None taken rs f a b n h = absurd a
-fails_text w g (Some t) (Some m) taken rs f a b n h = λ of_text.
-    let all = so_far_fault g (Some t) (Some m) taken rs f a b n of_text in
-    record { records = rs; rest = all.0.0; whole = all.0.1; fits = h; has = all.1 }
-
--- what spells some records, whatever follows it
-record Spelling (g : ℕ) (rs : List KeyValue) (t mid : List ℕ) : Type 0 where
-  front : List ℕ
-  split : t ≡ front ++ mid
-  spelled : (x : List ℕ) → Spelled g rs (front ++ x) x
-
-spelling : (g : ℕ) (rs : List KeyValue) (t mid : List ℕ) → Spelled g rs t mid → Spelling g rs t mid
-spelling g [] t mid e = record { front = []; split = e; spelled = λ x. refl }
-spelling g (r ∷ rs) t mid (first, more, sp, e, reads) =
-    let s = spelling g rs more mid reads in
-    record {
-      front = first ++ s.front;
-      split = e ∙ ap (λ z. first ++ z) s.split ∙ sym (append_assoc first s.front mid);
-      spelled = λ x. (first, s.front ++ x, sp, append_assoc first s.front x, s.spelled x);
-    }
-
--- a reader that failed gave the front of a text
-part_fails : (w g from to k : ℕ) (t mid : List ℕ) (rs : List KeyValue) → Spelled g rs t mid → from + length mid ≡ length t → to ≡ from + k → k ≤ length mid
-    → HasFault g from (take (to - from) mid) (Ended to) → HasNoRecord g (take (to - from) mid) → file_size w rs ≤ g → FailsText w g (take to t) (Ended to)
-part_fails w g from to k t mid rs sp long e few has none fit =
-    let s = spelling g rs t mid sp in
-    let place : from ≡ length s.front = omega (arith, long, ap length s.split, length-append s.front mid) in
-    let part : to - from ≡ k = omega (arith, e) in
-    let read : take to t ≡ s.front ++ take k mid =
-    ap (λ (n : ℕ). take n t) (e ∙ ap (λ (n : ℕ). n + k) place) ∙ ap (take (length s.front + k)) s.split ∙ take-append-add s.front mid k in
-    let spelled : Spelled g rs (take to t) (take k mid) = subst (λ z. Spelled g rs z (take k mid)) (sym read) (s.spelled (take k mid)) in
-    let short : length (take k mid) ≡ k = length-take-le k mid few in
-    let all : length (take to t) ≡ length s.front + k = ap length read ∙ length-append s.front (take k mid) ∙ ap (λ (n : ℕ). length s.front + n) short in
-    let fault : HasFault g from (take k mid) (Ended to) = subst (λ (n : ℕ). HasFault g from (take n mid) (Ended to)) part has in
-    let no_more : HasNoRecord g (take k mid) = subst (λ (n : ℕ). HasNoRecord g (take n mid)) part none in
-    record {
-      records = rs;
-      rest = take k mid;
-      whole = record { spelled = spelled; no_more = no_more };
-      fits = fit;
-      has = fault_behind g rs 0 from (take to t) (take k mid) (Ended to) spelled (omega (arith, short, all, place)) fault;
-    }
+fails_text w g o m taken rs f a b n h = some_weaker o (λ t x of_text. record { records = rs; fits = h; behind = x of_text }) (fault_of_text g o m taken rs f a b n)
 
 read_part : (w g : ℕ) (o m n : Option (List ℕ)) (from to : ℕ) (rs : List KeyValue) (f : TextFault) → SoFar g o m from rs → Took m n from to
     → IfSome m (λ mid. IsReadFault f → StopsAmid g from to mid) → file_size w rs ≤ g → IfSome o (λ t. IsReadFault f → FailsText w g (take to t) (Ended to))
-read_part w g None m n from to rs f a took b h = tt
-read_part w g (Some t) None n from to rs f a took b h = absurd a
-read_part w g (Some t) (Some m) None from to rs f a took b h = absurd took.read
-read_part w g (Some t) (Some m) (Some n) from to rs f a took b h = λ is.
-    let split : m ≡ took.bytes ++ n = took.read in
-    let stops = b is in
-    part_fails w g from to (length took.bytes) t m rs a.0 a.1 took.counted (omega (arith, ap length split, length-append took.bytes n)) stops.front stops.no_record h
+read_part w g o m n from to rs f a took b h = some_weaker o (λ t x is. record { records = rs; fits = h; behind = (x is).1 }) (fault_of_part g o m n from to rs f a took b)
 
 -- all that was read
 took_all : (g : ℕ) (o m n : Option (List ℕ)) (from to : ℕ) (rs : List KeyValue) → SoFar g o m from rs → Took m n from to → Took o n 0 to
@@ -150,11 +102,11 @@ took_all g (Some t) None n from to rs a took = absurd a
 took_all g (Some t) (Some m) None from to rs a took = absurd took.read
 took_all g (Some t) (Some m) (Some n) from to rs a took =
     let split : m ≡ took.bytes ++ n = took.read in
-    let s = spelling g rs t m a.0 in
+    let s = front_of g rs t m a.0 in
     record {
-      bytes = s.front ++ took.bytes;
-      read = s.split ∙ ap (λ z. s.front ++ z) split ∙ sym (append_assoc s.front took.bytes n);
-      counted = omega (arith, a.1, took.counted, ap length s.split, length-append s.front m, length-append s.front took.bytes);
+      bytes = s.0 ++ took.bytes;
+      read = s.1 ∙ ap (λ z. s.0 ++ z) split ∙ sym (append_assoc s.0 took.bytes n);
+      counted = omega (arith, a.1, took.counted, ap length s.1, length-append s.0 m, length-append s.0 took.bytes);
     }
 
 fails_read : {R L S K : Type 0} {s : Ghosts S} {k : Widths K} (w g : ℕ) (remaining : R → Option (List ℕ)) (o : Option (List ℕ)) (t u : TextReader R L) (b : Maker S K s k) (f : TextFault) → HoldsSoFar w g o (unread remaining t) t b → MeetsFault g remaining t u f
@@ -209,6 +161,7 @@ refused g o m n t u b c r make.Writing image h read is never x = elim x [ inl st
 pub nothing_made : (w g : ℕ) (text rest o : Option (List ℕ)) (f : Fault) → NotRead w g text rest f → Makes w g text rest o o (Err f)
 nothing_made w g text rest o (Text input f) x = record { ok = tt; err = (x, keeps_self o) }
 nothing_made w g text rest o (Make f) x = record { ok = tt; err = (x, keeps_self o) }
+nothing_made w g text rest o Duplicate x = absurd x
 nothing_made w g text rest o (Walk f) x = absurd x
 nothing_made w g text rest o Output x = absurd x
 nothing_made w g text rest o Long x = absurd x
@@ -229,6 +182,7 @@ makes_kept : (w g : ℕ) (text rest old mid new : Option (List ℕ)) (r : Result
 makes_kept w g text rest old mid new (Ok u) m k = record { ok = file_kept w g text rest old mid new m.ok k; err = tt }
 makes_kept w g text rest old mid new (Err (Text input f)) m k = record { ok = tt; err = (m.err.0, keeps_then old mid new m.err.1 k) }
 makes_kept w g text rest old mid new (Err (Make f)) m k = record { ok = tt; err = (m.err.0, keeps_then old mid new m.err.1 k) }
+makes_kept w g text rest old mid new (Err Duplicate) m k = record { ok = tt; err = (m.err.0, keeps_then old mid new m.err.1 k) }
 makes_kept w g text rest old mid new (Err (Walk f)) m k = record { ok = tt; err = (m.err.0, keeps_then old mid new m.err.1 k) }
 makes_kept w g text rest old mid new (Err Long) m k = record { ok = tt; err = (m.err.0, keeps_then old mid new m.err.1 k) }
 makes_kept w g text rest old mid new (Err NoMemory) m k = record { ok = tt; err = (m.err.0, keeps_then old mid new m.err.1 k) }

@@ -12,12 +12,13 @@ use Rattle.cdb_tool.specs.declared.message.Place.{Place}
 use Rattle.cdb_tool.specs.declared.message.Place.TheVariants.{Nowhere, Input, Byte, Table, Record}
 use Rattle.cdb_tool.specs.declared.fault.Fault.{Fault}
 use Rattle.cdb_tool.specs.declared.fault.Fault.TheVariants.{Text, Make, Walk, Output}
-use Rattle.cdb_tool.specs.declared.fault.Fault.TheVariants.{Long, NoMemory}
+use Rattle.cdb_tool.specs.declared.fault.Fault.TheVariants.{Duplicate, Long, NoMemory}
 
 -- what a fault is
 abbrev pub fault_message : Fault → List ℕ
 fault_message (Text input fault) = text_message fault
 fault_message (Make fault) = make_message fault
+fault_message Duplicate = codes "stopped at a duplicate key"
 fault_message (Walk fault) = walk_message fault
 fault_message Output = codes "output cannot be written"
 fault_message Long = make_message TooBig
@@ -62,3 +63,8 @@ fault_text fault = said_place (fault_place fault) ++ fault_message fault
 -- the line of a fault
 abbrev pub fault_line : Fault → List ℕ
 fault_line fault = codes "cdb: " ++ fault_text fault ++ codes "\n"
+
+-- the line of a record whose key was there already: its input and its number there
+abbrev pub duplicate_line : ℕ → ℕ → List ℕ
+duplicate_line input number = codes "cdb: " ++ numbered (codes "input ") input
+    ++ numbered (codes "record ") number ++ codes "duplicate key\n"

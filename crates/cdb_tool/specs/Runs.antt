@@ -1,5 +1,8 @@
 -- What the runs of the program leave.
+pub mod Inputs
 pub mod MakeBytes
+pub mod Course
+pub mod Make
 pub mod Form
 pub mod WalkText
 pub mod Load

@@ -14,6 +14,8 @@ pub enum Fault {
     Text(u64, TextFault),
     /// The database was not made.
     Make(MakeFault),
+    /// A record had a key that was there already, and the run was to stop there.
+    Duplicate,
     /// A database file was not walked to its end.
     Walk(WalkFault),
     /// A writer failed.
@@ -32,6 +34,7 @@ impl Fault {
         match self {
             Fault::Text(_, _) => 1,
             Fault::Make(_) => 2,
+            Fault::Duplicate => 3,
             Fault::Walk(_) => 6,
             Fault::Output => 7,
             Fault::Long => 8,

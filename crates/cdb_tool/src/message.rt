@@ -3,7 +3,7 @@ ghost use Rattle.std.specs.Prelude.{◌≡◌, [], ◌++◌, Some, codes, OnOk, 
 ghost use Rattle.std.specs.Io.KnownBytes.{Appends};
 ghost use Rattle.cdb_form.specs.Views.KnownBytes.{AppendsFront};
 ghost use Rattle.cdb_tool.specs.Message.{fault_message, numbered, said_place, fault_place};
-ghost use Rattle.cdb_tool.specs.Message.{fault_text, fault_line};
+ghost use Rattle.cdb_tool.specs.Message.{fault_text, fault_line, duplicate_line};
 
 use crate::fault::Fault;
 use cdb_form::{OutFault, TextFault, WalkFault, write_pieces, write_whole};
@@ -35,6 +35,7 @@ impl Fault {
         match *self {
             Fault::Text(_, fault) => fault.message(),
             Fault::Make(fault) => fault.message(),
+            Fault::Duplicate => "stopped at a duplicate key",
             Fault::Walk(fault) => fault.message(),
             Fault::Output => "output cannot be written",
             Fault::Long => MakeFault::TooBig.message(),
@@ -118,4 +119,24 @@ pub fn write_fault<E: Write>(fault: &Fault, errors: &mut E) -> Result<(), OutFau
     write_whole(errors, b"cdb: ")?;
     write_place(fault.place(), errors)?;
     write_pieces(errors, &[fault.message().as_bytes(), b"\n"])
+}
+
+/// Writes the line of a record whose key was there already: its input, and its number there, both
+/// counted from 1. After an `OutFault` the writer holds a front of it.
+pub(crate) fn write_duplicate<E: Write>(
+    input: u64,
+    number: u64,
+    errors: &mut E,
+) -> Result<(), OutFault>
+    ensures ok { OnOk result (Appends (E.contents errors.old) (E.contents errors.new)
+        (duplicate_line input number)) }
+    ensures err { OnErr result
+        (AppendsFront (E.contents errors.old) (E.contents errors.new)
+        (duplicate_line input number)) }
+{
+    let (mut inputs, mut numbers) = (Buffer::new(), Buffer::new());
+    let input = inputs.format(input).as_bytes();
+    let number = numbers.format(number).as_bytes();
+    let end = b": duplicate key\n";
+    write_pieces(errors, &[b"cdb: input ", input, b": record ", number, end])
 }

@@ -1,8 +1,12 @@
 // What the program is asked to do, a run each.
 pub mod dump;
 mod flushed;
+mod input_reader;
 pub mod list;
 pub mod load;
+pub mod make;
 pub mod make_bytes;
+mod make_input;
+pub mod options;
 pub mod style;
 mod walk_text;

@@ -5,7 +5,7 @@ use Rattle.std.specs.Prelude.{Option, Result, IfSome, OnOk, IfErr}
 use Rattle.std.specs.Io.KnownBytes.{Appends, Keeps}
 use Rattle.cdb_form.specs.Format.Record.{KeyValue}
 use Rattle.cdb_form.specs.Format.File.{file_size, file_bytes}
-use Rattle.cdb_form.specs.Text.Native.{Spelled, Reads, WholeRecords, HasFault}
+use Rattle.cdb_form.specs.Text.Native.{Spelled, Reads}
 use Rattle.cdb_form.specs.Views.TextFault.{IsOfText, IsReadFault, LastRead}
 use Rattle.cdb_form.specs.Views.KnownBytes.{AppendsFront, FromTo, Took}
 use Rattle.cdb_form.specs.Views.TextReader.{IsGoing, taken_of, asks_left}
@@ -14,6 +14,7 @@ use Rattle.cdb_form.specs.declared.text.fault.TextFault.{TextFault}
 use Rattle.cdb_form.specs.declared.text.fault.TextFault.TheVariants as text_fault
 use Rattle.cdb_form.specs.declared.text.fault.TextFault.TheVariants.{Ended, Endless}
 use Rattle.cdb_make.specs.declared.fault.MakeFault.TheVariants.{TooBig}
+use Rattle.cdb_tool.specs.Runs.Inputs.{HasFaultBehind}
 use Rattle.cdb_tool.specs.declared.fault.Fault.{Fault}
 use Rattle.cdb_tool.specs.declared.fault.Fault.TheVariants.{Text, Make, Output, NoMemory}
 
@@ -32,10 +33,8 @@ pub record ReadsFitting (w greatest : ℕ) (text rest : Option (List ℕ)) (reco
 -- the text has this fault, and the file of all whole records before it fits
 pub record FailsText (w greatest : ℕ) (text : List ℕ) (fault : TextFault) : Type 0 where
   pub records : List KeyValue
-  pub rest : List ℕ
-  pub whole : WholeRecords greatest text records rest
   pub fits : file_size w records ≤ greatest
-  pub has : HasFault greatest 0 text fault
+  pub behind : HasFaultBehind greatest text records fault
 
 -- How far the text was read: up to the byte at its fault's place. Where the reader failed, what it
 -- gave ends early as a text: behind its whole records, whose file fits, it has neither a record nor

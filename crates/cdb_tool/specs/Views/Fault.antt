@@ -10,11 +10,12 @@ use Rattle.cdb_make.specs.declared.fault.MakeFault.{MakeFault}
 use Rattle.cdb_make.specs.declared.fault.MakeFault.TheVariants as make
 use Rattle.cdb_tool.specs.declared.fault.Fault.{Fault}
 use Rattle.cdb_tool.specs.declared.fault.Fault.TheVariants.{Text, Make, Walk, Output}
-use Rattle.cdb_tool.specs.declared.fault.Fault.TheVariants.{Long, NoMemory}
+use Rattle.cdb_tool.specs.declared.fault.Fault.TheVariants.{Duplicate, Long, NoMemory}
 
 abbrev pub fault_number : Fault → ℕ
 fault_number (Text input fault) = 1
 fault_number (Make fault) = 2
+fault_number Duplicate = 3
 fault_number (Walk fault) = 6
 fault_number Output = 7
 fault_number Long = 8
