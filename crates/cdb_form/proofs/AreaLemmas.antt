@@ -11,7 +11,9 @@ use Rattle.cdb_form.specs.Format.Table.{empty_slot}
 use Rattle.cdb_form.specs.Format.Reading.{pair_at, nth_pair, head_at}
 use Rattle.cdb_form.specs.Format.Walk.{least_place, record_end, walk_of, walk_from, damaged, first_table_at}
 use Rattle.cdb_form.specs.declared.walk.fault.WalkFault.{WalkFault}
-use Rattle.cdb_form.specs.declared.walk.fault.WalkFault.TheVariants.{Short, Table}
+use Rattle.cdb_form.specs.declared.walk.fault.WalkFault.TheVariants.{Short}
+use Rattle.cdb_form.specs.declared.damage.Damage.TheVariants.{Table}
+use Rattle.cdb_form.specs.Views.WalkFault.{stopped_by}
 use Rattle.cdb_form.proofs.AskingLemmas.{zeros_long}
 use Rattle.cdb_form.proofs.WordLemmas.{pair_at-take}
 use Rattle.cdb_form.proofs.WalkSteps.{walk_of-short, walk_of-table, walk_of-records}
@@ -48,9 +50,9 @@ pub pair_fits : (w size : ℕ) → size ≡ pair_size w → (w ≡ 4) ⊎ (w ≡
 pair_fits w size e width = zeros_long size 16 (elim width [ inl a ↦ omega arith | inr b ↦ omega arith ]) ∙ e
 
 -- the file is too short
-pub area_short : (w : ℕ) (old : Option (List ℕ)) (fault : WalkFault) → fault ≡ Short → IfSome old (λ text. length text < head_size w) → IfSome old (λ text. walk_of w text ≡ damaged fault)
+pub area_short : (w : ℕ) (old : Option (List ℕ)) (fault : WalkFault) → fault ≡ Short → IfSome old (λ text. length text < head_size w) → IfSome old (λ text. walk_of w text ≡ stopped_by fault)
 area_short w None fault e h = tt
-area_short w (Some text) fault e h = walk_of-short w text h ∙ ap damaged (sym e)
+area_short w (Some text) fault e h = walk_of-short w text h ∙ ap stopped_by (sym e)
 
 -- a table stands within the head
 pub area_table : (w n : ℕ) (old new : Option (List ℕ)) (xs : List ℕ) → Consumes old new xs → length xs ≡ head_size w → record_end w xs < head_size w → n ≡ first_table_at (record_end w xs) (head_at w xs)

@@ -5,8 +5,9 @@ use Rattle.cdb_form.specs.Views.KnownBytes.{LosesAtMost, FromTo}
 use Rattle.cdb_form.specs.Format.Record.{KeyValue, record_size}
 use Rattle.cdb_form.specs.Format.Pair.{WordPair}
 use Rattle.cdb_form.specs.Format.Reading.{pair_at}
-use Rattle.cdb_form.specs.Format.Walk.{front_size, walk_from, damaged, with_first}
+use Rattle.cdb_form.specs.Format.Walk.{front_size, walk_from, with_first}
 use Rattle.cdb_form.specs.Views.Pairs.{header_pair}
+use Rattle.cdb_form.specs.Views.WalkFault.{stopped_by}
 use Rattle.cdb_form.specs.declared.walk.fault.WalkFault.{WalkFault}
 use Rattle.cdb_form.specs.declared.header.Header.{Header}
 use Rattle.cdb_form.specs.declared.walk.fault.WalkFault.TheVariants.{Record}
@@ -15,7 +16,7 @@ use Rattle.cdb_form.proofs.SourceLemmas.{consumes_then}
 use Rattle.cdb_form.proofs.WalkSteps.{walk_from-no_header, walk_from-no_body, walk_from-more}
 
 abbrev pub StopsAt : ℕ → ℕ → ℕ → WalkFault → Option (List ℕ) → Type 0
-StopsAt w place end fault old = IfSome old (λ text. walk_from w place end text ≡ damaged fault)
+StopsAt w place end fault old = IfSome old (λ text. walk_from w place end text ≡ stopped_by fault)
 
 -- how long the record at the front is, as its header tells
 pub front_told : (w : ℕ) (xs : List ℕ) (h : Header) → header_pair h ≡ pair_at w xs → front_size w xs ≡ 2 * w + h.klen + h.vlen
@@ -29,7 +30,7 @@ no_room w place end (Some text) before few = walk_from-no_header w place end tex
 -- the file ends within a header
 pub header_early : (w place end : ℕ) (old : Option (List ℕ)) (fault : WalkFault) → place < end → fault ≡ Record place → IfSome old (λ text. length text < 2 * w) → StopsAt w place end fault old
 header_early w place end None fault before e h = tt
-header_early w place end (Some text) fault before e h = walk_from-no_header w place end text before (inr h) ∙ ap damaged (sym e)
+header_early w place end (Some text) fault before e h = walk_from-no_header w place end text before (inr h) ∙ ap stopped_by (sym e)
 
 -- what the header tells doesn't fit before the record end
 pub body_no_room : (w place end : ℕ) (old new : Option (List ℕ)) (header : List ℕ) → place < end → Consumes old new header → length header ≡ 2 * w → 2 * w ≤ end - place → end - place < front_size w header
@@ -46,7 +47,7 @@ body_early w place end n (Some text) None header some fault before e read long r
 body_early w place end n (Some text) (Some rest) header some fault before e read long room size h =
     let split : text ≡ header ++ (some ++ rest) = read ∙ append_assoc header some rest in
     let count : length text ≡ length header + (length some + length rest) = ap length split ∙ length-append header (some ++ rest) ∙ ap (λ (k : ℕ). length header + k) (length-append some rest) in
-    walk_from-no_body w place end text header (some ++ rest) before split long room (inr (omega arith)) ∙ ap damaged (sym e)
+    walk_from-no_body w place end text header (some ++ rest) before split long room (inr (omega arith)) ∙ ap stopped_by (sym e)
 
 -- the whole record
 pub record_read : (w place end next : ℕ) (old mid new : Option (List ℕ)) (header : List ℕ) (r : KeyValue) → 0 < w → Consumes old mid header → Consumes mid new (r.key ++ r.value)

@@ -14,8 +14,8 @@ use Rattle.cdb_form.specs.Format.File.{pointers_from, file_pointers, file_size, 
 use Rattle.cdb_form.specs.Format.Reading.{head_at, nth_pair}
 use Rattle.cdb_form.specs.Views.Pairs.{PairFits}
 use Rattle.cdb_form.specs.Format.Walk.{Walked, has_slots, least_place, record_end, whole_records, walk_of}
-use Rattle.cdb_form.specs.declared.walk.fault.WalkFault.{WalkFault}
-use Rattle.cdb_form.specs.declared.walk.fault.WalkFault.TheVariants.{Record}
+use Rattle.cdb_form.specs.declared.damage.Damage.{Damage}
+use Rattle.cdb_form.specs.declared.damage.Damage.TheVariants.{Record}
 use Rattle.cdb_form.specs.Laws.Walk.{Stand, StandLongest, HasHead, IsWalk, WalksBack}
 use Rattle.cdb_form.proofs.ReadBack.{map-nth_pair}
 use Rattle.cdb_form.proofs.Places.{slot_count, tables_bytes, length-file_pointers, slot_count-file_tables, file_of_is, drop-head}
@@ -109,7 +109,7 @@ walk_of-IsWalk w top bytes some top_is head are =
       whole = λ h e. d h ∙ cond-true (records_end w (all_records w (area_of w bytes)) == record_end w bytes) _ _ (eq-eqb _ _ (sym (ap (records_end w) (rs h)) ∙ e));
       damage = λ h e.
           d h ∙ cond-false (records_end w (all_records w (area_of w bytes)) == record_end w bytes) _ _ (ne_eqb _ _ (λ same. let there = ap (records_end w) (rs h) in absurd (omega arith)))
-          ∙ ap (λ (q : List KeyValue). let o : Option WalkFault = Some (Record (records_end w q)) in o) (sym (rs h));
+          ∙ ap (λ (q : List KeyValue). let o : Option Damage = Some (Record (records_end w q)) in o) (sym (rs h));
     }
 
 -- the file of some records: the places of its tables

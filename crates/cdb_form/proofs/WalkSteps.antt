@@ -7,12 +7,12 @@ use Rattle.cdb_form.specs.Format.Record.{KeyValue, record_size}
 use Rattle.cdb_form.specs.Format.Pair.{WordPair, head_size}
 use Rattle.cdb_form.specs.Format.Reading.{pair_at, head_at}
 use Rattle.cdb_form.specs.Format.Walk.{Walked, front_size, whole_records, walk_from, walk_of, no_walk, with_first, damaged, record_end, first_table_at}
-use Rattle.cdb_form.specs.declared.walk.fault.WalkFault.{WalkFault}
-use Rattle.cdb_form.specs.declared.walk.fault.WalkFault.TheVariants.{Short, Table, Record}
+use Rattle.cdb_form.specs.declared.damage.Damage.{Damage}
+use Rattle.cdb_form.specs.declared.damage.Damage.TheVariants.{Short, Table, Record}
 use Rattle.cdb_form.proofs.Fronts.{Begins, Begins-take, all_records, all_records-more, whole_records-none, pair_at-front, take_past}
 
 -- the damage of a walk that stops at a place
-abbrev pub stopped : ℕ → ℕ → Option WalkFault
+abbrev pub stopped : ℕ → ℕ → Option Damage
 stopped stop end = if stop == end then None else Some (Record stop)
 
 -- the walk of some records

@@ -6,10 +6,10 @@ use Rattle.cdb_form.specs.Format.Record.{KeyValue}
 use Rattle.cdb_form.specs.Views.RecordReader.{walk_of_rest, size_of_rest, unread, walk_left, behind_end, behind_records, IsFresh, GaveSoFar}
 use Rattle.cdb_form.specs.Format.Walk.{Walked, walk_of, no_walk, damaged, with_first, with_records}
 use Rattle.cdb_form.specs.declared.walk.record_reader.RecordReader.{RecordReader}
-use Rattle.cdb_form.specs.declared.walk.fault.WalkFault.{WalkFault}
+use Rattle.cdb_form.specs.declared.damage.Damage.{Damage}
 
 -- the walk of a whole file: some records, and a damage or none
-abbrev pub walked : List KeyValue → Option WalkFault → Walked
+abbrev pub walked : List KeyValue → Option Damage → Walked
 walked rs damage = record { records = rs; damage = damage }
 
 -- one relation after another, and two relations of the same bytes
@@ -65,11 +65,11 @@ gave_all w remaining file t rs so_far end =
     (λ a b p q. p.0 ∙ ap (with_records rs) q ∙ ap (λ qs. walked qs None) (append-nil rs)) so_far end
 
 -- at a damage, by the clause `exact`: these records are those of the walk, and this is its damage
-pub gave_before : {R L : Type 0} (w : ℕ) (remaining : R → Option (List ℕ)) (file : Option (List ℕ)) (t : RecordReader R L) (rs : List KeyValue) (fault : WalkFault) → GaveSoFar w remaining file t rs
-    → IfSome (unread remaining t) (λ text. walk_left w t text ≡ damaged fault) → IfSome file (λ text. walk_of w text ≡ walked rs (Some fault))
-gave_before w remaining file t rs fault so_far exact =
-    from_if file (unread remaining t) (λ text rest. (walk_of w text ≡ with_records rs (walk_left w t rest)) × (behind_end w t rest ≡ behind_records w text)) (λ text. walk_left w t text ≡ damaged fault) (λ text. walk_of w text ≡ walked rs (Some fault))
-    (λ a b p q. p.0 ∙ ap (with_records rs) q ∙ ap (λ qs. walked qs (Some fault)) (append-nil rs)) so_far exact
+pub gave_before : {R L : Type 0} (w : ℕ) (remaining : R → Option (List ℕ)) (file : Option (List ℕ)) (t : RecordReader R L) (rs : List KeyValue) (damage : Damage) → GaveSoFar w remaining file t rs
+    → IfSome (unread remaining t) (λ text. walk_left w t text ≡ damaged damage) → IfSome file (λ text. walk_of w text ≡ walked rs (Some damage))
+gave_before w remaining file t rs damage so_far exact =
+    from_if file (unread remaining t) (λ text rest. (walk_of w text ≡ with_records rs (walk_left w t rest)) × (behind_end w t rest ≡ behind_records w text)) (λ text. walk_left w t text ≡ damaged damage) (λ text. walk_of w text ≡ walked rs (Some damage))
+    (λ a b p q. p.0 ∙ ap (with_records rs) q ∙ ap (λ qs. walked qs (Some damage)) (append-nil rs)) so_far exact
 
 -- at any time they are a front of the records of the walk
 pub gave_front : {R L : Type 0} (w : ℕ) (remaining : R → Option (List ℕ)) (file : Option (List ℕ)) (t : RecordReader R L) (rs : List KeyValue) → GaveSoFar w remaining file t rs

@@ -6,6 +6,7 @@
 //! definitions, for words of 4 bytes (`Narrow`) and of 8 bytes (`Wide`).
 #![tactic(auto)]
 
+mod damage;
 mod head;
 mod header;
 mod key_hash;
@@ -20,6 +21,7 @@ mod walk;
 mod width;
 mod writing;
 
+pub use damage::Damage;
 pub use head::{Head, Pointer, head_size, read_head, read_pointer, write_head, write_pointer};
 pub use header::{Header, read_header, write_header};
 pub use key_hash::{hash, home_slot, table_number};

@@ -7,9 +7,11 @@ use Rattle.std.specs.Io.KnownBytes.{Appends, Keeps}
 use Rattle.cdb_form.specs.Views.KnownBytes.{FromTo, AppendsFront}
 use Rattle.cdb_form.specs.Format.Record.{KeyValue}
 use Rattle.cdb_form.specs.Views.RecordReader.{unread, walk_left, size_of_rest, behind_end, behind_records, GaveSoFar, HasEnded}
-use Rattle.cdb_form.specs.Views.WalkFault.{IsDamage}
+use Rattle.cdb_form.specs.Views.WalkFault.{IsDamage, stopped_by}
 use Rattle.cdb_form.specs.Format.Walk.{walk_of, no_walk, damaged, with_first, with_records}
 use Rattle.cdb_form.specs.declared.walk.record_reader.RecordReader.{RecordReader}
+use Rattle.cdb_form.specs.declared.damage.Damage.{Damage}
+use Rattle.cdb_form.specs.declared.damage.Damage.TheVariants as file_damage
 use Rattle.cdb_form.specs.declared.walk.fault.WalkFault.{WalkFault}
 use Rattle.cdb_form.specs.declared.walk.fault.WalkFault.TheVariants as walk
 use Rattle.cdb_form.proofs.WalkText.{walked, gave_more, gave_all, gave_before, gave_front, from_then}
@@ -138,40 +140,40 @@ record_fails w form remaining file t u old mid new r d one behind front =
     }
 
 -- the reader of the records failed
-written_damage : {R L : Type 0} (w : ℕ) (form : Form) (remaining : R → Option (List ℕ)) (file : Option (List ℕ)) (t : RecordReader R L) (old new : Option (List ℕ)) (fault : WalkFault) → WrittenSoFar w form remaining file t old new
-    → IfSome (unread remaining t) (λ text. walk_left w t text ≡ damaged fault) → Writes w form file (Some fault) old new
-written_damage w form remaining file t old new fault d exact =
-    record { walked = walked d.records (Some fault); ends = refl; is = gave_before w remaining file t d.records fault d.gave exact; appended = subst (Appends old new) (sym (append-nil (flat_map form.item d.records))) d.appended }
+written_damage : {R L : Type 0} (w : ℕ) (form : Form) (remaining : R → Option (List ℕ)) (file : Option (List ℕ)) (t : RecordReader R L) (old new : Option (List ℕ)) (damage : Damage) → WrittenSoFar w form remaining file t old new
+    → IfSome (unread remaining t) (λ text. walk_left w t text ≡ damaged damage) → Writes w form file (Some damage) old new
+written_damage w form remaining file t old new damage d exact =
+    record { walked = walked d.records (Some damage); ends = refl; is = gave_before w remaining file t d.records damage d.gave exact; appended = subst (Appends old new) (sym (append-nil (flat_map form.item d.records))) d.appended }
 
 written_first : {R L : Type 0} (w : ℕ) (form : Form) (remaining : R → Option (List ℕ)) (file : Option (List ℕ)) (t : RecordReader R L) (old new : Option (List ℕ)) → WrittenSoFar w form remaining file t old new → WritesFirst w form file old new
 written_first w form remaining file t old new d = record { first = d.records; is = gave_front w remaining file t d.records d.gave; appended = d.appended }
 
 reader_fault : {R L : Type 0} (w : ℕ) (form : Form) (remaining : R → Option (List ℕ)) (file : Option (List ℕ)) (t : RecordReader R L) (old new : Option (List ℕ)) (fault : WalkFault) → WrittenSoFar w form remaining file t old new
-    → (IsDamage fault → IfSome (unread remaining t) (λ text. walk_left w t text ≡ damaged fault)) → WritingFails w form file old new (walk_fault fault)
-reader_fault w form remaining file t old new walk.Short d exact = written_damage w form remaining file t old new walk.Short d (exact tt)
-reader_fault w form remaining file t old new (walk.Table n) d exact = written_damage w form remaining file t old new (walk.Table n) d (exact tt)
-reader_fault w form remaining file t old new (walk.Record place) d exact = written_damage w form remaining file t old new (walk.Record place) d (exact tt)
+    → (IsDamage fault → IfSome (unread remaining t) (λ text. walk_left w t text ≡ stopped_by fault)) → WritingFails w form file old new (walk_fault fault)
+reader_fault w form remaining file t old new walk.Short d exact = written_damage w form remaining file t old new file_damage.Short d (exact tt)
+reader_fault w form remaining file t old new (walk.Table n) d exact = written_damage w form remaining file t old new (file_damage.Table n) d (exact tt)
+reader_fault w form remaining file t old new (walk.Record place) d exact = written_damage w form remaining file t old new (file_damage.Record place) d (exact tt)
 reader_fault w form remaining file t old new walk.Input d exact = written_first w form remaining file t old new d
 reader_fault w form remaining file t old new walk.NoMemory d exact = written_first w form remaining file t old new d
 
 pub reader_fails : {R L : Type 0} (w : ℕ) (form : Form) (remaining : R → Option (List ℕ)) (file : Option (List ℕ)) (t u : RecordReader R L) (old new : Option (List ℕ)) (fault : WalkFault) → WrittenSoFar w form remaining file t old new
-    → (IsDamage fault → IfSome (unread remaining t) (λ text. walk_left w t text ≡ damaged fault))
+    → (IsDamage fault → IfSome (unread remaining t) (λ text. walk_left w t text ≡ stopped_by fault))
     → FromTo (unread remaining t) (unread remaining u) (λ text rest. (more : List ℕ) × (rest ≡ more ++ behind_end w t text)) → WritesWalk w form file (unread remaining u) old new (Err (walk_fault fault))
 reader_fails w form remaining file t u old new fault d exact still =
     record { ok = tt; err = reader_fault w form remaining file t old new fault d exact; behind = behind_still w remaining file t u d.records d.gave still }
 
 -- ---- the flush
 
-writes_kept : (w : ℕ) (form : Form) (file : Option (List ℕ)) (damage : Option WalkFault) (old mid new : Option (List ℕ)) → Writes w form file damage old mid → Keeps mid new → Writes w form file damage old new
-writes_kept w form file damage old mid new d k = record { walked = d.walked; ends = d.ends; is = d.is; appended = appends_kept old mid new (walk_text form d.walked) d.appended k }
+writes_kept : (w : ℕ) (form : Form) (file : Option (List ℕ)) (ending : Option Damage) (old mid new : Option (List ℕ)) → Writes w form file ending old mid → Keeps mid new → Writes w form file ending old new
+writes_kept w form file ending old mid new d k = record { walked = d.walked; ends = d.ends; is = d.is; appended = appends_kept old mid new (walk_text form d.walked) d.appended k }
 
 first_kept : (w : ℕ) (form : Form) (file old mid new : Option (List ℕ)) → WritesFirst w form file old mid → Keeps mid new → WritesFirst w form file old new
 first_kept w form file old mid new d k = record { first = d.first; is = d.is; appended = appends_kept old mid new (flat_map form.item d.first) d.appended k }
 
 fails_kept : (w : ℕ) (form : Form) (file old mid new : Option (List ℕ)) (f : Fault) → WritingFails w form file old mid f → Keeps mid new → WritingFails w form file old new f
-fails_kept w form file old mid new (Walk walk.Short) d k = writes_kept w form file (Some walk.Short) old mid new d k
-fails_kept w form file old mid new (Walk (walk.Table n)) d k = writes_kept w form file (Some (walk.Table n)) old mid new d k
-fails_kept w form file old mid new (Walk (walk.Record place)) d k = writes_kept w form file (Some (walk.Record place)) old mid new d k
+fails_kept w form file old mid new (Walk walk.Short) d k = writes_kept w form file (Some file_damage.Short) old mid new d k
+fails_kept w form file old mid new (Walk (walk.Table n)) d k = writes_kept w form file (Some (file_damage.Table n)) old mid new d k
+fails_kept w form file old mid new (Walk (walk.Record place)) d k = writes_kept w form file (Some (file_damage.Record place)) old mid new d k
 fails_kept w form file old mid new (Walk walk.Input) d k = first_kept w form file old mid new d k
 fails_kept w form file old mid new (Walk walk.NoMemory) d k = absurd d
 fails_kept w form file old mid new NoMemory d k = first_kept w form file old mid new d k

@@ -9,10 +9,10 @@ use Rattle.cdb_form.specs.Format.Table.{table_entries, entries_from}
 use Rattle.cdb_form.specs.Format.Walk.{Walked, walk_of, walk_from, whole_records, record_end}
 use Rattle.cdb_form.specs.Examples.WorkedFiles.{words_of, repeat, put_at, two_records, two_file}
 use Rattle.cdb_form.specs.Examples.WorkedFiles.{foreign_file, wide_records, wide_file}
-use Rattle.cdb_form.specs.declared.walk.fault.WalkFault.{WalkFault}
-use Rattle.cdb_form.specs.declared.walk.fault.WalkFault.TheVariants.{Short, Table, Record}
+use Rattle.cdb_form.specs.declared.damage.Damage.{Damage}
+use Rattle.cdb_form.specs.declared.damage.Damage.TheVariants.{Short, Table, Record}
 
-walked : List KeyValue → Option WalkFault → Walked
+walked : List KeyValue → Option Damage → Walked
 walked records damage = record { records = records; damage = damage }
 
 -- files in words of 4 bytes, each with its walk

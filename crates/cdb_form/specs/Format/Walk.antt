@@ -6,8 +6,8 @@ use Rattle.std.specs.Prelude.{nat_le, min, if◌then◌else◌, ◌&&◌, unwrap
 use Rattle.cdb_form.specs.Format.Pair.{WordPair, head_size}
 use Rattle.cdb_form.specs.Format.Reading.{pair_at, head_at}
 use Rattle.cdb_form.specs.Format.Record.{KeyValue, record_size}
-use Rattle.cdb_form.specs.declared.walk.fault.WalkFault.{WalkFault}
-use Rattle.cdb_form.specs.declared.walk.fault.WalkFault.TheVariants.{Short, Table, Record}
+use Rattle.cdb_form.specs.declared.damage.Damage.{Damage}
+use Rattle.cdb_form.specs.declared.damage.Damage.TheVariants.{Short, Table, Record}
 
 -- whether a pointer's table has slots
 abbrev pub has_slots : WordPair → Bool
@@ -48,7 +48,7 @@ whole_records w (suc most) bytes =
 -- the records of a walk, and then a damage or none
 pub record Walked : Type 0 where
   pub records : List KeyValue
-  pub damage : Option WalkFault
+  pub damage : Option Damage
 
 -- the walk from a place on, where the records end at `end` and these bytes are the rest of the file
 unfoldable pub walk_from : ℕ → ℕ → ℕ → List ℕ → Walked
@@ -59,8 +59,8 @@ walk_from w place end bytes =
     record { records = rs; damage = if stop == end then None else Some (Record stop) }
 
 -- no record, and a damage
-abbrev pub damaged : WalkFault → Walked
-damaged fault = record { records = []; damage = Some fault }
+abbrev pub damaged : Damage → Walked
+damaged damage = record { records = []; damage = Some damage }
 
 -- no record and no damage
 abbrev pub no_walk : Walked

@@ -6,7 +6,7 @@ use Rattle.cdb_form.specs.Format.Pair.{head_size}
 use Rattle.cdb_form.specs.Format.Reading.{head_at}
 use Rattle.cdb_form.specs.Format.Record.{KeyValue, record_bytes, record_size, records_end}
 use Rattle.cdb_form.specs.Format.Walk.{Walked, walk_of, record_end, damaged, first_table_at}
-use Rattle.cdb_form.specs.declared.walk.fault.WalkFault.TheVariants.{Short, Table, Record}
+use Rattle.cdb_form.specs.declared.damage.Damage.TheVariants.{Short, Table, Record}
 
 -- some records stand behind the head of a file, inside both the record end and the file
 pub record Stand (w : ℕ) (bytes : List ℕ) (rs : List KeyValue) : Type 0 where

@@ -3,10 +3,10 @@ use Rattle.std.specs.Prelude.{ℕ, ◌^◌, ◌+◌, ◌<◌, IfSome, List, drop
 use Rattle.cdb_form.specs.Format.Pair.{head_size, pair_size}
 use Rattle.cdb_form.specs.Format.Record.{KeyValue}
 use Rattle.cdb_form.specs.Format.Walk.{Walked, walk_of, walk_from, record_end, no_walk, with_first}
-use Rattle.cdb_form.specs.Format.Walk.{with_records, damaged}
+use Rattle.cdb_form.specs.Format.Walk.{with_records}
 use Rattle.cdb_form.specs.Views.KnownBytes.{FromTo, StillFrom}
 use Rattle.cdb_form.specs.Views.Reading.{ReadsNoFurther, IsKept}
-use Rattle.cdb_form.specs.Views.WalkFault.{IsDamage}
+use Rattle.cdb_form.specs.Views.WalkFault.{IsDamage, stopped_by}
 use Rattle.cdb_form.specs.declared.record.Record.{Record}
 use Rattle.cdb_form.specs.declared.walk.source.Keeping.{Keeping}
 use Rattle.cdb_form.specs.declared.walk.fault.WalkFault.{WalkFault}
@@ -21,7 +21,7 @@ abbrev pub walk_of_rest : ℕ → Walking → List ℕ → Walked
 walk_of_rest w AtHead text = walk_of w text
 walk_of_rest w (At area) text = walk_from w area.place area.end text
 walk_of_rest w AtEnd text = no_walk
-walk_of_rest w (Failed fault) text = damaged fault
+walk_of_rest w (Failed fault) text = stopped_by fault
 
 -- how many of the unread bytes stand before the record end, or in the head
 abbrev pub size_of_rest : ℕ → Walking → List ℕ → ℕ
@@ -138,7 +138,7 @@ pub record Fails {R L : Type 0} (w : ℕ) (remaining : R → Option (List ℕ))
     (old new : RecordReader R L) (fault : WalkFault) : Type 0 where
   pub failed : HasFailed new fault
   pub exact : IsDamage fault
-      → IfSome (unread remaining old) (λ text. walk_left w old text ≡ damaged fault)
+      → IfSome (unread remaining old) (λ text. walk_left w old text ≡ stopped_by fault)
   pub behind : Between remaining old new
       (λ text rest. StillFrom (size_of_rest w old.walking text) text rest)
   pub no_further : IsGoing old → IsDamage fault

@@ -1,5 +1,8 @@
 -- What kind of fault a fault of a walk is, and its number.
-use Rattle.std.specs.Prelude.{ℕ, ⊤, List, ◌++◌, codes, decimal, Option, Some, None}
+use Rattle.std.specs.Prelude.{ℕ, ⊤, List, [], ◌++◌, codes, decimal, Option, Some, None}
+use Rattle.cdb_form.specs.Format.Walk.{Walked}
+use Rattle.cdb_form.specs.declared.damage.Damage.{Damage}
+use Rattle.cdb_form.specs.declared.damage.Damage.TheVariants as damage
 use Rattle.cdb_form.specs.declared.reading.Unread.{Unread}
 use Rattle.cdb_form.specs.declared.reading.Unread.TheVariants as unread
 use Rattle.cdb_form.specs.declared.walk.fault.WalkFault.{WalkFault}
@@ -11,6 +14,18 @@ abbrev pub IsDamage : WalkFault → Type 0
 IsDamage Input = ⊥
 IsDamage NoMemory = ⊥
 IsDamage _ = ⊤
+
+-- and that damage
+abbrev pub damage_of : WalkFault → Option Damage
+damage_of Short = Some damage.Short
+damage_of (Table n) = Some (damage.Table n)
+damage_of (Record place) = Some (damage.Record place)
+damage_of Input = None
+damage_of NoMemory = None
+
+-- no record, and the damage that is the fault
+abbrev pub stopped_by : WalkFault → Walked
+stopped_by fault = record { records = []; damage = damage_of fault }
 
 -- its number
 abbrev pub walk_number : WalkFault → ℕ

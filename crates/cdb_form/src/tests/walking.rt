@@ -1,7 +1,7 @@
 // The reader of records, on worked, damaged and foreign files, and over readers that fail.
 ghost use Rattle.std.specs.Prelude.{◌≡◌, Some, None, IfOk, IfSome, MatchOption};
 ghost use Rattle.cdb_form.specs.Format.Walk.{walk_of};
-ghost use Rattle.cdb_form.specs.Views.WalkFault.{IsDamage};
+ghost use Rattle.cdb_form.specs.Views.WalkFault.{IsDamage, damage_of};
 ghost use Rattle.cdb_form.specs.Views.Pairs.{key_values};
 
 use super::fakes::{Behind, FakeReader};
@@ -23,7 +23,7 @@ fn walk<L: Width, R: Read + Drop>(
         (IfSome (R.remaining reader) (λ text. walk_of L.WORD text
         ≡ record { records = key_values p.0.items; damage = None }))
         (λ f. IsDamage f → IfSome (R.remaining reader) (λ text. walk_of L.WORD text
-        ≡ record { records = key_values p.0.items; damage = Some f }))) }
+        ≡ record { records = key_values p.0.items; damage = damage_of f }))) }
 {
     let mut records = Vec::new(alloc);
     let mut reader: RecordReader<R, L> = RecordReader::new(alloc, reader);

@@ -3,8 +3,8 @@ ghost use Rattle.std.specs.Prelude.{◌≡◌, ◌≤◌, drop};
 ghost use Rattle.std.specs.Prelude.{IfOk, IfErr, IfSome};
 ghost use Rattle.cdb_form.specs.Views.KnownBytes.{LosesAtMost, FromTo};
 ghost use Rattle.cdb_form.specs.Format.Pair.{head_size};
-ghost use Rattle.cdb_form.specs.Format.Walk.{record_end, walk_of, walk_from, damaged};
-ghost use Rattle.cdb_form.specs.Views.WalkFault.{IsDamage};
+ghost use Rattle.cdb_form.specs.Format.Walk.{record_end, walk_of, walk_from};
+ghost use Rattle.cdb_form.specs.Views.WalkFault.{IsDamage, stopped_by};
 
 use crate::head::head_size;
 use crate::walk::fault::WalkFault;
@@ -28,7 +28,7 @@ pub(crate) fn read_area<R: Read, L: Width>(reader: &mut R) -> Result<Area, WalkF
         × (area.end ≡ record_end L.WORD text) × (rest ≡ drop (head_size L.WORD) text))) }
     ensures place { IfOk result (λ area. area.place ≡ head_size L.WORD) }
     ensures fails { IfErr result (λ f. IsDamage f → IfSome (R.remaining reader.old) (λ text.
-        walk_of L.WORD text ≡ damaged f)) }
+        walk_of L.WORD text ≡ stopped_by f)) }
     ensures loses { LosesAtMost (R.remaining reader.old)
         (R.remaining reader.new) (head_size L.WORD) }
 {

@@ -6,9 +6,9 @@ ghost use Rattle.cdb_form.specs.Views.KnownBytes.{LosesAtMost, FromTo, StillFrom
 ghost use Rattle.cdb_form.specs.Format.Pair.{head_size, pair_size};
 ghost use Rattle.cdb_form.specs.Views.Reading.{ReadsNoFurther, IsKept};
 ghost use Rattle.cdb_form.specs.Format.Record.{KeyValue, record_size};
-ghost use Rattle.cdb_form.specs.Format.Walk.{walk_of, walk_from, record_end, damaged, no_walk};
+ghost use Rattle.cdb_form.specs.Format.Walk.{walk_of, walk_from, record_end, no_walk};
 ghost use Rattle.cdb_form.specs.Format.Walk.{with_first};
-ghost use Rattle.cdb_form.specs.Views.WalkFault.{IsDamage};
+ghost use Rattle.cdb_form.specs.Views.WalkFault.{IsDamage, stopped_by};
 ghost use Rattle.cdb_form.specs.Views.Pairs.{key_value};
 
 use crate::pair::pair_size;
@@ -47,7 +47,7 @@ fn read_record<R: Read, L: Width>(
     ensures place { IfOk result (λ behind. area.place < behind.place) }
     ensures end { IfOk result (λ behind. behind.end ≡ area.end) }
     ensures fails { IfErr result (λ f. IsDamage f → IfSome (R.remaining reader.old) (λ text.
-        walk_from L.WORD area.place area.end text ≡ damaged f)) }
+        walk_from L.WORD area.place area.end text ≡ stopped_by f)) }
     ensures header { IfErr result (λ f.
         IsDamage f → ReadsNoFurther (pair_size L.WORD) (R.remaining reader.old)
         (R.remaining reader.new)) }
@@ -201,7 +201,7 @@ impl<R: Read, L: Width> RecordReader<R, L> {
             head_size L.WORD ≤ record_end L.WORD text)) }
         ensures fails { IfErr result (λ f.
             IsDamage f → IfSome (unread R.remaining self.old) (λ text.
-            walk_of L.WORD text ≡ damaged f)) }
+            walk_of L.WORD text ≡ stopped_by f)) }
         ensures header { IfErr result (λ f.
             IsDamage f →
             ReadsNoFurther (head_size L.WORD + pair_size L.WORD)
@@ -235,7 +235,7 @@ impl<R: Read, L: Width> RecordReader<R, L> {
             × (self.new ≡ self.old))) }
         ensures fails { IfErr result (λ f.
             IsDamage f → IfSome (unread R.remaining self.old) (λ text.
-            walk_from L.WORD area.place area.end text ≡ damaged f)) }
+            walk_from L.WORD area.place area.end text ≡ stopped_by f)) }
         ensures header { IfErr result (λ f.
             IsDamage f →
             ReadsNoFurther (pair_size L.WORD)

@@ -7,14 +7,15 @@ use Rattle.cdb_form.specs.Format.Record.{KeyValue}
 use Rattle.cdb_form.specs.Format.Walk.{Walked, walk_of}
 use Rattle.cdb_form.specs.Views.KnownBytes.{AppendsFront, FromTo}
 use Rattle.cdb_form.specs.Views.RecordReader.{behind_records}
-use Rattle.cdb_form.specs.declared.walk.fault.WalkFault.{WalkFault}
+use Rattle.cdb_form.specs.Views.WalkFault.{damage_of}
+use Rattle.cdb_form.specs.declared.damage.Damage.{Damage}
 use Rattle.cdb_form.specs.declared.walk.fault.WalkFault.TheVariants as walk
 use Rattle.cdb_tool.specs.Runs.Form.{Form}
 use Rattle.cdb_tool.specs.declared.fault.Fault.{Fault}
 use Rattle.cdb_tool.specs.declared.fault.Fault.TheVariants.{Walk, Output, NoMemory}
 
 -- what ends a text, which a damage leaves out
-abbrev pub closing : Form → Option WalkFault → List ℕ
+abbrev pub closing : Form → Option Damage → List ℕ
 closing form None = form.end
 closing form (Some damage) = []
 
@@ -23,7 +24,7 @@ abbrev pub walk_text : Form → Walked → List ℕ
 walk_text form w = flat_map form.item w.records ++ closing form w.damage
 
 -- the text of a walk that ends so was appended, the file's where that is known
-pub record Writes (w : ℕ) (form : Form) (file : Option (List ℕ)) (damage : Option WalkFault)
+pub record Writes (w : ℕ) (form : Form) (file : Option (List ℕ)) (damage : Option Damage)
     (old new : Option (List ℕ)) : Type 0 where
   pub walked : Walked
   pub ends : walked.damage ≡ damage
@@ -48,7 +49,7 @@ abbrev pub WritingFails : ℕ → Form → Option (List ℕ) → Option (List �
     → Type 0
 WritingFails w form file old new (Walk walk.Input) = WritesFirst w form file old new
 WritingFails w form file old new (Walk walk.NoMemory) = ⊥
-WritingFails w form file old new (Walk damage) = Writes w form file (Some damage) old new
+WritingFails w form file old new (Walk fault) = Writes w form file (damage_of fault) old new
 WritingFails w form file old new NoMemory = WritesFirst w form file old new
 WritingFails w form file old new Output = WritesFront w form file old new
 WritingFails w form file old new fault = ⊥

@@ -1,0 +1,20 @@
+// What is wrong with a database file.
+
+/// What is wrong with a database file, which the definitions of the format tell. A place is counted
+/// in bytes from the file's start.
+#[derive(Clone, Copy, Debug, PartialEq, Eq)]
+pub enum Damage {
+    /// The file is shorter than its head.
+    Short,
+    /// The table of this number has slots and doesn't lie behind the head and inside the file; for
+    /// a walk, the records end before the head does.
+    Table(u64),
+    /// No whole record stands at this place.
+    Record(u64),
+    /// Of the table of the first number the slot of the second, from 0 on, is wrong.
+    Slot(u64, u64),
+    /// The record at this place is in two slots.
+    Twice(u64),
+    /// The record at this place is in no slot.
+    Unindexed(u64),
+}
