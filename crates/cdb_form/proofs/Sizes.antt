@@ -17,7 +17,7 @@ use Rattle.cdb_form.proofs.HeadLemmas.{length-flat_map_words}
 use Rattle.byteorder.specs.Numbers.{length-bytes_low_first}
 
 -- a table keeps its number of slots
-length-slots_with : (slots : List WordPair) (e : WordPair) → length (slots_with slots e) ≡ length slots
+pub length-slots_with : (slots : List WordPair) (e : WordPair) → length (slots_with slots e) ≡ length slots
 unfolding slots_with
 length-slots_with slots e = length-set slots _ e
 

@@ -1,0 +1,5 @@
+pub mod Meeting
+pub mod Filled
+pub mod Fits
+pub mod FileTables
+pub mod LookupLaws

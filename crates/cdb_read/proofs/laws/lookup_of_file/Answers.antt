@@ -1,0 +1,16 @@
+use Rattle.std.proofs.Common.{arith}
+use Rattle.cdb_form.specs.Views.Pairs.{key_values}
+use Rattle.cdb_form.proofs.RecordLemmas.{are_records}
+use Rattle.cdb_read.proofs.LookupLaws.{finds_values}
+use Rattle.cdb_read.proofs.laws.lookup_of_file.Goals as goal
+
+pub returns : goal.returns
+returns g c = λ room.
+    let rs = key_values c.args._records.now in
+    let laws = g.met.L.Width.greatest_fits in
+    finds_values g.L.Width.WORD g.L.Width.TOP rs c.args._key.now (record {
+      width = g.met.L.Width.four_or_eight;
+      top_is = g.met.L.Width.top_is;
+      records = are_records c.args._records.now;
+      room = omega (arith, laws.0, room);
+    })

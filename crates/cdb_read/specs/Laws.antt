@@ -1,0 +1,12 @@
+-- Laws of look-ups.
+use Rattle.std.specs.Prelude.{ℕ, ◌≡◌, List, map, None}
+use Rattle.cdb_form.specs.Format.File.{file_bytes}
+use Rattle.cdb_form.specs.Format.Record.{KeyValue}
+use Rattle.cdb_read.specs.Lookup.{bytes_of, lookup_of}
+use Rattle.cdb_read.specs.Values.{values_of}
+
+-- a look-up in the file of some records finds the values of the key, in order, and meets no damage
+pub record FindsValues (w : ℕ) (rs : List KeyValue) (key : List ℕ) : Type 0 where
+  pub values : map (bytes_of (file_bytes w rs)) (lookup_of w (file_bytes w rs) key).spans
+      ≡ values_of key rs
+  pub sound : (lookup_of w (file_bytes w rs) key).damage ≡ None

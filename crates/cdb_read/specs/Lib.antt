@@ -1,0 +1,6 @@
+-- What a look-up finds in any bytes, and what clauses read of this crate's types.
+pub mod Lookup
+pub mod Values
+pub mod Laws
+pub mod Views
+pub mod Examples

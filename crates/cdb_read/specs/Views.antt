@@ -1,0 +1,2 @@
+-- What clauses read of the types of this crate.
+pub mod ReadFault

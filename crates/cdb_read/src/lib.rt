@@ -1,0 +1,12 @@
+//! Look-ups in constant databases: what the readers are to find, and why one stops.
+#![tactic(auto)]
+
+mod fault;
+pub mod laws;
+mod span;
+
+pub use fault::ReadFault;
+pub use span::{Pair, Span};
+
+#[cfg(test)]
+mod tests;

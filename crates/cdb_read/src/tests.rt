@@ -1,0 +1,2 @@
+//! What contracts can't say.
+mod faults;
