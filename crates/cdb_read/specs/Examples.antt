@@ -20,7 +20,10 @@ found spans damage = record { spans = spans; damage = damage }
 -- four values of one key
 unfoldable four_records : List KeyValue
 four_records =
-    map (λ value. let r : KeyValue = record { key = codes "a"; value = value ∷ [] } in r) (codes "1234")
+    record { key = codes "a"; value = codes "1" }
+    ∷ record { key = codes "a"; value = codes "2" }
+    ∷ record { key = codes "a"; value = codes "3" }
+    ∷ record { key = codes "a"; value = codes "4" } ∷ []
 
 -- two keys of one hash
 unfoldable same_hash : List KeyValue
