@@ -7,5 +7,6 @@ mod listing;
 mod loading;
 mod making;
 mod refusals;
+mod running;
 mod streams;
 mod worked;

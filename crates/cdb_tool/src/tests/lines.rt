@@ -9,7 +9,7 @@ use std::test::Fail;
 
 #[test]
 fn faults_are_numbered_and_said(rt: HostRuntime) -> Result<(), Fail> {
-    let cases: [(Fault, u8, &str); 15] = [
+    let cases: [(Fault, u8, &str); 19] = [
         (
             Fault::Text(1, TextFault::Syntax(7)),
             1,
@@ -41,6 +41,22 @@ fn faults_are_numbered_and_said(rt: HostRuntime) -> Result<(), Fail> {
             2,
             "cdb: database too large\n",
         ),
+        (
+            Fault::Make(MakeFault::Broken),
+            2,
+            "cdb: database broken by an earlier fault\n",
+        ),
+        (
+            Fault::Make(MakeFault::Lookup),
+            2,
+            "cdb: database cannot be read or written\n",
+        ),
+        (
+            Fault::Make(MakeFault::Writing),
+            2,
+            "cdb: database cannot be read or written\n",
+        ),
+        (Fault::Duplicate, 3, "cdb: stopped at a duplicate key\n"),
         (
             Fault::Walk(WalkFault::Short),
             6,
