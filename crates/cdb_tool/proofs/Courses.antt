@@ -26,17 +26,12 @@ use Rattle.cdb_tool.specs.declared.fault.Fault.{Fault}
 use Rattle.cdb_tool.specs.declared.fault.Fault.TheVariants.{Text, Make, Duplicate, Walk, Output, Long, NoMemory}
 use Rattle.cdb_tool.specs.declared.runs.options.MakeOptions.{MakeOptions}
 
--- ---- the course over one record more
+-- ---- the course over one record more, which was put
 
--- where it was put
 abbrev pub course_put : ℕ → MakeOptions → List Incoming → Incoming → Put → Course
 course_put w o cs c put =
     let s = course_of w o cs in
     record { records = put_list (mode_of o) c.it s.records; lines = s.lines ++ said o c.input c.number (Ok put); ended = ends o (Ok put) }
-
--- and where it was too much
-abbrev pub course_full : ℕ → MakeOptions → List Incoming → Course
-course_full w o cs = let s = course_of w o cs in record { records = s.records; lines = s.lines ++ []; ended = Some (Make make.TooBig) }
 
 course_next : (w : ℕ) (o : MakeOptions) (cs : List Incoming) (c : Incoming) → (course_of w o cs).ended ≡ None → course_of w o (cs ++ c ∷ []) ≡ with_put w o (course_of w o cs) c
 course_next w o cs c going =

@@ -1,7 +1,7 @@
 -- How a run ends: without a record, with a fault of its inputs or its store, or with its file; and
 -- then the flush.
 use Rattle.std.proofs.Common.{◌≡◌, true, false, ℕ, inl, inr, List, [], ◌∷◌, refl, sym, subst, ◌∙◌, Option, Some, None, IfSome, Result, Ok, Err}
-use Rattle.std.specs.Prelude.{IsOk, OnOk, IfErr}
+use Rattle.std.specs.Prelude.{IsOk}
 use Rattle.std.specs.Io.KnownBytes.{Keeps}
 use Rattle.cdb_store.specs.declared.store.Store.{Ghosts}
 use Rattle.cdb_form.specs.declared.width.Width.{Ghosts as Widths}
@@ -18,7 +18,7 @@ use Rattle.cdb_tool.specs.Views.Fault.{make_fault}
 use Rattle.cdb_tool.specs.Runs.Flushed.{Flushed}
 use Rattle.cdb_tool.specs.Runs.Course.{Incoming, from_inputs, course_of, Goes, EndsSo, StopsSo}
 use Rattle.cdb_tool.specs.Runs.Inputs.{BeginsWith, AreInputs, FirstBegins}
-use Rattle.cdb_tool.specs.Runs.Make.{InCourse, Stops, RunFails, Runs, came, IsOfStore}
+use Rattle.cdb_tool.specs.Runs.Make.{InCourse, Stops, RunFails, Runs, came}
 use Rattle.cdb_tool.specs.declared.fault.Fault.{Fault}
 use Rattle.cdb_tool.specs.declared.fault.Fault.TheVariants.{Text, Make, Duplicate, Walk, Output, Long, NoMemory}
 use Rattle.cdb_tool.specs.declared.runs.options.MakeOptions.{MakeOptions}
@@ -152,16 +152,3 @@ runs_flushed w g o inputs images old mid new answer result h f = record {
     | inr e ↦ subst (Runs w g o inputs images old new) (sym e.1) (flush_fails w g o inputs images old mid new answer (h.each b is) f.kept e.0)
   ];
 }
-
--- a fault of the flush is none of the store, and an Ok is one
-pub store_flushed : (P : Type 0) (old new : Option (List ℕ)) (answer result : Result Unit Fault) → IfErr answer (λ f. IsOfStore f → P) → Flushed old new answer result → IfErr result (λ f. IsOfStore f → P)
-store_flushed P old new answer result h f = elim f.answered as (λ _. IfErr result (λ v. IsOfStore v → P)) [
-  | inl e ↦ subst (λ r. IfErr r (λ v. IsOfStore v → P)) (sym e) h
-  | inr e ↦ subst (λ r. IfErr r (λ v. IsOfStore v → P)) (sym e.1) (λ is. absurd is)
-]
-
-pub ok_flushed : (P : Type 0) (old new : Option (List ℕ)) (answer result : Result Unit Fault) → OnOk answer P → Flushed old new answer result → OnOk result P
-ok_flushed P old new answer result h f = elim f.answered as (λ _. OnOk result P) [
-  | inl e ↦ subst (λ r. OnOk r P) (sym e) h
-  | inr e ↦ subst (λ r. OnOk r P) (sym e.1) tt
-]
