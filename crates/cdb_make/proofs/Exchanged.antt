@@ -25,6 +25,7 @@ use Rattle.cdb_make.specs.Views.Adding.{AddFails}
 use Rattle.cdb_make.specs.Views.EntryList.{list_entries, lists_entries, list_room, entry_count, entry_room, AreClosed, HasSpareGaps}
 use Rattle.cdb_make.specs.Views.Maker.{Holds, HoldsIn, ComesFrom, Exchanges}
 use Rattle.cdb_make.proofs.Puts.{comes_then}
+use Rattle.cdb_make.proofs.Nowhere.{tags_long}
 use Rattle.cdb_make.proofs.Sides.{length-entries_of}
 
 -- how many records have a test, by their hashes
@@ -67,7 +68,7 @@ table_fewer w h k rs hashed =
 
 -- a list holds no more than it has room for
 list_within : (l : EntryList) → length (list_entries l) ≤ list_room l
-list_within l = omega (arith, length-entries_of l.hashes.items l.places.items l.paired, l.paired, l.hash_room, l.place_room)
+list_within l = omega (arith, length-entries_of l.hashes.items l.places.items l.paired, l.paired, tags_long l.tags.items l.hashes.items l.tagged, l.tag_room, l.hash_room, l.place_room)
 
 first_of : (ls : List EntryList) → 0 < length ls → EntryList
 first_of [] h = absurd (omega arith)

@@ -1,15 +1,19 @@
 -- Hashes and places side by side.
-use Rattle.std.proofs.Common.{◌≡◌, ℕ, zero, suc, ◌+◌, ◌<◌, ◌≤◌, List, [], ◌∷◌, ◌++◌, length, get_or, set, take, drop, refl, ap, ◌∙◌, arith}
+use Rattle.std.proofs.Common.{◌≡◌, ℕ, zero, suc, ◌+◌, ◌<◌, ◌≤◌, List, [], ◌∷◌, ◌++◌, length, get_or, set, take, drop, refl, sym, ap, ◌∙◌, arith}
 use Rattle.std.specs.Prelude.{All}
 use Rattle.std.proofs.lemmas.List.{at_drop_more}
 use Rattle.std.proofs.lemmas.List.Elements.{All-cons, All-nil, All-head, All-tail}
 use Rattle.cdb_form.specs.Format.Pair.{WordPair}
-use Rattle.cdb_make.specs.Views.EntryList.{entries_of}
+use Rattle.cdb_make.specs.declared.list.EntryList.{EntryList}
+use Rattle.cdb_make.specs.Views.EntryList.{entries_of, list_entries}
 
 pub length-entries_of : (hs ps : List ℕ) → length hs ≡ length ps → length (entries_of hs ps) ≡ length hs
 length-entries_of [] ps e = refl
 length-entries_of (h ∷ hs) [] e = absurd (omega arith)
 length-entries_of (h ∷ hs) (p ∷ ps) e = ap suc (length-entries_of hs ps (omega arith))
+
+pub list_long : (l : EntryList) → length (list_entries l) ≡ length l.hashes.items
+list_long l = length-entries_of l.hashes.items l.places.items l.paired
 
 pub entries_of-push : (hs ps : List ℕ) (h p : ℕ) → length hs ≡ length ps
     → entries_of (hs ++ h ∷ []) (ps ++ p ∷ []) ≡ entries_of hs ps ++ record { first = h; second = p } ∷ []
@@ -46,6 +50,13 @@ entry_here hs ps i paired lt =
     let n : i < length (entries_of hs ps) = omega (arith, length-entries_of hs ps paired) in
     at_drop_more (λ v. v) (entries_of hs ps) i d n
     ∙ ap (λ (v : WordPair). v ∷ drop (i + 1) (entries_of hs ps)) (get_or-entries_of hs ps i d paired (omega arith))
+
+-- the same, where the places are told
+pub entry_at : (hs ps told : List ℕ) (i : ℕ) → length hs ≡ length ps → i < length hs → told ≡ ps
+    → drop i (entries_of hs ps) ≡ record { first = get_or hs i 0; second = get_or told i 0 } ∷ drop (i + 1) (entries_of hs ps)
+entry_at hs ps told i paired lt same =
+    entry_here hs ps i paired (omega arith)
+    ∙ ap (λ (v : List ℕ). record { first = get_or hs i 0; second = get_or v i 0 } ∷ drop (i + 1) (entries_of hs ps)) (sym same)
 
 -- a bound of the places, told of the entries and of the places
 pub places_below : (most : ℕ) (hs ps : List ℕ) → length hs ≡ length ps → All (λ e. e.second ≤ most) (entries_of hs ps) → All (λ p. p ≤ most) ps

@@ -3,6 +3,7 @@ pub mod Parts
 pub mod Views
 pub mod Gaps
 pub mod Survivors
+pub mod Tag
 pub mod Looks
 pub mod Stands
 pub mod Finished

@@ -3,11 +3,11 @@ ghost use Rattle.std.specs.Prelude.{◌≡◌, ℕ, ◌+◌, ◌<◌, ◌≤◌,
 ghost use Rattle.cdb_make.specs.declared.looking.LookFault.TheVariants.{Failed, Foreign};
 ghost use Rattle.cdb_make.specs.Gaps.{AreApart};
 ghost use Rattle.cdb_make.specs.Looks.{NoNewImage, Picks, TellsThere, NoneChained};
-ghost use Rattle.cdb_make.specs.Views.EntryList.{entries_of};
+ghost use Rattle.cdb_make.specs.Views.EntryList.{list_entries};
 
 use crate::gap::Gap;
+use crate::list::EntryList;
 use crate::looking::{LookFault, look_at};
-use crate::scan::next_place;
 use cdb_form::Width;
 use cdb_store::Store;
 
@@ -17,25 +17,23 @@ use cdb_store::Store;
 /// `Foreign`: the records at these entries don't stand one behind another up to `end`.
 pub(crate) fn find_gaps<S: Store, L: Width>(
     store: &mut S,
-    hashes: &[u32],
-    places: &[u64],
+    list: &EntryList,
     hash: u32,
     key: &[u8],
     start: u64,
     end: u64,
     gaps: &mut Vec<Gap>,
 ) -> Result<(), LookFault>
-    requires paired { length hashes.now ≡ length places.now }
     requires inside { end ≤ S.size store.old }
     requires fits { end < 2 ^ 63 }
     requires start { start ≤ end }
-    requires room { length hashes.now ≤ vec_capacity gaps.old }
+    requires room { length (list_entries list.now) ≤ vec_capacity gaps.old }
     ensures picks { OnOk result (Picks L.WORD hash key.now gaps.new.items
-        (entries_of hashes.now places.now) (S.image store.new)) }
+        (list_entries list.now) (S.image store.new)) }
     ensures apart { OnOk result (AreApart start gaps.new.items end) }
-    ensures few { OnOk result (length gaps.new.items ≤ length hashes.now) }
+    ensures few { OnOk result (length gaps.new.items ≤ length (list_entries list.now)) }
     ensures foreign { result ≡ Err Foreign → NoneChained L.WORD start
-        (entries_of hashes.now places.now) end (S.image store.new) }
+        (list_entries list.now) end (S.image store.new) }
     ensures failed { result ≡ Err Failed → S.failures store.old < S.failures store.new }
     ensures images { NoNewImage (S.image store.old) (S.image store.new) }
     ensures size { S.size store.new ≡ S.size store.old }
@@ -46,9 +44,9 @@ pub(crate) fn find_gaps<S: Store, L: Width>(
 {
     gaps.clear();
     let mut last = start;
-    let mut next = next_place(hashes, hash, 0);
-    while next < hashes.len() {
-        let place = places[next];
+    let mut next = list.next_place(hash, 0);
+    while next < list.len() {
+        let place = list.places()[next];
         if let Some(size) = look_at::<S, L>(store, place, end, key)? {
             if place < last {
                 return Err(LookFault::Foreign);
@@ -56,7 +54,7 @@ pub(crate) fn find_gaps<S: Store, L: Width>(
             gaps.push_reserved(Gap { place, size });
             last = place + size;
         }
-        next = next_place(hashes, hash, next + 1);
+        next = list.next_place(hash, next + 1);
     }
     Ok(())
 }
@@ -66,19 +64,17 @@ pub(crate) fn find_gaps<S: Store, L: Width>(
 /// `Foreign`: the records at these entries don't stand one behind another up to `end`.
 pub(crate) fn some_has<S: Store, L: Width>(
     store: &mut S,
-    hashes: &[u32],
-    places: &[u64],
+    list: &EntryList,
     hash: u32,
     key: &[u8],
     end: u64,
 ) -> Result<bool, LookFault>
-    requires paired { length hashes.now ≡ length places.now }
     requires inside { end ≤ S.size store.old }
     requires fits { end < 2 ^ 63 }
     ensures tells { IfOk result (λ there. TellsThere L.WORD hash key.now there
-        (entries_of hashes.now places.now) (S.image store.new)) }
+        (list_entries list.now) (S.image store.new)) }
     ensures foreign { result ≡ Err Foreign → (start : ℕ) → NoneChained L.WORD start
-        (entries_of hashes.now places.now) end (S.image store.new) }
+        (list_entries list.now) end (S.image store.new) }
     ensures failed { result ≡ Err Failed → S.failures store.old < S.failures store.new }
     ensures images { NoNewImage (S.image store.old) (S.image store.new) }
     ensures size { S.size store.new ≡ S.size store.old }
@@ -86,12 +82,12 @@ pub(crate) fn some_has<S: Store, L: Width>(
     ensures room { S.room store.old ≤ S.room store.new }
     ensures failures { S.failures store.old ≤ S.failures store.new }
 {
-    let mut next = next_place(hashes, hash, 0);
-    while next < hashes.len() {
-        if look_at::<S, L>(store, places[next], end, key)?.is_some() {
+    let mut next = list.next_place(hash, 0);
+    while next < list.len() {
+        if look_at::<S, L>(store, list.places()[next], end, key)?.is_some() {
             return Ok(true);
         }
-        next = next_place(hashes, hash, next + 1);
+        next = list.next_place(hash, next + 1);
     }
     Ok(false)
 }

@@ -1,30 +1,36 @@
 // The entries of one table, as a maker keeps them.
 ghost use Rattle.std.specs.Prelude.{◌≡◌, ℕ, ◌<◌, ◌≤◌, ◌^◌, [], ◌∷◌, ◌++◌, length, get_or, All};
-ghost use Rattle.std.specs.Prelude.{OnOk, OnErr, vec_capacity};
+ghost use Rattle.std.specs.Prelude.{OnOk, OnErr, map, slice_index, vec_capacity};
+ghost use Rattle.cdb_make.specs.Tag.{tag_of};
 
 use crate::gap::Gap;
 use crate::repair::close_entries;
+use crate::scan::{next_place, tag};
 use cdb_form::Slot;
 use std::alloc::{AllocError, Global};
 
-/// The entries of one table, in the order of their places: 12 bytes each.
+/// The entries of one table, in the order of their places: 14 bytes each.
 ///
-/// Hashes and places stand apart, so that a search for a hash reads nothing else.
+/// Tags, hashes and places stand apart, so that a search for a hash reads little but the tags.
 #[derive(Drop)]
 pub(crate) struct EntryList {
     /// The hash of each record's key.
     hashes: Vec<u32>,
     /// Where each record stands, in bytes from the file's start.
     places: Vec<u64>,
+    /// The tag of each hash.
+    tags: Vec<u16>,
     ghost paired: { length hashes.items ≡ length places.items },
+    ghost tagged: { tags.items ≡ map tag_of hashes.items },
     ghost hash_room: { length hashes.items ≤ vec_capacity hashes },
     ghost place_room: { length places.items ≤ vec_capacity places },
+    ghost tag_room: { length tags.items ≤ vec_capacity tags },
 }
 
 impl EntryList {
     ghost use Rattle.cdb_form.specs.Views.Pairs.{slot_pair};
     ghost use Rattle.cdb_make.specs.Gaps.{AreApart, IsRising, closed_by};
-    ghost use Rattle.cdb_make.specs.Views.EntryList.{list_entries, list_room};
+    ghost use Rattle.cdb_make.specs.Views.EntryList.{list_entries, list_room, IsNowhereIn};
 
     /// No entries.
     pub(crate) fn new(alloc: Global) -> EntryList
@@ -33,6 +39,7 @@ impl EntryList {
         EntryList {
             hashes: Vec::new(alloc),
             places: Vec::new(alloc),
+            tags: Vec::new(alloc),
         }
     }
 
@@ -57,6 +64,18 @@ impl EntryList {
         &self.places
     }
 
+    /// The number of the first entry with a hash from `from` on, or that of all entries.
+    pub(crate) fn next_place(&self, hash: u32, from: usize) -> usize
+        requires { from ≤ length self.now.hashes.items }
+        ensures from { from ≤ result }
+        ensures within { result ≤ length self.now.hashes.items }
+        ensures none { IsNowhereIn hash self.now.hashes.items from result }
+        ensures found { result < length self.now.hashes.items
+            → slice_index self.now.hashes.items result ≡ hash }
+    {
+        next_place(&self.tags, &self.hashes, hash, from)
+    }
+
     /// An entry, as a slot of its table holds it.
     pub(crate) fn entry(&self, n: usize) -> Slot
         requires { n < length (list_entries self.now) }
@@ -77,7 +96,8 @@ impl EntryList {
         ensures room { list_room self.old ≤ list_room self.new }
     {
         self.hashes.reserve(1)?;
-        self.places.reserve(1)
+        self.places.reserve(1)?;
+        self.tags.reserve(1)
     }
 
     /// One more entry, for which there is room.
@@ -89,6 +109,7 @@ impl EntryList {
     {
         self.hashes.push_reserved(hash);
         self.places.push_reserved(place);
+        self.tags.push_reserved(tag(hash));
     }
 
     /// Takes out the entries at the gaps, and lowers each other place by the gaps below it. The
@@ -102,8 +123,10 @@ impl EntryList {
             → All (λ e. e.second ≤ most) (list_entries self.new) }
         ensures room { list_room self.new ≡ list_room self.old }
     {
-        let kept = close_entries(&mut self.hashes, &mut self.places, gaps);
+        let (hashes, places, tags) = (&mut self.hashes, &mut self.places, &mut self.tags);
+        let kept = close_entries(hashes, places, tags, gaps);
         self.hashes.truncate(kept);
         self.places.truncate(kept);
+        self.tags.truncate(kept);
     }
 }

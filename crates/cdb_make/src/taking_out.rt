@@ -66,16 +66,7 @@ pub(crate) fn find<S: Store, L: Width>(
 {
     let list = &lists[table_number(u64::from(hash))];
     let start = head_size::<L>() as u64;
-    find_gaps::<S, L>(
-        store,
-        list.hashes(),
-        list.places(),
-        hash,
-        key,
-        start,
-        end,
-        gaps,
-    )
+    find_gaps::<S, L>(store, list, hash, key, start, end, gaps)
 }
 
 /// Whether some record has a key.
@@ -109,7 +100,7 @@ pub(crate) fn exists<S: Store, L: Width>(
     ensures failures { S.failures store.old ≤ S.failures store.new }
 {
     let list = &lists[table_number(u64::from(hash))];
-    some_has::<S, L>(store, list.hashes(), list.places(), hash, key, end)
+    some_has::<S, L>(store, list, hash, key, end)
 }
 
 /// Moves the bytes behind the gaps down, takes the entries at the gaps out of the lists, and

@@ -24,7 +24,7 @@ lists_entries ls = map list_entries ls
 
 -- how many entries a list holds without taking memory
 abbrev pub list_room : EntryList → ℕ
-list_room l = min (vec_capacity l.hashes) (vec_capacity l.places)
+list_room l = min (min (vec_capacity l.hashes) (vec_capacity l.places)) (vec_capacity l.tags)
 
 -- the k-th list is the old one with the gaps closed
 pub record IsClosed (gaps : List Gap) (old new : EntryList) : Type 0 where

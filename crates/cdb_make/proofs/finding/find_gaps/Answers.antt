@@ -1,4 +1,4 @@
-use Rattle.std.proofs.Common.{rules, arith, refl, sym, subst, ◌∙◌, ◌≡◌, ◌+◌, ◌≤◌, ℕ, List, [], ◌∷◌, ◌++◌, drop, get_or, vec_len, vec_capacity, Ok, Err, Option, Some, None}
+use Rattle.std.proofs.Common.{rules, arith, ap, refl, sym, subst, ◌∙◌, ◌≡◌, ◌+◌, ◌<◌, ◌≤◌, ℕ, List, length, [], ◌∷◌, ◌++◌, drop, get_or, vec_len, vec_capacity, Ok, Err, Option, Some, None}
 use Rattle.cdb_form.specs.Format.Pair.{WordPair}
 use Rattle.cdb_make.specs.declared.gap.Gap.{Gap}
 use Rattle.cdb_make.specs.declared.looking.LookFault.{LookFault}
@@ -7,15 +7,21 @@ use Rattle.cdb_make.specs.Gaps.{AreApart}
 use Rattle.cdb_make.specs.Looks.{LooksAt, SizeWithin}
 use Rattle.cdb_make.specs.Views.EntryList.{entries_of}
 use Rattle.cdb_make.proofs.Compare.{new_trans, new_same}
-use Rattle.cdb_make.proofs.Sides.{entry_here, length-entries_of}
+use Rattle.cdb_make.proofs.Sides.{entry_at, list_long}
 use Rattle.cdb_make.proofs.Picking.{PicksSoFar, Noted, noted_none, noted_one, entries_over, picks_until, picks_all, picks_done, chains_none, chains_back, chains_until, chains_all, apart_higher}
 use Rattle.cdb_make.proofs.finding.find_gaps.Goals as goal
 use Rattle.cdb_make.proofs.finding.find_gaps.Goals.{in-Some+else-place-last, in_default}
 
+pub bounds-places-next : goal.bounds-places-next
+bounds-places-next g c = omega (arith, c.loop-next-test.true, list_long c.args.list.now, c.args.list.now.paired, ap length c.places.ensures)
+
+pub next_place-next-requires-in-loop-next : goal.next_place-next-requires-in-loop-next
+next_place-next-requires-in-loop-next g c = omega (arith, c.loop-next-test.true, list_long c.args.list.now)
+
 pub loop-next-init : goal.loop-next-init
 loop-next-init g c =
-    let hs : List ℕ = c.args.hashes.now in
-    let ps : List ℕ = c.args.places.now in
+    let hs : List ℕ = c.args.list.now.hashes.items in
+    let ps : List ℕ = c.args.list.now.places.items in
     let n : ℕ = c.next_place-next.result in
     let none : c.clear.new.self.items ≡ [] = c.clear.ensures.items in
     record {
@@ -26,7 +32,7 @@ loop-next-init g c =
       ordered = c.requires.start;
       apart = subst (λ (v : List Gap). AreApart c.args.start v c.args.start) (sym none) (omega arith);
       picks = subst (λ (v : List Gap). PicksSoFar g.L.Width.WORD c.args.hash c.args.key.now v (drop n (entries_of hs ps)) (entries_of hs ps) (g.S.Store.image c.args.store.now)) (sym none)
-          (picks_until hs ps 0 n refl (omega arith) c.requires.paired c.next_place-next.ensures.within c.next_place-next.ensures.none (picks_all g.L.Width.WORD c.args.hash c.args.key.now (entries_of hs ps) (g.S.Store.image c.args.store.now)));
+          (picks_until hs ps 0 n refl (omega arith) c.args.list.now.paired c.next_place-next.ensures.within c.next_place-next.ensures.none (picks_all g.L.Width.WORD c.args.hash c.args.key.now (entries_of hs ps) (g.S.Store.image c.args.store.now)));
       chains = chains_until (entries_of hs ps) 0 n (omega arith) (chains_all g.L.Width.WORD c.args.start (entries_of hs ps) c.args.end (g.S.Store.image c.args.store.now));
       images = new_same _;
       size = refl;
@@ -38,14 +44,15 @@ loop-next-init g c =
 pub loop-next-preserved : goal.loop-next-preserved
 loop-next-preserved g c =
     let w : ℕ = g.L.Width.WORD in
-    let hs : List ℕ = c.args.hashes.now in
-    let ps : List ℕ = c.args.places.now in
+    let hs : List ℕ = c.args.list.now.hashes.items in
+    let ps : List ℕ = c.args.list.now.places.items in
     let all : List WordPair = entries_of hs ps in
     let i : ℕ = c.loop-next.next in
-    let e : WordPair = record { first = get_or hs i 0; second = get_or ps i 0 } in
+    let lt : i < length hs = omega (arith, c.loop-next-test.true, list_long c.args.list.now) in
+    let e : WordPair = record { first = get_or hs i 0; second = get_or c.places.result.now i 0 } in
     let rest : List WordPair = drop (i + 1) all in
-    let same : drop i all ≡ e ∷ rest = entry_here hs ps i c.requires.paired (omega (arith, c.loop-next-test.true, c.requires.paired)) in
-    let hashed : e.first ≡ c.args.hash = c.loop-next.invariant.found c.loop-next-test.true in
+    let same : drop i all ≡ e ∷ rest = entry_at hs ps c.places.result.now i c.args.list.now.paired lt c.places.ensures in
+    let hashed : e.first ≡ c.args.hash = c.loop-next.invariant.found lt in
     let n : ℕ = c.next_place-next-in-loop-next.result in
     let v = c.loop-next.invariant in
     let old : List ℕ → Type 0 = g.S.Store.image c.loop-next.store in
@@ -81,7 +88,7 @@ loop-next-preserved g c =
       capacity = capacity;
       ordered = noted.ordered;
       apart = noted.apart;
-      picks = picks_until hs ps (i + 1) n refl c.next_place-next-in-loop-next.ensures.from c.requires.paired c.next_place-next-in-loop-next.ensures.within c.next_place-next-in-loop-next.ensures.none noted.picks;
+      picks = picks_until hs ps (i + 1) n refl c.next_place-next-in-loop-next.ensures.from c.args.list.now.paired c.next_place-next-in-loop-next.ensures.within c.next_place-next-in-loop-next.ensures.none noted.picks;
       chains = chains_until all (i + 1) n c.next_place-next-in-loop-next.ensures.from noted.chains;
       images = new_trans v.images c.look_at.ensures.images;
       size = omega (arith, c.look_at.ensures.size);
@@ -92,12 +99,13 @@ loop-next-preserved g c =
 
 pub returns-in_err-size-clause-foreign : goal.returns-in_err-size-clause-foreign
 returns-in_err-size-clause-foreign g c = λ h.
-    let hs : List ℕ = c.args.hashes.now in
-    let ps : List ℕ = c.args.places.now in
+    let hs : List ℕ = c.args.list.now.hashes.items in
+    let ps : List ℕ = c.args.list.now.places.items in
     let i : ℕ = c.loop-next.next in
-    let e : WordPair = record { first = get_or hs i 0; second = get_or ps i 0 } in
+    let lt : i < length hs = omega (arith, c.loop-next-test.true, list_long c.args.list.now) in
+    let e : WordPair = record { first = get_or hs i 0; second = get_or c.places.result.now i 0 } in
     let rest : List WordPair = drop (i + 1) (entries_of hs ps) in
-    let same : drop i (entries_of hs ps) ≡ e ∷ rest = entry_here hs ps i c.requires.paired (omega (arith, c.loop-next-test.true, c.requires.paired)) in
+    let same : drop i (entries_of hs ps) ≡ e ∷ rest = entry_at hs ps c.places.result.now i c.args.list.now.paired lt c.places.ensures in
     let was : c.in_err-size.field-0.0 ≡ Foreign = search (rules, h, c.from_residual.ensures) in
     let looks : LooksAt g.L.Width.WORD e.second c.args.end c.args.key.now (Err Foreign) (g.S.Store.image c.look_at.new.store) =
     subst (λ (o : LookFault). LooksAt g.L.Width.WORD e.second c.args.end c.args.key.now (Err o) (g.S.Store.image c.look_at.new.store)) was c.in_err-size.ensures.looks in
@@ -105,17 +113,21 @@ returns-in_err-size-clause-foreign g c = λ h.
 
 pub returns-then-place-last-clause-foreign : goal.returns-then-place-last-clause-foreign
 returns-then-place-last-clause-foreign g c = λ h.
-    let hs : List ℕ = c.args.hashes.now in
-    let ps : List ℕ = c.args.places.now in
+    let hs : List ℕ = c.args.list.now.hashes.items in
+    let ps : List ℕ = c.args.list.now.places.items in
     let i : ℕ = c.loop-next.next in
-    let e : WordPair = record { first = get_or hs i 0; second = get_or ps i 0 } in
+    let lt : i < length hs = omega (arith, c.loop-next-test.true, list_long c.args.list.now) in
+    let e : WordPair = record { first = get_or hs i 0; second = get_or c.places.result.now i 0 } in
     let rest : List WordPair = drop (i + 1) (entries_of hs ps) in
-    let same : drop i (entries_of hs ps) ≡ e ∷ rest = entry_here hs ps i c.requires.paired (omega (arith, c.loop-next-test.true, c.requires.paired)) in
+    let same : drop i (entries_of hs ps) ≡ e ∷ rest = entry_at hs ps c.places.result.now i c.args.list.now.paired lt c.places.ensures in
     chains_back e rest same c.loop-next.invariant.chains c.look_at.ensures.images c.if-place-last.true
 
 pub returns-clause-picks : goal.returns-clause-picks
 returns-clause-picks g c =
-    picks_done (entries_over (entries_of c.args.hashes.now c.args.places.now) c.loop-next.next (omega (arith, length-entries_of c.args.hashes.now c.args.places.now c.requires.paired, c.loop-next-test.false))) c.loop-next.invariant.picks
+    picks_done (entries_over (entries_of c.args.list.now.hashes.items c.args.list.now.places.items) c.loop-next.next (omega (arith, c.loop-next-test.false))) c.loop-next.invariant.picks
 
 pub returns-clause-apart : goal.returns-clause-apart
 returns-clause-apart g c = apart_higher c.args.start c.loop-next.last c.args.end c.loop-next.gaps.items c.loop-next.invariant.ordered c.loop-next.invariant.apart
+
+pub returns-clause-few : goal.returns-clause-few
+returns-clause-few g c = omega (arith, c.loop-next.invariant.few, c.loop-next.invariant.within, list_long c.args.list.now, c.loop-next.gaps.ok.0)

@@ -8,14 +8,14 @@ use Rattle.cdb_make.proofs.finding.find_gaps.Given as goal
 
 abbrev pub invariant-loop-next : goal.invariant-loop-next
 invariant-loop-next g l = record {
-  within : l.next ≤ length l.hashes;
-  found : l.next < length l.hashes → slice_index l.hashes l.next ≡ l.hash;
+  within : l.next ≤ length l.list.hashes.items;
+  found : l.next < length l.list.hashes.items → slice_index l.list.hashes.items l.next ≡ l.hash;
   few : vec_len l.gaps ≤ l.next;
   capacity : vec_capacity l.gaps ≡ vec_capacity l.fn.gaps;
   ordered : l.last ≤ l.end;
   apart : AreApart l.start l.gaps.items l.last;
-  picks : PicksSoFar g.L.Width.WORD l.hash l.key l.gaps.items (drop l.next (entries_of l.hashes l.places)) (entries_of l.hashes l.places) (g.S.Store.image l.store);
-  chains : ChainsOn g.L.Width.WORD l.start l.last (drop l.next (entries_of l.hashes l.places)) (entries_of l.hashes l.places) l.end (g.S.Store.image l.store);
+  picks : PicksSoFar g.L.Width.WORD l.hash l.key l.gaps.items (drop l.next (entries_of l.list.hashes.items l.list.places.items)) (entries_of l.list.hashes.items l.list.places.items) (g.S.Store.image l.store);
+  chains : ChainsOn g.L.Width.WORD l.start l.last (drop l.next (entries_of l.list.hashes.items l.list.places.items)) (entries_of l.list.hashes.items l.list.places.items) l.end (g.S.Store.image l.store);
   images : NoNewImage (g.S.Store.image l.fn.store) (g.S.Store.image l.store);
   size : g.S.Store.size l.store ≡ g.S.Store.size l.fn.store;
   written : g.S.Store.written l.store ≡ g.S.Store.written l.fn.store;
@@ -24,4 +24,4 @@ invariant-loop-next g l = record {
 }
 
 abbrev pub decreases-loop-next : goal.decreases-loop-next
-decreases-loop-next g l = length l.hashes - l.next
+decreases-loop-next g l = length l.list.hashes.items - l.next

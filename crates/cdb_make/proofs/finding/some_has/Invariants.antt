@@ -7,10 +7,10 @@ use Rattle.cdb_make.proofs.finding.some_has.Given as goal
 
 abbrev pub invariant-loop-next : goal.invariant-loop-next
 invariant-loop-next g l = record {
-  within : l.next ≤ length l.hashes;
-  found : l.next < length l.hashes → slice_index l.hashes l.next ≡ l.hash;
-  picks : PicksSoFar g.L.Width.WORD l.hash l.key [] (drop l.next (entries_of l.hashes l.places)) (entries_of l.hashes l.places) (g.S.Store.image l.store);
-  chains : (start : ℕ) → ChainsOn g.L.Width.WORD start 0 (drop l.next (entries_of l.hashes l.places)) (entries_of l.hashes l.places) l.end (g.S.Store.image l.store);
+  within : l.next ≤ length l.list.hashes.items;
+  found : l.next < length l.list.hashes.items → slice_index l.list.hashes.items l.next ≡ l.hash;
+  picks : PicksSoFar g.L.Width.WORD l.hash l.key [] (drop l.next (entries_of l.list.hashes.items l.list.places.items)) (entries_of l.list.hashes.items l.list.places.items) (g.S.Store.image l.store);
+  chains : (start : ℕ) → ChainsOn g.L.Width.WORD start 0 (drop l.next (entries_of l.list.hashes.items l.list.places.items)) (entries_of l.list.hashes.items l.list.places.items) l.end (g.S.Store.image l.store);
   images : NoNewImage (g.S.Store.image l.fn.store) (g.S.Store.image l.store);
   size : g.S.Store.size l.store ≡ g.S.Store.size l.fn.store;
   written : g.S.Store.written l.store ≡ g.S.Store.written l.fn.store;
@@ -19,4 +19,4 @@ invariant-loop-next g l = record {
 }
 
 abbrev pub decreases-loop-next : goal.decreases-loop-next
-decreases-loop-next g l = length l.hashes - l.next
+decreases-loop-next g l = length l.list.hashes.items - l.next

@@ -7,6 +7,7 @@ use Rattle.cdb_make.specs.declared.gap.Gap.{Gap}
 use Rattle.cdb_make.specs.Gaps.{IsRising, closed_by, first_place}
 use Rattle.cdb_make.specs.Views.EntryList.{entries_of}
 use Rattle.cdb_make.proofs.Apart.{next_gap, last_gap, apart_next, NextApart}
+use Rattle.cdb_make.proofs.Nowhere.{tag_kept}
 use Rattle.cdb_make.proofs.Merge.{FarFrom, apart_lower, keep_step, pass_step, rising_next, set_drop, sofar_kept, closed_front, rising_drop, not_falling}
 use Rattle.cdb_make.proofs.Places.{closed_here}
 use Rattle.cdb_make.proofs.Sides.{entry_here, entries_of-set, length-entries_of}
@@ -25,6 +26,7 @@ loop-entry-init c =
       behind = omega arith;
       within = c.below-kept.ensures.within;
       gap_within = omega arith;
+      tagged = c.requires.tagged;
       paired = c.requires.paired;
       apart = c.requires.apart;
       rising = λ r. rising_drop k es r;
@@ -57,6 +59,7 @@ loop-entry-preserved-then-gaps-next c =
       behind = c.loop-entry.invariant.behind;
       within = c.loop-entry.invariant.within;
       gap_within = omega arith;
+      tagged = c.loop-entry.invariant.tagged;
       paired = c.loop-entry.invariant.paired;
       apart = apart_lower (c.loop-entry.gone + gap.size) (gap.place + gap.size) rest (2 ^ 63) (omega (arith, n.order)) n.rest_apart;
       rising = c.loop-entry.invariant.rising;
@@ -86,6 +89,7 @@ loop-entry-preserved-then-gaps-next-2 c =
       behind = omega (arith, c.loop-entry.invariant.behind);
       within = omega arith;
       gap_within = c.loop-entry.invariant.gap_within;
+      tagged = c.loop-entry.invariant.tagged;
       paired = c.loop-entry.invariant.paired;
       apart = c.loop-entry.invariant.apart;
       rising = λ r. rising_next (drop i es) x (drop (i + 1) es) d (c.loop-entry.invariant.rising r);
@@ -131,6 +135,7 @@ loop-entry-preserved c =
       behind = omega (arith, c.loop-entry.invariant.behind);
       within = omega (arith, length-set {A = ℕ});
       gap_within = c.loop-entry.invariant.gap_within;
+      tagged = tag_kept i n c.loop-entry.tags hs c.loop-entry.invariant.tagged;
       paired = length-set hs n x.first ∙ c.loop-entry.invariant.paired ∙ sym (length-set ps n c.saturating_sub.result);
       apart = c.loop-entry.invariant.apart;
       rising = λ r.

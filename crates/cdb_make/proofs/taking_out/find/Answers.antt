@@ -2,9 +2,8 @@ use Rattle.std.proofs.Common.{arith, sym, ap, ◌<◌, ◌∙◌, ◌≡◌, ℕ
 use Rattle.std.proofs.lemmas.List.{get_or-map}
 use Rattle.std.proofs.lemmas.Result.{on_ok_weaker}
 use Rattle.cdb_form.specs.Format.Hash.{table_number}
-use Rattle.cdb_make.specs.Views.EntryList.{entries_of, list_entries, lists_entries}
+use Rattle.cdb_make.specs.Views.EntryList.{list_entries, lists_entries}
 use Rattle.cdb_make.specs.declared.list.EntryList.{EntryList}
-use Rattle.cdb_make.proofs.Sides.{length-entries_of}
 use Rattle.cdb_make.proofs.Whole.{gaps_found, count_found, none_stands, stands_fewer}
 use Rattle.cdb_make.proofs.taking_out.find.Goals as goal
 
@@ -17,8 +16,7 @@ find_gaps-requires-clause-room g c =
     let here : length (list_entries d) ≡ length (get_or (lists_entries ls) n []) =
     ap (λ v. length (list_entries v)) (c.index-lists-table_number.is ∙ ap (λ (k : ℕ). get_or ls k d) (c.table_number.ensures.number ∙ ap table_number c.from.ensures))
     ∙ ap length (sym (get_or-map list_entries ls n d [] lt)) in
-    let same : length c.hashes.result.now ≡ length d.hashes.items = ap length c.hashes.ensures in
-    omega (arith, length-entries_of d.hashes.items d.places.items d.paired, c.requires.room)
+    omega (arith, c.requires.room)
 
 pub returns-clause-few : goal.returns-clause-few
 returns-clause-few g c =
@@ -29,17 +27,13 @@ returns-clause-few g c =
     let here : length (list_entries d) ≡ length (get_or (lists_entries ls) n []) =
     ap (λ v. length (list_entries v)) (c.index-lists-table_number.is ∙ ap (λ (k : ℕ). get_or ls k d) (c.table_number.ensures.number ∙ ap table_number c.from.ensures))
     ∙ ap length (sym (get_or-map list_entries ls n d [] lt)) in
-    let same : length c.hashes.result.now ≡ length d.hashes.items = ap length c.hashes.ensures in
-    let long = length-entries_of d.hashes.items d.places.items d.paired in
-    on_ok_weaker c.find_gaps.result (λ few. omega (arith, long)) c.find_gaps.ensures.few
+    on_ok_weaker c.find_gaps.result (λ few. omega arith) c.find_gaps.ensures.few
 
 pub returns-clause-gaps : goal.returns-clause-gaps
 returns-clause-gaps g c = λ rs stands.
     let d = c.index-lists-table_number.result in
-    let here : entries_of c.hashes.result.now c.places.result.now ≡ list_entries (get_or c.args.lists.now (table_number c.args.hash) d) =
-    ap (λ v. entries_of v c.places.result.now) c.hashes.ensures
-    ∙ ap (entries_of d.hashes.items) c.places.ensures
-    ∙ ap list_entries c.index-lists-table_number.is
+    let here : list_entries d ≡ list_entries (get_or c.args.lists.now (table_number c.args.hash) d) =
+    ap list_entries c.index-lists-table_number.is
     ∙ ap (λ (n : ℕ). list_entries (get_or c.args.lists.now n d)) (c.table_number.ensures.number ∙ ap table_number c.from.ensures) in
     on_ok_weaker c.find_gaps.result
     (λ picks. gaps_found g.L.Width.TOP c.args.end c.args.lists.now d rs g.met.L.Width.top_is (omega (arith, c.requires.fits, g.met.L.Width.greatest_fits.0)) c.requires.all c.requires.hash here c.find_gaps.ensures.images stands picks)
@@ -51,10 +45,8 @@ returns-clause-count g c = λ rs stands. on_ok_weaker c.find_gaps.result (λ fou
 pub returns-clause-foreign : goal.returns-clause-foreign
 returns-clause-foreign g c = λ err rs stands.
     let d = c.index-lists-table_number.result in
-    let here : entries_of c.hashes.result.now c.places.result.now ≡ list_entries (get_or c.args.lists.now (table_number c.args.hash) d) =
-    ap (λ v. entries_of v c.places.result.now) c.hashes.ensures
-    ∙ ap (entries_of d.hashes.items) c.places.ensures
-    ∙ ap list_entries c.index-lists-table_number.is
+    let here : list_entries d ≡ list_entries (get_or c.args.lists.now (table_number c.args.hash) d) =
+    ap list_entries c.index-lists-table_number.is
     ∙ ap (λ (n : ℕ). list_entries (get_or c.args.lists.now n d)) (c.table_number.ensures.number ∙ ap table_number c.from.ensures) in
     none_stands c.args.hash g.L.Width.TOP c.args.end c.args.lists.now d rs g.met.L.Width.top_is (omega (arith, c.requires.fits, g.met.L.Width.greatest_fits.0)) c.requires.all (omega (arith, c.head_size-start.ensures)) here c.find_gaps.ensures.images stands (c.find_gaps.ensures.foreign err)
 

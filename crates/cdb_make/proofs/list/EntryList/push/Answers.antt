@@ -1,5 +1,6 @@
 use Rattle.std.proofs.Common.{ℕ, List, [], ◌∷◌, ◌++◌, ap, ◌∙◌, arith}
 use Rattle.cdb_make.specs.Views.EntryList.{entries_of}
+use Rattle.cdb_make.proofs.Nowhere.{tags_long}
 use Rattle.cdb_make.proofs.Sides.{length-entries_of, entries_of-push}
 use Rattle.cdb_make.proofs.list.EntryList.push.Goals as goal
 
@@ -12,6 +13,11 @@ pub push_reserved-requires-2 : goal.push_reserved-requires-2
 push_reserved-requires-2 c =
     let s = c.args.self.now in
     omega (arith, length-entries_of s.hashes.items s.places.items s.paired, s.places.ok.0, s.paired, c.requires)
+
+pub push_reserved-requires-3 : goal.push_reserved-requires-3
+push_reserved-requires-3 c =
+    let s = c.args.self.now in
+    omega (arith, length-entries_of s.hashes.items s.places.items s.paired, s.tags.ok.0, tags_long s.tags.items s.hashes.items s.tagged, c.requires)
 
 pub returns-clause-entries : goal.returns-clause-entries
 returns-clause-entries c =
