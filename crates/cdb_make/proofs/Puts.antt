@@ -145,7 +145,11 @@ fails_added old mid new mode r answer NoMemory stays limit later comes just fail
   λ rs h replaces. honest_comes comes (record { each = λ a is there. absurd (((just rs h).each a is).absent replaces there) }),
 )
 fails_added {s = s} old mid new mode r answer Writing stays limit later comes just fails =
-    inl (stays_then old mid new stays.stays fails.0, (let k : s.failures mid.store < s.failures new.store = fails.1 in omega arith))
+    inl (
+      stays_then old mid new stays.stays fails.0,
+      (let k : s.failures mid.store < s.failures new.store = fails.1 in omega arith),
+      λ rs h. honest_comes comes (record { each = λ a is. ((just rs h).each a is).list }),
+    )
 
 -- each mode where it only adds
 pub just_add : {w : ℕ} (images : List ℕ → Type 0) (rs : List KeyValue) (r : KeyValue) → WhereHonest images (JustAdds w Add r rs Added)

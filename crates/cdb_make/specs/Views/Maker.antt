@@ -197,6 +197,12 @@ WantsRoom {s = s} {l = l} old new mode r = (rs : List KeyValue) → Holds old rs
     → WhereHonest (s.image new.store) (is_there r.key rs ≡ true
     → s.room old.store < records_end l.WORD (put_list mode r rs))
 
+-- the put was to add its record behind the others, and to take none out
+abbrev pub OnlyAdds : {S L : Type 0} {s : Ghosts S} {l : Widths L} → Maker S L s l → Maker S L s l
+    → Mode → KeyValue → Type 0
+OnlyAdds {s = s} old new mode r = (rs : List KeyValue) → Holds old rs
+    → WhereHonest (s.image new.store) (put_list mode r rs ≡ rs ++ r ∷ [])
+
 -- what a put that failed leaves
 abbrev pub FailsPutting : {S L : Type 0} {s : Ghosts S} {l : Widths L} → Maker S L s l
     → Maker S L s l → Mode → KeyValue → MakeFault → Type 0
@@ -205,7 +211,8 @@ FailsPutting old new mode r Lookup =
     WritesNothing old new × HasStoreFailed old new × (mode ≢ Add)
 FailsPutting old new mode r TooBig = WritesNothing old new × IsTooBig old new mode r
 FailsPutting old new mode r NoMemory = WritesNothing old new × WantsRoom old new mode r
-FailsPutting old new mode r Writing = (StaysWhole old new × HasStoreFailed old new)
+FailsPutting old new mode r Writing =
+    (StaysWhole old new × HasStoreFailed old new × OnlyAdds old new mode r)
     ⊎ (IsTorn old new r.key × (mode ≡ Replace))
 
 -- every image is the file of these records
