@@ -19,12 +19,12 @@ use Rattle.cdb_make.specs.declared.fault.MakeFault.TheVariants.{Broken, Lookup, 
 use Rattle.cdb_make.specs.declared.gap.Gap.{Gap}
 use Rattle.cdb_make.specs.declared.list.EntryList.{EntryList}
 use Rattle.cdb_make.specs.declared.maker.Maker.{Maker}
-use Rattle.cdb_make.specs.Stands.{Tells, Stands, AreGapsOf, WritesSurvivors}
+use Rattle.cdb_make.specs.Stands.{Tells, Stands, WritesSurvivors}
 use Rattle.cdb_make.specs.Survivors.{has_key, count_of, without}
 use Rattle.cdb_make.specs.Views.Adding.{AddFails}
 use Rattle.cdb_make.specs.Views.EntryList.{list_entries, lists_entries, list_room, entry_count, entry_room, AreClosed, HasSpareGaps}
-use Rattle.cdb_make.specs.Views.Maker.{Holds, HoldsIn, ComesFrom, Exchanges}
-use Rattle.cdb_make.proofs.Puts.{comes_then}
+use Rattle.cdb_make.specs.Views.Maker.{Holds, HoldsIn, WhereHonest, ComesFrom, put_bytes}
+use Rattle.cdb_make.specs.declared.mode.Mode.TheVariants.{Replace}
 use Rattle.cdb_make.proofs.Nowhere.{tags_long}
 use Rattle.cdb_make.proofs.Sides.{length-entries_of}
 
@@ -94,28 +94,27 @@ room_left {w = w} {h = h} {room = room} k {ls = ls} {ls₁ = ls₁} {rs = rs} a 
     elim full [ inl f ↦ omega (arith, one.room) | inr f ↦ omega arith ]
 
 -- the record stands behind those of other keys
-pub exchanged : {S L : Type 0} {s : Ghosts S} {l : Widths L} (old new : Maker S L s l) (r : KeyValue) (between : List ℕ → Type 0) (written : ℕ) → IsRecord r → new.broken ≡ false
-    → ((rs : List KeyValue) → Holds old rs → AreGapsOf l.WORD r.key old.gaps.items rs (s.image old.store) → Stands l.WORD new.end (lists_entries new.lists.items) (without r.key rs ++ r ∷ []) (s.image new.store))
-    → ((rs : List KeyValue) → Holds old rs → AreGapsOf l.WORD r.key old.gaps.items rs (s.image old.store) → WritesSurvivors l.WORD r.key rs between (s.written old.store) written)
-    → s.written new.store ≡ written + record_size l.WORD r → ComesFrom (s.image old.store) between → ComesFrom between (s.image new.store) → Exchanges old new r
-exchanged {s = s} {l = l} old new r between written is_record whole stands writes more comes₀ comes₁ = record {
+pub exchanged_holds : {S L : Type 0} {s : Ghosts S} {l : Widths L} (old new : Maker S L s l) (r : KeyValue) (rs : List KeyValue) → IsRecord r → new.broken ≡ false → Holds old rs
+    → Stands l.WORD new.end (lists_entries new.lists.items) (without r.key rs ++ r ∷ []) (s.image new.store) → ComesFrom (s.image old.store) (s.image new.store) → Holds new (without r.key rs ++ r ∷ [])
+exchanged_holds old new r rs is_record whole h stands comes = record {
   whole = whole;
-  holds = λ rs h found. record {
-    whole = whole;
-    each = λ b is.
-        let a = (comes_then comes₀ comes₁).each b is in
-        let o : HoldsIn old rs a.0 = h.each a.0 a.1 in
-        record {
-          are = All-append IsRecord (without r.key rs) (r ∷ []) (All-filter (λ v. not (has_key r.key v)) IsRecord rs o.are) (All-cons IsRecord r [] is_record (All-nil IsRecord));
-          stand = (stands rs h found).each b is;
-        };
-  };
-  written = λ rs h found. record {
-    each = λ b is.
-        let a = comes₁.each b is in
-        let k = (writes rs h found).each a.0 a.1 in
-        omega arith;
-  };
+  each = λ b is.
+      let a = comes.each b is in
+      let o : HoldsIn old rs a.0 = h.each a.0 a.1 in
+      record {
+        are = All-append IsRecord (without r.key rs) (r ∷ []) (All-filter (λ v. not (has_key r.key v)) IsRecord rs o.are) (All-cons IsRecord r [] is_record (All-nil IsRecord));
+        stand = stands.each b is;
+      };
+}
+
+-- and its bytes are written behind theirs
+pub exchanged_written : (w was written now : ℕ) (r : KeyValue) (rs : List KeyValue) {between new : List ℕ → Type 0} → WritesSurvivors w r.key rs between was written → now ≡ written + record_size w r → ComesFrom between new
+    → WhereHonest new (now ≡ was + put_bytes w Replace r rs)
+exchanged_written w was written now r rs writes more comes = record {
+  each = λ b is.
+      let a = comes.each b is in
+      let k = writes.each a.0 a.1 in
+      omega arith;
 }
 
 abbrev IsWriting : MakeFault → Type 0

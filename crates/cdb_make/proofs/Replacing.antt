@@ -144,6 +144,10 @@ fewer_bytes w taken count (inr e) le =
     let b : 4 * w * count ≡ 32 * count = ap (λ (v : ℕ). 4 * v * count) e in
     omega arith
 
+-- and so their file is within the limit
+pub fewer_within : (w few count last end limit : ℕ) → (w ≡ 4) ⊎ (w ≡ 8) → few ≤ count → last ≤ end → end + 4 * w * count ≤ limit → last + 4 * w * few ≤ limit
+fewer_within w few count last end limit wide le shorter within = omega (arith, fewer_bytes w few count wide le)
+
 -- a store that makes no room wants memory
 pub wants_memory : (e : StoreFault) → (IsErrOf {T = Unit {0}} (Err e) Device → ⊥) → fault_of e ≡ NoMemory
 wants_memory Device other = absurd (other refl)

@@ -1,5 +1,5 @@
-//! Makes constant databases: a `Maker` puts records into a store and takes them out again, in place,
-//! and finishes their file.
+//! Makes constant databases: a `Maker` puts records into a store and takes them out again, in
+//! place, and finishes their file.
 #![tactic(auto)]
 
 mod adding;

@@ -8,8 +8,8 @@ use cdb_store::{Store, StoreFault};
 /// How many bytes are moved at once.
 const PIECE: usize = 4096;
 
-/// Copies `len` bytes from the position `from` to the lower position `to`, in pieces of 4096 bytes from
-/// the front on. The two ranges may overlap.
+/// Copies `len` bytes from the position `from` to the lower position `to`, in pieces of 4096 bytes
+/// from the front on. The two ranges may overlap.
 ///
 /// The bytes lie inside the store, whose length stays, and no memory is taken. `Device`: a piece
 /// couldn't be read or written, and the bytes outside of the `len` from `to` on stay.

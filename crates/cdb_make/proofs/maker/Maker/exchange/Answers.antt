@@ -2,7 +2,7 @@ use Rattle.std.proofs.Common.{arith, refl, ap, ◌<◌, ℕ, vec_capacity, inl, 
 use Rattle.std.proofs.lemmas.Result.{err_from_is_err_and}
 use Rattle.cdb_form.specs.Format.Record.{KeyValue}
 use Rattle.cdb_make.specs.Survivors.{without, count_of}
-use Rattle.cdb_make.proofs.Exchanged.{exchanged, room_left, add_wants, room_same}
+use Rattle.cdb_make.proofs.Exchanged.{exchanged_holds, exchanged_written, room_left, add_wants, room_same}
 use Rattle.cdb_make.proofs.Makers.{comes_torn}
 use Rattle.cdb_make.proofs.Puts.{comes_then}
 use Rattle.cdb_make.proofs.Whole.{count_found}
@@ -16,11 +16,14 @@ returns-in_err-last-clause-fails g c =
 pub returns-in-Ok-clause-ok : goal.returns-in-Ok-clause-ok
 returns-in-Ok-clause-ok g c =
     let e = c.in_ok-last.ensures in
-    exchanged {s = g.S.Store} {l = g.L.Width} _ _ (record { key = c.args.key.now; value = c.args.value.now }) (g.S.Store.image c.take_out.new.self.store) _
-    (record { key = λ k. omega (arith, c.type_inv.key k); value = λ k. omega (arith, c.type_inv.value k) }) refl
-    (λ rs h found. c.in-Ok.ensures.stands (without c.args.key.now rs) (e.stands rs c.args.key.now h found))
-    (λ rs h found. e.written rs c.args.key.now h found)
-    c.in-Ok.ensures.written (comes_torn c.take_out.ensures.torn) c.add.ensures.comes
+    let r : KeyValue = record { key = c.args.key.now; value = c.args.value.now } in
+    record {
+      whole = refl;
+      holds = λ rs h found.
+          exchanged_holds {s = g.S.Store} {l = g.L.Width} c.args.self.now _ r rs (record { key = λ k. omega (arith, c.type_inv.key k); value = λ k. omega (arith, c.type_inv.value k) }) refl h
+          (c.in-Ok.ensures.stands (without c.args.key.now rs) (e.stands rs c.args.key.now h found)) (comes_then (comes_torn c.take_out.ensures.torn) c.add.ensures.comes);
+      written = λ rs h found. exchanged_written g.L.Width.WORD _ _ _ r rs (e.written rs c.args.key.now h found) c.in-Ok.ensures.written c.add.ensures.comes;
+    }
 
 pub returns-in-Ok-clause-comes : goal.returns-in-Ok-clause-comes
 returns-in-Ok-clause-comes g c = comes_then (comes_torn c.take_out.ensures.torn) c.add.ensures.comes

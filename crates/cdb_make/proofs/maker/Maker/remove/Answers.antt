@@ -1,6 +1,7 @@
 use Rattle.std.proofs.Common.{arith, refl, ◌<◌, length}
 use Rattle.std.proofs.lemmas.Result.{err_from_is_err_and}
 use Rattle.cdb_make.proofs.Makers.{removes_none, removes_some, fails_removing, comes_torn}
+use Rattle.cdb_make.proofs.Replacing.{fewer_within}
 use Rattle.cdb_make.proofs.maker.Maker.remove.Goals as goal
 
 pub returns-in_err-self-clause-fails : goal.returns-in_err-self-clause-fails
@@ -19,3 +20,18 @@ pub returns-else-taken-gt0-clause-removes : goal.returns-else-taken-gt0-clause-r
 returns-else-taken-gt0-clause-removes g c =
     let e = c.in_ok-taken.ensures in
     removes_none {s = g.S.Store} {l = g.L.Width} _ _ _ _ e.ok e.count (omega (arith, c.if-taken-gt0.false)) e.gaps
+
+pub invariant_of-self : goal.invariant_of-self
+invariant_of-self g c =
+    let m = c.take_out.new.self in
+    let e = c.in_ok-self.ensures in
+    record {
+      all = m.all;
+      start = e.start;
+      inside = omega (arith, m.inside, e.end, e.counts.end);
+      within = fewer_within g.L.Width.WORD _ m.count _ m.end m.limit g.met.L.Width.four_or_eight (omega arith) (omega (arith, e.end, e.counts.end)) m.within;
+      limited = m.limited;
+      counted = λ whole. omega (arith, e.left, e.counts.count, c.in_ok-taken.ensures.count);
+      placed = m.placed;
+      spare = m.spare;
+    }
