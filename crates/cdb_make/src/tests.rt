@@ -1,4 +1,5 @@
 //! Each function once on a store in memory.
+mod again;
 mod drawn;
 mod faults;
 mod maker;

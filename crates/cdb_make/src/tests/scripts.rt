@@ -168,7 +168,7 @@ fn expect(earlier: &[Call], stands: &mut [bool], call: &Call) -> (Answer, bool) 
 }
 
 /// What a script should come to.
-pub(super) fn expected<L: Width>(alloc: Global, calls: &[Call]) -> Result<Wanted, Fail> {
+pub(super) fn expected<L: Width>(alloc: Global, calls: &[Call]) -> Result<Wanted, MakeFault> {
     let (mut answers, mut stands) = (Vec::new(alloc), Vec::new(alloc));
     for call in calls {
         let (answer, stays) = expect(calls, &mut stands, call);
@@ -185,10 +185,15 @@ pub(super) fn expected<L: Width>(alloc: Global, calls: &[Call]) -> Result<Wanted
 }
 
 /// The file of the records that stand, made by adding them.
-fn from_scratch<L: Width>(alloc: Global, calls: &[Call], stands: &[bool]) -> Result<Vec<u8>, Fail> {
+fn from_scratch<L: Width>(
+    alloc: Global,
+    calls: &[Call],
+    stands: &[bool],
+) -> Result<Vec<u8>, MakeFault> {
     let store = MemStore::new(alloc);
-    let Ok(mut maker) = Maker::<MemStore, L>::new(alloc, store, L::GREATEST) else {
-        return Err(Fail::new("no maker was made"));
+    let mut maker = match Maker::<MemStore, L>::new(alloc, store, L::GREATEST) {
+        Ok(maker) => maker,
+        Err(refused) => return Err(refused.fault),
     };
     for (call, mark) in calls.iter().zip(stands.iter()) {
         if *mark {
@@ -197,7 +202,7 @@ fn from_scratch<L: Width>(alloc: Global, calls: &[Call], stands: &[bool]) -> Res
     }
     match maker.finish() {
         Ok(store) => Ok(store.into_vec()),
-        Err(_) => Err(Fail::new("a file was not finished")),
+        Err(unfinished) => Err(unfinished.fault),
     }
 }
 
