@@ -2,6 +2,7 @@
 mod again;
 mod drawn;
 mod faults;
+mod files;
 mod maker;
 mod scarce;
 mod scripts;

@@ -1,0 +1,65 @@
+//! Databases made in files of the system. The files lie in the folder that each test runs in.
+use super::again::{Cause, Played, play};
+use super::scripts::{Call, Wanted, add, expected, long, replace};
+use cdb_form::Narrow;
+use cdb_store::{BufferedStore, FileStore, Store};
+use std::alloc::Global;
+use std::fs;
+use std::prelude::*;
+use std::test::Fail;
+
+/// Makes the calls of a script in a store, which nothing fails, and finishes the file.
+fn fill<S: Store + Drop>(
+    alloc: Global,
+    store: S,
+    script: &[Call],
+    wanted: &Wanted,
+) -> Result<S, Fail> {
+    let Played { store, met, broke } = play(alloc, store, Cause::Device, script, wanted)?;
+    if met || broke {
+        return Err(Fail::new("the file system failed"));
+    }
+    Ok(store)
+}
+
+/// Whether a script makes the wanted file in a file of that name, once plainly and once through a
+/// buffer, which is not emptied but by the finish.
+fn makes_file(rt: &HostRuntime, name: &str, script: &[Call]) -> Result<bool, Fail> {
+    let wanted = expected::<Narrow>(rt.alloc(), script)?;
+    let store = fill(rt.alloc(), FileStore::create(rt, name)?, script, &wanted)?;
+    let plain = fs::read(rt, name)? == wanted.file && store.len() == wanted.file.len() as u64;
+    let file = FileStore::create(rt, name)?;
+    let Ok(buffered) = BufferedStore::new(rt.alloc(), file, 4096) else {
+        return Err(Fail::new("no memory for a buffer"));
+    };
+    let store = fill(rt.alloc(), buffered, script, &wanted)?;
+    let through = fs::read(rt, name)? == wanted.file;
+    drop(store);
+    Ok(plain && through)
+}
+
+#[test]
+fn a_replaced_record_stands_last_in_a_file(rt: HostRuntime) -> Result<(), Fail> {
+    let script = [
+        add(b"a", b"1"),
+        add(b"one", b"Hello"),
+        add(b"two", b"Goodbye"),
+        replace(b"a", b"2"),
+    ];
+    assert!(rt; makes_file(&rt, "order.store", &script)?);
+    Ok(())
+}
+
+#[test]
+fn long_records_are_moved_whole_in_a_file(rt: HostRuntime) -> Result<(), Fail> {
+    let (ten, five) = (long(rt.alloc(), 10000)?, long(rt.alloc(), 5000)?);
+    let script = [
+        add(b"a", b"1"),
+        add(b"b", &ten),
+        add(b"a", b"2"),
+        add(b"c", &five),
+        replace(b"a", b"3"),
+    ];
+    assert!(rt; makes_file(&rt, "gaps.store", &script)?);
+    Ok(())
+}
