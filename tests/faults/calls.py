@@ -1,14 +1,18 @@
 #!/usr/bin/env python3
-"""Refuses each ask for memory of some tests in turn, and looks at what their calls answer.
+"""Refuses each ask for memory of some tests in turn, and counts the asks of others.
 
     tests/faults/calls.py LIBRARY
 
 The library is refuse.c, built to be loaded ahead of the C library. Each test of TESTS makes a call,
 asserts its answer, and prints what came: `Whole`, `NoMemory` where the call answered that and then,
-on fresh inputs, gave all, or `NoInputs` where there was no memory to make the call. It is run once
-with nothing refused, which counts its asks, and then once for each of them. A refusal is told as
-`NoMemory`, or was not needed (a vector asks ahead for room). Of a call to which no refusal came
-nothing is known, which fails.
+on fresh inputs or made again, gave all, or `NoInputs` where there was no memory to make the call.
+It is run once with nothing refused, which counts its asks, and then once for each of them. A
+refusal is told as `NoMemory`, or was not needed (a vector asks ahead for room). Of a call to which
+no refusal came nothing is known, which fails.
+
+The tests in a row of ALIKE make the same calls, each of them one more than the test before it. With
+nothing refused all make as many asks, since the last calls ask for no memory: not for any that they
+could do without either.
 """
 
 import os
@@ -21,10 +25,24 @@ from run import Program
 CRATES = os.path.join(os.path.dirname(os.path.abspath(__file__)), "..", "..", "crates")
 TESTS = {
     "cdb_form": ["a_map_reader_tells_refused_memory"],
+    "cdb_make": [
+        "adds_tell_refused_memory",
+        "a_replacement_tells_no_refused_memory",
+        "a_removal_and_a_look_tell_no_refused_memory",
+        "a_finish_tells_refused_memory",
+    ],
     "cdb_tool": [
         "a_list_tells_refused_memory",
         "a_list_of_a_map_tells_refused_memory",
         "a_load_tells_refused_memory",
+    ],
+}
+ALIKE = {
+    "cdb_make": [
+        ["asks_before_a_replacement", "asks_with_a_replacement"],
+        ["asks_before_a_removal", "asks_with_a_removal", "asks_with_a_removal_and_a_look"],
+        ["asks_before_a_longer_replacement", "asks_with_a_longer_replacement"],
+        ["asks_before_a_long_record", "asks_with_a_long_record"],
     ],
 }
 PASSED = b"test result: ok"
@@ -41,9 +59,14 @@ def came_of(left):
     return lines[0].decode()
 
 
+def words_of(test):
+    """The words by which a program of tests makes this one alone."""
+    return [f"tests::refusals::{test}"]
+
+
 def refuse_each(program, test):
     """For each refusal its number, and what came of it."""
-    words = [f"tests::refusals::{test}"]
+    words = words_of(test)
     free, asks = program.run(words, b"")
     if came_of(free) != "Whole":
         return [("nothing refused", f"{free!r:.300}")]
@@ -67,6 +90,25 @@ def tell(test, came):
     return count["NoMemory"] + count["Whole"], len(wrong) + (count["NoMemory"] == 0)
 
 
+def asks_of(program, test):
+    """How many asks a test makes with nothing refused, or what came of it that should not."""
+    left, asks = program.run(words_of(test), b"")
+    came = came_of(left)
+    return asks if came == "Whole" else came
+
+
+def compare(program, row):
+    """Says how many asks each test of a row makes, and how many of them passed and failed, beside
+    the one before them."""
+    asks = [asks_of(program, test) for test in row]
+    passed = 0
+    for number in range(1, len(row)):
+        before, now = asks[number - 1 : number + 1]
+        passed += isinstance(now, int) and now == before
+        print(f"{row[number]}: {now} asks, and {before} before its last call")
+    return passed, len(row) - 1 - passed
+
+
 def main():
     if len(sys.argv) != 2:
         sys.exit(__doc__)
@@ -78,9 +120,10 @@ def main():
         for crate, tests in TESTS.items():
             built = os.path.join(CRATES, crate, "out", f"{crate}_tests")
             program = Program(os.path.abspath(built), library, folder)
-            for test in tests:
-                good, bad = tell(test, refuse_each(program, test))
-                passed, failed = passed + good, failed + bad
+            counts = [tell(test, refuse_each(program, test)) for test in tests]
+            counts += [compare(program, row) for row in ALIKE.get(crate, [])]
+            passed += sum(good for good, _ in counts)
+            failed += sum(bad for _, bad in counts)
     print(f"{passed} passed, {failed} failed")
     sys.exit(1 if failed else 0)
 
