@@ -125,13 +125,12 @@ fn act_again<S: Store>(
     }
 }
 
-/// Whether each call on a broken maker but the finish answers `Broken`.
-fn is_refused_all<S: Store>(maker: &mut Maker<S, Narrow>) -> bool {
-    let broken = Err(MakeFault::Broken);
+/// Whether each call on a maker but the finish answers `Broken`.
+fn refuses_all<S: Store>(maker: &mut Maker<S, Narrow>) -> bool {
     let mut same = maker.remove(b"a") == Err(MakeFault::Broken);
     same = same && maker.exists(b"a") == Err(MakeFault::Broken);
     for mode in [Mode::Add, Mode::Warn, Mode::Insert, Mode::Replace] {
-        same = same && maker.put(mode, b"a", b"1") == broken;
+        same = same && maker.put(mode, b"a", b"1") == Err(MakeFault::Broken);
     }
     same
 }
@@ -140,7 +139,7 @@ fn is_refused_all<S: Store>(maker: &mut Maker<S, Narrow>) -> bool {
 fn stays_broken<S: Store + Drop>(maker: Maker<S, Narrow>) -> Result<S, Fail> {
     let mut maker = maker;
     let held = (maker.count(), maker.size());
-    let refused = is_refused_all(&mut maker);
+    let refused = refuses_all(&mut maker);
     let Err(unfinished) = maker.finish() else {
         return Err(Fail::new("a broken maker finished its file"));
     };
