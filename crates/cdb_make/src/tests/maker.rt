@@ -1,7 +1,7 @@
 //! Files that a maker makes in place, with their places and the bytes that each call writes.
 use super::scripts::{
-    ADDED, Answer, Call, Made, add, exists, expected, long, put, remove, replace, replaced, run,
-    words,
+    ADDED, Answer, Call, Made, act, add, exists, expected, long, put, remove, replace, replaced,
+    run, words,
 };
 use crate::{MakeFault, Maker, Mode, Put};
 use cdb_form::{Narrow, Wide};
@@ -181,30 +181,39 @@ fn long_records_are_moved_whole(rt: HostRuntime) -> Result<(), Fail> {
     Ok(())
 }
 
+/// A value of 40 bytes.
+const FORTY: &[u8] = b"0123456789012345678901234567890123456789";
+
+/// A value of 39 bytes.
+const LESS: &[u8] = b"012345678901234567890123456789012345678";
+
+/// Another value of 39 bytes.
+const OTHER: &[u8] = b"987654321098765432109876543210987654321";
+
 #[test]
 fn a_record_is_too_big_only_where_the_file_would_pass_the_limit(
     rt: HostRuntime,
 ) -> Result<(), Fail> {
-    let value = [b'x'; 40];
-    let other = [b'y'; 40];
     let store = MemStore::new(rt.alloc());
     let Ok(mut maker) = Maker::<MemStore, Narrow>::new(rt.alloc(), store, 2112) else {
         return Err(Fail::new("no maker was made"));
     };
-    assert_eq!(rt; maker.put(Mode::Add, b"a", &value), Err(MakeFault::TooBig));
-    assert_eq!(rt; maker.put(Mode::Add, b"a", &value[..39]), Ok(Put::Added));
-    assert_eq!(rt; maker.size(), 2112);
-    let replaced = maker.put(Mode::Replace, b"a", &other[..39]);
-    assert_eq!(rt; replaced, Ok(Put::Replaced(1)));
-    assert_eq!(rt;
-        maker.put(Mode::Replace, b"a", &value),
-        Err(MakeFault::TooBig)
-    );
-    assert_eq!(rt; maker.put(Mode::Add, b"", b""), Err(MakeFault::TooBig));
+    // What is put, what that answers, and how long the file then is.
+    let rows = [
+        (add(b"a", FORTY), Err(MakeFault::TooBig), 2048),
+        (add(b"a", LESS), Ok(ADDED), 2112),
+        (replace(b"a", OTHER), Ok(replaced(1)), 2112),
+        (replace(b"a", FORTY), Err(MakeFault::TooBig), 2112),
+        (add(b"", b""), Err(MakeFault::TooBig), 2112),
+    ];
+    for (row, (call, answer, size)) in rows.iter().enumerate() {
+        let given = act(&mut maker, call);
+        assert!(rt; given == *answer && maker.size() == *size, "row {row}");
+    }
     let Ok(store) = maker.finish() else {
         return Err(Fail::new("a file was not finished"));
     };
-    let wanted = expected::<Narrow>(rt.alloc(), &[add(b"a", &other[..39])])?;
+    let wanted = expected::<Narrow>(rt.alloc(), &[add(b"a", OTHER)])?;
     assert!(rt; store.bytes() == wanted.file.as_slice());
     Ok(())
 }

@@ -2,9 +2,10 @@
 ghost use Rattle.std.specs.Prelude.{◌≡◌, ◌≤◌};
 
 use super::scripts::{add, expected};
-use crate::{MakeFault, Maker, Mode, Put};
+use crate::{MakeFault, Maker, Mode};
 use cdb_form::{Narrow, Width};
 use cdb_store::{MemStore, Store, StoreFault};
+use std::alloc::Global;
 use std::prelude::*;
 use std::test::Fail;
 
@@ -82,38 +83,62 @@ impl<S: Store> Store for ScarceStore<S> {
     }
 }
 
-#[test]
-fn refused_memory_leaves_what_was_held(rt: HostRuntime) -> Result<(), Fail> {
-    let store = scarce(MemStore::new(rt.alloc()));
-    let made = Maker::<ScarceStore<MemStore>, Narrow>::new(rt.alloc(), store, Narrow::GREATEST);
-    let Ok(mut maker) = made else {
+/// A maker over such a store.
+type Held = Maker<ScarceStore<MemStore>, Narrow>;
+
+/// A maker of two records, to which memory is refused from then on.
+fn two_records(alloc: Global) -> Result<Held, Fail> {
+    let store = scarce(MemStore::new(alloc));
+    let Ok(mut maker) = Held::new(alloc, store, Narrow::GREATEST) else {
         return Err(Fail::new("no maker was made"));
     };
     maker.put(Mode::Add, b"one", b"Hello")?;
     maker.put(Mode::Add, b"two", b"Goodbye")?;
     maker.store.refuses = true;
-    let refused = maker.put(Mode::Add, b"a", b"1");
-    assert_eq!(rt; refused, Err(MakeFault::NoMemory));
-    let refused = maker.put(Mode::Replace, b"one", b"a longer value");
-    assert_eq!(rt; refused, Err(MakeFault::NoMemory));
+    Ok(maker)
+}
+
+/// Whether each of two puts that want memory is refused.
+fn refuses_puts(maker: &mut Held) -> bool {
+    let refused = Err(MakeFault::NoMemory);
+    maker.put(Mode::Add, b"a", b"1") == refused
+        && maker.put(Mode::Replace, b"one", b"a longer value") == refused
+}
+
+/// The maker, of which the finish was refused.
+fn refused_finish(maker: Held) -> Result<Held, Fail> {
     let Err(unfinished) = maker.finish() else {
         return Err(Fail::new("a file was finished without memory"));
     };
-    assert_eq!(rt; unfinished.fault, MakeFault::NoMemory);
-    let mut maker = unfinished.maker;
-    assert!(rt; !maker.is_broken() && maker.count() == 2);
+    if unfinished.fault != MakeFault::NoMemory {
+        return Err(Fail::new("another fault of the finish"));
+    }
+    Ok(unfinished.maker)
+}
+
+/// The file with a record more, once memory is given.
+fn with_one_more(mut maker: Held) -> Result<Vec<u8>, Fail> {
     maker.store.refuses = false;
-    assert_eq!(rt; maker.put(Mode::Add, b"a", b"1"), Ok(Put::Added));
-    let Ok(store) = maker.finish() else {
-        return Err(Fail::new("a file was not finished"));
-    };
+    maker.put(Mode::Add, b"a", b"1")?;
+    match maker.finish() {
+        Ok(store) => Ok(store.inner.into_vec()),
+        Err(_) => Err(Fail::new("a file was not finished")),
+    }
+}
+
+#[test]
+fn refused_memory_leaves_what_was_held(rt: HostRuntime) -> Result<(), Fail> {
+    let mut maker = two_records(rt.alloc())?;
+    assert!(rt; refuses_puts(&mut maker));
+    let maker = refused_finish(maker)?;
+    assert!(rt; !maker.is_broken() && maker.count() == 2);
+    let file = with_one_more(maker)?;
     let calls = [
         add(b"one", b"Hello"),
         add(b"two", b"Goodbye"),
         add(b"a", b"1"),
     ];
     let wanted = expected::<Narrow>(rt.alloc(), &calls)?;
-    assert_eq!(rt; wanted.file.len(), 2140);
-    assert!(rt; store.inner.bytes() == wanted.file.as_slice());
+    assert!(rt; file == wanted.file && file.len() == 2140);
     Ok(())
 }
