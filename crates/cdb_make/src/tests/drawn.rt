@@ -43,7 +43,7 @@ fn drawn_call(state: &mut u64) -> Call<'static> {
 #[test]
 fn drawn_calls_come_to_what_a_list_of_records_does(rt: HostRuntime) -> Result<(), Fail> {
     let mut state = 0x9e3779b97f4a7c15;
-    for script in 0..3000u32 {
+    for script in 0..20000u32 {
         let mut calls = Vec::new(rt.alloc());
         for _ in 0..draw(&mut state) % 16 {
             calls.push(drawn_call(&mut state))?;
