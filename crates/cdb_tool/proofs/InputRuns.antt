@@ -1,12 +1,13 @@
 -- A run over the records of one input.
-use Rattle.std.proofs.Common.{◌≡◌, ◌≢◌, ℕ, ◌+◌, inl, inr, List, [], ◌∷◌, ◌++◌, length, refl, sym, ap, subst, ◌∙◌, Option, IfSome, map, arith, length-append}
+use Rattle.std.proofs.Common.{◌≤◌, ◌≡◌, ◌≢◌, ℕ, ◌+◌, inl, inr, List, [], ◌∷◌, ◌++◌, length, refl, sym, ap, subst, ◌∙◌, Option, IfSome, map, arith, length-append}
 use Rattle.cdb_store.specs.declared.store.Store.{Ghosts}
 use Rattle.cdb_form.specs.declared.width.Width.{Ghosts as Widths}
 use Rattle.cdb_form.specs.Format.Record.{KeyValue}
 use Rattle.cdb_form.specs.declared.text.fault.TextFault.{TextFault}
 use Rattle.cdb_form.specs.declared.text.fault.TextFault.TheVariants as fault
-use Rattle.cdb_make.specs.Views.Maker.{WhereHonest}
+use Rattle.cdb_make.specs.Views.Maker.{WhereHonest, ComesFrom}
 use Rattle.cdb_make.specs.declared.maker.Maker.{Maker}
+use Rattle.cdb_make.proofs.Puts.{comes_then}
 use Rattle.cdb_tool.specs.Views.Fault.{text_fault}
 use Rattle.cdb_tool.specs.Views.InputReader.{style_of, Fails}
 use Rattle.cdb_tool.specs.Runs.Course.{Incoming, from_inputs, Goes, StopsSo}
@@ -116,18 +117,40 @@ inputs_taken remaining st g read inputs left rest r x e same are =
     subst (λ v. AreInputs st g read inputs (v ∷ map remaining rest)) (sym same) (subst (λ v. AreInputs st g read inputs (map remaining v)) e are)
 
 -- and its records were put: so many inputs were, and so many are left
-pub record PutSoFar {R : Type 0} (remaining : R → Option (List ℕ)) (st : Style) (g : ℕ) (inputs left : List R) (done : ℕ) (read : List (List KeyValue)) : Type 0 where
-  pub are : AreInputs st g read (map remaining inputs) (map remaining left)
+pub record PutSoFar {R S L : Type 0} {s : Ghosts S} {l : Widths L} (g : ℕ) (remaining : R → Option (List ℕ)) (o : MakeOptions) (inputs left : List R) (done : ℕ) (before now : Option (List ℕ)) (old new : Maker S L s l) : Type 0 where
+  pub read : List (List KeyValue)
+  pub are : AreInputs o.style g read (map remaining inputs) (map remaining left)
   pub number : done ≡ length read
   pub all : done + length left ≡ length inputs
+  pub course : (start : Option (List ℕ)) → InCourse o [] start before old → InCourse o (from_inputs 1 read) start now new
+  pub comes : ComesFrom (s.image old.store) (s.image new.store)
+  pub failures : s.failures old.store ≤ s.failures new.store
 
-pub put_none : {R : Type 0} (remaining : R → Option (List ℕ)) (st : Style) (g : ℕ) (inputs left : List R) → left ≡ inputs → PutSoFar remaining st g inputs left 0 []
-put_none remaining st g inputs left e = record { are = ap (map remaining) (sym e); number = refl; all = omega (arith, ap length e) }
+pub put_none : {R S L : Type 0} {s : Ghosts S} {l : Widths L} (g : ℕ) (remaining : R → Option (List ℕ)) (o : MakeOptions) (inputs left : List R) (now : Option (List ℕ)) (m : Maker S L s l) → left ≡ inputs → PutSoFar g remaining o inputs left 0 now now m m
+put_none g remaining o inputs left now m e = record {
+  read = [];
+  are = ap (map remaining) (sym e);
+  number = refl;
+  all = omega (arith, ap length e);
+  course = λ start h. h;
+  comes = record { each = λ b is. (b, is) };
+  failures = omega arith;
+}
 
-pub put_next : {R : Type 0} (remaining : R → Option (List ℕ)) (st : Style) (g : ℕ) (inputs left rest : List R) (number : ℕ) (read : List (List KeyValue)) (last : List KeyValue) (r : R) (x : Option (List ℕ)) → PutSoFar remaining st g inputs left number read
-    → left ≡ r ∷ rest → x ≡ remaining r → IfSome x (IsInput st g last) → PutSoFar remaining st g inputs rest (number + 1) (read ++ last ∷ [])
-put_next remaining st g inputs left rest number read last r x h e same is = record {
-  are = inputs_next st g read last x (map remaining inputs) (map remaining rest) (inputs_taken remaining st g read _ left rest r x e same h.are) is;
-  number = sym (length-append read (last ∷ []) ∙ ap (λ (n : ℕ). n + 1) (sym h.number));
+-- what the records of an input come to, whatever was put before
+abbrev pub PutsInput : {S L : Type 0} {s : Ghosts S} {l : Widths L} → ℕ → MakeOptions → ℕ → Option (List ℕ) → Option (List ℕ) → Option (List ℕ) → Maker S L s l → Maker S L s l → Type 0
+PutsInput g o number x before now old new = (last : List KeyValue) × IfSome x (IsInput o.style g last)
+    × ((read : List (List KeyValue)) (start : Option (List ℕ)) → number ≡ length read + 1 → InCourse o (from_inputs 1 read) start before old → InCourse o (from_inputs 1 (read ++ last ∷ [])) start now new)
+
+pub put_next : {R S L : Type 0} {s : Ghosts S} {l : Widths L} (g : ℕ) (remaining : R → Option (List ℕ)) (o : MakeOptions) (inputs left rest : List R) (done : ℕ) (before mid now : Option (List ℕ)) (old between new : Maker S L s l) (r : R) (x : Option (List ℕ))
+    → PutSoFar g remaining o inputs left done before mid old between → left ≡ r ∷ rest → x ≡ remaining r → PutsInput g o (done + 1) x mid now between new
+    → ComesFrom (s.image between.store) (s.image new.store) → s.failures between.store ≤ s.failures new.store → PutSoFar g remaining o inputs rest (done + 1) before now old new
+put_next g remaining o inputs left rest done before mid now old between new r x h e same one comes failures = record {
+  read = h.read ++ one.0 ∷ [];
+  are = inputs_next o.style g h.read one.0 x (map remaining inputs) (map remaining rest) (inputs_taken remaining o.style g h.read _ left rest r x e same h.are) one.1;
+  number = sym (length-append h.read (one.0 ∷ []) ∙ ap (λ (n : ℕ). n + 1) (sym h.number));
   all = omega (arith, h.all, ap length e);
+  course = λ start c. one.2 h.read start (ap (λ (n : ℕ). n + 1) h.number) (h.course start c);
+  comes = comes_then h.comes comes;
+  failures = omega (arith, h.failures, failures);
 }
