@@ -2,7 +2,7 @@
 ghost use Rattle.std.specs.Prelude.{◌≡◌};
 ghost use Rattle.cdb_read.specs.Views.ReadFault.{read_number, read_message};
 
-use cdb_form::Damage;
+use cdb_form::{Damage, OutFault};
 use cdb_store::StoreFault;
 use std::alloc::{AllocError, AllocFailed};
 use std::error::Error;
@@ -135,5 +135,15 @@ impl From<StoreFault> for ReadFault {
             StoreFault::Device => ReadFault::Device,
             StoreFault::NoMemory => ReadFault::NoMemory,
         }
+    }
+}
+
+impl From<OutFault> for ReadFault {
+    ghost use Rattle.cdb_read.specs.declared.fault.ReadFault.TheVariants.{Output};
+
+    ghost from_gives = { λ _ f. f ≡ Output };
+
+    fn from(_: OutFault) -> ReadFault {
+        ReadFault::Output
     }
 }

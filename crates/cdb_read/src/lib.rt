@@ -3,9 +3,12 @@
 
 mod fault;
 pub mod laws;
+mod pieces;
+mod reader;
 mod span;
 
 pub use fault::ReadFault;
+pub use reader::{Reader, Unread};
 pub use span::{Pair, Span};
 
 #[cfg(test)]

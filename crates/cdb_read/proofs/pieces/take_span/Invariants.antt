@@ -1,0 +1,15 @@
+use Rattle.std.proofs.Common.{◌-◌, ◌≡◌, ◌≤◌, length}
+use Rattle.cdb_read.specs.Views.Reads.{OnlyReads}
+use Rattle.cdb_read.proofs.PieceReads.{HasTaken}
+use Rattle.cdb_read.proofs.pieces.take_span.Given as goal
+
+abbrev pub invariant-loop-done : goal.invariant-loop-done
+invariant-loop-done g l = record {
+  within : l.done ≤ l.span.len;
+  piece : length l.piece ≡ length l.fn.piece;
+  reads : OnlyReads g.S.Store l.fn.store l.store;
+  taken : HasTaken l.span.place l.done l.taken.items (g.S.Store.image l.store);
+}
+
+abbrev pub decreases-loop-done : goal.decreases-loop-done
+decreases-loop-done g l = l.span.len - l.done

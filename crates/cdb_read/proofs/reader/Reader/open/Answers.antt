@@ -1,0 +1,15 @@
+use Rattle.std.proofs.Common.{ap, ◌∙◌, sym}
+use Rattle.std.proofs.lemmas.List.{take_at}
+use Rattle.cdb_form.specs.Format.Reading.{head_at}
+use Rattle.cdb_form.proofs.AreaLemmas.{head_fits}
+use Rattle.cdb_read.proofs.Heads.{head_known}
+use Rattle.cdb_read.proofs.reader.Reader.open.Goals as goal
+
+pub invariant_of-result-clause-known : goal.invariant_of-result-clause-known
+invariant_of-result-clause-known g c = λ b image.
+    let w = g.L.Width.WORD in
+    let f = c.head_size-size.ensures in
+    let bytes = c.read_part.new.into in
+    let long = c.read_part.auto.into ∙ head_fits w c.head_size-size.result f g.met.L.Width.four_or_eight in
+    let is = c.read_head-head.ensures.read ∙ ap (head_at w) (take_at bytes _ c.head_size-size.result (long ∙ sym f)) in
+    head_known w bytes _ _ _ b long c.in-Ok.ensures.read (sym is) image

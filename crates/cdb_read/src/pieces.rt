@@ -1,0 +1,86 @@
+// Bytes of a store, read piece by piece.
+ghost use Rattle.std.specs.Prelude.{◌≡◌, ℕ, ◌+◌, ◌<◌, ◌≤◌, ◌^◌, List, length, IfOk, IfErr, OnOk, OnErr};
+ghost use Rattle.std.specs.Io.KnownBytes.{Appends};
+ghost use Rattle.cdb_form.specs.Views.KnownBytes.{AppendsFront};
+ghost use Rattle.cdb_store.specs.Images.{AfterRead};
+ghost use Rattle.cdb_read.specs.Lookup.{bytes_of};
+ghost use Rattle.cdb_read.specs.Views.Reads.{OnlyReads, StoreFails, CopyingFails, ValueFails};
+
+use crate::fault::ReadFault;
+use crate::span::Span;
+use cdb_form::write_whole;
+use cdb_store::Store;
+use std::alloc::Global;
+use std::io::Write;
+
+/// Fills `into` with the bytes from a place on.
+pub(crate) fn read_part<S: Store>(
+    store: &mut S,
+    place: u64,
+    into: &mut [u8],
+) -> Result<(), ReadFault>
+    requires inside { place + length into.old ≤ S.size store.old }
+    ensures read { OnOk result (AfterRead place into.new (S.image store.old) (S.image store.new)) }
+    ensures reads { OnlyReads S.Store store.old store.new }
+    ensures fails { IfErr result (StoreFails S.Store store.old store.new) }
+{
+    match store.read_at(place, into) {
+        Ok(()) => Ok(()),
+        Err(_) => Err(ReadFault::Device),
+    }
+}
+
+/// Writes the bytes of a span, as many at once as a piece has.
+pub(crate) fn copy_span<S: Store, W: Write>(
+    store: &mut S,
+    span: Span,
+    piece: &mut [u8],
+    w: &mut W,
+) -> Result<(), ReadFault>
+    requires piece { 0 < length piece.old }
+    requires inside { span.place + span.len ≤ S.size store.old }
+    requires fits { S.size store.old < 2 ^ 64 }
+    ensures reads { OnlyReads S.Store store.old store.new }
+    ensures copies { (b : List ℕ) → S.image store.new b
+        → OnOk result (Appends (W.contents w.old) (W.contents w.new) (bytes_of b span)) }
+    ensures front { (b : List ℕ) → S.image store.new b
+        → OnErr result (AppendsFront (W.contents w.old) (W.contents w.new) (bytes_of b span)) }
+    ensures fails { IfErr result (CopyingFails S.Store store.old store.new) }
+{
+    let mut done = 0;
+    while done < span.len {
+        let n = (span.len - done).min(piece.len() as u64);
+        let part = &mut piece[..n as usize];
+        read_part(store, span.place + done, part)?;
+        write_whole(w, part)?;
+        done += n;
+    }
+    Ok(())
+}
+
+/// The bytes of a span. The vector grows as they come.
+pub(crate) fn take_span<S: Store>(
+    store: &mut S,
+    span: Span,
+    piece: &mut [u8],
+    alloc: Global,
+) -> Result<Vec<u8>, ReadFault>
+    requires piece { 0 < length piece.old }
+    requires inside { span.place + span.len ≤ S.size store.old }
+    requires fits { S.size store.old < 2 ^ 64 }
+    ensures reads { OnlyReads S.Store store.old store.new }
+    ensures is { (b : List ℕ) → S.image store.new b
+        → IfOk result (λ v. v.items ≡ bytes_of b span) }
+    ensures fails { IfErr result (ValueFails S.Store store.old store.new) }
+{
+    let mut taken = Vec::new(alloc);
+    let mut done = 0;
+    while done < span.len {
+        let n = (span.len - done).min(piece.len() as u64);
+        let part = &mut piece[..n as usize];
+        read_part(store, span.place + done, part)?;
+        taken.extend_from_slice(part)?;
+        done += n;
+    }
+    Ok(taken)
+}

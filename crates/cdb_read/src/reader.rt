@@ -1,0 +1,114 @@
+// A reader of a database in a store.
+ghost use Rattle.std.specs.Prelude.{◌≡◌, ℕ, ◌+◌, ◌<◌, ◌≤◌, ◌^◌, List, IfOk, IfErr, OnOk, OnErr};
+ghost use Rattle.std.specs.Io.KnownBytes.{Appends};
+ghost use Rattle.cdb_form.specs.Format.Pair.{head_size};
+ghost use Rattle.cdb_form.specs.Format.Reading.{head_at};
+ghost use Rattle.cdb_form.specs.Views.Pairs.{head_pairs};
+ghost use Rattle.cdb_form.specs.Views.KnownBytes.{AppendsFront};
+ghost use Rattle.cdb_read.specs.Lookup.{bytes_of};
+ghost use Rattle.cdb_read.specs.Views.Reads.{OnlyReads, OpeningFails, CopyingFails, ValueFails};
+
+use crate::fault::ReadFault;
+use crate::pieces::{copy_span, read_part, take_span};
+use crate::span::Span;
+use cdb_form::{Head, Width, head_size, read_head};
+use cdb_store::Store;
+use std::alloc::Global;
+use std::io::Write;
+use std::marker::PhantomData;
+
+/// How many bytes are read at once. The longest head, that of words of 8 bytes, has so many.
+const PIECE: usize = 4096;
+
+/// A store in which no database was opened, and why.
+#[derive(Drop)]
+pub struct Unread<S> {
+    /// The store.
+    pub store: S,
+    /// `Short` or `Device`.
+    pub fault: ReadFault,
+}
+
+/// A database in a store.
+#[derive(Drop)]
+pub struct Reader<S: Store, L: Width> {
+    /// Where the database is.
+    pub(crate) store: S,
+    /// The pointers to the tables.
+    pub(crate) head: Head,
+    /// Through which values are read.
+    pub(crate) piece: [u8; PIECE],
+    /// How wide a word is.
+    pub(crate) width: PhantomData<L>,
+    ghost fits: { S.size store < 2 ^ 64 },
+    ghost long: { head_size L.WORD ≤ S.size store },
+    ghost known: { (b : List ℕ) → S.image store b → head_at L.WORD b ≡ head_pairs head },
+}
+
+impl<S: Store, L: Width> Reader<S, L> {
+    ghost use Rattle.cdb_read.specs.Views.Reader.{Opens};
+
+    /// A reader of the database in a store, of which it reads the head. The store is handed back
+    /// where that failed: it is `Short`, or a `Device` failed.
+    pub fn open(store: S) -> Result<Reader<S, L>, Unread<S>>
+        ensures reads { IfOk result (λ r. Opens store r) }
+        ensures fails { IfErr result (λ u. OpeningFails L.WORD S.Store store u.store u.fault) }
+    {
+        let mut store = store;
+        let size = head_size::<L>();
+        if store.len() < size as u64 {
+            let fault = ReadFault::Short;
+            return Err(Unread { store, fault });
+        }
+        let mut piece = [0u8; PIECE];
+        match read_part(&mut store, 0, &mut piece[..size]) {
+            Ok(()) => {}
+            Err(fault) => return Err(Unread { store, fault }),
+        }
+        let head = read_head::<L>(&piece[..size]);
+        Ok(Reader {
+            store,
+            head,
+            piece,
+            width: PhantomData,
+        })
+    }
+
+    /// Writes the bytes of a span, which lies inside the file. After a fault the writer holds a
+    /// front of them.
+    pub fn copy<W: Write>(&mut self, span: Span, w: &mut W) -> Result<(), ReadFault>
+        requires inside { span.place + span.len ≤ S.size self.old.store }
+        ensures reads { OnlyReads S.Store self.old.store self.new.store }
+        ensures copies { (b : List ℕ) → S.image self.new.store b
+            → OnOk result (Appends (W.contents w.old) (W.contents w.new) (bytes_of b span)) }
+        ensures front { (b : List ℕ) → S.image self.new.store b
+            → OnErr result (AppendsFront (W.contents w.old) (W.contents w.new) (bytes_of b span)) }
+        ensures fails { IfErr result (CopyingFails S.Store self.old.store self.new.store) }
+    {
+        copy_span(&mut self.store, span, &mut self.piece, w)
+    }
+
+    /// The bytes of a span, which lies inside the file. Memory is taken as they come.
+    pub fn value(&mut self, alloc: Global, span: Span) -> Result<Vec<u8>, ReadFault>
+        requires inside { span.place + span.len ≤ S.size self.old.store }
+        ensures reads { OnlyReads S.Store self.old.store self.new.store }
+        ensures is { (b : List ℕ) → S.image self.new.store b
+            → IfOk result (λ v. v.items ≡ bytes_of b span) }
+        ensures fails { IfErr result (ValueFails S.Store self.old.store self.new.store) }
+    {
+        take_span(&mut self.store, span, &mut self.piece, alloc)
+    }
+
+    /// Its store, as it is.
+    pub fn into_store(self) -> S
+        ensures { result ≡ self.store }
+    {
+        let Reader {
+            store,
+            head: _,
+            piece: _,
+            width: _,
+        } = self;
+        store
+    }
+}
