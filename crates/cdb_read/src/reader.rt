@@ -99,6 +99,13 @@ impl<S: Store, L: Width> Reader<S, L> {
         take_span(&mut self.store, span, &mut self.piece, alloc)
     }
 
+    /// How many bytes its file has.
+    pub fn size(&self) -> u64
+        ensures { result ≡ S.size self.now.store }
+    {
+        self.store.len()
+    }
+
     /// Its store, as it is.
     pub fn into_store(self) -> S
         ensures { result ≡ self.store }

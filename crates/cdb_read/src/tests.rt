@@ -1,2 +1,4 @@
 //! What contracts can't say.
 mod faults;
+mod files;
+mod reading;
