@@ -5,3 +5,8 @@ pub mod FileTables
 pub mod LookupLaws
 pub mod Heads
 pub mod PieceReads
+pub mod Turns
+pub mod Beginnings
+pub mod Compare
+pub mod Headers
+pub mod Searches

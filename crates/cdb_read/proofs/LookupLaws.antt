@@ -55,7 +55,7 @@ whole_at w bytes at r rest reads low high =
     and_from _ _ (le-leb (head_size w) at low) (le-leb (at + front_size w (drop at bytes)) (length bytes) (omega arith))
 
 -- one place more
-same_found : (a b : Found) → a.spans ≡ b.spans → a.damage ≡ b.damage → a ≡ b
+pub same_found : (a b : Found) → a.spans ≡ b.spans → a.damage ≡ b.damage → a ≡ b
 same_found a b s d = ap (λ x. let f : Found = record { spans = x; damage = a.damage } in f) s ∙ ap (λ x. let f : Found = record { spans = b.spans; damage = x } in f) d
 
 abbrev with_span : Span → Found → Found
@@ -193,13 +193,13 @@ met_slots-table w rs h some =
     met_slots-filled_slots h (2 * length es) es (omega arith) (All-filter (in_table (table_number h)) IsUsed (file_entries w rs) (AllUsed-entries w (head_size w) rs (omega arith))) ∙ filter_filter h (file_entries w rs)
 
 -- a look-up, once the pointer is known
-abbrev found_by : ℕ → List ℕ → List ℕ → WordPair → Found
+abbrev pub found_by : ℕ → List ℕ → List ℕ → WordPair → Found
 found_by w bytes key p =
     if not (has_slots p) then record { spans = []; damage = None }
     else if is_inside w bytes p then found_at w bytes key (places_of (met_slots (key_hash key) (slots_at w bytes p)))
     else record { spans = []; damage = Some (Table (table_number (key_hash key))) }
 
-lookup_of-is : (w : ℕ) (bytes key : List ℕ) → lookup_of w bytes key ≡ found_by w bytes key (nth_pair w bytes (table_number (key_hash key)))
+pub lookup_of-is : (w : ℕ) (bytes key : List ℕ) → lookup_of w bytes key ≡ found_by w bytes key (nth_pair w bytes (table_number (key_hash key)))
 unfolding lookup_of
 lookup_of-is w bytes key = refl
 

@@ -2,3 +2,7 @@
 pub mod ReadFault
 pub mod Reads
 pub mod Reader
+pub mod Inside
+pub mod Turning
+pub mod Search
+pub mod Finder

@@ -2,12 +2,17 @@
 #![tactic(auto)]
 
 mod fault;
+mod finder;
 pub mod laws;
+mod looking;
 mod pieces;
 mod reader;
+mod search;
 mod span;
+mod turn;
 
 pub use fault::ReadFault;
+pub use finder::Finder;
 pub use reader::{Reader, Unread};
 pub use span::{Pair, Span};
 

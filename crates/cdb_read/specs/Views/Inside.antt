@@ -1,0 +1,8 @@
+-- Where a table lies.
+use Rattle.std.specs.Prelude.{ℕ, ◌+◌, ◌*◌, ◌≤◌}
+use Rattle.cdb_form.specs.Format.Pair.{WordPair, pair_size, head_size}
+
+-- behind the head and inside a file of so many bytes
+pub record LiesInside (w size : ℕ) (p : WordPair) : Type 0 where
+  pub behind : head_size w ≤ p.first
+  pub inside : p.first + pair_size w * p.second ≤ size

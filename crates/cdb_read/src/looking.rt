@@ -1,0 +1,96 @@
+// The record at a place, and whether it has a key.
+ghost use Rattle.std.specs.Prelude.{◌≡◌, ◌+◌, ◌<◌, ◌≤◌, ◌^◌, length, IfOk, IfErr};
+ghost use Rattle.std.specs.Bool.{Decides};
+ghost use Rattle.cdb_read.specs.Views.Reads.{OnlyReads, StoreFails};
+ghost use Rattle.cdb_read.specs.Views.Search.{TellsSame, LooksAt, LookWithin};
+
+use crate::fault::ReadFault;
+use crate::pieces::read_part;
+use crate::span::Span;
+use cdb_form::{Width, head_size, pair_size, read_header};
+use cdb_store::Store;
+
+/// The longest header or slot, in bytes.
+pub(crate) const LONGEST_PAIR: usize = 16;
+
+/// What stands at a place.
+#[derive(Clone, Copy, Debug, PartialEq, Eq)]
+pub(crate) enum Look {
+    /// No whole record.
+    Broken,
+    /// A record with another key.
+    Other,
+    /// A record with the key, and where its value stands.
+    Value(Span),
+}
+
+/// Whether a key's bytes stand at a place. As many are read at once as a piece has.
+fn key_is_at<S: Store>(
+    store: &mut S,
+    place: u64,
+    key: &[u8],
+    piece: &mut [u8],
+) -> Result<bool, ReadFault>
+    requires piece { 0 < length piece.old }
+    requires inside { place + length key.now ≤ S.size store.old }
+    requires fits { S.size store.old < 2 ^ 64 }
+    ensures same { IfOk result (λ same. TellsSame same place key.now (S.image store.new)) }
+    ensures reads { OnlyReads S.Store store.old store.new }
+    ensures fails { IfErr result (StoreFails S.Store store.old store.new) }
+{
+    let mut done = 0;
+    while done < key.len() {
+        let n = (key.len() - done).min(piece.len());
+        read_part(store, place + done as u64, &mut piece[..n])?;
+        if piece[..n] != key[done..done + n] {
+            return Ok(false);
+        }
+        done += n;
+    }
+    Ok(true)
+}
+
+/// Whether a file of so many bytes has `len` bytes from a place on.
+pub(crate) fn has_bytes(size: u64, place: u64, len: u64) -> bool
+    ensures { Decides result (place + len ≤ size) }
+{
+    place <= size && len <= size - place
+}
+
+/// What stands at a place, as the bytes of a key tell it.
+pub(crate) fn look_at<S: Store, L: Width>(
+    store: &mut S,
+    place: u64,
+    key: &[u8],
+    piece: &mut [u8],
+) -> Result<Look, ReadFault>
+    requires piece { 0 < length piece.old }
+    ensures looks { IfOk result (λ look.
+        LooksAt L.WORD key.now place look (S.image store.new)) }
+    ensures within { IfOk result (LookWithin (S.size store.new)) }
+    ensures reads { OnlyReads S.Store store.old store.new }
+    ensures fails { IfErr result (StoreFails S.Store store.old store.new) }
+{
+    let size = store.len();
+    let header_size = pair_size::<L>();
+    if place < head_size::<L>() as u64 || !has_bytes(size, place, header_size as u64) {
+        return Ok(Look::Broken);
+    }
+    let mut bytes = [0; LONGEST_PAIR];
+    let bytes = &mut bytes[..header_size];
+    read_part(store, place, bytes)?;
+    let header = read_header::<L>(bytes);
+    let key_place = place + header_size as u64;
+    if !has_bytes(size, key_place, header.klen)
+        || !has_bytes(size, key_place + header.klen, header.vlen)
+    {
+        return Ok(Look::Broken);
+    }
+    if header.klen != key.len() as u64 || !key_is_at(store, key_place, key, piece)? {
+        return Ok(Look::Other);
+    }
+    Ok(Look::Value(Span {
+        place: key_place + header.klen,
+        len: header.vlen,
+    }))
+}

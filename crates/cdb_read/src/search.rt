@@ -1,0 +1,116 @@
+// The search of a key in a table.
+ghost use Rattle.std.specs.Prelude.{◌≡◌, ℕ, ◌<◌, ◌^◌, List, length, IfOk, IfErr};
+ghost use Rattle.cdb_form.specs.Format.Hash.{key_hash};
+ghost use Rattle.cdb_form.specs.Views.Pairs.{slot_pair};
+ghost use Rattle.cdb_read.specs.Views.Reads.{OnlyReads, StoreFails};
+ghost use Rattle.cdb_read.specs.Views.Search.{turn_slot, StepsFrom, StepWithin, Meets, MetWithin};
+ghost use Rattle.cdb_read.specs.Views.Turning.{TurnInside};
+
+use crate::fault::ReadFault;
+use crate::looking::{LONGEST_PAIR, Look, look_at};
+use crate::pieces::read_part;
+use crate::span::Span;
+use crate::turn::Turn;
+use cdb_form::{Slot, Width, hash, pair_size, read_slot};
+use cdb_store::Store;
+
+/// What one turn of a search comes to.
+#[derive(Clone, Copy, Debug, PartialEq, Eq)]
+pub(crate) enum Step {
+    /// The slot is empty, and ends the search.
+    Empty,
+    /// Its record has another key.
+    Passed,
+    /// Its record has the key, and this value.
+    Value(Span),
+    /// At its place, this one, no whole record stands.
+    Broken(u64),
+}
+
+/// What some turns of a search come to.
+#[derive(Clone, Copy, Debug, PartialEq, Eq)]
+pub(crate) enum Met {
+    /// No slot is left.
+    End,
+    /// A value, and the turn behind it.
+    Value(Span, Turn),
+    /// No whole record stands at this place.
+    Broken(u64),
+}
+
+/// The slot of a turn.
+fn read_turn<S: Store, L: Width>(store: &mut S, turn: Turn) -> Result<Slot, ReadFault>
+    requires inside { TurnInside L.WORD (S.size store.old) turn }
+    requires fits { S.size store.old < 2 ^ 64 }
+    ensures read { (b : List ℕ) → S.image store.new b
+        → IfOk result (λ slot. slot_pair slot ≡ turn_slot L.WORD b turn) }
+    ensures reads { OnlyReads S.Store store.old store.new }
+    ensures fails { IfErr result (StoreFails S.Store store.old store.new) }
+{
+    let slot_size = pair_size::<L>();
+    let mut bytes = [0; LONGEST_PAIR];
+    let bytes = &mut bytes[..slot_size];
+    let place = turn.table.place + slot_size as u64 * turn.slot;
+    read_part(store, place, bytes)?;
+    Ok(read_slot::<L>(bytes))
+}
+
+/// One turn of the search of a key, which has this hash.
+fn take_turn<S: Store, L: Width>(
+    store: &mut S,
+    turn: Turn,
+    key: &[u8],
+    hash: u64,
+    piece: &mut [u8],
+) -> Result<Step, ReadFault>
+    requires piece { 0 < length piece.old }
+    requires inside { TurnInside L.WORD (S.size store.old) turn }
+    requires left { 0 < turn.left }
+    requires hash { hash ≡ key_hash key.now }
+    requires fits { S.size store.old < 2 ^ 64 }
+    ensures steps { IfOk result (λ step. StepsFrom L.WORD key.now turn step (S.image store.new)) }
+    ensures within { IfOk result (StepWithin (S.size store.new)) }
+    ensures reads { OnlyReads S.Store store.old store.new }
+    ensures fails { IfErr result (StoreFails S.Store store.old store.new) }
+{
+    let slot = read_turn::<S, L>(store, turn)?;
+    if slot.place == 0 {
+        return Ok(Step::Empty);
+    }
+    if slot.hash != hash {
+        return Ok(Step::Passed);
+    }
+    match look_at::<S, L>(store, slot.place, key, piece)? {
+        Look::Broken => Ok(Step::Broken(slot.place)),
+        Look::Other => Ok(Step::Passed),
+        Look::Value(span) => Ok(Step::Value(span)),
+    }
+}
+
+/// The search of a key from a turn on, up to its next value.
+pub(crate) fn next_met<S: Store, L: Width>(
+    store: &mut S,
+    from: Turn,
+    key: &[u8],
+    piece: &mut [u8],
+) -> Result<Met, ReadFault>
+    requires piece { 0 < length piece.old }
+    requires inside { TurnInside L.WORD (S.size store.old) from }
+    requires fits { S.size store.old < 2 ^ 64 }
+    ensures meets { IfOk result (λ met. Meets L.WORD key.now from met (S.image store.new)) }
+    ensures within { IfOk result (MetWithin L.WORD (S.size store.new) from) }
+    ensures reads { OnlyReads S.Store store.old store.new }
+    ensures fails { IfErr result (StoreFails S.Store store.old store.new) }
+{
+    let hash = u64::from(hash(key));
+    let mut turn = from;
+    while turn.left > 0 {
+        match take_turn::<S, L>(store, turn, key, hash, piece)? {
+            Step::Empty => return Ok(Met::End),
+            Step::Passed => turn = turn.next(),
+            Step::Value(span) => return Ok(Met::Value(span, turn.next())),
+            Step::Broken(place) => return Ok(Met::Broken(place)),
+        }
+    }
+    Ok(Met::End)
+}

@@ -1,0 +1,44 @@
+// Where a search stands.
+ghost use Rattle.std.specs.Prelude.{◌≡◌, ◌<◌};
+ghost use Rattle.cdb_read.specs.Views.Turning.{next_turn};
+
+use cdb_form::Pointer;
+
+/// What a search does next.
+#[derive(Clone, Copy, Debug, PartialEq, Eq)]
+pub(crate) enum Searching {
+    /// It looks at a slot.
+    At(Turn),
+    /// Nothing is left.
+    AtEnd,
+    /// The table of this number isn't inside the file.
+    NoTable(u64),
+    /// No whole record stands at this place.
+    NoRecord(u64),
+}
+
+/// A slot that a search looks at, of a table.
+#[derive(Clone, Copy, Debug, PartialEq, Eq)]
+pub(crate) struct Turn {
+    /// Where the table stands.
+    pub(crate) table: Pointer,
+    /// The number of the slot.
+    pub(crate) slot: u64,
+    /// How many slots are left, this one among them.
+    pub(crate) left: u64,
+}
+
+impl Turn {
+    /// The turn behind this one. Behind the last slot comes the first.
+    pub(crate) fn next(self) -> Turn
+        requires slot { self.slot < self.table.slots }
+        requires left { 0 < self.left }
+        ensures { result ≡ next_turn self }
+    {
+        Turn {
+            table: self.table,
+            slot: (self.slot + 1) % self.table.slots,
+            left: self.left - 1,
+        }
+    }
+}
