@@ -1,4 +1,6 @@
 //! What contracts can't say.
 mod faults;
 mod files;
+mod finding;
 mod reading;
+mod uses;

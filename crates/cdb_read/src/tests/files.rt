@@ -1,4 +1,6 @@
 // Files worked out by hand, and what stands over them.
+use crate::{ReadFault, Reader};
+use cdb_form::Width;
 use cdb_store::{FuseStore, MemStore};
 use std::alloc::{AllocError, Global};
 use std::prelude::*;
@@ -54,4 +56,15 @@ pub(super) fn wide_file(alloc: Global) -> Result<Vec<u8>, AllocError> {
 /// A store with these bytes that passes so many calls and fails the next one.
 pub(super) fn fused(bytes: Vec<u8>, calls: u64) -> Fused {
     FuseStore::new(MemStore::from_vec(bytes), calls, 0)
+}
+
+/// A reader of a file whose store fails one call, opened again where that was the first one.
+pub(super) fn opened_again<L: Width>(store: Fused) -> Result<Reader<Fused, L>, ReadFault> {
+    match Reader::<Fused, L>::open(store) {
+        Ok(reader) => Ok(reader),
+        Err(unread) if unread.fault == ReadFault::Device => {
+            Reader::<Fused, L>::open(unread.store).map_err(|unread| unread.fault)
+        }
+        Err(unread) => Err(unread.fault),
+    }
 }

@@ -2,7 +2,7 @@
 ghost use Rattle.std.specs.Prelude.{◌+◌, ◌≤◌};
 ghost use Rattle.std.specs.Bool.{Decides};
 
-use super::files::{Fused, fused, two_file, wide_file};
+use super::files::{Fused, fused, opened_again, two_file, wide_file};
 use crate::{ReadFault, Reader, Span};
 use cdb_form::{Narrow, Wide, Width};
 use cdb_store::Store;
@@ -40,17 +40,6 @@ fn lies_inside<S: Store, L: Width>(reader: &Reader<S, L>, span: Span) -> bool
 {
     let size = reader.size();
     span.place <= size && span.len <= size - span.place
-}
-
-/// A reader of a file whose store fails one call, opened again where that was the first one.
-fn opened_again<L: Width>(store: Fused) -> Result<Reader<Fused, L>, ReadFault> {
-    match Reader::<Fused, L>::open(store) {
-        Ok(reader) => Ok(reader),
-        Err(unread) if unread.fault == ReadFault::Device => {
-            Reader::<Fused, L>::open(unread.store).map_err(|unread| unread.fault)
-        }
-        Err(unread) => Err(unread.fault),
-    }
 }
 
 /// The value at a span, asked for again where the store failed.
