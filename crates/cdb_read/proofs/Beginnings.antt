@@ -1,8 +1,6 @@
 -- Where the search of a key begins.
-use Rattle.std.proofs.Common.{◌≡◌, ℕ, ◌+◌, ◌*◌, ◌<◌, ◌≤◌, Bool, true, false, List, [], length, take, drop, map, get_or, inl, inr, sym, ap, ◌∙◌, arith, refl}
-use Rattle.std.specs.Prelude.{◌==◌, not, nat_le, ◌&&◌, filter, take_while, Some, None}
-use Rattle.std.specs.List.{range_with_len}
-use Rattle.std.specs.Bool.{Decides}
+use Rattle.std.proofs.Common.{◌≡◌, ℕ, ◌+◌, ◌*◌, ◌<◌, Bool, true, false, List, length, take, map, get_or, inl, inr, sym, ap, ◌∙◌, arith, refl}
+use Rattle.std.specs.Prelude.{◌==◌, not, nat_le, ◌&&◌, filter, take_while}
 use Rattle.std.proofs.lemmas.Bool.{cond-true, cond-false, eq-eqb, ne_eqb, not_from_true, not_from_false, le-leb, leb-true, and_from, both_ways, cases_Bool}
 use Rattle.std.proofs.lemmas.List.{length-map, take_all, get_or-map}
 use Rattle.std.proofs.lemmas.List.FromFn.{length-map-range_with_len, get_or-map-range_with_len}
@@ -14,7 +12,7 @@ use Rattle.cdb_form.specs.Format.Walk.{has_slots}
 use Rattle.cdb_form.specs.Views.Pairs.{pointer_pair}
 use Rattle.cdb_form.specs.declared.damage.Damage.TheVariants.{Table}
 use Rattle.cdb_form.specs.declared.head.Pointer.{Pointer}
-use Rattle.cdb_read.specs.Lookup.{Found, lookup_of, found_at, met_slots, has_hash, is_inside, slots_at}
+use Rattle.cdb_read.specs.Lookup.{lookup_of, found_at, met_slots, has_hash, is_inside, slots_at}
 use Rattle.cdb_read.specs.Views.Search.{found_ahead, nothing_found, found_damaged}
 use Rattle.cdb_read.specs.Views.Inside.{LiesInside}
 use Rattle.cdb_read.specs.declared.turn.Searching.TheVariants.{At}

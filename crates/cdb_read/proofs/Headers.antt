@@ -1,6 +1,6 @@
 -- What a header that was read says of the record at its place.
 use Rattle.std.proofs.Common.{◌≡◌, ◌≢◌, ℕ, ◌+◌, ◌*◌, ◌<◌, ◌≤◌, Bool, true, false, List, length, take, drop, refl, sym, ap, ◌∙◌, arith, inl, inr}
-use Rattle.std.specs.Prelude.{bytes_eq, nat_le, ◌&&◌}
+use Rattle.std.specs.Prelude.{bytes_eq, nat_le}
 use Rattle.std.proofs.lemmas.Bool.{le-leb, leb-true, and_from, cases_Bool, cases_lt, both_ways}
 use Rattle.std.specs.Bool.{Decides}
 use Rattle.std.proofs.lemmas.List.{drop-drop}
@@ -14,7 +14,7 @@ use Rattle.cdb_form.specs.Views.Pairs.{header_pair}
 use Rattle.cdb_form.specs.declared.header.Header.{Header}
 use Rattle.cdb_form.proofs.WordLemmas.{pair_at-take}
 use Rattle.cdb_read.proofs.Beginnings.{and_true}
-use Rattle.cdb_read.specs.Lookup.{is_whole, has_key, value_span}
+use Rattle.cdb_read.specs.Lookup.{is_whole, value_span}
 use Rattle.cdb_read.specs.Views.Search.{TellsSame, LooksAt}
 use Rattle.cdb_read.specs.declared.looking.Look.TheVariants as look
 use Rattle.cdb_read.specs.declared.span.Span.{Span}

@@ -1,13 +1,11 @@
 -- Bytes that are read piece by piece.
-use Rattle.std.proofs.Common.{◌≡◌, ℕ, ◌+◌, ◌≤◌, List, [], ◌++◌, length, take, drop, refl, sym, ap, ◌∙◌, arith, subst, Option}
-use Rattle.std.proofs.Math.Seq.{take-add}
-use Rattle.std.proofs.lemmas.List.{drop-drop, take-append-drop, append-nil}
-use Rattle.std.specs.Io.KnownBytes.{Appends, Keeps}
-use Rattle.cdb_store.specs.Images.{AfterRead, SameImages, part}
+use Rattle.std.proofs.Common.{◌≡◌, ℕ, ◌+◌, List, ◌++◌, length, refl, sym, ap, ◌∙◌, arith, subst, Option}
+use Rattle.std.specs.Io.KnownBytes.{Appends}
+use Rattle.cdb_store.specs.Images.{AfterRead, part}
 use Rattle.cdb_store.specs.declared.store.Store.{Ghosts}
 use Rattle.cdb_store.proofs.Parts.{part_add}
 use Rattle.cdb_form.specs.Views.KnownBytes.{AppendsFront}
-use Rattle.cdb_form.proofs.WritingLemmas.{appends_then, front_then, front_taken}
+use Rattle.cdb_form.proofs.WritingLemmas.{appends_then, front_then}
 use Rattle.cdb_read.specs.Views.Reads.{OnlyReads}
 
 pub reads_none : {S : Type 0} {s : Ghosts S} (store : S) → OnlyReads s store store

@@ -1,15 +1,13 @@
 -- What a turn of a search tells.
-use Rattle.std.proofs.Common.{◌≡◌, ◌≢◌, ℕ, suc, ◌+◌, ◌-◌, ◌*◌, ◌%◌, ◌<◌, ◌≤◌, Bool, true, false, List, [], ◌∷◌, length, map, take, drop, refl, sym, ap, ◌∙◌, arith}
-use Rattle.std.specs.Prelude.{◌==◌, not, Some, None}
+use Rattle.std.proofs.Common.{◌≡◌, ◌≢◌, ℕ, suc, ◌+◌, ◌-◌, ◌%◌, ◌<◌, ◌≤◌, true, false, List, ◌∷◌, map, refl, sym, ap, ◌∙◌, arith}
+use Rattle.std.specs.Prelude.{◌==◌}
 use Rattle.std.proofs.lemmas.Bool.{eq-eqb, ne_eqb, not_from_true, not_from_false}
 use Rattle.cdb_form.specs.Format.Hash.{key_hash}
-use Rattle.cdb_form.specs.Format.Pair.{WordPair, pair_size}
+use Rattle.cdb_form.specs.Format.Pair.{WordPair}
 use Rattle.cdb_form.specs.Format.Table.{is_used}
-use Rattle.cdb_form.specs.Views.Pairs.{slot_pair, pointer_pair}
-use Rattle.cdb_form.specs.declared.slot.Slot.{Slot}
-use Rattle.cdb_form.specs.declared.damage.Damage.TheVariants.{Record}
+use Rattle.cdb_form.specs.Views.Pairs.{pointer_pair}
 use Rattle.cdb_read.specs.Lookup.{Found, found_at, has_hash, slots_at}
-use Rattle.cdb_read.specs.Views.Search.{found_ahead, nothing_found, found_damaged, with_span, turn_slot, LooksAt, StepsFrom, Meets}
+use Rattle.cdb_read.specs.Views.Search.{found_ahead, nothing_found, with_span, turn_slot, LooksAt, StepsFrom, Meets}
 use Rattle.cdb_read.specs.Views.Turning.{TurnInside, next_turn}
 use Rattle.cdb_read.specs.declared.looking.Look.TheVariants as look
 use Rattle.cdb_read.specs.declared.search.Step.TheVariants as step
@@ -19,7 +17,7 @@ use Rattle.cdb_read.specs.declared.turn.Searching.TheVariants.{At}
 use Rattle.cdb_read.specs.declared.turn.Turn.{Turn}
 use Rattle.cdb_read.proofs.LookupLaws.{found_at-has, found_at-other, found_at-none}
 use Rattle.cdb_read.proofs.Meeting.{met as met_of}
-use Rattle.cdb_read.proofs.Turns.{met_ahead, slot_at, next_slot, met_ahead-none, met_ahead-empty, met_ahead-other, met_ahead-hash, found_at-broken}
+use Rattle.cdb_read.proofs.Turns.{met_ahead, next_slot, met_ahead-none, met_ahead-empty, met_ahead-other, met_ahead-hash, found_at-broken}
 
 -- what is found from a slot on, of a table
 abbrev found_from : ℕ → List ℕ → List ℕ → WordPair → ℕ → ℕ → Found

@@ -1,8 +1,7 @@
 -- A search, slot after slot.
-use Rattle.std.proofs.Common.{◌≡◌, ℕ, zero, suc, ◌+◌, ◌*◌, ◌%◌, ◌<◌, ◌≤◌, true, false, cond, List, [], ◌∷◌, ◌++◌, length, take, drop, map, get_or, refl, sym, ap, ◌∙◌, arith, inl, inr, append_assoc, length-append, length-take, length-drop, mod-eq_of_lt}
-use Rattle.std.specs.Prelude.{filter, take_while, find, not, option_map, Option, Some, None}
+use Rattle.std.proofs.Common.{◌≡◌, ℕ, suc, ◌+◌, ◌*◌, ◌%◌, ◌<◌, true, false, List, [], ◌∷◌, ◌++◌, length, take, drop, map, get_or, sym, ap, ◌∙◌, arith, inl, inr, append_assoc, length-append, length-drop, mod-eq_of_lt}
+use Rattle.std.specs.Prelude.{filter, take_while, find, not, option_map, Some}
 use Rattle.std.proofs.lemmas.List.Sums.{take_while-cons}
-use Rattle.std.specs.List.{range_with_len}
 use Rattle.std.proofs.Math.Seq.{drop-cons, drop-length}
 use Rattle.std.proofs.Math.Nat.{add-mod_left}
 use Rattle.std.proofs.lemmas.Bool.{cases_lt, cond-true, cond-false, not_from_false}
@@ -12,8 +11,7 @@ use Rattle.cdb_form.specs.Format.Pair.{WordPair}
 use Rattle.cdb_form.specs.Format.Reading.{pair_at, nth_pair}
 use Rattle.cdb_form.specs.Format.Table.{is_used, slots_from, empty_slot}
 use Rattle.cdb_form.specs.declared.damage.Damage.TheVariants.{Record}
-use Rattle.cdb_read.specs.Lookup.{has_hash, slots_at, is_whole, has_key, value_span, Found, found_at}
-use Rattle.cdb_read.specs.declared.span.Span.{Span}
+use Rattle.cdb_read.specs.Lookup.{has_hash, slots_at, is_whole, has_key, value_span, found_at}
 use Rattle.cdb_read.proofs.LookupLaws.{same_found}
 use Rattle.cdb_read.proofs.Meeting.{met, met-used, met-unused, met-none}
 

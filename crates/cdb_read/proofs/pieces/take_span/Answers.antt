@@ -1,4 +1,4 @@
-use Rattle.std.proofs.Common.{rules, arith, ◌≡◌, ◌+◌, ◌-◌, ℕ, length, length-append, length-drop, refl, subst, sym}
+use Rattle.std.proofs.Common.{rules, arith, ◌≡◌, ◌+◌, length, length-append, length-drop, refl, subst, sym}
 use Rattle.cdb_read.proofs.PieceReads.{HasTaken, reads_more, taken_more}
 use Rattle.cdb_read.proofs.pieces.take_span.Goals as goal
 

@@ -1,4 +1,4 @@
-use Rattle.std.proofs.Common.{◌≡◌, sym, ◌∙◌, subst}
+use Rattle.std.proofs.Common.{sym, ◌∙◌, subst}
 use Rattle.cdb_form.specs.Views.Pairs.{slot_pair}
 use Rattle.cdb_read.specs.Views.Search.{LooksAt}
 use Rattle.cdb_read.proofs.Searches.{IsTurnSlot, fewer_slots, step_empty, step_other, step_broken, step_passed, step_value}
