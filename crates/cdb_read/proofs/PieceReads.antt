@@ -1,5 +1,5 @@
 -- Bytes that are read piece by piece.
-use Rattle.std.proofs.Common.{◌≡◌, ℕ, ◌+◌, List, ◌++◌, length, refl, sym, ap, ◌∙◌, arith, subst, Option}
+use Rattle.std.proofs.Common.{◌≡◌, ℕ, ◌+◌, List, ◌++◌, length, sym, ap, ◌∙◌, arith, subst, Option}
 use Rattle.std.specs.Io.KnownBytes.{Appends}
 use Rattle.cdb_store.specs.Images.{AfterRead, part}
 use Rattle.cdb_store.specs.declared.store.Store.{Ghosts}
@@ -7,9 +7,6 @@ use Rattle.cdb_store.proofs.Parts.{part_add}
 use Rattle.cdb_form.specs.Views.KnownBytes.{AppendsFront}
 use Rattle.cdb_form.proofs.WritingLemmas.{appends_then, front_then}
 use Rattle.cdb_read.specs.Views.Reads.{OnlyReads}
-
-pub reads_none : {S : Type 0} {s : Ghosts S} (store : S) → OnlyReads s store store
-reads_none store = record { images = λ b is. is; size = refl; written = refl; room = omega arith; failures = omega arith }
 
 pub reads_more : {S : Type 0} {s : Ghosts S} {a b c : S} → OnlyReads s a b → OnlyReads s b c → OnlyReads s a c
 reads_more p q = record {

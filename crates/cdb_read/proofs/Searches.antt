@@ -124,20 +124,5 @@ fewer_slots few is_slot = record { each = λ b is. is_slot.each b (few b is) }
 pub record SameAhead (w : ℕ) (key : List ℕ) (from turn : Turn) (images : List ℕ → Type 0) : Type 0 where
   pub each : (b : List ℕ) → images b → found_ahead w b key (At from) ≡ found_ahead w b key (At turn)
 
-pub same_none : {w : ℕ} {key : List ℕ} (turn : Turn) {images : List ℕ → Type 0} → SameAhead w key turn turn images
-same_none turn = record { each = λ b is. refl }
-
-pub same_more : {w : ℕ} {key : List ℕ} {from turn : Turn} {old new : List ℕ → Type 0} → ((b : List ℕ) → new b → old b) → SameAhead w key from turn old → StepsFrom w key turn step.Passed new → SameAhead w key from (next_turn turn) new
-same_more few same steps = record { each = λ b is. same.each b (few b is) ∙ steps.each b is }
-
-pub meets_empty : {w : ℕ} {key : List ℕ} {from turn : Turn} {old new : List ℕ → Type 0} → ((b : List ℕ) → new b → old b) → SameAhead w key from turn old → StepsFrom w key turn step.Empty new → Meets w key from met.End new
-meets_empty few same steps = record { each = λ b is. same.each b (few b is) ∙ steps.each b is }
-
 pub meets_none : {w : ℕ} {key : List ℕ} {from turn : Turn} {images : List ℕ → Type 0} → turn.left ≡ 0 → SameAhead w key from turn images → Meets w key from met.End images
 meets_none {w = w} {key = key} {turn = turn} none same = record { each = λ b is. same.each b is ∙ none_left w b key turn none }
-
-pub meets_value : {w : ℕ} {key : List ℕ} {from turn : Turn} {old new : List ℕ → Type 0} (span : Span) → ((b : List ℕ) → new b → old b) → SameAhead w key from turn old → StepsFrom w key turn (step.Value span) new → Meets w key from (met.Value span (next_turn turn)) new
-meets_value span few same steps = record { each = λ b is. same.each b (few b is) ∙ steps.each b is }
-
-pub meets_broken : {w : ℕ} {key : List ℕ} {from turn : Turn} {old new : List ℕ → Type 0} (place : ℕ) → ((b : List ℕ) → new b → old b) → SameAhead w key from turn old → StepsFrom w key turn (step.Broken place) new → Meets w key from (met.Broken place) new
-meets_broken place few same steps = record { each = λ b is. same.each b (few b is) ∙ steps.each b is }
