@@ -71,7 +71,7 @@ pub record LooksAt (w : ℕ) (key : List ℕ) (place : ℕ) (look : Look) (image
 -- a value that was found lies inside a file of so many bytes
 abbrev pub LookWithin : ℕ → Look → Type 0
 LookWithin size (look.Value span) = span.place + span.len ≤ size
-LookWithin size other = Unit {0}
+LookWithin size _ = Unit {0}
 
 -- what a turn tells of what is left of the look-up
 abbrev pub StepTells : ℕ → List ℕ → Turn → Step → List ℕ → Type 0

@@ -60,25 +60,25 @@ fn put_record<S: Store, L: Width, E: Write>(
     options: &MakeOptions,
     input: u64,
     number: u64,
-    record: &Record,
+    from: &Record,
     errors: &mut E,
 ) -> Result<(), Fault>
     ensures ok { (cs : List Incoming) (start : Option (List ℕ))
         → InCourse options.now cs start (E.contents errors.old) maker.old
         → OnOk result (InCourse options.now
-        (cs ++ record { input = input; number = number; it = key_value record.now } ∷ [])
+        (cs ++ record { input = input; number = number; it = key_value from.now } ∷ [])
         start (E.contents errors.new) maker.new) }
     ensures fails { (cs : List Incoming) (start : Option (List ℕ))
         → InCourse options.now cs start (E.contents errors.old) maker.old
         → IfErr result (λ f. WhereHonest (S.image maker.new.store) (PutStops L.WORD options.now cs
-        (record { input = input; number = number; it = key_value record.now })
+        (record { input = input; number = number; it = key_value from.now })
         start (E.contents errors.new) f)) }
     ensures comes { ComesFrom (S.image maker.old.store) (S.image maker.new.store) }
     ensures failures { S.failures maker.old.store ≤ S.failures maker.new.store }
     ensures failed { IfErr result
         (λ f. IsOfStore f → S.failures maker.old.store < S.failures maker.new.store) }
 {
-    let put = maker.put(options.put_mode(), &record.key, &record.value)?;
+    let put = maker.put(options.put_mode(), &from.key, &from.value)?;
     tell_put(options, input, number, put, errors)
 }
 
