@@ -2,11 +2,15 @@
 //! contracts of what it calls alone.
 #![tactic(auto)]
 
+mod ask;
 mod form;
 mod make;
+mod read;
 
+pub use ask::{AskFault, write_finished};
 pub use form::first_record;
 pub use make::file_of_latest;
+pub use read::write_values;
 
 #[cfg(test)]
 mod tests;

@@ -1,0 +1,103 @@
+-- The values of a key that were written, and those that are left.
+use Rattle.std.proofs.Common.{◌≡◌, ℕ, inl, inr, ◌⊎◌, List, [], ◌∷◌, ◌++◌, flat_map, map, refl, sym, ap, subst, ◌∙◌, append_assoc, Option, Some, None}
+use Rattle.std.proofs.lemmas.List.{append-nil}
+use Rattle.std.proofs.lemmas.List.Concat.{flat_map-append}
+use Rattle.std.specs.List.{concat}
+use Rattle.std.specs.Io.KnownBytes.{Appends}
+use Rattle.cdb_store.specs.declared.store.Store.{Ghosts}
+use Rattle.cdb_form.specs.Format.File.{file_bytes}
+use Rattle.cdb_form.specs.Format.Record.{KeyValue}
+use Rattle.cdb_form.specs.declared.damage.Damage.{Damage}
+use Rattle.cdb_form.specs.declared.width.Width.{Ghosts as Widths}
+use Rattle.cdb_form.proofs.WritingLemmas.{appends_then}
+use Rattle.cdb_read.specs.Laws.{FindsValues}
+use Rattle.cdb_read.specs.Lookup.{Found, bytes_of, lookup_of}
+use Rattle.cdb_read.specs.Values.{values_of}
+use Rattle.cdb_read.specs.Views.Finder.{left_in, FindingFails}
+use Rattle.cdb_read.specs.Views.Reads.{CopyingFails}
+use Rattle.cdb_read.specs.Views.Search.{found_ahead, nothing_found, found_damaged, with_span}
+use Rattle.cdb_read.specs.declared.fault.ReadFault.{ReadFault}
+use Rattle.cdb_read.specs.declared.fault.ReadFault.TheVariants.{Short, Table, Record, Slot, Twice, Unindexed, Device, NoMemory, Output}
+use Rattle.cdb_read.specs.declared.finder.Finder.{Finder}
+use Rattle.cdb_read.specs.declared.span.Span.{Span}
+
+-- some spans, and then what is left
+abbrev pub with_spans : List Span → Found → Found
+with_spans spans f = record { spans = spans ++ f.spans; damage = f.damage }
+
+-- in each image these spans are the first of the look-up, and their bytes were written
+pub record AskedSoFar (w : ℕ) (key : List ℕ) (old new : List ℕ → Type 0) (left : List ℕ → Found) (start now : Option (List ℕ)) : Type 0 where
+  pub spans : List Span
+  pub images : (b : List ℕ) → new b → old b
+  pub first : (b : List ℕ) → new b → lookup_of w b key ≡ with_spans spans (left b)
+  pub written : (b : List ℕ) → new b → Appends start now (flat_map (bytes_of b) spans)
+
+appends_none : (o : Option (List ℕ)) → Appends o o []
+appends_none None = tt
+appends_none (Some xs) = sym (append-nil xs)
+
+pub asked_none : (w : ℕ) (key : List ℕ) (images : List ℕ → Type 0) (left : List ℕ → Found) (start : Option (List ℕ)) → ((b : List ℕ) → images b → left b ≡ lookup_of w b key) → AskedSoFar w key images images left start start
+asked_none w key images left start finds = record { spans = []; images = λ b is. is; first = λ b is. sym (finds b is); written = λ b is. appends_none start }
+
+-- what is left stays where key and search do
+pub same_left : {S L : Type 0} {s : Ghosts S} {l : Widths L} (w : ℕ) (b : List ℕ) (t u : Finder S L s l) → u.key.now ≡ t.key.now → u.searching ≡ t.searching → left_in w b t ≡ left_in w b u
+same_left w b t u key searching = sym (ap (λ k. found_ahead w b k u.searching) key ∙ ap (found_ahead w b t.key.now) searching)
+
+-- one value more
+pub asked_more : (w : ℕ) (key : List ℕ) (old mid new : List ℕ → Type 0) (left rest : List ℕ → Found) (start now end : Option (List ℕ)) (span : Span) → AskedSoFar w key old mid left start now → ((b : List ℕ) → new b → mid b)
+    → ((b : List ℕ) → new b → left b ≡ with_span span (rest b)) → ((b : List ℕ) → new b → Appends now end (bytes_of b span)) → AskedSoFar w key old new rest start end
+asked_more w key old mid new left rest start now end span h fewer gives copied = record {
+  spans = h.spans ++ span ∷ [];
+  images = λ b is. h.images b (fewer b is);
+  first = λ b is.
+      h.first b (fewer b is) ∙ ap (with_spans h.spans) (gives b is)
+      ∙ ap (λ s. record { spans = s; damage = (rest b).damage }) (sym (append_assoc h.spans (span ∷ []) (rest b).spans));
+  written = λ b is.
+      subst (Appends start end) (sym (flat_map-append (bytes_of b) h.spans (span ∷ []) ∙ ap (λ t. flat_map (bytes_of b) h.spans ++ t) (append-nil (bytes_of b span))))
+      (appends_then start now end _ _ (h.written b (fewer b is)) (copied b is));
+}
+
+joined : (b : List ℕ) (spans : List Span) → flat_map (bytes_of b) spans ≡ concat (map (bytes_of b) spans)
+joined b [] = refl
+joined b (s ∷ spans) = ap (λ t. bytes_of b s ++ t) (joined b spans)
+
+-- in the file of some records these are the key's values
+pub asked_all : (w : ℕ) (key : List ℕ) (rs : List KeyValue) (old new : List ℕ → Type 0) (left : List ℕ → Found) (start now : Option (List ℕ)) (b : List ℕ) → AskedSoFar w key old new left start now → new b → left b ≡ nothing_found → b ≡ file_bytes w rs
+    → FindsValues w rs key → Appends start now (concat (values_of key rs))
+asked_all w key rs old new left start now b h is none file law =
+    let all : (lookup_of w b key).spans ≡ h.spans = ap (λ f. f.spans) (h.first b is ∙ ap (with_spans h.spans) none) ∙ append-nil h.spans in
+    let values : map (bytes_of b) (lookup_of w b key).spans ≡ values_of key rs = subst (λ v. map (bytes_of v) (lookup_of w v key).spans ≡ values_of key rs) (sym file) law.values in
+    subst (Appends start now) (joined b h.spans ∙ ap concat (ap (map (bytes_of b)) (sym all) ∙ values)) (h.written b is)
+
+-- and none of it is damaged
+no_damage : (w : ℕ) (key : List ℕ) (rs : List KeyValue) (old new : List ℕ → Type 0) (left : List ℕ → Found) (start now : Option (List ℕ)) (b : List ℕ) (d : Damage) → AskedSoFar w key old new left start now → new b → left b ≡ found_damaged d → b ≡ file_bytes w rs
+    → FindsValues w rs key → ⊥
+no_damage w key rs old new left start now b d h is damaged file law =
+    let some : (lookup_of w b key).damage ≡ Some d = ap (λ f. f.damage) (h.first b is ∙ ap (with_spans h.spans) damaged) in
+    let none : (lookup_of w b key).damage ≡ None = subst (λ v. (lookup_of w v key).damage ≡ None) (sym file) law.sound in
+    let no_one : None ≡ Some d = sym none ∙ some in
+    cc
+
+-- so a finder fails where its store does, and a copy where its writer or its store does
+pub finder_fails : {S L : Type 0} {s : Ghosts S} {l : Widths L} (w : ℕ) (key : List ℕ) (rs : List KeyValue) (old : List ℕ → Type 0) (start now : Option (List ℕ)) (t u : Finder S L s l) (b : List ℕ) (f : ReadFault)
+    → AskedSoFar w key old (s.image t.reader.now.store) (λ x. left_in w x t) start now → s.image t.reader.now.store b → s.image u.reader.now.store b → FindingFails w t u f → b ≡ file_bytes w rs → FindsValues w rs key → (f ≡ Device) ⊎ (f ≡ Output)
+finder_fails w key rs old start now t u b Device h was is fails file law = inl refl
+finder_fails {s = s} w key rs old start now t u b (Table n) h was is fails file law = absurd (no_damage w key rs old (s.image t.reader.now.store) (λ x. left_in w x t) start now b _ h was (fails.1 b is) file law)
+finder_fails {s = s} w key rs old start now t u b (Record place) h was is fails file law = absurd (no_damage w key rs old (s.image t.reader.now.store) (λ x. left_in w x t) start now b _ h was (fails.1 b is) file law)
+finder_fails w key rs old start now t u b Short h was is fails file law = absurd fails
+finder_fails w key rs old start now t u b (Slot n i) h was is fails file law = absurd fails
+finder_fails w key rs old start now t u b (Twice place) h was is fails file law = absurd fails
+finder_fails w key rs old start now t u b (Unindexed place) h was is fails file law = absurd fails
+finder_fails w key rs old start now t u b NoMemory h was is fails file law = absurd fails
+finder_fails w key rs old start now t u b Output h was is fails file law = absurd fails
+
+pub copy_fails : {S : Type 0} (s : Ghosts S) (old new : S) (f : ReadFault) → CopyingFails s old new f → (f ≡ Device) ⊎ (f ≡ Output)
+copy_fails s old new Output fails = inr refl
+copy_fails s old new Device fails = inl refl
+copy_fails s old new (Table n) fails = absurd fails
+copy_fails s old new (Record place) fails = absurd fails
+copy_fails s old new Short fails = absurd fails
+copy_fails s old new (Slot n i) fails = absurd fails
+copy_fails s old new (Twice place) fails = absurd fails
+copy_fails s old new (Unindexed place) fails = absurd fails
+copy_fails s old new NoMemory fails = absurd fails

@@ -1,0 +1,16 @@
+use Rattle.std.proofs.Common.{◌≡◌}
+use Rattle.cdb_read.specs.Views.Finder.{left_in, slots_left}
+use Rattle.cdb_uses.proofs.Asking.{AskedSoFar}
+use Rattle.cdb_uses.proofs.read.write_values.Given as goal
+
+-- the values so far were written
+abbrev pub invariant-loop-span : goal.invariant-loop-span
+invariant-loop-span g l =
+    record {
+      same : l.finder.reader.ghost_name ≡ l.initial.finder.reader.ghost_name;
+      key : l.finder.key.now ≡ l.key;
+      asked : AskedSoFar g.L.Width.WORD l.key (g.S.Store.image l.fn.reader.store) (g.S.Store.image l.finder.reader.now.store) (λ b. left_in g.L.Width.WORD b l.finder) (g.W.Write.contents l.fn.w) (g.W.Write.contents l.w);
+    }
+
+abbrev pub decreases-loop-span : goal.decreases-loop-span
+decreases-loop-span g l = slots_left l.finder

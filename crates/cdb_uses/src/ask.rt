@@ -1,0 +1,48 @@
+// A caller of cdb_make and cdb_read: a database is made, and asked.
+ghost use Rattle.std.specs.Prelude.{List, OnOk};
+ghost use Rattle.std.specs.List.{concat};
+ghost use Rattle.std.specs.Io.KnownBytes.{Appends};
+ghost use Rattle.cdb_form.specs.Format.Record.{KeyValue};
+ghost use Rattle.cdb_make.specs.Views.Maker.{Holds};
+ghost use Rattle.cdb_read.specs.Values.{values_of};
+
+use crate::read::write_values;
+use cdb_form::Width;
+use cdb_make::{MakeFault, Maker};
+use cdb_read::{ReadFault, Reader};
+use cdb_store::MemStore;
+use std::io::Write;
+
+/// Why the values of a key were not written.
+#[derive(Clone, Copy, Debug, PartialEq, Eq)]
+pub enum AskFault {
+    /// The database was not finished.
+    Make(MakeFault),
+    /// It was not read, or its values were not written.
+    Read(ReadFault),
+}
+
+/// Finishes a database in memory, and writes the values of a key in it: exactly those of the
+/// records that the maker holds, in their order.
+pub fn write_finished<L: Width, W: Write>(
+    maker: Maker<MemStore, L>,
+    key: &[u8],
+    w: &mut W,
+) -> Result<(), AskFault>
+    ensures { (rs : List KeyValue) → Holds maker rs
+        → OnOk result (Appends (W.contents w.old) (W.contents w.new)
+        (concat (values_of key.now rs))) }
+{
+    let store = match maker.finish() {
+        Ok(store) => store,
+        Err(unfinished) => return Err(AskFault::Make(unfinished.fault)),
+    };
+    let mut reader = match Reader::<MemStore, L>::open(store) {
+        Ok(reader) => reader,
+        Err(unread) => return Err(AskFault::Read(unread.fault)),
+    };
+    match write_values(&mut reader, key, w) {
+        Ok(()) => Ok(()),
+        Err(fault) => Err(AskFault::Read(fault)),
+    }
+}
