@@ -1,5 +1,5 @@
 -- The values of a key that were written, and those that are left.
-use Rattle.std.proofs.Common.{◌≡◌, ℕ, inl, inr, ◌⊎◌, List, [], ◌∷◌, ◌++◌, flat_map, map, refl, sym, ap, subst, ◌∙◌, append_assoc, Option, Some, None}
+use Rattle.std.proofs.Common.{◌≡◌, ℕ, inl, ◌⊎◌, List, [], ◌∷◌, ◌++◌, flat_map, map, refl, sym, ap, subst, ◌∙◌, append_assoc, Option, Some, None}
 use Rattle.std.proofs.lemmas.List.{append-nil}
 use Rattle.std.proofs.lemmas.List.Concat.{flat_map-append}
 use Rattle.std.specs.List.{concat}
@@ -14,7 +14,6 @@ use Rattle.cdb_read.specs.Laws.{FindsValues}
 use Rattle.cdb_read.specs.Lookup.{Found, bytes_of, lookup_of}
 use Rattle.cdb_read.specs.Values.{values_of}
 use Rattle.cdb_read.specs.Views.Finder.{left_in, FindingFails}
-use Rattle.cdb_read.specs.Views.Reads.{CopyingFails}
 use Rattle.cdb_read.specs.Views.Search.{found_ahead, nothing_found, found_damaged, with_span}
 use Rattle.cdb_read.specs.declared.fault.ReadFault.{ReadFault}
 use Rattle.cdb_read.specs.declared.fault.ReadFault.TheVariants.{Short, Table, Record, Slot, Twice, Unindexed, Device, NoMemory, Output}
@@ -78,7 +77,7 @@ no_damage w key rs old new left start now b d h is damaged file law =
     let no_one : None ≡ Some d = sym none ∙ some in
     cc
 
--- so a finder fails where its store does, and a copy where its writer or its store does
+-- so a finder fails where its store does
 pub finder_fails : {S L : Type 0} {s : Ghosts S} {l : Widths L} (w : ℕ) (key : List ℕ) (rs : List KeyValue) (old : List ℕ → Type 0) (start now : Option (List ℕ)) (t u : Finder S L s l) (b : List ℕ) (f : ReadFault)
     → AskedSoFar w key old (s.image t.reader.now.store) (λ x. left_in w x t) start now → s.image t.reader.now.store b → s.image u.reader.now.store b → FindingFails w t u f → b ≡ file_bytes w rs → FindsValues w rs key → (f ≡ Device) ⊎ (f ≡ Output)
 finder_fails w key rs old start now t u b Device h was is fails file law = inl refl
@@ -90,14 +89,3 @@ finder_fails w key rs old start now t u b (Twice place) h was is fails file law 
 finder_fails w key rs old start now t u b (Unindexed place) h was is fails file law = absurd fails
 finder_fails w key rs old start now t u b NoMemory h was is fails file law = absurd fails
 finder_fails w key rs old start now t u b Output h was is fails file law = absurd fails
-
-pub copy_fails : {S : Type 0} (s : Ghosts S) (old new : S) (f : ReadFault) → CopyingFails s old new f → (f ≡ Device) ⊎ (f ≡ Output)
-copy_fails s old new Output fails = inr refl
-copy_fails s old new Device fails = inl refl
-copy_fails s old new (Table n) fails = absurd fails
-copy_fails s old new (Record place) fails = absurd fails
-copy_fails s old new Short fails = absurd fails
-copy_fails s old new (Slot n i) fails = absurd fails
-copy_fails s old new (Twice place) fails = absurd fails
-copy_fails s old new (Unindexed place) fails = absurd fails
-copy_fails s old new NoMemory fails = absurd fails
