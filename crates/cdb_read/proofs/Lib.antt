@@ -10,3 +10,6 @@ pub mod Beginnings
 pub mod Compare
 pub mod Headers
 pub mod Searches
+pub mod Windows
+pub mod Pairs
+pub mod Walks

@@ -6,3 +6,6 @@ pub mod Inside
 pub mod Turning
 pub mod Search
 pub mod Finder
+pub mod Window
+pub mod Walking
+pub mod Walk

@@ -7,14 +7,21 @@ pub mod laws;
 mod looking;
 mod pieces;
 mod reader;
+mod record_walk;
+mod rest;
 mod search;
 mod span;
+mod standing;
 mod turn;
+mod walking;
+mod window;
 
 pub use fault::ReadFault;
 pub use finder::Finder;
 pub use reader::{Reader, Unread};
+pub use record_walk::Walk;
 pub use span::{Pair, Span};
+pub use walking::walk;
 
 #[cfg(test)]
 mod tests;

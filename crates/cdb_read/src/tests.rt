@@ -4,3 +4,4 @@ mod files;
 mod finding;
 mod reading;
 mod uses;
+mod walking;

@@ -1,0 +1,113 @@
+-- The record that stands at a place, and the walk behind it.
+use Rattle.std.proofs.Common.{◌≡◌, ℕ, ◌+◌, ◌-◌, ◌*◌, ◌<◌, ◌≤◌, ◌⊎◌, List, ◌++◌, length, take, drop, refl, sym, ap, ◌∙◌, arith, inl, inr, length-drop}
+use Rattle.std.proofs.lemmas.List.{take-append-drop, drop-drop}
+use Rattle.std.proofs.lemmas.Bool.{cases_lt}
+use Rattle.std.proofs.Math.Nat.{le-min}
+use Rattle.cdb_store.specs.Images.{part, Holds}
+use Rattle.cdb_store.proofs.Parts.{length-part}
+use Rattle.cdb_form.specs.Format.Pair.{WordPair}
+use Rattle.cdb_form.specs.Format.Reading.{pair_at}
+use Rattle.cdb_form.specs.Format.Record.{KeyValue, record_size}
+use Rattle.cdb_form.specs.Format.Walk.{front_size, walk_from, with_first}
+use Rattle.cdb_form.specs.Views.Pairs.{header_pair}
+use Rattle.cdb_form.specs.declared.header.Header.{Header}
+use Rattle.cdb_form.proofs.Fronts.{Begins}
+use Rattle.cdb_form.proofs.WalkSteps.{walk_from-more, walk_from-no_header, walk_from-no_body}
+use Rattle.cdb_read.proofs.Headers.{front_pair}
+use Rattle.cdb_read.specs.Views.Walking.{record_of, behind, LiesAt, StandsAt}
+use Rattle.cdb_read.specs.declared.rest.Rest.{Rest}
+use Rattle.cdb_read.specs.declared.span.Pair.{Pair}
+use Rattle.std.specs.Prelude.{Some, None, min}
+
+-- in each image, of n bytes, the header at a place tells these lengths
+pub record HeaderTells (w p n : ℕ) (lengths : WordPair) (images : List ℕ → Type 0) : Type 0 where
+  pub told : (b : List ℕ) → images b → pair_at w (drop p b) ≡ lengths
+  pub long : (b : List ℕ) → images b → length b ≡ n
+
+pub header_tells : {w p n : ℕ} {bytes : List ℕ} {images : List ℕ → Type 0} (h : Header) → length bytes ≡ 2 * w → header_pair h ≡ pair_at w bytes → Holds p bytes images → ((b : List ℕ) → images b → length b ≡ n) → HeaderTells w p n (header_pair h) images
+header_tells {w = w} {p = p} {bytes = bytes} h l e held long = record {
+  told = λ b is. sym (front_pair w (length bytes) (drop p b) l) ∙ ap (pair_at w) (held.each b is) ∙ sym e;
+  long = long;
+}
+
+-- the least of two is too small
+abbrev pub either : ℕ → ℕ → ℕ → Type 0
+either n e k = (n < k) ⊎ (e < k)
+
+pub least_below : (n e limit k : ℕ) → limit ≡ min n e → limit < k → either n e k
+least_below n e limit k least below = elim (cases_lt n k) [
+  | inl lt ↦ inl lt
+  | inr ge ↦ (elim (cases_lt e k) [
+    | inl lt ↦ inr lt
+    | inr ge_end ↦ absurd (let l = le-min ge ge_end in omega arith)
+  ])
+]
+
+-- no room for a header
+pub no_header : {rest : Rest} {w n : ℕ} {images : List ℕ → Type 0} → 0 < w → rest.place < rest.end → either n rest.end (rest.place + 2 * w) → ((b : List ℕ) → images b → length b ≡ n) → StandsAt w rest None images
+no_header {rest = rest} {w = w} some before few long = record {
+  each = λ b is.
+      let l : length (drop rest.place b) ≡ length b - rest.place = length-drop rest.place b in
+      let size = long b is in
+      walk_from-no_header w rest.place rest.end (drop rest.place b) before
+      (elim few [ inl a ↦ inr (omega arith) | inr a ↦ inl (omega arith) ]);
+}
+
+-- no room for what it tells
+pub no_body : {rest : Rest} {w n k v : ℕ} {images : List ℕ → Type 0} → rest.place < rest.end → rest.place + 2 * w ≤ n → rest.place + 2 * w ≤ rest.end → either n rest.end (rest.place + (2 * w + k + v))
+    → HeaderTells w rest.place n (record { first = k; second = v }) images → StandsAt w rest None images
+no_body {rest = rest} {w = w} {k = k} {v = v} before room area few header = record {
+  each = λ b is.
+      let at : List ℕ = drop rest.place b in
+      let size = header.long b is in
+      let l : length at ≡ length b - rest.place = length-drop rest.place b in
+      let front : length (take (2 * w) at) ≡ 2 * w = length-part rest.place (2 * w) b (omega arith) in
+      let told : pair_at w (take (2 * w) at) ≡ record { first = k; second = v } = front_pair w (2 * w) at refl ∙ header.told b is in
+      let needs : front_size w (take (2 * w) at) ≡ 2 * w + k + v = ap (λ (p : WordPair). 2 * w + p.first + p.second) told in
+      walk_from-no_body w rest.place rest.end at (take (2 * w) at) (drop (2 * w) at) before (sym (take-append-drop (2 * w) at)) front (omega arith)
+      (elim few [ inl a ↦ inr (omega arith) | inr a ↦ inl (omega arith) ]);
+}
+
+-- some bytes, and those behind them
+split_at : (n q : ℕ) (b : List ℕ) → drop q b ≡ part q n b ++ drop (q + n) b
+split_at n q b = sym (take-append-drop n (drop q b)) ∙ ap (λ t. part q n b ++ t) (drop-drop n q b)
+
+pair_is : (a b c d : ℕ) → a ≡ c → b ≡ d → (let p : WordPair = record { first = a; second = b } in p) ≡ record { first = c; second = d }
+pair_is a b c d e f = ap (λ x. let p : WordPair = record { first = x; second = b } in p) e ∙ ap (λ y. let p : WordPair = record { first = c; second = y } in p) f
+
+-- the record of a pair stands at the front
+begins_here : (w p : ℕ) (pair : Pair) (b : List ℕ) → LiesAt w p pair → behind pair ≤ length b → pair_at w (drop p b) ≡ record { first = pair.key.len; second = pair.value.len } → Begins w (drop p b) (record_of b pair) (drop (behind pair) b)
+begins_here w p pair b lies inside told =
+    let here = lies.here in
+    let key = lies.key in
+    let value = lies.value in
+    let at : p + 2 * w ≡ pair.key.place = omega arith in
+    let klen : length (part pair.key.place pair.key.len b) ≡ pair.key.len = length-part pair.key.place pair.key.len b (omega arith) in
+    let vlen : length (part pair.value.place pair.value.len b) ≡ pair.value.len = length-part pair.value.place pair.value.len b (omega arith) in
+    record {
+      header = take (2 * w) (drop p b);
+      long = length-part p (2 * w) b (omega arith);
+      lengths = front_pair w (2 * w) (drop p b) refl ∙ told ∙ pair_is pair.key.len pair.value.len _ _ (sym klen) (sym vlen);
+      split = split_at (2 * w) p b
+          ∙ ap (λ q. take (2 * w) (drop p b) ++ drop q b) at
+          ∙ ap (λ t. take (2 * w) (drop p b) ++ t) (split_at pair.key.len pair.key.place b
+          ∙ ap (λ q. part pair.key.place pair.key.len b ++ drop q b) (sym value)
+          ∙ ap (λ t. part pair.key.place pair.key.len b ++ t) (split_at pair.value.len pair.value.place b));
+    }
+
+pub stands : {rest : Rest} {w n : ℕ} {images : List ℕ → Type 0} (pair : Pair) → 0 < w → LiesAt w rest.place pair → behind pair ≤ n → behind pair ≤ rest.end
+    → HeaderTells w rest.place n (record { first = pair.key.len; second = pair.value.len }) images → StandsAt w rest (Some pair) images
+stands {rest = rest} {w = w} pair some lies inside before header = record {
+  each = λ b is.
+      let size = header.long b is in
+      let r : KeyValue = record_of b pair in
+      let begins = begins_here w rest.place pair b lies (omega arith) (header.told b is) in
+      let here = lies.here in
+      let key = lies.key in
+      let value = lies.value in
+      let klen : length r.key ≡ pair.key.len = length-part pair.key.place pair.key.len b (omega arith) in
+      let vlen : length r.value ≡ pair.value.len = length-part pair.value.place pair.value.len b (omega arith) in
+      let next : rest.place + record_size w r ≡ behind pair = omega arith in
+      walk_from-more w rest.place rest.end (drop rest.place b) r (drop (behind pair) b) some begins (omega arith)
+      ∙ ap (λ q. with_first r (walk_from w q rest.end (drop (behind pair) b))) next;
+}

@@ -1,0 +1,63 @@
+-- What a walk is still to give.
+use Rattle.std.specs.Prelude.{ℕ, ◌≡◌, ◌<◌, ◌≤◌, List}
+use Rattle.cdb_store.specs.declared.store.Store.{Ghosts}
+use Rattle.cdb_form.specs.Format.Walk.{Walked, no_walk, damaged, with_first}
+use Rattle.cdb_form.specs.declared.width.Width.{Ghosts as Widths}
+use Rattle.cdb_form.specs.declared.damage.Damage.TheVariants as damage
+use Rattle.cdb_read.specs.Views.Walking.{record_of, behind, walk_ahead, next_place, size_ahead, LiesAt}
+use Rattle.cdb_read.specs.declared.fault.ReadFault.{ReadFault}
+use Rattle.cdb_read.specs.declared.fault.ReadFault.TheVariants.{Table, Record, Device}
+use Rattle.cdb_read.specs.declared.record_walk.Walk.{Walk}
+use Rattle.cdb_read.specs.declared.rest.Walking.TheVariants.{AtEnd, NoTable, NoRecord}
+use Rattle.cdb_read.specs.declared.span.Pair.{Pair}
+
+-- what is left of the walk, in a list of bytes
+abbrev pub left_of : {S L : Type 0} {s : Ghosts S} {l : Widths L} → ℕ → List ℕ → Walk S L s l
+    → Walked
+left_of w b t = walk_ahead w b t.walking
+
+-- the place of the next record; and how many bytes are left up to the record end
+abbrev pub place_of : {S L : Type 0} {s : Ghosts S} {l : Widths L} → ℕ → Walk S L s l → ℕ
+place_of w t = next_place w t.walking
+
+abbrev pub bytes_left : {S L : Type 0} {s : Ghosts S} {l : Widths L} → Walk S L s l → ℕ
+bytes_left t = size_ahead t.walking
+
+-- it has answered `None`, that a table stands too early, or that a record isn't whole
+abbrev pub HasWalked : {S L : Type 0} {s : Ghosts S} {l : Widths L} → Walk S L s l → Type 0
+HasWalked t = t.walking ≡ AtEnd
+
+abbrev pub HasNoTable : {S L : Type 0} {s : Ghosts S} {l : Widths L} → Walk S L s l → ℕ → Type 0
+HasNoTable t n = t.walking ≡ NoTable n
+
+abbrev pub HasNoRecord : {S L : Type 0} {s : Ghosts S} {l : Widths L} → Walk S L s l → ℕ → Type 0
+HasNoRecord t place = t.walking ≡ NoRecord place
+
+-- a call gave a pair: the record at the next place, which is the first of what was left
+pub record GivesPair {S L : Type 0} {s : Ghosts S} {l : Widths L} (w : ℕ)
+    (old new : Walk S L s l) (pair : Pair) : Type 0 where
+  pub first : (b : List ℕ) → s.image new.reader.now.store b
+      → left_of w b old ≡ with_first (record_of b pair) (left_of w b new)
+  pub lies : LiesAt w (place_of w old) pair
+  pub next : place_of w new ≡ behind pair
+  pub inside : behind pair ≤ s.size new.reader.now.store
+  pub fewer : bytes_left new < bytes_left old
+
+-- or none, since nothing was left
+pub record GivesNoPair {S L : Type 0} {s : Ghosts S} {l : Widths L} (w : ℕ)
+    (old new : Walk S L s l) : Type 0 where
+  pub none : (b : List ℕ) → s.image new.reader.now.store b → left_of w b old ≡ no_walk
+  pub ended : HasWalked new
+
+-- or a fault: the store failed, and the walk is where it was; or the damage of what was left
+abbrev pub WalkingFails : {S L : Type 0} {s : Ghosts S} {l : Widths L} → ℕ → Walk S L s l
+    → Walk S L s l → ReadFault → Type 0
+WalkingFails {s = s} w old new Device = (new.walking ≡ old.walking)
+    × (s.failures old.reader.now.store < s.failures new.reader.now.store)
+WalkingFails {s = s} w old new (Table n) = HasNoTable new n
+    × ((b : List ℕ) → s.image new.reader.now.store b
+    → left_of w b old ≡ damaged (damage.Table n))
+WalkingFails {s = s} w old new (Record place) = HasNoRecord new place
+    × ((b : List ℕ) → s.image new.reader.now.store b
+    → left_of w b old ≡ damaged (damage.Record place))
+WalkingFails w old new fault = ⊥

@@ -1,0 +1,66 @@
+-- What a walk is still to give, and what each part of it tells of the bytes that it reads.
+use Rattle.std.specs.Prelude.{ℕ, ◌≡◌, ◌+◌, ◌-◌, ◌≤◌, List, drop, Option, Some, None}
+use Rattle.cdb_form.specs.declared.damage.Damage.TheVariants as damage
+use Rattle.cdb_form.specs.Format.Pair.{pair_size, head_size}
+use Rattle.cdb_form.specs.Format.Record.{KeyValue}
+use Rattle.cdb_form.specs.Format.Walk.{Walked, walk_from, no_walk, damaged, with_first}
+use Rattle.cdb_read.specs.Lookup.{bytes_of}
+use Rattle.cdb_read.specs.declared.rest.Rest.{Rest}
+use Rattle.cdb_read.specs.declared.rest.Walking.{Walking}
+use Rattle.cdb_read.specs.declared.rest.Walking.TheVariants.{At, AtEnd, NoTable, NoRecord}
+use Rattle.cdb_read.specs.declared.span.Pair.{Pair}
+
+-- the record of a pair
+abbrev pub record_of : List ℕ → Pair → KeyValue
+record_of b pair = record { key = bytes_of b pair.key; value = bytes_of b pair.value }
+
+-- the place behind it
+abbrev pub behind : Pair → ℕ
+behind pair = pair.value.place + pair.value.len
+
+-- what a walk gives from where it stands
+abbrev pub walk_ahead : ℕ → List ℕ → Walking → Walked
+walk_ahead w b (At rest) = walk_from w rest.place rest.end (drop rest.place b)
+walk_ahead w b AtEnd = no_walk
+walk_ahead w b (NoTable n) = damaged (damage.Table n)
+walk_ahead w b (NoRecord place) = damaged (damage.Record place)
+
+-- the place of the next record, which is the first one behind the head; and how many bytes are left
+-- from there to the record end
+abbrev pub next_place : ℕ → Walking → ℕ
+next_place w (At rest) = rest.place
+next_place w AtEnd = 0
+next_place w (NoTable n) = head_size w
+next_place w (NoRecord place) = place
+
+abbrev pub size_ahead : Walking → ℕ
+size_ahead (At rest) = rest.end - rest.place
+size_ahead other = 0
+
+-- the key lies behind the header at a place, and the value behind the key
+pub record LiesAt (w place : ℕ) (pair : Pair) : Type 0 where
+  pub here : pair.place ≡ place
+  pub key : pair.key.place ≡ pair.place + pair_size w
+  pub value : pair.value.place ≡ pair.key.place + pair.key.len
+
+-- what a look at the next place tells of some bytes
+abbrev pub StandsTells : ℕ → Rest → Option Pair → List ℕ → Type 0
+StandsTells w rest None b =
+    walk_from w rest.place rest.end (drop rest.place b) ≡ damaged (damage.Record rest.place)
+StandsTells w rest (Some pair) b =
+    walk_from w rest.place rest.end (drop rest.place b)
+    ≡ with_first (record_of b pair) (walk_from w (behind pair) rest.end (drop (behind pair) b))
+
+pub record StandsAt (w : ℕ) (rest : Rest) (found : Option Pair) (images : List ℕ → Type 0)
+    : Type 0 where
+  pub each : (b : List ℕ) → images b → StandsTells w rest found b
+
+-- a record that was found lies there, before the record end and inside a file of so many bytes
+pub record PairWithin (w : ℕ) (rest : Rest) (size : ℕ) (pair : Pair) : Type 0 where
+  pub lies : LiesAt w rest.place pair
+  pub before : behind pair ≤ rest.end
+  pub inside : behind pair ≤ size
+
+abbrev pub StandsWithin : ℕ → Rest → ℕ → Option Pair → Type 0
+StandsWithin w rest size None = Unit {0}
+StandsWithin w rest size (Some pair) = PairWithin w rest size pair

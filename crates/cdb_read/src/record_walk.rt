@@ -1,0 +1,91 @@
+// A walk over the records of a database.
+ghost use Rattle.std.specs.Prelude.{◌≡◌, ℕ, ◌+◌, ◌≤◌, List, IfOk, IfErr, MatchOption, Ok, Err, None};
+ghost use Rattle.cdb_read.specs.Lookup.{bytes_of};
+ghost use Rattle.cdb_read.specs.Views.Reads.{OnlyReads, ValueFails};
+ghost use Rattle.cdb_read.specs.Views.Window.{Shows};
+
+use crate::fault::ReadFault;
+use crate::reader::Reader;
+use crate::rest::{Rest, Walking};
+use crate::span::{Pair, Span};
+use crate::window::Window;
+use cdb_form::Width;
+use cdb_store::Store;
+use std::alloc::Global;
+
+/// Gives the records of a database, one after the other, through a window of its own.
+#[derive(Drop)]
+pub struct Walk<'a, S: Store, L: Width> {
+    /// The database.
+    pub(crate) reader: &'a mut Reader<S, L>,
+    /// Where the walk stands.
+    pub(crate) walking: Walking,
+    /// Through which it reads.
+    pub(crate) window: Window,
+    ghost shows: { Shows window (S.image reader.now.store) },
+}
+
+impl<'a, S: Store, L: Width> Walk<'a, S, L> {
+    ghost use Rattle.cdb_read.specs.Views.Walk.{GivesPair, GivesNoPair, WalkingFails};
+    ghost use Rattle.cdb_read.specs.Views.Walk.{HasWalked, HasNoTable, HasNoRecord};
+    ghost use Rattle.cdb_read.specs.declared.fault.ReadFault.TheVariants.{Table, Record};
+
+    /// Where the next record lies, or `None` at the record end.
+    pub fn next(&mut self) -> Result<Option<Pair>, ReadFault>
+        ensures same_reader { self.new.reader.ghost_name ≡ self.old.reader.ghost_name }
+        ensures reads { OnlyReads S.Store self.old.reader.now.store self.new.reader.now.store }
+        ensures gives { IfOk result (λ found. MatchOption found
+            (GivesNoPair L.WORD self.old self.new)
+            (GivesPair L.WORD self.old self.new)) }
+        ensures fails { IfErr result (WalkingFails L.WORD self.old self.new) }
+        // After the end and after a damage nothing is read, and the answer stays.
+        ensures ended { HasWalked self.old → (result ≡ Ok None) × (self.new ≡ self.old) }
+        ensures no_table { (n : _) → HasNoTable self.old n →
+            (result ≡ Err (Table n)) × (self.new ≡ self.old) }
+        ensures no_record { (place : _) → HasNoRecord self.old place →
+            (result ≡ Err (Record place)) × (self.new ≡ self.old) }
+    {
+        let rest = match self.walking {
+            Walking::AtEnd => return Ok(None),
+            Walking::NoTable(n) => return Err(ReadFault::Table(n)),
+            Walking::NoRecord(place) => return Err(ReadFault::Record(place)),
+            Walking::At(rest) => rest,
+        };
+        if rest.place == rest.end {
+            self.walking = Walking::AtEnd;
+            return Ok(None);
+        }
+        match self.reader.next_pair(&mut self.window, rest)? {
+            Some(pair) => {
+                let place = pair.value.place + pair.value.len;
+                let end = rest.end;
+                self.walking = Walking::At(Rest { place, end });
+                Ok(Some(pair))
+            }
+            None => {
+                self.walking = Walking::NoRecord(rest.place);
+                Err(ReadFault::Record(rest.place))
+            }
+        }
+    }
+
+    /// The bytes of a span, as `Reader::value` gives them. What is left of the walk stays.
+    pub fn value(&mut self, alloc: Global, span: Span) -> Result<Vec<u8>, ReadFault>
+        requires inside { span.place + span.len ≤ S.size self.old.reader.now.store }
+        ensures same_reader { self.new.reader.ghost_name ≡ self.old.reader.ghost_name }
+        ensures stays { self.new.walking ≡ self.old.walking }
+        ensures reads { OnlyReads S.Store self.old.reader.now.store self.new.reader.now.store }
+        ensures is { (b : List ℕ) → S.image self.new.reader.now.store b
+            → IfOk result (λ v. v.items ≡ bytes_of b span) }
+        ensures fails { IfErr result
+            (ValueFails S.Store self.old.reader.now.store self.new.reader.now.store) }
+    {
+        if self.window.covers(span.place, span.len) {
+            let bytes = self.window.shown(span.place, span.len as usize);
+            let mut taken = Vec::new(alloc);
+            taken.extend_from_slice(bytes)?;
+            return Ok(taken);
+        }
+        self.reader.value(alloc, span)
+    }
+}

@@ -1,0 +1,25 @@
+// Where a walk stands.
+ghost use Rattle.std.specs.Prelude.{◌≤◌};
+
+/// Where the records stand that a walk has left: from the next place to the record end.
+#[derive(Clone, Copy, Debug, PartialEq, Eq)]
+pub(crate) struct Rest {
+    /// The place of the next record, in bytes from the file's start.
+    pub(crate) place: u64,
+    /// The record end.
+    pub(crate) end: u64,
+    pub(crate) ghost ordered: { place ≤ end },
+}
+
+/// What a walk does next.
+#[derive(Clone, Copy, Debug, PartialEq, Eq)]
+pub(crate) enum Walking {
+    /// It looks at the next place.
+    At(Rest),
+    /// Nothing is left.
+    AtEnd,
+    /// The table of this number stands before the record area.
+    NoTable(u64),
+    /// No whole record stands at this place.
+    NoRecord(u64),
+}

@@ -1,0 +1,110 @@
+// Bytes of a store that were read ahead.
+ghost use Rattle.std.specs.Prelude.{◌≡◌, ◌+◌, ◌-◌, ◌≤◌, length, min, IfErr, OnOk};
+ghost use Rattle.std.specs.Bool.{OnTrue};
+ghost use Rattle.cdb_store.specs.Images.{Holds, part};
+ghost use Rattle.cdb_read.specs.Views.Reads.{OnlyReads, StoreFails};
+ghost use Rattle.cdb_read.specs.Views.Window.{Shows, Covers};
+
+use crate::fault::ReadFault;
+use crate::looking::has_bytes;
+use crate::pieces::read_part;
+use cdb_store::Store;
+
+/// How many bytes are read at once.
+const WINDOW: usize = 4096;
+
+/// Bytes of a store that were read, and where they stand.
+#[derive(Drop)]
+pub(crate) struct Window {
+    /// The bytes, and behind them others.
+    pub(crate) bytes: [u8; WINDOW],
+    /// The place of the first of them.
+    pub(crate) place: u64,
+    /// How many they are.
+    pub(crate) len: usize,
+}
+
+impl Window {
+    /// A window that shows nothing.
+    pub(crate) fn new() -> Window
+        ensures { result.len ≡ 0 }
+    {
+        Window {
+            bytes: [0; WINDOW],
+            place: 0,
+            len: 0,
+        }
+    }
+
+    /// Whether so many bytes from a place on are among its own.
+    pub(crate) fn covers(&self, place: u64, n: u64) -> bool
+        ensures { OnTrue result (Covers self.now place n) }
+    {
+        self.place <= place && has_bytes(self.len as u64, place - self.place, n)
+    }
+
+    /// So many of its bytes, from a place on.
+    pub(crate) fn shown(&self, place: u64, n: usize) -> &[u8]
+        requires short { self.now.len ≤ 4096 }
+        requires covers { Covers self.now place n }
+        ensures is { result.now ≡ part (place - self.now.place) n self.now.bytes }
+        ensures long { length result.now ≡ n }
+    {
+        let at = (place - self.place) as usize;
+        &self.bytes[at..at + n]
+    }
+
+    /// Reads the bytes from a place on, as many as there are and it has room for.
+    fn fill<S: Store>(&mut self, store: &mut S, place: u64) -> Result<(), ReadFault>
+        requires inside { place ≤ S.size store.old }
+        ensures place { OnOk result (self.new.place ≡ place) }
+        ensures len { OnOk result (self.new.len ≡ min 4096 (S.size store.old - place)) }
+        ensures shows { Shows self.new (S.image store.new) }
+        ensures reads { OnlyReads S.Store store.old store.new }
+        ensures fails { IfErr result (StoreFails S.Store store.old store.new) }
+    {
+        self.len = 0;
+        let n = (store.len() - place).min(WINDOW as u64) as usize;
+        read_part(store, place, &mut self.bytes[..n])?;
+        self.place = place;
+        self.len = n;
+        Ok(())
+    }
+
+    /// Covers so many bytes from a place on. The store is asked where the window lacks them.
+    fn cover<S: Store>(&mut self, store: &mut S, place: u64, n: u64) -> Result<(), ReadFault>
+        requires short { n ≤ 4096 }
+        requires inside { place + n ≤ S.size store.old }
+        requires shows { Shows self.old (S.image store.old) }
+        ensures covers { OnOk result (Covers self.new place n) }
+        ensures shows { Shows self.new (S.image store.new) }
+        ensures reads { OnlyReads S.Store store.old store.new }
+        ensures fails { IfErr result (StoreFails S.Store store.old store.new) }
+    {
+        if self.covers(place, n) {
+            return Ok(());
+        }
+        self.fill(store, place)
+    }
+
+    /// Fills `into` with the bytes from a place on.
+    pub(crate) fn read<S: Store>(
+        &mut self,
+        store: &mut S,
+        place: u64,
+        into: &mut [u8],
+    ) -> Result<(), ReadFault>
+        requires short { length into.old ≤ 4096 }
+        requires inside { place + length into.old ≤ S.size store.old }
+        requires shows { Shows self.old (S.image store.old) }
+        ensures read { OnOk result (Holds place into.new (S.image store.new)) }
+        ensures len { length into.new ≡ length into.old }
+        ensures shows { Shows self.new (S.image store.new) }
+        ensures reads { OnlyReads S.Store store.old store.new }
+        ensures fails { IfErr result (StoreFails S.Store store.old store.new) }
+    {
+        self.cover(store, place, into.len() as u64)?;
+        into.copy_from_slice(self.shown(place, into.len()));
+        Ok(())
+    }
+}
