@@ -1,10 +1,10 @@
 -- Bytes that are read piece by piece and compared.
 use Rattle.std.proofs.Common.{◌≡◌, ◌≢◌, ℕ, ◌+◌, ◌-◌, ◌≤◌, Bool, true, false, not, List, ◌++◌, length, take, drop, refl, sym, ap, ◌∙◌, arith}
 use Rattle.std.specs.Prelude.{bytes_eq}
-use Rattle.std.proofs.lemmas.List.{take_at, take-take, drop-take, drop-drop, length-take-le}
+use Rattle.std.proofs.lemmas.List.{take-take, drop-take, drop-drop, length-take-le}
 use Rattle.std.proofs.lemmas.Slice.Eq.{bytes_eq-Decides}
 use Rattle.std.proofs.Math.Seq.{take-add}
-use Rattle.cdb_store.specs.Images.{part, AfterRead}
+use Rattle.cdb_store.specs.Images.{part, Holds}
 use Rattle.cdb_store.proofs.Parts.{part_add}
 use Rattle.cdb_read.specs.Views.Search.{TellsSame}
 
@@ -12,22 +12,20 @@ use Rattle.cdb_read.specs.Views.Search.{TellsSame}
 pub record AgreesSoFar (at : ℕ) (bytes : List ℕ) (images : List ℕ → Type 0) : Type 0 where
   pub each : (b : List ℕ) → images b → part at (length bytes) b ≡ bytes
 
--- the two pieces that are compared
-compared : (n done : ℕ) (p piece key : List ℕ) → length p ≡ n → (take n (p ++ drop n piece) ≡ p) × (take ((done + n) - done) (drop done key) ≡ take n (drop done key))
-compared n done p piece key l = (take_at p (drop n piece) n l, (let e : (done + n) - done ≡ n = omega arith in ap (λ k. take k (drop done key)) e))
+-- the piece of the key that is compared
+key_piece : (n done : ℕ) (key : List ℕ) → take ((done + n) - done) (drop done key) ≡ take n (drop done key)
+key_piece n done key = let e : (done + n) - done ≡ n = omega arith in ap (λ k. take k (drop done key)) e
 
-pub differs : (n done : ℕ) (p piece key : List ℕ) → length p ≡ n → true ≡ not (bytes_eq (take n (p ++ drop n piece)) (take ((done + n) - done) (drop done key))) → p ≢ take n (drop done key)
-differs n done p piece key l h same =
-    let c = compared n done p piece key l in
-    let e : bytes_eq (take n (p ++ drop n piece)) (take ((done + n) - done) (drop done key)) ≡ true =
-    (bytes_eq-Decides (take n (p ++ drop n piece)) (take ((done + n) - done) (drop done key))).1 (c.0 ∙ same ∙ sym c.1) in
+pub differs : (n done : ℕ) (p key : List ℕ) → true ≡ not (bytes_eq p (take ((done + n) - done) (drop done key))) → p ≢ take n (drop done key)
+differs n done p key h same =
+    let e : bytes_eq p (take ((done + n) - done) (drop done key)) ≡ true =
+    (bytes_eq-Decides p (take ((done + n) - done) (drop done key))).1 (same ∙ sym (key_piece n done key)) in
     let f : true ≡ false = h ∙ ap not e in cc
 
-pub agrees : (n done : ℕ) (p piece key : List ℕ) → length p ≡ n → false ≡ not (bytes_eq (take n (p ++ drop n piece)) (take ((done + n) - done) (drop done key))) → p ≡ take n (drop done key)
-agrees n done p piece key l h =
-    let c = compared n done p piece key l in
+pub agrees : (n done : ℕ) (p key : List ℕ) → false ≡ not (bytes_eq p (take ((done + n) - done) (drop done key))) → p ≡ take n (drop done key)
+agrees n done p key h =
     let same : (v : Bool) → false ≡ not v → v ≡ true = λ v. elim v as (λ v. false ≡ not v → v ≡ true) [ true ↦ λ k. refl | false ↦ λ k. cc ] in
-    sym c.0 ∙ (bytes_eq-Decides (take n (p ++ drop n piece)) (take ((done + n) - done) (drop done key))).0 (same (bytes_eq (take n (p ++ drop n piece)) (take ((done + n) - done) (drop done key))) h) ∙ c.1
+    (bytes_eq-Decides p (take ((done + n) - done) (drop done key))).0 (same (bytes_eq p (take ((done + n) - done) (drop done key))) h) ∙ key_piece n done key
 
 -- a piece of what stands there
 pub part_inner : (at done n : ℕ) (key b : List ℕ) → done + n ≤ length key → part at (length key) b ≡ key → part (at + done) n b ≡ take n (drop done key)
@@ -49,13 +47,13 @@ agrees_more at done n key p b inside l e f same =
     ∙ ap (λ v. take done key ++ v) (ap (λ k. part (at + done) k b) (sym l) ∙ f ∙ same)
     ∙ sym (take-add done n key)
 
-pub agrees_piece : {at : ℕ} (done n : ℕ) (key : List ℕ) {p : List ℕ} {old new : List ℕ → Type 0} → done + n ≤ length key → length p ≡ n → AgreesSoFar at (take done key) old → AfterRead (at + done) p old new → p ≡ take n (drop done key)
+pub agrees_piece : {at : ℕ} (done n : ℕ) (key : List ℕ) {p : List ℕ} {old new : List ℕ → Type 0} → done + n ≤ length key → length p ≡ n → AgreesSoFar at (take done key) old → ((b : List ℕ) → new b → old b) → Holds (at + done) p new → p ≡ take n (drop done key)
     → AgreesSoFar at (take (done + n) key) new
-agrees_piece {at = at} done n key {p = p} inside l a r same = record {
-  each = λ b is. agrees_more at done n key p b inside l (a.each b (r.no_other b is)) (r.read b is) same;
+agrees_piece {at = at} done n key {p = p} inside l a few held same = record {
+  each = λ b is. agrees_more at done n key p b inside l (a.each b (few b is)) (held.each b is) same;
 }
 
-pub tells_other : {at : ℕ} (done n : ℕ) (key : List ℕ) {p : List ℕ} {old new : List ℕ → Type 0} → done + n ≤ length key → length p ≡ n → AfterRead (at + done) p old new → p ≢ take n (drop done key) → TellsSame false at key new
-tells_other {at = at} done n key {p = p} inside l r other = record {
-  each = λ b is. (λ e. cc, λ e. absurd (other (sym (r.read b is) ∙ ap (λ k. part (at + done) k b) l ∙ part_inner at done n key b inside e)));
+pub tells_other : {at : ℕ} (done n : ℕ) (key : List ℕ) {p : List ℕ} {images : List ℕ → Type 0} → done + n ≤ length key → length p ≡ n → Holds (at + done) p images → p ≢ take n (drop done key) → TellsSame false at key images
+tells_other {at = at} done n key {p = p} inside l held other = record {
+  each = λ b is. (λ e. cc, λ e. absurd (other (sym (held.each b is) ∙ ap (λ k. part (at + done) k b) l ∙ part_inner at done n key b inside e)));
 }

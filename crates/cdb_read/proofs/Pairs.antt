@@ -13,7 +13,7 @@ use Rattle.cdb_form.specs.Views.Pairs.{header_pair}
 use Rattle.cdb_form.specs.declared.header.Header.{Header}
 use Rattle.cdb_form.proofs.Fronts.{Begins}
 use Rattle.cdb_form.proofs.WalkSteps.{walk_from-more, walk_from-no_header, walk_from-no_body}
-use Rattle.cdb_read.proofs.Headers.{front_pair}
+use Rattle.cdb_read.proofs.Headers.{front_pair, pair_read}
 use Rattle.cdb_read.specs.Views.Walking.{record_of, behind, LiesAt, StandsAt}
 use Rattle.cdb_read.specs.declared.rest.Rest.{Rest}
 use Rattle.cdb_read.specs.declared.span.Pair.{Pair}
@@ -26,7 +26,7 @@ pub record HeaderTells (w p n : ℕ) (lengths : WordPair) (images : List ℕ →
 
 pub header_tells : {w p n : ℕ} {bytes : List ℕ} {images : List ℕ → Type 0} (h : Header) → length bytes ≡ 2 * w → header_pair h ≡ pair_at w bytes → Holds p bytes images → ((b : List ℕ) → images b → length b ≡ n) → HeaderTells w p n (header_pair h) images
 header_tells {w = w} {p = p} {bytes = bytes} h l e held long = record {
-  told = λ b is. sym (front_pair w (length bytes) (drop p b) l) ∙ ap (pair_at w) (held.each b is) ∙ sym e;
+  told = pair_read w p (header_pair h) l e held;
   long = long;
 }
 

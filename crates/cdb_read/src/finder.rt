@@ -76,7 +76,7 @@ impl<S: Store, L: Width> Reader<S, L> {
         ensures reads { OnlyReads S.Store self.old.store self.new.store }
         ensures fails { IfErr result (StoreFails S.Store self.old.store self.new.store) }
     {
-        next_met::<S, L>(&mut self.store, from, key, &mut self.piece)
+        next_met::<S, L>(&mut self.store, from, key, &mut self.window)
     }
 
     /// A finder of the values of a key. Nothing is read yet.

@@ -3,10 +3,11 @@ ghost use Rattle.std.specs.Prelude.{◌≡◌, ◌+◌, ◌<◌, ◌≤◌, ◌^
 ghost use Rattle.std.specs.Bool.{Decides};
 ghost use Rattle.cdb_read.specs.Views.Reads.{OnlyReads, StoreFails};
 ghost use Rattle.cdb_read.specs.Views.Search.{TellsSame, LooksAt, LookWithin};
+ghost use Rattle.cdb_read.specs.Views.Window.{Shows};
 
 use crate::fault::ReadFault;
-use crate::pieces::read_part;
 use crate::span::Span;
+use crate::window::{WINDOW, Window};
 use cdb_form::{Width, head_size, pair_size, read_header};
 use cdb_store::Store;
 
@@ -24,25 +25,26 @@ pub(crate) enum Look {
     Value(Span),
 }
 
-/// Whether a key's bytes stand at a place. As many are read at once as a piece has.
+/// Whether a key's bytes stand at a place. As many are read at once as a window has room for.
 fn key_is_at<S: Store>(
     store: &mut S,
     place: u64,
     key: &[u8],
-    piece: &mut [u8],
+    window: &mut Window,
 ) -> Result<bool, ReadFault>
-    requires piece { 0 < length piece.old }
+    requires shows { Shows window.old (S.image store.old) }
     requires inside { place + length key.now ≤ S.size store.old }
     requires fits { S.size store.old < 2 ^ 64 }
+    ensures shows { Shows window.new (S.image store.new) }
     ensures same { IfOk result (λ same. TellsSame same place key.now (S.image store.new)) }
     ensures reads { OnlyReads S.Store store.old store.new }
     ensures fails { IfErr result (StoreFails S.Store store.old store.new) }
 {
     let mut done = 0;
     while done < key.len() {
-        let n = (key.len() - done).min(piece.len());
-        read_part(store, place + done as u64, &mut piece[..n])?;
-        if piece[..n] != key[done..done + n] {
+        let n = (key.len() - done).min(WINDOW);
+        window.cover(store, place + done as u64, n, n)?;
+        if window.shown(place + done as u64, n) != &key[done..done + n] {
             return Ok(false);
         }
         done += n;
@@ -62,9 +64,10 @@ pub(crate) fn look_at<S: Store, L: Width>(
     store: &mut S,
     place: u64,
     key: &[u8],
-    piece: &mut [u8],
+    window: &mut Window,
 ) -> Result<Look, ReadFault>
-    requires piece { 0 < length piece.old }
+    requires shows { Shows window.old (S.image store.old) }
+    ensures shows { Shows window.new (S.image store.new) }
     ensures looks { IfOk result (λ look.
         LooksAt L.WORD key.now place look (S.image store.new)) }
     ensures within { IfOk result (LookWithin (S.size store.new)) }
@@ -78,7 +81,7 @@ pub(crate) fn look_at<S: Store, L: Width>(
     }
     let mut bytes = [0; LONGEST_PAIR];
     let bytes = &mut bytes[..header_size];
-    read_part(store, place, bytes)?;
+    window.read(store, place, bytes, header_size.saturating_add(key.len()))?;
     let header = read_header::<L>(bytes);
     let key_place = place + header_size as u64;
     if !has_bytes(size, key_place, header.klen)
@@ -86,7 +89,7 @@ pub(crate) fn look_at<S: Store, L: Width>(
     {
         return Ok(Look::Broken);
     }
-    if header.klen != key.len() as u64 || !key_is_at(store, key_place, key, piece)? {
+    if header.klen != key.len() as u64 || !key_is_at(store, key_place, key, window)? {
         return Ok(Look::Other);
     }
     Ok(Look::Value(Span {

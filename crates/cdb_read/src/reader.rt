@@ -7,10 +7,12 @@ ghost use Rattle.cdb_form.specs.Views.Pairs.{head_pairs};
 ghost use Rattle.cdb_form.specs.Views.KnownBytes.{AppendsFront};
 ghost use Rattle.cdb_read.specs.Lookup.{bytes_of};
 ghost use Rattle.cdb_read.specs.Views.Reads.{OnlyReads, OpeningFails, CopyingFails, ValueFails};
+ghost use Rattle.cdb_read.specs.Views.Window.{Shows};
 
 use crate::fault::ReadFault;
 use crate::pieces::{copy_span, read_part, take_span};
 use crate::span::Span;
+use crate::window::Window;
 use cdb_form::{Head, Width, head_size, read_head};
 use cdb_store::Store;
 use std::alloc::Global;
@@ -38,10 +40,13 @@ pub struct Reader<S: Store, L: Width> {
     pub(crate) head: Head,
     /// Through which values are read.
     pub(crate) piece: [u8; PIECE],
+    /// Through which slots and the headers of a walk are read.
+    pub(crate) window: Window,
     /// How wide a word is.
     pub(crate) width: PhantomData<L>,
     ghost fits: { S.size store < 2 ^ 64 },
     ghost long: { head_size L.WORD ≤ S.size store },
+    ghost shows: { Shows window (S.image store) },
     ghost known: { (b : List ℕ) → S.image store b → head_at L.WORD b ≡ head_pairs head },
 }
 
@@ -70,6 +75,7 @@ impl<S: Store, L: Width> Reader<S, L> {
             store,
             head,
             piece,
+            window: Window::new(),
             width: PhantomData,
         })
     }
@@ -114,6 +120,7 @@ impl<S: Store, L: Width> Reader<S, L> {
             store,
             head: _,
             piece: _,
+            window: _,
             width: _,
         } = self;
         store

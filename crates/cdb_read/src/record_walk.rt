@@ -2,27 +2,22 @@
 ghost use Rattle.std.specs.Prelude.{◌≡◌, ℕ, ◌+◌, ◌≤◌, List, IfOk, IfErr, MatchOption, Ok, Err, None};
 ghost use Rattle.cdb_read.specs.Lookup.{bytes_of};
 ghost use Rattle.cdb_read.specs.Views.Reads.{OnlyReads, ValueFails};
-ghost use Rattle.cdb_read.specs.Views.Window.{Shows};
 
 use crate::fault::ReadFault;
 use crate::reader::Reader;
 use crate::rest::{Rest, Walking};
 use crate::span::{Pair, Span};
-use crate::window::Window;
 use cdb_form::Width;
 use cdb_store::Store;
 use std::alloc::Global;
 
-/// Gives the records of a database, one after the other, through a window of its own.
+/// Gives the records of a database, one after the other. Many are read at once.
 #[derive(Drop)]
 pub struct Walk<'a, S: Store, L: Width> {
     /// The database.
     pub(crate) reader: &'a mut Reader<S, L>,
     /// Where the walk stands.
     pub(crate) walking: Walking,
-    /// Through which it reads.
-    pub(crate) window: Window,
-    ghost shows: { Shows window (S.image reader.now.store) },
 }
 
 impl<'a, S: Store, L: Width> Walk<'a, S, L> {
@@ -55,7 +50,7 @@ impl<'a, S: Store, L: Width> Walk<'a, S, L> {
             self.walking = Walking::AtEnd;
             return Ok(None);
         }
-        match self.reader.next_pair(&mut self.window, rest)? {
+        match self.reader.next_pair(rest)? {
             Some(pair) => {
                 let place = pair.value.place + pair.value.len;
                 let end = rest.end;
@@ -80,12 +75,6 @@ impl<'a, S: Store, L: Width> Walk<'a, S, L> {
         ensures fails { IfErr result
             (ValueFails S.Store self.old.reader.now.store self.new.reader.now.store) }
     {
-        if self.window.covers(span.place, span.len) {
-            let bytes = self.window.shown(span.place, span.len as usize);
-            let mut taken = Vec::new(alloc);
-            taken.extend_from_slice(bytes)?;
-            return Ok(taken);
-        }
-        self.reader.value(alloc, span)
+        self.reader.shown_value(alloc, span)
     }
 }

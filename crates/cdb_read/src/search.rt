@@ -5,14 +5,18 @@ ghost use Rattle.cdb_form.specs.Views.Pairs.{slot_pair};
 ghost use Rattle.cdb_read.specs.Views.Reads.{OnlyReads, StoreFails};
 ghost use Rattle.cdb_read.specs.Views.Search.{turn_slot, StepsFrom, StepWithin, Meets, MetWithin};
 ghost use Rattle.cdb_read.specs.Views.Turning.{TurnInside};
+ghost use Rattle.cdb_read.specs.Views.Window.{Shows};
 
 use crate::fault::ReadFault;
 use crate::looking::{LONGEST_PAIR, Look, look_at};
-use crate::pieces::read_part;
 use crate::span::Span;
 use crate::turn::Turn;
+use crate::window::Window;
 use cdb_form::{Slot, Width, hash, pair_size, read_slot};
 use cdb_store::Store;
+
+/// How many bytes of slots are read at once.
+const SLOTS_AHEAD: usize = 64;
 
 /// What one turn of a search comes to.
 #[derive(Clone, Copy, Debug, PartialEq, Eq)]
@@ -39,9 +43,15 @@ pub(crate) enum Met {
 }
 
 /// The slot of a turn.
-fn read_turn<S: Store, L: Width>(store: &mut S, turn: Turn) -> Result<Slot, ReadFault>
+fn read_turn<S: Store, L: Width>(
+    store: &mut S,
+    turn: Turn,
+    window: &mut Window,
+) -> Result<Slot, ReadFault>
     requires inside { TurnInside L.WORD (S.size store.old) turn }
     requires fits { S.size store.old < 2 ^ 64 }
+    requires shows { Shows window.old (S.image store.old) }
+    ensures shows { Shows window.new (S.image store.new) }
     ensures read { (b : List ℕ) → S.image store.new b
         → IfOk result (λ slot. slot_pair slot ≡ turn_slot L.WORD b turn) }
     ensures reads { OnlyReads S.Store store.old store.new }
@@ -51,7 +61,7 @@ fn read_turn<S: Store, L: Width>(store: &mut S, turn: Turn) -> Result<Slot, Read
     let mut bytes = [0; LONGEST_PAIR];
     let bytes = &mut bytes[..slot_size];
     let place = turn.table.place + slot_size as u64 * turn.slot;
-    read_part(store, place, bytes)?;
+    window.read(store, place, bytes, SLOTS_AHEAD)?;
     Ok(read_slot::<L>(bytes))
 }
 
@@ -61,26 +71,27 @@ fn take_turn<S: Store, L: Width>(
     turn: Turn,
     key: &[u8],
     hash: u64,
-    piece: &mut [u8],
+    window: &mut Window,
 ) -> Result<Step, ReadFault>
-    requires piece { 0 < length piece.old }
     requires inside { TurnInside L.WORD (S.size store.old) turn }
     requires left { 0 < turn.left }
     requires hash { hash ≡ key_hash key.now }
     requires fits { S.size store.old < 2 ^ 64 }
+    requires shows { Shows window.old (S.image store.old) }
+    ensures shows { Shows window.new (S.image store.new) }
     ensures steps { IfOk result (λ step. StepsFrom L.WORD key.now turn step (S.image store.new)) }
     ensures within { IfOk result (StepWithin (S.size store.new)) }
     ensures reads { OnlyReads S.Store store.old store.new }
     ensures fails { IfErr result (StoreFails S.Store store.old store.new) }
 {
-    let slot = read_turn::<S, L>(store, turn)?;
+    let slot = read_turn::<S, L>(store, turn, window)?;
     if slot.place == 0 {
         return Ok(Step::Empty);
     }
     if slot.hash != hash {
         return Ok(Step::Passed);
     }
-    match look_at::<S, L>(store, slot.place, key, piece)? {
+    match look_at::<S, L>(store, slot.place, key, window)? {
         Look::Broken => Ok(Step::Broken(slot.place)),
         Look::Other => Ok(Step::Passed),
         Look::Value(span) => Ok(Step::Value(span)),
@@ -92,11 +103,12 @@ pub(crate) fn next_met<S: Store, L: Width>(
     store: &mut S,
     from: Turn,
     key: &[u8],
-    piece: &mut [u8],
+    window: &mut Window,
 ) -> Result<Met, ReadFault>
-    requires piece { 0 < length piece.old }
     requires inside { TurnInside L.WORD (S.size store.old) from }
     requires fits { S.size store.old < 2 ^ 64 }
+    requires shows { Shows window.old (S.image store.old) }
+    ensures shows { Shows window.new (S.image store.new) }
     ensures meets { IfOk result (λ met. Meets L.WORD key.now from met (S.image store.new)) }
     ensures within { IfOk result (MetWithin L.WORD (S.size store.new) from) }
     ensures reads { OnlyReads S.Store store.old store.new }
@@ -105,7 +117,7 @@ pub(crate) fn next_met<S: Store, L: Width>(
     let hash = u64::from(hash(key));
     let mut turn = from;
     while turn.left > 0 {
-        match take_turn::<S, L>(store, turn, key, hash, piece)? {
+        match take_turn::<S, L>(store, turn, key, hash, window)? {
             Step::Empty => return Ok(Met::End),
             Step::Passed => turn = turn.next(),
             Step::Value(span) => return Ok(Met::Value(span, turn.next())),

@@ -8,7 +8,7 @@ use crate::fault::ReadFault;
 use crate::looking::{LONGEST_PAIR, has_bytes};
 use crate::rest::Rest;
 use crate::span::{Pair, Span};
-use crate::window::Window;
+use crate::window::{WINDOW, Window};
 use cdb_form::{Width, pair_size, read_header};
 use cdb_store::Store;
 
@@ -35,7 +35,7 @@ pub(crate) fn pair_at<S: Store, L: Width>(
     }
     let mut bytes = [0; LONGEST_PAIR];
     let bytes = &mut bytes[..header_size];
-    window.read(store, place, bytes)?;
+    window.read(store, place, bytes, WINDOW)?;
     let header = read_header::<L>(bytes);
     let key = Span {
         place: place + header_size as u64,

@@ -1,21 +1,21 @@
 // The records of a database, one after the other.
-ghost use Rattle.std.specs.Prelude.{◌≡◌, ℕ, ◌<◌, List, IfOk, IfErr};
+ghost use Rattle.std.specs.Prelude.{◌≡◌, ℕ, ◌+◌, ◌<◌, ◌≤◌, List, IfOk, IfErr};
 ghost use Rattle.cdb_form.specs.Format.Walk.{walk_of};
 ghost use Rattle.cdb_form.specs.Format.Pair.{head_size};
-ghost use Rattle.cdb_read.specs.Views.Reads.{OnlyReads, StoreFails};
+ghost use Rattle.cdb_read.specs.Lookup.{bytes_of};
+ghost use Rattle.cdb_read.specs.Views.Reads.{OnlyReads, StoreFails, ValueFails};
 ghost use Rattle.cdb_read.specs.Views.Walking.{walk_ahead, next_place, StandsAt, StandsWithin};
 ghost use Rattle.cdb_read.specs.Views.Walk.{left_of, place_of};
-ghost use Rattle.cdb_read.specs.Views.Window.{Shows};
 
 use crate::fault::ReadFault;
 use crate::reader::Reader;
 use crate::record_walk::Walk;
 use crate::rest::{Rest, Walking};
-use crate::span::Pair;
+use crate::span::{Pair, Span};
 use crate::standing::pair_at;
-use crate::window::Window;
 use cdb_form::{Width, head_size};
 use cdb_store::Store;
+use std::alloc::Global;
 
 impl<S: Store, L: Width> Reader<S, L> {
     /// Where a walk begins.
@@ -33,21 +33,32 @@ impl<S: Store, L: Width> Reader<S, L> {
     }
 
     /// Where the next record of a walk lies, if it is whole.
-    pub(crate) fn next_pair(
-        &mut self,
-        window: &mut Window,
-        rest: Rest,
-    ) -> Result<Option<Pair>, ReadFault>
+    pub(crate) fn next_pair(&mut self, rest: Rest) -> Result<Option<Pair>, ReadFault>
         requires before { rest.place < rest.end }
-        requires shows { Shows window.old (S.image self.old.store) }
         ensures stands { IfOk result (λ found.
             StandsAt L.WORD rest found (S.image self.new.store)) }
         ensures within { IfOk result (StandsWithin L.WORD rest (S.size self.new.store)) }
-        ensures shows { Shows window.new (S.image self.new.store) }
         ensures reads { OnlyReads S.Store self.old.store self.new.store }
         ensures fails { IfErr result (StoreFails S.Store self.old.store self.new.store) }
     {
-        pair_at::<S, L>(&mut self.store, window, rest)
+        pair_at::<S, L>(&mut self.store, &mut self.window, rest)
+    }
+
+    /// The bytes of a span, which lies inside the file. The store is asked where the window lacks
+    /// them.
+    pub(crate) fn shown_value(&mut self, alloc: Global, span: Span) -> Result<Vec<u8>, ReadFault>
+        requires inside { span.place + span.len ≤ S.size self.old.store }
+        ensures reads { OnlyReads S.Store self.old.store self.new.store }
+        ensures is { (b : List ℕ) → S.image self.new.store b
+            → IfOk result (λ v. v.items ≡ bytes_of b span) }
+        ensures fails { IfErr result (ValueFails S.Store self.old.store self.new.store) }
+    {
+        if self.window.covers(span.place, span.len) {
+            let mut taken = Vec::new(alloc);
+            taken.extend_from_slice(self.window.shown(span.place, span.len as usize))?;
+            return Ok(taken);
+        }
+        self.value(alloc, span)
     }
 }
 
@@ -60,9 +71,5 @@ pub fn walk<S: Store, L: Width>(reader: &mut Reader<S, L>) -> Walk<'_, S, L>
     ensures first { place_of L.WORD result ≡ head_size L.WORD }
 {
     let walking = reader.first_walking();
-    Walk {
-        reader,
-        walking,
-        window: Window::new(),
-    }
+    Walk { reader, walking }
 }

@@ -10,8 +10,8 @@ use crate::looking::has_bytes;
 use crate::pieces::read_part;
 use cdb_store::Store;
 
-/// How many bytes are read at once.
-const WINDOW: usize = 4096;
+/// How many bytes a window has room for.
+pub(crate) const WINDOW: usize = 4096;
 
 /// Bytes of a store that were read, and where they stand.
 #[derive(Drop)]
@@ -54,25 +54,32 @@ impl Window {
         &self.bytes[at..at + n]
     }
 
-    /// Reads the bytes from a place on, as many as there are and it has room for.
-    fn fill<S: Store>(&mut self, store: &mut S, place: u64) -> Result<(), ReadFault>
+    /// Reads `most` bytes from a place on, or as many as there are, or as it has room for.
+    fn fill<S: Store>(&mut self, store: &mut S, place: u64, most: usize) -> Result<(), ReadFault>
         requires inside { place ≤ S.size store.old }
         ensures place { OnOk result (self.new.place ≡ place) }
-        ensures len { OnOk result (self.new.len ≡ min 4096 (S.size store.old - place)) }
+        ensures len { OnOk result (self.new.len ≡ min (S.size store.old - place) (min most 4096)) }
         ensures shows { Shows self.new (S.image store.new) }
         ensures reads { OnlyReads S.Store store.old store.new }
         ensures fails { IfErr result (StoreFails S.Store store.old store.new) }
     {
         self.len = 0;
-        let n = (store.len() - place).min(WINDOW as u64) as usize;
+        let n = (store.len() - place).min(most.min(WINDOW) as u64) as usize;
         read_part(store, place, &mut self.bytes[..n])?;
         self.place = place;
         self.len = n;
         Ok(())
     }
 
-    /// Covers so many bytes from a place on. The store is asked where the window lacks them.
-    fn cover<S: Store>(&mut self, store: &mut S, place: u64, n: u64) -> Result<(), ReadFault>
+    /// Covers so many bytes from a place on. The store is asked where the window lacks them, for
+    /// `ahead` bytes.
+    pub(crate) fn cover<S: Store>(
+        &mut self,
+        store: &mut S,
+        place: u64,
+        n: usize,
+        ahead: usize,
+    ) -> Result<(), ReadFault>
         requires short { n ≤ 4096 }
         requires inside { place + n ≤ S.size store.old }
         requires shows { Shows self.old (S.image store.old) }
@@ -81,18 +88,19 @@ impl Window {
         ensures reads { OnlyReads S.Store store.old store.new }
         ensures fails { IfErr result (StoreFails S.Store store.old store.new) }
     {
-        if self.covers(place, n) {
+        if self.covers(place, n as u64) {
             return Ok(());
         }
-        self.fill(store, place)
+        self.fill(store, place, n.max(ahead))
     }
 
-    /// Fills `into` with the bytes from a place on.
+    /// Fills `into` with the bytes from a place on. Where they have to be read, `ahead` bytes are.
     pub(crate) fn read<S: Store>(
         &mut self,
         store: &mut S,
         place: u64,
         into: &mut [u8],
+        ahead: usize,
     ) -> Result<(), ReadFault>
         requires short { length into.old ≤ 4096 }
         requires inside { place + length into.old ≤ S.size store.old }
@@ -103,7 +111,7 @@ impl Window {
         ensures reads { OnlyReads S.Store store.old store.new }
         ensures fails { IfErr result (StoreFails S.Store store.old store.new) }
     {
-        self.cover(store, place, into.len() as u64)?;
+        self.cover(store, place, into.len(), ahead)?;
         into.copy_from_slice(self.shown(place, into.len()));
         Ok(())
     }

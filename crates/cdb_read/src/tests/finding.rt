@@ -85,6 +85,20 @@ fn the_values_of_worked_files_are_found(rt: HostRuntime) -> Result<(), Fail> {
 }
 
 #[test]
+fn a_look_up_reads_little(rt: HostRuntime) -> Result<(), Fail> {
+    let file = two_file(rt.alloc())?;
+    // The head; then some slots, and a header with its key.
+    let one = gives::<Narrow>(fused(file.clone()?, u64::MAX), b"one", &[value(2059, 5)]);
+    assert!(rt; one == Ok((true, 3)), "a key that is there");
+    let none = gives::<Narrow>(fused(file, u64::MAX), b"owt", &[Ok(None)]);
+    assert!(rt;
+        none.is_ok_and(|it| it.0 && it.1 <= 2),
+        "a key that is not there"
+    );
+    Ok(())
+}
+
+#[test]
 fn a_search_goes_round(rt: HostRuntime) -> Result<(), Fail> {
     // The home of `a` is slot 693 % 2 = 1. No slot is empty.
     let file = two_values(rt.alloc(), [(177604, 2058), (177604, 2048)])?;

@@ -1,12 +1,13 @@
 use Rattle.std.proofs.Common.{◌-◌, ◌≡◌, ◌≤◌, length, take}
 use Rattle.cdb_read.specs.Views.Reads.{OnlyReads}
+use Rattle.cdb_read.specs.Views.Window.{Shows}
 use Rattle.cdb_read.proofs.Compare.{AgreesSoFar}
 use Rattle.cdb_read.proofs.looking.key_is_at.Given as goal
 
 abbrev pub invariant-loop-done : goal.invariant-loop-done
 invariant-loop-done g l = record {
   inside : l.done ≤ length l.key;
-  piece : length l.piece ≡ length l.fn.piece;
+  shows : Shows l.window (g.S.Store.image l.store);
   agrees : AgreesSoFar l.place (take l.done l.key) (g.S.Store.image l.store);
   reads : OnlyReads g.S.Store l.fn.store l.store;
 }

@@ -8,12 +8,12 @@ use Rattle.cdb_read.proofs.looking.look_at.Goals.{then-not-has_bytes-2-via-then-
 pub returns-then-not-has_bytes-2-clause-looks : goal.returns-then-not-has_bytes-2-clause-looks
 returns-then-not-has_bytes-2-clause-looks g c =
     let w = g.L.Width.WORD in
-    let l : length c.read_part.new.into ≡ 2 * w = search (rules, c.pair_size-header_size.ensures) in
+    let l : length c.read.new.into ≡ 2 * w = search (rules, c.pair_size-header_size.ensures) in
     let k : ℕ = c.read_header-header.result.klen in
     let v : ℕ = c.read_header-header.result.vlen in
     let n : ℕ = c.len-size.result in
-    let h : HasLengths w c.args.place k v n (g.S.Store.image c.read_part.new.store) =
-    has_lengths c.read_header-header.result l c.read_header-header.ensures.read c.in_ok-read_part.ensures.read (λ b is. g.met.S.Store.image_size c.read_part.new.store b is ∙ c.read_part.ensures.reads.size ∙ sym c.len-size.ensures) in
+    let h : HasLengths w c.args.place k v n (g.S.Store.image c.read.new.store) =
+    has_lengths c.read_header-header.result l c.read_header-header.ensures.read c.in_ok-read.ensures.read (λ b is. g.met.S.Store.image_size c.read.new.store b is ∙ c.read.ensures.reads.size ∙ sym c.len-size.ensures) in
     let past : n < c.args.place + (2 * w + k + v) =
     elim c.then-not-has_bytes-2.branch [
       | then-not-has_bytes-2-via-then-not-has_bytes-2 x ↦
@@ -28,12 +28,12 @@ returns-then-not-has_bytes-2-clause-looks g c =
 pub returns-then-header-key-clause-looks : goal.returns-then-header-key-clause-looks
 returns-then-header-key-clause-looks g c =
     let w = g.L.Width.WORD in
-    let l : length c.read_part.new.into ≡ 2 * w = search (rules, c.pair_size-header_size.ensures) in
+    let l : length c.read.new.into ≡ 2 * w = search (rules, c.pair_size-header_size.ensures) in
     let k : ℕ = c.read_header-header.result.klen in
     let v : ℕ = c.read_header-header.result.vlen in
     let n : ℕ = c.len-size.result in
-    let h : HasLengths w c.args.place k v n (g.S.Store.image c.read_part.new.store) =
-    has_lengths c.read_header-header.result l c.read_header-header.ensures.read c.in_ok-read_part.ensures.read (λ b is. g.met.S.Store.image_size c.read_part.new.store b is ∙ c.read_part.ensures.reads.size ∙ sym c.len-size.ensures) in
+    let h : HasLengths w c.args.place k v n (g.S.Store.image c.read.new.store) =
+    has_lengths c.read_header-header.result l c.read_header-header.ensures.read c.in_ok-read.ensures.read (λ b is. g.met.S.Store.image_size c.read.new.store b is ∙ c.read.ensures.reads.size ∙ sym c.len-size.ensures) in
     let low : head_size w ≤ c.args.place = omega (arith, c.head_size.ensures, c.if-place-head_size.false) in
     let room : c.args.place + c.pair_size-header_size.result + k + v ≤ n = c.has_bytes-else-not-has_bytes-2.ensures.0 c.if-not-has_bytes-3.false in
     let fits : c.args.place + (2 * w + k + v) ≤ n = omega (arith, room, c.pair_size-header_size.ensures) in
@@ -53,12 +53,12 @@ returns-then-header-key-clause-looks g c =
 pub returns-clause-looks : goal.returns-clause-looks
 returns-clause-looks g c =
     let w = g.L.Width.WORD in
-    let l : length c.read_part.new.into ≡ 2 * w = search (rules, c.pair_size-header_size.ensures) in
+    let l : length c.read.new.into ≡ 2 * w = search (rules, c.pair_size-header_size.ensures) in
     let k : ℕ = c.read_header-header.result.klen in
     let v : ℕ = c.read_header-header.result.vlen in
     let n : ℕ = c.len-size.result in
-    let h : HasLengths w c.args.place k v n (g.S.Store.image c.read_part.new.store) =
-    has_lengths c.read_header-header.result l c.read_header-header.ensures.read c.in_ok-read_part.ensures.read (λ b is. g.met.S.Store.image_size c.read_part.new.store b is ∙ c.read_part.ensures.reads.size ∙ sym c.len-size.ensures) in
+    let h : HasLengths w c.args.place k v n (g.S.Store.image c.read.new.store) =
+    has_lengths c.read_header-header.result l c.read_header-header.ensures.read c.in_ok-read.ensures.read (λ b is. g.met.S.Store.image_size c.read.new.store b is ∙ c.read.ensures.reads.size ∙ sym c.len-size.ensures) in
     let low : head_size w ≤ c.args.place = omega (arith, c.head_size.ensures, c.if-place-head_size.false) in
     let room : c.args.place + c.pair_size-header_size.result + k + v ≤ n = c.has_bytes-else-not-has_bytes-2.ensures.0 c.if-not-has_bytes-3.false in
     let fits : c.args.place + (2 * w + k + v) ≤ n = omega (arith, room, c.pair_size-header_size.ensures) in
