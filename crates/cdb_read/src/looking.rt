@@ -11,9 +11,6 @@ use crate::window::{WINDOW, Window};
 use cdb_form::{Width, head_size, pair_size, read_header};
 use cdb_store::Store;
 
-/// The longest header or slot, in bytes.
-pub(crate) const LONGEST_PAIR: usize = 16;
-
 /// What stands at a place.
 #[derive(Clone, Copy, Debug, PartialEq, Eq)]
 pub(crate) enum Look {
@@ -79,10 +76,13 @@ pub(crate) fn look_at<S: Store, L: Width>(
     if place < head_size::<L>() as u64 || !has_bytes(size, place, header_size as u64) {
         return Ok(Look::Broken);
     }
-    let mut bytes = [0; LONGEST_PAIR];
-    let bytes = &mut bytes[..header_size];
-    window.read(store, place, bytes, header_size.saturating_add(key.len()))?;
-    let header = read_header::<L>(bytes);
+    window.cover(
+        store,
+        place,
+        header_size,
+        header_size.saturating_add(key.len()),
+    )?;
+    let header = read_header::<L>(window.shown(place, header_size));
     let key_place = place + header_size as u64;
     if !has_bytes(size, key_place, header.klen)
         || !has_bytes(size, key_place + header.klen, header.vlen)

@@ -8,7 +8,7 @@ ghost use Rattle.cdb_read.specs.Views.Turning.{TurnInside};
 ghost use Rattle.cdb_read.specs.Views.Window.{Shows};
 
 use crate::fault::ReadFault;
-use crate::looking::{LONGEST_PAIR, Look, look_at};
+use crate::looking::{Look, look_at};
 use crate::span::Span;
 use crate::turn::Turn;
 use crate::window::Window;
@@ -58,11 +58,9 @@ fn read_turn<S: Store, L: Width>(
     ensures fails { IfErr result (StoreFails S.Store store.old store.new) }
 {
     let slot_size = pair_size::<L>();
-    let mut bytes = [0; LONGEST_PAIR];
-    let bytes = &mut bytes[..slot_size];
     let place = turn.table.place + slot_size as u64 * turn.slot;
-    window.read(store, place, bytes, SLOTS_AHEAD)?;
-    Ok(read_slot::<L>(bytes))
+    window.cover(store, place, slot_size, SLOTS_AHEAD)?;
+    Ok(read_slot::<L>(window.shown(place, slot_size)))
 }
 
 /// One turn of the search of a key, which has this hash.

@@ -5,7 +5,7 @@ ghost use Rattle.cdb_read.specs.Views.Walking.{StandsAt, StandsWithin};
 ghost use Rattle.cdb_read.specs.Views.Window.{Shows};
 
 use crate::fault::ReadFault;
-use crate::looking::{LONGEST_PAIR, has_bytes};
+use crate::looking::has_bytes;
 use crate::rest::Rest;
 use crate::span::{Pair, Span};
 use crate::window::{WINDOW, Window};
@@ -33,10 +33,8 @@ pub(crate) fn pair_at<S: Store, L: Width>(
     if !has_bytes(limit, place, header_size as u64) {
         return Ok(None);
     }
-    let mut bytes = [0; LONGEST_PAIR];
-    let bytes = &mut bytes[..header_size];
-    window.read(store, place, bytes, WINDOW)?;
-    let header = read_header::<L>(bytes);
+    window.cover(store, place, header_size, WINDOW)?;
+    let header = read_header::<L>(window.shown(place, header_size));
     let key = Span {
         place: place + header_size as u64,
         len: header.klen,

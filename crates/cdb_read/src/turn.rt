@@ -35,9 +35,11 @@ impl Turn {
         requires left { 0 < self.left }
         ensures { result ≡ next_turn self }
     {
+        let slot = self.slot + 1;
         Turn {
             table: self.table,
-            slot: (self.slot + 1) % self.table.slots,
+            // A division would cost more than the rest of a turn.
+            slot: if slot < self.table.slots { slot } else { 0 },
             left: self.left - 1,
         }
     }

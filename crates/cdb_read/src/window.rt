@@ -1,7 +1,7 @@
 // Bytes of a store that were read ahead.
 ghost use Rattle.std.specs.Prelude.{◌≡◌, ◌+◌, ◌-◌, ◌≤◌, length, min, IfErr, OnOk};
 ghost use Rattle.std.specs.Bool.{OnTrue};
-ghost use Rattle.cdb_store.specs.Images.{Holds, part};
+ghost use Rattle.cdb_store.specs.Images.{part};
 ghost use Rattle.cdb_read.specs.Views.Reads.{OnlyReads, StoreFails};
 ghost use Rattle.cdb_read.specs.Views.Window.{Shows, Covers};
 
@@ -92,27 +92,5 @@ impl Window {
             return Ok(());
         }
         self.fill(store, place, n.max(ahead))
-    }
-
-    /// Fills `into` with the bytes from a place on. Where they have to be read, `ahead` bytes are.
-    pub(crate) fn read<S: Store>(
-        &mut self,
-        store: &mut S,
-        place: u64,
-        into: &mut [u8],
-        ahead: usize,
-    ) -> Result<(), ReadFault>
-        requires short { length into.old ≤ 4096 }
-        requires inside { place + length into.old ≤ S.size store.old }
-        requires shows { Shows self.old (S.image store.old) }
-        ensures read { OnOk result (Holds place into.new (S.image store.new)) }
-        ensures len { length into.new ≡ length into.old }
-        ensures shows { Shows self.new (S.image store.new) }
-        ensures reads { OnlyReads S.Store store.old store.new }
-        ensures fails { IfErr result (StoreFails S.Store store.old store.new) }
-    {
-        self.cover(store, place, into.len(), ahead)?;
-        into.copy_from_slice(self.shown(place, into.len()));
-        Ok(())
     }
 }

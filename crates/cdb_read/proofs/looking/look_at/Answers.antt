@@ -1,6 +1,8 @@
 use Rattle.std.proofs.Common.{rules, subst, arith, ◌≡◌, ◌+◌, ◌*◌, ◌<◌, ◌≤◌, length, ℕ, true, false, refl, sym, ◌∙◌}
 use Rattle.cdb_form.specs.Format.Pair.{head_size}
 use Rattle.cdb_read.specs.Views.Search.{TellsSame}
+use Rattle.cdb_store.specs.Images.{Holds}
+use Rattle.cdb_read.proofs.Windows.{holds_shown}
 use Rattle.cdb_read.proofs.Headers.{HasLengths, has_lengths, fewer_lengths, passes, no_room, other_length, other_key, same_key}
 use Rattle.cdb_read.proofs.looking.look_at.Goals as goal
 use Rattle.cdb_read.proofs.looking.look_at.Goals.{then-not-has_bytes-2-via-then-not-has_bytes-2, then-not-has_bytes-2-via-else-not-has_bytes-2+then-not-has_bytes-3, then-header-key-via-then-header-key, then-header-key-via-else-header-key+in_ok-key_is_at+then-not-branch}
@@ -8,12 +10,13 @@ use Rattle.cdb_read.proofs.looking.look_at.Goals.{then-not-has_bytes-2-via-then-
 pub returns-then-not-has_bytes-2-clause-looks : goal.returns-then-not-has_bytes-2-clause-looks
 returns-then-not-has_bytes-2-clause-looks g c =
     let w = g.L.Width.WORD in
-    let l : length c.read.new.into ≡ 2 * w = search (rules, c.pair_size-header_size.ensures) in
+    let held : Holds c.args.place c.shown.result.now (g.S.Store.image c.cover.new.store) = holds_shown c.in_ok-cover.ensures.shows c.in_ok-cover.ensures.covers c.shown.ensures.is c.shown.ensures.long in
+    let l : length c.shown.result.now ≡ 2 * w = c.shown.ensures.long ∙ c.pair_size-header_size.ensures in
     let k : ℕ = c.read_header-header.result.klen in
     let v : ℕ = c.read_header-header.result.vlen in
     let n : ℕ = c.len-size.result in
-    let h : HasLengths w c.args.place k v n (g.S.Store.image c.read.new.store) =
-    has_lengths c.read_header-header.result l c.read_header-header.ensures.read c.in_ok-read.ensures.read (λ b is. g.met.S.Store.image_size c.read.new.store b is ∙ c.read.ensures.reads.size ∙ sym c.len-size.ensures) in
+    let h : HasLengths w c.args.place k v n (g.S.Store.image c.cover.new.store) =
+    has_lengths c.read_header-header.result l c.read_header-header.ensures.read held (λ b is. g.met.S.Store.image_size c.cover.new.store b is ∙ c.cover.ensures.reads.size ∙ sym c.len-size.ensures) in
     let past : n < c.args.place + (2 * w + k + v) =
     elim c.then-not-has_bytes-2.branch [
       | then-not-has_bytes-2-via-then-not-has_bytes-2 x ↦
@@ -28,12 +31,13 @@ returns-then-not-has_bytes-2-clause-looks g c =
 pub returns-then-header-key-clause-looks : goal.returns-then-header-key-clause-looks
 returns-then-header-key-clause-looks g c =
     let w = g.L.Width.WORD in
-    let l : length c.read.new.into ≡ 2 * w = search (rules, c.pair_size-header_size.ensures) in
+    let held : Holds c.args.place c.shown.result.now (g.S.Store.image c.cover.new.store) = holds_shown c.in_ok-cover.ensures.shows c.in_ok-cover.ensures.covers c.shown.ensures.is c.shown.ensures.long in
+    let l : length c.shown.result.now ≡ 2 * w = c.shown.ensures.long ∙ c.pair_size-header_size.ensures in
     let k : ℕ = c.read_header-header.result.klen in
     let v : ℕ = c.read_header-header.result.vlen in
     let n : ℕ = c.len-size.result in
-    let h : HasLengths w c.args.place k v n (g.S.Store.image c.read.new.store) =
-    has_lengths c.read_header-header.result l c.read_header-header.ensures.read c.in_ok-read.ensures.read (λ b is. g.met.S.Store.image_size c.read.new.store b is ∙ c.read.ensures.reads.size ∙ sym c.len-size.ensures) in
+    let h : HasLengths w c.args.place k v n (g.S.Store.image c.cover.new.store) =
+    has_lengths c.read_header-header.result l c.read_header-header.ensures.read held (λ b is. g.met.S.Store.image_size c.cover.new.store b is ∙ c.cover.ensures.reads.size ∙ sym c.len-size.ensures) in
     let low : head_size w ≤ c.args.place = omega (arith, c.head_size.ensures, c.if-place-head_size.false) in
     let room : c.args.place + c.pair_size-header_size.result + k + v ≤ n = c.has_bytes-else-not-has_bytes-2.ensures.0 c.if-not-has_bytes-3.false in
     let fits : c.args.place + (2 * w + k + v) ≤ n = omega (arith, room, c.pair_size-header_size.ensures) in
@@ -53,12 +57,13 @@ returns-then-header-key-clause-looks g c =
 pub returns-clause-looks : goal.returns-clause-looks
 returns-clause-looks g c =
     let w = g.L.Width.WORD in
-    let l : length c.read.new.into ≡ 2 * w = search (rules, c.pair_size-header_size.ensures) in
+    let held : Holds c.args.place c.shown.result.now (g.S.Store.image c.cover.new.store) = holds_shown c.in_ok-cover.ensures.shows c.in_ok-cover.ensures.covers c.shown.ensures.is c.shown.ensures.long in
+    let l : length c.shown.result.now ≡ 2 * w = c.shown.ensures.long ∙ c.pair_size-header_size.ensures in
     let k : ℕ = c.read_header-header.result.klen in
     let v : ℕ = c.read_header-header.result.vlen in
     let n : ℕ = c.len-size.result in
-    let h : HasLengths w c.args.place k v n (g.S.Store.image c.read.new.store) =
-    has_lengths c.read_header-header.result l c.read_header-header.ensures.read c.in_ok-read.ensures.read (λ b is. g.met.S.Store.image_size c.read.new.store b is ∙ c.read.ensures.reads.size ∙ sym c.len-size.ensures) in
+    let h : HasLengths w c.args.place k v n (g.S.Store.image c.cover.new.store) =
+    has_lengths c.read_header-header.result l c.read_header-header.ensures.read held (λ b is. g.met.S.Store.image_size c.cover.new.store b is ∙ c.cover.ensures.reads.size ∙ sym c.len-size.ensures) in
     let low : head_size w ≤ c.args.place = omega (arith, c.head_size.ensures, c.if-place-head_size.false) in
     let room : c.args.place + c.pair_size-header_size.result + k + v ≤ n = c.has_bytes-else-not-has_bytes-2.ensures.0 c.if-not-has_bytes-3.false in
     let fits : c.args.place + (2 * w + k + v) ≤ n = omega (arith, room, c.pair_size-header_size.ensures) in

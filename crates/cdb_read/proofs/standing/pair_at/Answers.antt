@@ -1,6 +1,8 @@
 use Rattle.std.proofs.Common.{rules, arith, ◌≡◌, ◌+◌, ◌*◌, ◌≤◌, length, ℕ, refl, sym, ◌∙◌, inl, inr}
 use Rattle.std.proofs.Math.Nat.{min-le_left, min-le_right}
 use Rattle.cdb_form.specs.Views.Pairs.{header_pair}
+use Rattle.cdb_store.specs.Images.{Holds}
+use Rattle.cdb_read.proofs.Windows.{holds_shown}
 use Rattle.cdb_read.proofs.Headers.{passes}
 use Rattle.cdb_read.proofs.Pairs.{HeaderTells, header_tells, least_below, no_header, no_body, stands}
 use Rattle.cdb_read.proofs.standing.pair_at.Goals as goal
@@ -20,9 +22,10 @@ returns-then-not-has_bytes-2-clause-stands g c =
     let k : ℕ = c.read_header-header.result.klen in
     let v : ℕ = c.read_header-header.result.vlen in
     let limit : ℕ = c.min-limit.result in
-    let l : length c.read.new.into ≡ 2 * w = search (rules, c.pair_size-header_size.ensures) in
-    let header : HeaderTells w c.args.rest.place n (header_pair c.read_header-header.result) (g.S.Store.image c.read.new.store) =
-    header_tells c.read_header-header.result l c.read_header-header.ensures.read c.in_ok-read.ensures.read (λ b is. g.met.S.Store.image_size c.read.new.store b is ∙ c.read.ensures.reads.size ∙ sym c.len.ensures) in
+    let held : Holds c.args.rest.place c.shown.result.now (g.S.Store.image c.cover.new.store) = holds_shown c.in_ok-cover.ensures.shows c.in_ok-cover.ensures.covers c.shown.ensures.is c.shown.ensures.long in
+    let l : length c.shown.result.now ≡ 2 * w = c.shown.ensures.long ∙ c.pair_size-header_size.ensures in
+    let header : HeaderTells w c.args.rest.place n (header_pair c.read_header-header.result) (g.S.Store.image c.cover.new.store) =
+    header_tells c.read_header-header.result l c.read_header-header.ensures.read held (λ b is. g.met.S.Store.image_size c.cover.new.store b is ∙ c.cover.ensures.reads.size ∙ sym c.len.ensures) in
     let room = c.has_bytes.ensures.0 c.if-not-has_bytes.false in
     let left = min-le_left n c.args.rest.end in
     let right = min-le_right n c.args.rest.end in
@@ -40,9 +43,10 @@ returns-then-not-has_bytes-3-clause-stands g c =
     let k : ℕ = c.read_header-header.result.klen in
     let v : ℕ = c.read_header-header.result.vlen in
     let limit : ℕ = c.min-limit.result in
-    let l : length c.read.new.into ≡ 2 * w = search (rules, c.pair_size-header_size.ensures) in
-    let header : HeaderTells w c.args.rest.place n (header_pair c.read_header-header.result) (g.S.Store.image c.read.new.store) =
-    header_tells c.read_header-header.result l c.read_header-header.ensures.read c.in_ok-read.ensures.read (λ b is. g.met.S.Store.image_size c.read.new.store b is ∙ c.read.ensures.reads.size ∙ sym c.len.ensures) in
+    let held : Holds c.args.rest.place c.shown.result.now (g.S.Store.image c.cover.new.store) = holds_shown c.in_ok-cover.ensures.shows c.in_ok-cover.ensures.covers c.shown.ensures.is c.shown.ensures.long in
+    let l : length c.shown.result.now ≡ 2 * w = c.shown.ensures.long ∙ c.pair_size-header_size.ensures in
+    let header : HeaderTells w c.args.rest.place n (header_pair c.read_header-header.result) (g.S.Store.image c.cover.new.store) =
+    header_tells c.read_header-header.result l c.read_header-header.ensures.read held (λ b is. g.met.S.Store.image_size c.cover.new.store b is ∙ c.cover.ensures.reads.size ∙ sym c.len.ensures) in
     let room = c.has_bytes.ensures.0 c.if-not-has_bytes.false in
     let left = min-le_left n c.args.rest.end in
     let right = min-le_right n c.args.rest.end in
@@ -59,9 +63,10 @@ returns-clause-stands g c =
     let n : ℕ = c.len.result in
     let k : ℕ = c.read_header-header.result.klen in
     let v : ℕ = c.read_header-header.result.vlen in
-    let l : length c.read.new.into ≡ 2 * w = search (rules, c.pair_size-header_size.ensures) in
-    let header : HeaderTells w c.args.rest.place n (header_pair c.read_header-header.result) (g.S.Store.image c.read.new.store) =
-    header_tells c.read_header-header.result l c.read_header-header.ensures.read c.in_ok-read.ensures.read (λ b is. g.met.S.Store.image_size c.read.new.store b is ∙ c.read.ensures.reads.size ∙ sym c.len.ensures) in
+    let held : Holds c.args.rest.place c.shown.result.now (g.S.Store.image c.cover.new.store) = holds_shown c.in_ok-cover.ensures.shows c.in_ok-cover.ensures.covers c.shown.ensures.is c.shown.ensures.long in
+    let l : length c.shown.result.now ≡ 2 * w = c.shown.ensures.long ∙ c.pair_size-header_size.ensures in
+    let header : HeaderTells w c.args.rest.place n (header_pair c.read_header-header.result) (g.S.Store.image c.cover.new.store) =
+    header_tells c.read_header-header.result l c.read_header-header.ensures.read held (λ b is. g.met.S.Store.image_size c.cover.new.store b is ∙ c.cover.ensures.reads.size ∙ sym c.len.ensures) in
     let room : c.args.rest.place + c.pair_size-header_size.result + k + v ≤ c.min-limit.result = c.has_bytes-3.ensures.0 c.if-not-has_bytes-3.false in
     let left = min-le_left n c.args.rest.end in
     let right = min-le_right n c.args.rest.end in
