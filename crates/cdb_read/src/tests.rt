@@ -1,4 +1,5 @@
 //! What contracts can't say.
+mod damaged;
 mod faults;
 mod files;
 mod finding;

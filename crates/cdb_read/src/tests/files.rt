@@ -68,3 +68,12 @@ pub(super) fn opened_again<L: Width>(store: Fused) -> Result<Reader<Fused, L>, R
         Err(unread) => Err(unread.fault),
     }
 }
+
+/// A file with other bytes from a place on.
+pub(super) fn changed(file: Vec<u8>, at: usize, bytes: &[u8]) -> Vec<u8> {
+    let mut file = file;
+    for (here, byte) in file.iter_mut().skip(at).zip(bytes) {
+        *here = *byte;
+    }
+    file
+}

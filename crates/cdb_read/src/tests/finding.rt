@@ -7,7 +7,7 @@ use std::prelude::*;
 use std::test::Fail;
 
 /// What a call of a finder answers.
-type Answer = Result<Option<Span>, ReadFault>;
+pub(super) type Answer = Result<Option<Span>, ReadFault>;
 
 /// The next answer of a finder whose store fails at most one call: then it is asked again.
 fn next_again<L: Width>(finder: &mut Finder<'_, Fused, L>) -> Answer {
@@ -29,7 +29,7 @@ fn gives<L: Width>(store: Fused, key: &[u8], wanted: &[Answer]) -> Result<(bool,
 }
 
 /// Whether the look-up gives these answers whichever call of the store fails.
-fn always_gives<L: Width>(
+pub(super) fn always_gives<L: Width>(
     file: &Vec<u8>,
     key: &[u8],
     wanted: &[Answer],
@@ -43,7 +43,7 @@ fn always_gives<L: Width>(
 }
 
 /// A value's span.
-fn value(place: u64, len: u64) -> Answer {
+pub(super) fn value(place: u64, len: u64) -> Answer {
     Ok(Some(Span { place, len }))
 }
 
@@ -56,7 +56,7 @@ fn push_pair(file: &mut Vec<u8>, first: u32, second: u32) -> Result<(), AllocErr
 
 /// A file whose table 196 has these slots, at 2068, behind the records of `a` with the values 1 and
 /// 2 at 2048 and 2058.
-fn two_values(alloc: Global, slots: [(u32, u32); 2]) -> Result<Vec<u8>, AllocError> {
+pub(super) fn two_values(alloc: Global, slots: [(u32, u32); 2]) -> Result<Vec<u8>, AllocError> {
     let mut file = Vec::new(alloc);
     for n in 0..256usize {
         let many = if n == 196 { 2 } else { 0 };

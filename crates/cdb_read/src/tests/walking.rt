@@ -1,5 +1,5 @@
 // Walks: records in order, damage, and a store that fails each call in turn.
-use super::files::{Fused, fused, opened_again, two_file, wide_file};
+use super::files::{Fused, changed, fused, opened_again, two_file, wide_file};
 use crate::{Pair, ReadFault, Span, Walk, walk};
 use cdb_form::{Narrow, Wide, Width};
 use std::alloc::{AllocError, Global};
@@ -77,30 +77,21 @@ fn the_records_of_worked_files_are_walked(rt: HostRuntime) -> Result<(), Fail> {
     Ok(())
 }
 
-/// The file of two records with other bytes from a place on.
-fn changed(alloc: Global, at: usize, bytes: &[u8]) -> Result<Vec<u8>, AllocError> {
-    let mut file = two_file(alloc)?;
-    for (here, byte) in file.iter_mut().skip(at).zip(bytes) {
-        *here = *byte;
-    }
-    Ok(file)
-}
-
 #[test]
 fn a_damage_ends_a_walk_and_stays(rt: HostRuntime) -> Result<(), Fail> {
     let alloc = rt.alloc();
     // Table 0 has a slot at place 100.
     let damage = Err(ReadFault::Table(0));
-    let early = changed(alloc, 0, b"\x64\0\0\0\x01\0\0\0")?;
+    let early = changed(two_file(alloc)?, 0, b"\x64\0\0\0\x01\0\0\0");
     let answer = always_gives::<Narrow>(&early, &[damage, damage]);
     assert!(rt; answer == Ok(true), "a table in the head");
     // The value of `two` has one byte more, and passes the record end.
     let damage = Err(ReadFault::Record(2064));
-    let long = changed(alloc, 2068, b"\x08")?;
+    let long = changed(two_file(alloc)?, 2068, b"\x08");
     let answer = always_gives::<Narrow>(&long, &[given(ONE), damage, damage]);
     assert!(rt; answer == Ok(true), "a record that passes the record end");
     let damage = Err(ReadFault::Record(2048));
-    let ones = changed(alloc, 2048, b"\xff\xff\xff\xff")?;
+    let ones = changed(two_file(alloc)?, 2048, b"\xff\xff\xff\xff");
     let answer = always_gives::<Narrow>(&ones, &[damage, damage]);
     assert!(rt; answer == Ok(true), "a key longer than all");
     Ok(())
