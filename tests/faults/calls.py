@@ -31,6 +31,7 @@ TESTS = {
         "a_removal_and_a_look_tell_no_refused_memory",
         "a_finish_tells_refused_memory",
     ],
+    "cdb_read": ["values_tell_refused_memory"],
     "cdb_tool": [
         "a_list_tells_refused_memory",
         "a_list_of_a_map_tells_refused_memory",

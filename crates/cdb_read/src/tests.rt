@@ -4,5 +4,6 @@ mod faults;
 mod files;
 mod finding;
 mod reading;
+mod refusals;
 mod uses;
 mod walking;

@@ -35,7 +35,7 @@ impl Write for ShortWriter {
 }
 
 /// Whether a span lies inside the file of a reader.
-fn lies_inside<S: Store, L: Width>(reader: &Reader<S, L>, span: Span) -> bool
+pub(super) fn lies_inside<S: Store, L: Width>(reader: &Reader<S, L>, span: Span) -> bool
     ensures { Decides result (span.place + span.len ≤ S.size reader.now.store) }
 {
     let size = reader.size();
