@@ -1,5 +1,5 @@
 -- The values of a key that were written, and those that are left.
-use Rattle.std.proofs.Common.{◌≡◌, ℕ, inl, ◌⊎◌, List, [], ◌∷◌, ◌++◌, flat_map, map, refl, sym, ap, subst, ◌∙◌, append_assoc, Option, Some, None}
+use Rattle.std.proofs.Common.{◌≡◌, ◌<◌, ℕ, arith, List, [], ◌∷◌, ◌++◌, flat_map, map, refl, sym, ap, subst, ◌∙◌, append_assoc, Option, Some, None}
 use Rattle.std.proofs.lemmas.List.{append-nil}
 use Rattle.std.proofs.lemmas.List.Concat.{flat_map-append}
 use Rattle.std.specs.List.{concat}
@@ -14,6 +14,7 @@ use Rattle.cdb_read.specs.Laws.{FindsValues}
 use Rattle.cdb_read.specs.Lookup.{Found, bytes_of, lookup_of}
 use Rattle.cdb_read.specs.Values.{values_of}
 use Rattle.cdb_read.specs.Views.Finder.{left_in, FindingFails}
+use Rattle.cdb_read.specs.Views.Reads.{OnlyReads, CopyingFails}
 use Rattle.cdb_read.specs.Views.Search.{found_ahead, nothing_found, found_damaged, with_span}
 use Rattle.cdb_read.specs.declared.fault.ReadFault.{ReadFault}
 use Rattle.cdb_read.specs.declared.fault.ReadFault.TheVariants.{Short, Table, Record, Slot, Twice, Unindexed, Device, NoMemory, Output}
@@ -78,14 +79,34 @@ no_damage w key rs old new left start now b d h is damaged file law =
     cc
 
 -- so a finder fails where its store does
-pub finder_fails : {S L : Type 0} {s : Ghosts S} {l : Widths L} (w : ℕ) (key : List ℕ) (rs : List KeyValue) (old : List ℕ → Type 0) (start now : Option (List ℕ)) (t u : Finder S L s l) (b : List ℕ) (f : ReadFault)
-    → AskedSoFar w key old (s.image t.reader.now.store) (λ x. left_in w x t) start now → s.image t.reader.now.store b → s.image u.reader.now.store b → FindingFails w t u f → b ≡ file_bytes w rs → FindsValues w rs key → (f ≡ Device) ⊎ (f ≡ Output)
-finder_fails w key rs old start now t u b Device h was is fails file law = inl refl
-finder_fails {s = s} w key rs old start now t u b (Table n) h was is fails file law = absurd (no_damage w key rs old (s.image t.reader.now.store) (λ x. left_in w x t) start now b _ h was (fails.1 b is) file law)
-finder_fails {s = s} w key rs old start now t u b (Record place) h was is fails file law = absurd (no_damage w key rs old (s.image t.reader.now.store) (λ x. left_in w x t) start now b _ h was (fails.1 b is) file law)
-finder_fails w key rs old start now t u b Short h was is fails file law = absurd fails
-finder_fails w key rs old start now t u b (Slot n i) h was is fails file law = absurd fails
-finder_fails w key rs old start now t u b (Twice place) h was is fails file law = absurd fails
-finder_fails w key rs old start now t u b (Unindexed place) h was is fails file law = absurd fails
-finder_fails w key rs old start now t u b NoMemory h was is fails file law = absurd fails
-finder_fails w key rs old start now t u b Output h was is fails file law = absurd fails
+pub finder_fails : {S L : Type 0} {s : Ghosts S} {l : Widths L} (w : ℕ) (key : List ℕ) (rs : List KeyValue) (old : List ℕ → Type 0) (start now : Option (List ℕ)) (first : S) (t u : Finder S L s l) (b : List ℕ) (f : ReadFault)
+    → AskedSoFar w key old (s.image t.reader.now.store) (λ x. left_in w x t) start now → OnlyReads s first t.reader.now.store → s.image t.reader.now.store b → s.image u.reader.now.store b → FindingFails w t u f → b ≡ file_bytes w rs → FindsValues w rs key
+    → CopyingFails s first u.reader.now.store f
+finder_fails {s = s} w key rs old start now first t u b Device h reads was is fails file law =
+    let before = reads.failures in
+    let failed : s.failures t.reader.now.store < s.failures u.reader.now.store = fails.1 in
+    omega arith
+finder_fails {s = s} w key rs old start now first t u b (Table n) h reads was is fails file law = absurd (no_damage w key rs old (s.image t.reader.now.store) (λ x. left_in w x t) start now b _ h was (fails.1 b is) file law)
+finder_fails {s = s} w key rs old start now first t u b (Record place) h reads was is fails file law = absurd (no_damage w key rs old (s.image t.reader.now.store) (λ x. left_in w x t) start now b _ h was (fails.1 b is) file law)
+finder_fails w key rs old start now first t u b Short h reads was is fails file law = absurd fails
+finder_fails w key rs old start now first t u b (Slot n i) h reads was is fails file law = absurd fails
+finder_fails w key rs old start now first t u b (Twice place) h reads was is fails file law = absurd fails
+finder_fails w key rs old start now first t u b (Unindexed place) h reads was is fails file law = absurd fails
+finder_fails w key rs old start now first t u b NoMemory h reads was is fails file law = absurd fails
+finder_fails w key rs old start now first t u b Output h reads was is fails file law = absurd fails
+
+-- a store that is not read yet
+pub reads_none : {S : Type 0} {s : Ghosts S} (a : S) → OnlyReads s a a
+reads_none a = record { images = λ b is. is; size = refl; written = refl; room = omega arith; failures = omega arith }
+
+-- where its store does not fail, only the writer can
+pub writer_fails : {S : Type 0} (s : Ghosts S) (old new : S) (f : ReadFault) → s.failures new ≡ s.failures old → CopyingFails s old new f → f ≡ Output
+writer_fails s old new Device same fails = absurd (let failed : s.failures old < s.failures new = fails in omega arith)
+writer_fails s old new (Table n) same fails = absurd fails
+writer_fails s old new (Record place) same fails = absurd fails
+writer_fails s old new Short same fails = absurd fails
+writer_fails s old new (Slot n i) same fails = absurd fails
+writer_fails s old new (Twice place) same fails = absurd fails
+writer_fails s old new (Unindexed place) same fails = absurd fails
+writer_fails s old new NoMemory same fails = absurd fails
+writer_fails s old new Output same fails = refl

@@ -1,10 +1,14 @@
 // A caller of cdb_make and cdb_read: a database is made, and asked.
-ghost use Rattle.std.specs.Prelude.{List, OnOk};
+ghost use Rattle.std.specs.Prelude.{◌≡◌, ◌⊎◌, List, OnOk, IfOk, IfErr};
 ghost use Rattle.std.specs.List.{concat};
 ghost use Rattle.std.specs.Io.KnownBytes.{Appends};
+ghost use Rattle.cdb_form.specs.Format.File.{file_bytes};
 ghost use Rattle.cdb_form.specs.Format.Record.{KeyValue};
 ghost use Rattle.cdb_make.specs.Views.Maker.{Holds};
+ghost use Rattle.cdb_make.specs.declared.fault.MakeFault.TheVariants.{NoMemory};
 ghost use Rattle.cdb_read.specs.Values.{values_of};
+ghost use Rattle.cdb_read.specs.declared.fault.ReadFault.TheVariants.{Output};
+ghost use Rattle.cdb_uses.specs.declared.ask.AskFault.TheVariants.{Make, Read};
 
 use crate::read::write_values;
 use cdb_form::Width;
@@ -22,16 +26,30 @@ pub enum AskFault {
     Read(ReadFault),
 }
 
-/// Finishes a database in memory, and writes the values of a key in it: exactly those of the
-/// records that the maker holds, in their order.
+impl From<MakeFault> for AskFault {
+    ghost from_gives = { λ e f. f ≡ Make e };
+
+    fn from(fault: MakeFault) -> AskFault {
+        AskFault::Make(fault)
+    }
+}
+
+/// Finishes a database in memory, writes the values of a key in it, and gives its bytes. The values
+/// are exactly those of the records that the maker holds, in their order.
+///
+/// It fails by `Make(NoMemory)` and by `Read(Output)` alone.
 pub fn write_finished<L: Width, W: Write>(
     maker: Maker<MemStore, L>,
     key: &[u8],
     w: &mut W,
-) -> Result<(), AskFault>
-    ensures { (rs : List KeyValue) → Holds maker rs
+) -> Result<Vec<u8>, AskFault>
+    ensures file { (rs : List KeyValue) → Holds maker rs
+        → IfOk result (λ v. v.items ≡ file_bytes L.WORD rs) }
+    ensures values { (rs : List KeyValue) → Holds maker rs
         → OnOk result (Appends (W.contents w.old) (W.contents w.new)
         (concat (values_of key.now rs))) }
+    ensures fails { (rs : List KeyValue) → Holds maker rs
+        → IfErr result (λ f. (f ≡ Make NoMemory) ⊎ (f ≡ Read Output)) }
 {
     let store = match maker.finish() {
         Ok(store) => store,
@@ -42,7 +60,7 @@ pub fn write_finished<L: Width, W: Write>(
         Err(unread) => return Err(AskFault::Read(unread.fault)),
     };
     match write_values(&mut reader, key, w) {
-        Ok(()) => Ok(()),
+        Ok(()) => Ok(reader.into_store().into_vec()),
         Err(fault) => Err(AskFault::Read(fault)),
     }
 }

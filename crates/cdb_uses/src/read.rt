@@ -1,12 +1,12 @@
 // A caller of cdb_read.
-ghost use Rattle.std.specs.Prelude.{◌≡◌, ℕ, ◌≤◌, ◌⊎◌, List, All, OnOk, IfErr};
+ghost use Rattle.std.specs.Prelude.{ℕ, ◌≤◌, List, All, OnOk, IfErr};
 ghost use Rattle.std.specs.List.{concat};
 ghost use Rattle.std.specs.Io.KnownBytes.{Appends};
 ghost use Rattle.cdb_form.specs.Format.File.{file_size};
 ghost use Rattle.cdb_form.specs.Format.Record.{KeyValue, IsRecord};
 ghost use Rattle.cdb_make.specs.Views.Maker.{IsFile};
 ghost use Rattle.cdb_read.specs.Values.{values_of};
-ghost use Rattle.cdb_read.specs.declared.fault.ReadFault.TheVariants.{Device, Output};
+ghost use Rattle.cdb_read.specs.Views.Reads.{OnlyReads, CopyingFails};
 
 use cdb_form::Width;
 use cdb_read::{ReadFault, Reader};
@@ -14,12 +14,13 @@ use cdb_store::Store;
 use std::io::Write;
 
 /// Writes the values of a key in a database, one behind the other. Of a file that was made nothing
-/// is damaged: the store may fail, and the writer.
+/// is damaged: it fails by `Device` where the store did, and by `Output` where the writer did.
 pub fn write_values<S: Store, L: Width, W: Write>(
     reader: &mut Reader<S, L>,
     key: &[u8],
     w: &mut W,
 ) -> Result<(), ReadFault>
+    ensures reads { OnlyReads S.Store reader.old.store reader.new.store }
     ensures values { (rs : List KeyValue) → All IsRecord rs → file_size L.WORD rs ≤ L.GREATEST
         → IsFile L.WORD rs (S.image reader.old.store)
         → (b : List ℕ) → S.image reader.new.store b
@@ -28,7 +29,7 @@ pub fn write_values<S: Store, L: Width, W: Write>(
     ensures sound { (rs : List KeyValue) → All IsRecord rs → file_size L.WORD rs ≤ L.GREATEST
         → IsFile L.WORD rs (S.image reader.old.store)
         → (b : List ℕ) → S.image reader.new.store b
-        → IfErr result (λ f. (f ≡ Device) ⊎ (f ≡ Output)) }
+        → IfErr result (CopyingFails S.Store reader.old.store reader.new.store) }
 {
     let mut finder = reader.find(key);
     while let Some(span) = finder.next()? {

@@ -41,7 +41,7 @@ fn the_file_of_the_latest_records(rt: HostRuntime) -> Result<(), Fail> {
 fn written(alloc: Global, maker: Maker<MemStore, Narrow>, key: &[u8]) -> Option<Vec<u8>> {
     let mut out = Vec::new(alloc);
     match write_finished(maker, key, &mut out) {
-        Ok(()) => Some(out),
+        Ok(_) => Some(out),
         Err(_) => None,
     }
 }

@@ -1,11 +1,29 @@
-use Rattle.std.proofs.Common.{refl, arith}
+use Rattle.std.proofs.Common.{refl, arith, ap, inr, ◌∙◌}
+use Rattle.cdb_store.specs.contracts.memory.MemStoreStore.TheImpl.{ghosts}
 use Rattle.cdb_make.proofs.Makers.{held_size}
+use Rattle.cdb_uses.specs.declared.ask.AskFault.TheVariants.{Read}
+use Rattle.cdb_uses.proofs.Asking.{writer_fails}
 use Rattle.cdb_uses.proofs.ask.write_finished.Goals as goal
 
-pub returns-in-Ok-write_values : goal.returns-in-Ok-write_values
-returns-in-Ok-write_values g c = λ rs h.
+pub returns-in-Ok-write_values-clause-file : goal.returns-in-Ok-write_values-clause-file
+returns-in-Ok-write_values-clause-file g c = λ rs h.
+    let b = c.write_values.new.reader.store.bytes.items in
+    let read = c.in-Ok-open.ensures.reads.images b (c.write_values.ensures.reads.images b refl) in
+    c.into_vec.ensures ∙ ap (λ s. s.bytes.items) c.into_store.ensures ∙ (c.in-Ok.ensures.file rs h).each b read
+
+pub returns-in-Ok-write_values-clause-values : goal.returns-in-Ok-write_values-clause-values
+returns-in-Ok-write_values-clause-values g c = λ rs h.
     let m = c.args.maker in
     let held = h.each m.store.bytes.items refl in
     let size = (held_size m rs _ refl h).each m.store.bytes.items refl in
     let file = c.in-Ok.ensures.file rs h in
     c.in-Ok-write_values.ensures.values rs held.are (omega (arith, size, m.within, m.limited)) (record { each = λ b is. file.each b (c.in-Ok-open.ensures.reads.images b is) }) c.write_values.new.reader.store.bytes.items refl
+
+pub returns-in-Err-write_values-clause-fails : goal.returns-in-Err-write_values-clause-fails
+returns-in-Err-write_values-clause-fails g c = λ rs h.
+    let m = c.args.maker in
+    let held = h.each m.store.bytes.items refl in
+    let size = (held_size m rs _ refl h).each m.store.bytes.items refl in
+    let file = c.in-Ok.ensures.file rs h in
+    let sound = c.in-Err-write_values.ensures.sound rs held.are (omega (arith, size, m.within, m.limited)) (record { each = λ b is. file.each b (c.in-Ok-open.ensures.reads.images b is) }) c.write_values.new.reader.store.bytes.items refl in
+    inr (ap Read (writer_fails ghosts c.in-Ok-open.reader.store c.write_values.new.reader.store c.in-Err-write_values.fault refl sound))

@@ -1,11 +1,13 @@
 use Rattle.cdb_read.specs.Views.Finder.{left_in}
+use Rattle.cdb_read.specs.Views.Reads.{CopyingFails}
 use Rattle.cdb_read.specs.Views.Search.{with_span}
 use Rattle.std.proofs.Common.{rules, ap, ◌∙◌, refl, arith}
 use Rattle.std.proofs.lemmas.List.Elements.{recursion_from_All}
 use Rattle.std.proofs.lemmas.Result.{err_from_is_err_and}
 use Rattle.cdb_form.specs.Format.Record.{IsRecord}
+use Rattle.cdb_read.proofs.PieceReads.{reads_more}
 use Rattle.cdb_read.proofs.LookupLaws.{finds_values}
-use Rattle.cdb_uses.proofs.Asking.{asked_none, asked_more, asked_all, finder_fails, same_left}
+use Rattle.cdb_uses.proofs.Asking.{asked_none, asked_more, asked_all, finder_fails, reads_none, same_left}
 use Rattle.cdb_uses.proofs.read.write_values.Goals as goal
 
 pub loop-span-init : goal.loop-span-init
@@ -14,6 +16,7 @@ loop-span-init g c =
     record {
       same = refl;
       key = e.key;
+      reads = rw e.reader (reads_none {s = g.S.Store} c.args.reader.now.store);
       asked = rw e.reader (asked_none g.L.Width.WORD c.args.key.now (g.S.Store.image c.args.reader.now.store) _ _ e.finds);
     }
 
@@ -25,6 +28,7 @@ loop-span-preserved g c =
     record {
       same = copy.same_reader ∙ c.next.ensures.same_reader ∙ inv.same;
       key = copy.key ∙ c.next.ensures.key ∙ inv.key;
+      reads = reads_more (reads_more inv.reads c.next.ensures.reads) copy.reads;
       asked = asked_more g.L.Width.WORD c.args.key.now _ _ _ _ _ _ _ _ c.in-Some.span inv.asked (λ b is. c.next.ensures.reads.images b (copy.reads.images b is))
           (λ b is. one.first b (copy.reads.images b is) ∙ ap (with_span c.in-Some.span) (same_left {s = g.S.Store} {l = g.L.Width} g.L.Width.WORD b c.next.new.self c.copy.new.self copy.key copy.stays))
           (λ b is. c.in_ok-copy.ensures.copies b is);
@@ -38,9 +42,10 @@ returns-in_err-span-clause-sound g c = λ rs are room file b is.
     let laws = g.met.L.Width.greatest_fits in
     let here : g.S.Store.image c.next.new.self.reader.now.store b = search rules in
     let was = c.next.ensures.reads.images b here in
-    rw (p.1, p.2)
-    (finder_fails {s = g.S.Store} {l = g.L.Width} w c.args.key.now rs _ _ _ c.loop-span.finder c.next.new.self b c.in_err-span.field-0.0 inv.asked was here c.in_err-span.ensures.fails (file.each b (inv.asked.images b was))
-    (finds_values w g.L.Width.TOP rs c.args.key.now (record { width = g.met.L.Width.four_or_eight; top_is = g.met.L.Width.top_is; records = recursion_from_All IsRecord rs are; room = omega (arith, laws.0, room) })))
+    let fails : CopyingFails g.S.Store c.args.reader.now.store c.next.new.self.reader.now.store c.in_err-span.field-0.0 =
+    finder_fails {s = g.S.Store} {l = g.L.Width} w c.args.key.now rs _ _ _ c.args.reader.now.store c.loop-span.finder c.next.new.self b c.in_err-span.field-0.0 inv.asked inv.reads was here c.in_err-span.ensures.fails (file.each b (inv.asked.images b was))
+    (finds_values w g.L.Width.TOP rs c.args.key.now (record { width = g.met.L.Width.four_or_eight; top_is = g.met.L.Width.top_is; records = recursion_from_All IsRecord rs are; room = omega (arith, laws.0, room) })) in
+    rw (p.1, p.2) (search rules)
 
 pub returns-clause-values : goal.returns-clause-values
 returns-clause-values g c = λ rs are room file b is.

@@ -1,5 +1,6 @@
 use Rattle.std.proofs.Common.{◌≡◌}
 use Rattle.cdb_read.specs.Views.Finder.{left_in, slots_left}
+use Rattle.cdb_read.specs.Views.Reads.{OnlyReads}
 use Rattle.cdb_uses.proofs.Asking.{AskedSoFar}
 use Rattle.cdb_uses.proofs.read.write_values.Given as goal
 
@@ -9,6 +10,7 @@ invariant-loop-span g l =
     record {
       same : l.finder.reader.ghost_name ≡ l.initial.finder.reader.ghost_name;
       key : l.finder.key.now ≡ l.key;
+      reads : OnlyReads g.S.Store l.fn.reader.store l.finder.reader.now.store;
       asked : AskedSoFar g.L.Width.WORD l.key (g.S.Store.image l.fn.reader.store) (g.S.Store.image l.finder.reader.now.store) (λ b. left_in g.L.Width.WORD b l.finder) (g.W.Write.contents l.fn.w) (g.W.Write.contents l.w);
     }
 
