@@ -1,3 +1,4 @@
 -- What the callers promise.
+pub mod Changes
 pub mod FirstRecord
 pub mod Latest

@@ -1,9 +1,13 @@
 // Each caller once.
-use crate::{file_of_latest, first_record, write_finished};
-use cdb_form::{Narrow, Record};
-use cdb_make::{Maker, Mode};
+use crate::{
+    AskFault, Change, ChangedFile, change_and_ask, file_of_latest, first_record, write_finished,
+};
+use cdb_form::{Narrow, Record, Wide, Width};
+use cdb_make::{MakeFault, Maker, Mode};
+use cdb_read::ReadFault;
 use cdb_store::MemStore;
 use std::alloc::Global;
+use std::io::{self, ErrorKind, Write};
 use std::prelude::*;
 use std::test::Fail;
 
@@ -69,5 +73,122 @@ fn the_values_of_a_key_in_what_was_made(rt: HostRuntime) -> Result<(), Fail> {
     maker.remove(b"a").map_err(|_| "fault")?;
     let values = written(rt.alloc(), maker, b"a");
     assert!(rt; values.is_some_and(|it| it.is_empty()));
+    Ok(())
+}
+
+/// The changes of a table: a mode, a key and a value, or a key that is taken out.
+fn changes(alloc: Global, rows: &[(Option<Mode>, &[u8], &[u8])]) -> Result<Vec<Change>, Fail> {
+    let mut changes = Vec::new(alloc);
+    for (mode, key, value) in rows {
+        let key = key.to_vec(alloc)?;
+        let change = match mode {
+            Some(mode) => {
+                let value = value.to_vec(alloc)?;
+                Change::Put(*mode, Record { key, value })
+            }
+            None => Change::Remove(key),
+        };
+        changes.push(change)?;
+    }
+    Ok(changes)
+}
+
+/// All modes, two removals, and a record that would pass a limit of 2160 bytes.
+fn mixed(alloc: Global) -> Result<Vec<Change>, Fail> {
+    let long: &[u8] = b"0123456789012345678901234567890123456789";
+    let rows: [(Option<Mode>, &[u8], &[u8]); 10] = [
+        (Some(Mode::Add), b"a", b"1"),
+        (Some(Mode::Add), b"a", b"2"),
+        (Some(Mode::Warn), b"one", b"Hello"),
+        (Some(Mode::Insert), b"a", b"3"),
+        (Some(Mode::Insert), b"b", b"4"),
+        (None, b"one", b""),
+        (Some(Mode::Add), b"c", long),
+        (Some(Mode::Replace), b"b", b"5"),
+        (Some(Mode::Warn), b"a", b"6"),
+        (None, b"zzz", b""),
+    ];
+    changes(alloc, &rows)
+}
+
+/// What the mixed changes leave: four records, one behind the other.
+const LEFT: &[u8] = b"\x01\0\0\0\x01\0\0\0a1\x01\0\0\0\x01\0\0\0a2\x01\0\0\0\x01\0\0\0b5\
+\x01\0\0\0\x01\0\0\0a6";
+
+#[test]
+fn changes_are_made_and_a_key_is_asked_for(rt: HostRuntime) -> Result<(), Fail> {
+    let alloc = rt.alloc();
+    let mut out = Vec::new(alloc);
+    let made = change_and_ask::<Narrow, _>(alloc, 2160, &mixed(alloc)?, b"a", &mut out);
+    let made = made.map_err(|_| "fault")?;
+    assert_eq!(rt; out.as_slice(), b"126".as_slice());
+    assert_eq!(rt; made.file.len(), 2152);
+    assert_eq!(rt; made.file.get(2048..2088), Some(LEFT));
+    for (i, fault) in made.faults.iter().enumerate() {
+        let wanted = if i == 6 {
+            Some(MakeFault::TooBig)
+        } else {
+            None
+        };
+        assert_eq!(rt; *fault, wanted);
+    }
+    assert_eq!(rt; made.faults.len(), 10);
+    Ok(())
+}
+
+#[test]
+fn changes_leave_the_file_made_from_scratch(rt: HostRuntime) -> Result<(), Fail> {
+    let alloc = rt.alloc();
+    let rows: [(Option<Mode>, &[u8], &[u8]); 4] = [
+        (Some(Mode::Add), b"a", b"1"),
+        (Some(Mode::Add), b"a", b"2"),
+        (Some(Mode::Add), b"b", b"5"),
+        (Some(Mode::Add), b"a", b"6"),
+    ];
+    let left = changes(alloc, &rows)?;
+    let mut out = Vec::new(alloc);
+    let changed = change_and_ask::<Wide, _>(alloc, 4320, &mixed(alloc)?, b"b", &mut out);
+    let changed = changed.map_err(|_| "fault")?;
+    let scratch = change_and_ask::<Wide, _>(alloc, Wide::GREATEST, &left, b"zzz", &mut out);
+    let scratch = scratch.map_err(|_| "fault")?;
+    assert_eq!(rt; out.as_slice(), b"5".as_slice());
+    assert_eq!(rt; scratch.file.len(), 4296);
+    assert_eq!(rt; changed.file.as_slice(), scratch.file.as_slice());
+    Ok(())
+}
+
+/// Takes so many bytes, and then fails.
+#[derive(Drop)]
+struct ShortWriter {
+    held: Vec<u8>,
+    room: usize,
+}
+
+impl Write for ShortWriter {
+    fn write(&mut self, buf: &[u8]) -> io::Result<usize> {
+        let n = buf.len().min(self.room);
+        if n == 0 {
+            return Err(io::Error::from(ErrorKind::Other));
+        }
+        self.held.extend_from_slice(&buf[..n])?;
+        self.room -= n;
+        Ok(n)
+    }
+
+    fn flush(&mut self) -> io::Result<()> {
+        Ok(())
+    }
+}
+
+#[test]
+fn a_writer_that_fails_holds_a_front_of_the_values(rt: HostRuntime) -> Result<(), Fail> {
+    let alloc = rt.alloc();
+    let mut writer = ShortWriter {
+        held: Vec::new(alloc),
+        room: 2,
+    };
+    let made = change_and_ask::<Narrow, _>(alloc, 2160, &mixed(alloc)?, b"a", &mut writer);
+    assert!(rt; matches!(made, Err(AskFault::Read(ReadFault::Output))));
+    assert_eq!(rt; writer.held.as_slice(), b"12".as_slice());
     Ok(())
 }
