@@ -1,15 +1,18 @@
 -- The values of a key that were written, and those that are left.
-use Rattle.std.proofs.Common.{◌≡◌, ◌<◌, ℕ, arith, List, [], ◌∷◌, ◌++◌, flat_map, map, refl, sym, ap, subst, ◌∙◌, append_assoc, Option, Some, None}
+use Rattle.std.proofs.Common.{◌≡◌, ◌<◌, ◌≤◌, ◌+◌, ◌^◌, ◌⊎◌, ℕ, arith, List, [], ◌∷◌, ◌++◌, flat_map, map, refl, sym, ap, subst, ◌∙◌, append_assoc, Option, Some, None}
 use Rattle.std.proofs.lemmas.List.{append-nil}
 use Rattle.std.proofs.lemmas.List.Concat.{flat_map-append}
-use Rattle.std.specs.List.{concat}
+use Rattle.std.proofs.lemmas.List.Elements.{recursion_from_All}
+use Rattle.std.specs.List.{concat, All}
 use Rattle.std.specs.Io.KnownBytes.{Appends}
 use Rattle.cdb_store.specs.declared.store.Store.{Ghosts}
-use Rattle.cdb_form.specs.Format.File.{file_bytes}
-use Rattle.cdb_form.specs.Format.Record.{KeyValue}
+use Rattle.cdb_form.specs.Format.File.{file_bytes, file_size}
+use Rattle.cdb_form.specs.Format.Record.{KeyValue, IsRecord}
+use Rattle.cdb_form.specs.Views.KnownBytes.{AppendsFront}
 use Rattle.cdb_form.specs.declared.damage.Damage.{Damage}
 use Rattle.cdb_form.specs.declared.width.Width.{Ghosts as Widths}
-use Rattle.cdb_form.proofs.WritingLemmas.{appends_then}
+use Rattle.cdb_form.proofs.WritingLemmas.{appends_then, front_then}
+use Rattle.cdb_read.proofs.LookupLaws.{finds_values}
 use Rattle.cdb_read.specs.Laws.{FindsValues}
 use Rattle.cdb_read.specs.Lookup.{Found, bytes_of, lookup_of}
 use Rattle.cdb_read.specs.Values.{values_of}
@@ -20,6 +23,8 @@ use Rattle.cdb_read.specs.declared.fault.ReadFault.{ReadFault}
 use Rattle.cdb_read.specs.declared.fault.ReadFault.TheVariants.{Short, Table, Record, Slot, Twice, Unindexed, Device, NoMemory, Output}
 use Rattle.cdb_read.specs.declared.finder.Finder.{Finder}
 use Rattle.cdb_read.specs.declared.span.Span.{Span}
+use Rattle.cdb_uses.specs.Asks.{AskingFails}
+use Rattle.cdb_uses.specs.declared.ask.AskFault.TheVariants.{Read}
 
 -- some spans, and then what is left
 abbrev pub with_spans : List Span → Found → Found
@@ -61,13 +66,35 @@ joined : (b : List ℕ) (spans : List Span) → flat_map (bytes_of b) spans ≡ 
 joined b [] = refl
 joined b (s ∷ spans) = ap (λ t. bytes_of b s ++ t) (joined b spans)
 
--- in the file of some records these are the key's values
+-- the law of look-ups, for a file within the greatest size
+pub finds_within : (w top greatest : ℕ) (rs : List KeyValue) (key : List ℕ) → (w ≡ 4) ⊎ (w ≡ 8) → top + 1 ≡ 256 ^ w → greatest ≤ top → All IsRecord rs → file_size w rs ≤ greatest → FindsValues w rs key
+finds_within w top greatest rs key width top_is within are room = finds_values w top rs key (record { width = width; top_is = top_is; records = recursion_from_All IsRecord rs are; room = omega arith })
+
+-- in the file of some records the values are those at these spans and at the ones that are left
+values_split : (w : ℕ) (key : List ℕ) (rs : List KeyValue) (b : List ℕ) (spans : List Span) (rest : Found) → lookup_of w b key ≡ with_spans spans rest → b ≡ file_bytes w rs → FindsValues w rs key
+    → concat (values_of key rs) ≡ flat_map (bytes_of b) spans ++ flat_map (bytes_of b) rest.spans
+values_split w key rs b spans rest first file law =
+    let values : map (bytes_of b) (lookup_of w b key).spans ≡ values_of key rs = subst (λ v. map (bytes_of v) (lookup_of w v key).spans ≡ values_of key rs) (sym file) law.values in
+    sym (ap concat values) ∙ sym (joined b (lookup_of w b key).spans) ∙ ap (λ (f : Found). flat_map (bytes_of b) f.spans) first ∙ flat_map-append (bytes_of b) spans rest.spans
+
 pub asked_all : (w : ℕ) (key : List ℕ) (rs : List KeyValue) (old new : List ℕ → Type 0) (left : List ℕ → Found) (start now : Option (List ℕ)) (b : List ℕ) → AskedSoFar w key old new left start now → new b → left b ≡ nothing_found → b ≡ file_bytes w rs
     → FindsValues w rs key → Appends start now (concat (values_of key rs))
 asked_all w key rs old new left start now b h is none file law =
-    let all : (lookup_of w b key).spans ≡ h.spans = ap (λ f. f.spans) (h.first b is ∙ ap (with_spans h.spans) none) ∙ append-nil h.spans in
-    let values : map (bytes_of b) (lookup_of w b key).spans ≡ values_of key rs = subst (λ v. map (bytes_of v) (lookup_of w v key).spans ≡ values_of key rs) (sym file) law.values in
-    subst (Appends start now) (joined b h.spans ∙ ap concat (ap (map (bytes_of b)) (sym all) ∙ values)) (h.written b is)
+    let all = values_split w key rs b h.spans (left b) (h.first b is) file law in
+    subst (Appends start now) (sym (all ∙ ap (λ (f : Found). flat_map (bytes_of b) h.spans ++ flat_map (bytes_of b) f.spans) none ∙ append-nil (flat_map (bytes_of b) h.spans))) (h.written b is)
+
+-- and so far a front of them was written
+pub asked_front : (w : ℕ) (key : List ℕ) (rs : List KeyValue) (old new : List ℕ → Type 0) (left : List ℕ → Found) (start now : Option (List ℕ)) (b : List ℕ) → AskedSoFar w key old new left start now → new b → b ≡ file_bytes w rs
+    → FindsValues w rs key → AppendsFront start now (concat (values_of key rs))
+asked_front w key rs old new left start now b h is file law =
+    record { front = flat_map (bytes_of b) h.spans; more = flat_map (bytes_of b) (left b).spans; split = values_split w key rs b h.spans (left b) (h.first b is) file law; appended = h.written b is }
+
+-- also where the next of them was not written whole
+pub copied_front : (w : ℕ) (key : List ℕ) (rs : List KeyValue) (old new : List ℕ → Type 0) (left rest : List ℕ → Found) (start now end : Option (List ℕ)) (b : List ℕ) (span : Span) → AskedSoFar w key old new left start now → new b → left b ≡ with_span span (rest b)
+    → AppendsFront now end (bytes_of b span) → b ≡ file_bytes w rs → FindsValues w rs key → AppendsFront start end (concat (values_of key rs))
+copied_front w key rs old new left rest start now end b span h is gives front file law =
+    front_then start now end (flat_map (bytes_of b) h.spans) (bytes_of b span) (flat_map (bytes_of b) (rest b).spans) (concat (values_of key rs)) (h.written b is) front
+    (values_split w key rs b h.spans (left b) (h.first b is) file law ∙ ap (λ (f : Found). flat_map (bytes_of b) h.spans ++ flat_map (bytes_of b) f.spans) gives)
 
 -- and none of it is damaged
 no_damage : (w : ℕ) (key : List ℕ) (rs : List KeyValue) (old new : List ℕ → Type 0) (left : List ℕ → Found) (start now : Option (List ℕ)) (b : List ℕ) (d : Damage) → AskedSoFar w key old new left start now → new b → left b ≡ found_damaged d → b ≡ file_bytes w rs
@@ -100,13 +127,13 @@ pub reads_none : {S : Type 0} {s : Ghosts S} (a : S) → OnlyReads s a a
 reads_none a = record { images = λ b is. is; size = refl; written = refl; room = omega arith; failures = omega arith }
 
 -- where its store does not fail, only the writer can
-pub writer_fails : {S : Type 0} (s : Ghosts S) (old new : S) (f : ReadFault) → s.failures new ≡ s.failures old → CopyingFails s old new f → f ≡ Output
-writer_fails s old new Device same fails = absurd (let failed : s.failures old < s.failures new = fails in omega arith)
-writer_fails s old new (Table n) same fails = absurd fails
-writer_fails s old new (Record place) same fails = absurd fails
-writer_fails s old new Short same fails = absurd fails
-writer_fails s old new (Slot n i) same fails = absurd fails
-writer_fails s old new (Twice place) same fails = absurd fails
-writer_fails s old new (Unindexed place) same fails = absurd fails
-writer_fails s old new NoMemory same fails = absurd fails
-writer_fails s old new Output same fails = refl
+pub writer_fails : {S : Type 0} (s : Ghosts S) (before after : S) (old new : Option (List ℕ)) (values : List ℕ) (f : ReadFault) → s.failures after ≡ s.failures before → CopyingFails s before after f → AppendsFront old new values → AskingFails old new values (Read f)
+writer_fails s before after old new values Device same fails front = absurd (let failed : s.failures before < s.failures after = fails in omega arith)
+writer_fails s before after old new values (Table n) same fails front = absurd fails
+writer_fails s before after old new values (Record place) same fails front = absurd fails
+writer_fails s before after old new values Short same fails front = absurd fails
+writer_fails s before after old new values (Slot n i) same fails front = absurd fails
+writer_fails s before after old new values (Twice place) same fails front = absurd fails
+writer_fails s before after old new values (Unindexed place) same fails front = absurd fails
+writer_fails s before after old new values NoMemory same fails front = absurd fails
+writer_fails s before after old new values Output same fails front = front

@@ -1,6 +1,7 @@
 -- A maker makes changes, and refuses some.
 use Rattle.std.proofs.Common.{◌≡◌, ◌+◌, ◌*◌, ◌<◌, true, if◌then◌else◌, ℕ, Bool, inl, inr, List, [], ◌∷◌, ◌++◌, refl, sym, subst, arith, Option, Some, None, Result, Ok, Err}
 use Rattle.std.specs.Prelude.{IfOk, IfErr}
+use Rattle.std.specs.List.{concat}
 use Rattle.std.specs.Result.{result_err}
 use Rattle.std.proofs.lemmas.Bool.{le-leb, lt-leb}
 use Rattle.cdb_store.specs.declared.store.Store.{Ghosts}
@@ -16,7 +17,14 @@ use Rattle.cdb_make.specs.declared.maker.Maker.{Maker}
 use Rattle.cdb_make.specs.declared.mode.Mode.{Mode}
 use Rattle.cdb_make.specs.declared.mode.Put.{Put}
 use Rattle.cdb_make.proofs.Makers.{held_size}
-use Rattle.cdb_uses.specs.Changes.{Meets, Tries, Runs, after}
+use Rattle.cdb_read.specs.Values.{values_of}
+use Rattle.cdb_read.specs.declared.fault.ReadFault.TheVariants as read
+use Rattle.cdb_uses.specs.Asks.{AskingFails}
+use Rattle.cdb_uses.specs.Changes.{Meets, Tries, Runs, HoldsChanged, LeavesNone, after}
+use Rattle.cdb_uses.specs.declared.ask.AskFault.{AskFault}
+use Rattle.cdb_uses.specs.declared.ask.AskFault.TheVariants.{Make, Read}
+use Rattle.cdb_uses.specs.declared.changes.Change.{Change}
+use Rattle.cdb_uses.specs.declared.changes.Changed.{Changed}
 
 -- a put that was taken is within the limit
 put_made : {S L : Type 0} {s : Ghosts S} {l : Widths L} (old new : Maker S L s l) (mode : Mode) (r : KeyValue) (answer : Put) (rs : List KeyValue) (b : List ℕ) → Puts old new mode r answer → new.limit ≡ old.limit → s.image new.store b → Holds old rs
@@ -67,3 +75,21 @@ runs_more w limit rs [] [] left call fault h m = (subst (λ (v : List KeyValue).
 runs_more w limit rs [] (f ∷ faults) left call fault h m = absurd h
 runs_more w limit rs (c ∷ calls) [] left call fault h m = absurd h
 runs_more w limit rs (c ∷ calls) (f ∷ faults) left call fault h m = (h.0, runs_more w limit (after w limit rs c f) calls faults left call fault h.1 m)
+
+-- what was not written of a key
+pub leaves_none : {L : Type 0} {l : Widths L} {limit : ℕ} {changes : List Change} {c : Changed L l} (key : List ℕ) (old new : Option (List ℕ)) (h : HoldsChanged limit changes c) (f : AskFault) → AskingFails old new (concat (values_of key h.left)) f
+    → LeavesNone l.WORD limit changes key old new f
+leaves_none key old new h (Make NoMemory) x = x
+leaves_none key old new h (Make Broken) x = absurd x
+leaves_none key old new h (Make Lookup) x = absurd x
+leaves_none key old new h (Make TooBig) x = absurd x
+leaves_none key old new h (Make Writing) x = absurd x
+leaves_none {c = c} key old new h (Read read.Output) x = record { faults = c.faults.items; left = h.left; runs = h.runs; front = x }
+leaves_none key old new h (Read read.Short) x = absurd x
+leaves_none key old new h (Read (read.Table n)) x = absurd x
+leaves_none key old new h (Read (read.Record place)) x = absurd x
+leaves_none key old new h (Read (read.Slot n i)) x = absurd x
+leaves_none key old new h (Read (read.Twice place)) x = absurd x
+leaves_none key old new h (Read (read.Unindexed place)) x = absurd x
+leaves_none key old new h (Read read.Device) x = absurd x
+leaves_none key old new h (Read read.NoMemory) x = absurd x

@@ -7,6 +7,7 @@ use Rattle.cdb_form.specs.declared.width.Width.{Ghosts as Widths}
 use Rattle.cdb_form.specs.Format.File.{file_bytes}
 use Rattle.cdb_form.specs.Format.Record.{KeyValue}
 use Rattle.cdb_form.specs.Views.Pairs.{key_value}
+use Rattle.cdb_form.specs.Views.KnownBytes.{AppendsFront}
 use Rattle.cdb_make.specs.Survivors.{Call, step, fits}
 use Rattle.cdb_make.specs.Survivors.Call.{Putting, Removing}
 use Rattle.cdb_make.specs.Views.Maker.{Holds}
@@ -14,6 +15,9 @@ use Rattle.cdb_make.specs.declared.fault.MakeFault.{MakeFault}
 use Rattle.cdb_make.specs.declared.fault.MakeFault.TheVariants.{TooBig, NoMemory}
 use Rattle.cdb_make.specs.declared.maker.Maker.{Maker}
 use Rattle.cdb_read.specs.Values.{values_of}
+use Rattle.cdb_read.specs.declared.fault.ReadFault.TheVariants.{Output}
+use Rattle.cdb_uses.specs.declared.ask.AskFault.{AskFault}
+use Rattle.cdb_uses.specs.declared.ask.AskFault.TheVariants.{Make, Read}
 use Rattle.cdb_uses.specs.declared.changes.Change.{Change}
 use Rattle.cdb_uses.specs.declared.changes.Change.TheVariants.{Put, Remove}
 use Rattle.cdb_uses.specs.declared.changes.Changed.{Changed}
@@ -67,3 +71,18 @@ pub record LeavesFile (w limit : ℕ) (changes : List Change) (key : List ℕ)
   pub runs : Runs w limit [] (map call_of changes) c.faults.items left
   pub file : c.file.items ≡ file_bytes w left
   pub values : Appends old new (concat (values_of key left))
+
+-- or the writer failed, and holds a front of these values
+pub record LeavesFront (w limit : ℕ) (changes : List Change) (key : List ℕ)
+    (old new : Option (List ℕ)) : Type 0 where
+  pub faults : List (Option MakeFault)
+  pub left : List KeyValue
+  pub runs : Runs w limit [] (map call_of changes) faults left
+  pub front : AppendsFront old new (concat (values_of key left))
+
+-- or memory was refused, and nothing was written
+abbrev pub LeavesNone : ℕ → ℕ → List Change → List ℕ → (old new : Option (List ℕ)) → AskFault
+    → Type 0
+LeavesNone w limit changes key old new (Make NoMemory) = new ≡ old
+LeavesNone w limit changes key old new (Read Output) = LeavesFront w limit changes key old new
+LeavesNone w limit changes key old new fault = ⊥

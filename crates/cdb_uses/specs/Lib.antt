@@ -1,4 +1,5 @@
 -- What the callers promise.
+pub mod Asks
 pub mod Changes
 pub mod FirstRecord
 pub mod Latest

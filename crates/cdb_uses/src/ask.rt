@@ -1,14 +1,13 @@
 // A caller of cdb_make and cdb_read: a database is made, and asked.
-ghost use Rattle.std.specs.Prelude.{◌≡◌, ◌⊎◌, List, OnOk, IfOk, IfErr};
+ghost use Rattle.std.specs.Prelude.{◌≡◌, List, OnOk, IfOk, IfErr};
 ghost use Rattle.std.specs.List.{concat};
 ghost use Rattle.std.specs.Io.KnownBytes.{Appends};
 ghost use Rattle.cdb_form.specs.Format.File.{file_bytes};
 ghost use Rattle.cdb_form.specs.Format.Record.{KeyValue};
 ghost use Rattle.cdb_make.specs.Views.Maker.{Holds};
-ghost use Rattle.cdb_make.specs.declared.fault.MakeFault.TheVariants.{NoMemory};
 ghost use Rattle.cdb_read.specs.Values.{values_of};
-ghost use Rattle.cdb_read.specs.declared.fault.ReadFault.TheVariants.{Output};
-ghost use Rattle.cdb_uses.specs.declared.ask.AskFault.TheVariants.{Make, Read};
+ghost use Rattle.cdb_uses.specs.Asks.{AskingFails};
+ghost use Rattle.cdb_uses.specs.declared.ask.AskFault.TheVariants.{Make};
 
 use crate::read::write_values;
 use cdb_form::Width;
@@ -37,7 +36,8 @@ impl From<MakeFault> for AskFault {
 /// Finishes a database in memory, writes the values of a key in it, and gives its bytes. The values
 /// are exactly those of the records that the maker holds, in their order.
 ///
-/// It fails by `Make(NoMemory)` and by `Read(Output)` alone.
+/// It fails by `Make(NoMemory)`, and then nothing was written, or by `Read(Output)`, and then the
+/// writer holds a front of the values.
 pub fn write_finished<L: Width, W: Write>(
     maker: Maker<MemStore, L>,
     key: &[u8],
@@ -49,7 +49,8 @@ pub fn write_finished<L: Width, W: Write>(
         → OnOk result (Appends (W.contents w.old) (W.contents w.new)
         (concat (values_of key.now rs))) }
     ensures fails { (rs : List KeyValue) → Holds maker rs
-        → IfErr result (λ f. (f ≡ Make NoMemory) ⊎ (f ≡ Read Output)) }
+        → IfErr result (AskingFails (W.contents w.old) (W.contents w.new)
+        (concat (values_of key.now rs))) }
 {
     let store = match maker.finish() {
         Ok(store) => store,

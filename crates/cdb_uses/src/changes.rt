@@ -1,12 +1,10 @@
 // A caller of cdb_make and cdb_read: a database is changed, whatever is refused, and asked.
-ghost use Rattle.std.specs.Prelude.{◌≡◌, ℕ, ◌≤◌, ◌⊎◌, List, IfOk, IfErr};
+ghost use Rattle.std.specs.Prelude.{◌≡◌, ℕ, ◌≤◌, List, IfOk, IfErr};
 ghost use Rattle.cdb_form.specs.Format.Pair.{head_size};
 ghost use Rattle.cdb_form.specs.Format.Record.{KeyValue};
 ghost use Rattle.cdb_make.specs.Views.Maker.{Holds, limit_of};
-ghost use Rattle.cdb_uses.specs.Changes.{call_of, Tries, HoldsChanged, LeavesFile};
 ghost use Rattle.cdb_make.specs.declared.fault.MakeFault.TheVariants.{NoMemory};
-ghost use Rattle.cdb_read.specs.declared.fault.ReadFault.TheVariants.{Output};
-ghost use Rattle.cdb_uses.specs.declared.ask.AskFault.TheVariants.{Make, Read};
+ghost use Rattle.cdb_uses.specs.Changes.{call_of, Tries, HoldsChanged, LeavesFile, LeavesNone};
 
 use crate::ask::{AskFault, write_finished};
 use cdb_form::{Record, Width};
@@ -85,7 +83,8 @@ fn try_changes<L: Width>(
 /// Whichever are refused, the file is the one made from scratch of the records that are left, and
 /// the values are exactly those that the key has among them, in their order.
 ///
-/// It fails by `Make(NoMemory)` and by `Read(Output)` alone.
+/// It fails by `Make(NoMemory)`, and then nothing was written, or by `Read(Output)`, and then the
+/// writer holds a front of the values.
 pub fn change_and_ask<L: Width, W: Write>(
     alloc: Global,
     limit: u64,
@@ -97,7 +96,8 @@ pub fn change_and_ask<L: Width, W: Write>(
     requires words { limit ≤ L.GREATEST }
     ensures leaves { IfOk result (LeavesFile L.WORD limit changes.now key.now
         (W.contents w.old) (W.contents w.new)) }
-    ensures fails { IfErr result (λ f. (f ≡ Make NoMemory) ⊎ (f ≡ Read Output)) }
+    ensures fails { IfErr result (LeavesNone L.WORD limit changes.now key.now
+        (W.contents w.old) (W.contents w.new)) }
 {
     let Changed { maker, faults } = try_changes::<L>(alloc, limit, changes)?;
     let file = write_finished(maker, key, w)?;

@@ -1,9 +1,10 @@
 // A caller of cdb_read.
-ghost use Rattle.std.specs.Prelude.{ℕ, ◌≤◌, List, All, OnOk, IfErr};
+ghost use Rattle.std.specs.Prelude.{ℕ, ◌≤◌, List, All, OnOk, OnErr, IfErr};
 ghost use Rattle.std.specs.List.{concat};
 ghost use Rattle.std.specs.Io.KnownBytes.{Appends};
 ghost use Rattle.cdb_form.specs.Format.File.{file_size};
 ghost use Rattle.cdb_form.specs.Format.Record.{KeyValue, IsRecord};
+ghost use Rattle.cdb_form.specs.Views.KnownBytes.{AppendsFront};
 ghost use Rattle.cdb_make.specs.Views.Maker.{IsFile};
 ghost use Rattle.cdb_read.specs.Values.{values_of};
 ghost use Rattle.cdb_read.specs.Views.Reads.{OnlyReads, CopyingFails};
@@ -14,7 +15,8 @@ use cdb_store::Store;
 use std::io::Write;
 
 /// Writes the values of a key in a database, one behind the other. Of a file that was made nothing
-/// is damaged: it fails by `Device` where the store did, and by `Output` where the writer did.
+/// is damaged: it fails by `Device` where the store did, and by `Output` where the writer did, which
+/// then holds a front of the values.
 pub fn write_values<S: Store, L: Width, W: Write>(
     reader: &mut Reader<S, L>,
     key: &[u8],
@@ -25,6 +27,11 @@ pub fn write_values<S: Store, L: Width, W: Write>(
         → IsFile L.WORD rs (S.image reader.old.store)
         → (b : List ℕ) → S.image reader.new.store b
         → OnOk result (Appends (W.contents w.old) (W.contents w.new)
+        (concat (values_of key.now rs))) }
+    ensures front { (rs : List KeyValue) → All IsRecord rs → file_size L.WORD rs ≤ L.GREATEST
+        → IsFile L.WORD rs (S.image reader.old.store)
+        → (b : List ℕ) → S.image reader.new.store b
+        → OnErr result (AppendsFront (W.contents w.old) (W.contents w.new)
         (concat (values_of key.now rs))) }
     ensures sound { (rs : List KeyValue) → All IsRecord rs → file_size L.WORD rs ≤ L.GREATEST
         → IsFile L.WORD rs (S.image reader.old.store)

@@ -1,7 +1,8 @@
-use Rattle.std.proofs.Common.{refl, arith, ap, inr, ◌∙◌}
+use Rattle.std.proofs.Common.{◌≤◌, refl, arith, ap, ◌∙◌}
 use Rattle.cdb_store.specs.contracts.memory.MemStoreStore.TheImpl.{ghosts}
+use Rattle.cdb_form.specs.Format.File.{file_size}
+use Rattle.cdb_make.specs.Views.Maker.{IsFile}
 use Rattle.cdb_make.proofs.Makers.{held_size}
-use Rattle.cdb_uses.specs.declared.ask.AskFault.TheVariants.{Read}
 use Rattle.cdb_uses.proofs.Asking.{writer_fails}
 use Rattle.cdb_uses.proofs.ask.write_finished.Goals as goal
 
@@ -25,5 +26,8 @@ returns-in-Err-write_values-clause-fails g c = λ rs h.
     let held = h.each m.store.bytes.items refl in
     let size = (held_size m rs _ refl h).each m.store.bytes.items refl in
     let file = c.in-Ok.ensures.file rs h in
-    let sound = c.in-Err-write_values.ensures.sound rs held.are (omega (arith, size, m.within, m.limited)) (record { each = λ b is. file.each b (c.in-Ok-open.ensures.reads.images b is) }) c.write_values.new.reader.store.bytes.items refl in
-    inr (ap Read (writer_fails ghosts c.in-Ok-open.reader.store c.write_values.new.reader.store c.in-Err-write_values.fault refl sound))
+    let room : file_size g.L.Width.WORD rs ≤ g.L.Width.GREATEST = omega (arith, size, m.within, m.limited) in
+    let made : IsFile g.L.Width.WORD rs (ghosts.image c.in-Ok-open.reader.store) = record { each = λ b is. file.each b (c.in-Ok-open.ensures.reads.images b is) } in
+    let b = c.write_values.new.reader.store.bytes.items in
+    let e = c.in-Err-write_values.ensures in
+    writer_fails ghosts c.in-Ok-open.reader.store c.write_values.new.reader.store _ _ _ c.in-Err-write_values.fault refl (e.sound rs held.are room made b refl) (e.front rs held.are room made b refl)

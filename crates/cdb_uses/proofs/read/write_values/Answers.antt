@@ -6,8 +6,7 @@ use Rattle.std.proofs.lemmas.List.Elements.{recursion_from_All}
 use Rattle.std.proofs.lemmas.Result.{err_from_is_err_and}
 use Rattle.cdb_form.specs.Format.Record.{IsRecord}
 use Rattle.cdb_read.proofs.PieceReads.{reads_more}
-use Rattle.cdb_read.proofs.LookupLaws.{finds_values}
-use Rattle.cdb_uses.proofs.Asking.{asked_none, asked_more, asked_all, finder_fails, reads_none, same_left}
+use Rattle.cdb_uses.proofs.Asking.{asked_none, asked_more, asked_all, asked_front, copied_front, finds_within, finder_fails, reads_none, same_left}
 use Rattle.cdb_uses.proofs.read.write_values.Goals as goal
 
 pub loop-span-init : goal.loop-span-init
@@ -39,21 +38,43 @@ returns-in_err-span-clause-sound g c = λ rs are room file b is.
     let p = err_from_is_err_and c.from_residual.result c.from_residual.ensures.1 in
     let inv = c.loop-span.invariant in
     let w = g.L.Width.WORD in
-    let laws = g.met.L.Width.greatest_fits in
     let here : g.S.Store.image c.next.new.self.reader.now.store b = search rules in
     let was = c.next.ensures.reads.images b here in
     let fails : CopyingFails g.S.Store c.args.reader.now.store c.next.new.self.reader.now.store c.in_err-span.field-0.0 =
     finder_fails {s = g.S.Store} {l = g.L.Width} w c.args.key.now rs _ _ _ c.args.reader.now.store c.loop-span.finder c.next.new.self b c.in_err-span.field-0.0 inv.asked inv.reads was here c.in_err-span.ensures.fails (file.each b (inv.asked.images b was))
-    (finds_values w g.L.Width.TOP rs c.args.key.now (record { width = g.met.L.Width.four_or_eight; top_is = g.met.L.Width.top_is; records = recursion_from_All IsRecord rs are; room = omega (arith, laws.0, room) })) in
+    (finds_within w g.L.Width.TOP g.L.Width.GREATEST rs c.args.key.now g.met.L.Width.four_or_eight g.met.L.Width.top_is g.met.L.Width.greatest_fits.0 are room) in
     rw (p.1, p.2) (search rules)
 
 pub returns-clause-values : goal.returns-clause-values
 returns-clause-values g c = λ rs are room file b is.
     let inv = c.loop-span.invariant in
     let w = g.L.Width.WORD in
-    let laws = g.met.L.Width.greatest_fits in
     let none = rw c.in_default.is at c.in_ok-span.ensures.gives in
     let here : g.S.Store.image c.next.new.self.reader.now.store b = search rules in
     let was = c.next.ensures.reads.images b here in
     asked_all w c.args.key.now rs _ _ (λ x. left_in w x c.loop-span.finder) _ _ b inv.asked was (none.none b here) (file.each b (inv.asked.images b was))
-    (finds_values w g.L.Width.TOP rs c.args.key.now (record { width = g.met.L.Width.four_or_eight; top_is = g.met.L.Width.top_is; records = recursion_from_All IsRecord rs are; room = omega (arith, laws.0, room) }))
+    (finds_within w g.L.Width.TOP g.L.Width.GREATEST rs c.args.key.now g.met.L.Width.four_or_eight g.met.L.Width.top_is g.met.L.Width.greatest_fits.0 are room)
+
+pub returns-in_err-span-clause-front : goal.returns-in_err-span-clause-front
+returns-in_err-span-clause-front g c = λ rs are room file b is.
+    let p = err_from_is_err_and c.from_residual.result c.from_residual.ensures.1 in
+    let inv = c.loop-span.invariant in
+    let w = g.L.Width.WORD in
+    let here : g.S.Store.image c.next.new.self.reader.now.store b = search rules in
+    let was = c.next.ensures.reads.images b here in
+    rw p.1
+    (asked_front w c.args.key.now rs _ _ (λ x. left_in w x c.loop-span.finder) _ _ b inv.asked was (file.each b (inv.asked.images b was))
+    (finds_within w g.L.Width.TOP g.L.Width.GREATEST rs c.args.key.now g.met.L.Width.four_or_eight g.met.L.Width.top_is g.met.L.Width.greatest_fits.0 are room))
+
+pub returns-in_err-copy-clause-front : goal.returns-in_err-copy-clause-front
+returns-in_err-copy-clause-front g c = λ rs are room file b is.
+    let p = err_from_is_err_and c.from_residual-in_err-copy.result c.from_residual-in_err-copy.ensures.1 in
+    let inv = c.loop-span.invariant in
+    let w = g.L.Width.WORD in
+    let here : g.S.Store.image c.copy.new.self.reader.now.store b = search rules in
+    let mid = c.copy.ensures.reads.images b here in
+    let was = c.next.ensures.reads.images b mid in
+    let one = rw c.in-Some.is at c.in_ok-span.ensures.gives in
+    rw p.1
+    (copied_front w c.args.key.now rs _ _ (λ x. left_in w x c.loop-span.finder) (λ x. left_in w x c.next.new.self) _ _ _ b c.in-Some.span inv.asked was (one.first b mid) (c.in_err-copy.ensures.front b here) (file.each b (inv.asked.images b was))
+    (finds_within w g.L.Width.TOP g.L.Width.GREATEST rs c.args.key.now g.met.L.Width.four_or_eight g.met.L.Width.top_is g.met.L.Width.greatest_fits.0 are room))
