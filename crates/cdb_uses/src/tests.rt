@@ -1,4 +1,6 @@
 // Each caller once.
+mod drawn;
+
 use crate::{
     AskFault, Change, ChangedFile, change_and_ask, file_of_latest, first_record, write_finished,
 };
