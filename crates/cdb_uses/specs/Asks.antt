@@ -6,7 +6,8 @@ use Rattle.cdb_read.specs.declared.fault.ReadFault.TheVariants.{Output}
 use Rattle.cdb_uses.specs.declared.ask.AskFault.{AskFault}
 use Rattle.cdb_uses.specs.declared.ask.AskFault.TheVariants.{Make, Read}
 
--- memory was refused, and nothing was written, or the writer failed, and holds a front of the values
+-- memory was refused, and nothing was written; or the writer failed, and holds a front of the
+-- values
 abbrev pub AskingFails : Option (List ℕ) → Option (List ℕ) → List ℕ → AskFault → Type 0
 AskingFails old new values (Make NoMemory) = new ≡ old
 AskingFails old new values (Read Output) = AppendsFront old new values

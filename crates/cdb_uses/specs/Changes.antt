@@ -28,8 +28,8 @@ abbrev pub call_of : Change → Call
 call_of (Put mode r) = Putting mode (key_value r)
 call_of (Remove key) = Removing key.items
 
--- why a call is refused: a put where the file would pass the limit, and there alone, or for want
--- of memory; a removal never
+-- what a call may meet: a put is refused as too big where the file would pass the limit, and there
+-- alone, and may be refused memory; a removal is never refused
 abbrev pub Meets : ℕ → ℕ → List KeyValue → Call → Option MakeFault → Type 0
 Meets w limit rs (Putting mode r) None = fits w limit mode r rs ≡ true
 Meets w limit rs (Putting mode r) (Some TooBig) = fits w limit mode r rs ≡ false
@@ -50,20 +50,20 @@ Runs w limit rs (call ∷ calls) (fault ∷ faults) left = Meets w limit rs call
     × Runs w limit (after w limit rs call fault) calls faults left
 Runs w limit rs calls faults left = ⊥
 
--- a maker made a call, or refused it
+-- a maker was told to make a call, and made it or met a fault
 pub record Tries {S L : Type 0} {s : Ghosts S} {l : Widths L} (old new : Maker S L s l)
     (rs : List KeyValue) (call : Call) (fault : Option MakeFault) : Type 0 where
   pub meets : Meets l.WORD old.limit rs call fault
   pub holds : Holds new (after l.WORD old.limit rs call fault)
 
--- some changes of no records made it hold those that are left
+-- a maker holds the records that some changes leave, from none on
 pub record HoldsChanged {L : Type 0} {l : Widths L} (limit : ℕ) (changes : List Change)
     (c : Changed L l) : Type 0 where
   pub left : List KeyValue
   pub runs : Runs l.WORD limit [] (map call_of changes) c.faults.items left
   pub holds : Holds c.maker left
 
--- some changes of no records left a file, the one made from scratch of those that are left, and
+-- the file is the one made from scratch of the records that some changes leave, from none on, and
 -- the values that a key has among these were written
 pub record LeavesFile (w limit : ℕ) (changes : List Change) (key : List ℕ)
     (old new : Option (List ℕ)) (c : ChangedFile) : Type 0 where
@@ -72,7 +72,7 @@ pub record LeavesFile (w limit : ℕ) (changes : List Change) (key : List ℕ)
   pub file : c.file.items ≡ file_bytes w left
   pub values : Appends old new (concat (values_of key left))
 
--- or the writer failed, and holds a front of these values
+-- or the writer failed, and holds a front of the values
 pub record LeavesFront (w limit : ℕ) (changes : List Change) (key : List ℕ)
     (old new : Option (List ℕ)) : Type 0 where
   pub faults : List (Option MakeFault)

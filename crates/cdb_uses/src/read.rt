@@ -14,9 +14,10 @@ use cdb_read::{ReadFault, Reader};
 use cdb_store::Store;
 use std::io::Write;
 
-/// Writes the values of a key in a database, one behind the other. Of a file that was made nothing
-/// is damaged: it fails by `Device` where the store did, and by `Output` where the writer did, which
-/// then holds a front of the values.
+/// Writes the values of a key in a database, one behind the other.
+///
+/// Of a file that was made nothing is damaged: it fails by `Device` where the store did, and by
+/// `Output` where the writer did. Either way the writer then holds a front of the values.
 pub fn write_values<S: Store, L: Width, W: Write>(
     reader: &mut Reader<S, L>,
     key: &[u8],

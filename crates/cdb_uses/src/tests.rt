@@ -78,19 +78,22 @@ fn the_values_of_a_key_in_what_was_made(rt: HostRuntime) -> Result<(), Fail> {
     Ok(())
 }
 
+/// A record of a key and a value.
+fn pair(alloc: Global, key: &[u8], value: &[u8]) -> Result<Record, Fail> {
+    Ok(Record {
+        key: key.to_vec(alloc)?,
+        value: value.to_vec(alloc)?,
+    })
+}
+
 /// The changes of a table: a mode, a key and a value, or a key that is taken out.
 fn changes(alloc: Global, rows: &[(Option<Mode>, &[u8], &[u8])]) -> Result<Vec<Change>, Fail> {
     let mut changes = Vec::new(alloc);
     for (mode, key, value) in rows {
-        let key = key.to_vec(alloc)?;
-        let change = match mode {
-            Some(mode) => {
-                let value = value.to_vec(alloc)?;
-                Change::Put(*mode, Record { key, value })
-            }
-            None => Change::Remove(key),
-        };
-        changes.push(change)?;
+        changes.push(match mode {
+            Some(mode) => Change::Put(*mode, pair(alloc, key, value)?),
+            None => Change::Remove(key.to_vec(alloc)?),
+        })?;
     }
     Ok(changes)
 }
