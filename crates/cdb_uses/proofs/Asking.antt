@@ -12,6 +12,9 @@ use Rattle.cdb_form.specs.Views.KnownBytes.{AppendsFront}
 use Rattle.cdb_form.specs.declared.damage.Damage.{Damage}
 use Rattle.cdb_form.specs.declared.width.Width.{Ghosts as Widths}
 use Rattle.cdb_form.proofs.WritingLemmas.{appends_then, front_then}
+use Rattle.cdb_make.specs.Views.Maker.{Holds, IsFile}
+use Rattle.cdb_make.specs.declared.maker.Maker.{Maker}
+use Rattle.cdb_make.proofs.Makers.{held_size}
 use Rattle.cdb_read.proofs.LookupLaws.{finds_values}
 use Rattle.cdb_read.specs.Laws.{FindsValues}
 use Rattle.cdb_read.specs.Lookup.{Found, bytes_of, lookup_of}
@@ -125,6 +128,16 @@ finder_fails w key rs old start now first t u b Output h reads was is fails file
 -- a store that is not read yet
 pub reads_none : {S : Type 0} {s : Ghosts S} (a : S) → OnlyReads s a a
 reads_none a = record { images = λ b is. is; size = refl; written = refl; room = omega arith; failures = omega arith }
+
+-- the records of a maker make a file within the greatest size
+pub held_within : {S L : Type 0} {s : Ghosts S} {l : Widths L} (m : Maker S L s l) (rs : List KeyValue) (b : List ℕ) → s.image m.store b → Holds m rs → All IsRecord rs × (file_size l.WORD rs ≤ l.GREATEST)
+held_within m rs b is h =
+    let size = (held_size m rs _ refl h).each b is in
+    ((h.each b is).are, omega (arith, size, m.within, m.limited))
+
+-- which is still there where its store was only read
+pub file_opened : {S : Type 0} (s : Ghosts S) {w : ℕ} {rs : List KeyValue} {old new : S} → IsFile w rs (s.image old) → OnlyReads s old new → IsFile w rs (s.image new)
+file_opened s file reads = record { each = λ b is. file.each b (reads.images b is) }
 
 -- where its store does not fail, only the writer can
 pub writer_fails : {S : Type 0} (s : Ghosts S) (before after : S) (old new : Option (List ℕ)) (values : List ℕ) (f : ReadFault) → s.failures after ≡ s.failures before → CopyingFails s before after f → AppendsFront old new values → AskingFails old new values (Read f)

@@ -1,6 +1,6 @@
 -- Changes worked out by hand: the run of some calls under a limit of 2099 bytes, within which one
 -- record of 26 bytes is, and two are not.
-use Rattle.std.specs.Prelude.{[], ◌∷◌, Some, None}
+use Rattle.std.specs.Prelude.{ℕ, [], ◌∷◌, Some, None}
 use Rattle.std.proofs.Common.{refl}
 use Rattle.cdb_form.specs.Format.Record.{KeyValue}
 use Rattle.cdb_make.specs.Survivors.Call.{Putting, Removing}
@@ -8,23 +8,19 @@ use Rattle.cdb_make.specs.declared.fault.MakeFault.TheVariants.{TooBig, NoMemory
 use Rattle.cdb_make.specs.declared.mode.Mode.TheVariants.{Add, Insert, Replace}
 use Rattle.cdb_uses.specs.Changes.{Runs}
 
--- two records of the key `a`, and one of the key `b`
-abbrev a1 : KeyValue
-a1 = record { key = 97 ∷ []; value = 49 ∷ [] }
-
-abbrev a2 : KeyValue
-a2 = record { key = 97 ∷ []; value = 50 ∷ [] }
-
-abbrev b1 : KeyValue
-b1 = record { key = 98 ∷ []; value = 49 ∷ [] }
+-- a record of one byte each
+abbrev short : ℕ → ℕ → KeyValue
+short key value = record { key = key ∷ []; value = value ∷ [] }
 
 -- one is added, another is too big, the first is replaced; and what is refused memory leaves that
 replaced : Runs 4 2099 []
-    (Putting Add a1 ∷ (Putting Add b1 ∷ (Putting Replace a2 ∷ (Putting Insert b1 ∷ []))))
-    (None ∷ (Some TooBig ∷ (None ∷ (Some NoMemory ∷ [])))) (a2 ∷ [])
+    (Putting Add (short 97 49) ∷ (Putting Add (short 98 49)
+    ∷ (Putting Replace (short 97 50) ∷ (Putting Insert (short 98 49) ∷ []))))
+    (None ∷ (Some TooBig ∷ (None ∷ (Some NoMemory ∷ [])))) (short 97 50 ∷ [])
 replaced = (refl, (refl, (refl, (tt, refl))))
 
 -- a removal makes room
-removed : Runs 4 2099 [] (Putting Add a1 ∷ (Removing a1.key ∷ (Putting Insert b1 ∷ [])))
-    (None ∷ (None ∷ (None ∷ []))) (b1 ∷ [])
+removed : Runs 4 2099 []
+    (Putting Add (short 97 49) ∷ (Removing (97 ∷ []) ∷ (Putting Insert (short 98 49) ∷ [])))
+    (None ∷ (None ∷ (None ∷ []))) (short 98 49 ∷ [])
 removed = (refl, (refl, (refl, refl)))

@@ -1,9 +1,6 @@
-use Rattle.std.proofs.Common.{◌≤◌, refl, arith, ap, ◌∙◌}
+use Rattle.std.proofs.Common.{refl, ap, ◌∙◌}
 use Rattle.cdb_store.specs.contracts.memory.MemStoreStore.TheImpl.{ghosts}
-use Rattle.cdb_form.specs.Format.File.{file_size}
-use Rattle.cdb_make.specs.Views.Maker.{IsFile}
-use Rattle.cdb_make.proofs.Makers.{held_size}
-use Rattle.cdb_uses.proofs.Asking.{writer_fails}
+use Rattle.cdb_uses.proofs.Asking.{held_within, file_opened, writer_fails}
 use Rattle.cdb_uses.proofs.ask.write_finished.Goals as goal
 
 pub returns-in-Ok-write_values-clause-file : goal.returns-in-Ok-write_values-clause-file
@@ -14,20 +11,14 @@ returns-in-Ok-write_values-clause-file g c = λ rs h.
 
 pub returns-in-Ok-write_values-clause-values : goal.returns-in-Ok-write_values-clause-values
 returns-in-Ok-write_values-clause-values g c = λ rs h.
-    let m = c.args.maker in
-    let held = h.each m.store.bytes.items refl in
-    let size = (held_size m rs _ refl h).each m.store.bytes.items refl in
-    let file = c.in-Ok.ensures.file rs h in
-    c.in-Ok-write_values.ensures.values rs held.are (omega (arith, size, m.within, m.limited)) (record { each = λ b is. file.each b (c.in-Ok-open.ensures.reads.images b is) }) c.write_values.new.reader.store.bytes.items refl
+    let held = held_within c.args.maker rs c.args.maker.store.bytes.items refl h in
+    let made = file_opened ghosts (c.in-Ok.ensures.file rs h) c.in-Ok-open.ensures.reads in
+    c.in-Ok-write_values.ensures.values rs held.0 held.1 made c.write_values.new.reader.store.bytes.items refl
 
 pub returns-in-Err-write_values-clause-fails : goal.returns-in-Err-write_values-clause-fails
 returns-in-Err-write_values-clause-fails g c = λ rs h.
-    let m = c.args.maker in
-    let held = h.each m.store.bytes.items refl in
-    let size = (held_size m rs _ refl h).each m.store.bytes.items refl in
-    let file = c.in-Ok.ensures.file rs h in
-    let room : file_size g.L.Width.WORD rs ≤ g.L.Width.GREATEST = omega (arith, size, m.within, m.limited) in
-    let made : IsFile g.L.Width.WORD rs (ghosts.image c.in-Ok-open.reader.store) = record { each = λ b is. file.each b (c.in-Ok-open.ensures.reads.images b is) } in
+    let held = held_within c.args.maker rs c.args.maker.store.bytes.items refl h in
+    let made = file_opened ghosts (c.in-Ok.ensures.file rs h) c.in-Ok-open.ensures.reads in
     let b = c.write_values.new.reader.store.bytes.items in
     let e = c.in-Err-write_values.ensures in
-    writer_fails ghosts c.in-Ok-open.reader.store c.write_values.new.reader.store _ _ _ c.in-Err-write_values.fault refl (e.sound rs held.are room made b refl) (e.front rs held.are room made b refl)
+    writer_fails ghosts c.in-Ok-open.reader.store c.write_values.new.reader.store _ _ _ c.in-Err-write_values.fault refl (e.sound rs held.0 held.1 made b refl) (e.front rs held.0 held.1 made b refl)
