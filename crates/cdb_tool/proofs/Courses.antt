@@ -23,7 +23,7 @@ use Rattle.cdb_tool.specs.Views.Fault.{make_fault}
 use Rattle.cdb_tool.specs.Runs.Course.{Incoming, Course, from_input, from_inputs, mode_of, said, ends, is_going, with_put, with_next, at_start, course_of, TellFails, Goes, StopsSo}
 use Rattle.cdb_tool.specs.Runs.Make.{InCourse, PutStops, IsOfStore}
 use Rattle.cdb_tool.specs.declared.fault.Fault.{Fault}
-use Rattle.cdb_tool.specs.declared.fault.Fault.TheVariants.{Text, Make, Duplicate, Walk, Output, Long, NoMemory}
+use Rattle.cdb_tool.specs.declared.fault.Fault.TheVariants.{Text, Make, Duplicate, Missing, Read, Walk, Output, Long, NoMemory}
 use Rattle.cdb_tool.specs.declared.runs.options.MakeOptions.{MakeOptions}
 
 -- ---- the course over one record more, which was put
@@ -101,6 +101,8 @@ told_so : {S L : Type 0} {s : Ghosts S} {l : Widths L} (o : MakeOptions) (cs : L
 told_so o cs c start mid end m put (Text n f) b p x = absurd x
 told_so o cs c start mid end m put (Make f) b p x = absurd x
 told_so o cs c start mid end m put (Walk f) b p x = absurd x
+told_so o cs c start mid end m put Missing b p x = absurd x
+told_so o cs c start mid end m put (Read f) b p x = absurd x
 told_so o cs c start mid end m put Long b p x = absurd x
 told_so o cs c start mid end m put NoMemory b p x = absurd x
 told_so {l = l} o cs c start mid end m put Output b p x =
@@ -123,6 +125,8 @@ pub told_store : (o : MakeOptions) (i j : ℕ) (put : Put) (old new : Option (Li
 told_store o i j put old new (Text n f) x is = absurd is
 told_store o i j put old new (Make f) x is = absurd x
 told_store o i j put old new (Walk f) x is = absurd is
+told_store o i j put old new Missing x is = absurd is
+told_store o i j put old new (Read f) x is = absurd is
 told_store o i j put old new Long x is = absurd is
 told_store o i j put old new NoMemory x is = absurd is
 told_store o i j put old new Output x is = absurd is

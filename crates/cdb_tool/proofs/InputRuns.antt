@@ -14,7 +14,7 @@ use Rattle.cdb_tool.specs.Runs.Course.{Incoming, from_inputs, Goes, StopsSo}
 use Rattle.cdb_tool.specs.Runs.Inputs.{IsInput, BeginsWith, HasInputFault, AreInputs}
 use Rattle.cdb_tool.specs.Runs.Make.{InCourse, PutStops, InputFails, StopsIn, Stops, RunFails, came, IsOfStore}
 use Rattle.cdb_tool.specs.declared.fault.Fault.{Fault}
-use Rattle.cdb_tool.specs.declared.fault.Fault.TheVariants.{Text, Make, Duplicate, Walk, Output, Long, NoMemory}
+use Rattle.cdb_tool.specs.declared.fault.Fault.TheVariants.{Text, Make, Duplicate, Missing, Read, Walk, Output, Long, NoMemory}
 use Rattle.cdb_tool.specs.declared.runs.input_reader.InputReader.{InputReader}
 use Rattle.cdb_tool.specs.declared.runs.options.MakeOptions.{MakeOptions}
 use Rattle.cdb_tool.specs.declared.runs.style.Style.{Style}
@@ -38,6 +38,8 @@ put_stopped w g o read input last start now (Make f) b x = record { last = last;
 put_stopped w g o read input last start now Duplicate b x = record { last = last; begins = b; stops = x }
 put_stopped w g o read input last start now (Walk f) b x = record { last = last; begins = b; stops = x }
 put_stopped w g o read input last start now Output b x = record { last = last; begins = b; stops = x }
+put_stopped w g o read input last start now Missing b x = record { last = last; begins = b; stops = x }
+put_stopped w g o read input last start now (Read f) b x = record { last = last; begins = b; stops = x }
 put_stopped w g o read input last start now Long b x = record { last = last; begins = b; stops = x }
 put_stopped w g o read input last start now NoMemory b x = record { last = last; begins = b; stops = x }
 
@@ -103,6 +105,8 @@ run_failed w g o read x inputs rest start now (Make f) are h = stopped w g o rea
 run_failed w g o read x inputs rest start now Duplicate are h = stopped w g o read x inputs rest start now Duplicate are h
 run_failed w g o read x inputs rest start now (Walk f) are h = stopped w g o read x inputs rest start now (Walk f) are h
 run_failed w g o read x inputs rest start now Output are h = stopped w g o read x inputs rest start now Output are h
+run_failed w g o read x inputs rest start now Missing are h = stopped w g o read x inputs rest start now Missing are h
+run_failed w g o read x inputs rest start now (Read f) are h = stopped w g o read x inputs rest start now (Read f) are h
 run_failed w g o read x inputs rest start now Long are h = stopped w g o read x inputs rest start now Long are h
 run_failed w g o read x inputs rest start now NoMemory are h = stopped w g o read x inputs rest start now NoMemory are h
 

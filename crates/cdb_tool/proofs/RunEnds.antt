@@ -20,7 +20,7 @@ use Rattle.cdb_tool.specs.Runs.Course.{Incoming, from_inputs, course_of, Goes, E
 use Rattle.cdb_tool.specs.Runs.Inputs.{BeginsWith, AreInputs, FirstBegins}
 use Rattle.cdb_tool.specs.Runs.Make.{InCourse, Stops, RunFails, Runs, came}
 use Rattle.cdb_tool.specs.declared.fault.Fault.{Fault}
-use Rattle.cdb_tool.specs.declared.fault.Fault.TheVariants.{Text, Make, Duplicate, Walk, Output, Long, NoMemory}
+use Rattle.cdb_tool.specs.declared.fault.Fault.TheVariants.{Text, Make, Duplicate, Missing, Read, Walk, Output, Long, NoMemory}
 use Rattle.cdb_tool.specs.declared.runs.options.MakeOptions.{MakeOptions}
 use Rattle.cdb_tool.specs.declared.runs.style.Style.{Style}
 use Rattle.cdb_tool.specs.declared.runs.style.Style.TheVariants as style
@@ -113,6 +113,8 @@ stops_kept w o cs old mid new NoMemory h k = goes_kept w o cs old mid new h k
 stops_kept w o cs old mid new Output h k = front_kept old mid new _ h k
 stops_kept w o cs old mid new (Text n f) h k = absurd h
 stops_kept w o cs old mid new (Walk f) h k = absurd h
+stops_kept w o cs old mid new Missing h k = absurd h
+stops_kept w o cs old mid new (Read f) h k = absurd h
 stops_kept w o cs old mid new Long h k = absurd h
 
 stop_kept : (w g : ℕ) (o : MakeOptions) (inputs : List (Option (List ℕ))) (old mid new : Option (List ℕ)) (f : Fault) → Stops w g o inputs old mid f → Keeps mid new → Stops w g o inputs old new f
@@ -125,6 +127,8 @@ fails_kept w g o inputs old mid new (Make f) h k = stop_kept w g o inputs old mi
 fails_kept w g o inputs old mid new Duplicate h k = stop_kept w g o inputs old mid new Duplicate h k
 fails_kept w g o inputs old mid new (Walk f) h k = stop_kept w g o inputs old mid new (Walk f) h k
 fails_kept w g o inputs old mid new Output h k = stop_kept w g o inputs old mid new Output h k
+fails_kept w g o inputs old mid new Missing h k = stop_kept w g o inputs old mid new Missing h k
+fails_kept w g o inputs old mid new (Read f) h k = stop_kept w g o inputs old mid new (Read f) h k
 fails_kept w g o inputs old mid new Long h k = stop_kept w g o inputs old mid new Long h k
 fails_kept w g o inputs old mid new NoMemory h k = stop_kept w g o inputs old mid new NoMemory h k
 

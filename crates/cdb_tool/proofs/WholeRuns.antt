@@ -27,7 +27,7 @@ use Rattle.cdb_tool.proofs.NativeInputs.{some_weaker, fault_of_text, fault_of_pa
 use Rattle.cdb_tool.specs.Runs.Flushed.{Flushed}
 use Rattle.cdb_tool.specs.Runs.MakeBytes.{IsNewText, FailsText, FailsRead, PassesGreatest, NotRead, ReadsFitting, MakesFile, Makes}
 use Rattle.cdb_tool.specs.declared.fault.Fault.{Fault}
-use Rattle.cdb_tool.specs.declared.fault.Fault.TheVariants.{Text, Make, Duplicate, Walk, Output, Long, NoMemory}
+use Rattle.cdb_tool.specs.declared.fault.Fault.TheVariants.{Text, Make, Duplicate, Missing, Read, Walk, Output, Long, NoMemory}
 
 -- ---- what a writer holds
 
@@ -164,6 +164,8 @@ nothing_made w g text rest o (Make f) x = record { ok = tt; err = (x, keeps_self
 nothing_made w g text rest o Duplicate x = absurd x
 nothing_made w g text rest o (Walk f) x = absurd x
 nothing_made w g text rest o Output x = absurd x
+nothing_made w g text rest o Missing x = absurd x
+nothing_made w g text rest o (Read f) x = absurd x
 nothing_made w g text rest o Long x = absurd x
 nothing_made w g text rest o NoMemory x = record { ok = tt; err = (x, keeps_self o) }
 
@@ -184,6 +186,8 @@ makes_kept w g text rest old mid new (Err (Text input f)) m k = record { ok = tt
 makes_kept w g text rest old mid new (Err (Make f)) m k = record { ok = tt; err = (m.err.0, keeps_then old mid new m.err.1 k) }
 makes_kept w g text rest old mid new (Err Duplicate) m k = record { ok = tt; err = (m.err.0, keeps_then old mid new m.err.1 k) }
 makes_kept w g text rest old mid new (Err (Walk f)) m k = record { ok = tt; err = (m.err.0, keeps_then old mid new m.err.1 k) }
+makes_kept w g text rest old mid new (Err Missing) m k = record { ok = tt; err = (m.err.0, keeps_then old mid new m.err.1 k) }
+makes_kept w g text rest old mid new (Err (Read f)) m k = record { ok = tt; err = (m.err.0, keeps_then old mid new m.err.1 k) }
 makes_kept w g text rest old mid new (Err Long) m k = record { ok = tt; err = (m.err.0, keeps_then old mid new m.err.1 k) }
 makes_kept w g text rest old mid new (Err NoMemory) m k = record { ok = tt; err = (m.err.0, keeps_then old mid new m.err.1 k) }
 makes_kept w g text rest old mid new (Err Output) m k =

@@ -8,17 +8,23 @@ use Rattle.cdb_form.specs.Views.TextFault.{text_message}
 use Rattle.cdb_form.specs.Views.WalkFault.{walk_message}
 use Rattle.cdb_make.specs.Views.MakeFault.{make_message}
 use Rattle.cdb_make.specs.declared.fault.MakeFault.TheVariants.{TooBig}
+use Rattle.cdb_read.specs.Views.ReadFault.{read_message}
+use Rattle.cdb_read.specs.declared.fault.ReadFault.{ReadFault}
+use Rattle.cdb_read.specs.declared.fault.ReadFault.TheVariants as read
 use Rattle.cdb_tool.specs.declared.message.Place.{Place}
 use Rattle.cdb_tool.specs.declared.message.Place.TheVariants.{Nowhere, Input, Byte, Table, Record}
+use Rattle.cdb_tool.specs.declared.message.Place.TheVariants.{Slot}
 use Rattle.cdb_tool.specs.declared.fault.Fault.{Fault}
-use Rattle.cdb_tool.specs.declared.fault.Fault.TheVariants.{Text, Make, Walk, Output}
-use Rattle.cdb_tool.specs.declared.fault.Fault.TheVariants.{Duplicate, Long, NoMemory}
+use Rattle.cdb_tool.specs.declared.fault.Fault.TheVariants.{Text, Make, Read, Walk, Output}
+use Rattle.cdb_tool.specs.declared.fault.Fault.TheVariants.{Duplicate, Missing, Long, NoMemory}
 
 -- what a fault is
 abbrev pub fault_message : Fault → List ℕ
 fault_message (Text input fault) = text_message fault
 fault_message (Make fault) = make_message fault
 fault_message Duplicate = codes "stopped at a duplicate key"
+fault_message Missing = codes "no such value"
+fault_message (Read fault) = read_message fault
 fault_message (Walk fault) = walk_message fault
 fault_message Output = codes "output cannot be written"
 fault_message Long = make_message TooBig
@@ -35,6 +41,7 @@ said_place (Input input) = numbered (codes "input ") input
 said_place (Byte input at) = numbered (codes "input ") input ++ numbered (codes "byte ") at
 said_place (Table n) = numbered (codes "table ") n
 said_place (Record at) = numbered (codes "record at ") at
+said_place (Slot n i) = numbered (codes "table ") n ++ numbered (codes "slot ") i
 
 -- where the fault of an input is: at a byte of it, or in it as a whole
 abbrev pub text_place : ℕ → TextFault → Place
@@ -50,9 +57,19 @@ walk_place (walk.Table n) = Table n
 walk_place (walk.Record place) = Record place
 walk_place fault = Nowhere
 
+-- where that of a database in a store is
+abbrev pub read_place : ReadFault → Place
+read_place (read.Table n) = Table n
+read_place (read.Record place) = Record place
+read_place (read.Slot n i) = Slot n i
+read_place (read.Twice place) = Record place
+read_place (read.Unindexed place) = Record place
+read_place fault = Nowhere
+
 -- where a fault is
 abbrev pub fault_place : Fault → Place
 fault_place (Text input fault) = text_place input fault
+fault_place (Read fault) = read_place fault
 fault_place (Walk fault) = walk_place fault
 fault_place fault = Nowhere
 
@@ -60,9 +77,14 @@ fault_place fault = Nowhere
 abbrev pub fault_text : Fault → List ℕ
 fault_text fault = said_place (fault_place fault) ++ fault_message fault
 
--- the line of a fault
+-- the line that says it
+abbrev pub said_line : Fault → List ℕ
+said_line fault = codes "cdb: " ++ fault_text fault ++ codes "\n"
+
+-- the line of a fault: none where a value is missing, which the exit status tells
 abbrev pub fault_line : Fault → List ℕ
-fault_line fault = codes "cdb: " ++ fault_text fault ++ codes "\n"
+fault_line Missing = []
+fault_line fault = said_line fault
 
 -- the line of a record whose key was there already: its input and its number there
 abbrev pub duplicate_line : ℕ → ℕ → List ℕ

@@ -1,10 +1,11 @@
 // Why a run stopped.
 ghost use Rattle.std.specs.Prelude.{◌≡◌};
 ghost use Rattle.cdb_tool.specs.Views.Fault.{fault_number, text_fault, walk_fault, make_fault};
-ghost use Rattle.cdb_tool.specs.Views.Fault.{in_fault};
+ghost use Rattle.cdb_tool.specs.Views.Fault.{in_fault, read_fault};
 
 use cdb_form::{InFault, OutFault, TextFault, WalkFault};
 use cdb_make::MakeFault;
+use cdb_read::ReadFault;
 use std::alloc::AllocError;
 
 /// Why a run stopped.
@@ -16,6 +17,10 @@ pub enum Fault {
     Make(MakeFault),
     /// A record had a key that was there already, and the run was to stop there.
     Duplicate,
+    /// The value that was asked for is not there.
+    Missing,
+    /// A database in a store was not read.
+    Read(ReadFault),
     /// A database file was not walked to its end.
     Walk(WalkFault),
     /// A writer failed.
@@ -35,6 +40,8 @@ impl Fault {
             Fault::Text(_, _) => 1,
             Fault::Make(_) => 2,
             Fault::Duplicate => 3,
+            Fault::Missing => 4,
+            Fault::Read(_) => 5,
             Fault::Walk(_) => 6,
             Fault::Output => 7,
             Fault::Long => 8,
@@ -50,6 +57,19 @@ impl Fault {
         match fault {
             TextFault::NoMemory => Fault::NoMemory,
             _ => Fault::Text(input, fault),
+        }
+    }
+}
+
+/// Want of memory in a reader is the run's own, and so is a writer that failed there.
+impl From<ReadFault> for Fault {
+    ghost from_gives = { λ read fault. fault ≡ read_fault read };
+
+    fn from(fault: ReadFault) -> Fault {
+        match fault {
+            ReadFault::NoMemory => Fault::NoMemory,
+            ReadFault::Output => Fault::Output,
+            _ => Fault::Read(fault),
         }
     }
 }

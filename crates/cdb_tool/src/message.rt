@@ -3,11 +3,13 @@ ghost use Rattle.std.specs.Prelude.{◌≡◌, [], ◌++◌, Some, codes, OnOk, 
 ghost use Rattle.std.specs.Io.KnownBytes.{Appends};
 ghost use Rattle.cdb_form.specs.Views.KnownBytes.{AppendsFront};
 ghost use Rattle.cdb_tool.specs.Message.{fault_message, numbered, said_place, fault_place};
-ghost use Rattle.cdb_tool.specs.Message.{fault_text, fault_line, duplicate_line};
+ghost use Rattle.cdb_tool.specs.Message.{read_place};
+ghost use Rattle.cdb_tool.specs.Message.{fault_text, said_line, fault_line, duplicate_line};
 
 use crate::fault::Fault;
 use cdb_form::{OutFault, TextFault, WalkFault, write_pieces, write_whole};
 use cdb_make::MakeFault;
+use cdb_read::ReadFault;
 use itoa::Buffer;
 use std::error::Error;
 use std::fmt;
@@ -25,6 +27,8 @@ enum Place {
     Table(u64),
     /// In the record at a place of a database file.
     Record(u64),
+    /// In a slot, from 0 on, of a table of it.
+    Slot(u64, u64),
 }
 
 impl Fault {
@@ -36,6 +40,8 @@ impl Fault {
             Fault::Text(_, fault) => fault.message(),
             Fault::Make(fault) => fault.message(),
             Fault::Duplicate => "stopped at a duplicate key",
+            Fault::Missing => "no such value",
+            Fault::Read(fault) => fault.message(),
             Fault::Walk(fault) => fault.message(),
             Fault::Output => "output cannot be written",
             Fault::Long => MakeFault::TooBig.message(),
@@ -53,10 +59,25 @@ impl Fault {
             Fault::Text(input, TextFault::Large(at)) => Place::Byte(input, at),
             Fault::Text(_, TextFault::NoMemory) => Place::Nowhere,
             Fault::Text(input, _) => Place::Input(input),
+            Fault::Read(fault) => read_place(fault),
             Fault::Walk(WalkFault::Table(n)) => Place::Table(n),
             Fault::Walk(WalkFault::Record(place)) => Place::Record(place),
             _ => Place::Nowhere,
         }
+    }
+}
+
+/// Where the fault of a database in a store is.
+fn read_place(fault: ReadFault) -> Place
+    ensures { result ≡ read_place fault }
+{
+    match fault {
+        ReadFault::Table(n) => Place::Table(n),
+        ReadFault::Slot(n, i) => Place::Slot(n, i),
+        ReadFault::Record(at) | ReadFault::Twice(at) | ReadFault::Unindexed(at) => {
+            Place::Record(at)
+        }
+        _ => Place::Nowhere,
     }
 }
 
@@ -70,6 +91,7 @@ impl fmt::Display for Fault {
             Place::Byte(input, at) => write!(f, "input {input}: byte {at}: ")?,
             Place::Table(n) => write!(f, "table {n}: ")?,
             Place::Record(at) => write!(f, "record at {at}: ")?,
+            Place::Slot(n, i) => write!(f, "table {n}: slot {i}: ")?,
         }
         f.write_str(self.message())
     }
@@ -105,20 +127,37 @@ fn write_place<E: Write>(place: Place, errors: &mut E) -> Result<(), OutFault>
         }
         Place::Table(n) => write_numbered(b"table ", n, errors),
         Place::Record(at) => write_numbered(b"record at ", at, errors),
+        Place::Slot(n, i) => {
+            write_numbered(b"table ", n, errors)?;
+            write_numbered(b"slot ", i, errors)
+        }
     }
 }
 
-/// Writes the line that says what a fault is, with its newline. After an `OutFault` the writer
-/// holds a front of it.
+/// Writes where a fault is and what it is, in a line.
+fn write_said<E: Write>(fault: &Fault, errors: &mut E) -> Result<(), OutFault>
+    ensures ok { OnOk result (Appends (E.contents errors.old) (E.contents errors.new)
+        (said_line fault.now)) }
+    ensures err { OnErr result
+        (AppendsFront (E.contents errors.old) (E.contents errors.new) (said_line fault.now)) }
+{
+    write_whole(errors, b"cdb: ")?;
+    write_place(fault.place(), errors)?;
+    write_pieces(errors, &[fault.message().as_bytes(), b"\n"])
+}
+
+/// Writes the line that says what a fault is, with its newline. A value that is missing has no
+/// line. After an `OutFault` the writer holds a front of it.
 pub fn write_fault<E: Write>(fault: &Fault, errors: &mut E) -> Result<(), OutFault>
     ensures ok { OnOk result (Appends (E.contents errors.old) (E.contents errors.new)
         (fault_line fault.now)) }
     ensures err { OnErr result
         (AppendsFront (E.contents errors.old) (E.contents errors.new) (fault_line fault.now)) }
 {
-    write_whole(errors, b"cdb: ")?;
-    write_place(fault.place(), errors)?;
-    write_pieces(errors, &[fault.message().as_bytes(), b"\n"])
+    match *fault {
+        Fault::Missing => Ok(()),
+        _ => write_said(fault, errors),
+    }
 }
 
 /// Writes the line of a record whose key was there already: its input, and its number there, both

@@ -8,14 +8,18 @@ use Rattle.cdb_form.specs.declared.reading_whole.InFault.{InFault}
 use Rattle.cdb_form.specs.declared.reading_whole.InFault.TheVariants as input
 use Rattle.cdb_make.specs.declared.fault.MakeFault.{MakeFault}
 use Rattle.cdb_make.specs.declared.fault.MakeFault.TheVariants as make
+use Rattle.cdb_read.specs.declared.fault.ReadFault.{ReadFault}
+use Rattle.cdb_read.specs.declared.fault.ReadFault.TheVariants as read
 use Rattle.cdb_tool.specs.declared.fault.Fault.{Fault}
-use Rattle.cdb_tool.specs.declared.fault.Fault.TheVariants.{Text, Make, Walk, Output}
-use Rattle.cdb_tool.specs.declared.fault.Fault.TheVariants.{Duplicate, Long, NoMemory}
+use Rattle.cdb_tool.specs.declared.fault.Fault.TheVariants.{Text, Make, Read, Walk, Output}
+use Rattle.cdb_tool.specs.declared.fault.Fault.TheVariants.{Duplicate, Missing, Long, NoMemory}
 
 abbrev pub fault_number : Fault → ℕ
 fault_number (Text input fault) = 1
 fault_number (Make fault) = 2
 fault_number Duplicate = 3
+fault_number Missing = 4
+fault_number (Read fault) = 5
 fault_number (Walk fault) = 6
 fault_number Output = 7
 fault_number Long = 8
@@ -25,6 +29,12 @@ fault_number NoMemory = 11
 abbrev pub text_fault : ℕ → TextFault → Fault
 text_fault input text.NoMemory = NoMemory
 text_fault input fault = Text input fault
+
+-- from that of a reader of a store, whose writer is the run's
+abbrev pub read_fault : ReadFault → Fault
+read_fault read.NoMemory = NoMemory
+read_fault read.Output = Output
+read_fault fault = Read fault
 
 -- from that of a walk of a file
 abbrev pub walk_fault : WalkFault → Fault

@@ -4,12 +4,13 @@ use crate::fault::Fault;
 use crate::message::write_fault;
 use cdb_form::{OutFault, TextFault, WalkFault};
 use cdb_make::MakeFault;
+use cdb_read::ReadFault;
 use std::prelude::*;
 use std::test::Fail;
 
 #[test]
 fn faults_are_numbered_and_said(rt: HostRuntime) -> Result<(), Fail> {
-    let cases: [(Fault, u8, &str); 19] = [
+    let cases: [(Fault, u8, &str); 28] = [
         (
             Fault::Text(1, TextFault::Syntax(7)),
             1,
@@ -58,6 +59,47 @@ fn faults_are_numbered_and_said(rt: HostRuntime) -> Result<(), Fail> {
         ),
         (Fault::Duplicate, 3, "cdb: stopped at a duplicate key\n"),
         (
+            Fault::Read(ReadFault::Short),
+            5,
+            "cdb: database shorter than its head\n",
+        ),
+        (
+            Fault::Read(ReadFault::Table(41)),
+            5,
+            "cdb: table 41: outside the file\n",
+        ),
+        (
+            Fault::Read(ReadFault::Record(2065)),
+            5,
+            "cdb: record at 2065: not whole\n",
+        ),
+        (
+            Fault::Read(ReadFault::Slot(129, 1)),
+            5,
+            "cdb: table 129: slot 1: wrong\n",
+        ),
+        (
+            Fault::Read(ReadFault::Twice(2068)),
+            5,
+            "cdb: record at 2068: in two slots\n",
+        ),
+        (
+            Fault::Read(ReadFault::Unindexed(2048)),
+            5,
+            "cdb: record at 2048: in no slot\n",
+        ),
+        (
+            Fault::Read(ReadFault::Device),
+            5,
+            "cdb: database cannot be read or written\n",
+        ),
+        (Fault::Read(ReadFault::NoMemory), 5, "cdb: no memory\n"),
+        (
+            Fault::Read(ReadFault::Output),
+            5,
+            "cdb: output cannot be written\n",
+        ),
+        (
             Fault::Walk(WalkFault::Short),
             6,
             "cdb: database shorter than its head\n",
@@ -90,6 +132,19 @@ fn faults_are_numbered_and_said(rt: HostRuntime) -> Result<(), Fail> {
         let is_said = fault.number() == number && said.as_str() == line;
         assert!(rt; is_line && is_said, "{fault:?}");
     }
+    Ok(())
+}
+
+#[test]
+fn a_missing_value_has_no_line(rt: HostRuntime) -> Result<(), Fail> {
+    let mut errors = Vec::new(rt.alloc());
+    let is_written = write_fault(&Fault::Missing, &mut errors).is_ok();
+    assert!(rt; is_written && errors.is_empty(), "a line");
+    let said = format!(in rt.alloc(); "{}", Fault::Missing)?;
+    assert!(rt;
+        Fault::Missing.number() == 4 && said.as_str() == "no such value",
+        "{said}"
+    );
     Ok(())
 }
 
