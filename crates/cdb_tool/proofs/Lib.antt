@@ -1,3 +1,5 @@
+pub mod Queries
+pub mod QueryEnds
 pub mod NativeInputs
 pub mod WholeRuns
 pub mod InputTexts

@@ -6,4 +6,5 @@ pub mod Make
 pub mod Form
 pub mod WalkText
 pub mod Load
+pub mod Query
 pub mod Flushed

@@ -8,5 +8,6 @@ pub mod make;
 pub mod make_bytes;
 mod make_input;
 pub mod options;
+pub mod query;
 pub mod style;
 mod walk_text;
