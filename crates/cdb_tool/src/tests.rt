@@ -6,6 +6,7 @@ mod lines;
 mod listing;
 mod loading;
 mod making;
+mod querying;
 mod refusals;
 mod running;
 mod streams;

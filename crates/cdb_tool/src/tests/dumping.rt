@@ -1,6 +1,6 @@
 // dump_run, over damaged and foreign files and over readers and writers that fail.
 use super::fakes::{FakeReader, FakeWriter, NotingWriter, SlowWriter};
-use super::worked::{NONE, Run, TWO, TWO_TEXT, WIDE_NONE, bytes_of};
+use super::worked::{FOREIGN, NONE, Run, TWO, TWO_TEXT, WIDE_NONE, bytes_of, with_bytes};
 use crate::fault::Fault;
 use crate::runs::dump::dump_run;
 use crate::runs::make_bytes::make_bytes;
@@ -12,16 +12,6 @@ use std::prelude::*;
 use std::test::Fail;
 
 const FIRST_TEXT: &[u8] = b"+3,5:one->Hello\n";
-
-/// One record, made by another program: a table of one slot, and no place in the other pointers.
-const FOREIGN: [Run; 6] = [
-    (196, b"\0\0\0\0\0\0\0\0"),
-    (1, b"\x0a\x08\0\0\x01\0\0\0"),
-    (59, b"\0\0\0\0\0\0\0\0"),
-    (1, b"\x01\0\0\0\x01\0\0\0"),
-    (1, b"a1"),
-    (1, b"\xc4\xb5\x02\0\0\x08\0\0"),
-];
 
 // The answer for a file, and what was written.
 fn dumped<L: Width, R: Read + Drop>(alloc: Global, file: R) -> (Result<(), Fault>, Vec<u8>) {
@@ -39,16 +29,6 @@ fn dumps<L: Width, R: Read + Drop>(
 ) -> bool {
     let (answer, out) = dumped::<L, R>(alloc, file);
     answer == want && out.as_slice() == text
-}
-
-// Some bytes with others from a place on.
-fn with_bytes(mut bytes: Vec<u8>, place: usize, new: &[u8]) -> Vec<u8> {
-    for (k, byte) in new.iter().enumerate() {
-        if let Some(old) = bytes.get_mut(place.saturating_add(k)) {
-            *old = *byte;
-        }
-    }
-    bytes
 }
 
 #[test]

@@ -2,7 +2,7 @@
 ghost use Rattle.std.specs.Prelude.{◌≡◌, ◌≤◌};
 
 use super::fakes::FakeWriter;
-use super::worked::{NONE, Run, bytes_of};
+use super::worked::{BOTH_VALUES, NONE, Run, bytes_of};
 use crate::fault::Fault;
 use crate::runs::make::make_run;
 use crate::runs::options::MakeOptions;
@@ -21,19 +21,6 @@ const TWICE: &[u8] = b"+1,1:a->1\n+1,1:a->2\n\n";
 const FIRST: &[u8] = b"+1,1:a->1\n\n";
 
 const SECOND: &[u8] = b"+1,1:a->2\n\n";
-
-/// Their file, in table 196: 2100 bytes.
-const BOTH_VALUES: [Run; 9] = [
-    (196, b"\x14\x08\0\0\0\0\0\0"),
-    (1, b"\x14\x08\0\0\x04\0\0\0"),
-    (59, b"\x34\x08\0\0\0\0\0\0"),
-    (1, b"\x01\0\0\0\x01\0\0\0a1"),
-    (1, b"\x01\0\0\0\x01\0\0\0a2"),
-    (1, b"\0\0\0\0\0\0\0\0"),
-    (1, b"\xc4\xb5\x02\0\0\x08\0\0"),
-    (1, b"\xc4\xb5\x02\0\x0a\x08\0\0"),
-    (1, b"\0\0\0\0\0\0\0\0"),
-];
 
 /// The file of one value alone: 2074 bytes.
 const fn one_value(record: &'static [u8]) -> [Run; 6] {

@@ -64,6 +64,29 @@ pub(super) const FOUR_VALUES: [Run; 12] = [
     (1, b"\xc4\xb5\x02\0\x14\x08\0\0"),
 ];
 
+/// Two values of one key, in table 196: 2100 bytes.
+pub(super) const BOTH_VALUES: [Run; 9] = [
+    (196, b"\x14\x08\0\0\0\0\0\0"),
+    (1, b"\x14\x08\0\0\x04\0\0\0"),
+    (59, b"\x34\x08\0\0\0\0\0\0"),
+    (1, b"\x01\0\0\0\x01\0\0\0a1"),
+    (1, b"\x01\0\0\0\x01\0\0\0a2"),
+    (1, b"\0\0\0\0\0\0\0\0"),
+    (1, b"\xc4\xb5\x02\0\0\x08\0\0"),
+    (1, b"\xc4\xb5\x02\0\x0a\x08\0\0"),
+    (1, b"\0\0\0\0\0\0\0\0"),
+];
+
+/// One record, made by another program: a table of one slot, and no place in the other pointers.
+pub(super) const FOREIGN: [Run; 6] = [
+    (196, b"\0\0\0\0\0\0\0\0"),
+    (1, b"\x0a\x08\0\0\x01\0\0\0"),
+    (59, b"\0\0\0\0\0\0\0\0"),
+    (1, b"\x01\0\0\0\x01\0\0\0"),
+    (1, b"a1"),
+    (1, b"\xc4\xb5\x02\0\0\x08\0\0"),
+];
+
 /// Words of 8 bytes, no record: 4096 bytes.
 pub(super) const WIDE_NONE: [Run; 1] = [(256, b"\0\x10\0\0\0\0\0\0\0\0\0\0\0\0\0\0")];
 
@@ -87,4 +110,14 @@ pub(super) fn bytes_of(alloc: Global, runs: &[Run]) -> Result<Vec<u8>, AllocErro
         }
     }
     Ok(bytes)
+}
+
+/// Some bytes with others from a place on.
+pub(super) fn with_bytes(mut bytes: Vec<u8>, place: usize, new: &[u8]) -> Vec<u8> {
+    for (k, byte) in new.iter().enumerate() {
+        if let Some(old) = bytes.get_mut(place.saturating_add(k)) {
+            *old = *byte;
+        }
+    }
+    bytes
 }
