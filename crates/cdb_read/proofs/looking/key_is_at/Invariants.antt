@@ -1,4 +1,4 @@
-use Rattle.std.proofs.Common.{◌-◌, ◌≡◌, ◌≤◌, length, take}
+use Rattle.std.proofs.Common.{◌-◌, ◌≤◌, length, take}
 use Rattle.cdb_read.specs.Views.Reads.{OnlyReads}
 use Rattle.cdb_read.specs.Views.Window.{Shows}
 use Rattle.cdb_read.proofs.Compare.{AgreesSoFar}

@@ -1,4 +1,4 @@
-use Rattle.std.proofs.Common.{rules, arith, ◌≡◌, ◌+◌, ◌*◌, ◌≤◌, length, ℕ, refl, sym, ◌∙◌, inl, inr}
+use Rattle.std.proofs.Common.{arith, ◌≡◌, ◌+◌, ◌*◌, ◌≤◌, length, ℕ, refl, sym, ◌∙◌, inl, inr}
 use Rattle.std.proofs.Math.Nat.{min-le_left, min-le_right}
 use Rattle.cdb_form.specs.Views.Pairs.{header_pair}
 use Rattle.cdb_store.specs.Images.{Holds}
