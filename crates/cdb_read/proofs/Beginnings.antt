@@ -13,7 +13,8 @@ use Rattle.cdb_form.specs.Views.Pairs.{pointer_pair}
 use Rattle.cdb_form.specs.declared.damage.Damage.TheVariants.{Table}
 use Rattle.cdb_form.specs.declared.head.Pointer.{Pointer}
 use Rattle.cdb_read.specs.Lookup.{lookup_of, found_at, met_slots, has_hash, is_inside, slots_at}
-use Rattle.cdb_read.specs.Views.Search.{found_ahead, nothing_found, found_damaged}
+use Rattle.cdb_read.specs.Lookup.{nothing_found, found_damaged}
+use Rattle.cdb_read.specs.Views.Search.{found_ahead}
 use Rattle.cdb_read.specs.Views.Inside.{LiesInside}
 use Rattle.cdb_read.specs.declared.turn.Searching.TheVariants.{At}
 use Rattle.cdb_read.specs.declared.turn.Turn.{Turn}

@@ -21,7 +21,7 @@ use Rattle.cdb_form.proofs.Places.{tables_bytes, drop-head}
 use Rattle.cdb_form.proofs.Sizes.{length-file_bytes}
 use Rattle.cdb_form.proofs.Standing.{Begins-record_bytes}
 use Rattle.cdb_read.specs.Laws.{FindsValues}
-use Rattle.cdb_read.specs.Lookup.{bytes_of, is_whole, has_key, value_span, is_inside, slots_at, has_hash, met_slots, Found, found_at, lookup_of}
+use Rattle.cdb_read.specs.Lookup.{bytes_of, with_span, is_whole, has_key, value_span, is_inside, slots_at, has_hash, met_slots, Found, found_at, lookup_of}
 use Rattle.cdb_read.specs.Values.{values_of}
 use Rattle.cdb_read.specs.declared.span.Span.{Span}
 use Rattle.cdb_read.proofs.FileTables.{table_pointer, nth_pair-file_bytes, slots_at-file_bytes, is_inside-file_bytes}
@@ -57,9 +57,6 @@ whole_at w bytes at r rest reads low high =
 -- one place more
 pub same_found : (a b : Found) → a.spans ≡ b.spans → a.damage ≡ b.damage → a ≡ b
 same_found a b s d = ap (λ x. let f : Found = record { spans = x; damage = a.damage } in f) s ∙ ap (λ x. let f : Found = record { spans = b.spans; damage = x } in f) d
-
-abbrev with_span : Span → Found → Found
-with_span s f = record { spans = s ∷ f.spans; damage = f.damage }
 
 abbrev damage_at : ℕ → List ℕ → List ℕ → Option Damage
 damage_at w bytes places = option_map (λ place. Record place) (find (λ place. not (is_whole w bytes place)) places)

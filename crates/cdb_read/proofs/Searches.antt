@@ -7,7 +7,8 @@ use Rattle.cdb_form.specs.Format.Pair.{WordPair}
 use Rattle.cdb_form.specs.Format.Table.{is_used}
 use Rattle.cdb_form.specs.Views.Pairs.{pointer_pair}
 use Rattle.cdb_read.specs.Lookup.{Found, found_at, has_hash, slots_at}
-use Rattle.cdb_read.specs.Views.Search.{found_ahead, nothing_found, with_span, turn_slot, LooksAt, StepsFrom, Meets}
+use Rattle.cdb_read.specs.Lookup.{nothing_found, with_span}
+use Rattle.cdb_read.specs.Views.Search.{found_ahead, turn_slot, LooksAt, StepsFrom, Meets}
 use Rattle.cdb_read.specs.Views.Turning.{TurnInside, next_turn}
 use Rattle.cdb_read.specs.declared.looking.Look.TheVariants as look
 use Rattle.cdb_read.specs.declared.search.Step.TheVariants as step

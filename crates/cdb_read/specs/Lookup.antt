@@ -1,5 +1,5 @@
 -- What a look-up of a key finds in any bytes, in words of w bytes.
-use Rattle.std.specs.Prelude.{ℕ, ◌+◌, ◌*◌, ◌==◌, ◌&&◌, Bool, not, nat_le, if◌then◌else◌, List, []}
+use Rattle.std.specs.Prelude.{ℕ, ◌+◌, ◌*◌, ◌==◌, ◌&&◌, Bool, not, nat_le, if◌then◌else◌, List, [], ◌∷◌, ◌++◌}
 use Rattle.std.specs.Prelude.{length, take, drop, map, filter, take_while, find, bytes_eq}
 use Rattle.std.specs.Prelude.{Option, Some, None, option_map}
 use Rattle.std.specs.List.{range_with_len}
@@ -52,6 +52,19 @@ pub record Found : Type 0 where
   pub spans : List Span
   pub damage : Option Damage
 
+-- nothing; no value, and a damage; and some values, and then what else is found
+abbrev pub nothing_found : Found
+nothing_found = record { spans = []; damage = None }
+
+abbrev pub found_damaged : Damage → Found
+found_damaged damage = record { spans = []; damage = Some damage }
+
+abbrev pub with_span : Span → Found → Found
+with_span s f = record { spans = s ∷ f.spans; damage = f.damage }
+
+abbrev pub with_spans : List Span → Found → Found
+with_spans spans f = record { spans = spans ++ f.spans; damage = f.damage }
+
 -- the values of a key at some places, up to the first at which no whole record stands
 unfoldable pub found_at : ℕ → List ℕ → List ℕ → List ℕ → Found
 found_at w bytes key places =
@@ -67,7 +80,7 @@ unfoldable pub lookup_of : ℕ → List ℕ → List ℕ → Found
 lookup_of w bytes key =
     let h = key_hash key in
     let p = nth_pair w bytes (table_number h) in
-    if not (has_slots p) then record { spans = []; damage = None }
+    if not (has_slots p) then nothing_found
     else if is_inside w bytes p
     then found_at w bytes key (map (λ s. s.second) (met_slots h (slots_at w bytes p)))
-    else record { spans = []; damage = Some (Table (table_number h)) }
+    else found_damaged (Table (table_number h))

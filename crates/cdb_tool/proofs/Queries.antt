@@ -12,7 +12,7 @@ use Rattle.cdb_form.specs.Format.Pair.{head_size}
 use Rattle.cdb_form.specs.Views.KnownBytes.{AppendsFront}
 use Rattle.cdb_form.proofs.WritingLemmas.{appends_then, front_then}
 use Rattle.cdb_make.proofs.Written.{front_last}
-use Rattle.cdb_read.specs.Lookup.{Found, bytes_of, lookup_of}
+use Rattle.cdb_read.specs.Lookup.{Found, bytes_of, lookup_of, with_spans}
 use Rattle.cdb_read.specs.Views.Finder.{left_in, GivesSpan}
 use Rattle.cdb_read.specs.Views.Reads.{OnlyReads, CopyingFails}
 use Rattle.cdb_read.specs.Views.Search.{found_ahead}
@@ -30,10 +30,6 @@ use Rattle.cdb_tool.proofs.Courses.{appends_none}
 
 pub reads_none : {S : Type 0} (s : Ghosts S) (store : S) → OnlyReads s store store
 reads_none s store = record { images = λ b is. is; size = refl; written = refl; room = omega arith; failures = omega arith }
-
--- some spans, and then what is left
-abbrev pub with_spans : List Span → Found → Found
-with_spans spans f = record { spans = spans ++ f.spans; damage = f.damage }
 
 abbrev pub ending : List Span → Option Damage → Found
 ending spans damage = record { spans = spans; damage = damage }

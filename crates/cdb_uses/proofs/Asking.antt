@@ -17,21 +17,17 @@ use Rattle.cdb_make.specs.declared.maker.Maker.{Maker}
 use Rattle.cdb_make.proofs.Makers.{held_size}
 use Rattle.cdb_read.proofs.LookupLaws.{finds_values}
 use Rattle.cdb_read.specs.Laws.{FindsValues}
-use Rattle.cdb_read.specs.Lookup.{Found, bytes_of, lookup_of}
+use Rattle.cdb_read.specs.Lookup.{Found, nothing_found, found_damaged, with_span, with_spans, bytes_of, lookup_of}
 use Rattle.cdb_read.specs.Values.{values_of}
 use Rattle.cdb_read.specs.Views.Finder.{left_in, FindingFails}
 use Rattle.cdb_read.specs.Views.Reads.{OnlyReads, CopyingFails}
-use Rattle.cdb_read.specs.Views.Search.{found_ahead, nothing_found, found_damaged, with_span}
+use Rattle.cdb_read.specs.Views.Search.{found_ahead}
 use Rattle.cdb_read.specs.declared.fault.ReadFault.{ReadFault}
 use Rattle.cdb_read.specs.declared.fault.ReadFault.TheVariants.{Short, Table, Record, Slot, Twice, Unindexed, Device, NoMemory, Output}
 use Rattle.cdb_read.specs.declared.finder.Finder.{Finder}
 use Rattle.cdb_read.specs.declared.span.Span.{Span}
 use Rattle.cdb_uses.specs.Asks.{AskingFails}
 use Rattle.cdb_uses.specs.declared.ask.AskFault.TheVariants.{Read}
-
--- some spans, and then what is left
-abbrev pub with_spans : List Span → Found → Found
-with_spans spans f = record { spans = spans ++ f.spans; damage = f.damage }
 
 -- in each image these spans are the first of the look-up, and their bytes were written
 pub record AskedSoFar (w : ℕ) (key : List ℕ) (old new : List ℕ → Type 0) (left : List ℕ → Found) (start now : Option (List ℕ)) : Type 0 where

@@ -3,8 +3,8 @@ use Rattle.std.specs.Prelude.{ℕ, ◌≡◌, ◌+◌, ◌<◌, ◌≤◌, List}
 use Rattle.cdb_store.specs.declared.store.Store.{Ghosts}
 use Rattle.cdb_form.specs.declared.width.Width.{Ghosts as Widths}
 use Rattle.cdb_form.specs.declared.damage.Damage.TheVariants as damage
-use Rattle.cdb_read.specs.Lookup.{Found}
-use Rattle.cdb_read.specs.Views.Search.{found_ahead, nothing_found, found_damaged, with_span}
+use Rattle.cdb_read.specs.Lookup.{Found, nothing_found, found_damaged, with_span}
+use Rattle.cdb_read.specs.Views.Search.{found_ahead}
 use Rattle.cdb_read.specs.declared.fault.ReadFault.{ReadFault}
 use Rattle.cdb_read.specs.declared.fault.ReadFault.TheVariants.{Table, Record, Device}
 use Rattle.cdb_read.specs.declared.finder.Finder.{Finder}

@@ -3,14 +3,14 @@ use Rattle.std.specs.Prelude.{ℕ, ◌≡◌, ◌+◌, ◌*◌, ◌<◌, ◌≤�
 use Rattle.std.specs.Prelude.{length, map, filter, take, drop, take_while, Some, None}
 use Rattle.std.specs.Bool.{Decides}
 use Rattle.cdb_store.specs.Images.{part}
-use Rattle.cdb_form.specs.declared.damage.Damage.{Damage}
 use Rattle.cdb_form.specs.declared.damage.Damage.TheVariants as damage
 use Rattle.cdb_form.specs.Format.Hash.{key_hash}
 use Rattle.cdb_form.specs.Format.Pair.{WordPair, pair_size}
 use Rattle.cdb_form.specs.Format.Reading.{pair_at}
 use Rattle.cdb_form.specs.Format.Table.{is_used, slots_from}
 use Rattle.cdb_form.specs.Views.Pairs.{pointer_pair}
-use Rattle.cdb_read.specs.Lookup.{Found, found_at, has_hash, has_key, is_whole, slots_at, value_span}
+use Rattle.cdb_read.specs.Lookup.{Found, nothing_found, found_damaged, with_span, found_at}
+use Rattle.cdb_read.specs.Lookup.{has_hash, has_key, is_whole, slots_at, value_span}
 use Rattle.cdb_read.specs.Views.Turning.{TurnInside, next_turn}
 use Rattle.cdb_read.specs.declared.looking.Look.{Look}
 use Rattle.cdb_read.specs.declared.looking.Look.TheVariants as look
@@ -27,17 +27,6 @@ use Rattle.cdb_read.specs.declared.turn.Turn.{Turn}
 abbrev pub slots_ahead : ℕ → List ℕ → Turn → List WordPair
 slots_ahead w b turn =
     take turn.left (slots_from turn.slot (slots_at w b (pointer_pair turn.table)))
-
-abbrev pub nothing_found : Found
-nothing_found = record { spans = []; damage = None }
-
--- no value, and a damage
-abbrev pub found_damaged : Damage → Found
-found_damaged damage = record { spans = []; damage = Some damage }
-
--- a value, and then what is left
-abbrev pub with_span : Span → Found → Found
-with_span s f = record { spans = s ∷ f.spans; damage = f.damage }
 
 -- what a search finds from where it stands
 abbrev pub found_ahead : ℕ → List ℕ → List ℕ → Searching → Found

@@ -1,6 +1,6 @@
 use Rattle.cdb_read.specs.Views.Finder.{left_in}
 use Rattle.cdb_read.specs.Views.Reads.{CopyingFails}
-use Rattle.cdb_read.specs.Views.Search.{with_span}
+use Rattle.cdb_read.specs.Lookup.{with_span}
 use Rattle.std.proofs.Common.{rules, ap, ◌∙◌, refl}
 use Rattle.std.proofs.lemmas.Result.{err_from_is_err_and}
 use Rattle.cdb_read.proofs.PieceReads.{reads_more}
