@@ -151,6 +151,50 @@ fn a_copy_leaves_what_its_writer_takes(rt: HostRuntime) -> Result<(), Fail> {
     Ok(())
 }
 
+/// Whether a copy of a span whose store fails at its call of a number leaves a front of these bytes,
+/// and the same copy again all of them.
+fn copies_again(
+    alloc: Global,
+    file: Vec<u8>,
+    fails: u64,
+    span: Span,
+    bytes: &[u8],
+) -> Result<bool, ReadFault> {
+    let mut reader = opened_again::<Narrow>(fused(file, fails))?;
+    let mut first = Vec::new(alloc);
+    let mut again = Vec::new(alloc);
+    if !lies_inside(&reader, span) {
+        return Ok(false);
+    }
+    let answer = reader.copy(span, &mut first);
+    if !lies_inside(&reader, span) {
+        return Ok(false);
+    }
+    reader.copy(span, &mut again)?;
+    let as_told = match answer {
+        Ok(()) => first.len() == bytes.len(),
+        Err(fault) => fault == ReadFault::Device && first.len() < bytes.len(),
+    };
+    Ok(as_told && bytes.starts_with(&first) && again.as_slice() == bytes)
+}
+
+#[test]
+fn a_copy_goes_on_whichever_call_of_the_store_fails(rt: HostRuntime) -> Result<(), Fail> {
+    let alloc = rt.alloc();
+    let mut file = two_file(alloc)?;
+    let long = vec![in alloc; 7u8; 8193]?;
+    file.extend_from_slice(&long)?;
+    let span = Span {
+        place: 2114,
+        len: 8193,
+    };
+    for fails in 0..6u64 {
+        let is = copies_again(alloc, file.clone()?, fails, span, &long);
+        assert!(rt; is == Ok(true), "{fails}");
+    }
+    Ok(())
+}
+
 /// Why no database is opened in so many bytes over a store that fails a call of a number, and how
 /// many bytes the store has that is handed back.
 fn refusal(alloc: Global, size: usize, fails: u64) -> Result<Option<(ReadFault, u64)>, AllocError> {
