@@ -23,7 +23,6 @@ use Rattle.cdb_form.proofs.Standing.{Begins-record_bytes}
 use Rattle.cdb_read.specs.Laws.{FindsValues}
 use Rattle.cdb_read.specs.Lookup.{bytes_of, with_span, is_whole, has_key, value_span, is_inside, slots_at, has_hash, met_slots, Found, found_at, lookup_of}
 use Rattle.cdb_read.specs.Values.{values_of}
-use Rattle.cdb_read.specs.declared.span.Span.{Span}
 use Rattle.cdb_read.proofs.FileTables.{table_pointer, nth_pair-file_bytes, slots_at-file_bytes, is_inside-file_bytes}
 use Rattle.cdb_read.proofs.Filled.{IsUsed, met_slots-filled_slots, met_slots-none}
 use Rattle.cdb_read.proofs.Fits.{Fit, some_width, size_is, AllUsed-entries}

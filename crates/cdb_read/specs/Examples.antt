@@ -18,7 +18,7 @@ found : List Span → Option Damage → Found
 found spans damage = record { spans = spans; damage = damage }
 
 -- four values of one key
-unfoldable four_records : List KeyValue
+unfoldable pub four_records : List KeyValue
 four_records =
     record { key = codes "a"; value = codes "1" }
     ∷ record { key = codes "a"; value = codes "2" }

@@ -1,6 +1,9 @@
 -- What a look-up finds in any bytes, and what clauses read of this crate's types.
 pub mod Lookup
 pub mod Values
+pub mod Sound
+pub mod Faults
 pub mod Laws
 pub mod Views
 pub mod Examples
+pub mod FaultExamples

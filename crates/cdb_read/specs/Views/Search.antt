@@ -1,6 +1,6 @@
 -- What a search is still to give, and what each part of it tells of the bytes that it reads.
-use Rattle.std.specs.Prelude.{ℕ, ◌≡◌, ◌+◌, ◌*◌, ◌<◌, ◌≤◌, Bool, true, false, List, [], ◌∷◌}
-use Rattle.std.specs.Prelude.{length, map, filter, take, drop, take_while, Some, None}
+use Rattle.std.specs.Prelude.{ℕ, ◌≡◌, ◌+◌, ◌*◌, ◌<◌, ◌≤◌, Bool, true, false, List}
+use Rattle.std.specs.Prelude.{length, map, filter, take, drop, take_while}
 use Rattle.std.specs.Bool.{Decides}
 use Rattle.cdb_store.specs.Images.{part}
 use Rattle.cdb_form.specs.declared.damage.Damage.TheVariants as damage
@@ -18,7 +18,6 @@ use Rattle.cdb_read.specs.declared.search.Met.{Met}
 use Rattle.cdb_read.specs.declared.search.Met.TheVariants as met
 use Rattle.cdb_read.specs.declared.search.Step.{Step}
 use Rattle.cdb_read.specs.declared.search.Step.TheVariants as step
-use Rattle.cdb_read.specs.declared.span.Span.{Span}
 use Rattle.cdb_read.specs.declared.turn.Searching.{Searching}
 use Rattle.cdb_read.specs.declared.turn.Searching.TheVariants.{At, AtEnd, NoTable, NoRecord}
 use Rattle.cdb_read.specs.declared.turn.Turn.{Turn}
