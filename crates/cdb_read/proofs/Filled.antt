@@ -13,6 +13,7 @@ use Rattle.cdb_form.specs.Format.Hash.{home_slot}
 use Rattle.cdb_form.specs.Format.Table.{is_used, empty_slot, slots_from, slots_with, filled_slots}
 use Rattle.cdb_form.proofs.Sizes.{length-slots_with}
 use Rattle.cdb_read.specs.Lookup.{has_hash, met_slots}
+use Rattle.cdb_read.proofs.Counts.{counts_none, counts_one}
 use Rattle.cdb_read.proofs.Meeting.{met, HasNone, HasNoneBehind, HasNoneBehind-HasNone, met-HasNone, met-set, HasNoneBehind-set, prefix_len-lt}
 
 -- the place of slot i among the slots from home on
@@ -176,12 +177,6 @@ NoneBehind-slots_with h slots e room used none =
     subst (HasNoneBehind is_used (has_hash h)) (sym (from_home-slots_with h slots e room))
     (HasNoneBehind-set is_used (has_hash h) (from_home h slots) (turned_free h slots e.first) e e p.within p.empty used p.first none)
 
-counts_none : (b : Bool) → b ≡ false → cond {A = ℕ} b 1 0 ≡ 0
-counts_none b h = cond-false {A = ℕ} b 1 0 h
-
-counts_one : (b : Bool) → b ≡ true → cond {A = ℕ} b 1 0 ≡ 1
-counts_one b h = cond-true {A = ℕ} b 1 0 h
-
 pub used_count-slots_with : (slots : List WordPair) (e : WordPair) → used_count slots < length slots → is_used e ≡ true → used_count (slots_with slots e) ≡ used_count slots + 1
 used_count-slots_with slots e room used =
     let f = free slots e.first room in
@@ -215,7 +210,7 @@ met_slots-filled_from h (e ∷ es) slots room used none =
     ∙ ap (λ t. t ++ filter (has_hash h) es) (met_slots-slots_with h slots e here (All-head IsUsed e es used) none)
     ∙ filter_cons h e es (met_slots h slots)
 
-pub HasNone-empty : (h n : ℕ) → HasNone is_used (has_hash h) (replicate n empty_slot)
+HasNone-empty : (h n : ℕ) → HasNone is_used (has_hash h) (replicate n empty_slot)
 HasNone-empty h zero = tt
 HasNone-empty h (suc n) = (λ t. absurd (both_ways false refl t), HasNone-empty h n)
 
@@ -237,20 +232,24 @@ from_home-replicate h (suc n) =
     let home_in : home_slot h (length (replicate (suc n) empty_slot)) < length (replicate (suc n) empty_slot) = omega arith in
     slots_from-replicate (home_slot h (length (replicate (suc n) empty_slot))) (suc n) (omega arith)
 
+HasNone-home : (h n : ℕ) → HasNone is_used (has_hash h) (from_home h (replicate n empty_slot))
+HasNone-home h n = subst (HasNone is_used (has_hash h)) (sym (from_home-replicate h n)) (HasNone-empty h n)
+
 pub used_count-empty : (n : ℕ) → used_count (replicate n empty_slot) ≡ 0
 used_count-empty zero = refl
 used_count-empty (suc n) = used_count-empty n
+
+pub NoneBehind-empty : (h n : ℕ) → NoneBehind h (replicate n empty_slot)
+NoneBehind-empty h n = HasNoneBehind-HasNone is_used (has_hash h) (from_home h (replicate n empty_slot)) (HasNone-home h n)
 
 -- the heart: from the home of a hash to the first empty slot stand its entries, in their order
 pub met_slots-filled_slots : (h n : ℕ) (es : List WordPair) → length es ≤ n → AllUsed es → met_slots h (filled_slots n es) ≡ filter (has_hash h) es
 unfolding filled_slots
 met_slots-filled_slots h n es room used =
-    let empty = HasNone-empty h n in
     let long = length-replicate n empty_slot in
     let count = used_count-empty n in
-    let none : HasNone is_used (has_hash h) (from_home h (replicate n empty_slot)) = subst (HasNone is_used (has_hash h)) (sym (from_home-replicate h n)) empty in
-    met_slots-filled_from h es (replicate n empty_slot) (omega arith) used (HasNoneBehind-HasNone is_used (has_hash h) (from_home h (replicate n empty_slot)) none)
-    ∙ ap (λ t. t ++ filter (has_hash h) es) (met_slots-met h (replicate n empty_slot) ∙ met-HasNone is_used (has_hash h) (from_home h (replicate n empty_slot)) none)
+    met_slots-filled_from h es (replicate n empty_slot) (omega arith) used (NoneBehind-empty h n)
+    ∙ ap (λ t. t ++ filter (has_hash h) es) (met_slots-met h (replicate n empty_slot) ∙ met-HasNone is_used (has_hash h) (from_home h (replicate n empty_slot)) (HasNone-home h n))
 
 pub met_slots-none : (h : ℕ) → met_slots h [] ≡ []
 unfolding met_slots

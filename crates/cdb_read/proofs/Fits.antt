@@ -75,7 +75,7 @@ table_fits {w = w} {top = top} {rs = rs} n f =
     slots_fit top (filter (in_table n) (file_entries w rs)) (All-filter (in_table n) (PairFits top) (file_entries w rs) entries)
 
 -- entries are used slots
-used : (n : ℕ) → 0 < n → not (n == 0) ≡ true
+pub used : (n : ℕ) → 0 < n → not (n == 0) ≡ true
 used n h = not_from_false (n == 0) (ne_eqb n 0 (λ e. omega arith))
 
 pub AllUsed-entries : (w at : ℕ) (rs : List KeyValue) → 0 < at → AllUsed (entries_from w at rs)

@@ -1,7 +1,12 @@
+pub mod Counts
+pub mod Apart
 pub mod Meeting
 pub mod Filled
+pub mod Reached
 pub mod Fits
+pub mod FilledTables
 pub mod FileTables
+pub mod SoundFiles
 pub mod LookupLaws
 pub mod Heads
 pub mod PieceReads

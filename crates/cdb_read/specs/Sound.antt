@@ -1,6 +1,6 @@
 -- When a file is sound, in words of w bytes: its tables and its walk tell the same records.
-use Rattle.std.specs.Prelude.{ℕ, ◌≡◌, ◌<◌, ◌+◌, ◌-◌, ◌%◌, ◌==◌, Bool, true, List, length, take, flat_map}
-use Rattle.std.specs.Prelude.{get_or, None, All}
+use Rattle.std.specs.Prelude.{ℕ, ◌≡◌, ◌<◌, ◌+◌, ◌-◌, ◌%◌, ◌==◌, Bool, true, List, length, take}
+use Rattle.std.specs.Prelude.{flat_map, get_or, None, All}
 use Rattle.std.specs.List.{Contains, count_by, list_all, range_with_len}
 use Rattle.cdb_form.specs.Format.Hash.{table_number, home_slot}
 use Rattle.cdb_form.specs.Format.Pair.{WordPair}

@@ -1,8 +1,10 @@
-//! Laws of look-ups. Each is the contract of a function whose parameters are what it ranges over.
+//! Laws of look-ups and of sound files. Each is the contract of a function whose parameters are what
+//! it ranges over.
 ghost use Rattle.std.specs.Prelude.{◌≤◌};
-ghost use Rattle.cdb_form.specs.Format.File.{file_size};
+ghost use Rattle.cdb_form.specs.Format.File.{file_bytes, file_size};
 ghost use Rattle.cdb_form.specs.Views.Pairs.{key_values};
 ghost use Rattle.cdb_read.specs.Laws.{FindsValues};
+ghost use Rattle.cdb_read.specs.Sound.{IsSound};
 
 use cdb_form::{Record, Width};
 
@@ -11,4 +13,10 @@ use cdb_form::{Record, Width};
 pub fn lookup_of_file<L: Width>(_records: &[Record], _key: &[u8])
     ensures { file_size L.WORD (key_values _records.now) ≤ L.GREATEST →
         FindsValues L.WORD (key_values _records.now) _key.now }
+{}
+
+/// The file of some records, where its size fits, is sound.
+pub fn file_is_sound<L: Width>(_records: &[Record])
+    ensures { file_size L.WORD (key_values _records.now) ≤ L.GREATEST →
+        IsSound L.WORD (file_bytes L.WORD (key_values _records.now)) }
 {}
