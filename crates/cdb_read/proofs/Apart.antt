@@ -7,6 +7,7 @@ use Rattle.std.proofs.lemmas.List.Sorted.{IsPermutation-refl, IsPermutation-tran
 use Rattle.std.proofs.lemmas.List.Concat.{flat_map-append}
 use Rattle.std.proofs.lemmas.List.Elements.{All-nil, All-cons, All-head, All-tail, All-contains, All-filter, All-weaker, Contains-append_right}
 use Rattle.std.proofs.lemmas.Bool.{cases_Bool, cond-true, cond-false, both_ways, eqb-true, eqb-false, eq-eqb, ne_eqb}
+use Rattle.cdb_form.specs.Format.Hash.{table_number}
 use Rattle.cdb_form.specs.Format.Pair.{WordPair}
 use Rattle.cdb_form.specs.Format.Record.{KeyValue, record_size}
 use Rattle.cdb_form.specs.Format.Table.{entries_from}
@@ -23,6 +24,10 @@ AreApart (e ∷ es) = All (HasOther e) es × AreApart es
 
 same_place : (s e : WordPair) → s ≡ e → s.second ≡ e.second
 same_place s e h = ap (λ (q : WordPair). q.second) h
+
+-- one of some entries, whose hash has table n
+abbrev pub IsEntryOf : List WordPair → ℕ → WordPair → Type 0
+IsEntryOf entries n s = Contains entries s × (table_number s.first ≡ n)
 
 -- an element is the first or one of the others
 pub Contains-cases : {X : Type 0} (x : X) (xs : List X) (y : X) → Contains (x ∷ xs) y → (x ≡ y) ⊎ Contains xs y

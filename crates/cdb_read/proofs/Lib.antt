@@ -7,7 +7,9 @@ pub mod Fits
 pub mod FilledTables
 pub mod FileTables
 pub mod SoundFiles
+pub mod RecordsAt
 pub mod LookupLaws
+pub mod SoundLookups
 pub mod Heads
 pub mod PieceReads
 pub mod Turns

@@ -1,57 +1,30 @@
 -- A look-up in the file of some records finds the values of the key.
-use Rattle.std.proofs.Common.{◌≡◌, ℕ, ◌+◌, ◌*◌, ◌^◌, ◌<◌, ◌≤◌, true, false, cond, List, [], ◌∷◌, ◌++◌, length, take, drop, map, flat_map, refl, sym, ap, ◌∙◌, subst, arith, inl, inr, append_assoc}
-use Rattle.std.specs.Prelude.{Option, Some, None, option_map, ◌==◌, not, if◌then◌else◌, bytes_eq, filter, take_while, find, sum_by}
+use Rattle.std.proofs.Common.{◌≡◌, ℕ, ◌+◌, ◌*◌, ◌<◌, true, false, cond, List, [], ◌∷◌, length, drop, map, refl, sym, ap, ◌∙◌, subst, arith, inl, inr}
+use Rattle.std.specs.Prelude.{Option, Some, None, option_map, ◌==◌, not, if◌then◌else◌, bytes_eq, filter, take_while, find}
 use Rattle.std.proofs.lemmas.Slice.Eq.{bytes_eq-Decides}
-use Rattle.std.proofs.lemmas.List.{drop-drop, nil_from_length}
-use Rattle.std.proofs.lemmas.List.Sums.{sum_by-cons, take_while-cons}
-use Rattle.std.proofs.lemmas.Bool.{cases_Bool, cond-true, cond-false, le-leb, and_from, ne_eqb, eqb-true, eq-eqb, both_ways, not_from_true, not_from_false}
+use Rattle.std.proofs.lemmas.List.{nil_from_length}
+use Rattle.std.proofs.lemmas.List.Sums.{take_while-cons}
+use Rattle.std.proofs.lemmas.Bool.{cases_Bool, cond-true, cond-false, ne_eqb, eqb-true, eq-eqb, both_ways, not_from_true, not_from_false}
 use Rattle.std.proofs.lemmas.List.Elements.{All-filter}
+use Rattle.std.proofs.lemmas.List.FromFn.{length-map-range_with_len}
 use Rattle.cdb_form.specs.Format.Hash.{key_hash, table_number}
 use Rattle.cdb_form.specs.Format.Pair.{WordPair, head_size}
-use Rattle.cdb_form.specs.Format.Reading.{pair_at, nth_pair}
-use Rattle.cdb_form.specs.Format.Record.{KeyValue, record_bytes, record_size}
+use Rattle.cdb_form.specs.Format.Reading.{nth_pair}
+use Rattle.cdb_form.specs.Format.Record.{KeyValue, record_size}
 use Rattle.cdb_form.specs.Format.Table.{entries_from, file_entries, in_table, table_entries, table_slots}
-use Rattle.cdb_form.specs.Format.Walk.{front_size, front_record, has_slots}
+use Rattle.cdb_form.specs.Format.Walk.{has_slots}
 use Rattle.cdb_form.specs.Format.File.{file_bytes}
-use Rattle.cdb_form.specs.Views.Pairs.{PairFits}
 use Rattle.cdb_form.specs.declared.damage.Damage.{Damage}
 use Rattle.cdb_form.specs.declared.damage.Damage.TheVariants.{Table, Record}
-use Rattle.cdb_form.proofs.Fronts.{lengths_of, Begins, front_reads}
 use Rattle.cdb_form.proofs.Places.{tables_bytes, drop-head}
 use Rattle.cdb_form.proofs.Sizes.{length-file_bytes}
-use Rattle.cdb_form.proofs.Standing.{Begins-record_bytes}
 use Rattle.cdb_read.specs.Laws.{FindsValues}
 use Rattle.cdb_read.specs.Lookup.{bytes_of, with_span, is_whole, has_key, value_span, is_inside, slots_at, has_hash, met_slots, Found, found_at, lookup_of}
 use Rattle.cdb_read.specs.Values.{values_of}
 use Rattle.cdb_read.proofs.FileTables.{table_pointer, nth_pair-file_bytes, slots_at-file_bytes, is_inside-file_bytes}
 use Rattle.cdb_read.proofs.Filled.{IsUsed, met_slots-filled_slots, met_slots-none}
 use Rattle.cdb_read.proofs.Fits.{Fit, some_width, size_is, AllUsed-entries}
-
--- how a record that stands at a place reads
-record ReadsAt (w : ℕ) (bytes : List ℕ) (at : ℕ) (r : KeyValue) (rest : List ℕ) : Type 0 where
-  size : front_size w (drop at bytes) ≡ record_size w r
-  key : (front_record w (drop at bytes)).key ≡ r.key
-  value : bytes_of bytes (value_span w bytes at) ≡ r.value
-  rest_is : drop (at + record_size w r) bytes ≡ rest
-
-reads_at : (w top : ℕ) (bytes : List ℕ) (at : ℕ) (r : KeyValue) (rest : List ℕ) → top + 1 ≡ 256 ^ w → PairFits top (lengths_of r) → drop at bytes ≡ record_bytes w r ++ rest → ReadsAt w bytes at r rest
-reads_at w top bytes at r rest top_is fit here =
-    let begins : Begins w (drop at bytes) r rest = subst (λ b. Begins w b r rest) (sym here) (Begins-record_bytes w top r rest top_is fit) in
-    let reads = front_reads w (drop at bytes) r rest begins in
-    let p = pair_at w (drop at bytes) in
-    let sum : at + (2 * w + p.first) ≡ at + 2 * w + p.first = omega arith in
-    let there : drop (2 * w + p.first) (drop at bytes) ≡ drop (at + 2 * w + p.first) bytes = drop-drop (2 * w + p.first) at bytes ∙ ap (λ n. drop n bytes) sum in
-    record {
-      size = reads.size;
-      key = ap (λ (q : KeyValue). q.key) reads.is;
-      value = ap (take p.second) (sym there) ∙ ap (λ (q : KeyValue). q.value) reads.is;
-      rest_is = sym (drop-drop (record_size w r) at bytes) ∙ reads.rest_is;
-    }
-
-whole_at : (w : ℕ) (bytes : List ℕ) (at : ℕ) (r : KeyValue) (rest : List ℕ) → ReadsAt w bytes at r rest → head_size w ≤ at → at + record_size w r ≤ length bytes → is_whole w bytes at ≡ true
-whole_at w bytes at r rest reads low high =
-    let size = reads.size in
-    and_from _ _ (le-leb (head_size w) at low) (le-leb (at + front_size w (drop at bytes)) (length bytes) (omega arith))
+use Rattle.cdb_read.proofs.RecordsAt.{ReadsAt, AllRead, all_read}
 
 -- one place more
 pub same_found : (a b : Found) → a.spans ≡ b.spans → a.damage ≡ b.damage → a ≡ b
@@ -96,23 +69,23 @@ values_of-other : (key : List ℕ) (r : KeyValue) (rs : List KeyValue) → bytes
 values_of-other key r rs h = ap (map (λ (q : KeyValue). q.value)) (cond-false (bytes_eq r.key key) (r ∷ filter (λ q. bytes_eq q.key key) rs) (filter (λ q. bytes_eq q.key key) rs) h)
 
 -- what was found is the values of a key of some records, and no damage
-record Answers (bytes key : List ℕ) (rs : List KeyValue) (found : Found) : Type 0 where
-  values : map (bytes_of bytes) found.spans ≡ values_of key rs
-  sound : found.damage ≡ None
+pub record Answers (bytes key : List ℕ) (rs : List KeyValue) (found : Found) : Type 0 where
+  pub values : map (bytes_of bytes) found.spans ≡ values_of key rs
+  pub sound : found.damage ≡ None
 
-answers_has : (w : ℕ) (bytes key : List ℕ) (at : ℕ) (places : List ℕ) (r : KeyValue) (rs : List KeyValue) (rest : List ℕ) → ReadsAt w bytes at r rest → is_whole w bytes at ≡ true → bytes_eq r.key key ≡ true → Answers bytes key rs (found_at w bytes key places)
+answers_has : (w : ℕ) (bytes key : List ℕ) (at : ℕ) (places : List ℕ) (r : KeyValue) (rs : List KeyValue) → ReadsAt w bytes at r → bytes_eq r.key key ≡ true → Answers bytes key rs (found_at w bytes key places)
     → Answers bytes key (r ∷ rs) (found_at w bytes key (at ∷ places))
-answers_has w bytes key at places r rs rest reads whole same ih =
-    let is = found_at-has w bytes key at places whole (ap (λ k. bytes_eq k key) reads.key ∙ same) in
+answers_has w bytes key at places r rs reads same ih =
+    let is = found_at-has w bytes key at places reads.whole (ap (λ k. bytes_eq k key) reads.key ∙ same) in
     record {
       values = ap (λ (f : Found). map (bytes_of bytes) f.spans) is ∙ ap (λ v. v ∷ map (bytes_of bytes) (found_at w bytes key places).spans) reads.value ∙ ap (λ vs. r.value ∷ vs) ih.values ∙ sym (values_of-has key r rs same);
       sound = ap (λ (f : Found). f.damage) is ∙ ih.sound;
     }
 
-answers_other : (w : ℕ) (bytes key : List ℕ) (at : ℕ) (places : List ℕ) (r : KeyValue) (rs : List KeyValue) (rest : List ℕ) → ReadsAt w bytes at r rest → is_whole w bytes at ≡ true → bytes_eq r.key key ≡ false → Answers bytes key rs (found_at w bytes key places)
+answers_other : (w : ℕ) (bytes key : List ℕ) (at : ℕ) (places : List ℕ) (r : KeyValue) (rs : List KeyValue) → ReadsAt w bytes at r → bytes_eq r.key key ≡ false → Answers bytes key rs (found_at w bytes key places)
     → Answers bytes key (r ∷ rs) (found_at w bytes key (at ∷ places))
-answers_other w bytes key at places r rs rest reads whole other ih =
-    let is = found_at-other w bytes key at places whole (ap (λ k. bytes_eq k key) reads.key ∙ other) in
+answers_other w bytes key at places r rs reads other ih =
+    let is = found_at-other w bytes key at places reads.whole (ap (λ k. bytes_eq k key) reads.key ∙ other) in
     record {
       values = ap (λ (f : Found). map (bytes_of bytes) f.spans) is ∙ ih.values ∙ sym (values_of-other key r rs other);
       sound = ap (λ (f : Found). f.damage) is ∙ ih.sound;
@@ -126,13 +99,13 @@ abbrev entry_at : ℕ → KeyValue → WordPair
 entry_at at r = record { first = key_hash r.key; second = at }
 
 -- the places of entries
-abbrev places_of : List WordPair → List ℕ
+abbrev pub places_of : List WordPair → List ℕ
 places_of es = map (λ (e : WordPair). e.second) es
 
 -- one record more, whose entry is among those of the hash where its key has it
-answers_more : (w : ℕ) (bytes key : List ℕ) (at : ℕ) (es : List WordPair) (r : KeyValue) (rs : List KeyValue) (rest : List ℕ) → ReadsAt w bytes at r rest → is_whole w bytes at ≡ true → Answers bytes key rs (found_at w bytes key (places_of es))
+answers_more : (w : ℕ) (bytes key : List ℕ) (at : ℕ) (es : List WordPair) (r : KeyValue) (rs : List KeyValue) → ReadsAt w bytes at r → Answers bytes key rs (found_at w bytes key (places_of es))
     → Answers bytes key (r ∷ rs) (found_at w bytes key (places_of (cond (has_hash (key_hash key) (entry_at at r)) (entry_at at r ∷ es) es)))
-answers_more w bytes key at es r rs rest reads whole ih =
+answers_more w bytes key at es r rs reads ih =
     let h = key_hash key in
     let e = entry_at at r in
     let with : List WordPair → Found = λ fs. found_at w bytes key (places_of fs) in
@@ -140,8 +113,8 @@ answers_more w bytes key at es r rs rest reads whole ih =
       | inl t ↦
           subst (λ fs. Answers bytes key (r ∷ rs) (with fs)) (sym (cond-true (has_hash h e) (e ∷ es) es t))
           (elim (cases_Bool (bytes_eq r.key key)) [
-            | inl same ↦ answers_has w bytes key at (places_of es) r rs rest reads whole same ih
-            | inr other ↦ answers_other w bytes key at (places_of es) r rs rest reads whole other ih
+            | inl same ↦ answers_has w bytes key at (places_of es) r rs reads same ih
+            | inr other ↦ answers_other w bytes key at (places_of es) r rs reads other ih
           ])
       | inr f ↦
           subst (λ fs. Answers bytes key (r ∷ rs) (with fs)) (sym (cond-false (has_hash h e) (e ∷ es) es f))
@@ -152,20 +125,13 @@ answers_more w bytes key at es r rs rest reads whole ih =
     ]
 
 -- the entries of a hash, of records that stand in some bytes
-answers_entries : (w top : ℕ) (bytes key : List ℕ) (at : ℕ) (rs : List KeyValue) (more : List ℕ) → top + 1 ≡ 256 ^ w → drop at bytes ≡ flat_map (record_bytes w) rs ++ more → head_size w ≤ at → at + sum_by (record_size w) rs ≤ length bytes → length bytes ≤ top
-    → Answers bytes key rs (found_at w bytes key (places_of (filter (has_hash (key_hash key)) (entries_from w at rs))))
+pub answers_entries : (w : ℕ) (bytes key : List ℕ) (at : ℕ) (rs : List KeyValue) → AllRead w bytes at rs → Answers bytes key rs (found_at w bytes key (places_of (filter (has_hash (key_hash key)) (entries_from w at rs))))
 unfolding entries_from
-answers_entries w top bytes key at [] more top_is here low high fits =
+answers_entries w bytes key at [] all =
     let none = found_at-none w bytes key in
     record { values = ap (λ (f : Found). map (bytes_of bytes) f.spans) none; sound = ap (λ (f : Found). f.damage) none }
-answers_entries w top bytes key at (r ∷ rs) more top_is here low high fits =
-    let both = sum_by-cons (record_size w) r rs in
-    let behind = flat_map (record_bytes w) rs ++ more in
-    let fit : PairFits top (lengths_of r) = record { first = omega arith; second = omega arith } in
-    let reads = reads_at w top bytes at r behind top_is fit (here ∙ append_assoc (record_bytes w r) (flat_map (record_bytes w) rs) more) in
-    let whole = whole_at w bytes at r behind reads low (omega arith) in
-    answers_more w bytes key at (filter (has_hash (key_hash key)) (entries_from w (at + record_size w r) rs)) r rs behind reads whole
-    (answers_entries w top bytes key (at + record_size w r) rs more top_is reads.rest_is (omega arith) (omega arith) fits)
+answers_entries w bytes key at (r ∷ rs) all =
+    answers_more w bytes key at (filter (has_hash (key_hash key)) (entries_from w (at + record_size w r) rs)) r rs all.0 (answers_entries w bytes key (at + record_size w r) rs all.1)
 
 -- the entries of a hash, whatever its table
 filter_filter : (h : ℕ) (es : List WordPair) → filter (has_hash h) (filter (in_table (table_number h)) es) ≡ filter (has_hash h) es
@@ -199,28 +165,31 @@ pub lookup_of-is : (w : ℕ) (bytes key : List ℕ) → lookup_of w bytes key �
 unfolding lookup_of
 lookup_of-is w bytes key = refl
 
--- in a file it reads the entries of the hash, in order
+-- where the table lies inside the file, if it has slots, a look-up reads those that are met
+pub lookup_of-inside : (w : ℕ) (bytes key : List ℕ) (p : WordPair) → nth_pair w bytes (table_number (key_hash key)) ≡ p → (has_slots p ≡ true → is_inside w bytes p ≡ true)
+    → lookup_of w bytes key ≡ found_at w bytes key (places_of (met_slots (key_hash key) (slots_at w bytes p)))
+lookup_of-inside w bytes key p pointer inside =
+    let start : lookup_of w bytes key ≡ found_by w bytes key p = lookup_of-is w bytes key ∙ ap (found_by w bytes key) pointer in
+    elim (cases_Bool (p.second == 0)) [
+      | inl t ↦
+          (let none = nil_from_length (slots_at w bytes p) (length-map-range_with_len (nth_pair w (drop p.first bytes)) 0 p.second ∙ eqb-true p.second 0 t) in
+          start ∙ cond-true (not (has_slots p)) _ _ (not_from_false (has_slots p) (not_from_true (p.second == 0) t))
+          ∙ sym (found_at-none w bytes key)
+          ∙ ap (λ es. found_at w bytes key (places_of es)) (sym (ap (met_slots (key_hash key)) none ∙ met_slots-none (key_hash key))))
+      | inr some ↦
+          (let has = not_from_false (p.second == 0) some in
+          start ∙ cond-false (not (has_slots p)) _ _ (not_from_true (has_slots p) has) ∙ cond-true (is_inside w bytes p) _ _ (inside has))
+    ]
+
+-- in a file these are the entries of the hash, in order
 lookup_of-file_bytes : (w top : ℕ) (rs : List KeyValue) (key : List ℕ) → Fit w top rs → lookup_of w (file_bytes w rs) key ≡ found_at w (file_bytes w rs) key (places_of (filter (has_hash (key_hash key)) (file_entries w rs)))
 lookup_of-file_bytes w top rs key f =
     let h = key_hash key in
     let n = table_number h in
     let file = file_bytes w rs in
     let low : n < 256 = omega arith in
-    let p = table_pointer w rs n in
-    let start : lookup_of w file key ≡ found_by w file key p = lookup_of-is w file key ∙ ap (found_by w file key) (nth_pair-file_bytes n f low) in
-    let entries = met_slots-table w rs h (some_width f) in
-    elim (cases_Bool (p.second == 0)) [
-      | inl t ↦
-          (let none = nil_from_length (table_slots w rs n) (eqb-true (length (table_slots w rs n)) 0 t) in
-          start ∙ cond-true (not (has_slots p)) _ _ (not_from_false (has_slots p) (not_from_true (p.second == 0) t))
-          ∙ sym (found_at-none w file key)
-          ∙ ap (λ es. found_at w file key (places_of es)) (sym (ap (met_slots h) none ∙ met_slots-none h) ∙ entries))
-      | inr some ↦
-          (start ∙ cond-false (not (has_slots p)) _ _ (not_from_true (has_slots p) (not_from_false (p.second == 0) some))
-          ∙ cond-true (is_inside w file p) _ _ (is_inside-file_bytes w rs n low)
-          ∙ ap (λ (t : List WordPair). found_at w file key (places_of (met_slots h t))) (slots_at-file_bytes n f low)
-          ∙ ap (λ es. found_at w file key (places_of es)) entries)
-    ]
+    lookup_of-inside w file key (table_pointer w rs n) (nth_pair-file_bytes n f low) (λ has. is_inside-file_bytes w rs n low)
+    ∙ ap (λ es. found_at w file key (places_of es)) (ap (met_slots h) (slots_at-file_bytes n f low) ∙ met_slots-table w rs h (some_width f))
 
 -- the law
 pub finds_values : (w top : ℕ) (rs : List KeyValue) (key : List ℕ) → Fit w top rs → FindsValues w rs key
@@ -230,5 +199,5 @@ finds_values w top rs key f =
     let room = f.room in
     let file = file_bytes w rs in
     let a : Answers file key rs (lookup_of w file key) = subst (Answers file key rs) (sym (lookup_of-file_bytes w top rs key f))
-    (answers_entries w top file key (head_size w) rs (tables_bytes w rs) f.top_is (drop-head w rs) (omega arith) (omega arith) (omega arith)) in
+    (answers_entries w file key (head_size w) rs (all_read w top file (head_size w) rs (tables_bytes w rs) f.top_is (drop-head w rs) (omega arith) (omega arith) (omega arith))) in
     record { values = a.values; sound = a.sound }

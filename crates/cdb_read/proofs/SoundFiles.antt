@@ -13,7 +13,7 @@ use Rattle.cdb_form.specs.Format.Walk.{Walked}
 use Rattle.cdb_form.proofs.WalkLaws.{walk_of-file_bytes}
 use Rattle.cdb_read.specs.Lookup.{is_inside, slots_at}
 use Rattle.cdb_read.specs.Sound.{IsRight, IsSound, all_slots, has_place, nth_slot, table_at, walk_entries}
-use Rattle.cdb_read.proofs.Apart.{AreApart-entries, apart_same, count_apart, entries-above}
+use Rattle.cdb_read.proofs.Apart.{IsEntryOf, AreApart-entries, apart_same, count_apart, entries-above}
 use Rattle.cdb_read.proofs.Counts.{count_zero, count-filter, count_lists_one}
 use Rattle.cdb_read.proofs.FileTables.{nth_pair-file_bytes, slots_at-file_bytes, is_inside-file_bytes}
 use Rattle.cdb_read.proofs.Filled.{IsUsed, AllUsed, NoneBehind}
@@ -27,9 +27,6 @@ unfolding table_entries
 entries_used w rs n some = All-filter (in_table n) IsUsed (file_entries w rs) (AllUsed-entries w (head_size w) rs (omega arith))
 
 -- they are those of the file whose hash has the table
-abbrev IsEntryOf : List WordPair → ℕ → WordPair → Type 0
-IsEntryOf entries n s = Contains entries s × (table_number s.first ≡ n)
-
 entries_told : (w : ℕ) (rs : List KeyValue) (n : ℕ) → All (IsEntryOf (file_entries w rs) n) (table_entries w rs n)
 unfolding table_entries
 entries_told w rs n = λ k d l. (

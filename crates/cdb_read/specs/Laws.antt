@@ -1,7 +1,9 @@
--- Laws of look-ups.
+-- Laws of look-ups and of sound files.
 use Rattle.std.specs.Prelude.{ℕ, ◌≡◌, List, map, None}
+use Rattle.std.specs.List.Sorted.{IsPermutation}
 use Rattle.cdb_form.specs.Format.File.{file_bytes}
 use Rattle.cdb_form.specs.Format.Record.{KeyValue}
+use Rattle.cdb_form.specs.Format.Walk.{walk_of}
 use Rattle.cdb_read.specs.Lookup.{bytes_of, lookup_of}
 use Rattle.cdb_read.specs.Values.{values_of}
 
@@ -10,3 +12,10 @@ pub record FindsValues (w : ℕ) (rs : List KeyValue) (key : List ℕ) : Type 0 
   pub values : map (bytes_of (file_bytes w rs)) (lookup_of w (file_bytes w rs) key).spans
       ≡ values_of key rs
   pub sound : (lookup_of w (file_bytes w rs) key).damage ≡ None
+
+-- a look-up in a file finds the values that the key has in the walk, each as often as it stands
+-- there, and meets no damage
+pub record FindsWalked (w : ℕ) (bytes key : List ℕ) : Type 0 where
+  pub values : IsPermutation (values_of key (walk_of w bytes).records)
+      (map (bytes_of bytes) (lookup_of w bytes key).spans)
+  pub sound : (lookup_of w bytes key).damage ≡ None

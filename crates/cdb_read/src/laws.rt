@@ -3,7 +3,7 @@
 ghost use Rattle.std.specs.Prelude.{◌≤◌};
 ghost use Rattle.cdb_form.specs.Format.File.{file_bytes, file_size};
 ghost use Rattle.cdb_form.specs.Views.Pairs.{key_values};
-ghost use Rattle.cdb_read.specs.Laws.{FindsValues};
+ghost use Rattle.cdb_read.specs.Laws.{FindsValues, FindsWalked};
 ghost use Rattle.cdb_read.specs.Sound.{IsSound};
 
 use cdb_form::{Record, Width};
@@ -19,4 +19,10 @@ pub fn lookup_of_file<L: Width>(_records: &[Record], _key: &[u8])
 pub fn file_is_sound<L: Width>(_records: &[Record])
     ensures { file_size L.WORD (key_values _records.now) ≤ L.GREATEST →
         IsSound L.WORD (file_bytes L.WORD (key_values _records.now)) }
+{}
+
+/// A look-up in a sound file, whatever program made it, finds the values that the key has in the
+/// walk of the file, each as often as it stands there, and meets no damage.
+pub fn sound_lookup<L: Width>(_bytes: &[u8], _key: &[u8])
+    ensures { IsSound L.WORD _bytes.now → FindsWalked L.WORD _bytes.now _key.now }
 {}
