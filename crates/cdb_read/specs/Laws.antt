@@ -1,10 +1,12 @@
 -- Laws of look-ups and of sound files.
-use Rattle.std.specs.Prelude.{ℕ, ◌≡◌, List, map, None}
+use Rattle.std.specs.Prelude.{ℕ, ◌≡◌, ◌↔◌, List, map, None}
 use Rattle.std.specs.List.Sorted.{IsPermutation}
 use Rattle.cdb_form.specs.Format.File.{file_bytes}
 use Rattle.cdb_form.specs.Format.Record.{KeyValue}
 use Rattle.cdb_form.specs.Format.Walk.{walk_of}
+use Rattle.cdb_read.specs.Faults.{first_fault}
 use Rattle.cdb_read.specs.Lookup.{bytes_of, lookup_of}
+use Rattle.cdb_read.specs.Sound.{IsSound}
 use Rattle.cdb_read.specs.Values.{values_of}
 
 -- a look-up in the file of some records finds the values of the key, in order, and meets no damage
@@ -19,3 +21,7 @@ pub record FindsWalked (w : ℕ) (bytes key : List ℕ) : Type 0 where
   pub values : IsPermutation (values_of key (walk_of w bytes).records)
       (map (bytes_of bytes) (lookup_of w bytes key).spans)
   pub sound : (lookup_of w bytes key).damage ≡ None
+
+-- a file is sound exactly where it has no first fault
+abbrev pub SoundIsNoDamage : ℕ → List ℕ → Type 0
+SoundIsNoDamage w bytes = IsSound w bytes ↔ (first_fault w bytes ≡ None)

@@ -3,7 +3,7 @@
 ghost use Rattle.std.specs.Prelude.{◌≤◌};
 ghost use Rattle.cdb_form.specs.Format.File.{file_bytes, file_size};
 ghost use Rattle.cdb_form.specs.Views.Pairs.{key_values};
-ghost use Rattle.cdb_read.specs.Laws.{FindsValues, FindsWalked};
+ghost use Rattle.cdb_read.specs.Laws.{FindsValues, FindsWalked, SoundIsNoDamage};
 ghost use Rattle.cdb_read.specs.Sound.{IsSound};
 
 use cdb_form::{Record, Width};
@@ -25,4 +25,9 @@ pub fn file_is_sound<L: Width>(_records: &[Record])
 /// walk of the file, each as often as it stands there, and meets no damage.
 pub fn sound_lookup<L: Width>(_bytes: &[u8], _key: &[u8])
     ensures { IsSound L.WORD _bytes.now → FindsWalked L.WORD _bytes.now _key.now }
+{}
+
+/// A file is sound exactly where it has no first fault.
+pub fn sound_is_no_damage<L: Width>(_bytes: &[u8])
+    ensures { SoundIsNoDamage L.WORD _bytes.now }
 {}
