@@ -1,29 +1,27 @@
 -- A file is sound exactly where it has no fault.
-use Rattle.std.proofs.Common.{◌≡◌, ℕ, zero, suc, ◌+◌, ◌<◌, ◌≤◌, Bool, true, false, cond, List, [], ◌∷◌, ◌++◌, length, get_or, take, flat_map, refl, sym, ap, ◌∙◌, subst, arith, inl, inr}
+use Rattle.std.proofs.Common.{◌≡◌, ℕ, ◌+◌, ◌<◌, ◌≤◌, Bool, true, false, List, [], ◌∷◌, ◌++◌, length, get_or, take, refl, sym, ap, ◌∙◌, subst, arith, inl, inr}
 use Rattle.std.specs.Prelude.{All, Option, Some, None, ◌==◌, ◌&&◌, not, nat_lt}
 use Rattle.std.specs.List.{Contains, count_by, list_any, range_with_len}
 use Rattle.std.specs.Option.{option_or}
-use Rattle.std.proofs.lemmas.List.{append-nil, take_all}
 use Rattle.std.proofs.lemmas.List.Elements.{All-nil, All-cons, All-head, All-tail, All-weaker, All-contains, All-get_or, All-from_get_or, Contains-append_right}
 use Rattle.std.proofs.lemmas.List.FromFn.{length-range_with_len, get_or-range_with_len}
-use Rattle.std.proofs.lemmas.List.Sums.{count_by_more_yes, count_by_more_no, sum_by-take-le}
 use Rattle.std.proofs.lemmas.Bool.{cases_Bool, cases_lt, cond-true, cond-false, both_ways, eq-eqb, eqb-true, not-false, not_from_true, not_from_false, and_parts, and_from, and_left, and_right, or_cases, or_left, or_right, le-ltb, lt-ltb}
 use Rattle.cdb_form.specs.Format.Hash.{table_number}
 use Rattle.cdb_form.specs.Format.Pair.{WordPair, head_size}
 use Rattle.cdb_form.specs.Format.Reading.{nth_pair}
-use Rattle.cdb_form.specs.Format.Table.{empty_slot, is_used}
-use Rattle.cdb_form.specs.Format.Walk.{Walked, has_slots, walk_of}
+use Rattle.cdb_form.specs.Format.Table.{is_used}
+use Rattle.cdb_form.specs.Format.Walk.{has_slots, walk_of}
 use Rattle.cdb_form.specs.declared.damage.Damage.{Damage}
 use Rattle.cdb_form.specs.declared.damage.Damage.TheVariants.{Table, Slot, Twice, Unindexed}
 use Rattle.cdb_form.proofs.ReadBack.{same_words}
-use Rattle.cdb_form.proofs.WalkSteps.{walk_of-short}
 use Rattle.cdb_read.specs.Faults.{entry_fault, fault_if, first_fault, first_of, is_right, is_same, slot_fault, slots_fault, table_fault}
 use Rattle.cdb_read.specs.Laws.{SoundIsNoDamage}
 use Rattle.cdb_read.specs.Lookup.{is_inside}
 use Rattle.cdb_read.specs.Sound.{IsRight, IsSound, all_slots, has_place, is_reached, nth_slot, table_at, tables_below, walk_entries}
 use Rattle.cdb_read.proofs.Apart.{Contains-cases, entries-above}
-use Rattle.cdb_read.proofs.Counts.{any_none, any_some, count-append, count_lists_part, lists_more, none_any}
-use Rattle.cdb_read.proofs.Fits.{used}
+use Rattle.cdb_read.proofs.Counts.{any_none, any_some}
+use Rattle.cdb_read.proofs.Once.{NoneTwice, once_in_tables, none_earlier}
+use Rattle.cdb_read.proofs.Walks.{walk_head}
 
 -- faults in turn: there is none exactly where none of them is
 option_or-none : (a b : Option Damage) → option_or a b ≡ None → (a ≡ None) × (b ≡ None)
@@ -53,11 +51,8 @@ none_of-all f [] all = refl
 none_of-all f (x ∷ xs) all = both_none (f x) (first_of f xs) (All-head (λ y. f y ≡ None) x xs all) (none_of-all f xs (All-tail (λ y. f y ≡ None) x xs all))
 
 -- numbers in turn
-from_zero : (n : ℕ) → 0 + n ≡ n
-from_zero n = omega arith
-
 number_is : (k n : ℕ) → n < k → get_or (range_with_len 0 k) n 0 ≡ n
-number_is k n l = get_or-range_with_len 0 k n 0 l ∙ from_zero n
+number_is k n l = let at : 0 + n ≡ n = omega arith in get_or-range_with_len 0 k n 0 l ∙ at
 
 each_number : (P : ℕ → Type 0) (k n : ℕ) → All P (range_with_len 0 k) → n < k → P n
 each_number P k n all l =
@@ -140,52 +135,6 @@ clean_slot entries before n slots i clean =
       | inr f ↦ cond-false (is_used s) _ _ f
     ]
 
--- where no used slot has the place of an earlier one, a place stands once at most
-abbrev NoneTwice : List WordPair → List WordPair → Type 0
-NoneTwice before slots = (i : ℕ) → i < length slots → is_used (nth_slot slots i) ≡ true → list_any (has_place (nth_slot slots i)) (before ++ take i slots) ≡ false
-
-once_so_far : (e : WordPair) (before slots : List WordPair) (i : ℕ) → 0 < e.second → i ≤ length slots → NoneTwice before slots → count_by (has_place e) before ≤ 1 → count_by (has_place e) (before ++ take i slots) ≤ 1
-once_so_far e before slots zero some l fresh few = let none = append-nil before in subst (λ t. count_by (has_place e) t ≤ 1) (sym none) few
-once_so_far e before slots (suc i) some l fresh few =
-    let s = nth_slot slots i in
-    let seen = before ++ take i slots in
-    let next : suc i ≡ i + 1 = omega arith in
-    let low : i < length slots = omega arith in
-    let ih = once_so_far e before slots i some (omega arith) fresh few in
-    let joined = count-append (has_place e) before (take i slots) in
-    let more = count-append (has_place e) before (take (i + 1) slots) in
-    subst (λ k. count_by (has_place e) (before ++ take k slots) ≤ 1) (sym next) (elim (cases_Bool (has_place e s)) [
-      | inl t ↦
-          (let place = eqb-true s.second e.second t in
-          let free = any_none (has_place s) seen (fresh i low (used s.second (omega arith))) in
-          let none : count_by (has_place e) seen ≡ 0 = ap (λ k. count_by (λ (q : WordPair). q.second == k) seen) (sym place) ∙ free in
-          let one = count_by_more_yes (has_place e) slots i empty_slot low t in
-          omega arith)
-      | inr f ↦ (let same = count_by_more_no (has_place e) slots i empty_slot low f in omega arith)
-    ])
-
-once_in_tables : (f : ℕ → List WordPair) (e : WordPair) (k : ℕ) → 0 < e.second → ((n : ℕ) → n < k → NoneTwice (flat_map f (range_with_len 0 n)) (f n)) → count_by (has_place e) (flat_map f (range_with_len 0 k)) ≤ 1
-once_in_tables f e zero some each = omega arith
-once_in_tables f e (suc k) some each =
-    let next : suc k ≡ k + 1 = omega arith in
-    let before = flat_map f (range_with_len 0 k) in
-    let ih = once_in_tables f e k some (λ n l. each n (omega arith)) in
-    let all = once_so_far e before (f k) (length (f k)) some (omega arith) (each k (omega arith)) ih in
-    let same : flat_map f (range_with_len 0 (suc k)) ≡ before ++ take (length (f k)) (f k) =
-    ap (λ n. flat_map f (range_with_len 0 n)) next ∙ lists_more f 0 k ∙ ap (λ n. before ++ f n) (from_zero k) ∙ ap (λ t. before ++ t) (sym (take_all (length (f k)) (f k) (omega arith))) in
-    subst (λ t. count_by (has_place e) t ≤ 1) (sym same) all
-
--- and a place that stands once, doesn't stand earlier
-none_earlier : (f : ℕ → List WordPair) (k n i : ℕ) → n < k → i < length (f n) → count_by (has_place (nth_slot (f n) i)) (flat_map f (range_with_len 0 k)) ≡ 1
-    → list_any (has_place (nth_slot (f n) i)) (flat_map f (range_with_len 0 n) ++ take i (f n)) ≡ false
-none_earlier f k n i l m one =
-    let q = has_place (nth_slot (f n) i) in
-    let part = count_lists_part q f n k l in
-    let here = count_by_more_yes q (f n) i empty_slot m (eq-eqb _ _ refl) in
-    let within = sum_by-take-le (λ y. cond {A = ℕ} (q y) 1 0) (f n) (i + 1) in
-    let joined = count-append q (flat_map f (range_with_len 0 n)) (take i (f n)) in
-    none_any q (flat_map f (range_with_len 0 n) ++ take i (f n)) (omega arith)
-
 -- what is told of a file that has a whole head
 abbrev faults_behind : ℕ → List ℕ → Option Damage
 faults_behind w bytes =
@@ -250,13 +199,7 @@ sound_from_none w bytes some h =
           entry_once w bytes (get_or entries k d) (indexed k d l) (omega arith) (λ n low i m u. (clean n i low m u).first));
     }
 
--- a sound file has a whole head, and no fault
-sound_head : (w : ℕ) (bytes : List ℕ) → IsSound w bytes → head_size w ≤ length bytes
-sound_head w bytes s = elim (cases_lt (length bytes) (head_size w)) [
-  | inl short ↦ (let e = sym s.walked ∙ ap (λ (x : Walked). x.damage) (walk_of-short w bytes short) in cc)
-  | inr whole ↦ whole
-]
-
+-- a sound file has no fault
 sound_slot : (w : ℕ) (bytes : List ℕ) (n i : ℕ) → IsSound w bytes → n < 256 → i < length (table_at w bytes n) → slot_fault (walk_entries w bytes) (tables_below w bytes n) n (table_at w bytes n) i ≡ None
 unfolding all_slots
 sound_slot w bytes n i s l m = clean_slot (walk_entries w bytes) (tables_below w bytes n) n (table_at w bytes n) i (λ u.
@@ -275,7 +218,7 @@ sound_entry w bytes e one = no_fault _ (Unindexed e.second) (not_from_true (list
 none_from_sound : (w : ℕ) (bytes : List ℕ) → IsSound w bytes → first_fault w bytes ≡ None
 none_from_sound w bytes s =
     let entries = walk_entries w bytes in
-    first_fault-whole w bytes (sound_head w bytes s)
+    first_fault-whole w bytes (walk_head w bytes s.walked).whole
     ∙ both_none (first_of (table_fault w bytes) (range_with_len 0 256)) _ (none_of-all (table_fault w bytes) (range_with_len 0 256) (all_numbers (λ n. table_fault w bytes n ≡ None) 256 (λ n l. inside_table w bytes n (s.inside n l))))
     (both_none (walk_of w bytes).damage _ s.walked
     (both_none (first_of (slots_fault w bytes entries) (range_with_len 0 256)) _

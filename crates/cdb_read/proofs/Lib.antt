@@ -7,6 +7,7 @@ pub mod Fits
 pub mod FilledTables
 pub mod FileTables
 pub mod SoundFiles
+pub mod Once
 pub mod FaultLaws
 pub mod RecordsAt
 pub mod LookupLaws

@@ -5,14 +5,13 @@ use Rattle.std.specs.List.{Contains, count_by}
 use Rattle.std.specs.List.Sorted.{IsPermutation}
 use Rattle.std.proofs.lemmas.List.{take-append-drop}
 use Rattle.std.proofs.lemmas.List.Elements.{All-head, All-tail, All-same, All-filter, All-weaker, All-contains, All-contains_itself, All-from_get_or, filter_passes}
-use Rattle.std.proofs.lemmas.Bool.{cases_Bool, cases_lt, cond-true, cond-false, eqb-true}
+use Rattle.std.proofs.lemmas.Bool.{cases_Bool, cond-true, cond-false, eqb-true}
 use Rattle.cdb_form.specs.Format.Hash.{key_hash, table_number, home_slot}
 use Rattle.cdb_form.specs.Format.Pair.{WordPair, head_size}
 use Rattle.cdb_form.specs.Format.Reading.{nth_pair}
 use Rattle.cdb_form.specs.Format.Record.{AreBytes, KeyValue, record_bytes, record_size}
 use Rattle.cdb_form.specs.Format.Table.{file_entries, is_used, empty_slot}
-use Rattle.cdb_form.specs.Format.Walk.{Walked, record_end, walk_of}
-use Rattle.cdb_form.specs.Laws.Walk.{HasHead}
+use Rattle.cdb_form.specs.Format.Walk.{walk_of}
 use Rattle.cdb_form.proofs.WalkLaws.{record_end-le, walk_of-IsWalk}
 use Rattle.cdb_read.specs.Laws.{FindsWalked}
 use Rattle.cdb_read.specs.Lookup.{Found, bytes_of, found_at, has_hash, has_key, lookup_of, met_slots, value_span}
@@ -24,30 +23,15 @@ use Rattle.cdb_read.proofs.Fits.{used}
 use Rattle.cdb_read.proofs.LookupLaws.{answers_entries, found_at-has, found_at-none, found_at-other, lookup_of-inside, places_of}
 use Rattle.cdb_read.proofs.Meeting.{met}
 use Rattle.cdb_read.proofs.Reached.{All-slots_from, NoneBehind-reached, OnlyWanted, count-met, met_all}
+use Rattle.cdb_read.proofs.Walks.{walk_head}
 use Rattle.cdb_read.proofs.RecordsAt.{AllRead, TellsWhole, all_read, entries_whole}
 
--- a walk without damage begins behind a whole head
-walk_head : (w top : ℕ) (bytes : List ℕ) → 0 < w → top + 1 ≡ 256 ^ w → head_size w ≤ top → AreBytes bytes → (walk_of w bytes).damage ≡ None → HasHead w bytes
-walk_head w top bytes some top_is head are walked =
-    let walk = walk_of-IsWalk w top bytes some top_is head are in
-    let whole : head_size w ≤ length bytes = elim (cases_lt (length bytes) (head_size w)) [
-      | inl short ↦ (let e = sym walked ∙ ap (λ (x : Walked). x.damage) (walk.short short) in cc)
-      | inr h ↦ h
-    ] in
-    record {
-      whole = whole;
-      behind = elim (cases_lt (record_end w bytes) (head_size w)) [
-        | inl early ↦ (let e = sym walked ∙ ap (λ (x : Walked). x.damage) (walk.table whole early) in cc)
-        | inr h ↦ h
-      ];
-    }
-
--- and its records are read where they stand
+-- the records of a walk without damage are read where they stand
 walk_reads : (w top : ℕ) (bytes : List ℕ) → 0 < w → top + 1 ≡ 256 ^ w → head_size w ≤ top → AreBytes bytes → (walk_of w bytes).damage ≡ None → AllRead w bytes (head_size w) (walk_of w bytes).records
 walk_reads w top bytes some top_is head are walked =
     let rs = (walk_of w bytes).records in
     let walk = walk_of-IsWalk w top bytes some top_is head are in
-    let stand = (walk.longest (walk_head w top bytes some top_is head are walked)).stand in
+    let stand = (walk.longest (walk_head w bytes walked)).stand in
     let size = sum_by (record_size w) (walk_of w bytes).records in
     let body = drop (head_size w) bytes in
     let here : body ≡ flat_map (record_bytes w) rs ++ drop size body = sym (take-append-drop size body) ∙ ap (λ t. t ++ drop size body) stand.bytes_are in

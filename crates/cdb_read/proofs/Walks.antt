@@ -1,10 +1,13 @@
 -- Where the walk of a file begins, and where it ends.
-use Rattle.std.proofs.Common.{◌≡◌, ℕ, ◌<◌, ◌≤◌, List, length, drop, refl, sym, ap, ◌∙◌, subst}
+use Rattle.std.proofs.Common.{◌≡◌, ℕ, ◌<◌, ◌≤◌, List, length, drop, refl, sym, ap, ◌∙◌, subst, inl, inr}
+use Rattle.std.specs.Prelude.{None}
+use Rattle.std.proofs.lemmas.Bool.{cases_lt}
 use Rattle.cdb_form.specs.Format.Pair.{WordPair, head_size}
 use Rattle.cdb_form.specs.Format.Reading.{head_at}
-use Rattle.cdb_form.specs.Format.Walk.{walk_of, walk_from, record_end, least_place, first_table_at, damaged}
+use Rattle.cdb_form.specs.Format.Walk.{Walked, walk_of, walk_from, record_end, least_place, first_table_at, damaged}
 use Rattle.cdb_form.specs.declared.damage.Damage.TheVariants.{Table}
-use Rattle.cdb_form.proofs.WalkSteps.{walk_of-table, walk_of-records}
+use Rattle.cdb_form.specs.Laws.Walk.{HasHead}
+use Rattle.cdb_form.proofs.WalkSteps.{walk_of-short, walk_of-table, walk_of-records}
 
 record_end-is : (w : ℕ) (b : List ℕ) → record_end w b ≡ least_place (head_size w) (head_at w b)
 unfolding record_end
@@ -28,3 +31,18 @@ walks_from w place end b ps long known is at ordered =
     ap (λ k. walk_from w k end (drop k b)) at
     ∙ ap (λ k. walk_from w (head_size w) k (drop (head_size w) b)) (sym e)
     ∙ sym (walk_of-records w b long (subst (λ k. head_size w ≤ k) (sym e) (subst (λ k. k ≤ end) at ordered)))
+
+-- a walk without damage begins behind a whole head
+pub walk_head : (w : ℕ) (b : List ℕ) → (walk_of w b).damage ≡ None → HasHead w b
+walk_head w b walked =
+    let whole : head_size w ≤ length b = elim (cases_lt (length b) (head_size w)) [
+      | inl short ↦ (let e = sym walked ∙ ap (λ (x : Walked). x.damage) (walk_of-short w b short) in cc)
+      | inr h ↦ h
+    ] in
+    record {
+      whole = whole;
+      behind = elim (cases_lt (record_end w b) (head_size w)) [
+        | inl early ↦ (let e = sym walked ∙ ap (λ (x : Walked). x.damage) (walk_of-table w b whole early) in cc)
+        | inr h ↦ h
+      ];
+    }
