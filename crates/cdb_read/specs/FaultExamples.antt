@@ -46,8 +46,10 @@ narrow_faults =
     (put_at 2086 (17 ∷ []) two_file, Some (Slot 41 0)) ∷
     -- one whose hash is another
     (put_at 2083 (97 ∷ []) two_file, Some (Slot 41 0)) ∷
-    -- a record's slot in the table of another
+    -- a record's slot in the table of another, before its own
     (put_at 2090 (words_of 4 193420161 2048) two_file, Some (Slot 41 1)) ∷
+    -- another record's slot, which is wrong there before it is the second of that record
+    (put_at 2098 (words_of 4 193421353 2064) two_file, Some (Slot 129 0)) ∷
     -- a slot behind an empty one
     (
       put_at 2056 (words_of 4 5381 2048 ++ words_of 4 0 0) (file_bytes 4 empty_record),
