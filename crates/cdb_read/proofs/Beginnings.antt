@@ -51,7 +51,7 @@ begins_nowhere w b key p none = sym (cond-true (not (has_slots p)) _ _ (not_from
 some_slots : (p : WordPair) → (p.second ≡ 0 → ⊥) → not (has_slots p) ≡ false
 some_slots p some = not_from_true (has_slots p) (not_from_false (p.second == 0) (ne_eqb p.second 0 some))
 
-is_inside-lies : (w size : ℕ) (b : List ℕ) (p : WordPair) → size ≡ length b → is_inside w b p ≡ true → LiesInside w size p
+pub is_inside-lies : (w size : ℕ) (b : List ℕ) (p : WordPair) → size ≡ length b → is_inside w b p ≡ true → LiesInside w size p
 is_inside-lies w size b p long t =
     let both = and_true (nat_le (head_size w) p.first) (nat_le (p.first + pair_size w * p.second) (length b)) t in
     record {

@@ -22,3 +22,6 @@ pub mod Searches
 pub mod Windows
 pub mod Pairs
 pub mod Walks
+pub mod Counters
+pub mod SlotCounts
+pub mod TableChecks

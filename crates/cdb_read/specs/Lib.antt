@@ -4,6 +4,7 @@ pub mod Values
 pub mod Sound
 pub mod Faults
 pub mod Laws
+pub mod Statistics
 pub mod Views
 pub mod Examples
 pub mod FaultExamples

@@ -9,3 +9,4 @@ pub mod Finder
 pub mod Window
 pub mod Walking
 pub mod Walk
+pub mod Counting

@@ -33,7 +33,7 @@ pub struct Finder<'a, S: Store, L: Width> {
 }
 
 /// Whether a table lies behind the head and inside a file of so many bytes.
-fn lies_inside<L: Width>(table: Pointer, size: u64) -> bool
+pub(crate) fn lies_inside<L: Width>(table: Pointer, size: u64) -> bool
     ensures { Decides result (LiesInside L.WORD size (pointer_pair table)) }
 {
     let slot_size = pair_size::<L>() as u64;

@@ -1,6 +1,7 @@
 //! Look-ups in constant databases: what the readers are to find, and why one stops.
 #![tactic(auto)]
 
+mod distances;
 mod fault;
 mod finder;
 pub mod laws;
@@ -11,7 +12,10 @@ mod record_walk;
 mod rest;
 mod search;
 mod span;
+mod spread;
 mod standing;
+mod statistics;
+mod tables;
 mod turn;
 mod walking;
 mod window;
@@ -21,6 +25,7 @@ pub use finder::Finder;
 pub use reader::{Reader, Unread};
 pub use record_walk::Walk;
 pub use span::{Pair, Span};
+pub use statistics::Stats;
 pub use walking::walk;
 
 #[cfg(test)]

@@ -10,9 +10,10 @@ ghost use Rattle.cdb_read.specs.Views.Window.{Shows};
 use crate::fault::ReadFault;
 use crate::looking::{Look, look_at};
 use crate::span::Span;
+use crate::tables::slot_at;
 use crate::turn::Turn;
 use crate::window::Window;
-use cdb_form::{Slot, Width, hash, pair_size, read_slot};
+use cdb_form::{Slot, Width, hash};
 use cdb_store::Store;
 
 /// How many bytes of slots are read at once.
@@ -57,10 +58,7 @@ fn read_turn<S: Store, L: Width>(
     ensures reads { OnlyReads S.Store store.old store.new }
     ensures fails { IfErr result (StoreFails S.Store store.old store.new) }
 {
-    let slot_size = pair_size::<L>();
-    let place = turn.table.place + slot_size as u64 * turn.slot;
-    window.cover(store, place, slot_size, SLOTS_AHEAD)?;
-    Ok(read_slot::<L>(window.shown(place, slot_size)))
+    slot_at::<S, L>(store, turn.table, turn.slot, window, SLOTS_AHEAD)
 }
 
 /// One turn of the search of a key, which has this hash.

@@ -1,0 +1,16 @@
+use Rattle.std.proofs.Common.{ℕ, List, ◌++◌}
+use Rattle.cdb_form.specs.Views.Pairs.{pointer_pair}
+use Rattle.cdb_read.specs.Views.Counting.{Counts}
+use Rattle.cdb_read.specs.Views.Reads.{OnlyReads}
+use Rattle.cdb_read.specs.Views.Window.{Shows}
+use Rattle.cdb_read.proofs.SlotCounts.{distances_before}
+use Rattle.cdb_read.proofs.tables.count_table.Given as goal
+
+-- the used slots so far were counted
+abbrev pub invariant-loop-n : goal.invariant-loop-n
+invariant-loop-n g l =
+    record {
+      shows : Shows l.window (g.S.Store.image l.store);
+      reads : OnlyReads g.S.Store l.fn.store l.store;
+      counts : (b : List ℕ) → g.S.Store.image l.store b → (ds : List ℕ) → Counts l.fn.distances ds → Counts l.distances (ds ++ distances_before g.L.Width.WORD b (pointer_pair l.table) l.n);
+    }

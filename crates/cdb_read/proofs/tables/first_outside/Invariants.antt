@@ -1,0 +1,8 @@
+use Rattle.std.proofs.Common.{map}
+use Rattle.cdb_form.specs.Views.Pairs.{pointer_pair}
+use Rattle.cdb_read.proofs.TableChecks.{StandBefore}
+use Rattle.cdb_read.proofs.tables.first_outside.Given as goal
+
+-- the tables so far stand inside
+abbrev pub invariant-loop-n : goal.invariant-loop-n
+invariant-loop-n g l = record { inside : StandBefore g.L.Width.WORD l.size l.n (map pointer_pair l.tables) }

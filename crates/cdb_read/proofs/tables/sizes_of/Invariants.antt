@@ -1,0 +1,12 @@
+use Rattle.std.proofs.Common.{◌≤◌, map, take}
+use Rattle.cdb_form.specs.Views.Pairs.{pointer_pair}
+use Rattle.cdb_read.specs.Statistics.{table_sizes}
+use Rattle.cdb_read.specs.Views.Counting.{Spreads}
+use Rattle.cdb_read.proofs.tables.sizes_of.Given as goal
+
+-- the tables so far that have slots
+abbrev pub invariant-loop-n : goal.invariant-loop-n
+invariant-loop-n l = record {
+  few : l.sizes.count ≤ l.n;
+  spreads : Spreads l.sizes (table_sizes (take l.n (map pointer_pair l.tables)));
+}

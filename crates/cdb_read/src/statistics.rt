@@ -1,0 +1,36 @@
+// What is counted of a database.
+
+/// Counts of what a database holds. A count of slots stops at the greatest number; the least, the
+/// average and the greatest of nothing are 0, and an average is rounded down.
+#[derive(Clone, Copy, Debug, PartialEq, Eq)]
+pub struct Stats {
+    /// How many records it has.
+    pub records: u64,
+    /// The length of the shortest key.
+    pub key_least: u64,
+    /// The average length of a key.
+    pub key_average: u64,
+    /// The length of the longest key.
+    pub key_greatest: u64,
+    /// The length of the shortest value.
+    pub value_least: u64,
+    /// The average length of a value.
+    pub value_average: u64,
+    /// The length of the longest value.
+    pub value_greatest: u64,
+    /// How many tables have slots.
+    pub tables: u64,
+    /// How many slots are used.
+    pub entries: u64,
+    /// How many used slots stand elsewhere than where their searches begin.
+    pub collisions: u64,
+    /// The fewest slots of a table that has some.
+    pub size_least: u64,
+    /// The average number of slots of such a table.
+    pub size_average: u64,
+    /// The most slots of a table.
+    pub size_greatest: u64,
+    /// How many used slots stand at a distance of 0 to 9 slots from where their searches begin, and
+    /// how many at 10 or more.
+    pub distances: [u64; 11],
+}
