@@ -25,3 +25,5 @@ pub mod Walks
 pub mod Counters
 pub mod SlotCounts
 pub mod TableChecks
+pub mod WalkedLengths
+pub mod StatsLaws

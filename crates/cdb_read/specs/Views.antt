@@ -10,3 +10,5 @@ pub mod Window
 pub mod Walking
 pub mod Walk
 pub mod Counting
+pub mod Lengths
+pub mod Stats

@@ -1,10 +1,12 @@
 //! Look-ups in constant databases: what the readers are to find, and why one stops.
 #![tactic(auto)]
 
+mod counting;
 mod distances;
 mod fault;
 mod finder;
 pub mod laws;
+mod lengths;
 mod looking;
 mod pieces;
 mod reader;
@@ -20,6 +22,7 @@ mod turn;
 mod walking;
 mod window;
 
+pub use counting::stats;
 pub use fault::ReadFault;
 pub use finder::Finder;
 pub use reader::{Reader, Unread};

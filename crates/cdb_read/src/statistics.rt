@@ -1,4 +1,9 @@
 // What is counted of a database.
+ghost use Rattle.std.specs.Prelude.{◌≡◌, ℕ, List};
+
+use crate::distances::Distances;
+use crate::lengths::Lengths;
+use crate::spread::Spread;
 
 /// Counts of what a database holds. A count of slots stops at the greatest number; the least, the
 /// average and the greatest of nothing are 0, and an average is rounded down.
@@ -33,4 +38,34 @@ pub struct Stats {
     /// How many used slots stand at a distance of 0 to 9 slots from where their searches begin, and
     /// how many at 10 or more.
     pub distances: [u64; 11],
+}
+
+impl Stats {
+    ghost use Rattle.cdb_read.specs.Statistics.{stats_of};
+    ghost use Rattle.cdb_read.specs.Views.Counting.{Counts, Spreads};
+
+    /// What the lengths of records, the sizes of tables and the slots of them come to.
+    pub(crate) fn from_counts(lengths: &Lengths, sizes: &Spread, distances: &Distances) -> Stats
+        ensures { (keys values slots ds : List ℕ) → Spreads lengths.now.keys keys
+            → Spreads lengths.now.values values → Spreads sizes.now slots
+            → Counts distances.now ds → result ≡ stats_of keys values slots ds }
+    {
+        let Lengths { keys, values } = lengths;
+        Stats {
+            records: keys.count,
+            key_least: keys.least,
+            key_average: keys.average(),
+            key_greatest: keys.greatest,
+            value_least: values.least,
+            value_average: values.average(),
+            value_greatest: values.greatest,
+            tables: sizes.count,
+            entries: distances.entries,
+            collisions: distances.collisions,
+            size_least: sizes.least,
+            size_average: sizes.average(),
+            size_greatest: sizes.greatest,
+            distances: distances.counts,
+        }
+    }
 }

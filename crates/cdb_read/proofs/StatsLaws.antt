@@ -1,0 +1,59 @@
+-- What is counted of a file, or the damage that is told.
+use Rattle.std.proofs.Common.{◌≡◌, ℕ, List, sym, ap, ◌∙◌, subst, arith}
+use Rattle.std.specs.Prelude.{Option, Some, None, option_map, position}
+use Rattle.std.specs.Option.{option_or}
+use Rattle.cdb_store.specs.declared.store.Store.{Ghosts}
+use Rattle.cdb_form.specs.declared.damage.Damage.{Damage}
+use Rattle.cdb_form.specs.declared.damage.Damage.TheVariants as damage
+use Rattle.cdb_form.specs.Format.Pair.{WordPair}
+use Rattle.cdb_form.specs.Format.Reading.{head_at}
+use Rattle.cdb_form.specs.Format.Walk.{walk_of}
+use Rattle.cdb_read.specs.Statistics.{statistics_of, statistics_damage, is_outside, key_lengths, value_lengths, table_sizes, distances_of, stats_of}
+use Rattle.cdb_read.specs.Views.Counting.{Counts, Spreads}
+use Rattle.cdb_read.specs.Views.Lengths.{HasLengths, LengthsFail}
+use Rattle.cdb_read.specs.Views.Reads.{OnlyReads}
+use Rattle.cdb_read.specs.Views.Stats.{HasStats, StatsFail}
+use Rattle.cdb_read.specs.declared.distances.Distances.{Distances}
+use Rattle.cdb_read.specs.declared.fault.ReadFault.{ReadFault}
+use Rattle.cdb_read.specs.declared.fault.ReadFault.TheVariants.{Short, Table, Record, Slot, Twice, Unindexed, Device, NoMemory, Output}
+use Rattle.cdb_read.specs.declared.lengths.Lengths.{Lengths}
+use Rattle.cdb_read.specs.declared.spread.Spread.{Spread}
+use Rattle.cdb_read.specs.declared.statistics.Stats.{Stats}
+
+-- the damage, by the first table outside the file
+damage_by : (w : ℕ) (b : List ℕ) (ps : List WordPair) (first : Option ℕ) → head_at w b ≡ ps → first ≡ position (is_outside w b) ps → statistics_damage w b ≡ option_or (option_map (λ n. damage.Table n) first) (walk_of w b).damage
+unfolding statistics_damage
+damage_by w b ps first known is =
+    let told : Option ℕ → Option Damage = λ o. option_or (option_map (λ n. damage.Table n) o) (walk_of w b).damage in
+    ap (λ qs. told (position (is_outside w b) qs)) known ∙ ap told (sym is)
+
+pub damage_outside : (w n : ℕ) (b : List ℕ) (ps : List WordPair) → head_at w b ≡ ps → Some n ≡ position (is_outside w b) ps → statistics_damage w b ≡ Some (damage.Table n)
+damage_outside w n b ps known is = damage_by w b ps (Some n) known is
+
+pub damage_walk : (w : ℕ) (b : List ℕ) (ps : List WordPair) → head_at w b ≡ ps → None ≡ position (is_outside w b) ps → statistics_damage w b ≡ (walk_of w b).damage
+damage_walk w b ps known is = damage_by w b ps None known is
+
+-- a walk that stopped
+pub stats_fail : {S : Type 0} {s : Ghosts S} (w : ℕ) (start old new : S) (fault : ReadFault) → OnlyReads s start old → ((b : List ℕ) → s.image new b → statistics_damage w b ≡ (walk_of w b).damage) → LengthsFail w s old new fault → StatsFail w s start new fault
+stats_fail {s = s} w start old new Device reads same fails = omega (arith, fails, reads.failures)
+stats_fail w start old new (Table n) reads same fails = λ b is. same b is ∙ fails b is
+stats_fail w start old new (Record place) reads same fails = λ b is. same b is ∙ fails b is
+stats_fail w start old new Short reads same fails = fails
+stats_fail w start old new (Slot n i) reads same fails = fails
+stats_fail w start old new (Twice place) reads same fails = fails
+stats_fail w start old new (Unindexed place) reads same fails = fails
+stats_fail w start old new NoMemory reads same fails = fails
+stats_fail w start old new Output reads same fails = fails
+
+-- and one that ended
+pub stats_are : (w : ℕ) (b : List ℕ) (ps : List WordPair) (lengths : Lengths) (sizes : Spread) (distances : Distances) (stats : Stats) → head_at w b ≡ ps → None ≡ position (is_outside w b) ps → HasLengths w b lengths → Spreads sizes (table_sizes ps) → Counts distances (distances_of w b (head_at w b))
+    → ((keys values slots ds : List ℕ) → Spreads lengths.keys keys → Spreads lengths.values values → Spreads sizes slots → Counts distances ds → stats ≡ stats_of keys values slots ds) → HasStats w b stats
+unfolding statistics_of
+stats_are w b ps lengths sizes distances stats known none has slots counts from =
+    let rs = (walk_of w b).records in
+    record {
+      whole = damage_walk w b ps known none ∙ has.whole;
+      is = from (key_lengths rs) (value_lengths rs) (table_sizes (head_at w b)) (distances_of w b (head_at w b)) has.keys has.values
+          (subst (λ qs. Spreads sizes (table_sizes qs)) (sym known) slots)
+          counts;
+    }
