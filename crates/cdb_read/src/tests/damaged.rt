@@ -101,7 +101,7 @@ fn a_file_that_is_cut_has_lost_its_tables(rt: HostRuntime) -> Result<(), Fail> {
 }
 
 /// A file of one record and a table of one slot, as another program may make it.
-fn foreign(alloc: Global) -> Result<Vec<u8>, AllocError> {
+pub(super) fn foreign(alloc: Global) -> Result<Vec<u8>, AllocError> {
     let mut file = vec![in alloc; 0u8; 1568]?;
     file.extend_from_slice(b"\x0a\x08\0\0\x01\0\0\0")?;
     for _ in 1576..2048usize {
