@@ -1,17 +1,20 @@
 -- What is counted of a file, or the damage that is told.
 use Rattle.std.proofs.Common.{◌≡◌, ℕ, List, sym, ap, ◌∙◌, subst, arith}
-use Rattle.std.specs.Prelude.{Option, Some, None, option_map, position}
+use Rattle.std.specs.Prelude.{All, map, Option, Some, None, option_map, position}
 use Rattle.std.specs.Option.{option_or}
 use Rattle.cdb_store.specs.declared.store.Store.{Ghosts}
 use Rattle.cdb_form.specs.declared.damage.Damage.{Damage}
 use Rattle.cdb_form.specs.declared.damage.Damage.TheVariants as damage
+use Rattle.cdb_form.specs.Views.Pairs.{pointer_pair}
+use Rattle.cdb_form.specs.declared.head.Head.{Head}
 use Rattle.cdb_form.specs.Format.Pair.{WordPair}
 use Rattle.cdb_form.specs.Format.Reading.{head_at}
 use Rattle.cdb_form.specs.Format.Walk.{walk_of}
 use Rattle.cdb_read.specs.Statistics.{statistics_of, statistics_damage, is_outside, key_lengths, value_lengths, table_sizes, distances_of, stats_of}
 use Rattle.cdb_read.specs.Views.Counting.{Counts, Spreads}
 use Rattle.cdb_read.specs.Views.Lengths.{HasLengths, LengthsFail}
-use Rattle.cdb_read.specs.Views.Reads.{OnlyReads}
+use Rattle.cdb_read.specs.Views.Reads.{OnlyReads, StoreFails}
+use Rattle.cdb_read.specs.Views.Inside.{StandsInside}
 use Rattle.cdb_read.specs.Views.Stats.{HasStats, StatsFail}
 use Rattle.cdb_read.specs.declared.distances.Distances.{Distances}
 use Rattle.cdb_read.specs.declared.fault.ReadFault.{ReadFault}
@@ -34,18 +37,36 @@ pub damage_walk : (w : ℕ) (b : List ℕ) (ps : List WordPair) → head_at w b 
 damage_walk w b ps known is = damage_by w b ps None known is
 
 -- a walk that stopped
-pub stats_fail : {S : Type 0} {s : Ghosts S} (w : ℕ) (start old new : S) (fault : ReadFault) → OnlyReads s start old → ((b : List ℕ) → s.image new b → statistics_damage w b ≡ (walk_of w b).damage) → LengthsFail w s old new fault → StatsFail w s start new fault
-stats_fail {s = s} w start old new Device reads same fails = omega (arith, fails, reads.failures)
-stats_fail w start old new (Table n) reads same fails = λ b is. same b is ∙ fails b is
-stats_fail w start old new (Record place) reads same fails = λ b is. same b is ∙ fails b is
-stats_fail w start old new Short reads same fails = fails
-stats_fail w start old new (Slot n i) reads same fails = fails
-stats_fail w start old new (Twice place) reads same fails = fails
-stats_fail w start old new (Unindexed place) reads same fails = fails
-stats_fail w start old new NoMemory reads same fails = fails
-stats_fail w start old new Output reads same fails = fails
+pub walk_fails : {S : Type 0} (s : Ghosts S) (w : ℕ) (old new : S) (fault : ReadFault) → ((b : List ℕ) → s.image new b → statistics_damage w b ≡ (walk_of w b).damage) → LengthsFail w s old new fault → StatsFail w s old new fault
+walk_fails s w old new Device same fails = fails
+walk_fails s w old new (Table n) same fails = λ b is. same b is ∙ fails b is
+walk_fails s w old new (Record place) same fails = λ b is. same b is ∙ fails b is
+walk_fails s w old new Short same fails = fails
+walk_fails s w old new (Slot n i) same fails = fails
+walk_fails s w old new (Twice place) same fails = fails
+walk_fails s w old new (Unindexed place) same fails = fails
+walk_fails s w old new NoMemory same fails = fails
+walk_fails s w old new Output same fails = fails
 
--- and one that ended
+-- a store that failed later
+pub slots_fail : {S : Type 0} {s : Ghosts S} (w : ℕ) (start old new : S) (fault : ReadFault) → OnlyReads s start old → StoreFails s old new fault → StatsFail w s start new fault
+slots_fail {s = s} w start old new Device reads fails = omega (arith, fails, reads.failures)
+slots_fail w start old new (Table n) reads fails = absurd fails
+slots_fail w start old new (Record place) reads fails = absurd fails
+slots_fail w start old new Short reads fails = fails
+slots_fail w start old new (Slot n i) reads fails = fails
+slots_fail w start old new (Twice place) reads fails = fails
+slots_fail w start old new (Unindexed place) reads fails = fails
+slots_fail w start old new NoMemory reads fails = fails
+slots_fail w start old new Output reads fails = fails
+
+-- the tables stand inside after the walk as they did before
+pub still_inside : (w size now : ℕ) (old new : Head) → new ≡ old → now ≡ size → All (StandsInside w size) (map pointer_pair old.pointers) → All (StandsInside w now) (map pointer_pair new.pointers)
+still_inside w size now old new same_head same_size all =
+    subst (λ (h : Head). All (StandsInside w now) (map pointer_pair h.pointers)) (sym same_head)
+    (subst (λ (n : ℕ). All (StandsInside w n) (map pointer_pair old.pointers)) (sym same_size) all)
+
+-- a walk that ended, and the slots of all tables
 pub stats_are : (w : ℕ) (b : List ℕ) (ps : List WordPair) (lengths : Lengths) (sizes : Spread) (distances : Distances) (stats : Stats) → head_at w b ≡ ps → None ≡ position (is_outside w b) ps → HasLengths w b lengths → Spreads sizes (table_sizes ps) → Counts distances (distances_of w b (head_at w b))
     → ((keys values slots ds : List ℕ) → Spreads lengths.keys keys → Spreads lengths.values values → Spreads sizes slots → Counts distances ds → stats ≡ stats_of keys values slots ds) → HasStats w b stats
 unfolding statistics_of

@@ -22,8 +22,8 @@ impl<S: Store, L: Width> Reader<S, L> {
     fn count_slots(&mut self) -> Result<Distances, ReadFault>
         requires inside { All (StandsInside L.WORD (S.size self.old.store))
             (map pointer_pair self.old.head.pointers) }
-        ensures counts { (b : List ℕ) → S.image self.new.store b
-            → IfOk result (λ distances. Counts distances (distances_of L.WORD b (head_at L.WORD b))) }
+        ensures counts { (b : List ℕ) → S.image self.new.store b → IfOk result (λ distances.
+            Counts distances (distances_of L.WORD b (head_at L.WORD b))) }
         ensures reads { OnlyReads S.Store self.old.store self.new.store }
         ensures fails { IfErr result (StoreFails S.Store self.old.store self.new.store) }
     {
@@ -46,8 +46,8 @@ pub fn stats<S: Store, L: Width>(reader: &mut Reader<S, L>) -> Result<Stats, Rea
     if let Some(n) = outside {
         return Err(ReadFault::Table(n));
     }
+    let lengths = walk_lengths(reader)?;
     let sizes = sizes_of(&reader.head.pointers);
     let distances = reader.count_slots()?;
-    let lengths = walk_lengths(reader)?;
     Ok(Stats::from_counts(&lengths, &sizes, &distances))
 }

@@ -1,5 +1,5 @@
 // How long the keys and the values of a database are.
-ghost use Rattle.std.specs.Prelude.{ℕ, List, IfOk, IfErr};
+ghost use Rattle.std.specs.Prelude.{◌≡◌, ℕ, List, IfOk, IfErr};
 ghost use Rattle.cdb_read.specs.Views.Lengths.{HasLengths, LengthsFail};
 ghost use Rattle.cdb_read.specs.Views.Reads.{OnlyReads};
 
@@ -24,6 +24,7 @@ pub(crate) fn walk_lengths<S: Store, L: Width>(
     reader: &mut Reader<S, L>,
 ) -> Result<Lengths, ReadFault>
     ensures reads { OnlyReads S.Store reader.old.store reader.new.store }
+    ensures head { reader.new.head ≡ reader.old.head }
     ensures lengths { (b : List ℕ) → S.image reader.new.store b
         → IfOk result (HasLengths L.WORD b) }
     ensures fails { IfErr result

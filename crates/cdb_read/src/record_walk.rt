@@ -29,6 +29,7 @@ impl<'a, S: Store, L: Width> Walk<'a, S, L> {
     pub fn next(&mut self) -> Result<Option<Pair>, ReadFault>
         ensures same_reader { self.new.reader.ghost_name ≡ self.old.reader.ghost_name }
         ensures reads { OnlyReads S.Store self.old.reader.now.store self.new.reader.now.store }
+        ensures head { self.new.reader.now.head ≡ self.old.reader.now.head }
         ensures gives { IfOk result (λ found. MatchOption found
             (GivesNoPair L.WORD self.old self.new)
             (GivesPair L.WORD self.old self.new)) }

@@ -1,6 +1,6 @@
 // The tables of a database, and the slots of them all.
-ghost use Rattle.std.specs.Prelude.{◌≡◌, ℕ, ◌+◌, ◌*◌, ◌<◌, ◌≤◌, ◌^◌, ◌++◌, List, All, length, drop, map};
-ghost use Rattle.std.specs.Prelude.{position, IfOk, IfErr, OnOk, IfNone};
+ghost use Rattle.std.specs.Prelude.{◌≡◌, ℕ, ◌+◌, ◌*◌, ◌<◌, ◌≤◌, ◌^◌, ◌++◌, List};
+ghost use Rattle.std.specs.Prelude.{All, length, drop, map, position, IfOk, IfErr, OnOk, IfNone};
 ghost use Rattle.cdb_form.specs.Format.Pair.{pair_size};
 ghost use Rattle.cdb_form.specs.Format.Reading.{pair_at};
 ghost use Rattle.cdb_form.specs.Views.Pairs.{pointer_pair, slot_pair};
@@ -122,8 +122,8 @@ pub(crate) fn count_tables<S: Store, L: Width>(
     requires fits { S.size store.old < 2 ^ 64 }
     requires shows { Shows window.old (S.image store.old) }
     ensures shows { Shows window.new (S.image store.new) }
-    ensures counts { (b : List ℕ) → S.image store.new b
-        → IfOk result (λ distances. Counts distances (distances_of L.WORD b (map pointer_pair tables.now))) }
+    ensures counts { (b : List ℕ) → S.image store.new b → IfOk result (λ distances.
+        Counts distances (distances_of L.WORD b (map pointer_pair tables.now))) }
     ensures reads { OnlyReads S.Store store.old store.new }
     ensures fails { IfErr result (StoreFails S.Store store.old store.new) }
 {

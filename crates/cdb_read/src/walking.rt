@@ -38,6 +38,7 @@ impl<S: Store, L: Width> Reader<S, L> {
         ensures stands { IfOk result (λ found.
             StandsAt L.WORD rest found (S.image self.new.store)) }
         ensures within { IfOk result (StandsWithin L.WORD rest (S.size self.new.store)) }
+        ensures head { self.new.head ≡ self.old.head }
         ensures reads { OnlyReads S.Store self.old.store self.new.store }
         ensures fails { IfErr result (StoreFails S.Store self.old.store self.new.store) }
     {

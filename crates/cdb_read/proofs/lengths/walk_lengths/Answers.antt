@@ -14,6 +14,7 @@ loop-pair-init g c =
     record {
       same = refl;
       reads = reads_nothing {s = g.S.Store} _ _ (ap (λ r. r.store) e.reader);
+      head = ap (λ r. r.head) e.reader;
       few_keys = omega (arith, no_keys);
       few_values = omega (arith, no_values);
       walked = rw e.reader (λ b is. walked_none g.L.Width.WORD b _ _ _ (e.walks b is) c.new-keys.ensures.spreads c.new-values.ensures.spreads);
@@ -26,6 +27,7 @@ loop-pair-preserved g c =
     record {
       same = c.next.ensures.same_reader ∙ c.loop-pair.invariant.same;
       reads = reads_more c.loop-pair.invariant.reads c.next.ensures.reads;
+      head = c.next.ensures.head ∙ c.loop-pair.invariant.head;
       few_keys = few_more g.L.Width.WORD _ _ _ _ c.in-Some.pair some one.lies one.next c.loop-pair.invariant.few_keys c.add.ensures.count;
       few_values = few_more g.L.Width.WORD _ _ _ _ c.in-Some.pair some one.lies one.next c.loop-pair.invariant.few_values c.add-in-Some.ensures.count;
       walked = λ b is.

@@ -10,6 +10,7 @@ invariant-loop-pair g l =
     record {
       same : l.records.reader.ghost_name ≡ l.initial.records.reader.ghost_name;
       reads : OnlyReads g.S.Store l.fn.reader.store l.records.reader.now.store;
+      head : l.records.reader.now.head ≡ l.fn.reader.head;
       few_keys : l.keys.count ≤ place_of g.L.Width.WORD l.records;
       few_values : l.values.count ≤ place_of g.L.Width.WORD l.records;
       walked : (b : List ℕ) → g.S.Store.image l.records.reader.now.store b → WalkedSoFar g.L.Width.WORD b (left_of g.L.Width.WORD b l.records) l.keys l.values;
