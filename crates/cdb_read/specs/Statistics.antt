@@ -33,7 +33,7 @@ greatest_of ns = unwrap_or (reduce max ns) 0
 abbrev pub distance_of : ℕ → ℕ → ℕ → ℕ
 distance_of slots hash i = (i + slots - home_slot hash slots) % slots
 
--- of each used slot of a table
+-- slot i of a table, and how far each of its used slots stands so
 abbrev pub slot_of : ℕ → List ℕ → WordPair → ℕ → WordPair
 slot_of w bytes p i = nth_pair w (drop p.first bytes) i
 
@@ -42,7 +42,7 @@ distances_in w bytes p =
     let used = filter (λ i. is_used (slot_of w bytes p i)) (range_with_len 0 p.second) in
     map (λ i. distance_of p.second (slot_of w bytes p i).first i) used
 
--- and of each used slot of some tables
+-- and each used slot of some tables
 abbrev pub distances_of : ℕ → List ℕ → List WordPair → List ℕ
 distances_of w bytes ps = flat_map (distances_in w bytes) ps
 
@@ -90,7 +90,7 @@ statistics_of w bytes =
     stats_of (key_lengths rs) (value_lengths rs) (table_sizes (head_at w bytes))
     (distances_of w bytes (head_at w bytes))
 
--- the damage of a file that has none: the first table outside of it, and then that of its walk
+-- why a file has no statistics: the first table outside of it, or else the damage of its walk
 abbrev pub is_outside : ℕ → List ℕ → WordPair → Bool
 is_outside w bytes p = has_slots p && not (is_inside w bytes p)
 

@@ -31,7 +31,8 @@ impl<S: Store, L: Width> Reader<S, L> {
     }
 }
 
-/// Counts what a database holds. Each part of the file is read about once, and no memory is taken.
+/// Counts what a database holds. Records and the slots of each table are read through the window,
+/// and no memory is taken.
 ///
 /// It answers `Table` where a table with slots doesn't lie behind the head and inside the file,
 /// the first one by its number; else `Record` where no whole record stands; and `Device` where the
