@@ -1,5 +1,5 @@
-//! Laws of look-ups and of sound files. Each is the contract of a function whose parameters are what
-//! it ranges over.
+//! Laws of look-ups and of sound files. Each is the contract of a function whose parameters are
+//! what it ranges over.
 ghost use Rattle.std.specs.Prelude.{◌≤◌};
 ghost use Rattle.cdb_form.specs.Format.File.{file_bytes, file_size};
 ghost use Rattle.cdb_form.specs.Views.Pairs.{key_values};

@@ -13,7 +13,8 @@ use Rattle.cdb_read.specs.declared.turn.Searching.{Searching}
 use Rattle.cdb_read.specs.declared.turn.Searching.TheVariants.{At, AtEnd, NoTable, NoRecord}
 
 -- what is left of the look-up, in a list of bytes
-abbrev pub left_in : {S L : Type 0} {s : Ghosts S} {l : Widths L} → ℕ → List ℕ → Finder S L s l → Found
+abbrev pub left_in : {S L : Type 0} {s : Ghosts S} {l : Widths L} → ℕ → List ℕ → Finder S L s l
+    → Found
 left_in w b t = found_ahead w b t.key.now t.searching
 
 -- how many slots it may still look at
@@ -35,19 +36,28 @@ abbrev pub HasNoRecord : {S L : Type 0} {s : Ghosts S} {l : Widths L} → Finder
 HasNoRecord t place = t.searching ≡ NoRecord place
 
 -- a call gave a span: the first of what was left
-pub record GivesSpan {S L : Type 0} {s : Ghosts S} {l : Widths L} (w : ℕ) (old new : Finder S L s l) (span : Span) : Type 0 where
-  pub first : (b : List ℕ) → s.image new.reader.now.store b → left_in w b old ≡ with_span span (left_in w b new)
+pub record GivesSpan {S L : Type 0} {s : Ghosts S} {l : Widths L} (w : ℕ)
+    (old new : Finder S L s l) (span : Span) : Type 0 where
+  pub first : (b : List ℕ) → s.image new.reader.now.store b
+      → left_in w b old ≡ with_span span (left_in w b new)
   pub inside : span.place + span.len ≤ s.size new.reader.now.store
   pub fewer : slots_left new < slots_left old
 
 -- or none, since nothing was left
-pub record GivesNone {S L : Type 0} {s : Ghosts S} {l : Widths L} (w : ℕ) (old new : Finder S L s l) : Type 0 where
+pub record GivesNone {S L : Type 0} {s : Ghosts S} {l : Widths L} (w : ℕ)
+    (old new : Finder S L s l) : Type 0 where
   pub none : (b : List ℕ) → s.image new.reader.now.store b → left_in w b old ≡ nothing_found
   pub ended : HasEnded new
 
 -- or a fault: the store failed, and the finder is where it was; or the damage of what was left
-abbrev pub FindingFails : {S L : Type 0} {s : Ghosts S} {l : Widths L} → ℕ → Finder S L s l → Finder S L s l → ReadFault → Type 0
-FindingFails {s = s} w old new Device = (new.searching ≡ old.searching) × (s.failures old.reader.now.store < s.failures new.reader.now.store)
-FindingFails {s = s} w old new (Table n) = HasNoTable new n × ((b : List ℕ) → s.image new.reader.now.store b → left_in w b old ≡ found_damaged (damage.Table n))
-FindingFails {s = s} w old new (Record place) = HasNoRecord new place × ((b : List ℕ) → s.image new.reader.now.store b → left_in w b old ≡ found_damaged (damage.Record place))
+abbrev pub FindingFails : {S L : Type 0} {s : Ghosts S} {l : Widths L} → ℕ → Finder S L s l
+    → Finder S L s l → ReadFault → Type 0
+FindingFails {s = s} w old new Device = (new.searching ≡ old.searching)
+    × (s.failures old.reader.now.store < s.failures new.reader.now.store)
+FindingFails {s = s} w old new (Table n) = HasNoTable new n
+    × ((b : List ℕ) → s.image new.reader.now.store b
+    → left_in w b old ≡ found_damaged (damage.Table n))
+FindingFails {s = s} w old new (Record place) = HasNoRecord new place
+    × ((b : List ℕ) → s.image new.reader.now.store b
+    → left_in w b old ≡ found_damaged (damage.Record place))
 FindingFails w old new fault = ⊥

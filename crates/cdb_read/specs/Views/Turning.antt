@@ -5,7 +5,8 @@ use Rattle.cdb_read.specs.declared.turn.Searching.{Searching}
 use Rattle.cdb_read.specs.declared.turn.Searching.TheVariants.{At}
 use Rattle.cdb_read.specs.declared.turn.Turn.{Turn}
 
--- its table lies behind the head and inside a file of this size, and it has no more turns than slots
+-- its table lies behind the head and inside a file of this size, and it has no more turns than
+-- slots
 pub record TurnInside (w size : ℕ) (turn : Turn) : Type 0 where
   pub behind : head_size w ≤ turn.table.place
   pub inside : turn.table.place + pair_size w * turn.table.slots ≤ size

@@ -4,7 +4,8 @@ use Rattle.cdb_store.specs.declared.store.Store.{Ghosts}
 use Rattle.cdb_form.specs.Format.Walk.{Walked, no_walk, damaged, with_first}
 use Rattle.cdb_form.specs.declared.width.Width.{Ghosts as Widths}
 use Rattle.cdb_form.specs.declared.damage.Damage.TheVariants as damage
-use Rattle.cdb_read.specs.Views.Walking.{record_of, behind, walk_ahead, next_place, size_ahead, LiesAt}
+use Rattle.cdb_read.specs.Views.Walking.{record_of, behind, walk_ahead, next_place, size_ahead}
+use Rattle.cdb_read.specs.Views.Walking.{LiesAt}
 use Rattle.cdb_read.specs.declared.fault.ReadFault.{ReadFault}
 use Rattle.cdb_read.specs.declared.fault.ReadFault.TheVariants.{Table, Record, Device}
 use Rattle.cdb_read.specs.declared.record_walk.Walk.{Walk}

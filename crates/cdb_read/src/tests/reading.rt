@@ -151,8 +151,8 @@ fn a_copy_leaves_what_its_writer_takes(rt: HostRuntime) -> Result<(), Fail> {
     Ok(())
 }
 
-/// Whether a copy of a span whose store fails at its call of a number leaves a front of these bytes,
-/// and the same copy again all of them.
+/// Whether a copy of a span whose store fails at its call of a number leaves a front of these
+/// bytes, and the same copy again all of them.
 fn copies_again(
     alloc: Global,
     file: Vec<u8>,
