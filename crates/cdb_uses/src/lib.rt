@@ -1,5 +1,5 @@
 //! Callers of the library crates, as a newcomer would write them. Each is proved from the public
-//! contracts of what it calls alone.
+//! contracts of what it calls, and from lemmas of those crates on what the clauses' words mean.
 #![tactic(auto)]
 
 mod ask;
