@@ -46,13 +46,35 @@ impl FileStore {
         ensures made { IfOk result (λ f. f.file.trace.events ≡ (Made, []) ∷ []) }
         ensures memory { IsErrOf result NoMemory → ⊥ }
     {
-        let opened = OpenOptions::new()
-            .read(true)
-            .write(true)
-            .create(true)
-            .truncate(true)
-            .open(rt, path);
-        match opened {
+        let mut options = OpenOptions::new();
+        options.create(true).truncate(true);
+        FileStore::made_by(rt, options, path)
+    }
+
+    /// Makes a file, and reads and writes it. It follows no link of that name.
+    ///
+    /// `Device`: it can't be made, or something of that name is there already.
+    pub fn create_new<R: Files<File = File>>(rt: &R, path: &str) -> Result<FileStore, StoreFault>
+        ensures images { IfOk result (λ f. (b : List ℕ) → (images_of f b ↔ (b ≡ []))) }
+        ensures made { IfOk result (λ f. f.file.trace.events ≡ (Made, []) ∷ []) }
+        ensures memory { IsErrOf result NoMemory → ⊥ }
+    {
+        let mut options = OpenOptions::new();
+        options.create_new(true);
+        FileStore::made_by(rt, options, path)
+    }
+
+    /// Makes a file by these options, which leave none of its bytes.
+    fn made_by<R: Files<File = File>>(
+        rt: &R,
+        mut options: OpenOptions,
+        path: &str,
+    ) -> Result<FileStore, StoreFault>
+        ensures images { IfOk result (λ f. (b : List ℕ) → (images_of f b ↔ (b ≡ []))) }
+        ensures made { IfOk result (λ f. f.file.trace.events ≡ (Made, []) ∷ []) }
+        ensures memory { IsErrOf result NoMemory → ⊥ }
+    {
+        match options.read(true).write(true).open(rt, path) {
             Ok(file) => Ok(FileStore::empty(RealFile::made(file))),
             Err(_) => Err(StoreFault::Device),
         }

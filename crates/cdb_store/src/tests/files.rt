@@ -1,7 +1,7 @@
 // Stores in files of the system. The files lie in the folder that each test runs in.
 use crate::{FileStore, Store, StoreFault};
 use std::fs::{self, File, Permissions};
-use std::os::unix::fs::PermissionsExt;
+use std::os::unix::fs::{PermissionsExt, symlink};
 use std::test::Fail;
 
 /// Leaves `xy` in an empty store, and has it flushed.
@@ -45,6 +45,25 @@ fn names_that_cannot_be_opened(rt: HostRuntime) {
     for name in [".", "missing/x.store", "/proc/x.store"] {
         assert!(rt; FileStore::create(&rt, name).is_err(), "{name}");
     }
+}
+
+/// Whether a name is refused for a new file.
+fn is_refused(rt: &HostRuntime, name: &str) -> bool {
+    FileStore::create_new(rt, name).is_err()
+}
+
+#[test]
+fn a_new_file_takes_no_name_that_is_there(rt: HostRuntime) -> Result<(), Fail> {
+    let mut store = FileStore::create_new(&rt, "new.store")?;
+    assert!(rt; leave_two(&mut store));
+    drop(store);
+    symlink(&rt, "other.store", "link.store")?;
+    for name in ["new.store", "link.store", ".", "missing/x.store"] {
+        assert!(rt; is_refused(&rt, name), "{name}");
+    }
+    assert!(rt; has_two(&mut FileStore::open(&rt, "new.store")?));
+    assert!(rt; !fs::exists(&rt, "other.store")?);
+    Ok(())
 }
 
 #[test]
