@@ -24,7 +24,7 @@ use Rattle.cdb_tool.specs.Runs.Course.{Incoming, Course, from_input, from_inputs
 use Rattle.cdb_tool.specs.Runs.Make.{InCourse, PutStops, IsOfStore}
 use Rattle.cdb_tool.specs.declared.fault.Fault.{Fault}
 use Rattle.cdb_tool.specs.declared.fault.Fault.TheVariants.{Text, Make, Duplicate, Missing, Read, Walk, Output, Long, NoMemory}
-use Rattle.cdb_tool.specs.declared.runs.options.MakeOptions.{MakeOptions}
+use Rattle.cdb_command.specs.declared.options.MakeOptions.{MakeOptions}
 
 -- ---- the course over one record more, which was put
 

@@ -16,8 +16,8 @@ use Rattle.cdb_tool.specs.Runs.Make.{InCourse, PutStops, InputFails, StopsIn, St
 use Rattle.cdb_tool.specs.declared.fault.Fault.{Fault}
 use Rattle.cdb_tool.specs.declared.fault.Fault.TheVariants.{Text, Make, Duplicate, Missing, Read, Walk, Output, Long, NoMemory}
 use Rattle.cdb_tool.specs.declared.runs.input_reader.InputReader.{InputReader}
-use Rattle.cdb_tool.specs.declared.runs.options.MakeOptions.{MakeOptions}
-use Rattle.cdb_tool.specs.declared.runs.style.Style.{Style}
+use Rattle.cdb_command.specs.declared.options.MakeOptions.{MakeOptions}
+use Rattle.cdb_command.specs.declared.style.Style.{Style}
 use Rattle.cdb_tool.proofs.Courses.{came_more, came_none}
 use Rattle.cdb_tool.proofs.InputTexts.{Gave, gave_first, gave_fault, fault_native}
 

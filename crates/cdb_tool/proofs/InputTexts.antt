@@ -24,7 +24,7 @@ use Rattle.cdb_tool.specs.Views.InputReader.{style_of, unread, asks_left, IsNew,
 use Rattle.cdb_tool.specs.Runs.Inputs.{HasFaultBehind, IsInput, BeginsWith, HasInputFault}
 use Rattle.cdb_tool.specs.declared.runs.input_reader.InputReader.{InputReader}
 use Rattle.cdb_tool.specs.declared.runs.input_reader.InputReader.TheVariants.{Native, Map}
-use Rattle.cdb_tool.specs.declared.runs.style.Style.TheVariants as style
+use Rattle.cdb_command.specs.declared.style.Style.TheVariants as style
 use Rattle.cdb_tool.proofs.NativeInputs.{fault_of_text, fault_of_part}
 
 -- ---- the asks of a map text

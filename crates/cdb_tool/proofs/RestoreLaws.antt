@@ -10,7 +10,7 @@ use Rattle.cdb_form.proofs.TextLaws.{text_reads_back}
 use Rattle.cdb_form.proofs.WalkLaws.{walk_of-file_bytes}
 use Rattle.cdb_tool.specs.Runs.Form.{dump_form}
 use Rattle.cdb_tool.specs.Runs.WalkText.{walk_text}
-use Rattle.cdb_tool.specs.declared.runs.style.Style.TheVariants.{Native}
+use Rattle.cdb_command.specs.declared.style.Style.TheVariants.{Native}
 use Rattle.cdb_tool.specs.Laws.{Restores}
 
 -- no length is above the size of the file

@@ -21,9 +21,9 @@ use Rattle.cdb_tool.specs.Runs.Inputs.{BeginsWith, AreInputs, FirstBegins}
 use Rattle.cdb_tool.specs.Runs.Make.{InCourse, Stops, RunFails, Runs, came}
 use Rattle.cdb_tool.specs.declared.fault.Fault.{Fault}
 use Rattle.cdb_tool.specs.declared.fault.Fault.TheVariants.{Text, Make, Duplicate, Missing, Read, Walk, Output, Long, NoMemory}
-use Rattle.cdb_tool.specs.declared.runs.options.MakeOptions.{MakeOptions}
-use Rattle.cdb_tool.specs.declared.runs.style.Style.{Style}
-use Rattle.cdb_tool.specs.declared.runs.style.Style.TheVariants as style
+use Rattle.cdb_command.specs.declared.options.MakeOptions.{MakeOptions}
+use Rattle.cdb_command.specs.declared.style.Style.{Style}
+use Rattle.cdb_command.specs.declared.style.Style.TheVariants as style
 use Rattle.cdb_tool.proofs.WholeRuns.{front_kept, whole_front, not_ok}
 use Rattle.cdb_tool.proofs.Courses.{came_none, appends_none}
 

@@ -7,7 +7,7 @@ use Rattle.cdb_form.specs.Format.Walk.{walk_of}
 use Rattle.cdb_form.specs.Text.Native.{text_of}
 use Rattle.cdb_tool.specs.Runs.Form.{dump_form}
 use Rattle.cdb_tool.specs.Runs.WalkText.{walk_text}
-use Rattle.cdb_tool.specs.declared.runs.style.Style.TheVariants.{Native}
+use Rattle.cdb_command.specs.declared.style.Style.TheVariants.{Native}
 
 -- the dump of the file of some records is their text, and that is read as these records and as no
 -- others

@@ -15,7 +15,7 @@ use Rattle.cdb_make.specs.declared.mode.Put.TheVariants.{Added, AddedAgain, Pres
 use Rattle.cdb_tool.specs.Message.{duplicate_line}
 use Rattle.cdb_tool.specs.declared.fault.Fault.{Fault}
 use Rattle.cdb_tool.specs.declared.fault.Fault.TheVariants.{Make, Duplicate, Output, NoMemory}
-use Rattle.cdb_tool.specs.declared.runs.options.MakeOptions.{MakeOptions}
+use Rattle.cdb_command.specs.declared.options.MakeOptions.{MakeOptions}
 
 -- a record that comes, the number of its input, and its own there, each from 1 on
 pub record Incoming : Type 0 where

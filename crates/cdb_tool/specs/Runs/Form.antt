@@ -6,8 +6,8 @@ use Rattle.cdb_form.specs.Text.Map.{map_line}
 use Rattle.cdb_form.specs.Text.List.{list_line, key_line}
 use Rattle.cdb_form.specs.Views.Pairs.{key_value}
 use Rattle.cdb_form.specs.declared.record.Record.{Record}
-use Rattle.cdb_tool.specs.declared.runs.style.Style.{Style}
-use Rattle.cdb_tool.specs.declared.runs.style.Style.TheVariants.{Native, Map}
+use Rattle.cdb_command.specs.declared.style.Style.{Style}
+use Rattle.cdb_command.specs.declared.style.Style.TheVariants.{Native, Map}
 use Rattle.cdb_tool.specs.declared.runs.style.Content.{Content}
 use Rattle.cdb_tool.specs.declared.runs.style.Content.TheVariants.{Records, Keys}
 

@@ -9,8 +9,8 @@ use Rattle.cdb_form.specs.Views.MapReader.{ReadAmid}
 use Rattle.cdb_form.specs.Views.TextFault.{IsOfText, IsReadFault}
 use Rattle.cdb_form.specs.declared.text.fault.TextFault.{TextFault}
 use Rattle.cdb_form.specs.declared.text.fault.TextFault.TheVariants.{Ended, Endless}
-use Rattle.cdb_tool.specs.declared.runs.style.Style.{Style}
-use Rattle.cdb_tool.specs.declared.runs.style.Style.TheVariants.{Native, Map}
+use Rattle.cdb_command.specs.declared.style.Style.{Style}
+use Rattle.cdb_command.specs.declared.style.Style.TheVariants.{Native, Map}
 
 -- a native text has this fault, behind these records, all that are whole
 pub record HasFaultBehind (greatest : ℕ) (text : List ℕ) (records : List KeyValue)

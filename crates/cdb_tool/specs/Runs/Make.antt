@@ -14,8 +14,8 @@ use Rattle.cdb_tool.specs.Runs.Course.{Incoming, from_inputs, course_of, Goes, S
 use Rattle.cdb_tool.specs.Runs.Inputs.{HasInputFault, AreInputs, FirstBegins, BeginsWith}
 use Rattle.cdb_tool.specs.declared.fault.Fault.{Fault}
 use Rattle.cdb_tool.specs.declared.fault.Fault.TheVariants.{Text, Make}
-use Rattle.cdb_tool.specs.declared.runs.options.MakeOptions.{MakeOptions}
-use Rattle.cdb_tool.specs.declared.runs.style.Style.TheVariants.{Native}
+use Rattle.cdb_command.specs.declared.options.MakeOptions.{MakeOptions}
+use Rattle.cdb_command.specs.declared.style.Style.TheVariants.{Native}
 
 -- the records of some inputs, and then of one more, as they come
 abbrev pub came : List (List KeyValue) → List KeyValue → List Incoming

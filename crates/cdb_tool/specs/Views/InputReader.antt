@@ -6,8 +6,8 @@ use Rattle.cdb_form.specs.Views.MapReader as map
 use Rattle.cdb_form.specs.declared.text.fault.TextFault.{TextFault}
 use Rattle.cdb_tool.specs.declared.runs.input_reader.InputReader.{InputReader}
 use Rattle.cdb_tool.specs.declared.runs.input_reader.InputReader.TheVariants.{Native, Map}
-use Rattle.cdb_tool.specs.declared.runs.style.Style.{Style}
-use Rattle.cdb_tool.specs.declared.runs.style.Style.TheVariants as style
+use Rattle.cdb_command.specs.declared.style.Style.{Style}
+use Rattle.cdb_command.specs.declared.style.Style.TheVariants as style
 
 -- the style that it reads
 abbrev pub style_of : {R L : Type 0} → InputReader R L → Style

@@ -1,13 +1,13 @@
 // The records of an input, put one after the other.
 ghost use Rattle.std.specs.Prelude.{◌≡◌, ◌+◌, ◌<◌, ◌≤◌, ℕ, List, [], ◌∷◌, ◌++◌, length, Option};
-ghost use Rattle.std.specs.Prelude.{None, IfSome, OnOk, IfErr};
+ghost use Rattle.std.specs.Prelude.{◌||◌, None, IfSome, OnOk, IfErr};
 ghost use Rattle.std.specs.Io.KnownBytes.{Appends};
 ghost use Rattle.cdb_form.specs.Format.Record.{KeyValue};
 ghost use Rattle.cdb_form.specs.Views.Pairs.{key_value};
 ghost use Rattle.cdb_make.specs.Views.Maker.{WhereHonest, ComesFrom};
 ghost use Rattle.cdb_tool.specs.Views.InputReader.{style_of, unread, IsNew};
-ghost use Rattle.cdb_tool.specs.Runs.Course.{Incoming, from_inputs, meets_key, said, ends};
-ghost use Rattle.cdb_tool.specs.Runs.Course.{TellFails};
+ghost use Rattle.cdb_tool.specs.Runs.Course.{Incoming, from_inputs, mode_of, meets_key, said};
+ghost use Rattle.cdb_tool.specs.Runs.Course.{ends, TellFails};
 ghost use Rattle.cdb_tool.specs.Runs.Inputs.{IsInput};
 ghost use Rattle.cdb_tool.specs.Runs.Make.{InCourse, PutStops, InputFails, IsOfStore};
 
@@ -16,10 +16,28 @@ use crate::message::write_duplicate;
 use crate::runs::input_reader::InputReader;
 use crate::runs::options::MakeOptions;
 use cdb_form::{Record, Width};
-use cdb_make::{Maker, Put};
+use cdb_make::{Maker, Mode, Put};
 use cdb_store::Store;
 use std::alloc::Global;
 use std::io::{Read, Write};
+
+/// How each record is put.
+fn put_mode(options: &MakeOptions) -> Mode
+    ensures { result ≡ mode_of options.now }
+{
+    if options.stop {
+        Mode::Insert
+    } else {
+        options.mode
+    }
+}
+
+/// Whether a record is told whose key was there already.
+fn tells(options: &MakeOptions) -> bool
+    ensures { result ≡ (options.now.warn || options.now.stop) }
+{
+    options.warn || options.stop
+}
 
 /// Whether a put met records of its key.
 fn meets_key(put: Put) -> bool
@@ -45,7 +63,7 @@ fn tell_put<E: Write>(
     ensures fails { IfErr result (TellFails options.now input number put
         (E.contents errors.old) (E.contents errors.new)) }
 {
-    if options.tells() && meets_key(put) {
+    if tells(options) && meets_key(put) {
         write_duplicate(input, number, errors)?;
     }
     if options.stop && put == Put::Present {
@@ -78,7 +96,7 @@ fn put_record<S: Store, L: Width, E: Write>(
     ensures failed { IfErr result
         (λ f. IsOfStore f → S.failures maker.old.store < S.failures maker.new.store) }
 {
-    let put = maker.put(options.put_mode(), &from.key, &from.value)?;
+    let put = maker.put(put_mode(options), &from.key, &from.value)?;
     tell_put(options, input, number, put, errors)
 }
 

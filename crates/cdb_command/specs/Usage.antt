@@ -1,0 +1,20 @@
+-- The numbers of the faults of a command line, and what is said of them.
+use Rattle.std.specs.Prelude.{ℕ, List, codes}
+use Rattle.cdb_command.specs.declared.usage.Usage.{Usage}
+use Rattle.cdb_command.specs.declared.usage.Usage.TheVariants.{Words, NoCommand, TwoCommands}
+use Rattle.cdb_command.specs.declared.usage.Usage.TheVariants.{Option, Number, Names, Both}
+use Rattle.cdb_command.specs.declared.usage.Usage.TheVariants.{NoMemory}
+
+abbrev pub usage_number : Usage → ℕ
+usage_number Words = 1
+usage_number NoCommand = 2
+usage_number TwoCommands = 3
+usage_number (Option letter) = 4
+usage_number Number = 5
+usage_number Names = 6
+usage_number Both = 7
+usage_number NoMemory = 8
+
+abbrev pub usage_message : Usage → List ℕ
+usage_message NoMemory = codes "no memory"
+usage_message fault = codes "bad command line, see cdb -h"

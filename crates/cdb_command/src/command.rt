@@ -1,0 +1,51 @@
+// What the program is asked to do.
+use crate::options::MakeOptions;
+use crate::style::Style;
+
+/// What a command line asks for. A name that is `None` is standard input, and `wide` says that
+/// words have 8 bytes.
+#[derive(Debug, Drop)]
+pub enum Command {
+    /// The values of a key, or the one with a number, counted from 1, are written, with a newline
+    /// behind each in `lines`.
+    Query {
+        name: String,
+        key: String,
+        number: Option<u64>,
+        lines: bool,
+        wide: bool,
+    },
+    /// The records are written as a text.
+    Dump {
+        name: Option<String>,
+        style: Style,
+        wide: bool,
+    },
+    /// The keys alone are written as a text.
+    List {
+        name: Option<String>,
+        style: Style,
+        wide: bool,
+    },
+    /// The statistics are written.
+    Stats {
+        name: Option<String>,
+        wide: bool,
+    },
+    /// It is told whether the database is sound.
+    Check {
+        name: Option<String>,
+        wide: bool,
+    },
+    /// A database is made of the records of some inputs in turn, in a temporary file, whose name
+    /// is the program's to choose where none is given.
+    Create {
+        name: String,
+        inputs: Vec<String>,
+        temporary: Option<String>,
+        options: MakeOptions,
+        wide: bool,
+    },
+    /// The usage text is written.
+    Help,
+}

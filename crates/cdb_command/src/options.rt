@@ -1,0 +1,19 @@
+// What a run that makes a database is told.
+use crate::style::Style;
+use cdb_make::Mode;
+
+/// How a database is made of the records of some inputs.
+#[derive(Clone, Copy, Debug, PartialEq, Eq)]
+pub struct MakeOptions {
+    /// What is done with a record whose key is there already, unless the run is to stop there.
+    pub mode: Mode,
+    /// Whether such a record is told.
+    pub warn: bool,
+    /// Whether the run stops at the first such record, which is told. Each record is put by
+    /// `Insert` then, whatever the mode.
+    pub stop: bool,
+    /// The form of the inputs.
+    pub style: Style,
+    /// How many bytes the database may have at most.
+    pub limit: u64,
+}
