@@ -1,2 +1,5 @@
 -- What a command line means, and what is said of one that means nothing.
+pub mod Line
+pub mod Asked
+pub mod Rules
 pub mod Usage

@@ -1,5 +1,5 @@
 -- The numbers of the faults of a command line, and what is said of them.
-use Rattle.std.specs.Prelude.{ℕ, List, codes}
+use Rattle.std.specs.Prelude.{ℕ, List, ◌++◌, codes}
 use Rattle.cdb_command.specs.declared.usage.Usage.{Usage}
 use Rattle.cdb_command.specs.declared.usage.Usage.TheVariants.{Words, NoCommand, TwoCommands}
 use Rattle.cdb_command.specs.declared.usage.Usage.TheVariants.{Option, Number, Names, Both}
@@ -18,3 +18,13 @@ usage_number NoMemory = 8
 abbrev pub usage_message : Usage → List ℕ
 usage_message NoMemory = codes "no memory"
 usage_message fault = codes "bad command line, see cdb -h"
+
+-- what `-h` writes
+abbrev pub usage_text : List ℕ
+usage_text = codes "usage: cdb -q [-W] [-m] [-n number] database key\n"
+    ++ (codes "       cdb -d [-W] [-m] [database]\n"
+    ++ (codes "       cdb -l [-W] [-m] [database]\n"
+    ++ (codes "       cdb -s [-W] [database]\n"
+    ++ (codes "       cdb -c [-W] [-m] [-t temporary] [-weru] database [input ...]\n"
+    ++ (codes "       cdb -k [-W] [database]\n"
+    ++ codes "       cdb -h\n")))))

@@ -1,0 +1,48 @@
+-- What a command line asks for, its texts as bytes, and how an answer tells it.
+use Rattle.std.specs.Prelude.{◌≡◌, ◌⊎◌, ℕ, Bool, List, map, Option, option_map, Result, Ok, Err}
+use Rattle.std.specs.Prelude.{string_bytes}
+use Rattle.cdb_command.specs.Line.{Text}
+use Rattle.cdb_command.specs.declared.command.Command.{Command}
+use Rattle.cdb_command.specs.declared.command.Command.TheVariants as command
+use Rattle.cdb_command.specs.declared.options.MakeOptions.{MakeOptions}
+use Rattle.cdb_command.specs.declared.style.Style.{Style}
+use Rattle.cdb_command.specs.declared.usage.Usage.{Usage}
+use Rattle.cdb_command.specs.declared.usage.Usage.TheVariants.{NoMemory}
+
+-- a `Command`
+pub data Asked : Type 0 where
+  Query : (name key : Text) (number : Option ℕ) (lines wide : Bool) → Asked
+  Dump : (name : Option Text) (style : Style) (wide : Bool) → Asked
+  Listing : (name : Option Text) (style : Style) (wide : Bool) → Asked
+  Stats : (name : Option Text) (wide : Bool) → Asked
+  Check : (name : Option Text) (wide : Bool) → Asked
+  Create : (name : Text) (inputs : List Text) (temporary : Option Text) (options : MakeOptions)
+      (wide : Bool) → Asked
+  Help : Asked
+
+abbrev pub asked_in : Command → Asked
+asked_in (command.Query name key number lines wide) =
+    Query (string_bytes name) (string_bytes key) number lines wide
+asked_in (command.Dump name style wide) = Dump (option_map string_bytes name) style wide
+asked_in (command.List name style wide) = Listing (option_map string_bytes name) style wide
+asked_in (command.Stats name wide) = Stats (option_map string_bytes name) wide
+asked_in (command.Check name wide) = Check (option_map string_bytes name) wide
+asked_in (command.Create name inputs temporary options wide) =
+    Create (string_bytes name) (map string_bytes inputs.items) (option_map string_bytes temporary)
+    options wide
+asked_in command.Help = Help
+
+-- the answer is the one that is wanted, or tells that memory was refused
+abbrev pub Gives : {T A : Type 0} → (T → A) → Result T Usage → Result A Usage → Type 0
+Gives view (Ok x) wanted = wanted ≡ Ok (view x)
+Gives view (Err fault) wanted = (fault ≡ NoMemory) ⊎ (wanted ≡ Err fault)
+
+-- what follows where there is no fault
+infixl 10 ◌>>=◌
+abbrev pub ◌>>=◌ : {A B : Type 0} → Result A Usage → (A → Result B Usage) → Result B Usage
+(Ok x) >>= next = next x
+(Err fault) >>= next = Err fault
+
+abbrev pub map_ok : {A B : Type 0} → (A → B) → Result A Usage → Result B Usage
+map_ok f (Ok x) = Ok (f x)
+map_ok f (Err fault) = Err fault

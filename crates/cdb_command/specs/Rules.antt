@@ -1,0 +1,152 @@
+-- The rules of a command line: what it asks for, or the first of its faults.
+use Prim.Native.Char.{code}
+use Rattle.std.specs.Prelude.{ℕ, ◌^◌, ◌==◌, Bool, not, ◌&&◌, ◌||◌, true, false, nat_lt}
+use Rattle.std.specs.Prelude.{if◌then◌else◌, List, [], ◌∷◌, ◌++◌, find, codes, bytes_eq, Option}
+use Rattle.std.specs.Prelude.{Some, None, is_some, option_map, Result, Ok, Err}
+use Rattle.std.specs.List.{list_any}
+use Rattle.std.specs.Str.{all_ascii_digits}
+use Rattle.std.specs.Str.Parse.{digits_value}
+use Rattle.cdb_make.specs.declared.mode.Mode.{Mode}
+use Rattle.cdb_make.specs.declared.mode.Mode.TheVariants.{Add, Warn, Insert, Replace}
+use Rattle.cdb_command.specs.Line.{Text, Given}
+use Rattle.cdb_command.specs.Asked.{Asked, Query, Dump, Listing, Stats, Check, Create, Help, ◌>>=◌}
+use Rattle.cdb_command.specs.declared.letter.Letter.{Letter}
+use Rattle.cdb_command.specs.declared.letter.Letter.TheVariants as letter
+use Rattle.cdb_command.specs.declared.line.Flags.{Flags}
+use Rattle.cdb_command.specs.declared.options.MakeOptions.{MakeOptions}
+use Rattle.cdb_command.specs.declared.style.Style.{Style}
+use Rattle.cdb_command.specs.declared.style.Style.TheVariants.{Native, Map}
+use Rattle.cdb_command.specs.declared.usage.Usage.{Usage}
+use Rattle.cdb_command.specs.declared.usage.Usage.TheVariants as usage
+
+-- ---- one command
+
+abbrev pub when : {A : Type 0} → Bool → A → List A
+when true x = x ∷ []
+when false x = []
+
+-- the commands whose letters stand on a line
+abbrev pub letters_in : Flags → List Letter
+letters_in f = when f.query letter.Query ++ (when f.dump letter.Dump ++ (when f.list letter.List
+    ++ (when f.stats letter.Stats ++ (when f.create letter.Create ++ when f.check letter.Check))))
+
+abbrev pub only_letter : List Letter → Result Letter Usage
+only_letter [] = Err usage.NoCommand
+only_letter (x ∷ []) = Ok x
+only_letter (x ∷ y ∷ more) = Err usage.TwoCommands
+
+-- ---- and options that it takes
+
+abbrev pub taken_by : Letter → Text
+taken_by letter.Query = codes "mn"
+taken_by letter.Dump = codes "m"
+taken_by letter.List = codes "m"
+taken_by letter.Stats = []
+taken_by letter.Check = []
+taken_by letter.Create = codes "mtweru"
+
+-- the options on a line that a create alone takes, in the order in which a stray one is named
+abbrev pub making_options_in : Given → Text
+making_options_in g = when (is_some g.temporary) (code "t") ++ (when g.flags.warn (code "w")
+    ++ (when g.flags.stop (code "e") ++ (when g.flags.replace (code "r")
+    ++ when g.flags.insert (code "u"))))
+
+-- all that some command takes
+abbrev pub options_in : Given → Text
+options_in g =
+    when g.flags.map (code "m") ++ (when (is_some g.number) (code "n") ++ making_options_in g)
+
+abbrev pub first_stray : Text → Text → Option ℕ
+first_stray taken options = find (λ option. not (list_any (λ o. o == option) taken)) options
+
+abbrev pub no_stray : Option ℕ → Result Unit Usage
+no_stray (Some option) = Err (usage.Option option)
+no_stray None = Ok tt
+
+-- ---- the number of a value
+
+abbrev pub value_number : ℕ → Result ℕ Usage
+value_number n = if nat_lt 0 n && nat_lt n (2 ^ 32) then Ok n else Err usage.Number
+
+-- decimal digits alone
+abbrev pub decimal_in : Text → Result ℕ Usage
+decimal_in text =
+    if all_ascii_digits text then value_number (digits_value 10 text) else Err usage.Number
+
+abbrev pub number_in : Option Text → Result (Option ℕ) Usage
+number_in None = Ok None
+number_in (Some text) = decimal_in text >>= λ n. Ok (Some n)
+
+-- ---- names
+
+-- the name `-` is standard input
+abbrev pub file_named : Text → Option Text
+file_named name = if bytes_eq name (codes "-") then None else Some name
+
+-- and so is no name
+abbrev pub one_name : List Text → Result (Option Text) Usage
+one_name [] = Ok None
+one_name (name ∷ []) = Ok (file_named name)
+one_name (name ∷ other ∷ more) = Err usage.Names
+
+abbrev pub two_names : List Text → Result (Text × Text) Usage
+two_names (name ∷ key ∷ []) = Ok (name, key)
+two_names names = Err usage.Names
+
+abbrev pub first_name : List Text → Result (Text × List Text) Usage
+first_name [] = Err usage.Names
+first_name (name ∷ inputs) = Ok (name, inputs)
+
+-- ---- how a database is made
+
+abbrev pub not_both : Flags → Result Unit Usage
+not_both f = if f.replace && f.insert then Err usage.Both else Ok tt
+
+abbrev pub style_in : Flags → Style
+style_in f = if f.map then Map else Native
+
+abbrev pub mode_in : Flags → Mode
+mode_in f = if f.replace then Replace
+    else (if f.insert then Insert else (if f.warn || f.stop then Warn else Add))
+
+abbrev pub options_of : Flags → MakeOptions
+options_of f = record {
+  mode = mode_in f;
+  warn = f.warn || f.stop;
+  stop = f.stop;
+  style = style_in f;
+  limit = if f.wide then 9223372036854775807 else 4294967295;
+}
+
+-- ---- the plan
+
+abbrev pub query_in : Given → Option ℕ → Result Asked Usage
+query_in g number =
+    two_names g.names >>= λ p. Ok (Query p.0 p.1 number g.flags.map g.flags.wide)
+
+abbrev pub create_in : Given → Result Asked Usage
+create_in g = do
+  p ← first_name g.names
+  _ ← not_both g.flags
+  Ok (Create p.0 p.1 g.temporary (options_of g.flags) g.flags.wide)
+
+abbrev pub command_in : Letter → Given → Option ℕ → Result Asked Usage
+command_in letter.Query g number = query_in g number
+command_in letter.Dump g number =
+    one_name g.names >>= λ name. Ok (Dump name (style_in g.flags) g.flags.wide)
+command_in letter.List g number =
+    one_name g.names >>= λ name. Ok (Listing name (style_in g.flags) g.flags.wide)
+command_in letter.Stats g number = one_name g.names >>= λ name. Ok (Stats name g.flags.wide)
+command_in letter.Check g number = one_name g.names >>= λ name. Ok (Check name g.flags.wide)
+command_in letter.Create g number = create_in g
+
+-- without `-h` each step names the next fault
+abbrev pub plan_without_help : Given → Result Asked Usage
+plan_without_help g = do
+  letter ← only_letter (letters_in g.flags)
+  _ ← no_stray (first_stray (taken_by letter) (options_in g))
+  number ← number_in g.number
+  command_in letter g number
+
+abbrev pub line_plan : Given → Result Asked Usage
+line_plan g = if g.flags.help then Ok Help else plan_without_help g

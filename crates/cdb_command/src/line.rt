@@ -1,0 +1,31 @@
+// What stands on a command line.
+
+/// Which letters without a value stand on a line, each once or often.
+#[derive(Clone, Copy, Debug, PartialEq, Eq)]
+pub(crate) struct Flags {
+    pub(crate) query: bool,
+    pub(crate) dump: bool,
+    pub(crate) list: bool,
+    pub(crate) stats: bool,
+    pub(crate) create: bool,
+    pub(crate) check: bool,
+    pub(crate) help: bool,
+    pub(crate) map: bool,
+    pub(crate) wide: bool,
+    pub(crate) warn: bool,
+    pub(crate) stop: bool,
+    pub(crate) replace: bool,
+    pub(crate) insert: bool,
+}
+
+/// What stands on a line behind the program's name.
+#[derive(Clone, Copy)]
+pub(crate) struct Line<'a, 'b> {
+    pub(crate) flags: Flags,
+    /// The value of `-n`.
+    pub(crate) number: Option<&'a str>,
+    /// The value of `-t`.
+    pub(crate) temporary: Option<&'a str>,
+    /// The names, or `None` where there are none.
+    pub(crate) names: Option<&'b [&'a str]>,
+}

@@ -1,0 +1,51 @@
+// The names on a command line, by how many a command takes.
+ghost use Rattle.std.specs.Prelude.{◌≡◌, map, option_map};
+ghost use Rattle.cdb_command.specs.Line.{names_in};
+ghost use Rattle.cdb_command.specs.Asked.{map_ok};
+ghost use Rattle.cdb_command.specs.Rules.{two_names, file_named, one_name, first_name};
+
+use crate::usage::Usage;
+
+/// Two names. `Names` where there are fewer or more.
+pub(crate) fn two_names<'a>(names: Option<&[&'a str]>) -> Result<(&'a str, &'a str), Usage>
+    ensures { map_ok (λ p. (p.0.now, p.1.now)) result ≡ two_names (names_in names.entry) }
+{
+    match names {
+        Some([name, key]) => Ok((name, key)),
+        _ => Err(Usage::Names),
+    }
+}
+
+/// The file of a name, or `None` for `-`, which is standard input.
+fn file_named(name: &str) -> Option<&str>
+    ensures { option_map (λ s. s.now) result ≡ file_named name.entry.now }
+{
+    if name == "-" { None } else { Some(name) }
+}
+
+/// The file to be read: standard input where there is no name. `Names` where there are several.
+pub(crate) fn one_name<'a>(names: Option<&[&'a str]>) -> Result<Option<&'a str>, Usage>
+    ensures { map_ok (option_map (λ s. s.now)) result ≡ one_name (names_in names.entry) }
+{
+    match names {
+        None | Some([]) => Ok(None),
+        Some([name]) => Ok(file_named(name)),
+        _ => Err(Usage::Names),
+    }
+}
+
+/// The first name, and those behind it. `Names` where there is none.
+pub(crate) fn first_name<'a, 'b>(
+    names: Option<&'b [&'a str]>,
+) -> Result<(&'a str, &'b [&'a str]), Usage>
+    ensures { map_ok (λ p. (p.0.now, map (λ s. s.now) p.1.now)) result
+        ≡ first_name (names_in names.entry) }
+{
+    let Some(names) = names else {
+        return Err(Usage::Names);
+    };
+    match names.split_first() {
+        Some((name, behind)) => Ok((name, behind)),
+        None => Err(Usage::Names),
+    }
+}

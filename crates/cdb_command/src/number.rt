@@ -1,0 +1,48 @@
+// The number of a value.
+ghost use Rattle.std.specs.Prelude.{◌≡◌, option_map};
+ghost use Rattle.std.specs.Str.{all_ascii_digits};
+ghost use Rattle.cdb_command.specs.Rules.{value_number, decimal_in, number_in};
+
+use crate::usage::Usage;
+
+/// Whether a text has decimal digits alone.
+fn is_digits(text: &str) -> bool
+    ensures { result ≡ all_ascii_digits text.now }
+{
+    text.bytes().all(|b| b.is_ascii_digit())
+}
+
+/// `Number` where it is 0: values are counted from 1.
+fn value_number(number: u32) -> Result<u32, Usage>
+    ensures { result ≡ value_number number }
+{
+    if number == 0 {
+        Err(Usage::Number)
+    } else {
+        Ok(number)
+    }
+}
+
+/// The number of a value. `Number` where the text isn't decimal digits alone, of a number from 1
+/// to 4294967295.
+fn decimal(text: &str) -> Result<u32, Usage>
+    ensures { result ≡ decimal_in text.now }
+{
+    if !is_digits(text) {
+        return Err(Usage::Number);
+    }
+    match text.parse::<u32>() {
+        Ok(number) => value_number(number),
+        Err(_) => Err(Usage::Number),
+    }
+}
+
+/// The number of a value, where there is one.
+pub(crate) fn number_of(text: Option<&str>) -> Result<Option<u64>, Usage>
+    ensures { result ≡ number_in (option_map (λ s. s.now) text.entry) }
+{
+    match text {
+        Some(text) => Ok(Some(u64::from(decimal(text)?))),
+        None => Ok(None),
+    }
+}

@@ -1,0 +1,34 @@
+// Texts of a command line, kept.
+ghost use Rattle.std.specs.Prelude.{map, string_bytes, option_map, Ok};
+ghost use Rattle.cdb_command.specs.Asked.{Gives};
+
+use crate::usage::Usage;
+use std::alloc::Global;
+
+/// A text of its own.
+pub(crate) fn owned(alloc: Global, text: &str) -> Result<String, Usage>
+    ensures { Gives string_bytes result (Ok text.now) }
+{
+    Ok(String::from_str(alloc, text)?)
+}
+
+/// A text of its own, where there is one.
+pub(crate) fn owned_option(alloc: Global, text: Option<&str>) -> Result<Option<String>, Usage>
+    ensures { Gives (option_map string_bytes) result (Ok (option_map (λ s. s.now) text.entry)) }
+{
+    match text {
+        Some(text) => Ok(Some(owned(alloc, text)?)),
+        None => Ok(None),
+    }
+}
+
+/// Texts of their own, in order.
+pub(crate) fn owned_all(alloc: Global, from: &[&str]) -> Result<Vec<String>, Usage>
+    ensures { Gives (λ v. map string_bytes v.items) result (Ok (map (λ s. s.now) from.now)) }
+{
+    let mut texts = Vec::new(alloc);
+    for text in from {
+        texts.push(owned(alloc, text)?)?;
+    }
+    Ok(texts)
+}

@@ -1,0 +1,25 @@
+// The text that says how the program is called.
+ghost use Rattle.std.specs.Prelude.{OnOk, OnErr};
+ghost use Rattle.std.specs.Io.KnownBytes.{Appends};
+ghost use Rattle.cdb_form.specs.Views.KnownBytes.{AppendsFront};
+ghost use Rattle.cdb_command.specs.Usage.{usage_text};
+
+use cdb_form::{OutFault, write_pieces};
+use std::io::Write;
+
+/// Writes the usage text. After an `OutFault` the writer holds a front of it.
+pub fn write_usage<W: Write>(w: &mut W) -> Result<(), OutFault>
+    ensures ok { OnOk result (Appends (W.contents w.old) (W.contents w.new) usage_text) }
+    ensures err { OnErr result (AppendsFront (W.contents w.old) (W.contents w.new) usage_text) }
+{
+    let lines: [&[u8]; 7] = [
+        b"usage: cdb -q [-W] [-m] [-n number] database key\n",
+        b"       cdb -d [-W] [-m] [database]\n",
+        b"       cdb -l [-W] [-m] [database]\n",
+        b"       cdb -s [-W] [database]\n",
+        b"       cdb -c [-W] [-m] [-t temporary] [-weru] database [input ...]\n",
+        b"       cdb -k [-W] [database]\n",
+        b"       cdb -h\n",
+    ];
+    write_pieces(w, &lines)
+}
