@@ -2,4 +2,5 @@
 pub mod Line
 pub mod Asked
 pub mod Rules
+pub mod Words
 pub mod Usage

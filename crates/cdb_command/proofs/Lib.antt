@@ -1,0 +1,2 @@
+-- Lemmas that answers name.
+pub mod NoWords

@@ -1,0 +1,90 @@
+-- The rules of a line never say that its words were refused.
+use Rattle.std.proofs.Common.{◌≢◌, ℕ, Bool, true, false, cond, List, [], ◌∷◌, Option, Some, None}
+use Rattle.std.proofs.Common.{Result, Ok, Err, IfErr, inl, inr}
+use Rattle.cdb_command.specs.Line.{Text, Given}
+use Rattle.cdb_command.specs.Asked.{Gives, asked_in, ◌>>=◌}
+use Rattle.cdb_command.specs.Rules.{letters_in, only_letter, no_stray, first_stray, taken_by}
+use Rattle.cdb_command.specs.Rules.{options_in, decimal_in, number_in, two_names, one_name}
+use Rattle.cdb_command.specs.Rules.{first_name, not_both, command_in, line_plan}
+use Rattle.cdb_command.specs.declared.command.Command.{Command}
+use Rattle.cdb_command.specs.declared.letter.Letter.{Letter}
+use Rattle.cdb_command.specs.declared.letter.Letter.TheVariants as letter
+use Rattle.cdb_command.specs.declared.line.Flags.{Flags}
+use Rattle.cdb_command.specs.declared.usage.Usage.{Usage}
+use Rattle.cdb_command.specs.declared.usage.Usage.TheVariants.{Words}
+
+record NoWords {A : Type 0} (r : Result A Usage) : Type 0 where
+  pub never : r ≢ Err Words
+
+given : {A : Type 0} (x : A) → NoWords {A = A} (Ok x)
+given x = record { never = λ h. cc }
+
+other : {A : Type 0} (fault : Usage) → fault ≢ Words → NoWords {A = A} (Err fault)
+other fault n = record { never = λ h. n cc }
+
+then : {A B : Type 0} (r : Result A Usage) (next : A → Result B Usage)
+    → NoWords r → ((x : A) → NoWords (next x)) → NoWords (r >>= next)
+then (Ok x) next n k = k x
+then (Err fault) next n k = other fault (λ w. n.never cc)
+
+either : {A : Type 0} (test : Bool) (x y : Result A Usage)
+    → NoWords x → NoWords y → NoWords (cond test x y)
+either true x y p q = p
+either false x y p q = q
+
+letter_none : (letters : List Letter) → NoWords (only_letter letters)
+letter_none [] = other _ (λ h. cc)
+letter_none (x ∷ []) = given x
+letter_none (x ∷ y ∷ more) = other _ (λ h. cc)
+
+stray_none : (option : Option ℕ) → NoWords (no_stray option)
+stray_none None = given tt
+stray_none (Some letter) = other _ (λ h. cc)
+
+decimal_none : (text : Text) → NoWords (decimal_in text)
+decimal_none text =
+    either _ _ _ (either _ _ _ (given _) (other _ (λ h. cc))) (other _ (λ h. cc))
+
+number_none : (text : Option Text) → NoWords (number_in text)
+number_none None = given None
+number_none (Some text) = then (decimal_in text) _ (decimal_none text) (λ n. given (Some n))
+
+two_none : (names : List Text) → NoWords (two_names names)
+two_none [] = other _ (λ h. cc)
+two_none (x ∷ []) = other _ (λ h. cc)
+two_none (x ∷ y ∷ []) = given (x, y)
+two_none (x ∷ y ∷ z ∷ more) = other _ (λ h. cc)
+
+one_none : (names : List Text) → NoWords (one_name names)
+one_none [] = given None
+one_none (x ∷ []) = given _
+one_none (x ∷ y ∷ more) = other _ (λ h. cc)
+
+first_none : (names : List Text) → NoWords (first_name names)
+first_none [] = other _ (λ h. cc)
+first_none (x ∷ more) = given (x, more)
+
+both_none : (f : Flags) → NoWords (not_both f)
+both_none f = either _ _ _ (other _ (λ h. cc)) (given tt)
+
+command_none : (x : Letter) (g : Given) (number : Option ℕ) → NoWords (command_in x g number)
+command_none letter.Query g number = then (two_names g.names) _ (two_none g.names) (λ p. given _)
+command_none letter.Dump g number = then (one_name g.names) _ (one_none g.names) (λ n. given _)
+command_none letter.List g number = then (one_name g.names) _ (one_none g.names) (λ n. given _)
+command_none letter.Stats g number = then (one_name g.names) _ (one_none g.names) (λ n. given _)
+command_none letter.Check g number = then (one_name g.names) _ (one_none g.names) (λ n. given _)
+command_none letter.Create g number = then (first_name g.names) _ (first_none g.names)
+    (λ p. then (not_both g.flags) _ (both_none g.flags) (λ _. given _))
+
+plan_none : (g : Given) → NoWords (line_plan g)
+plan_none g =
+    either g.flags.help _ _ (given _)
+    (then (only_letter (letters_in g.flags)) _ (letter_none (letters_in g.flags))
+    (λ x. then (no_stray (first_stray (taken_by x) (options_in g))) _ (stray_none _)
+    (λ _. then (number_in g.number) _ (number_none g.number)
+    (λ number. command_none x g number))))
+
+pub gives_no_words : (r : Result Command Usage) (g : Given)
+    → Gives asked_in r (line_plan g) → IfErr r (λ u. u ≢ Words)
+gives_no_words (Ok x) g h = tt
+gives_no_words (Err fault) g h = λ w. elim h [ inl n ↦ cc | inr p ↦ (plan_none g).never cc ]

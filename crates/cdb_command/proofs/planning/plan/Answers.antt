@@ -1,0 +1,11 @@
+use Rattle.std.proofs.Common.{rules, ◌≢◌, IfErr}
+use Rattle.cdb_command.proofs.NoWords.{gives_no_words}
+use Rattle.cdb_command.specs.declared.usage.Usage.TheVariants.{Words}
+use Rattle.cdb_command.specs.Line.{given_in}
+use Rattle.cdb_command.proofs.planning.plan.Goals as goal
+
+pub returns-clause-refused : goal.returns-clause-refused
+returns-clause-refused c =
+    let none : IfErr c.asked_on.result (λ u. u ≢ Words) =
+    gives_no_words c.asked_on.result (given_in c.line_of.result) c.asked_on.ensures in
+    search rules

@@ -1,0 +1,119 @@
+// The simple command that `clap` is told.
+ghost use Rattle.std.specs.Prelude.{◌≡◌, false, IfOk};
+ghost use Rattle.clap.specs.Walk.{rule_of};
+ghost use Rattle.clap.specs.Simple.{app_of, with_rule};
+ghost use Rattle.cdb_command.specs.Words.{flag_rule, option_rule, names_rule, with_rules};
+ghost use Rattle.cdb_command.specs.Words.{command_rules, letter_rules, value_rules, bare_app};
+ghost use Rattle.cdb_command.specs.Words.{cdb_app};
+
+use clap::{Arg, ArgAction, Command};
+use std::alloc::{AllocError, Global};
+
+/// A letter without a value, which may stand often.
+fn flag<'a>(alloc: Global, id: &'a str, letter: char) -> Arg<'a>
+    ensures rule { rule_of result ≡ flag_rule id.entry.now letter }
+    ensures local { result.global ≡ false }
+{
+    Arg::new(alloc, id).short(letter).action(ArgAction::Count)
+}
+
+/// A letter with a value, which may stand once.
+fn option<'a>(alloc: Global, id: &'a str, letter: char) -> Arg<'a>
+    ensures rule { rule_of result ≡ option_rule id.entry.now letter }
+    ensures local { result.global ≡ false }
+{
+    Arg::new(alloc, id).short(letter).action(ArgAction::Set)
+}
+
+/// Any number of names.
+fn names<'a>(alloc: Global) -> Arg<'a>
+    ensures rule { rule_of result ≡ names_rule }
+    ensures local { result.global ≡ false }
+{
+    Arg::new(alloc, "names").num_args(0..)
+}
+
+/// The command with a letter more.
+fn with_flag<'a>(
+    alloc: Global,
+    parser: Command<'a>,
+    id: &'a str,
+    letter: char,
+) -> Result<Command<'a>, AllocError>
+    ensures { IfOk result (λ r. app_of r
+        ≡ with_rule (app_of parser.entry) (flag_rule id.entry.now letter)) }
+{
+    parser.arg(flag(alloc, id, letter))
+}
+
+/// The command with a letter more that has a value.
+fn with_option<'a>(
+    alloc: Global,
+    parser: Command<'a>,
+    id: &'a str,
+    letter: char,
+) -> Result<Command<'a>, AllocError>
+    ensures { IfOk result (λ r. app_of r
+        ≡ with_rule (app_of parser.entry) (option_rule id.entry.now letter)) }
+{
+    parser.arg(option(alloc, id, letter))
+}
+
+/// The command with names.
+fn with_names<'a>(alloc: Global, parser: Command<'a>) -> Result<Command<'a>, AllocError>
+    ensures { IfOk result (λ r. app_of r ≡ with_rule (app_of parser.entry) names_rule) }
+{
+    parser.arg(names(alloc))
+}
+
+/// The command with the letters of the program's commands.
+fn with_commands<'a>(alloc: Global, parser: Command<'a>) -> Result<Command<'a>, AllocError>
+    ensures { IfOk result (λ r. app_of r ≡ with_rules (app_of parser.entry) command_rules) }
+{
+    let parser = with_flag(alloc, parser, "q", 'q')?;
+    let parser = with_flag(alloc, parser, "d", 'd')?;
+    let parser = with_flag(alloc, parser, "l", 'l')?;
+    let parser = with_flag(alloc, parser, "s", 's')?;
+    let parser = with_flag(alloc, parser, "c", 'c')?;
+    let parser = with_flag(alloc, parser, "k", 'k')?;
+    with_flag(alloc, parser, "h", 'h')
+}
+
+/// The command with the letters of their options.
+fn with_letters<'a>(alloc: Global, parser: Command<'a>) -> Result<Command<'a>, AllocError>
+    ensures { IfOk result (λ r. app_of r ≡ with_rules (app_of parser.entry) letter_rules) }
+{
+    let parser = with_flag(alloc, parser, "m", 'm')?;
+    let parser = with_flag(alloc, parser, "W", 'W')?;
+    let parser = with_flag(alloc, parser, "w", 'w')?;
+    let parser = with_flag(alloc, parser, "e", 'e')?;
+    let parser = with_flag(alloc, parser, "r", 'r')?;
+    with_flag(alloc, parser, "u", 'u')
+}
+
+/// The command with the options that have values, and with names.
+fn with_values<'a>(alloc: Global, parser: Command<'a>) -> Result<Command<'a>, AllocError>
+    ensures { IfOk result (λ r. app_of r ≡ with_rules (app_of parser.entry) value_rules) }
+{
+    let parser = with_option(alloc, parser, "n", 'n')?;
+    let parser = with_option(alloc, parser, "t", 't')?;
+    with_names(alloc, parser)
+}
+
+/// A command of no letters, not of `clap`'s own for help and version either.
+fn bare<'a>(alloc: Global) -> Command<'a>
+    ensures { app_of result ≡ bare_app }
+{
+    Command::new(alloc, "cdb")
+        .disable_help_flag(true)
+        .disable_version_flag(true)
+}
+
+/// What `clap` is told of the program's command line.
+pub(crate) fn parser<'a>(alloc: Global) -> Result<Command<'a>, AllocError>
+    ensures { IfOk result (λ r. app_of r ≡ cdb_app) }
+{
+    let parser = with_commands(alloc, bare(alloc))?;
+    let parser = with_letters(alloc, parser)?;
+    with_values(alloc, parser)
+}

@@ -1,0 +1,37 @@
+// What the words of a command line ask for.
+ghost use Rattle.std.specs.Prelude.{◌≡◌, ◌≢◌, [], IfErr, map, string_bytes};
+ghost use Rattle.cdb_command.specs.Asked.{Gives, asked_in};
+ghost use Rattle.cdb_command.specs.Words.{cdb_faults, plan_of};
+ghost use Rattle.cdb_command.specs.declared.usage.Usage.TheVariants.{Words};
+
+use crate::asking::asked_on;
+use crate::command::Command;
+use crate::usage::Usage;
+use crate::words::{line_of, matches_of};
+use std::alloc::Global;
+
+/// What the words of a command line ask for, the first of which is the program's name.
+///
+/// Letters stand alone or several behind one hyphen, in any order, before names, between them and
+/// behind them; a letter without a value that stands often is as one. Behind `--` all words are
+/// names. The answer is the first that holds of these:
+/// - `Words`: an unknown letter, `-n` or `-t` without a value, or one of them twice;
+/// - `Ok(Help)`: `-h` is there;
+/// - `NoCommand`, `TwoCommands`: none or several of `-q`, `-d`, `-l`, `-s`, `-c` and `-k`;
+/// - `Option(letter)`: the command doesn't take this option, the first such of `m n t w e r u`.
+///   `-q` takes `m` and `n`, `-d` and `-l` take `m`, and `-c` takes all but `n`;
+/// - `Number`: the value of `-n` isn't decimal digits alone, of a number from 1 to 4294967295;
+/// - `Names`: `-q` takes two names, `-c` one and any number of inputs, the others one at most;
+/// - `Both`: `-r` and `-u`;
+/// - the command. Where it reads one file, no name and `-` are standard input. `-W` stands with
+///   every command.
+///
+/// `NoMemory` may stand in place of any.
+pub fn plan(alloc: Global, words: Vec<String>) -> Result<Command, Usage>
+    ensures exact { Gives asked_in result (plan_of (map string_bytes words.items)) }
+    ensures refused { IfErr result
+        (λ u. u ≡ Words → cdb_faults (map string_bytes words.items) ≢ []) }
+{
+    let matches = matches_of(alloc, words.as_slice())?;
+    asked_on(alloc, &line_of(&matches))
+}

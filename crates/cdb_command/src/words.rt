@@ -1,0 +1,82 @@
+// What `clap` makes of the words.
+ghost use Rattle.std.specs.Prelude.{◌≡◌, ◌≢◌, ◌⊎◌, [], IfOk, IfErr, map, string_bytes};
+ghost use Rattle.clap.specs.Walk.{rows_of};
+ghost use Rattle.clap.specs.Matches.{found_of};
+ghost use Rattle.clap.specs.Values.{kind_of};
+ghost use Rattle.cdb_command.specs.Line.{given_in};
+ghost use Rattle.cdb_command.specs.Words.{cdb_rows, cdb_faults, has, flags_of, given_of};
+ghost use Rattle.cdb_command.specs.declared.usage.Usage.TheVariants.{NoMemory, Words};
+
+use crate::line::{Flags, Line};
+use crate::parser::parser;
+use crate::usage::Usage;
+use clap::ArgMatches;
+use clap::error::ErrorKind;
+use std::alloc::Global;
+
+/// Why `clap` refused the words.
+fn refusal(error: &clap::Error) -> Usage
+    ensures either { (result ≡ NoMemory) ⊎ (result ≡ Words) }
+    ensures memory { result ≡ Words → kind_of error.now ≢ ErrorKind.OutOfMemory }
+{
+    match error.kind() {
+        ErrorKind::OutOfMemory => Usage::NoMemory,
+        _ => Usage::Words,
+    }
+}
+
+/// What `clap` makes of the words, the first of which is the program's name. `Words` where it
+/// refuses them.
+pub(crate) fn matches_of<'a>(alloc: Global, words: &'a [String]) -> Result<ArgMatches<'a>, Usage>
+    ensures ok { IfOk result (λ m. rows_of (found_of m)
+        ≡ cdb_rows (map string_bytes words.entry.now)) }
+    ensures taken { IfOk result (λ _. cdb_faults (map string_bytes words.entry.now) ≡ []) }
+    ensures refused { IfErr result (λ u. (u ≡ NoMemory)
+        ⊎ ((u ≡ Words) × (cdb_faults (map string_bytes words.entry.now) ≢ []))) }
+{
+    let parser = parser(alloc)?;
+    match parser.try_get_matches_from(words) {
+        Ok(matches) => Ok(matches),
+        Err(error) => Err(refusal(&error)),
+    }
+}
+
+/// Whether a letter is there.
+fn has(matches: &ArgMatches<'_>, id: &str) -> bool
+    ensures { result ≡ has id.now (rows_of (found_of matches.now)) }
+{
+    matches.get_count(id) > 0
+}
+
+/// The letters without a value.
+fn flags_of(matches: &ArgMatches<'_>) -> Flags
+    ensures { result ≡ flags_of (rows_of (found_of matches.now)) }
+{
+    Flags {
+        query: has(matches, "q"),
+        dump: has(matches, "d"),
+        list: has(matches, "l"),
+        stats: has(matches, "s"),
+        create: has(matches, "c"),
+        check: has(matches, "k"),
+        help: has(matches, "h"),
+        map: has(matches, "m"),
+        wide: has(matches, "W"),
+        warn: has(matches, "w"),
+        stop: has(matches, "e"),
+        replace: has(matches, "r"),
+        insert: has(matches, "u"),
+    }
+}
+
+/// What stands on the line.
+pub(crate) fn line_of<'a, 'b>(matches: &'b ArgMatches<'a>) -> Line<'a, 'b>
+    ensures { given_in result ≡ given_of (rows_of (found_of matches.now)) }
+{
+    Line {
+        flags: flags_of(matches),
+        number: matches.get_str("n"),
+        temporary: matches.get_str("t"),
+        names: matches.get_strs("names"),
+    }
+}
