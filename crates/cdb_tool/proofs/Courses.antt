@@ -23,7 +23,7 @@ use Rattle.cdb_tool.specs.Views.Fault.{make_fault}
 use Rattle.cdb_tool.specs.Runs.Course.{Incoming, Course, from_input, from_inputs, mode_of, said, ends, is_going, with_put, with_next, at_start, course_of, TellFails, Goes, StopsSo}
 use Rattle.cdb_tool.specs.Runs.Make.{InCourse, PutStops, IsOfStore}
 use Rattle.cdb_tool.specs.declared.fault.Fault.{Fault}
-use Rattle.cdb_tool.specs.declared.fault.Fault.TheVariants.{Text, Make, Duplicate, Missing, Read, Walk, Output, Long, NoMemory}
+use Rattle.cdb_tool.specs.declared.fault.Fault.TheVariants.{Text, Make, Duplicate, Missing, Read, Walk, Output, Long, Open, Rename, NoMemory}
 use Rattle.cdb_command.specs.declared.options.MakeOptions.{MakeOptions}
 
 -- ---- the course over one record more, which was put
@@ -104,6 +104,8 @@ told_so o cs c start mid end m put (Walk f) b p x = absurd x
 told_so o cs c start mid end m put Missing b p x = absurd x
 told_so o cs c start mid end m put (Read f) b p x = absurd x
 told_so o cs c start mid end m put Long b p x = absurd x
+told_so o cs c start mid end m put Open b p x = absurd x
+told_so o cs c start mid end m put Rename b p x = absurd x
 told_so o cs c start mid end m put NoMemory b p x = absurd x
 told_so {l = l} o cs c start mid end m put Output b p x =
     subst (λ s. AppendsFront start end s.lines) (sym p.is) (front_then start mid end (course_of l.WORD o cs).lines (said o c.input c.number (Ok put)) [] _ p.goes.lines x (ap (λ t. (course_of l.WORD o cs).lines ++ t) (sym (append-nil _))))
@@ -128,6 +130,8 @@ told_store o i j put old new (Walk f) x is = absurd is
 told_store o i j put old new Missing x is = absurd is
 told_store o i j put old new (Read f) x is = absurd is
 told_store o i j put old new Long x is = absurd is
+told_store o i j put old new Open x is = absurd is
+told_store o i j put old new Rename x is = absurd is
 told_store o i j put old new NoMemory x is = absurd is
 told_store o i j put old new Output x is = absurd is
 told_store o i j put old new Duplicate x is = absurd is

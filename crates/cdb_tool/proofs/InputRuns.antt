@@ -14,7 +14,7 @@ use Rattle.cdb_tool.specs.Runs.Course.{Incoming, from_inputs, Goes, StopsSo}
 use Rattle.cdb_tool.specs.Runs.Inputs.{IsInput, BeginsWith, HasInputFault, AreInputs}
 use Rattle.cdb_tool.specs.Runs.Make.{InCourse, PutStops, InputFails, StopsIn, Stops, RunFails, came, IsOfStore}
 use Rattle.cdb_tool.specs.declared.fault.Fault.{Fault}
-use Rattle.cdb_tool.specs.declared.fault.Fault.TheVariants.{Text, Make, Duplicate, Missing, Read, Walk, Output, Long, NoMemory}
+use Rattle.cdb_tool.specs.declared.fault.Fault.TheVariants.{Text, Make, Duplicate, Missing, Read, Walk, Output, Long, Open, Rename, NoMemory}
 use Rattle.cdb_tool.specs.declared.runs.input_reader.InputReader.{InputReader}
 use Rattle.cdb_command.specs.declared.options.MakeOptions.{MakeOptions}
 use Rattle.cdb_command.specs.declared.style.Style.{Style}
@@ -41,6 +41,8 @@ put_stopped w g o read input last start now Output b x = record { last = last; b
 put_stopped w g o read input last start now Missing b x = record { last = last; begins = b; stops = x }
 put_stopped w g o read input last start now (Read f) b x = record { last = last; begins = b; stops = x }
 put_stopped w g o read input last start now Long b x = record { last = last; begins = b; stops = x }
+put_stopped w g o read input last start now Open b x = record { last = last; begins = b; stops = x }
+put_stopped w g o read input last start now Rename b x = record { last = last; begins = b; stops = x }
 put_stopped w g o read input last start now NoMemory b x = record { last = last; begins = b; stops = x }
 
 pub put_stops : (w g : ℕ) (o : MakeOptions) (read : List (List KeyValue)) (input : Option (List ℕ)) (last : List KeyValue) (c : Incoming) (start now : Option (List ℕ)) (f : Fault) → IfSome input (BeginsWith o.style g last)
@@ -108,6 +110,8 @@ run_failed w g o read x inputs rest start now Output are h = stopped w g o read 
 run_failed w g o read x inputs rest start now Missing are h = stopped w g o read x inputs rest start now Missing are h
 run_failed w g o read x inputs rest start now (Read f) are h = stopped w g o read x inputs rest start now (Read f) are h
 run_failed w g o read x inputs rest start now Long are h = stopped w g o read x inputs rest start now Long are h
+run_failed w g o read x inputs rest start now Open are h = stopped w g o read x inputs rest start now Open are h
+run_failed w g o read x inputs rest start now Rename are h = stopped w g o read x inputs rest start now Rename are h
 run_failed w g o read x inputs rest start now NoMemory are h = stopped w g o read x inputs rest start now NoMemory are h
 
 pub run_fails : (w g : ℕ) (o : MakeOptions) (read : List (List KeyValue)) (x : Option (List ℕ)) (inputs rest : List (Option (List ℕ))) (start now : Option (List ℕ)) (images : List ℕ → Type 0) (f : Fault) → AreInputs o.style g read inputs (x ∷ rest)

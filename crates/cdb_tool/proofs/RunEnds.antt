@@ -20,7 +20,7 @@ use Rattle.cdb_tool.specs.Runs.Course.{Incoming, from_inputs, course_of, Goes, E
 use Rattle.cdb_tool.specs.Runs.Inputs.{BeginsWith, AreInputs, FirstBegins}
 use Rattle.cdb_tool.specs.Runs.Make.{InCourse, Stops, RunFails, Runs, came}
 use Rattle.cdb_tool.specs.declared.fault.Fault.{Fault}
-use Rattle.cdb_tool.specs.declared.fault.Fault.TheVariants.{Text, Make, Duplicate, Missing, Read, Walk, Output, Long, NoMemory}
+use Rattle.cdb_tool.specs.declared.fault.Fault.TheVariants.{Text, Make, Duplicate, Missing, Read, Walk, Output, Long, Open, Rename, NoMemory}
 use Rattle.cdb_command.specs.declared.options.MakeOptions.{MakeOptions}
 use Rattle.cdb_command.specs.declared.style.Style.{Style}
 use Rattle.cdb_command.specs.declared.style.Style.TheVariants as style
@@ -116,6 +116,8 @@ stops_kept w o cs old mid new (Walk f) h k = absurd h
 stops_kept w o cs old mid new Missing h k = absurd h
 stops_kept w o cs old mid new (Read f) h k = absurd h
 stops_kept w o cs old mid new Long h k = absurd h
+stops_kept w o cs old mid new Open h k = absurd h
+stops_kept w o cs old mid new Rename h k = absurd h
 
 stop_kept : (w g : ℕ) (o : MakeOptions) (inputs : List (Option (List ℕ))) (old mid new : Option (List ℕ)) (f : Fault) → Stops w g o inputs old mid f → Keeps mid new → Stops w g o inputs old new f
 stop_kept w g o inputs old mid new f h k = record { read = h.read; last = h.last; rest = h.rest; are = h.are; begins = h.begins; stops = stops_kept w o (came h.read h.last) old mid new f h.stops k }
@@ -130,6 +132,8 @@ fails_kept w g o inputs old mid new Output h k = stop_kept w g o inputs old mid 
 fails_kept w g o inputs old mid new Missing h k = stop_kept w g o inputs old mid new Missing h k
 fails_kept w g o inputs old mid new (Read f) h k = stop_kept w g o inputs old mid new (Read f) h k
 fails_kept w g o inputs old mid new Long h k = stop_kept w g o inputs old mid new Long h k
+fails_kept w g o inputs old mid new Open h k = stop_kept w g o inputs old mid new Open h k
+fails_kept w g o inputs old mid new Rename h k = stop_kept w g o inputs old mid new Rename h k
 fails_kept w g o inputs old mid new NoMemory h k = stop_kept w g o inputs old mid new NoMemory h k
 
 runs_kept : (w g : ℕ) (o : MakeOptions) (inputs : List (Option (List ℕ))) (images : List ℕ → Type 0) (old mid new : Option (List ℕ)) (r : Result Unit Fault) → Runs w g o inputs images old mid r → Keeps mid new → Runs w g o inputs images old new r

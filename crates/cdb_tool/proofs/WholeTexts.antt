@@ -21,7 +21,7 @@ use Rattle.cdb_tool.specs.Runs.Flushed.{Flushed}
 use Rattle.cdb_tool.specs.Runs.Form.{Form}
 use Rattle.cdb_tool.specs.Runs.WalkText.{closing, walk_text, Writes, WritesFront, WritesFirst, WritingFails, LeavesBehind, KeepsBehind, WritesWalk}
 use Rattle.cdb_tool.specs.declared.fault.Fault.{Fault}
-use Rattle.cdb_tool.specs.declared.fault.Fault.TheVariants.{Text, Make, Duplicate, Missing, Read, Walk, Output, Long, NoMemory}
+use Rattle.cdb_tool.specs.declared.fault.Fault.TheVariants.{Text, Make, Duplicate, Missing, Read, Walk, Output, Long, Open, Rename, NoMemory}
 use Rattle.cdb_tool.proofs.WholeRuns.{front_kept, whole_front, not_ok}
 
 -- a weaker relation
@@ -184,6 +184,8 @@ fails_kept w form file old mid new Duplicate d k = absurd d
 fails_kept w form file old mid new Missing d k = absurd d
 fails_kept w form file old mid new (Read f) d k = absurd d
 fails_kept w form file old mid new Long d k = absurd d
+fails_kept w form file old mid new Open d k = absurd d
+fails_kept w form file old mid new Rename d k = absurd d
 
 runs_kept : (w : ℕ) (form : Form) (file rest old mid new : Option (List ℕ)) (r : Result Unit Fault) → WritesWalk w form file rest old mid r → Keeps mid new → WritesWalk w form file rest old new r
 runs_kept w form file rest old mid new (Ok u) d k = record { ok = (writes_kept w form file None old mid new d.ok.0 k, d.ok.1); err = tt; behind = d.behind }

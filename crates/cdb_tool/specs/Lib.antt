@@ -3,3 +3,4 @@ pub mod Message
 pub mod Runs
 pub mod Views
 pub mod Laws
+pub mod Status

@@ -16,7 +16,8 @@ use Rattle.cdb_tool.specs.declared.message.Place.TheVariants.{Nowhere, Input, By
 use Rattle.cdb_tool.specs.declared.message.Place.TheVariants.{Slot}
 use Rattle.cdb_tool.specs.declared.fault.Fault.{Fault}
 use Rattle.cdb_tool.specs.declared.fault.Fault.TheVariants.{Text, Make, Read, Walk, Output}
-use Rattle.cdb_tool.specs.declared.fault.Fault.TheVariants.{Duplicate, Missing, Long, NoMemory}
+use Rattle.cdb_tool.specs.declared.fault.Fault.TheVariants.{Duplicate, Missing, Long, Open, Rename}
+use Rattle.cdb_tool.specs.declared.fault.Fault.TheVariants.{NoMemory}
 
 -- what a fault is
 abbrev pub fault_message : Fault → List ℕ
@@ -28,6 +29,8 @@ fault_message (Read fault) = read_message fault
 fault_message (Walk fault) = walk_message fault
 fault_message Output = codes "output cannot be written"
 fault_message Long = make_message TooBig
+fault_message Open = codes "file cannot be opened"
+fault_message Rename = codes "database cannot be renamed"
 fault_message NoMemory = codes "no memory"
 
 -- a part of what is named by its number

@@ -27,12 +27,16 @@ pub enum Fault {
     Output,
     /// More bytes came than were allowed.
     Long,
+    /// A file was not opened or made.
+    Open,
+    /// A database was not given its name.
+    Rename,
     /// Memory ran out.
     NoMemory,
 }
 
 impl Fault {
-    /// The number of the fault. The numbers left out are of faults that come with other runs.
+    /// The number of the fault.
     pub fn number(&self) -> u8
         ensures { result ≡ fault_number self.now }
     {
@@ -45,6 +49,8 @@ impl Fault {
             Fault::Walk(_) => 6,
             Fault::Output => 7,
             Fault::Long => 8,
+            Fault::Open => 9,
+            Fault::Rename => 10,
             Fault::NoMemory => 11,
         }
     }

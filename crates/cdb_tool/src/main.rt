@@ -1,31 +1,38 @@
 //! The program `cdb`: makes constant databases.
 #![tactic(auto)]
 
+mod creating;
 pub mod fault;
+mod files;
 mod input;
 pub mod laws;
 pub mod message;
 mod output;
 pub mod runs;
+mod source;
+pub mod status;
 mod steps;
 
-use fault::Fault;
+use cdb_command::Usage;
 use std::io::ErrorKind;
 use std::process::ExitCode;
 
 fn main(rt: HostRuntime) -> ExitCode {
-    let alloc = rt.alloc();
     let mut errors = rt.stderr();
-    let status = match std::env::args(&rt) {
-        Err(e) if e.kind() == ErrorKind::OutOfMemory => steps::tell(Fault::NoMemory, &mut errors),
-        // An argument that is no text is not understood.
-        Err(_) => steps::refuse_args(&mut errors),
-        Ok(args) => match args.collect::<Vec<String>>(alloc) {
-            Err(_) => steps::tell(Fault::NoMemory, &mut errors),
-            Ok(args) => steps::run(alloc, &args, rt.stdin(), rt.stdout(), &mut errors),
-        },
+    let status = match words_of(&rt) {
+        Ok(words) => steps::run(&rt, words, rt.stdin(), rt.stdout(), &mut errors),
+        Err(usage) => steps::refuse(&usage, &mut errors),
     };
     ExitCode::from(status)
+}
+
+/// The words of the command line. One that is no text is not understood.
+fn words_of(rt: &HostRuntime) -> Result<Vec<String>, Usage> {
+    match std::env::args(rt) {
+        Err(e) if e.kind() == ErrorKind::OutOfMemory => Err(Usage::NoMemory),
+        Err(_) => Err(Usage::Words),
+        Ok(args) => Ok(args.collect::<Vec<String>>(rt.alloc())?),
+    }
 }
 
 #[cfg(test)]

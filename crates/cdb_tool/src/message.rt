@@ -45,6 +45,8 @@ impl Fault {
             Fault::Walk(fault) => fault.message(),
             Fault::Output => "output cannot be written",
             Fault::Long => MakeFault::TooBig.message(),
+            Fault::Open => "file cannot be opened",
+            Fault::Rename => "database cannot be renamed",
             Fault::NoMemory => "no memory",
         }
     }

@@ -1,88 +1,235 @@
-// What the program does with its arguments and its streams.
+// What the program does: each command over its files and streams.
+use crate::creating::{Creation, create};
 use crate::fault::Fault;
+use crate::files::{Opening, opened, opened_store};
 use crate::input::Input;
 use crate::message::write_fault;
 use crate::output::Output;
+use crate::runs::check::check_run;
 use crate::runs::dump::dump_run;
-use crate::runs::make_bytes::make_bytes;
-use crate::runs::style::Style;
-use cdb_form::{Narrow, write_whole};
+use crate::runs::flushed::flushed;
+use crate::runs::list::list_run;
+use crate::runs::load::load;
+use crate::runs::query::query_run;
+use crate::runs::stats::stats_run;
+use crate::status::{BAD_USAGE, DONE, FAILED, status_of};
+use cdb_command::{Command, Style, Usage, plan, write_usage};
+use cdb_form::{Narrow, Wide, Width, write_pieces};
+use cdb_store::MemStore;
 use std::alloc::Global;
+use std::fs::File;
 use std::io::{Read, Write};
+use std::rt::Files;
 
 /// How many bytes the window of a stream has.
 const WINDOW: usize = 65536;
 
-/// The line for arguments that are not understood.
-const BAD_ARGS: &[u8] = b"cdb: bad command line, see cdb -h\n";
-
-/// The exit status for arguments that are not understood.
-const USAGE_STATUS: u8 = 2;
-
-/// The exit status for every other fault.
-const FAULT_STATUS: u8 = 111;
-
-/// What the program is told to do.
-#[derive(Clone, Copy, Debug, PartialEq, Eq)]
-enum Command {
-    /// Makes the database of the text on standard input on standard output.
-    Create,
-    /// Writes the text of the database on standard input to standard output.
-    Dump,
-}
-
-/// The command that the arguments tell. The first is the program's name.
-fn command_of(args: &[String]) -> Option<Command> {
-    match args {
-        [_, letter, name] if letter.as_str() == "-c" && name.as_str() == "-" => {
-            Some(Command::Create)
-        }
-        [_, letter] if letter.as_str() == "-d" => Some(Command::Dump),
-        _ => None,
-    }
-}
-
-/// Does what it is told from one stream to the other, each through a window made once.
-fn between<I: Read + Drop, O: Write + Drop>(
-    alloc: Global,
-    command: Command,
-    input: I,
-    output: O,
-) -> Result<(), Fault> {
-    let reader = Input::new(alloc, input, WINDOW)?;
-    let mut writer = Output::new(alloc, output, WINDOW)?;
-    match command {
-        Command::Create => make_bytes::<Narrow, _, _>(alloc, reader, &mut writer),
-        Command::Dump => dump_run::<Narrow, _, _>(alloc, reader, Style::Native, &mut writer),
-    }
-}
-
-/// Does what the arguments tell, and answers the exit status. A fault has its line on `errors`, as
-/// far as that takes it.
-pub(crate) fn run<I: Read + Drop, O: Write + Drop, E: Write>(
-    alloc: Global,
-    args: &[String],
+/// Does what the words ask for, of which the first is the program's name, and answers the exit
+/// status. A fault has its line on `errors`, as far as that takes it.
+pub(crate) fn run<R, I, O, E>(
+    rt: &R,
+    words: Vec<String>,
     input: I,
     output: O,
     errors: &mut E,
-) -> u8 {
-    let Some(command) = command_of(args) else {
-        return refuse_args(errors);
+) -> u8
+where
+    R: Files<File = File> + AllocGlobal,
+    I: Read + Drop,
+    O: Write + Drop,
+    E: Write,
+{
+    let command = match plan(rt.alloc(), words) {
+        Ok(command) => command,
+        Err(usage) => return refuse(&usage, errors),
     };
-    match between(alloc, command, input, output) {
-        Ok(()) => 0,
-        Err(fault) => tell(fault, errors),
+    match perform(rt, &command, input, output, errors) {
+        Ok(()) => DONE,
+        Err(fault) => {
+            let _ = write_fault(&fault, errors);
+            status_of(&command, &fault)
+        }
     }
 }
 
-/// Says that the arguments are not understood, and answers the exit status.
-pub(crate) fn refuse_args<E: Write>(errors: &mut E) -> u8 {
-    let _ = write_whole(errors, BAD_ARGS);
-    USAGE_STATUS
+/// Says why the words ask for nothing, and answers the exit status.
+pub(crate) fn refuse<E: Write>(usage: &Usage, errors: &mut E) -> u8 {
+    let _ = write_pieces(errors, &[b"cdb: ", usage.message().as_bytes(), b"\n"]);
+    match usage {
+        Usage::NoMemory => FAILED,
+        _ => BAD_USAGE,
+    }
 }
 
-/// Says what a fault is, and answers the exit status.
-pub(crate) fn tell<E: Write>(fault: Fault, errors: &mut E) -> u8 {
-    let _ = write_fault(&fault, errors);
-    FAULT_STATUS
+/// Performs a command, in the width that it tells.
+fn perform<R, I, O, E>(
+    rt: &R,
+    command: &Command,
+    input: I,
+    output: O,
+    errors: &mut E,
+) -> Result<(), Fault>
+where
+    R: Files<File = File> + AllocGlobal,
+    I: Read + Drop,
+    O: Write + Drop,
+    E: Write,
+{
+    let mut output = Output::new(rt.alloc(), output, WINDOW)?;
+    if is_wide(command) {
+        perform_in::<Wide, R, I, Output<O>, E>(rt, command, input, &mut output, errors)
+    } else {
+        perform_in::<Narrow, R, I, Output<O>, E>(rt, command, input, &mut output, errors)
+    }
+}
+
+/// Whether a command is about words of 8 bytes.
+fn is_wide(command: &Command) -> bool {
+    match *command {
+        Command::Query { wide, .. }
+        | Command::Dump { wide, .. }
+        | Command::List { wide, .. }
+        | Command::Stats { wide, .. }
+        | Command::Check { wide, .. }
+        | Command::Create { wide, .. } => wide,
+        Command::Help => false,
+    }
+}
+
+/// Performs a command, with words as wide as `L` says.
+fn perform_in<L, R, I, O, E>(
+    rt: &R,
+    command: &Command,
+    input: I,
+    output: &mut O,
+    errors: &mut E,
+) -> Result<(), Fault>
+where
+    L: Width,
+    R: Files<File = File> + AllocGlobal,
+    I: Read + Drop,
+    O: Write,
+    E: Write,
+{
+    match command {
+        Command::Query {
+            name,
+            key,
+            number,
+            lines,
+            ..
+        } => query::<L, R, O>(rt, name.as_str(), key.as_str(), *number, *lines, output),
+        Command::Dump { name, style, .. } => dump::<L, R, I, O>(rt, name, *style, input, output),
+        Command::List { name, style, .. } => list::<L, R, I, O>(rt, name, *style, input, output),
+        Command::Stats { name, .. } => stats::<L, R, I, O>(rt, name, input, output),
+        Command::Check { name, .. } => check::<L, R, I>(rt, name, input),
+        Command::Create {
+            name,
+            inputs,
+            temporary,
+            options,
+            ..
+        } => {
+            let creation = Creation {
+                name: name.as_str(),
+                inputs: inputs.as_slice(),
+                temporary: temporary.as_deref(),
+                options: *options,
+            };
+            create::<L, R, I, O, E>(rt, creation, input, output, errors)
+        }
+        Command::Help => {
+            let written = write_usage(output);
+            flushed(output, written.map_err(Fault::from))
+        }
+    }
+}
+
+/// Writes the values of a key. They are counted from 1, so none has the number 0.
+fn query<L: Width, R: Files<File = File>, O: Write>(
+    rt: &R,
+    name: &str,
+    key: &str,
+    number: Option<u64>,
+    lines: bool,
+    output: &mut O,
+) -> Result<(), Fault> {
+    if number == Some(0) {
+        return Err(Fault::Missing);
+    }
+    let store = opened_store(rt, name, Opening::Read)?;
+    query_run::<_, L, O>(store, key.as_bytes(), number, lines, output).1
+}
+
+/// Writes the records of a file, or of standard input.
+fn dump<L: Width, R: Files<File = File> + AllocGlobal, I: Read + Drop, O: Write>(
+    rt: &R,
+    name: &Option<String>,
+    style: Style,
+    input: I,
+    output: &mut O,
+) -> Result<(), Fault> {
+    let alloc = rt.alloc();
+    match name {
+        Some(name) => {
+            let file = Input::new(alloc, opened(rt, name.as_str())?, WINDOW)?;
+            dump_run::<L, _, O>(alloc, file, style, output)
+        }
+        None => dump_run::<L, _, O>(alloc, Input::new(alloc, input, WINDOW)?, style, output),
+    }
+}
+
+/// Writes the keys of a file, or of standard input.
+fn list<L: Width, R: Files<File = File> + AllocGlobal, I: Read + Drop, O: Write>(
+    rt: &R,
+    name: &Option<String>,
+    style: Style,
+    input: I,
+    output: &mut O,
+) -> Result<(), Fault> {
+    let alloc = rt.alloc();
+    match name {
+        Some(name) => {
+            let file = Input::new(alloc, opened(rt, name.as_str())?, WINDOW)?;
+            list_run::<L, _, O>(alloc, file, style, output)
+        }
+        None => list_run::<L, _, O>(alloc, Input::new(alloc, input, WINDOW)?, style, output),
+    }
+}
+
+/// Standard input, taken into memory.
+fn taken<L: Width, I: Read + Drop>(alloc: Global, input: I) -> Result<MemStore, Fault> {
+    load(alloc, Input::new(alloc, input, WINDOW)?, L::GREATEST)
+}
+
+/// Writes the statistics of a file, or of standard input.
+fn stats<L: Width, R: Files<File = File> + AllocGlobal, I: Read + Drop, O: Write>(
+    rt: &R,
+    name: &Option<String>,
+    input: I,
+    output: &mut O,
+) -> Result<(), Fault> {
+    match name {
+        Some(name) => {
+            let store = opened_store(rt, name.as_str(), Opening::Read)?;
+            stats_run::<_, L, O>(store, output).1
+        }
+        None => stats_run::<_, L, O>(taken::<L, I>(rt.alloc(), input)?, output).1,
+    }
+}
+
+/// Checks a file, or standard input.
+fn check<L: Width, R: Files<File = File> + AllocGlobal, I: Read + Drop>(
+    rt: &R,
+    name: &Option<String>,
+    input: I,
+) -> Result<(), Fault> {
+    let alloc = rt.alloc();
+    match name {
+        Some(name) => {
+            let store = opened_store(rt, name.as_str(), Opening::Read)?;
+            check_run::<_, L>(alloc, store).1
+        }
+        None => check_run::<_, L>(alloc, taken::<L, I>(alloc, input)?).1,
+    }
 }

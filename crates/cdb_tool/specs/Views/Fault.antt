@@ -12,7 +12,8 @@ use Rattle.cdb_read.specs.declared.fault.ReadFault.{ReadFault}
 use Rattle.cdb_read.specs.declared.fault.ReadFault.TheVariants as read
 use Rattle.cdb_tool.specs.declared.fault.Fault.{Fault}
 use Rattle.cdb_tool.specs.declared.fault.Fault.TheVariants.{Text, Make, Read, Walk, Output}
-use Rattle.cdb_tool.specs.declared.fault.Fault.TheVariants.{Duplicate, Missing, Long, NoMemory}
+use Rattle.cdb_tool.specs.declared.fault.Fault.TheVariants.{Duplicate, Missing, Long, Open, Rename}
+use Rattle.cdb_tool.specs.declared.fault.Fault.TheVariants.{NoMemory}
 
 abbrev pub fault_number : Fault → ℕ
 fault_number (Text input fault) = 1
@@ -23,6 +24,8 @@ fault_number (Read fault) = 5
 fault_number (Walk fault) = 6
 fault_number Output = 7
 fault_number Long = 8
+fault_number Open = 9
+fault_number Rename = 10
 fault_number NoMemory = 11
 
 -- the fault of a run, from that of an input: want of memory is the run's own
