@@ -1,5 +1,6 @@
 pub mod Queries
 pub mod QueryEnds
+pub mod StatsTexts
 pub mod NativeInputs
 pub mod WholeRuns
 pub mod InputTexts

@@ -7,4 +7,6 @@ pub mod Form
 pub mod WalkText
 pub mod Load
 pub mod Query
+pub mod StatsText
+pub mod Stats
 pub mod Flushed

@@ -9,5 +9,7 @@ pub mod make_bytes;
 mod make_input;
 pub mod options;
 pub mod query;
+pub mod stats;
+mod stats_text;
 pub mod style;
 mod walk_text;
