@@ -3,7 +3,9 @@
 Each case is a dict. `words` stand behind the program's name; `stdin` is the bytes of standard
 input, a path to open there, or CLOSED; `stdout` is the bytes that it is to write, a path to open
 there, CLOSED, or UNREAD; `errors` is the exact text on standard error, and `status` the exit
-status. No case leaves a file.
+status; with `stderr` that is CLOSED none is open. `files` are there before, and `left` behind it (the same ones, where it is None): bytes, a
+FOLDER, a PIPE or a Link each, by its name. No file may become longer than `most` bytes, where that is a
+number; a `sealed` folder takes no new name.
 """
 
 from files import (
@@ -12,6 +14,7 @@ from files import (
     EMPTY_FILE,
     FIRST_TEXT,
     FOREIGN_FILE,
+    FOUR_FILE,
     LARGE_END,
     LARGE_FILE,
     LARGE_FRONT,
@@ -20,14 +23,13 @@ from files import (
     ONE_FILE,
     TWO_FILE,
     TWO_TEXT,
+    WIDE_FILE,
+    file_of,
     two_with,
+    wide_words,
     words,
 )
-
-# A stream that is not open.
-CLOSED = object()
-# A pipe that nobody reads any more.
-UNREAD = object()
+from places import CLOSED, FOLDER, PIPE, UNREAD, Link
 
 CREATE = ["-c", "-"]
 DUMP = ["-d"]
@@ -40,9 +42,28 @@ NO_INPUT = "input 1: cannot be read"
 NO_DATABASE = "database cannot be read or written"
 
 
-def case(given, stdin, stdout, line=None, status=0):
-    errors = b"" if line is None else b"cdb: %s\n" % line.encode()
-    return dict(words=given, stdin=stdin, stdout=stdout, errors=errors, status=status)
+BAD_WORDS = "bad command line, see cdb -h"
+NO_FILE = "file cannot be opened"
+NO_NAME = "database cannot be renamed"
+NO_OUTPUT = "output cannot be written"
+STOPPED = "stopped at a duplicate key"
+
+
+def case(given, stdin=b"", stdout=b"", line=None, status=0, files=None, left=None, **other):
+    """A case, of which `line` is the text, or the texts, on standard error."""
+    lines = [] if line is None else [line] if isinstance(line, str) else line
+    whole = dict(stderr=None, most=None, sealed=False)
+    whole.update(other)
+    return dict(
+        words=given,
+        stdin=stdin,
+        stdout=stdout,
+        errors=b"".join(b"cdb: %s\n" % it.encode() for it in lines),
+        status=status,
+        files=files or {},
+        left=left,
+        **whole,
+    )
 
 
 def made(text, file):
@@ -74,11 +95,100 @@ def not_read(given, stdin, line):
 
 
 def not_written(given, stdin, stdout):
-    return case(given, stdin, stdout, "output cannot be written", 111)
+    return case(given, stdin, stdout, NO_OUTPUT, 111)
 
 
 def not_understood(*given):
-    return case(list(given), TWO_TEXT, b"", "bad command line, see cdb -h", 2)
+    return case(list(given), TWO_TEXT, b"", BAD_WORDS, 2)
+
+
+def pairs(*values):
+    """The text of records of the key a."""
+    return b"".join(b"+1,%d:a->%s\n" % (len(it), it) for it in values) + b"\n"
+
+
+def of_a(*values):
+    """The database of records of the key a."""
+    return file_of([(b"a", it) for it in values])
+
+
+def again(record, number=1):
+    """The line of a record whose key was there."""
+    return f"input {number}: record {record}: duplicate key"
+
+
+def creates(given, file, stdin=b"", line=None, inputs=None):
+    """A create of the database x, of standard input or of inputs, where an old one stands."""
+    inputs = inputs or {}
+    files = {"x": ONE_FILE, **inputs}
+    return case(given, stdin, b"", line, 0, files, {"x": file, **inputs})
+
+
+def keeps(given, line, stdin=b"", files=None, left=None, **other):
+    """A create that has a fault: the old database x stands as it was, and nothing beside it."""
+    files = {"x": ONE_FILE, **(files or {})}
+    left = files if left is None else {"x": ONE_FILE, **left}
+    return case(given, stdin, b"", line, 111, files, left, **other)
+
+
+def asks(given, value, file=TWO_FILE, line=None, status=0):
+    """A query of the database x."""
+    return case(["-q", *given], b"", value, line, status, {"x": file})
+
+
+def misses(*given, file=TWO_FILE):
+    """A query of the database x for a value that is not there."""
+    return asks(list(given), b"", file, None, 100)
+
+
+def reads(given, file, stdout, line=None, status=0):
+    """A command on the database x, and nothing on standard input."""
+    return case(given, b"", stdout, line, status, {"x": file})
+
+
+def checks(file, line=None, wide=""):
+    """A check of the database x."""
+    return reads([f"-k{wide}", "x"], file, b"", line, 0 if line is None else 100)
+
+
+USAGE = b"""\
+usage: cdb -q [-W] [-m] [-n number] database key
+       cdb -d [-W] [-m] [database]
+       cdb -l [-W] [-m] [database]
+       cdb -s [-W] [database]
+       cdb -c [-W] [-m] [-t temporary] [-weru] database [input ...]
+       cdb -k [-W] [database]
+       cdb -h
+"""
+
+DISTANCES = [f"distance {n}" for n in range(10)] + ["distance 10 or more"]
+
+
+def statistics(records, keys, values, tables, sizes, distances):
+    """The text of statistics, of which the counts at the distances not named are 0."""
+    counts = distances + [0] * (11 - len(distances))
+    lines = [
+        f"records: {records}",
+        f"key lengths least/average/greatest: {keys}",
+        f"value lengths least/average/greatest: {values}",
+        f"tables/entries/collisions: {tables}",
+        f"table sizes least/average/greatest: {sizes}",
+        *(f"{name}: {count}" for name, count in zip(DISTANCES, counts)),
+    ]
+    return "".join(line + "\n" for line in lines).encode()
+
+
+TWO_STATISTICS = statistics(2, "3/3/3", "5/6/7", "2/2/0", "2/2/2", [2])
+FOUR_STATISTICS = statistics(4, "1/1/1", "1/1/1", "1/4/3", "8/8/8", [1, 1, 1, 1])
+NO_STATISTICS = statistics(0, "0/0/0", "0/0/0", "0/0/0", "0/0/0", [])
+
+MAP_TEXT = b"  one Hello\n# note\n\n  # more\n \t\nkey\ntwo\t \tGood bye"
+MAP_FILE = file_of([(b"one", b"Hello"), (b"key", b""), (b"two", b"Good bye")])
+# The two records in words of 8 bytes.
+WIDE_TWO = file_of([(b"one", b"Hello"), (b"two", b"Goodbye")], wide_words)
+# Records of a key that looks like an option, of an empty key, and of any bytes.
+ODD = [(b"-k", b"hyphen"), (b"", b"empty"), (b"a\nb", b"c\0d\ne"), (b"\xc3\xa9", b"\xff")]
+ODD_FILE = file_of(ODD)
 
 
 CASES = {
@@ -144,17 +254,267 @@ CASES = {
     "a large dump to a full device": not_written(DUMP, LARGE_FILE, "/dev/full"),
     "a large dump to a pipe that nobody reads": not_written(DUMP, LARGE_FILE, UNREAD),
     "a damaged dump to a full device": damaged(TWO_FILE[:2070], "/dev/full", not_whole(2064)),
+    # create: words, inputs and modes
+    "a database of standard input": creates(["-c", "x"], TWO_FILE, TWO_TEXT),
+    "a database of standard input by its name": creates(["-c", "x", "-"], TWO_FILE, TWO_TEXT),
+    "a database that is new": case(["-c", "x"], TWO_TEXT, left={"x": TWO_FILE}),
+    "a database of a file": creates(["-c", "x", "in"], TWO_FILE, inputs={"in": TWO_TEXT}),
+    "a database of two files": creates(
+        ["-c", "x", "b", "a"], of_a(b"2", b"1"), inputs={"a": pairs(b"1"), "b": pairs(b"2")}
+    ),
+    "a file, standard input, and the file again": creates(
+        ["-c", "x", "a", "-", "a"], of_a(b"1", b"2", b"1"), pairs(b"2"), inputs={"a": pairs(b"1")}
+    ),
+    "standard input twice": creates(["-c", "x", "-", "-"], of_a(b"1", b"2"), pairs(b"1") + pairs(b"2")),
+    "standard input twice, with one text": keeps(
+        ["-c", "x", "-", "-"], f"input 2: byte 0: {EARLY}", pairs(b"1")
+    ),
+    "the database as an input": creates(
+        ["-c", "x", "x"], of_a(b"1")
+    ) | dict(files={"x": pairs(b"1")}, left={"x": of_a(b"1")}),
+    "a large database": creates(["-c", "x"], LARGE_FILE, LARGE_TEXT),
+    "an empty database": creates(["-c", "x"], EMPTY_FILE, b"\n"),
+    "a map": creates(["-c", "-m", "x"], MAP_FILE, MAP_TEXT),
+    "a map, letters in one word": creates(["-cm", "x"], MAP_FILE, MAP_TEXT),
+    "an empty map": creates(["-cm", "x"], EMPTY_FILE),
+    "a map on standard output": case(["-cm", "-"], MAP_TEXT, MAP_FILE),
+    "letters behind the names": creates(["x", "-m", "-c"], MAP_FILE, MAP_TEXT),
+    "a database named like an option": case(
+        ["-c", "--", "-k", "in"], files={"in": TWO_TEXT}, left={"in": TWO_TEXT, "-k": TWO_FILE}
+    ),
+    "duplicates": creates(["-c", "x"], of_a(b"1", b"2"), pairs(b"1", b"2")),
+    "duplicates with a warning": creates(["-cw", "x"], of_a(b"1", b"2"), pairs(b"1", b"2"), again(2)),
+    "duplicates left out": creates(["-cu", "x"], of_a(b"1"), pairs(b"1", b"2")),
+    "duplicates left out with a warning": creates(["-cuw", "x"], of_a(b"1"), pairs(b"1", b"2"), again(2)),
+    "duplicates replaced": creates(["-cr", "x"], of_a(b"2"), pairs(b"1", b"2")),
+    "duplicates replaced with a warning": creates(["-crw", "x"], of_a(b"2"), pairs(b"1", b"2"), again(2)),
+    "three values and two warnings": creates(
+        ["-cw", "x"], of_a(b"1", b"2", b"3"), pairs(b"1", b"2", b"3"), [again(2), again(3)]
+    ),
+    "a duplicate that ends the run": keeps(["-ce", "x"], [again(2), STOPPED], pairs(b"1", b"2")),
+    "the same with a warning": keeps(["-cew", "x"], [again(2), STOPPED], pairs(b"1", b"2")),
+    "the same where it would be replaced": keeps(["-cer", "x"], [again(2), STOPPED], pairs(b"1", b"2")),
+    "the same where it would be left out": keeps(["-ceu", "x"], [again(2), STOPPED], pairs(b"1", b"2")),
+    "no duplicate that ends the run": creates(["-ce", "x"], TWO_FILE, TWO_TEXT),
+    "a duplicate in a second input": creates(
+        ["-cw", "x", "a", "-"], of_a(b"1", b"2"), pairs(b"2"), again(1, 2), {"a": pairs(b"1")}
+    ),
+    "a warning on standard output's database": case(
+        ["-cw", "-"], pairs(b"1", b"2"), of_a(b"1", b"2"), again(2)
+    ),
+    "a duplicate that ends a run on standard output": case(
+        ["-ce", "-"], pairs(b"1", b"2"), b"", [again(2), STOPPED], 111
+    ),
+    "a file on standard output": case(["-c", "-", "in"], b"", TWO_FILE, files={"in": TWO_TEXT}),
+    "a temporary file on standard output has no effect": case(["-c", "-t", "y", "-"], TWO_TEXT, TWO_FILE),
+    # create: the temporary file, and the old database
+    "a temporary file of a name": creates(["-c", "-t", "y", "x"], TWO_FILE, TWO_TEXT),
+    "no temporary file": creates(["-c", "-t", "-", "x"], TWO_FILE, TWO_TEXT),
+    "the database as the temporary file": creates(["-c", "-t", "x", "x"], TWO_FILE, TWO_TEXT),
+    "in place, of a shorter database": creates(["-c", "-t-", "x"], EMPTY_FILE, b"\n"),
+    "in place, a faulty text": case(
+        ["-c", "-t", "-", "x"], b"*", b"", f"input 1: byte 0: {NO_RECORD}", 111,
+        {"x": LARGE_FILE}, {"x": b""},
+    ),
+    "in place, a folder": case(
+        ["-c", "-t", "-", "x"], TWO_TEXT, b"", NO_FILE, 111, {"x": FOLDER}
+    ),
+    "an old temporary file": creates(["-c", "x"], TWO_FILE, TWO_TEXT)
+    | dict(files={"x": ONE_FILE, "x.tmp": b"old"}, left={"x": TWO_FILE}),
+    "a temporary file that is a link": creates(["-c", "x"], TWO_FILE, TWO_TEXT)
+    | dict(files={"x": ONE_FILE, "x.tmp": Link("y"), "y": b"kept"}, left={"x": TWO_FILE, "y": b"kept"}),
+    "a fault, and a temporary file that is a link": keeps(
+        ["-c", "x"], f"input 1: byte 0: {NO_RECORD}", b"*",
+        {"x.tmp": Link("y"), "y": b"kept"}, {"y": b"kept"},
+    ),
+    "an input that is the old temporary file": case(
+        ["-c", "x", "x.tmp"], files={"x.tmp": TWO_TEXT}, left={"x": TWO_FILE}
+    ),
+    "a temporary file that is a folder": keeps(["-c", "x"], NO_FILE, TWO_TEXT, {"x.tmp": FOLDER}),
+    "a temporary file in no folder": keeps(["-c", "-t", "no/y", "x"], NO_FILE, TWO_TEXT),
+    "a temporary file that is a pipe": keeps(["-c", "x"], NO_FILE, TWO_TEXT, {"x.tmp": PIPE}),
+    "a database that is a folder": case(["-c", "x"], TWO_TEXT, b"", NO_NAME, 111, {"x": FOLDER}),
+    "a database in no folder": case(["-c", "no/x"], TWO_TEXT, b"", NO_FILE, 111),
+    "a database of no name": case(["-c", ""], TWO_TEXT, b"", NO_NAME, 111),
+    "a folder that takes no name": keeps(["-c", "x"], NO_FILE, TWO_TEXT, sealed=True),
+    "an input that is missing": keeps(["-c", "x", "in"], NO_FILE),
+    "a second input that is missing": keeps(["-c", "x", "in", "no"], NO_FILE, files={"in": TWO_TEXT}),
+    "an input that is a folder": keeps(["-c", "x", "in"], NO_INPUT, files={"in": FOLDER}),
+    "no standard input": keeps(["-c", "x"], NO_INPUT, CLOSED),
+    "a faulty input": keeps(["-c", "x"], f"input 1: byte 20: {NO_RECORD}", FIRST_TEXT + b"+3,7;"),
+    "a faulty second input": keeps(
+        ["-c", "x", "a", "b"], f"input 2: byte 0: {NO_RECORD}", files={"a": TWO_TEXT, "b": b"x"}
+    ),
+    "a length above the greatest": keeps(["-c", "x"], f"input 1: byte 10: {LARGE_LENGTH}", b"+4294967296,0:"),
+    "a device that is full": keeps(["-c", "x"], NO_DATABASE, LARGE_TEXT, most=100000),
+    "a device that is full at the end": keeps(["-c", "x"], NO_DATABASE, LARGE_TEXT, most=len(LARGE_FILE) - 1),
+    "a warning on no standard error": keeps(["-cw", "x"], None, pairs(b"1", b"2"), stderr=CLOSED),
+    "no warning on no standard error": creates(["-cw", "x"], TWO_FILE, TWO_TEXT) | dict(stderr=CLOSED),
+    "a named database, and a full device as output": case(
+        ["-c", "x"], TWO_TEXT, "/dev/full", left={"x": TWO_FILE}
+    ),
+    "a named database, and no standard output": case(["-c", "x"], TWO_TEXT, CLOSED, left={"x": TWO_FILE}),
+    # query
+    "a value": asks(["x", "one"], b"Hello"),
+    "a value in a line": asks(["-m", "x", "one"], b"Hello\n"),
+    "four values": asks(["x", "a"], b"1234", FOUR_FILE),
+    "four values in lines": asks(["-m", "x", "a"], b"1\n2\n3\n4\n", FOUR_FILE),
+    "the first of four": asks(["-n", "1", "x", "a"], b"1", FOUR_FILE),
+    "the last of four": asks(["-n4", "x", "a"], b"4", FOUR_FILE),
+    "the third in a line": asks(["-mn", "3", "x", "a"], b"3\n", FOUR_FILE),
+    "leading zeros of a number": asks(["-n", "002", "x", "a"], b"2", FOUR_FILE),
+    "more than there are": misses("-n", "5", "x", "a", file=FOUR_FILE),
+    "the greatest number": misses("-n", "4294967295", "x", "a", file=FOUR_FILE),
+    "no such key": misses("x", "three"),
+    "no such key in a large database": misses("x", "\x01\x02\x03", file=LARGE_FILE),
+    "no such key in zeros": misses("x", "one", file=bytes(2048)),
+    "a key that begins with a hyphen": asks(["x", "--", "-k"], b"hyphen", ODD_FILE),
+    "an empty key": asks(["x", ""], b"empty", ODD_FILE),
+    "a key and a value with newlines": asks(["x", "a\nb"], b"c\0d\ne", ODD_FILE),
+    "a key of two bytes in one letter": asks(["x", "\u00e9"], b"\xff", ODD_FILE),
+    "a key that is no text": case(["-q", "x", b"\xff"], line=BAD_WORDS, status=2, files={"x": TWO_FILE}),
+    "a key that is another one's front": misses("x", "on"),
+    "a query of another program's file": asks(["x", "a"], b"1", FOREIGN_FILE),
+    "a query of a file named by a hyphen": case(["-q", "-", "one"], b"", b"Hello", files={"-": TWO_FILE}),
+    "a query of no such file": case(["-q", "x", "one"], line=NO_FILE, status=111),
+    "a query of standard input": case(["-q", "-", "one"], TWO_FILE, b"", NO_FILE, 111),
+    "a query of a folder": case(["-q", "x", "one"], line=NO_DATABASE, status=111, files={"x": FOLDER}),
+    "a query of a cut head": asks(["x", "one"], b"", TWO_FILE[:2047], SHORT, 111),
+    "a query of a table outside": asks(
+        ["x", "two"], b"", two_with(8 * 41, words(2114, 1)), outside(41), 111
+    ),
+    "a query beside a table outside": asks(["x", "one"], b"Hello", two_with(56, words(2114, 1))),
+    "a query of a wrong slot": asks(["x", "two"], b"", two_with(2086, b"\x11"), not_whole(2065), 111),
+    "a query of a slot taken away": misses("x", "one", file=two_with(2106, bytes(8))),
+    "a query of a value too long": asks(["x", "two"], b"Goodbye\x29", two_with(2068, b"\x08")),
+    "a query to a full device": case(["-q", "x", "one"], b"", "/dev/full", NO_OUTPUT, 111, {"x": TWO_FILE}),
+    "a query to a pipe that nobody reads": case(["-q", "x", "one"], b"", UNREAD, NO_OUTPUT, 111, {"x": TWO_FILE}),
+    "a query to no standard output": case(["-q", "x", "one"], b"", CLOSED, NO_OUTPUT, 111, {"x": TWO_FILE}),
+    "a missing value to a full device": case(["-q", "x", "1"], b"", "/dev/full", None, 100, {"x": TWO_FILE}),
+    # dump and list
+    "a dump of a name": reads(["-d", "x"], TWO_FILE, TWO_TEXT),
+    "a dump of a hyphen": case(["-d", "-"], TWO_FILE, TWO_TEXT),
+    "a dump as a map": reads(["-dm", "x"], TWO_FILE, b"one Hello\ntwo Goodbye\n"),
+    "a dump of standard input as a map": case(["-d", "-m"], TWO_FILE, b"one Hello\ntwo Goodbye\n"),
+    "a dump of no record as a map": case(["-dm"], EMPTY_FILE),
+    "a dump of no such file": case(["-d", "x"], line=NO_FILE, status=111),
+    "a dump of a folder by its name": reads(["-d", "x"], FOLDER, b"", NO_DATABASE, 111),
+    "a dump of a damaged name": reads(["-d", "x"], TWO_FILE[:2070], FIRST_TEXT, not_whole(2064), 111),
+    "a list": case(["-l"], TWO_FILE, b"+3:one\n+3:two\n\n"),
+    "a list of a name": reads(["-l", "x"], TWO_FILE, b"+3:one\n+3:two\n\n"),
+    "a list as a map": reads(["-lm", "x"], TWO_FILE, b"one\ntwo\n"),
+    "a list of no record": case(["-l"], EMPTY_FILE, b"\n"),
+    "a list of no record as a map": case(["-lm"], EMPTY_FILE),
+    "a list of no such file": case(["-l", "x"], line=NO_FILE, status=111),
+    "a list of a cut head": case(["-l"], TWO_FILE[:2047], b"", SHORT, 111),
+    "a list of a cut record": case(["-l"], TWO_FILE[:2070], b"+3:one\n", not_whole(2064), 111),
+    "a list of a folder": case(["-l"], "/", b"", NO_DATABASE, 111),
+    "a list to a full device": not_written(["-l"], TWO_FILE, "/dev/full"),
+    "a list to a pipe that nobody reads": not_written(["-l"], TWO_FILE, UNREAD),
+    "a list to no standard output": not_written(["-l"], TWO_FILE, CLOSED),
+    # statistics
+    "statistics": case(["-s"], TWO_FILE, TWO_STATISTICS),
+    "statistics of a hyphen": case(["-s", "-"], TWO_FILE, TWO_STATISTICS),
+    "statistics of a name": reads(["-s", "x"], TWO_FILE, TWO_STATISTICS),
+    "statistics of four values": reads(["-s", "x"], FOUR_FILE, FOUR_STATISTICS),
+    "statistics of no record": reads(["-s", "x"], EMPTY_FILE, NO_STATISTICS),
+    "statistics of no such file": case(["-s", "x"], line=NO_FILE, status=111),
+    "statistics of a folder": reads(["-s", "x"], FOLDER, b"", NO_DATABASE, 111),
+    "statistics of a folder as standard input": case(["-s"], "/", b"", NO_DATABASE, 111),
+    "statistics of a cut head": case(["-s"], TWO_FILE[:2047], b"", SHORT, 111),
+    "statistics of a table outside": case(["-s"], two_with(56, words(2114, 1)), b"", outside(7), 111),
+    "statistics of a value too long": case(["-s"], two_with(2068, b"\x08"), b"", not_whole(2064), 111),
+    "statistics of a wrong slot": case(["-s"], two_with(2086, b"\x11"), TWO_STATISTICS),
+    "statistics to a full device": not_written(["-s"], TWO_FILE, "/dev/full"),
+    "statistics to a pipe that nobody reads": not_written(["-s"], TWO_FILE, UNREAD),
+    "statistics to no standard output": not_written(["-s"], TWO_FILE, CLOSED),
+    # check
+    "a check": checks(TWO_FILE),
+    "a check of standard input": case(["-k"], TWO_FILE),
+    "a check of a hyphen": case(["-k", "-"], TWO_FILE),
+    "a check of a large file": checks(LARGE_FILE),
+    "a check of no record": checks(EMPTY_FILE),
+    "a check of zeros": checks(bytes(2048)),
+    "a check of another program's file": checks(FOREIGN_FILE),
+    "a check of bytes behind the tables": checks(TWO_FILE + b"12345"),
+    "a check of a cut head": checks(TWO_FILE[:2047], SHORT),
+    "a check of a cut head on standard input": case(["-k"], TWO_FILE[:2047], b"", SHORT, 100),
+    "a check of a table outside": checks(two_with(56, words(2114, 1)), outside(7)),
+    "a check of a table in the head": checks(two_with(0, words(100, 1)), outside(0)),
+    "a check of a cut file": checks(TWO_FILE[:2070], outside(41)),
+    "a check of a value too long": checks(two_with(2068, b"\x08"), not_whole(2064)),
+    "a check of a wrong slot": checks(two_with(2086, b"\x11"), "table 41: slot 0: wrong"),
+    "a check of a slot taken away": checks(two_with(2106, bytes(8)), "record at 2048: in no slot"),
+    "a check of two slots of one record": checks(
+        FOUR_FILE[:2092] + b"\x14" + FOUR_FILE[2093:], "record at 2068: in two slots"
+    ),
+    "a check of no such file": case(["-k", "x"], line=NO_FILE, status=111),
+    "a check of a folder": reads(["-k", "x"], FOLDER, b"", NO_DATABASE, 111),
+    "a check of a folder as standard input": case(["-k"], "/", b"", NO_DATABASE, 111),
+    "a check of no standard input": case(["-k"], CLOSED, b"", NO_DATABASE, 111),
+    "a check to no standard output": case(["-k"], TWO_FILE, CLOSED),
+    # words of 8 bytes
+    "a wide database": creates(["-cW", "x"], WIDE_FILE, FIRST_TEXT + b"\n"),
+    "a wide database on standard output": case(["-c", "-W", "-"], FIRST_TEXT + b"\n", WIDE_FILE),
+    "a wide database of no record": case(["-c", "-W", "-"], b"\n", wide_words(4096, 0) * 256),
+    "a wide map": creates(["-cWm", "x"], file_of([(b"a", b"1")], wide_words), b"a 1\n"),
+    "a wide database with a warning": creates(
+        ["-cWw", "x"], file_of([(b"a", b"1"), (b"a", b"2")], wide_words), pairs(b"1", b"2"), again(2)
+    ),
+    "a long length in a wide database": case(
+        ["-cW", "-"], b"+4294967296,0:", b"", f"input 1: byte 14: {EARLY}", 111
+    ),
+    "a length above the greatest in a wide database": case(
+        ["-cW", "-"], b"+9223372036854775808,0:", b"", f"input 1: byte 19: {LARGE_LENGTH}", 111
+    ),
+    "a wide value": case(["-qW", "x", "two"], b"", b"Goodbye", files={"x": WIDE_TWO}),
+    "a wide dump": reads(["-dW", "x"], WIDE_TWO, TWO_TEXT),
+    "a wide list": case(["-W", "-l"], WIDE_TWO, b"+3:one\n+3:two\n\n"),
+    "wide statistics": case(["-sW"], WIDE_TWO, TWO_STATISTICS),
+    "a wide check": checks(WIDE_TWO, wide="W"),
+    "a wide check of a cut head": checks(WIDE_TWO[:4095], SHORT, wide="W"),
+    "a wide check of a narrow file": checks(TWO_FILE, SHORT, wide="W"),
+    # help, and words that are not understood
+    "help": case(["-h"], b"", USAGE),
+    "help before all else": case(["-h", "-q", "-d"], b"", USAGE),
+    "help with names": case(["x", "-h", "y"], b"", USAGE),
+    "help to a full device": not_written(["-h"], b"", "/dev/full"),
+    "help to a pipe that nobody reads": not_written(["-h"], b"", UNREAD),
+    "help to no standard output": not_written(["-h"], b"", CLOSED),
     "no words": not_understood(),
     "an empty word": not_understood(""),
-    "no letter": not_understood("-"),
+    "a hyphen alone": not_understood("-"),
+    "a name alone": not_understood("x"),
+    "a width alone": not_understood("-W"),
     "no database": not_understood("-c"),
-    "a name that is not taken yet": not_understood("-c", "x"),
-    "an input that is not taken yet": not_understood("-c", "-", "-"),
-    "the name first": not_understood("-", "-c"),
-    "a dump of a name": not_understood("-d", "x"),
     "two commands": not_understood("-cd"),
-    "a command twice": not_understood("-d", "-d"),
+    "two commands apart": not_understood("-q", "-d", "x"),
+    "a command twice": case(["-d", "-d"], TWO_FILE, TWO_TEXT),
+    "a letter twice": asks(["-qm", "-m", "x", "one"], b"Hello\n"),
     "another letter": not_understood("-Z"),
+    "a letter of another program": not_understood("-c", "-p", "644", "x"),
     "a long word": not_understood("--dump"),
     "a word that is no text": not_understood(b"\xff\xfe"),
+    "a query of one name": not_understood("-q", "x"),
+    "a query of three names": not_understood("-q", "x", "y", "z"),
+    "a dump of two names": not_understood("-d", "x", "y"),
+    "a list of two names": not_understood("-l", "x", "y"),
+    "statistics of two names": not_understood("-s", "x", "y"),
+    "a check of two names": not_understood("-k", "x", "y"),
+    "replaced and left out": not_understood("-cru", "x"),
+    "statistics as a map": not_understood("-sm"),
+    "a check as a map": not_understood("-km"),
+    "a number for a dump": not_understood("-d", "-n", "1"),
+    "a number for a create": not_understood("-c", "-n", "1", "x"),
+    "a temporary file for a query": not_understood("-q", "-t", "y", "x", "one"),
+    "a mode for a query": not_understood("-qw", "x", "one"),
+    "a mode for a dump": not_understood("-dr"),
+    "a mode for a list": not_understood("-lu"),
+    "a mode for statistics": not_understood("-se"),
+    "a number of nothing": not_understood("-q", "-n", "0", "x", "one"),
+    "a number that is too large": not_understood("-q", "-n", "4294967296", "x", "one"),
+    "a number with a sign": not_understood("-q", "-n", "+1", "x", "one"),
+    "a number that is empty": not_understood("-q", "-n", "", "x", "one"),
+    "a number twice": not_understood("-q", "-n", "1", "-n", "2", "x", "one"),
+    "a number that is missing": not_understood("-q", "x", "one", "-n"),
 }

@@ -17,6 +17,11 @@ def words(*numbers):
     return struct.pack("<%dI" % len(numbers), *numbers)
 
 
+def wide_words(*numbers):
+    """Words of 8 bytes, the lowest byte first."""
+    return struct.pack("<%dQ" % len(numbers), *numbers)
+
+
 EMPTY_FILE = words(2048, 0) * 256
 BARE_FILE = (
     words(2056, 0) * 5 + words(2056, 2) + words(2072, 0) * 250
@@ -37,6 +42,12 @@ TWO_FILE = (
     + words(193421353, 2064, 0, 0)
     + words(0, 0, 193420161, 2048)
 )
+# One record in words of 8 bytes.
+WIDE_FILE = (
+    wide_words(4120, 0) * 129 + wide_words(4120, 2) + wide_words(4152, 0) * 126
+    + wide_words(3, 5) + b"oneHello"
+    + wide_words(0, 0, 193420161, 4096)
+)
 # As another program might make it: tables of one slot, and no place where a table is empty.
 FOREIGN_FILE = (
     words(0, 0) * 196 + words(2058, 1) + words(0, 0) * 59
@@ -48,6 +59,15 @@ FOREIGN_FILE = (
 def two_with(place, new):
     """The file of two records with other bytes at a place."""
     return TWO_FILE[:place] + new + TWO_FILE[place + len(new):]
+
+
+# Four values of one key.
+FOUR_FILE = (
+    words(2088, 0) * 196 + words(2088, 8) + words(2152, 0) * 59
+    + words(1, 1) + b"a1" + words(1, 1) + b"a2" + words(1, 1) + b"a3" + words(1, 1) + b"a4"
+    + words(177604, 2078) + words(0, 0) * 4
+    + words(177604, 2048, 177604, 2058, 177604, 2068)
+)
 
 
 def many_records():
@@ -73,7 +93,7 @@ def hash_of(key):
     return number
 
 
-def table_of(entries):
+def table_of(entries, words):
     """The table of some hashes and places: each in the first empty slot from its own on."""
     slots = [(0, 0)] * (2 * len(entries))
     for number, place in entries:
@@ -84,16 +104,16 @@ def table_of(entries):
     return b"".join(words(*slot) for slot in slots)
 
 
-def file_of(records):
-    """The database of some records."""
-    body, lists = b"", [[] for _ in range(256)]
+def file_of(records, words=words):
+    """The database of some records, in words of 4 bytes or others."""
+    body, lists, begin = b"", [[] for _ in range(256)], 256 * len(words(0, 0))
     for key, value in records:
-        lists[hash_of(key) % 256].append((hash_of(key), 2048 + len(body)))
+        lists[hash_of(key) % 256].append((hash_of(key), begin + len(body)))
         body += words(len(key), len(value)) + key + value
     head, tables = b"", b""
     for entries in lists:
-        head += words(2048 + len(body) + len(tables), 2 * len(entries))
-        tables += table_of(entries)
+        head += words(begin + len(body) + len(tables), 2 * len(entries))
+        tables += table_of(entries, words)
     return head + body + tables
 
 

@@ -6,11 +6,20 @@
 
 import contextlib
 import os
+import resource
+import signal
+import stat
 import subprocess
 import sys
 import tempfile
 
-from cases import CASES, CLOSED, UNREAD
+from cases import CASES
+from places import CLOSED, FOLDER, PIPE, UNREAD, Link
+
+# The permissions that a new file is to have, with the mask that the program is run with.
+MASK = 0o027
+MADE = 0o640
+NOBODY = 65534
 
 
 def opened(stream, flags, streams):
@@ -26,43 +35,110 @@ def opened(stream, flags, streams):
     return descriptor
 
 
-def run(program, words, stdin, stdout):
-    """Status, output, errors, and the files left."""
+def place(folder, files):
+    """Makes the files of a case, readable by all."""
+    for name, what in files.items():
+        path = os.path.join(folder, name)
+        if what is FOLDER:
+            os.mkdir(path)
+        elif what is PIPE:
+            os.mkfifo(path)
+        elif isinstance(what, Link):
+            os.symlink(what.target, path)
+        else:
+            with open(path, "wb") as file:
+                file.write(what)
+
+
+def found_at(path):
+    """What stands at a path: a folder, a pipe, a link, or a file's bytes."""
+    if os.path.islink(path):
+        return Link(os.readlink(path))
+    if os.path.isdir(path):
+        return FOLDER
+    if stat.S_ISFIFO(os.stat(path).st_mode):
+        return PIPE
+    with open(path, "rb") as file:
+        return file.read()
+
+
+def found_in(folder):
+    """All that stands in a folder, and the permissions of its files."""
+    names = os.listdir(folder)
+    files = {name: found_at(os.path.join(folder, name)) for name in names}
+    modes = {name: os.lstat(os.path.join(folder, name)).st_mode & 0o777 for name in names}
+    return files, modes
+
+
+def prepared(case, closed):
+    """What the program's process does before it becomes the program."""
+
+    def prepare():
+        os.umask(MASK)
+        for number in closed:
+            os.close(number)
+        if case["most"] is not None:
+            signal.signal(signal.SIGXFSZ, signal.SIG_IGN)
+            resource.setrlimit(resource.RLIMIT_FSIZE, (case["most"], case["most"]))
+        if case["sealed"] and os.getuid() == 0:
+            os.setgid(NOBODY)
+            os.setuid(NOBODY)
+
+    return prepare
+
+
+def run(program, case, folder):
+    """Status, output and errors."""
+    stdin, stdout = case["stdin"], case["stdout"]
     how = {"stdout": subprocess.PIPE, "input": stdin}
-    with tempfile.TemporaryDirectory() as folder, contextlib.ExitStack() as streams:
+    with contextlib.ExitStack() as streams:
         if not isinstance(stdin, bytes):
             del how["input"]
             how["stdin"] = opened(stdin, os.O_RDONLY, streams)
         if not isinstance(stdout, bytes):
             how["stdout"] = opened(stdout, os.O_WRONLY, streams)
-        closed = [number for number, it in enumerate((stdin, stdout)) if it is CLOSED]
+        places = (stdin, stdout, case["stderr"])
+        closed = [number for number, it in enumerate(places) if it is CLOSED]
         done = subprocess.run(
-            [program, *words],
+            [program, *case["words"]],
             cwd=folder,
             env={},
             timeout=60,
             stderr=subprocess.PIPE,
-            preexec_fn=lambda: [os.close(number) for number in closed],
+            preexec_fn=prepared(case, closed),
             **how,
         )
-        return done.returncode, done.stdout, done.stderr, sorted(os.listdir(folder))
+        return done.returncode, done.stdout, done.stderr
+
+
+def short(what):
+    """What was found, told in a few words."""
+    return f"{what!r:.300}"
 
 
 def wrong_with(program, case):
     """What a case left otherwise than it is to."""
-    status, output, errors, files = run(program, case["words"], case["stdin"], case["stdout"])
+    with tempfile.TemporaryDirectory() as folder:
+        os.chmod(folder, 0o755)
+        place(folder, case["files"])
+        before, _ = found_in(folder)
+        if case["sealed"]:
+            os.chmod(folder, 0o555)
+        status, output, errors = run(program, case, folder)
+        files, modes = found_in(folder)
+        os.chmod(folder, 0o755)
     wanted = case["stdout"] if isinstance(case["stdout"], bytes) else None
+    left = before if case["left"] is None else case["left"]
+    new = {name: modes[name] for name in files if name not in before}
     found = [
         ("status", status, case["status"]),
         ("output", output, wanted),
         ("errors", errors, case["errors"]),
-        ("files", files, []),
+        ("files", sorted(files), sorted(left)),
+        *((name, files.get(name), what) for name, what in left.items()),
+        *((f"permissions of {name}", mode, MADE) for name, mode in new.items()),
     ]
-    return [
-        f"{what}: {got!r:.300} and not {want!r:.300}"
-        for what, got, want in found
-        if got != want
-    ]
+    return [f"{what}: {short(got)} and not {short(want)}" for what, got, want in found if got != want]
 
 
 def main():

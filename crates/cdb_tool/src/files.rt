@@ -51,9 +51,14 @@ pub(crate) fn opened_store<R: Files<File = File>>(
     }
 }
 
-/// Removes the file of this name, if there is one and that can be done.
+/// Removes what has this name, if that is a file or a link and can be removed. A device or a pipe of
+/// that name stays.
 pub(crate) fn remove<R: Files<File = File>>(rt: &R, name: &str) {
-    let _ = fs::remove_file(rt, name);
+    if let Ok(found) = fs::symlink_metadata(rt, name)
+        && (found.is_file() || found.is_symlink())
+    {
+        let _ = fs::remove_file(rt, name);
+    }
 }
 
 /// Gives a file the name of a database, in the place of one that had it.

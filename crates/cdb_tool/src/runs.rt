@@ -1,6 +1,7 @@
 // What the program is asked to do, a run each.
+pub mod check;
 pub mod dump;
-mod flushed;
+pub(crate) mod flushed;
 mod input_reader;
 pub mod list;
 pub mod load;
