@@ -51,11 +51,7 @@ impl Creation<'_> {
             style,
             limit: _,
         } = self.options;
-        self.inputs.is_empty()
-            && mode == Mode::Add
-            && !warn
-            && !stop
-            && style == Style::Native
+        self.inputs.is_empty() && mode == Mode::Add && !warn && !stop && style == Style::Native
     }
 }
 

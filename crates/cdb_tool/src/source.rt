@@ -63,7 +63,9 @@ pub(crate) fn sources_of<R: Files<File = File>, I: Read + Drop>(
     let shared = Rc::new(alloc, window).map_err(AllocError::from)?;
     let mut sources = Vec::new(alloc);
     if names.is_empty() {
-        sources.push(Source::Standard(Rc::clone(&shared)?)).map_err(AllocError::from)?;
+        sources
+            .push(Source::Standard(Rc::clone(&shared)?))
+            .map_err(AllocError::from)?;
     }
     for name in names {
         let source = source_of(rt, alloc, name.as_str(), &shared)?;

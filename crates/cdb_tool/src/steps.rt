@@ -26,13 +26,7 @@ const WINDOW: usize = 65536;
 
 /// Does what the words ask for, of which the first is the program's name, and answers the exit
 /// status. A fault has its line on `errors`, as far as that takes it.
-pub(crate) fn run<R, I, O, E>(
-    rt: &R,
-    words: Vec<String>,
-    input: I,
-    output: O,
-    errors: &mut E,
-) -> u8
+pub(crate) fn run<R, I, O, E>(rt: &R, words: Vec<String>, input: I, output: O, errors: &mut E) -> u8
 where
     R: Files<File = File> + AllocGlobal,
     I: Read + Drop,

@@ -9,5 +9,6 @@ mod making;
 mod querying;
 mod refusals;
 mod running;
+mod stepping;
 mod streams;
 mod worked;

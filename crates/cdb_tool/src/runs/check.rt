@@ -10,6 +10,9 @@ pub fn check_run<S: Store, L: Width>(alloc: Global, store: S) -> (S, Result<(), 
         Ok(reader) => reader,
         Err(unread) => return (unread.store, Err(Fault::from(unread.fault))),
     };
-    let answer = match stats(&mut reader) { Ok(_) => Ok(()), Err(fault) => Err(Fault::from(fault)) };
+    let answer = match stats(&mut reader) {
+        Ok(_) => Ok(()),
+        Err(fault) => Err(Fault::from(fault))
+    };
     (reader.into_store(), answer)
 }
