@@ -2,7 +2,9 @@
 # make demo       builds it and shows it at work on a small alias map
 # make test       the gate: proves everything from nothing and runs every test
 # make faults     builds it and refuses its asks for memory, each in turn (wants a C compiler)
-# make install    installs cdb below $(DESTDIR)$(PREFIX)
+# make install    installs cdb and its manual pages below $(DESTDIR)$(PREFIX)
+# make uninstall  takes them away again
+# make interop    compares it with the cdb programs that are installed
 # make bench      times it beside tinycdb and freecdb, where they are installed
 # make clean      removes what was built, and the proofs that were kept
 
@@ -14,7 +16,7 @@ PYTHON ?= python3
 SOURCES := $(shell find crates \( -name out -o -name tests -o -name tests.rt \) -prune -o \
 	-type f \( -name '*.rt' -o -name '*.antt' \) -print) crates.txt
 
-.PHONY: all demo test faults install bench clean
+.PHONY: all demo test faults install uninstall interop bench clean
 
 all: bin/cdb
 
@@ -30,6 +32,8 @@ demo:
 test:
 	$(RT) ci
 	$(PYTHON) tests/cli/run.py crates/cdb_tool/out/cdb_tool
+	$(PYTHON) tests/cli/pages.py crates/cdb_tool/out/cdb_tool
+	$(PYTHON) tests/cli/kills.py crates/cdb_tool/out/cdb_tool
 	@if command -v $(firstword $(CC)) > /dev/null; then \
 		$(MAKE) -s bin/refuse.so && \
 		$(PYTHON) tests/faults/run.py crates/cdb_tool/out/cdb_tool bin/refuse.so && \
@@ -47,6 +51,16 @@ bin/refuse.so: tests/faults/refuse.c
 
 install: bin/cdb
 	install -D -m 755 bin/cdb $(DESTDIR)$(PREFIX)/bin/cdb
+	install -D -m 644 man/cdb.1 $(DESTDIR)$(PREFIX)/share/man/man1/cdb.1
+	install -D -m 644 man/cdb.5 $(DESTDIR)$(PREFIX)/share/man/man5/cdb.5
+
+uninstall:
+	rm -f $(DESTDIR)$(PREFIX)/bin/cdb
+	rm -f $(DESTDIR)$(PREFIX)/share/man/man1/cdb.1
+	rm -f $(DESTDIR)$(PREFIX)/share/man/man5/cdb.5
+
+interop: bin/cdb
+	$(PYTHON) tests/interop/run.py bin/cdb
 
 bench: bin/cdb
 	$(PYTHON) bench/run.py --cdb bin/cdb

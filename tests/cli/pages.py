@@ -1,0 +1,102 @@
+#!/usr/bin/env python3
+"""Compares the manual page with what the program says of itself.
+
+    tests/cli/pages.py PROGRAM
+
+The synopsis is to be the usage text, each letter of it is to be described, and each line that the
+cases of cases.py await on standard error is to stand among the diagnostics.
+"""
+
+import os
+import re
+import subprocess
+import sys
+
+from cases import CASES
+
+HERE = os.path.dirname(os.path.abspath(__file__))
+PAGE = os.path.join(HERE, "..", "..", "man", "cdb.1")
+# What stands in a diagnostic in place of a number.
+NUMBER = "[A-Z]"
+
+
+def section(page, name):
+    """The lines of a section."""
+    lines = page.split(f".Sh {name}\n")[1].split("\n.Sh ")[0]
+    return lines.split("\n")
+
+
+def said(words):
+    """What a line of macros says: letters get their hyphens."""
+    shown, is_letter = [], False
+    for word in words:
+        if word in ("Fl", "Ar"):
+            is_letter = word == "Fl"
+        else:
+            shown.append(f"-{word}" if is_letter else word)
+            is_letter = False
+    return " ".join(shown)
+
+
+def usage_of(page):
+    """The usage text that the synopsis tells."""
+    lines = []
+    for line in section(page, "SYNOPSIS"):
+        macro, *words = line.lstrip(".").split()
+        if macro == "Nm":
+            lines.append(["cdb"])
+        elif macro == "Op":
+            lines[-1].append(f"[{said(words)}]")
+        else:
+            lines[-1].append(said([macro, *words]))
+    texts = [" ".join(line) for line in lines]
+    return "".join(
+        f"{'usage:' if n == 0 else '      '} {text}\n" for n, text in enumerate(texts)
+    )
+
+
+def letters_of(usage):
+    """The letters of a usage text."""
+    return {letter for word in re.findall(r"-(\w+)", usage) for letter in word}
+
+
+def described_in(page):
+    """The letters that the page describes: those of a list, and the commands in the text."""
+    return set(re.findall(r"^\.(?:It )?Fl (\w)\b", page.split(".Sh DESCRIPTION")[1], re.M))
+
+
+def diagnostics_of(page):
+    """For each diagnostic what a line is to look like."""
+    texts = re.findall(r'^\.It "(.*)"$', page, re.M)
+    return [re.compile(re.sub(rf"\b{NUMBER}\b", r"\\d+", re.escape(text))) for text in texts]
+
+
+def main():
+    if len(sys.argv) != 2:
+        sys.exit(__doc__)
+    with open(PAGE, encoding="utf-8") as file:
+        page = file.read()
+    usage = subprocess.run([sys.argv[1], "-h"], capture_output=True, check=True).stdout.decode()
+    lines = {
+        line.removeprefix("cdb: ")
+        for case in CASES.values()
+        for line in case["errors"].decode().splitlines()
+    }
+    patterns = diagnostics_of(page)
+    wrong = []
+    if usage_of(page) != usage:
+        wrong.append(f"the synopsis tells\n{usage_of(page)}and the program\n{usage}")
+    missing = letters_of(usage) - described_in(page)
+    if missing:
+        wrong.append(f"not described: {sorted(missing)}")
+    told = [line for line in lines if not any(it.fullmatch(line) for it in patterns)]
+    if told:
+        wrong.append(f"no diagnostic: {sorted(told)}")
+    for it in wrong:
+        print(it)
+    print(f"{3 - len(wrong)} passed, {len(wrong)} failed")
+    sys.exit(1 if wrong else 0)
+
+
+if __name__ == "__main__":
+    main()
