@@ -106,15 +106,18 @@ def table_of(entries, words):
 
 def file_of(records, words=words):
     """The database of some records, in words of 4 bytes or others."""
-    body, lists, begin = b"", [[] for _ in range(256)], 256 * len(words(0, 0))
+    parts, lists, begin = [], [[] for _ in range(256)], 256 * len(words(0, 0))
+    place = begin
     for key, value in records:
-        lists[hash_of(key) % 256].append((hash_of(key), begin + len(body)))
-        body += words(len(key), len(value)) + key + value
-    head, tables = b"", b""
+        lists[hash_of(key) % 256].append((hash_of(key), place))
+        parts += [words(len(key), len(value)), key, value]
+        place += sum(map(len, parts[-3:]))
+    head = []
     for entries in lists:
-        head += words(begin + len(body) + len(tables), 2 * len(entries))
-        tables += table_of(entries, words)
-    return head + body + tables
+        head.append(words(place, 2 * len(entries)))
+        parts.append(table_of(entries, words))
+        place += len(parts[-1])
+    return b"".join(head + parts)
 
 
 LARGE = many_records()
