@@ -32,6 +32,7 @@ TESTS = {
         "a_finish_tells_refused_memory",
     ],
     "cdb_read": ["values_tell_refused_memory"],
+    "cdb_command": ["a_create_tells_refused_memory", "a_refused_line_tells_refused_memory"],
     "cdb_tool": [
         "a_list_tells_refused_memory",
         "a_list_of_a_map_tells_refused_memory",

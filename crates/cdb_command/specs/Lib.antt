@@ -4,3 +4,4 @@ pub mod Asked
 pub mod Rules
 pub mod Words
 pub mod Usage
+pub mod Examples

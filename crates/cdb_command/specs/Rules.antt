@@ -2,7 +2,7 @@
 use Prim.Native.Char.{code}
 use Rattle.std.specs.Prelude.{ℕ, ◌^◌, ◌==◌, Bool, not, ◌&&◌, ◌||◌, true, false, nat_lt}
 use Rattle.std.specs.Prelude.{if◌then◌else◌, List, [], ◌∷◌, ◌++◌, find, codes, bytes_eq, Option}
-use Rattle.std.specs.Prelude.{Some, None, is_some, option_map, Result, Ok, Err}
+use Rattle.std.specs.Prelude.{Some, None, is_some, Result, Ok, Err}
 use Rattle.std.specs.List.{list_any}
 use Rattle.std.specs.Str.{all_ascii_digits}
 use Rattle.std.specs.Str.Parse.{digits_value}
@@ -21,6 +21,7 @@ use Rattle.cdb_command.specs.declared.usage.Usage.TheVariants as usage
 
 -- ---- one command
 
+-- it, where it is there
 abbrev pub when : {A : Type 0} → Bool → A → List A
 when true x = x ∷ []
 when false x = []
@@ -45,7 +46,7 @@ taken_by letter.Stats = []
 taken_by letter.Check = []
 taken_by letter.Create = codes "mtweru"
 
--- the options on a line that a create alone takes, in the order in which a stray one is named
+-- the options on a line that a create alone takes, in the order in which they are looked at
 abbrev pub making_options_in : Given → Text
 making_options_in g = when (is_some g.temporary) (code "t") ++ (when g.flags.warn (code "w")
     ++ (when g.flags.stop (code "e") ++ (when g.flags.replace (code "r")

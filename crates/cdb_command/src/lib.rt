@@ -24,3 +24,6 @@ pub use planning::plan;
 pub use style::Style;
 pub use usage::Usage;
 pub use usage_text::write_usage;
+
+#[cfg(test)]
+mod tests;

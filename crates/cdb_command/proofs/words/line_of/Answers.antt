@@ -2,21 +2,25 @@ use Rattle.std.proofs.Common.{◌≡◌, ◌∙◌, ap, codes, [], List, Option,
 use Rattle.clap.specs.Walk.{Row, rows_of, first_of, all_of}
 use Rattle.clap.specs.Matches.{found_of}
 use Rattle.clap.proofs.WalkLemmas.{first_value-rows, raw_values-rows}
-use Rattle.cdb_command.specs.Line.{Text, Given}
+use Rattle.cdb_command.specs.Line.{Text}
 use Rattle.cdb_command.specs.Words.{flags_of, given_of}
 use Rattle.cdb_command.specs.declared.line.Flags.{Flags}
 use Rattle.cdb_command.proofs.words.line_of.Goals as goal
 
 same_given : (rows : List Row) (flags : Flags) (number temporary : Option Text) (names : List Text)
-    → flags ≡ flags_of rows → number ≡ first_of (codes "n") rows → temporary ≡ first_of (codes "t") rows
+    → flags ≡ flags_of rows
+    → number ≡ first_of (codes "n") rows → temporary ≡ first_of (codes "t") rows
     → names ≡ unwrap_or (all_of (codes "names") rows) []
-    → record { flags = flags; number = number; temporary = temporary; names = names } ≡ given_of rows
+    → record { flags = flags; number = number; temporary = temporary; names = names }
+    ≡ given_of rows
 same_given rows flags number temporary names f n t m = cc
 
 pub returns : goal.returns
 returns c =
     let found = found_of c.args.matches.now in
-    let names = ap (λ (o : Option (List Text)). unwrap_or o []) (c.get_strs.ensures ∙ raw_values-rows found (codes "names")) in
+    let names =
+    ap (λ (o : Option (List Text)). unwrap_or o [])
+    (c.get_strs.ensures ∙ raw_values-rows found (codes "names")) in
     same_given (rows_of found) _ _ _ _ c.flags_of.ensures
     (c.get_str.ensures ∙ first_value-rows found (codes "n"))
     (c.get_str-2.ensures ∙ first_value-rows found (codes "t"))

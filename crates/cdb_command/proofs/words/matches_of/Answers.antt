@@ -18,14 +18,17 @@ unfolding cdb_faults
 returns-in-Ok-clause-taken c =
     let words = map string_bytes c.args.words.now in
     let built : app_of c.in_ok-parser.parser ≡ cdb_app = c.in_ok-parser.ensures in
-    subst (λ (a : App). is_simple_and_free a ≡ true → fault_of a words ≡ []) built c.in-Ok.ensures.kinds refl
+    subst (λ (a : App). is_simple_and_free a ≡ true → fault_of a words ≡ []) built
+    c.in-Ok.ensures.kinds refl
 
 pub returns-in-Err-clause-refused : goal.returns-in-Err-clause-refused
 unfolding cdb_faults
 returns-in-Err-clause-refused c =
     let words = map string_bytes c.args.words.now in
     let built : app_of c.in_ok-parser.parser ≡ cdb_app = c.in_ok-parser.ensures in
-    let kinds = subst (λ (a : App). is_simple_and_free a ≡ true → HasKind (fault_of a words) c.in-Err.error) built c.in-Err.ensures.kinds refl in
+    let kinds =
+    subst (λ (a : App). is_simple_and_free a ≡ true → HasKind (fault_of a words) c.in-Err.error)
+    built c.in-Err.ensures.kinds refl in
     elim c.refusal.ensures.either [
       | inl memory ↦ inl memory
       | inr other ↦ inr (

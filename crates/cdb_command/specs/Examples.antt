@@ -1,0 +1,76 @@
+-- Command lines worked out by hand, equal to what the definitions compute.
+use Prim.Native.Char.{code}
+use Rattle.std.specs.Prelude.{◌≡◌, true, false, List, [], ◌∷◌, Some, None, Result, Ok, Err}
+use Rattle.std.specs.Prelude.{codes, refl}
+use Rattle.std.specs.Str.{chars}
+use lib.Utf8.{encode}
+use Rattle.clap.specs.Faults.{walk_fault, flags_fault, defaults_fault}
+use Rattle.clap.specs.Walk.{bundle_met, walked}
+use Rattle.cdb_make.specs.declared.mode.Mode.TheVariants.{Add}
+use Rattle.cdb_command.specs.Line.{Text}
+use Rattle.cdb_command.specs.Asked.{Asked, Query, Dump, Create, Help}
+use Rattle.cdb_command.specs.Words.{plan_of, cdb_rows, cdb_faults}
+use Rattle.cdb_command.specs.declared.style.Style.TheVariants.{Native, Map}
+use Rattle.cdb_command.specs.declared.usage.Usage.{Usage}
+use Rattle.cdb_command.specs.declared.usage.Usage.TheVariants.{Words, NoCommand, TwoCommands}
+use Rattle.cdb_command.specs.declared.usage.Usage.TheVariants.{Option, Names, Both}
+
+-- what the words behind the program's name ask for
+abbrev pub asks : List Text → Result Asked Usage
+asks words = plan_of (codes "cdb" ∷ words)
+
+pub no_letter : asks [] ≡ Err NoCommand
+unfolding cdb_rows cdb_faults walk_fault flags_fault defaults_fault bundle_met walked chars encode
+no_letter = refl
+
+pub unknown_letter : asks (codes "-Z" ∷ []) ≡ Err Words
+unfolding cdb_rows cdb_faults walk_fault flags_fault defaults_fault bundle_met walked chars encode
+unknown_letter = refl
+
+pub two_letters : asks (codes "-q" ∷ codes "-d" ∷ codes "x" ∷ []) ≡ Err TwoCommands
+unfolding cdb_rows cdb_faults walk_fault flags_fault defaults_fault bundle_met walked chars encode
+two_letters = refl
+
+pub map_of_statistics : asks (codes "-s" ∷ codes "-m" ∷ []) ≡ Err (Option (code "m"))
+unfolding cdb_rows cdb_faults walk_fault flags_fault defaults_fault bundle_met walked chars encode
+map_of_statistics = refl
+
+pub query_without_key : asks (codes "-q" ∷ codes "x" ∷ []) ≡ Err Names
+unfolding cdb_rows cdb_faults walk_fault flags_fault defaults_fault bundle_met walked chars encode
+query_without_key = refl
+
+pub replaced_and_inserted : asks (codes "-c" ∷ codes "-r" ∷ codes "-u" ∷ codes "x" ∷ []) ≡ Err Both
+unfolding cdb_rows cdb_faults walk_fault flags_fault defaults_fault bundle_met walked chars encode
+replaced_and_inserted = refl
+
+pub width_alone : asks (codes "-W" ∷ []) ≡ Err NoCommand
+unfolding cdb_rows cdb_faults walk_fault flags_fault defaults_fault bundle_met walked chars encode
+width_alone = refl
+
+pub help_with_letters : asks (codes "-h" ∷ codes "-q" ∷ codes "-d" ∷ []) ≡ Ok Help
+unfolding cdb_rows cdb_faults walk_fault flags_fault defaults_fault bundle_met walked chars encode
+help_with_letters = refl
+
+pub key_behind_hyphens : asks (codes "-q" ∷ codes "x" ∷ codes "--" ∷ codes "-k" ∷ [])
+    ≡ Ok (Query (codes "x") (codes "-k") None false false)
+unfolding cdb_rows cdb_faults walk_fault flags_fault defaults_fault bundle_met walked chars encode
+key_behind_hyphens = refl
+
+pub numbered : asks (codes "-qWn" ∷ codes "007" ∷ codes "x" ∷ codes "k" ∷ [])
+    ≡ Ok (Query (codes "x") (codes "k") (Some 7) false true)
+unfolding cdb_rows cdb_faults walk_fault flags_fault defaults_fault bundle_met walked chars encode
+numbered = refl
+
+pub hyphen_for_a_name : asks (codes "-d" ∷ codes "-" ∷ []) ≡ Ok (Dump None Native false)
+unfolding cdb_rows cdb_faults walk_fault flags_fault defaults_fault bundle_met walked chars encode
+hyphen_for_a_name = refl
+
+pub created : asks (codes "-cm" ∷ codes "x" ∷ []) ≡ Ok (Create (codes "x") [] None (record {
+  mode = Add;
+  warn = false;
+  stop = false;
+  style = Map;
+  limit = 4294967295;
+}) false)
+unfolding cdb_rows cdb_faults walk_fault flags_fault defaults_fault bundle_met walked chars encode
+created = refl

@@ -1,0 +1,7 @@
+//! What contracts can't say, and rows of the command line worked out by hand.
+mod asked;
+mod faults;
+mod lines;
+mod refusals;
+mod refused;
+mod usage_texts;
