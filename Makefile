@@ -1,7 +1,7 @@
 # make            builds the proved program, bin/cdb
 # make demo       builds it and shows it at work on a small alias map
 # make test       the gate: proves everything from nothing and runs every test
-# make faults     builds it and refuses its asks for memory, each in turn (wants a C compiler)
+# make faults     builds it, and refuses memory and calls of the system to each command in turn (wants a C compiler)
 # make install    installs cdb and its manual pages below $(DESTDIR)$(PREFIX)
 # make uninstall  takes them away again
 # make interop    compares it with the cdb programs that are installed
@@ -36,14 +36,15 @@ test:
 	$(PYTHON) tests/cli/kills.py crates/cdb_tool/out/cdb_tool
 	@if command -v $(firstword $(CC)) > /dev/null; then \
 		$(MAKE) -s bin/refuse.so && \
-		$(PYTHON) tests/faults/run.py crates/cdb_tool/out/cdb_tool bin/refuse.so && \
+		$(PYTHON) tests/faults/run.py crates/cdb_tool/out/cdb_tool bin/refuse.so memory && \
 		$(PYTHON) tests/faults/calls.py bin/refuse.so; \
 	else \
 		echo '0 passed, 0 failed: no C compiler is here, so no ask for memory was refused'; \
 	fi
 
 faults: bin/cdb bin/refuse.so
-	$(PYTHON) tests/faults/run.py bin/cdb bin/refuse.so
+	$(PYTHON) tests/faults/run.py bin/cdb bin/refuse.so memory
+	$(PYTHON) tests/faults/run.py bin/cdb bin/refuse.so calls
 
 bin/refuse.so: tests/faults/refuse.c
 	@mkdir -p bin

@@ -1,14 +1,20 @@
-/* Refuses memory to a program into which this library is loaded ahead of the C library.
+/* Refuses memory, or calls of the system, to a program into which this library is loaded ahead of the
+ * C library.
  *
- * The asks are counted from 1, from the time when the library is loaded on. Refused are those from
- * REFUSE_FIRST to REFUSE_LAST, where these are set in the environment. The count stands in the file
- * that REFUSE_COUNT names, which is mapped, so that it is there also after a crash.
+ * Asks for memory are counted from 1, from the time when the library is loaded on; or calls that open,
+ * read, write, measure, cut, sync, rename or remove a file, where REFUSE_CALLS is set in the
+ * environment. Refused are those from REFUSE_FIRST to REFUSE_LAST, where these are set there. The
+ * count stands in the file that REFUSE_COUNT names, which is mapped, so that it is there also after a
+ * crash.
  */
 #define _GNU_SOURCE
 #include <errno.h>
 #include <fcntl.h>
+#include <stdarg.h>
 #include <stdlib.h>
 #include <sys/mman.h>
+#include <sys/stat.h>
+#include <sys/syscall.h>
 #include <unistd.h>
 
 /* The C library's own allocator, under the names that it keeps for libraries such as this. */
@@ -19,6 +25,7 @@ extern void *__libc_memalign(size_t alignment, size_t size);
 
 static unsigned long early, *asks = &early;
 static unsigned long first, last;
+static int are_calls;
 
 static unsigned long number(const char *name)
 {
@@ -29,7 +36,7 @@ static unsigned long number(const char *name)
 __attribute__((constructor)) static void begin(void)
 {
 	const char *path = getenv("REFUSE_COUNT");
-	int file = path ? open(path, O_RDWR) : -1;
+	int file = path ? syscall(SYS_openat, AT_FDCWD, path, O_RDWR) : -1;
 	void *counted = MAP_FAILED;
 	if (file >= 0) {
 		counted = mmap(NULL, sizeof *asks, PROT_READ | PROT_WRITE, MAP_SHARED, file, 0);
@@ -39,16 +46,91 @@ __attribute__((constructor)) static void begin(void)
 		_exit(99);
 	first = number("REFUSE_FIRST");
 	last = number("REFUSE_LAST");
+	are_calls = getenv("REFUSE_CALLS") != NULL;
 	asks = counted;
+}
+
+static int is_among(void)
+{
+	++*asks;
+	return *asks >= first && *asks <= last;
 }
 
 static int is_refused(void)
 {
-	++*asks;
-	if (*asks < first || *asks > last)
+	if (are_calls || !is_among())
 		return 0;
 	errno = ENOMEM;
 	return 1;
+}
+
+/* What a call of the system answers, unless it is refused. */
+static long answer(long number, long a, long b, long c, long d, long e)
+{
+	if (are_calls && is_among()) {
+		errno = EIO;
+		return -1;
+	}
+	return syscall(number, a, b, c, d, e);
+}
+
+int open(const char *path, int flags, ...)
+{
+	va_list rest;
+	va_start(rest, flags);
+	int mode = flags & O_CREAT ? va_arg(rest, int) : 0;
+	va_end(rest);
+	return answer(SYS_openat, AT_FDCWD, (long)path, flags, mode, 0);
+}
+
+ssize_t read(int file, void *into, size_t size)
+{
+	return answer(SYS_read, file, (long)into, size, 0, 0);
+}
+
+ssize_t write(int file, const void *bytes, size_t size)
+{
+	return answer(SYS_write, file, (long)bytes, size, 0, 0);
+}
+
+ssize_t __write(int file, const void *bytes, size_t size)
+{
+	return write(file, bytes, size);
+}
+
+ssize_t pread(int file, void *into, size_t size, off_t place)
+{
+	return answer(SYS_pread64, file, (long)into, size, place, 0);
+}
+
+ssize_t pwrite(int file, const void *bytes, size_t size, off_t place)
+{
+	return answer(SYS_pwrite64, file, (long)bytes, size, place, 0);
+}
+
+int ftruncate(int file, off_t size)
+{
+	return answer(SYS_ftruncate, file, size, 0, 0, 0);
+}
+
+int fsync(int file)
+{
+	return answer(SYS_fsync, file, 0, 0, 0, 0);
+}
+
+int rename(const char *from, const char *to)
+{
+	return answer(SYS_rename, (long)from, (long)to, 0, 0, 0);
+}
+
+int unlink(const char *path)
+{
+	return answer(SYS_unlink, (long)path, 0, 0, 0, 0);
+}
+
+int statx(int folder, const char *path, int flags, unsigned int mask, struct statx *into)
+{
+	return answer(SYS_statx, folder, (long)path, flags, mask, (long)into);
 }
 
 void *malloc(size_t size)

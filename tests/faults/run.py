@@ -1,82 +1,160 @@
 #!/usr/bin/env python3
-"""Refuses each ask for memory of the program in turn, and looks at how it ends.
+"""Refuses memory, or calls of the system, to the program in turn, and looks at how it ends.
 
-    tests/faults/run.py PROGRAM LIBRARY
+    tests/faults/run.py PROGRAM LIBRARY memory
+    tests/faults/run.py PROGRAM LIBRARY calls
 
-The library is refuse.c, built to be loaded ahead of the C library. Each run of RUNS is made once
-with nothing refused, which counts its asks. Then it is made twice for each of them: with that ask
-refused alone, and with that one and all later ones. It must end by the status 111 and the line for
-no memory, with no more on standard output than a fault may leave there; or, where the ask was not
-needed (a vector asks ahead for room), as with nothing refused. Where no refusal is told, none
-reaches the program, which fails.
+The library is refuse.c, built to be loaded ahead of the C library. Each run of commands.py is made
+once with nothing refused, which counts its asks. Then it is made twice for each of them: with that
+ask refused alone, and with that one and all later ones. It must end as with nothing refused, where
+the ask was not needed; or else by the status 111 and the line of a fault, with a front of its output
+and of its lines, the old database as it was, and no temporary file, unless that could not be
+removed. Where the writing of a line is refused, the line may be missing.
 """
 
 import os
-import random
 import resource
 import struct
 import subprocess
 import sys
 import tempfile
 
-sys.path.insert(0, os.path.join(os.path.dirname(os.path.abspath(__file__)), "..", "cli"))
+from commands import COMMANDS
 
-from files import file_of, text_of
-
-LINE = b"cdb: no memory\n"
-BAD_WORDS = b"cdb: bad command line, see cdb -h\n"
+NO_MEMORY = b"cdb: no memory\n"
+# The lines that a call of the system which fails can leave.
+CALL_LINES = {
+    b"cdb: file cannot be opened\n",
+    b"cdb: database cannot be read or written\n",
+    b"cdb: database cannot be renamed\n",
+    b"cdb: output cannot be written\n",
+    b"cdb: input 1: cannot be read\n",
+    b"cdb: input 2: cannot be read\n",
+    b"cdb: input 3: cannot be read\n",
+}
 STATUS = 111
 # What may come of a refusal.
-TOLD = "told as no memory"
+TOLD = "told"
 DONE = "done without"
 LAST = 2**63 - 1
 
 
-def records():
-    """Some records, by which each vector of a run grows several times, and one that is long."""
-    chosen = random.Random(11)
-    some = [(b"key%d" % n, chosen.randbytes(chosen.randint(0, 300))) for n in range(150)]
-    return [*some[:100], (chosen.randbytes(5000), chosen.randbytes(300000)), *some[100:]]
+class Left:
+    """What a run left."""
 
+    def __init__(self, done, files, asks):
+        self.status, self.output, self.errors = done.returncode, done.stdout, done.stderr
+        self.files = files
+        self.asks = asks
 
-RECORDS = records()
-TEXT = text_of(RECORDS)
-DATABASE = file_of(RECORDS)
-# What a dump may have written when it stops: the text of the first so many records.
-FRONTS = {text_of(RECORDS[:n])[:-1] for n in range(len(RECORDS) + 1)}
-# For each run its words and its input, what it leaves with nothing refused (status, output,
-# errors), and what may stand on standard output where memory was refused.
-RUNS = {
-    "create": (["-c", "-"], TEXT, (0, DATABASE, b""), {b""}),
-    "dump": (["-d"], DATABASE, (0, TEXT, b""), FRONTS),
-    "bad words": (["-Z"], b"", (2, b"", BAD_WORDS), {b""}),
-}
+    def is_as(self, other):
+        """Whether another run left the same."""
+        return vars(self) | {"asks": 0} == vars(other) | {"asks": 0}
 
 
 class Program:
     """The program, with the library loaded ahead of it."""
 
-    def __init__(self, program, library, folder):
+    def __init__(self, program, library, what):
         self.program = program
         self.library = library
-        self.count = os.path.join(folder, "count")
+        self.what = what
 
-    def run(self, words, stdin, first=0, last=0):
-        """What it left with some asks refused (status, output, errors), and how many it made."""
-        with open(self.count, "wb") as counted:
-            counted.write(bytes(struct.calcsize("L")))
-        refusing = {
-            "LD_PRELOAD": self.library,
-            "REFUSE_COUNT": self.count,
-            "REFUSE_FIRST": str(first),
-            "REFUSE_LAST": str(last),
-        }
-        done = subprocess.run(
-            [self.program, *words], env=refusing, input=stdin, capture_output=True, timeout=60
-        )
-        with open(self.count, "rb") as counted:
-            (asks,) = struct.unpack("L", counted.read())
-        return (done.returncode, done.stdout, done.stderr), asks
+    def run(self, command, first=0, last=0):
+        """What a run left with some asks refused."""
+        with tempfile.TemporaryDirectory() as folder:
+            count = os.path.join(folder, "count")
+            with open(count, "wb") as counted:
+                counted.write(bytes(struct.calcsize("L")))
+            place = os.path.join(folder, "files")
+            os.mkdir(place)
+            for name, what in command.files.items():
+                with open(os.path.join(place, name), "wb") as file:
+                    file.write(what)
+            refusing = {
+                "LD_PRELOAD": self.library,
+                "REFUSE_COUNT": count,
+                "REFUSE_FIRST": str(first),
+                "REFUSE_LAST": str(last),
+            }
+            if self.what == "calls":
+                refusing["REFUSE_CALLS"] = "1"
+            # A file and no pipe, so that each run reads as much at once.
+            with tempfile.TemporaryFile() as stdin:
+                stdin.write(command.stdin)
+                stdin.seek(0)
+                done = subprocess.run(
+                    [self.program, *command.words],
+                    cwd=place,
+                    env=refusing,
+                    stdin=stdin,
+                    capture_output=True,
+                    timeout=60,
+                )
+            files = {}
+            for name in os.listdir(place):
+                with open(os.path.join(place, name), "rb") as file:
+                    files[name] = file.read()
+            with open(count, "rb") as counted:
+                (asks,) = struct.unpack("L", counted.read())
+        return Left(done, files, asks)
+
+
+def is_fault_line(what, line):
+    """Whether a line tells a refusal: that of memory has its line alone."""
+    return line == NO_MEMORY if what == "memory" else line in CALL_LINES
+
+
+def tells(what, errors, free):
+    """Whether standard error has a front of the lines of a run, and the line of a fault."""
+    return any(
+        errors.startswith(free[:end]) and is_fault_line(what, errors[end:])
+        for end in range(len(free) + 1)
+    )
+
+
+def is_silenced(what, errors, free):
+    """Whether standard error lacks some of the lines of a run, whose writing was refused."""
+    return what == "calls" and set(errors.splitlines()) <= set(free.splitlines())
+
+
+def stays(command, left, may_stay):
+    """Whether a fault left the files as they were. A temporary file that was there before may be
+    removed, and one may stay whose removal was refused."""
+    before, after = dict(command.files), dict(left.files)
+    old, temporary = before.pop("x.tmp", None), after.pop("x.tmp", None)
+    return after == before and (may_stay or temporary in (None, old))
+
+
+def came_of(what, command, left, free, is_lasting):
+    """What came of a refusal, or what is wrong."""
+    if left.is_as(free):
+        return DONE
+    is_told = tells(what, left.errors, free.errors)
+    is_silenced_here = is_silenced(what, left.errors, free.errors)
+    # The same answer, of which a line was not written, or a removal not done.
+    if is_silenced_here and (left.status, left.output) == (free.status, free.output):
+        if left.files == free.files or stays(command, left, True):
+            return DONE
+    ends = left.status == STATUS and free.output.startswith(left.output)
+    if ends and (is_told or is_silenced_here) and stays(command, left, is_lasting):
+        return TOLD
+    return f"{left.status} {left.output!r:.100} {left.errors!r:.200} {sorted(left.files)}"
+
+
+def refuse_each(program, command):
+    """For each refusal how it was made, and what came of it: TOLD, DONE, or what is wrong."""
+    free = program.run(command)
+    came = []
+    for first in range(1, free.asks + 1):
+        for how, last in ((f"ask {first}", first), (f"each ask from {first} on", LAST)):
+            left = program.run(command, first, last)
+            if left.asks < first:
+                came.append((how, f"only {left.asks} asks were made"))
+            else:
+                is_lasting = last == LAST and program.what == "calls"
+                came.append((how, came_of(program.what, command, left, free, is_lasting)))
+    return came
 
 
 def tell(name, came):
@@ -87,42 +165,21 @@ def tell(name, came):
     for line in wrong[:5]:
         print(line)
     print(f"{name}: {len(came)} refusals: {told} {TOLD}, {done} {DONE}, {len(wrong)} wrong")
-    if told == 0:
-        print(f"{name}: no refusal reached the program")
-    return told + done, len(wrong) + (told == 0)
-
-
-def refuse_each(program, words, stdin, wanted, fronts):
-    """For each refusal how it was made, and what came of it: TOLD, DONE, or what is wrong."""
-    free, asks = program.run(words, stdin)
-    if free != wanted:
-        return [("nothing refused", f"{free!r:.300} and not {wanted!r:.300}")]
-    came = []
-    for first in range(1, asks + 1):
-        for how, last in ((f"ask {first}", first), (f"each ask from {first} on", LAST)):
-            left, made = program.run(words, stdin, first, last)
-            status, output, errors = left
-            if made < first:
-                found = f"only {made} asks were made"
-            elif (status, errors) == (STATUS, LINE) and output in fronts:
-                found = TOLD
-            else:
-                found = DONE if left == free else f"{left!r:.300}"
-            came.append((how, found))
-    return came
+    if not came:
+        print(f"{name}: no ask was made")
+    return told + done, len(wrong) + (not came)
 
 
 def main():
-    if len(sys.argv) != 3:
+    if len(sys.argv) != 4 or sys.argv[3] not in ("memory", "calls"):
         sys.exit(__doc__)
     # A crash is to leave no file.
     resource.setrlimit(resource.RLIMIT_CORE, (0, 0))
+    program = Program(os.path.abspath(sys.argv[1]), os.path.abspath(sys.argv[2]), sys.argv[3])
     passed = failed = 0
-    with tempfile.TemporaryDirectory() as folder:
-        program = Program(*map(os.path.abspath, sys.argv[1:]), folder)
-        for name, run in RUNS.items():
-            good, bad = tell(name, refuse_each(program, *run))
-            passed, failed = passed + good, failed + bad
+    for name, command in COMMANDS.items():
+        good, bad = tell(name, refuse_each(program, command))
+        passed, failed = passed + good, failed + bad
     print(f"{passed} passed, {failed} failed")
     sys.exit(1 if failed else 0)
 

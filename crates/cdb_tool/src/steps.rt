@@ -14,7 +14,7 @@ use crate::runs::query::query_run;
 use crate::runs::stats::stats_run;
 use crate::status::{BAD_USAGE, DONE, FAILED, status_of};
 use cdb_command::{Command, Style, Usage, plan, write_usage};
-use cdb_form::{Narrow, Wide, Width, write_pieces};
+use cdb_form::{Narrow, Wide, Width, write_pieces, write_whole};
 use cdb_store::MemStore;
 use std::alloc::Global;
 use std::fs::File;
@@ -23,6 +23,9 @@ use std::rt::Files;
 
 /// How many bytes the window of a stream has.
 const WINDOW: usize = 65536;
+
+/// How many bytes the line of a fault has at most.
+const LINE: usize = 256;
 
 /// Does what the words ask for, of which the first is the program's name, and answers the exit
 /// status. A fault has its line on `errors`, as far as that takes it.
@@ -40,10 +43,19 @@ where
     match perform(rt, &command, input, output, errors) {
         Ok(()) => DONE,
         Err(fault) => {
-            let _ = write_fault(&fault, errors);
+            tell(&fault, errors);
             status_of(&command, &fault)
         }
     }
+}
+
+/// Says what a fault is, in a line that is written at once.
+fn tell<E: Write>(fault: &Fault, errors: &mut E) {
+    let mut line = [0u8; LINE];
+    let mut left = line.as_mut_slice();
+    let _ = write_fault(fault, &mut left);
+    let len = LINE.saturating_sub(left.len());
+    let _ = write_whole(errors, &line[..len]);
 }
 
 /// Says why the words ask for nothing, and answers the exit status.

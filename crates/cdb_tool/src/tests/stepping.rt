@@ -50,29 +50,29 @@ fn fails(line: &'static str, input: &'static [u8], status: u8, errors: &'static 
 /// Commands, one after the other in one folder.
 fn script() -> [Row; 15] {
     [
-        done("-c x", HELLO, ""),
-        done("-q x one", b"", "Hello"),
-        done("-k x", b"", ""),
+        done("-c x.store", HELLO, ""),
+        done("-q x.store one", b"", "Hello"),
+        done("-k x.store", b"", ""),
         // A duplicate at which a create stops: the old database stays.
         fails(
-            "-ce x",
+            "-ce x.store",
             TWICE,
             111,
             "cdb: input 1: record 2: duplicate key\ncdb: stopped at a duplicate key\n",
         ),
-        done("-d x", b"", "+3,5:one->Hello\n\n"),
-        fails("-c x missing", b"", 111, "cdb: file cannot be opened\n"),
-        done("-l -m x", b"", "one\n"),
-        fails("-c folder", HELLO, 111, "cdb: database cannot be renamed\n"),
+        done("-d x.store", b"", "+3,5:one->Hello\n\n"),
+        fails("-c x.store missing", b"", 111, "cdb: file cannot be opened\n"),
+        done("-l -m x.store", b"", "one\n"),
+        fails("-c folder.store", HELLO, 111, "cdb: database cannot be renamed\n"),
         // In place.
-        done("-c -t - y", TWICE, ""),
-        done("-q -n 2 -m y a", b"", "2\n"),
+        done("-c -t - y.store", TWICE, ""),
+        done("-q -n 2 -m y.store a", b"", "2\n"),
         // The second input goes on where the first stopped.
-        done("-c y - -", b"+1,1:a->1\n\n+1,1:a->3\n\n", ""),
-        done("-q y a", b"", "13"),
-        fails("-q y b", b"", 100, ""),
-        fails("-k w", b"", 111, "cdb: file cannot be opened\n"),
-        fails("-q y", b"", 2, "cdb: bad command line, see cdb -h\n"),
+        done("-c y.store - -", b"+1,1:a->1\n\n+1,1:a->3\n\n", ""),
+        done("-q y.store a", b"", "13"),
+        fails("-q y.store b", b"", 100, ""),
+        fails("-k w.store", b"", 111, "cdb: file cannot be opened\n"),
+        fails("-q y.store", b"", 2, "cdb: bad command line, see cdb -h\n"),
     ]
 }
 
@@ -110,12 +110,12 @@ fn is_there(rt: &HostRuntime, name: &str) -> bool {
 
 #[test]
 fn commands_leave_databases_and_no_other_file(rt: HostRuntime) -> Result<(), Fail> {
-    fs::create_dir(&rt, "folder")?;
+    let _ = fs::create_dir(&rt, "folder.store");
     for row in script() {
         assert!(rt; meets(&rt, row)?, "{}", row.line);
-        assert!(rt; !is_there(&rt, "x.tmp"), "{}", row.line);
+        assert!(rt; !is_there(&rt, "x.store.tmp"), "{}", row.line);
     }
-    for name in ["y.tmp", "folder.tmp", "-.tmp", "-"] {
+    for name in ["y.store.tmp", "folder.store.tmp", "-.tmp", "-"] {
         assert!(rt; !is_there(&rt, name), "{name}");
     }
     Ok(())
@@ -131,7 +131,7 @@ fn within(rt: &HostRuntime, limit: u64) -> Result<(), Fault> {
         limit,
     };
     let creation = Creation {
-        name: "z",
+        name: "z.store",
         inputs: &[],
         temporary: None,
         options,
@@ -145,11 +145,11 @@ fn within(rt: &HostRuntime, limit: u64) -> Result<(), Fault> {
 fn a_database_that_is_too_large_leaves_the_old_one(rt: HostRuntime) -> Result<(), Fail> {
     let large = Err(Fault::Make(MakeFault::TooBig));
     assert!(rt; within(&rt, 2100) == Ok(()));
-    let whole = fs::read(&rt, "z")?;
+    let whole = fs::read(&rt, "z.store")?;
     for limit in [2099, 2048, 2047, 0, 4294967296] {
         assert!(rt; within(&rt, limit) == large, "{limit}");
-        assert!(rt; !is_there(&rt, "z.tmp"), "{limit}");
+        assert!(rt; !is_there(&rt, "z.store.tmp"), "{limit}");
     }
-    assert!(rt; fs::read(&rt, "z")?.as_slice() == whole.as_slice());
+    assert!(rt; fs::read(&rt, "z.store")?.as_slice() == whole.as_slice());
     Ok(())
 }

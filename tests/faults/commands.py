@@ -1,0 +1,64 @@
+"""The runs of the program to which memory and calls of the system are refused.
+
+Each is a Command: its words, its standard input, and the files that are there before.
+"""
+
+import os
+import random
+import sys
+from dataclasses import dataclass, field
+
+sys.path.insert(0, os.path.join(os.path.dirname(os.path.abspath(__file__)), "..", "cli"))
+
+from files import file_of, text_of
+
+
+def records():
+    """Some records, by which each vector of a run grows several times, and one that is long."""
+    chosen = random.Random(11)
+    some = [(b"key%d" % n, chosen.randbytes(chosen.randint(0, 300))) for n in range(150)]
+    return [*some[:100], (chosen.randbytes(5000), chosen.randbytes(300000)), *some[100:]]
+
+
+def lines(count):
+    """The map text of some keys, each of which stands twice."""
+    return b"".join(b"key%d value %d\n" % (n % count, n) for n in range(2 * count))
+
+
+@dataclass
+class Command:
+    """A run of the program."""
+
+    words: list
+    stdin: bytes = b""
+    files: dict = field(default_factory=dict)
+
+
+RECORDS = records()
+TEXT = text_of(RECORDS)
+DATABASE = file_of(RECORDS)
+OLD = file_of([(b"old", b"database")])
+KEPT = {"x": OLD}
+COMMANDS = {
+    "create on output": Command(["-c", "-"], TEXT),
+    "create": Command(["-c", "x"], TEXT, KEPT),
+    "create of files": Command(["-c", "x", "in", "-", "in"], TEXT, {**KEPT, "in": TEXT}),
+    "create of a map": Command(["-cm", "x"], lines(40), KEPT),
+    "create with warnings": Command(["-cmw", "x"], lines(200), KEPT),
+    "create with replacements": Command(["-cmr", "x"], lines(200), KEPT),
+    "create that stops": Command(["-cme", "x"], lines(40), KEPT),
+    "create beside an old temporary file": Command(["-c", "x"], TEXT, {**KEPT, "x.tmp": b"old"}),
+    "create with warnings on output": Command(["-cmw", "-"], lines(40)),
+    "wide create": Command(["-cW", "x"], TEXT, KEPT),
+    "query": Command(["-q", "x", "key7"], b"", {"x": DATABASE}),
+    "query of a line": Command(["-qm", "-n", "1", "x", "key9"], b"", {"x": DATABASE}),
+    "dump": Command(["-d"], DATABASE),
+    "dump of a file": Command(["-d", "x"], b"", {"x": DATABASE}),
+    "list": Command(["-lm"], DATABASE),
+    "statistics": Command(["-s"], DATABASE),
+    "statistics of a file": Command(["-s", "x"], b"", {"x": DATABASE}),
+    "check": Command(["-k"], DATABASE),
+    "check of a file": Command(["-k", "x"], b"", {"x": DATABASE}),
+    "help": Command(["-h"]),
+    "bad words": Command(["-Z"]),
+}
