@@ -115,7 +115,8 @@ def tells(what, errors, free):
 
 def is_silenced(what, errors, free):
     """Whether standard error lacks some of the lines of a run, whose writing was refused."""
-    return what == "calls" and set(errors.splitlines()) <= set(free.splitlines())
+    lines = set(free.splitlines())
+    return what == "calls" and (free.startswith(errors) or set(errors.splitlines()) <= lines)
 
 
 def stays(command, left, may_stay):

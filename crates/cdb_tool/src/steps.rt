@@ -49,22 +49,32 @@ where
     }
 }
 
-/// Says what a fault is, in a line that is written at once.
+/// Says what a fault is.
 fn tell<E: Write>(fault: &Fault, errors: &mut E) {
     let mut line = [0u8; LINE];
     let mut left = line.as_mut_slice();
     let _ = write_fault(fault, &mut left);
-    let len = LINE.saturating_sub(left.len());
-    let _ = write_whole(errors, &line[..len]);
+    let left = left.len();
+    write_line(&line, left, errors);
 }
 
 /// Says why the words ask for nothing, and answers the exit status.
 pub(crate) fn refuse<E: Write>(usage: &Usage, errors: &mut E) -> u8 {
-    let _ = write_pieces(errors, &[b"cdb: ", usage.message().as_bytes(), b"\n"]);
+    let mut line = [0u8; LINE];
+    let mut left = line.as_mut_slice();
+    let _ = write_pieces(&mut left, &[b"cdb: ", usage.message().as_bytes(), b"\n"]);
+    let left = left.len();
+    write_line(&line, left, errors);
     match usage {
         Usage::NoMemory => FAILED,
         _ => BAD_USAGE,
     }
+}
+
+/// Writes a line at once, so that no other program's line comes between. So many bytes of its room
+/// are left.
+fn write_line<E: Write>(line: &[u8; LINE], left: usize, errors: &mut E) {
+    let _ = write_whole(errors, &line[..LINE.saturating_sub(left)]);
 }
 
 /// Performs a command, in the width that it tells.

@@ -61,9 +61,19 @@ fn script() -> [Row; 15] {
             "cdb: input 1: record 2: duplicate key\ncdb: stopped at a duplicate key\n",
         ),
         done("-d x.store", b"", "+3,5:one->Hello\n\n"),
-        fails("-c x.store missing", b"", 111, "cdb: file cannot be opened\n"),
+        fails(
+            "-c x.store missing",
+            b"",
+            111,
+            "cdb: file cannot be opened\n",
+        ),
         done("-l -m x.store", b"", "one\n"),
-        fails("-c folder.store", HELLO, 111, "cdb: database cannot be renamed\n"),
+        fails(
+            "-c folder.store",
+            HELLO,
+            111,
+            "cdb: database cannot be renamed\n",
+        ),
         // In place.
         done("-c -t - y.store", TWICE, ""),
         done("-q -n 2 -m y.store a", b"", "2\n"),
