@@ -1,13 +1,22 @@
 // The hash of a key, its table, and its slot there.
-ghost use Rattle.std.specs.Prelude.{◌≡◌, ◌<◌};
-ghost use Rattle.cdb_form.specs.Format.Hash.{key_hash, table_number, home_slot};
+ghost use Rattle.std.specs.Prelude.{◌≡◌, ◌<◌, fold};
+ghost use Rattle.cdb_form.specs.Format.Hash.{key_hash, hash_step, table_number, home_slot};
+
 /// The hash of a key, of 32 bits, as Bernstein's cdb specification has it: from 5381, each byte
 /// takes 33 times the hash so far, exclusive or the byte.
 pub fn hash(key: &[u8]) -> u32
     ensures { result ≡ key_hash key.now }
 {
-    let mut hash: u32 = 5381;
-    for byte in key {
+    hash_more(5381, key)
+}
+
+/// The hash of a key that goes on with these bytes, where this is the hash of it up to them: so a
+/// key is hashed piece by piece, from `hash(&[])` on.
+pub fn hash_more(hash: u32, bytes: &[u8]) -> u32
+    ensures { result ≡ fold hash_step hash bytes.now }
+{
+    let mut hash = hash;
+    for byte in bytes {
         hash = (hash << 5).wrapping_add(hash) ^ u32::from(*byte);
     }
     hash

@@ -24,7 +24,7 @@ mod writing;
 pub use damage::Damage;
 pub use head::{Head, Pointer, head_size, read_head, read_pointer, write_head, write_pointer};
 pub use header::{Header, read_header, write_header};
-pub use key_hash::{hash, home_slot, table_number};
+pub use key_hash::{hash, hash_more, home_slot, table_number};
 pub use pair::pair_size;
 pub use reading_whole::{Extent, InFault, read_whole};
 pub use record::Record;

@@ -1,8 +1,8 @@
 // Hashes and words worked out by hand.
 use crate::width::{Narrow, Wide};
 use crate::{
-    Header, Pointer, Slot, hash, read_head, read_header, read_pointer, read_slot, write_head,
-    write_header, write_pointer, write_slot,
+    Header, Pointer, Slot, hash, hash_more, read_head, read_header, read_pointer, read_slot,
+    write_head, write_header, write_pointer, write_slot,
 };
 use std::prelude::*;
 
@@ -19,6 +19,13 @@ fn hashes(rt: HostRuntime) {
     for (key, want) in cases {
         assert_eq!(rt; hash(key), want, "{key:?}");
     }
+}
+
+#[test]
+fn a_hash_goes_on(rt: HostRuntime) {
+    assert_eq!(rt; hash_more(hash(b""), b"one"), 193420161);
+    assert_eq!(rt; hash_more(hash(b"tw"), b"o"), 193421353);
+    assert_eq!(rt; hash_more(hash_more(hash(b"c"), b""), b"B"), 5861060);
 }
 
 #[test]

@@ -1,7 +1,0 @@
-use Rattle.std.proofs.Common.{◌≡◌, drop, fold}
-use Rattle.cdb_form.specs.Format.Hash.{key_hash, hash_step}
-use Rattle.cdb_form.proofs.key_hash.hash.Given as goal
-
--- the hash so far, and what is left of the key
-abbrev pub invariant-loop-byte : goal.invariant-loop-byte
-invariant-loop-byte l = fold hash_step l.hash (drop l.byte-index l.key) ≡ key_hash l.key
