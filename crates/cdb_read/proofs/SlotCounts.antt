@@ -7,12 +7,14 @@ use Rattle.std.proofs.lemmas.List.{map-id, map-append, append-nil, append_assoc,
 use Rattle.std.proofs.lemmas.List.Elements.{filter-append}
 use Rattle.std.proofs.lemmas.List.FromFn.{map-range_with_len_more}
 use Rattle.std.proofs.lemmas.Grind.{flat_map-append}
+use Rattle.cdb_form.specs.Format.Hash.{home_slot}
 use Rattle.cdb_form.specs.Format.Pair.{WordPair}
 use Rattle.cdb_form.specs.Format.Table.{is_used}
 use Rattle.cdb_form.specs.Format.Walk.{has_slots}
 use Rattle.cdb_form.specs.Views.Pairs.{pointer_pair}
 use Rattle.cdb_form.specs.declared.head.Pointer.{Pointer}
-use Rattle.cdb_read.specs.Statistics.{distance_of, slot_of, distances_in, distances_of, table_sizes}
+use Rattle.cdb_read.specs.Sound.{distance}
+use Rattle.cdb_read.specs.Statistics.{slot_of, distances_in, distances_of, table_sizes}
 use Rattle.cdb_read.specs.Views.Counting.{Counts, Spreads}
 use Rattle.cdb_read.specs.declared.distances.Distances.{Distances}
 use Rattle.cdb_read.specs.declared.spread.Spread.{Spread}
@@ -22,7 +24,7 @@ abbrev pub is_used_at : ℕ → List ℕ → WordPair → ℕ → Bool
 is_used_at w b p i = is_used (slot_of w b p i)
 
 abbrev pub distance_at : ℕ → List ℕ → WordPair → ℕ → ℕ
-distance_at w b p i = distance_of p.second (slot_of w b p i).first i
+distance_at w b p i = distance (home_slot (slot_of w b p i).first p.second) p.second i
 
 abbrev pub distances_before : ℕ → List ℕ → WordPair → ℕ → List ℕ
 distances_before w b p n = map (distance_at w b p) (filter (is_used_at w b p) (range_with_len 0 n))
@@ -44,11 +46,11 @@ before_more w b p n =
     ∙ map-append (distance_at w b p) (filter (is_used_at w b p) (range_with_len 0 n)) (filter (is_used_at w b p) (n ∷ []))
 
 -- a used one, and an empty one
-pub counts_used : (w : ℕ) (b : List ℕ) (p : WordPair) (n d : ℕ) (ds : List ℕ) (slot : WordPair) (new : Distances) → slot ≡ slot_of w b p n → (slot.second ≡ 0 → ⊥) → d ≡ distance_of p.second slot.first n → Counts new ((ds ++ distances_before w b p n) ++ d ∷ []) → Counts new (ds ++ distances_before w b p (n + 1))
+pub counts_used : (w : ℕ) (b : List ℕ) (p : WordPair) (n d : ℕ) (ds : List ℕ) (slot : WordPair) (new : Distances) → slot ≡ slot_of w b p n → (slot.second ≡ 0 → ⊥) → d ≡ distance (home_slot slot.first p.second) p.second n → Counts new ((ds ++ distances_before w b p n) ++ d ∷ []) → Counts new (ds ++ distances_before w b p (n + 1))
 counts_used w b p n d ds slot new is used at h =
     let yes : is_used_at w b p n ≡ true = ap is_used (sym is) ∙ not_from_false _ (ne_eqb slot.second 0 used) in
     let one : filter (is_used_at w b p) (n ∷ []) ≡ n ∷ [] = cond-true (is_used_at w b p n) (n ∷ []) [] yes in
-    let here : d ≡ distance_at w b p n = at ∙ ap (λ (s : WordPair). distance_of p.second s.first n) is in
+    let here : d ≡ distance_at w b p n = at ∙ ap (λ (s : WordPair). distance (home_slot s.first p.second) p.second n) is in
     subst (Counts new)
     (append_assoc ds (distances_before w b p n) (d ∷ [])
     ∙ ap (λ x. ds ++ (distances_before w b p n ++ x ∷ [])) here

@@ -1,5 +1,5 @@
 -- The statistics of a file, in words of w bytes.
-use Rattle.std.specs.Prelude.{ℕ, ◌+◌, ◌-◌, ◌/◌, ◌%◌, ◌==◌, ◌&&◌, Bool, not, if◌then◌else◌, min, max}
+use Rattle.std.specs.Prelude.{ℕ, ◌/◌, ◌==◌, ◌&&◌, Bool, not, if◌then◌else◌, min, max}
 use Rattle.std.specs.Prelude.{List, length, drop, map, filter, flat_map, sum, count_by, position}
 use Rattle.std.specs.Prelude.{Option, option_map, unwrap_or}
 use Rattle.std.specs.List.{reduce, range_with_len}
@@ -13,6 +13,7 @@ use Rattle.cdb_form.specs.Format.Walk.{walk_of, has_slots}
 use Rattle.cdb_form.specs.declared.damage.Damage.{Damage}
 use Rattle.cdb_form.specs.declared.damage.Damage.TheVariants.{Table}
 use Rattle.cdb_read.specs.Lookup.{is_inside}
+use Rattle.cdb_read.specs.Sound.{distance}
 use Rattle.cdb_read.specs.declared.statistics.Stats.{Stats}
 
 -- a count that stops at the greatest number of 64 bits
@@ -29,18 +30,14 @@ average_of ns = if length ns == 0 then 0 else sum ns / length ns
 abbrev pub greatest_of : List ℕ → ℕ
 greatest_of ns = unwrap_or (reduce max ns) 0
 
--- how far slot i stands behind the home of a hash in a table of so many slots, round its end
-abbrev pub distance_of : ℕ → ℕ → ℕ → ℕ
-distance_of slots hash i = (i + slots - home_slot hash slots) % slots
-
--- slot i of a table, and how far each of its used slots stands so
+-- slot i of a table, and how far each of its used slots stands behind the home of its hash
 abbrev pub slot_of : ℕ → List ℕ → WordPair → ℕ → WordPair
 slot_of w bytes p i = nth_pair w (drop p.first bytes) i
 
 unfoldable pub distances_in : ℕ → List ℕ → WordPair → List ℕ
 distances_in w bytes p =
     let used = filter (λ i. is_used (slot_of w bytes p i)) (range_with_len 0 p.second) in
-    map (λ i. distance_of p.second (slot_of w bytes p i).first i) used
+    map (λ i. distance (home_slot (slot_of w bytes p i).first p.second) p.second i) used
 
 -- and each used slot of some tables
 abbrev pub distances_of : ℕ → List ℕ → List WordPair → List ℕ

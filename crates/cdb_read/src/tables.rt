@@ -1,10 +1,12 @@
 // The tables of a database, and the slots of them all.
 ghost use Rattle.std.specs.Prelude.{◌≡◌, ℕ, ◌+◌, ◌*◌, ◌<◌, ◌≤◌, ◌^◌, ◌++◌, List};
 ghost use Rattle.std.specs.Prelude.{All, length, drop, map, position, IfOk, IfErr, OnOk, IfNone};
+ghost use Rattle.cdb_form.specs.Format.Hash.{home_slot};
 ghost use Rattle.cdb_form.specs.Format.Pair.{pair_size};
 ghost use Rattle.cdb_form.specs.Format.Reading.{pair_at};
 ghost use Rattle.cdb_form.specs.Views.Pairs.{pointer_pair, slot_pair};
-ghost use Rattle.cdb_read.specs.Statistics.{distance_of, distances_in, distances_of, is_outside};
+ghost use Rattle.cdb_read.specs.Sound.{distance};
+ghost use Rattle.cdb_read.specs.Statistics.{distances_in, distances_of, is_outside};
 ghost use Rattle.cdb_read.specs.Statistics.{table_sizes};
 ghost use Rattle.cdb_read.specs.Views.Counting.{Counts, Spreads};
 ghost use Rattle.cdb_read.specs.Views.Inside.{StandsInside};
@@ -50,9 +52,10 @@ pub(crate) fn sizes_of(tables: &[Pointer]) -> Spread
 }
 
 /// How far a slot stands behind the one at which the search for a hash begins.
-fn distance_of(slots: u64, hash: u64, n: u64) -> u64
+pub(crate) fn distance_of(slots: u64, hash: u64, n: u64) -> u64
     requires { n < slots }
-    ensures { result ≡ distance_of slots hash n }
+    ensures distance { result ≡ distance (home_slot hash slots) slots n }
+    ensures within { result < slots }
 {
     let home = home_slot(hash, slots);
     if home <= n {
