@@ -45,7 +45,7 @@ first_of-none f (x ∷ xs) h =
     let both = option_or-none (f x) (first_of f xs) h in
     All-cons (λ y. f y ≡ None) x xs both.0 (first_of-none f xs both.1)
 
-none_of-all : {X : Type 0} (f : X → Option Damage) (xs : List X) → All (λ x. f x ≡ None) xs → first_of f xs ≡ None
+pub none_of-all : {X : Type 0} (f : X → Option Damage) (xs : List X) → All (λ x. f x ≡ None) xs → first_of f xs ≡ None
 unfolding first_of
 none_of-all f [] all = refl
 none_of-all f (x ∷ xs) all = both_none (f x) (first_of f xs) (All-head (λ y. f y ≡ None) x xs all) (none_of-all f xs (All-tail (λ y. f y ≡ None) x xs all))
@@ -59,7 +59,7 @@ each_number P k n all l =
     let long = length-range_with_len 0 k in
     subst P (number_is k n l) (All-get_or P (range_with_len 0 k) n 0 (omega arith) all)
 
-all_numbers : (P : ℕ → Type 0) (k : ℕ) → ((n : ℕ) → n < k → P n) → All P (range_with_len 0 k)
+pub all_numbers : (P : ℕ → Type 0) (k : ℕ) → ((n : ℕ) → n < k → P n) → All P (range_with_len 0 k)
 all_numbers P k each =
     let long = length-range_with_len 0 k in
     All-from_get_or P (range_with_len 0 k) 0 (λ n l. (let low : n < k = omega arith in subst P (sym (number_is k n low)) (each n low)))
@@ -136,14 +136,14 @@ clean_slot entries before n slots i clean =
     ]
 
 -- what is told of a file that has a whole head
-abbrev faults_behind : ℕ → List ℕ → Option Damage
-faults_behind w bytes =
+abbrev pub told_behind : ℕ → List ℕ → Option Damage
+told_behind w bytes =
     option_or (first_of (table_fault w bytes) (range_with_len 0 256))
     (option_or (walk_of w bytes).damage
     (option_or (first_of (slots_fault w bytes (walk_entries w bytes)) (range_with_len 0 256))
     (first_of (entry_fault w bytes) (walk_entries w bytes))))
 
-first_fault-whole : (w : ℕ) (bytes : List ℕ) → head_size w ≤ length bytes → first_fault w bytes ≡ faults_behind w bytes
+pub first_fault-whole : (w : ℕ) (bytes : List ℕ) → head_size w ≤ length bytes → first_fault w bytes ≡ told_behind w bytes
 unfolding first_fault
 first_fault-whole w bytes h = cond-false (nat_lt (length bytes) (head_size w)) _ _ (le-ltb (length bytes) (head_size w) h)
 

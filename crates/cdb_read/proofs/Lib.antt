@@ -27,3 +27,11 @@ pub mod SlotCounts
 pub mod TableChecks
 pub mod WalkedLengths
 pub mod StatsLaws
+pub mod RunEnds
+pub mod FaultSteps
+pub mod Entered
+pub mod Tells
+pub mod SlotChecks
+pub mod AllTables
+pub mod EnteredWalk
+pub mod CheckLaws

@@ -112,7 +112,7 @@ count-met q u g (x ∷ xs) only none =
     ]
 
 -- how far a slot is behind a home is its place among the slots from there
-distance-turned : (home n i : ℕ) → home < n → i < n → distance home n i ≡ turned home n i
+pub distance-turned : (home n i : ℕ) → home < n → i < n → distance home n i ≡ turned home n i
 distance-turned home n i h l = elim (cases_lt i home) [
   | inl low ↦ (let e : i + (n - home) < n = omega arith in mod-eq_of_lt e ∙ (let t = turned-before home n i low in omega arith))
   | inr high ↦

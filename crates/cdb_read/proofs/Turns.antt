@@ -68,7 +68,7 @@ met_ahead h slot left slots = met is_used (has_hash h) (ahead slot left slots)
 abbrev pub slot_at : ℕ → List ℕ → WordPair → ℕ → WordPair
 slot_at w b p slot = pair_at w (drop (p.first + 2 * w * slot) b)
 
-slot_is : (w : ℕ) (b : List ℕ) (p : WordPair) (slot : ℕ) → slot < p.second → get_or (slots_at w b p) slot empty_slot ≡ slot_at w b p slot
+pub slot_is : (w : ℕ) (b : List ℕ) (p : WordPair) (slot : ℕ) → slot < p.second → get_or (slots_at w b p) slot empty_slot ≡ slot_at w b p slot
 slot_is w b p slot low =
     let at : 0 + slot ≡ slot = omega arith in
     get_or-map-range_with_len (nth_pair w (drop p.first b)) 0 p.second slot slot empty_slot low at ∙ ap (pair_at w) (drop-drop (2 * w * slot) p.first b)

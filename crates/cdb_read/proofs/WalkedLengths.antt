@@ -35,7 +35,7 @@ pub walked_none : (w : ℕ) (b : List ℕ) (left : Walked) (keys values : Spread
 walked_none w b left keys values is no_keys no_values = record { done = []; all = sym is; keys = no_keys; values = no_values }
 
 -- the bytes of a span that lies inside are as many as it tells
-length_of : (b : List ℕ) (span : Span) → span.place + span.len ≤ length b → length (bytes_of b span) ≡ span.len
+pub length_of : (b : List ℕ) (span : Span) → span.place + span.len ≤ length b → length (bytes_of b span) ≡ span.len
 length_of b span inside = length-part span.place span.len b inside
 
 pub walked_more : (w place : ℕ) (b : List ℕ) (old new : Walked) (keys values keys_now values_now : Spread) (pair : Pair) → WalkedSoFar w b old keys values → old ≡ with_first (record_of b pair) new → LiesAt w place pair → behind pair ≤ length b

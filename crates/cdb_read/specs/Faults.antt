@@ -29,35 +29,45 @@ table_fault w bytes n =
     let p = nth_pair w bytes n in
     fault_if (has_slots p && not (is_inside w bytes p)) (Table n)
 
--- whether a slot has the hash and the place of an entry, and whether slot i of table n is right
--- among such entries
+-- whether a slot has the hash and the place of an entry, and whether a slot of table n is right
+-- among such entries, where a search comes to it or not; and slot i
 abbrev pub is_same : WordPair → WordPair → Bool
 is_same slot entry = (entry.first == slot.first) && (entry.second == slot.second)
 
-abbrev pub is_right : List WordPair → ℕ → List WordPair → ℕ → Bool
-is_right entries n slots i =
-    let slot = nth_slot slots i in
-    list_any (is_same slot) entries && ((table_number slot.first == n) && is_reached slots i)
+abbrev pub is_right_slot : List WordPair → ℕ → WordPair → Bool → Bool
+is_right_slot entries n slot reached =
+    list_any (is_same slot) entries && ((table_number slot.first == n) && reached)
 
--- a used slot isn't right, or else an earlier one has its place; some slots stand before the table
+abbrev pub is_right : List WordPair → ℕ → List WordPair → ℕ → Bool
+is_right entries n slots i = is_right_slot entries n (nth_slot slots i) (is_reached slots i)
+
+-- a used slot isn't right, or else one of the earlier slots has its place
+abbrev pub used_fault : List WordPair → Bool → ℕ → ℕ → WordPair → Option Damage
+used_fault earlier right n i slot = option_or (fault_if (not right) (Slot n i))
+    (fault_if (list_any (has_place slot) earlier) (Twice slot.second))
+
+-- the fault of slot i of table n, where some slots stand before the table
 abbrev pub slot_fault : List WordPair → List WordPair → ℕ → List WordPair → ℕ → Option Damage
 slot_fault entries before n slots i =
     let slot = nth_slot slots i in
-    if is_used slot then
-    option_or (fault_if (not (is_right entries n slots i)) (Slot n i))
-    (fault_if (list_any (has_place slot) (before ++ take i slots)) (Twice slot.second))
-    else None
+    if is_used slot
+    then used_fault (before ++ take i slots) (is_right entries n slots i) n i slot else None
 
--- the first fault of the slots of a table
+-- the first fault of the slots of a table, behind others
+abbrev pub faults_behind : List WordPair → List WordPair → ℕ → List WordPair → Option Damage
+faults_behind entries before n slots =
+    first_of (slot_fault entries before n slots) (range_with_len 0 (length slots))
+
 unfoldable pub slots_fault : ℕ → List ℕ → List WordPair → ℕ → Option Damage
 slots_fault w bytes entries n =
-    let slots = table_at w bytes n in
-    first_of (slot_fault entries (tables_below w bytes n) n slots) (range_with_len 0 (length slots))
+    faults_behind entries (tables_below w bytes n) n (table_at w bytes n)
 
 -- no slot has the place of an entry
+abbrev pub lost_fault : List WordPair → WordPair → Option Damage
+lost_fault slots e = fault_if (not (list_any (has_place e) slots)) (Unindexed e.second)
+
 abbrev pub entry_fault : ℕ → List ℕ → WordPair → Option Damage
-entry_fault w bytes e =
-    fault_if (not (list_any (has_place e) (all_slots w bytes))) (Unindexed e.second)
+entry_fault w bytes e = lost_fault (all_slots w bytes) e
 
 -- of a file: no whole head; then the tables, the walk, the slots, and the records of the walk
 unfoldable pub first_fault : ℕ → List ℕ → Option Damage

@@ -3,6 +3,7 @@ pub mod Lookup
 pub mod Values
 pub mod Sound
 pub mod Faults
+pub mod Runs
 pub mod Laws
 pub mod Statistics
 pub mod Views

@@ -12,3 +12,6 @@ pub mod Walk
 pub mod Counting
 pub mod Lengths
 pub mod Stats
+pub mod Entries
+pub mod Check
+pub mod Checked

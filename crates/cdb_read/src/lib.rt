@@ -1,10 +1,13 @@
 //! Look-ups in constant databases: what the readers are to find, and why one stops.
 #![tactic(auto)]
 
+mod checking;
 mod counting;
 mod distances;
+mod entries;
 mod fault;
 mod finder;
+mod hashing;
 pub mod laws;
 mod lengths;
 mod looking;
@@ -12,16 +15,20 @@ mod pieces;
 mod reader;
 mod record_walk;
 mod rest;
+mod runs;
 mod search;
+mod slots;
 mod span;
 mod spread;
 mod standing;
 mod statistics;
 mod tables;
 mod turn;
+mod walked;
 mod walking;
 mod window;
 
+pub use checking::check;
 pub use counting::stats;
 pub use fault::ReadFault;
 pub use finder::Finder;

@@ -1,0 +1,127 @@
+-- The records that a walk has given, as a check keeps them.
+use Rattle.std.proofs.Common.{◌≡◌, ℕ, ◌+◌, ◌<◌, ◌≤◌, List, [], ◌∷◌, ◌++◌, length, sym, ap, ◌∙◌, append_assoc, false, arith}
+use Rattle.std.specs.Prelude.{Some, sum_by}
+use Rattle.std.proofs.lemmas.List.{append-nil}
+use Rattle.std.proofs.lemmas.List.Sums.{sum_by-append, sum_by-cons}
+use Rattle.cdb_store.specs.declared.store.Store.{Ghosts}
+use Rattle.cdb_form.specs.Format.Hash.{key_hash}
+use Rattle.cdb_form.specs.Format.Pair.{WordPair, head_size}
+use Rattle.cdb_form.specs.Format.Record.{KeyValue, record_size}
+use Rattle.cdb_form.specs.Format.Table.{entries_from, file_entries}
+use Rattle.cdb_form.specs.Format.Walk.{Walked, walk_of, no_walk, damaged, with_first, with_records}
+use Rattle.cdb_form.specs.declared.damage.Damage.{Damage}
+use Rattle.cdb_form.specs.declared.damage.Damage.TheVariants as damage
+use Rattle.cdb_form.specs.declared.width.Width.{Ghosts as Widths}
+use Rattle.cdb_read.specs.Lookup.{bytes_of}
+use Rattle.cdb_read.specs.Sound.{walk_entries}
+use Rattle.cdb_read.specs.Views.Check.{CheckTells}
+use Rattle.cdb_read.specs.Views.Checked.{HasEntries, WalkHas}
+use Rattle.cdb_read.specs.Views.Entries.{entry_pairs, marks_of, HasMore}
+use Rattle.cdb_read.specs.Views.Reads.{OnlyReads}
+use Rattle.cdb_read.specs.Views.Walk.{left_of, WalkingFails}
+use Rattle.cdb_read.specs.Views.Walking.{record_of, behind, LiesAt}
+use Rattle.cdb_read.specs.declared.entries.Entries.{Entries}
+use Rattle.cdb_read.specs.declared.fault.ReadFault.{ReadFault}
+use Rattle.cdb_read.specs.declared.fault.ReadFault.TheVariants.{Short, Table, Record, Slot, Twice, Unindexed, Device, NoMemory, Output}
+use Rattle.cdb_read.specs.declared.record_walk.Walk.{Walk}
+use Rattle.cdb_read.specs.declared.span.Pair.{Pair}
+use Rattle.cdb_read.proofs.Entered.{marks_of-push, places_rise, places_positive}
+use Rattle.cdb_read.proofs.WalkedLengths.{length_of}
+
+-- some records were given, which are kept, and then what is left of the walk, from a place on
+pub record EnteredSoFar (w : ℕ) (b : List ℕ) (left : Walked) (place : ℕ) (entries : Entries) : Type 0 where
+  pub done : List KeyValue
+  pub all : walk_of w b ≡ with_records done left
+  pub here : place ≡ head_size w + sum_by (record_size w) done
+  pub are : entry_pairs entries ≡ file_entries w done
+  pub marks : entries.marks.items ≡ marks_of [] (file_entries w done)
+
+no_marks : (entries : Entries) → entries.marks.items ≡ [] → entries.marks.items ≡ marks_of [] []
+unfolding marks_of
+no_marks entries none = none
+
+pub entered_none : (w : ℕ) (b : List ℕ) (left : Walked) (place : ℕ) (entries : Entries) → left ≡ walk_of w b → place ≡ head_size w → entry_pairs entries ≡ [] → entries.marks.items ≡ [] → EnteredSoFar w b left place entries
+unfolding entries_from
+entered_none w b left place entries is here none unmarked = record {
+  done = [];
+  all = sym is;
+  here = omega arith;
+  are = none;
+  marks = no_marks entries unmarked;
+}
+
+-- the entry of one record more
+entries_push : (w at : ℕ) (rs : List KeyValue) (r : KeyValue) → entries_from w at (rs ++ r ∷ []) ≡ entries_from w at rs ++ record { first = key_hash r.key; second = at + sum_by (record_size w) rs } ∷ []
+unfolding entries_from
+entries_push w at [] r =
+    let z : at ≡ at + 0 = omega arith in
+    ap (λ (p : ℕ). let e : WordPair = record { first = key_hash r.key; second = p } in e ∷ []) z
+entries_push w at (q ∷ rs) r =
+    let z : at + record_size w q + sum_by (record_size w) rs ≡ at + sum_by (record_size w) (q ∷ rs) = omega (arith, sum_by-cons (record_size w) q rs) in
+    ap (λ (t : List WordPair). let e : WordPair = record { first = key_hash q.key; second = at } in e ∷ t)
+    (entries_push w (at + record_size w q) rs r
+    ∙ ap (λ (p : ℕ). let e : WordPair = record { first = key_hash r.key; second = p } in entries_from w (at + record_size w q) rs ++ e ∷ []) z)
+
+pub entered_more : (w place next : ℕ) (b : List ℕ) (old new : Walked) (pair : Pair) (hash : ℕ) (kept now : Entries) → EnteredSoFar w b old place kept → old ≡ with_first (record_of b pair) new → LiesAt w place pair → next ≡ behind pair → behind pair ≤ length b
+    → hash ≡ key_hash (bytes_of b pair.key) → HasMore kept now pair.place hash → EnteredSoFar w b new next now
+entered_more w place next b old new pair hash kept now so_far first lies ends inside hashed more =
+    let r = record_of b pair in
+    let done = so_far.done in
+    let after = lies.value in
+    let key_at = lies.key in
+    let at = lies.here in
+    let was = so_far.here in
+    let key : length (bytes_of b pair.key) ≡ pair.key.len = length_of b pair.key (omega arith) in
+    let value : length (bytes_of b pair.value) ≡ pair.value.len = length_of b pair.value inside in
+    let sum : sum_by (record_size w) (done ++ r ∷ []) ≡ sum_by (record_size w) done + record_size w r = omega (arith, sum_by-append (record_size w) done (r ∷ []), sum_by-cons (record_size w) r []) in
+    let there : pair.place ≡ head_size w + sum_by (record_size w) done = omega arith in
+    let entry : entry_pairs now ≡ file_entries w (done ++ r ∷ []) =
+    more.entries
+    ∙ ap (λ (t : List WordPair). let e : WordPair = record { first = hash; second = pair.place } in t ++ e ∷ []) so_far.are
+    ∙ ap (λ (h : ℕ). let e : WordPair = record { first = h; second = pair.place } in file_entries w done ++ e ∷ []) hashed
+    ∙ ap (λ (p : ℕ). let e : WordPair = record { first = key_hash r.key; second = p } in file_entries w done ++ e ∷ []) there
+    ∙ sym (entries_push w (head_size w) done r) in
+    record {
+      done = done ++ r ∷ [];
+      all = so_far.all
+          ∙ ap (with_records done) first
+          ∙ ap (λ rs. let walk : Walked = record { records = rs; damage = new.damage } in walk) (sym (append_assoc done (r ∷ []) new.records));
+      here = omega arith;
+      are = entry;
+      marks = more.marks ∙ ap (λ t. t ++ false ∷ []) so_far.marks
+          ∙ marks_of-push (file_entries w done) _
+          ∙ ap (marks_of []) (sym (entries_push w (head_size w) done r));
+    }
+
+-- nothing is left
+pub entered_all : (w : ℕ) (b : List ℕ) (left : Walked) (place : ℕ) (entries : Entries) → 0 < w → EnteredSoFar w b left place entries → left ≡ no_walk → HasEntries w b entries
+entered_all w b left place entries some so_far none =
+    let all : walk_of w b ≡ with_records so_far.done no_walk = so_far.all ∙ ap (with_records so_far.done) none in
+    let same : so_far.done ≡ (walk_of w b).records = sym (ap (λ (x : Walked). x.records) all ∙ append-nil so_far.done) in
+    let are : entry_pairs entries ≡ walk_entries w b = so_far.are ∙ ap (file_entries w) same in
+    record {
+      whole = ap (λ (x : Walked). x.damage) all;
+      marks = record {
+        are = are;
+        marked = so_far.marks ∙ ap (λ rs. marks_of [] (file_entries w rs)) same;
+        rising = places_rise w entries.places.items entries.hashes.items (walk_of w b).records some entries.paired are;
+        positive = places_positive w entries.places.items entries.hashes.items (walk_of w b).records some entries.paired are;
+      };
+    }
+
+-- a damage is left
+entered_damage : (w : ℕ) (b : List ℕ) (left : Walked) (place : ℕ) (entries : Entries) (damage : Damage) → EnteredSoFar w b left place entries → left ≡ damaged damage → (walk_of w b).damage ≡ Some damage
+entered_damage w b left place entries damage so_far is = ap (λ (x : Walked). x.damage) (so_far.all ∙ ap (with_records so_far.done) is)
+
+-- why a walk stopped
+pub walking_tells : {S L : Type 0} (s : Ghosts S) {l : Widths L} (w place : ℕ) (store : S) (old new : Walk S L s l) (entries : Entries) (fault : ReadFault) → OnlyReads s store old.reader.now.store → OnlyReads s old.reader.now.store new.reader.now.store
+    → ((b : List ℕ) → s.image old.reader.now.store b → EnteredSoFar w b (left_of w b old) place entries) → WalkingFails w old new fault → CheckTells s (WalkHas w) store new.reader.now.store fault
+walking_tells s w place store old new entries Device before now so_far fails = omega (arith, fails.1, before.failures)
+walking_tells s w place store old new entries (Table n) before now so_far fails = λ b is. entered_damage w b (left_of w b old) place entries (damage.Table n) (so_far b (now.images b is)) (fails.1 b is)
+walking_tells s w place store old new entries (Record at) before now so_far fails = λ b is. entered_damage w b (left_of w b old) place entries (damage.Record at) (so_far b (now.images b is)) (fails.1 b is)
+walking_tells s w place store old new entries Short before now so_far fails = fails
+walking_tells s w place store old new entries (Slot n i) before now so_far fails = absurd fails
+walking_tells s w place store old new entries (Twice at) before now so_far fails = absurd fails
+walking_tells s w place store old new entries (Unindexed at) before now so_far fails = absurd fails
+walking_tells s w place store old new entries NoMemory before now so_far fails = tt
+walking_tells s w place store old new entries Output before now so_far fails = fails

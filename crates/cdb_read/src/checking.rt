@@ -1,0 +1,71 @@
+// Whether a file is sound.
+ghost use Rattle.std.specs.Prelude.{◌≡◌, ℕ, List, All, map, OnOk, IfErr};
+ghost use Rattle.cdb_form.specs.Views.Pairs.{pointer_pair};
+ghost use Rattle.cdb_read.specs.Sound.{IsSound};
+ghost use Rattle.cdb_read.specs.Views.Check.{CheckFails, ReadTells};
+ghost use Rattle.cdb_read.specs.Views.Checked.{TablesAreClear, TablesHave};
+ghost use Rattle.cdb_read.specs.Views.Inside.{StandsInside};
+ghost use Rattle.cdb_read.specs.Views.Reads.{OnlyReads};
+
+use crate::entries::Entries;
+use crate::fault::ReadFault;
+use crate::reader::Reader;
+use crate::slots::check_tables;
+use crate::tables::first_outside;
+use crate::walked::walk_entries;
+use cdb_form::Width;
+use cdb_store::Store;
+use std::alloc::Global;
+
+impl<S: Store, L: Width> Reader<S, L> {
+    /// Checks the slots of all tables, which lie inside the file where they have slots, and marks
+    /// their records.
+    fn check_slots(&mut self, entries: &mut Entries) -> Result<(), ReadFault>
+        requires inside { All (StandsInside L.WORD (S.size self.old.store))
+            (map pointer_pair self.old.head.pointers) }
+        ensures clear { (b : List ℕ) → S.image self.new.store b
+            → OnOk result (TablesAreClear L.WORD b entries.old entries.new) }
+        ensures reads { OnlyReads S.Store self.old.store self.new.store }
+        ensures fails { IfErr result
+            (ReadTells S.Store (TablesHave L.WORD entries.old) self.old.store self.new.store) }
+    {
+        check_tables::<S, L>(
+            &mut self.store,
+            &self.head.pointers,
+            &mut self.window,
+            entries,
+        )
+    }
+}
+
+/// Checks whether a file is sound: its tables and its records lie where they are to, and the slots
+/// that are used are those of the records, one each, where a search for the hash comes to it.
+///
+/// It answers the first fault that there is, in this order: `Table`, the first table by its number
+/// that has slots and doesn't lie behind the head and inside the file; `Record` where no whole
+/// record stands; at the first used slot that is wrong `Slot`, where no record has its hash and its
+/// place, its hash is of another table, or an empty slot stands on the way from where its search
+/// begins, and else `Twice`, where an earlier slot has its record; and `Unindexed`, the first
+/// record that no slot has. `NoMemory` and `Device` come where memory ran out or the store failed.
+///
+/// The walk, and then the slots, are read through the window, 4096 bytes at once. It takes 13 bytes
+/// of memory a record, and time in order n log n. Whatever it answers, the reader stays as usable
+/// as it was.
+pub fn check<S: Store, L: Width>(alloc: Global, reader: &mut Reader<S, L>) -> Result<(), ReadFault>
+    ensures reads { OnlyReads S.Store reader.old.store reader.new.store }
+    ensures sound { (b : List ℕ) → S.image reader.new.store b
+        → OnOk result (IsSound L.WORD b) }
+    ensures fails { IfErr result
+        (CheckFails L.WORD S.Store reader.old.store reader.new.store) }
+{
+    let outside = first_outside::<L>(&reader.head.pointers, reader.store.len());
+    if let Some(n) = outside {
+        return Err(ReadFault::Table(n));
+    }
+    let mut entries = walk_entries(alloc, reader)?;
+    reader.check_slots(&mut entries)?;
+    match entries.first_unmarked() {
+        Some(place) => Err(ReadFault::Unindexed(place)),
+        None => Ok(()),
+    }
+}
