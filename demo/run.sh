@@ -20,32 +20,43 @@ show() {
     sh -c "$1"
 }
 
-# Shows a command that has a fault, and its exit status.
-show_fault() {
+# Shows a command that is to end with a status.
+show_status() {
     status=0
-    show "$1" 2>&1 || status=$?
+    show "$2" 2>&1 || status=$?
     printf '$ echo $?\n%s\n' "$status"
-    [ "$status" -eq 111 ]
+    [ "$status" -eq "$1" ]
 }
 
-printf '\nMail aliases as text. The key abuse has two values.\n\n'
+printf '\nMail aliases, a line each: a map.\n\n'
 show 'cat aliases.txt'
 
-printf '\nThe database of the text.\n\n'
-show 'cdb -c - < aliases.txt > aliases.cdb'
-show 'wc -c aliases.txt aliases.cdb'
+printf '\nThe database of the map, and a question.\n\n'
+show 'cdb -c -m aliases.cdb aliases.txt'
+show 'cdb -q -m aliases.cdb abuse'
 
-printf '\nThe text of the database, which is the same text.\n\n'
-show 'cdb -d < aliases.cdb > dumped.txt'
-show 'cmp aliases.txt dumped.txt && echo the same bytes'
+printf '\nA key that is not there has the status 100.\n\n'
+show_status 100 'cdb -q aliases.cdb sales'
 
-printf '\nThe database of that text, which is the same database.\n\n'
-show 'cdb -d < aliases.cdb | cdb -c - > again.cdb'
-show 'cmp aliases.cdb again.cdb && echo the same bytes'
+printf '\nA change: a second file, whose records take the places of those of their keys.\n\n'
+show "printf 'abuse security@example.invalid\\nsales sam@example.invalid\\n' > changes.txt"
+show 'cdb -c -m -r aliases.cdb aliases.txt changes.txt'
+show 'cdb -q -m aliases.cdb abuse'
+show 'cdb -q -m aliases.cdb sales'
 
-printf '\nA text with a fault: a line tells it with its place, and nothing is written.\n\n'
-show_fault "printf '+3,5:one=>Hello\n\n' | cdb -c - > faulty.cdb"
-show 'wc -c faulty.cdb'
+printf '\nA key that stands twice where that is forbidden: the database stays as it was.\n\n'
+show_status 111 'cdb -c -m -e aliases.cdb aliases.txt changes.txt'
+show 'cdb -q -m aliases.cdb abuse'
 
-printf '\nA database that is cut: the records before the cut are still given.\n\n'
-show_fault 'head -c 2150 aliases.cdb | cdb -d'
+printf '\nIts keys, and whether it is sound.\n\n'
+show 'cdb -l -m aliases.cdb'
+show 'cdb -k aliases.cdb && echo sound'
+
+printf '\nIts text, and the database of that text, which is the same.\n\n'
+show 'cdb -d aliases.cdb | cdb -c copy.cdb'
+show 'cmp aliases.cdb copy.cdb && echo the same bytes'
+
+printf '\nA database that was cut: the check says where, and the records before the cut are still given.\n\n'
+show 'head -c 2150 aliases.cdb > cut.cdb'
+show_status 100 'cdb -k cut.cdb'
+show_status 111 'cdb -d -m cut.cdb'
