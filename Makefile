@@ -65,6 +65,7 @@ interop: bin/cdb
 
 bench: bin/cdb
 	$(PYTHON) bench/run.py --cdb bin/cdb
+	$(PYTHON) bench/jobs.py --cdb bin/cdb
 	$(PYTHON) bench/stores.py
 	$(PYTHON) bench/makers.py
 
