@@ -31,7 +31,7 @@ TESTS = {
         "a_removal_and_a_look_tell_no_refused_memory",
         "a_finish_tells_refused_memory",
     ],
-    "cdb_read": ["values_tell_refused_memory"],
+    "cdb_read": ["values_tell_refused_memory", "a_check_tells_refused_memory"],
     "cdb_command": ["a_create_tells_refused_memory", "a_refused_line_tells_refused_memory"],
     "cdb_tool": [
         "a_list_tells_refused_memory",

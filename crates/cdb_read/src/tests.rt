@@ -1,4 +1,5 @@
 //! What contracts can't say.
+mod checking;
 mod counting;
 mod damaged;
 mod faults;

@@ -66,7 +66,7 @@ fn of_two(tables: [u64; 3], sizes: [u64; 3], first: [u64; 4]) -> Answer {
 }
 
 /// The file of four values of the key `a`: its slots go round from the last to the first.
-fn four_file(alloc: Global) -> Result<Vec<u8>, AllocError> {
+pub(super) fn four_file(alloc: Global) -> Result<Vec<u8>, AllocError> {
     let mut file = vec![in alloc; 0u8; 1568]?;
     file.extend_from_slice(b"\x28\x08\0\0\x08\0\0\0")?;
     for _ in 1576..2048usize {

@@ -1,8 +1,8 @@
-// Values whose asks for memory `tests/faults/calls.py` refuses, each in turn. It reads what the
-// test prints: whether the refusal came to the call.
+// Calls whose asks for memory `tests/faults/calls.py` refuses, each in turn. It reads what the test
+// prints: whether the refusal came to the call.
 use super::files::two_file;
 use super::reading::lies_inside;
-use crate::{ReadFault, Reader, Span, walk};
+use crate::{ReadFault, Reader, Span, check, walk};
 use cdb_form::Narrow;
 use cdb_store::MemStore;
 use std::alloc::{AllocError, Global};
@@ -56,6 +56,31 @@ fn values_tell_refused_memory(rt: HostRuntime) -> Result<(), Fail> {
         assert_eq!(rt; gives_values(rt.alloc(), &mut reader), Ok(true));
     } else {
         assert_eq!(rt; first, Ok(true));
+        println!(rt; "Whole")?;
+    }
+    Ok(())
+}
+
+/// A reader of the file of the two records.
+fn opened_two(alloc: Global) -> Result<Reader<MemStore, Narrow>, AllocError> {
+    match Reader::open(MemStore::from_vec(two_file(alloc)?)) {
+        Ok(reader) => Ok(reader),
+        Err(_) => Err(AllocError),
+    }
+}
+
+#[test]
+fn a_check_tells_refused_memory(rt: HostRuntime) -> Result<(), Fail> {
+    let Ok(mut reader) = opened_two(rt.alloc()) else {
+        println!(rt; "NoInputs")?;
+        return Ok(());
+    };
+    let first = check(rt.alloc(), &mut reader);
+    if first == Err(ReadFault::NoMemory) {
+        println!(rt; "NoMemory")?;
+        assert_eq!(rt; check(rt.alloc(), &mut reader), Ok(()));
+    } else {
+        assert_eq!(rt; first, Ok(()));
         println!(rt; "Whole")?;
     }
     Ok(())
