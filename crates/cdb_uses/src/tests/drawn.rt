@@ -1,8 +1,8 @@
-//! Files that are drawn, whole and damaged: a finder and a walk come to what a plain reading of the
-//! bytes comes to.
+//! Files that are drawn, whole and damaged: a finder, a walk and a check come to what a plain reading
+//! of the bytes comes to.
 use cdb_form::{Narrow, hash};
 use cdb_make::{Maker, Mode};
-use cdb_read::{ReadFault, Reader, Span, walk};
+use cdb_read::{ReadFault, Reader, Span, check, walk};
 use cdb_store::MemStore;
 use std::alloc::{AllocError, Global};
 use std::prelude::*;
@@ -185,6 +185,149 @@ fn walked(alloc: Global, file: &[u8]) -> Result<Came, AllocError> {
     })
 }
 
+/// The hash and the place that a slot of a table tells.
+fn slot(file: &[u8], n: u64, i: u64) -> (u32, u32) {
+    let at = u64::from(word(file, 8 * n)) + 8 * i;
+    (word(file, at), word(file, at + 4))
+}
+
+/// Whether no empty slot lies on the way from the home of a hash to slot `i` of a table.
+fn is_reached(file: &[u8], n: u64, hash: u32, i: u64) -> bool {
+    let slots = u64::from(word(file, 8 * n + 4)).max(1);
+    let home = u64::from(hash / 256) % slots;
+    for step in 0..slots {
+        let there = (home + step) % slots;
+        if there == i {
+            return true;
+        }
+        if slot(file, n, there).1 == 0 {
+            return false;
+        }
+    }
+    false
+}
+
+/// The hash of the key that stands in some bytes of a file.
+fn hash_at(file: &[u8], key: Span) -> u32 {
+    let behind = file.get(key.place as usize..).unwrap_or(b"");
+    hash(behind.get(..key.len as usize).unwrap_or(b""))
+}
+
+/// Whether a slot tells a record of a walk, stands in its table, and is reached.
+fn is_right(file: &[u8], walked: &Came, n: u64, i: u64) -> bool {
+    let (hash, place) = slot(file, n, i);
+    let mut told = false;
+    for key in walked.spans.iter().step_by(2) {
+        told = told || (key.place == u64::from(place) + 8 && hash_at(file, *key) == hash);
+    }
+    told && u64::from(hash % 256) == n && is_reached(file, n, hash, i)
+}
+
+/// The first table that lies outside the file.
+fn outside(file: &[u8]) -> Option<ReadFault> {
+    for n in 0..256u64 {
+        let (table, slots) = (word(file, 8 * n), word(file, 8 * n + 4));
+        let behind = u64::from(table) + 8 * u64::from(slots);
+        if slots != 0 && (table < 2048 || behind > file.len() as u64) {
+            return Some(ReadFault::Table(n));
+        }
+    }
+    None
+}
+
+/// The first fault of the slots of a table, and the places that those before it tell.
+fn slots_checked(
+    file: &[u8],
+    walked: &Came,
+    n: u64,
+    seen: &mut Vec<u32>,
+) -> Result<Option<ReadFault>, AllocError> {
+    for i in 0..u64::from(word(file, 8 * n + 4)) {
+        let (_, place) = slot(file, n, i);
+        if place == 0 {
+            continue;
+        }
+        if !is_right(file, walked, n, i) {
+            return Ok(Some(ReadFault::Slot(n, i)));
+        }
+        if seen.contains(&place) {
+            return Ok(Some(ReadFault::Twice(u64::from(place))));
+        }
+        seen.push(place)?;
+    }
+    Ok(None)
+}
+
+/// The first record that no slot tells.
+fn unindexed(walked: &Came, seen: &[u32]) -> Option<ReadFault> {
+    for key in walked.spans.iter().step_by(2) {
+        let place = key.place.saturating_sub(8);
+        if !seen.iter().any(|it| u64::from(*it) == place) {
+            return Some(ReadFault::Unindexed(place));
+        }
+    }
+    None
+}
+
+/// The first fault of a file.
+fn checked(alloc: Global, file: &[u8]) -> Result<Option<ReadFault>, AllocError> {
+    if let Some(fault) = outside(file) {
+        return Ok(Some(fault));
+    }
+    let walked = walked(alloc, file)?;
+    if walked.damage.is_some() {
+        return Ok(walked.damage);
+    }
+    let mut seen = Vec::new(alloc);
+    for n in 0..256 {
+        if let Some(fault) = slots_checked(file, &walked, n, &mut seen)? {
+            return Ok(Some(fault));
+        }
+    }
+    Ok(unindexed(&walked, &seen))
+}
+
+/// How many records of a walk have a key.
+fn count_of(file: &[u8], walked: &Came, key: &[u8]) -> usize {
+    let mut count = 0usize;
+    for there in walked.spans.iter().step_by(2) {
+        let behind = file.get(there.place as usize..).unwrap_or(b"");
+        if behind.get(..there.len as usize) == Some(key) {
+            count = count.saturating_add(1);
+        }
+    }
+    count
+}
+
+/// Whether a look-up found the values of a key in a walk, each once, and no damage.
+fn has_all(file: &[u8], walked: &Came, key: &[u8], found: &Came) -> bool {
+    let mut same = found.damage.is_none() && found.spans.len() == count_of(file, walked, key);
+    for (number, value) in found.spans.iter().enumerate() {
+        let before = found.spans.get(..number).unwrap_or(&[]);
+        same = same && walked.spans.contains(value) && !before.contains(value);
+    }
+    same
+}
+
+/// Whether a check of a file comes to what a plain one does; and where it is sound, each look-up to
+/// the values of the walk.
+fn checks(alloc: Global, file: &Vec<u8>) -> Result<bool, AllocError> {
+    let Ok(mut reader) = Reader::open(MemStore::from_vec(file.clone()?)) else {
+        return Ok(file.len() < 2048);
+    };
+    let answer = check::<MemStore, Narrow>(alloc, &mut reader);
+    if answer.err() != checked(alloc, file)? {
+        return Ok(false);
+    }
+    let records = walked(alloc, file)?;
+    let mut same = true;
+    for key in KEYS {
+        let found = found(alloc, &mut reader, key)?;
+        same = same && (answer.is_err() || has_all(file, &records, key, &found));
+    }
+    Ok(same)
+}
+
 /// What a finder comes to.
 fn found(
     alloc: Global,
@@ -247,6 +390,17 @@ fn readers_come_to_what_the_bytes_tell(rt: HostRuntime) -> Result<(), Fail> {
         assert!(rt; agrees(rt.alloc(), &file)?, "file {number}");
         damage(&mut file, &mut state);
         assert!(rt; agrees(rt.alloc(), &file)?, "file {number}, damaged");
+    }
+    Ok(())
+}
+
+#[test]
+fn checks_come_to_what_the_bytes_tell(rt: HostRuntime) -> Result<(), Fail> {
+    let mut state = 0x9e3779b97f4a7c15;
+    for number in 0..5000u32 {
+        let mut file = drawn_file(rt.alloc(), &mut state).ok_or("no file")?;
+        damage(&mut file, &mut state);
+        assert!(rt; checks(rt.alloc(), &file)?, "file {number}");
     }
     Ok(())
 }
