@@ -19,7 +19,7 @@ loop-n-init g c = record {
 
 pub check_table-requires-clause-inside : goal.check_table-requires-clause-inside
 check_table-requires-clause-inside g c =
-    stands_at g.L.Width.WORD _ _ c.loop-n.n c.args.tables.now _ c.loop-n.invariant.reads.size c.loop-n-test.true c.requires.inside
+    stands_at g.L.Width.WORD _ _ c.loop-n.n c.args.tables.now _ c.loop-n.invariant.reads.size (omega (arith, c.loop-n-test.true)) c.requires.inside
 
 pub returns-in_err-check_table-clause-fails : goal.returns-in_err-check_table-clause-fails
 returns-in_err-check_table-clause-fails g c =
