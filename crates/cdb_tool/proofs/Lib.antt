@@ -1,6 +1,7 @@
 pub mod Queries
 pub mod QueryEnds
 pub mod StatsTexts
+pub mod Checks
 pub mod NativeInputs
 pub mod WholeRuns
 pub mod InputTexts

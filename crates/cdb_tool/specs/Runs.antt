@@ -9,4 +9,5 @@ pub mod Load
 pub mod Query
 pub mod StatsText
 pub mod Stats
+pub mod Check
 pub mod Flushed
