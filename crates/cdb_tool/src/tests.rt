@@ -1,5 +1,7 @@
 // Tests of what no contract says: files and lines worked out by hand, and faults of readers and
 // writers.
+mod checking;
+mod counting;
 mod dumping;
 mod fakes;
 mod lines;
