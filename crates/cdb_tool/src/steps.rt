@@ -12,6 +12,7 @@ use crate::runs::list::list_run;
 use crate::runs::load::load;
 use crate::runs::query::query_run;
 use crate::runs::stats::stats_run;
+use crate::runs::style::Content;
 use crate::status::{BAD_USAGE, DONE, FAILED, status_of};
 use cdb_command::{Command, Style, Usage, plan, write_usage};
 use cdb_form::{Narrow, Wide, Width, write_pieces, write_whole};
@@ -135,8 +136,12 @@ where
             lines,
             ..
         } => query::<L, R, O>(rt, name.as_str(), key.as_str(), *number, *lines, output),
-        Command::Dump { name, style, .. } => dump::<L, R, I, O>(rt, name, *style, input, output),
-        Command::List { name, style, .. } => list::<L, R, I, O>(rt, name, *style, input, output),
+        Command::Dump { name, style, .. } => {
+            text::<L, R, I, O>(rt, Content::Records, name, *style, input, output)
+        }
+        Command::List { name, style, .. } => {
+            text::<L, R, I, O>(rt, Content::Keys, name, *style, input, output)
+        }
         Command::Stats { name, .. } => stats::<L, R, I, O>(rt, name, input, output),
         Command::Check { name, .. } => check::<L, R, I>(rt, name, input),
         Command::Create {
@@ -177,27 +182,25 @@ fn query<L: Width, R: Files<File = File>, O: Write>(
     query_run::<_, L, O>(store, key.as_bytes(), number, lines, output).1
 }
 
-/// Writes the records of a file, or of standard input.
-fn dump<L: Width, R: Files<File = File> + AllocGlobal, I: Read + Drop, O: Write>(
-    rt: &R,
-    name: &Option<String>,
+/// Writes the records of a database that is read in one pass, or their keys.
+fn write_text<L: Width, I: Read + Drop, O: Write>(
+    alloc: Global,
+    content: Content,
     style: Style,
     input: I,
     output: &mut O,
 ) -> Result<(), Fault> {
-    let alloc = rt.alloc();
-    match name {
-        Some(name) => {
-            let file = Input::new(alloc, opened(rt, name.as_str())?, WINDOW)?;
-            dump_run::<L, _, O>(alloc, file, style, output)
-        }
-        None => dump_run::<L, _, O>(alloc, Input::new(alloc, input, WINDOW)?, style, output),
+    let input = Input::new(alloc, input, WINDOW)?;
+    match content {
+        Content::Records => dump_run::<L, _, O>(alloc, input, style, output),
+        Content::Keys => list_run::<L, _, O>(alloc, input, style, output),
     }
 }
 
-/// Writes the keys of a file, or of standard input.
-fn list<L: Width, R: Files<File = File> + AllocGlobal, I: Read + Drop, O: Write>(
+/// Writes the text of a file, or of standard input.
+fn text<L: Width, R: Files<File = File> + AllocGlobal, I: Read + Drop, O: Write>(
     rt: &R,
+    content: Content,
     name: &Option<String>,
     style: Style,
     input: I,
@@ -206,10 +209,10 @@ fn list<L: Width, R: Files<File = File> + AllocGlobal, I: Read + Drop, O: Write>
     let alloc = rt.alloc();
     match name {
         Some(name) => {
-            let file = Input::new(alloc, opened(rt, name.as_str())?, WINDOW)?;
-            list_run::<L, _, O>(alloc, file, style, output)
+            let file = opened(rt, name.as_str())?;
+            write_text::<L, _, O>(alloc, content, style, file, output)
         }
-        None => list_run::<L, _, O>(alloc, Input::new(alloc, input, WINDOW)?, style, output),
+        None => write_text::<L, _, O>(alloc, content, style, input, output),
     }
 }
 
