@@ -4,3 +4,4 @@ pub mod Changes
 pub mod Examples
 pub mod FirstRecord
 pub mod Latest
+pub mod Checks

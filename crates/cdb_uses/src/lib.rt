@@ -4,12 +4,14 @@
 
 mod ask;
 mod changes;
+mod check;
 mod form;
 mod make;
 mod read;
 
 pub use ask::{AskFault, write_finished};
 pub use changes::{Change, ChangedFile, change_and_ask};
+pub use check::open_checked;
 pub use form::first_record;
 pub use make::file_of_latest;
 pub use read::write_values;

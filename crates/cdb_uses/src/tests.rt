@@ -2,7 +2,8 @@
 mod drawn;
 
 use crate::{
-    AskFault, Change, ChangedFile, change_and_ask, file_of_latest, first_record, write_finished,
+    AskFault, Change, ChangedFile, change_and_ask, file_of_latest, first_record, open_checked,
+    write_finished,
 };
 use cdb_form::{Narrow, Record, Wide, Width};
 use cdb_make::{MakeFault, Maker, Mode};
@@ -195,5 +196,25 @@ fn a_writer_that_fails_holds_a_front_of_the_values(rt: HostRuntime) -> Result<()
     let made = change_and_ask::<Narrow, _>(alloc, 2160, &mixed(alloc)?, b"a", &mut writer);
     assert!(rt; matches!(made, Err(AskFault::Read(ReadFault::Output))));
     assert_eq!(rt; writer.held.as_slice(), b"12".as_slice());
+    Ok(())
+}
+
+/// What is told of a file of zeros whose table 0 has a slot at 2048 that names a place.
+fn told_of(alloc: Global, slots: u8, place: u8) -> Result<(), ReadFault> {
+    let mut file = vec![in alloc; 0u8; 2056]?;
+    for (here, byte) in file.iter_mut().skip(1).zip([8, 0, 0, slots]) {
+        *here = byte;
+    }
+    for here in file.iter_mut().skip(2052).take(1) {
+        *here = place;
+    }
+    open_checked::<Narrow>(alloc, file, b"a").map(|_| ())
+}
+
+#[test]
+fn a_file_is_opened_where_it_is_sound(rt: HostRuntime) -> Result<(), Fail> {
+    assert_eq!(rt; told_of(rt.alloc(), 1, 0), Ok(()));
+    assert_eq!(rt; told_of(rt.alloc(), 2, 0), Err(ReadFault::Table(0)));
+    assert_eq!(rt; told_of(rt.alloc(), 1, 1), Err(ReadFault::Slot(0, 0)));
     Ok(())
 }
