@@ -1,29 +1,19 @@
 -- The records that a walk has given, as a check keeps them.
 use Rattle.std.proofs.Common.{◌≡◌, ℕ, ◌+◌, ◌<◌, ◌≤◌, List, [], ◌∷◌, ◌++◌, length, sym, ap, ◌∙◌, append_assoc, false, arith}
-use Rattle.std.specs.Prelude.{Some, sum_by}
+use Rattle.std.specs.Prelude.{sum_by}
 use Rattle.std.proofs.lemmas.List.{append-nil}
 use Rattle.std.proofs.lemmas.List.Sums.{sum_by-append, sum_by-cons}
-use Rattle.cdb_store.specs.declared.store.Store.{Ghosts}
 use Rattle.cdb_form.specs.Format.Hash.{key_hash}
 use Rattle.cdb_form.specs.Format.Pair.{WordPair, head_size}
 use Rattle.cdb_form.specs.Format.Record.{KeyValue, record_size}
 use Rattle.cdb_form.specs.Format.Table.{entries_from, file_entries}
-use Rattle.cdb_form.specs.Format.Walk.{Walked, walk_of, no_walk, damaged, with_first, with_records}
-use Rattle.cdb_form.specs.declared.damage.Damage.{Damage}
-use Rattle.cdb_form.specs.declared.damage.Damage.TheVariants as damage
-use Rattle.cdb_form.specs.declared.width.Width.{Ghosts as Widths}
+use Rattle.cdb_form.specs.Format.Walk.{Walked, walk_of, no_walk, with_first, with_records}
 use Rattle.cdb_read.specs.Lookup.{bytes_of}
 use Rattle.cdb_read.specs.Sound.{walk_entries}
-use Rattle.cdb_read.specs.Views.Check.{CheckTells}
-use Rattle.cdb_read.specs.Views.Checked.{HasEntries, WalkHas}
+use Rattle.cdb_read.specs.Views.Checked.{HasEntries}
 use Rattle.cdb_read.specs.Views.Entries.{entry_pairs, marks_of, HasMore}
-use Rattle.cdb_read.specs.Views.Reads.{OnlyReads}
-use Rattle.cdb_read.specs.Views.Walk.{left_of, WalkingFails}
 use Rattle.cdb_read.specs.Views.Walking.{record_of, behind, LiesAt}
 use Rattle.cdb_read.specs.declared.entries.Entries.{Entries}
-use Rattle.cdb_read.specs.declared.fault.ReadFault.{ReadFault}
-use Rattle.cdb_read.specs.declared.fault.ReadFault.TheVariants.{Short, Table, Record, Slot, Twice, Unindexed, Device, NoMemory, Output}
-use Rattle.cdb_read.specs.declared.record_walk.Walk.{Walk}
 use Rattle.cdb_read.specs.declared.span.Pair.{Pair}
 use Rattle.cdb_read.proofs.Entered.{marks_of-push, places_rise, places_positive}
 use Rattle.cdb_read.proofs.WalkedLengths.{length_of}
@@ -108,20 +98,3 @@ entered_all w b left place entries some so_far none =
         positive = places_positive w entries.places.items entries.hashes.items (walk_of w b).records some entries.paired are;
       };
     }
-
--- a damage is left
-entered_damage : (w : ℕ) (b : List ℕ) (left : Walked) (place : ℕ) (entries : Entries) (damage : Damage) → EnteredSoFar w b left place entries → left ≡ damaged damage → (walk_of w b).damage ≡ Some damage
-entered_damage w b left place entries damage so_far is = ap (λ (x : Walked). x.damage) (so_far.all ∙ ap (with_records so_far.done) is)
-
--- why a walk stopped
-pub walking_tells : {S L : Type 0} (s : Ghosts S) {l : Widths L} (w place : ℕ) (store : S) (old new : Walk S L s l) (entries : Entries) (fault : ReadFault) → OnlyReads s store old.reader.now.store → OnlyReads s old.reader.now.store new.reader.now.store
-    → ((b : List ℕ) → s.image old.reader.now.store b → EnteredSoFar w b (left_of w b old) place entries) → WalkingFails w old new fault → CheckTells s (WalkHas w) store new.reader.now.store fault
-walking_tells s w place store old new entries Device before now so_far fails = omega (arith, fails.1, before.failures)
-walking_tells s w place store old new entries (Table n) before now so_far fails = λ b is. entered_damage w b (left_of w b old) place entries (damage.Table n) (so_far b (now.images b is)) (fails.1 b is)
-walking_tells s w place store old new entries (Record at) before now so_far fails = λ b is. entered_damage w b (left_of w b old) place entries (damage.Record at) (so_far b (now.images b is)) (fails.1 b is)
-walking_tells s w place store old new entries Short before now so_far fails = fails
-walking_tells s w place store old new entries (Slot n i) before now so_far fails = absurd fails
-walking_tells s w place store old new entries (Twice at) before now so_far fails = absurd fails
-walking_tells s w place store old new entries (Unindexed at) before now so_far fails = absurd fails
-walking_tells s w place store old new entries NoMemory before now so_far fails = tt
-walking_tells s w place store old new entries Output before now so_far fails = fails

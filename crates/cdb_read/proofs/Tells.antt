@@ -4,7 +4,7 @@ use Rattle.cdb_store.specs.declared.store.Store.{Ghosts}
 use Rattle.cdb_form.specs.declared.damage.Damage.{Damage}
 use Rattle.cdb_form.specs.declared.damage.Damage.TheVariants as damage
 use Rattle.cdb_read.specs.Views.Check.{FaultTells, InEach, ReadTells, CheckTells}
-use Rattle.cdb_read.specs.Views.Reads.{OnlyReads, StoreFails}
+use Rattle.cdb_read.specs.Views.Reads.{OnlyReads}
 use Rattle.cdb_read.specs.declared.fault.ReadFault.{ReadFault}
 use Rattle.cdb_read.specs.declared.fault.ReadFault.TheVariants.{Short, Table, Record, Slot, Twice, Unindexed, Device, NoMemory, Output}
 
@@ -19,18 +19,6 @@ fault_tells s here known old new (Unindexed place) more tells = more (damage.Uni
 fault_tells s here known old new Device more tells = absurd tells
 fault_tells s here known old new NoMemory more tells = absurd tells
 fault_tells s here known old new Output more tells = absurd tells
-
--- a store that failed
-pub store_tells : {S : Type 0} (s : Ghosts S) (known : List ℕ → Damage → Type 0) (old mid new : S) (fault : ReadFault) → OnlyReads s old mid → StoreFails s mid new fault → ReadTells s known old new fault
-store_tells s known old mid new Short reads fails = absurd fails
-store_tells s known old mid new (Table n) reads fails = absurd fails
-store_tells s known old mid new (Record place) reads fails = absurd fails
-store_tells s known old mid new (Slot n i) reads fails = absurd fails
-store_tells s known old mid new (Twice place) reads fails = absurd fails
-store_tells s known old mid new (Unindexed place) reads fails = absurd fails
-store_tells s known old mid new Device reads fails = omega (arith, fails, reads.failures)
-store_tells s known old mid new NoMemory reads fails = absurd fails
-store_tells s known old mid new Output reads fails = absurd fails
 
 -- a damage that was told, of which more is known
 pub read_tells : {S : Type 0} (s : Ghosts S) (here known : List ℕ → Damage → Type 0) (old mid new : S) (fault : ReadFault) → OnlyReads s old mid → ((b : List ℕ) (d : Damage) → s.image new b → here b d → known b d) → ReadTells s here mid new fault → ReadTells s known old new fault

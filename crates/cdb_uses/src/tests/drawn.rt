@@ -1,5 +1,7 @@
 //! Files that are drawn, whole and damaged: a finder, a walk and a check come to what a plain reading
 //! of the bytes comes to.
+ghost use Rattle.std.specs.Prelude.{◌<◌};
+
 use cdb_form::{Narrow, hash};
 use cdb_make::{Maker, Mode};
 use cdb_read::{ReadFault, Reader, Span, check, walk};
@@ -185,15 +187,24 @@ fn walked(alloc: Global, file: &[u8]) -> Result<Came, AllocError> {
     })
 }
 
+/// The place of a table and how many slots it has.
+fn table(file: &[u8], n: u64) -> (u64, u64)
+    ensures place { result.0 < 4294967296 }
+    ensures slots { result.1 < 4294967296 }
+{
+    let at = 8 * n.min(255);
+    (u64::from(word(file, at)), u64::from(word(file, at + 4)))
+}
+
 /// The hash and the place that a slot of a table tells.
 fn slot(file: &[u8], n: u64, i: u64) -> (u32, u32) {
-    let at = u64::from(word(file, 8 * n)) + 8 * i;
+    let at = table(file, n).0 + 8 * i.min(1 << 32);
     (word(file, at), word(file, at + 4))
 }
 
 /// Whether no empty slot lies on the way from the home of a hash to slot `i` of a table.
 fn is_reached(file: &[u8], n: u64, hash: u32, i: u64) -> bool {
-    let slots = u64::from(word(file, 8 * n + 4)).max(1);
+    let slots = table(file, n).1.max(1);
     let home = u64::from(hash / 256) % slots;
     for step in 0..slots {
         let there = (home + step) % slots;
@@ -225,10 +236,9 @@ fn is_right(file: &[u8], walked: &Came, n: u64, i: u64) -> bool {
 
 /// The first table that lies outside the file.
 fn outside(file: &[u8]) -> Option<ReadFault> {
-    for n in 0..256u64 {
-        let (table, slots) = (word(file, 8 * n), word(file, 8 * n + 4));
-        let behind = u64::from(table) + 8 * u64::from(slots);
-        if slots != 0 && (table < 2048 || behind > file.len() as u64) {
+    for n in 0..256 {
+        let (place, slots) = table(file, n);
+        if slots != 0 && (place < 2048 || place + 8 * slots > file.len() as u64) {
             return Some(ReadFault::Table(n));
         }
     }
@@ -242,7 +252,7 @@ fn slots_checked(
     n: u64,
     seen: &mut Vec<u32>,
 ) -> Result<Option<ReadFault>, AllocError> {
-    for i in 0..u64::from(word(file, 8 * n + 4)) {
+    for i in 0..table(file, n).1 {
         let (_, place) = slot(file, n, i);
         if place == 0 {
             continue;
