@@ -1,5 +1,5 @@
 #!/usr/bin/env python3
-"""Runs the program on each case of cases.py, in a folder of its own, and compares all it leaves.
+"""Runs the program on each case of cases.py and sets.py, in a folder of its own, and compares all it leaves.
 
     tests/cli/run.py PROGRAM
 """
@@ -15,6 +15,7 @@ import tempfile
 
 from cases import CASES
 from places import CLOSED, FOLDER, PIPE, UNREAD, Link
+from sets import SETS
 
 # The permissions that a new file is to have, with the mask that the program is run with.
 MASK = 0o027
@@ -145,13 +146,14 @@ def main():
     if len(sys.argv) != 2:
         sys.exit(__doc__)
     program = os.path.abspath(sys.argv[1])
+    cases = {**CASES, **SETS}
     failed = 0
-    for name, case in CASES.items():
+    for name, case in cases.items():
         wrong = wrong_with(program, case)
         if wrong:
             failed += 1
             print(f"{name}: " + "; ".join(wrong))
-    print(f"{len(CASES) - failed} passed, {failed} failed")
+    print(f"{len(cases) - failed} passed, {failed} failed")
     sys.exit(1 if failed else 0)
 
 
