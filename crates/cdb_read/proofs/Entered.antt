@@ -9,9 +9,8 @@ use Rattle.std.proofs.lemmas.List.Folds.{list_any-append, list_any_none, list_an
 use Rattle.std.proofs.lemmas.List.Elements.{All-from_get_or}
 use Rattle.std.proofs.lemmas.Bool.{cases_eq, cases_lt, eq-eqb, ne_eqb, and_from, and_left, and_right}
 use Rattle.cdb_form.specs.Format.Hash.{table_number}
-use Rattle.cdb_form.specs.Format.Pair.{WordPair, head_size}
-use Rattle.cdb_form.specs.Format.Record.{KeyValue, record_size}
-use Rattle.cdb_form.specs.Format.Table.{empty_slot, file_entries, entries_from}
+use Rattle.cdb_form.specs.Format.Pair.{WordPair}
+use Rattle.cdb_form.specs.Format.Table.{empty_slot}
 use Rattle.cdb_form.specs.declared.damage.Damage.{Damage}
 use Rattle.cdb_form.specs.declared.damage.Damage.TheVariants.{Slot, Twice, Unindexed}
 use Rattle.cdb_read.specs.Faults.{first_of, fault_if, is_same, is_right_slot, used_fault, lost_fault}
@@ -195,39 +194,6 @@ marks_unused e es slots s z m =
       rising = m.rising;
       positive = m.positive;
     }
-
--- the records of a walk stand one behind the other
-entries_rise : (w at : ℕ) (rs : List KeyValue) (k : ℕ) → 0 < w → k + 1 < length (entries_from w at rs) → (get_or (entries_from w at rs) k empty_slot).second < (get_or (entries_from w at rs) (k + 1) empty_slot).second
-unfolding entries_from
-entries_rise w at [] k some l = absurd (omega arith)
-entries_rise w at (r ∷ []) k some l = absurd (omega arith)
-entries_rise w at (r ∷ s ∷ rs) zero some l = omega arith
-entries_rise w at (r ∷ s ∷ rs) (suc k) some l =
-    let e : suc (k + 1) ≡ suc k + 1 = omega arith in
-    subst (λ j. (get_or (entries_from w at (r ∷ s ∷ rs)) (suc k) empty_slot).second < (get_or (entries_from w at (r ∷ s ∷ rs)) j empty_slot).second) e (entries_rise w (at + record_size w r) (s ∷ rs) k some (omega arith))
-
-entries_behind : (w at : ℕ) (rs : List KeyValue) (k : ℕ) → k < length (entries_from w at rs) → at ≤ (get_or (entries_from w at rs) k empty_slot).second
-unfolding entries_from
-entries_behind w at [] k l = absurd (omega arith)
-entries_behind w at (r ∷ rs) zero l = omega arith
-entries_behind w at (r ∷ rs) (suc k) l = let ih = entries_behind w (at + record_size w r) rs k (omega arith) in omega arith
-
-pub places_rise : (w : ℕ) (ps hs : List ℕ) (rs : List KeyValue) → 0 < w → length hs ≡ length ps → entries_of ps hs ≡ file_entries w rs → IsStrictlyIncreasing ps
-places_rise w ps hs rs some e is k l =
-    let long = length-entries_of ps hs e in
-    let same = ap length is in
-    let a : get_or ps k 0 ≡ (get_or (file_entries w rs) k empty_slot).second = sym (place-entries_of ps hs k e (omega arith)) ∙ ap (λ (t : List WordPair). (get_or t k empty_slot).second) is in
-    let b : get_or ps (k + 1) 0 ≡ (get_or (file_entries w rs) (k + 1) empty_slot).second = sym (place-entries_of ps hs (k + 1) e l) ∙ ap (λ (t : List WordPair). (get_or t (k + 1) empty_slot).second) is in
-    let less = entries_rise w (head_size w) rs k some (omega arith) in
-    omega arith
-
-pub places_positive : (w : ℕ) (ps hs : List ℕ) (rs : List KeyValue) → 0 < w → length hs ≡ length ps → entries_of ps hs ≡ file_entries w rs → All (λ p. 0 < p) ps
-places_positive w ps hs rs some e is = All-from_get_or (λ p. 0 < p) ps 0 (λ k l.
-    (let long = length-entries_of ps hs e in
-    let same = ap length is in
-    let a : get_or ps k 0 ≡ (get_or (file_entries w rs) k empty_slot).second = sym (place-entries_of ps hs k e l) ∙ ap (λ (t : List WordPair). (get_or t k empty_slot).second) is in
-    let above = entries_behind w (head_size w) rs k (omega arith) in
-    omega arith))
 
 -- the first record that no slot tells, from record k on
 abbrev pub lost_from : List WordPair → List WordPair → ℕ → Option Damage

@@ -1,5 +1,5 @@
 -- The records that a walk has given, as a check keeps them.
-use Rattle.std.proofs.Common.{◌≡◌, ℕ, ◌+◌, ◌<◌, ◌≤◌, List, [], ◌∷◌, ◌++◌, length, sym, ap, ◌∙◌, append_assoc, false, arith}
+use Rattle.std.proofs.Common.{◌≡◌, ℕ, ◌+◌, ◌<◌, ◌≤◌, List, [], ◌∷◌, ◌++◌, length, sym, ap, ◌∙◌, subst, append_assoc, arith}
 use Rattle.std.specs.Prelude.{sum_by}
 use Rattle.std.proofs.lemmas.List.{append-nil}
 use Rattle.std.proofs.lemmas.List.Sums.{sum_by-append, sum_by-cons}
@@ -9,35 +9,28 @@ use Rattle.cdb_form.specs.Format.Record.{KeyValue, record_size}
 use Rattle.cdb_form.specs.Format.Table.{entries_from, file_entries}
 use Rattle.cdb_form.specs.Format.Walk.{Walked, walk_of, no_walk, with_first, with_records}
 use Rattle.cdb_read.specs.Lookup.{bytes_of}
-use Rattle.cdb_read.specs.Sound.{walk_entries}
 use Rattle.cdb_read.specs.Views.Checked.{HasEntries}
-use Rattle.cdb_read.specs.Views.Entries.{entry_pairs, marks_of, HasMore}
+use Rattle.cdb_read.specs.Views.Lists.{IsRising, ListsMark, HasAdded}
 use Rattle.cdb_read.specs.Views.Walking.{record_of, behind, LiesAt}
 use Rattle.cdb_read.specs.declared.entries.Entries.{Entries}
 use Rattle.cdb_read.specs.declared.span.Pair.{Pair}
-use Rattle.cdb_read.proofs.Entered.{marks_of-push, places_rise, places_positive}
+use Rattle.cdb_read.proofs.Rising.{rising_entries, rising_from_one}
 use Rattle.cdb_read.proofs.WalkedLengths.{length_of}
 
 -- some records were given, which are kept, and then what is left of the walk, from a place on
-pub record EnteredSoFar (w : ℕ) (b : List ℕ) (left : Walked) (place : ℕ) (entries : Entries) : Type 0 where
+pub record EnteredSoFar (w : ℕ) (b : List ℕ) (left : Walked) (place : ℕ) (lists : List Entries) : Type 0 where
   pub done : List KeyValue
   pub all : walk_of w b ≡ with_records done left
   pub here : place ≡ head_size w + sum_by (record_size w) done
-  pub are : entry_pairs entries ≡ file_entries w done
-  pub marks : entries.marks.items ≡ marks_of [] (file_entries w done)
+  pub marks : ListsMark lists (file_entries w done) []
 
-no_marks : (entries : Entries) → entries.marks.items ≡ [] → entries.marks.items ≡ marks_of [] []
-unfolding marks_of
-no_marks entries none = none
-
-pub entered_none : (w : ℕ) (b : List ℕ) (left : Walked) (place : ℕ) (entries : Entries) → left ≡ walk_of w b → place ≡ head_size w → entry_pairs entries ≡ [] → entries.marks.items ≡ [] → EnteredSoFar w b left place entries
+pub entered_none : (w : ℕ) (b : List ℕ) (left : Walked) (place : ℕ) (lists : List Entries) → left ≡ walk_of w b → place ≡ head_size w → ListsMark lists [] [] → EnteredSoFar w b left place lists
 unfolding entries_from
-entered_none w b left place entries is here none unmarked = record {
+entered_none w b left place lists is here none = record {
   done = [];
   all = sym is;
   here = omega arith;
-  are = none;
-  marks = no_marks entries unmarked;
+  marks = none;
 }
 
 -- the entry of one record more
@@ -52,9 +45,9 @@ entries_push w at (q ∷ rs) r =
     (entries_push w (at + record_size w q) rs r
     ∙ ap (λ (p : ℕ). let e : WordPair = record { first = key_hash r.key; second = p } in entries_from w (at + record_size w q) rs ++ e ∷ []) z)
 
-pub entered_more : (w place next : ℕ) (b : List ℕ) (old new : Walked) (pair : Pair) (hash : ℕ) (kept now : Entries) → EnteredSoFar w b old place kept → old ≡ with_first (record_of b pair) new → LiesAt w place pair → next ≡ behind pair → behind pair ≤ length b
-    → hash ≡ key_hash (bytes_of b pair.key) → HasMore kept now pair.place hash → EnteredSoFar w b new next now
-entered_more w place next b old new pair hash kept now so_far first lies ends inside hashed more =
+pub entered_more : (w place next : ℕ) (b : List ℕ) (old new : Walked) (pair : Pair) (hash : ℕ) (kept now : List Entries) → 0 < w → EnteredSoFar w b old place kept → old ≡ with_first (record_of b pair) new → LiesAt w place pair → next ≡ behind pair → behind pair ≤ length b
+    → hash ≡ key_hash (bytes_of b pair.key) → HasAdded kept now (record { first = hash; second = pair.place }) → EnteredSoFar w b new next now
+entered_more w place next b old new pair hash kept now some so_far first lies ends inside hashed more =
     let r = record_of b pair in
     let done = so_far.done in
     let after = lies.value in
@@ -65,10 +58,8 @@ entered_more w place next b old new pair hash kept now so_far first lies ends in
     let value : length (bytes_of b pair.value) ≡ pair.value.len = length_of b pair.value inside in
     let sum : sum_by (record_size w) (done ++ r ∷ []) ≡ sum_by (record_size w) done + record_size w r = omega (arith, sum_by-append (record_size w) done (r ∷ []), sum_by-cons (record_size w) r []) in
     let there : pair.place ≡ head_size w + sum_by (record_size w) done = omega arith in
-    let entry : entry_pairs now ≡ file_entries w (done ++ r ∷ []) =
-    more.entries
-    ∙ ap (λ (t : List WordPair). let e : WordPair = record { first = hash; second = pair.place } in t ++ e ∷ []) so_far.are
-    ∙ ap (λ (h : ℕ). let e : WordPair = record { first = h; second = pair.place } in file_entries w done ++ e ∷ []) hashed
+    let entry : file_entries w done ++ record { first = hash; second = pair.place } ∷ [] ≡ file_entries w (done ++ r ∷ []) =
+    ap (λ (h : ℕ). let e : WordPair = record { first = h; second = pair.place } in file_entries w done ++ e ∷ []) hashed
     ∙ ap (λ (p : ℕ). let e : WordPair = record { first = key_hash r.key; second = p } in file_entries w done ++ e ∷ []) there
     ∙ sym (entries_push w (head_size w) done r) in
     record {
@@ -77,24 +68,16 @@ entered_more w place next b old new pair hash kept now so_far first lies ends in
           ∙ ap (with_records done) first
           ∙ ap (λ rs. let walk : Walked = record { records = rs; damage = new.damage } in walk) (sym (append_assoc done (r ∷ []) new.records));
       here = omega arith;
-      are = entry;
-      marks = more.marks ∙ ap (λ t. t ++ false ∷ []) so_far.marks
-          ∙ marks_of-push (file_entries w done) _
-          ∙ ap (marks_of []) (sym (entries_push w (head_size w) done r));
+      marks = subst (λ t. ListsMark now t []) entry (more (file_entries w done) so_far.marks
+          (subst (IsRising 1) (sym entry) (rising_from_one (head_size w) (file_entries w (done ++ r ∷ [])) (omega arith) (rising_entries w (head_size w) (done ++ r ∷ []) some))));
     }
 
 -- nothing is left
-pub entered_all : (w : ℕ) (b : List ℕ) (left : Walked) (place : ℕ) (entries : Entries) → 0 < w → EnteredSoFar w b left place entries → left ≡ no_walk → HasEntries w b entries
-entered_all w b left place entries some so_far none =
+pub entered_all : (w : ℕ) (b : List ℕ) (left : Walked) (place : ℕ) (lists : List Entries) → EnteredSoFar w b left place lists → left ≡ no_walk → HasEntries w b lists
+entered_all w b left place lists so_far none =
     let all : walk_of w b ≡ with_records so_far.done no_walk = so_far.all ∙ ap (with_records so_far.done) none in
     let same : so_far.done ≡ (walk_of w b).records = sym (ap (λ (x : Walked). x.records) all ∙ append-nil so_far.done) in
-    let are : entry_pairs entries ≡ walk_entries w b = so_far.are ∙ ap (file_entries w) same in
     record {
       whole = ap (λ (x : Walked). x.damage) all;
-      marks = record {
-        are = are;
-        marked = so_far.marks ∙ ap (λ rs. marks_of [] (file_entries w rs)) same;
-        rising = places_rise w entries.places.items entries.hashes.items (walk_of w b).records some entries.paired are;
-        positive = places_positive w entries.places.items entries.hashes.items (walk_of w b).records some entries.paired are;
-      };
+      marks = subst (λ rs. ListsMark lists (file_entries w rs) []) same so_far.marks;
     }

@@ -111,11 +111,11 @@ is_right-true entries n slots i right =
     (and_from (table_number s.first == n) (is_reached slots i) (eq-eqb (table_number s.first) n right.in_table) right.reached)
 
 -- a used slot without a fault is right, and no earlier one has its place
-record IsClean (entries before : List WordPair) (n : ℕ) (slots : List WordPair) (i : ℕ) : Type 0 where
-  right : IsRight entries n slots i
-  first : list_any (has_place (nth_slot slots i)) (before ++ take i slots) ≡ false
+pub record IsClean (entries before : List WordPair) (n : ℕ) (slots : List WordPair) (i : ℕ) : Type 0 where
+  pub right : IsRight entries n slots i
+  pub first : list_any (has_place (nth_slot slots i)) (before ++ take i slots) ≡ false
 
-slot_clean : (entries before : List WordPair) (n : ℕ) (slots : List WordPair) (i : ℕ) → slot_fault entries before n slots i ≡ None → is_used (nth_slot slots i) ≡ true → IsClean entries before n slots i
+pub slot_clean : (entries before : List WordPair) (n : ℕ) (slots : List WordPair) (i : ℕ) → slot_fault entries before n slots i ≡ None → is_used (nth_slot slots i) ≡ true → IsClean entries before n slots i
 slot_clean entries before n slots i h u =
     let s = nth_slot slots i in
     let both = option_or-none _ _ (sym (cond-true (is_used s) _ _ u) ∙ h) in
@@ -155,7 +155,7 @@ whole_head w bytes h = elim (cases_lt (length bytes) (head_size w)) [
 ]
 
 -- each slot, by those of its table
-slots_clean : (w : ℕ) (bytes : List ℕ) (entries : List WordPair) (n i : ℕ) → slots_fault w bytes entries n ≡ None → i < length (table_at w bytes n) → slot_fault entries (tables_below w bytes n) n (table_at w bytes n) i ≡ None
+pub slots_clean : (w : ℕ) (bytes : List ℕ) (entries : List WordPair) (n i : ℕ) → slots_fault w bytes entries n ≡ None → i < length (table_at w bytes n) → slot_fault entries (tables_below w bytes n) n (table_at w bytes n) i ≡ None
 unfolding slots_fault
 slots_clean w bytes entries n i h l =
     let slots = table_at w bytes n in

@@ -32,6 +32,10 @@ pub mod FaultSteps
 pub mod Entered
 pub mod Tells
 pub mod SlotChecks
+pub mod Rising
+pub mod ListMarks
+pub mod Elsewhere
+pub mod Earliest
 pub mod AllTables
 pub mod EnteredWalk
 pub mod CheckLaws

@@ -13,5 +13,6 @@ pub mod Counting
 pub mod Lengths
 pub mod Stats
 pub mod Entries
+pub mod Lists
 pub mod Check
 pub mod Checked

@@ -1,5 +1,5 @@
 // Whether a file is sound.
-ghost use Rattle.std.specs.Prelude.{◌≡◌, ℕ, List, All, map, OnOk, IfErr};
+ghost use Rattle.std.specs.Prelude.{◌≡◌, ℕ, List, All, map, length, OnOk, IfErr};
 ghost use Rattle.cdb_form.specs.Views.Pairs.{pointer_pair};
 ghost use Rattle.cdb_read.specs.Sound.{IsSound};
 ghost use Rattle.cdb_read.specs.Views.Check.{CheckFails, ReadTells};
@@ -9,6 +9,7 @@ ghost use Rattle.cdb_read.specs.Views.Reads.{OnlyReads};
 
 use crate::entries::Entries;
 use crate::fault::ReadFault;
+use crate::lists::first_unmarked;
 use crate::reader::Reader;
 use crate::slots::check_tables;
 use crate::tables::first_outside;
@@ -20,20 +21,21 @@ use std::alloc::Global;
 impl<S: Store, L: Width> Reader<S, L> {
     /// Checks the slots of all tables, which lie inside the file where they have slots, and marks
     /// their records.
-    fn check_slots(&mut self, entries: &mut Entries) -> Result<(), ReadFault>
+    fn check_slots(&mut self, lists: &mut [Entries]) -> Result<(), ReadFault>
+        requires many { length lists.old ≡ 256 }
         requires inside { All (StandsInside L.WORD (S.size self.old.store))
             (map pointer_pair self.old.head.pointers) }
         ensures clear { (b : List ℕ) → S.image self.new.store b
-            → OnOk result (TablesAreClear L.WORD b entries.old entries.new) }
+            → OnOk result (TablesAreClear L.WORD b lists.old lists.new) }
         ensures reads { OnlyReads S.Store self.old.store self.new.store }
         ensures fails { IfErr result
-            (ReadTells S.Store (TablesHave L.WORD entries.old) self.old.store self.new.store) }
+            (ReadTells S.Store (TablesHave L.WORD lists.old) self.old.store self.new.store) }
     {
         check_tables::<S, L>(
             &mut self.store,
             &self.head.pointers,
             &mut self.window,
-            entries,
+            lists,
         )
     }
 }
@@ -62,9 +64,9 @@ pub fn check<S: Store, L: Width>(alloc: Global, reader: &mut Reader<S, L>) -> Re
     if let Some(n) = outside {
         return Err(ReadFault::Table(n));
     }
-    let mut entries = walk_entries(alloc, reader)?;
-    reader.check_slots(&mut entries)?;
-    match entries.first_unmarked() {
+    let mut lists = walk_entries(alloc, reader)?;
+    reader.check_slots(&mut lists)?;
+    match first_unmarked(&lists) {
         Some(place) => Err(ReadFault::Unindexed(place)),
         None => Ok(()),
     }

@@ -1,11 +1,11 @@
-// The records of a walk, as a check keeps them.
+// The records of a walk whose keys have one table, as a check keeps them.
 ghost use Rattle.std.specs.Prelude.{◌≡◌, ◌<◌, ◌≤◌, [], OnOk, IfSome, MatchOption, length};
 ghost use Rattle.std.specs.Prelude.{get_or, slice_set, true, false, List, option_map};
 
 use cdb_form::Slot;
 use std::alloc::{AllocError, Global};
 
-/// The records of a walk, in the order of their places: 13 bytes each.
+/// The records of one table, in the order of their places: 13 bytes each.
 ///
 /// Places, hashes and marks stand apart, so that a search for a place reads little but the places.
 #[derive(Drop)]

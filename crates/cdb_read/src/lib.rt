@@ -10,6 +10,7 @@ mod finder;
 mod hashing;
 pub mod laws;
 mod lengths;
+mod lists;
 mod looking;
 mod pieces;
 mod reader;

@@ -44,8 +44,8 @@ fn check_slot(
     Ok(())
 }
 
-/// Checks the slots of table `n`, and marks their records. The run of used slots before each slot
-/// is known as the slots pass, so no way to a slot is gone twice.
+/// Checks the slots of table `n` against the records of its list, and marks these. The run of used
+/// slots before each slot is known as the slots pass, so no way to a slot is gone twice.
 fn check_table<S: Store, L: Width>(
     store: &mut S,
     n: u64,
@@ -75,14 +75,15 @@ fn check_table<S: Store, L: Width>(
     Ok(())
 }
 
-/// Checks the slots of all tables, and marks their records.
+/// Checks the slots of all tables, each against the records of its list alone, and marks these.
 pub(crate) fn check_tables<S: Store, L: Width>(
     store: &mut S,
     tables: &[Pointer],
     window: &mut Window,
-    entries: &mut Entries,
+    lists: &mut [Entries],
 ) -> Result<(), ReadFault>
     requires many { length tables.now ≡ 256 }
+    requires lists { length lists.old ≡ 256 }
     requires known { (b : List ℕ) → S.image store.old b
         → head_at L.WORD b ≡ map pointer_pair tables.now }
     requires inside { All (StandsInside L.WORD (S.size store.old)) (map pointer_pair tables.now) }
@@ -90,13 +91,13 @@ pub(crate) fn check_tables<S: Store, L: Width>(
     requires shows { Shows window.old (S.image store.old) }
     ensures shows { Shows window.new (S.image store.new) }
     ensures clear { (b : List ℕ) → S.image store.new b
-        → OnOk result (TablesAreClear L.WORD b entries.old entries.new) }
+        → OnOk result (TablesAreClear L.WORD b lists.old lists.new) }
     ensures reads { OnlyReads S.Store store.old store.new }
     ensures fails { IfErr result
-        (ReadTells S.Store (TablesHave L.WORD entries.old) store.old store.new) }
+        (ReadTells S.Store (TablesHave L.WORD lists.old) store.old store.new) }
 {
     for n in 0..tables.len() {
-        check_table::<S, L>(store, n as u64, tables[n], window, entries)?;
+        check_table::<S, L>(store, n as u64, tables[n], window, &mut lists[n])?;
     }
     Ok(())
 }

@@ -8,6 +8,7 @@ use Rattle.cdb_read.specs.Faults.{first_of, used_fault, is_right_slot, faults_be
 use Rattle.cdb_read.specs.Lookup.{slots_at}
 use Rattle.cdb_read.specs.Sound.{walk_entries, all_slots}
 use Rattle.cdb_read.specs.Views.Entries.{Marks}
+use Rattle.cdb_read.specs.Views.Lists.{ListsMark}
 use Rattle.cdb_read.specs.declared.entries.Entries.{Entries}
 
 -- used slot i of table n has no fault, and its record is marked; or this is its fault
@@ -34,20 +35,20 @@ TableHas w n p old b d = (entries slots : List WordPair) → Marks old entries s
     → faults_behind entries slots n (slots_at w b p) ≡ Some d
 
 -- and the slots of all tables, before which none was told
-pub record TablesAreClear (w : ℕ) (b : List ℕ) (old new : Entries) : Type 0 where
-  pub none : (entries : List WordPair) → Marks old entries []
+pub record TablesAreClear (w : ℕ) (b : List ℕ) (old new : List Entries) : Type 0 where
+  pub none : (entries : List WordPair) → ListsMark old entries []
       → first_of (slots_fault w b entries) (range_with_len 0 256) ≡ None
-  pub marks : (entries : List WordPair) → Marks old entries []
-      → Marks new entries (all_slots w b)
+  pub marks : (entries : List WordPair) → ListsMark old entries []
+      → ListsMark new entries (all_slots w b)
 
-abbrev pub TablesHave : ℕ → Entries → List ℕ → Damage → Type 0
-TablesHave w old b d = (entries : List WordPair) → Marks old entries []
+abbrev pub TablesHave : ℕ → List Entries → List ℕ → Damage → Type 0
+TablesHave w old b d = (entries : List WordPair) → ListsMark old entries []
     → first_of (slots_fault w b entries) (range_with_len 0 256) ≡ Some d
 
 -- the records are those of a walk without damage; or this is its damage
-pub record HasEntries (w : ℕ) (b : List ℕ) (entries : Entries) : Type 0 where
+pub record HasEntries (w : ℕ) (b : List ℕ) (lists : List Entries) : Type 0 where
   pub whole : (walk_of w b).damage ≡ None
-  pub marks : Marks entries (walk_entries w b) []
+  pub marks : ListsMark lists (walk_entries w b) []
 
 abbrev pub WalkHas : ℕ → List ℕ → Damage → Type 0
 WalkHas w b d = (walk_of w b).damage ≡ Some d

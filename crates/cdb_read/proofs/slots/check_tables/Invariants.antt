@@ -1,4 +1,4 @@
-use Rattle.std.proofs.Common.{ℕ, List}
+use Rattle.std.proofs.Common.{◌≡◌, ℕ, List, length}
 use Rattle.cdb_read.specs.Views.Reads.{OnlyReads}
 use Rattle.cdb_read.specs.Views.Window.{Shows}
 use Rattle.cdb_read.proofs.AllTables.{AreClearTo}
@@ -9,6 +9,7 @@ abbrev pub invariant-loop-n : goal.invariant-loop-n
 invariant-loop-n g l =
     record {
       shows : Shows l.window (g.S.Store.image l.store);
+      many : length l.lists ≡ 256;
       reads : OnlyReads g.S.Store l.fn.store l.store;
-      clear : (b : List ℕ) → g.S.Store.image l.store b → AreClearTo g.L.Width.WORD b l.fn.entries l.entries l.n;
+      clear : (b : List ℕ) → g.S.Store.image l.store b → AreClearTo g.L.Width.WORD b l.fn.lists l.lists l.n;
     }
