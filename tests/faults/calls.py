@@ -18,9 +18,8 @@ could do without either.
 import os
 import resource
 import sys
-import tempfile
 
-from run import Program
+from refusing import Refusing
 
 CRATES = os.path.join(os.path.dirname(os.path.abspath(__file__)), "..", "..", "crates")
 TESTS = {
@@ -54,7 +53,7 @@ CAME = {"NoMemory": "told", "Whole": "done without", "NoInputs": "before the cal
 
 def came_of(left):
     """What a test printed of its call, or what is wrong with the test's end."""
-    status, output, _ = left
+    status, output = left.returncode, left.stdout
     lines = output.split()
     if status or PASSED not in output:
         return f"{left!r:.300}"
@@ -118,14 +117,13 @@ def main():
     resource.setrlimit(resource.RLIMIT_CORE, (0, 0))
     library = os.path.abspath(sys.argv[1])
     passed = failed = 0
-    with tempfile.TemporaryDirectory() as folder:
-        for crate, tests in TESTS.items():
-            built = os.path.join(CRATES, crate, "out", f"{crate}_tests")
-            program = Program(os.path.abspath(built), library, folder)
-            counts = [tell(test, refuse_each(program, test)) for test in tests]
-            counts += [compare(program, row) for row in ALIKE.get(crate, [])]
-            passed += sum(good for good, _ in counts)
-            failed += sum(bad for _, bad in counts)
+    for crate, tests in TESTS.items():
+        built = os.path.join(CRATES, crate, "out", f"{crate}_tests")
+        program = Refusing(os.path.abspath(built), library)
+        counts = [tell(test, refuse_each(program, test)) for test in tests]
+        counts += [compare(program, row) for row in ALIKE.get(crate, [])]
+        passed += sum(good for good, _ in counts)
+        failed += sum(bad for _, bad in counts)
     print(f"{passed} passed, {failed} failed")
     sys.exit(1 if failed else 0)
 

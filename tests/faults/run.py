@@ -14,12 +14,11 @@ removed. Where the writing of a line is refused, the line may be missing.
 
 import os
 import resource
-import struct
-import subprocess
 import sys
 import tempfile
 
 from commands import COMMANDS
+from refusing import Refusing
 
 NO_MEMORY = b"cdb: no memory\n"
 # The lines that a call of the system which fails can leave.
@@ -52,52 +51,18 @@ class Left:
         return vars(self) | {"asks": 0} == vars(other) | {"asks": 0}
 
 
-class Program:
-    """The program, with the library loaded ahead of it."""
-
-    def __init__(self, program, library, what):
-        self.program = program
-        self.library = library
-        self.what = what
-
-    def run(self, command, first=0, last=0):
-        """What a run left with some asks refused."""
-        with tempfile.TemporaryDirectory() as folder:
-            count = os.path.join(folder, "count")
-            with open(count, "wb") as counted:
-                counted.write(bytes(struct.calcsize("L")))
-            place = os.path.join(folder, "files")
-            os.mkdir(place)
-            for name, what in command.files.items():
-                with open(os.path.join(place, name), "wb") as file:
-                    file.write(what)
-            refusing = {
-                "LD_PRELOAD": self.library,
-                "REFUSE_COUNT": count,
-                "REFUSE_FIRST": str(first),
-                "REFUSE_LAST": str(last),
-            }
-            if self.what == "calls":
-                refusing["REFUSE_CALLS"] = "1"
-            # A file and no pipe, so that each run reads as much at once.
-            with tempfile.TemporaryFile() as stdin:
-                stdin.write(command.stdin)
-                stdin.seek(0)
-                done = subprocess.run(
-                    [self.program, *command.words],
-                    cwd=place,
-                    env=refusing,
-                    stdin=stdin,
-                    capture_output=True,
-                    timeout=60,
-                )
-            files = {}
-            for name in os.listdir(place):
-                with open(os.path.join(place, name), "rb") as file:
-                    files[name] = file.read()
-            with open(count, "rb") as counted:
-                (asks,) = struct.unpack("L", counted.read())
-        return Left(done, files, asks)
+def run(program, command, first=0, last=0):
+    """What a run left with some asks refused."""
+    with tempfile.TemporaryDirectory() as folder:
+        for name, what in command.files.items():
+            with open(os.path.join(folder, name), "wb") as file:
+                file.write(what)
+        done, asks = program.run(command.words, command.stdin, first, last, folder)
+        files = {}
+        for name in os.listdir(folder):
+            with open(os.path.join(folder, name), "rb") as file:
+                files[name] = file.read()
+    return Left(done, files, asks)
 
 
 def is_fault_line(what, line):
@@ -145,11 +110,11 @@ def came_of(what, command, left, free, is_lasting):
 
 def refuse_each(program, command):
     """For each refusal how it was made, and what came of it: TOLD, DONE, or what is wrong."""
-    free = program.run(command)
+    free = run(program, command)
     came = []
     for first in range(1, free.asks + 1):
         for how, last in ((f"ask {first}", first), (f"each ask from {first} on", LAST)):
-            left = program.run(command, first, last)
+            left = run(program, command, first, last)
             if left.asks < first:
                 came.append((how, f"only {left.asks} asks were made"))
             else:
@@ -176,7 +141,7 @@ def main():
         sys.exit(__doc__)
     # A crash is to leave no file.
     resource.setrlimit(resource.RLIMIT_CORE, (0, 0))
-    program = Program(os.path.abspath(sys.argv[1]), os.path.abspath(sys.argv[2]), sys.argv[3])
+    program = Refusing(os.path.abspath(sys.argv[1]), os.path.abspath(sys.argv[2]), sys.argv[3])
     passed = failed = 0
     for name, command in COMMANDS.items():
         good, bad = tell(name, refuse_each(program, command))

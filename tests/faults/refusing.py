@@ -1,0 +1,46 @@
+"""Runs a program with some of its asks refused."""
+
+import os
+import struct
+import subprocess
+import tempfile
+
+
+class Refusing:
+    """A program, with the library of refuse.c loaded ahead of it, by which asks for memory are
+    refused, or calls of the system."""
+
+    def __init__(self, program, library, what="memory"):
+        self.program = program
+        self.library = library
+        self.what = what
+
+    def run(self, words, stdin, first=0, last=0, folder=None):
+        """What it left, with the asks from the first to the last refused, and how many it made.
+
+        It reads a file and no pipe, so that each run reads as much at once.
+        """
+        with tempfile.NamedTemporaryFile() as count, tempfile.TemporaryFile() as given:
+            count.write(bytes(struct.calcsize("L")))
+            count.flush()
+            given.write(stdin)
+            given.seek(0)
+            refusing = {
+                "LD_PRELOAD": self.library,
+                "REFUSE_COUNT": count.name,
+                "REFUSE_FIRST": str(first),
+                "REFUSE_LAST": str(last),
+            }
+            if self.what == "calls":
+                refusing["REFUSE_CALLS"] = "1"
+            done = subprocess.run(
+                [self.program, *words],
+                cwd=folder,
+                env=refusing,
+                stdin=given,
+                capture_output=True,
+                timeout=60,
+            )
+            with open(count.name, "rb") as counted:
+                (asks,) = struct.unpack("L", counted.read())
+        return done, asks
