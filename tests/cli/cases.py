@@ -311,6 +311,15 @@ CASES = {
     "a temporary file of a name": creates(["-c", "-t", "y", "x"], TWO_FILE, TWO_TEXT),
     "no temporary file": creates(["-c", "-t", "-", "x"], TWO_FILE, TWO_TEXT),
     "the database as the temporary file": creates(["-c", "-t", "x", "x"], TWO_FILE, TWO_TEXT),
+    "the database as the temporary file, spelled otherwise": keeps(
+        ["-c", "-t", "./x", "x"], NO_FILE, TWO_TEXT
+    ),
+    "the database behind a link as the temporary file": case(
+        ["-c", "-t", "y", "x"], TWO_TEXT, b"", NO_FILE, 111, {"x": Link("y"), "y": ONE_FILE}
+    ),
+    "a temporary file spelled otherwise, where there is no database": case(
+        ["-c", "-t", "./x", "x"], TWO_TEXT, left={"x": TWO_FILE}
+    ),
     "in place, of a shorter database": creates(["-c", "-t-", "x"], EMPTY_FILE, b"\n"),
     "in place, a faulty text": case(
         ["-c", "-t", "-", "x"], b"*", b"", f"input 1: byte 0: {NO_RECORD}", 111,

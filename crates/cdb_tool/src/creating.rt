@@ -3,7 +3,7 @@ ghost use Rattle.std.specs.Prelude.{◌≤◌, OnOk};
 ghost use Rattle.cdb_form.specs.Format.Pair.{head_size};
 
 use crate::fault::Fault;
-use crate::files::{Opening, opened_store, publish, remove};
+use crate::files::{Opening, is_file_of, opened_store, publish, remove};
 use crate::input::Input;
 use crate::output::Output;
 use crate::runs::flushed::flushed;
@@ -126,8 +126,9 @@ where
 }
 
 /// Makes it in a temporary file, which takes its name once it is whole. One of that name is removed
-/// first, so neither a link there is followed nor an input of that name that is open overwritten.
-/// After a fault the temporary file is removed, and what had the database's name still has it.
+/// first, so neither a link there is followed nor an input of that name that is open overwritten;
+/// unless it is the database itself, which stays, and the temporary file can't be made. After a
+/// fault the temporary file is removed, and what had the database's name still has it.
 fn make_apart<L, R, I, E>(
     rt: &R,
     temporary: &str,
@@ -141,7 +142,9 @@ where
     I: Read + Drop,
     E: Write,
 {
-    remove(rt, temporary);
+    if !is_file_of(rt, temporary, creation.name) {
+        remove(rt, temporary);
+    }
     let store = opened_store(rt, temporary, Opening::CreateNew)?;
     let made = make_in_file::<L, I, E>(rt.alloc(), store, sources, creation.options, errors);
     let published = match made {

@@ -3,6 +3,7 @@ use crate::fault::Fault;
 use cdb_store::{FileStore, StoreFault};
 use std::fs::{self, File};
 use std::io::{self, ErrorKind};
+use std::os::unix::fs::MetadataExt;
 use std::path::Path;
 use std::rt::Files;
 
@@ -58,6 +59,15 @@ pub(crate) fn remove<R: Files<File = File>>(rt: &R, name: &str) {
         && (found.is_file() || found.is_symlink())
     {
         let _ = fs::remove_file(rt, name);
+    }
+}
+
+/// Whether two names are those of one file, where the first may not be a link to it. So a database is
+/// told under another spelling of its name, and behind a link.
+pub(crate) fn is_file_of<R: Files<File = File>>(rt: &R, name: &str, other: &str) -> bool {
+    match (fs::symlink_metadata(rt, name), fs::metadata(rt, other)) {
+        (Ok(one), Ok(two)) => one.dev() == two.dev() && one.ino() == two.ino(),
+        _ => false,
     }
 }
 
