@@ -1,4 +1,5 @@
 use Rattle.std.proofs.Common.{arith, ◌+◌, ◌++◌, ℕ, length, length-append}
+use Rattle.std.proofs.lemmas.Grind.{common_steps}
 use Rattle.std.proofs.lemmas.Result.{on_ok_weaker}
 use Rattle.cdb_store.specs.Images.{AfterWrite, AfterTornWrite, AreSized}
 use Rattle.cdb_store.proofs.Moves.{same_refl, write_between, torn_between, torn_behind, torn_wider, write_more}
@@ -35,3 +36,48 @@ returns-clause-torn g c =
     torn_between c.reserve.ensures.images
     (torn_behind (omega arith) (omega (arith, length-append c.args.header.now (c.args.key.now ++ c.args.value.now), length-append c.args.key.now c.args.value.now)) (omega arith) (sized c.reserve.new.self) c.in_ok-write_at.ensures.ok rest)
     (same_refl (g.S.Store.image c.write_at-3.new.self))
+
+pub overflow_add-value_pos : goal.overflow_add-value_pos
+overflow_add-value_pos g c = omega (arith, length-append {A = ℕ})
+
+pub overflow_add-value_pos-2 : goal.overflow_add-value_pos-2
+overflow_add-value_pos-2 g c = omega (arith, length-append {A = ℕ})
+
+pub reserve-requires : goal.reserve-requires
+reserve-requires g c = omega (arith, length-append {A = ℕ})
+
+pub returns-in_err-reserve-clause-past_room : goal.returns-in_err-reserve-clause-past_room
+returns-in_err-reserve-clause-past_room g c = grind (arith, common_steps)
+
+pub write_at-requires-clause-end : goal.write_at-requires-clause-end
+write_at-requires-clause-end g c = omega (arith, length-append {A = ℕ})
+
+pub returns-in_err-write_at-clause-not_past : goal.returns-in_err-write_at-clause-not_past
+returns-in_err-write_at-clause-not_past g c = omega (arith, length-append {A = ℕ})
+
+pub returns-in_err-write_at-clause-at_most_written : goal.returns-in_err-write_at-clause-at_most_written
+returns-in_err-write_at-clause-at_most_written g c = omega (arith, length-append {A = ℕ})
+
+pub write_at-requires-2-clause-end : goal.write_at-requires-2-clause-end
+write_at-requires-2-clause-end g c = omega (arith, length-append {A = ℕ})
+
+pub returns-in_err-write_at-2-clause-not_past : goal.returns-in_err-write_at-2-clause-not_past
+returns-in_err-write_at-2-clause-not_past g c = omega (arith, length-append {A = ℕ})
+
+pub returns-in_err-write_at-2-clause-at_most_written : goal.returns-in_err-write_at-2-clause-at_most_written
+returns-in_err-write_at-2-clause-at_most_written g c = omega (arith, length-append {A = ℕ})
+
+pub write_at-requires-3-clause-end : goal.write_at-requires-3-clause-end
+write_at-requires-3-clause-end g c = omega (arith, length-append {A = ℕ})
+
+pub returns-clause-ok_size : goal.returns-clause-ok_size
+returns-clause-ok_size g c = grind (arith, common_steps)
+
+pub returns-clause-ok_written : goal.returns-clause-ok_written
+returns-clause-ok_written g c = grind (arith, common_steps)
+
+pub returns-clause-not_past : goal.returns-clause-not_past
+returns-clause-not_past g c = omega (arith, length-append {A = ℕ})
+
+pub returns-clause-at_most_written : goal.returns-clause-at_most_written
+returns-clause-at_most_written g c = omega (arith, length-append {A = ℕ})
