@@ -44,3 +44,9 @@ returns-in-Err-NoMemory-clause-fails g c = λ rs h found b is.
       | inl full ↦ room_left c.args.key.now a.0 z.0 m.all c.hash.ensures e.lists was now some m.spare (room_same _ _ (ap (λ v. vec_capacity v) c.take_out.ensures.gaps) full)
       | inr past ↦ omega (arith, past, c.requires.room, e.end, c.take_out.ensures.room)
     ]
+
+pub returns-in-Err-NoMemory-clause-comes : goal.returns-in-Err-NoMemory-clause-comes
+returns-in-Err-NoMemory-clause-comes g c = comes_then (comes_torn c.take_out.ensures.torn) c.add.ensures.comes
+
+pub returns-in-Err-clause-comes : goal.returns-in-Err-clause-comes
+returns-in-Err-clause-comes g c = comes_then (comes_torn c.take_out.ensures.torn) c.add.ensures.comes
