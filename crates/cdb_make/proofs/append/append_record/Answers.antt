@@ -40,9 +40,6 @@ returns-clause-torn g c =
 pub overflow_add-value_pos : goal.overflow_add-value_pos
 overflow_add-value_pos g c = omega (arith, length-append {A = ℕ})
 
-pub overflow_add-value_pos-2 : goal.overflow_add-value_pos-2
-overflow_add-value_pos-2 g c = omega (arith, length-append {A = ℕ})
-
 pub reserve-requires : goal.reserve-requires
 reserve-requires g c = omega (arith, length-append {A = ℕ})
 
