@@ -24,6 +24,3 @@ pub use planning::plan;
 pub use style::Style;
 pub use usage::Usage;
 pub use usage_text::write_usage;
-
-#[cfg(test)]
-mod tests;

@@ -39,6 +39,3 @@ pub use walk::fault::WalkFault;
 pub use walk::record_reader::RecordReader;
 pub use width::{Narrow, Wide, Width};
 pub use writing::{OutFault, flush_whole, write_pieces, write_some, write_whole};
-
-#[cfg(test)]
-mod tests;

@@ -31,6 +31,3 @@ pub use fault::MakeFault;
 pub use maker::Maker;
 pub use making::{Refused, Unfinished};
 pub use mode::{Mode, Put};
-
-#[cfg(test)]
-mod tests;

@@ -87,6 +87,13 @@ impl<S: Store, L: Width> Maker<S, L> {
         self.broken
     }
 
+    /// Its store, to ask how long it is or how much was written.
+    pub fn store(&self) -> &S
+        ensures { result.now ≡ self.now.store }
+    {
+        &self.store
+    }
+
     /// Its store, as it is.
     pub fn into_store(self) -> S
         ensures { result ≡ self.store }

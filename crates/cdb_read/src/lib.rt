@@ -38,6 +38,3 @@ pub use record_walk::Walk;
 pub use span::{Pair, Span};
 pub use statistics::Stats;
 pub use walking::walk;
-
-#[cfg(test)]
-mod tests;

@@ -1,0 +1,127 @@
+// Lines that ask for a command, and for which.
+use super::lines::words_of;
+use cdb_command::plan;
+use std::alloc::{AllocError, Global};
+use std::prelude::*;
+use std::test::Fail;
+
+/// Whether a line asks for the command that is shown so.
+fn asks(alloc: Global, line: &str, shown: &str) -> Result<bool, AllocError> {
+    match plan(alloc, words_of(alloc, line)?) {
+        Ok(command) => Ok(format!(in alloc; "{command:?}")?.as_str() == shown),
+        Err(_) => Ok(false),
+    }
+}
+
+/// Whether a line asks for a create of `x`, in words of 4 bytes, that is shown with these.
+fn creates(
+    alloc: Global,
+    line: &str,
+    inputs: &str,
+    temporary: &str,
+    options: &str,
+) -> Result<bool, AllocError> {
+    let shown = format!(in alloc;
+        "Create {{ name: \"x\", inputs: [{inputs}], \
+        temporary: {temporary}, options: MakeOptions {{ {options}, limit: 4294967295 }}, \
+        wide: false }}"
+    )?;
+    asks(alloc, line, shown.as_str())
+}
+
+#[test]
+fn lines_ask_for_what_is_read(rt: HostRuntime) -> Result<(), Fail> {
+    let rows = [
+        ("-h -q -d", "Help"),
+        (
+            "-q x -- -k",
+            "Query { name: \"x\", key: \"-k\", number: None, lines: false, wide: false }",
+        ),
+        (
+            "-q -n 007 x k",
+            "Query { name: \"x\", key: \"k\", number: Some(7), lines: false, wide: false }",
+        ),
+        (
+            "x k -Wmqn4294967295",
+            "Query { name: \"x\", key: \"k\", number: Some(4294967295), lines: true, wide: true }",
+        ),
+        (
+            "-qq x k",
+            "Query { name: \"x\", key: \"k\", number: None, lines: false, wide: false }",
+        ),
+        ("-d", "Dump { name: None, style: Native, wide: false }"),
+        ("-d -", "Dump { name: None, style: Native, wide: false }"),
+        (
+            "-dm x",
+            "Dump { name: Some(\"x\"), style: Map, wide: false }",
+        ),
+        (
+            "-lW x",
+            "List { name: Some(\"x\"), style: Native, wide: true }",
+        ),
+        ("-s -", "Stats { name: None, wide: false }"),
+        ("-Wk x", "Check { name: Some(\"x\"), wide: true }"),
+    ];
+    for (line, shown) in rows {
+        assert!(rt; asks(rt.alloc(), line, shown)?, "at {line}");
+    }
+    Ok(())
+}
+
+#[test]
+fn lines_ask_for_what_is_made(rt: HostRuntime) -> Result<(), Fail> {
+    let rows = [
+        (
+            "-c x",
+            "",
+            "None",
+            "mode: Add, warn: false, stop: false, style: Native",
+        ),
+        (
+            "-cm x",
+            "",
+            "None",
+            "mode: Add, warn: false, stop: false, style: Map",
+        ),
+        (
+            "-c -w x y",
+            "\"y\"",
+            "None",
+            "mode: Warn, warn: true, stop: false, style: Native",
+        ),
+        (
+            "-ce x",
+            "",
+            "None",
+            "mode: Warn, warn: true, stop: true, style: Native",
+        ),
+        (
+            "-c -eu x y -",
+            "\"y\", \"-\"",
+            "None",
+            "mode: Insert, warn: true, stop: true, style: Native",
+        ),
+        (
+            "-c -e -r -t - x",
+            "",
+            "Some(\"-\")",
+            "mode: Replace, warn: true, stop: true, style: Native",
+        ),
+    ];
+    for (line, inputs, temporary, options) in rows {
+        assert!(rt;
+            creates(rt.alloc(), line, inputs, temporary, options)?,
+            "at {line}"
+        );
+    }
+    Ok(())
+}
+
+#[test]
+fn a_wide_line_asks_for_a_wide_file(rt: HostRuntime) -> Result<(), Fail> {
+    let shown = "Create { name: \"x\", inputs: [], temporary: None, options: MakeOptions { \
+        mode: Add, warn: false, stop: false, style: Native, limit: 9223372036854775807 }, \
+        wide: true }";
+    assert!(rt; asks(rt.alloc(), "-cW x", shown)?, "-cW x");
+    Ok(())
+}

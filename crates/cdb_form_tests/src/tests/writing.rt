@@ -1,0 +1,74 @@
+// Whole writes, over writers that take little or fail.
+use super::fakes::FakeWriter;
+use cdb_form::{
+    OutFault, flush_whole, write_end, write_pieces, write_record, write_some, write_whole,
+};
+use std::alloc::Global;
+use std::prelude::*;
+
+#[test]
+fn a_writer_that_fails_holds_a_front(rt: HostRuntime) {
+    let bytes = b"Hello, Goodbye";
+    for room in 0..bytes.len() + 1 {
+        let mut writer = FakeWriter::new(rt.alloc(), room, 0);
+        let answer = write_pieces(&mut writer, &[&bytes[..5], &bytes[5..]]);
+        assert!(rt; writer.holds_front(answer, bytes, room), "room for {room}");
+    }
+}
+
+/// Whether a write and a flush that are interrupted so often answer so.
+fn answer_so(alloc: Global, interrupts: u64, want: Result<(), OutFault>) -> bool {
+    let mut written = FakeWriter::new(alloc, 5, interrupts);
+    let mut flushed = FakeWriter::new(alloc, 5, interrupts);
+    let is_written = write_whole(&mut written, b"Hello") == want;
+    let is_flushed = flush_whole(&mut flushed) == want;
+    is_written && is_flushed && flushed.flushed == want.is_ok()
+}
+
+#[test]
+fn interruptions_are_asked_again(rt: HostRuntime) {
+    for (interrupts, want) in [(0, Ok(())), (1000, Ok(())), (1001, Err(OutFault))] {
+        assert!(rt;
+            answer_so(rt.alloc(), interrupts, want),
+            "{interrupts} interruptions"
+        );
+    }
+}
+
+#[test]
+fn interruptions_are_counted_in_a_row(rt: HostRuntime) {
+    for (interrupts, want) in [(1000, Ok(())), (1001, Err(OutFault))] {
+        let mut writer = FakeWriter::new(rt.alloc(), 9, interrupts);
+        writer.interrupts_each = interrupts;
+        writer.most = 1;
+        let answer = write_pieces(&mut writer, &[b"Hel", b"lo"]);
+        assert_eq!(rt; answer, want, "{interrupts} before each byte");
+    }
+}
+
+#[test]
+fn a_writer_that_takes_nothing_has_failed(rt: HostRuntime) {
+    let mut writer = FakeWriter::new(rt.alloc(), 3, 0);
+    writer.takes_none = true;
+    assert_eq!(rt; write_some(&mut writer, b"Hello"), Ok(3));
+    assert_eq!(rt; write_some(&mut writer, b"lo"), Err(OutFault));
+    assert_eq!(rt; write_whole(&mut writer, b"lo"), Err(OutFault));
+    assert_eq!(rt; writer.held.as_slice(), b"Hel".as_slice());
+}
+
+/// The native text of two records.
+fn write_two(writer: &mut FakeWriter) -> Result<(), OutFault> {
+    write_record(writer, b"one", b"Hello")?;
+    write_record(writer, b"", b"->\n-> +0,0")?;
+    write_end(writer)
+}
+
+#[test]
+fn a_text_is_written_or_a_front_of_it(rt: HostRuntime) {
+    let text = b"+3,5:one->Hello\n+0,10:->->\n-> +0,0\n\n";
+    for room in 0..text.len() + 1 {
+        let mut writer = FakeWriter::new(rt.alloc(), room, 0);
+        let answer = write_two(&mut writer);
+        assert!(rt; writer.holds_front(answer, text, room), "room for {room}");
+    }
+}

@@ -1,0 +1,11 @@
+// The maker, over stores in memory and files, with faults of the store and want of memory.
+mod again;
+mod drawn;
+mod faults;
+mod files;
+mod maker;
+mod refusals;
+mod scarce;
+mod scripts;
+mod taking;
+mod uses;

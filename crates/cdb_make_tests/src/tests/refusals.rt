@@ -1,0 +1,249 @@
+// Scripts of which `tests/faults/calls.py` refuses each ask for memory in turn, or counts the asks.
+// It reads what a test prints: whether the refusal came to a call of the script, to what its file
+// is compared with, or to neither.
+use super::again::{Cause, play};
+use super::scripts::{
+    ADDED, Answer, Call, act, add, exists, expected, long, remove, replace, replaced,
+};
+use cdb_form::{Narrow, Width};
+use cdb_make::{MakeFault, Maker, Mode, Put};
+use cdb_store::{FuseStore, MemStore, Store};
+use std::alloc::Global;
+use std::prelude::*;
+use std::test::Fail;
+
+/// What came of a script.
+#[derive(Clone, Copy, Debug, PartialEq, Eq)]
+enum Came {
+    /// All went well at once.
+    Whole,
+    /// There was no memory for what it needs or is compared with.
+    NoInputs,
+    /// A call was refused memory, and all went well when it was made again.
+    NoMemory,
+}
+
+/// A call, what it answers, and how many bytes it writes.
+type Row<'a> = (Call<'a>, Answer, u64);
+
+/// What came of a script whose file has so many bytes.
+fn came_of(alloc: Global, script: &[Call], size: usize) -> Result<Came, Fail> {
+    let Ok(wanted) = expected::<Narrow>(alloc, script) else {
+        return Ok(Came::NoInputs);
+    };
+    let played = play(alloc, MemStore::new(alloc), Cause::Memory, script, &wanted)?;
+    let file = played.store.bytes();
+    if played.broke || file != wanted.file.as_slice() || file.len() != size {
+        return Err(Fail::new("another file"));
+    }
+    Ok(if played.met {
+        Came::NoMemory
+    } else {
+        Came::Whole
+    })
+}
+
+#[test]
+fn adds_tell_refused_memory(rt: HostRuntime) -> Result<(), Fail> {
+    let script = [
+        add(b"a", b"1"),
+        add(b"a", b"2"),
+        add(b"a", b"3"),
+        add(b"a", b"4"),
+    ];
+    let came = came_of(rt.alloc(), &script, 2152)?;
+    println!(rt; "{came:?}")?;
+    Ok(())
+}
+
+/// Three records, of which the first is replaced.
+fn order() -> [Row<'static>; 4] {
+    [
+        (add(b"a", b"1"), ADDED, 10),
+        (add(b"one", b"Hello"), ADDED, 16),
+        (add(b"two", b"Goodbye"), ADDED, 18),
+        (replace(b"a", b"2"), replaced(1), 44),
+    ]
+}
+
+/// Five records, of which three are removed.
+fn gaps() -> [Row<'static>; 7] {
+    [
+        (add(b"a", b"1"), ADDED, 10),
+        (add(b"one", b"Hello"), ADDED, 16),
+        (add(b"a", b"2"), ADDED, 10),
+        (add(b"two", b"Goodbye"), ADDED, 18),
+        (add(b"a", b"3"), ADDED, 10),
+        (remove(b"a"), Answer::Removed(3), 34),
+        (exists(b"one"), Answer::There(true), 0),
+    ]
+}
+
+#[test]
+fn a_replacement_tells_no_refused_memory(rt: HostRuntime) -> Result<(), Fail> {
+    let came = came_of(rt.alloc(), &order().map(|row| row.0), 2140)?;
+    println!(rt; "{came:?}")?;
+    Ok(())
+}
+
+#[test]
+fn a_removal_and_a_look_tell_no_refused_memory(rt: HostRuntime) -> Result<(), Fail> {
+    let came = came_of(rt.alloc(), &gaps().map(|row| row.0), 2114)?;
+    println!(rt; "{came:?}")?;
+    Ok(())
+}
+
+/// A maker of two records in memory.
+fn two_records(alloc: Global) -> Result<Maker<MemStore, Narrow>, MakeFault> {
+    let store = MemStore::new(alloc);
+    let mut maker = match Maker::<MemStore, Narrow>::new(alloc, store, Narrow::GREATEST) {
+        Ok(maker) => maker,
+        Err(refused) => return Err(refused.fault),
+    };
+    maker.put(Mode::Add, b"one", b"Hello")?;
+    maker.put(Mode::Add, b"two", b"Goodbye")?;
+    Ok(maker)
+}
+
+/// The file of a maker to which the finish was refused, with a record more.
+fn with_one_more(maker: Maker<MemStore, Narrow>) -> Result<Vec<u8>, MakeFault> {
+    let mut maker = maker;
+    maker.put(Mode::Add, b"a", b"1")?;
+    match maker.finish() {
+        Ok(store) => Ok(store.into_vec()),
+        Err(unfinished) => Err(unfinished.fault),
+    }
+}
+
+/// What came of a finish, after which a maker to which it was refused takes a record more.
+fn came_of_finish(alloc: Global) -> Result<Came, Fail> {
+    let calls = [
+        add(b"one", b"Hello"),
+        add(b"two", b"Goodbye"),
+        add(b"a", b"1"),
+    ];
+    let wanted = expected::<Narrow>(alloc, &calls[..2]);
+    let more = expected::<Narrow>(alloc, &calls);
+    let (Ok(wanted), Ok(more), Ok(maker)) = (wanted, more, two_records(alloc)) else {
+        return Ok(Came::NoInputs);
+    };
+    let held = (maker.count(), maker.size());
+    let (file, wanted, size, came) = match maker.finish() {
+        Ok(store) => (store.into_vec(), wanted.file, 2114, Came::Whole),
+        Err(unfinished) => {
+            let maker = unfinished.maker;
+            if unfinished.fault != MakeFault::NoMemory || held != (maker.count(), maker.size()) {
+                return Err(Fail::new("another fault of the finish"));
+            }
+            (with_one_more(maker)?, more.file, 2140, Came::NoMemory)
+        }
+    };
+    if file == wanted && file.len() == size {
+        Ok(came)
+    } else {
+        Err(Fail::new("another file"))
+    }
+}
+
+#[test]
+fn a_finish_tells_refused_memory(rt: HostRuntime) -> Result<(), Fail> {
+    let came = came_of_finish(rt.alloc())?;
+    println!(rt; "{came:?}")?;
+    Ok(())
+}
+
+/// Makes calls on a maker in a store with room for so many bytes.
+fn make(alloc: Global, room: u32, rows: &[Row]) -> Result<Came, Fail> {
+    let mut store = MemStore::new(alloc);
+    store.reserve(u64::from(room))?;
+    let store = FuseStore::new(store, u64::MAX, 0);
+    let made = Maker::<FuseStore<MemStore>, Narrow>::new(alloc, store, Narrow::GREATEST);
+    let Ok(mut maker) = made else {
+        return Err(Fail::new("no maker was made"));
+    };
+    for (call, answer, wrote) in rows {
+        let before = maker.store().written();
+        let given = act(&mut maker, call)?;
+        if given != *answer || before.checked_add(*wrote) != Some(maker.store().written()) {
+            return Err(Fail::new("another answer, or other bytes are written"));
+        }
+    }
+    Ok(Came::Whole)
+}
+
+#[test]
+fn asks_before_a_replacement(rt: HostRuntime) -> Result<(), Fail> {
+    let came = make(rt.alloc(), 0, &order()[..3])?;
+    println!(rt; "{came:?}")?;
+    Ok(())
+}
+
+#[test]
+fn asks_with_a_replacement(rt: HostRuntime) -> Result<(), Fail> {
+    let came = make(rt.alloc(), 0, &order())?;
+    println!(rt; "{came:?}")?;
+    Ok(())
+}
+
+#[test]
+fn asks_before_a_removal(rt: HostRuntime) -> Result<(), Fail> {
+    let came = make(rt.alloc(), 0, &gaps()[..5])?;
+    println!(rt; "{came:?}")?;
+    Ok(())
+}
+
+#[test]
+fn asks_with_a_removal(rt: HostRuntime) -> Result<(), Fail> {
+    let came = make(rt.alloc(), 0, &gaps()[..6])?;
+    println!(rt; "{came:?}")?;
+    Ok(())
+}
+
+#[test]
+fn asks_with_a_removal_and_a_look(rt: HostRuntime) -> Result<(), Fail> {
+    let came = make(rt.alloc(), 0, &gaps())?;
+    println!(rt; "{came:?}")?;
+    Ok(())
+}
+
+#[test]
+fn asks_before_a_longer_replacement(rt: HostRuntime) -> Result<(), Fail> {
+    let came = make(rt.alloc(), 4096, &[(add(b"a", b"1"), ADDED, 10)])?;
+    println!(rt; "{came:?}")?;
+    Ok(())
+}
+
+#[test]
+fn asks_with_a_longer_replacement(rt: HostRuntime) -> Result<(), Fail> {
+    let value = [b'x'; 1000];
+    let rows = [
+        (add(b"a", b"1"), ADDED, 10),
+        (replace(b"a", &value), replaced(1), 1009),
+    ];
+    let came = make(rt.alloc(), 4096, &rows)?;
+    println!(rt; "{came:?}")?;
+    Ok(())
+}
+
+/// A record is added and removed, and a long one of its key added.
+fn anew(value: &[u8]) -> [Row; 3] {
+    [
+        (add(b"a", b"1"), ADDED, 10),
+        (remove(b"a"), Answer::Removed(1), 0),
+        (add(b"a", value), ADDED, 10009),
+    ]
+}
+
+#[test]
+fn asks_before_a_long_record(rt: HostRuntime) -> Result<(), Fail> {
+    let came = make(rt.alloc(), 32768, &anew(&[b'x'; 10000])[..2])?;
+    println!(rt; "{came:?}")?;
+    Ok(())
+}
+
+#[test]
+fn asks_with_a_long_record(rt: HostRuntime) -> Result<(), Fail> {
+    let came = make(rt.alloc(), 32768, &anew(&[b'x'; 10000]))?;
+    println!(rt; "{came:?}")?;
+    Ok(())
+}

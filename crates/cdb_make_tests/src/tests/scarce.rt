@@ -1,0 +1,160 @@
+//! A maker over a store that refuses memory.
+ghost use Rattle.std.specs.Prelude.{◌≡◌, ◌<◌, ◌≤◌, true};
+
+use super::scripts::{add, expected};
+use cdb_form::{Narrow, Width};
+use cdb_make::{MakeFault, Maker, Mode};
+use cdb_store::{MemStore, Store, StoreFault};
+use std::alloc::Global;
+use std::prelude::*;
+use std::test::Fail;
+
+/// A store that refuses memory so often, once it is so long.
+#[derive(Drop)]
+struct ScarceStore<S: Store> {
+    inner: S,
+    /// What a write needs no memory below.
+    room: u64,
+    /// How long it is before memory is refused.
+    from: u64,
+    /// How often memory is refused.
+    refusals: u64,
+    ghost sized: { S.size inner ≤ room },
+    ghost within: { room ≤ S.room inner },
+}
+
+impl<S: Store> ScarceStore<S> {
+    /// A store that has no room yet.
+    fn new(inner: S, from: u64, refusals: u64) -> ScarceStore<S> {
+        let room = inner.len();
+        ScarceStore {
+            inner,
+            room,
+            from,
+            refusals,
+        }
+    }
+
+    /// Whether memory for bytes up to `end` is refused.
+    fn refuses(&mut self, end: u64) -> bool
+        ensures inner { self.new.inner ≡ self.old.inner }
+        ensures room { self.new.room ≡ self.old.room }
+        ensures past { result ≡ true → self.old.room < end }
+    {
+        if end <= self.room || self.inner.len() < self.from || self.refusals == 0 {
+            return false;
+        }
+        self.refusals -= 1;
+        true
+    }
+}
+
+impl<S: Store> Store for ScarceStore<S> {
+    ghost size = { λ s. S.size s.inner };
+
+    ghost image = { λ s. S.image s.inner };
+
+    ghost failures = { λ s. S.failures s.inner };
+
+    ghost written = { λ s. S.written s.inner };
+
+    ghost room = { λ s. s.room };
+
+    ghost settled = { λ s. S.settled s.inner };
+
+    ghost in_room = { λ s. s.sized };
+
+    ghost image_size = { λ s. S.image_size s.inner };
+
+    fn len(&self) -> u64 {
+        self.inner.len()
+    }
+
+    fn read_at(&mut self, pos: u64, into: &mut [u8]) -> Result<(), StoreFault> {
+        self.inner.read_at(pos, into)
+    }
+
+    fn write_at(&mut self, pos: u64, bytes: &[u8]) -> Result<(), StoreFault> {
+        if self.refuses(pos + bytes.len() as u64) {
+            return Err(StoreFault::NoMemory);
+        }
+        let answer = self.inner.write_at(pos, bytes);
+        self.room = self.room.max(self.inner.len());
+        answer
+    }
+
+    fn reserve(&mut self, len: u64) -> Result<(), StoreFault> {
+        if self.refuses(len) {
+            return Err(StoreFault::NoMemory);
+        }
+        self.inner.reserve(len)?;
+        self.room = self.room.max(len);
+        Ok(())
+    }
+
+    fn cut(&mut self, len: u64) -> Result<(), StoreFault> {
+        self.inner.cut(len)
+    }
+
+    fn flush(&mut self) -> Result<(), StoreFault> {
+        self.inner.flush()
+    }
+}
+
+/// A maker over such a store.
+type Held = Maker<ScarceStore<MemStore>, Narrow>;
+
+/// A maker of two records, to which memory is refused three times then.
+fn two_records(alloc: Global) -> Result<Held, Fail> {
+    let store = ScarceStore::new(MemStore::new(alloc), 2048 + 16 + 18, 3);
+    let Ok(mut maker) = Held::new(alloc, store, Narrow::GREATEST) else {
+        return Err(Fail::new("no maker was made"));
+    };
+    maker.put(Mode::Add, b"one", b"Hello")?;
+    maker.put(Mode::Add, b"two", b"Goodbye")?;
+    Ok(maker)
+}
+
+/// Whether each of two puts that want memory is refused.
+fn refuses_puts(maker: &mut Held) -> bool {
+    let refused = Err(MakeFault::NoMemory);
+    maker.put(Mode::Add, b"a", b"1") == refused
+        && maker.put(Mode::Replace, b"one", b"a longer value") == refused
+}
+
+/// The maker, of which the finish was refused.
+fn refused_finish(maker: Held) -> Result<Held, Fail> {
+    let Err(unfinished) = maker.finish() else {
+        return Err(Fail::new("a file was finished without memory"));
+    };
+    if unfinished.fault != MakeFault::NoMemory {
+        return Err(Fail::new("another fault of the finish"));
+    }
+    Ok(unfinished.maker)
+}
+
+/// The file with a record more, once memory is given.
+fn with_one_more(mut maker: Held) -> Result<Vec<u8>, Fail> {
+    maker.put(Mode::Add, b"a", b"1")?;
+    match maker.finish() {
+        Ok(store) => Ok(store.inner.into_vec()),
+        Err(_) => Err(Fail::new("a file was not finished")),
+    }
+}
+
+#[test]
+fn refused_memory_leaves_what_was_held(rt: HostRuntime) -> Result<(), Fail> {
+    let mut maker = two_records(rt.alloc())?;
+    assert!(rt; refuses_puts(&mut maker));
+    let maker = refused_finish(maker)?;
+    assert!(rt; !maker.is_broken() && maker.count() == 2);
+    let file = with_one_more(maker)?;
+    let calls = [
+        add(b"one", b"Hello"),
+        add(b"two", b"Goodbye"),
+        add(b"a", b"1"),
+    ];
+    let wanted = expected::<Narrow>(rt.alloc(), &calls)?;
+    assert!(rt; file == wanted.file && file.len() == 2140);
+    Ok(())
+}

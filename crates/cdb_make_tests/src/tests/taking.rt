@@ -1,0 +1,84 @@
+//! Records of a key, taken out from between others.
+use super::scripts::{Call, add, exists, expected, long, remove, run};
+use cdb_form::{Narrow, hash};
+use std::alloc::Global;
+use std::prelude::*;
+use std::process::Abort;
+use std::test::Fail;
+
+/// Asserts that a script answers what it should, and that its file is the one from scratch of the
+/// records that stand.
+fn assert_left(rt: &impl Abort, alloc: Global, calls: &[Call]) -> Result<(), Fail> {
+    let made = run::<Narrow>(alloc, calls)?;
+    let wanted = expected::<Narrow>(alloc, calls)?;
+    assert!(rt; made.answers == wanted.answers && made.count == wanted.count);
+    assert!(rt; made.file == wanted.file);
+    Ok(())
+}
+
+#[test]
+fn the_first_a_middle_and_the_last_record_are_taken_out(rt: HostRuntime) -> Result<(), Fail> {
+    let keys: [&[u8]; 5] = [b"one", b"two", b"three", b"", b"none"];
+    for key in keys {
+        let calls = [
+            add(b"one", b"1"),
+            add(b"two", b"22"),
+            add(b"three", b""),
+            add(b"", b"4"),
+            remove(key),
+        ];
+        assert_left(&rt, rt.alloc(), &calls)?;
+    }
+    Ok(())
+}
+
+#[test]
+fn several_gaps_are_closed_round_long_records(rt: HostRuntime) -> Result<(), Fail> {
+    let long = long(rt.alloc(), 10000)?;
+    let calls = [
+        add(b"kept", b"first"),
+        add(b"gone", b"1"),
+        add(b"long", &long),
+        add(b"gone", b"second"),
+        add(b"", &long),
+        add(b"gone", &long),
+        remove(b"gone"),
+    ];
+    assert_left(&rt, rt.alloc(), &calls)
+}
+
+#[test]
+fn all_records_are_taken_out(rt: HostRuntime) -> Result<(), Fail> {
+    let calls = [
+        add(b"k", b"1"),
+        add(b"k", b"2"),
+        add(b"k", b"3"),
+        remove(b"k"),
+    ];
+    assert_left(&rt, rt.alloc(), &calls)
+}
+
+#[test]
+fn keys_with_one_hash_are_told_apart(rt: HostRuntime) -> Result<(), Fail> {
+    assert_eq!(rt; hash(b"cB"), hash(b"bc"));
+    let calls = [
+        add(b"cB", b"1"),
+        add(b"bc", b"2"),
+        add(b"cB", b"3"),
+        remove(b"cB"),
+        exists(b"bc"),
+        exists(b"cB"),
+    ];
+    assert_left(&rt, rt.alloc(), &calls)
+}
+
+#[test]
+fn long_keys_are_compared_to_their_end(rt: HostRuntime) -> Result<(), Fail> {
+    let mut one = vec![in rt.alloc(); b'x'; 5000]?;
+    one.extend_from_slice(b"cB")?;
+    let mut other = vec![in rt.alloc(); b'x'; 5000]?;
+    other.extend_from_slice(b"bc")?;
+    assert_eq!(rt; hash(&one), hash(&other));
+    let calls = [add(&one, b"1"), add(&other, b"2"), remove(&other)];
+    assert_left(&rt, rt.alloc(), &calls)
+}

@@ -1,0 +1,297 @@
+// Checks of worked, damaged and foreign files, and a store that fails each call in turn.
+use super::counting::four_file;
+use super::damaged::foreign;
+use super::files::{Fused, changed, fused, opened_again, two_file, wide_file};
+use super::finding::two_values;
+use cdb_form::{Narrow, Wide, Width};
+use cdb_read::{ReadFault, check};
+use std::alloc::{AllocError, Global};
+use std::prelude::*;
+use std::test::Fail;
+
+/// What a check answers.
+type Answer = Result<(), ReadFault>;
+
+/// What a check tells of a file whose store fails at most one call: then it is asked again. And how
+/// many calls the store then counted.
+fn checked<L: Width>(alloc: Global, store: Fused) -> Result<(Answer, u64), ReadFault> {
+    let mut reader = opened_again::<L>(store)?;
+    let answer = match check(alloc, &mut reader) {
+        Err(ReadFault::Device) => check(alloc, &mut reader),
+        answer => answer,
+    };
+    Ok((answer, reader.into_store().calls()))
+}
+
+/// Whether a check of a file answers this whichever call of the store fails.
+fn always_answers<L: Width>(
+    alloc: Global,
+    file: &Vec<u8>,
+    wanted: Answer,
+) -> Result<bool, ReadFault> {
+    let (answer, calls) = checked::<L>(alloc, fused(file.clone()?, u64::MAX))?;
+    let mut same = answer == wanted;
+    for fails in 0..calls.min(20) {
+        let (answer, _) = checked::<L>(alloc, fused(file.clone()?, fails))?;
+        same = same && answer == wanted;
+    }
+    Ok(same)
+}
+
+/// Whether this is always told of the file of two records with other bytes from a place on.
+fn of_two(alloc: Global, at: usize, bytes: &[u8], wanted: Answer) -> Result<bool, ReadFault> {
+    always_answers::<Narrow>(alloc, &changed(two_file(alloc)?, at, bytes), wanted)
+}
+
+/// And of that file with so many bytes.
+fn of_cut(alloc: Global, len: usize, wanted: Answer) -> Result<bool, ReadFault> {
+    let mut file = two_file(alloc)?;
+    file.truncate(len);
+    always_answers::<Narrow>(alloc, &file, wanted)
+}
+
+/// And of the file in words of 8 bytes, with other bytes from a place on.
+fn of_wide(alloc: Global, at: usize, bytes: &[u8], wanted: Answer) -> Result<bool, ReadFault> {
+    always_answers::<Wide>(alloc, &changed(wide_file(alloc)?, at, bytes), wanted)
+}
+
+/// And of the file of two values of `a`, whose table has these two slots.
+fn of_slots(alloc: Global, slots: [(u32, u32); 2], wanted: Answer) -> Result<bool, ReadFault> {
+    always_answers::<Narrow>(alloc, &two_values(alloc, slots)?, wanted)
+}
+
+#[test]
+fn worked_files_are_sound(rt: HostRuntime) -> Result<(), Fail> {
+    let alloc = rt.alloc();
+    assert!(rt; of_two(alloc, 0, b"", Ok(())) == Ok(true), "two records");
+    let four = always_answers::<Narrow>(alloc, &four_file(alloc)?, Ok(()));
+    assert!(rt; four == Ok(true), "four values of one key");
+    let mut longer = two_file(alloc)?;
+    longer.extend_from_slice(&[1; 5])?;
+    let longer = always_answers::<Narrow>(alloc, &longer, Ok(()));
+    assert!(rt; longer == Ok(true), "five bytes behind the tables");
+    let zeros = always_answers::<Narrow>(alloc, &vec![in alloc; 0u8; 2048]?, Ok(()));
+    assert!(rt; zeros == Ok(true), "a head of zeros");
+    assert!(rt;
+        of_wide(alloc, 0, b"", Ok(())) == Ok(true),
+        "in words of 8 bytes"
+    );
+    Ok(())
+}
+
+#[test]
+fn files_of_other_programs_are_sound(rt: HostRuntime) -> Result<(), Fail> {
+    let alloc = rt.alloc();
+    let one = always_answers::<Narrow>(alloc, &foreign(alloc)?, Ok(()));
+    assert!(rt; one == Ok(true), "a table of one slot");
+    let full = of_slots(alloc, [(177604, 2058), (177604, 2048)], Ok(()));
+    assert!(rt; full == Ok(true), "no empty slot");
+    let turned = of_slots(alloc, [(177604, 2048), (177604, 2058)], Ok(()));
+    assert!(rt; turned == Ok(true), "the second value first");
+    // Table 7 has the empty slots of tables 41 and 129.
+    let shared = of_two(alloc, 56, b"\x2a\x08\0\0\x02\0\0\0", Ok(()));
+    assert!(rt; shared == Ok(true), "tables that share empty slots");
+    Ok(())
+}
+
+#[test]
+fn tables_and_records_are_told(rt: HostRuntime) -> Result<(), Fail> {
+    let alloc = rt.alloc();
+    let seven = of_two(
+        alloc,
+        56,
+        b"\x42\x08\0\0\x01\0\0\0",
+        Err(ReadFault::Table(7)),
+    );
+    assert!(rt; seven == Ok(true), "a table at the end");
+    let zero = of_two(alloc, 0, b"\x64\0\0\0\x01\0\0\0", Err(ReadFault::Table(0)));
+    assert!(rt; zero == Ok(true), "a table in the head");
+    let last = of_two(
+        alloc,
+        2040,
+        b"\x42\x08\0\0\x01\0\0\0",
+        Err(ReadFault::Table(255)),
+    );
+    assert!(rt; last == Ok(true), "the last table");
+    let cut = of_cut(alloc, 2070, Err(ReadFault::Table(41)));
+    assert!(rt; cut == Ok(true), "cut within the second record");
+    let long = of_two(alloc, 2068, b"\x08", Err(ReadFault::Record(2064)));
+    assert!(rt; long == Ok(true), "a value that passes the record end");
+    // The records end where the first table stands, so none is whole.
+    let within = of_two(
+        alloc,
+        56,
+        b"\x08\x08\0\0\x01\0\0\0",
+        Err(ReadFault::Record(2048)),
+    );
+    assert!(rt; within == Ok(true), "a table within a record");
+    // It has the bytes of the second record as its slot.
+    let between = of_two(
+        alloc,
+        56,
+        b"\x10\x08\0\0\x01\0\0\0",
+        Err(ReadFault::Slot(7, 0)),
+    );
+    assert!(rt; between == Ok(true), "a table in place of a record");
+    Ok(())
+}
+
+#[test]
+fn wrong_slots_are_told(rt: HostRuntime) -> Result<(), Fail> {
+    let alloc = rt.alloc();
+    let first = Err(ReadFault::Slot(41, 0));
+    assert!(rt;
+        of_two(alloc, 2086, b"\x11", first) == Ok(true),
+        "no record's place"
+    );
+    let ones = of_two(alloc, 2086, b"\xff\xff\xff\xff", first);
+    assert!(rt; ones == Ok(true), "a place of all ones");
+    assert!(rt;
+        of_two(alloc, 2083, b"\x61", first) == Ok(true),
+        "another hash"
+    );
+    let other = b"\x81\x5b\x87\x0b\0\x08\0\0";
+    let second = of_two(alloc, 2090, other, Err(ReadFault::Slot(41, 1)));
+    assert!(rt; second == Ok(true), "in the table of another");
+    // Its place is that of an earlier slot, too.
+    let again = b"\x29\x60\x87\x0b\x10\x08\0\0";
+    let wrong = of_two(alloc, 2098, again, Err(ReadFault::Slot(129, 0)));
+    assert!(rt;
+        wrong == Ok(true),
+        "wrong before it is the second of a record"
+    );
+    // Table 7 has all four slots.
+    let over = of_two(
+        alloc,
+        56,
+        b"\x22\x08\0\0\x04\0\0\0",
+        Err(ReadFault::Slot(7, 0)),
+    );
+    assert!(rt; over == Ok(true), "tables that share used slots");
+    // Table 41 has three slots, of which the home of its hash is empty.
+    let three = of_two(alloc, 332, b"\x03", first);
+    assert!(rt;
+        three == Ok(true),
+        "a slot that its search does not come to"
+    );
+    Ok(())
+}
+
+#[test]
+fn wide_slots_are_told(rt: HostRuntime) -> Result<(), Fail> {
+    let alloc = rt.alloc();
+    let slot = Err(ReadFault::Slot(129, 1));
+    let high = of_wide(alloc, 4140, b"\x01", slot);
+    assert!(rt; high == Ok(true), "a hash of 33 bits");
+    let ones = of_wide(alloc, 4144, b"\xff\xff\xff\xff\xff\xff\xff\xff", slot);
+    assert!(rt; ones == Ok(true), "a place of all ones");
+    let lost = of_wide(alloc, 4136, &[0; 16], Err(ReadFault::Unindexed(4096)));
+    assert!(rt; lost == Ok(true), "a slot taken away");
+    Ok(())
+}
+
+#[test]
+fn slots_and_records_have_one_another(rt: HostRuntime) -> Result<(), Fail> {
+    let alloc = rt.alloc();
+    let twice = changed(four_file(alloc)?, 2092, b"\x14");
+    let twice = always_answers::<Narrow>(alloc, &twice, Err(ReadFault::Twice(2068)));
+    assert!(rt; twice == Ok(true), "two slots of one record");
+    let both = [(177604, 2048), (177604, 2048)];
+    let both = of_slots(alloc, both, Err(ReadFault::Twice(2048)));
+    assert!(rt; both == Ok(true), "told before the other is lost");
+    let lost = of_two(alloc, 2106, &[0; 8], Err(ReadFault::Unindexed(2048)));
+    assert!(rt; lost == Ok(true), "a slot taken away");
+    Ok(())
+}
+
+/// A file of a record of an empty key and an empty value, whose slot stands behind an empty one.
+fn behind_empty(alloc: Global) -> Result<Vec<u8>, AllocError> {
+    let mut file = vec![in alloc; 0u8; 2072]?;
+    file = changed(file, 40, b"\x08\x08\0\0\x02\0\0\0");
+    Ok(changed(file, 2056, b"\x05\x15\0\0\0\x08\0\0"))
+}
+
+#[test]
+fn a_slot_behind_an_empty_one_is_told(rt: HostRuntime) -> Result<(), Fail> {
+    let file = behind_empty(rt.alloc())?;
+    let behind = always_answers::<Narrow>(rt.alloc(), &file, Err(ReadFault::Slot(5, 0)));
+    assert!(rt; behind == Ok(true), "{behind:?}");
+    Ok(())
+}
+
+/// How many records the long table has.
+const MANY: u32 = 300;
+
+/// A file of 300 values of the key `a`, whose table 196 has no empty slot: the slot of the first
+/// one is slot `first`, and the others follow it, round the table's end.
+fn full_file(alloc: Global, first: u32) -> Result<Vec<u8>, AllocError> {
+    let mut file = vec![in alloc; 0u8; 2048]?;
+    file = changed(file, 1568, b"\xb8\x13\0\0\x2c\x01\0\0");
+    for _ in 0..MANY {
+        file.extend_from_slice(b"\x01\0\0\0\x01\0\0\0a1")?;
+    }
+    for i in 0..MANY {
+        let n = (i + (MANY - first.min(MANY))) % MANY;
+        file.extend_from_slice(&177604u32.to_le_bytes())?;
+        file.extend_from_slice(&(2048 + 10 * n).to_le_bytes())?;
+    }
+    Ok(file)
+}
+
+/// What is told of it with other bytes from a place on, and after how many calls of the store.
+fn of_full(alloc: Global, first: u32, at: usize, bytes: &[u8]) -> Result<(Answer, u64), ReadFault> {
+    let file = changed(full_file(alloc, first)?, at, bytes);
+    checked::<Narrow>(alloc, fused(file, u64::MAX))
+}
+
+#[test]
+fn a_full_table_is_checked(rt: HostRuntime) -> Result<(), Fail> {
+    let alloc = rt.alloc();
+    // The head, the records with some slots, the other slots, and all slots once more.
+    assert!(rt;
+        of_full(alloc, 93, 0, b"") == Ok((Ok(()), 4)),
+        "from their home on"
+    );
+    assert!(rt;
+        of_full(alloc, 94, 0, b"") == Ok((Ok(()), 4)),
+        "the first one behind it"
+    );
+    assert!(rt;
+        of_full(alloc, 0, 0, b"") == Ok((Ok(()), 4)),
+        "from slot 0 on"
+    );
+    // Slot 92, which a search comes to last, and slot 93, with which it begins.
+    let last = of_full(alloc, 93, 5048 + 8 * 92, &[0; 8]);
+    assert!(rt;
+        last == Ok((Err(ReadFault::Unindexed(5038)), 4)),
+        "the last slot empty"
+    );
+    let home = of_full(alloc, 93, 5048 + 8 * 93, &[0; 8]);
+    assert!(rt;
+        home == Ok((Err(ReadFault::Slot(196, 0)), 4)),
+        "the first slot empty"
+    );
+    Ok(())
+}
+
+/// What is told of a file of a record whose key is 5000 bytes long, of which the last is this one.
+fn of_long_key(alloc: Global, last: u8) -> Result<(Answer, u64), ReadFault> {
+    let mut file = vec![in alloc; 0u8; 2048]?;
+    file = changed(file, 1064, b"\x90\x1b\0\0\x01\0\0\0");
+    file.extend_from_slice(b"\x88\x13\0\0\0\0\0\0")?;
+    file.extend_from_slice(&[b'k'; 4999])?;
+    file.push(last)?;
+    file.extend_from_slice(&425436805u32.to_le_bytes())?;
+    file.extend_from_slice(b"\0\x08\0\0")?;
+    checked::<Narrow>(alloc, fused(file, u64::MAX))
+}
+
+#[test]
+fn a_long_key_is_hashed(rt: HostRuntime) -> Result<(), Fail> {
+    let long = of_long_key(rt.alloc(), b'k');
+    assert!(rt; long.is_ok_and(|it| it.0 == Ok(())), "its hash");
+    let other = of_long_key(rt.alloc(), b'l');
+    let wrong = Err(ReadFault::Slot(133, 0));
+    assert!(rt; other.is_ok_and(|it| it.0 == wrong), "another hash");
+    Ok(())
+}
