@@ -32,7 +32,7 @@ TESTS = {
     ],
     "cdb_read_tests": ["values_tell_refused_memory", "a_check_tells_refused_memory"],
     "cdb_command_tests": ["a_create_tells_refused_memory", "a_refused_line_tells_refused_memory"],
-    "cdb_tool": [
+    "cdb_runs_tests": [
         "a_list_tells_refused_memory",
         "a_list_of_a_map_tells_refused_memory",
         "a_load_tells_refused_memory",

@@ -2,17 +2,12 @@
 ghost use Rattle.std.specs.Prelude.{◌≤◌, OnOk};
 ghost use Rattle.cdb_form.specs.Format.Pair.{head_size};
 
-use crate::fault::Fault;
 use crate::files::{Opening, is_file_of, opened_store, publish, remove};
-use crate::input::Input;
-use crate::output::Output;
-use crate::runs::flushed::flushed;
-use crate::runs::make::make_run;
-use crate::runs::make_bytes::make_bytes;
 use crate::source::{Source, sources_of};
 use cdb_command::{MakeOptions, Style};
 use cdb_form::{Width, head_size, write_whole};
 use cdb_make::{MakeFault, Mode};
+use cdb_runs::{Fault, Input, Output, flushed, make_bytes, make_run};
 use cdb_store::{BufferedStore, FileStore, MemStore};
 use std::alloc::Global;
 use std::fs::File;

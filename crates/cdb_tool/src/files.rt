@@ -1,5 +1,5 @@
 // Files of the system, by their names.
-use crate::fault::Fault;
+use cdb_runs::Fault;
 use cdb_store::{FileStore, StoreFault};
 use std::fs::{self, File};
 use std::io::{self, ErrorKind};

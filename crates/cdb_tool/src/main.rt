@@ -2,15 +2,8 @@
 #![tactic(auto)]
 
 mod creating;
-pub mod fault;
 mod files;
-mod input;
-pub mod laws;
-pub mod message;
-mod output;
-pub mod runs;
 mod source;
-pub mod status;
 mod steps;
 
 use cdb_command::Usage;

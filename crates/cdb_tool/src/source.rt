@@ -1,7 +1,6 @@
 // The inputs of a create, of which several may be standard input.
-use crate::fault::Fault;
 use crate::files::opened;
-use crate::input::Input;
+use cdb_runs::{Fault, Input};
 use std::alloc::{AllocError, Global};
 use std::cell::RefCell;
 use std::fs::File;

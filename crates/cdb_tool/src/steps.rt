@@ -1,21 +1,12 @@
 // What the program does: each command over its files and streams.
 use crate::creating::{Creation, create};
-use crate::fault::Fault;
 use crate::files::{Opening, opened, opened_store};
-use crate::input::Input;
-use crate::message::write_fault;
-use crate::output::Output;
-use crate::runs::check::check_run;
-use crate::runs::dump::dump_run;
-use crate::runs::flushed::flushed;
-use crate::runs::list::list_run;
-use crate::runs::load::load;
-use crate::runs::query::query_run;
-use crate::runs::stats::stats_run;
-use crate::runs::style::Content;
-use crate::status::{BAD_USAGE, DONE, FAILED, status_of};
 use cdb_command::{Command, Style, Usage, plan, write_usage};
 use cdb_form::{Narrow, Wide, Width, write_pieces, write_whole};
+use cdb_runs::{
+    BAD_USAGE, Content, DONE, FAILED, Fault, Input, Output, check_run, dump_run, flushed, list_run,
+    load, query_run, stats_run, status_of, write_fault,
+};
 use cdb_store::MemStore;
 use std::alloc::Global;
 use std::fs::File;

@@ -1,16 +1,2 @@
-// Tests of what no contract says: files and lines worked out by hand, and faults of readers and
-// writers.
-mod checking;
-mod counting;
-mod dumping;
-mod fakes;
-mod lines;
-mod listing;
-mod loading;
-mod making;
-mod querying;
-mod refusals;
-mod running;
+// The program, over files in a folder of its own.
 mod stepping;
-mod streams;
-mod worked;

@@ -1,10 +1,10 @@
 // The program's steps, with files in a folder of the test's own.
 use crate::creating::{Creation, create};
-use crate::fault::Fault;
 use crate::steps::run;
 use cdb_command::{MakeOptions, Style};
 use cdb_form::Narrow;
 use cdb_make::{MakeFault, Mode};
+use cdb_runs::Fault;
 use std::alloc::{AllocError, Global};
 use std::fs;
 use std::test::Fail;

@@ -1,0 +1,233 @@
+// dump_run, over damaged and foreign files and over readers and writers that fail.
+use super::fakes::{FakeReader, FakeWriter, NotingWriter, SlowWriter};
+use super::worked::{FOREIGN, NONE, Run, TWO, TWO_TEXT, WIDE_NONE, bytes_of, with_bytes};
+use cdb_command::Style;
+use cdb_form::{Narrow, WalkFault, Wide, Width};
+use cdb_runs::{Fault, dump_run, make_bytes};
+use std::alloc::Global;
+use std::io::Read;
+use std::prelude::*;
+use std::test::Fail;
+
+const FIRST_TEXT: &[u8] = b"+3,5:one->Hello\n";
+
+// The answer for a file, and what was written.
+fn dumped<L: Width, R: Read + Drop>(alloc: Global, file: R) -> (Result<(), Fault>, Vec<u8>) {
+    let mut out = Vec::new(alloc);
+    let answer = dump_run::<L, R, Vec<u8>>(alloc, file, Style::Native, &mut out);
+    (answer, out)
+}
+
+// Whether the answer for a file is this one, and this text was written.
+fn dumps<L: Width, R: Read + Drop>(
+    alloc: Global,
+    file: R,
+    want: Result<(), Fault>,
+    text: &[u8],
+) -> bool {
+    let (answer, out) = dumped::<L, R>(alloc, file);
+    answer == want && out.as_slice() == text
+}
+
+#[test]
+fn whole_and_foreign_files(rt: HostRuntime) -> Result<(), Fail> {
+    let cases: [(&[Run], &[u8]); 4] = [
+        (&TWO, TWO_TEXT),
+        (&NONE, b"\n"),
+        (&FOREIGN, b"+1,1:a->1\n\n"),
+        (&[(2048, b"\0")], b"\n"),
+    ];
+    for (runs, text) in cases {
+        let file = bytes_of(rt.alloc(), runs)?;
+        assert!(rt;
+            dumps::<Narrow, &[u8]>(rt.alloc(), &file, Ok(()), text),
+            "{text:?}"
+        );
+    }
+    let mut longer = bytes_of(rt.alloc(), &TWO)?;
+    longer.extend_from_slice(b"12345")?;
+    assert!(rt; dumps::<Narrow, &[u8]>(rt.alloc(), &longer, Ok(()), TWO_TEXT));
+    Ok(())
+}
+
+#[test]
+fn changed_files(rt: HostRuntime) -> Result<(), Fail> {
+    let cases: [(usize, &[u8], Option<WalkFault>, &[u8]); 6] = [
+        // a table outside of the file, a place in a slot that is no record's, a pointer of ones
+        (56, b"\x42\x08\0\0\x01\0\0\0", None, TWO_TEXT),
+        (2086, b"\x11", None, TWO_TEXT),
+        (1032, b"\xff\xff\xff\xff\xff\xff\xff\xff", None, TWO_TEXT),
+        // a value too long by one, a table within the head, a key that is far too long
+        (2068, b"\x08", Some(WalkFault::Record(2064)), FIRST_TEXT),
+        (0, b"\x64\0\0\0\x01\0\0\0", Some(WalkFault::Table(0)), b""),
+        (
+            2048,
+            b"\xff\xff\xff\xff",
+            Some(WalkFault::Record(2048)),
+            b"",
+        ),
+    ];
+    for (place, new, damage, text) in cases {
+        let file = with_bytes(bytes_of(rt.alloc(), &TWO)?, place, new);
+        let want = damage.map_or(Ok(()), |damage| Err(Fault::Walk(damage)));
+        let is_dumped = dumps::<Narrow, &[u8]>(rt.alloc(), &file, want, text);
+        assert!(rt; is_dumped, "changed at {place}");
+    }
+    Ok(())
+}
+
+// What is written of the two-record file where it is cut, and its damage.
+fn cut_answer(cut: usize) -> (&'static [u8], Option<WalkFault>) {
+    match cut {
+        0..=2047 => (b"", Some(WalkFault::Short)),
+        2048..=2063 => (b"", Some(WalkFault::Record(2048))),
+        2064..=2081 => (FIRST_TEXT, Some(WalkFault::Record(2064))),
+        _ => (TWO_TEXT, None),
+    }
+}
+
+#[test]
+fn cut_files_and_failing_readers(rt: HostRuntime) -> Result<(), Fail> {
+    let file = bytes_of(rt.alloc(), &TWO)?;
+    for cut in 0..file.len() + 1 {
+        let (text, damage) = cut_answer(cut);
+        for fails in [false, true] {
+            let reader = FakeReader {
+                interrupts: 0,
+                text: &file[..cut],
+                fails,
+            };
+            let want = match damage {
+                None => Ok(()),
+                Some(_) if fails => Err(Fault::Walk(WalkFault::Input)),
+                Some(damage) => Err(Fault::Walk(damage)),
+            };
+            let is_dumped = dumps::<Narrow, FakeReader<'_>>(rt.alloc(), reader, want, text);
+            assert!(rt; is_dumped, "cut at {cut}");
+        }
+    }
+    Ok(())
+}
+
+#[test]
+fn interrupted_reads_are_asked_again(rt: HostRuntime) -> Result<(), Fail> {
+    let file = bytes_of(rt.alloc(), &TWO)?;
+    let failed = Err(Fault::Walk(WalkFault::Input));
+    for (interrupts, want) in [(1000, Ok(())), (1001, failed)] {
+        let reader = FakeReader {
+            interrupts,
+            text: &file,
+            fails: false,
+        };
+        let (answer, _) = dumped::<Narrow, FakeReader<'_>>(rt.alloc(), reader);
+        assert_eq!(rt; answer, want, "{interrupts} interruptions");
+    }
+    Ok(())
+}
+
+#[test]
+fn a_writer_of_a_dump_that_fails_holds_a_front(rt: HostRuntime) -> Result<(), Fail> {
+    let file = bytes_of(rt.alloc(), &TWO)?;
+    for room in 0..TWO_TEXT.len() + 1 {
+        let mut w = FakeWriter::new(rt.alloc(), room);
+        let answer = dump_run::<Narrow, &[u8], FakeWriter>(
+            rt.alloc(),
+            &file,
+            Style::Native,
+            &mut w,
+        );
+        assert!(rt; w.holds_front(answer, TWO_TEXT, room), "room for {room}");
+    }
+    Ok(())
+}
+
+#[test]
+fn a_failing_flush_of_a_dump(rt: HostRuntime) -> Result<(), Fail> {
+    let file = bytes_of(rt.alloc(), &TWO)?;
+    for (cut, fault) in [
+        (2114, Fault::Output),
+        (2070, Fault::Walk(WalkFault::Record(2064))),
+    ] {
+        let mut w = FakeWriter::new(rt.alloc(), 4096);
+        w.flush_fails = true;
+        let piece = file.get(..cut).unwrap_or(&[]);
+        let answer = dump_run::<Narrow, &[u8], _>(rt.alloc(), piece, Style::Native, &mut w);
+        assert!(rt; answer == Err(fault) && w.flushes == 1, "cut at {cut}");
+    }
+    Ok(())
+}
+
+#[test]
+fn a_dump_made_again_is_the_same_file(rt: HostRuntime) -> Result<(), Fail> {
+    let file = bytes_of(rt.alloc(), &TWO)?;
+    let (_, text) = dumped::<Narrow, &[u8]>(rt.alloc(), &file);
+    let mut again = Vec::new(rt.alloc());
+    assert!(rt; make_bytes::<Narrow, &[u8], Vec<u8>>(rt.alloc(), &text, &mut again).is_ok());
+    assert!(rt; again.as_slice() == file.as_slice());
+    let mut wide = Vec::new(rt.alloc());
+    assert!(rt; make_bytes::<Wide, &[u8], Vec<u8>>(rt.alloc(), &text, &mut wide).is_ok());
+    assert!(rt; dumps::<Wide, &[u8]>(rt.alloc(), &wide, Ok(()), TWO_TEXT));
+    Ok(())
+}
+
+#[test]
+fn a_wide_head_cut_one_byte_short(rt: HostRuntime) -> Result<(), Fail> {
+    let mut head = bytes_of(rt.alloc(), &WIDE_NONE)?;
+    let _ = head.pop();
+    let short = Err(Fault::Walk(WalkFault::Short));
+    assert!(rt; dumps::<Wide, &[u8]>(rt.alloc(), &head, short, b""));
+    Ok(())
+}
+
+// What is left stands behind the record end, or behind the head and the header of a damaged record.
+#[test]
+fn the_rest_of_the_reader_stays(rt: HostRuntime) -> Result<(), Fail> {
+    let cases: [(usize, &[u8], usize); 4] = [
+        (0, b"", 2082),
+        // a value too long by one
+        (2068, b"\x08", 2072),
+        // a table within the head
+        (0, b"\x64\0\0\0\x01\0\0\0", 2048),
+        // a key that is far too long
+        (2048, b"\xff\xff\xff\xff", 2056),
+    ];
+    for (place, new, left) in cases {
+        let file = with_bytes(bytes_of(rt.alloc(), &TWO)?, place, new);
+        let mut rest = file.as_slice();
+        let _ = dumped::<Narrow, &mut &[u8]>(rt.alloc(), &mut rest);
+        assert!(rt; Some(rest) == file.get(left..), "changed at {place}");
+    }
+    Ok(())
+}
+
+#[test]
+fn interrupts_of_a_writer_of_a_dump_are_counted_in_a_row(rt: HostRuntime) -> Result<(), Fail> {
+    let file = bytes_of(rt.alloc(), &TWO)?;
+    for (interrupts, want) in [(1000, Ok(())), (1001, Err(Fault::Output))] {
+        let mut w = SlowWriter::new(rt.alloc(), interrupts);
+        let answer = dump_run::<Narrow, &[u8], SlowWriter>(
+            rt.alloc(),
+            &file,
+            Style::Native,
+            &mut w,
+        );
+        let is_written = want.is_err() || w.held.as_slice() == TWO_TEXT;
+        assert!(rt; answer == want && is_written, "{interrupts} interruptions");
+    }
+    Ok(())
+}
+
+#[test]
+fn the_flush_of_a_dump_comes_last(rt: HostRuntime) -> Result<(), Fail> {
+    let file = bytes_of(rt.alloc(), &TWO)?;
+    for (cut, fails) in [(file.len(), false), (file.len(), true), (2070, false)] {
+        let mut w = NotingWriter {
+            calls: Vec::new(rt.alloc()),
+            fails,
+        };
+        let piece = file.get(..cut).unwrap_or(&[]);
+        let _ = dump_run::<Narrow, &[u8], NotingWriter>(rt.alloc(), piece, Style::Native, &mut w);
+        assert!(rt; w.was_flushed_last(), "cut at {cut}");
+    }
+    Ok(())
+}

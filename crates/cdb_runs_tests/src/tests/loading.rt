@@ -1,0 +1,86 @@
+// load, at the edges of what is allowed and over readers that fail.
+use super::fakes::FakeReader;
+use super::worked::{TWO, bytes_of};
+use cdb_form::WalkFault;
+use cdb_runs::{Fault, load, load_from};
+use cdb_store::MemStore;
+use std::prelude::*;
+use std::test::Fail;
+
+// The bytes of a store that was loaded, or the fault.
+fn bytes_in(loaded: Result<MemStore, Fault>) -> Result<Vec<u8>, Fault> {
+    match loaded {
+        Ok(store) => Ok(store.into_vec()),
+        Err(fault) => Err(fault),
+    }
+}
+
+#[test]
+fn files_as_long_as_they_may_be(rt: HostRuntime) -> Result<(), Fail> {
+    let file = bytes_of(rt.alloc(), &TWO)?;
+    let under = load::<&[u8]>(rt.alloc(), &file, 2113);
+    assert_eq!(rt; bytes_in(under), Err(Fault::Long));
+    let at = load::<&[u8]>(rt.alloc(), &file, 2114);
+    assert_eq!(rt; bytes_in(at), Ok(file.clone()?));
+    let above = load::<&[u8]>(rt.alloc(), &file, 2115);
+    assert_eq!(rt; bytes_in(above), Ok(file));
+    Ok(())
+}
+
+#[test]
+fn nothing_is_loaded_where_nothing_is_allowed(rt: HostRuntime) {
+    let none = load::<&[u8]>(rt.alloc(), b"", 0);
+    assert_eq!(rt; bytes_in(none), Ok(Vec::new(rt.alloc())));
+    let one = load::<&[u8]>(rt.alloc(), b"x", 0);
+    assert_eq!(rt; bytes_in(one), Err(Fault::Long));
+}
+
+#[test]
+fn what_follows_a_file_that_is_too_long_stays(rt: HostRuntime) -> Result<(), Fail> {
+    let mut longer = bytes_of(rt.alloc(), &TWO)?;
+    longer.extend_from_slice(b"12345")?;
+    let mut rest = longer.as_slice();
+    let loaded = load_from(rt.alloc(), &mut rest, 2113);
+    let is_long = bytes_in(loaded) == Err(Fault::Long);
+    assert!(rt; is_long && rest == b"12345".as_slice());
+    Ok(())
+}
+
+#[test]
+fn a_reader_that_fails_is_told(rt: HostRuntime) -> Result<(), Fail> {
+    for came in [0usize, 1, 2048, 2113, 2114] {
+        let mut text = bytes_of(rt.alloc(), &TWO)?;
+        text.truncate(came);
+        let reader = FakeReader {
+            interrupts: 0,
+            text: &text,
+            fails: true,
+        };
+        let loaded = load(rt.alloc(), reader, 2114);
+        assert_eq!(rt;
+            bytes_in(loaded),
+            Err(Fault::Walk(WalkFault::Input)),
+            "after {came} bytes"
+        );
+    }
+    Ok(())
+}
+
+#[test]
+fn interrupts_of_a_load_are_asked_again(rt: HostRuntime) -> Result<(), Fail> {
+    for (interrupts, loads) in [(1000, true), (1001, false)] {
+        let reader = FakeReader {
+            interrupts,
+            text: b"Hello",
+            fails: false,
+        };
+        let want = if loads {
+            Ok(Vec::from_array(rt.alloc(), *b"Hello")?)
+        } else {
+            Err(Fault::Walk(WalkFault::Input))
+        };
+        let loaded = load(rt.alloc(), reader, 5);
+        assert_eq!(rt; bytes_in(loaded), want, "{interrupts} interrupts");
+    }
+    Ok(())
+}

@@ -1,0 +1,291 @@
+// make_run, over inputs and files worked out by hand, and over stores and writers that fail.
+ghost use Rattle.std.specs.Prelude.{◌≡◌, ◌≤◌};
+
+use super::fakes::FakeWriter;
+use super::worked::{BOTH_VALUES, NONE, Run, bytes_of};
+use cdb_command::{MakeOptions, Style};
+use cdb_form::{Narrow, TextFault};
+use cdb_make::{MakeFault, Mode};
+use cdb_runs::{Fault, make_run};
+use cdb_store::{FuseStore, MemStore};
+use std::alloc::{AllocError, Global};
+use std::prelude::*;
+use std::test::Fail;
+
+/// Two values of one key.
+const TWICE: &[u8] = b"+1,1:a->1\n+1,1:a->2\n\n";
+
+/// The first and the second alone.
+const FIRST: &[u8] = b"+1,1:a->1\n\n";
+
+const SECOND: &[u8] = b"+1,1:a->2\n\n";
+
+/// The file of one value alone: 2074 bytes.
+const fn one_value(record: &'static [u8]) -> [Run; 6] {
+    [
+        (196, b"\x0a\x08\0\0\0\0\0\0"),
+        (1, b"\x0a\x08\0\0\x02\0\0\0"),
+        (59, b"\x1a\x08\0\0\0\0\0\0"),
+        (1, record),
+        (1, b"\0\0\0\0\0\0\0\0"),
+        (1, b"\xc4\xb5\x02\0\0\x08\0\0"),
+    ]
+}
+
+/// The line of the second record of the first input, and of the first of the second.
+const LINE: &[u8] = b"cdb: input 1: record 2: duplicate key\n";
+
+const OTHER_LINE: &[u8] = b"cdb: input 2: record 1: duplicate key\n";
+
+/// What is done about a record whose key was there already, beside its put.
+#[derive(Clone, Copy, Debug, PartialEq, Eq)]
+enum Duplicates {
+    Silent,
+    Told,
+    Last,
+}
+
+/// What a run is told, that may make a file of so many bytes.
+fn options(mode: Mode, duplicates: Duplicates, style: Style, limit: u64) -> MakeOptions
+    ensures { result.limit ≡ limit }
+{
+    MakeOptions {
+        mode,
+        warn: duplicates == Duplicates::Told,
+        stop: duplicates == Duplicates::Last,
+        style,
+        limit,
+    }
+}
+
+/// What came of a run in memory.
+#[derive(Drop)]
+struct Made {
+    answer: Result<(), Fault>,
+    file: Vec<u8>,
+    lines: Vec<u8>,
+}
+
+impl Made {
+    /// Whether it answered so, with this file and these lines.
+    fn is(&self, answer: Result<(), Fault>, file: &[u8], lines: &[u8]) -> bool {
+        self.answer == answer && self.file.as_slice() == file && self.lines.as_slice() == lines
+    }
+
+    /// Whether it failed so, with these lines.
+    fn fails(&self, fault: Fault, lines: &[u8]) -> bool {
+        self.answer == Err(fault) && self.lines.as_slice() == lines
+    }
+}
+
+/// The inputs, each to be read.
+fn texts(alloc: Global, inputs: &[&'static [u8]]) -> Result<Vec<&'static [u8]>, AllocError> {
+    let mut texts = Vec::new(alloc);
+    for input in inputs {
+        texts.push(*input).map_err(AllocError::from)?;
+    }
+    Ok(texts)
+}
+
+/// A run in memory.
+fn make(alloc: Global, inputs: &[&'static [u8]], options: MakeOptions) -> Result<Made, AllocError>
+    requires least { 2048 ≤ options.limit }
+    requires most { options.limit ≤ 4294967295 }
+{
+    let texts = texts(alloc, inputs)?;
+    let mut lines = Vec::new(alloc);
+    let store = MemStore::new(alloc);
+    let (store, answer) = make_run::<MemStore, Narrow, &[u8], Vec<u8>>(
+        alloc, store, texts, options, &mut lines,
+    );
+    Ok(Made {
+        answer,
+        file: store.into_vec(),
+        lines,
+    })
+}
+
+/// A run in memory, over inputs of a style.
+fn run_style(
+    alloc: Global,
+    inputs: &[&'static [u8]],
+    mode: Mode,
+    duplicates: Duplicates,
+    style: Style,
+) -> Result<Made, AllocError> {
+    make(alloc, inputs, options(mode, duplicates, style, 4294967295))
+}
+
+/// A run in memory, over native texts.
+fn run(
+    alloc: Global,
+    inputs: &[&'static [u8]],
+    mode: Mode,
+    duplicates: Duplicates,
+) -> Result<Made, AllocError> {
+    run_style(alloc, inputs, mode, duplicates, Style::Native)
+}
+
+/// A run in memory, with the duplicates told, that may make a file of 2100 bytes.
+fn run_within_2100(alloc: Global, inputs: &[&'static [u8]]) -> Result<Made, AllocError> {
+    make(
+        alloc,
+        inputs,
+        options(Mode::Warn, Duplicates::Told, Style::Native, 2100),
+    )
+}
+
+/// The same, of a byte less.
+fn run_within_2099(alloc: Global, inputs: &[&'static [u8]]) -> Result<Made, AllocError> {
+    make(
+        alloc,
+        inputs,
+        options(Mode::Warn, Duplicates::Told, Style::Native, 2099),
+    )
+}
+
+#[test]
+fn duplicates_are_put_by_the_mode_and_told(rt: HostRuntime) -> Result<(), Fail> {
+    let both = bytes_of(rt.alloc(), &BOTH_VALUES)?;
+    let first = bytes_of(rt.alloc(), &one_value(b"\x01\0\0\0\x01\0\0\0a1"))?;
+    let second = bytes_of(rt.alloc(), &one_value(b"\x01\0\0\0\x01\0\0\0a2"))?;
+    assert!(rt; both.len() == 2100 && first.len() == 2074 && second.len() == 2074);
+    let made = run(rt.alloc(), &[TWICE], Mode::Warn, Duplicates::Told)?;
+    assert!(rt; made.is(Ok(()), &both, LINE), "warned of");
+    let made = run(rt.alloc(), &[TWICE], Mode::Add, Duplicates::Silent)?;
+    assert!(rt; made.is(Ok(()), &both, b""), "added");
+    let made = run(rt.alloc(), &[TWICE], Mode::Insert, Duplicates::Silent)?;
+    assert!(rt; made.is(Ok(()), &first, b""), "inserted");
+    let made = run(rt.alloc(), &[TWICE], Mode::Insert, Duplicates::Told)?;
+    assert!(rt; made.is(Ok(()), &first, LINE), "inserted and told");
+    let made = run(rt.alloc(), &[TWICE], Mode::Replace, Duplicates::Silent)?;
+    assert!(rt; made.is(Ok(()), &second, b""), "replaced");
+    let made = run(rt.alloc(), &[TWICE], Mode::Replace, Duplicates::Told)?;
+    assert!(rt; made.is(Ok(()), &second, LINE), "replaced and told");
+    // `Add` does not look, so it finds none to tell.
+    let made = run(rt.alloc(), &[TWICE], Mode::Add, Duplicates::Told)?;
+    assert!(rt; made.is(Ok(()), &both, b""), "added and not told");
+    Ok(())
+}
+
+#[test]
+fn a_run_stops_at_the_first_duplicate_that_it_tells(rt: HostRuntime) -> Result<(), Fail> {
+    for mode in [Mode::Add, Mode::Warn, Mode::Insert, Mode::Replace] {
+        let made = run(rt.alloc(), &[TWICE, b"x"], mode, Duplicates::Last)?;
+        assert!(rt; made.fails(Fault::Duplicate, LINE), "{mode:?}");
+    }
+    Ok(())
+}
+
+#[test]
+fn each_input_is_counted_from_its_first_record(rt: HostRuntime) -> Result<(), Fail> {
+    let both = bytes_of(rt.alloc(), &BOTH_VALUES)?;
+    let made = run(rt.alloc(), &[FIRST, SECOND], Mode::Warn, Duplicates::Told)?;
+    assert!(rt; made.is(Ok(()), &both, OTHER_LINE));
+    let made = run(rt.alloc(), &[FIRST, b"x"], Mode::Warn, Duplicates::Told)?;
+    assert!(rt; made.fails(Fault::Text(2, TextFault::Syntax(0)), b""));
+    let made = run(rt.alloc(), &[TWICE, b"x"], Mode::Warn, Duplicates::Told)?;
+    assert!(rt; made.fails(Fault::Text(2, TextFault::Syntax(0)), LINE));
+    let none = bytes_of(rt.alloc(), &NONE)?;
+    let made = run(rt.alloc(), &[], Mode::Warn, Duplicates::Told)?;
+    assert!(rt; made.is(Ok(()), &none, b""));
+    Ok(())
+}
+
+#[test]
+fn map_texts_are_put_as_native_ones(rt: HostRuntime) -> Result<(), Fail> {
+    let both = bytes_of(rt.alloc(), &BOTH_VALUES)?;
+    let maps: &[u8] = b"# aliases\n a 1\n\na\t2";
+    let made = run_style(
+        rt.alloc(),
+        &[maps],
+        Mode::Warn,
+        Duplicates::Told,
+        Style::Map,
+    )?;
+    assert!(rt; made.is(Ok(()), &both, LINE));
+    Ok(())
+}
+
+#[test]
+fn a_run_has_a_limit_of_its_own(rt: HostRuntime) -> Result<(), Fail> {
+    let both = bytes_of(rt.alloc(), &BOTH_VALUES)?;
+    let made = run_within_2100(rt.alloc(), &[TWICE])?;
+    assert!(rt; made.is(Ok(()), &both, LINE));
+    // The record that is too much is not told.
+    let made = run_within_2099(rt.alloc(), &[TWICE])?;
+    assert!(rt; made.fails(Fault::Make(MakeFault::TooBig), b""));
+    Ok(())
+}
+
+/// The answer of a run whose duplicates are told to a writer.
+fn told(
+    alloc: Global,
+    input: &'static [u8],
+    w: &mut FakeWriter,
+) -> Result<Result<(), Fault>, AllocError> {
+    let texts = texts(alloc, &[input])?;
+    let store = MemStore::new(alloc);
+    let told = options(Mode::Warn, Duplicates::Told, Style::Native, 4294967295);
+    let (_, answer) = make_run::<MemStore, Narrow, &[u8], FakeWriter>(alloc, store, texts, told, w);
+    Ok(answer)
+}
+
+#[test]
+fn a_writer_of_lines_that_fails_holds_a_front(rt: HostRuntime) -> Result<(), Fail> {
+    for room in 0..=LINE.len() {
+        let mut w = FakeWriter::new(rt.alloc(), room);
+        let answer = told(rt.alloc(), TWICE, &mut w)?;
+        assert!(rt; w.holds_front(answer, LINE, room), "{room}");
+    }
+    Ok(())
+}
+
+#[test]
+fn lines_are_flushed_last_after_a_fault_too(rt: HostRuntime) -> Result<(), Fail> {
+    let cases: [(&'static [u8], Result<(), Fault>); 2] = [
+        (TWICE, Err(Fault::Output)),
+        (b"x", Err(Fault::Text(1, TextFault::Syntax(0)))),
+    ];
+    for (input, want) in cases {
+        let mut w = FakeWriter::new(rt.alloc(), 4096);
+        w.flush_fails = true;
+        let answer = told(rt.alloc(), input, &mut w)?;
+        assert!(rt; answer == want && w.flushes == 1, "{input:?}");
+    }
+    Ok(())
+}
+
+/// The answer of a run over a store of which a call fails, and its file.
+fn over_fuse(alloc: Global, calls: u64) -> Result<(Result<(), Fault>, Vec<u8>), AllocError> {
+    let texts = texts(alloc, &[TWICE])?;
+    let mut lines = Vec::new(alloc);
+    let store = FuseStore::new(MemStore::new(alloc), calls, 1);
+    let told = options(Mode::Replace, Duplicates::Told, Style::Native, 4294967295);
+    let (store, answer) = make_run::<FuseStore<MemStore>, Narrow, &[u8], Vec<u8>>(
+        alloc, store, texts, told, &mut lines,
+    );
+    Ok((answer, store.into_inner().into_vec()))
+}
+
+#[test]
+fn a_store_that_fails_ends_the_run(rt: HostRuntime) -> Result<(), Fail> {
+    let second = bytes_of(rt.alloc(), &one_value(b"\x01\0\0\0\x01\0\0\0a2"))?;
+    let (mut writing, mut lookup) = (false, false);
+    for calls in 0..64u64 {
+        let (answer, file) = over_fuse(rt.alloc(), calls)?;
+        match answer {
+            Err(Fault::Make(MakeFault::Writing)) => writing = true,
+            Err(Fault::Make(MakeFault::Lookup)) => lookup = true,
+            _ => {
+                assert!(rt;
+                    answer == Ok(()) && file.as_slice() == second.as_slice(),
+                    "{calls}"
+                );
+                assert!(rt; lookup && writing);
+                return Ok(());
+            }
+        }
+    }
+    Err(Fail::new("no run met no fault"))
+}

@@ -1,0 +1,110 @@
+// The windows of the program's input and output.
+use super::fakes::{CountingReader, FlakyWriter, FullWriter, NotingWriter, SlowWriter};
+use cdb_form::{flush_whole, write_whole};
+use cdb_runs::{Input, Output};
+use std::alloc::{AllocError, Global};
+use std::io::{Read, Write};
+use std::prelude::*;
+use std::test::Fail;
+
+/// What reads of these sizes give through a window of four bytes.
+fn read_in(alloc: Global, reader: &mut CountingReader, sizes: &[usize]) -> Result<Vec<u8>, Fail> {
+    let mut given = Vec::new(alloc);
+    let mut input = Input::new(alloc, reader, 4)?;
+    for size in sizes {
+        let mut piece = [0u8; 8];
+        let n = input.read(&mut piece[..(*size).min(8)])?;
+        given.extend_from_slice(&piece[..n])?;
+    }
+    Ok(given)
+}
+
+// Five bytes in pieces of two are three asks. A read gives no more than the window has.
+#[test]
+fn a_read_asks_its_reader_once_at_most(rt: HostRuntime) -> Result<(), Fail> {
+    let cases: [(&[usize], &[u8], u64); 4] = [
+        (&[1, 1, 1, 1, 1], b"abcde", 3),
+        (&[4], b"ab", 1),
+        (&[1, 4, 4], b"abcd", 2),
+        (&[8, 8, 8, 8], b"abcde", 4),
+    ];
+    for (sizes, text, asked) in cases {
+        let mut reader = CountingReader {
+            text: b"abcde",
+            asked: 0,
+        };
+        let given = read_in(rt.alloc(), &mut reader, sizes)?;
+        assert!(rt;
+            given.as_slice() == text && reader.asked == asked,
+            "{sizes:?}"
+        );
+    }
+    Ok(())
+}
+
+/// Whether some pieces are written through a window of four bytes, and flushed.
+fn write_through<W: Write>(
+    alloc: Global,
+    writer: &mut W,
+    pieces: &[&str],
+) -> Result<bool, AllocError> {
+    let mut output = Output::new(alloc, writer, 4)?;
+    for piece in pieces {
+        if write_whole(&mut output, piece.as_bytes()).is_err() {
+            return Ok(false);
+        }
+    }
+    Ok(flush_whole(&mut output).is_ok())
+}
+
+#[test]
+fn bytes_go_on_in_order_and_at_once(rt: HostRuntime) -> Result<(), Fail> {
+    let mut held = Vec::new(rt.alloc());
+    let pieces = ["a", "bc", "defghi", "", "j"];
+    assert!(rt; write_through(rt.alloc(), &mut held, &pieces)?);
+    assert_eq!(rt; held.as_slice(), b"abcdefghij".as_slice());
+    let mut noting = NotingWriter {
+        calls: Vec::new(rt.alloc()),
+        fails: false,
+    };
+    assert!(rt; write_through(rt.alloc(), &mut noting, &["a", "b", "c", "d"])?);
+    assert_eq!(rt; noting.calls.as_slice(), b"wf".as_slice());
+    Ok(())
+}
+
+#[test]
+fn interrupts_are_counted_in_a_row(rt: HostRuntime) -> Result<(), Fail> {
+    let mut writer = SlowWriter::new(rt.alloc(), 1000);
+    assert!(rt; write_through(rt.alloc(), &mut writer, &["abc"])?);
+    assert_eq!(rt; writer.held.as_slice(), b"abc".as_slice());
+    let mut writer = SlowWriter::new(rt.alloc(), 1001);
+    assert!(rt; !write_through(rt.alloc(), &mut writer, &["abc"])?);
+    Ok(())
+}
+
+/// Whether a first flush of some bytes fails, and the second does not.
+fn flushes_again(alloc: Global, writer: &mut FlakyWriter) -> Result<bool, AllocError> {
+    let mut output = Output::new(alloc, writer, 4)?;
+    let taken = write_whole(&mut output, b"abcd").is_ok();
+    let failed = flush_whole(&mut output).is_err();
+    Ok(taken && failed && flush_whole(&mut output).is_ok())
+}
+
+#[test]
+fn bytes_that_were_not_taken_stay(rt: HostRuntime) -> Result<(), Fail> {
+    let mut writer = FlakyWriter {
+        held: Vec::new(rt.alloc()),
+        room: 3,
+        failed: false,
+    };
+    assert!(rt; flushes_again(rt.alloc(), &mut writer)?);
+    assert_eq!(rt; writer.held.as_slice(), b"abcd".as_slice());
+    Ok(())
+}
+
+#[test]
+fn a_writer_that_takes_nothing_has_failed(rt: HostRuntime) -> Result<(), Fail> {
+    assert!(rt; !write_through(rt.alloc(), &mut FullWriter, &["abcd"])?);
+    assert!(rt; !write_through(rt.alloc(), &mut FullWriter, &["abcde"])?);
+    Ok(())
+}
