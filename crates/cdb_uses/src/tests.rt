@@ -10,7 +10,6 @@ use cdb_make::{MakeFault, Maker, Mode};
 use cdb_read::ReadFault;
 use cdb_store::MemStore;
 use std::alloc::Global;
-use std::io::{self, ErrorKind, Write};
 use std::prelude::*;
 use std::test::Fail;
 
@@ -163,39 +162,14 @@ fn changes_leave_the_file_made_from_scratch(rt: HostRuntime) -> Result<(), Fail>
     Ok(())
 }
 
-/// Takes so many bytes, and then fails.
-#[derive(Drop)]
-struct ShortWriter {
-    held: Vec<u8>,
-    room: usize,
-}
-
-impl Write for ShortWriter {
-    fn write(&mut self, buf: &[u8]) -> io::Result<usize> {
-        let n = buf.len().min(self.room);
-        if n == 0 {
-            return Err(io::Error::from(ErrorKind::Other));
-        }
-        self.held.extend_from_slice(&buf[..n])?;
-        self.room -= n;
-        Ok(n)
-    }
-
-    fn flush(&mut self) -> io::Result<()> {
-        Ok(())
-    }
-}
-
 #[test]
 fn a_writer_that_fails_holds_a_front_of_the_values(rt: HostRuntime) -> Result<(), Fail> {
     let alloc = rt.alloc();
-    let mut writer = ShortWriter {
-        held: Vec::new(alloc),
-        room: 2,
-    };
-    let made = change_and_ask::<Narrow, _>(alloc, 2160, &mixed(alloc)?, b"a", &mut writer);
+    let mut room = [0; 2];
+    let mut left = room.as_mut_slice();
+    let made = change_and_ask::<Narrow, _>(alloc, 2160, &mixed(alloc)?, b"a", &mut left);
     assert!(rt; matches!(made, Err(AskFault::Read(ReadFault::Output))));
-    assert_eq!(rt; writer.held.as_slice(), b"12".as_slice());
+    assert_eq!(rt; room.as_slice(), b"12".as_slice());
     Ok(())
 }
 
