@@ -97,7 +97,7 @@ impl FileStore {
 
 impl<F: RawFile> FileStore<F> {
     /// A file that was just made or emptied.
-    pub(crate) fn empty(file: F) -> FileStore<F>
+    fn empty(file: F) -> FileStore<F>
         requires { lost (F.calls file) ≡ false }
         ensures size { result.len ≡ 0 }
         ensures file { result.file ≡ file }
@@ -131,8 +131,10 @@ impl<F: RawFile> FileStore<F> {
 }
 
 impl<F: RawFile + Drop> FileStore<F> {
-    /// A file that was just opened, of the length that it tells.
-    pub(crate) fn over(mut file: F) -> Result<FileStore<F>, StoreFault>
+    /// A store in a raw file that was just opened, of the length that it tells.
+    ///
+    /// `Device`: it tells none, or 2^63 bytes or more.
+    pub fn over(mut file: F) -> Result<FileStore<F>, StoreFault>
         requires { F.calls file ≡ [] }
         ensures told { IfOk result (λ f. F.calls f.file ≡ (Length f.len, []) ∷ []) }
         ensures memory { IsErrOf result NoMemory → ⊥ }

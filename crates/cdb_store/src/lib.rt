@@ -18,10 +18,7 @@ pub use buffered::BufferedStore;
 pub use file::FileStore;
 pub use fuse::FuseStore;
 pub use memory::MemStore;
-pub use raw::{RawFault, RawFile};
+pub use raw::{RawFault, RawFile, note_part};
 pub use real::RealFile;
 pub use store::{Store, StoreFault};
-pub use trace::Call;
-
-#[cfg(test)]
-mod tests;
+pub use trace::{Call, Trace};

@@ -98,8 +98,9 @@ fn ended_as(failed: Call, fault: RawFault) -> Call
     }
 }
 
-/// Notes what a read or a write answered: the bytes that it did, or how it ended.
-pub(crate) fn note_part(
+/// Notes what a raw read or write answered: the bytes that it did, as `done`, or how it ended,
+/// which is `failed` where no signal interrupted it.
+pub fn note_part(
     trace: &mut Trace,
     done: Call,
     failed: Call,

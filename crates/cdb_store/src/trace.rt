@@ -37,7 +37,7 @@ pub enum Call {
 }
 
 /// A list of calls, the newest first, each with its bytes. It takes no memory, and its methods do
-/// nothing at run time.
+/// nothing at run time. A raw file of one's own keeps its calls in one.
 #[derive(Drop)]
 pub struct Trace {
     marker: PhantomData<u8>,
@@ -50,7 +50,7 @@ impl Model for Trace {
 
 impl Trace {
     /// No calls.
-    pub(crate) fn new() -> Trace
+    pub fn new() -> Trace
         ensures { result.events ≡ [] }
     {
         Trace {
@@ -58,8 +58,8 @@ impl Trace {
         }
     }
 
-    /// Adds a call with its bytes.
-    pub(crate) fn note(&mut self, _call: &Call, _bytes: &[u8])
+    /// Adds a call with its bytes: those that came or were written, or none.
+    pub fn note(&mut self, _call: &Call, _bytes: &[u8])
         ensures { self.new.events ≡ (_call.now, _bytes.now) ∷ self.old.events }
     {}
 }

@@ -1,7 +1,7 @@
 use Rattle.std.proofs.Common.{arith, inl, length}
 use Rattle.cdb_store.specs.Images.{AreSized}
 use Rattle.cdb_store.proofs.Moves.{held_first, held_kept, kept_torn}
-use Rattle.cdb_store.proofs.tests.uses.append.Goals as goal
+use Rattle.cdb_store_tests.proofs.tests.uses.append.Goals as goal
 
 pub returns-in_err-write_at-clause-kept : goal.returns-in_err-write_at-clause-kept
 returns-in_err-write_at-clause-kept g c = λ pos held inside. held_kept (kept_torn pos (length held) (inl (omega arith)) c.write_at.ensures.torn)

@@ -1,9 +1,7 @@
 // A raw file in memory that fails, shortens or interrupts its calls.
 ghost use Rattle.std.specs.Prelude.{◌≡◌, ◌<◌, ◌≤◌, [], length, IfOk};
 
-use crate::bytes::write_over;
-use crate::raw::{RawFault, RawFile, note_part};
-use crate::trace::{Call, Trace};
+use cdb_store::{Call, RawFault, RawFile, Trace, note_part};
 
 /// What befalls a raw call.
 #[derive(Clone, Copy)]
@@ -33,7 +31,8 @@ pub struct FakeFile {
 }
 
 impl FakeFile {
-    /// An empty file, whose calls from the one after `first` on, `count` of them, are in trouble.
+    /// A file of these bytes. Its calls are numbered from 0 on, and `count` of them, from `first` on,
+    /// are in trouble.
     pub fn new(bytes: Vec<u8>, first: u64, count: u64, trouble: Trouble) -> FakeFile
         ensures { result.trace.events ≡ [] }
     {
@@ -97,7 +96,13 @@ fn copy_in(bytes: &mut Vec<u8>, pos: u64, new: &[u8]) -> Result<(), RawFault> {
     if pos > bytes.len() as u64 || new.len() > 4096 || pos > 1 << 32 {
         return Err(RawFault::Failed);
     }
-    write_over(bytes, pos as usize, new).map_err(|_| RawFault::Failed)
+    let at = pos as usize;
+    let over = new.len().min(bytes.len() - at);
+    if bytes.extend_from_slice(&new[over..]).is_err() {
+        return Err(RawFault::Failed);
+    }
+    bytes[at..at + over].copy_from_slice(&new[..over]);
+    Ok(())
 }
 
 impl RawFile for FakeFile {

@@ -1,6 +1,6 @@
 // A fuse, and a buffered store over one.
 use super::support::again::script;
-use crate::{BufferedStore, FuseStore, MemStore, Store, StoreFault};
+use cdb_store::{BufferedStore, FuseStore, MemStore, Store, StoreFault};
 use std::test::Fail;
 
 /// What a write at the end of a store answers, if that is where the store ends.

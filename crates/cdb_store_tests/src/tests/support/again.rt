@@ -1,5 +1,5 @@
 // A script of calls, each of which is called once again where it fails.
-use crate::{Store, StoreFault};
+use cdb_store::{Store, StoreFault};
 
 /// What a script met.
 #[derive(Drop)]

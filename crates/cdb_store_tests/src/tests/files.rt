@@ -1,5 +1,5 @@
 // Stores in files of the system. The files lie in the folder that each test runs in.
-use crate::{FileStore, Store, StoreFault};
+use cdb_store::{FileStore, Store, StoreFault};
 use std::fs::{self, File, Permissions};
 use std::os::unix::fs::{PermissionsExt, symlink};
 use std::test::Fail;

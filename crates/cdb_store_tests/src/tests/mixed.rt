@@ -1,5 +1,5 @@
 // One table of mixed calls, made on every store.
-use crate::{BufferedStore, FileStore, MemStore, Store};
+use cdb_store::{BufferedStore, FileStore, MemStore, Store};
 use std::test::Fail;
 
 /// A call: where, and of how many bytes.

@@ -1,5 +1,5 @@
 // Stores in memory.
-use crate::{BufferedStore, MemStore, Store, StoreFault};
+use cdb_store::{BufferedStore, MemStore, Store, StoreFault};
 use std::test::Fail;
 
 /// Whether writes in a new store, over what is there and behind it, leave `aXYd`.

@@ -4,7 +4,7 @@ ghost use Rattle.cdb_store.specs.declared.store.StoreFault.TheVariants.{NoMemory
 ghost use Rattle.cdb_store.specs.Images.{SameImages, Holds};
 ghost use Rattle.cdb_store.specs.Laws.{StaysHeld};
 
-use crate::{BufferedStore, FileStore, MemStore, Store, StoreFault};
+use cdb_store::{BufferedStore, FileStore, MemStore, Store, StoreFault};
 use std::test::Fail;
 
 /// Writes some bytes at the end of a store, and answers where they stand.
