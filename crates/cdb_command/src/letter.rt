@@ -6,7 +6,7 @@ use crate::line::Flags;
 use crate::usage::Usage;
 
 /// The letter of a command that takes names.
-#[derive(Clone, Copy, Debug, PartialEq, Eq)]
+#[derive(Clone, Copy)]
 pub(crate) enum Letter {
     Query,
     Dump,

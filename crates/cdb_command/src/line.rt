@@ -1,7 +1,7 @@
 // What stands on a command line.
 
 /// Which letters without a value stand on a line, each once or often.
-#[derive(Clone, Copy, Debug, PartialEq, Eq)]
+#[derive(Clone, Copy)]
 pub(crate) struct Flags {
     pub(crate) query: bool,
     pub(crate) dump: bool,

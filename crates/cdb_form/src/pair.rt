@@ -7,7 +7,7 @@ ghost use Rattle.cdb_form.specs.Views.Pairs.{pair_of, PairFits};
 use crate::width::Width;
 
 /// Two words.
-#[derive(Clone, Copy, Debug, PartialEq, Eq)]
+#[derive(Clone, Copy)]
 pub(crate) struct Pair {
     pub(crate) first: u64,
     pub(crate) second: u64,

@@ -15,7 +15,7 @@ use std::io::{ErrorKind, Read};
 pub(crate) const RETRIES: u32 = 1000;
 
 /// Why a reader did not give what it was asked for.
-#[derive(Clone, Copy, Debug, PartialEq, Eq)]
+#[derive(Clone, Copy)]
 pub(crate) enum Unread {
     /// It had no more bytes.
     Ended,

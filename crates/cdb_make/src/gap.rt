@@ -3,7 +3,7 @@ ghost use Rattle.std.specs.Prelude.{◌≡◌, ◌^◌, sum_by};
 ghost use Rattle.cdb_make.specs.Gaps.{AreApart, first_place};
 
 /// The bytes of a record that is taken out.
-#[derive(Clone, Copy, Debug, PartialEq, Eq)]
+#[derive(Clone, Copy)]
 pub(crate) struct Gap {
     /// Where they begin, in bytes from the file's start.
     pub(crate) place: u64,

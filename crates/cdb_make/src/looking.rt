@@ -17,7 +17,7 @@ const SHORT: usize = 256;
 const HEADER: usize = 16;
 
 /// Why a look ended.
-#[derive(Clone, Copy, Debug, PartialEq, Eq)]
+#[derive(Clone, Copy)]
 pub(crate) enum LookFault {
     /// The store failed.
     Failed,

@@ -5,7 +5,7 @@ ghost use Rattle.std.specs.Prelude.{ℕ, ◌≡◌, ◌++◌, [], ◌∷◌, Lis
 pub(crate) const DISTANCES: usize = 11;
 
 /// Counts of used slots, each of which stops at the greatest number.
-#[derive(Clone, Copy, Debug, PartialEq, Eq)]
+#[derive(Clone, Copy)]
 pub(crate) struct Distances {
     /// How many they are.
     pub(crate) entries: u64,

@@ -11,7 +11,7 @@ use cdb_form::Width;
 use cdb_store::Store;
 
 /// How long keys and values are.
-#[derive(Clone, Copy, Debug, PartialEq, Eq)]
+#[derive(Clone, Copy)]
 pub(crate) struct Lengths {
     /// The lengths of the keys.
     pub(crate) keys: Spread,

@@ -12,7 +12,7 @@ use cdb_form::{Width, head_size, pair_size, read_header};
 use cdb_store::Store;
 
 /// What stands at a place.
-#[derive(Clone, Copy, Debug, PartialEq, Eq)]
+#[derive(Clone, Copy)]
 pub(crate) enum Look {
     /// No whole record.
     Broken,

@@ -2,7 +2,7 @@
 ghost use Rattle.std.specs.Prelude.{◌≤◌};
 
 /// Where the records stand that a walk has left: from the next place to the record end.
-#[derive(Clone, Copy, Debug, PartialEq, Eq)]
+#[derive(Clone, Copy)]
 pub(crate) struct Rest {
     /// The place of the next record, in bytes from the file's start.
     pub(crate) place: u64,
@@ -12,7 +12,7 @@ pub(crate) struct Rest {
 }
 
 /// What a walk does next.
-#[derive(Clone, Copy, Debug, PartialEq, Eq)]
+#[derive(Clone, Copy)]
 pub(crate) enum Walking {
     /// It looks at the next place.
     At(Rest),

@@ -20,7 +20,7 @@ use cdb_store::Store;
 const SLOTS_AHEAD: usize = 64;
 
 /// What one turn of a search comes to.
-#[derive(Clone, Copy, Debug, PartialEq, Eq)]
+#[derive(Clone, Copy)]
 pub(crate) enum Step {
     /// The slot is empty, and ends the search.
     Empty,
@@ -33,7 +33,7 @@ pub(crate) enum Step {
 }
 
 /// What some turns of a search come to.
-#[derive(Clone, Copy, Debug, PartialEq, Eq)]
+#[derive(Clone, Copy)]
 pub(crate) enum Met {
     /// No slot is left.
     End,

@@ -5,7 +5,7 @@ ghost use Rattle.cdb_read.specs.Views.Turning.{next_turn};
 use cdb_form::Pointer;
 
 /// What a search does next.
-#[derive(Clone, Copy, Debug, PartialEq, Eq)]
+#[derive(Clone, Copy)]
 pub(crate) enum Searching {
     /// It looks at a slot.
     At(Turn),
@@ -18,7 +18,7 @@ pub(crate) enum Searching {
 }
 
 /// A slot that a search looks at, of a table.
-#[derive(Clone, Copy, Debug, PartialEq, Eq)]
+#[derive(Clone, Copy)]
 pub(crate) struct Turn {
     /// Where the table stands.
     pub(crate) table: Pointer,

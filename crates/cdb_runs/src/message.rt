@@ -16,7 +16,7 @@ use std::fmt;
 use std::io::Write;
 
 /// Where a fault is.
-#[derive(Clone, Copy, Debug, PartialEq, Eq)]
+#[derive(Clone, Copy)]
 enum Place {
     Nowhere,
     /// In an input.

@@ -24,7 +24,7 @@ pub(crate) fn opened<R: Files<File = File>>(rt: &R, name: &str) -> Result<File, 
 }
 
 /// Which file of a name a store is in.
-#[derive(Clone, Copy, Debug, PartialEq, Eq)]
+#[derive(Clone, Copy)]
 pub(crate) enum Opening {
     /// The one that is there, to be read.
     Read,

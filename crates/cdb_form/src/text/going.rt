@@ -2,7 +2,7 @@
 use crate::text::fault::TextFault;
 
 /// What a reader of a text does next.
-#[derive(Clone, Copy, Debug, PartialEq, Eq)]
+#[derive(Clone, Copy)]
 pub(crate) enum Going {
     /// It reads on.
     On,

@@ -14,7 +14,7 @@ use crate::text::source::Source;
 use std::io::Read;
 
 /// A kind of bytes that stand in a row.
-#[derive(Clone, Copy, Debug, PartialEq, Eq)]
+#[derive(Clone, Copy)]
 pub(crate) enum Kind {
     /// A space or a tab.
     Blank,
@@ -38,7 +38,7 @@ impl Kind {
 }
 
 /// What was found in a line.
-#[derive(Clone, Copy, Debug, PartialEq, Eq)]
+#[derive(Clone, Copy)]
 pub(crate) enum LineRead {
     /// No record, and a newline.
     Ignored,

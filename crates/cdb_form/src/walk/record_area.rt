@@ -13,7 +13,7 @@ use crate::width::Width;
 use std::io::Read;
 
 /// Where the records stand that weren't given yet: from the next place to the record end.
-#[derive(Clone, Copy, Debug, PartialEq, Eq)]
+#[derive(Clone, Copy)]
 pub(crate) struct Area {
     pub(crate) place: u64,
     pub(crate) end: u64,

@@ -22,7 +22,7 @@ use std::io::Read;
 use std::marker::PhantomData;
 
 /// What a reader of records does next.
-#[derive(Clone, Copy, Debug, PartialEq, Eq)]
+#[derive(Clone, Copy)]
 pub(crate) enum Walking {
     AtHead,
     At(Area),

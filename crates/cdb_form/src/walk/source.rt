@@ -107,7 +107,7 @@ pub(crate) fn record_header<R: Read, L: Width>(
 }
 
 /// What is kept of a record that is read.
-#[derive(Clone, Copy, Debug, PartialEq, Eq)]
+#[derive(Clone, Copy)]
 pub(crate) enum Keeping {
     /// The key and the value.
     Both,
