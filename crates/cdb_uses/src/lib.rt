@@ -15,6 +15,3 @@ pub use check::open_checked;
 pub use form::first_record;
 pub use make::file_of_latest;
 pub use read::write_values;
-
-#[cfg(test)]
-mod tests;

@@ -90,7 +90,7 @@ fn next_records<R: Read>(
 fn next_records_are_those_of_the_text(rt: HostRuntime) -> Result<(), Fail> {
     for (most, count) in [(0, 0), (1, 1), (3, 3), (4, 3)] {
         let mut maps = MapReader::new(rt.alloc(), SIX_LINES);
-        let given = next_records(rt.alloc(), &mut maps, most).map_err(|_| "fault")?;
+        let given = next_records(rt.alloc(), &mut maps, most)?;
         assert_eq!(rt; given.len(), count);
     }
     Ok(())

@@ -1,14 +1,14 @@
 // Each caller once.
 mod drawn;
 
-use crate::{
-    AskFault, Change, ChangedFile, change_and_ask, file_of_latest, first_record, open_checked,
-    write_finished,
-};
 use cdb_form::{Narrow, Record, Wide, Width};
 use cdb_make::{MakeFault, Maker, Mode};
 use cdb_read::ReadFault;
 use cdb_store::MemStore;
+use cdb_uses::{
+    AskFault, Change, ChangedFile, change_and_ask, file_of_latest, first_record, open_checked,
+    write_finished,
+};
 use std::alloc::Global;
 use std::prelude::*;
 use std::test::Fail;
@@ -16,9 +16,7 @@ use std::test::Fail;
 #[test]
 fn the_first_record_of_a_text(rt: HostRuntime) -> Result<(), Fail> {
     let text: &[u8] = b"+3,5:one->Hello\n\n";
-    let record = first_record(rt.alloc(), text)
-        .map_err(|_| "fault")?
-        .ok_or("none")?;
+    let record = first_record(rt.alloc(), text)?.ok_or("none")?;
     assert_eq!(rt; record.key.as_slice(), b"one".as_slice());
     let none: &[u8] = b"\n";
     assert!(rt; matches!(first_record(rt.alloc(), none), Ok(None)));
@@ -34,7 +32,7 @@ fn the_file_of_the_latest_records(rt: HostRuntime) -> Result<(), Fail> {
             value: value.to_vec(rt.alloc())?,
         })?;
     }
-    let file = file_of_latest(rt.alloc(), &records).map_err(|_| "fault")?;
+    let file = file_of_latest(rt.alloc(), &records)?;
     assert_eq!(rt; file.len(), 2074);
     assert_eq!(rt;
         file.get(2048..2058),
@@ -43,13 +41,10 @@ fn the_file_of_the_latest_records(rt: HostRuntime) -> Result<(), Fail> {
     Ok(())
 }
 
-/// The values of a key that are written of what a maker holds.
-fn written(alloc: Global, maker: Maker<MemStore, Narrow>, key: &[u8]) -> Option<Vec<u8>> {
+/// Whether these values of a key are written of what a maker holds.
+fn writes(alloc: Global, maker: Maker<MemStore, Narrow>, key: &[u8], values: &[u8]) -> bool {
     let mut out = Vec::new(alloc);
-    match write_finished(maker, key, &mut out) {
-        Ok(_) => Some(out),
-        Err(_) => None,
-    }
+    write_finished(maker, key, &mut out).is_ok() && out.as_slice() == values
 }
 
 /// A maker of two values of one key, and of one of another.
@@ -57,24 +52,21 @@ fn made(alloc: Global) -> Result<Maker<MemStore, Narrow>, Fail> {
     let Ok(mut maker) = Maker::new(alloc, MemStore::new(alloc), 4294967295) else {
         return Err(Fail::new("no maker was made"));
     };
-    maker.put(Mode::Add, b"a", b"1").map_err(|_| "fault")?;
-    maker.put(Mode::Add, b"one", b"Hello").map_err(|_| "fault")?;
-    maker.put(Mode::Add, b"a", b"2").map_err(|_| "fault")?;
+    maker.put(Mode::Add, b"a", b"1")?;
+    maker.put(Mode::Add, b"one", b"Hello")?;
+    maker.put(Mode::Add, b"a", b"2")?;
     Ok(maker)
 }
 
 #[test]
 fn the_values_of_a_key_in_what_was_made(rt: HostRuntime) -> Result<(), Fail> {
-    let values = written(rt.alloc(), made(rt.alloc())?, b"a");
-    assert!(rt; values.is_some_and(|it| it.as_slice() == b"12".as_slice()));
+    assert!(rt; writes(rt.alloc(), made(rt.alloc())?, b"a", b"12"));
     let mut maker = made(rt.alloc())?;
-    maker.put(Mode::Replace, b"a", b"3").map_err(|_| "fault")?;
-    let values = written(rt.alloc(), maker, b"a");
-    assert!(rt; values.is_some_and(|it| it.as_slice() == b"3".as_slice()));
+    maker.put(Mode::Replace, b"a", b"3")?;
+    assert!(rt; writes(rt.alloc(), maker, b"a", b"3"));
     let mut maker = made(rt.alloc())?;
-    maker.remove(b"a").map_err(|_| "fault")?;
-    let values = written(rt.alloc(), maker, b"a");
-    assert!(rt; values.is_some_and(|it| it.is_empty()));
+    maker.remove(b"a")?;
+    assert!(rt; writes(rt.alloc(), maker, b"a", b""));
     Ok(())
 }
 
@@ -124,8 +116,7 @@ const LEFT: &[u8] = b"\x01\0\0\0\x01\0\0\0a1\x01\0\0\0\x01\0\0\0a2\x01\0\0\0\x01
 fn changes_are_made_and_a_key_is_asked_for(rt: HostRuntime) -> Result<(), Fail> {
     let alloc = rt.alloc();
     let mut out = Vec::new(alloc);
-    let made = change_and_ask::<Narrow, _>(alloc, 2160, &mixed(alloc)?, b"a", &mut out);
-    let made = made.map_err(|_| "fault")?;
+    let made = change_and_ask::<Narrow, _>(alloc, 2160, &mixed(alloc)?, b"a", &mut out)?;
     assert_eq!(rt; out.as_slice(), b"126".as_slice());
     assert_eq!(rt; made.file.len(), 2152);
     assert_eq!(rt; made.file.get(2048..2088), Some(LEFT));
@@ -152,10 +143,8 @@ fn changes_leave_the_file_made_from_scratch(rt: HostRuntime) -> Result<(), Fail>
     ];
     let left = changes(alloc, &rows)?;
     let mut out = Vec::new(alloc);
-    let changed = change_and_ask::<Wide, _>(alloc, 4320, &mixed(alloc)?, b"b", &mut out);
-    let changed = changed.map_err(|_| "fault")?;
-    let scratch = change_and_ask::<Wide, _>(alloc, Wide::GREATEST, &left, b"zzz", &mut out);
-    let scratch = scratch.map_err(|_| "fault")?;
+    let changed = change_and_ask::<Wide, _>(alloc, 4320, &mixed(alloc)?, b"b", &mut out)?;
+    let scratch = change_and_ask::<Wide, _>(alloc, Wide::GREATEST, &left, b"zzz", &mut out)?;
     assert_eq!(rt; out.as_slice(), b"5".as_slice());
     assert_eq!(rt; scratch.file.len(), 4296);
     assert_eq!(rt; changed.file.as_slice(), scratch.file.as_slice());
@@ -182,7 +171,8 @@ fn told_of(alloc: Global, slots: u8, place: u8) -> Result<(), ReadFault> {
     for here in file.iter_mut().skip(2052).take(1) {
         *here = place;
     }
-    open_checked::<Narrow>(alloc, file, b"a").map(|_| ())
+    open_checked::<Narrow>(alloc, file, b"a")?;
+    Ok(())
 }
 
 #[test]
