@@ -1,0 +1,11 @@
+use Rattle.std.proofs.Common.{rules}
+use Rattle.cdb_form.proofs.reading.some_bytes.Goals as goal
+
+pub returns-in-Ok-clause-spends : goal.returns-in-Ok-clause-spends
+returns-in-Ok-clause-spends g c = search rules
+
+pub returns-then-ne-clause-spends : goal.returns-then-ne-clause-spends
+returns-then-ne-clause-spends g c = search rules
+
+pub loop-preserved : goal.loop-preserved
+loop-preserved g c = search rules
