@@ -16,6 +16,7 @@ import os
 import resource
 import sys
 import tempfile
+from concurrent.futures import ProcessPoolExecutor
 
 from commands import COMMANDS
 from refusing import Refusing
@@ -108,8 +109,9 @@ def came_of(what, command, left, free, is_lasting):
     return f"{left.status} {left.output!r:.100} {left.errors!r:.200} {sorted(left.files)}"
 
 
-def refuse_each(program, command):
-    """For each refusal how it was made, and what came of it: TOLD, DONE, or what is wrong."""
+def refuse_each(program, name):
+    """For each refusal to a run how it was made, and what came of it: TOLD, DONE, or what is wrong."""
+    command = COMMANDS[name]
     free = run(program, command)
     came = []
     for first in range(1, free.asks + 1):
@@ -143,9 +145,12 @@ def main():
     resource.setrlimit(resource.RLIMIT_CORE, (0, 0))
     program = Refusing(os.path.abspath(sys.argv[1]), os.path.abspath(sys.argv[2]), sys.argv[3])
     passed = failed = 0
-    for name, command in COMMANDS.items():
-        good, bad = tell(name, refuse_each(program, command))
-        passed, failed = passed + good, failed + bad
+    # The runs have nothing in common, so each processor gets some.
+    with ProcessPoolExecutor(len(os.sched_getaffinity(0))) as processors:
+        ended = processors.map(refuse_each, [program] * len(COMMANDS), COMMANDS)
+        for name, came in zip(COMMANDS, ended):
+            good, bad = tell(name, came)
+            passed, failed = passed + good, failed + bad
     print(f"{passed} passed, {failed} failed")
     sys.exit(1 if failed else 0)
 

@@ -17,7 +17,7 @@ use std::test::Fail;
 fn the_first_record_of_a_text(rt: HostRuntime) -> Result<(), Fail> {
     let text: &[u8] = b"+3,5:one->Hello\n\n";
     let record = first_record(rt.alloc(), text)?.ok_or("none")?;
-    assert_eq!(rt; record.key.as_slice(), b"one".as_slice());
+    assert!(rt; record.key.as_slice() == b"one".as_slice());
     let none: &[u8] = b"\n";
     assert!(rt; matches!(first_record(rt.alloc(), none), Ok(None)));
     Ok(())
@@ -33,11 +33,8 @@ fn the_file_of_the_latest_records(rt: HostRuntime) -> Result<(), Fail> {
         })?;
     }
     let file = file_of_latest(rt.alloc(), &records)?;
-    assert_eq!(rt; file.len(), 2074);
-    assert_eq!(rt;
-        file.get(2048..2058),
-        Some(b"\x01\0\0\0\x01\0\0\0a2".as_slice())
-    );
+    assert!(rt; file.len() == 2074);
+    assert!(rt; file.get(2048..2058) == Some(b"\x01\0\0\0\x01\0\0\0a2".as_slice()));
     Ok(())
 }
 
@@ -117,18 +114,18 @@ fn changes_are_made_and_a_key_is_asked_for(rt: HostRuntime) -> Result<(), Fail> 
     let alloc = rt.alloc();
     let mut out = Vec::new(alloc);
     let made = change_and_ask::<Narrow, _>(alloc, 2160, &mixed(alloc)?, b"a", &mut out)?;
-    assert_eq!(rt; out.as_slice(), b"126".as_slice());
-    assert_eq!(rt; made.file.len(), 2152);
-    assert_eq!(rt; made.file.get(2048..2088), Some(LEFT));
+    assert!(rt; out.as_slice() == b"126".as_slice());
+    assert!(rt; made.file.len() == 2152);
+    assert!(rt; made.file.get(2048..2088) == Some(LEFT));
     for (i, fault) in made.faults.iter().enumerate() {
         let wanted = if i == 6 {
             Some(MakeFault::TooBig)
         } else {
             None
         };
-        assert_eq!(rt; *fault, wanted);
+        assert!(rt; *fault == wanted);
     }
-    assert_eq!(rt; made.faults.len(), 10);
+    assert!(rt; made.faults.len() == 10);
     Ok(())
 }
 
@@ -145,9 +142,9 @@ fn changes_leave_the_file_made_from_scratch(rt: HostRuntime) -> Result<(), Fail>
     let mut out = Vec::new(alloc);
     let changed = change_and_ask::<Wide, _>(alloc, 4320, &mixed(alloc)?, b"b", &mut out)?;
     let scratch = change_and_ask::<Wide, _>(alloc, Wide::GREATEST, &left, b"zzz", &mut out)?;
-    assert_eq!(rt; out.as_slice(), b"5".as_slice());
-    assert_eq!(rt; scratch.file.len(), 4296);
-    assert_eq!(rt; changed.file.as_slice(), scratch.file.as_slice());
+    assert!(rt; out.as_slice() == b"5".as_slice());
+    assert!(rt; scratch.file.len() == 4296);
+    assert!(rt; changed.file.as_slice() == scratch.file.as_slice());
     Ok(())
 }
 
@@ -158,7 +155,7 @@ fn a_writer_that_fails_holds_a_front_of_the_values(rt: HostRuntime) -> Result<()
     let mut left = room.as_mut_slice();
     let made = change_and_ask::<Narrow, _>(alloc, 2160, &mixed(alloc)?, b"a", &mut left);
     assert!(rt; matches!(made, Err(AskFault::Read(ReadFault::Output))));
-    assert_eq!(rt; room.as_slice(), b"12".as_slice());
+    assert!(rt; room.as_slice() == b"12".as_slice());
     Ok(())
 }
 
@@ -177,8 +174,8 @@ fn told_of(alloc: Global, slots: u8, place: u8) -> Result<(), ReadFault> {
 
 #[test]
 fn a_file_is_opened_where_it_is_sound(rt: HostRuntime) -> Result<(), Fail> {
-    assert_eq!(rt; told_of(rt.alloc(), 1, 0), Ok(()));
-    assert_eq!(rt; told_of(rt.alloc(), 2, 0), Err(ReadFault::Table(0)));
-    assert_eq!(rt; told_of(rt.alloc(), 1, 1), Err(ReadFault::Slot(0, 0)));
+    assert!(rt; told_of(rt.alloc(), 1, 0) == Ok(()));
+    assert!(rt; told_of(rt.alloc(), 2, 0) == Err(ReadFault::Table(0)));
+    assert!(rt; told_of(rt.alloc(), 1, 1) == Err(ReadFault::Slot(0, 0)));
     Ok(())
 }

@@ -58,7 +58,7 @@ fn a_create_tells_refused_memory(rt: HostRuntime) -> Result<(), Fail> {
     assert!(rt; came != Came::Wrong, "another answer");
     println!(rt; "{came:?}")?;
     if came == Came::NoMemory {
-        assert_eq!(rt; plan_create(rt.alloc()), Came::Whole);
+        assert!(rt; plan_create(rt.alloc()) == Came::Whole);
     }
     Ok(())
 }
@@ -69,7 +69,7 @@ fn a_refused_line_tells_refused_memory(rt: HostRuntime) -> Result<(), Fail> {
     assert!(rt; came != Came::Wrong, "another answer");
     println!(rt; "{came:?}")?;
     if came == Came::NoMemory {
-        assert_eq!(rt; plan_refused(rt.alloc()), Came::Whole);
+        assert!(rt; plan_refused(rt.alloc()) == Came::Whole);
     }
     Ok(())
 }

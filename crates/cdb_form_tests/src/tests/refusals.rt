@@ -34,9 +34,9 @@ fn a_map_reader_tells_refused_memory(rt: HostRuntime) -> Result<(), Fail> {
     let first = gives_records(rt.alloc());
     if first == Err(TextFault::NoMemory) {
         println!(rt; "NoMemory")?;
-        assert_eq!(rt; gives_records(rt.alloc()), Ok(true));
+        assert!(rt; gives_records(rt.alloc()) == Ok(true));
     } else {
-        assert_eq!(rt; first, Ok(true));
+        assert!(rt; first == Ok(true));
         println!(rt; "Whole")?;
     }
     Ok(())

@@ -49,7 +49,7 @@ fn records_and_refused_texts(rt: HostRuntime) {
         (b"+1,1:a->1\n-1:a\n\n", 1, Some(TextFault::Syntax(10))),
     ];
     for (text, count, fault) in cases {
-        assert_eq!(rt; read_narrow(rt.alloc(), text), (count, fault), "{text:?}");
+        assert!(rt; read_narrow(rt.alloc(), text) == (count, fault), "{text:?}");
     }
 }
 
@@ -64,7 +64,7 @@ fn wide_lengths(rt: HostRuntime) {
     for (text, fault) in cases {
         let reader = FakeReader::new(text, Behind::End);
         let answer = read_all::<Wide, FakeReader<'_>>(rt.alloc(), reader, 1 << 48);
-        assert_eq!(rt; answer, (0, Some(fault)), "{text:?}");
+        assert!(rt; answer == (0, Some(fault)), "{text:?}");
     }
 }
 
@@ -83,7 +83,7 @@ fn gives_hello(alloc: Global, text: &mut &[u8]) -> bool {
 fn records_are_given_and_the_rest_stays(rt: HostRuntime) {
     let mut rest: &[u8] = b"+003,05:one->Hello\n\nrest";
     assert!(rt; gives_hello(rt.alloc(), &mut rest));
-    assert_eq!(rt; rest, b"rest".as_slice());
+    assert!(rt; rest == b"rest".as_slice());
 }
 
 #[test]
@@ -103,10 +103,10 @@ fn a_text_without_end_is_given_up_for_good(rt: HostRuntime) {
 fn each_cut_text_ends_early_and_each_failure_is_input(rt: HostRuntime) {
     for cut in 0..TWO.len() {
         let (_, fault) = read_narrow(rt.alloc(), &TWO[..cut]);
-        assert_eq!(rt; fault, Some(TextFault::Ended(cut as u64)), "cut at {cut}");
+        assert!(rt; fault == Some(TextFault::Ended(cut as u64)), "cut at {cut}");
         let reader = FakeReader::new(&TWO[..cut], Behind::Failure);
         let (_, fault) = read_all::<Narrow, FakeReader<'_>>(rt.alloc(), reader, 1 << 48);
-        assert_eq!(rt; fault, Some(TextFault::Input), "failure at {cut}");
+        assert!(rt; fault == Some(TextFault::Input), "failure at {cut}");
     }
 }
 
@@ -121,9 +121,8 @@ fn interruptions_are_asked_again(rt: HostRuntime) {
     for (interrupts, asks, count, fault) in cases {
         let reader = FakeReader::interrupted(TWO, interrupts);
         let answer = read_all::<Narrow, FakeReader<'_>>(rt.alloc(), reader, asks);
-        assert_eq!(rt;
-            answer,
-            (count, fault),
+        assert!(rt;
+            answer == (count, fault),
             "{interrupts} interruptions, {asks} asks"
         );
     }
@@ -134,7 +133,7 @@ fn interruptions_are_counted_in_a_row(rt: HostRuntime) {
     for (interrupts, answer) in [(1000, (2, None)), (1001, (0, Some(TextFault::Input)))] {
         let reader = FakeReader::interrupted_each(TWO, interrupts);
         let found = read_all::<Narrow, FakeReader<'_>>(rt.alloc(), reader, 1 << 48);
-        assert_eq!(rt; found, answer, "{interrupts} before each byte");
+        assert!(rt; found == answer, "{interrupts} before each byte");
     }
 }
 
@@ -142,13 +141,13 @@ fn interruptions_are_counted_in_a_row(rt: HostRuntime) {
 fn as_many_asks_as_are_made_suffice(rt: HostRuntime) {
     let mut counted = FakeReader::new(TWO, Behind::End);
     let answer = read_all::<Narrow, &mut FakeReader<'_>>(rt.alloc(), &mut counted, 1 << 48);
-    assert_eq!(rt; answer, (2, None));
+    assert!(rt; answer == (2, None));
     let asks = counted.calls;
     assert!(rt; asks > 0);
     for (bound, fault) in [(asks, None), (asks - 1, Some(TextFault::Endless))] {
         let reader = FakeReader::new(TWO, Behind::End);
         let answer = read_all::<Narrow, FakeReader<'_>>(rt.alloc(), reader, bound);
-        assert_eq!(rt; answer, (2, fault), "{bound} asks");
+        assert!(rt; answer == (2, fault), "{bound} asks");
     }
 }
 
@@ -166,8 +165,8 @@ fn what_stands_behind_a_fault_stays(rt: HostRuntime) {
     for (text, fault, rest) in cases {
         let mut reader = text;
         let answer = read_all::<Narrow, &mut &[u8]>(rt.alloc(), &mut reader, 1 << 48);
-        assert_eq!(rt; answer, (0, Some(fault)), "{text:?}");
-        assert_eq!(rt; reader, rest, "{text:?}");
+        assert!(rt; answer == (0, Some(fault)), "{text:?}");
+        assert!(rt; reader == rest, "{text:?}");
     }
 }
 

@@ -229,7 +229,7 @@ fn each_cut_file_and_each_failure(rt: HostRuntime) -> Result<(), Fail> {
 #[test]
 fn wide_files(rt: HostRuntime) -> Result<(), Fail> {
     let file = wide_file(rt.alloc())?;
-    assert_eq!(rt; file.len(), 4152);
+    assert!(rt; file.len() == 4152);
     let cases = [
         (4095, 0, Some(WalkFault::Short)),
         (4096, 0, Some(WalkFault::Record(4096))),
@@ -284,7 +284,7 @@ fn what_follows_a_damaged_header_stays(rt: HostRuntime) -> Result<(), Fail> {
     let mut rest = file.as_slice();
     let fault = Some(WalkFault::Record(2064));
     assert!(rt; walks::<Narrow, &mut &[u8]>(rt.alloc(), &mut rest, 1, fault)?);
-    assert_eq!(rt; rest, file.get(2072..).ok_or("short")?);
+    assert!(rt; rest == file.get(2072..).ok_or("short")?);
     Ok(())
 }
 

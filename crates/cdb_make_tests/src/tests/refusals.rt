@@ -23,6 +23,12 @@ enum Came {
     NoMemory,
 }
 
+/// Prints what came.
+fn tell(rt: &HostRuntime, came: Came) -> Result<(), Fail> {
+    println!(rt; "{came:?}")?;
+    Ok(())
+}
+
 /// A call, what it answers, and how many bytes it writes.
 type Row<'a> = (Call<'a>, Answer, u64);
 
@@ -51,9 +57,7 @@ fn adds_tell_refused_memory(rt: HostRuntime) -> Result<(), Fail> {
         add(b"a", b"3"),
         add(b"a", b"4"),
     ];
-    let came = came_of(rt.alloc(), &script, 2152)?;
-    println!(rt; "{came:?}")?;
-    Ok(())
+    tell(&rt, came_of(rt.alloc(), &script, 2152)?)
 }
 
 /// Three records, of which the first is replaced.
@@ -81,16 +85,12 @@ fn gaps() -> [Row<'static>; 7] {
 
 #[test]
 fn a_replacement_tells_no_refused_memory(rt: HostRuntime) -> Result<(), Fail> {
-    let came = came_of(rt.alloc(), &order().map(|row| row.0), 2140)?;
-    println!(rt; "{came:?}")?;
-    Ok(())
+    tell(&rt, came_of(rt.alloc(), &order().map(|row| row.0), 2140)?)
 }
 
 #[test]
 fn a_removal_and_a_look_tell_no_refused_memory(rt: HostRuntime) -> Result<(), Fail> {
-    let came = came_of(rt.alloc(), &gaps().map(|row| row.0), 2114)?;
-    println!(rt; "{came:?}")?;
-    Ok(())
+    tell(&rt, came_of(rt.alloc(), &gaps().map(|row| row.0), 2114)?)
 }
 
 /// A maker of two records in memory.
@@ -147,9 +147,7 @@ fn came_of_finish(alloc: Global) -> Result<Came, Fail> {
 
 #[test]
 fn a_finish_tells_refused_memory(rt: HostRuntime) -> Result<(), Fail> {
-    let came = came_of_finish(rt.alloc())?;
-    println!(rt; "{came:?}")?;
-    Ok(())
+    tell(&rt, came_of_finish(rt.alloc())?)
 }
 
 /// Makes calls on a maker in a store with room for so many bytes.
@@ -173,44 +171,35 @@ fn make(alloc: Global, room: u32, rows: &[Row]) -> Result<Came, Fail> {
 
 #[test]
 fn asks_before_a_replacement(rt: HostRuntime) -> Result<(), Fail> {
-    let came = make(rt.alloc(), 0, &order()[..3])?;
-    println!(rt; "{came:?}")?;
-    Ok(())
+    tell(&rt, make(rt.alloc(), 0, &order()[..3])?)
 }
 
 #[test]
 fn asks_with_a_replacement(rt: HostRuntime) -> Result<(), Fail> {
-    let came = make(rt.alloc(), 0, &order())?;
-    println!(rt; "{came:?}")?;
-    Ok(())
+    tell(&rt, make(rt.alloc(), 0, &order())?)
 }
 
 #[test]
 fn asks_before_a_removal(rt: HostRuntime) -> Result<(), Fail> {
-    let came = make(rt.alloc(), 0, &gaps()[..5])?;
-    println!(rt; "{came:?}")?;
-    Ok(())
+    tell(&rt, make(rt.alloc(), 0, &gaps()[..5])?)
 }
 
 #[test]
 fn asks_with_a_removal(rt: HostRuntime) -> Result<(), Fail> {
-    let came = make(rt.alloc(), 0, &gaps()[..6])?;
-    println!(rt; "{came:?}")?;
-    Ok(())
+    tell(&rt, make(rt.alloc(), 0, &gaps()[..6])?)
 }
 
 #[test]
 fn asks_with_a_removal_and_a_look(rt: HostRuntime) -> Result<(), Fail> {
-    let came = make(rt.alloc(), 0, &gaps())?;
-    println!(rt; "{came:?}")?;
-    Ok(())
+    tell(&rt, make(rt.alloc(), 0, &gaps())?)
 }
 
 #[test]
 fn asks_before_a_longer_replacement(rt: HostRuntime) -> Result<(), Fail> {
-    let came = make(rt.alloc(), 4096, &[(add(b"a", b"1"), ADDED, 10)])?;
-    println!(rt; "{came:?}")?;
-    Ok(())
+    tell(
+        &rt,
+        make(rt.alloc(), 4096, &[(add(b"a", b"1"), ADDED, 10)])?,
+    )
 }
 
 #[test]
@@ -220,9 +209,7 @@ fn asks_with_a_longer_replacement(rt: HostRuntime) -> Result<(), Fail> {
         (add(b"a", b"1"), ADDED, 10),
         (replace(b"a", &value), replaced(1), 1009),
     ];
-    let came = make(rt.alloc(), 4096, &rows)?;
-    println!(rt; "{came:?}")?;
-    Ok(())
+    tell(&rt, make(rt.alloc(), 4096, &rows)?)
 }
 
 /// A record is added and removed, and a long one of its key added.
@@ -236,14 +223,10 @@ fn anew(value: &[u8]) -> [Row; 3] {
 
 #[test]
 fn asks_before_a_long_record(rt: HostRuntime) -> Result<(), Fail> {
-    let came = make(rt.alloc(), 32768, &anew(&[b'x'; 10000])[..2])?;
-    println!(rt; "{came:?}")?;
-    Ok(())
+    tell(&rt, make(rt.alloc(), 32768, &anew(&[b'x'; 10000])[..2])?)
 }
 
 #[test]
 fn asks_with_a_long_record(rt: HostRuntime) -> Result<(), Fail> {
-    let came = make(rt.alloc(), 32768, &anew(&[b'x'; 10000]))?;
-    println!(rt; "{came:?}")?;
-    Ok(())
+    tell(&rt, make(rt.alloc(), 32768, &anew(&[b'x'; 10000]))?)
 }

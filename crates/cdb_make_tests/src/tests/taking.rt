@@ -60,7 +60,7 @@ fn all_records_are_taken_out(rt: HostRuntime) -> Result<(), Fail> {
 
 #[test]
 fn keys_with_one_hash_are_told_apart(rt: HostRuntime) -> Result<(), Fail> {
-    assert_eq!(rt; hash(b"cB"), hash(b"bc"));
+    assert!(rt; hash(b"cB") == hash(b"bc"));
     let calls = [
         add(b"cB", b"1"),
         add(b"bc", b"2"),
@@ -78,7 +78,7 @@ fn long_keys_are_compared_to_their_end(rt: HostRuntime) -> Result<(), Fail> {
     one.extend_from_slice(b"cB")?;
     let mut other = vec![in rt.alloc(); b'x'; 5000]?;
     other.extend_from_slice(b"bc")?;
-    assert_eq!(rt; hash(&one), hash(&other));
+    assert!(rt; hash(&one) == hash(&other));
     let calls = [add(&one, b"1"), add(&other, b"2"), remove(&other)];
     assert_left(&rt, rt.alloc(), &calls)
 }

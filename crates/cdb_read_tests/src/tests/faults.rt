@@ -39,9 +39,9 @@ fn a_damage_and_a_fault_of_the_store_are_told(rt: HostRuntime) -> Result<(), Fai
         (Damage::Unindexed(2064), ReadFault::Unindexed(2064)),
     ];
     for (damage, fault) in cases {
-        assert_eq!(rt; ReadFault::from(damage), fault);
+        assert!(rt; ReadFault::from(damage) == fault);
     }
-    assert_eq!(rt; ReadFault::from(StoreFault::Device), ReadFault::Device);
-    assert_eq!(rt; ReadFault::from(StoreFault::NoMemory), ReadFault::NoMemory);
+    assert!(rt; ReadFault::from(StoreFault::Device) == ReadFault::Device);
+    assert!(rt; ReadFault::from(StoreFault::NoMemory) == ReadFault::NoMemory);
     Ok(())
 }

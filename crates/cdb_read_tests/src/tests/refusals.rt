@@ -53,9 +53,9 @@ fn values_tell_refused_memory(rt: HostRuntime) -> Result<(), Fail> {
     let first = gives_values(rt.alloc(), &mut reader);
     if first == Err(ReadFault::NoMemory) {
         println!(rt; "NoMemory")?;
-        assert_eq!(rt; gives_values(rt.alloc(), &mut reader), Ok(true));
+        assert!(rt; gives_values(rt.alloc(), &mut reader) == Ok(true));
     } else {
-        assert_eq!(rt; first, Ok(true));
+        assert!(rt; first == Ok(true));
         println!(rt; "Whole")?;
     }
     Ok(())
@@ -78,9 +78,9 @@ fn a_check_tells_refused_memory(rt: HostRuntime) -> Result<(), Fail> {
     let first = check(rt.alloc(), &mut reader);
     if first == Err(ReadFault::NoMemory) {
         println!(rt; "NoMemory")?;
-        assert_eq!(rt; check(rt.alloc(), &mut reader), Ok(()));
+        assert!(rt; check(rt.alloc(), &mut reader) == Ok(()));
     } else {
-        assert_eq!(rt; first, Ok(()));
+        assert!(rt; first == Ok(()));
         println!(rt; "Whole")?;
     }
     Ok(())

@@ -141,7 +141,7 @@ fn interrupted_reads_are_asked_again(rt: HostRuntime) -> Result<(), Fail> {
             };
             let mut out = Vec::new(rt.alloc());
             let answer = write_text::<FakeReader<'_>, _>(rt.alloc(), reader, text, &mut out);
-            assert_eq!(rt; answer, want, "{interrupts} interruptions");
+            assert!(rt; answer == want, "{interrupts} interruptions");
         }
     }
     Ok(())

@@ -19,20 +19,20 @@ fn bytes_in(loaded: Result<MemStore, Fault>) -> Result<Vec<u8>, Fault> {
 fn files_as_long_as_they_may_be(rt: HostRuntime) -> Result<(), Fail> {
     let file = bytes_of(rt.alloc(), &TWO)?;
     let under = load::<&[u8]>(rt.alloc(), &file, 2113);
-    assert_eq!(rt; bytes_in(under), Err(Fault::Long));
+    assert!(rt; bytes_in(under) == Err(Fault::Long));
     let at = load::<&[u8]>(rt.alloc(), &file, 2114);
-    assert_eq!(rt; bytes_in(at), Ok(file.clone()?));
+    assert!(rt; bytes_in(at) == Ok(file.clone()?));
     let above = load::<&[u8]>(rt.alloc(), &file, 2115);
-    assert_eq!(rt; bytes_in(above), Ok(file));
+    assert!(rt; bytes_in(above) == Ok(file));
     Ok(())
 }
 
 #[test]
 fn nothing_is_loaded_where_nothing_is_allowed(rt: HostRuntime) {
     let none = load::<&[u8]>(rt.alloc(), b"", 0);
-    assert_eq!(rt; bytes_in(none), Ok(Vec::new(rt.alloc())));
+    assert!(rt; bytes_in(none) == Ok(Vec::new(rt.alloc())));
     let one = load::<&[u8]>(rt.alloc(), b"x", 0);
-    assert_eq!(rt; bytes_in(one), Err(Fault::Long));
+    assert!(rt; bytes_in(one) == Err(Fault::Long));
 }
 
 #[test]
@@ -57,9 +57,8 @@ fn a_reader_that_fails_is_told(rt: HostRuntime) -> Result<(), Fail> {
             fails: true,
         };
         let loaded = load(rt.alloc(), reader, 2114);
-        assert_eq!(rt;
-            bytes_in(loaded),
-            Err(Fault::Walk(WalkFault::Input)),
+        assert!(rt;
+            bytes_in(loaded) == Err(Fault::Walk(WalkFault::Input)),
             "after {came} bytes"
         );
     }
@@ -80,7 +79,7 @@ fn interrupts_of_a_load_are_asked_again(rt: HostRuntime) -> Result<(), Fail> {
             Err(Fault::Walk(WalkFault::Input))
         };
         let loaded = load(rt.alloc(), reader, 5);
-        assert_eq!(rt; bytes_in(loaded), want, "{interrupts} interrupts");
+        assert!(rt; bytes_in(loaded) == want, "{interrupts} interrupts");
     }
     Ok(())
 }

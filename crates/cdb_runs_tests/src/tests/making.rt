@@ -121,7 +121,7 @@ fn interruptions_are_asked_again(rt: HostRuntime) {
             fails: false,
         };
         let (answer, _) = made(rt.alloc(), reader);
-        assert_eq!(rt; answer, want, "{interrupts} interruptions");
+        assert!(rt; answer == want, "{interrupts} interruptions");
     }
 }
 
@@ -146,7 +146,7 @@ fn a_failing_flush_is_output_where_no_other_fault_came(rt: HostRuntime) {
         let mut w = FakeWriter::new(rt.alloc(), 4096);
         w.flush_fails = true;
         let answer = make_bytes::<Narrow, &[u8], FakeWriter>(rt.alloc(), text, &mut w);
-        assert_eq!(rt; answer, Err(fault), "{text:?}");
+        assert!(rt; answer == Err(fault), "{text:?}");
     }
 }
 

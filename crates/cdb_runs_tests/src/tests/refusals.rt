@@ -57,6 +57,15 @@ fn list(alloc: Global, style: Style, texts: [&[u8]; 4]) -> Came {
     }
 }
 
+/// Prints what came, which is to be right.
+fn tell(rt: &HostRuntime, came: Came) -> Result<(), Fail> {
+    println!(rt; "{came:?}")?;
+    if came == Came::Wrong {
+        return Err(Fail::new("another answer"));
+    }
+    Ok(())
+}
+
 #[test]
 fn a_list_tells_refused_memory(rt: HostRuntime) -> Result<(), Fail> {
     let texts: [&[u8]; 4] = [
@@ -66,9 +75,7 @@ fn a_list_tells_refused_memory(rt: HostRuntime) -> Result<(), Fail> {
         b"+3:one\n+53:kkkkkkkkkkkkkkkkkkkkkkkkkkkkkkkkkkkkkkkkkkkkkkkkkkkkk\n\n",
     ];
     let came = list(rt.alloc(), Style::Native, texts);
-    println!(rt; "{came:?}")?;
-    assert!(rt; came != Came::Wrong);
-    Ok(())
+    tell(&rt, came)
 }
 
 #[test]
@@ -80,9 +87,7 @@ fn a_list_of_a_map_tells_refused_memory(rt: HostRuntime) -> Result<(), Fail> {
         b"one\nkkkkkkkkkkkkkkkkkkkkkkkkkkkkkkkkkkkkkkkkkkkkkkkkkkkkk\n",
     ];
     let came = list(rt.alloc(), Style::Map, texts);
-    println!(rt; "{came:?}")?;
-    assert!(rt; came != Came::Wrong);
-    Ok(())
+    tell(&rt, came)
 }
 
 /// Whether the file is loaded whole.
@@ -101,7 +106,5 @@ fn a_load_tells_refused_memory(rt: HostRuntime) -> Result<(), Fail> {
             _ => Came::Wrong,
         },
     };
-    println!(rt; "{came:?}")?;
-    assert!(rt; came != Came::Wrong);
-    Ok(())
+    tell(&rt, came)
 }

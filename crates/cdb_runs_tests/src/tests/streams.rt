@@ -62,13 +62,13 @@ fn bytes_go_on_in_order_and_at_once(rt: HostRuntime) -> Result<(), Fail> {
     let mut held = Vec::new(rt.alloc());
     let pieces = ["a", "bc", "defghi", "", "j"];
     assert!(rt; write_through(rt.alloc(), &mut held, &pieces)?);
-    assert_eq!(rt; held.as_slice(), b"abcdefghij".as_slice());
+    assert!(rt; held.as_slice() == b"abcdefghij".as_slice());
     let mut noting = NotingWriter {
         calls: Vec::new(rt.alloc()),
         fails: false,
     };
     assert!(rt; write_through(rt.alloc(), &mut noting, &["a", "b", "c", "d"])?);
-    assert_eq!(rt; noting.calls.as_slice(), b"wf".as_slice());
+    assert!(rt; noting.calls.as_slice() == b"wf".as_slice());
     Ok(())
 }
 
@@ -76,7 +76,7 @@ fn bytes_go_on_in_order_and_at_once(rt: HostRuntime) -> Result<(), Fail> {
 fn interrupts_are_counted_in_a_row(rt: HostRuntime) -> Result<(), Fail> {
     let mut writer = SlowWriter::new(rt.alloc(), 1000);
     assert!(rt; write_through(rt.alloc(), &mut writer, &["abc"])?);
-    assert_eq!(rt; writer.held.as_slice(), b"abc".as_slice());
+    assert!(rt; writer.held.as_slice() == b"abc".as_slice());
     let mut writer = SlowWriter::new(rt.alloc(), 1001);
     assert!(rt; !write_through(rt.alloc(), &mut writer, &["abc"])?);
     Ok(())
@@ -98,7 +98,7 @@ fn bytes_that_were_not_taken_stay(rt: HostRuntime) -> Result<(), Fail> {
         failed: false,
     };
     assert!(rt; flushes_again(rt.alloc(), &mut writer)?);
-    assert_eq!(rt; writer.held.as_slice(), b"abcd".as_slice());
+    assert!(rt; writer.held.as_slice() == b"abcd".as_slice());
     Ok(())
 }
 

@@ -1,6 +1,8 @@
 // A fuse, and a buffered store over one.
 use super::support::again::script;
-use cdb_store::{BufferedStore, FuseStore, MemStore, Store, StoreFault};
+use super::support::buffered::buffered;
+use cdb_store::{FuseStore, MemStore, Store, StoreFault};
+use std::alloc::Global;
 use std::test::Fail;
 
 /// What a write at the end of a store answers, if that is where the store ends.
@@ -51,26 +53,32 @@ fn other_calls_fail_and_do_nothing(rt: HostRuntime) -> Result<(), Fail> {
     Ok(())
 }
 
+/// How many calls of the script fail over a buffer whose inner store fails the call behind so
+/// many, where each that is made again goes well and the bytes are right at last.
+fn faults_below(alloc: Global, capacity: usize, limit: u64) -> Result<Option<u64>, Fail> {
+    let inner = FuseStore::new(MemStore::new(alloc), limit, 1);
+    let mut store = buffered(alloc, inner, capacity)?;
+    let outcome = script(&mut store);
+    let (inner, answer) = store.into_inner();
+    let bytes = inner.into_inner().into_vec();
+    let is_right = outcome.is_right
+        && answer.is_ok()
+        && bytes.as_slice() == b"abXYZfghij".as_slice();
+    Ok(if is_right { Some(outcome.failed) } else { None })
+}
+
 #[test]
 fn a_buffer_stands_each_fault_below_it(rt: HostRuntime) -> Result<(), Fail> {
     for capacity in [0, 3, 7, 4096] {
         let mut faults = 0u64;
         for limit in 0..32 {
-            let inner = FuseStore::new(MemStore::new(rt.alloc()), limit, 1);
-            let Ok(mut store) = BufferedStore::new(rt.alloc(), inner, capacity) else {
-                return Err(Fail::new("no memory for a buffer"));
+            let Some(failed) = faults_below(rt.alloc(), capacity, limit)? else {
+                return Err(Fail::new("a call that is made again goes wrong"));
             };
-            let outcome = script(&mut store);
-            assert!(rt;
-                outcome.is_right && outcome.failed <= 1,
-                "{capacity} {limit}"
-            );
-            faults |= outcome.failed;
-            let (inner, answer) = store.into_inner();
-            let bytes = inner.into_inner().into_vec();
-            assert!(rt; answer.is_ok() && bytes.as_slice() == b"abXYZfghij".as_slice());
+            assert!(rt; failed <= 1, "{capacity} {limit}");
+            faults |= failed;
         }
-        assert!(rt; faults > 0);
+        assert!(rt; faults > 0, "{capacity}");
     }
     Ok(())
 }
@@ -78,9 +86,7 @@ fn a_buffer_stands_each_fault_below_it(rt: HostRuntime) -> Result<(), Fail> {
 #[test]
 fn a_failed_last_write_hands_the_store_back(rt: HostRuntime) -> Result<(), Fail> {
     let inner = FuseStore::new(MemStore::new(rt.alloc()), 0, 2);
-    let Ok(mut store) = BufferedStore::new(rt.alloc(), inner, 16) else {
-        return Err(Fail::new("no memory for a buffer"));
-    };
+    let mut store = buffered(rt.alloc(), inner, 16)?;
     store.write_at(0, b"abc")?;
     let (inner, answer) = store.into_inner();
     let bytes = inner.into_inner().into_vec();
@@ -91,9 +97,7 @@ fn a_failed_last_write_hands_the_store_back(rt: HostRuntime) -> Result<(), Fail>
 #[test]
 fn a_flush_reaches_the_inner_store(rt: HostRuntime) -> Result<(), Fail> {
     let inner = FuseStore::new(MemStore::new(rt.alloc()), u64::MAX, 0);
-    let Ok(mut store) = BufferedStore::new(rt.alloc(), inner, 16) else {
-        return Err(Fail::new("no memory for a buffer"));
-    };
+    let mut store = buffered(rt.alloc(), inner, 16)?;
     store.write_at(0, b"abc")?;
     store.flush()?;
     store.flush()?;
@@ -124,9 +128,7 @@ fn move_eight<S: Store>(store: &mut S) -> Result<(), StoreFault> {
 fn reads_beside_the_buffer_hand_nothing_on(rt: HostRuntime) -> Result<(), Fail> {
     let bytes = vec![in rt.alloc(); b'.'; 64]?;
     let inner = FuseStore::new(MemStore::from_vec(bytes), u64::MAX, 0);
-    let Ok(mut store) = BufferedStore::new(rt.alloc(), inner, 16) else {
-        return Err(Fail::new("no memory for a buffer"));
-    };
+    let mut store = buffered(rt.alloc(), inner, 16)?;
     move_eight(&mut store)?;
     let (inner, answer) = store.into_inner();
     // sixteen reads and one write
@@ -145,13 +147,20 @@ fn four_calls<S: Store>(store: &mut S) -> bool {
 }
 
 #[test]
+fn each_call_is_passed_on_by_a_fuse(rt: HostRuntime) -> Result<(), Fail> {
+    let inner = FuseStore::new(MemStore::new(rt.alloc()), u64::MAX, 0);
+    let mut outer = FuseStore::new(Box::new(rt.alloc(), inner)?, u64::MAX, 0);
+    let is_right = four_calls(&mut outer) && outer.written() == 3;
+    assert!(rt; is_right && outer.into_inner().calls() == 4);
+    Ok(())
+}
+
+#[test]
 fn each_call_is_passed_on(rt: HostRuntime) -> Result<(), Fail> {
     let mut fuse = FuseStore::new(MemStore::new(rt.alloc()), u64::MAX, 0);
-    assert!(rt; four_calls(&mut fuse) && four_calls(&mut &mut fuse) && fuse.calls() == 8);
+    let by_reference = four_calls(&mut fuse) && four_calls(&mut &mut fuse) && fuse.calls() == 8;
     let mut boxed = Box::new(rt.alloc(), fuse)?;
-    assert!(rt; four_calls(&mut boxed) && boxed.calls() == 12);
-    let mut outer = FuseStore::new(boxed, u64::MAX, 0);
-    assert!(rt; four_calls(&mut outer) && outer.written() == 3);
-    assert!(rt; outer.into_inner().calls() == 16);
+    let in_a_box = four_calls(&mut boxed) && boxed.calls() == 12;
+    assert!(rt; by_reference && in_a_box);
     Ok(())
 }

@@ -1,5 +1,6 @@
 // Stores in memory.
 use cdb_store::{BufferedStore, MemStore, Store, StoreFault};
+use std::alloc::Global;
 use std::test::Fail;
 
 /// Whether writes in a new store, over what is there and behind it, leave `aXYd`.
@@ -38,52 +39,23 @@ fn writes_reads_and_cuts(rt: HostRuntime) -> Result<(), Fail> {
 fn writes_past_the_end(rt: HostRuntime) -> Result<(), Fail> {
     let mut store = MemStore::from_vec(b"abc".to_vec(rt.alloc())?);
     store.write_at(1, b"bcde")?;
-    assert_eq!(rt; store.bytes(), b"abcde".as_slice());
+    assert!(rt; store.bytes() == b"abcde".as_slice());
     Ok(())
+}
+
+/// Whether a store of `abc` stays as it is where it is refused room, and is handed back so where a
+/// buffer over it is.
+fn stays(alloc: Global, mut store: MemStore) -> bool {
+    let is_refused = store.reserve(1 << 62) == Err(StoreFault::NoMemory);
+    let is_whole = store.bytes() == b"abc".as_slice();
+    let handed_back = BufferedStore::new(alloc, store, 1 << 62);
+    is_refused && is_whole && handed_back.is_err_and(|inner| inner.bytes() == b"abc".as_slice())
 }
 
 #[test]
 fn refused_memory_changes_nothing(rt: HostRuntime) -> Result<(), Fail> {
-    let mut store = MemStore::from_vec(b"abc".to_vec(rt.alloc())?);
-    let fault = store.reserve(1 << 62);
-    assert_eq!(rt; fault, Err(StoreFault::NoMemory));
-    assert_eq!(rt; store.bytes(), b"abc".as_slice());
-    match BufferedStore::new(rt.alloc(), store, 1 << 62) {
-        Ok(_) => Err(Fail::new("so much memory was given")),
-        Err(inner) => {
-            assert_eq!(rt; inner.bytes(), b"abc".as_slice());
-            Ok(())
-        }
-    }
-}
-
-#[test]
-fn any_allocation_may_be_refused(rt: HostRuntime) -> Result<(), Fail> {
-    // each call leaves what was where its memory is refused, as `rt try --test --fail-alloc N`
-    // has it
-    let mut store = MemStore::new(rt.alloc());
-    let mut want: &[u8] = b"";
-    if store.reserve(8).is_err() {
-        assert_eq!(rt; store.bytes(), want);
-    }
-    for (pos, bytes, then) in [
-        (0, b"abcdefgh".as_slice(), b"abcdefgh".as_slice()),
-        (6, [b'x'; 64].as_slice(), b"abcdefxx".as_slice()),
-    ] {
-        if pos <= store.len() && store.write_at(pos, bytes).is_ok() {
-            want = then;
-        }
-        assert!(rt; store.bytes().iter().take(8).eq(want.iter()));
-    }
-    let len = store.len();
-    match BufferedStore::new(rt.alloc(), store, 16) {
-        Ok(buffered) => {
-            let (inner, answer) = buffered.into_inner();
-            assert_eq!(rt; answer, Ok(()));
-            assert_eq!(rt; inner.len(), len);
-        }
-        Err(inner) => assert_eq!(rt; inner.len(), len),
-    }
+    let store = MemStore::from_vec(b"abc".to_vec(rt.alloc())?);
+    assert!(rt; stays(rt.alloc(), store));
     Ok(())
 }
 

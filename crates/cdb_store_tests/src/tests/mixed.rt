@@ -1,5 +1,6 @@
 // One table of mixed calls, made on every store.
-use cdb_store::{BufferedStore, FileStore, MemStore, Store};
+use super::support::buffered::buffered;
+use cdb_store::{FileStore, MemStore, Store};
 use std::test::Fail;
 
 /// A call: where, and of how many bytes.
@@ -116,16 +117,11 @@ fn plain_stores_meet_each_row(rt: HostRuntime) -> Result<(), Fail> {
 #[test]
 fn buffered_stores_meet_each_row(rt: HostRuntime) -> Result<(), Fail> {
     for capacity in [0, 1, 7, 4096] {
-        let Ok(mut store) = BufferedStore::new(rt.alloc(), MemStore::new(rt.alloc()), capacity)
-        else {
-            return Err(Fail::new("no memory for a buffer"));
-        };
-        assert_eq!(rt; rows_met(&mut store), ROWS.len(), "{capacity}");
+        let mut store = buffered(rt.alloc(), MemStore::new(rt.alloc()), capacity)?;
+        let in_memory = rows_met(&mut store);
         let file = FileStore::create(&rt, "buffered.store")?;
-        let Ok(mut store) = BufferedStore::new(rt.alloc(), file, capacity) else {
-            return Err(Fail::new("no memory for a buffer"));
-        };
-        assert_eq!(rt; rows_met(&mut store), ROWS.len(), "{capacity}");
+        let in_file = rows_met(&mut buffered(rt.alloc(), file, capacity)?);
+        assert!(rt; [in_memory, in_file] == [ROWS.len(); 2], "{capacity}");
     }
     Ok(())
 }

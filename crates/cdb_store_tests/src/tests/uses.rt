@@ -4,7 +4,8 @@ ghost use Rattle.cdb_store.specs.declared.store.StoreFault.TheVariants.{NoMemory
 ghost use Rattle.cdb_store.specs.Images.{SameImages, Holds};
 ghost use Rattle.cdb_store.specs.Laws.{StaysHeld};
 
-use cdb_store::{BufferedStore, FileStore, MemStore, Store, StoreFault};
+use super::support::buffered::buffered;
+use cdb_store::{FileStore, MemStore, Store, StoreFault};
 use std::test::Fail;
 
 /// Writes some bytes at the end of a store, and answers where they stand.
@@ -46,9 +47,7 @@ fn bytes_are_appended(rt: HostRuntime) -> Result<(), Fail> {
 #[test]
 fn bytes_are_appended_for_good(rt: HostRuntime) -> Result<(), Fail> {
     let file = FileStore::create(&rt, "appended.store")?;
-    let Ok(mut store) = BufferedStore::new(rt.alloc(), file, 4096) else {
-        return Err(Fail::new("no memory for a buffer"));
-    };
+    let mut store = buffered(rt.alloc(), file, 4096)?;
     assert!(rt; store.len() < 1 << 32);
     assert!(rt; append_for_good(&mut store, b"ab")? == 0);
     Ok(())

@@ -1,4 +1,4 @@
-use Rattle.std.proofs.Common.{arith, ◌+◌, ◌++◌, ℕ, length, length-append}
+use Rattle.std.proofs.Common.{arith, ◌+◌, ◌++◌, ℕ, length, length-append, rules}
 use Rattle.std.proofs.lemmas.Grind.{common_steps}
 use Rattle.std.proofs.lemmas.Result.{on_ok_weaker}
 use Rattle.cdb_store.specs.Images.{AfterWrite, AfterTornWrite, AreSized}
@@ -78,3 +78,39 @@ returns-clause-not_past g c = omega (arith, length-append {A = ℕ})
 
 pub returns-clause-at_most_written : goal.returns-clause-at_most_written
 returns-clause-at_most_written g c = omega (arith, length-append {A = ℕ})
+
+pub returns-in_err-write_at-clause-memory_room : goal.returns-in_err-write_at-clause-memory_room
+returns-in_err-write_at-clause-memory_room g c = search rules
+
+pub returns-in_err-write_at-clause-memory_failures : goal.returns-in_err-write_at-clause-memory_failures
+returns-in_err-write_at-clause-memory_failures g c = search rules
+
+pub returns-in_err-write_at-2-clause-memory : goal.returns-in_err-write_at-2-clause-memory
+returns-in_err-write_at-2-clause-memory g c = search rules
+
+pub returns-in_err-write_at-2-clause-memory_size : goal.returns-in_err-write_at-2-clause-memory_size
+returns-in_err-write_at-2-clause-memory_size g c = search rules
+
+pub returns-in_err-write_at-2-clause-memory_written : goal.returns-in_err-write_at-2-clause-memory_written
+returns-in_err-write_at-2-clause-memory_written g c = search rules
+
+pub returns-in_err-write_at-2-clause-memory_room : goal.returns-in_err-write_at-2-clause-memory_room
+returns-in_err-write_at-2-clause-memory_room g c = search rules
+
+pub returns-in_err-write_at-2-clause-memory_failures : goal.returns-in_err-write_at-2-clause-memory_failures
+returns-in_err-write_at-2-clause-memory_failures g c = search rules
+
+pub returns-clause-memory : goal.returns-clause-memory
+returns-clause-memory g c = search rules
+
+pub returns-clause-memory_size : goal.returns-clause-memory_size
+returns-clause-memory_size g c = search rules
+
+pub returns-clause-memory_written : goal.returns-clause-memory_written
+returns-clause-memory_written g c = search rules
+
+pub returns-clause-memory_room : goal.returns-clause-memory_room
+returns-clause-memory_room g c = search rules
+
+pub returns-clause-memory_failures : goal.returns-clause-memory_failures
+returns-clause-memory_failures g c = search rules

@@ -74,3 +74,9 @@ returns-clause-looks g c =
     let tells : TellsSame true place c.args.key.now (g.S.Store.image c.key_is_at.new.store) =
     subst (λ t. TellsSame t place c.args.key.now (g.S.Store.image c.key_is_at.new.store)) agree c.in_ok-key_is_at.ensures.same in
     same_key place c.args.key.now _ at (omega (arith, c.pair_size-header_size.ensures)) refl same (fewer_lengths c.key_is_at.ensures.reads.images h) low fits tells
+
+pub cover-requires-clause-inside : goal.cover-requires-clause-inside
+cover-requires-clause-inside g c = search rules
+
+pub overflow_add-key_place : goal.overflow_add-key_place
+overflow_add-key_place g c = search rules

@@ -1,4 +1,4 @@
-use Rattle.std.proofs.Common.{refl, ap, ◌∙◌, Err}
+use Rattle.std.proofs.Common.{refl, ap, ◌∙◌, Err, rules}
 use Rattle.cdb_make.proofs.Makers.{writes_looked, fails_looked}
 use Rattle.cdb_make.proofs.maker.Maker.exists.Goals as goal
 
@@ -11,3 +11,9 @@ returns-in-Err-clause-fails g c =
     let f = c.in-Err.fault in
     fails_looked {s = g.S.Store} {l = g.L.Width} _ _ c.exists.new.store c.deref.result.now f _ c.deref.ensures.value e.fault c.if-self.false e.broken e.counts.end e.lists e.store c.exists.ensures.images c.exists.ensures.written
     (λ h. c.exists.ensures.failed (c.in-Err.is ∙ ap Err h)) (λ h. c.exists.ensures.foreign (c.in-Err.is ∙ ap Err h))
+
+pub exists-requires-clause-hash : goal.exists-requires-clause-hash
+exists-requires-clause-hash g c = search rules
+
+pub returns-in-Ok-clause-there : goal.returns-in-Ok-clause-there
+returns-in-Ok-clause-there g c = search rules

@@ -1,4 +1,4 @@
-use Rattle.std.proofs.Common.{refl, ap, ◌∙◌, Err}
+use Rattle.std.proofs.Common.{refl, ap, ◌∙◌, Err, rules}
 use Rattle.cdb_make.proofs.Makers.{writes_looked, fails_looked}
 use Rattle.cdb_make.proofs.maker.Maker.find.Goals as goal
 
@@ -10,3 +10,6 @@ returns-in-Err-clause-fails g c =
     let e = c.failed_look.ensures in
     fails_looked {s = g.S.Store} {l = g.L.Width} _ _ c.find.new.store c.deref.result.now c.in-Err.fault _ c.deref.ensures.value e.fault c.if-self.false e.broken e.counts.end e.lists e.store c.find.ensures.images c.find.ensures.written
     (λ h. c.find.ensures.failed (c.in-Err.is ∙ ap Err h)) (λ h. c.find.ensures.foreign (c.in-Err.is ∙ ap Err h))
+
+pub returns-in-Ok-clause-count : goal.returns-in-Ok-clause-count
+returns-in-Ok-clause-count g c = search rules

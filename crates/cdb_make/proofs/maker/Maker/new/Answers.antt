@@ -1,4 +1,4 @@
-use Rattle.std.proofs.Common.{refl}
+use Rattle.std.proofs.Common.{refl, rules}
 use Rattle.cdb_make.proofs.Finishes.{holds_none, lists_long, lists_counted, lists_within, lists_spare}
 use Rattle.cdb_make.proofs.maker.Maker.new.Goals as goal
 
@@ -16,3 +16,6 @@ invariant_of-result-clause-spare g c = lists_spare _ _ c.in-Ok.ensures.lists
 
 pub returns-in-Ok-clause-holds : goal.returns-in-Ok-clause-holds
 returns-in-Ok-clause-holds g c = holds_none {s = g.S.Store} {l = g.L.Width} _ refl c.head_size.ensures c.in-Ok.ensures.lists
+
+pub returns-in-Ok-clause-limit : goal.returns-in-Ok-clause-limit
+returns-in-Ok-clause-limit g c = search rules

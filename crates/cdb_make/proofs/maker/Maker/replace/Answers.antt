@@ -1,4 +1,4 @@
-use Rattle.std.proofs.Common.{arith, refl, sym, ap, subst, ◌∙◌, ◌≡◌, ◌-◌, ◌*◌, ◌^◌, ℕ, List, [], length, sum_by}
+use Rattle.std.proofs.Common.{arith, refl, sym, ap, subst, ◌∙◌, ◌≡◌, ◌-◌, ◌*◌, ◌^◌, ℕ, List, [], length, sum_by, rules}
 use Rattle.std.proofs.lemmas.List.{nil_from_length}
 use Rattle.std.proofs.lemmas.Result.{err_from_is_err_and}
 use Rattle.cdb_form.specs.Format.Pair.{head_size}
@@ -103,3 +103,6 @@ returns-clause-puts g c =
     let e = c.in_ok-taken.ensures in
     let more = writes_looked e.ok.stays.whole e.ok.stays.whole refl refl (record { no_other = c.reserve.ensures.images.no_other }) c.reserve.ensures.written in
     puts_exchanged {s = g.S.Store} {l = g.L.Width} _ _ _ _ _ (writes_then _ m _ e.ok more) (λ rs h. gaps_same c.reserve.ensures.images (e.gaps rs h)) e.count (omega (arith, c.if-taken-eq0.false)) c.exchange.ensures.comes c.in_ok-exchange.ensures.ok
+
+pub exchange-requires-clause-room : goal.exchange-requires-clause-room
+exchange-requires-clause-room g c = search rules

@@ -1,4 +1,4 @@
-use Rattle.std.proofs.Common.{arith, sym, ap, subst, ◌∙◌, ◌≡◌, ◌≤◌, ℕ, List, length, sum_by, vec_capacity}
+use Rattle.std.proofs.Common.{arith, sym, ap, subst, ◌∙◌, ◌≡◌, ◌≤◌, ℕ, List, length, sum_by, vec_capacity, rules}
 use Rattle.std.proofs.lemmas.List.{take_at}
 use Rattle.cdb_make.specs.declared.list.EntryList.{EntryList}
 use Rattle.cdb_make.specs.Views.EntryList.{lists_entries, AreWithin, HasSpareGaps}
@@ -56,3 +56,12 @@ returns-then-count_all-len-clause-fails g c = λ key rs h found b is.
     let left = (left_counted m rs key c.in_ok-last.last c.close.new.lists h found (c.in_ok-last.ensures.stands rs key was gaps) (comes_torn c.close.ensures.torn)).each b is in
     let same : sum_by length (lists_entries c.deref-2.result.now) ≡ sum_by length (lists_entries c.close.new.lists) = ap (λ v. sum_by length (lists_entries v)) own in
     c.if-count_all-len.true (omega (arith, c.count_all.ensures, c.len.ensures, m.gaps.ok.0))
+
+pub invariant_of-self-clause-counted : goal.invariant_of-self-clause-counted
+invariant_of-self-clause-counted g c = search rules
+
+pub returns-in_err-last-clause-broken : goal.returns-in_err-last-clause-broken
+returns-in_err-last-clause-broken g c = search rules
+
+pub returns-then-count_all-len-clause-broken : goal.returns-then-count_all-len-clause-broken
+returns-then-count_all-len-clause-broken g c = search rules

@@ -1,4 +1,4 @@
-use Rattle.std.proofs.Common.{ℕ, subst, sym}
+use Rattle.std.proofs.Common.{ℕ, subst, sym, rules}
 use Rattle.cdb_read.specs.Views.Turning.{IsTurnInside}
 use Rattle.cdb_read.proofs.finder.Finder.next.Goals as goal
 
@@ -7,3 +7,6 @@ next_met-requires g c = record { inside = c.args.self.now.inside c.in-At.turn c.
 
 pub invariant_of-self : goal.invariant_of-self
 invariant_of-self g c = record { inside = subst (λ (n : ℕ). IsTurnInside g.L.Width.WORD n c.args.self.now.searching) (sym c.next_met.ensures.reads.size) c.args.self.now.inside }
+
+pub returns-in-Broken-clause-fails : goal.returns-in-Broken-clause-fails
+returns-in-Broken-clause-fails g c = search rules

@@ -1,4 +1,4 @@
-use Rattle.std.proofs.Common.{ap, ◌∙◌, sym}
+use Rattle.std.proofs.Common.{ap, ◌∙◌, sym, rules}
 use Rattle.std.proofs.lemmas.List.{take_at}
 use Rattle.cdb_form.specs.Format.Reading.{head_at}
 use Rattle.cdb_form.proofs.AreaLemmas.{head_fits}
@@ -13,3 +13,6 @@ invariant_of-result-clause-known g c = λ b image.
     let long = c.read_part.auto.into ∙ head_fits w c.head_size-size.result f g.met.L.Width.four_or_eight in
     let is = c.read_head-head.ensures.read ∙ ap (head_at w) (take_at bytes _ c.head_size-size.result (long ∙ sym f)) in
     head_known w bytes _ _ _ b long c.in-Ok.ensures.read (sym is) image
+
+pub returns-in-Err-clause-fails : goal.returns-in-Err-clause-fails
+returns-in-Err-clause-fails g c = search rules

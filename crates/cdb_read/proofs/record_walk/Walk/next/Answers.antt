@@ -1,4 +1,4 @@
-use Rattle.std.proofs.Common.{drop, refl, ap, ◌∙◌}
+use Rattle.std.proofs.Common.{drop, refl, ap, ◌∙◌, rules}
 use Rattle.cdb_form.proofs.WalkSteps.{walk_from-end}
 use Rattle.cdb_read.specs.Views.Walking.{walk_ahead}
 use Rattle.cdb_read.proofs.record_walk.Walk.next.Goals as goal
@@ -10,3 +10,6 @@ returns-then-rest-clause-gives g c =
       none = λ b image. ap (walk_ahead w b) c.in-At.is ∙ walk_from-end w c.in-At.rest.place c.in-At.rest.end (drop c.in-At.rest.place b) c.if-rest.true;
       ended = refl;
     }
+
+pub returns-in-None-clause-fails : goal.returns-in-None-clause-fails
+returns-in-None-clause-fails g c = search rules

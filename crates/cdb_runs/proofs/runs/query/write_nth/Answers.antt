@@ -1,3 +1,4 @@
+use Rattle.std.proofs.lemmas.Grind.{common_steps}
 use Rattle.std.proofs.Common.{rules, refl, ap, ◌∙◌, ◌≡◌, ◌≤◌, ◌+◌, ◌-◌, arith, length}
 use Rattle.std.proofs.lemmas.Result.{err_from_is_err_and}
 use Rattle.cdb_runs.proofs.Queries.{found_none, found_more, found_still, passed_none, passed_more, copying_fails, handed_back, nth_written, nth_front}
@@ -53,3 +54,6 @@ returns-then-left-eq0 g c =
     let found = found_still {s = g.S.Store} {l = g.L.Width} _ _ _ c.next.new.self c.write_value.new.finder _ next written.reads written.key written.stays in
     handed_back c.write_value.new.finder.reader.now.store _ (search rules)
     (nth_written {s = g.S.Store} {l = g.L.Width} _ _ _ _ c.write_value.new.finder _ _ _ _ inv.passed.spans c.in-Some.value found count c.args.reader.now.long inv.passed.kept (λ b is. c.in_ok-write_value.ensures.writes b is))
+
+pub returns : goal.returns
+returns g c = grind (arith, common_steps)

@@ -54,3 +54,9 @@ returns-clause-torn g c =
     let s = c.args.self.now in
     let sized : AreSized (g.S.Store.size s.inner) (g.S.Store.image s.inner) = record { each = g.met.S.Store.image_size s.inner } in
     torn_from_write c.requires.start (sized_over s.pos s.buffer.items s.placed sized) (done g c)
+
+pub returns-clause-ok_written : goal.returns-clause-ok_written
+returns-clause-ok_written g c = search rules
+
+pub returns-clause-at_most_written : goal.returns-clause-at_most_written
+returns-clause-at_most_written g c = search rules

@@ -1,4 +1,4 @@
-use Rattle.std.proofs.Common.{arith, sym, subst, ◌∙◌, length}
+use Rattle.std.proofs.Common.{arith, sym, subst, ◌∙◌, length, rules}
 use Rattle.cdb_store.specs.Images.{AfterWrite, AfterTornWrite, AreSized}
 use Rattle.cdb_store.specs.Calls.{FileImage}
 use Rattle.cdb_store.specs.Lengths.{file_size}
@@ -46,3 +46,6 @@ returns-in-None-clause-torn g c =
     let s = c.refuse_if_lost.new.self in
     subst (λ x. AfterTornWrite c.args.pos (length c.args.bytes.now) (FileImage x.len (g.F.RawFile.calls x.file)) (FileImage s.len (g.F.RawFile.calls c.length_within.new.file))) c.in_ok-refuse_if_lost.ensures.same
     (torn_lost c.args.pos (length c.args.bytes.now) s.len (omega (arith, c.refuse_if_lost.ensures.len)) (s.long c.in_ok-refuse_if_lost.ensures.ok) c.in-Err.ensures.err c.in-None.ensures.lost)
+
+pub returns-in-None-clause-measured : goal.returns-in-None-clause-measured
+returns-in-None-clause-measured g c = search rules

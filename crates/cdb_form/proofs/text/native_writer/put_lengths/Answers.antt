@@ -1,0 +1,8 @@
+use Rattle.std.proofs.Common.{rules}
+use Rattle.cdb_form.proofs.text.native_writer.put_lengths.Goals as goal
+
+pub put_mark-requires : goal.put_mark-requires
+put_mark-requires c = search rules
+
+pub returns-clause-bytes : goal.returns-clause-bytes
+returns-clause-bytes c = search rules

@@ -1,0 +1,18 @@
+use Rattle.std.proofs.Common.{arith, rules}
+use Rattle.std.proofs.lemmas.Grind.{common_steps}
+use Rattle.cdb_store.proofs.memory.MemStoreStore.write_at.Goals as goal
+
+pub write_over-requires-clause-end : goal.write_over-requires-clause-end
+write_over-requires-clause-end c = search rules
+
+pub returns-in_err-write_over-clause-past_room : goal.returns-in_err-write_over-clause-past_room
+returns-in_err-write_over-clause-past_room c = search rules
+
+pub returns-clause-ok : goal.returns-clause-ok
+returns-clause-ok c = search rules
+
+pub returns-clause-ok_size : goal.returns-clause-ok_size
+returns-clause-ok_size c = grind (arith, common_steps)
+
+pub returns-clause-not_past : goal.returns-clause-not_past
+returns-clause-not_past c = grind (arith, common_steps)
