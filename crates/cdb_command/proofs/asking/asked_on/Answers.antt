@@ -1,0 +1,5 @@
+use Rattle.std.proofs.Common.{rules}
+use Rattle.cdb_command.proofs.asking.asked_on.Goals as goal
+
+pub returns-in_err-letter : goal.returns-in_err-letter
+returns-in_err-letter c = search rules
