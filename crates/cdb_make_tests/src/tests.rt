@@ -4,6 +4,7 @@ mod drawn;
 mod faults;
 mod files;
 mod maker;
+mod makers;
 mod refusals;
 mod scarce;
 mod scripts;

@@ -1,4 +1,5 @@
 //! Scripts of which a call may fail once, and is made again where it left the maker whole.
+use super::makers::refused_finish;
 use super::scripts::{Answer, Call, Step, Wanted, act};
 use cdb_form::{Narrow, Width};
 use cdb_make::{MakeFault, Maker, Mode, Put};
@@ -140,12 +141,8 @@ fn stays_broken<S: Store + Drop>(maker: Maker<S, Narrow>) -> Result<S, Fail> {
     let mut maker = maker;
     let held = (maker.count(), maker.size());
     let refused = refuses_all(&mut maker);
-    let Err(unfinished) = maker.finish() else {
-        return Err(Fail::new("a broken maker finished its file"));
-    };
-    let (maker, fault) = (unfinished.maker, unfinished.fault);
-    let same = refused && fault == MakeFault::Broken && maker.is_broken();
-    if same && held == (maker.count(), maker.size()) {
+    let maker = refused_finish(maker, MakeFault::Broken)?;
+    if refused && maker.is_broken() && held == (maker.count(), maker.size()) {
         Ok(maker.into_store())
     } else {
         Err(Fail::new("a broken maker goes on"))
@@ -175,6 +172,22 @@ fn finished<S: Store + Drop>(tried: Tried<S>, cause: Cause) -> Result<Played<S>,
     }
 }
 
+/// Makes the calls of a script, until one breaks the maker.
+fn act_all<S: Store>(
+    tried: &mut Tried<S>,
+    cause: Cause,
+    script: &[Call],
+    wanted: &Wanted,
+) -> Result<(), Fail> {
+    for (call, answer) in script.iter().zip(wanted.answers.iter()) {
+        act_again(tried, cause, call, *answer)?;
+        if tried.maker.is_broken() {
+            return Ok(());
+        }
+    }
+    Ok(())
+}
+
 /// Makes the calls of a script in a store, and finishes the file. Each call gives the answer that
 /// is wanted, at the second try where the first failed, until one breaks the maker.
 pub(super) fn play<S: Store + Drop>(
@@ -185,13 +198,11 @@ pub(super) fn play<S: Store + Drop>(
     wanted: &Wanted,
 ) -> Result<Played<S>, Fail> {
     let mut tried = made(alloc, store, cause)?;
-    for (call, answer) in script.iter().zip(wanted.answers.iter()) {
-        act_again(&mut tried, cause, call, *answer)?;
-        if tried.maker.is_broken() {
-            let store = stays_broken(tried.maker)?;
-            let (met, broke) = (true, true);
-            return Ok(Played { store, met, broke });
-        }
+    act_all(&mut tried, cause, script, wanted)?;
+    if tried.maker.is_broken() {
+        let store = stays_broken(tried.maker)?;
+        let (met, broke) = (true, true);
+        return Ok(Played { store, met, broke });
     }
     finished(tried, cause)
 }

@@ -1,5 +1,5 @@
 //! Scripts that are drawn, against a plain list of records.
-use super::scripts::{Call, Step, expected, run};
+use super::scripts::{Call, Step, comes_to};
 use cdb_form::Narrow;
 use cdb_make::Mode;
 use std::alloc::Global;
@@ -49,32 +49,12 @@ fn drawn_script(alloc: Global, state: &mut u64) -> Result<Vec<Call<'static>>, Fa
     Ok(calls)
 }
 
-/// In what a script comes to something else than a plain list of records does. Empty: in nothing.
-fn difference(alloc: Global, calls: &[Call]) -> Result<&'static str, Fail> {
-    let made = run::<Narrow>(alloc, calls)?;
-    let wanted = expected::<Narrow>(alloc, calls)?;
-    if made.answers != wanted.answers {
-        return Ok("answers");
-    }
-    if made.file != wanted.file {
-        return Ok("file");
-    }
-    if made.count != wanted.count {
-        return Ok("count");
-    }
-    if made.size != wanted.file.len() as u64 {
-        return Ok("size");
-    }
-    Ok("")
-}
-
 #[test]
 fn drawn_calls_come_to_what_a_list_of_records_does(rt: HostRuntime) -> Result<(), Fail> {
     let mut state = 0x9e3779b97f4a7c15;
-    for script in 0..20000u32 {
+    for _ in 0..20000u32 {
         let calls = drawn_script(rt.alloc(), &mut state)?;
-        let other = difference(rt.alloc(), &calls)?;
-        assert!(rt; other.is_empty(), "script {script}: {other}");
+        comes_to::<Narrow>(rt.alloc(), &calls)?;
     }
     Ok(())
 }

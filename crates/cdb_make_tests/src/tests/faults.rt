@@ -1,8 +1,9 @@
 //! A maker over stores of which each call fails in turn.
 use super::again::{Cause, Played, play};
+use super::makers::buffered;
 use super::scripts::{Call, Wanted, add, exists, expected, long, remove, replace};
 use cdb_form::Narrow;
-use cdb_store::{BufferedStore, FuseStore, MemStore};
+use cdb_store::{FuseStore, MemStore};
 use std::alloc::Global;
 use std::prelude::*;
 use std::process::Abort;
@@ -29,10 +30,8 @@ fn play_buffered(
     script: &[Call],
     wanted: &Wanted,
 ) -> Result<Played<FuseStore<MemStore>>, Fail> {
-    let Ok(store) = BufferedStore::new(alloc, fuse, capacity) else {
-        return Err(Fail::new("no memory for a buffer"));
-    };
-    let Played { store, met, broke } = play(alloc, store, Cause::Device, script, wanted)?;
+    let buffer = buffered(alloc, fuse, capacity)?;
+    let Played { store, met, broke } = play(alloc, buffer, Cause::Device, script, wanted)?;
     let (store, answer) = store.into_inner();
     answer?;
     Ok(Played { store, met, broke })

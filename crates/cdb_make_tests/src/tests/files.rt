@@ -1,8 +1,9 @@
 //! Databases made in files of the system. The files lie in the folder that each test runs in.
 use super::again::{Cause, Played, play};
+use super::makers::buffered;
 use super::scripts::{Call, Wanted, add, expected, long, replace};
 use cdb_form::Narrow;
-use cdb_store::{BufferedStore, FileStore, Store};
+use cdb_store::{FileStore, Store};
 use std::alloc::Global;
 use std::fs;
 use std::prelude::*;
@@ -22,20 +23,37 @@ fn fill<S: Store + Drop>(
     Ok(store)
 }
 
-/// Whether a script makes a file of so many bytes, as over a store in memory: once plainly and once
-/// through a buffer, which the finish has handed on.
+/// Whether a script makes its file of so many bytes.
+fn makes_plainly(
+    rt: &HostRuntime,
+    name: &str,
+    script: &[Call],
+    wanted: &Wanted,
+    size: u64,
+) -> Result<bool, Fail> {
+    let store = fill(rt.alloc(), FileStore::create(rt, name)?, script, wanted)?;
+    Ok(store.len() == size && fs::read(rt, name)? == wanted.file)
+}
+
+/// Whether a script makes its file through a buffer, which the finish has handed on.
+fn makes_through_a_buffer(
+    rt: &HostRuntime,
+    name: &str,
+    script: &[Call],
+    wanted: &Wanted,
+) -> Result<bool, Fail> {
+    let buffer = buffered(rt.alloc(), FileStore::create(rt, name)?, 4096)?;
+    let store = fill(rt.alloc(), buffer, script, wanted)?;
+    let is_made = fs::read(rt, name)? == wanted.file;
+    drop(store);
+    Ok(is_made)
+}
+
+/// Whether a script makes a file of so many bytes, as over a store in memory.
 fn makes_file(rt: &HostRuntime, name: &str, script: &[Call], size: u64) -> Result<bool, Fail> {
     let wanted = expected::<Narrow>(rt.alloc(), script)?;
-    let store = fill(rt.alloc(), FileStore::create(rt, name)?, script, &wanted)?;
-    let plain = fs::read(rt, name)? == wanted.file && store.len() == size;
-    let file = FileStore::create(rt, name)?;
-    let Ok(buffered) = BufferedStore::new(rt.alloc(), file, 4096) else {
-        return Err(Fail::new("no memory for a buffer"));
-    };
-    let store = fill(rt.alloc(), buffered, script, &wanted)?;
-    let through = fs::read(rt, name)? == wanted.file;
-    drop(store);
-    Ok(plain && through)
+    let plainly = makes_plainly(rt, name, script, &wanted, size)?;
+    Ok(plainly && makes_through_a_buffer(rt, name, script, &wanted)?)
 }
 
 #[test]

@@ -1,7 +1,8 @@
 //! Files that a maker makes in place, with their places and the bytes that each call writes.
+use super::makers::finished;
 use super::scripts::{
-    ADDED, Answer, Call, Made, act, add, exists, expected, long, put, remove, replace, replaced,
-    run, words,
+    ADDED, Answer, Call, Made, act, add, comes_to, exists, expected, long, put, remove, replace,
+    replaced, words,
 };
 use cdb_form::{Narrow, Wide};
 use cdb_make::{MakeFault, Maker, Mode, Put};
@@ -10,18 +11,6 @@ use std::alloc::Global;
 use std::prelude::*;
 use std::process::Abort;
 use std::test::Fail;
-
-/// Runs a script, and asserts that it answers what it should, holds what its file has, and makes
-/// the file from scratch of the records that stand.
-fn made(rt: &impl Abort, alloc: Global, calls: &[Call]) -> Result<Made, Fail> {
-    let made = run::<Narrow>(alloc, calls)?;
-    let wanted = expected::<Narrow>(alloc, calls)?;
-    assert!(rt; made.answers == wanted.answers, "other answers");
-    assert!(rt; made.file == wanted.file, "another file than from scratch");
-    assert!(rt; made.count == wanted.count);
-    assert!(rt; made.size == wanted.file.len() as u64);
-    Ok(made)
-}
 
 /// Asserts what a script answered, what each call wrote and at last the finish, and which words
 /// stand from a place on.
@@ -33,9 +22,8 @@ fn assert_made(
     place: usize,
     slots: &[u32],
 ) {
-    assert!(rt; made.answers.as_slice() == answers);
-    assert!(rt; made.wrote.as_slice() == wrote);
-    assert!(rt; words(&made.file, place, slots), "the tables are others");
+    let is_answered = made.answers.as_slice() == answers && made.wrote.as_slice() == wrote;
+    assert!(rt; is_answered && words(&made.file, place, slots));
 }
 
 #[test]
@@ -48,14 +36,14 @@ fn records_of_a_key_fill_their_table_in_order(rt: HostRuntime) -> Result<(), Fai
         add(b"a", b"4"),
         replace(b"a", b"5"),
     ];
-    let four = made(&rt, alloc, &calls[..4])?;
+    let four = comes_to::<Narrow>(alloc, &calls[..4])?;
     let slots = [
         177604, 2078, 0, 0, 0, 0, 0, 0, 0, 0, 177604, 2048, 177604, 2058, 177604, 2068,
     ];
     let answers = [ADDED, ADDED, ADDED, ADDED, replaced(4)];
     let wrote = [10, 10, 10, 10, 2112];
     assert_made(&rt, &four, &answers[..4], &wrote, 2088, &slots);
-    let one = made(&rt, alloc, &calls)?;
+    let one = comes_to::<Narrow>(alloc, &calls)?;
     let wrote = [10, 10, 10, 10, 10, 2064];
     assert_made(&rt, &one, &answers, &wrote, 2058, &[0, 0, 177604, 2048]);
     Ok(())
@@ -64,7 +52,7 @@ fn records_of_a_key_fill_their_table_in_order(rt: HostRuntime) -> Result<(), Fai
 #[test]
 fn a_key_is_replaced_beside_one_of_its_hash(rt: HostRuntime) -> Result<(), Fail> {
     let calls = [add(b"cB", b"x"), add(b"bc", b"y"), replace(b"bc", b"z")];
-    let made = made(&rt, rt.alloc(), &calls)?;
+    let made = comes_to::<Narrow>(rt.alloc(), &calls)?;
     let answers = [ADDED, ADDED, replaced(1)];
     let slots = [0, 0, 0, 0, 5861060, 2048, 5861060, 2059];
     assert_made(&rt, &made, &answers, &[11, 11, 11, 2080], 2070, &slots);
@@ -93,13 +81,13 @@ fn a_replaced_record_stands_last(rt: HostRuntime) -> Result<(), Fail> {
         Answer::Removed(0),
         Answer::Removed(1),
     ];
-    let three = made(&rt, rt.alloc(), &calls[..6])?;
+    let three = comes_to::<Narrow>(rt.alloc(), &calls[..6])?;
     let slots = [
         193421353, 2064, 0, 0, 0, 0, 193420161, 2048, 0, 0, 177604, 2082,
     ];
     let wrote = [10, 16, 18, 44, 0, 0, 2096];
     assert_made(&rt, &three, &answers[..6], &wrote, 2092, &slots);
-    let two = made(&rt, rt.alloc(), &calls)?;
+    let two = comes_to::<Narrow>(rt.alloc(), &calls)?;
     let slots = [193421353, 2064, 0, 0, 0, 0, 193420161, 2048];
     let wrote = [10, 16, 18, 44, 0, 0, 0, 0, 2080];
     assert_made(&rt, &two, &answers, &wrote, 2082, &slots);
@@ -116,7 +104,7 @@ fn all_records_of_a_key_are_removed(rt: HostRuntime) -> Result<(), Fail> {
         add(b"a", b"3"),
         remove(b"a"),
     ];
-    let made = made(&rt, rt.alloc(), &calls)?;
+    let made = comes_to::<Narrow>(rt.alloc(), &calls)?;
     let answers = [ADDED, ADDED, ADDED, ADDED, ADDED, Answer::Removed(3)];
     let slots = [193421353, 2064, 0, 0, 0, 0, 193420161, 2048];
     let wrote = [10, 16, 10, 18, 10, 34, 2080];
@@ -136,10 +124,10 @@ fn a_key_that_is_there_is_warned_of_or_kept(rt: HostRuntime) -> Result<(), Fail>
         Answer::Put(Put::Present),
         Answer::Put(Put::AddedAgain),
     ];
-    let one = made(&rt, rt.alloc(), &calls[..2])?;
+    let one = comes_to::<Narrow>(rt.alloc(), &calls[..2])?;
     let slots = [0, 0, 177604, 2048];
     assert_made(&rt, &one, &answers[..2], &[10, 0, 2064], 2058, &slots);
-    let two = made(&rt, rt.alloc(), &calls)?;
+    let two = comes_to::<Narrow>(rt.alloc(), &calls)?;
     let slots = [0, 0, 177604, 2048, 177604, 2058, 0, 0];
     assert_made(&rt, &two, &answers, &[10, 0, 10, 2080], 2068, &slots);
     Ok(())
@@ -149,7 +137,7 @@ fn a_key_that_is_there_is_warned_of_or_kept(rt: HostRuntime) -> Result<(), Fail>
 fn long_records_are_moved_whole(rt: HostRuntime) -> Result<(), Fail> {
     let (ten, five) = (long(rt.alloc(), 10000)?, long(rt.alloc(), 5000)?);
     let calls = [add(b"a", b"1"), add(b"b", &ten), replace(b"a", b"2")];
-    let two = made(&rt, rt.alloc(), &calls)?;
+    let two = comes_to::<Narrow>(rt.alloc(), &calls)?;
     let slots = [0, 0, 177604, 12057, 0, 0, 177607, 2048];
     let answers = [ADDED, ADDED, replaced(1)];
     assert_made(
@@ -167,13 +155,13 @@ fn long_records_are_moved_whole(rt: HostRuntime) -> Result<(), Fail> {
         add(b"c", &five),
         replace(b"a", b"3"),
     ];
-    let three = made(&rt, rt.alloc(), &calls)?;
+    let three = comes_to::<Narrow>(rt.alloc(), &calls)?;
     let slots = [0, 0, 177604, 17066, 0, 0, 177606, 12057, 0, 0, 177607, 2048];
     let answers = [ADDED, ADDED, ADDED, ADDED, replaced(2)];
     let wrote = [10, 10009, 10, 5009, 15028, 2096];
     assert_made(&rt, &three, &answers, &wrote, 17076, &slots);
     calls[4] = remove(b"a");
-    let left = made(&rt, rt.alloc(), &calls)?;
+    let left = comes_to::<Narrow>(rt.alloc(), &calls)?;
     let slots = [0, 0, 177606, 12057, 0, 0, 177607, 2048];
     let answers = [ADDED, ADDED, ADDED, ADDED, Answer::Removed(2)];
     let wrote = [10, 10009, 10, 5009, 15018, 2080];
@@ -210,9 +198,7 @@ fn a_record_is_too_big_only_where_the_file_would_pass_the_limit(
         let given = act(&mut maker, call);
         assert!(rt; given == *answer && maker.size() == *size, "row {row}");
     }
-    let Ok(store) = maker.finish() else {
-        return Err(Fail::new("a file was not finished"));
-    };
+    let store = finished(maker)?;
     let wanted = expected::<Narrow>(rt.alloc(), &[add(b"a", OTHER)])?;
     assert!(rt; store.bytes() == wanted.file.as_slice());
     Ok(())
@@ -227,9 +213,7 @@ fn words_of_8_bytes_are_made_in_place(rt: HostRuntime) -> Result<(), Fail> {
         replace(b"one", b"again"),
         remove(b"a"),
     ];
-    let made = run::<Wide>(rt.alloc(), &calls)?;
-    let wanted = expected::<Wide>(rt.alloc(), &calls)?;
-    assert!(rt; made.answers == wanted.answers && made.file == wanted.file);
+    let made = comes_to::<Wide>(rt.alloc(), &calls)?;
     assert!(rt; made.wrote.as_slice() == [24, 18, 26, 68, 50, 4160].as_slice());
     Ok(())
 }

@@ -2,10 +2,11 @@
 // It reads what a test prints: whether the refusal came to a call of the script, to what its file
 // is compared with, or to neither.
 use super::again::{Cause, play};
+use super::makers::{finished, maker_in};
 use super::scripts::{
     ADDED, Answer, Call, act, add, exists, expected, long, remove, replace, replaced,
 };
-use cdb_form::{Narrow, Width};
+use cdb_form::Narrow;
 use cdb_make::{MakeFault, Maker, Mode, Put};
 use cdb_store::{FuseStore, MemStore, Store};
 use std::alloc::Global;
@@ -95,11 +96,7 @@ fn a_removal_and_a_look_tell_no_refused_memory(rt: HostRuntime) -> Result<(), Fa
 
 /// A maker of two records in memory.
 fn two_records(alloc: Global) -> Result<Maker<MemStore, Narrow>, MakeFault> {
-    let store = MemStore::new(alloc);
-    let mut maker = match Maker::<MemStore, Narrow>::new(alloc, store, Narrow::GREATEST) {
-        Ok(maker) => maker,
-        Err(refused) => return Err(refused.fault),
-    };
+    let mut maker = maker_in::<MemStore, Narrow>(alloc, MemStore::new(alloc))?;
     maker.put(Mode::Add, b"one", b"Hello")?;
     maker.put(Mode::Add, b"two", b"Goodbye")?;
     Ok(maker)
@@ -109,10 +106,7 @@ fn two_records(alloc: Global) -> Result<Maker<MemStore, Narrow>, MakeFault> {
 fn with_one_more(maker: Maker<MemStore, Narrow>) -> Result<Vec<u8>, MakeFault> {
     let mut maker = maker;
     maker.put(Mode::Add, b"a", b"1")?;
-    match maker.finish() {
-        Ok(store) => Ok(store.into_vec()),
-        Err(unfinished) => Err(unfinished.fault),
-    }
+    Ok(finished(maker)?.into_vec())
 }
 
 /// What came of a finish, after which a maker to which it was refused takes a record more.
@@ -155,10 +149,7 @@ fn make(alloc: Global, room: u32, rows: &[Row]) -> Result<Came, Fail> {
     let mut store = MemStore::new(alloc);
     store.reserve(u64::from(room))?;
     let store = FuseStore::new(store, u64::MAX, 0);
-    let made = Maker::<FuseStore<MemStore>, Narrow>::new(alloc, store, Narrow::GREATEST);
-    let Ok(mut maker) = made else {
-        return Err(Fail::new("no maker was made"));
-    };
+    let mut maker = maker_in::<FuseStore<MemStore>, Narrow>(alloc, store)?;
     for (call, answer, wrote) in rows {
         let before = maker.store().written();
         let given = act(&mut maker, call)?;

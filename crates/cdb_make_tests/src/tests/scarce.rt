@@ -1,8 +1,9 @@
 //! A maker over a store that refuses memory.
 ghost use Rattle.std.specs.Prelude.{◌≡◌, ◌<◌, ◌≤◌, true};
 
+use super::makers::{finished, maker_in, refused_finish};
 use super::scripts::{add, expected};
-use cdb_form::{Narrow, Width};
+use cdb_form::Narrow;
 use cdb_make::{MakeFault, Maker, Mode};
 use cdb_store::{MemStore, Store, StoreFault};
 use std::alloc::Global;
@@ -107,9 +108,7 @@ type Held = Maker<ScarceStore<MemStore>, Narrow>;
 /// A maker of two records, to which memory is refused three times then.
 fn two_records(alloc: Global) -> Result<Held, Fail> {
     let store = ScarceStore::new(MemStore::new(alloc), 2048 + 16 + 18, 3);
-    let Ok(mut maker) = Held::new(alloc, store, Narrow::GREATEST) else {
-        return Err(Fail::new("no maker was made"));
-    };
+    let mut maker: Held = maker_in(alloc, store)?;
     maker.put(Mode::Add, b"one", b"Hello")?;
     maker.put(Mode::Add, b"two", b"Goodbye")?;
     Ok(maker)
@@ -122,31 +121,17 @@ fn refuses_puts(maker: &mut Held) -> bool {
         && maker.put(Mode::Replace, b"one", b"a longer value") == refused
 }
 
-/// The maker, of which the finish was refused.
-fn refused_finish(maker: Held) -> Result<Held, Fail> {
-    let Err(unfinished) = maker.finish() else {
-        return Err(Fail::new("a file was finished without memory"));
-    };
-    if unfinished.fault != MakeFault::NoMemory {
-        return Err(Fail::new("another fault of the finish"));
-    }
-    Ok(unfinished.maker)
-}
-
 /// The file with a record more, once memory is given.
 fn with_one_more(mut maker: Held) -> Result<Vec<u8>, Fail> {
     maker.put(Mode::Add, b"a", b"1")?;
-    match maker.finish() {
-        Ok(store) => Ok(store.inner.into_vec()),
-        Err(_) => Err(Fail::new("a file was not finished")),
-    }
+    Ok(finished(maker)?.inner.into_vec())
 }
 
 #[test]
 fn refused_memory_leaves_what_was_held(rt: HostRuntime) -> Result<(), Fail> {
     let mut maker = two_records(rt.alloc())?;
     assert!(rt; refuses_puts(&mut maker));
-    let maker = refused_finish(maker)?;
+    let maker = refused_finish(maker, MakeFault::NoMemory)?;
     assert!(rt; !maker.is_broken() && maker.count() == 2);
     let file = with_one_more(maker)?;
     let calls = [

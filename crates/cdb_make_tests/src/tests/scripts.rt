@@ -1,4 +1,5 @@
 //! Scripts of calls to a maker, and what a plain list of records makes of them.
+use super::makers::{finished, maker_in};
 use cdb_form::Width;
 use cdb_make::{MakeFault, Maker, Mode, Put};
 use cdb_store::{FuseStore, MemStore, Store};
@@ -120,11 +121,9 @@ pub(super) fn act<S: Store, L: Width>(
 }
 
 /// Makes the calls of a script, and finishes the file.
-pub(super) fn run<L: Width>(alloc: Global, calls: &[Call]) -> Result<Made, Fail> {
+fn run<L: Width>(alloc: Global, calls: &[Call]) -> Result<Made, Fail> {
     let store = FuseStore::new(MemStore::new(alloc), u64::MAX, 0);
-    let Ok(mut maker) = Maker::<FuseStore<MemStore>, L>::new(alloc, store, L::GREATEST) else {
-        return Err(Fail::new("no maker was made"));
-    };
+    let mut maker = maker_in::<FuseStore<MemStore>, L>(alloc, store)?;
     let (mut answers, mut wrote) = (Vec::new(alloc), Vec::new(alloc));
     for call in calls {
         let before = maker.store().written();
@@ -133,9 +132,7 @@ pub(super) fn run<L: Width>(alloc: Global, calls: &[Call]) -> Result<Made, Fail>
     }
     let (count, size) = (maker.count(), maker.size());
     let before = maker.store().written();
-    let Ok(store) = maker.finish() else {
-        return Err(Fail::new("a file was not finished"));
-    };
+    let store = finished(maker)?;
     wrote.push(store.written().saturating_sub(before))?;
     Ok(Made {
         answers,
@@ -190,19 +187,40 @@ fn from_scratch<L: Width>(
     calls: &[Call],
     stands: &[bool],
 ) -> Result<Vec<u8>, MakeFault> {
-    let store = MemStore::new(alloc);
-    let mut maker = match Maker::<MemStore, L>::new(alloc, store, L::GREATEST) {
-        Ok(maker) => maker,
-        Err(refused) => return Err(refused.fault),
-    };
+    let mut maker = maker_in::<MemStore, L>(alloc, MemStore::new(alloc))?;
     for (call, mark) in calls.iter().zip(stands.iter()) {
         if *mark {
             maker.put(Mode::Add, call.key, call.value)?;
         }
     }
-    match maker.finish() {
-        Ok(store) => Ok(store.into_vec()),
-        Err(unfinished) => Err(unfinished.fault),
+    Ok(finished(maker)?.into_vec())
+}
+
+impl Made {
+    /// What a script came to otherwise than wanted. Empty: nothing.
+    fn other_than(&self, wanted: &Wanted) -> &'static str {
+        if self.answers != wanted.answers {
+            "other answers"
+        } else if self.file != wanted.file {
+            "another file than from scratch"
+        } else if self.count != wanted.count {
+            "another count"
+        } else if self.size != wanted.file.len() as u64 {
+            "another size"
+        } else {
+            ""
+        }
+    }
+}
+
+/// Runs a script, which is to come to what a plain list of records does.
+pub(super) fn comes_to<L: Width>(alloc: Global, calls: &[Call]) -> Result<Made, Fail> {
+    let made = run::<L>(alloc, calls)?;
+    let other = made.other_than(&expected::<L>(alloc, calls)?);
+    if other.is_empty() {
+        Ok(made)
+    } else {
+        Err(Fail::new(other))
     }
 }
 

@@ -43,6 +43,19 @@ fn of_two(alloc: Global, at: usize, bytes: &[u8], wanted: Answer) -> Result<bool
     always_answers::<Narrow>(alloc, &changed(two_file(alloc)?, at, bytes), wanted)
 }
 
+/// What is told of the file of two records with other bytes from a place on, and of which change.
+type Row<'a> = (&'a str, usize, &'a [u8], Answer);
+
+/// The first of these rows that is not always told. Empty: each is.
+fn not_told<'a>(alloc: Global, rows: &[Row<'a>]) -> Result<&'a str, ReadFault> {
+    for (change, at, bytes, wanted) in rows {
+        if !of_two(alloc, *at, bytes, *wanted)? {
+            return Ok(change);
+        }
+    }
+    Ok("")
+}
+
 /// And of that file with so many bytes.
 fn of_cut(alloc: Global, len: usize, wanted: Answer) -> Result<bool, ReadFault> {
     let mut file = two_file(alloc)?;
@@ -63,117 +76,123 @@ fn of_slots(alloc: Global, slots: [(u32, u32); 2], wanted: Answer) -> Result<boo
 #[test]
 fn worked_files_are_sound(rt: HostRuntime) -> Result<(), Fail> {
     let alloc = rt.alloc();
-    assert!(rt; of_two(alloc, 0, b"", Ok(())) == Ok(true), "two records");
-    let four = always_answers::<Narrow>(alloc, &four_file(alloc)?, Ok(()));
-    assert!(rt; four == Ok(true), "four values of one key");
+    let two = of_two(alloc, 0, b"", Ok(()))?;
+    let four = always_answers::<Narrow>(alloc, &four_file(alloc)?, Ok(()))?;
     let mut longer = two_file(alloc)?;
     longer.extend_from_slice(&[1; 5])?;
-    let longer = always_answers::<Narrow>(alloc, &longer, Ok(()));
-    assert!(rt; longer == Ok(true), "five bytes behind the tables");
-    let zeros = always_answers::<Narrow>(alloc, &vec![in alloc; 0u8; 2048]?, Ok(()));
-    assert!(rt; zeros == Ok(true), "a head of zeros");
-    assert!(rt;
-        of_wide(alloc, 0, b"", Ok(())) == Ok(true),
-        "in words of 8 bytes"
-    );
+    let longer = always_answers::<Narrow>(alloc, &longer, Ok(()))?;
+    let zeros = always_answers::<Narrow>(alloc, &vec![in alloc; 0u8; 2048]?, Ok(()))?;
+    let wide = of_wide(alloc, 0, b"", Ok(()))?;
+    // Two records; four values of one key; five bytes behind the tables; a head of zeros; and in
+    // words of 8 bytes.
+    assert!(rt; [two, four, longer, zeros, wide] == [true; 5]);
     Ok(())
 }
 
 #[test]
 fn files_of_other_programs_are_sound(rt: HostRuntime) -> Result<(), Fail> {
     let alloc = rt.alloc();
-    let one = always_answers::<Narrow>(alloc, &foreign(alloc)?, Ok(()));
-    assert!(rt; one == Ok(true), "a table of one slot");
-    let full = of_slots(alloc, [(177604, 2058), (177604, 2048)], Ok(()));
-    assert!(rt; full == Ok(true), "no empty slot");
-    let turned = of_slots(alloc, [(177604, 2048), (177604, 2058)], Ok(()));
-    assert!(rt; turned == Ok(true), "the second value first");
+    let one = always_answers::<Narrow>(alloc, &foreign(alloc)?, Ok(()))?;
+    assert!(rt; one, "a table of one slot");
+    let full = of_slots(alloc, [(177604, 2058), (177604, 2048)], Ok(()))?;
+    let turned = of_slots(alloc, [(177604, 2048), (177604, 2058)], Ok(()))?;
+    assert!(rt; full && turned, "no empty slot");
     // Table 7 has the empty slots of tables 41 and 129.
-    let shared = of_two(alloc, 56, b"\x2a\x08\0\0\x02\0\0\0", Ok(()));
-    assert!(rt; shared == Ok(true), "tables that share empty slots");
+    let shared = of_two(alloc, 56, b"\x2a\x08\0\0\x02\0\0\0", Ok(()))?;
+    assert!(rt; shared, "tables that share empty slots");
     Ok(())
 }
 
 #[test]
 fn tables_and_records_are_told(rt: HostRuntime) -> Result<(), Fail> {
-    let alloc = rt.alloc();
-    let seven = of_two(
-        alloc,
-        56,
-        b"\x42\x08\0\0\x01\0\0\0",
-        Err(ReadFault::Table(7)),
-    );
-    assert!(rt; seven == Ok(true), "a table at the end");
-    let zero = of_two(alloc, 0, b"\x64\0\0\0\x01\0\0\0", Err(ReadFault::Table(0)));
-    assert!(rt; zero == Ok(true), "a table in the head");
-    let last = of_two(
-        alloc,
-        2040,
-        b"\x42\x08\0\0\x01\0\0\0",
-        Err(ReadFault::Table(255)),
-    );
-    assert!(rt; last == Ok(true), "the last table");
-    let cut = of_cut(alloc, 2070, Err(ReadFault::Table(41)));
-    assert!(rt; cut == Ok(true), "cut within the second record");
-    let long = of_two(alloc, 2068, b"\x08", Err(ReadFault::Record(2064)));
-    assert!(rt; long == Ok(true), "a value that passes the record end");
-    // The records end where the first table stands, so none is whole.
-    let within = of_two(
-        alloc,
-        56,
-        b"\x08\x08\0\0\x01\0\0\0",
-        Err(ReadFault::Record(2048)),
-    );
-    assert!(rt; within == Ok(true), "a table within a record");
-    // It has the bytes of the second record as its slot.
-    let between = of_two(
-        alloc,
-        56,
-        b"\x10\x08\0\0\x01\0\0\0",
-        Err(ReadFault::Slot(7, 0)),
-    );
-    assert!(rt; between == Ok(true), "a table in place of a record");
+    let other = not_told(
+        rt.alloc(),
+        &[
+            (
+                "a table at the end",
+                56,
+                b"\x42\x08\0\0\x01\0\0\0",
+                Err(ReadFault::Table(7)),
+            ),
+            (
+                "a table in the head",
+                0,
+                b"\x64\0\0\0\x01\0\0\0",
+                Err(ReadFault::Table(0)),
+            ),
+            (
+                "the last table",
+                2040,
+                b"\x42\x08\0\0\x01\0\0\0",
+                Err(ReadFault::Table(255)),
+            ),
+            (
+                "a value that passes the record end",
+                2068,
+                b"\x08",
+                Err(ReadFault::Record(2064)),
+            ),
+            // The records end where the first table stands, so none is whole.
+            (
+                "a table within a record",
+                56,
+                b"\x08\x08\0\0\x01\0\0\0",
+                Err(ReadFault::Record(2048)),
+            ),
+            // It has the bytes of the second record as its slot.
+            (
+                "a table in place of a record",
+                56,
+                b"\x10\x08\0\0\x01\0\0\0",
+                Err(ReadFault::Slot(7, 0)),
+            ),
+        ],
+    )?;
+    assert!(rt; other.is_empty(), "{other}");
+    let cut = of_cut(rt.alloc(), 2070, Err(ReadFault::Table(41)))?;
+    assert!(rt; cut, "cut within the second record");
     Ok(())
 }
 
 #[test]
 fn wrong_slots_are_told(rt: HostRuntime) -> Result<(), Fail> {
-    let alloc = rt.alloc();
     let first = Err(ReadFault::Slot(41, 0));
-    assert!(rt;
-        of_two(alloc, 2086, b"\x11", first) == Ok(true),
-        "no record's place"
-    );
-    let ones = of_two(alloc, 2086, b"\xff\xff\xff\xff", first);
-    assert!(rt; ones == Ok(true), "a place of all ones");
-    assert!(rt;
-        of_two(alloc, 2083, b"\x61", first) == Ok(true),
-        "another hash"
-    );
-    let other = b"\x81\x5b\x87\x0b\0\x08\0\0";
-    let second = of_two(alloc, 2090, other, Err(ReadFault::Slot(41, 1)));
-    assert!(rt; second == Ok(true), "in the table of another");
-    // Its place is that of an earlier slot, too.
-    let again = b"\x29\x60\x87\x0b\x10\x08\0\0";
-    let wrong = of_two(alloc, 2098, again, Err(ReadFault::Slot(129, 0)));
-    assert!(rt;
-        wrong == Ok(true),
-        "wrong before it is the second of a record"
-    );
-    // Table 7 has all four slots.
-    let over = of_two(
-        alloc,
-        56,
-        b"\x22\x08\0\0\x04\0\0\0",
-        Err(ReadFault::Slot(7, 0)),
-    );
-    assert!(rt; over == Ok(true), "tables that share used slots");
-    // Table 41 has three slots, of which the home of its hash is empty.
-    let three = of_two(alloc, 332, b"\x03", first);
-    assert!(rt;
-        three == Ok(true),
-        "a slot that its search does not come to"
-    );
+    let other = not_told(
+        rt.alloc(),
+        &[
+            ("no record's place", 2086, b"\x11", first),
+            ("a place of all ones", 2086, b"\xff\xff\xff\xff", first),
+            ("another hash", 2083, b"\x61", first),
+            (
+                "in the table of another",
+                2090,
+                b"\x81\x5b\x87\x0b\0\x08\0\0",
+                Err(ReadFault::Slot(41, 1)),
+            ),
+            // Its place is that of an earlier slot, too.
+            (
+                "wrong before it is the second of a record",
+                2098,
+                b"\x29\x60\x87\x0b\x10\x08\0\0",
+                Err(ReadFault::Slot(129, 0)),
+            ),
+            // Table 7 has all four slots.
+            (
+                "tables that share used slots",
+                56,
+                b"\x22\x08\0\0\x04\0\0\0",
+                Err(ReadFault::Slot(7, 0)),
+            ),
+            // Table 41 has three slots, of which the home of its hash is empty.
+            (
+                "a slot that its search does not come to",
+                332,
+                b"\x03",
+                first,
+            ),
+        ],
+    )?;
+    assert!(rt; other.is_empty(), "{other}");
     Ok(())
 }
 
@@ -181,12 +200,12 @@ fn wrong_slots_are_told(rt: HostRuntime) -> Result<(), Fail> {
 fn wide_slots_are_told(rt: HostRuntime) -> Result<(), Fail> {
     let alloc = rt.alloc();
     let slot = Err(ReadFault::Slot(129, 1));
-    let high = of_wide(alloc, 4140, b"\x01", slot);
-    assert!(rt; high == Ok(true), "a hash of 33 bits");
-    let ones = of_wide(alloc, 4144, b"\xff\xff\xff\xff\xff\xff\xff\xff", slot);
-    assert!(rt; ones == Ok(true), "a place of all ones");
-    let lost = of_wide(alloc, 4136, &[0; 16], Err(ReadFault::Unindexed(4096)));
-    assert!(rt; lost == Ok(true), "a slot taken away");
+    let high = of_wide(alloc, 4140, b"\x01", slot)?;
+    assert!(rt; high, "a hash of 33 bits");
+    let ones = of_wide(alloc, 4144, b"\xff\xff\xff\xff\xff\xff\xff\xff", slot)?;
+    assert!(rt; ones, "a place of all ones");
+    let lost = of_wide(alloc, 4136, &[0; 16], Err(ReadFault::Unindexed(4096)))?;
+    assert!(rt; lost, "a slot taken away");
     Ok(())
 }
 
@@ -194,13 +213,13 @@ fn wide_slots_are_told(rt: HostRuntime) -> Result<(), Fail> {
 fn slots_and_records_have_one_another(rt: HostRuntime) -> Result<(), Fail> {
     let alloc = rt.alloc();
     let twice = changed(four_file(alloc)?, 2092, b"\x14");
-    let twice = always_answers::<Narrow>(alloc, &twice, Err(ReadFault::Twice(2068)));
-    assert!(rt; twice == Ok(true), "two slots of one record");
+    let twice = always_answers::<Narrow>(alloc, &twice, Err(ReadFault::Twice(2068)))?;
+    assert!(rt; twice, "two slots of one record");
     let both = [(177604, 2048), (177604, 2048)];
-    let both = of_slots(alloc, both, Err(ReadFault::Twice(2048)));
-    assert!(rt; both == Ok(true), "told before the other is lost");
-    let lost = of_two(alloc, 2106, &[0; 8], Err(ReadFault::Unindexed(2048)));
-    assert!(rt; lost == Ok(true), "a slot taken away");
+    let both = of_slots(alloc, both, Err(ReadFault::Twice(2048)))?;
+    assert!(rt; both, "told before the other is lost");
+    let lost = of_two(alloc, 2106, &[0; 8], Err(ReadFault::Unindexed(2048)))?;
+    assert!(rt; lost, "a slot taken away");
     Ok(())
 }
 
@@ -246,31 +265,22 @@ fn of_full(alloc: Global, first: u32, at: usize, bytes: &[u8]) -> Result<(Answer
 
 #[test]
 fn a_full_table_is_checked(rt: HostRuntime) -> Result<(), Fail> {
-    let alloc = rt.alloc();
-    // The head, the records with some slots, the other slots, and all slots once more.
-    assert!(rt;
-        of_full(alloc, 93, 0, b"") == Ok((Ok(()), 4)),
-        "from their home on"
-    );
-    assert!(rt;
-        of_full(alloc, 94, 0, b"") == Ok((Ok(()), 4)),
-        "the first one behind it"
-    );
-    assert!(rt;
-        of_full(alloc, 0, 0, b"") == Ok((Ok(()), 4)),
-        "from slot 0 on"
-    );
-    // Slot 92, which a search comes to last, and slot 93, with which it begins.
-    let last = of_full(alloc, 93, 5048 + 8 * 92, &[0; 8]);
-    assert!(rt;
-        last == Ok((Err(ReadFault::Unindexed(5038)), 4)),
-        "the last slot empty"
-    );
-    let home = of_full(alloc, 93, 5048 + 8 * 93, &[0; 8]);
-    assert!(rt;
-        home == Ok((Err(ReadFault::Slot(196, 0)), 4)),
-        "the first slot empty"
-    );
+    // From their home on, the first one behind it, and from slot 0 on. Slot 92, to which a search
+    // comes last, or slot 93, with which it begins, is empty in the other two.
+    let last = Err(ReadFault::Unindexed(5038));
+    let home = Err(ReadFault::Slot(196, 0));
+    let cases: [(u32, usize, &[u8], Answer); 5] = [
+        (93, 0, b"", Ok(())),
+        (94, 0, b"", Ok(())),
+        (0, 0, b"", Ok(())),
+        (93, 5048 + 8 * 92, &[0; 8], last),
+        (93, 5048 + 8 * 93, &[0; 8], home),
+    ];
+    for (first, at, bytes, wanted) in cases {
+        // The head, the records with some slots, the other slots, and all slots once more.
+        let told = of_full(rt.alloc(), first, at, bytes)?;
+        assert!(rt; told == (wanted, 4), "from slot {first} on, and {at}");
+    }
     Ok(())
 }
 

@@ -32,6 +32,11 @@ fn always_counts<L: Width>(file: &Vec<u8>, wanted: Answer) -> Result<bool, ReadF
     Ok(same)
 }
 
+/// Whether this is counted of the file of two records with other bytes from a place on.
+fn counts_with(alloc: Global, at: usize, bytes: &[u8], wanted: Answer) -> Result<bool, ReadFault> {
+    always_counts::<Narrow>(&changed(two_file(alloc)?, at, bytes), wanted)
+}
+
 /// Statistics: how many records; the least, average and greatest key and value; how many tables,
 /// entries and collisions; the least, average and greatest table; and the first distances.
 fn numbers(
@@ -86,19 +91,18 @@ pub(super) fn four_file(alloc: Global) -> Result<Vec<u8>, AllocError> {
 #[test]
 fn worked_files_are_counted(rt: HostRuntime) -> Result<(), Fail> {
     let alloc = rt.alloc();
-    let wanted = of_two([2, 2, 0], [2, 2, 2], [2, 0, 0, 0]);
-    let two = always_counts::<Narrow>(&two_file(alloc)?, wanted);
-    assert!(rt; two == Ok(true), "two records");
-    let wanted = numbers(4, [1, 1, 1], [1, 1, 1], [1, 4, 3], [8, 8, 8], [1, 1, 1, 1]);
-    let four = always_counts::<Narrow>(&four_file(alloc)?, wanted);
-    assert!(rt; four == Ok(true), "four values of one key");
-    let wanted = numbers(0, [0; 3], [0; 3], [0; 3], [0; 3], [0; 4]);
-    let zeros = vec![in alloc; 0u8; 2048]?;
-    let none = always_counts::<Narrow>(&zeros, wanted);
-    assert!(rt; none == Ok(true), "a head of zeros");
-    let wanted = numbers(1, [3, 3, 3], [5, 5, 5], [1, 1, 0], [2, 2, 2], [1, 0, 0, 0]);
-    let wide = always_counts::<Wide>(&wide_file(alloc)?, wanted);
-    assert!(rt; wide == Ok(true), "in words of 8 bytes");
+    let two = of_two([2, 2, 0], [2, 2, 2], [2, 0, 0, 0]);
+    let four = numbers(4, [1, 1, 1], [1, 1, 1], [1, 4, 3], [8, 8, 8], [1, 1, 1, 1]);
+    let none = numbers(0, [0; 3], [0; 3], [0; 3], [0; 3], [0; 4]);
+    let wide = numbers(1, [3, 3, 3], [5, 5, 5], [1, 1, 0], [2, 2, 2], [1, 0, 0, 0]);
+    // Two records; four values of one key; a head of zeros; and in words of 8 bytes.
+    let are_counted = [
+        always_counts::<Narrow>(&two_file(alloc)?, two)?,
+        always_counts::<Narrow>(&four_file(alloc)?, four)?,
+        always_counts::<Narrow>(&vec![in alloc; 0u8; 2048]?, none)?,
+        always_counts::<Wide>(&wide_file(alloc)?, wide)?,
+    ];
+    assert!(rt; are_counted == [true; 4], "{are_counted:?}");
     Ok(())
 }
 
@@ -106,19 +110,18 @@ fn worked_files_are_counted(rt: HostRuntime) -> Result<(), Fail> {
 fn damaged_files_are_not_counted(rt: HostRuntime) -> Result<(), Fail> {
     let alloc = rt.alloc();
     // Table 7 begins at the file's end.
-    let outside = changed(two_file(alloc)?, 56, b"\x42\x08\0\0\x01\0\0\0");
-    let seven = always_counts::<Narrow>(&outside, Err(ReadFault::Table(7)));
-    assert!(rt; seven == Ok(true), "a table at the end");
-    let early = changed(two_file(alloc)?, 0, b"\x64\0\0\0\x01\0\0\0");
-    let zero = always_counts::<Narrow>(&early, Err(ReadFault::Table(0)));
-    assert!(rt; zero == Ok(true), "a table in the head");
-    // The value of `two` has one byte more, and passes the record end.
-    let long = changed(two_file(alloc)?, 2068, b"\x08");
-    let record = always_counts::<Narrow>(&long, Err(ReadFault::Record(2064)));
-    assert!(rt; record == Ok(true), "a record that passes the record end");
-    let both = changed(outside, 2068, b"\x08");
-    let seven = always_counts::<Narrow>(&both, Err(ReadFault::Table(7)));
-    assert!(rt; seven == Ok(true), "a table is told before a record");
+    let outside = b"\x42\x08\0\0\x01\0\0\0";
+    // A table at the end, one in the head; and a value with a byte more, which passes the record
+    // end.
+    let are_told = [
+        counts_with(alloc, 56, outside, Err(ReadFault::Table(7)))?,
+        counts_with(alloc, 0, b"\x64\0\0\0\x01\0\0\0", Err(ReadFault::Table(0)))?,
+        counts_with(alloc, 2068, b"\x08", Err(ReadFault::Record(2064)))?,
+    ];
+    assert!(rt; are_told == [true; 3], "{are_told:?}");
+    let both = changed(changed(two_file(alloc)?, 56, outside), 2068, b"\x08");
+    let is_told = always_counts::<Narrow>(&both, Err(ReadFault::Table(7)))?;
+    assert!(rt; is_told, "a table is told before a record");
     Ok(())
 }
 
@@ -126,13 +129,14 @@ fn damaged_files_are_not_counted(rt: HostRuntime) -> Result<(), Fail> {
 fn tables_of_other_programs_are_counted(rt: HostRuntime) -> Result<(), Fail> {
     let alloc = rt.alloc();
     // Table 7 has the four slots of tables 41 and 129, two of them used.
-    let over = changed(two_file(alloc)?, 56, b"\x22\x08\0\0\x04\0\0\0");
-    let wanted = of_two([3, 4, 0], [2, 2, 4], [4, 0, 0, 0]);
-    let twice = always_counts::<Narrow>(&over, wanted);
-    assert!(rt; twice == Ok(true), "tables that overlap");
-    let wanted = numbers(1, [1, 1, 1], [1, 1, 1], [1, 1, 0], [1, 1, 1], [1, 0, 0, 0]);
-    let full = always_counts::<Narrow>(&foreign(alloc)?, wanted);
-    assert!(rt; full == Ok(true), "a table without an empty slot");
+    let twice = of_two([3, 4, 0], [2, 2, 4], [4, 0, 0, 0]);
+    let full = numbers(1, [1, 1, 1], [1, 1, 1], [1, 1, 0], [1, 1, 1], [1, 0, 0, 0]);
+    // Tables that overlap, and one without an empty slot.
+    let are_counted = [
+        counts_with(alloc, 56, b"\x22\x08\0\0\x04\0\0\0", twice)?,
+        always_counts::<Narrow>(&foreign(alloc)?, full)?,
+    ];
+    assert!(rt; are_counted == [true; 2], "{are_counted:?}");
     Ok(())
 }
 

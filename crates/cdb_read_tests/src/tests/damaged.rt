@@ -20,6 +20,28 @@ fn both(file: &Vec<u8>, one: &[Answer], two: &[Answer]) -> Result<bool, ReadFaul
     Ok(always_gives::<Narrow>(file, b"one", one)? && always_gives::<Narrow>(file, b"two", two)?)
 }
 
+/// Whether a key has these answers in the file of the two records with other bytes from a place on.
+fn gives_with(
+    alloc: Global,
+    at: usize,
+    bytes: &[u8],
+    key: &[u8],
+    wanted: &[Answer],
+) -> Result<bool, ReadFault> {
+    always_gives::<Narrow>(&changed(two_file(alloc)?, at, bytes), key, wanted)
+}
+
+/// And whether both of its keys have these.
+fn both_with(
+    alloc: Global,
+    at: usize,
+    bytes: &[u8],
+    one: &[Answer],
+    two: &[Answer],
+) -> Result<bool, ReadFault> {
+    both(&changed(two_file(alloc)?, at, bytes), one, two)
+}
+
 /// The values of `one` and of `two` in the file of the two records.
 fn hello() -> [Answer; 2] {
     [value(2059, 5), NONE]
@@ -33,54 +55,37 @@ fn goodbye() -> [Answer; 2] {
 fn damaged_tables_are_told_where_a_key_needs_them(rt: HostRuntime) -> Result<(), Fail> {
     let alloc = rt.alloc();
     // Table 7 begins at the file's end. The hash of the byte a2 is 177415.
-    let outside = changed(two_file(alloc)?, 56, b"\x42\x08\0\0\x01\0\0\0");
-    assert!(rt;
-        both(&outside, &hello(), &goodbye()) == Ok(true),
-        "another table"
-    );
-    let seven = always_gives::<Narrow>(&outside, b"\xa2", &stays(ReadFault::Table(7)));
-    assert!(rt; seven == Ok(true), "a table at the end");
-    let ones = changed(two_file(alloc)?, 1032, b"\xff\xff\xff\xff\xff\xff\xff\xff");
-    let table = stays(ReadFault::Table(129));
-    assert!(rt;
-        both(&ones, &table, &goodbye()) == Ok(true),
-        "a pointer of all ones"
-    );
-    let head = changed(two_file(alloc)?, 0, b"\x64\0\0\0\x01\0\0\0");
-    assert!(rt;
-        both(&head, &hello(), &goodbye()) == Ok(true),
-        "a table in the head"
-    );
-    let empty = changed(two_file(alloc)?, 2106, b"\0\0\0\0\0\0\0\0");
-    assert!(rt;
-        both(&empty, &[NONE, NONE], &goodbye()) == Ok(true),
-        "an empty slot"
-    );
+    let (at, outside) = (56, b"\x42\x08\0\0\x01\0\0\0");
+    let ones = b"\xff\xff\xff\xff\xff\xff\xff\xff";
+    // A table at the end, for its key and for others; a pointer of all ones; a table in the head;
+    // and an empty slot.
+    let are_told = [
+        gives_with(alloc, at, outside, b"\xa2", &stays(ReadFault::Table(7)))?,
+        both_with(alloc, at, outside, &hello(), &goodbye())?,
+        both_with(alloc, 1032, ones, &stays(ReadFault::Table(129)), &goodbye())?,
+        both_with(alloc, 0, b"\x64\0\0\0\x01\0\0\0", &hello(), &goodbye())?,
+        both_with(alloc, 2106, &[0; 8], &[NONE, NONE], &goodbye())?,
+    ];
+    assert!(rt; are_told == [true; 5], "{are_told:?}");
     Ok(())
 }
 
 #[test]
 fn damaged_records_are_told_at_their_turn(rt: HostRuntime) -> Result<(), Fail> {
     let alloc = rt.alloc();
-    let ones = changed(two_file(alloc)?, 2048, b"\xff\xff\xff\xff");
-    let record = stays(ReadFault::Record(2048));
-    assert!(rt;
-        both(&ones, &record, &goodbye()) == Ok(true),
-        "a key longer than all"
-    );
-    // It passes the record end, and lies inside the file.
-    let long = changed(two_file(alloc)?, 2068, b"\x08");
+    let first = stays(ReadFault::Record(2048));
     let eight = [value(2075, 8), NONE];
-    assert!(rt;
-        both(&long, &hello(), &eight) == Ok(true),
-        "a value with a byte more"
-    );
+    // A key longer than all; and a value with a byte more, which passes the record end and lies
+    // inside the file.
+    let are_told = [
+        both_with(alloc, 2048, b"\xff\xff\xff\xff", &first, &goodbye())?,
+        both_with(alloc, 2068, b"\x08", &hello(), &eight)?,
+    ];
+    assert!(rt; are_told == [true; 2], "{are_told:?}");
     let mut added = two_file(alloc)?;
     added.extend_from_slice(b"extra")?;
-    assert!(rt;
-        both(&added, &hello(), &goodbye()) == Ok(true),
-        "bytes at the end"
-    );
+    let is_found = both(&added, &hello(), &goodbye())?;
+    assert!(rt; is_found, "bytes at the end");
     Ok(())
 }
 
@@ -115,17 +120,17 @@ pub(super) fn foreign(alloc: Global) -> Result<Vec<u8>, AllocError> {
 fn files_of_another_program_are_looked_up(rt: HostRuntime) -> Result<(), Fail> {
     let alloc = rt.alloc();
     let full = foreign(alloc)?;
-    let a = always_gives::<Narrow>(&full, b"a", &[value(2057, 1), NONE]);
-    assert!(rt; a == Ok(true), "a full table of one slot");
-    let bc = always_gives::<Narrow>(&full, b"bc", &[NONE, NONE]);
-    assert!(rt; bc == Ok(true), "another key of its table");
     let turned = two_values(alloc, [(177604, 2048), (177604, 2058)])?;
     let both = [value(2067, 1), value(2057, 1), NONE];
-    let a = always_gives::<Narrow>(&turned, b"a", &both);
-    assert!(rt; a == Ok(true), "the second value first");
     let zeros = vec![in alloc; 0u8; 2048]?;
-    let a = always_gives::<Narrow>(&zeros, b"a", &[NONE, NONE]);
-    assert!(rt; a == Ok(true), "a head of zeros");
+    // A full table of one slot, and another key of it; the second value first; a head of zeros.
+    let are_found = [
+        always_gives::<Narrow>(&full, b"a", &[value(2057, 1), NONE])?,
+        always_gives::<Narrow>(&full, b"bc", &[NONE, NONE])?,
+        always_gives::<Narrow>(&turned, b"a", &both)?,
+        always_gives::<Narrow>(&zeros, b"a", &[NONE, NONE])?,
+    ];
+    assert!(rt; are_found == [true; 4], "{are_found:?}");
     Ok(())
 }
 
@@ -135,16 +140,17 @@ const WIDE_SLOT: &[u8] = b"\x81\x5b\x87\x0b\0\0\0\0\0\x10\0\0\0\0\0\0";
 #[test]
 fn wide_slots_are_read_whole(rt: HostRuntime) -> Result<(), Fail> {
     let alloc = rt.alloc();
-    // A hash with a bit above those of any key, in the home slot.
+    // A hash with a bit above those of any key, in the home slot: no key has it. Then the search
+    // goes round. And a place of all ones.
     let high = changed(wide_file(alloc)?, 4140, b"\x01");
-    let none = always_gives::<Wide>(&high, b"one", &[NONE, NONE]);
-    assert!(rt; none == Ok(true), "no key has this hash");
+    let none = always_gives::<Wide>(&high, b"one", &[NONE, NONE])?;
     let round = changed(high, 4120, WIDE_SLOT);
-    let one = always_gives::<Wide>(&round, b"one", &[value(4115, 5), NONE]);
-    assert!(rt; one == Ok(true), "the search goes round");
     let ones = changed(wide_file(alloc)?, 4144, b"\xff\xff\xff\xff\xff\xff\xff\xff");
-    let record = stays(ReadFault::Record(u64::MAX));
-    let one = always_gives::<Wide>(&ones, b"one", &record);
-    assert!(rt; one == Ok(true), "a place of all ones");
+    let are_told = [
+        none,
+        always_gives::<Wide>(&round, b"one", &[value(4115, 5), NONE])?,
+        always_gives::<Wide>(&ones, b"one", &stays(ReadFault::Record(u64::MAX)))?,
+    ];
+    assert!(rt; are_told == [true; 3], "{are_told:?}");
     Ok(())
 }

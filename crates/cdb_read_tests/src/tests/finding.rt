@@ -1,5 +1,5 @@
 // Look-ups: values in order, damage, and a store that fails each call in turn.
-use super::files::{Fused, fused, opened_again, two_file, wide_file};
+use super::files::{Fused, changed, fused, opened_again, two_file, wide_file};
 use cdb_form::{Narrow, Wide, Width};
 use cdb_read::{Finder, ReadFault, Span};
 use std::alloc::{AllocError, Global};
@@ -72,15 +72,14 @@ pub(super) fn two_values(alloc: Global, slots: [(u32, u32); 2]) -> Result<Vec<u8
 #[test]
 fn the_values_of_worked_files_are_found(rt: HostRuntime) -> Result<(), Fail> {
     let file = two_file(rt.alloc())?;
-    let one = always_gives::<Narrow>(&file, b"one", &[value(2059, 5), Ok(None), Ok(None)]);
-    assert!(rt; one == Ok(true), "one");
-    let two = always_gives::<Narrow>(&file, b"two", &[value(2075, 7), Ok(None), Ok(None)]);
-    assert!(rt; two == Ok(true), "two");
-    let none = always_gives::<Narrow>(&file, b"zzz", &[Ok(None), Ok(None)]);
-    assert!(rt; none == Ok(true), "zzz");
     let wide = wide_file(rt.alloc())?;
-    let one = always_gives::<Wide>(&wide, b"one", &[value(4115, 5), Ok(None), Ok(None)]);
-    assert!(rt; one == Ok(true), "one in words of 8 bytes");
+    let are_found = [
+        always_gives::<Narrow>(&file, b"one", &[value(2059, 5), Ok(None), Ok(None)])?,
+        always_gives::<Narrow>(&file, b"two", &[value(2075, 7), Ok(None), Ok(None)])?,
+        always_gives::<Narrow>(&file, b"zzz", &[Ok(None), Ok(None)])?,
+        always_gives::<Wide>(&wide, b"one", &[value(4115, 5), Ok(None), Ok(None)])?,
+    ];
+    assert!(rt; are_found == [true; 4], "{are_found:?}");
     Ok(())
 }
 
@@ -110,21 +109,19 @@ fn a_search_goes_round(rt: HostRuntime) -> Result<(), Fail> {
 
 #[test]
 fn a_damage_is_met_and_stays(rt: HostRuntime) -> Result<(), Fail> {
-    let mut file = two_file(rt.alloc())?;
     // The slot of `two` tells 2065 in place of 2064.
-    if file.len() > 2086 {
-        file[2086] = 17;
-    }
+    let file = changed(two_file(rt.alloc())?, 2086, b"\x11");
     let damage = Err(ReadFault::Record(2065));
-    let two = always_gives::<Narrow>(&file, b"two", &[damage, damage]);
-    assert!(rt; two == Ok(true), "a place of no record");
-    let one = always_gives::<Narrow>(&file, b"one", &[value(2059, 5), Ok(None)]);
-    assert!(rt; one == Ok(true), "the other key");
+    let met = [
+        always_gives::<Narrow>(&file, b"two", &[damage, damage])?,
+        always_gives::<Narrow>(&file, b"one", &[value(2059, 5), Ok(None)])?,
+    ];
+    assert!(rt; met == [true; 2], "a place of no record: {met:?}");
     let mut cut = two_file(rt.alloc())?;
     cut.truncate(2100);
     let damage = Err(ReadFault::Table(129));
-    let one = always_gives::<Narrow>(&cut, b"one", &[damage, damage]);
-    assert!(rt; one == Ok(true), "a table that passes the end");
+    let met = always_gives::<Narrow>(&cut, b"one", &[damage, damage])?;
+    assert!(rt; met, "a table that passes the end");
     Ok(())
 }
 

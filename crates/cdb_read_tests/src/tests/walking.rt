@@ -38,6 +38,16 @@ fn always_gives<L: Width>(file: &Vec<u8>, wanted: &[Answer]) -> Result<bool, Rea
     Ok(same)
 }
 
+/// Whether a walk of the file of two records with other bytes from a place on gives these answers.
+fn walks_with(
+    alloc: Global,
+    at: usize,
+    bytes: &[u8],
+    wanted: &[Answer],
+) -> Result<bool, ReadFault> {
+    always_gives::<Narrow>(&changed(two_file(alloc)?, at, bytes), wanted)
+}
+
 /// A record at a place, with these lengths, whose header has so many bytes.
 fn pair(place: u64, header: u64, klen: u64, vlen: u64) -> Answer {
     let place = place.min(1 << 32);
@@ -65,35 +75,33 @@ fn given(at: (u64, u64, u64, u64)) -> Answer {
 
 #[test]
 fn the_records_of_worked_files_are_walked(rt: HostRuntime) -> Result<(), Fail> {
-    let wanted = [given(ONE), given(TWO), Ok(None), Ok(None)];
-    let two = always_gives::<Narrow>(&two_file(rt.alloc())?, &wanted);
-    assert!(rt; two == Ok(true), "two records");
-    let wanted = [pair(4096, 16, 3, 5), Ok(None), Ok(None)];
-    let wide = always_gives::<Wide>(&wide_file(rt.alloc())?, &wanted);
-    assert!(rt; wide == Ok(true), "in words of 8 bytes");
+    let two = [given(ONE), given(TWO), Ok(None), Ok(None)];
+    let wide = [pair(4096, 16, 3, 5), Ok(None), Ok(None)];
     let zeros = vec![in rt.alloc(); 0u8; 2048]?;
-    let empty = always_gives::<Narrow>(&zeros, &[Ok(None), Ok(None)]);
-    assert!(rt; empty == Ok(true), "a head of zeros");
+    // Two records; in words of 8 bytes; and a head of zeros.
+    let are_walked = [
+        always_gives::<Narrow>(&two_file(rt.alloc())?, &two)?,
+        always_gives::<Wide>(&wide_file(rt.alloc())?, &wide)?,
+        always_gives::<Narrow>(&zeros, &[Ok(None), Ok(None)])?,
+    ];
+    assert!(rt; are_walked == [true; 3], "{are_walked:?}");
     Ok(())
 }
 
 #[test]
 fn a_damage_ends_a_walk_and_stays(rt: HostRuntime) -> Result<(), Fail> {
     let alloc = rt.alloc();
-    // Table 0 has a slot at place 100.
-    let damage = Err(ReadFault::Table(0));
-    let early = changed(two_file(alloc)?, 0, b"\x64\0\0\0\x01\0\0\0");
-    let answer = always_gives::<Narrow>(&early, &[damage, damage]);
-    assert!(rt; answer == Ok(true), "a table in the head");
-    // The value of `two` has one byte more, and passes the record end.
-    let damage = Err(ReadFault::Record(2064));
-    let long = changed(two_file(alloc)?, 2068, b"\x08");
-    let answer = always_gives::<Narrow>(&long, &[given(ONE), damage, damage]);
-    assert!(rt; answer == Ok(true), "a record that passes the record end");
-    let damage = Err(ReadFault::Record(2048));
-    let ones = changed(two_file(alloc)?, 2048, b"\xff\xff\xff\xff");
-    let answer = always_gives::<Narrow>(&ones, &[damage, damage]);
-    assert!(rt; answer == Ok(true), "a key longer than all");
+    let table = Err(ReadFault::Table(0));
+    let second = Err(ReadFault::Record(2064));
+    let first = Err(ReadFault::Record(2048));
+    // Table 0 has a slot at place 100; the value of `two` has one byte more, and passes the record
+    // end; and a key is longer than all.
+    let are_told = [
+        walks_with(alloc, 0, b"\x64\0\0\0\x01\0\0\0", &[table, table])?,
+        walks_with(alloc, 2068, b"\x08", &[given(ONE), second, second])?,
+        walks_with(alloc, 2048, b"\xff\xff\xff\xff", &[first, first])?,
+    ];
+    assert!(rt; are_told == [true; 3], "{are_told:?}");
     Ok(())
 }
 

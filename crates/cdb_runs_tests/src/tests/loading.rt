@@ -4,6 +4,7 @@ use super::worked::{TWO, bytes_of};
 use cdb_form::WalkFault;
 use cdb_runs::{Fault, load, load_from};
 use cdb_store::MemStore;
+use std::alloc::Global;
 use std::prelude::*;
 use std::test::Fail;
 
@@ -15,24 +16,30 @@ fn bytes_in(loaded: Result<MemStore, Fault>) -> Result<Vec<u8>, Fault> {
     }
 }
 
+/// Whether a load of so many bytes at the most gives a file whole.
+fn is_loaded(alloc: Global, file: &[u8], most: u32) -> bool {
+    match load::<&[u8]>(alloc, file, u64::from(most)) {
+        Ok(store) => store.bytes() == file,
+        Err(_) => false,
+    }
+}
+
+/// Whether it is too long for that.
+fn is_too_long(alloc: Global, file: &[u8], most: u32) -> bool {
+    bytes_in(load::<&[u8]>(alloc, file, u64::from(most))) == Err(Fault::Long)
+}
+
 #[test]
 fn files_as_long_as_they_may_be(rt: HostRuntime) -> Result<(), Fail> {
     let file = bytes_of(rt.alloc(), &TWO)?;
-    let under = load::<&[u8]>(rt.alloc(), &file, 2113);
-    assert!(rt; bytes_in(under) == Err(Fault::Long));
-    let at = load::<&[u8]>(rt.alloc(), &file, 2114);
-    assert!(rt; bytes_in(at) == Ok(file.clone()?));
-    let above = load::<&[u8]>(rt.alloc(), &file, 2115);
-    assert!(rt; bytes_in(above) == Ok(file));
+    let is_whole = is_loaded(rt.alloc(), &file, 2114) && is_loaded(rt.alloc(), &file, 2115);
+    assert!(rt; is_whole && is_too_long(rt.alloc(), &file, 2113));
     Ok(())
 }
 
 #[test]
 fn nothing_is_loaded_where_nothing_is_allowed(rt: HostRuntime) {
-    let none = load::<&[u8]>(rt.alloc(), b"", 0);
-    assert!(rt; bytes_in(none) == Ok(Vec::new(rt.alloc())));
-    let one = load::<&[u8]>(rt.alloc(), b"x", 0);
-    assert!(rt; bytes_in(one) == Err(Fault::Long));
+    assert!(rt; is_loaded(rt.alloc(), b"", 0) && is_too_long(rt.alloc(), b"x", 0));
 }
 
 #[test]

@@ -126,6 +126,20 @@ fn run(
     run_style(alloc, inputs, mode, duplicates, Style::Native)
 }
 
+/// Whether a run that warns of duplicates answers so, with these lines, and with this file where it
+/// fails not.
+fn warns(
+    alloc: Global,
+    inputs: &[&'static [u8]],
+    answer: Result<(), Fault>,
+    file: &[u8],
+    lines: &[u8],
+) -> Result<bool, AllocError> {
+    let made = run(alloc, inputs, Mode::Warn, Duplicates::Told)?;
+    let is_made = answer.is_err() || made.file.as_slice() == file;
+    Ok(is_made && made.answer == answer && made.lines.as_slice() == lines)
+}
+
 /// A run in memory, with the duplicates told, that may make a file of 2100 bytes.
 fn run_within_2100(alloc: Global, inputs: &[&'static [u8]]) -> Result<Made, AllocError> {
     make(
@@ -150,21 +164,20 @@ fn duplicates_are_put_by_the_mode_and_told(rt: HostRuntime) -> Result<(), Fail> 
     let first = bytes_of(rt.alloc(), &one_value(b"\x01\0\0\0\x01\0\0\0a1"))?;
     let second = bytes_of(rt.alloc(), &one_value(b"\x01\0\0\0\x01\0\0\0a2"))?;
     assert!(rt; both.len() == 2100 && first.len() == 2074 && second.len() == 2074);
-    let made = run(rt.alloc(), &[TWICE], Mode::Warn, Duplicates::Told)?;
-    assert!(rt; made.is(Ok(()), &both, LINE), "warned of");
-    let made = run(rt.alloc(), &[TWICE], Mode::Add, Duplicates::Silent)?;
-    assert!(rt; made.is(Ok(()), &both, b""), "added");
-    let made = run(rt.alloc(), &[TWICE], Mode::Insert, Duplicates::Silent)?;
-    assert!(rt; made.is(Ok(()), &first, b""), "inserted");
-    let made = run(rt.alloc(), &[TWICE], Mode::Insert, Duplicates::Told)?;
-    assert!(rt; made.is(Ok(()), &first, LINE), "inserted and told");
-    let made = run(rt.alloc(), &[TWICE], Mode::Replace, Duplicates::Silent)?;
-    assert!(rt; made.is(Ok(()), &second, b""), "replaced");
-    let made = run(rt.alloc(), &[TWICE], Mode::Replace, Duplicates::Told)?;
-    assert!(rt; made.is(Ok(()), &second, LINE), "replaced and told");
-    // `Add` does not look, so it finds none to tell.
-    let made = run(rt.alloc(), &[TWICE], Mode::Add, Duplicates::Told)?;
-    assert!(rt; made.is(Ok(()), &both, b""), "added and not told");
+    let cases: [(Mode, Duplicates, &[u8], &[u8]); 7] = [
+        (Mode::Warn, Duplicates::Told, &both, LINE),
+        (Mode::Add, Duplicates::Silent, &both, b""),
+        (Mode::Insert, Duplicates::Silent, &first, b""),
+        (Mode::Insert, Duplicates::Told, &first, LINE),
+        (Mode::Replace, Duplicates::Silent, &second, b""),
+        (Mode::Replace, Duplicates::Told, &second, LINE),
+        // `Add` does not look, so it finds none to tell.
+        (Mode::Add, Duplicates::Told, &both, b""),
+    ];
+    for (mode, duplicates, file, lines) in cases {
+        let made = run(rt.alloc(), &[TWICE], mode, duplicates)?;
+        assert!(rt; made.is(Ok(()), file, lines), "{mode:?}, {duplicates:?}");
+    }
     Ok(())
 }
 
@@ -180,15 +193,18 @@ fn a_run_stops_at_the_first_duplicate_that_it_tells(rt: HostRuntime) -> Result<(
 #[test]
 fn each_input_is_counted_from_its_first_record(rt: HostRuntime) -> Result<(), Fail> {
     let both = bytes_of(rt.alloc(), &BOTH_VALUES)?;
-    let made = run(rt.alloc(), &[FIRST, SECOND], Mode::Warn, Duplicates::Told)?;
-    assert!(rt; made.is(Ok(()), &both, OTHER_LINE));
-    let made = run(rt.alloc(), &[FIRST, b"x"], Mode::Warn, Duplicates::Told)?;
-    assert!(rt; made.fails(Fault::Text(2, TextFault::Syntax(0)), b""));
-    let made = run(rt.alloc(), &[TWICE, b"x"], Mode::Warn, Duplicates::Told)?;
-    assert!(rt; made.fails(Fault::Text(2, TextFault::Syntax(0)), LINE));
     let none = bytes_of(rt.alloc(), &NONE)?;
-    let made = run(rt.alloc(), &[], Mode::Warn, Duplicates::Told)?;
-    assert!(rt; made.is(Ok(()), &none, b""));
+    let wrong = Err(Fault::Text(2, TextFault::Syntax(0)));
+    let cases: [(&[&'static [u8]], Result<(), Fault>, &[u8], &[u8]); 4] = [
+        (&[FIRST, SECOND], Ok(()), &both, OTHER_LINE),
+        (&[FIRST, b"x"], wrong, b"", b""),
+        (&[TWICE, b"x"], wrong, b"", LINE),
+        (&[], Ok(()), &none, b""),
+    ];
+    for (inputs, answer, file, lines) in cases {
+        let is_so = warns(rt.alloc(), inputs, answer, file, lines)?;
+        assert!(rt; is_so, "{answer:?}, {lines:?}");
+    }
     Ok(())
 }
 
@@ -210,11 +226,11 @@ fn map_texts_are_put_as_native_ones(rt: HostRuntime) -> Result<(), Fail> {
 #[test]
 fn a_run_has_a_limit_of_its_own(rt: HostRuntime) -> Result<(), Fail> {
     let both = bytes_of(rt.alloc(), &BOTH_VALUES)?;
-    let made = run_within_2100(rt.alloc(), &[TWICE])?;
-    assert!(rt; made.is(Ok(()), &both, LINE));
+    let fits = run_within_2100(rt.alloc(), &[TWICE])?.is(Ok(()), &both, LINE);
     // The record that is too much is not told.
-    let made = run_within_2099(rt.alloc(), &[TWICE])?;
-    assert!(rt; made.fails(Fault::Make(MakeFault::TooBig), b""));
+    let too_big = Fault::Make(MakeFault::TooBig);
+    let passes = run_within_2099(rt.alloc(), &[TWICE])?.fails(too_big, b"");
+    assert!(rt; fits && passes);
     Ok(())
 }
 

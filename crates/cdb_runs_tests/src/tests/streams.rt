@@ -61,24 +61,25 @@ fn write_through<W: Write>(
 fn bytes_go_on_in_order_and_at_once(rt: HostRuntime) -> Result<(), Fail> {
     let mut held = Vec::new(rt.alloc());
     let pieces = ["a", "bc", "defghi", "", "j"];
-    assert!(rt; write_through(rt.alloc(), &mut held, &pieces)?);
-    assert!(rt; held.as_slice() == b"abcdefghij".as_slice());
+    let are_written = write_through(rt.alloc(), &mut held, &pieces)?;
+    assert!(rt; are_written && held.as_slice() == b"abcdefghij".as_slice());
     let mut noting = NotingWriter {
         calls: Vec::new(rt.alloc()),
         fails: false,
     };
-    assert!(rt; write_through(rt.alloc(), &mut noting, &["a", "b", "c", "d"])?);
-    assert!(rt; noting.calls.as_slice() == b"wf".as_slice());
+    let are_written = write_through(rt.alloc(), &mut noting, &["a", "b", "c", "d"])?;
+    assert!(rt; are_written && noting.calls.as_slice() == b"wf".as_slice());
     Ok(())
 }
 
 #[test]
 fn interrupts_are_counted_in_a_row(rt: HostRuntime) -> Result<(), Fail> {
     let mut writer = SlowWriter::new(rt.alloc(), 1000);
-    assert!(rt; write_through(rt.alloc(), &mut writer, &["abc"])?);
-    assert!(rt; writer.held.as_slice() == b"abc".as_slice());
+    let is_written = write_through(rt.alloc(), &mut writer, &["abc"])?;
+    assert!(rt; is_written && writer.held.as_slice() == b"abc".as_slice());
     let mut writer = SlowWriter::new(rt.alloc(), 1001);
-    assert!(rt; !write_through(rt.alloc(), &mut writer, &["abc"])?);
+    let is_written = write_through(rt.alloc(), &mut writer, &["abc"])?;
+    assert!(rt; !is_written);
     Ok(())
 }
 
@@ -97,8 +98,8 @@ fn bytes_that_were_not_taken_stay(rt: HostRuntime) -> Result<(), Fail> {
         room: 3,
         failed: false,
     };
-    assert!(rt; flushes_again(rt.alloc(), &mut writer)?);
-    assert!(rt; writer.held.as_slice() == b"abcd".as_slice());
+    let is_flushed = flushes_again(rt.alloc(), &mut writer)?;
+    assert!(rt; is_flushed && writer.held.as_slice() == b"abcd".as_slice());
     Ok(())
 }
 
