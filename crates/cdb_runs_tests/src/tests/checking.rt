@@ -59,41 +59,43 @@ fn sound_files(rt: HostRuntime) -> Result<(), Fail> {
 /// A file with other bytes from a place on, and its first fault.
 type Faulty = (&'static [Run], usize, &'static [u8], ReadFault);
 
+/// Damages, of which each is told.
+const FAULTY: [Faulty; 10] = [
+    // a table at the end, one in the head, and a value that is too long
+    (&TWO, 56, b"\x42\x08\0\0\x01\0\0\0", ReadFault::Table(7)),
+    (&TWO, 0, b"\x64\0\0\0\x01\0\0\0", ReadFault::Table(0)),
+    (&TWO, 2068, b"\x08", ReadFault::Record(2064)),
+    // a slot with another place, with another hash, and in the table of another
+    (&TWO, 2086, b"\x11", ReadFault::Slot(41, 0)),
+    (&TWO, 2083, b"\x61", ReadFault::Slot(41, 0)),
+    (
+        &TWO,
+        2090,
+        b"\x81\x5b\x87\x0b\0\x08\0\0",
+        ReadFault::Slot(41, 1),
+    ),
+    (
+        &TWO,
+        2098,
+        b"\x29\x60\x87\x0b\x10\x08\0\0",
+        ReadFault::Slot(129, 0),
+    ),
+    // a slot behind an empty one
+    (
+        &EMPTY_RECORD,
+        2056,
+        b"\x05\x15\0\0\0\x08\0\0\0\0\0\0\0\0\0\0",
+        ReadFault::Slot(5, 0),
+    ),
+    // one record in two slots, and one in none
+    (&FOUR_VALUES, 2092, b"\x14", ReadFault::Twice(2068)),
+    (&TWO, 2106, b"\0\0\0\0\0\0\0\0", ReadFault::Unindexed(2048)),
+];
+
 #[test]
 fn the_first_fault_is_told(rt: HostRuntime) -> Result<(), Fail> {
-    let cases: [Faulty; 10] = [
-        // a table at the end, one in the head, and a value that is too long
-        (&TWO, 56, b"\x42\x08\0\0\x01\0\0\0", ReadFault::Table(7)),
-        (&TWO, 0, b"\x64\0\0\0\x01\0\0\0", ReadFault::Table(0)),
-        (&TWO, 2068, b"\x08", ReadFault::Record(2064)),
-        // a slot with another place, with another hash, and in the table of another
-        (&TWO, 2086, b"\x11", ReadFault::Slot(41, 0)),
-        (&TWO, 2083, b"\x61", ReadFault::Slot(41, 0)),
-        (
-            &TWO,
-            2090,
-            b"\x81\x5b\x87\x0b\0\x08\0\0",
-            ReadFault::Slot(41, 1),
-        ),
-        (
-            &TWO,
-            2098,
-            b"\x29\x60\x87\x0b\x10\x08\0\0",
-            ReadFault::Slot(129, 0),
-        ),
-        // a slot behind an empty one
-        (
-            &EMPTY_RECORD,
-            2056,
-            b"\x05\x15\0\0\0\x08\0\0\0\0\0\0\0\0\0\0",
-            ReadFault::Slot(5, 0),
-        ),
-        // one record in two slots, and one in none
-        (&FOUR_VALUES, 2092, b"\x14", ReadFault::Twice(2068)),
-        (&TWO, 2106, b"\0\0\0\0\0\0\0\0", ReadFault::Unindexed(2048)),
-    ];
-    for (runs, place, new, fault) in cases {
-        let is_told = answers::<Narrow>(rt.alloc(), runs, place, new, damaged(fault))?;
+    for (runs, place, new, fault) in &FAULTY {
+        let is_told = answers::<Narrow>(rt.alloc(), *runs, *place, *new, damaged(*fault))?;
         assert!(rt; is_told, "{fault:?}");
     }
     let lost = damaged(ReadFault::Unindexed(4096));
