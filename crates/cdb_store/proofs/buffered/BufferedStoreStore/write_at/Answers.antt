@@ -1,7 +1,8 @@
-use Rattle.std.proofs.Common.{rules, ◌≡◌, ◌++◌}
+use Rattle.std.proofs.Common.{rules, ◌≡◌, ◌++◌, arith}
 use Rattle.cdb_store.specs.Images.{AreSized, AfterWrite, Over}
 use Rattle.cdb_store.proofs.OverLemmas.{over_emptied, over_more, over_same, sized_over}
 use Rattle.cdb_store.proofs.Moves.{same_trans, same_sym, same_refl, write_between, torn_between, torn_same, torn_from_write}
+use Rattle.std.proofs.lemmas.Grind.{common_steps}
 use Rattle.cdb_store.proofs.buffered.BufferedStoreStore.write_at.Goals as goal
 
 pub returns-in_err-reserve-clause-torn : goal.returns-in_err-reserve-clause-torn
@@ -60,3 +61,51 @@ returns-clause-ok_written g c = search rules
 
 pub returns-clause-at_most_written : goal.returns-clause-at_most_written
 returns-clause-at_most_written g c = search rules
+
+pub returns-then-bytes-self-clause-memory_failures : goal.returns-then-bytes-self-clause-memory_failures
+returns-then-bytes-self-clause-memory_failures g c = grind (arith, common_steps)
+
+pub returns-clause-ok_size : goal.returns-clause-ok_size
+returns-clause-ok_size g c = grind (arith, common_steps)
+
+pub returns-then-bytes-self-clause-not_past : goal.returns-then-bytes-self-clause-not_past
+returns-then-bytes-self-clause-not_past g c = grind (arith, common_steps)
+
+pub returns-then-bytes-self-clause-memory_size : goal.returns-then-bytes-self-clause-memory_size
+returns-then-bytes-self-clause-memory_size g c = search rules
+
+pub returns-then-bytes-self-clause-at_most_written : goal.returns-then-bytes-self-clause-at_most_written
+returns-then-bytes-self-clause-at_most_written g c = search rules
+
+pub returns-clause-longer : goal.returns-clause-longer
+returns-clause-longer g c = grind (arith, common_steps)
+
+pub returns-then-bytes-self-clause-memory_room : goal.returns-then-bytes-self-clause-memory_room
+returns-then-bytes-self-clause-memory_room g c = search rules
+
+pub returns-clause-cause : goal.returns-clause-cause
+returns-clause-cause g c = grind (arith, common_steps)
+
+pub returns-then-bytes-self-clause-memory_written : goal.returns-then-bytes-self-clause-memory_written
+returns-then-bytes-self-clause-memory_written g c = search rules
+
+pub returns-then-bytes-self-clause-more_written : goal.returns-then-bytes-self-clause-more_written
+returns-then-bytes-self-clause-more_written g c = grind (arith, common_steps)
+
+pub write_at-requires-clause-start : goal.write_at-requires-clause-start
+write_at-requires-clause-start g c = grind (arith, common_steps)
+
+pub returns-then-bytes-self-clause-ok_written : goal.returns-then-bytes-self-clause-ok_written
+returns-then-bytes-self-clause-ok_written g c = grind (arith, common_steps)
+
+pub returns-clause-memory_room : goal.returns-clause-memory_room
+returns-clause-memory_room g c = grind (arith, common_steps)
+
+pub returns-then-bytes-self-clause-cause : goal.returns-then-bytes-self-clause-cause
+returns-then-bytes-self-clause-cause g c = grind (arith, common_steps)
+
+pub returns-then-bytes-self-clause-memory : goal.returns-then-bytes-self-clause-memory
+returns-then-bytes-self-clause-memory g c = grind (arith, common_steps)
+
+pub returns-clause-memory_size : goal.returns-clause-memory_size
+returns-clause-memory_size g c = grind (arith, common_steps)

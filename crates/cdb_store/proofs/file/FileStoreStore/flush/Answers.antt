@@ -1,4 +1,5 @@
-use Rattle.std.proofs.Common.{rules}
+use Rattle.std.proofs.Common.{rules, arith}
+use Rattle.std.proofs.lemmas.Grind.{common_steps}
 use Rattle.cdb_store.proofs.file.FileStoreStore.flush.Goals as goal
 
 pub returns-in-Ok-clause-images : goal.returns-in-Ok-clause-images
@@ -9,3 +10,9 @@ returns-in-Ok-clause-ok g c = search rules
 
 pub returns-in-Ok-clause-synced : goal.returns-in-Ok-clause-synced
 returns-in-Ok-clause-synced g c = search rules
+
+pub returns-in-Err-clause-images : goal.returns-in-Err-clause-images
+returns-in-Err-clause-images g c = grind (arith, common_steps)
+
+pub returns-in_err-refuse_if_lost-clause-images : goal.returns-in_err-refuse_if_lost-clause-images
+returns-in_err-refuse_if_lost-clause-images g c = search rules

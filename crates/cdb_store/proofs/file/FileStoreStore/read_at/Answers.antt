@@ -1,4 +1,4 @@
-use Rattle.std.proofs.Common.{arith, sym, subst, ◌∙◌, ap}
+use Rattle.std.proofs.Common.{arith, sym, subst, ◌∙◌, ap, rules}
 use Rattle.cdb_store.specs.Images.{AfterRead}
 use Rattle.cdb_store.specs.Calls.{FileImage, lost}
 use Rattle.cdb_store.proofs.FileLemmas.{file_gave, long_same, gave_long}
@@ -23,3 +23,6 @@ returns-clause-ok g c =
     let s = c.refuse_if_lost.new.self in
     subst (λ x. AfterRead c.args.pos c.read_all.new.into (FileImage x.len (g.F.RawFile.calls x.file)) (FileImage s.len (g.F.RawFile.calls c.give.new.self))) c.in_ok-refuse_if_lost.ensures.same
     (file_gave c.args.pos s.len c.read_all.new.into (omega (arith, c.refuse_if_lost.ensures.len)) c.read_all.ensures.untouched c.give.ensures)
+
+pub returns-in_err-refuse_if_lost-clause-err : goal.returns-in_err-refuse_if_lost-clause-err
+returns-in_err-refuse_if_lost-clause-err g c = search rules

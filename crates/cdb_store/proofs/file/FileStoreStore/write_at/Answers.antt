@@ -5,6 +5,7 @@ use Rattle.cdb_store.specs.Lengths.{file_size}
 use Rattle.cdb_store.proofs.Moves.{torn_from_write}
 use Rattle.cdb_store.proofs.FileLemmas.{file_put, put_long}
 use Rattle.cdb_store.proofs.FileFaults.{torn_refused, torn_told, torn_lost}
+use Rattle.std.proofs.lemmas.Grind.{common_steps}
 use Rattle.cdb_store.proofs.file.FileStoreStore.write_at.Goals as goal
 
 pub returns-in_err-refuse_if_lost-clause-torn : goal.returns-in_err-refuse_if_lost-clause-torn
@@ -49,3 +50,6 @@ returns-in-None-clause-torn g c =
 
 pub returns-in-None-clause-measured : goal.returns-in-None-clause-measured
 returns-in-None-clause-measured g c = search rules
+
+pub returns-in-Some-clause-measured : goal.returns-in-Some-clause-measured
+returns-in-Some-clause-measured g c = grind (arith, common_steps)

@@ -1,5 +1,5 @@
 use Rattle.std.proofs.lemmas.Grind.{common_steps}
-use Rattle.std.proofs.Common.{arith, ℕ, length, length-take}
+use Rattle.std.proofs.Common.{arith, ℕ, length, length-take, rules}
 use Rattle.cdb_store.proofs.Moves.{torn_wider}
 use Rattle.cdb_store.proofs.fuse.FuseStoreStore.write_at.Goals as goal
 
@@ -11,3 +11,45 @@ returns-in_default-clause-torn g c = torn_wider c.args.pos _ (length c.args.byte
 
 pub returns-in-Ok-clause-part : goal.returns-in-Ok-clause-part
 returns-in-Ok-clause-part g c = grind (arith, common_steps)
+
+pub returns-clause-memory_size : goal.returns-clause-memory_size
+returns-clause-memory_size g c = search rules
+
+pub returns-in-Ok-clause-at_most_written : goal.returns-in-Ok-clause-at_most_written
+returns-in-Ok-clause-at_most_written g c = search rules
+
+pub returns-in-Ok-clause-memory_written : goal.returns-in-Ok-clause-memory_written
+returns-in-Ok-clause-memory_written g c = search rules
+
+pub returns-clause-memory_room : goal.returns-clause-memory_room
+returns-clause-memory_room g c = search rules
+
+pub returns-in-Ok-clause-past_room : goal.returns-in-Ok-clause-past_room
+returns-in-Ok-clause-past_room g c = search rules
+
+pub returns-in_default-clause-past_room : goal.returns-in_default-clause-past_room
+returns-in_default-clause-past_room g c = search rules
+
+pub returns-clause-part : goal.returns-clause-part
+returns-clause-part g c = search rules
+
+pub returns-in-Ok-clause-memory_size : goal.returns-in-Ok-clause-memory_size
+returns-in-Ok-clause-memory_size g c = search rules
+
+pub returns-clause-memory_failures : goal.returns-clause-memory_failures
+returns-clause-memory_failures g c = search rules
+
+pub returns-in-Ok-clause-memory_room : goal.returns-in-Ok-clause-memory_room
+returns-in-Ok-clause-memory_room g c = search rules
+
+pub returns-clause-past_room : goal.returns-clause-past_room
+returns-clause-past_room g c = search rules
+
+pub returns-clause-memory_written : goal.returns-clause-memory_written
+returns-clause-memory_written g c = search rules
+
+pub returns-in-Ok-clause-memory_failures : goal.returns-in-Ok-clause-memory_failures
+returns-in-Ok-clause-memory_failures g c = search rules
+
+pub returns-in_default-clause-part : goal.returns-in_default-clause-part
+returns-in_default-clause-part g c = grind (arith, common_steps)
