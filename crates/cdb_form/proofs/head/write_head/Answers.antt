@@ -6,6 +6,7 @@ use Rattle.cdb_form.specs.Format.Table.{empty_slot}
 use Rattle.cdb_form.specs.Views.Pairs.{pointer_pair, PairFits}
 use Rattle.cdb_form.specs.declared.head.Pointer.{Pointer}
 use Rattle.cdb_form.proofs.ReadBack.{head_at-flat_map}
+use Rattle.std.proofs.lemmas.Grind.{common_steps}
 use Rattle.cdb_form.proofs.head.write_head.Goals as goal
 
 abbrev blank : Pointer
@@ -32,3 +33,9 @@ returns-clause-read_back g c =
     c.loop-n.invariant.written ∙ ap (λ t. flat_map (pair_bytes w) (map pointer_pair t) ++ drop (2 * w * n) c.args.into.now) whole
     ∙ ap (λ t. flat_map (pair_bytes w) (map pointer_pair ps) ++ t) none ∙ append-nil (flat_map (pair_bytes w) (map pointer_pair ps)) in
     head_at-flat_map w g.L.Width.TOP (map pointer_pair ps) c.loop-n.into g.met.L.Width.top_is (length-map ps pointer_pair ∙ long) c.requires.fits written
+
+pub returns-clause-written : goal.returns-clause-written
+returns-clause-written g c = grind (arith, common_steps)
+
+pub loop-n-preserved : goal.loop-n-preserved
+loop-n-preserved g c = grind (arith, common_steps)

@@ -4,6 +4,7 @@ use Rattle.std.specs.Io.KnownBytes.{Consumes}
 use borrow.Rule.Slice.PartMut.{put_mid, same_len_mid}
 use Rattle.cdb_form.specs.Format.Record.{AreBytes}
 use Rattle.cdb_form.proofs.AskingLemmas.{take_read, read_more}
+use Rattle.std.proofs.lemmas.Grind.{common_steps}
 use Rattle.cdb_form.proofs.reading.all_bytes.Goals as goal
 
 pub loop-done-preserved : goal.loop-done-preserved
@@ -22,3 +23,9 @@ loop-done-preserved g c =
       are = subst AreBytes (sym front) more.are;
       within = omega (arith, same_len_mid done (length xs - done) xs ys c.some_bytes.auto.into, inv.within, room, c.in_ok-n.ensures.bound);
     }
+
+pub returns-in_err-n-clause-loses : goal.returns-in_err-n-clause-loses
+returns-in_err-n-clause-loses g c = grind (arith, common_steps)
+
+pub returns-clause-are : goal.returns-clause-are
+returns-clause-are g c = grind (arith, common_steps)

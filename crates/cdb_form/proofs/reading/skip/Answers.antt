@@ -1,6 +1,7 @@
 use Rattle.std.proofs.Common.{◌≡◌, ◌++◌, length, take, arith, length-append, length-drop, ◌∙◌}
 use Rattle.std.proofs.lemmas.List.{length-take-le}
 use Rattle.cdb_form.proofs.SourceLemmas.{consumes_then}
+use Rattle.std.proofs.lemmas.Grind.{common_steps}
 use Rattle.cdb_form.proofs.reading.skip.Goals as goal
 
 pub loop-done-preserved : goal.loop-done-preserved
@@ -19,3 +20,6 @@ loop-done-preserved g c =
       within = omega (arith, room, e.bound);
       piece = simp (length-append, length-drop) (omega (arith, room, c.loop-done.invariant.piece));
     }
+
+pub returns-in_err-n-clause-loses : goal.returns-in_err-n-clause-loses
+returns-in_err-n-clause-loses g c = grind (arith, common_steps)

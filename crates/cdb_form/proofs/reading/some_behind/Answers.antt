@@ -2,6 +2,7 @@ use Rattle.std.proofs.Common.{◌≡◌, ◌+◌, ◌-◌, ◌≤◌, ◌++◌, 
 use Rattle.std.proofs.lemmas.List.{length-take, length-take-le}
 use Rattle.cdb_form.proofs.ByteLemmas.{AreBytes-take}
 use Rattle.cdb_form.proofs.AskingLemmas.{same_front, came_behind}
+use Rattle.std.proofs.lemmas.Grind.{common_steps}
 use Rattle.cdb_form.proofs.reading.some_behind.Goals as goal
 
 pub returns-in-Ok-clause-read : goal.returns-in-Ok-clause-read
@@ -23,3 +24,18 @@ returns-in-Ok-clause-read g c =
       AreBytes-take n ys e.are,
       length-take-le n ys e.bound,
     )
+
+pub returns-in-Ok-eq0-clause-spent : goal.returns-in-Ok-eq0-clause-spent
+returns-in-Ok-eq0-clause-spent g c = grind (arith, common_steps)
+
+pub returns-in-Err-clause-holds : goal.returns-in-Err-clause-holds
+returns-in-Err-clause-holds g c = grind (arith, common_steps)
+
+pub returns-in-Ok-eq0-clause-holds : goal.returns-in-Ok-eq0-clause-holds
+returns-in-Ok-eq0-clause-holds g c = grind (arith, common_steps)
+
+pub returns-in-Ok-clause-within : goal.returns-in-Ok-clause-within
+returns-in-Ok-clause-within g c = grind (arith, common_steps)
+
+pub returns-then-is_err-clause-holds : goal.returns-then-is_err-clause-holds
+returns-then-is_err-clause-holds g c = grind (arith, common_steps)

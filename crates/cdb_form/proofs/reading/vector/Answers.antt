@@ -1,4 +1,4 @@
-use Rattle.std.proofs.Common.{◌≡◌, ◌+◌, ◌≤◌, ◌++◌, take, arith, subst, sym}
+use Rattle.std.proofs.Common.{◌≡◌, ◌+◌, ◌≤◌, ◌++◌, take, arith, subst, sym, rules}
 use Rattle.std.specs.Io.KnownBytes.{Consumes}
 use Rattle.cdb_form.specs.Format.Record.{AreBytes}
 use Rattle.cdb_form.proofs.ByteLemmas.{AreBytes-append}
@@ -24,3 +24,15 @@ loop-done-preserved g c =
       fewer = omega (arith, e.fewer, inv.fewer);
       spent = omega (arith, e.bound, e.spends, inv.spent);
     }
+
+pub returns-in_err-done-clause-short : goal.returns-in_err-done-clause-short
+returns-in_err-done-clause-short g c = search rules
+
+pub returns-in_err-done-clause-spends_err : goal.returns-in_err-done-clause-spends_err
+returns-in_err-done-clause-spends_err g c = search rules
+
+pub returns-in_err-done-clause-each : goal.returns-in_err-done-clause-each
+returns-in_err-done-clause-each g c = search rules
+
+pub returns-in_err-done-clause-loses : goal.returns-in_err-done-clause-loses
+returns-in_err-done-clause-loses g c = search rules

@@ -1,11 +1,11 @@
-use Rattle.std.proofs.Common.{[], ◌+◌, arith, ◌∙◌, sym, subst, inl, inr}
+use Rattle.std.proofs.Common.{[], ◌+◌, arith, ◌∙◌, sym, subst, inl, inr, rules}
 use Rattle.std.proofs.lemmas.Result.{err_from_is_err_and}
 use Rattle.std.proofs.lemmas.List.{append-nil}
 use Rattle.std.specs.Io.KnownBytes.{Consumes}
 use Rattle.cdb_form.proofs.ReadBack.{same_words}
 use Rattle.cdb_form.proofs.RecordReads.{front_told, no_room, header_early, body_no_room, body_early, record_read, loses_then}
-use Rattle.cdb_form.proofs.walk.record_reader.read_record.Goals as goal
 use Rattle.cdb_form.proofs.walk.record_reader.read_record.Goals.{then-left-header-via-then-left-header, then-left-header-via-else-left-header+then-left-header-2}
+use Rattle.cdb_form.proofs.walk.record_reader.read_record.Goals as goal
 
 pub returns-then-left-size-clause-fails : goal.returns-then-left-size-clause-fails
 returns-then-left-size-clause-fails g c = λ damage. no_room g.L.Width.WORD c.args.area.place c.args.area.end (g.R.Read.remaining c.args.reader.now) c.requires (omega (arith, c.pair_size-size.ensures, c.if-left-size.true))
@@ -63,3 +63,6 @@ returns-clause-record g c =
           r.read b.read r.long (sym r.lengths ∙ same_words _ _ (sym b.klen) (sym b.vlen)) (omega (arith, c.pair_size-size.ensures, b.klen, b.vlen))
           (omega (arith, c.pair_size-size.ensures, c.if-left-size.false, c.if-left-header.false, c.if-left-header-2.false)),
     )
+
+pub returns-then-left-header-clause-loses : goal.returns-then-left-header-clause-loses
+returns-then-left-header-clause-loses g c = search rules

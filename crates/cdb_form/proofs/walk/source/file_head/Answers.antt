@@ -1,9 +1,10 @@
-use Rattle.std.proofs.Common.{ℕ, ap, ◌∙◌, sym, subst}
+use Rattle.std.proofs.Common.{ℕ, ap, ◌∙◌, sym, subst, rules, arith}
 use Rattle.std.proofs.lemmas.Result.{err_from_is_err_and}
 use Rattle.std.proofs.lemmas.List.{take_at}
 use Rattle.cdb_form.specs.Format.Reading.{head_at}
 use Rattle.cdb_form.specs.Views.Reading.{ReadsShort}
 use Rattle.cdb_form.proofs.AreaLemmas.{head_fits}
+use Rattle.std.proofs.lemmas.Grind.{common_steps}
 use Rattle.cdb_form.proofs.walk.source.file_head.Goals as goal
 
 pub returns-clause-read : goal.returns-clause-read
@@ -25,3 +26,18 @@ returns-in_err-fill-clause-fails g c =
     rw (p.1, p.2) (λ damage.
     let h = c.in_err-fill.ensures.fails damage in
     (h.0, subst (λ (n : ℕ). ReadsShort n (g.R.Read.remaining c.args.reader.now) (g.R.Read.remaining c.fill.new.reader)) long h.1))
+
+pub returns-in_err-fill-clause-loses : goal.returns-in_err-fill-clause-loses
+returns-in_err-fill-clause-loses g c = search rules
+
+pub returns-clause-loses : goal.returns-clause-loses
+returns-clause-loses g c = search rules
+
+pub read_head-requires : goal.read_head-requires
+read_head-requires g c = grind (arith, common_steps)
+
+pub slice_bounds-bytes-end-2 : goal.slice_bounds-bytes-end-2
+slice_bounds-bytes-end-2 g c = grind (arith, common_steps)
+
+pub slice_bounds-read_head-end : goal.slice_bounds-read_head-end
+slice_bounds-read_head-end g c = grind (arith, common_steps)

@@ -4,6 +4,7 @@ use Rattle.cdb_form.proofs.SourceLemmas.{kept_consumes, part_seen, seen_past, le
 use Rattle.cdb_form.specs.Views.NativeParser.{FailsRecord}
 use Rattle.cdb_form.specs.declared.text.fault.TextFault.TheVariants.{Ended}
 use Rattle.cdb_form.proofs.Stops.{ended_first, syntax_first, record_first, nothing_read}
+use Rattle.std.proofs.lemmas.Grind.{common_steps}
 use Rattle.cdb_form.proofs.text.source.Source.entry.Goals as goal
 
 pub returns-in_err-byte-clause-fails : goal.returns-in_err-byte-clause-fails
@@ -33,3 +34,9 @@ returns-in-None-clause-fails g c = ended_first _ _ _ (rw c.in-None.is at c.in_ok
 
 pub returns-in-Some-clause-fails : goal.returns-in-Some-clause-fails
 returns-in-Some-clause-fails g c = let h = c.in-Some.field-0-test in syntax_first _ _ c.in-Some.field-0 _ _ (rw c.in-Some.is at c.in_ok-byte.ensures.bytes) h.0.1 h.1
+
+pub returns-in-None-clause-leaves : goal.returns-in-None-clause-leaves
+returns-in-None-clause-leaves g c = grind (arith, common_steps)
+
+pub returns-in_ok-record-in-Some-eq43-clause-read : goal.returns-in_ok-record-in-Some-eq43-clause-read
+returns-in_ok-record-in-Some-eq43-clause-read g c = grind (arith, common_steps)

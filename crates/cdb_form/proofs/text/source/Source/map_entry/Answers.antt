@@ -1,6 +1,7 @@
-use Rattle.std.proofs.Common.{[], ◌++◌, ◌∷◌}
+use Rattle.std.proofs.Common.{[], ◌++◌, ◌∷◌, arith}
 use Rattle.std.proofs.lemmas.Result.{err_from_is_err_and}
 use Rattle.cdb_form.proofs.MapReads.{lines_fail, lines_more}
+use Rattle.std.proofs.lemmas.Grind.{common_steps}
 use Rattle.cdb_form.proofs.text.source.Source.map_entry.Goals as goal
 
 pub returns-in_err-line-clause-leaves : goal.returns-in_err-line-clause-leaves
@@ -14,3 +15,9 @@ loop-preserved g c =
     let so = c.loop.invariant in
     let line = rw c.in-Ignored.is at c.in_ok-line.ensures.reads in
     (so.0 ++ line.0 ∷ [], lines_more _ _ _ _ so.0 line.0 so.1 line.1 line.2 c.in_ok-line.ensures.fewer)
+
+pub returns-in-Pair-clause-reads : goal.returns-in-Pair-clause-reads
+returns-in-Pair-clause-reads g = grind (arith, common_steps)
+
+pub returns-in-Last-clause-reads : goal.returns-in-Last-clause-reads
+returns-in-Last-clause-reads g c = grind (arith, common_steps)

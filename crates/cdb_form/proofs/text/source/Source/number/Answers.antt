@@ -1,6 +1,7 @@
 use Rattle.std.proofs.Common.{◌≡◌, ◌+◌, ◌*◌, ap, ◌∙◌, arith, rules}
 use Rattle.std.specs.Char.{digit_value}
 use Rattle.cdb_form.proofs.SourceLemmas.{digit_more, digits_leave}
+use Rattle.std.proofs.lemmas.Grind.{common_steps}
 use Rattle.cdb_form.proofs.text.source.Source.number.Goals as goal
 
 pub loop-byte-preserved : goal.loop-byte-preserved
@@ -28,3 +29,12 @@ returns-else-byte-stop-clause-leaves g c =
     let counted = rw c.in-Some.is at c.in_ok-byte.ensures.counted in
     digits_leave _ _ c.loop-byte.self _ _ _ _ _ _ c.loop-byte.invariant.so_far c.loop-byte.invariant.start c.loop-byte.invariant.spent
     (rw c.in-Some.is at c.in_ok-byte.ensures.bytes) counted c.in_ok-byte.ensures.spends counted (search rules)
+
+pub returns-in_default-clause-leaves : goal.returns-in_default-clause-leaves
+returns-in_default-clause-leaves g c = grind (arith, common_steps)
+
+pub returns-in_err-byte-clause-fails : goal.returns-in_err-byte-clause-fails
+returns-in_err-byte-clause-fails g c = grind (arith, common_steps)
+
+pub returns-then-start-at-clause-read : goal.returns-then-start-at-clause-read
+returns-then-start-at-clause-read g c = grind (arith, common_steps)

@@ -1,6 +1,7 @@
 use Rattle.std.proofs.Common.{[], ◌++◌, ◌∷◌, ◌≡◌, arith, true}
 use Rattle.cdb_form.specs.Views.MapParser.{is_of}
 use Rattle.cdb_form.proofs.MapReads.{run_more}
+use Rattle.std.proofs.lemmas.Grind.{common_steps}
 use Rattle.cdb_form.proofs.text.source.Source.pass.Goals as goal
 
 pub loop-byte-preserved : goal.loop-byte-preserved
@@ -10,3 +11,6 @@ loop-byte-preserved g c =
     let counted = rw c.in-Some.is at e.counted in
     let of_kind : is_of c.args.kind c.in-Some.byte ≡ true = grind arith in
     (c.loop-byte.invariant.0 ++ c.in-Some.byte ∷ [], run_more _ _ _ _ _ _ _ c.loop-byte.invariant.1 read counted e.fewer e.spends of_kind)
+
+pub returns-then-not-has-clause-run : goal.returns-then-not-has-clause-run
+returns-then-not-has-clause-run g c = grind (arith, common_steps)

@@ -1,7 +1,8 @@
-use Rattle.std.proofs.Common.{[], arith}
+use Rattle.std.proofs.Common.{[], arith, rules}
 use Rattle.std.proofs.lemmas.Result.{err_from_is_err_and}
 use Rattle.cdb_form.proofs.SourceLemmas.{record_behind, seen_past, leaves_past}
 use Rattle.cdb_form.proofs.Stops.{record_fails, lift_klen, lift_vlen, lift_key, lift_angle, base_klen, base_vlen, base_key, base_angle, base_value}
+use Rattle.std.proofs.lemmas.Grind.{common_steps}
 use Rattle.cdb_form.proofs.text.source.Source.record.Goals as goal
 
 pub returns-clause-read : goal.returns-clause-read
@@ -100,3 +101,15 @@ returns-in_err-field-2-clause-leaves g c =
     (leaves_past g.R.Read.remaining c.number.new.self c.number-2.new.self c.field-2.new.self b.0 58 _ b.2 b.3 c.in_ok-vlen.ensures.spends
     (leaves_past g.R.Read.remaining c.number-2.new.self c.field.new.self c.field-2.new.self c.field.new.into.items 45 _ k.read (omega (arith, k.counted, k.long)) k.spends
     (leaves_past g.R.Read.remaining c.field.new.self c.expect_byte.new.self c.field-2.new.self [] 62 _ c.in_ok-expect_byte.ensures.read c.in_ok-expect_byte.ensures.counted c.in_ok-expect_byte.ensures.spends c.in_err-field-2.ensures.leaves))))
+
+pub returns-clause-spends : goal.returns-clause-spends
+returns-clause-spends g c = grind (arith, common_steps)
+
+pub invariant_of-into-2 : goal.invariant_of-into-2
+invariant_of-into-2 g c = search rules
+
+pub invariant_of-into-in-Break-branch-4 : goal.invariant_of-into-in-Break-branch-4
+invariant_of-into-in-Break-branch-4 g c = grind (arith, common_steps)
+
+pub returns-clause-fewer : goal.returns-clause-fewer
+returns-clause-fewer g c = search rules

@@ -1,4 +1,4 @@
-use Rattle.std.proofs.Common.{◌≢◌, arith}
+use Rattle.std.proofs.Common.{◌≢◌, arith, rules}
 use Rattle.std.proofs.lemmas.Result.{err_from_is_err_and}
 use Rattle.cdb_form.proofs.MapReads.{leaves_past, other_than, value_some}
 use Rattle.cdb_form.proofs.text.source.Source.value.Goals as goal
@@ -16,3 +16,6 @@ returns-clause-reads g c =
     let kept = c.in_ok-keep.ensures.run in
     let other : c.in-Some.first ≢ 10 = omega arith in
     value_some _ _ _ _ run.0 kept.0 _ _ _ run.1 other kept.2 kept.1
+
+pub returns-clause-are : goal.returns-clause-are
+returns-clause-are g c = search rules

@@ -4,6 +4,7 @@ use Rattle.std.proofs.lemmas.Result.{err_from_is_err_and, on_err_weaker, IfErr-w
 use Rattle.cdb_form.specs.Format.Pair.{head_size, pair_size}
 use Rattle.cdb_form.specs.Format.Walk.{record_end}
 use Rattle.cdb_form.proofs.StreamLemmas.{loses_still, still_then, no_further_then}
+use Rattle.std.proofs.lemmas.Grind.{common_steps}
 use Rattle.cdb_form.proofs.walk.record_reader.RecordReader.first.Goals as goal
 
 pub returns-in_err-area-clause-still_behind : goal.returns-in_err-area-clause-still_behind
@@ -21,3 +22,6 @@ pub returns-clause-header : goal.returns-clause-header
 returns-clause-header g c =
     let w = g.L.Width.WORD in
     IfErr-weaker c.record_at.result _ _ (λ f h damage. no_further_then _ _ _ (head_size w) (pair_size w) c.in_ok-area.ensures.loses (h damage)) c.record_at.ensures.header
+
+pub returns-clause-record : goal.returns-clause-record
+returns-clause-record g c = grind (arith, common_steps)

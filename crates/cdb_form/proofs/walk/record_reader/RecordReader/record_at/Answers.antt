@@ -1,6 +1,7 @@
 use Rattle.std.proofs.Common.{◌-◌, arith, refl}
 use Rattle.std.proofs.lemmas.Result.{err_from_is_err_and}
 use Rattle.cdb_form.proofs.StreamLemmas.{known_end, loses_still}
+use Rattle.std.proofs.lemmas.Grind.{common_steps}
 use Rattle.cdb_form.proofs.walk.record_reader.RecordReader.record_at.Goals as goal
 
 pub returns-then-area-clause-end : goal.returns-then-area-clause-end
@@ -11,3 +12,6 @@ returns-in_err-behind-clause-still_behind g c =
     let p = err_from_is_err_and c.from_residual.result c.from_residual.ensures.1 in
     let n = c.args.area.end - c.args.area.place in
     rw (p.1) (loses_still _ _ n (λ text. n) (λ text. (omega arith)) c.in_err-behind.ensures.loses)
+
+pub returns-clause-record : goal.returns-clause-record
+returns-clause-record g c = grind (arith, common_steps)
