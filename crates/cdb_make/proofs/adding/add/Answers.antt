@@ -5,11 +5,11 @@ use Rattle.cdb_form.specs.Format.Pair.{WordPair, head_size, pair_bytes}
 use Rattle.cdb_form.specs.Format.Record.{KeyValue}
 use Rattle.cdb_form.proofs.HeadLemmas.{length-pair_bytes}
 use Rattle.std.proofs.lemmas.List.{length-map}
-use Rattle.cdb_make.specs.Views.EntryList.{list_entries, lists_entries}
-use Rattle.cdb_make.specs.Views.EntryList.{with_entry}
+use Rattle.cdb_make.specs.Views.EntryList.{list_entries, lists_entries, with_entry}
 use Rattle.cdb_make.proofs.Added.{stands_more, within_more, spare_more}
 use Rattle.cdb_make.proofs.Written.{on_any_err, written_front, pieces_are}
 use Rattle.cdb_make.proofs.Puts.{comes_write}
+use Rattle.std.proofs.lemmas.Grind.{common_steps}
 use Rattle.cdb_make.proofs.adding.add.Goals as goal
 
 pub returns-in_err-append_record-clause-kept : goal.returns-in_err-append_record-clause-kept
@@ -55,3 +55,9 @@ returns-in_err-append_record-clause-comes g c = comes_write c.append_record.ensu
 
 pub returns-clause-comes : goal.returns-clause-comes
 returns-clause-comes g c = comes_write c.append_record.ensures.torn
+
+pub returns-clause-one_more : goal.returns-clause-one_more
+returns-clause-one_more g c = grind (arith, common_steps)
+
+pub returns-in_err-append_record-clause-fails : goal.returns-in_err-append_record-clause-fails
+returns-in_err-append_record-clause-fails g c = grind (arith, common_steps)

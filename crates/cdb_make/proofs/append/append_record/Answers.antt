@@ -114,3 +114,12 @@ returns-clause-memory_room g c = search rules
 
 pub returns-clause-memory_failures : goal.returns-clause-memory_failures
 returns-clause-memory_failures g c = search rules
+
+pub returns-clause-cause : goal.returns-clause-cause
+returns-clause-cause g c = omega arith
+
+pub returns-clause-past_room : goal.returns-clause-past_room
+returns-clause-past_room g c = grind (arith, common_steps)
+
+pub overflow_add-value_pos-2 : goal.overflow_add-value_pos-2
+overflow_add-value_pos-2 g c = grind (arith, common_steps)

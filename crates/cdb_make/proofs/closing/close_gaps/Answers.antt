@@ -5,6 +5,7 @@ use Rattle.cdb_make.specs.declared.gap.Gap.{Gap}
 use Rattle.cdb_make.specs.Gaps.{kept_len}
 use Rattle.cdb_make.proofs.Apart.{next_gap, last_gap, apart_next, apart_end, NextApart}
 use Rattle.cdb_make.proofs.Squeeze.{Squeezing, squeezing_more, squeezing_all, torn_more}
+use Rattle.std.proofs.lemmas.Grind.{common_steps}
 use Rattle.cdb_make.proofs.closing.close_gaps.Goals as goal
 
 pub move_down-requires-clause-inside : goal.move_down-requires-clause-inside
@@ -87,3 +88,12 @@ loop-gap-preserved g c =
       room = omega (arith, c.move_down.ensures.room);
       failures = omega (arith, c.move_down.ensures.cause.later);
     }
+
+pub returns-clause-at_most_written : goal.returns-clause-at_most_written
+returns-clause-at_most_written g c = grind (arith, common_steps)
+
+pub returns-in_err-move_down-clause-at_most_written : goal.returns-in_err-move_down-clause-at_most_written
+returns-in_err-move_down-clause-at_most_written g c = grind (arith, common_steps)
+
+pub loop-gap-init : goal.loop-gap-init
+loop-gap-init g c = grind (arith, common_steps)

@@ -6,6 +6,7 @@ use Rattle.cdb_make.specs.Views.EntryList.{list_entries, list_room}
 use Rattle.cdb_make.proofs.Entering.{told_of_set, told_of_list}
 use Rattle.cdb_make.proofs.Sides.{length-entries_of}
 use Rattle.cdb_make.proofs.Written.{on_any_err}
+use Rattle.std.proofs.lemmas.Grind.{common_steps}
 use Rattle.cdb_make.proofs.entries.reserve_entry.Goals as goal
 
 pub returns-in_err-reserve-clause-full : goal.returns-in_err-reserve-clause-full
@@ -38,3 +39,12 @@ returns-clause-room c =
     let count = told_of_set list_entries c.args.lists.now.items c.table_number.result (table_number c.args.hash) c.reserve-2.new.self [] n lt in
     let room = told_of_set list_room c.args.lists.now.items c.table_number.result (table_number c.args.hash) c.reserve-2.new.self 0 n lt in
     on_ok_weaker c.reserve-2.result (λ ok. omega (arith, ap length count, room, ok)) c.reserve-2.ensures.ok
+
+pub returns-clause-all : goal.returns-clause-all
+returns-clause-all c = grind (arith, common_steps)
+
+pub returns-clause-full : goal.returns-clause-full
+returns-clause-full c = grind (arith, common_steps)
+
+pub returns-in_err-reserve-clause-entries : goal.returns-in_err-reserve-clause-entries
+returns-in_err-reserve-clause-entries c = grind (arith, common_steps)

@@ -9,8 +9,9 @@ use Rattle.cdb_make.specs.Views.EntryList.{entries_of}
 use Rattle.cdb_make.proofs.Compare.{new_trans, new_same}
 use Rattle.cdb_make.proofs.Sides.{entry_at, list_long}
 use Rattle.cdb_make.proofs.Picking.{PicksSoFar, Noted, noted_none, noted_one, entries_over, picks_until, picks_all, picks_done, chains_none, chains_back, chains_until, chains_all, apart_higher}
-use Rattle.cdb_make.proofs.finding.find_gaps.Goals as goal
 use Rattle.cdb_make.proofs.finding.find_gaps.Goals.{in-Some+else-place-last, in_default}
+use Rattle.std.proofs.lemmas.Grind.{common_steps}
+use Rattle.cdb_make.proofs.finding.find_gaps.Goals as goal
 
 pub bounds-places-next : goal.bounds-places-next
 bounds-places-next g c = omega (arith, c.loop-next-test.true, list_long c.args.list.now, c.args.list.now.paired, ap length c.places.ensures)
@@ -131,3 +132,6 @@ returns-clause-apart g c = apart_higher c.args.start c.loop-next.last c.args.end
 
 pub returns-clause-few : goal.returns-clause-few
 returns-clause-few g c = omega (arith, c.loop-next.invariant.few, c.loop-next.invariant.within, list_long c.args.list.now, c.loop-next.gaps.ok.0)
+
+pub returns-then-place-last-clause-failed : goal.returns-then-place-last-clause-failed
+returns-then-place-last-clause-failed g c = grind (arith, common_steps)

@@ -89,3 +89,9 @@ loop-next-preserved g c =
 pub returns-clause-tells : goal.returns-clause-tells
 returns-clause-tells g c =
     tells_none (entries_over (entries_of c.args.list.now.hashes.items c.args.list.now.places.items) c.loop-next.next (omega (arith, c.loop-next-test.false))) c.loop-next.invariant.picks
+
+pub returns-then-is_some-clause-failed : goal.returns-then-is_some-clause-failed
+returns-then-is_some-clause-failed g c = search rules
+
+pub returns-then-is_some-clause-images : goal.returns-then-is_some-clause-images
+returns-then-is_some-clause-images g c = search rules

@@ -1,4 +1,4 @@
-use Rattle.std.proofs.Common.{arith, ℕ, List}
+use Rattle.std.proofs.Common.{arith, ℕ, List, rules}
 use Rattle.std.proofs.lemmas.Grind.{common_steps}
 use Rattle.cdb_store.specs.Images.{SameImages}
 use Rattle.cdb_store.proofs.Moves.{kept_same}
@@ -25,3 +25,39 @@ returns-clause-file g c = finished_same c.reserve.ensures.images c.in_ok-write_p
 
 pub returns-clause-kept : goal.returns-clause-kept
 returns-clause-kept g c = kept_then (kept_same _ _ c.reserve.ensures.images) c.write_parts.ensures.kept
+
+pub returns-clause-written : goal.returns-clause-written
+returns-clause-written g c = search rules
+
+pub returns-clause-inside : goal.returns-clause-inside
+returns-clause-inside g c = search rules
+
+pub write_parts-requires-clause-limit : goal.write_parts-requires-clause-limit
+write_parts-requires-clause-limit g c = grind (arith, common_steps)
+
+pub write_parts-requires-clause-last : goal.write_parts-requires-clause-last
+write_parts-requires-clause-last g c = grind (arith, common_steps)
+
+pub returns-clause-size : goal.returns-clause-size
+returns-clause-size g c = search rules
+
+pub returns-clause-memory_written : goal.returns-clause-memory_written
+returns-clause-memory_written g c = grind (arith, common_steps)
+
+pub returns-clause-failed : goal.returns-clause-failed
+returns-clause-failed g c = search rules
+
+pub reserve-requires : goal.reserve-requires
+reserve-requires g c = grind (arith, common_steps)
+
+pub returns-clause-room : goal.returns-clause-room
+returns-clause-room g c = search rules
+
+pub write_parts-requires-clause-slots : goal.write_parts-requires-clause-slots
+write_parts-requires-clause-slots g c = grind (arith, common_steps)
+
+pub returns-clause-memory_size : goal.returns-clause-memory_size
+returns-clause-memory_size g c = search rules
+
+pub write_parts-requires-clause-bytes : goal.write_parts-requires-clause-bytes
+write_parts-requires-clause-bytes g c = grind (arith, common_steps)

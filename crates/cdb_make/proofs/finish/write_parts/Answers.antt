@@ -1,4 +1,4 @@
-use Rattle.std.proofs.Common.{arith, inl, inr, ℕ, subst, ◌-◌}
+use Rattle.std.proofs.Common.{arith, inl, inr, ℕ, subst, ◌-◌, rules}
 use Rattle.std.proofs.lemmas.List.{length-map}
 use Rattle.cdb_store.specs.Images.{AfterCut, AreSized, KeepsPart}
 use Rattle.cdb_store.proofs.Moves.{kept_torn, kept_cut, kept_same, cut_between, same_refl}
@@ -43,3 +43,12 @@ returns-clause-file g c =
     subst (λ (n : ℕ). AfterCut n (g.S.Store.image c.write_pointers.new.store) (g.S.Store.image c.cut.new.self)) c.in_ok-cut.ensures.ok c.cut.ensures.images in
     on_any_ok c.flush.result
     (finished (simp length-map c.requires.long) c.requires.start c.requires.inside c.requires.last sized c.in_ok-write_tables.ensures.ok c.in_ok-write_pointers.ensures.ok (cut_between (same_refl (g.S.Store.image c.write_pointers.new.store)) cut c.flush.ensures.images))
+
+pub returns-clause-written : goal.returns-clause-written
+returns-clause-written g c = search rules
+
+pub returns-clause-cause : goal.returns-clause-cause
+returns-clause-cause g c = search rules
+
+pub returns-clause-memory : goal.returns-clause-memory
+returns-clause-memory g c = search rules

@@ -1,5 +1,6 @@
 use Rattle.std.proofs.Common.{rules, arith, ◌≡◌, length, length-append, length-drop}
 use Rattle.cdb_make.proofs.Compare.{differs, agrees, read_new, new_trans, agrees_piece, tells_other}
+use Rattle.std.proofs.lemmas.Grind.{common_steps}
 use Rattle.cdb_make.proofs.looking.is_read_at.Goals as goal
 
 pub returns-then-ne-clause-same : goal.returns-then-ne-clause-same
@@ -21,3 +22,12 @@ loop-done-preserved g c =
       room = omega (arith, c.read_at.ensures.room);
       failures = omega (arith, c.read_at.ensures.cause.later);
     }
+
+pub slice_bounds-ne-end-in-loop-done : goal.slice_bounds-ne-end-in-loop-done
+slice_bounds-ne-end-in-loop-done g c = grind (arith, common_steps)
+
+pub returns-then-ne-clause-images : goal.returns-then-ne-clause-images
+returns-then-ne-clause-images g c = grind (arith, common_steps)
+
+pub returns-clause-same : goal.returns-clause-same
+returns-clause-same g c = grind (arith, common_steps)

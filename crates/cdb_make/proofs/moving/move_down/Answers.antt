@@ -1,6 +1,7 @@
 use Rattle.std.proofs.Common.{rules, arith, ◌≡◌, length, refl}
 use Rattle.cdb_store.specs.Images.{AreSized}
 use Rattle.cdb_store.proofs.Moves.{copied_none, copied_more, within_none, within_more}
+use Rattle.std.proofs.lemmas.Grind.{common_steps}
 use Rattle.cdb_make.proofs.moving.move_down.Goals as goal
 
 pub loop-done-init : goal.loop-done-init
@@ -32,3 +33,18 @@ loop-done-preserved g c =
       failures = omega (arith, c.in_ok-write_at.ensures.cause.later);
       room = omega arith;
     }
+
+pub returns-clause-copied : goal.returns-clause-copied
+returns-clause-copied g c = grind (arith, common_steps)
+
+pub returns-in_err-write_at-clause-memory : goal.returns-in_err-write_at-clause-memory
+returns-in_err-write_at-clause-memory g c = grind (arith, common_steps)
+
+pub returns-in_err-write_at-clause-size : goal.returns-in_err-write_at-clause-size
+returns-in_err-write_at-clause-size g c = search rules
+
+pub returns-in_err-write_at-clause-at_most_written : goal.returns-in_err-write_at-clause-at_most_written
+returns-in_err-write_at-clause-at_most_written g c = search rules
+
+pub write_at-requires-clause-end : goal.write_at-requires-clause-end
+write_at-requires-clause-end g c = grind (arith, common_steps)

@@ -2,6 +2,7 @@ use Rattle.std.proofs.Common.{refl, arith, length, ◌*◌, length-set}
 use Rattle.cdb_form.proofs.Sizes.{slots_within}
 use Rattle.cdb_make.specs.Views.EntryList.{list_entries}
 use Rattle.cdb_make.proofs.HeadPointers.{pointers_none, pointers_next, sums_within, sums_more, table_size}
+use Rattle.std.proofs.lemmas.Grind.{common_steps}
 use Rattle.cdb_make.proofs.pointers.head_of.Goals as goal
 
 pub loop-n-init : goal.loop-n-init
@@ -39,3 +40,6 @@ overflow_mul-slots g c =
     let h = sums_within list_entries (4 * g.L.Width.WORD) c.args.lists.now c.loop-n.n x (omega arith) c.index-lists-n.is in
     let few = slots_within g.L.Width.WORD (length (list_entries x)) g.met.L.Width.four_or_eight in
     omega (arith, h, few, c.len.ensures, c.requires.limit, g.met.L.Width.greatest_fits.1)
+
+pub returns : goal.returns
+returns g c = grind (arith, common_steps)

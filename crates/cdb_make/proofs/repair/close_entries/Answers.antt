@@ -11,8 +11,9 @@ use Rattle.cdb_make.proofs.Nowhere.{tag_kept}
 use Rattle.cdb_make.proofs.Merge.{FarFrom, apart_lower, keep_step, pass_step, rising_next, set_drop, sofar_kept, closed_front, rising_drop, not_falling}
 use Rattle.cdb_make.proofs.Places.{closed_here}
 use Rattle.cdb_make.proofs.Sides.{entry_here, entries_of-set, length-entries_of}
-use Rattle.cdb_make.proofs.repair.close_entries.Goals as goal
 use Rattle.cdb_make.proofs.repair.close_entries.Goals.{else-next-gaps-via-then-next-gaps+else-gaps-next, else-next-gaps-via-else-next-gaps, else-next-gaps-2-via-then-next-gaps-2+else-gaps-next-2, else-next-gaps-2-via-else-next-gaps-2}
+use Rattle.std.proofs.lemmas.Grind.{common_steps}
+use Rattle.cdb_make.proofs.repair.close_entries.Goals as goal
 
 pub loop-entry-init : goal.loop-entry-init
 loop-entry-init c =
@@ -163,3 +164,12 @@ returns-clause-entries c = λ r.
 
 pub returns-clause-bounded : goal.returns-clause-bounded
 returns-clause-bounded c = c.loop-entry.invariant.bounded
+
+pub loop-entry-smaller : goal.loop-entry-smaller
+loop-entry-smaller c = grind (arith, common_steps)
+
+pub bounds-tags-entry : goal.bounds-tags-entry
+bounds-tags-entry c = grind (arith, common_steps)
+
+pub bounds-tags-kept : goal.bounds-tags-kept
+bounds-tags-kept c = grind (arith, common_steps)

@@ -2,8 +2,9 @@ use Rattle.std.proofs.Common.{arith, ◌+◌, ◌-◌, ◌≡◌, ℕ, length, l
 use borrow.Rule.Slice.PartMut.{mid_of}
 use Rattle.cdb_make.specs.Views.EntryList.{IsNowhereIn}
 use Rattle.cdb_make.proofs.Nowhere.{nowhere_behind, tags_long, untagged}
-use Rattle.cdb_make.proofs.scan.next_place.Goals as goal
 use Rattle.cdb_make.proofs.scan.next_place.Goals.{then-is_among+else-n-lt-BLOCK, else-is_among}
+use Rattle.std.proofs.lemmas.Grind.{common_steps}
+use Rattle.cdb_make.proofs.scan.next_place.Goals as goal
 
 pub returns-then-n-lt-BLOCK-clause-none : goal.returns-then-n-lt-BLOCK-clause-none
 returns-then-n-lt-BLOCK-clause-none c =
@@ -32,3 +33,9 @@ pub returns-clause-none : goal.returns-clause-none
 returns-clause-none c =
     nowhere_behind c.args.hash c.args.from c.loop-at.at (length c.args.hashes.now - c.loop-at.at) c.first_place.result (c.loop-at.at + c.first_place.result) c.args.hashes.now c.loop-at.invariant.none
     (omega (arith, c.first_place.ensures.within, length-take {A = ℕ}, length-drop {A = ℕ})) (omega arith) c.first_place.ensures.none
+
+pub returns-then-n-lt-BLOCK-clause-found : goal.returns-then-n-lt-BLOCK-clause-found
+returns-then-n-lt-BLOCK-clause-found g c = grind (arith, common_steps)
+
+pub returns-clause-found : goal.returns-clause-found
+returns-clause-found g c = grind (arith, common_steps)

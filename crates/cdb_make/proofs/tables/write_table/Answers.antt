@@ -5,6 +5,7 @@ use Rattle.cdb_form.specs.Views.Pairs.{PairFits}
 use Rattle.cdb_make.specs.Views.EntryList.{list_entries}
 use Rattle.cdb_make.proofs.Written.{top_fits, table_fits}
 use Rattle.cdb_make.proofs.TableBytes.{hashed_fit, nothing_written}
+use Rattle.std.proofs.lemmas.Grind.{common_steps}
 use Rattle.cdb_make.proofs.tables.write_table.Goals as goal
 
 pub encode_slots-requires-clause-fits : goal.encode_slots-requires-clause-fits
@@ -16,3 +17,9 @@ encode_slots-requires-clause-fits g c =
 
 pub returns-then-is_empty-clause-ok : goal.returns-then-is_empty-clause-ok
 returns-then-is_empty-clause-ok g c = nothing_written g.L.Width.WORD c.args.place (list_entries c.args.list.now) (g.S.Store.image c.args.store.now) (let none : length c.args.slots.now ≡ 0 = search (rules, c.if-is_empty.ensures, c.if-is_empty.true) in omega (arith, c.requires.slots))
+
+pub returns-clause-torn : goal.returns-clause-torn
+returns-clause-torn g c = grind (arith, common_steps)
+
+pub encode_slots-requires-clause-long : goal.encode_slots-requires-clause-long
+encode_slots-requires-clause-long g c = search rules

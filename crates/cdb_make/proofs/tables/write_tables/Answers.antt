@@ -7,6 +7,7 @@ use Rattle.cdb_make.specs.Parts.{table_bytes}
 use Rattle.cdb_make.specs.Views.EntryList.{list_entries, lists_entries}
 use Rattle.cdb_make.proofs.HeadPointers.{sums_more}
 use Rattle.cdb_make.proofs.TableBytes.{table_room, tables_next, length-tables}
+use Rattle.std.proofs.lemmas.Grind.{common_steps}
 use Rattle.cdb_make.proofs.tables.write_tables.Goals as goal
 
 pub overflow_mul-count : goal.overflow_mul-count
@@ -135,3 +136,18 @@ returns-clause-torn g c =
     let len : length (flat_map (table_bytes w) (lists_entries (take i ls))) ≡ 4 * w * sum_by length (lists_entries ls) = length-tables w (lists_entries (take i ls)) ∙ ap (λ v. 4 * w * sum_by length (lists_entries v)) whole in
     let sized : AreSized (g.S.Store.size c.args.store.now) (g.S.Store.image c.args.store.now) = record { each = g.met.S.Store.image_size c.args.store.now } in
     subst (λ (n : ℕ). AfterTornWrite c.args.end n (g.S.Store.image c.args.store.now) (g.S.Store.image c.loop-list.store)) len (torn_from_write c.requires.inside sized c.loop-list.invariant.tables)
+
+pub returns-clause-ok_size : goal.returns-clause-ok_size
+returns-clause-ok_size g c = grind (arith, common_steps)
+
+pub loop-list-init : goal.loop-list-init
+loop-list-init g c = grind (arith, common_steps)
+
+pub write_table-requires-clause-bytes : goal.write_table-requires-clause-bytes
+write_table-requires-clause-bytes g c = grind (arith, common_steps)
+
+pub returns-clause-written : goal.returns-clause-written
+returns-clause-written g c = grind (arith, common_steps)
+
+pub returns-clause-ok : goal.returns-clause-ok
+returns-clause-ok g c = grind (arith, common_steps)

@@ -7,6 +7,7 @@ use Rattle.cdb_make.specs.Gaps.{Closed, first_place, kept_len}
 use Rattle.cdb_make.proofs.Merge.{apart_lower}
 use Rattle.cdb_make.proofs.Picking.{apart_higher}
 use Rattle.cdb_make.proofs.Whole.{no_gaps, apart_sizes, lists_stay, stands_still, stands_after, writes_none, writes_behind}
+use Rattle.std.proofs.lemmas.Grind.{common_steps}
 use Rattle.cdb_make.proofs.taking_out.close.Goals as goal
 
 pub returns-then-is_empty-clause-stands : goal.returns-then-is_empty-clause-stands
@@ -65,3 +66,9 @@ returns-clause-written g c = λ rs key stands found.
     let sum : g.S.Store.written c.close_gaps.new.store ≡ g.S.Store.written c.args.store.now + kept_len (first_place gs end) gs end =
     c.in_ok-close_gaps.ensures.written ∙ ap (λ (v : ℕ). g.S.Store.written c.args.store.now + kept_len v gs end) c.first_place-start.ensures in
     writes_behind (g.S.Store.written c.args.store.now) (g.S.Store.written c.close_gaps.new.store) sum found stands closed
+
+pub returns-then-is_empty-clause-within : goal.returns-then-is_empty-clause-within
+returns-then-is_empty-clause-within g c = grind (arith, common_steps)
+
+pub returns-then-is_empty-clause-lower : goal.returns-then-is_empty-clause-lower
+returns-then-is_empty-clause-lower g c = grind (arith, common_steps)

@@ -2,6 +2,7 @@ use Rattle.std.proofs.Common.{ℕ, List, [], ◌∷◌, ◌++◌, ap, ◌∙◌,
 use Rattle.cdb_make.specs.Views.EntryList.{entries_of}
 use Rattle.cdb_make.proofs.Nowhere.{tags_long}
 use Rattle.cdb_make.proofs.Sides.{length-entries_of, entries_of-push}
+use Rattle.std.proofs.lemmas.Grind.{common_steps}
 use Rattle.cdb_make.proofs.list.EntryList.push.Goals as goal
 
 pub push_reserved-requires : goal.push_reserved-requires
@@ -25,3 +26,6 @@ returns-clause-entries c =
     ap (λ (v : List ℕ). entries_of v c.push_reserved-2.new.self.items) c.push_reserved.ensures.items
     ∙ ap (entries_of (s.hashes.items ++ c.args.hash ∷ [])) c.push_reserved-2.ensures.items
     ∙ entries_of-push s.hashes.items s.places.items c.args.hash c.args.place s.paired
+
+pub invariant_of-self : goal.invariant_of-self
+invariant_of-self c = grind (arith, common_steps)

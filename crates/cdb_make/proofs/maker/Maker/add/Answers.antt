@@ -1,6 +1,7 @@
-use Rattle.std.proofs.Common.{arith, refl}
+use Rattle.std.proofs.Common.{arith, refl, rules}
 use Rattle.std.proofs.lemmas.Result.{err_from_is_err_and}
 use Rattle.cdb_make.proofs.Puts.{adds_more, adds_none}
+use Rattle.std.proofs.lemmas.Grind.{common_steps}
 use Rattle.cdb_make.proofs.maker.Maker.add.Goals as goal
 
 pub returns-in_err-self-clause-fails : goal.returns-in_err-self-clause-fails
@@ -13,3 +14,12 @@ pub returns-clause-ok : goal.returns-clause-ok
 returns-clause-ok g c =
     let e = c.in_ok-self.ensures in
     adds_more {s = g.S.Store} {l = g.L.Width} _ _ (record { key = c.args.key.now; value = c.args.value.now }) (record { key = λ k. omega (arith, c.type_inv.key k); value = λ k. omega (arith, c.type_inv.value k) }) c.if-self.false c.if-self.false e.stands e.written c.add.ensures.comes
+
+pub overflow_add-self : goal.overflow_add-self
+overflow_add-self g c = grind (arith, common_steps)
+
+pub returns-then-not-has_room-clause-fails : goal.returns-then-not-has_room-clause-fails
+returns-then-not-has_room-clause-fails g c = search rules
+
+pub invariant_of-self-2 : goal.invariant_of-self-2
+invariant_of-self-2 g c = search rules

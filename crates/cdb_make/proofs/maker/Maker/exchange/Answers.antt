@@ -1,4 +1,4 @@
-use Rattle.std.proofs.Common.{arith, refl, ap, ◌<◌, ℕ, vec_capacity, inl, inr}
+use Rattle.std.proofs.Common.{arith, refl, ap, ◌<◌, ℕ, vec_capacity, inl, inr, rules}
 use Rattle.std.proofs.lemmas.Result.{err_from_is_err_and}
 use Rattle.cdb_form.specs.Format.Record.{KeyValue}
 use Rattle.cdb_make.specs.Survivors.{without, count_of}
@@ -6,6 +6,7 @@ use Rattle.cdb_make.proofs.Exchanged.{exchanged_holds, exchanged_written, room_l
 use Rattle.cdb_make.proofs.Makers.{comes_torn}
 use Rattle.cdb_make.proofs.Puts.{comes_then}
 use Rattle.cdb_make.proofs.Whole.{count_found}
+use Rattle.std.proofs.lemmas.Grind.{common_steps}
 use Rattle.cdb_make.proofs.maker.Maker.exchange.Goals as goal
 
 pub returns-in_err-last-clause-fails : goal.returns-in_err-last-clause-fails
@@ -50,3 +51,30 @@ returns-in-Err-NoMemory-clause-comes g c = comes_then (comes_torn c.take_out.ens
 
 pub returns-in-Err-clause-comes : goal.returns-in-Err-clause-comes
 returns-in-Err-clause-comes g c = comes_then (comes_torn c.take_out.ensures.torn) c.add.ensures.comes
+
+pub overflow_add-self : goal.overflow_add-self
+overflow_add-self g c = omega arith
+
+pub returns-in-Err-NoMemory-clause-broken : goal.returns-in-Err-NoMemory-clause-broken
+returns-in-Err-NoMemory-clause-broken g c = search rules
+
+pub add-requires-clause-fits : goal.add-requires-clause-fits
+add-requires-clause-fits g c = grind (arith, common_steps)
+
+pub returns-in-Err-NoMemory-clause-room : goal.returns-in-Err-NoMemory-clause-room
+returns-in-Err-NoMemory-clause-room g c = search rules
+
+pub returns-in-Err-NoMemory-clause-failures : goal.returns-in-Err-NoMemory-clause-failures
+returns-in-Err-NoMemory-clause-failures g c = search rules
+
+pub returns-in-Err-clause-limit : goal.returns-in-Err-clause-limit
+returns-in-Err-clause-limit g c = search rules
+
+pub returns-in-Err-clause-failures : goal.returns-in-Err-clause-failures
+returns-in-Err-clause-failures g c = search rules
+
+pub returns-in-Err-clause-room : goal.returns-in-Err-clause-room
+returns-in-Err-clause-room g c = search rules
+
+pub returns-in-Err-clause-broken : goal.returns-in-Err-clause-broken
+returns-in-Err-clause-broken g c = search rules

@@ -1,5 +1,6 @@
-use Rattle.std.proofs.Common.{refl, ap, ◌∙◌, Err, rules}
+use Rattle.std.proofs.Common.{refl, ap, ◌∙◌, Err, rules, arith}
 use Rattle.cdb_make.proofs.Makers.{writes_looked, fails_looked}
+use Rattle.std.proofs.lemmas.Grind.{common_steps}
 use Rattle.cdb_make.proofs.maker.Maker.find.Goals as goal
 
 pub returns-in-Ok-clause-ok : goal.returns-in-Ok-clause-ok
@@ -13,3 +14,15 @@ returns-in-Err-clause-fails g c =
 
 pub returns-in-Ok-clause-count : goal.returns-in-Ok-clause-count
 returns-in-Ok-clause-count g c = search rules
+
+pub returns-in-Err-clause-room : goal.returns-in-Err-clause-room
+returns-in-Err-clause-room g c = grind (arith, common_steps)
+
+pub returns-in-Err-clause-failures : goal.returns-in-Err-clause-failures
+returns-in-Err-clause-failures g c = grind (arith, common_steps)
+
+pub find-requires-clause-room : goal.find-requires-clause-room
+find-requires-clause-room g c = grind (arith, common_steps)
+
+pub returns-in-Ok-clause-few : goal.returns-in-Ok-clause-few
+returns-in-Ok-clause-few g c = grind (arith, common_steps)

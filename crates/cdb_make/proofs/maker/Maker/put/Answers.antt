@@ -1,8 +1,9 @@
-use Rattle.std.proofs.Common.{refl, sym, ap, cond}
+use Rattle.std.proofs.Common.{refl, sym, ap, cond, arith}
 use Rattle.std.proofs.lemmas.Result.{err_from_is_err_and}
 use Rattle.cdb_make.specs.declared.mode.Mode.TheVariants.{Add, Warn, Insert}
 use Rattle.cdb_make.specs.declared.mode.Put.TheVariants.{Added, AddedAgain}
 use Rattle.cdb_make.proofs.Puts.{puts_added, fails_added, fails_add, puts_present, just_add, just_warn, just_insert, writes_same}
+use Rattle.std.proofs.lemmas.Grind.{common_steps}
 use Rattle.cdb_make.proofs.maker.Maker.put.Goals as goal
 
 pub returns-in_err-add-in-Add-clause-fails : goal.returns-in_err-add-in-Add-clause-fails
@@ -60,3 +61,9 @@ returns-in_ok-add-in-Insert-clause-puts g c =
 
 pub returns-in-Replace-clause-fails : goal.returns-in-Replace-clause-fails
 returns-in-Replace-clause-fails g c = rw (c.in-Replace.is) c.replace.ensures.fails
+
+pub returns-in_ok-add-in-Insert-clause-comes : goal.returns-in_ok-add-in-Insert-clause-comes
+returns-in_ok-add-in-Insert-clause-comes g c = grind (arith, common_steps)
+
+pub returns-else-there-clause-comes : goal.returns-else-there-clause-comes
+returns-else-there-clause-comes g c = grind (arith, common_steps)

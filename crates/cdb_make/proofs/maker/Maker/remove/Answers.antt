@@ -2,6 +2,7 @@ use Rattle.std.proofs.Common.{arith, refl, ◌<◌, length}
 use Rattle.std.proofs.lemmas.Result.{err_from_is_err_and}
 use Rattle.cdb_make.proofs.Makers.{removes_none, removes_some, fails_removing, comes_torn}
 use Rattle.cdb_make.proofs.Replacing.{fewer_within}
+use Rattle.std.proofs.lemmas.Grind.{common_steps}
 use Rattle.cdb_make.proofs.maker.Maker.remove.Goals as goal
 
 pub returns-in_err-self-clause-fails : goal.returns-in_err-self-clause-fails
@@ -35,3 +36,9 @@ invariant_of-self g c =
       placed = m.placed;
       spare = m.spare;
     }
+
+pub returns-in_ok-self-clause-comes : goal.returns-in_ok-self-clause-comes
+returns-in_ok-self-clause-comes g c = grind (arith, common_steps)
+
+pub returns-else-taken-gt0-clause-comes : goal.returns-else-taken-gt0-clause-comes
+returns-else-taken-gt0-clause-comes g c = grind (arith, common_steps)

@@ -12,6 +12,7 @@ use Rattle.cdb_make.proofs.Whole.{apart_sizes}
 use Rattle.cdb_make.proofs.Makers.{writes_looked}
 use Rattle.cdb_make.proofs.Puts.{puts_added, fails_added, comes_same, writes_then}
 use Rattle.cdb_make.proofs.Replacing.{just_replace, fewer_bytes, wants_memory, fails_too_big, fails_wanting, fails_exchange, puts_exchanged, gaps_same}
+use Rattle.std.proofs.lemmas.Grind.{common_steps}
 use Rattle.cdb_make.proofs.maker.Maker.replace.Goals as goal
 
 pub returns-in_err-add-clause-fails : goal.returns-in_err-add-clause-fails
@@ -106,3 +107,21 @@ returns-clause-puts g c =
 
 pub exchange-requires-clause-room : goal.exchange-requires-clause-room
 exchange-requires-clause-room g c = search rules
+
+pub invariant_of-self : goal.invariant_of-self
+invariant_of-self g c = grind (arith, common_steps)
+
+pub overflow_add-self : goal.overflow_add-self
+overflow_add-self g c = search rules
+
+pub exchange-requires-clause-fits : goal.exchange-requires-clause-fits
+exchange-requires-clause-fits g c = grind (arith, common_steps)
+
+pub returns-then-not-has_room-clause-comes : goal.returns-then-not-has_room-clause-comes
+returns-then-not-has_room-clause-comes g c = grind (arith, common_steps)
+
+pub overflow_mul-left-2 : goal.overflow_mul-left-2
+overflow_mul-left-2 g c = grind (arith, common_steps)
+
+pub returns-clause-comes : goal.returns-clause-comes
+returns-clause-comes g c = grind (arith, common_steps)

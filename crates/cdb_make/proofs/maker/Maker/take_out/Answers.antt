@@ -6,6 +6,7 @@ use Rattle.cdb_make.proofs.ClosedAll.{within_taken, spare_taken, sum_closed, cou
 use Rattle.cdb_make.specs.declared.gap.Gap.{Gap}
 use Rattle.cdb_make.specs.Stands.{Stands, AreGapsOf}
 use Rattle.cdb_make.proofs.Makers.{held_stand, left_counted, comes_torn}
+use Rattle.std.proofs.lemmas.Grind.{common_steps}
 use Rattle.cdb_make.proofs.maker.Maker.take_out.Goals as goal
 
 pub invariant_of-self-clause-placed : goal.invariant_of-self-clause-placed
@@ -65,3 +66,18 @@ returns-in_err-last-clause-broken g c = search rules
 
 pub returns-then-count_all-len-clause-broken : goal.returns-then-count_all-len-clause-broken
 returns-then-count_all-len-clause-broken g c = search rules
+
+pub returns-clause-end : goal.returns-clause-end
+returns-clause-end g c = grind (arith, common_steps)
+
+pub returns-clause-torn : goal.returns-clause-torn
+returns-clause-torn g c = grind (arith, common_steps)
+
+pub returns-clause-stands : goal.returns-clause-stands
+returns-clause-stands g c = grind (arith, common_steps)
+
+pub invariant_of-self-clause-all : goal.invariant_of-self-clause-all
+invariant_of-self-clause-all g c = grind (arith, common_steps)
+
+pub returns-clause-lists : goal.returns-clause-lists
+returns-clause-lists g c = grind (arith, common_steps)
