@@ -10,6 +10,7 @@ use Rattle.cdb_read.specs.declared.entries.Entries.{Entries}
 use Rattle.cdb_read.proofs.CheckLaws.{IsWhole, first_is_table, first_in_walk, first_in_slots, first_is_lost, sound_is}
 use Rattle.cdb_read.proofs.Tells.{read_tells, check_tells, check_tells_more}
 use Rattle.cdb_read.proofs.WalkedLengths.{some_word}
+use Rattle.std.proofs.lemmas.Grind.{common_steps}
 use Rattle.cdb_read.proofs.checking.check.Goals as goal
 
 -- a vector whose items were all changed in place
@@ -84,3 +85,6 @@ returns-clause-sound g c = λ b is.
     sound_is w b r.head.pointers c.deref_mut.result.now c.deref.result.now c.first_unmarked.result c.in-None.is (some_word w g.met.L.Width.four_or_eight) whole
     (subst (λ (n : ℕ). All (StandsInside w n) (map pointer_pair r.head.pointers)) (c.len.ensures ∙ sym size) c.in_default.ensures.inside)
     (subst (HasEntries w b) (sym c.deref_mut.ensures.value) (c.in_ok-lists.ensures.entries b walked)) (subst (TablesAreClear w b c.deref_mut.result.now) (sym same) (c.in_ok-check_slots.ensures.clear b is)) c.first_unmarked.ensures
+
+pub returns-in-Some-first_unmarked-clause-reads : goal.returns-in-Some-first_unmarked-clause-reads
+returns-in-Some-first_unmarked-clause-reads g c = grind (arith, common_steps)

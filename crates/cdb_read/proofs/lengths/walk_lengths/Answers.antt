@@ -4,6 +4,7 @@ use Rattle.cdb_read.specs.Views.Lengths.{LengthsFail}
 use Rattle.cdb_read.specs.Views.Walking.{behind}
 use Rattle.cdb_read.proofs.PieceReads.{reads_more}
 use Rattle.cdb_read.proofs.WalkedLengths.{reads_nothing, few_more, some_word, walked_none, walked_more, walked_all, walking_fails}
+use Rattle.std.proofs.lemmas.Grind.{common_steps}
 use Rattle.cdb_read.proofs.lengths.walk_lengths.Goals as goal
 
 pub loop-pair-init : goal.loop-pair-init
@@ -49,3 +50,6 @@ returns-in_err-pair-clause-fails g c =
     let fails : LengthsFail g.L.Width.WORD g.S.Store c.args.reader.now.store c.next.new.self.reader.now.store c.in_err-pair.field-0.0 =
     walking_fails {s = g.S.Store} {l = g.L.Width} g.L.Width.WORD c.args.reader.now.store c.loop-pair.records c.next.new.self _ _ c.in_err-pair.field-0.0 inv.reads c.next.ensures.reads inv.walked c.in_err-pair.ensures.fails in
     rw (p.1, p.2) (search rules)
+
+pub returns-clause-reads : goal.returns-clause-reads
+returns-clause-reads g c = grind (arith, common_steps)

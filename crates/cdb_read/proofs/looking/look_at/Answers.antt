@@ -4,8 +4,9 @@ use Rattle.cdb_read.specs.Views.Search.{TellsSame}
 use Rattle.cdb_store.specs.Images.{Holds}
 use Rattle.cdb_read.proofs.Windows.{holds_shown}
 use Rattle.cdb_read.proofs.Headers.{HasLengths, has_lengths, fewer_lengths, passes, no_room, other_length, other_key, same_key}
-use Rattle.cdb_read.proofs.looking.look_at.Goals as goal
 use Rattle.cdb_read.proofs.looking.look_at.Goals.{then-not-has_bytes-2-via-then-not-has_bytes-2, then-not-has_bytes-2-via-else-not-has_bytes-2+then-not-has_bytes-3, then-header-key-via-then-header-key, then-header-key-via-else-header-key+in_ok-key_is_at+then-not-branch}
+use Rattle.std.proofs.lemmas.Grind.{common_steps}
+use Rattle.cdb_read.proofs.looking.look_at.Goals as goal
 
 pub returns-then-not-has_bytes-2-clause-looks : goal.returns-then-not-has_bytes-2-clause-looks
 returns-then-not-has_bytes-2-clause-looks g c =
@@ -80,3 +81,9 @@ cover-requires-clause-inside g c = search rules
 
 pub overflow_add-key_place : goal.overflow_add-key_place
 overflow_add-key_place g c = search rules
+
+pub returns-then-header-key-clause-reads : goal.returns-then-header-key-clause-reads
+returns-then-header-key-clause-reads g c = grind (arith, common_steps)
+
+pub returns-clause-reads : goal.returns-clause-reads
+returns-clause-reads g c = search rules

@@ -13,8 +13,9 @@ use Rattle.cdb_read.proofs.RunEnds.{reached_by_run}
 use Rattle.cdb_read.proofs.SlotChecks.{IsClearTo, slot_read, slots_more, clear_to_none, clear_to_used, clear_to_empty, clear_to_all, fault_at}
 use Rattle.cdb_read.proofs.Tells.{fault_tells}
 use Rattle.cdb_read.proofs.Turns.{length-slots_at}
-use Rattle.cdb_read.proofs.slots.check_table.Goals as goal
 use Rattle.cdb_read.proofs.slots.check_table.Goals.{then-slot-ne0+in_ok-check_slot, else-slot-ne0}
+use Rattle.std.proofs.lemmas.Grind.{common_steps}
+use Rattle.cdb_read.proofs.slots.check_table.Goals as goal
 
 pub loop-i-init : goal.loop-i-init
 loop-i-init g c =
@@ -81,3 +82,6 @@ loop-i-preserved g c =
 pub returns-clause-clear : goal.returns-clause-clear
 returns-clause-clear g c = λ b is.
     clear_to_all g.L.Width.WORD c.args.n (pointer_pair c.args.table) b c.args.entries.now c.loop-i.entries c.loop-i.i (omega (arith, c.loop-i-test.false)) (c.loop-i.invariant.clear b is)
+
+pub slot_at-requires-clause-inside : goal.slot_at-requires-clause-inside
+slot_at-requires-clause-inside g c = grind (arith, common_steps)

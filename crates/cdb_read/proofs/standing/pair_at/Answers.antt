@@ -75,3 +75,6 @@ returns-clause-stands g c =
     (omega (arith, room, left, c.min-limit.ensures))
     (omega (arith, room, right, c.min-limit.ensures))
     header
+
+pub overflow_add-value : goal.overflow_add-value
+overflow_add-value g c = omega arith

@@ -1,9 +1,10 @@
-use Rattle.std.proofs.Common.{◌≤◌, refl, sym, ap, ◌∙◌, subst, rules}
+use Rattle.std.proofs.Common.{◌≤◌, refl, sym, ap, ◌∙◌, subst, rules, arith}
 use Rattle.cdb_read.specs.Views.Walk.{place_of}
 use Rattle.cdb_read.specs.Views.Walking.{behind, walk_ahead, next_place}
 use Rattle.cdb_read.proofs.EnteredWalk.{EnteredSoFar, entered_none, entered_more, entered_all}
 use Rattle.cdb_read.proofs.PieceReads.{reads_more}
 use Rattle.cdb_read.proofs.WalkedLengths.{reads_nothing, some_word}
+use Rattle.std.proofs.lemmas.Grind.{common_steps}
 use Rattle.cdb_read.proofs.walked.walk_entries.Goals as goal
 
 pub loop-lists-init : goal.loop-lists-init
@@ -43,3 +44,9 @@ returns-clause-entries g c = λ b is.
     let none = rw c.in_default.is at c.in_ok-pair.ensures.gives in
     let here : g.S.Store.image c.next.new.self.reader.now.store b = search rules in
     entered_all w b _ (place_of w c.loop-lists.records) c.loop-lists.lists.items (c.loop-lists.invariant.entered b (c.next.ensures.reads.images b here)) (none.none b here)
+
+pub returns-clause-reads : goal.returns-clause-reads
+returns-clause-reads g c = grind (arith, common_steps)
+
+pub loop-lists-smaller : goal.loop-lists-smaller
+loop-lists-smaller g c = grind (arith, common_steps)

@@ -1,6 +1,7 @@
-use Rattle.std.proofs.Common.{◌≡◌, ap, ◌∙◌, ◌∷◌, [], ◌++◌, List, ℕ, Bool, false}
+use Rattle.std.proofs.Common.{◌≡◌, ap, ◌∙◌, ◌∷◌, [], ◌++◌, List, ℕ, Bool, false, arith}
 use Rattle.cdb_read.specs.Views.Entries.{entries_of}
 use Rattle.cdb_read.proofs.Entered.{entries_of-push}
+use Rattle.std.proofs.lemmas.Grind.{common_steps}
 use Rattle.cdb_read.proofs.entries.Entries.add.Goals as goal
 
 pub returns : goal.returns
@@ -17,3 +18,6 @@ returns c =
           ∙ entries_of-push s.places.items s.hashes.items c.args.place c.args.hash s.paired;
       marks = c.push_reserved-3.ensures.items ∙ ap (λ (v : List Bool). v ++ false ∷ []) c.reserve-3.ensures.items;
     }
+
+pub invariant_of-self-2 : goal.invariant_of-self-2
+invariant_of-self-2 c = grind (arith, common_steps)

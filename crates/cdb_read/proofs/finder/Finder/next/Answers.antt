@@ -1,5 +1,6 @@
-use Rattle.std.proofs.Common.{ℕ, subst, sym, rules}
+use Rattle.std.proofs.Common.{ℕ, subst, sym, rules, arith}
 use Rattle.cdb_read.specs.Views.Turning.{IsTurnInside}
+use Rattle.std.proofs.lemmas.Grind.{common_steps}
 use Rattle.cdb_read.proofs.finder.Finder.next.Goals as goal
 
 pub next_met-requires : goal.next_met-requires
@@ -10,3 +11,9 @@ invariant_of-self g c = record { inside = subst (λ (n : ℕ). IsTurnInside g.L.
 
 pub returns-in-Broken-clause-fails : goal.returns-in-Broken-clause-fails
 returns-in-Broken-clause-fails g c = search rules
+
+pub returns-in-Broken-clause-no_table : goal.returns-in-Broken-clause-no_table
+returns-in-Broken-clause-no_table g c = grind (arith, common_steps)
+
+pub returns-in-NoRecord-clause-no_record : goal.returns-in-NoRecord-clause-no_record
+returns-in-NoRecord-clause-no_record g c = grind (arith, common_steps)

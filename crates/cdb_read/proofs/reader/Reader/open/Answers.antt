@@ -1,8 +1,9 @@
-use Rattle.std.proofs.Common.{ap, ◌∙◌, sym, rules}
+use Rattle.std.proofs.Common.{ap, ◌∙◌, sym, rules, arith}
 use Rattle.std.proofs.lemmas.List.{take_at}
 use Rattle.cdb_form.specs.Format.Reading.{head_at}
 use Rattle.cdb_form.proofs.AreaLemmas.{head_fits}
 use Rattle.cdb_read.proofs.Heads.{head_known}
+use Rattle.std.proofs.lemmas.Grind.{common_steps}
 use Rattle.cdb_read.proofs.reader.Reader.open.Goals as goal
 
 pub invariant_of-result-clause-known : goal.invariant_of-result-clause-known
@@ -16,3 +17,12 @@ invariant_of-result-clause-known g c = λ b image.
 
 pub returns-in-Err-clause-fails : goal.returns-in-Err-clause-fails
 returns-in-Err-clause-fails g c = search rules
+
+pub slice_bounds-read_head-end : goal.slice_bounds-read_head-end
+slice_bounds-read_head-end g c = grind (arith, common_steps)
+
+pub read_head-head-requires : goal.read_head-head-requires
+read_head-head-requires g c = grind (arith, common_steps)
+
+pub slice_bounds-piece-end-2 : goal.slice_bounds-piece-end-2
+slice_bounds-piece-end-2 g c = grind (arith, common_steps)
