@@ -1,6 +1,7 @@
-use Rattle.std.proofs.Common.{refl, codes}
+use Rattle.std.proofs.Common.{refl, codes, arith}
 use Rattle.cdb_make.proofs.Written.{on_any_err, on_err, front_in, front_last}
 use Rattle.cdb_runs.specs.Message.{numbered}
+use Rattle.std.proofs.lemmas.Grind.{common_steps}
 use Rattle.cdb_runs.proofs.message.write_place.Goals as goal
 
 pub returns-in_err-write_numbered-in-Byte-clause-err : goal.returns-in_err-write_numbered-in-Byte-clause-err
@@ -20,3 +21,9 @@ returns-in_err-write_numbered-in-Slot-clause-err g c =
 pub returns-in_ok-write_numbered-in-Slot-clause-err : goal.returns-in_ok-write_numbered-in-Slot-clause-err
 returns-in_ok-write_numbered-in-Slot-clause-err g c =
     rw c.in-Slot.is (on_err c.write_numbered-in-Slot-2.result (λ front. front_last _ _ _ (numbered (codes "table ") c.in-Slot.n) _ _ c.in_ok-write_numbered-in-Slot.ensures.ok front refl) c.write_numbered-in-Slot-2.ensures.err)
+
+pub returns-in_ok-write_numbered-in-Byte-clause-ok : goal.returns-in_ok-write_numbered-in-Byte-clause-ok
+returns-in_ok-write_numbered-in-Byte-clause-ok g c = grind (arith, common_steps)
+
+pub returns-in_ok-write_numbered-in-Slot-clause-ok : goal.returns-in_ok-write_numbered-in-Slot-clause-ok
+returns-in_ok-write_numbered-in-Slot-clause-ok g c = grind (arith, common_steps)

@@ -1,9 +1,10 @@
-use Rattle.std.proofs.Common.{◌≡◌, ◌∙◌, refl, ◌++◌, ap, append_assoc}
+use Rattle.std.proofs.Common.{◌≡◌, ◌∙◌, refl, ◌++◌, ap, append_assoc, arith}
 use Rattle.std.specs.Prelude.{codes}
 use Rattle.cdb_form.proofs.WritingLemmas.{appends_then, front_then}
 use Rattle.cdb_make.proofs.Written.{on_any_err, on_err, front_in, front_last, same_front, same_appends}
 use Rattle.cdb_runs.specs.Message.{said_place, fault_place, fault_message, said_line}
 use Rattle.cdb_runs.specs.declared.fault.Fault.{Fault}
+use Rattle.std.proofs.lemmas.Grind.{common_steps}
 use Rattle.cdb_runs.proofs.message.write_said.Goals as goal
 
 in_three : (f : Fault) → said_line f ≡ codes "cdb: " ++ (said_place (fault_place f) ++ (fault_message f ++ codes "\n"))
@@ -26,3 +27,6 @@ returns-clause-err g c =
     let before = appends_then _ _ _ (codes "cdb: ") (said_place (fault_place f)) c.in_ok-write_whole.ensures.ok place in
     on_err c.write_pieces.result (λ front. front_last _ _ _ (codes "cdb: " ++ said_place (fault_place f)) (fault_message f ++ codes "\n") (said_line f) before
     (same_front _ _ _ _ (ap (λ t. t ++ codes "\n") (c.as_bytes.ensures.value ∙ c.message.ensures)) front) (in_three f)) c.write_pieces.ensures.err
+
+pub returns-clause-ok : goal.returns-clause-ok
+returns-clause-ok g c = grind (arith, common_steps)

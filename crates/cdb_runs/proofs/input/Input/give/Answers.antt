@@ -1,6 +1,7 @@
 use Rattle.std.proofs.Common.{◌≡◌, ℕ, ◌+◌, ◌-◌, length, take, drop, arith, ap, ◌∙◌}
 use Rattle.std.proofs.lemmas.List.{take_at, length-take-le}
 use Rattle.cdb_runs.proofs.InputLemmas.{given}
+use Rattle.std.proofs.lemmas.Grind.{common_steps}
 use Rattle.cdb_runs.proofs.input.Input.give.Goals as goal
 
 pub returns-clause-bytes : goal.returns-clause-bytes
@@ -14,3 +15,6 @@ returns-clause-bytes g c =
     let same : copied ≡ take n (drop start c.args.self.now.window.items) =
     c.copy_from_slice.ensures.after ∙ ap (λ (k : ℕ). take k (drop start c.deref.result.now)) count ∙ ap (λ t. take n (drop start t)) c.deref.ensures.value in
     given c.args.self.now.window.items _ start c.args.self.now.end n (g.R.Read.remaining c.args.self.now.reader) (omega arith) (take_at copied (drop n buf) n long ∙ same)
+
+pub returns-clause-count : goal.returns-clause-count
+returns-clause-count g c = grind (arith, common_steps)

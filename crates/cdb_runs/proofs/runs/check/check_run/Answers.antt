@@ -1,5 +1,6 @@
-use Rattle.std.proofs.Common.{rules}
+use Rattle.std.proofs.Common.{rules, arith}
 use Rattle.cdb_runs.proofs.Checks.{opening_unchecked}
+use Rattle.std.proofs.lemmas.Grind.{common_steps}
 use Rattle.cdb_runs.proofs.runs.check.check_run.Goals as goal
 
 pub returns-in-Err-clause-fails : goal.returns-in-Err-clause-fails
@@ -7,3 +8,6 @@ returns-in-Err-clause-fails g c = rw c.from.ensures (opening_unchecked _ g.S.Sto
 
 pub returns-clause-sound : goal.returns-clause-sound
 returns-clause-sound g c = search rules
+
+pub returns-clause-fails : goal.returns-clause-fails
+returns-clause-fails g c = grind (arith, common_steps)

@@ -1,5 +1,7 @@
 use Rattle.cdb_runs.proofs.Courses.{course_starts}
 use Rattle.cdb_runs.proofs.RunEnds.{runs_not, runs_stopped, runs_whole, runs_unfinished}
+use Rattle.std.proofs.Common.{arith}
+use Rattle.std.proofs.lemmas.Grind.{common_steps}
 use Rattle.cdb_runs.proofs.runs.make.make_unflushed.Goals as goal
 
 pub returns-in-Err-clause-runs : goal.returns-in-Err-clause-runs
@@ -25,3 +27,6 @@ returns-in-Err-finish-clause-runs g c =
     let start = course_starts {s = g.S.Store} {l = g.L.Width} c.args.options.now (g.E.Write.contents c.args.errors.now) c.in-Ok.maker c.in-Ok.ensures.holds c.in-Ok.ensures.limit in
     rw (c.from-in-Err-finish.ensures, c.into_store-in-Err-finish.ensures)
     (runs_unfinished {s = g.S.Store} {l = g.L.Width} _ _ _ put.0 _ _ c.put_inputs.new.maker c.in-Err-finish.unfinished.maker _ c.in-Err-finish.unfinished.fault put.1 (put.2 _ start) e.fails_comes e.fails)
+
+pub returns-in-Err-finish-clause-failed : goal.returns-in-Err-finish-clause-failed
+returns-in-Err-finish-clause-failed g c = grind (arith, common_steps)

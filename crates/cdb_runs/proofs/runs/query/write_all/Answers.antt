@@ -1,6 +1,7 @@
-use Rattle.std.proofs.Common.{rules, refl, ap, ◌∙◌}
+use Rattle.std.proofs.Common.{rules, refl, ap, ◌∙◌, arith}
 use Rattle.std.proofs.lemmas.Result.{err_from_is_err_and}
 use Rattle.cdb_runs.proofs.Queries.{found_none, found_more, found_still, written_none, written_more, copying_fails, handed_back, front_amid}
+use Rattle.std.proofs.lemmas.Grind.{common_steps}
 use Rattle.cdb_runs.proofs.runs.query.write_all.Goals as goal
 
 pub loop-value-init : goal.loop-value-init
@@ -40,3 +41,12 @@ returns-in_err-write_value g c =
     (copying_fails _ g.S.Store _ _ c.next.new.self.reader.now.store _ _ _ c.in_err-write_value.field-0.0 next.reads written.reads c.args.reader.now.long c.in_err-write_value.ensures.fails
     (λ b is. front_amid {s = g.S.Store} {l = g.L.Width} _ _ _ _ c.write_value.new.finder _ _ _ inv.written.spans c.in-Some.value b found is
     (inv.written.written b (c.next.ensures.reads.images b (written.reads.images b is))) (c.in_err-write_value.ensures.front b is))))
+
+pub returns-else-found : goal.returns-else-found
+returns-else-found g c = grind (arith, common_steps)
+
+pub loop-value-smaller : goal.loop-value-smaller
+loop-value-smaller g c = grind (arith, common_steps)
+
+pub returns-then-found : goal.returns-then-found
+returns-then-found g c = grind (arith, common_steps)
