@@ -87,22 +87,29 @@ fn changes(alloc: Global, rows: &[(Option<Mode>, &[u8], &[u8])]) -> Result<Vec<C
     Ok(changes)
 }
 
+/// How a record is put, or that a key is removed.
+type Row = (Option<Mode>, &'static [u8], &'static [u8]);
+
+const MIXED: [Row; 10] = [
+    (Some(Mode::Add), b"a", b"1"),
+    (Some(Mode::Add), b"a", b"2"),
+    (Some(Mode::Warn), b"one", b"Hello"),
+    (Some(Mode::Insert), b"a", b"3"),
+    (Some(Mode::Insert), b"b", b"4"),
+    (None, b"one", b""),
+    (
+        Some(Mode::Add),
+        b"c",
+        b"0123456789012345678901234567890123456789",
+    ),
+    (Some(Mode::Replace), b"b", b"5"),
+    (Some(Mode::Warn), b"a", b"6"),
+    (None, b"zzz", b""),
+];
+
 /// All modes, two removals, and a record that would pass a limit of 2160 bytes.
 fn mixed(alloc: Global) -> Result<Vec<Change>, Fail> {
-    let long: &[u8] = b"0123456789012345678901234567890123456789";
-    let rows: [(Option<Mode>, &[u8], &[u8]); 10] = [
-        (Some(Mode::Add), b"a", b"1"),
-        (Some(Mode::Add), b"a", b"2"),
-        (Some(Mode::Warn), b"one", b"Hello"),
-        (Some(Mode::Insert), b"a", b"3"),
-        (Some(Mode::Insert), b"b", b"4"),
-        (None, b"one", b""),
-        (Some(Mode::Add), b"c", long),
-        (Some(Mode::Replace), b"b", b"5"),
-        (Some(Mode::Warn), b"a", b"6"),
-        (None, b"zzz", b""),
-    ];
-    changes(alloc, &rows)
+    changes(alloc, &MIXED)
 }
 
 /// What the mixed changes leave: four records, one behind the other.
@@ -129,16 +136,18 @@ fn changes_are_made_and_a_key_is_asked_for(rt: HostRuntime) -> Result<(), Fail> 
     Ok(())
 }
 
+/// The records that they leave, each added.
+const SCRATCH: [Row; 4] = [
+    (Some(Mode::Add), b"a", b"1"),
+    (Some(Mode::Add), b"a", b"2"),
+    (Some(Mode::Add), b"b", b"5"),
+    (Some(Mode::Add), b"a", b"6"),
+];
+
 #[test]
 fn changes_leave_the_file_made_from_scratch(rt: HostRuntime) -> Result<(), Fail> {
     let alloc = rt.alloc();
-    let rows: [(Option<Mode>, &[u8], &[u8]); 4] = [
-        (Some(Mode::Add), b"a", b"1"),
-        (Some(Mode::Add), b"a", b"2"),
-        (Some(Mode::Add), b"b", b"5"),
-        (Some(Mode::Add), b"a", b"6"),
-    ];
-    let left = changes(alloc, &rows)?;
+    let left = changes(alloc, &SCRATCH)?;
     let mut out = Vec::new(alloc);
     let changed = change_and_ask::<Wide, _>(alloc, 4320, &mixed(alloc)?, b"b", &mut out)?;
     let scratch = change_and_ask::<Wide, _>(alloc, Wide::GREATEST, &left, b"zzz", &mut out)?;

@@ -29,86 +29,90 @@ fn creates(
     asks(alloc, line, shown.as_str())
 }
 
+/// Lines, and the commands that they ask for.
+const READ: [(&str, &str); 11] = [
+    ("-h -q -d", "Help"),
+    (
+        "-q x -- -k",
+        "Query { name: \"x\", key: \"-k\", number: None, lines: false, wide: false }",
+    ),
+    (
+        "-q -n 007 x k",
+        "Query { name: \"x\", key: \"k\", number: Some(7), lines: false, wide: false }",
+    ),
+    (
+        "x k -Wmqn4294967295",
+        "Query { name: \"x\", key: \"k\", number: Some(4294967295), lines: true, wide: true }",
+    ),
+    (
+        "-qq x k",
+        "Query { name: \"x\", key: \"k\", number: None, lines: false, wide: false }",
+    ),
+    ("-d", "Dump { name: None, style: Native, wide: false }"),
+    ("-d -", "Dump { name: None, style: Native, wide: false }"),
+    (
+        "-dm x",
+        "Dump { name: Some(\"x\"), style: Map, wide: false }",
+    ),
+    (
+        "-lW x",
+        "List { name: Some(\"x\"), style: Native, wide: true }",
+    ),
+    ("-s -", "Stats { name: None, wide: false }"),
+    ("-Wk x", "Check { name: Some(\"x\"), wide: true }"),
+];
+
 #[test]
 fn lines_ask_for_what_is_read(rt: HostRuntime) -> Result<(), Fail> {
-    let rows = [
-        ("-h -q -d", "Help"),
-        (
-            "-q x -- -k",
-            "Query { name: \"x\", key: \"-k\", number: None, lines: false, wide: false }",
-        ),
-        (
-            "-q -n 007 x k",
-            "Query { name: \"x\", key: \"k\", number: Some(7), lines: false, wide: false }",
-        ),
-        (
-            "x k -Wmqn4294967295",
-            "Query { name: \"x\", key: \"k\", number: Some(4294967295), lines: true, wide: true }",
-        ),
-        (
-            "-qq x k",
-            "Query { name: \"x\", key: \"k\", number: None, lines: false, wide: false }",
-        ),
-        ("-d", "Dump { name: None, style: Native, wide: false }"),
-        ("-d -", "Dump { name: None, style: Native, wide: false }"),
-        (
-            "-dm x",
-            "Dump { name: Some(\"x\"), style: Map, wide: false }",
-        ),
-        (
-            "-lW x",
-            "List { name: Some(\"x\"), style: Native, wide: true }",
-        ),
-        ("-s -", "Stats { name: None, wide: false }"),
-        ("-Wk x", "Check { name: Some(\"x\"), wide: true }"),
-    ];
-    for (line, shown) in rows {
+    for &(line, shown) in &READ {
         assert!(rt; asks(rt.alloc(), line, shown)?, "at {line}");
     }
     Ok(())
 }
 
+/// Lines that ask for a create, its inputs, its temporary file, and its options.
+const MADE: [(&str, &str, &str, &str); 6] = [
+    (
+        "-c x",
+        "",
+        "None",
+        "mode: Add, warn: false, stop: false, style: Native",
+    ),
+    (
+        "-cm x",
+        "",
+        "None",
+        "mode: Add, warn: false, stop: false, style: Map",
+    ),
+    (
+        "-c -w x y",
+        "\"y\"",
+        "None",
+        "mode: Warn, warn: true, stop: false, style: Native",
+    ),
+    (
+        "-ce x",
+        "",
+        "None",
+        "mode: Warn, warn: true, stop: true, style: Native",
+    ),
+    (
+        "-c -eu x y -",
+        "\"y\", \"-\"",
+        "None",
+        "mode: Insert, warn: true, stop: true, style: Native",
+    ),
+    (
+        "-c -e -r -t - x",
+        "",
+        "Some(\"-\")",
+        "mode: Replace, warn: true, stop: true, style: Native",
+    ),
+];
+
 #[test]
 fn lines_ask_for_what_is_made(rt: HostRuntime) -> Result<(), Fail> {
-    let rows = [
-        (
-            "-c x",
-            "",
-            "None",
-            "mode: Add, warn: false, stop: false, style: Native",
-        ),
-        (
-            "-cm x",
-            "",
-            "None",
-            "mode: Add, warn: false, stop: false, style: Map",
-        ),
-        (
-            "-c -w x y",
-            "\"y\"",
-            "None",
-            "mode: Warn, warn: true, stop: false, style: Native",
-        ),
-        (
-            "-ce x",
-            "",
-            "None",
-            "mode: Warn, warn: true, stop: true, style: Native",
-        ),
-        (
-            "-c -eu x y -",
-            "\"y\", \"-\"",
-            "None",
-            "mode: Insert, warn: true, stop: true, style: Native",
-        ),
-        (
-            "-c -e -r -t - x",
-            "",
-            "Some(\"-\")",
-            "mode: Replace, warn: true, stop: true, style: Native",
-        ),
-    ];
-    for (line, inputs, temporary, options) in rows {
+    for &(line, inputs, temporary, options) in &MADE {
         assert!(rt;
             creates(rt.alloc(), line, inputs, temporary, options)?,
             "at {line}"

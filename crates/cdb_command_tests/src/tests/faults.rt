@@ -13,19 +13,21 @@ fn is_said(alloc: Global, usage: &Usage, number: u8, said: &str) -> Result<bool,
     Ok(usage.number() == number && usage.message() == said && shown.as_str() == said)
 }
 
+/// Faults, their numbers and their words.
+const SAID: [(Usage, u8, &str); 8] = [
+    (Usage::Words, 1, BAD),
+    (Usage::NoCommand, 2, BAD),
+    (Usage::TwoCommands, 3, BAD),
+    (Usage::Option('m'), 4, BAD),
+    (Usage::Number, 5, BAD),
+    (Usage::Names, 6, BAD),
+    (Usage::Both, 7, BAD),
+    (Usage::NoMemory, 8, "no memory"),
+];
+
 #[test]
 fn faults_are_numbered_and_said(rt: HostRuntime) -> Result<(), Fail> {
-    let rows = [
-        (Usage::Words, 1, BAD),
-        (Usage::NoCommand, 2, BAD),
-        (Usage::TwoCommands, 3, BAD),
-        (Usage::Option('m'), 4, BAD),
-        (Usage::Number, 5, BAD),
-        (Usage::Names, 6, BAD),
-        (Usage::Both, 7, BAD),
-        (Usage::NoMemory, 8, "no memory"),
-    ];
-    for (usage, number, said) in &rows {
+    for (usage, number, said) in &SAID {
         assert!(rt; is_said(rt.alloc(), usage, *number, said)?, "at {number}");
     }
     Ok(())

@@ -13,41 +13,43 @@ fn is_refused(alloc: Global, line: &str, fault: &Usage) -> Result<bool, AllocErr
     }
 }
 
+/// Lines, and their faults.
+const REFUSED: [(&str, Usage); 30] = [
+    ("", Usage::NoCommand),
+    ("x", Usage::NoCommand),
+    ("-q -d x", Usage::TwoCommands),
+    ("-qd", Usage::TwoCommands),
+    ("-s -m", Usage::Option('m')),
+    ("-d -r -u", Usage::Option('r')),
+    ("-k -n 1", Usage::Option('n')),
+    ("-c -n 0", Usage::Option('n')),
+    ("-l -t x -w", Usage::Option('t')),
+    ("-q -e -w x k", Usage::Option('w')),
+    ("-W -s -ue", Usage::Option('e')),
+    ("-l -u", Usage::Option('u')),
+    ("-q -n 4294967296 x k", Usage::Number),
+    ("-q -n 0 x", Usage::Number),
+    ("-q -n +1 x k", Usage::Number),
+    ("-q -n 1x x k z", Usage::Number),
+    ("-q", Usage::Names),
+    ("-q x", Usage::Names),
+    ("-q x k z", Usage::Names),
+    ("-d x y", Usage::Names),
+    ("-k x y", Usage::Names),
+    ("-c -r -u", Usage::Names),
+    ("-c -r -u x", Usage::Both),
+    ("-W", Usage::NoCommand),
+    ("-Z", Usage::Words),
+    ("-b x", Usage::Words),
+    ("-h -Z", Usage::Words),
+    ("-q x -k -n", Usage::Words),
+    ("-q -n 1 -n 2 x k", Usage::Words),
+    ("-c -t a -t b x", Usage::Words),
+];
+
 #[test]
 fn lines_are_refused_for_their_first_fault(rt: HostRuntime) -> Result<(), Fail> {
-    let rows = [
-        ("", Usage::NoCommand),
-        ("x", Usage::NoCommand),
-        ("-q -d x", Usage::TwoCommands),
-        ("-qd", Usage::TwoCommands),
-        ("-s -m", Usage::Option('m')),
-        ("-d -r -u", Usage::Option('r')),
-        ("-k -n 1", Usage::Option('n')),
-        ("-c -n 0", Usage::Option('n')),
-        ("-l -t x -w", Usage::Option('t')),
-        ("-q -e -w x k", Usage::Option('w')),
-        ("-W -s -ue", Usage::Option('e')),
-        ("-l -u", Usage::Option('u')),
-        ("-q -n 4294967296 x k", Usage::Number),
-        ("-q -n 0 x", Usage::Number),
-        ("-q -n +1 x k", Usage::Number),
-        ("-q -n 1x x k z", Usage::Number),
-        ("-q", Usage::Names),
-        ("-q x", Usage::Names),
-        ("-q x k z", Usage::Names),
-        ("-d x y", Usage::Names),
-        ("-k x y", Usage::Names),
-        ("-c -r -u", Usage::Names),
-        ("-c -r -u x", Usage::Both),
-        ("-W", Usage::NoCommand),
-        ("-Z", Usage::Words),
-        ("-b x", Usage::Words),
-        ("-h -Z", Usage::Words),
-        ("-q x -k -n", Usage::Words),
-        ("-q -n 1 -n 2 x k", Usage::Words),
-        ("-c -t a -t b x", Usage::Words),
-    ];
-    for (line, fault) in &rows {
+    for (line, fault) in &REFUSED {
         assert!(rt; is_refused(rt.alloc(), line, fault)?, "at {line}");
     }
     Ok(())

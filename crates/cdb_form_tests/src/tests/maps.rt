@@ -96,25 +96,27 @@ fn next_records_are_those_of_the_text(rt: HostRuntime) -> Result<(), Fail> {
     Ok(())
 }
 
+/// Texts, and their records.
+const RECORDS: [(&[u8], &[u8]); 14] = [
+    (SIX_LINES, b"<one|Hello><key|><two|Good bye>"),
+    (b"", b""),
+    (b"\n", b""),
+    (b" \t\n\t", b""),
+    (b"#", b""),
+    (b"\t# a b", b""),
+    (b"key", b"<key|>"),
+    (b"key \t", b"<key|>"),
+    (b"a # b", b"<a|# b>"),
+    (b"a# b", b"<a#|b>"),
+    (b"a b \t\n", b"<a|b \t>"),
+    (b"a b\r\n\r\n", b"<a|b\r><\r|>"),
+    (b"a\n\n\na\n", b"<a|><a|>"),
+    (b"\0\xff \xfe\0 \x80", b"<\0\xff|\xfe\0 \x80>"),
+];
+
 #[test]
 fn records_of_texts(rt: HostRuntime) -> Result<(), Fail> {
-    let cases: [(&[u8], &[u8]); 14] = [
-        (SIX_LINES, b"<one|Hello><key|><two|Good bye>"),
-        (b"", b""),
-        (b"\n", b""),
-        (b" \t\n\t", b""),
-        (b"#", b""),
-        (b"\t# a b", b""),
-        (b"key", b"<key|>"),
-        (b"key \t", b"<key|>"),
-        (b"a # b", b"<a|# b>"),
-        (b"a# b", b"<a#|b>"),
-        (b"a b \t\n", b"<a|b \t>"),
-        (b"a b\r\n\r\n", b"<a|b\r><\r|>"),
-        (b"a\n\n\na\n", b"<a|><a|>"),
-        (b"\0\xff \xfe\0 \x80", b"<\0\xff|\xfe\0 \x80>"),
-    ];
-    for (text, records) in cases {
+    for &(text, records) in &RECORDS {
         let reader = FakeReader::new(text, Behind::End);
         assert!(rt;
             reads(rt.alloc(), reader, 1 << 48, records, None)?,

@@ -5,22 +5,24 @@ use std::alloc::Global;
 use std::prelude::*;
 use std::test::Fail;
 
+/// How long a text is, how much of it may be taken, the answer, what is taken and what is left.
+const WHOLE: [(usize, u32, Extent, usize, usize); 11] = [
+    (0, 0, Extent::All, 0, 0),
+    (1, 0, Extent::More, 1, 0),
+    (4095, 4096, Extent::All, 4095, 0),
+    (4096, 4096, Extent::All, 4096, 0),
+    (4097, 4096, Extent::More, 4097, 0),
+    (10000, 4096, Extent::More, 4097, 5903),
+    (10000, 9998, Extent::More, 9999, 1),
+    (10000, 9999, Extent::More, 10000, 0),
+    (10000, 10000, Extent::All, 10000, 0),
+    (10000, 10001, Extent::All, 10000, 0),
+    (10000, u32::MAX, Extent::All, 10000, 0),
+];
+
 #[test]
 fn no_more_than_one_byte_above_the_most_is_taken(rt: HostRuntime) -> Result<(), Fail> {
-    let cases: [(usize, u32, Extent, usize, usize); 11] = [
-        (0, 0, Extent::All, 0, 0),
-        (1, 0, Extent::More, 1, 0),
-        (4095, 4096, Extent::All, 4095, 0),
-        (4096, 4096, Extent::All, 4096, 0),
-        (4097, 4096, Extent::More, 4097, 0),
-        (10000, 4096, Extent::More, 4097, 5903),
-        (10000, 9998, Extent::More, 9999, 1),
-        (10000, 9999, Extent::More, 10000, 0),
-        (10000, 10000, Extent::All, 10000, 0),
-        (10000, 10001, Extent::All, 10000, 0),
-        (10000, u32::MAX, Extent::All, 10000, 0),
-    ];
-    for (len, most, extent, taken, left) in cases {
+    for &(len, most, extent, taken, left) in &WHOLE {
         let text = vec![in rt.alloc(); b'x'; len]?;
         let mut reader = FakeReader::new(&text, Behind::End);
         let mut held = vec![in rt.alloc(); b'y'; 3]?;

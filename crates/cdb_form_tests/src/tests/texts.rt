@@ -30,38 +30,42 @@ fn read_narrow(alloc: Global, text: &[u8]) -> (usize, Option<TextFault>) {
     read_all::<Narrow, FakeReader<'_>>(alloc, FakeReader::new(text, Behind::End), 1 << 48)
 }
 
+/// Texts, how many records they have, and their faults.
+const READ: [(&[u8], usize, Option<TextFault>); 14] = [
+    (TWO, 2, None),
+    (b"\n", 0, None),
+    (b"+0,0:->\n\n", 1, None),
+    (b"+003,05:one->Hello\n\nrest", 1, None),
+    (b"", 0, Some(TextFault::Ended(0))),
+    (b"*", 0, Some(TextFault::Syntax(0))),
+    (b"+,5:", 0, Some(TextFault::Syntax(1))),
+    (b"+4294967296,0:", 0, Some(TextFault::Large(10))),
+    (b"+4294967295,0:", 0, Some(TextFault::Ended(14))),
+    (b"+3,5:one=>Hello", 0, Some(TextFault::Syntax(8))),
+    (b"+3,5:one->Hell", 0, Some(TextFault::Ended(14))),
+    (b"+3,5:one->Hello!", 0, Some(TextFault::Syntax(15))),
+    (b"+3,5:one->Hello\n", 1, Some(TextFault::Ended(16))),
+    (b"+1,1:a->1\n-1:a\n\n", 1, Some(TextFault::Syntax(10))),
+];
+
 #[test]
 fn records_and_refused_texts(rt: HostRuntime) {
-    let cases: [(&[u8], usize, Option<TextFault>); 14] = [
-        (TWO, 2, None),
-        (b"\n", 0, None),
-        (b"+0,0:->\n\n", 1, None),
-        (b"+003,05:one->Hello\n\nrest", 1, None),
-        (b"", 0, Some(TextFault::Ended(0))),
-        (b"*", 0, Some(TextFault::Syntax(0))),
-        (b"+,5:", 0, Some(TextFault::Syntax(1))),
-        (b"+4294967296,0:", 0, Some(TextFault::Large(10))),
-        (b"+4294967295,0:", 0, Some(TextFault::Ended(14))),
-        (b"+3,5:one=>Hello", 0, Some(TextFault::Syntax(8))),
-        (b"+3,5:one->Hell", 0, Some(TextFault::Ended(14))),
-        (b"+3,5:one->Hello!", 0, Some(TextFault::Syntax(15))),
-        (b"+3,5:one->Hello\n", 1, Some(TextFault::Ended(16))),
-        (b"+1,1:a->1\n-1:a\n\n", 1, Some(TextFault::Syntax(10))),
-    ];
-    for (text, count, fault) in cases {
+    for &(text, count, fault) in &READ {
         assert!(rt; read_narrow(rt.alloc(), text) == (count, fault), "{text:?}");
     }
 }
 
+/// Texts in wide words, and their faults.
+const WIDE: [(&[u8], TextFault); 3] = [
+    (b"+4294967296,0:", TextFault::Ended(14)),
+    // Memory is asked for only as bytes come.
+    (b"+9223372036854775807,0:", TextFault::Ended(23)),
+    (b"+9223372036854775808,0:", TextFault::Large(19)),
+];
+
 #[test]
 fn wide_lengths(rt: HostRuntime) {
-    let cases: [(&[u8], TextFault); 3] = [
-        (b"+4294967296,0:", TextFault::Ended(14)),
-        // Memory is asked for only as bytes come.
-        (b"+9223372036854775807,0:", TextFault::Ended(23)),
-        (b"+9223372036854775808,0:", TextFault::Large(19)),
-    ];
-    for (text, fault) in cases {
+    for &(text, fault) in &WIDE {
         let reader = FakeReader::new(text, Behind::End);
         let answer = read_all::<Wide, FakeReader<'_>>(rt.alloc(), reader, 1 << 48);
         assert!(rt; answer == (0, Some(fault)), "{text:?}");
@@ -151,18 +155,20 @@ fn as_many_asks_as_are_made_suffice(rt: HostRuntime) {
     }
 }
 
+/// Texts, their faults, and what is left.
+const BEHIND: [(&[u8], TextFault, &[u8]); 7] = [
+    (b"*+1,1:", TextFault::Syntax(0), b"+1,1:"),
+    (b"+,5:one", TextFault::Syntax(1), b"5:one"),
+    (b"+4294967296,0:", TextFault::Large(10), b",0:"),
+    (b"+3;5:one", TextFault::Syntax(2), b"5:one"),
+    (b"+1,1:a=>b\n\n", TextFault::Syntax(6), b">b\n\n"),
+    (b"+1,1:a-]b\n\n", TextFault::Syntax(7), b"b\n\n"),
+    (b"+1,1:a->b!\n\n", TextFault::Syntax(9), b"\n\n"),
+];
+
 #[test]
 fn what_stands_behind_a_fault_stays(rt: HostRuntime) {
-    let cases: [(&[u8], TextFault, &[u8]); 7] = [
-        (b"*+1,1:", TextFault::Syntax(0), b"+1,1:"),
-        (b"+,5:one", TextFault::Syntax(1), b"5:one"),
-        (b"+4294967296,0:", TextFault::Large(10), b",0:"),
-        (b"+3;5:one", TextFault::Syntax(2), b"5:one"),
-        (b"+1,1:a=>b\n\n", TextFault::Syntax(6), b">b\n\n"),
-        (b"+1,1:a-]b\n\n", TextFault::Syntax(7), b"b\n\n"),
-        (b"+1,1:a->b!\n\n", TextFault::Syntax(9), b"\n\n"),
-    ];
-    for (text, fault, rest) in cases {
+    for &(text, fault, rest) in &BEHIND {
         let mut reader = text;
         let answer = read_all::<Narrow, &mut &[u8]>(rt.alloc(), &mut reader, 1 << 48);
         assert!(rt; answer == (0, Some(fault)), "{text:?}");
@@ -190,17 +196,19 @@ fn no_ask_is_for_more_than_it_may_be(rt: HostRuntime) -> Result<(), Fail> {
     Ok(())
 }
 
+/// Faults, their numbers and their words.
+const SAID: [(TextFault, u8, &str); 6] = [
+    (TextFault::Syntax(7), 1, "byte 7: not a record"),
+    (TextFault::Ended(0), 2, "byte 0: text ends early"),
+    (TextFault::Large(10), 3, "byte 10: length too large"),
+    (TextFault::Input, 4, "cannot be read"),
+    (TextFault::Endless, 5, "has no end"),
+    (TextFault::NoMemory, 6, "no memory"),
+];
+
 #[test]
 fn faults_are_numbered_and_said(rt: HostRuntime) -> Result<(), Fail> {
-    let cases = [
-        (TextFault::Syntax(7), 1, "byte 7: not a record"),
-        (TextFault::Ended(0), 2, "byte 0: text ends early"),
-        (TextFault::Large(10), 3, "byte 10: length too large"),
-        (TextFault::Input, 4, "cannot be read"),
-        (TextFault::Endless, 5, "has no end"),
-        (TextFault::NoMemory, 6, "no memory"),
-    ];
-    for (fault, number, words) in cases {
+    for &(fault, number, words) in &SAID {
         let said = fault.to_string(rt.alloc())?;
         assert!(rt;
             fault.number() == number && said.as_str() == words,

@@ -165,36 +165,48 @@ fn a_longer_file(rt: HostRuntime) -> Result<(), Fail> {
     Ok(())
 }
 
+/// The file of two records with other bytes from a place on, how many records it has, and its fault.
+type Changed = (usize, &'static [u8], usize, Option<WalkFault>);
+
+const CHANGED: [Changed; 9] = [
+    // a table behind the end, and a pointer of all ones
+    (56, b"\x42\x08\0\0\x01\0\0\0", 2, None),
+    (1032, b"\xff\xff\xff\xff\xff\xff\xff\xff", 2, None),
+    // a slot that tells no record's place
+    (2086, b"\x11", 2, None),
+    // a value that reaches behind the record end, and lengths that reach behind every file
+    (2068, b"\x08", 1, Some(WalkFault::Record(2064))),
+    (2048, b"\xff\xff\xff\xff", 0, Some(WalkFault::Record(2048))),
+    (
+        2048,
+        b"\xff\xff\xff\xff\xff\xff\xff\xff",
+        0,
+        Some(WalkFault::Record(2048)),
+    ),
+    // tables that stand within the head: the first one is told, and one of no slots is none
+    (0, b"\x64\0\0\0\x01\0\0\0", 0, Some(WalkFault::Table(0))),
+    (
+        24,
+        b"\x64\0\0\0\x01\0\0\0\x64\0\0\0\x01\0\0\0",
+        0,
+        Some(WalkFault::Table(3)),
+    ),
+    (0, b"\x64\0\0\0\0\0\0\0", 2, None),
+];
+
+/// Whether a changed file has its records and its fault.
+fn changed_walks(alloc: Global, changed: &Changed) -> Result<bool, AllocError> {
+    let (at, bytes, records, fault) = *changed;
+    let mut file = two_file(alloc)?;
+    put(&mut file, at, bytes);
+    walks_narrow(alloc, &file, records, fault)
+}
+
 #[test]
 fn changed_bytes(rt: HostRuntime) -> Result<(), Fail> {
-    let ones: &[u8] = &[255; 8];
-    let cases: [(usize, &[u8], usize, Option<WalkFault>); 9] = [
-        // a table behind the end, and a pointer of all ones
-        (56, b"\x42\x08\0\0\x01\0\0\0", 2, None),
-        (1032, ones, 2, None),
-        // a slot that tells no record's place
-        (2086, b"\x11", 2, None),
-        // a value that reaches behind the record end, and lengths that reach behind every file
-        (2068, b"\x08", 1, Some(WalkFault::Record(2064))),
-        (2048, &ones[..4], 0, Some(WalkFault::Record(2048))),
-        (2048, ones, 0, Some(WalkFault::Record(2048))),
-        // tables that stand within the head: the first one is told, and one of no slots is none
-        (0, b"\x64\0\0\0\x01\0\0\0", 0, Some(WalkFault::Table(0))),
-        (
-            24,
-            b"\x64\0\0\0\x01\0\0\0\x64\0\0\0\x01\0\0\0",
-            0,
-            Some(WalkFault::Table(3)),
-        ),
-        (0, b"\x64\0\0\0\0\0\0\0", 2, None),
-    ];
-    for (at, bytes, records, fault) in cases {
-        let mut file = two_file(rt.alloc())?;
-        put(&mut file, at, bytes);
-        assert!(rt;
-            walks_narrow(rt.alloc(), &file, records, fault)?,
-            "{bytes:?} at {at}"
-        );
+    for changed in &CHANGED {
+        let is_walked = changed_walks(rt.alloc(), changed)?;
+        assert!(rt; is_walked, "{:?} at {}", changed.1, changed.0);
     }
     Ok(())
 }
@@ -356,16 +368,18 @@ fn a_fault_stays(rt: HostRuntime) -> Result<(), Fail> {
     Ok(())
 }
 
+/// Faults, their numbers and their words.
+const SAID: [(WalkFault, u8, &str); 5] = [
+    (WalkFault::Short, 1, "database shorter than its head"),
+    (WalkFault::Table(7), 2, "table 7: outside the file"),
+    (WalkFault::Record(2048), 3, "record at 2048: not whole"),
+    (WalkFault::Input, 4, "database cannot be read or written"),
+    (WalkFault::NoMemory, 5, "no memory"),
+];
+
 #[test]
 fn faults_are_numbered_and_said(rt: HostRuntime) -> Result<(), Fail> {
-    let cases = [
-        (WalkFault::Short, 1, "database shorter than its head"),
-        (WalkFault::Table(7), 2, "table 7: outside the file"),
-        (WalkFault::Record(2048), 3, "record at 2048: not whole"),
-        (WalkFault::Input, 4, "database cannot be read or written"),
-        (WalkFault::NoMemory, 5, "no memory"),
-    ];
-    for (fault, number, words) in cases {
+    for &(fault, number, words) in &SAID {
         let said = fault.to_string(rt.alloc())?;
         assert!(rt;
             fault.number() == number && said.as_str() == words,

@@ -103,95 +103,102 @@ fn files_of_other_programs_are_sound(rt: HostRuntime) -> Result<(), Fail> {
     Ok(())
 }
 
+const TABLES: [Row<'static>; 6] = [
+    (
+        "a table at the end",
+        56,
+        b"\x42\x08\0\0\x01\0\0\0",
+        Err(ReadFault::Table(7)),
+    ),
+    (
+        "a table in the head",
+        0,
+        b"\x64\0\0\0\x01\0\0\0",
+        Err(ReadFault::Table(0)),
+    ),
+    (
+        "the last table",
+        2040,
+        b"\x42\x08\0\0\x01\0\0\0",
+        Err(ReadFault::Table(255)),
+    ),
+    (
+        "a value that passes the record end",
+        2068,
+        b"\x08",
+        Err(ReadFault::Record(2064)),
+    ),
+    // The records end where the first table stands, so none is whole.
+    (
+        "a table within a record",
+        56,
+        b"\x08\x08\0\0\x01\0\0\0",
+        Err(ReadFault::Record(2048)),
+    ),
+    // It has the bytes of the second record as its slot.
+    (
+        "a table in place of a record",
+        56,
+        b"\x10\x08\0\0\x01\0\0\0",
+        Err(ReadFault::Slot(7, 0)),
+    ),
+];
+
 #[test]
 fn tables_and_records_are_told(rt: HostRuntime) -> Result<(), Fail> {
-    let other = not_told(
-        rt.alloc(),
-        &[
-            (
-                "a table at the end",
-                56,
-                b"\x42\x08\0\0\x01\0\0\0",
-                Err(ReadFault::Table(7)),
-            ),
-            (
-                "a table in the head",
-                0,
-                b"\x64\0\0\0\x01\0\0\0",
-                Err(ReadFault::Table(0)),
-            ),
-            (
-                "the last table",
-                2040,
-                b"\x42\x08\0\0\x01\0\0\0",
-                Err(ReadFault::Table(255)),
-            ),
-            (
-                "a value that passes the record end",
-                2068,
-                b"\x08",
-                Err(ReadFault::Record(2064)),
-            ),
-            // The records end where the first table stands, so none is whole.
-            (
-                "a table within a record",
-                56,
-                b"\x08\x08\0\0\x01\0\0\0",
-                Err(ReadFault::Record(2048)),
-            ),
-            // It has the bytes of the second record as its slot.
-            (
-                "a table in place of a record",
-                56,
-                b"\x10\x08\0\0\x01\0\0\0",
-                Err(ReadFault::Slot(7, 0)),
-            ),
-        ],
-    )?;
+    let other = not_told(rt.alloc(), &TABLES)?;
     assert!(rt; other.is_empty(), "{other}");
     let cut = of_cut(rt.alloc(), 2070, Err(ReadFault::Table(41)))?;
     assert!(rt; cut, "cut within the second record");
     Ok(())
 }
 
+const SLOTS: [Row<'static>; 7] = [
+    (
+        "no record's place",
+        2086,
+        b"\x11",
+        Err(ReadFault::Slot(41, 0)),
+    ),
+    (
+        "a place of all ones",
+        2086,
+        b"\xff\xff\xff\xff",
+        Err(ReadFault::Slot(41, 0)),
+    ),
+    ("another hash", 2083, b"\x61", Err(ReadFault::Slot(41, 0))),
+    (
+        "in the table of another",
+        2090,
+        b"\x81\x5b\x87\x0b\0\x08\0\0",
+        Err(ReadFault::Slot(41, 1)),
+    ),
+    // Its place is that of an earlier slot, too.
+    (
+        "wrong before it is the second of a record",
+        2098,
+        b"\x29\x60\x87\x0b\x10\x08\0\0",
+        Err(ReadFault::Slot(129, 0)),
+    ),
+    // Table 7 has all four slots.
+    (
+        "tables that share used slots",
+        56,
+        b"\x22\x08\0\0\x04\0\0\0",
+        Err(ReadFault::Slot(7, 0)),
+    ),
+    // Table 41 has three slots, of which the home of its hash is empty.
+    (
+        "a slot that its search does not come to",
+        332,
+        b"\x03",
+        Err(ReadFault::Slot(41, 0)),
+    ),
+];
+
 #[test]
 fn wrong_slots_are_told(rt: HostRuntime) -> Result<(), Fail> {
-    let first = Err(ReadFault::Slot(41, 0));
-    let other = not_told(
-        rt.alloc(),
-        &[
-            ("no record's place", 2086, b"\x11", first),
-            ("a place of all ones", 2086, b"\xff\xff\xff\xff", first),
-            ("another hash", 2083, b"\x61", first),
-            (
-                "in the table of another",
-                2090,
-                b"\x81\x5b\x87\x0b\0\x08\0\0",
-                Err(ReadFault::Slot(41, 1)),
-            ),
-            // Its place is that of an earlier slot, too.
-            (
-                "wrong before it is the second of a record",
-                2098,
-                b"\x29\x60\x87\x0b\x10\x08\0\0",
-                Err(ReadFault::Slot(129, 0)),
-            ),
-            // Table 7 has all four slots.
-            (
-                "tables that share used slots",
-                56,
-                b"\x22\x08\0\0\x04\0\0\0",
-                Err(ReadFault::Slot(7, 0)),
-            ),
-            // Table 41 has three slots, of which the home of its hash is empty.
-            (
-                "a slot that its search does not come to",
-                332,
-                b"\x03",
-                first,
-            ),
-        ],
-    )?;
+    let other = not_told(rt.alloc(), &SLOTS)?;
     assert!(rt; other.is_empty(), "{other}");
     Ok(())
 }
@@ -263,20 +270,24 @@ fn of_full(alloc: Global, first: u32, at: usize, bytes: &[u8]) -> Result<(Answer
     checked::<Narrow>(alloc, fused(file, u64::MAX))
 }
 
+/// From their home on, the first one behind it, and from slot 0 on. Slot 92, to which a search comes
+/// last, or slot 93, with which it begins, is empty in the other two.
+const FULL: [(u32, usize, &[u8], Answer); 5] = [
+    (93, 0, b"", Ok(())),
+    (94, 0, b"", Ok(())),
+    (0, 0, b"", Ok(())),
+    (
+        93,
+        5784,
+        b"\0\0\0\0\0\0\0\0",
+        Err(ReadFault::Unindexed(5038)),
+    ),
+    (93, 5792, b"\0\0\0\0\0\0\0\0", Err(ReadFault::Slot(196, 0))),
+];
+
 #[test]
 fn a_full_table_is_checked(rt: HostRuntime) -> Result<(), Fail> {
-    // From their home on, the first one behind it, and from slot 0 on. Slot 92, to which a search
-    // comes last, or slot 93, with which it begins, is empty in the other two.
-    let last = Err(ReadFault::Unindexed(5038));
-    let home = Err(ReadFault::Slot(196, 0));
-    let cases: [(u32, usize, &[u8], Answer); 5] = [
-        (93, 0, b"", Ok(())),
-        (94, 0, b"", Ok(())),
-        (0, 0, b"", Ok(())),
-        (93, 5048 + 8 * 92, &[0; 8], last),
-        (93, 5048 + 8 * 93, &[0; 8], home),
-    ];
-    for (first, at, bytes, wanted) in cases {
+    for &(first, at, bytes, wanted) in &FULL {
         // The head, the records with some slots, the other slots, and all slots once more.
         let told = of_full(rt.alloc(), first, at, bytes)?;
         assert!(rt; told == (wanted, 4), "from slot {first} on, and {at}");

@@ -5,20 +5,22 @@ use cdb_store::StoreFault;
 use std::prelude::*;
 use std::test::Fail;
 
+/// Faults, their numbers and their words.
+const SAID: [(ReadFault, u8, &str); 9] = [
+    (ReadFault::Short, 1, "database shorter than its head"),
+    (ReadFault::Table(7), 2, "table 7: outside the file"),
+    (ReadFault::Record(2048), 3, "record at 2048: not whole"),
+    (ReadFault::Slot(41, 1), 4, "table 41: slot 1: wrong"),
+    (ReadFault::Twice(2064), 5, "record at 2064: in two slots"),
+    (ReadFault::Unindexed(2064), 6, "record at 2064: in no slot"),
+    (ReadFault::Device, 7, "database cannot be read or written"),
+    (ReadFault::NoMemory, 8, "no memory"),
+    (ReadFault::Output, 9, "output cannot be written"),
+];
+
 #[test]
 fn faults_are_numbered_and_said(rt: HostRuntime) -> Result<(), Fail> {
-    let cases = [
-        (ReadFault::Short, 1, "database shorter than its head"),
-        (ReadFault::Table(7), 2, "table 7: outside the file"),
-        (ReadFault::Record(2048), 3, "record at 2048: not whole"),
-        (ReadFault::Slot(41, 1), 4, "table 41: slot 1: wrong"),
-        (ReadFault::Twice(2064), 5, "record at 2064: in two slots"),
-        (ReadFault::Unindexed(2064), 6, "record at 2064: in no slot"),
-        (ReadFault::Device, 7, "database cannot be read or written"),
-        (ReadFault::NoMemory, 8, "no memory"),
-        (ReadFault::Output, 9, "output cannot be written"),
-    ];
-    for (fault, number, words) in cases {
+    for &(fault, number, words) in &SAID {
         let said = fault.to_string(rt.alloc())?;
         assert!(rt;
             fault.number() == number && said.as_str() == words,
@@ -28,17 +30,19 @@ fn faults_are_numbered_and_said(rt: HostRuntime) -> Result<(), Fail> {
     Ok(())
 }
 
+/// Damages, and what they are told as.
+const TOLD: [(Damage, ReadFault); 6] = [
+    (Damage::Short, ReadFault::Short),
+    (Damage::Table(7), ReadFault::Table(7)),
+    (Damage::Record(2048), ReadFault::Record(2048)),
+    (Damage::Slot(41, 1), ReadFault::Slot(41, 1)),
+    (Damage::Twice(2064), ReadFault::Twice(2064)),
+    (Damage::Unindexed(2064), ReadFault::Unindexed(2064)),
+];
+
 #[test]
 fn a_damage_and_a_fault_of_the_store_are_told(rt: HostRuntime) -> Result<(), Fail> {
-    let cases = [
-        (Damage::Short, ReadFault::Short),
-        (Damage::Table(7), ReadFault::Table(7)),
-        (Damage::Record(2048), ReadFault::Record(2048)),
-        (Damage::Slot(41, 1), ReadFault::Slot(41, 1)),
-        (Damage::Twice(2064), ReadFault::Twice(2064)),
-        (Damage::Unindexed(2064), ReadFault::Unindexed(2064)),
-    ];
-    for (damage, fault) in cases {
+    for &(damage, fault) in &TOLD {
         assert!(rt; ReadFault::from(damage) == fault);
     }
     assert!(rt; ReadFault::from(StoreFault::Device) == ReadFault::Device);

@@ -1,6 +1,6 @@
 // stats_run, over worked and damaged files, and over stores and writers that fail.
 use super::fakes::{FakeWriter, NotingWriter};
-use super::worked::{FOUR_VALUES, NONE, Run, TWO, WIDE_TWO, bytes_of, with_bytes};
+use super::worked::{File, with_bytes};
 use cdb_form::{Narrow, Wide, Width};
 use cdb_read::ReadFault;
 use cdb_runs::{Fault, stats_run};
@@ -86,19 +86,6 @@ distance 9: 1
 distance 10 or more: 1
 ";
 
-/// One record, in a table of 16 slots: its hash, of slot 5, stands in slots 14 and 15. No program
-/// makes such a file. 2186 bytes.
-const FAR: [Run; 8] = [
-    (196, b"\0\0\0\0\0\0\0\0"),
-    (1, b"\x0a\x08\0\0\x10\0\0\0"),
-    (59, b"\0\0\0\0\0\0\0\0"),
-    (1, b"\x01\0\0\0\x01\0\0\0"),
-    (1, b"a1"),
-    (14, b"\0\0\0\0\0\0\0\0"),
-    (1, b"\xc4\xb5\x02\0\0\x08\0\0"),
-    (1, b"\xc4\xb5\x02\0\0\x08\0\0"),
-];
-
 type Answer = Result<(), Fault>;
 
 /// The answer of a run over a file.
@@ -112,77 +99,76 @@ fn tells<L: Width>(alloc: Global, file: Vec<u8>, want: Answer, text: &[u8]) -> b
     answer::<L, Vec<u8>>(file, &mut out) == want && out.as_slice() == text
 }
 
+const WORKED: [(File, &[u8]); 5] = [
+    (File::Two, OF_TWO),
+    (File::FourValues, OF_FOUR),
+    (File::None, OF_NONE),
+    (File::Zeros, OF_NONE),
+    (File::Far, OF_FAR),
+];
+
 #[test]
 fn worked_files(rt: HostRuntime) -> Result<(), Fail> {
-    let alloc = rt.alloc();
-    let cases: [(&[Run], &[u8], &str); 5] = [
-        (&TWO, OF_TWO, "two records"),
-        (&FOUR_VALUES, OF_FOUR, "four values of one key"),
-        (&NONE, OF_NONE, "no record"),
-        (&[(256, b"\0\0\0\0\0\0\0\0")], OF_NONE, "a head of zeros"),
-        (&FAR, OF_FAR, "slots far from where searches begin"),
-    ];
-    for (runs, text, what) in cases {
-        let is_so = tells::<Narrow>(alloc, bytes_of(alloc, runs)?, Ok(()), text);
-        assert!(rt; is_so, "{what}");
+    for &(file, text) in &WORKED {
+        let is_so = tells::<Narrow>(rt.alloc(), file.bytes(rt.alloc())?, Ok(()), text);
+        assert!(rt; is_so, "{file:?}");
     }
-    let wide = tells::<Wide>(alloc, bytes_of(alloc, &WIDE_TWO)?, Ok(()), OF_TWO);
+    let wide = tells::<Wide>(rt.alloc(), File::WideTwo.bytes(rt.alloc())?, Ok(()), OF_TWO);
     assert!(rt; wide, "in words of 8 bytes");
     Ok(())
-}
-
-/// Whether a run over the file of two records, with other bytes from a place on, has this answer,
-/// and writes this.
-fn changed_tells(
-    alloc: Global,
-    place: usize,
-    new: &[u8],
-    want: Answer,
-    text: &[u8],
-) -> Result<bool, AllocError> {
-    let file = with_bytes(bytes_of(alloc, &TWO)?, place, new);
-    Ok(tells::<Narrow>(alloc, file, want, text))
 }
 
 const fn damaged(fault: ReadFault) -> Answer {
     Err(Fault::Read(fault))
 }
 
+/// The file of two records with other bytes from a place on, the answer, and what is written.
+type Changed = (usize, &'static [u8], Answer, &'static [u8]);
+
+const CHANGED: [Changed; 4] = [
+    // a table at the end, and one in the head
+    (
+        56,
+        b"\x42\x08\0\0\x01\0\0\0",
+        Err(Fault::Read(ReadFault::Table(7))),
+        b"",
+    ),
+    (
+        0,
+        b"\x64\0\0\0\x01\0\0\0",
+        Err(Fault::Read(ReadFault::Table(0))),
+        b"",
+    ),
+    // a value that is too long, and a slot with a wrong place
+    (
+        2068,
+        b"\x08",
+        Err(Fault::Read(ReadFault::Record(2064))),
+        b"",
+    ),
+    (2086, b"\x11", Ok(()), OF_TWO),
+];
+
+/// Whether a run over a changed file has its answer, and writes its text.
+fn changed_tells(alloc: Global, changed: &Changed) -> Result<bool, AllocError> {
+    let (place, new, want, text) = *changed;
+    Ok(tells::<Narrow>(alloc, File::Two.changed(alloc, place, new)?, want, text))
+}
+
+/// Whether a file that is cut in its head is told so.
+fn is_cut_short(alloc: Global) -> Result<bool, AllocError> {
+    let mut file = File::Two.bytes(alloc)?;
+    file.truncate(2047);
+    Ok(tells::<Narrow>(alloc, file, damaged(ReadFault::Short), b""))
+}
+
 #[test]
 fn damaged_files(rt: HostRuntime) -> Result<(), Fail> {
-    let table = damaged(ReadFault::Table(7));
-    let cases: [(usize, &[u8], Answer, &[u8], &str); 4] = [
-        (
-            56,
-            b"\x42\x08\0\0\x01\0\0\0",
-            table,
-            b"",
-            "a table at the end",
-        ),
-        (
-            0,
-            b"\x64\0\0\0\x01\0\0\0",
-            damaged(ReadFault::Table(0)),
-            b"",
-            "a table in the head",
-        ),
-        (
-            2068,
-            b"\x08",
-            damaged(ReadFault::Record(2064)),
-            b"",
-            "a value that is too long",
-        ),
-        (2086, b"\x11", Ok(()), OF_TWO, "a slot with a wrong place"),
-    ];
-    for (place, new, want, text, what) in cases {
-        let is_so = changed_tells(rt.alloc(), place, new, want, text)?;
-        assert!(rt; is_so, "{what}");
+    for changed in &CHANGED {
+        let is_so = changed_tells(rt.alloc(), changed)?;
+        assert!(rt; is_so, "a file that is other at {}", changed.0);
     }
-    let mut short = bytes_of(rt.alloc(), &TWO)?;
-    short.truncate(2047);
-    let is_short = tells::<Narrow>(rt.alloc(), short, damaged(ReadFault::Short), b"");
-    assert!(rt; is_short);
+    assert!(rt; is_cut_short(rt.alloc())?);
     Ok(())
 }
 
@@ -202,22 +188,28 @@ fn fails_and_goes_again(alloc: Global, file: Vec<u8>, calls: u64) -> bool {
     is_told && tells::<Narrow>(alloc, store.into_inner().into_vec(), Ok(()), OF_TWO)
 }
 
+/// The first call whose failure is not told so, or how many calls there are where they are too few.
+fn first_untold(alloc: Global, file: &Vec<u8>) -> Result<Option<u64>, AllocError> {
+    let calls = fused(alloc, file.clone()?, u64::MAX).2.calls();
+    for fails in 0..calls {
+        if !fails_and_goes_again(alloc, file.clone()?, fails) {
+            return Ok(Some(fails));
+        }
+    }
+    // The head is read, and what stands behind it.
+    Ok(if calls > 1 { None } else { Some(calls) })
+}
+
 #[test]
 fn each_call_of_the_store_fails(rt: HostRuntime) -> Result<(), Fail> {
-    let file = bytes_of(rt.alloc(), &TWO)?;
-    let calls = fused(rt.alloc(), file.clone()?, u64::MAX).2.calls();
-    // The head is read, and what stands behind it.
-    assert!(rt; calls > 1);
-    for fails in 0..calls {
-        let is_so = fails_and_goes_again(rt.alloc(), file.clone()?, fails);
-        assert!(rt; is_so, "call {fails}");
-    }
+    let untold = first_untold(rt.alloc(), &File::Two.bytes(rt.alloc())?)?;
+    assert!(rt; untold.is_none(), "call {untold:?}");
     Ok(())
 }
 
 #[test]
 fn a_writer_that_fails_holds_a_front(rt: HostRuntime) -> Result<(), Fail> {
-    let file = bytes_of(rt.alloc(), &TWO)?;
+    let file = File::Two.bytes(rt.alloc())?;
     for room in 0..OF_TWO.len() + 1 {
         let mut w = FakeWriter::new(rt.alloc(), room);
         let answer = answer::<Narrow, _>(file.clone()?, &mut w);
@@ -228,7 +220,7 @@ fn a_writer_that_fails_holds_a_front(rt: HostRuntime) -> Result<(), Fail> {
 
 #[test]
 fn the_flush_comes_last(rt: HostRuntime) -> Result<(), Fail> {
-    let file = bytes_of(rt.alloc(), &TWO)?;
+    let file = File::Two.bytes(rt.alloc())?;
     for fails in [false, true] {
         let mut w = NotingWriter {
             calls: Vec::new(rt.alloc()),
@@ -242,7 +234,7 @@ fn the_flush_comes_last(rt: HostRuntime) -> Result<(), Fail> {
 
 #[test]
 fn a_failing_flush_is_output_where_no_other_fault_came(rt: HostRuntime) -> Result<(), Fail> {
-    let whole = bytes_of(rt.alloc(), &TWO)?;
+    let whole = File::Two.bytes(rt.alloc())?;
     let damage = with_bytes(whole.clone()?, 2068, b"\x08");
     let record = Fault::Read(ReadFault::Record(2064));
     for (file, fault) in [(whole, Fault::Output), (damage, record)] {

@@ -1,6 +1,6 @@
 // load, at the edges of what is allowed and over readers that fail.
 use super::fakes::FakeReader;
-use super::worked::{TWO, bytes_of};
+use super::worked::File;
 use cdb_form::WalkFault;
 use cdb_runs::{Fault, load, load_from};
 use cdb_store::MemStore;
@@ -31,7 +31,7 @@ fn is_too_long(alloc: Global, file: &[u8], most: u32) -> bool {
 
 #[test]
 fn files_as_long_as_they_may_be(rt: HostRuntime) -> Result<(), Fail> {
-    let file = bytes_of(rt.alloc(), &TWO)?;
+    let file = File::Two.bytes(rt.alloc())?;
     let is_whole = is_loaded(rt.alloc(), &file, 2114) && is_loaded(rt.alloc(), &file, 2115);
     assert!(rt; is_whole && is_too_long(rt.alloc(), &file, 2113));
     Ok(())
@@ -44,7 +44,7 @@ fn nothing_is_loaded_where_nothing_is_allowed(rt: HostRuntime) {
 
 #[test]
 fn what_follows_a_file_that_is_too_long_stays(rt: HostRuntime) -> Result<(), Fail> {
-    let mut longer = bytes_of(rt.alloc(), &TWO)?;
+    let mut longer = File::Two.bytes(rt.alloc())?;
     longer.extend_from_slice(b"12345")?;
     let mut rest = longer.as_slice();
     let loaded = load_from(rt.alloc(), &mut rest, 2113);
@@ -56,7 +56,7 @@ fn what_follows_a_file_that_is_too_long_stays(rt: HostRuntime) -> Result<(), Fai
 #[test]
 fn a_reader_that_fails_is_told(rt: HostRuntime) -> Result<(), Fail> {
     for came in [0usize, 1, 2048, 2113, 2114] {
-        let mut text = bytes_of(rt.alloc(), &TWO)?;
+        let mut text = File::Two.bytes(rt.alloc())?;
         text.truncate(came);
         let reader = FakeReader {
             interrupts: 0,

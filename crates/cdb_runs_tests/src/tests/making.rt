@@ -1,8 +1,6 @@
 // make_bytes, over files worked out by hand and over readers and writers that fail.
 use super::fakes::{FakeReader, FakeWriter, FullWriter, NotingWriter, SlowWriter};
-use super::worked::{
-    EMPTY_RECORD, FOUR_VALUES, NONE, ONE, Run, TWO, TWO_TEXT, WIDE_NONE, WIDE_ONE, bytes_of,
-};
+use super::worked::{File, TWO_TEXT};
 use cdb_form::{Narrow, TextFault, Wide};
 use cdb_runs::{Fault, make_bytes};
 use std::alloc::Global;
@@ -23,69 +21,81 @@ fn makes<R: Read + Drop>(alloc: Global, text: R, want: Result<(), Fault>, file: 
     answer == want && out.as_slice() == file
 }
 
+const WORKED: [(&[u8], File, usize); 4] = [
+    (TWO_TEXT, File::Two, 2114),
+    (b"\n", File::None, 2048),
+    (b"+0,0:->\n\n", File::EmptyRecord, 2072),
+    (
+        b"+1,1:a->1\n+1,1:a->2\n+1,1:a->3\n+1,1:a->4\n\n",
+        File::FourValues,
+        2152,
+    ),
+];
+
 #[test]
 fn worked_files(rt: HostRuntime) -> Result<(), Fail> {
-    let cases: [(&[u8], &[Run], usize); 4] = [
-        (TWO_TEXT, &TWO, 2114),
-        (b"\n", &NONE, 2048),
-        (b"+0,0:->\n\n", &EMPTY_RECORD, 2072),
-        (
-            b"+1,1:a->1\n+1,1:a->2\n+1,1:a->3\n+1,1:a->4\n\n",
-            &FOUR_VALUES,
-            2152,
-        ),
-    ];
-    for (text, runs, size) in cases {
-        let file = bytes_of(rt.alloc(), runs)?;
-        let is_made = makes(rt.alloc(), text, Ok(()), &file);
-        assert!(rt; is_made && file.len() == size, "{text:?}");
+    for &(text, file, size) in &WORKED {
+        let bytes = file.bytes(rt.alloc())?;
+        let is_made = makes(rt.alloc(), text, Ok(()), &bytes);
+        assert!(rt; is_made && bytes.len() == size, "{file:?}");
     }
     Ok(())
+}
+
+const WIDE: [(&[u8], File, usize); 2] = [
+    (b"\n", File::WideNone, 4096),
+    (b"+3,5:one->Hello\n\n", File::WideOne, 4152),
+];
+
+/// Whether a wide file is made of a text.
+fn makes_wide(alloc: Global, text: &[u8], file: &[u8]) -> bool {
+    let mut out = Vec::new(alloc);
+    let answer = make_bytes::<Wide, &[u8], Vec<u8>>(alloc, text, &mut out);
+    answer == Ok(()) && out.as_slice() == file
 }
 
 #[test]
 fn wide_files(rt: HostRuntime) -> Result<(), Fail> {
-    let cases: [(&[u8], &[Run], usize); 2] = [
-        (b"\n", &WIDE_NONE, 4096),
-        (b"+3,5:one->Hello\n\n", &WIDE_ONE, 4152),
-    ];
-    for (text, runs, size) in cases {
-        let mut out = Vec::new(rt.alloc());
-        let answer = make_bytes::<Wide, &[u8], Vec<u8>>(rt.alloc(), text, &mut out);
-        let file = bytes_of(rt.alloc(), runs)?;
-        let is_made = out.len() == size && out.as_slice() == file.as_slice();
-        assert!(rt; answer == Ok(()) && is_made, "{text:?}");
+    for &(text, file, size) in &WIDE {
+        let bytes = file.bytes(rt.alloc())?;
+        let is_made = makes_wide(rt.alloc(), text, &bytes);
+        assert!(rt; is_made && bytes.len() == size, "{file:?}");
     }
     Ok(())
 }
 
-// What is left is what stands behind the byte at the fault's place.
+/// Texts, their faults, and what is left: what stands behind the byte at the fault's place.
+const REFUSED: [(&[u8], TextFault, &[u8]); 8] = [
+    (b"", TextFault::Ended(0), b""),
+    (b"*rest", TextFault::Syntax(0), b"rest"),
+    (b"+,5:", TextFault::Syntax(1), b"5:"),
+    (b"+4294967296,0:", TextFault::Large(10), b",0:"),
+    (b"+3,5:one=>Hello", TextFault::Syntax(8), b">Hello"),
+    (b"+3,5:one->Hell", TextFault::Ended(14), b""),
+    (b"+3,5:one->Hello!\n\n", TextFault::Syntax(15), b"\n\n"),
+    (b"+3,5:one->Hello\n", TextFault::Ended(16), b""),
+];
+
+/// Whether a text is refused with nothing written, and with so much of it left.
+fn is_refused(alloc: Global, text: &[u8], fault: TextFault, left: &[u8]) -> bool {
+    let mut w = FakeWriter::new(alloc, 4096);
+    let mut rest = text;
+    let answer = make_bytes::<Narrow, _, FakeWriter>(alloc, &mut rest, &mut w);
+    let is_untouched = w.held.is_empty() && w.flushes == 1;
+    is_untouched && answer == Err(Fault::Text(1, fault)) && rest == left
+}
+
 #[test]
 fn refused_texts_leave_nothing_written_and_their_rest_unread(rt: HostRuntime) {
-    let cases: [(&[u8], TextFault, &[u8]); 8] = [
-        (b"", TextFault::Ended(0), b""),
-        (b"*rest", TextFault::Syntax(0), b"rest"),
-        (b"+,5:", TextFault::Syntax(1), b"5:"),
-        (b"+4294967296,0:", TextFault::Large(10), b",0:"),
-        (b"+3,5:one=>Hello", TextFault::Syntax(8), b">Hello"),
-        (b"+3,5:one->Hell", TextFault::Ended(14), b""),
-        (b"+3,5:one->Hello!\n\n", TextFault::Syntax(15), b"\n\n"),
-        (b"+3,5:one->Hello\n", TextFault::Ended(16), b""),
-    ];
-    for (text, fault, left) in cases {
-        let mut w = FakeWriter::new(rt.alloc(), 4096);
-        let mut rest = text;
-        let answer = make_bytes::<Narrow, _, FakeWriter>(rt.alloc(), &mut rest, &mut w);
-        let is_untouched = w.held.is_empty() && w.flushes == 1;
-        let is_refused = answer == Err(Fault::Text(1, fault)) && rest == left;
-        assert!(rt; is_refused && is_untouched, "{text:?}");
+    for &(text, fault, left) in &REFUSED {
+        assert!(rt; is_refused(rt.alloc(), text, fault, left), "{text:?}");
     }
 }
 
 #[test]
 fn the_rest_of_the_reader_stays(rt: HostRuntime) -> Result<(), Fail> {
     let mut rest: &[u8] = b"+003,05:one->Hello\n\nrest";
-    let file = bytes_of(rt.alloc(), &ONE)?;
+    let file = File::One.bytes(rt.alloc())?;
     assert!(rt; makes(rt.alloc(), &mut rest, Ok(()), &file));
     assert!(rt; rest == b"rest".as_slice());
     Ok(())
@@ -127,7 +137,7 @@ fn interruptions_are_asked_again(rt: HostRuntime) {
 
 #[test]
 fn a_writer_that_fails_holds_a_front(rt: HostRuntime) -> Result<(), Fail> {
-    let file = bytes_of(rt.alloc(), &TWO)?;
+    let file = File::Two.bytes(rt.alloc())?;
     for room in 0..file.len() + 1 {
         let mut w = FakeWriter::new(rt.alloc(), room);
         let answer = make_bytes::<Narrow, &[u8], FakeWriter>(rt.alloc(), TWO_TEXT, &mut w);
@@ -173,7 +183,7 @@ fn always_endless_or_output(rt: HostRuntime) {
 
 #[test]
 fn interrupts_of_a_writer_are_counted_in_a_row(rt: HostRuntime) -> Result<(), Fail> {
-    let file = bytes_of(rt.alloc(), &NONE)?;
+    let file = File::None.bytes(rt.alloc())?;
     for (interrupts, want) in [(1000, Ok(())), (1001, Err(Fault::Output))] {
         let mut w = SlowWriter::new(rt.alloc(), interrupts);
         let answer = make_bytes::<Narrow, &[u8], SlowWriter>(rt.alloc(), b"\n", &mut w);

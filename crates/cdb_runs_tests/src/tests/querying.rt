@@ -1,9 +1,6 @@
 // query_run, over worked, damaged and foreign files, and over stores and writers that fail.
 use super::fakes::{FakeWriter, NotingWriter, SlowWriter};
-use super::worked::{
-    BOTH_VALUES, EMPTY_RECORD, FOREIGN, FOUR_VALUES, NONE, Run, TWO, WIDE_NONE, WIDE_ONE, bytes_of,
-    with_bytes,
-};
+use super::worked::File;
 use cdb_form::{Narrow, Wide, Width};
 use cdb_read::ReadFault;
 use cdb_runs::{Fault, query_run};
@@ -13,76 +10,34 @@ use std::io::Write;
 use std::prelude::*;
 use std::test::Fail;
 
-/// Two keys of one hash, in table 196: 2102 bytes.
-const SAME_HASH: [Run; 8] = [
-    (196, b"\x16\x08\0\0\0\0\0\0"),
-    (1, b"\x16\x08\0\0\x04\0\0\0"),
-    (59, b"\x36\x08\0\0\0\0\0\0"),
-    (1, b"\x02\0\0\0\x01\0\0\0cBx"),
-    (1, b"\x02\0\0\0\x01\0\0\0bcz"),
-    (2, b"\0\0\0\0\0\0\0\0"),
-    (1, b"\xc4\x6e\x59\0\0\x08\0\0"),
-    (1, b"\xc4\x6e\x59\0\x0b\x08\0\0"),
-];
-
-/// Two values of one key, made by another program: a table without an empty slot, which is filled
-/// from its end on. 2084 bytes.
-const FULL_TABLE: [Run; 7] = [
-    (196, b"\0\0\0\0\0\0\0\0"),
-    (1, b"\x14\x08\0\0\x02\0\0\0"),
-    (59, b"\0\0\0\0\0\0\0\0"),
-    (1, b"\x01\0\0\0\x01\0\0\0a1"),
-    (1, b"\x01\0\0\0\x01\0\0\0a2"),
-    (1, b"\xc4\xb5\x02\0\x0a\x08\0\0"),
-    (1, b"\xc4\xb5\x02\0\0\x08\0\0"),
-];
-
-/// No key has a table.
-const NO_TABLES: [Run; 1] = [(256, b"\0\0\0\0\0\0\0\0")];
-
 type Answer = Result<(), Fault>;
-
-const MISSING: Answer = Err(Fault::Missing);
 
 const fn damaged(fault: ReadFault) -> Answer {
     Err(Fault::Read(fault))
 }
 
-/// What is asked for.
+/// What is asked for: all values of a key, or one by its number, in lines or not.
 #[derive(Clone, Copy, Debug)]
-struct Asked {
-    key: &'static [u8],
-    /// From 1 on, or 0 for all values.
-    number: u64,
-    lines: bool,
-}
-
-const fn all(key: &'static [u8]) -> Asked {
-    nth(key, 0)
-}
-
-const fn nth(key: &'static [u8], number: u64) -> Asked {
-    Asked {
-        key,
-        number,
-        lines: false,
-    }
-}
-
-const fn in_lines(asked: Asked) -> Asked {
-    Asked {
-        key: asked.key,
-        number: asked.number,
-        lines: true,
-    }
+enum Asked {
+    All(&'static [u8]),
+    Nth(&'static [u8], u64),
+    Lines(&'static [u8]),
+    NthLine(&'static [u8], u64),
 }
 
 fn ask<S: Store, L: Width, W: Write>(store: S, asked: Asked, w: &mut W) -> (S, Answer) {
-    let number = match asked.number {
+    let (key, number, lines) = match asked {
+        Asked::All(key) => (key, 0, false),
+        Asked::Nth(key, number) => (key, number, false),
+        Asked::Lines(key) => (key, 0, true),
+        Asked::NthLine(key, number) => (key, number, true),
+    };
+    // Values are numbered from 1 on.
+    let number = match number {
         0 => None,
         number => Some(number),
     };
-    query_run::<S, L, W>(store, asked.key, number, asked.lines, w)
+    query_run::<S, L, W>(store, key, number, lines, w)
 }
 
 /// The answer of a query of a file.
@@ -102,218 +57,289 @@ fn answers<L: Width>(
     answer::<L, Vec<u8>>(file, asked, &mut out) == want && out.as_slice() == text
 }
 
+/// A file, what is asked of it, and what comes.
+type Row = (File, Asked, Answer, &'static [u8]);
+
+const WORKED: [Row; 25] = [
+    (File::Two, Asked::All(b"one"), Ok(()), b"Hello"),
+    (File::Two, Asked::All(b"two"), Ok(()), b"Goodbye"),
+    (File::Two, Asked::All(b"zzz"), Err(Fault::Missing), b""),
+    (File::Two, Asked::Nth(b"one", 2), Err(Fault::Missing), b""),
+    (File::FourValues, Asked::All(b"a"), Ok(()), b"1234"),
+    (File::FourValues, Asked::Nth(b"a", 4), Ok(()), b"4"),
+    (
+        File::FourValues,
+        Asked::Nth(b"a", 5),
+        Err(Fault::Missing),
+        b"",
+    ),
+    (
+        File::FourValues,
+        Asked::Nth(b"a", u64::MAX),
+        Err(Fault::Missing),
+        b"",
+    ),
+    (File::SameHash, Asked::All(b"cB"), Ok(()), b"x"),
+    (File::SameHash, Asked::All(b"bc"), Ok(()), b"z"),
+    (File::BothValues, Asked::All(b"a"), Ok(()), b"12"),
+    (File::BothValues, Asked::Nth(b"a", 1), Ok(()), b"1"),
+    (File::BothValues, Asked::Nth(b"a", 2), Ok(()), b"2"),
+    (
+        File::BothValues,
+        Asked::Nth(b"a", 3),
+        Err(Fault::Missing),
+        b"",
+    ),
+    (File::BothValues, Asked::Lines(b"a"), Ok(()), b"1\n2\n"),
+    (File::BothValues, Asked::NthLine(b"a", 2), Ok(()), b"2\n"),
+    (
+        File::BothValues,
+        Asked::NthLine(b"a", 3),
+        Err(Fault::Missing),
+        b"",
+    ),
+    (File::EmptyRecord, Asked::All(b""), Ok(()), b""),
+    (File::EmptyRecord, Asked::Lines(b""), Ok(()), b"\n"),
+    (File::None, Asked::All(b""), Err(Fault::Missing), b""),
+    (File::Zeros, Asked::All(b"one"), Err(Fault::Missing), b""),
+    (File::Foreign, Asked::All(b"a"), Ok(()), b"1"),
+    (File::Foreign, Asked::All(b"bc"), Err(Fault::Missing), b""),
+    (File::FullTable, Asked::All(b"a"), Ok(()), b"12"),
+    (File::FullTable, Asked::All(b"bc"), Err(Fault::Missing), b""),
+];
+
 #[test]
 fn worked_and_foreign_files(rt: HostRuntime) -> Result<(), Fail> {
-    let cases: [(&[Run], Asked, Answer, &[u8]); 25] = [
-        (&TWO, all(b"one"), Ok(()), b"Hello"),
-        (&TWO, all(b"two"), Ok(()), b"Goodbye"),
-        (&TWO, all(b"zzz"), MISSING, b""),
-        (&TWO, nth(b"one", 2), MISSING, b""),
-        (&FOUR_VALUES, all(b"a"), Ok(()), b"1234"),
-        (&FOUR_VALUES, nth(b"a", 4), Ok(()), b"4"),
-        (&FOUR_VALUES, nth(b"a", 5), MISSING, b""),
-        (&FOUR_VALUES, nth(b"a", u64::MAX), MISSING, b""),
-        (&SAME_HASH, all(b"cB"), Ok(()), b"x"),
-        (&SAME_HASH, all(b"bc"), Ok(()), b"z"),
-        (&BOTH_VALUES, all(b"a"), Ok(()), b"12"),
-        (&BOTH_VALUES, nth(b"a", 1), Ok(()), b"1"),
-        (&BOTH_VALUES, nth(b"a", 2), Ok(()), b"2"),
-        (&BOTH_VALUES, nth(b"a", 3), MISSING, b""),
-        (&BOTH_VALUES, in_lines(all(b"a")), Ok(()), b"1\n2\n"),
-        (&BOTH_VALUES, in_lines(nth(b"a", 2)), Ok(()), b"2\n"),
-        (&BOTH_VALUES, in_lines(nth(b"a", 3)), MISSING, b""),
-        (&EMPTY_RECORD, all(b""), Ok(()), b""),
-        (&EMPTY_RECORD, in_lines(all(b"")), Ok(()), b"\n"),
-        (&NONE, all(b""), MISSING, b""),
-        (&NO_TABLES, all(b"one"), MISSING, b""),
-        (&FOREIGN, all(b"a"), Ok(()), b"1"),
-        (&FOREIGN, all(b"bc"), MISSING, b""),
-        (&FULL_TABLE, all(b"a"), Ok(()), b"12"),
-        (&FULL_TABLE, all(b"bc"), MISSING, b""),
-    ];
-    for (runs, asked, want, text) in cases {
-        let file = bytes_of(rt.alloc(), runs)?;
-        let is_so = answers::<Narrow>(rt.alloc(), file, asked, want, text);
-        assert!(rt; is_so, "{asked:?}");
+    for &(file, asked, want, text) in &WORKED {
+        let is_so = answers::<Narrow>(rt.alloc(), file.bytes(rt.alloc())?, asked, want, text);
+        assert!(rt; is_so, "{asked:?} of {file:?}");
     }
     Ok(())
 }
 
 /// A file with other bytes from a place on, what is asked of it, and what comes.
-type Changed = (
-    &'static [Run],
-    usize,
-    &'static [u8],
-    Asked,
-    Answer,
-    &'static [u8],
-);
-
-const ONES: &[u8] = b"\xff\xff\xff\xff\xff\xff\xff\xff";
+type Changed = (File, usize, &'static [u8], Asked, Answer, &'static [u8]);
 
 /// Whether a query of a changed file has its answer, and writes its text.
-fn changed_answers<L: Width>(alloc: Global, changed: Changed) -> Result<bool, AllocError> {
-    let (runs, place, new, asked, want, text) = changed;
-    let file = with_bytes(bytes_of(alloc, runs)?, place, new);
+fn changed_answers<L: Width>(alloc: Global, changed: &Changed) -> Result<bool, AllocError> {
+    let (file, place, new, asked, want, text) = *changed;
+    let file = file.changed(alloc, place, new)?;
     Ok(answers::<L>(alloc, file, asked, want, text))
 }
 
+const TABLES: [Changed; 8] = [
+    // a table that passes the end, of another key, of this one, and within the head
+    (
+        File::Two,
+        56,
+        b"\x42\x08\0\0\x01\0\0\0",
+        Asked::All(b"one"),
+        Ok(()),
+        b"Hello",
+    ),
+    (
+        File::Two,
+        56,
+        b"\x42\x08\0\0\x01\0\0\0",
+        Asked::All(b"\xa2"),
+        Err(Fault::Read(ReadFault::Table(7))),
+        b"",
+    ),
+    (
+        File::Two,
+        0,
+        b"\x64\0\0\0\x01\0\0\0",
+        Asked::All(b"one"),
+        Ok(()),
+        b"Hello",
+    ),
+    (
+        File::Two,
+        1032,
+        b"\xff\xff\xff\xff\xff\xff\xff\xff",
+        Asked::All(b"one"),
+        Err(Fault::Read(ReadFault::Table(129))),
+        b"",
+    ),
+    // an empty slot, one record in two slots, a record behind an empty slot, slots exchanged
+    (
+        File::Two,
+        2106,
+        b"\0\0\0\0\0\0\0\0",
+        Asked::All(b"one"),
+        Err(Fault::Missing),
+        b"",
+    ),
+    (
+        File::FourValues,
+        2092,
+        b"\x14",
+        Asked::All(b"a"),
+        Ok(()),
+        b"1233",
+    ),
+    (
+        File::EmptyRecord,
+        2056,
+        b"\x05\x15\0\0\0\x08\0\0\0\0\0\0\0\0\0\0",
+        Asked::All(b""),
+        Err(Fault::Missing),
+        b"",
+    ),
+    (
+        File::FullTable,
+        2068,
+        b"\xc4\xb5\x02\0\0\x08\0\0\xc4\xb5\x02\0\x0a",
+        Asked::All(b"a"),
+        Ok(()),
+        b"21",
+    ),
+];
+
 #[test]
 fn damaged_tables_and_slots(rt: HostRuntime) -> Result<(), Fail> {
-    let cases: [Changed; 8] = [
-        // a table that passes the end, of another key, of this one, and within the head
-        (
-            &TWO,
-            56,
-            b"\x42\x08\0\0\x01\0\0\0",
-            all(b"one"),
-            Ok(()),
-            b"Hello",
-        ),
-        (
-            &TWO,
-            56,
-            b"\x42\x08\0\0\x01\0\0\0",
-            all(b"\xa2"),
-            damaged(ReadFault::Table(7)),
-            b"",
-        ),
-        (
-            &TWO,
-            0,
-            b"\x64\0\0\0\x01\0\0\0",
-            all(b"one"),
-            Ok(()),
-            b"Hello",
-        ),
-        (
-            &TWO,
-            1032,
-            ONES,
-            all(b"one"),
-            damaged(ReadFault::Table(129)),
-            b"",
-        ),
-        // an empty slot, one record in two slots, a record behind an empty slot, slots exchanged
-        (&TWO, 2106, b"\0\0\0\0\0\0\0\0", all(b"one"), MISSING, b""),
-        (&FOUR_VALUES, 2092, b"\x14", all(b"a"), Ok(()), b"1233"),
-        (
-            &EMPTY_RECORD,
-            2056,
-            b"\x05\x15\0\0\0\x08\0\0\0\0\0\0\0\0\0\0",
-            all(b""),
-            MISSING,
-            b"",
-        ),
-        (
-            &FULL_TABLE,
-            2068,
-            b"\xc4\xb5\x02\0\0\x08\0\0\xc4\xb5\x02\0\x0a",
-            all(b"a"),
-            Ok(()),
-            b"21",
-        ),
-    ];
-    for changed in cases {
-        let is_so = changed_answers::<Narrow>(rt.alloc(), changed)?;
-        assert!(rt;
-            is_so,
-            "{:?} of a file that is other at {}",
-            changed.3, changed.1
-        );
+    for row in &TABLES {
+        let is_so = changed_answers::<Narrow>(rt.alloc(), row)?;
+        assert!(rt; is_so, "{:?} of a file that is other at {}", row.3, row.1);
     }
     Ok(())
 }
 
+const RECORDS: [Changed; 9] = [
+    (
+        File::Two,
+        2086,
+        b"\x11",
+        Asked::All(b"two"),
+        Err(Fault::Read(ReadFault::Record(2065))),
+        b"",
+    ),
+    // lengths that pass the record, and the file
+    (
+        File::Two,
+        2068,
+        b"\x08",
+        Asked::All(b"two"),
+        Ok(()),
+        b"Goodbye)",
+    ),
+    (
+        File::Two,
+        2048,
+        b"\xff\xff\xff\xff",
+        Asked::All(b"one"),
+        Err(Fault::Read(ReadFault::Record(2048))),
+        b"",
+    ),
+    (
+        File::Two,
+        2048,
+        b"\xff\xff\xff\xff",
+        Asked::All(b"two"),
+        Ok(()),
+        b"Goodbye",
+    ),
+    // the third of four values is at no record's place
+    (
+        File::FourValues,
+        2148,
+        b"\x15",
+        Asked::All(b"a"),
+        Err(Fault::Read(ReadFault::Record(2069))),
+        b"12",
+    ),
+    (
+        File::FourValues,
+        2148,
+        b"\x15",
+        Asked::Lines(b"a"),
+        Err(Fault::Read(ReadFault::Record(2069))),
+        b"1\n2\n",
+    ),
+    (
+        File::FourValues,
+        2148,
+        b"\x15",
+        Asked::Nth(b"a", 2),
+        Ok(()),
+        b"2",
+    ),
+    (
+        File::FourValues,
+        2148,
+        b"\x15",
+        Asked::Nth(b"a", 3),
+        Err(Fault::Read(ReadFault::Record(2069))),
+        b"",
+    ),
+    (
+        File::FourValues,
+        2148,
+        b"\x15",
+        Asked::Nth(b"a", 4),
+        Err(Fault::Read(ReadFault::Record(2069))),
+        b"",
+    ),
+];
+
 #[test]
 fn damaged_records(rt: HostRuntime) -> Result<(), Fail> {
-    let third = damaged(ReadFault::Record(2069));
-    let cases: [Changed; 9] = [
-        (
-            &TWO,
-            2086,
-            b"\x11",
-            all(b"two"),
-            damaged(ReadFault::Record(2065)),
-            b"",
-        ),
-        // lengths that pass the record, and the file
-        (&TWO, 2068, b"\x08", all(b"two"), Ok(()), b"Goodbye)"),
-        (
-            &TWO,
-            2048,
-            b"\xff\xff\xff\xff",
-            all(b"one"),
-            damaged(ReadFault::Record(2048)),
-            b"",
-        ),
-        (
-            &TWO,
-            2048,
-            b"\xff\xff\xff\xff",
-            all(b"two"),
-            Ok(()),
-            b"Goodbye",
-        ),
-        // the third of four values is at no record's place
-        (&FOUR_VALUES, 2148, b"\x15", all(b"a"), third, b"12"),
-        (
-            &FOUR_VALUES,
-            2148,
-            b"\x15",
-            in_lines(all(b"a")),
-            third,
-            b"1\n2\n",
-        ),
-        (&FOUR_VALUES, 2148, b"\x15", nth(b"a", 2), Ok(()), b"2"),
-        (&FOUR_VALUES, 2148, b"\x15", nth(b"a", 3), third, b""),
-        (&FOUR_VALUES, 2148, b"\x15", nth(b"a", 4), third, b""),
-    ];
-    for changed in cases {
-        let is_so = changed_answers::<Narrow>(rt.alloc(), changed)?;
-        assert!(rt;
-            is_so,
-            "{:?} of a file that is other at {}",
-            changed.3, changed.1
-        );
+    for row in &RECORDS {
+        let is_so = changed_answers::<Narrow>(rt.alloc(), row)?;
+        assert!(rt; is_so, "{:?} of a file that is other at {}", row.3, row.1);
     }
     Ok(())
+}
+
+const WIDE: [Changed; 4] = [
+    (File::WideOne, 0, b"", Asked::All(b"one"), Ok(()), b"Hello"),
+    (
+        File::WideNone,
+        0,
+        b"",
+        Asked::All(b"one"),
+        Err(Fault::Missing),
+        b"",
+    ),
+    // a hash above 32 bits, and a key of all bytes
+    (
+        File::WideOne,
+        4140,
+        b"\x01",
+        Asked::All(b"one"),
+        Err(Fault::Missing),
+        b"",
+    ),
+    (
+        File::WideOne,
+        4096,
+        b"\xff\xff\xff\xff\xff\xff\xff\xff",
+        Asked::All(b"one"),
+        Err(Fault::Read(ReadFault::Record(4096))),
+        b"",
+    ),
+];
+
+/// Whether a query of a wide file that is cut is told so.
+fn is_cut_short(alloc: Global, cut: usize) -> Result<bool, AllocError> {
+    let mut file = File::WideNone.bytes(alloc)?;
+    file.truncate(cut);
+    Ok(answers::<Wide>(
+        alloc,
+        file,
+        Asked::All(b"one"),
+        damaged(ReadFault::Short),
+        b"",
+    ))
 }
 
 #[test]
 fn wide_files(rt: HostRuntime) -> Result<(), Fail> {
-    let cases: [Changed; 4] = [
-        (&WIDE_ONE, 0, b"", all(b"one"), Ok(()), b"Hello"),
-        (&WIDE_NONE, 0, b"", all(b"one"), MISSING, b""),
-        // a hash above 32 bits, and a key of all bytes
-        (&WIDE_ONE, 4140, b"\x01", all(b"one"), MISSING, b""),
-        (
-            &WIDE_ONE,
-            4096,
-            ONES,
-            all(b"one"),
-            damaged(ReadFault::Record(4096)),
-            b"",
-        ),
-    ];
-    for changed in cases {
-        let is_so = changed_answers::<Wide>(rt.alloc(), changed)?;
-        assert!(rt;
-            is_so,
-            "{:?} of a file that is other at {}",
-            changed.3, changed.1
-        );
+    for row in &WIDE {
+        let is_so = changed_answers::<Wide>(rt.alloc(), row)?;
+        assert!(rt; is_so, "{:?} of a file that is other at {}", row.3, row.1);
     }
-    let mut short = bytes_of(rt.alloc(), &WIDE_NONE)?;
-    short.truncate(4095);
-    let is_short = answers::<Wide>(
-        rt.alloc(),
-        short,
-        all(b"one"),
-        damaged(ReadFault::Short),
-        b"",
-    );
-    assert!(rt; is_short);
+    assert!(rt; is_cut_short(rt.alloc(), 4095)?);
     Ok(())
 }
 
@@ -328,17 +354,22 @@ fn cut_answer(cut: usize, n: u64, end: usize, value: &'static [u8]) -> (Answer, 
     }
 }
 
+/// Whether both keys of the two-record file have that answer where it is cut.
+fn cut_answers(alloc: Global, file: &Vec<u8>, cut: usize) -> Result<bool, AllocError> {
+    let mut file = file.clone()?;
+    file.truncate(cut);
+    let (want, text) = cut_answer(cut, 129, 2114, b"Hello");
+    let one = answers::<Narrow>(alloc, file.clone()?, Asked::All(b"one"), want, text);
+    let (want, text) = cut_answer(cut, 41, 2098, b"Goodbye");
+    Ok(one && answers::<Narrow>(alloc, file, Asked::All(b"two"), want, text))
+}
+
 #[test]
 fn cut_files(rt: HostRuntime) -> Result<(), Fail> {
-    let whole = bytes_of(rt.alloc(), &TWO)?;
+    let whole = File::Two.bytes(rt.alloc())?;
     for cut in 0..whole.len() + 1 {
-        let mut file = whole.clone()?;
-        file.truncate(cut);
-        let (want, text) = cut_answer(cut, 129, 2114, b"Hello");
-        let one = answers::<Narrow>(rt.alloc(), file.clone()?, all(b"one"), want, text);
-        let (want, text) = cut_answer(cut, 41, 2098, b"Goodbye");
-        let two = answers::<Narrow>(rt.alloc(), file, all(b"two"), want, text);
-        assert!(rt; one && two, "cut at {cut}");
+        let is_so = cut_answers(rt.alloc(), &whole, cut)?;
+        assert!(rt; is_so, "cut at {cut}");
     }
     Ok(())
 }
@@ -375,49 +406,69 @@ fn fails_and_goes_again(
     is_told && answers::<Narrow>(alloc, store.into_inner().into_vec(), asked, Ok(()), text)
 }
 
+/// The first call whose failure is not told so, or how many calls there are where they are too few.
+fn first_untold(
+    alloc: Global,
+    file: &Vec<u8>,
+    asked: Asked,
+    text: &[u8],
+) -> Result<Option<u64>, AllocError> {
+    let calls = calls_of(alloc, file.clone()?, asked);
+    for fails in 0..calls {
+        if !fails_and_goes_again(alloc, file.clone()?, fails, asked, text) {
+            return Ok(Some(fails));
+        }
+    }
+    // The head, a slot and a value are read at least.
+    Ok(if calls > 2 { None } else { Some(calls) })
+}
+
+const FUSED: [(File, Asked, &[u8]); 5] = [
+    (File::Two, Asked::All(b"one"), b"Hello"),
+    (File::Two, Asked::Lines(b"two"), b"Goodbye\n"),
+    (File::FourValues, Asked::All(b"a"), b"1234"),
+    (File::FourValues, Asked::Lines(b"a"), b"1\n2\n3\n4\n"),
+    (File::FourValues, Asked::Nth(b"a", 3), b"3"),
+];
+
 #[test]
 fn each_call_of_the_store_fails(rt: HostRuntime) -> Result<(), Fail> {
-    let alloc = rt.alloc();
-    let cases: [(&[Run], Asked, &[u8]); 5] = [
-        (&TWO, all(b"one"), b"Hello"),
-        (&TWO, in_lines(all(b"two")), b"Goodbye\n"),
-        (&FOUR_VALUES, all(b"a"), b"1234"),
-        (&FOUR_VALUES, in_lines(all(b"a")), b"1\n2\n3\n4\n"),
-        (&FOUR_VALUES, nth(b"a", 3), b"3"),
-    ];
-    for (runs, asked, text) in cases {
-        let file = bytes_of(alloc, runs)?;
-        let calls = calls_of(alloc, file.clone()?, asked);
-        // The head, a slot and a value are read at least.
-        assert!(rt; calls > 2, "{asked:?}");
-        for fails in 0..calls {
-            let is_so = fails_and_goes_again(alloc, file.clone()?, fails, asked, text);
-            assert!(rt; is_so, "{asked:?}, call {fails}");
-        }
+    for &(file, asked, text) in &FUSED {
+        let untold = first_untold(rt.alloc(), &file.bytes(rt.alloc())?, asked, text)?;
+        assert!(rt; untold.is_none(), "{asked:?}, call {untold:?}");
     }
     Ok(())
 }
 
 #[test]
 fn nothing_is_read_behind_a_number(rt: HostRuntime) -> Result<(), Fail> {
-    let file = bytes_of(rt.alloc(), &FOUR_VALUES)?;
-    let first = calls_of(rt.alloc(), file.clone()?, nth(b"a", 1));
-    let last = calls_of(rt.alloc(), file.clone()?, nth(b"a", 4));
-    let every = calls_of(rt.alloc(), file, all(b"a"));
+    let file = File::FourValues.bytes(rt.alloc())?;
+    let first = calls_of(rt.alloc(), file.clone()?, Asked::Nth(b"a", 1));
+    let last = calls_of(rt.alloc(), file.clone()?, Asked::Nth(b"a", 4));
+    let every = calls_of(rt.alloc(), file, Asked::All(b"a"));
     assert!(rt; first < last && last < every);
     Ok(())
 }
 
+const WRITTEN: [(Asked, &[u8]); 2] = [
+    (Asked::All(b"two"), b"Goodbye"),
+    (Asked::Lines(b"two"), b"Goodbye\n"),
+];
+
+/// Whether a writer with room for so many bytes holds as many of a text.
+fn leaves_front(alloc: Global, file: Vec<u8>, asked: Asked, text: &[u8], room: usize) -> bool {
+    let mut w = FakeWriter::new(alloc, room);
+    let answer = answer::<Narrow, _>(file, asked, &mut w);
+    w.holds_front(answer, text, room)
+}
+
 #[test]
 fn a_writer_that_fails_holds_a_front(rt: HostRuntime) -> Result<(), Fail> {
-    let file = bytes_of(rt.alloc(), &TWO)?;
-    let two = all(b"two");
-    let cases: [(Asked, &[u8]); 2] = [(two, b"Goodbye"), (in_lines(two), b"Goodbye\n")];
-    for (asked, text) in cases {
+    let file = File::Two.bytes(rt.alloc())?;
+    for &(asked, text) in &WRITTEN {
         for room in 0..text.len() + 1 {
-            let mut w = FakeWriter::new(rt.alloc(), room);
-            let answer = answer::<Narrow, _>(file.clone()?, asked, &mut w);
-            assert!(rt; w.holds_front(answer, text, room), "room for {room}");
+            let is_so = leaves_front(rt.alloc(), file.clone()?, asked, text, room);
+            assert!(rt; is_so, "room for {room}");
         }
     }
     Ok(())
@@ -425,10 +476,10 @@ fn a_writer_that_fails_holds_a_front(rt: HostRuntime) -> Result<(), Fail> {
 
 #[test]
 fn interrupts_of_a_writer_are_counted_in_a_row(rt: HostRuntime) -> Result<(), Fail> {
-    let file = bytes_of(rt.alloc(), &TWO)?;
+    let file = File::Two.bytes(rt.alloc())?;
     for (interrupts, want) in [(1000, Ok(())), (1001, Err(Fault::Output))] {
         let mut w = SlowWriter::new(rt.alloc(), interrupts);
-        let answer = answer::<Narrow, _>(file.clone()?, in_lines(all(b"two")), &mut w);
+        let answer = answer::<Narrow, _>(file.clone()?, Asked::Lines(b"two"), &mut w);
         assert!(rt; answer == want, "{interrupts} interruptions");
     }
     Ok(())
@@ -436,14 +487,14 @@ fn interrupts_of_a_writer_are_counted_in_a_row(rt: HostRuntime) -> Result<(), Fa
 
 #[test]
 fn the_flush_comes_last(rt: HostRuntime) -> Result<(), Fail> {
-    let file = bytes_of(rt.alloc(), &TWO)?;
+    let file = File::Two.bytes(rt.alloc())?;
     for key in [b"one", b"zzz"] {
         for fails in [false, true] {
             let mut w = NotingWriter {
                 calls: Vec::new(rt.alloc()),
                 fails,
             };
-            let _ = answer::<Narrow, _>(file.clone()?, all(key), &mut w);
+            let _ = answer::<Narrow, _>(file.clone()?, Asked::All(key), &mut w);
             assert!(rt; w.was_flushed_last(), "{key:?}");
         }
     }
@@ -452,8 +503,11 @@ fn the_flush_comes_last(rt: HostRuntime) -> Result<(), Fail> {
 
 #[test]
 fn a_failing_flush_is_output_where_no_other_fault_came(rt: HostRuntime) -> Result<(), Fail> {
-    let file = bytes_of(rt.alloc(), &TWO)?;
-    for (asked, fault) in [(all(b"one"), Fault::Output), (all(b"zzz"), Fault::Missing)] {
+    let file = File::Two.bytes(rt.alloc())?;
+    for (asked, fault) in [
+        (Asked::All(b"one"), Fault::Output),
+        (Asked::All(b"zzz"), Fault::Missing),
+    ] {
         let mut w = FakeWriter::new(rt.alloc(), 4096);
         w.flush_fails = true;
         let answer = answer::<Narrow, _>(file.clone()?, asked, &mut w);

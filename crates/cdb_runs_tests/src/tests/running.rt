@@ -2,7 +2,7 @@
 ghost use Rattle.std.specs.Prelude.{◌≡◌, ◌≤◌};
 
 use super::fakes::FakeWriter;
-use super::worked::{BOTH_VALUES, NONE, Run, bytes_of};
+use super::worked::File;
 use cdb_command::{MakeOptions, Style};
 use cdb_form::{Narrow, TextFault};
 use cdb_make::{MakeFault, Mode};
@@ -19,18 +19,6 @@ const TWICE: &[u8] = b"+1,1:a->1\n+1,1:a->2\n\n";
 const FIRST: &[u8] = b"+1,1:a->1\n\n";
 
 const SECOND: &[u8] = b"+1,1:a->2\n\n";
-
-/// The file of one value alone: 2074 bytes.
-const fn one_value(record: &'static [u8]) -> [Run; 6] {
-    [
-        (196, b"\x0a\x08\0\0\0\0\0\0"),
-        (1, b"\x0a\x08\0\0\x02\0\0\0"),
-        (59, b"\x1a\x08\0\0\0\0\0\0"),
-        (1, record),
-        (1, b"\0\0\0\0\0\0\0\0"),
-        (1, b"\xc4\xb5\x02\0\0\x08\0\0"),
-    ]
-}
 
 /// The line of the second record of the first input, and of the first of the second.
 const LINE: &[u8] = b"cdb: input 1: record 2: duplicate key\n";
@@ -158,25 +146,24 @@ fn run_within_2099(alloc: Global, inputs: &[&'static [u8]]) -> Result<Made, Allo
     )
 }
 
+/// What is done with two values of a key, the file that is made, and the lines.
+const PUT: [(Mode, Duplicates, File, &[u8]); 7] = [
+    (Mode::Warn, Duplicates::Told, File::BothValues, LINE),
+    (Mode::Add, Duplicates::Silent, File::BothValues, b""),
+    (Mode::Insert, Duplicates::Silent, File::FirstValue, b""),
+    (Mode::Insert, Duplicates::Told, File::FirstValue, LINE),
+    (Mode::Replace, Duplicates::Silent, File::SecondValue, b""),
+    (Mode::Replace, Duplicates::Told, File::SecondValue, LINE),
+    // `Add` does not look, so it finds none to tell.
+    (Mode::Add, Duplicates::Told, File::BothValues, b""),
+];
+
 #[test]
 fn duplicates_are_put_by_the_mode_and_told(rt: HostRuntime) -> Result<(), Fail> {
-    let both = bytes_of(rt.alloc(), &BOTH_VALUES)?;
-    let first = bytes_of(rt.alloc(), &one_value(b"\x01\0\0\0\x01\0\0\0a1"))?;
-    let second = bytes_of(rt.alloc(), &one_value(b"\x01\0\0\0\x01\0\0\0a2"))?;
-    assert!(rt; both.len() == 2100 && first.len() == 2074 && second.len() == 2074);
-    let cases: [(Mode, Duplicates, &[u8], &[u8]); 7] = [
-        (Mode::Warn, Duplicates::Told, &both, LINE),
-        (Mode::Add, Duplicates::Silent, &both, b""),
-        (Mode::Insert, Duplicates::Silent, &first, b""),
-        (Mode::Insert, Duplicates::Told, &first, LINE),
-        (Mode::Replace, Duplicates::Silent, &second, b""),
-        (Mode::Replace, Duplicates::Told, &second, LINE),
-        // `Add` does not look, so it finds none to tell.
-        (Mode::Add, Duplicates::Told, &both, b""),
-    ];
-    for (mode, duplicates, file, lines) in cases {
+    for &(mode, duplicates, file, lines) in &PUT {
         let made = run(rt.alloc(), &[TWICE], mode, duplicates)?;
-        assert!(rt; made.is(Ok(()), file, lines), "{mode:?}, {duplicates:?}");
+        let is_made = made.is(Ok(()), &file.bytes(rt.alloc())?, lines);
+        assert!(rt; is_made, "{mode:?}, {duplicates:?}");
     }
     Ok(())
 }
@@ -190,19 +177,29 @@ fn a_run_stops_at_the_first_duplicate_that_it_tells(rt: HostRuntime) -> Result<(
     Ok(())
 }
 
+/// Inputs, what comes of them, the file where none fails, and the lines.
+const INPUTS: [(&[&'static [u8]], Result<(), Fault>, File, &[u8]); 4] = [
+    (&[FIRST, SECOND], Ok(()), File::BothValues, OTHER_LINE),
+    (
+        &[FIRST, b"x"],
+        Err(Fault::Text(2, TextFault::Syntax(0))),
+        File::None,
+        b"",
+    ),
+    (
+        &[TWICE, b"x"],
+        Err(Fault::Text(2, TextFault::Syntax(0))),
+        File::None,
+        LINE,
+    ),
+    (&[], Ok(()), File::None, b""),
+];
+
 #[test]
 fn each_input_is_counted_from_its_first_record(rt: HostRuntime) -> Result<(), Fail> {
-    let both = bytes_of(rt.alloc(), &BOTH_VALUES)?;
-    let none = bytes_of(rt.alloc(), &NONE)?;
-    let wrong = Err(Fault::Text(2, TextFault::Syntax(0)));
-    let cases: [(&[&'static [u8]], Result<(), Fault>, &[u8], &[u8]); 4] = [
-        (&[FIRST, SECOND], Ok(()), &both, OTHER_LINE),
-        (&[FIRST, b"x"], wrong, b"", b""),
-        (&[TWICE, b"x"], wrong, b"", LINE),
-        (&[], Ok(()), &none, b""),
-    ];
-    for (inputs, answer, file, lines) in cases {
-        let is_so = warns(rt.alloc(), inputs, answer, file, lines)?;
+    for &(inputs, answer, file, lines) in &INPUTS {
+        let file = file.bytes(rt.alloc())?;
+        let is_so = warns(rt.alloc(), inputs, answer, &file, lines)?;
         assert!(rt; is_so, "{answer:?}, {lines:?}");
     }
     Ok(())
@@ -210,7 +207,7 @@ fn each_input_is_counted_from_its_first_record(rt: HostRuntime) -> Result<(), Fa
 
 #[test]
 fn map_texts_are_put_as_native_ones(rt: HostRuntime) -> Result<(), Fail> {
-    let both = bytes_of(rt.alloc(), &BOTH_VALUES)?;
+    let both = File::BothValues.bytes(rt.alloc())?;
     let maps: &[u8] = b"# aliases\n a 1\n\na\t2";
     let made = run_style(
         rt.alloc(),
@@ -225,7 +222,7 @@ fn map_texts_are_put_as_native_ones(rt: HostRuntime) -> Result<(), Fail> {
 
 #[test]
 fn a_run_has_a_limit_of_its_own(rt: HostRuntime) -> Result<(), Fail> {
-    let both = bytes_of(rt.alloc(), &BOTH_VALUES)?;
+    let both = File::BothValues.bytes(rt.alloc())?;
     let fits = run_within_2100(rt.alloc(), &[TWICE])?.is(Ok(()), &both, LINE);
     // The record that is too much is not told.
     let too_big = Fault::Make(MakeFault::TooBig);
@@ -286,7 +283,7 @@ fn over_fuse(alloc: Global, calls: u64) -> Result<(Result<(), Fault>, Vec<u8>), 
 
 #[test]
 fn a_store_that_fails_ends_the_run(rt: HostRuntime) -> Result<(), Fail> {
-    let second = bytes_of(rt.alloc(), &one_value(b"\x01\0\0\0\x01\0\0\0a2"))?;
+    let second = File::SecondValue.bytes(rt.alloc())?;
     let (mut writing, mut lookup) = (false, false);
     for calls in 0..64u64 {
         let (answer, file) = over_fuse(rt.alloc(), calls)?;

@@ -19,25 +19,29 @@ fn read_in(alloc: Global, reader: &mut CountingReader, sizes: &[usize]) -> Resul
     Ok(given)
 }
 
-// Five bytes in pieces of two are three asks. A read gives no more than the window has.
+/// Sizes of reads, what they give, and how often the reader is asked. Five bytes in pieces of two are
+/// three asks. A read gives no more than the window has.
+const READS: [(&[usize], &[u8], u64); 4] = [
+    (&[1, 1, 1, 1, 1], b"abcde", 3),
+    (&[4], b"ab", 1),
+    (&[1, 4, 4], b"abcd", 2),
+    (&[8, 8, 8, 8], b"abcde", 4),
+];
+
+/// Whether reads of these sizes give a text, with so many asks.
+fn reads(alloc: Global, sizes: &[usize], text: &[u8], asked: u64) -> Result<bool, Fail> {
+    let mut reader = CountingReader {
+        text: b"abcde",
+        asked: 0,
+    };
+    let given = read_in(alloc, &mut reader, sizes)?;
+    Ok(given.as_slice() == text && reader.asked == asked)
+}
+
 #[test]
 fn a_read_asks_its_reader_once_at_most(rt: HostRuntime) -> Result<(), Fail> {
-    let cases: [(&[usize], &[u8], u64); 4] = [
-        (&[1, 1, 1, 1, 1], b"abcde", 3),
-        (&[4], b"ab", 1),
-        (&[1, 4, 4], b"abcd", 2),
-        (&[8, 8, 8, 8], b"abcde", 4),
-    ];
-    for (sizes, text, asked) in cases {
-        let mut reader = CountingReader {
-            text: b"abcde",
-            asked: 0,
-        };
-        let given = read_in(rt.alloc(), &mut reader, sizes)?;
-        assert!(rt;
-            given.as_slice() == text && reader.asked == asked,
-            "{sizes:?}"
-        );
+    for &(sizes, text, asked) in &READS {
+        assert!(rt; reads(rt.alloc(), sizes, text, asked)?, "{sizes:?}");
     }
     Ok(())
 }
