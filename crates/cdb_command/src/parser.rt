@@ -66,16 +66,31 @@ fn with_names<'a>(alloc: Global, parser: Command<'a>) -> Result<Command<'a>, All
     parser.arg(names(alloc))
 }
 
+/// The command with three letters more.
+fn with_three<'a>(
+    alloc: Global,
+    parser: Command<'a>,
+    first: (&'a str, char),
+    second: (&'a str, char),
+    third: (&'a str, char),
+) -> Result<Command<'a>, AllocError>
+    ensures { IfOk result (λ r. app_of r
+        ≡ with_rule (with_rule (with_rule (app_of parser.entry)
+        (flag_rule first.entry.0.now first.entry.1))
+        (flag_rule second.entry.0.now second.entry.1))
+        (flag_rule third.entry.0.now third.entry.1)) }
+{
+    let parser = with_flag(alloc, parser, first.0, first.1)?;
+    let parser = with_flag(alloc, parser, second.0, second.1)?;
+    with_flag(alloc, parser, third.0, third.1)
+}
+
 /// The command with the letters of the program's commands.
 fn with_commands<'a>(alloc: Global, parser: Command<'a>) -> Result<Command<'a>, AllocError>
     ensures { IfOk result (λ r. app_of r ≡ with_rules (app_of parser.entry) command_rules) }
 {
-    let parser = with_flag(alloc, parser, "q", 'q')?;
-    let parser = with_flag(alloc, parser, "d", 'd')?;
-    let parser = with_flag(alloc, parser, "l", 'l')?;
-    let parser = with_flag(alloc, parser, "s", 's')?;
-    let parser = with_flag(alloc, parser, "c", 'c')?;
-    let parser = with_flag(alloc, parser, "k", 'k')?;
+    let parser = with_three(alloc, parser, ("q", 'q'), ("d", 'd'), ("l", 'l'))?;
+    let parser = with_three(alloc, parser, ("s", 's'), ("c", 'c'), ("k", 'k'))?;
     with_flag(alloc, parser, "h", 'h')
 }
 
@@ -83,12 +98,8 @@ fn with_commands<'a>(alloc: Global, parser: Command<'a>) -> Result<Command<'a>, 
 fn with_letters<'a>(alloc: Global, parser: Command<'a>) -> Result<Command<'a>, AllocError>
     ensures { IfOk result (λ r. app_of r ≡ with_rules (app_of parser.entry) letter_rules) }
 {
-    let parser = with_flag(alloc, parser, "m", 'm')?;
-    let parser = with_flag(alloc, parser, "W", 'W')?;
-    let parser = with_flag(alloc, parser, "w", 'w')?;
-    let parser = with_flag(alloc, parser, "e", 'e')?;
-    let parser = with_flag(alloc, parser, "r", 'r')?;
-    with_flag(alloc, parser, "u", 'u')
+    let parser = with_three(alloc, parser, ("m", 'm'), ("W", 'W'), ("w", 'w'))?;
+    with_three(alloc, parser, ("e", 'e'), ("r", 'r'), ("u", 'u'))
 }
 
 /// The command with the options that have values, and with names.
