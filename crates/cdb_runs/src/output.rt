@@ -94,7 +94,7 @@ impl<W: Write> Output<W> {
 }
 
 impl<W: Write> Write for Output<W> {
-    ghost use Rattle.cdb_runs.specs.Views.Output.{output_bytes};
+    ghost use Rattle.cdb_runs.specs.Views.Output.{output_bytes, held_by};
 
     ghost contents = { output_bytes W.contents };
 
@@ -121,10 +121,15 @@ impl<W: Write> Write for Output<W> {
         Ok(self.take(buf)?)
     }
 
-    fn flush(&mut self) -> io::Result<()> {
-        let Ok(()) = self.hand_on() else {
-            return Err(io::Error::from(ErrorKind::Other));
-        };
-        self.writer.flush()
+    fn flush(&mut self) -> io::Result<()>
+        ensures bytes { Keeps (output_bytes W.contents self.old)
+            (output_bytes W.contents self.new) }
+        // The writer has all that was taken.
+        ensures empty { OnOk result (held_by self.new ≡ []) }
+    {
+        match self.hand_on() {
+            Ok(()) => self.writer.flush(),
+            Err(OutFault) => Err(io::Error::from(ErrorKind::Other)),
+        }
     }
 }
