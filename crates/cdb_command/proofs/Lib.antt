@@ -1,2 +1,3 @@
 -- Lemmas that answers name.
 pub mod NoWords
+pub mod Ranges

@@ -1,6 +1,6 @@
 -- What a command line asks for, its texts as bytes, and how an answer tells it.
-use Rattle.std.specs.Prelude.{◌≡◌, ◌⊎◌, ℕ, Bool, List, map, Option, option_map, Result, Ok, Err}
-use Rattle.std.specs.Prelude.{string_bytes}
+use Rattle.std.specs.Prelude.{◌≡◌, ◌≤◌, ◌⊎◌, ℕ, Bool, if◌then◌else◌, List, map, Option, IfSome}
+use Rattle.std.specs.Prelude.{option_map, Result, Ok, Err, string_bytes}
 use Rattle.cdb_command.specs.Line.{Text}
 use Rattle.cdb_command.specs.declared.command.Command.{Command}
 use Rattle.cdb_command.specs.declared.command.Command.TheVariants as command
@@ -31,6 +31,17 @@ asked_in (command.Create name inputs temporary options wide) =
     Create (string_bytes name) (map string_bytes inputs.items) (option_map string_bytes temporary)
     options wide
 asked_in command.Help = Help
+
+-- the values of a key are counted from 1, and a database may be as long as its width allows
+abbrev pub IsInRange : Asked → Type 0
+IsInRange (Query name key number lines wide) = IfSome number (λ n. 1 ≤ n)
+IsInRange (Dump name style wide) = Unit
+IsInRange (Listing name style wide) = Unit
+IsInRange (Stats name wide) = Unit
+IsInRange (Check name wide) = Unit
+IsInRange (Create name inputs temporary options wide) =
+    options.limit ≡ (if wide then 9223372036854775807 else 4294967295)
+IsInRange Help = Unit
 
 -- the answer is the one that is wanted, or tells that memory was refused
 abbrev pub Gives : {T A : Type 0} → (T → A) → Result T Usage → Result A Usage → Type 0

@@ -1,6 +1,6 @@
 // What the words of a command line ask for.
-ghost use Rattle.std.specs.Prelude.{◌≡◌, ◌≢◌, [], IfErr, map, string_bytes};
-ghost use Rattle.cdb_command.specs.Asked.{Gives, asked_in};
+ghost use Rattle.std.specs.Prelude.{◌≡◌, ◌≢◌, [], IfOk, IfErr, map, string_bytes};
+ghost use Rattle.cdb_command.specs.Asked.{Gives, asked_in, IsInRange};
 ghost use Rattle.cdb_command.specs.Words.{cdb_faults, plan_of};
 ghost use Rattle.cdb_command.specs.declared.usage.Usage.TheVariants.{Words};
 
@@ -26,9 +26,11 @@ use std::alloc::Global;
 /// - the command. Where it reads one file, no name and `-` are standard input. `-W` stands with
 ///   every command.
 ///
-/// `NoMemory` may stand in place of any.
+/// `NoMemory` may stand in place of any. The limit of a create is the greatest length in bytes of a
+/// file of its width, 4294967295 or 9223372036854775807.
 pub fn plan(alloc: Global, words: Vec<String>) -> Result<Command, Usage>
     ensures exact { Gives asked_in result (plan_of (map string_bytes words.items)) }
+    ensures range { IfOk result (λ command. IsInRange (asked_in command)) }
     ensures refused { IfErr result
         (λ u. u ≡ Words → cdb_faults (map string_bytes words.items) ≢ []) }
 {
