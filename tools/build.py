@@ -96,7 +96,7 @@ def main():
     path = os.path.join(os.path.dirname(target), "build.log")
     os.makedirs(os.path.dirname(target), exist_ok=True)
     print(f"Proves each function of the program and builds {target}.")
-    print("The first time it takes some 8 minutes on two cores, later less.")
+    print("The first time it takes 8 to 16 minutes on two cores, later less.")
     print(f"What the checker says goes to {path}.", flush=True)
     began = time.monotonic()
     try:
