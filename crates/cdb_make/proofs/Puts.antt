@@ -13,12 +13,12 @@ use Rattle.cdb_make.specs.declared.maker.Maker.{Maker}
 use Rattle.cdb_make.specs.declared.mode.Mode.{Mode}
 use Rattle.cdb_make.specs.declared.mode.Mode.TheVariants.{Add, Warn, Insert, Replace}
 use Rattle.cdb_make.specs.declared.mode.Put.{Put}
-use Rattle.cdb_make.specs.declared.mode.Put.TheVariants.{Added, AddedAgain, Present}
+use Rattle.cdb_make.specs.declared.mode.Put.TheVariants.{Added, AddedAgain, Present, Replaced}
 use Rattle.cdb_make.specs.Stands.{Tells, Stands, IsThere}
 use Rattle.cdb_make.specs.Survivors.{is_there, put_list, put_answer}
 use Rattle.cdb_make.specs.Views.Adding.{AddFails}
 use Rattle.cdb_make.specs.Views.EntryList.{lists_entries}
-use Rattle.cdb_make.specs.Views.Maker.{Holds, HoldsIn, WhereHonest, ComesFrom, StaysWhole, WritesNothing, Adds, FailsAdding, Puts, FailsPutting, put_bytes, made_size}
+use Rattle.cdb_make.specs.Views.Maker.{Holds, HoldsIn, WhereHonest, ComesFrom, StaysWhole, WritesNothing, Adds, HasRoom, FailsAdding, Puts, WouldPut, FailsPutting, put_bytes, made_size}
 use Rattle.cdb_make.proofs.EntryLists.{size_push}
 use Rattle.cdb_make.proofs.FinishedFile.{stands_kept}
 use Rattle.cdb_make.proofs.Makers.{held_stand, held_size, honest_comes}
@@ -77,14 +77,14 @@ adds_more old new r is_record was whole stands written comes = record {
 }
 
 -- none more
-pub adds_none : {S L : Type 0} {s : Ghosts S} {l : Widths L} (old new : Maker S L s l) (r : KeyValue) (full past : Type 0) (fault : MakeFault) → old.broken ≡ false → new.broken ≡ false → new.end ≡ old.end
+pub adds_none : {S L : Type 0} {s : Ghosts S} {l : Widths L} (old new : Maker S L s l) (r : KeyValue) (full past : Type 0) (fault : MakeFault) → old.broken ≡ false → HasRoom old r → new.broken ≡ false → new.end ≡ old.end
     → lists_entries new.lists.items ≡ lists_entries old.lists.items → KeepsPart (head_size l.WORD) (old.end - head_size l.WORD) (s.image old.store) (s.image new.store)
     → AddFails (s.written old.store) (s.written new.store) (s.failures old.store) (s.failures new.store) full past fault → FailsAdding old new r fault
-adds_none old new r full past Broken was whole end lists keeps fails = absurd fails
-adds_none old new r full past Lookup was whole end lists keeps fails = absurd fails
-adds_none old new r full past TooBig was whole end lists keeps fails = absurd fails
-adds_none old new r full past NoMemory was whole end lists keeps fails = record { stays = stays_kept old new was whole end lists keeps; written = fails.0 }
-adds_none old new r full past Writing was whole end lists keeps fails = (stays_kept old new was whole end lists keeps, fails)
+adds_none old new r full past Broken was fit whole end lists keeps fails = absurd fails
+adds_none old new r full past Lookup was fit whole end lists keeps fails = absurd fails
+adds_none old new r full past TooBig was fit whole end lists keeps fails = absurd fails
+adds_none old new r full past NoMemory was fit whole end lists keeps fails = (record { stays = stays_kept old new was whole end lists keeps; written = fails.0 }, fit)
+adds_none old new r full past Writing was fit whole end lists keeps fails = (stays_kept old new was whole end lists keeps, fails, fit)
 
 abbrev IsReplace : Mode → Type 0
 IsReplace Replace = Unit {0}
@@ -93,12 +93,28 @@ IsReplace mode = ⊥
 no_replace : (mode : Mode) → mode ≡ Replace → IsReplace mode
 no_replace mode e = subst IsReplace (sym e) tt
 
+abbrev IsPresent : Put → Type 0
+IsPresent Present = Unit {0}
+IsPresent answer = ⊥
+
+no_present : (answer : Put) → answer ≡ Present → IsPresent answer
+no_present answer e = subst IsPresent (sym e) tt
+
+pub not_present : (there : Bool) (n : ℕ) → cond there (Replaced n) Added ≡ Present → ⊥
+not_present true n e = no_present (Replaced n) e
+not_present false n e = no_present Added e
+
+not_present_again : (there : Bool) → cond there AddedAgain Added ≡ Present → ⊥
+not_present_again true e = no_present AddedAgain e
+not_present_again false e = no_present Added e
+
 -- a put that only adds its record
 pub record JustAdds (w : ℕ) (mode : Mode) (r : KeyValue) (rs : List KeyValue) (answer : Put) : Type 0 where
   pub list : put_list mode r rs ≡ rs ++ r ∷ []
   pub answers : answer ≡ put_answer mode r rs
   pub bytes : put_bytes w mode r rs ≡ record_size w r
   pub absent : mode ≡ Replace → is_there r.key rs ≡ true → ⊥
+  pub takes : put_answer mode r rs ≡ Present → ⊥
 
 pub puts_added : {S L : Type 0} {s : Ghosts S} {l : Widths L} (old mid new : Maker S L s l) (mode : Mode) (r : KeyValue) (answer : Put) → WritesNothing old mid → Adds mid new r
     → ((rs : List KeyValue) → Holds old rs → WhereHonest (s.image mid.store) (JustAdds l.WORD mode r rs answer)) → Puts old new mode r answer
@@ -122,6 +138,17 @@ puts_added {s = s} {l = l} old mid new mode r answer stays adds just = record {
   };
 }
 
+-- where its record has room
+would_add : {S L : Type 0} {s : Ghosts S} {l : Widths L} (old mid new : Maker S L s l) (mode : Mode) (r : KeyValue) (answer : Put) → StaysWhole old mid → mid.limit ≡ old.limit → ComesFrom (s.image mid.store) (s.image new.store)
+    → ((rs : List KeyValue) → Holds old rs → WhereHonest (s.image mid.store) (JustAdds l.WORD mode r rs answer)) → HasRoom mid r → WouldPut old new mode r
+would_add {s = s} {l = l} old mid new mode r answer stays limit comes just fit = λ rs h. honest_comes comes (record {
+  each = λ a is.
+      let j : JustAdds l.WORD mode r rs answer = (just rs h).each a is in
+      let n : made_size mid ≡ file_size l.WORD rs = (held_size mid rs (made_size mid) refl (stays.holds rs h)).each a is in
+      let m : file_size l.WORD (put_list mode r rs) ≡ file_size l.WORD (rs ++ r ∷ []) = ap (file_size l.WORD) j.list in
+      (j.takes, omega (arith, size_push l.WORD rs r));
+})
+
 -- and what one that failed leaves
 pub fails_added : {S L : Type 0} {s : Ghosts S} {l : Widths L} (old mid new : Maker S L s l) (mode : Mode) (r : KeyValue) (answer : Put) (fault : MakeFault) → WritesNothing old mid → mid.limit ≡ old.limit
     → s.failures old.store ≤ s.failures mid.store → ComesFrom (s.image mid.store) (s.image new.store) → ((rs : List KeyValue) → Holds old rs → WhereHonest (s.image mid.store) (JustAdds l.WORD mode r rs answer))
@@ -141,23 +168,26 @@ fails_added {s = s} {l = l} old mid new mode r answer TooBig stays limit later c
       }),
     )
 fails_added old mid new mode r answer NoMemory stays limit later comes just fails = (
-  writes_then old mid new stays fails,
+  writes_then old mid new stays fails.0,
   λ rs h replaces. honest_comes comes (record { each = λ a is there. absurd (((just rs h).each a is).absent replaces there) }),
+  would_add old mid new mode r answer stays.stays limit comes just fails.1,
 )
-fails_added {s = s} old mid new mode r answer Writing stays limit later comes just fails =
-    inl (
-      stays_then old mid new stays.stays fails.0,
-      (let k : s.failures mid.store < s.failures new.store = fails.1 in omega arith),
-      λ rs h. honest_comes comes (record { each = λ a is. ((just rs h).each a is).list }),
-    )
+fails_added {s = s} old mid new mode r answer Writing stays limit later comes just fails = (
+  inl (
+    stays_then old mid new stays.stays fails.0,
+    (let k : s.failures mid.store < s.failures new.store = fails.1 in omega arith),
+    λ rs h. honest_comes comes (record { each = λ a is. ((just rs h).each a is).list }),
+  ),
+  would_add old mid new mode r answer stays.stays limit comes just fails.2,
+)
 
 -- each mode where it only adds
 pub just_add : {w : ℕ} (images : List ℕ → Type 0) (rs : List KeyValue) (r : KeyValue) → WhereHonest images (JustAdds w Add r rs Added)
-just_add images rs r = record { each = λ b is. record { list = refl; answers = refl; bytes = refl; absent = λ e there. no_replace Add e } }
+just_add images rs r = record { each = λ b is. record { list = refl; answers = refl; bytes = refl; absent = λ e there. no_replace Add e; takes = λ e. no_present Added e } }
 
 pub just_warn : {w : ℕ} {images : List ℕ → Type 0} (there : Bool) (answer : Put) (rs : List KeyValue) (r : KeyValue) → answer ≡ cond there AddedAgain Added → IsThere there r.key rs images → WhereHonest images (JustAdds w Warn r rs answer)
 just_warn there answer rs r is_answer tells = record {
-  each = λ b is. record { list = refl; answers = is_answer ∙ ap (λ (v : Bool). cond v AddedAgain Added) (tells.each b is); bytes = refl; absent = λ e yes. no_replace Warn e };
+  each = λ b is. record { list = refl; answers = is_answer ∙ ap (λ (v : Bool). cond v AddedAgain Added) (tells.each b is); bytes = refl; absent = λ e yes. no_replace Warn e; takes = λ e. not_present_again (is_there r.key rs) e };
 }
 
 pub just_insert : {w : ℕ} {images : List ℕ → Type 0} (there : Bool) (rs : List KeyValue) (r : KeyValue) → there ≡ false → IsThere there r.key rs images → WhereHonest images (JustAdds w Insert r rs Added)
@@ -169,6 +199,7 @@ just_insert {w = w} there rs r absent tells = record {
         answers = ap (λ (v : Bool). cond v Present Added) no;
         bytes = ap (λ (v : Bool). cond v 0 (record_size w r)) (sym no);
         absent = λ e yes. no_replace Insert e;
+        takes = λ e. no_present Added (sym (ap (λ (v : Bool). cond v Present Added) (sym no)) ∙ e);
       };
 }
 
@@ -180,7 +211,7 @@ fails_add old new r Broken comes fails = record {
 }
 fails_add old new r Lookup comes fails = absurd fails
 fails_add old new r TooBig comes fails = fails_added old old new Add r Added TooBig (writes_same old fails.1) refl (omega arith) comes (λ rs h. just_add _ rs r) fails
-fails_add old new r NoMemory comes fails = fails_added old old new Add r Added NoMemory (writes_same old fails.stays.was) refl (omega arith) comes (λ rs h. just_add _ rs r) fails
+fails_add old new r NoMemory comes fails = fails_added old old new Add r Added NoMemory (writes_same old fails.0.stays.was) refl (omega arith) comes (λ rs h. just_add _ rs r) fails
 fails_add old new r Writing comes fails = fails_added old old new Add r Added Writing (writes_same old fails.0.was) refl (omega arith) comes (λ rs h. just_add _ rs r) fails
 
 -- an insertion of a record whose key is there

@@ -22,12 +22,12 @@ use Rattle.cdb_make.specs.declared.mode.Mode.TheVariants.{Replace}
 use Rattle.cdb_make.specs.declared.mode.Put.TheVariants.{Added, Replaced}
 use Rattle.cdb_make.specs.Stands.{AreGapsOf, gaps_of}
 use Rattle.cdb_make.specs.Survivors.{has_key, is_there, count_of, without, behind_first, put_list}
-use Rattle.cdb_make.specs.Views.Maker.{Holds, WhereHonest, ComesFrom, WritesNothing, Exchanges, FailsClosing, Puts, FailsPutting, made_size}
+use Rattle.cdb_make.specs.Views.Maker.{Holds, WhereHonest, ComesFrom, WritesNothing, Exchanges, FailsClosing, Puts, WouldPut, FailsPutting, made_size}
 use Rattle.cdb_make.specs.Views.MakeFault.{fault_of}
 use Rattle.cdb_make.proofs.EntryLists.{size_push}
 use Rattle.cdb_make.proofs.Found.{some_gap}
 use Rattle.cdb_make.proofs.Makers.{held_size, found_there, honest_comes}
-use Rattle.cdb_make.proofs.Puts.{JustAdds, writes_then}
+use Rattle.cdb_make.proofs.Puts.{JustAdds, writes_then, not_present}
 use Rattle.cdb_make.proofs.Whole.{count_found, gaps_sum, none_goes, none_behind}
 
 -- where no gap was found the record is only added
@@ -44,6 +44,7 @@ just_replace {w = w} {gs = gs} rs r none found = record {
         answers = sym (ap (λ (v : Bool). cond v (Replaced (count_of k rs)) Added) absent);
         bytes = omega arith;
         absent = λ e yes. no yes;
+        takes = λ e. not_present (is_there k rs) (count_of k rs) e;
       };
 }
 
@@ -75,10 +76,20 @@ fails_too_big {l = l} old mid r left stays limit gaps size large = (
   },
 )
 
+-- a replacement that keeps the limit
+pub would_replace : {S L : Type 0} {s : Ghosts S} {l : Widths L} (old mid : Maker S L s l) (r : KeyValue) → WritesNothing old mid → mid.limit ≡ old.limit
+    → ((rs : List KeyValue) → Holds old rs → AreGapsOf l.WORD r.key mid.gaps.items rs (s.image mid.store))
+    → made_size mid + whole_size l.WORD r ≤ mid.limit + sum_by (λ g. g.size) mid.gaps.items + 4 * l.WORD * length mid.gaps.items → WouldPut old mid Replace r
+would_replace old mid r stays limit gaps fit = λ rs h. record {
+  each = λ b is.
+      let k = (left_size mid rs r (stays.stays.holds rs h) (gaps rs h)).each b is in
+      (λ e. not_present (is_there r.key rs) (count_of r.key rs) e, omega arith);
+}
+
 pub fails_wanting : {S L : Type 0} {s : Ghosts S} {l : Widths L} (old mid new : Maker S L s l) (r : KeyValue) (last : ℕ) → WritesNothing old mid → WritesNothing mid new → s.room old.store ≤ s.room mid.store
     → ((rs : List KeyValue) → Holds old rs → AreGapsOf l.WORD r.key mid.gaps.items rs (s.image mid.store)) → last + sum_by (λ g. g.size) mid.gaps.items ≡ mid.end
-    → s.room mid.store < last + record_size l.WORD r → ComesFrom (s.image mid.store) (s.image new.store) → FailsPutting old new Replace r NoMemory
-fails_wanting {s = s} {l = l} old mid new r last stays same room gaps low past comes = (
+    → s.room mid.store < last + record_size l.WORD r → ComesFrom (s.image mid.store) (s.image new.store) → WouldPut old new Replace r → FailsPutting old new Replace r NoMemory
+fails_wanting {s = s} {l = l} old mid new r last stays same room gaps low past comes would = (
   writes_then old mid new stays same,
   λ rs h e. honest_comes comes (record {
     each = λ b is there.
@@ -90,27 +101,31 @@ fails_wanting {s = s} {l = l} old mid new r last stays same room gaps low past c
         let end : mid.end ≡ head_size w + sum_by (record_size w) rs = ((stays.stays.holds rs h).each b is).stand.ends in
         omega (arith, sum_by_push (record_size w) (without k rs) r);
   }),
+  would,
 )
 
 pub fails_exchange : {S L : Type 0} {s : Ghosts S} {l : Widths L} (old mid new : Maker S L s l) (r : KeyValue) (fault : MakeFault) → WritesNothing old mid → s.failures old.store ≤ s.failures mid.store
     → ((rs : List KeyValue) → Holds old rs → AreGapsOf l.WORD r.key mid.gaps.items rs (s.image mid.store)) → 0 < length mid.gaps.items → new.broken ≡ true → ComesFrom (s.image mid.store) (s.image new.store)
-    → FailsClosing mid new r.key fault → FailsPutting old new Replace r fault
-fails_exchange old mid new r Broken stays later gaps some broken comes fails = record {
+    → WouldPut old new Replace r → FailsClosing mid new r.key fault → FailsPutting old new Replace r fault
+fails_exchange old mid new r Broken stays later gaps some broken comes would fails = record {
   broken = broken;
   same = λ already. absurd (let k : true ≡ false = sym already ∙ stays.stays.was in cc);
   cause = λ rs h. fails rs (stays.stays.holds rs h) (gaps rs h);
 }
-fails_exchange old mid new r Lookup stays later gaps some broken comes fails = absurd fails
-fails_exchange old mid new r TooBig stays later gaps some broken comes fails = absurd fails
-fails_exchange old mid new r NoMemory stays later gaps some broken comes fails = absurd fails
-fails_exchange {s = s} old mid new r Writing stays later gaps some broken comes fails = inr (
-  record {
-    was = stays.stays.was;
-    broken = broken;
-    failed = (let k : s.failures mid.store < s.failures new.store = fails in omega arith);
-    found = λ rs h. honest_comes comes (found_there some (gaps rs h));
-  },
-  refl,
+fails_exchange old mid new r Lookup stays later gaps some broken comes would fails = absurd fails
+fails_exchange old mid new r TooBig stays later gaps some broken comes would fails = absurd fails
+fails_exchange old mid new r NoMemory stays later gaps some broken comes would fails = absurd fails
+fails_exchange {s = s} old mid new r Writing stays later gaps some broken comes would fails = (
+  inr (
+    record {
+      was = stays.stays.was;
+      broken = broken;
+      failed = (let k : s.failures mid.store < s.failures new.store = fails in omega arith);
+      found = λ rs h. honest_comes comes (found_there some (gaps rs h));
+    },
+    refl,
+  ),
+  would,
 )
 
 pub puts_exchanged : {S L : Type 0} {s : Ghosts S} {l : Widths L} (old mid new : Maker S L s l) (r : KeyValue) (n : ℕ) → WritesNothing old mid

@@ -132,10 +132,10 @@ impl<S: Store, L: Width> Maker<S, L> {
     /// Puts a record: what is done where its key is there already, the mode says.
     ///
     /// `Lookup`: the store failed while it was read. `TooBig`: the file would pass the limit.
-    /// `NoMemory`: memory was refused, and nothing was written. All these leave the records as they
-    /// were. `Writing`: the store failed; where records were to be taken out, the maker is broken,
-    /// else its records are what they were. `Broken`: an earlier call broke it, or the store gave
-    /// back other bytes than were written.
+    /// `NoMemory`: memory was refused to a put that would have been taken, and nothing was written.
+    /// All these leave the records as they were. `Writing`: the store failed; where records were to
+    /// be taken out, the maker is broken, else its records are what they were. `Broken`: an earlier
+    /// call broke it, or the store gave back other bytes than were written.
     pub fn put(&mut self, mode: Mode, key: &[u8], value: &[u8]) -> Result<Put, MakeFault>
         ensures puts { IfOk result
             (Puts self.old self.new mode (record { key = key.now; value = value.now })) }

@@ -173,7 +173,7 @@ refused_store old new o r make.Broken x is = absurd is
 refused_store old new o r make.Lookup x is = x.1
 refused_store old new o r make.TooBig x is = absurd is
 refused_store old new o r make.NoMemory x is = absurd is
-refused_store old new o r make.Writing x is = elim x [ inl stays ↦ stays.1 | inr torn ↦ torn.0.failed ]
+refused_store old new o r make.Writing x is = elim x.0 [ inl stays ↦ stays.1 | inr torn ↦ torn.0.failed ]
 
 -- ---- the start
 

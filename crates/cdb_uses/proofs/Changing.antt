@@ -46,9 +46,11 @@ put_refused old new mode r Broken rs b x same is h = absurd (x.cause rs h b is)
 put_refused {s = s} old new mode r Lookup rs b x same is h = absurd (let failed : s.failures old.store < s.failures new.store = x.1 in omega arith)
 put_refused {l = l} old new mode r TooBig rs b x same is h =
     record { meets = lt-leb (file_size l.WORD (put_list mode r rs)) old.limit ((x.1 rs h).each b is); holds = x.0.stays.holds rs h }
-put_refused old new mode r NoMemory rs b x same is h = record { meets = tt; holds = x.0.stays.holds rs h }
-put_refused {s = s} old new mode r Writing rs b (inl x) same is h = absurd (let failed : s.failures old.store < s.failures new.store = x.1 in omega arith)
-put_refused {s = s} old new mode r Writing rs b (inr x) same is h = absurd (let failed : s.failures old.store < s.failures new.store = x.0.failed in omega arith)
+put_refused {l = l} old new mode r NoMemory rs b x same is h =
+    let would = (x.2 rs h).each b is in
+    record { meets = (would.0, le-leb (file_size l.WORD (put_list mode r rs)) old.limit would.1); holds = x.0.stays.holds rs h }
+put_refused {s = s} old new mode r Writing rs b (inl x, would) same is h = absurd (let failed : s.failures old.store < s.failures new.store = x.1 in omega arith)
+put_refused {s = s} old new mode r Writing rs b (inr x, would) same is h = absurd (let failed : s.failures old.store < s.failures new.store = x.0.failed in omega arith)
 
 pub put_tried : {S L : Type 0} {s : Ghosts S} {l : Widths L} (old new : Maker S L s l) (mode : Mode) (r : KeyValue) (result : Result Put MakeFault) (rs : List KeyValue) (b : List ℕ) → IfOk result (Puts old new mode r) → IfErr result (FailsPutting old new mode r)
     → new.limit ≡ old.limit → s.failures new.store ≡ s.failures old.store → s.image new.store b → Holds old rs → Tries old new rs (Putting mode r) (result_err result)

@@ -1,5 +1,5 @@
 -- Changes of a database in turn, of which some are refused.
-use Rattle.std.specs.Prelude.{ℕ, ◌≡◌, true, false, List, [], ◌∷◌, map, Option, Some, None}
+use Rattle.std.specs.Prelude.{ℕ, ◌≡◌, ◌≢◌, true, false, List, [], ◌∷◌, map, Option, Some, None}
 use Rattle.std.specs.List.{concat}
 use Rattle.std.specs.Io.KnownBytes.{Appends}
 use Rattle.cdb_store.specs.declared.store.Store.{Ghosts}
@@ -8,12 +8,13 @@ use Rattle.cdb_form.specs.Format.File.{file_bytes}
 use Rattle.cdb_form.specs.Format.Record.{KeyValue}
 use Rattle.cdb_form.specs.Views.Pairs.{key_value}
 use Rattle.cdb_form.specs.Views.KnownBytes.{AppendsFront}
-use Rattle.cdb_make.specs.Survivors.{Call, step, fits}
+use Rattle.cdb_make.specs.Survivors.{Call, step, put_answer, fits}
 use Rattle.cdb_make.specs.Survivors.Call.{Putting, Removing}
 use Rattle.cdb_make.specs.Views.Maker.{Holds}
 use Rattle.cdb_make.specs.declared.fault.MakeFault.{MakeFault}
 use Rattle.cdb_make.specs.declared.fault.MakeFault.TheVariants.{TooBig, NoMemory}
 use Rattle.cdb_make.specs.declared.maker.Maker.{Maker}
+use Rattle.cdb_make.specs.declared.mode.Put.TheVariants.{Present}
 use Rattle.cdb_read.specs.Values.{values_of}
 use Rattle.cdb_read.specs.declared.fault.ReadFault.TheVariants.{Output}
 use Rattle.cdb_uses.specs.declared.ask.AskFault.{AskFault}
@@ -29,11 +30,12 @@ call_of (Put mode r) = Putting mode (key_value r)
 call_of (Remove key) = Removing key.items
 
 -- what a call may meet: a put is refused as too big where the file would pass the limit, and there
--- alone, and may be refused memory; a removal is never refused
+-- alone; one that would have been taken may be refused memory; a removal is never refused
 abbrev pub Meets : ℕ → ℕ → List KeyValue → Call → Option MakeFault → Type 0
 Meets w limit rs (Putting mode r) None = fits w limit mode r rs ≡ true
 Meets w limit rs (Putting mode r) (Some TooBig) = fits w limit mode r rs ≡ false
-Meets w limit rs (Putting mode r) (Some NoMemory) = Unit
+Meets w limit rs (Putting mode r) (Some NoMemory) =
+    (put_answer mode r rs ≢ Present) × (fits w limit mode r rs ≡ true)
 Meets w limit rs (Putting mode r) (Some fault) = ⊥
 Meets w limit rs (Removing key) fault = fault ≡ None
 

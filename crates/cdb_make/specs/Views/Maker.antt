@@ -1,5 +1,5 @@
 -- What a maker holds, and what its calls leave.
-use Rattle.std.specs.Prelude.{ℕ, ◌≡◌, ◌+◌, ◌*◌, ◌<◌, ◌⊎◌, Bool, true, false, cond, List, [], ◌∷◌, ◌++◌, All}
+use Rattle.std.specs.Prelude.{ℕ, ◌≡◌, ◌+◌, ◌*◌, ◌<◌, ◌≤◌, ◌⊎◌, Bool, true, false, cond, List, [], ◌∷◌, ◌++◌, All}
 use Rattle.std.specs.Prelude.{sum_by, ◌≢◌}
 use Rattle.cdb_store.specs.declared.store.Store.{Ghosts}
 use Rattle.cdb_store.specs.Laws.{HasNoImage}
@@ -13,6 +13,7 @@ use Rattle.cdb_make.specs.declared.maker.Maker.{Maker}
 use Rattle.cdb_make.specs.declared.mode.Mode.{Mode}
 use Rattle.cdb_make.specs.declared.mode.Mode.TheVariants.{Add, Warn, Insert, Replace}
 use Rattle.cdb_make.specs.declared.mode.Put.{Put}
+use Rattle.cdb_make.specs.declared.mode.Put.TheVariants.{Present}
 use Rattle.cdb_make.specs.declared.looking.LookFault.{LookFault}
 use Rattle.cdb_make.specs.declared.looking.LookFault.TheVariants.{Failed, Foreign}
 use Rattle.cdb_make.specs.Stands.{Tells, AreGapsOf}
@@ -142,14 +143,19 @@ pub record Adds {S L : Type 0} {s : Ghosts S} {l : Widths L} (old new : Maker S 
   pub written : s.written new.store ≡ s.written old.store + record_size l.WORD r
   pub comes : ComesFrom (s.image old.store) (s.image new.store)
 
+-- the file with a record more keeps the limit
+abbrev pub HasRoom : {S L : Type 0} {s : Ghosts S} {l : Widths L} → Maker S L s l → KeyValue
+    → Type 0
+HasRoom {l = l} m r = made_size m + whole_size l.WORD r ≤ m.limit
+
 -- none more, and why
 abbrev pub FailsAdding : {S L : Type 0} {s : Ghosts S} {l : Widths L} → Maker S L s l
     → Maker S L s l → KeyValue → MakeFault → Type 0
 FailsAdding old new r Broken = (old.broken ≡ true) × (new ≡ old)
 FailsAdding {s = s} {l = l} old new r TooBig =
     (new ≡ old) × (old.broken ≡ false) × (old.limit < made_size old + whole_size l.WORD r)
-FailsAdding old new r NoMemory = WritesNothing old new
-FailsAdding old new r Writing = StaysWhole old new × HasStoreFailed old new
+FailsAdding old new r NoMemory = WritesNothing old new × HasRoom old r
+FailsAdding old new r Writing = StaysWhole old new × HasStoreFailed old new × HasRoom old r
 FailsAdding old new r Lookup = ⊥
 
 -- how many bytes a put writes: the records that it moves, and its own
@@ -203,6 +209,13 @@ abbrev pub OnlyAdds : {S L : Type 0} {s : Ghosts S} {l : Widths L} → Maker S L
 OnlyAdds {s = s} old new mode r = (rs : List KeyValue) → Holds old rs
     → WhereHonest (s.image new.store) (put_list mode r rs ≡ rs ++ r ∷ [])
 
+-- the key of the record is not in its way, and the file with it would keep the limit
+abbrev pub WouldPut : {S L : Type 0} {s : Ghosts S} {l : Widths L} → Maker S L s l → Maker S L s l
+    → Mode → KeyValue → Type 0
+WouldPut {s = s} {l = l} old new mode r = (rs : List KeyValue) → Holds old rs
+    → WhereHonest (s.image new.store)
+    ((put_answer mode r rs ≢ Present) × (file_size l.WORD (put_list mode r rs) ≤ old.limit))
+
 -- what a put that failed leaves
 abbrev pub FailsPutting : {S L : Type 0} {s : Ghosts S} {l : Widths L} → Maker S L s l
     → Maker S L s l → Mode → KeyValue → MakeFault → Type 0
@@ -210,10 +223,11 @@ FailsPutting old new mode r Broken = IsBroken old new
 FailsPutting old new mode r Lookup =
     WritesNothing old new × HasStoreFailed old new × (mode ≢ Add)
 FailsPutting old new mode r TooBig = WritesNothing old new × IsTooBig old new mode r
-FailsPutting old new mode r NoMemory = WritesNothing old new × WantsRoom old new mode r
+FailsPutting old new mode r NoMemory =
+    WritesNothing old new × WantsRoom old new mode r × WouldPut old new mode r
 FailsPutting old new mode r Writing =
-    (StaysWhole old new × HasStoreFailed old new × OnlyAdds old new mode r)
-    ⊎ (IsTorn old new r.key × (mode ≡ Replace))
+    ((StaysWhole old new × HasStoreFailed old new × OnlyAdds old new mode r)
+    ⊎ (IsTorn old new r.key × (mode ≡ Replace))) × WouldPut old new mode r
 
 -- every image is the file of these records
 pub record IsFile (w : ℕ) (rs : List KeyValue) (images : List ℕ → Type 0) : Type 0 where

@@ -1,5 +1,7 @@
 use Rattle.std.proofs.Common.{arith, refl, rules}
 use Rattle.std.proofs.lemmas.Result.{err_from_is_err_and}
+use Rattle.cdb_form.specs.Format.Record.{KeyValue}
+use Rattle.cdb_make.specs.Views.Maker.{HasRoom}
 use Rattle.cdb_make.proofs.Puts.{adds_more, adds_none}
 use Rattle.std.proofs.lemmas.Grind.{common_steps}
 use Rattle.cdb_make.proofs.maker.Maker.add.Goals as goal
@@ -8,7 +10,9 @@ pub returns-in_err-self-clause-fails : goal.returns-in_err-self-clause-fails
 returns-in_err-self-clause-fails g c =
     let p = err_from_is_err_and c.from_residual.result c.from_residual.ensures.1 in
     let e = c.in_err-self.ensures in
-    rw (p.1, p.2) (adds_none {s = g.S.Store} {l = g.L.Width} _ _ _ _ _ _ c.if-self.false c.if-self.false refl e.entries e.kept e.fails)
+    let r : KeyValue = record { key = c.args.key.now; value = c.args.value.now } in
+    let fit : HasRoom {s = g.S.Store} {l = g.L.Width} c.args.self.now r = omega (arith, c.size.ensures.is, c.if-not-has_room.ensures.room refl) in
+    rw (p.1, p.2) (adds_none {s = g.S.Store} {l = g.L.Width} c.args.self.now _ r _ _ _ c.if-self.false fit c.if-self.false refl e.entries e.kept e.fails)
 
 pub returns-clause-ok : goal.returns-clause-ok
 returns-clause-ok g c =

@@ -1,7 +1,9 @@
-use Rattle.std.proofs.Common.{arith, refl, sym, ap, subst, ◌∙◌, ◌≡◌, ◌-◌, ◌*◌, ◌^◌, ℕ, List, [], length, sum_by, rules}
+use Rattle.std.proofs.Common.{arith, refl, sym, ap, subst, ◌∙◌, ◌≡◌, ◌≤◌, ◌+◌, ◌-◌, ◌*◌, ◌^◌, ℕ, List, [], length, sum_by, rules}
 use Rattle.std.proofs.lemmas.List.{nil_from_length}
 use Rattle.std.proofs.lemmas.Result.{err_from_is_err_and}
 use Rattle.cdb_form.specs.Format.Pair.{head_size}
+use Rattle.cdb_form.specs.Format.File.{whole_size}
+use Rattle.cdb_form.specs.Format.Record.{KeyValue}
 use Rattle.cdb_make.specs.declared.gap.Gap.{Gap}
 use Rattle.cdb_make.specs.declared.mode.Mode.TheVariants.{Replace}
 use Rattle.cdb_make.specs.declared.mode.Put.TheVariants.{Added}
@@ -9,9 +11,9 @@ use Rattle.cdb_make.specs.Gaps.{AreApart}
 use Rattle.cdb_make.proofs.Merge.{apart_lower}
 use Rattle.cdb_make.proofs.Picking.{apart_higher}
 use Rattle.cdb_make.proofs.Whole.{apart_sizes}
-use Rattle.cdb_make.proofs.Makers.{writes_looked}
-use Rattle.cdb_make.proofs.Puts.{puts_added, fails_added, comes_same, writes_then}
-use Rattle.cdb_make.proofs.Replacing.{just_replace, fewer_bytes, wants_memory, fails_too_big, fails_wanting, fails_exchange, puts_exchanged, gaps_same}
+use Rattle.cdb_make.proofs.Makers.{honest_comes, writes_looked}
+use Rattle.cdb_make.proofs.Puts.{puts_added, fails_added, comes_same, comes_then, writes_then}
+use Rattle.cdb_make.proofs.Replacing.{just_replace, fewer_bytes, wants_memory, fails_too_big, would_replace, fails_wanting, fails_exchange, puts_exchanged, gaps_same}
 use Rattle.std.proofs.lemmas.Grind.{common_steps}
 use Rattle.cdb_make.proofs.maker.Maker.replace.Goals as goal
 
@@ -84,9 +86,19 @@ returns-in_err-reserve-clause-fails g c =
     let sum : c.all_sizes-gone.result ≡ sum_by (λ (v : Gap). v.size) m.gaps.items = c.all_sizes-gone.ensures ∙ ap (sum_by (λ (v : Gap). v.size)) c.deref.ensures.value in
     let most = apart_sizes (head_size g.L.Width.WORD) m.gaps.items m.end e.apart in
     let fault = wants_memory c.in_err-reserve.field-0.0 c.in_err-reserve.ensures.device in
+    let same = comes_same c.reserve.ensures.images in
+    let w : ℕ = g.L.Width.WORD in
+    let t : ℕ = c.in_ok-taken.taken in
+    let n : 2 * c.pair_size.result ≡ 4 * w = omega (arith, c.pair_size.ensures) in
+    let q : 2 * c.pair_size.result * t ≡ 4 * w * length m.gaps.items = ap (λ (v : ℕ). v * t) n ∙ ap (λ (v : ℕ). 4 * w * v) e.count in
+    let few = fewer_bytes w t m.count g.met.L.Width.four_or_eight e.few in
+    let r : KeyValue = record { key = c.args.key.now; value = c.args.value.now } in
+    let fit : m.end + 4 * w * m.count + whole_size w r ≤ m.limit + sum_by (λ (v : Gap). v.size) m.gaps.items + 4 * w * length m.gaps.items = omega (arith, c.size.ensures.is, c.if-not-has_room.ensures.room refl) in
+    let would = would_replace {s = g.S.Store} {l = g.L.Width} c.args.self.now m r e.ok c.find.ensures.counts.limit e.gaps fit in
     rw (p.1, p.2, fault)
     (fails_wanting {s = g.S.Store} {l = g.L.Width} _ m _ _ (m.end - c.all_sizes-gone.result) e.ok (writes_looked e.ok.stays.whole e.ok.stays.whole refl refl (record { no_other = c.reserve.ensures.images.no_other }) c.reserve.ensures.written)
-    c.find.ensures.room e.gaps (omega arith) (omega (arith, c.in_err-reserve.ensures.past_room, c.pair_size-2.ensures)) (comes_same c.reserve.ensures.images))
+    c.find.ensures.room e.gaps (omega arith) (omega (arith, c.in_err-reserve.ensures.past_room, c.pair_size-2.ensures)) same
+    (λ rs h. honest_comes same (would rs h)))
 
 pub returns-in_err-exchange-clause-fails : goal.returns-in_err-exchange-clause-fails
 returns-in_err-exchange-clause-fails g c =
@@ -94,9 +106,20 @@ returns-in_err-exchange-clause-fails g c =
     let m = c.find.new.self in
     let e = c.in_ok-taken.ensures in
     let more = writes_looked e.ok.stays.whole e.ok.stays.whole refl refl (record { no_other = c.reserve.ensures.images.no_other }) c.reserve.ensures.written in
+    let sum : c.all_sizes-gone.result ≡ sum_by (λ (v : Gap). v.size) m.gaps.items = c.all_sizes-gone.ensures ∙ ap (sum_by (λ (v : Gap). v.size)) c.deref.ensures.value in
+    let most = apart_sizes (head_size g.L.Width.WORD) m.gaps.items m.end e.apart in
+    let w : ℕ = g.L.Width.WORD in
+    let t : ℕ = c.in_ok-taken.taken in
+    let n : 2 * c.pair_size.result ≡ 4 * w = omega (arith, c.pair_size.ensures) in
+    let q : 2 * c.pair_size.result * t ≡ 4 * w * length m.gaps.items = ap (λ (v : ℕ). v * t) n ∙ ap (λ (v : ℕ). 4 * w * v) e.count in
+    let few = fewer_bytes w t m.count g.met.L.Width.four_or_eight e.few in
+    let r : KeyValue = record { key = c.args.key.now; value = c.args.value.now } in
+    let fit : m.end + 4 * w * m.count + whole_size w r ≤ m.limit + sum_by (λ (v : Gap). v.size) m.gaps.items + 4 * w * length m.gaps.items = omega (arith, c.size.ensures.is, c.if-not-has_room.ensures.room refl) in
+    let would = would_replace {s = g.S.Store} {l = g.L.Width} c.args.self.now m r e.ok c.find.ensures.counts.limit e.gaps fit in
     rw (p.1, p.2)
     (fails_exchange {s = g.S.Store} {l = g.L.Width} _ _ _ _ _ (writes_then _ m _ e.ok more) (omega (arith, c.find.ensures.failures, c.reserve.ensures.failures)) (λ rs h. gaps_same c.reserve.ensures.images (e.gaps rs h))
-    (omega (arith, c.if-taken-eq0.false, e.count)) c.in_err-exchange.ensures.broken c.exchange.ensures.comes c.in_err-exchange.ensures.fails)
+    (omega (arith, c.if-taken-eq0.false, e.count)) c.in_err-exchange.ensures.broken c.exchange.ensures.comes
+    (λ rs h. honest_comes (comes_then (comes_same c.reserve.ensures.images) c.exchange.ensures.comes) (would rs h)) c.in_err-exchange.ensures.fails)
 
 pub returns-clause-puts : goal.returns-clause-puts
 returns-clause-puts g c =
