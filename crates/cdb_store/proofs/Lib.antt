@@ -7,3 +7,4 @@ pub mod Puts
 pub mod Answered
 pub mod FileLemmas
 pub mod FileFaults
+pub mod Reading

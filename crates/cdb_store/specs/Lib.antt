@@ -5,6 +5,7 @@ pub mod Lengths
 pub mod Contents
 pub mod Fuse
 pub mod Laws
+pub mod Reads
 pub mod FileStore
 pub mod BufferedStore
 pub mod FuseStore

@@ -128,6 +128,8 @@ impl<S: Store> BufferedStore<S> {
         ensures size { size_of self.new ≡ size_of self.old }
         ensures continues { OnOk result (pos ≡ self.new.pos + held_of self.new) }
         ensures free { OnOk result (held_of self.new + n ≤ self.new.capacity) }
+        ensures goes_on { pos ≡ self.old.pos + held_of self.old
+            → held_of self.old + n ≤ self.old.capacity → self.new ≡ self.old }
         ensures trace { self.new.trace ≡ self.old.trace }
         ensures room { S.room self.old.inner ≤ S.room self.new.inner }
         ensures memory { IsErrOf result NoMemory → ⊥ }

@@ -1,5 +1,5 @@
 // The file of the system: the lines that call the system and note what it answered.
-ghost use Rattle.std.specs.Prelude.{◌≡◌, ◌<◌, ◌↔◌, [], ◌∷◌, IfOk};
+ghost use Rattle.std.specs.Prelude.{◌≡◌, ◌<◌, ◌↔◌, [], ◌∷◌, IfOk, IfErr};
 ghost use Rattle.std.specs.IoError.{error_kind};
 
 use crate::raw::{RawFault, RawFile, note_part};
@@ -51,6 +51,10 @@ fn fault_of(error: &io::Error) -> RawFault
 fn part_of(answer: io::Result<usize>) -> Result<usize, RawFault>
     ensures some { IfOk result (λ n. 0 < n) }
     ensures same { IfOk result (λ n. answer ≡ Ok n) }
+    ensures again { IfErr answer (λ e. error_kind e ≡ ErrorKind.Interrupted
+        → result ≡ Err RawFault.Interrupted) }
+    ensures interrupt { result ≡ Err RawFault.Interrupted → IfErr answer (λ e.
+        error_kind e ≡ ErrorKind.Interrupted) }
 {
     match answer {
         Ok(0) => Err(RawFault::Failed),
