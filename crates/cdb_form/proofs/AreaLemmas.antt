@@ -1,15 +1,18 @@
 -- What the head that was read says of the walk of the whole file.
-use Rattle.std.proofs.Common.{◌≡◌, ℕ, ◌+◌, ◌*◌, ◌<◌, ◌≤◌, ◌⊎◌, List, ◌++◌, length, take, replicate, inl, inr, drop, map, sym, ap, ◌∙◌, arith, Option, Some, None, IfSome, length-append, length-drop}
+use Rattle.std.proofs.Common.{◌≡◌, ℕ, ◌+◌, ◌*◌, ◌<◌, ◌≤◌, ◌⊎◌, List, ◌++◌, length, take, replicate, inl, inr, drop, map, refl, sym, ap, ◌∙◌, arith, Option, Some, None, IfSome, append_assoc, length-append, length-drop}
 use Rattle.std.proofs.Math.Nat.{mul-le-mul_left}
 use Rattle.std.specs.List.{range_with_len}
 use Rattle.std.specs.Io.KnownBytes.{Consumes}
 use Rattle.std.proofs.lemmas.List.{take-append-le, drop-append-le, drop_at}
 use Rattle.std.proofs.lemmas.List.FromFn.{fill_by_all, length-map-range_with_len, get_or-map-range_with_len}
-use Rattle.cdb_form.specs.Views.KnownBytes.{FromTo}
+use Rattle.cdb_form.specs.Views.KnownBytes.{FromTo, LosesFewer}
+use Rattle.cdb_form.specs.Views.Reading.{ReadsHead, ReadsNoRecord, ReadsFirst}
+use Rattle.cdb_form.proofs.SourceLemmas.{consumes_then}
 use Rattle.cdb_form.specs.Format.Pair.{WordPair, pair_size, head_size}
 use Rattle.cdb_form.specs.Format.Table.{empty_slot}
 use Rattle.cdb_form.specs.Format.Reading.{pair_at, nth_pair, head_at}
-use Rattle.cdb_form.specs.Format.Walk.{least_place, record_end, walk_of, walk_from, damaged, first_table_at}
+use Rattle.cdb_form.specs.Format.Record.{KeyValue}
+use Rattle.cdb_form.specs.Format.Walk.{Walked, least_place, record_end, walk_of, walk_from, damaged, first_table_at}
 use Rattle.cdb_form.specs.declared.walk.fault.WalkFault.{WalkFault}
 use Rattle.cdb_form.specs.declared.walk.fault.WalkFault.TheVariants.{Short}
 use Rattle.cdb_form.specs.declared.damage.Damage.TheVariants.{Table}
@@ -83,3 +86,34 @@ area_read w place end (Some text) (Some rest) xs read long e at low =
       e ∙ sym same,
       behind,
     )
+
+-- whatever stands behind the head
+pub head_cut : (w place end : ℕ) (old new : Option (List ℕ)) (xs : List ℕ) → Consumes old new xs → length xs ≡ head_size w → end ≡ record_end w xs → place ≡ head_size w → place ≤ end → ReadsHead w place end old new
+head_cut w place end old new xs read long e at low = record {
+  head = xs;
+  read = read;
+  walk = λ more. (area_read w place end (Some (xs ++ more)) (Some more) xs refl long e at low).0;
+}
+
+-- what was read at a fault has no whole record
+pub none_short : (w : ℕ) (old new : Option (List ℕ)) → LosesFewer old new (head_size w) → ReadsNoRecord (walk_of w) old new
+none_short w old new l = record { lost = l.lost; taken = l.taken; no_record = ap (λ (v : Walked). v.records) (walk_of-short w l.lost l.few) }
+
+pub none_table : (w : ℕ) (old new : Option (List ℕ)) (xs : List ℕ) → Consumes old new xs → length xs ≡ head_size w → record_end w xs < head_size w → ReadsNoRecord (walk_of w) old new
+none_table w old new xs read long low = record { lost = xs; taken = read; no_record = ap (λ (v : Walked). v.records) (walk_of-table w xs (omega arith) low) }
+
+-- nor has it where the head was read, and then nothing of that kind
+pub none_behind_head : (w place end : ℕ) (old mid new : Option (List ℕ)) → ReadsHead w place end old mid → ReadsNoRecord (walk_from w place end) mid new → ReadsNoRecord (walk_of w) old new
+none_behind_head w place end old mid new h p = record {
+  lost = h.head ++ p.lost;
+  taken = consumes_then old mid new h.head p.lost h.read p.taken;
+  no_record = ap (λ (v : Walked). v.records) (h.walk p.lost) ∙ p.no_record;
+}
+
+-- the head was read, and then a record
+pub first_behind_head : (w place end : ℕ) (old mid new : Option (List ℕ)) (r : KeyValue) (rest : List ℕ → Walked) → ReadsHead w place end old mid → ReadsFirst r (walk_from w place end) rest mid new → ReadsFirst r (walk_of w) rest old new
+first_behind_head w place end old mid new r rest h p = record {
+  bytes = h.head ++ p.bytes;
+  read = consumes_then old mid new h.head p.bytes h.read p.read;
+  first = λ more. ap (walk_of w) (append_assoc h.head p.bytes more) ∙ h.walk (p.bytes ++ more) ∙ p.first more;
+}

@@ -5,6 +5,9 @@ pub mod ReadBack
 pub mod SourceLemmas
 pub mod WritingLemmas
 pub mod Grammar
+pub mod Spelling
+pub mod WholeForm
+pub mod WholeChanges
 pub mod Stops
 pub mod TextLaws
 pub mod RecordLemmas

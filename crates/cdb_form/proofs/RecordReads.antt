@@ -1,18 +1,20 @@
 -- What the parts of a record that were read say of the walk of what was unread.
-use Rattle.std.proofs.Common.{◌≡◌, ℕ, ◌+◌, ◌-◌, ◌*◌, ◌<◌, ◌≤◌, List, ◌++◌, length, drop, sym, ap, ◌∙◌, arith, inl, inr, Option, Some, None, IfSome, append_assoc, length-append}
+use Rattle.std.proofs.Common.{◌≡◌, ℕ, ◌+◌, ◌-◌, ◌*◌, ◌<◌, ◌≤◌, List, [], ◌++◌, length, drop, refl, sym, ap, ◌∙◌, arith, inl, inr, Option, Some, None, IfSome, append_assoc, length-append}
 use Rattle.std.specs.Io.KnownBytes.{Consumes}
-use Rattle.cdb_form.specs.Views.KnownBytes.{LosesAtMost, FromTo}
+use Rattle.std.proofs.lemmas.List.{append-nil}
+use Rattle.cdb_form.specs.Views.KnownBytes.{LosesAtMost, LosesFewer, FromTo}
+use Rattle.cdb_form.specs.Views.Reading.{ReadsNoRecord, ReadsFirst}
 use Rattle.cdb_form.specs.Format.Record.{KeyValue, record_size}
 use Rattle.cdb_form.specs.Format.Pair.{WordPair}
 use Rattle.cdb_form.specs.Format.Reading.{pair_at}
-use Rattle.cdb_form.specs.Format.Walk.{front_size, walk_from, with_first}
+use Rattle.cdb_form.specs.Format.Walk.{Walked, front_size, walk_from, with_first}
 use Rattle.cdb_form.specs.Views.Pairs.{header_pair}
 use Rattle.cdb_form.specs.Views.WalkFault.{stopped_by}
 use Rattle.cdb_form.specs.declared.walk.fault.WalkFault.{WalkFault}
 use Rattle.cdb_form.specs.declared.header.Header.{Header}
 use Rattle.cdb_form.specs.declared.walk.fault.WalkFault.TheVariants.{Record}
 use Rattle.cdb_form.proofs.Fronts.{lengths_of, Begins, front_reads}
-use Rattle.cdb_form.proofs.SourceLemmas.{consumes_then}
+use Rattle.cdb_form.proofs.SourceLemmas.{consumes_then, nothing_lost}
 use Rattle.cdb_form.proofs.WalkSteps.{walk_from-no_header, walk_from-no_body, walk_from-more}
 
 abbrev pub StopsAt : ℕ → ℕ → ℕ → WalkFault → Option (List ℕ) → Type 0
@@ -64,10 +66,62 @@ record_read w place end next (Some text) (Some t) (Some rest) header r some a b 
       sym (ap (λ (k : ℕ). drop k text) n ∙ reads.rest_is),
     )
 
+-- and whatever stands behind it
+pub record_cut : (w place end next : ℕ) (old mid new : Option (List ℕ)) (header : List ℕ) (r : KeyValue) → 0 < w → Consumes old mid header → Consumes mid new (r.key ++ r.value)
+    → length header ≡ 2 * w → pair_at w header ≡ lengths_of r → next ≡ place + record_size w r → next ≤ end
+    → ReadsFirst r (walk_from w place end) (walk_from w next end) old new
+record_cut w place end next old mid new header r some a b long lengths at room = record {
+  bytes = header ++ (r.key ++ r.value);
+  read = consumes_then old mid new header (r.key ++ r.value) a b;
+  first = λ more. (record_read w place end next (Some ((header ++ (r.key ++ r.value)) ++ more)) (Some ((r.key ++ r.value) ++ more)) (Some more) header r some (append_assoc header (r.key ++ r.value) more) refl long lengths at room).0;
+}
+
 -- what was lost, part after part
 pub loses_then : (old mid new : Option (List ℕ)) (xs : List ℕ) (n k : ℕ) → Consumes old mid xs → LosesAtMost mid new n → length xs + n ≤ k → LosesAtMost old new k
 loses_then old mid new xs n k a b few = record {
   lost = xs ++ b.lost;
   taken = consumes_then old mid new xs b.lost a b.taken;
   few = omega (arith, length-append xs b.lost, b.few);
+}
+
+-- the same, at a fault
+pub fewer_then : (old mid new : Option (List ℕ)) (xs : List ℕ) (n k : ℕ) → Consumes old mid xs → LosesFewer mid new n → length xs + n ≤ k → LosesFewer old new k
+fewer_then old mid new xs n k a b few = record {
+  lost = xs ++ b.lost;
+  taken = consumes_then old mid new xs b.lost a b.taken;
+  few = omega (arith, length-append xs b.lost, b.few);
+}
+
+-- what was read at a fault has no whole record: nothing was read, since no header fits
+pub none_no_room : (w place end : ℕ) (o : Option (List ℕ)) → place < end → end - place < 2 * w → ReadsNoRecord (walk_from w place end) o o
+none_no_room w place end o before few = record {
+  lost = [];
+  taken = nothing_lost o;
+  no_record = ap (λ (v : Walked). v.records) (walk_from-no_header w place end [] before (inl few));
+}
+
+-- a part of a header was
+pub none_header : (w place end : ℕ) (old new : Option (List ℕ)) → place < end → LosesFewer old new (2 * w) → ReadsNoRecord (walk_from w place end) old new
+none_header w place end old new before l = record {
+  lost = l.lost;
+  taken = l.taken;
+  no_record = ap (λ (v : Walked). v.records) (walk_from-no_header w place end l.lost before (inr l.few));
+}
+
+-- a header was, of a record that doesn't fit
+pub none_body_no_room : (w place end : ℕ) (old new : Option (List ℕ)) (header : List ℕ) → place < end → Consumes old new header → length header ≡ 2 * w → 2 * w ≤ end - place → end - place < front_size w header
+    → ReadsNoRecord (walk_from w place end) old new
+none_body_no_room w place end old new header before read long room few = record {
+  lost = header;
+  taken = read;
+  no_record = ap (λ (v : Walked). v.records) (walk_from-no_body w place end header header [] before (sym (append-nil header)) long room (inl few));
+}
+
+-- a header and a part of what it tells was
+pub none_body : (w place end n : ℕ) (old mid new : Option (List ℕ)) (header : List ℕ) → place < end → Consumes old mid header → LosesFewer mid new n → length header ≡ 2 * w → 2 * w ≤ end - place → 2 * w + n ≤ front_size w header
+    → ReadsNoRecord (walk_from w place end) old new
+none_body w place end n old mid new header before read l long room size = record {
+  lost = header ++ l.lost;
+  taken = consumes_then old mid new header l.lost read l.taken;
+  no_record = ap (λ (v : Walked). v.records) (walk_from-no_body w place end (header ++ l.lost) header l.lost before refl long room (inr (omega (arith, length-append header l.lost, l.few))));
 }

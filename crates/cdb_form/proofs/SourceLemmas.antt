@@ -10,14 +10,15 @@ use Rattle.cdb_form.specs.declared.text.source.Source.{Source}
 use Rattle.cdb_form.specs.declared.text.fault.TextFault.{TextFault}
 use Rattle.cdb_form.specs.declared.text.fault.TextFault.TheVariants.{Syntax, Ended, Large, Input, Endless, NoMemory}
 use Rattle.cdb_form.specs.Format.Record.{AreBytes, KeyValue, IsRecord}
-use Rattle.cdb_form.specs.Text.Native.{IsNumeral}
-use Rattle.std.specs.Prelude.{option_map}
+use Rattle.cdb_form.specs.Text.Amending.{SpellsRemoval}
+use Rattle.cdb_form.specs.Text.Native.{IsNumeral, Spells}
+use Rattle.std.specs.Prelude.{codes, option_map}
 use Rattle.cdb_form.specs.Views.KnownBytes.{Took}
 use Rattle.cdb_form.proofs.Fronts.{take_past}
 use Rattle.cdb_form.specs.declared.reading.Unread.{Unread}
 use Rattle.cdb_form.specs.declared.reading.Unread.TheVariants as unread
 use Rattle.cdb_form.specs.Views.TextFault.{IsReadFault, IsSpent, LastRead, unread_fault}
-use Rattle.cdb_form.specs.Views.NativeParser.{FailsBytes, FailsField, ReadsBehindPlus, seen, told, Leaves}
+use Rattle.cdb_form.specs.Views.NativeParser.{FailsBytes, FailsField, ReadsBehind, seen, told, Leaves}
 use Rattle.cdb_form.specs.Views.Source.{budget}
 
 -- digits were read that stand for a value
@@ -40,6 +41,11 @@ pub kept_consumes : (old new : Option (List ℕ)) → Keeps old new → Consumes
 kept_consumes None new h = tt
 kept_consumes (Some o) None h = absurd h
 kept_consumes (Some o) (Some n) h = sym h
+
+-- nothing was read
+pub nothing_lost : (o : Option (List ℕ)) → Consumes o o []
+nothing_lost None = tt
+nothing_lost (Some t) = refl
 
 -- a fault of the reader is told of what was read
 read_part : (P : List ℕ → Type 0) (old new : Option (List ℕ)) (from to : ℕ) (lost : List ℕ) → Consumes old new lost → to ≡ from + length lost → P lost → IfSome (option_map (take (to - from)) old) P
@@ -140,13 +146,28 @@ pub record_behind : (o m₁ m₂ m₃ m₄ n : Option (List ℕ)) (greatest from
     → IsNumeral a (length r.key) → IsNumeral b (length r.value) → length r.key ≤ greatest → length r.value ≤ greatest → IsRecord r
     → Consumes o m₁ (a ++ 44 ∷ []) → Consumes m₁ m₂ (b ++ 58 ∷ []) → Consumes m₂ m₃ (r.key ++ 45 ∷ []) → Consumes m₃ m₄ (62 ∷ [])
     → Consumes m₄ n (r.value ++ 10 ∷ []) → to ≡ from + (length a + 1) + (length b + 1) + (length r.key + 1) + 1 + (length r.value + 1)
-    → ReadsBehindPlus greatest o n from to r
+    → ReadsBehind Spells (codes "+") greatest o n from to r
 record_behind o m₁ m₂ m₃ m₄ n greatest from to a b r ia ib fk fv bytes c₁ c₂ c₃ c₄ c₅ counted =
     let text : List ℕ = a ++ 44 ∷ (b ++ 58 ∷ (r.key ++ 45 ∷ 62 ∷ (r.value ++ 10 ∷ []))) in
     let all = consumes_then o m₄ n _ _ (consumes_then o m₃ m₄ _ _ (consumes_then o m₂ m₃ _ _ (consumes_then o m₁ m₂ _ _ c₁ c₂) c₃) c₄) c₅ in
     record {
       text = text;
       spells = record { klen = a; vlen = b; klen_is = ia; vlen_is = ib; key_fits = fk; value_fits = fv; bytes = bytes; text_is = simp append_assoc refl };
+      read = simp append_assoc at all;
+      counted = simp length-append (omega (arith, counted));
+    }
+
+-- a whole removal behind a minus
+pub removal_behind : (o m n : Option (List ℕ)) (greatest from to : ℕ) (a key : List ℕ)
+    → IsNumeral a (length key) → length key ≤ greatest → AreBytes key
+    → Consumes o m (a ++ 58 ∷ []) → Consumes m n (key ++ 10 ∷ []) → to ≡ from + (length a + 1) + (length key + 1)
+    → ReadsBehind SpellsRemoval (codes "-") greatest o n from to key
+removal_behind o m n greatest from to a key ia fits bytes c₁ c₂ counted =
+    let text : List ℕ = a ++ 58 ∷ (key ++ 10 ∷ []) in
+    let all = consumes_then o m n _ _ c₁ c₂ in
+    record {
+      text = text;
+      spells = record { klen = a; klen_is = ia; key_fits = fits; bytes = bytes; text_is = simp append_assoc refl };
       read = simp append_assoc at all;
       counted = simp length-append (omega (arith, counted));
     }

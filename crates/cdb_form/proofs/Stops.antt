@@ -4,122 +4,50 @@ use Rattle.std.proofs.lemmas.List.{append-nil, take_at, take_all}
 use Rattle.std.proofs.lemmas.Option.{IfSome_then}
 use Rattle.std.proofs.lemmas.Int.Digits.{digits_push, digits_value_push}
 use Rattle.std.specs.Char.{digit_value}
-use Rattle.std.specs.Prelude.{⊤}
+use Rattle.std.specs.Prelude.{⊤, Bool, true, false}
 use Rattle.std.specs.Str.Parse.{digits_value}
 use Rattle.std.specs.Io.KnownBytes.{Consumes, IsAtEnd}
 use Rattle.cdb_form.specs.Format.Record.{AreBytes, KeyValue, IsRecord}
 use Rattle.cdb_form.specs.declared.text.fault.TextFault.{TextFault}
 use Rattle.cdb_form.specs.declared.text.fault.TextFault.TheVariants.{Syntax, Ended, Large, Input, Endless, NoMemory}
 use Rattle.cdb_form.specs.Views.TextFault.{IsOfText, IsReadFault}
-use Rattle.cdb_form.specs.Views.TextReader.{StopsAmid}
-use Rattle.cdb_form.specs.Views.NativeParser.{FailsNumber, FailsByte, FailsField, FailsRecord, seen, told}
-use Rattle.cdb_form.specs.Text.Native.{IsNumeral, Spells, Reads, HasNoRecord, IsFront, HasNoText, LongestFront, HasFault}
+use Rattle.cdb_form.specs.Views.FormReader.{StopsAmid}
+use Rattle.cdb_form.specs.Views.NativeParser.{FailsNumber, FailsByte, FailsField, FailsItem, FailsEntry, seen, told}
+use Rattle.cdb_form.specs.Text.Form.{Reads, HasNoItem, IsFront, HasNoText, LongestFront, HasFault}
+use Rattle.cdb_form.specs.Text.Native.{IsNumeral, Spells}
+use Rattle.cdb_form.specs.Text.Amending.{Change, Putting, Removing, SpellsRemoval, SpellsChange}
 use Rattle.cdb_form.proofs.ByteLemmas.{AreBytes-nil}
+use Rattle.cdb_form.proofs.Spelling.{IsSpelling, records, changes, first_of_spelled, first_of_removal, head_of_spelled, head_of_removal, no_change}
 use Rattle.cdb_form.proofs.Grammar.{Front, Bare, Never, Lit, Bulk, Num, front_lit, front_lit_none, bare_lit, bare_lit_none, never_lit, never_lit_none, front_bulk, front_bulk_part, bare_bulk, never_bulk, front_num, front_num_part, bare_num, bare_num_part, never_num, never_num_bad, never_num_large}
 
--- ---- texts of the form
+-- ---- texts of a form
 
-abbrev pub Form : ℕ → List ℕ → Type 0
-Form g t = (rs : List KeyValue) × Reads g rs t []
+abbrev pub Form : {X : Type 0} → (ℕ → List ℕ → X → Type 0) → ℕ → List ℕ → Type 0
+Form {X} S g t = (xs : List X) × Reads S g xs t []
 
 -- any text
 abbrev pub Any : ℕ → List ℕ → Type 0
 Any g t = ⊤
 
--- the rest of a record behind its plus, and then F
-abbrev pub Behind : (ℕ → List ℕ → Type 0) → ℕ → List ℕ → Type 0
-Behind F g t = Num g 44 (λ k. Num g 58 (λ n. Bulk k (Lit 45 (Lit 62 (Bulk n (Lit 10 (F g))))))) t
-
-pub form_plus : (g : ℕ) (t : List ℕ) → Behind Form g t → Form g (43 ∷ t)
-form_plus g t (a, m₁, k, ia, la, e₁, (b, m₂, n, ib, lb, e₂, (key, m₃, lk, bk, e₃, (m₄, e₄, (m₅, e₅, (value, m₆, lv, bv, e₆, (m₇, e₇, (rs, reads)))))))) =
-    let r : KeyValue = record { key = key; value = value } in
-    let first : List ℕ = 43 ∷ (a ++ 44 ∷ (b ++ 58 ∷ (key ++ 45 ∷ 62 ∷ (value ++ 10 ∷ [])))) in
-    let whole : t ≡ a ++ 44 ∷ (b ++ 58 ∷ (key ++ 45 ∷ 62 ∷ (value ++ 10 ∷ m₇))) =
-    e₁ ∙ ap (λ x. a ++ 44 ∷ x) (e₂ ∙ ap (λ x. b ++ 58 ∷ x) (e₃ ∙ ap (λ x. key ++ x) (e₄ ∙ ap (λ x. 45 ∷ x) (e₅ ∙ ap (λ x. 62 ∷ x) (e₆ ∙ ap (λ x. value ++ x) e₇))))) in
-    let bytes : IsRecord r = record { key = bk; value = bv } in (
-      r ∷ rs,
-      (
-        first,
-        m₇,
-        record { klen = a; vlen = b; klen_is = subst (IsNumeral a) (sym lk) ia; vlen_is = subst (IsNumeral b) (sym lv) ib; key_fits = omega arith; value_fits = omega arith; bytes = bytes; text_is = simp append_assoc refl },
-        ap (λ x. 43 ∷ x) whole ∙ simp append_assoc,
-        reads,
-      ),
-    )
-
-pub first_of_spelled : (g : ℕ) (first more : List ℕ) (r : KeyValue) → (sp : Spells g first r) → first ++ more ≡ 43 ∷ (sp.klen ++ 44 ∷ (sp.vlen ++ 58 ∷ (r.key ++ 45 ∷ 62 ∷ (r.value ++ 10 ∷ more))))
-first_of_spelled g first more r sp = ap (λ x. x ++ more) sp.text_is ∙ simp append_assoc
-
-behind_tail : (x y : ℕ) (s t : List ℕ) → x ∷ s ≡ y ∷ t → s ≡ t
-behind_tail x y s t e = cc
-
-first_is : (c d : ℕ) (s t : List ℕ) → c ∷ s ≡ d ∷ t → c ≡ d
-first_is c d s t e = cc
-
--- what stands behind the plus of a spelled record
-pub behind_spelled : (F : ℕ → List ℕ → Type 0) (g : ℕ) (t first more : List ℕ) (r : KeyValue) → Spells g first r → 43 ∷ t ≡ first ++ more → F g more → Behind F g t
-behind_spelled F g t first more r sp e f =
-    let whole = behind_tail _ _ _ _ (e ∙ first_of_spelled g first more r sp) in
-    let key = r.key in
-    let value = r.value in (
-      sp.klen,
-      sp.vlen ++ 58 ∷ (key ++ 45 ∷ 62 ∷ (value ++ 10 ∷ more)),
-      length key,
-      sp.klen_is,
-      sp.key_fits,
-      whole,
-      (
-        sp.vlen,
-        key ++ 45 ∷ 62 ∷ (value ++ 10 ∷ more),
-        length value,
-        sp.vlen_is,
-        sp.value_fits,
-        refl,
-        (key, 45 ∷ 62 ∷ (value ++ 10 ∷ more), refl, sp.bytes.key, refl, (62 ∷ (value ++ 10 ∷ more), refl, (value ++ 10 ∷ more, refl, (value, 10 ∷ more, refl, sp.bytes.value, refl, (more, refl, f))))),
-      ),
-    )
-
-plus_first : (t : List ℕ) → 43 ∷ t ≡ 10 ∷ [] → ⊥
-plus_first t e = cc
-
-form_cases : (g : ℕ) (t : List ℕ) (rs : List KeyValue) → Reads g rs (43 ∷ t) [] → Behind Form g t
-form_cases g t [] e = absurd (plus_first t e)
-form_cases g t (r ∷ rs) (first, more, sp, e, reads) = behind_spelled Form g t first more r sp e (rs, reads)
-
-pub form_to : (g : ℕ) (t : List ℕ) → Form g (43 ∷ t) → Behind Form g t
-form_to g t form = form_cases g t form.0 form.1
-
 -- the shortest text
-pub front_form : (g : ℕ) → Front (Form g) []
-front_form g = (10 ∷ [], ([], refl))
+pub front_form : {X : Type 0} (S : ℕ → List ℕ → X → Type 0) (g : ℕ) → Front (Form S g) []
+front_form S g = (10 ∷ [], ([], refl))
 
 pub front_any : (g : ℕ) → Front (Any g) []
 front_any g = ([], tt)
 
-pub not_empty : (g : ℕ) → Form g [] → ⊥
-not_empty g ([], e) = let h : ◌≡◌ {A = List ℕ} [] (10 ∷ []) = e in cc
-not_empty g (r ∷ rs, (first, more, sp, e, reads)) =
-    let h : ◌≡◌ {A = List ℕ} [] (43 ∷ (sp.klen ++ 44 ∷ (sp.vlen ++ 58 ∷ (r.key ++ 45 ∷ 62 ∷ (r.value ++ 10 ∷ more))))) = e ∙ first_of_spelled g first more r sp in
-    cc
+no_item_empty : {X : Type 0} (S : ℕ → List ℕ → X → Type 0) → IsSpelling S → (g : ℕ) → HasNoItem S g []
+no_item_empty S s g first rest i sp e = s.newline g first (rest ++ 10 ∷ []) [] i sp (sym (append_assoc first rest (10 ∷ [])) ∙ ap (λ z. z ++ 10 ∷ []) (sym e))
 
-pub front_plus : (g : ℕ) (s : List ℕ) → Front (Behind Form g) s → Front (Form g) (43 ∷ s)
-front_plus g s f = (f.0, form_plus g (s ++ f.0) f.1)
-
-pub bare_plus : (g : ℕ) (s : List ℕ) → Bare (Behind Form g) s → Bare (Form g) (43 ∷ s)
-bare_plus g s b [] v form h = not_empty g form
-bare_plus g s b (x ∷ u) v form h =
-    let first : x ≡ 43 = cc in
-    let rest : s ≡ u ++ v = cc in
-    b u v (form_to g u (subst (λ y. Form g (y ∷ u)) first form)) rest
-
-pub never_plus : (g c : ℕ) (s : List ℕ) → Never (Behind Form g) s c → Never (Form g) (43 ∷ s) c
-never_plus g c s n m form = n m (form_to g (s ++ c ∷ m) form)
+pub not_empty : {X : Type 0} (S : ℕ → List ℕ → X → Type 0) → IsSpelling S → (g : ℕ) → Form S g [] → ⊥
+not_empty S s g ([], e) = let h : ◌≡◌ {A = List ℕ} [] (10 ∷ []) = e in cc
+not_empty S s g (i ∷ xs, (first, more, sp, e, reads)) = no_item_empty S s g first more i sp e
 
 -- a text, and then the rest
-pub reads_split : (g : ℕ) (rs : List KeyValue) (t rest : List ℕ) → Reads g rs t rest → (u : List ℕ) × Reads g rs u [] × (t ≡ u ++ rest)
-reads_split g [] t rest e = (10 ∷ [], refl, e)
-reads_split g (r ∷ rs) t rest (first, more, sp, e, reads) =
-    let split = reads_split g rs more rest reads in
+pub reads_split : {X : Type 0} (S : ℕ → List ℕ → X → Type 0) (g : ℕ) (xs : List X) (t rest : List ℕ) → Reads S g xs t rest → (u : List ℕ) × Reads S g xs u [] × (t ≡ u ++ rest)
+reads_split S g [] t rest e = (10 ∷ [], refl, e)
+reads_split S g (i ∷ xs) t rest (first, more, sp, e, reads) =
+    let split = reads_split S g xs more rest reads in
     (first ++ split.0, (first, split.0, sp, refl, split.1), e ∙ ap (λ x. first ++ x) split.2 ∙ sym (append_assoc first split.0 rest))
 
 -- of two fronts of a list one is a front of the other
@@ -130,13 +58,13 @@ fronts (a ∷ u) (b ∷ s) x y c e =
     let h : b ≡ a = cc in
     elim (fronts u s x y c (let t : s ++ c ∷ y ≡ u ++ x = cc in t)) [ inl p ↦ inl (p.0, (let i = p.1 in cc)) | inr p ↦ inr (p.0, (let i = p.1 in cc)) ]
 
-no_text_ended : (g : ℕ) (t : List ℕ) → Bare (Form g) t → HasNoText g t
-no_text_ended g t b rs rest reads = let split = reads_split g rs t rest reads in b split.0 rest (rs, split.1) split.2
+no_text_ended : {X : Type 0} (S : ℕ → List ℕ → X → Type 0) (g : ℕ) (t : List ℕ) → Bare (Form S g) t → HasNoText S g t
+no_text_ended S g t b xs rest reads = let split = reads_split S g xs t rest reads in b split.0 rest (xs, split.1) split.2
 
-no_text_stuck : (g c : ℕ) (s rest : List ℕ) → Bare (Form g) s → Never (Form g) s c → HasNoText g (s ++ c ∷ rest)
-no_text_stuck g c s rest b n rs rest' reads =
-    let split = reads_split g rs (s ++ c ∷ rest) rest' reads in
-    elim (fronts split.0 s rest' rest c split.2) [ inl p ↦ b split.0 p.0 (rs, split.1) p.1 | inr p ↦ n p.0 (subst (Form g) p.1 (rs, split.1)) ]
+no_text_stuck : {X : Type 0} (S : ℕ → List ℕ → X → Type 0) (g c : ℕ) (s rest : List ℕ) → Bare (Form S g) s → Never (Form S g) s c → HasNoText S g (s ++ c ∷ rest)
+no_text_stuck S g c s rest b n xs rest' reads =
+    let split = reads_split S g xs (s ++ c ∷ rest) rest' reads in
+    elim (fronts split.0 s rest' rest c split.2) [ inl p ↦ b split.0 p.0 (xs, split.1) p.1 | inr p ↦ n p.0 (subst (Form S g) p.1 (xs, split.1)) ]
 
 take_past : (s rest : List ℕ) (c q : ℕ) → length s < q → (m : List ℕ) × (take q (s ++ c ∷ rest) ≡ s ++ c ∷ m)
 take_past [] rest c zero h = absurd (omega arith)
@@ -151,23 +79,23 @@ byte_behind : (s rest : List ℕ) (c : ℕ) → get_or (s ++ c ∷ rest) (length
 byte_behind [] rest c = refl
 byte_behind (a ∷ s) rest c = byte_behind s rest c
 
-is_front : (g : ℕ) (s : List ℕ) → Front (Form g) s → IsFront g s
-is_front g s (m, (rs, reads)) = (rs, m, reads)
+is_front : {X : Type 0} (S : ℕ → List ℕ → X → Type 0) (g : ℕ) (s : List ℕ) → Front (Form S g) s → IsFront S g s
+is_front S g s (m, (xs, reads)) = (xs, m, reads)
 
-not_front : (g c : ℕ) (s m : List ℕ) → Never (Form g) s c → IsFront g (s ++ c ∷ m) → ⊥
-not_front g c s m n (rs, more, reads) = n (m ++ more) (rs, subst (λ t. Reads g rs t []) (append_assoc s (c ∷ m) more) reads)
+not_front : {X : Type 0} (S : ℕ → List ℕ → X → Type 0) (g c : ℕ) (s m : List ℕ) → Never (Form S g) s c → IsFront S g (s ++ c ∷ m) → ⊥
+not_front S g c s m n (xs, more, reads) = n (m ++ more) (xs, subst (λ t. Reads S g xs t []) (append_assoc s (c ∷ m) more) reads)
 
-longest_stuck : (g c : ℕ) (s rest : List ℕ) → Front (Form g) s → Never (Form g) s c → LongestFront g (s ++ c ∷ rest) (length s)
-longest_stuck g c s rest f n = record {
+longest_stuck : {X : Type 0} (S : ℕ → List ℕ → X → Type 0) (g c : ℕ) (s rest : List ℕ) → Front (Form S g) s → Never (Form S g) s c → LongestFront S g (s ++ c ∷ rest) (length s)
+longest_stuck S g c s rest f n = record {
   within = simp length-append (omega arith);
-  front = subst (IsFront g) (sym (take_at s (c ∷ rest) (length s) refl)) (is_front g s f);
-  longest = λ q h l front. let past = take_past s rest c q h in not_front g c s past.0 n (subst (IsFront g) past.1 front);
+  front = subst (IsFront S g) (sym (take_at s (c ∷ rest) (length s) refl)) (is_front S g s f);
+  longest = λ q h l front. let past = take_past s rest c q h in not_front S g c s past.0 n (subst (IsFront S g) past.1 front);
 }
 
-longest_ended : (g : ℕ) (t : List ℕ) → Front (Form g) t → LongestFront g t (length t)
-longest_ended g t f = record {
+longest_ended : {X : Type 0} (S : ℕ → List ℕ → X → Type 0) (g : ℕ) (t : List ℕ) → Front (Form S g) t → LongestFront S g t (length t)
+longest_ended S g t f = record {
   within = omega arith;
-  front = subst (IsFront g) (sym (take_all (length t) t (omega arith))) (is_front g t f);
+  front = subst (IsFront S g) (sym (take_all (length t) t (omega arith))) (is_front S g t f);
   longest = λ q h l front. omega arith;
 }
 
@@ -181,29 +109,29 @@ StopsAt K g from text (Large at) = (s : List ℕ) × (c : ℕ) × (rest : List �
     × (digit_value c < 10) × ((g' : ℕ) × (g ≤ g') × Front (K g') (s ++ c ∷ []))
 StopsAt K g from text _ = ⊤
 
-stops_form : (g from : ℕ) (text : List ℕ) (f : TextFault) → StopsAt Form g from text f → HasFault g from text f
-stops_form g from text (Ended at) (f, b, e) = (no_text_ended g text b, longest_ended g text f, e)
-stops_form g from text (Syntax at) (s, c, rest, e, place, f, b, n) =
-    subst (λ t. HasFault g from t (Syntax at)) (sym e) (
+stops_form : {X : Type 0} (S : ℕ → List ℕ → X → Type 0) (g from : ℕ) (text : List ℕ) (f : TextFault) → StopsAt (Form S) g from text f → HasFault S g from text f
+stops_form S g from text (Ended at) (f, b, e) = (no_text_ended S g text b, longest_ended S g text f, e)
+stops_form S g from text (Syntax at) (s, c, rest, e, place, f, b, n) =
+    subst (λ t. HasFault S g from t (Syntax at)) (sym e) (
       length s,
-      no_text_stuck g c s rest b (n g (omega arith)),
-      longest_stuck g c s rest f (n g (omega arith)),
+      no_text_stuck S g c s rest b (n g (omega arith)),
+      longest_stuck S g c s rest f (n g (omega arith)),
       simp length-append (omega arith),
-      (λ l. not_front l.1.0 c s [] (n l.1.0 l.1.1) (subst (IsFront l.1.0) (take_one_more s rest c) l.1.2)),
+      (λ l. not_front S l.1.0 c s [] (n l.1.0 l.1.1) (subst (IsFront S l.1.0) (take_one_more s rest c) l.1.2)),
       place,
     )
-stops_form g from text (Large at) (s, c, rest, e, place, f, b, n, digit, (g', l, more)) =
-    subst (λ t. HasFault g from t (Large at)) (sym e) (
+stops_form S g from text (Large at) (s, c, rest, e, place, f, b, n, digit, (g', l, more)) =
+    subst (λ t. HasFault S g from t (Large at)) (sym e) (
       length s,
-      no_text_stuck g c s rest b n,
-      longest_stuck g c s rest f n,
+      no_text_stuck S g c s rest b n,
+      longest_stuck S g c s rest f n,
       simp length-append (omega arith),
-      (subst (λ (d : ℕ). digit_value d < 10) (sym (byte_behind s rest c)) digit, (g', l, subst (IsFront g') (sym (take_one_more s rest c)) (is_front g' (s ++ c ∷ []) more))),
+      (subst (λ (d : ℕ). digit_value d < 10) (sym (byte_behind s rest c)) digit, (g', l, subst (IsFront S g') (sym (take_one_more s rest c)) (is_front S g' (s ++ c ∷ []) more))),
       place,
     )
-stops_form g from text Input h = tt
-stops_form g from text Endless h = tt
-stops_form g from text NoMemory h = tt
+stops_form S g from text Input h = tt
+stops_form S g from text Endless h = tt
+stops_form S g from text NoMemory h = tt
 
 stops_lit : (K : ℕ → List ℕ → Type 0) (g c from to : ℕ) (text : List ℕ) (f : TextFault) → to ≡ from + 1 → StopsAt K g to text f → StopsAt (λ g. Lit c (K g)) g from (c ∷ text) f
 stops_lit K g c from to text (Ended at) e (f, b, place) = (front_lit c (K g) text f, bare_lit c (K g) text b, omega arith)
@@ -320,7 +248,7 @@ stops_number K g c from text Input k nc h = tt
 stops_number K g c from text Endless k nc h = tt
 stops_number K g c from text NoMemory k nc h = tt
 
--- ---- a record, part by part: what is left of it, and then F
+-- ---- an item, part by part: what is left of it, and then F
 
 abbrev pub Rest6 : (ℕ → List ℕ → Type 0) → ℕ → List ℕ → Type 0
 Rest6 F g = Lit 10 (F g)
@@ -339,6 +267,13 @@ Rest2 F k n g = Bulk k (Rest3 F n g)
 
 abbrev pub Rest1 : (ℕ → List ℕ → Type 0) → ℕ → ℕ → List ℕ → Type 0
 Rest1 F k g = Num g 58 (λ n. Rest2 F k n g)
+
+-- the rest of a record behind its plus, and of a removal behind its minus
+abbrev pub Behind : (ℕ → List ℕ → Type 0) → ℕ → List ℕ → Type 0
+Behind F g t = Num g 44 (λ k. Rest1 F k g) t
+
+abbrev pub BehindMinus : (ℕ → List ℕ → Type 0) → ℕ → List ℕ → Type 0
+BehindMinus F g t = Num g 58 (λ k. Rest5 F k g) t
 
 abbrev pub Starts : (ℕ → List ℕ → Type 0) → Type 0
 Starts F = (g : ℕ) → Front (F g) []
@@ -413,86 +348,234 @@ base_angle F g n from o f s h = IfSome_then o h (λ t. stops_byte (Rest5 F n) g 
 pub base_value : (F : ℕ → List ℕ → Type 0) (g n from : ℕ) (o : Option (List ℕ)) (f : TextFault) → Starts F → IfSome o (λ t. FailsField n 10 from t f) → IfSome o (λ t. StopsAt (Rest5 F n) g from t f)
 base_value F g n from o f s h = IfSome_then o h (λ t. stops_field F g n 10 from t f s)
 
--- ---- at the front of a record
+-- behind a minus: the length, the key and its newline
 
-stops_plus : (g from to : ℕ) (text : List ℕ) (f : TextFault) → to ≡ from + 1 → StopsAt (Behind Form) g to text f → HasFault g from (43 ∷ text) f
-stops_plus g from to text (Ended at) e (f, b, place) = stops_form g from (43 ∷ text) (Ended at) (front_plus g text f, bare_plus g text b, omega arith)
-stops_plus g from to text (Syntax at) e (s, d, rest, split, place, f, b, n) =
-    stops_form g from (43 ∷ text) (Syntax at) (43 ∷ s, d, rest, ap (λ x. 43 ∷ x) split, omega arith, front_plus g s f, bare_plus g s b, λ g' le. never_plus g' d s (n g' le))
-stops_plus g from to text (Large at) e (s, d, rest, split, place, f, b, n, digit, (g', l, more)) =
-    stops_form g from (43 ∷ text) (Large at) (43 ∷ s, d, rest, ap (λ x. 43 ∷ x) split, omega arith, front_plus g s f, bare_plus g s b, never_plus g d s n, digit, (g', l, front_plus g' (s ++ d ∷ []) more))
-stops_plus g from to text Input e h = tt
-stops_plus g from to text Endless e h = tt
-stops_plus g from to text NoMemory e h = tt
+pub lift_length : (F : ℕ → List ℕ → Type 0) (g k from to : ℕ) (o m : Option (List ℕ)) (ds : List ℕ) (f : TextFault) → IsNumeral ds k → k ≤ g → to ≡ from + (length ds + 1) → Consumes o m (ds ++ 58 ∷ []) → IfSome m (λ t. StopsAt (Rest5 F k) g to t f) → IfSome o (λ t. StopsAt (BehindMinus F) g from t f)
+lift_length F g k from to o m ds f i l e read h = lift_num (λ g k. Rest5 F k g) g 58 k from to o m ds f i l (lit≤ tt) e read h
 
--- where a record stops before its end, none stands
-no_record_stops : (g from : ℕ) (text : List ℕ) (f : TextFault) → StopsAt (Behind Any) g from text f → IsOfText f → HasNoRecord g (43 ∷ text)
-no_record_stops g from text (Ended at) (f, b, place) is first rest r sp e = b text [] (behind_spelled Any g text first rest r sp e tt) (sym (append-nil text))
-no_record_stops g from text (Syntax at) (s, d, more, split, place, f, b, n) is first rest r sp e = n g (omega arith) more (subst (Behind Any g) split (behind_spelled Any g text first rest r sp e tt))
-no_record_stops g from text (Large at) (s, d, more, split, place, f, b, n, digit, lifts) is first rest r sp e = n more (subst (Behind Any g) split (behind_spelled Any g text first rest r sp e tt))
-no_record_stops g from text Input h is first rest r sp e = absurd is
-no_record_stops g from text Endless h is first rest r sp e = absurd is
-no_record_stops g from text NoMemory h is first rest r sp e = absurd is
+pub base_length : (F : ℕ → List ℕ → Type 0) (g from : ℕ) (o : Option (List ℕ)) (f : TextFault) → Starts F → IfSome o (λ t. FailsNumber g 58 from t f) → IfSome o (λ t. StopsAt (BehindMinus F) g from t f)
+base_length F g from o f s h = IfSome_then o h (λ t. stops_number (λ g k. Rest5 F k g) g 58 from t f (λ g k. front5 F k s g) (lit≤ tt))
 
--- whatever is to follow the record, it stops there
-pub record_fails : (g from to : ℕ) (o : Option (List ℕ)) (f : TextFault) → to ≡ from + 1 → ((F : ℕ → List ℕ → Type 0) → Starts F → IfSome o (λ t. StopsAt (Behind F) g to t f))
-    → IfSome o (λ text. FailsRecord g from (43 ∷ text) f)
-record_fails g from to None f e h = tt
-record_fails g from to (Some t) f e h = record { fault = stops_plus g from to t f e (h Form front_form); no_record = no_record_stops g to t f (h Any front_any) }
+-- ---- at the front of an item: its mark h, and then B
 
-bare_form : (g : ℕ) → Bare (Form g) []
-bare_form g [] v form h = not_empty g form
-bare_form g (x ∷ u) v form h = let e : [] ≡ x ∷ (u ++ v) = h in cc
+record IsMark {X : Type 0} (S : ℕ → List ℕ → X → Type 0) (h : ℕ) (B : (ℕ → List ℕ → Type 0) → ℕ → List ℕ → Type 0) : Type 0 where
+  to : (g : ℕ) (t : List ℕ) → B (Form S) g t → Form S g (h ∷ t)
+  from : (g : ℕ) (t : List ℕ) → Form S g (h ∷ t) → B (Form S) g t
+  item : (g : ℕ) (t first rest : List ℕ) (i : X) → S g first i → h ∷ t ≡ first ++ rest → B Any g t
 
-never_first : (g c : ℕ) (t : List ℕ) (rs : List KeyValue) → c ≢ 10 → c ≢ 43 → Reads g rs (c ∷ t) [] → ⊥
-never_first g c t [] newline plus e = newline (first_is c 10 t [] e)
-never_first g c t (r ∷ rs) newline plus reads = plus (first_is _ _ _ _ (reads.3 ∙ first_of_spelled g reads.0 reads.1 r reads.2))
+behind_tail : (x y : ℕ) (s t : List ℕ) → x ∷ s ≡ y ∷ t → s ≡ t
+behind_tail x y s t e = cc
 
-never_form : (g c : ℕ) → c ≢ 10 → c ≢ 43 → Never (Form g) [] c
-never_form g c newline plus m form = never_first g c m form.0 newline plus form.1
+first_is : (c d : ℕ) (s t : List ℕ) → c ∷ s ≡ d ∷ t → c ≡ d
+first_is c d s t e = cc
 
--- a record begins with a plus
-pub no_record_empty : (g : ℕ) → HasNoRecord g []
-no_record_empty g first rest r sp e = let h = e ∙ first_of_spelled g first rest r sp in cc
+-- an item at the front of a text of the form that does not begin with a newline
+from_cases : {X : Type 0} (S : ℕ → List ℕ → X → Type 0) (h : ℕ) (B : (ℕ → List ℕ → Type 0) → ℕ → List ℕ → Type 0) (g : ℕ) (t : List ℕ) → (h ≡ 10 → ⊥)
+    → ((first more : List ℕ) (i : X) → S g first i → h ∷ t ≡ first ++ more → Form S g more → B (Form S) g t) → Form S g (h ∷ t) → B (Form S) g t
+from_cases S h B g t other behind ([], e) = absurd (other (first_is h 10 t [] e))
+from_cases S h B g t other behind (i ∷ xs, (first, more, sp, e, reads)) = behind first more i sp e (xs, reads)
 
-pub no_record_other : (g c : ℕ) (t : List ℕ) → c ≢ 43 → HasNoRecord g (c ∷ t)
-no_record_other g c t plus first rest r sp e = plus (first_is _ _ _ _ (e ∙ first_of_spelled g first rest r sp))
+-- ---- the marks of a record and of a removal
 
-pub ended_first : (g from : ℕ) (o : Option (List ℕ)) → IsAtEnd o → IfSome o (λ t. FailsRecord g from t (Ended from))
-ended_first g from None h = tt
-ended_first g from (Some t) h = record {
-  fault = stops_form g from t (Ended from) (subst (Front (Form g)) (sym h) (front_form g), subst (Bare (Form g)) (sym h) (bare_form g), omega (arith, ap length h));
-  no_record = λ is. subst (HasNoRecord g) (sym h) (no_record_empty g);
+-- what follows the plus of a record spells it, and then F
+plus_spelled : (F : ℕ → List ℕ → Type 0) (g : ℕ) (t : List ℕ) → Behind F g t → (r : KeyValue) × (first more : List ℕ) × Spells g first r × (43 ∷ t ≡ first ++ more) × F g more
+plus_spelled F g t (a, m₁, k, ia, la, e₁, (b, m₂, n, ib, lb, e₂, (key, m₃, lk, bk, e₃, (m₄, e₄, (m₅, e₅, (value, m₆, lv, bv, e₆, (m₇, e₇, f))))))) =
+    let r : KeyValue = record { key = key; value = value } in
+    let first : List ℕ = 43 ∷ (a ++ 44 ∷ (b ++ 58 ∷ (key ++ 45 ∷ 62 ∷ (value ++ 10 ∷ [])))) in
+    let whole : t ≡ a ++ 44 ∷ (b ++ 58 ∷ (key ++ 45 ∷ 62 ∷ (value ++ 10 ∷ m₇))) =
+    e₁ ∙ ap (λ x. a ++ 44 ∷ x) (e₂ ∙ ap (λ x. b ++ 58 ∷ x) (e₃ ∙ ap (λ x. key ++ x) (e₄ ∙ ap (λ x. 45 ∷ x) (e₅ ∙ ap (λ x. 62 ∷ x) (e₆ ∙ ap (λ x. value ++ x) e₇))))) in
+    let bytes : IsRecord r = record { key = bk; value = bv } in (
+      r,
+      first,
+      m₇,
+      record { klen = a; vlen = b; klen_is = subst (IsNumeral a) (sym lk) ia; vlen_is = subst (IsNumeral b) (sym lv) ib; key_fits = omega arith; value_fits = omega arith; bytes = bytes; text_is = simp append_assoc refl },
+      ap (λ x. 43 ∷ x) whole ∙ simp append_assoc,
+      f,
+    )
+
+-- and the reverse
+behind_spelled : (F : ℕ → List ℕ → Type 0) (g : ℕ) (t first more : List ℕ) (r : KeyValue) → Spells g first r → 43 ∷ t ≡ first ++ more → F g more → Behind F g t
+behind_spelled F g t first more r sp e f =
+    let whole = behind_tail _ _ _ _ (e ∙ first_of_spelled g first more r sp) in
+    let key = r.key in
+    let value = r.value in (
+      sp.klen,
+      sp.vlen ++ 58 ∷ (key ++ 45 ∷ 62 ∷ (value ++ 10 ∷ more)),
+      length key,
+      sp.klen_is,
+      sp.key_fits,
+      whole,
+      (
+        sp.vlen,
+        key ++ 45 ∷ 62 ∷ (value ++ 10 ∷ more),
+        length value,
+        sp.vlen_is,
+        sp.value_fits,
+        refl,
+        (key, 45 ∷ 62 ∷ (value ++ 10 ∷ more), refl, sp.bytes.key, refl, (62 ∷ (value ++ 10 ∷ more), refl, (value ++ 10 ∷ more, refl, (value, 10 ∷ more, refl, sp.bytes.value, refl, (more, refl, f))))),
+      ),
+    )
+
+-- what follows the minus of a removal spells it, and then F
+minus_spelled : (F : ℕ → List ℕ → Type 0) (g : ℕ) (t : List ℕ) → BehindMinus F g t → (key first more : List ℕ) × SpellsRemoval g first key × (45 ∷ t ≡ first ++ more) × F g more
+minus_spelled F g t (a, m₁, k, ia, la, e₁, (key, m₂, lk, bk, e₂, (m₃, e₃, f))) =
+    let whole : t ≡ a ++ 58 ∷ (key ++ 10 ∷ m₃) = e₁ ∙ ap (λ x. a ++ 58 ∷ x) (e₂ ∙ ap (λ x. key ++ x) e₃) in (
+      key,
+      45 ∷ (a ++ 58 ∷ (key ++ 10 ∷ [])),
+      m₃,
+      record { klen = a; klen_is = subst (IsNumeral a) (sym lk) ia; key_fits = omega arith; bytes = bk; text_is = simp append_assoc refl },
+      ap (λ x. 45 ∷ x) whole ∙ simp append_assoc,
+      f,
+    )
+
+-- and the reverse
+behind_removal : (F : ℕ → List ℕ → Type 0) (g : ℕ) (t first more key : List ℕ) → SpellsRemoval g first key → 45 ∷ t ≡ first ++ more → F g more → BehindMinus F g t
+behind_removal F g t first more key sp e f =
+    let whole = behind_tail _ _ _ _ (e ∙ first_of_removal g first more key sp) in
+    (sp.klen, key ++ 10 ∷ more, length key, sp.klen_is, sp.key_fits, whole, (key, 10 ∷ more, refl, sp.bytes, refl, (more, refl, f)))
+
+behind_change : (F : ℕ → List ℕ → Type 0) (g : ℕ) (t first more : List ℕ) (i : Change) → SpellsChange g first i → 43 ∷ t ≡ first ++ more → F g more → Behind F g t
+behind_change F g t first more (Putting r) sp e f = behind_spelled F g t first more r sp e f
+behind_change F g t first more (Removing key) sp e f = let n = head_of_removal g 43 first more t key sp (sym e) in absurd (let no : ⊥ = omega (arith, n) in no)
+
+minus_change : (F : ℕ → List ℕ → Type 0) (g : ℕ) (t first more : List ℕ) (i : Change) → SpellsChange g first i → 45 ∷ t ≡ first ++ more → F g more → BehindMinus F g t
+minus_change F g t first more (Putting r) sp e f = let n = head_of_spelled g 45 first more t r sp (sym e) in absurd (let no : ⊥ = omega (arith, n) in no)
+minus_change F g t first more (Removing key) sp e f = behind_removal F g t first more key sp e f
+
+plus_records : IsMark Spells 43 Behind
+plus_records = record {
+  to = λ g t b. let p = plus_spelled (Form Spells) g t b in (p.0 ∷ p.5.0, (p.1, p.2, p.3, p.4, p.5.1));
+  from = λ g t form. from_cases Spells 43 Behind g t (λ e. omega (arith, e)) (λ first more r sp e f. behind_spelled (Form Spells) g t first more r sp e f) form;
+  item = λ g t first rest r sp e. behind_spelled Any g t first rest r sp e tt;
 }
 
-pub syntax_first : (g from c : ℕ) (o m : Option (List ℕ)) → Consumes o m (c ∷ []) → c ≢ 10 → c ≢ 43 → IfSome o (λ t. FailsRecord g from t (Syntax from))
-syntax_first g from c None m h newline plus = tt
-syntax_first g from c (Some o) None h newline plus = absurd h
-syntax_first g from c (Some o) (Some m) h newline plus = record {
-  fault = stops_form g from o (Syntax from) ([], c, m, h, omega arith, front_form g, bare_form g, λ g' le. never_form g' c newline plus);
-  no_record = λ is. subst (HasNoRecord g) (sym h) (no_record_other g c m plus);
+plus_changes : IsMark SpellsChange 43 Behind
+plus_changes = record {
+  to = λ g t b. let p = plus_spelled (Form SpellsChange) g t b in (Putting p.0 ∷ p.5.0, (p.1, p.2, p.3, p.4, p.5.1));
+  from = λ g t form. from_cases SpellsChange 43 Behind g t (λ e. omega (arith, e)) (λ first more i sp e f. behind_change (Form SpellsChange) g t first more i sp e f) form;
+  item = λ g t first rest i sp e. behind_change Any g t first rest i sp e tt;
 }
 
-pub record_first : (g from : ℕ) (o m : Option (List ℕ)) (f : TextFault) → Consumes o m (43 ∷ []) → IfSome m (λ t. FailsRecord g from (43 ∷ t) f) → IfSome o (λ t. FailsRecord g from t f)
-record_first g from None m f h fails = tt
-record_first g from (Some o) None f h fails = absurd h
-record_first g from (Some o) (Some m) f h fails = subst (λ t. FailsRecord g from t f) (sym h) fails
+minus_changes : IsMark SpellsChange 45 BehindMinus
+minus_changes = record {
+  to = λ g t b. let p = minus_spelled (Form SpellsChange) g t b in (Removing p.0 ∷ p.5.0, (p.1, p.2, p.3, p.4, p.5.1));
+  from = λ g t form. from_cases SpellsChange 45 BehindMinus g t (λ e. omega (arith, e)) (λ first more i sp e f. minus_change (Form SpellsChange) g t first more i sp e f) form;
+  item = λ g t first rest i sp e. minus_change Any g t first rest i sp e tt;
+}
+
+-- ---- where an item stops behind its mark
+
+front_mark : {X : Type 0} (S : ℕ → List ℕ → X → Type 0) (h : ℕ) (B : (ℕ → List ℕ → Type 0) → ℕ → List ℕ → Type 0) → IsMark S h B → (g : ℕ) (s : List ℕ) → Front (B (Form S) g) s → Front (Form S g) (h ∷ s)
+front_mark S h B k g s f = (f.0, k.to g (s ++ f.0) f.1)
+
+bare_mark : {X : Type 0} (S : ℕ → List ℕ → X → Type 0) → IsSpelling S → (h : ℕ) (B : (ℕ → List ℕ → Type 0) → ℕ → List ℕ → Type 0) → IsMark S h B → (g : ℕ) (s : List ℕ) → Bare (B (Form S) g) s → Bare (Form S g) (h ∷ s)
+bare_mark S is h B k g s b [] v form e = not_empty S is g form
+bare_mark S is h B k g s b (x ∷ u) v form e =
+    let first : x ≡ h = cc in
+    let rest : s ≡ u ++ v = cc in
+    b u v (k.from g u (subst (λ y. Form S g (y ∷ u)) first form)) rest
+
+never_mark : {X : Type 0} (S : ℕ → List ℕ → X → Type 0) (h : ℕ) (B : (ℕ → List ℕ → Type 0) → ℕ → List ℕ → Type 0) → IsMark S h B → (g c : ℕ) (s : List ℕ) → Never (B (Form S) g) s c → Never (Form S g) (h ∷ s) c
+never_mark S h B k g c s n m form = n m (k.from g (s ++ c ∷ m) form)
+
+stops_mark : {X : Type 0} (S : ℕ → List ℕ → X → Type 0) → IsSpelling S → (h : ℕ) (B : (ℕ → List ℕ → Type 0) → ℕ → List ℕ → Type 0) → IsMark S h B → (g from to : ℕ) (text : List ℕ) (f : TextFault) → to ≡ from + 1 → StopsAt (B (Form S)) g to text f → HasFault S g from (h ∷ text) f
+stops_mark S is h B k g from to text (Ended at) e (f, b, place) = stops_form S g from (h ∷ text) (Ended at) (front_mark S h B k g text f, bare_mark S is h B k g text b, omega arith)
+stops_mark S is h B k g from to text (Syntax at) e (s, d, rest, split, place, f, b, n) =
+    stops_form S g from (h ∷ text) (Syntax at) (h ∷ s, d, rest, ap (λ x. h ∷ x) split, omega arith, front_mark S h B k g s f, bare_mark S is h B k g s b, λ g' le. never_mark S h B k g' d s (n g' le))
+stops_mark S is h B k g from to text (Large at) e (s, d, rest, split, place, f, b, n, digit, (g', l, more)) =
+    stops_form S g from (h ∷ text) (Large at) (h ∷ s, d, rest, ap (λ x. h ∷ x) split, omega arith, front_mark S h B k g s f, bare_mark S is h B k g s b, never_mark S h B k g d s n, digit, (g', l, front_mark S h B k g' (s ++ d ∷ []) more))
+stops_mark S is h B k g from to text Input e p = tt
+stops_mark S is h B k g from to text Endless e p = tt
+stops_mark S is h B k g from to text NoMemory e p = tt
+
+-- where an item stops before its end, none is there
+no_item_stops : {X : Type 0} (S : ℕ → List ℕ → X → Type 0) (h : ℕ) (B : (ℕ → List ℕ → Type 0) → ℕ → List ℕ → Type 0) → IsMark S h B → (g from : ℕ) (text : List ℕ) (f : TextFault) → StopsAt (B Any) g from text f → IsOfText f → HasNoItem S g (h ∷ text)
+no_item_stops S h B k g from text (Ended at) (f, b, place) is first rest i sp e = b text [] (k.item g text first rest i sp e) (sym (append-nil text))
+no_item_stops S h B k g from text (Syntax at) (s, d, more, split, place, f, b, n) is first rest i sp e = n g (omega arith) more (subst (B Any g) split (k.item g text first rest i sp e))
+no_item_stops S h B k g from text (Large at) (s, d, more, split, place, f, b, n, digit, lifts) is first rest i sp e = n more (subst (B Any g) split (k.item g text first rest i sp e))
+no_item_stops S h B k g from text Input p is first rest i sp e = absurd is
+no_item_stops S h B k g from text Endless p is first rest i sp e = absurd is
+no_item_stops S h B k g from text NoMemory p is first rest i sp e = absurd is
+
+-- whatever is to follow the item, it stops there
+item_fails : {X : Type 0} (S : ℕ → List ℕ → X → Type 0) → IsSpelling S → (h : ℕ) (B : (ℕ → List ℕ → Type 0) → ℕ → List ℕ → Type 0) → IsMark S h B → (g from to : ℕ) (o : Option (List ℕ)) (f : TextFault) → to ≡ from + 1
+    → ((F : ℕ → List ℕ → Type 0) → Starts F → IfSome o (λ t. StopsAt (B F) g to t f)) → IfSome o (λ text. FailsItem S g from (h ∷ text) f)
+item_fails S is h B k g from to None f e p = tt
+item_fails S is h B k g from to (Some t) f e p = record { fault = stops_mark S is h B k g from to t f e (p (Form S) (front_form S)); no_item = no_item_stops S h B k g to t f (p Any front_any) }
+
+pub record_fails : (removals : Bool) (g from to : ℕ) (o : Option (List ℕ)) (f : TextFault) → to ≡ from + 1 → ((F : ℕ → List ℕ → Type 0) → Starts F → IfSome o (λ t. StopsAt (Behind F) g to t f))
+    → IfSome o (λ text. FailsEntry removals g from (43 ∷ text) f)
+record_fails true g from to o f e p = item_fails SpellsChange changes 43 Behind plus_changes g from to o f e p
+record_fails false g from to o f e p = item_fails Spells records 43 Behind plus_records g from to o f e p
+
+pub removal_fails : (g from to : ℕ) (o : Option (List ℕ)) (f : TextFault) → to ≡ from + 1 → ((F : ℕ → List ℕ → Type 0) → Starts F → IfSome o (λ t. StopsAt (BehindMinus F) g to t f))
+    → IfSome o (λ text. FailsItem SpellsChange g from (45 ∷ text) f)
+removal_fails g from to o f e p = item_fails SpellsChange changes 45 BehindMinus minus_changes g from to o f e p
+
+-- ---- before the mark of an item
+
+bare_form : {X : Type 0} (S : ℕ → List ℕ → X → Type 0) → IsSpelling S → (g : ℕ) → Bare (Form S g) []
+bare_form S is g [] v form h = not_empty S is g form
+bare_form S is g (x ∷ u) v form h = let e : [] ≡ x ∷ (u ++ v) = h in cc
+
+-- no item begins with this byte
+abbrev BeginsNone : {X : Type 0} → (ℕ → List ℕ → X → Type 0) → ℕ → Type 0
+BeginsNone {X} S c = (g : ℕ) (first x y : List ℕ) (i : X) → S g first i → first ++ x ≡ c ∷ y → ⊥
+
+never_form : {X : Type 0} (S : ℕ → List ℕ → X → Type 0) (g c : ℕ) → c ≢ 10 → BeginsNone S c → Never (Form S g) [] c
+never_form S g c newline other m ([], e) = newline (first_is c 10 m [] e)
+never_form S g c newline other m (i ∷ xs, (first, more, sp, e, reads)) = other g first more m i sp (sym e)
+
+ended_item : {X : Type 0} (S : ℕ → List ℕ → X → Type 0) → IsSpelling S → (g from : ℕ) (t : List ℕ) → t ≡ [] → FailsItem S g from t (Ended from)
+ended_item S is g from t e = record {
+  fault = stops_form S g from t (Ended from) (subst (Front (Form S g)) (sym e) (front_form S g), subst (Bare (Form S g)) (sym e) (bare_form S is g), omega (arith, ap length e));
+  no_item = λ of. subst (HasNoItem S g) (sym e) (no_item_empty S is g);
+}
+
+syntax_item : {X : Type 0} (S : ℕ → List ℕ → X → Type 0) → IsSpelling S → (g from c : ℕ) (o m : List ℕ) → o ≡ c ∷ m → c ≢ 10 → BeginsNone S c → FailsItem S g from o (Syntax from)
+syntax_item S is g from c o m h newline other = record {
+  fault = stops_form S g from o (Syntax from) ([], c, m, h, omega arith, front_form S g, bare_form S is g, λ g' le. never_form S g' c newline other);
+  no_item = λ of first rest i sp e. other g first rest m i sp (sym e ∙ h);
+}
+
+fails_ended : (removals : Bool) (g from : ℕ) (t : List ℕ) → t ≡ [] → FailsEntry removals g from t (Ended from)
+fails_ended true g from t e = ended_item SpellsChange changes g from t e
+fails_ended false g from t e = ended_item Spells records g from t e
+
+fails_syntax : (removals : Bool) (g from c : ℕ) (o m : List ℕ) → o ≡ c ∷ m → c ≢ 10 → c ≢ 43 → (removals ≡ true → c ≢ 45) → FailsEntry removals g from o (Syntax from)
+fails_syntax true g from c o m h newline plus minus = syntax_item SpellsChange changes g from c o m h newline (λ g first x y i. no_change g c first x y i plus (minus refl))
+fails_syntax false g from c o m h newline plus minus = syntax_item Spells records g from c o m h newline (λ g first x y r sp e. plus (head_of_spelled g c first x y r sp e))
+
+pub ended_first : (removals : Bool) (g from : ℕ) (o : Option (List ℕ)) → IsAtEnd o → IfSome o (λ t. FailsEntry removals g from t (Ended from))
+ended_first removals g from None h = tt
+ended_first removals g from (Some t) h = fails_ended removals g from t h
+
+pub syntax_first : (removals : Bool) (g from c : ℕ) (o m : Option (List ℕ)) → Consumes o m (c ∷ []) → c ≢ 10 → c ≢ 43 → (removals ≡ true → c ≢ 45) → IfSome o (λ t. FailsEntry removals g from t (Syntax from))
+syntax_first removals g from c None m h newline plus minus = tt
+syntax_first removals g from c (Some o) None h newline plus minus = absurd h
+syntax_first removals g from c (Some o) (Some m) h newline plus minus = fails_syntax removals g from c o m h newline plus minus
+
+-- behind the mark that was read
+pub mark_first : (P : List ℕ → TextFault → Type 0) (c : ℕ) (o m : Option (List ℕ)) (f : TextFault) → Consumes o m (c ∷ []) → IfSome m (λ t. P (c ∷ t) f) → IfSome o (λ t. P t f)
+mark_first P c None m f h fails = tt
+mark_first P c (Some o) None f h fails = absurd h
+mark_first P c (Some o) (Some m) f h fails = subst (λ t. P t f) (sym h) fails
 
 -- where nothing was read, nothing of a text was
-pub nothing_read : (g from : ℕ) → FailsRecord g from [] (Ended from)
-nothing_read g from = record { fault = stops_form g from [] (Ended from) (front_form g, bare_form g, omega arith); no_record = λ is. no_record_empty g }
+pub nothing_read : (removals : Bool) (g from : ℕ) → FailsEntry removals g from [] (Ended from)
+nothing_read removals g from = fails_ended removals g from [] refl
 
 -- what a fault says of all that was unread, and of what was read of it
-pub record Met (g from to : ℕ) (old : Option (List ℕ)) (f : TextFault) : Type 0 where
-  pub exact : IfSome old (λ text. HasFault g from text f)
-  pub no_record : IfSome old (λ text. IsOfText f → HasNoRecord g text)
-  pub part : IfSome old (λ text. IsReadFault f → StopsAmid g from to text)
+pub record Met {X : Type 0} (S : ℕ → List ℕ → X → Type 0) (g from to : ℕ) (old : Option (List ℕ)) (f : TextFault) : Type 0 where
+  pub exact : IfSome old (λ text. HasFault S g from text f)
+  pub no_record : IfSome old (λ text. IsOfText f → HasNoItem S g text)
+  pub part : IfSome old (λ text. IsReadFault f → StopsAmid S g from to text)
 
-pub met : (g from to : ℕ) (old : Option (List ℕ)) (f : TextFault) → IfSome (seen from to f old) (λ text. FailsRecord g from text (told to f)) → Met g from to old f
-met g from to None f h = record { exact = tt; no_record = tt; part = tt }
-met g from to (Some t) (Syntax at) h = record { exact = h.fault; no_record = h.no_record; part = λ is. absurd is }
-met g from to (Some t) (Ended at) h = record { exact = h.fault; no_record = h.no_record; part = λ is. absurd is }
-met g from to (Some t) (Large at) h = record { exact = h.fault; no_record = h.no_record; part = λ is. absurd is }
-met g from to (Some t) NoMemory h = record { exact = tt; no_record = λ is. absurd is; part = λ is. absurd is }
-met g from to (Some t) Input h = record { exact = tt; no_record = λ is. absurd is; part = λ is. record { front = h.fault; no_record = h.no_record tt } }
-met g from to (Some t) Endless h = record { exact = tt; no_record = λ is. absurd is; part = λ is. record { front = h.fault; no_record = h.no_record tt } }
+pub met : {X : Type 0} (S : ℕ → List ℕ → X → Type 0) (g from to : ℕ) (old : Option (List ℕ)) (f : TextFault) → IfSome (seen from to f old) (λ text. FailsItem S g from text (told to f)) → Met S g from to old f
+met S g from to None f h = record { exact = tt; no_record = tt; part = tt }
+met S g from to (Some t) (Syntax at) h = record { exact = h.fault; no_record = h.no_item; part = λ is. absurd is }
+met S g from to (Some t) (Ended at) h = record { exact = h.fault; no_record = h.no_item; part = λ is. absurd is }
+met S g from to (Some t) (Large at) h = record { exact = h.fault; no_record = h.no_item; part = λ is. absurd is }
+met S g from to (Some t) NoMemory h = record { exact = tt; no_record = λ is. absurd is; part = λ is. absurd is }
+met S g from to (Some t) Input h = record { exact = tt; no_record = λ is. absurd is; part = λ is. record { front = h.fault; no_record = h.no_item tt } }
+met S g from to (Some t) Endless h = record { exact = tt; no_record = λ is. absurd is; part = λ is. record { front = h.fault; no_record = h.no_item tt } }

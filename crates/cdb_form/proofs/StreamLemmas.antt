@@ -1,6 +1,7 @@
 -- What a reader of records leaves unread.
 use Rattle.std.proofs.Common.{◌≡◌, ℕ, ◌+◌, ◌-◌, ◌≤◌, List, ◌++◌, length, take, drop, refl, sym, ap, subst, ◌∙◌, arith, Option, Some, None, IfSome, inl, inr}
 use Rattle.std.specs.Prelude.{max, Bool, true, false, MatchBool}
+use Rattle.std.specs.Bool.{OnTrue}
 use Rattle.cdb_form.specs.Format.Record.{KeyValue}
 use Rattle.cdb_form.specs.Views.Pairs.{key_value}
 use Rattle.cdb_form.specs.Views.RecordReader.{GivesKept, GivesRecord}
@@ -12,7 +13,7 @@ use Rattle.cdb_form.specs.Views.KnownBytes.{LosesAtMost, FromTo, StillFrom}
 use Rattle.cdb_form.specs.Views.Reading.{ReadsNoFurther}
 use Rattle.cdb_form.proofs.RecordReads.{loses_then}
 use Rattle.cdb_form.specs.Format.Pair.{head_size}
-use Rattle.cdb_form.specs.Format.Walk.{walk_of, walk_from, record_end, no_walk}
+use Rattle.cdb_form.specs.Format.Walk.{Walked, walk_of, walk_from, record_end, no_walk, with_first}
 use Rattle.cdb_form.proofs.WalkSteps.{walk_from-end}
 
 still_from : (lost rest : List ℕ) (n : ℕ) → length lost ≤ n → StillFrom n (lost ++ rest) rest
@@ -69,3 +70,22 @@ kept_both w remaining old new into (r, kept, gives) = subst (GivesRecord w remai
 pub match_weaker : (A B E : Type 0) (b : Bool) → (A → B) → MatchBool b A E → MatchBool b B E
 match_weaker A B E true f h = f h
 match_weaker A B E false f h = h
+
+pub true_weaker : (A B : Type 0) (b : Bool) → (A → B) → OnTrue b A → OnTrue b B
+true_weaker A B true f h = f h
+true_weaker A B false f h = tt
+
+-- the head, and then the first record
+pub first_then : (w place end : ℕ) (old mid new : Option (List ℕ)) (r : KeyValue) (left : List ℕ → Walked) (behind : List ℕ → List ℕ)
+    → FromTo old mid (λ text rest. (walk_of w text ≡ walk_from w place end rest) × (end ≡ record_end w text) × (rest ≡ drop (head_size w) text))
+    → place ≡ head_size w → place ≤ end
+    → FromTo mid new (λ text rest. (walk_from w place end text ≡ with_first r (left rest)) × (behind rest ≡ drop (end - place) text))
+    → FromTo old new (λ text rest. (walk_of w text ≡ with_first r (left rest)) × (behind rest ≡ drop (record_end w text) text))
+first_then w place end None mid new r left behind a at low b = tt
+first_then w place end (Some text) None new r left behind a at low b = absurd a
+first_then w place end (Some text) (Some t) None r left behind a at low b = absurd b
+first_then w place end (Some text) (Some t) (Some rest) r left behind (walk, is, cut) at low (one, e) =
+    let n : head_size w + (end - place) ≡ record_end w text = omega arith in (
+      walk ∙ one,
+      e ∙ ap (drop (end - place)) cut ∙ drop-drop (end - place) (head_size w) text ∙ ap (λ (k : ℕ). drop k text) n,
+    )

@@ -1,15 +1,16 @@
 -- Texts are read in one way.
-use Rattle.std.proofs.Common.{◌≡◌, ℕ, zero, suc, lit<, ◌^◌, ◌<◌, List, [], ◌∷◌, ◌++◌, length, flat_map, refl, sym, ap, subst, ◌∙◌, arith, append_assoc, decimal, lit≤}
+use Rattle.std.proofs.Common.{◌≡◌, ℕ, zero, suc, lit<, ◌^◌, ◌<◌, List, [], ◌∷◌, length, map, refl, arith, decimal}
 use Rattle.std.specs.List.{AllByRecursion}
 use Rattle.std.specs.Str.Parse.{AllDigits, digits_value}
 use Rattle.std.proofs.lemmas.Str.Parse.{IsNumeralModel}
 use Rattle.std.proofs.lemmas.Fmt.{digits_decimal, digits_value-decimal}
 use Rattle.std.specs.Fmt.{digits}
 use Rattle.cdb_form.specs.Format.Record.{KeyValue, IsRecord}
-use Rattle.cdb_form.specs.Text.Native.{IsNumeral, Spells, Spelled, Reads, spelling_of, text_of}
-use Rattle.cdb_form.specs.Laws.Text.{LengthsFit, TextReadsBack}
-use Rattle.cdb_form.proofs.Grammar.{same_digits, same_fronts}
-use Rattle.cdb_form.proofs.Stops.{first_of_spelled}
+use Rattle.cdb_form.specs.Text.Amending.{Change, Putting, Removing, SpellsChange, SpellsRemoval, SpelledChanges, change_line, removal_line}
+use Rattle.cdb_form.specs.Text.Native.{IsNumeral, Spells, Spelled, spelling_of}
+use Rattle.cdb_form.specs.Laws.Text.{LengthsFit, KeyFits, TextReadsBack, ChangesReadBack, AmendsByPuts}
+use Rattle.cdb_form.proofs.Spelling.{records, changes}
+use Rattle.cdb_form.proofs.WholeForm.{is_read_as, lines_read}
 
 own : IsNumeralModel (AllDigits 10) (digits_value 10)
 own = record { to = λ ds d. d; from = λ ds d. d; same = λ ds d. refl }
@@ -38,44 +39,52 @@ spells g r h bytes fit = record {
   text_is = refl;
 }
 
-spelled : (g : ℕ) (rs : List KeyValue) (x : List ℕ) → g < 2 ^ 64 → AllByRecursion IsRecord rs → AllByRecursion (LengthsFit g) rs → Spelled g rs (flat_map spelling_of rs ++ x) x
-spelled g [] x h bytes fit = refl
-spelled g (r ∷ rs) x h bytes fit = (spelling_of r, flat_map spelling_of rs ++ x, spells g r h bytes.0 fit.0, append_assoc (spelling_of r) (flat_map spelling_of rs) x, spelled g rs x h bytes.1 fit.1)
-
-tails : (x y : ℕ) (s t : List ℕ) → x ∷ s ≡ y ∷ t → s ≡ t
-tails x y s t e = cc
-
-heads : (x y : ℕ) (s t : List ℕ) → x ∷ s ≡ y ∷ t → x ≡ y
-heads x y s t e = cc
-
-same_record : (r q : KeyValue) → r.key ≡ q.key → r.value ≡ q.value → r ≡ q
-same_record r q k v = ap (λ x. let p : KeyValue = record { key = x; value = r.value } in p) k ∙ ap (λ x. let p : KeyValue = record { key = q.key; value = x } in p) v
-
--- no spelling begins another, whatever the bounds
-pub same_first : (g h : ℕ) (a b x y : List ℕ) (r q : KeyValue) → Spells g a r → Spells h b q → a ++ x ≡ b ++ y → (r ≡ q) × (x ≡ y)
-same_first g h a b x y r q sa sb e =
-    let whole = tails _ _ _ _ (sym (first_of_spelled g a x r sa) ∙ e ∙ first_of_spelled h b y q sb) in
-    let k = same_digits sa.klen sb.klen _ _ 44 44 sa.klen_is.each sb.klen_is.each (lit≤ tt) (lit≤ tt) whole in
-    let v = same_digits sa.vlen sb.vlen _ _ 58 58 sa.vlen_is.each sb.vlen_is.each (lit≤ tt) (lit≤ tt) k.2 in
-    let key_long : length r.key ≡ length q.key = sym sa.klen_is.value ∙ ap (digits_value 10) k.0 ∙ sb.klen_is.value in
-    let value_long : length r.value ≡ length q.value = sym sa.vlen_is.value ∙ ap (digits_value 10) v.0 ∙ sb.vlen_is.value in
-    let keys = same_fronts r.key q.key _ _ key_long v.2 in
-    let values = same_fronts r.value q.value _ _ value_long (tails _ _ _ _ (tails _ _ _ _ keys.1)) in
-    (same_record r q keys.0 values.0, tails _ _ _ _ values.1)
-
-pub other_head : (g : ℕ) (first more t : List ℕ) (r : KeyValue) → Spells g first r → 10 ∷ t ≡ first ++ more → ⊥
-other_head g first more t r sp e = let h : 10 ≡ 43 = heads _ _ _ _ (e ∙ first_of_spelled g first more r sp) in omega (arith, h)
-
-pub one_reading : (g : ℕ) (rs qs : List KeyValue) (t x y : List ℕ) → Reads g rs t x → Reads g qs t y → (qs ≡ rs) × (y ≡ x)
-one_reading g [] [] t x y a b = (refl, tails 10 10 y x (sym b ∙ a))
-one_reading g [] (q ∷ qs) t x y a (first, more, sp, e, reads) = absurd (other_head g first more x q sp (sym a ∙ e))
-one_reading g (r ∷ rs) [] t x y (first, more, sp, e, reads) b = absurd (other_head g first more y r sp (sym b ∙ e))
-one_reading g (r ∷ rs) (q ∷ qs) t x y (first, more, sp, e, reads) (first', more', sp', e', reads') =
-    let same = same_first g g first first' more more' r q sp sp' (sym e ∙ e') in
-    let rest = one_reading g rs qs more x y reads (subst (λ m. Spelled g qs m (10 ∷ y)) (sym same.1) reads') in
-    ((let h = same.0 in let i = rest.0 in cc), rest.1)
+spell_each : (g : ℕ) (rs : List KeyValue) → g < 2 ^ 64 → AllByRecursion IsRecord rs → AllByRecursion (LengthsFit g) rs → AllByRecursion (λ r. Spells g (spelling_of r) r) rs
+spell_each g [] h bytes fit = tt
+spell_each g (r ∷ rs) h bytes fit = (spells g r h bytes.0 fit.0, spell_each g rs h bytes.1 fit.1)
 
 pub text_reads_back : (g : ℕ) (rs : List KeyValue) (rest : List ℕ) → g < 2 ^ 64 → AllByRecursion IsRecord rs → AllByRecursion (LengthsFit g) rs → TextReadsBack g rs rest
-text_reads_back g rs rest h bytes fit =
-    let reads : Reads g rs (text_of rs ++ rest) rest = subst (λ t. Spelled g rs t (10 ∷ rest)) (sym (append_assoc (flat_map spelling_of rs) (10 ∷ []) rest)) (spelled g rs (10 ∷ rest) h bytes fit) in
-    record { reads = reads; only = λ others more again. one_reading g rs others (text_of rs ++ rest) rest more reads again }
+text_reads_back g rs rest h bytes fit = lines_read Spells records spelling_of g rs rest (spell_each g rs h bytes fit)
+
+-- ---- amending texts
+
+spells_removal : (g : ℕ) (key : List ℕ) → g < 2 ^ 64 → KeyFits g key → SpellsRemoval g (removal_line key) key
+spells_removal g key h fit = record {
+  klen = decimal (length key);
+  klen_is = numeral (length key) (omega (arith, fit.length_fits));
+  key_fits = fit.length_fits;
+  bytes = fit.bytes;
+  text_is = refl;
+}
+
+-- a put is of bytes, as the types have it, and fits; or a removal fits
+abbrev pub IsFitting : ℕ → Change → Type 0
+IsFitting g (Putting r) = IsRecord r × LengthsFit g r
+IsFitting g (Removing key) = KeyFits g key
+
+spells_change : (g : ℕ) (change : Change) → g < 2 ^ 64 → IsFitting g change → SpellsChange g (change_line change) change
+spells_change g (Putting r) h fit = spells g r h fit.0 fit.1
+spells_change g (Removing key) h fit = spells_removal g key h fit
+
+spell_changes : (g : ℕ) (xs : List Change) → g < 2 ^ 64 → AllByRecursion (IsFitting g) xs → AllByRecursion (λ change. SpellsChange g (change_line change) change) xs
+spell_changes g [] h fit = tt
+spell_changes g (change ∷ xs) h fit = (spells_change g change h fit.0, spell_changes g xs h fit.1)
+
+pub changes_read_back : (g : ℕ) (xs : List Change) (rest : List ℕ) → g < 2 ^ 64 → AllByRecursion (IsFitting g) xs → ChangesReadBack g xs rest
+changes_read_back g xs rest h fit = lines_read SpellsChange changes change_line g xs rest (spell_changes g xs h fit)
+
+-- ---- a native text is an amending one, and its records are puts
+
+spelled_puts : (g : ℕ) (rs : List KeyValue) (t rest : List ℕ) → Spelled g rs t rest → SpelledChanges g (map Putting rs) t rest
+spelled_puts g [] t rest e = e
+spelled_puts g (r ∷ rs) t rest (first, more, sp, e, reads) = (first, more, sp, e, spelled_puts g rs more rest reads)
+
+spelled_records : (g : ℕ) (rs : List KeyValue) (t rest : List ℕ) → SpelledChanges g (map Putting rs) t rest → Spelled g rs t rest
+spelled_records g [] t rest e = e
+spelled_records g (r ∷ rs) t rest (first, more, sp, e, reads) = (first, more, sp, e, spelled_records g rs more rest reads)
+
+pub amends_by_puts : (g : ℕ) (t : List ℕ) → AmendsByPuts g t
+amends_by_puts g t = record {
+  puts = λ rs rest reads. is_read_as SpellsChange changes g (map Putting rs) t rest (spelled_puts g rs t (10 ∷ rest) reads);
+  records = λ rs rest reads. spelled_records g rs t (10 ∷ rest) reads;
+}

@@ -1,7 +1,10 @@
 -- For callers of a reader of records: from what each call gave to the walk of the whole file.
 use Rattle.std.proofs.Common.{◌≡◌, ℕ, List, [], ◌∷◌, ◌++◌, sym, ap, ◌∙◌, subst, Option, Some, None, IfSome, append_assoc, drop}
 use Rattle.std.proofs.lemmas.List.{append-nil}
+use Rattle.std.specs.Io.KnownBytes.{Consumes}
 use Rattle.cdb_form.specs.Views.KnownBytes.{FromTo}
+use Rattle.cdb_form.specs.Views.Reading.{ReadsFirst, ReadsNoRecord, ReadsRecords}
+use Rattle.cdb_form.proofs.SourceLemmas.{consumes_then, nothing_lost}
 use Rattle.cdb_form.specs.Format.Record.{KeyValue}
 use Rattle.cdb_form.specs.Views.RecordReader.{walk_of_rest, size_of_rest, unread, walk_left, behind_end, behind_records, IsFresh, GaveSoFar}
 use Rattle.cdb_form.specs.Format.Walk.{Walked, walk_of, no_walk, damaged, with_first, with_records}
@@ -77,3 +80,34 @@ pub gave_front : {R L : Type 0} (w : ℕ) (remaining : R → Option (List ℕ)) 
 gave_front w remaining file t rs so_far =
     from_known file (unread remaining t) (λ text rest. (walk_of w text ≡ with_records rs (walk_left w t rest)) × (behind_end w t rest ≡ behind_records w text)) (λ text. (more : List KeyValue) × ((walk_of w text).records ≡ rs ++ more))
     (λ a b p. ((walk_left w t b).records, ap (λ (v : Walked). v.records) p.0)) so_far
+
+-- what was read so far has these records, and whatever stands behind it is what is left of the walk
+pub record ReadSoFar {R L : Type 0} (w : ℕ) (remaining : R → Option (List ℕ)) (file : Option (List ℕ)) (t : RecordReader R L) (rs : List KeyValue) : Type 0 where
+  pub bytes : List ℕ
+  pub read : Consumes file (unread remaining t) bytes
+  pub walk : (more : List ℕ) → walk_of w (bytes ++ more) ≡ with_records rs (walk_left w t more)
+
+pub read_none : {R L : Type 0} (w : ℕ) (remaining : R → Option (List ℕ)) (file : Option (List ℕ)) (t : RecordReader R L) → IsFresh t → unread remaining t ≡ file → ReadSoFar w remaining file t []
+read_none w remaining file t fresh same = record {
+  bytes = [];
+  read = subst (λ o. Consumes file o []) (sym same) (nothing_lost file);
+  walk = λ more. sym (ap (λ k. walk_of_rest w k more) fresh);
+}
+
+-- one record more, by the clause `cut`
+pub read_more : {R L : Type 0} (w : ℕ) (remaining : R → Option (List ℕ)) (file : Option (List ℕ)) (old new : RecordReader R L) (rs : List KeyValue) (r : KeyValue) → ReadSoFar w remaining file old rs
+    → ReadsFirst r (walk_left w old) (walk_left w new) (unread remaining old) (unread remaining new) → ReadSoFar w remaining file new (rs ++ r ∷ [])
+read_more w remaining file old new rs r s f = record {
+  bytes = s.bytes ++ f.bytes;
+  read = consumes_then file (unread remaining old) (unread remaining new) s.bytes f.bytes s.read f.read;
+  walk = λ more. ap (walk_of w) (append_assoc s.bytes f.bytes more) ∙ s.walk (f.bytes ++ more) ∙ ap (with_records rs) (f.first more) ∙ with_one rs r (walk_left w new more);
+}
+
+-- at a fault, by the clause `part`: these are all whole records that were read
+pub read_all : {R L : Type 0} (w : ℕ) (remaining : R → Option (List ℕ)) (file : Option (List ℕ)) (t u : RecordReader R L) (rs : List KeyValue) → ReadSoFar w remaining file t rs
+    → ReadsNoRecord (walk_left w t) (unread remaining t) (unread remaining u) → ReadsRecords w rs file (unread remaining u)
+read_all w remaining file t u rs s p = record {
+  bytes = s.bytes ++ p.lost;
+  read = consumes_then file (unread remaining t) (unread remaining u) s.bytes p.lost s.read p.taken;
+  records = ap (λ (v : Walked). v.records) (s.walk p.lost) ∙ ap (λ qs. rs ++ qs) p.no_record ∙ append-nil rs;
+}

@@ -1,4 +1,6 @@
--- The texts of a list of records.
+-- The texts of a list of records, and of a list of changes.
+pub mod Form
 pub mod Native
+pub mod Amending
 pub mod Map
 pub mod List

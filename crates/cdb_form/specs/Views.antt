@@ -8,6 +8,8 @@ pub mod WalkFault
 pub mod Source
 pub mod NativeParser
 pub mod MapParser
+pub mod FormReader
 pub mod TextReader
+pub mod AmendReader
 pub mod MapReader
 pub mod RecordReader

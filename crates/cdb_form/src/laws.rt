@@ -1,12 +1,14 @@
 //! Laws of the format. Each is the contract of a function whose parameters are what it ranges over.
 ghost use Rattle.std.specs.Prelude.{◌≡◌, ◌≤◌, All, length};
 ghost use Rattle.cdb_form.specs.Format.File.{file_bytes, file_size};
-ghost use Rattle.cdb_form.specs.Laws.Text.{LengthsFit, MapReadsBack, TextReadsBack};
+ghost use Rattle.cdb_form.specs.Laws.Text.{AmendsByPuts, ChangeFits, ChangesReadBack, LengthsFit};
+ghost use Rattle.cdb_form.specs.Laws.Text.{MapReadsBack, TextReadsBack};
 ghost use Rattle.cdb_form.specs.Format.Walk.{walk_of};
 ghost use Rattle.cdb_form.specs.Text.Map.{IsMapWord};
 ghost use Rattle.cdb_form.specs.Laws.Walk.{IsWalk, WalksBack};
-ghost use Rattle.cdb_form.specs.Views.Pairs.{key_values};
+ghost use Rattle.cdb_form.specs.Views.Pairs.{changes_of, key_values};
 
+use crate::item::Item;
 use crate::record::Record;
 use crate::width::Width;
 
@@ -15,6 +17,19 @@ use crate::width::Width;
 pub fn text_reads_back<L: Width>(_records: &[Record], _rest: &[u8])
     ensures { All (LengthsFit L.GREATEST) (key_values _records.now) →
         TextReadsBack L.GREATEST (key_values _records.now) _rest.now }
+{}
+
+/// The amending text of some items, in the shortest decimals, is read as these items and as no
+/// others, whatever follows it.
+pub fn amending_text_reads_back<L: Width>(_items: &[Item], _rest: &[u8])
+    ensures { All (ChangeFits L.GREATEST) (changes_of _items.now) →
+        ChangesReadBack L.GREATEST (changes_of _items.now) _rest.now }
+{}
+
+/// A native text is an amending text of the same records, all of them put, and of no other items;
+/// and an amending text that only puts is a native one.
+pub fn native_text_amends_by_puts<L: Width>(_text: &[u8])
+    ensures { AmendsByPuts L.GREATEST _text.now }
 {}
 
 /// The map text of some records that it can hold is read as these records.

@@ -1,4 +1,5 @@
-//! The file format of constant databases: its words and tables, and its native text.
+//! The file format of constant databases: its words and tables, its native text, and
+//! the larger text that amends a database.
 //!
 //! The format is said once, in `specs/`: `Format` is the file of a list of records,
 //! what bytes read as, and what records any bytes hold and where they are damaged; `Text` is the
@@ -9,6 +10,7 @@
 mod damage;
 mod head;
 mod header;
+mod item;
 mod key_hash;
 pub mod laws;
 mod pair;
@@ -24,11 +26,14 @@ mod writing;
 pub use damage::Damage;
 pub use head::{Head, Pointer, head_size, read_head, read_pointer, write_head, write_pointer};
 pub use header::{Header, read_header, write_header};
+pub use item::{Item, ItemKind};
 pub use key_hash::{hash, hash_more, home_slot, table_number};
 pub use pair::pair_size;
 pub use reading_whole::{Extent, InFault, read_whole};
 pub use record::Record;
 pub use slot::{Slot, read_slot, write_slot};
+pub use text::amend_reader::AmendReader;
+pub use text::amend_writer::write_removal;
 pub use text::fault::TextFault;
 pub use text::list_writer::{write_list_record, write_map_key};
 pub use text::map_reader::MapReader;

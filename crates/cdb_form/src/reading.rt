@@ -3,7 +3,7 @@ ghost use Rattle.std.specs.Prelude.{◌≡◌, ◌≢◌, ℕ, ◌+◌, ◌*◌,
 ghost use Rattle.std.specs.Prelude.{OnOk, OnErr, IfOk, IfErr};
 ghost use Rattle.std.specs.Io.KnownBytes.{Keeps, Consumes, IsAtEnd};
 ghost use Rattle.cdb_form.specs.Format.Record.{AreBytes};
-ghost use Rattle.cdb_form.specs.Views.KnownBytes.{LosesAtMost};
+ghost use Rattle.cdb_form.specs.Views.KnownBytes.{LosesAtMost, LosesFewer};
 ghost use Rattle.cdb_form.specs.Views.Reading.{IsOfReader, ReadsShort, Passes};
 ghost use Rattle.cdb_form.specs.declared.reading.Unread.TheVariants.{Ended, Failed, Spent};
 ghost use Rattle.cdb_form.specs.declared.reading.Unread.TheVariants.{NoMemory};
@@ -88,6 +88,8 @@ pub(crate) fn all_bytes<R: Read>(
         (R.remaining reader.new)) }
     ensures loses { LosesAtMost (R.remaining reader.old)
         (R.remaining reader.new) (length into.old) }
+    ensures loses_fewer { OnErr result (LosesFewer (R.remaining reader.old)
+        (R.remaining reader.new) (length into.old)) }
     ensures memory { IfErr result (λ f. f ≢ NoMemory) }
 {
     let mut done = 0;
@@ -182,6 +184,8 @@ pub(crate) fn vector<R: Read>(
     ensures short { OnErr result (length into.new.items < len) }
     ensures ended { IfErr result (λ f. f ≡ Ended → IsAtEnd (R.remaining reader.new)) }
     ensures loses { LosesAtMost (R.remaining reader.old) (R.remaining reader.new) len }
+    ensures loses_fewer { OnErr result
+        (LosesFewer (R.remaining reader.old) (R.remaining reader.new) len) }
     ensures no_more { asks.new ≤ asks.old }
     ensures each { piece ≤ 4096 → length into.new.items + 4096 * asks.new ≤ 4096 * asks.old }
     ensures spends { OnOk result (asks.old ≤ asks.new + 1001 * length into.new.items) }
@@ -210,6 +214,8 @@ pub(crate) fn skip<R: Read>(
     ensures ended { IfErr result (λ f. f ≡ Ended →
         ReadsShort len (R.remaining reader.old) (R.remaining reader.new)) }
     ensures loses { LosesAtMost (R.remaining reader.old) (R.remaining reader.new) len }
+    ensures loses_fewer { OnErr result
+        (LosesFewer (R.remaining reader.old) (R.remaining reader.new) len) }
     ensures memory { IfErr result (λ f. f ≢ NoMemory) }
 {
     let mut done = 0;

@@ -58,7 +58,6 @@ impl Error for InFault {}
 /// bytes, and the reader has what follows them. At `Failed` it holds the bytes that came before
 /// the fault. Memory is asked for as bytes come, a piece ahead.
 pub fn read_whole<R: Read>(reader: &mut R, into: &mut Vec<u8>, most: u64) -> Result<Extent, InFault>
-    requires { most < 2 ^ 64 - 1 }
     ensures given { IfOk result (Gives most (R.remaining reader.old)
         (R.remaining reader.new) into.new.items) }
     ensures part { IfErr result (λ f.
@@ -68,7 +67,7 @@ pub fn read_whole<R: Read>(reader: &mut R, into: &mut Vec<u8>, most: u64) -> Res
     ensures loses { LosesAtMost (R.remaining reader.old) (R.remaining reader.new) (most + 1) }
 {
     let mut asks = u64::MAX;
-    match vector(reader, &mut asks, into, most + 1, 4096) {
+    match vector(reader, &mut asks, into, most.saturating_add(1), 4096) {
         Ok(()) => Ok(Extent::More),
         Err(Unread::Ended) => Ok(Extent::All),
         Err(Unread::Failed | Unread::Spent) => Err(InFault::Failed),

@@ -1,4 +1,6 @@
-// The texts of a list of records.
+// The texts of a list of records, and of a list of items.
+pub(crate) mod amend_reader;
+pub(crate) mod amend_writer;
 pub(crate) mod fault;
 pub(crate) mod going;
 pub(crate) mod list_writer;

@@ -1,4 +1,5 @@
 // Tests of what no contract says: values worked out by hand, and faults of readers and writers.
+mod changes;
 mod fakes;
 mod maps;
 mod reading;

@@ -1,12 +1,18 @@
 -- What a call does to the bytes that a reader has left or a writer holds, where they are known.
 use Rattle.std.specs.Io.KnownBytes.{Consumes, Appends}
-use Rattle.std.specs.Prelude.{drop, ◌+◌, ℕ, List, ◌++◌, length, ◌≤◌, Option, ◌≡◌, ⊤, Some, None}
+use Rattle.std.specs.Prelude.{drop, ◌+◌, ℕ, List, ◌++◌, length, ◌<◌, ◌≤◌, Option, ◌≡◌, ⊤, Some, None}
 
 -- no more than n bytes are lost
 pub record LosesAtMost (old new : Option (List ℕ)) (n : ℕ) : Type 0 where
   pub lost : List ℕ
   pub taken : Consumes old new lost
   pub few : length lost ≤ n
+
+-- fewer than n bytes are lost
+pub record LosesFewer (old new : Option (List ℕ)) (n : ℕ) : Type 0 where
+  pub lost : List ℕ
+  pub taken : Consumes old new lost
+  pub few : length lost < n
 
 -- a relation of the bytes before and after
 abbrev pub FromTo : Option (List ℕ) → Option (List ℕ) → (List ℕ → List ℕ → Type 0) → Type 0

@@ -1,12 +1,14 @@
--- What a fault of the native parser says of the part of a record that it was reading. `from` is the
+-- What a fault of the native parser says of the part of an item that it was reading. `from` is the
 -- place of the text's first byte.
 use Rattle.std.specs.Char.{digit_value}
 use Rattle.std.specs.Io.KnownBytes.{Consumes}
-use Rattle.std.specs.Prelude.{option_map, ℕ, ◌*◌, List, ◌+◌, ◌<◌, [], ◌∷◌, ◌++◌, codes, ◌-◌, take}
-use Rattle.std.specs.Prelude.{length, ◌≤◌, Option, ◌≡◌, ⊤, ◌≢◌, IfSome}
+use Rattle.std.specs.Prelude.{option_map, ℕ, ◌*◌, List, ◌+◌, ◌<◌, [], ◌∷◌, ◌++◌, ◌-◌, take}
+use Rattle.std.specs.Prelude.{length, ◌≤◌, Option, ◌≡◌, ⊤, ◌≢◌, IfSome, Bool, true, false}
 use Rattle.std.specs.Str.Parse.{AllDigits, digits_value}
-use Rattle.cdb_form.specs.Format.Record.{KeyValue, AreBytes}
-use Rattle.cdb_form.specs.Text.Native.{Spells, HasFault, HasNoRecord}
+use Rattle.cdb_form.specs.Format.Record.{AreBytes}
+use Rattle.cdb_form.specs.Text.Form as form
+use Rattle.cdb_form.specs.Text.Amending.{SpellsChange}
+use Rattle.cdb_form.specs.Text.Native.{Spells}
 use Rattle.cdb_form.specs.Views.KnownBytes.{Took}
 use Rattle.cdb_form.specs.declared.text.source.Source.{Source}
 use Rattle.cdb_form.specs.Views.Source.{budget}
@@ -82,18 +84,24 @@ FailsField n stop from text (Ended at) =
     AreBytes text × (length text ≤ n) × (at ≡ from + length text)
 FailsField n stop from text _ = ⊤
 
--- a reader lost a spelling of the record from the byte behind its plus on
-pub record ReadsBehindPlus (greatest : ℕ) (old new : Option (List ℕ)) (from to : ℕ) (r : KeyValue)
-    : Type 0 where
+-- a reader lost a spelling of the item from the bytes behind its mark on
+pub record ReadsBehind {X : Type 0} (spelling : ℕ → List ℕ → X → Type 0) (mark : List ℕ)
+    (greatest : ℕ) (old new : Option (List ℕ)) (from to : ℕ) (x : X) : Type 0 where
   pub text : List ℕ
-  pub spells : Spells greatest (codes "+" ++ text) r
+  pub spells : spelling greatest (mark ++ text) x
   pub read : Consumes old new text
   pub counted : to ≡ from + length text
 
--- the text has this fault, and no spelled record at its front
-pub record FailsRecord (greatest from : ℕ) (text : List ℕ) (f : TextFault) : Type 0 where
-  pub fault : HasFault greatest from text f
-  pub no_record : IsOfText f → HasNoRecord greatest text
+-- the text has this fault, and no spelled item at its front
+pub record FailsItem {X : Type 0} (spelling : ℕ → List ℕ → X → Type 0) (greatest from : ℕ)
+    (text : List ℕ) (f : TextFault) : Type 0 where
+  pub fault : form.HasFault spelling greatest from text f
+  pub no_item : IsOfText f → form.HasNoItem spelling greatest text
+
+-- the same of an amending text, where removals are taken, or else of a native one
+abbrev pub FailsEntry : Bool → ℕ → ℕ → List ℕ → TextFault → Type 0
+FailsEntry true greatest from text f = FailsItem SpellsChange greatest from text f
+FailsEntry false greatest from text f = FailsItem Spells greatest from text f
 
 -- P is said of the text that the fault is one of
 abbrev pub FailsIn : {R : Type 0} → (R → Option (List ℕ)) → (old new : Source R)

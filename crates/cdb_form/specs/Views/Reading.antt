@@ -1,9 +1,10 @@
 -- What a clause says of a reader that did not give what it was asked for.
-use Rattle.std.specs.Prelude.{ℕ, ◌≡◌, ◌+◌, ◌<◌, ◌≤◌, ◌⊎◌, ◌++◌, List, length, Option, ⊤, IfSome}
+use Rattle.std.specs.Prelude.{ℕ, ◌≡◌, ◌+◌, ◌<◌, ◌≤◌, ◌⊎◌, ◌++◌, List, [], length, Option, ⊤, IfSome}
 use Rattle.std.specs.Io.KnownBytes.{Consumes, IsAtEnd}
 use Rattle.cdb_form.specs.Format.Pair.{head_size, pair_size}
 use Rattle.cdb_form.specs.Format.Reading.{head_at, pair_at}
 use Rattle.cdb_form.specs.Format.Record.{KeyValue}
+use Rattle.cdb_form.specs.Format.Walk.{Walked, walk_of, walk_from, with_first}
 use Rattle.cdb_form.specs.declared.record.Record.{Record}
 use Rattle.cdb_form.specs.declared.walk.source.Keeping.{Keeping}
 use Rattle.cdb_form.specs.declared.walk.source.Keeping.TheVariants.{Both}
@@ -53,6 +54,32 @@ Gives n old new bytes More = GivesMore n old new bytes
 -- no more than n bytes were read, or the reader has none left
 abbrev pub ReadsNoFurther : ℕ → Option (List ℕ) → Option (List ℕ) → Type 0
 ReadsNoFurther n old new = LosesAtMost old new n ⊎ IsAtEnd new
+
+-- bytes were read: whatever stands behind them, the walk of both is a record and then that of the
+-- rest
+pub record ReadsFirst (r : KeyValue) (walk rest : List ℕ → Walked) (old new : Option (List ℕ))
+    : Type 0 where
+  pub bytes : List ℕ
+  pub read : Consumes old new bytes
+  pub first : (more : List ℕ) → walk (bytes ++ more) ≡ with_first r (rest more)
+
+-- bytes of a file were read, and these are all whole records in them
+pub record ReadsRecords (w : ℕ) (rs : List KeyValue) (old new : Option (List ℕ)) : Type 0 where
+  pub bytes : List ℕ
+  pub read : Consumes old new bytes
+  pub records : (walk_of w bytes).records ≡ rs
+
+-- bytes were read, and their walk has no whole record
+pub record ReadsNoRecord (walk : List ℕ → Walked) (old new : Option (List ℕ)) : Type 0 where
+  pub lost : List ℕ
+  pub taken : Consumes old new lost
+  pub no_record : (walk lost).records ≡ []
+
+-- a head was read: whatever stands behind it, the records stand from one place to another
+pub record ReadsHead (w place end : ℕ) (old new : Option (List ℕ)) : Type 0 where
+  pub head : List ℕ
+  pub read : Consumes old new head
+  pub walk : (more : List ℕ) → walk_of w (head ++ more) ≡ walk_from w place end more
 
 -- a head was read, with these pointers
 pub record HeadRead (w : ℕ) (old new : Option (List ℕ)) (head : Head) : Type 0 where

@@ -5,7 +5,7 @@ use Rattle.cdb_form.specs.Format.Record.{KeyValue}
 use Rattle.cdb_form.specs.Format.Walk.{Walked, walk_of, walk_from, record_end, no_walk, with_first}
 use Rattle.cdb_form.specs.Format.Walk.{with_records}
 use Rattle.cdb_form.specs.Views.KnownBytes.{FromTo, StillFrom}
-use Rattle.cdb_form.specs.Views.Reading.{ReadsNoFurther, IsKept}
+use Rattle.cdb_form.specs.Views.Reading.{ReadsNoFurther, ReadsNoRecord, ReadsFirst, IsKept}
 use Rattle.cdb_form.specs.Views.WalkFault.{IsDamage, stopped_by}
 use Rattle.cdb_form.specs.declared.record.Record.{Record}
 use Rattle.cdb_form.specs.declared.walk.source.Keeping.{Keeping}
@@ -99,12 +99,14 @@ abbrev pub headers_left : ℕ → Walking → ℕ
 headers_left w AtHead = head_size w + pair_size w
 headers_left w _ = pair_size w
 
--- a call gave a record: the first of the walk that was left. What stands behind the record end is
--- still unread.
+-- a call gave a record: the first of the walk that was left, whatever stands behind what was read.
+-- What stands behind the record end is still unread.
 pub record GivesRecord {R L : Type 0} (w : ℕ) (remaining : R → Option (List ℕ))
     (old new : RecordReader R L) (r : KeyValue) : Type 0 where
   pub walk : Between remaining old new
       (λ text rest. walk_left w old text ≡ with_first r (walk_left w new rest))
+  pub cut : ReadsFirst r (walk_left w old) (walk_left w new)
+      (unread remaining old) (unread remaining new)
   pub behind : Between remaining old new
       (λ text rest. behind_end w new rest ≡ behind_end w old text)
   pub going : IsGoing new
@@ -131,9 +133,9 @@ pub record GivesEnd {R L : Type 0} (w : ℕ) (remaining : R → Option (List ℕ
   pub ended : HasEnded new
 
 -- A call answered a fault, as every later one will. One of the file is the damage of the walk that
--- was left, with no record
--- before it; no more was read than what was left of the head and one header, or the reader is at
--- its end.
+-- was left, with no record before it; no more was read than what was left of the head and one
+-- header, or the reader is at its end. Whichever fault it is, what was read is no whole record: the
+-- walk that was left has none in it.
 pub record Fails {R L : Type 0} (w : ℕ) (remaining : R → Option (List ℕ))
     (old new : RecordReader R L) (fault : WalkFault) : Type 0 where
   pub failed : HasFailed new fault
@@ -141,5 +143,6 @@ pub record Fails {R L : Type 0} (w : ℕ) (remaining : R → Option (List ℕ))
       → IfSome (unread remaining old) (λ text. walk_left w old text ≡ stopped_by fault)
   pub behind : Between remaining old new
       (λ text rest. StillFrom (size_of_rest w old.walking text) text rest)
+  pub part : ReadsNoRecord (walk_left w old) (unread remaining old) (unread remaining new)
   pub no_further : IsGoing old → IsDamage fault
       → ReadsNoFurther (headers_left w old.walking) (unread remaining old) (unread remaining new)

@@ -1,13 +1,10 @@
 -- What a clause reads of a reader of a native text.
 use Rattle.std.specs.Io.KnownBytes.{Consumes}
-use Rattle.std.specs.Prelude.{ℕ, List, ◌+◌, ◌-◌, ◌*◌, ◌<◌, ◌≤◌, length, take, codes, Option, ◌≡◌}
-use Rattle.std.specs.Prelude.{◌≢◌, IfSome}
+use Rattle.std.specs.Prelude.{ℕ, List, ◌+◌, ◌*◌, ◌<◌, ◌≤◌, codes, Option, ◌≡◌}
 use Rattle.cdb_form.specs.Format.Record.{KeyValue}
-use Rattle.cdb_form.specs.Text.Native.{Spells, HasFault, HasNoRecord}
-use Rattle.cdb_form.specs.Views.KnownBytes.{Took}
-use Rattle.cdb_form.specs.Views.TextFault.{IsOfText, IsReadFault, IsSpent, LastRead}
+use Rattle.cdb_form.specs.Text.Native.{Spells}
+use Rattle.cdb_form.specs.Views.FormReader as form
 use Rattle.cdb_form.specs.declared.text.fault.TextFault.{TextFault}
-use Rattle.cdb_form.specs.declared.text.fault.TextFault.TheVariants.{Ended, NoMemory}
 use Rattle.cdb_form.specs.declared.text.going.Going.TheVariants.{On, AtEnd, Failed}
 use Rattle.cdb_form.specs.declared.text.native_reader.TextReader.{TextReader}
 
@@ -36,18 +33,13 @@ abbrev pub HasFailed : {R L : Type 0} → TextReader R L → TextFault → Type 
 HasFailed t fault = t.going ≡ Failed fault
 
 -- what was read of a text, from the count `from` to the count `to`, is the front of a text, and no
--- whole one; no whole record stands there
-pub record StopsAmid (greatest from to : ℕ) (text : List ℕ) : Type 0 where
-  pub front : HasFault greatest from (take (to - from) text) (Ended to)
-  pub no_record : HasNoRecord greatest (take (to - from) text)
+-- whole one; no whole record is there
+abbrev pub StopsAmid : ℕ → ℕ → ℕ → List ℕ → Type 0
+StopsAmid greatest from to text = form.StopsAmid Spells greatest from to text
 
 -- these bytes spell the record
-pub record ReadsRecord (greatest : ℕ) (old new : Option (List ℕ)) (from to : ℕ) (r : KeyValue) :
-    Type 0 where
-  pub text : List ℕ
-  pub spells : Spells greatest text r
-  pub read : Consumes old new text
-  pub counted : to ≡ from + length text
+abbrev pub ReadsRecord : ℕ → Option (List ℕ) → Option (List ℕ) → ℕ → ℕ → KeyValue → Type 0
+ReadsRecord greatest old new from to r = form.ReadsItem Spells greatest old new from to r
 
 -- Each byte takes at most 1001 asks: as many as are asked in a row where signals interrupt them.
 abbrev pub budget : {R L : Type 0} → TextReader R L → ℕ
@@ -70,21 +62,11 @@ pub record GivesEnd {R L : Type 0} (remaining : R → Option (List ℕ)) (old ne
   pub counted : IsGoing old → taken_of new ≡ taken_of old + 1
   pub spends : budget old ≤ budget new
 
--- a reader met a fault: one of the text, in all that was unread; or it failed or was asked too
--- often, and what it gave is
--- the front of a text. No whole record stands there. What was read ends with the byte at the
--- fault's place, and is gone.
-pub record MeetsFault {R L : Type 0} (greatest : ℕ) (remaining : R → Option (List ℕ))
-    (old new : TextReader R L) (fault : TextFault) : Type 0 where
-  pub exact : IfSome (unread remaining old) (λ text. HasFault greatest (taken_of old) text fault)
-  pub no_record : IfSome (unread remaining old) (λ text. IsOfText fault → HasNoRecord greatest text)
-  pub part : IfSome (unread remaining old)
-      (λ text. IsReadFault fault → StopsAmid greatest (taken_of old) (taken_of new) text)
-  pub took : fault ≢ NoMemory
-      → Took (unread remaining old) (unread remaining new) (taken_of old) (taken_of new)
-  pub last : LastRead (taken_of new) fault
-  pub spent : IsSpent (asks_left new) fault
-  pub spends : budget old ≤ budget new + 1001
+-- a reader met a fault of a native text
+abbrev pub MeetsFault : {R L : Type 0} → ℕ → (R → Option (List ℕ)) → TextReader R L
+    → TextReader R L → TextFault → Type 0
+MeetsFault greatest remaining old new fault =
+    form.MeetsFault Spells greatest remaining old.source new.source fault
 
 -- a call answered a fault, as every later one will
 pub record Fails {R L : Type 0} (greatest : ℕ) (remaining : R → Option (List ℕ))

@@ -1,16 +1,20 @@
-// The parser of a native text: a machine that takes byte after byte.
-ghost use Rattle.std.specs.Prelude.{◌≡◌, true, false, ℕ, List, ◌+◌, ◌*◌, ◌^◌, ◌<◌, ◌≤◌, []};
+// The parser of a native text, and of an amending one: a machine that takes byte after byte.
+ghost use Rattle.std.specs.Prelude.{◌≡◌, ◌≢◌, true, false, Some, ℕ, List, ◌+◌, ◌*◌, ◌^◌, ◌<◌, ◌≤◌, []};
 ghost use Rattle.std.specs.Prelude.{◌∷◌, ◌++◌, codes, length, OnOk, IfOk, IfErr};
-ghost use Rattle.std.specs.Prelude.{MatchBool, SomeIff};
+ghost use Rattle.std.specs.Prelude.{MatchOption, SomeIff};
 ghost use Rattle.std.specs.Io.KnownBytes.{Consumes};
 ghost use Rattle.cdb_form.specs.Format.Record.{AreBytes};
-ghost use Rattle.cdb_form.specs.Text.Native.{IsNumeral};
-ghost use Rattle.cdb_form.specs.Views.TextReader.{ReadsRecord};
+ghost use Rattle.cdb_form.specs.Text.Amending.{SpellsChange, SpellsRemoval};
+ghost use Rattle.cdb_form.specs.Text.Native.{IsNumeral, Spells};
+ghost use Rattle.cdb_form.specs.Views.FormReader.{ReadsItem};
 ghost use Rattle.cdb_form.specs.Views.NativeParser.{FailsNumber, FailsByte, FailsField};
-ghost use Rattle.cdb_form.specs.Views.NativeParser.{FailsRecord, ReadsBehindPlus, FailsIn, Leaves};
+ghost use Rattle.cdb_form.specs.Views.NativeParser.{FailsEntry, FailsItem, ReadsBehind, FailsIn};
+ghost use Rattle.cdb_form.specs.Views.NativeParser.{Leaves};
 ghost use Rattle.cdb_form.specs.Views.Source.{budget};
-ghost use Rattle.cdb_form.specs.Views.Pairs.{key_value};
+ghost use Rattle.cdb_form.specs.Views.Pairs.{change_in, key_value};
+ghost use Rattle.cdb_form.specs.declared.item.ItemKind.TheVariants.{Remove};
 
+use crate::item::ItemKind;
 use crate::record::Record;
 use crate::text::fault::TextFault;
 use crate::text::source::Source;
@@ -119,12 +123,13 @@ impl<R: Read> Source<R> {
     fn record(&mut self, into: &mut Record, greatest: u64) -> Result<(), TextFault>
         requires least { 9 ≤ greatest }
         requires most { greatest < 2 ^ 63 }
-        ensures read { OnOk result (ReadsBehindPlus greatest (R.remaining self.old.reader)
-            (R.remaining self.new.reader) self.old.taken self.new.taken (key_value into.new)) }
+        ensures read { OnOk result (ReadsBehind Spells (codes "+") greatest
+            (R.remaining self.old.reader) (R.remaining self.new.reader)
+            self.old.taken self.new.taken (key_value into.new)) }
         ensures fewer { OnOk result (self.new.asks < self.old.asks) }
-        ensures fails { (from : ℕ) → self.old.taken ≡ from + 1 →
+        ensures fails { (from : ℕ) (removals : _) → self.old.taken ≡ from + 1 →
             IfErr result (FailsIn R.remaining self.old self.new (λ text.
-            FailsRecord greatest from (codes "+" ++ text))) }
+            FailsEntry removals greatest from (codes "+" ++ text))) }
         ensures later { self.old.taken ≤ self.new.taken }
         ensures leaves { IfErr result (Leaves R.remaining self.old self.new) }
         ensures spends { OnOk result (budget self.old ≤ budget self.new) }
@@ -137,19 +142,46 @@ impl<R: Read> Source<R> {
         Ok(())
     }
 
-    /// Takes the next record, and answers whether there is one: none is at the newline that ends
-    /// the text.
-    pub(crate) fn entry(&mut self, into: &mut Record, greatest: u64) -> Result<bool, TextFault>
+    /// Takes the removal behind a minus, and keeps its key.
+    fn removal(&mut self, into: &mut Record, greatest: u64) -> Result<(), TextFault>
         requires least { 9 ≤ greatest }
         requires most { greatest < 2 ^ 63 }
-        ensures read { IfOk result (λ given. MatchBool given
-            (ReadsRecord greatest (R.remaining self.old.reader)
-            (R.remaining self.new.reader) self.old.taken self.new.taken (key_value into.new))
+        ensures read { OnOk result (ReadsBehind SpellsRemoval (codes "-") greatest
+            (R.remaining self.old.reader) (R.remaining self.new.reader)
+            self.old.taken self.new.taken into.new.key.items) }
+        ensures fewer { OnOk result (self.new.asks < self.old.asks) }
+        ensures fails { (from : ℕ) → self.old.taken ≡ from + 1 →
+            IfErr result (FailsIn R.remaining self.old self.new (λ text.
+            FailsItem SpellsChange greatest from (codes "-" ++ text))) }
+        ensures later { self.old.taken ≤ self.new.taken }
+        ensures leaves { IfErr result (Leaves R.remaining self.old self.new) }
+        ensures spends { OnOk result (budget self.old ≤ budget self.new) }
+    {
+        let klen = self.number(greatest, b':')?;
+        self.field(&mut into.key, klen, b'\n')?;
+        Ok(())
+    }
+
+    /// Takes the next item, and answers its kind: none is at the newline that ends the text. With
+    /// no removals the text is a native one, and has puts alone.
+    pub(crate) fn entry(
+        &mut self,
+        into: &mut Record,
+        greatest: u64,
+        removals: bool,
+    ) -> Result<Option<ItemKind>, TextFault>
+        requires least { 9 ≤ greatest }
+        requires most { greatest < 2 ^ 63 }
+        ensures read { IfOk result (λ found. MatchOption found
             (Consumes (R.remaining self.old.reader) (R.remaining self.new.reader) (codes "\n")
-            × (self.new.taken ≡ self.old.taken + 1))) }
+            × (self.new.taken ≡ self.old.taken + 1))
+            (λ kind. ReadsItem SpellsChange greatest (R.remaining self.old.reader)
+            (R.remaining self.new.reader) self.old.taken self.new.taken
+            (change_in kind into.new))) }
+        ensures puts { removals ≡ false → IfOk result (λ found. found ≢ Some Remove) }
         ensures fewer { OnOk result (self.new.asks < self.old.asks) }
         ensures fails { IfErr result (FailsIn R.remaining self.old self.new
-            (FailsRecord greatest self.old.taken)) }
+            (FailsEntry removals greatest self.old.taken)) }
         ensures later { self.old.taken ≤ self.new.taken }
         ensures leaves { IfErr result (Leaves R.remaining self.old self.new) }
         ensures spends { OnOk result (budget self.old ≤ budget self.new) }
@@ -157,10 +189,14 @@ impl<R: Read> Source<R> {
         let start = self.taken;
         match self.byte()? {
             None => Err(TextFault::Ended(start)),
-            Some(b'\n') => Ok(false),
+            Some(b'\n') => Ok(None),
             Some(b'+') => {
                 self.record(into, greatest)?;
-                Ok(true)
+                Ok(Some(ItemKind::Put))
+            }
+            Some(b'-') if removals => {
+                self.removal(into, greatest)?;
+                Ok(Some(ItemKind::Remove))
             }
             Some(_) => Err(TextFault::Syntax(start)),
         }

@@ -95,12 +95,16 @@ impl<R: Read, L: Width> TextReader<R, L> {
             Going::AtEnd => return Ok(false),
             Going::Failed(fault) => return Err(fault),
         }
-        let answer = self.source.entry(into, L::GREATEST);
-        match answer {
-            Ok(true) => {}
-            Ok(false) => self.going = Going::AtEnd,
-            Err(fault) => self.going = Going::Failed(fault),
+        match self.source.entry(into, L::GREATEST, false) {
+            Ok(Some(_)) => Ok(true),
+            Ok(None) => {
+                self.going = Going::AtEnd;
+                Ok(false)
+            }
+            Err(fault) => {
+                self.going = Going::Failed(fault);
+                Err(fault)
+            }
         }
-        answer
     }
 }

@@ -1,7 +1,8 @@
 // Where the records of a database file stand, as its head tells.
 ghost use Rattle.std.specs.Prelude.{◌≡◌, ◌≤◌, drop};
-ghost use Rattle.std.specs.Prelude.{IfOk, IfErr, IfSome};
+ghost use Rattle.std.specs.Prelude.{OnErr, IfOk, IfErr, IfSome};
 ghost use Rattle.cdb_form.specs.Views.KnownBytes.{LosesAtMost, FromTo};
+ghost use Rattle.cdb_form.specs.Views.Reading.{ReadsHead, ReadsNoRecord};
 ghost use Rattle.cdb_form.specs.Format.Pair.{head_size};
 ghost use Rattle.cdb_form.specs.Format.Walk.{record_end, walk_of, walk_from};
 ghost use Rattle.cdb_form.specs.Views.WalkFault.{IsDamage, stopped_by};
@@ -29,6 +30,10 @@ pub(crate) fn read_area<R: Read, L: Width>(reader: &mut R) -> Result<Area, WalkF
     ensures place { IfOk result (λ area. area.place ≡ head_size L.WORD) }
     ensures fails { IfErr result (λ f. IsDamage f → IfSome (R.remaining reader.old) (λ text.
         walk_of L.WORD text ≡ stopped_by f)) }
+    ensures cut { IfOk result (λ area. ReadsHead L.WORD area.place area.end
+        (R.remaining reader.old) (R.remaining reader.new)) }
+    ensures part { OnErr result
+        (ReadsNoRecord (walk_of L.WORD) (R.remaining reader.old) (R.remaining reader.new)) }
     ensures loses { LosesAtMost (R.remaining reader.old)
         (R.remaining reader.new) (head_size L.WORD) }
 {

@@ -4,7 +4,8 @@ ghost use Rattle.std.specs.Prelude.{drop, OnOk, OnErr, IfOk, IfErr, IfSome, Matc
 ghost use Rattle.std.specs.Bool.{OnTrue, OnFalse};
 ghost use Rattle.cdb_form.specs.Views.KnownBytes.{LosesAtMost, FromTo, StillFrom};
 ghost use Rattle.cdb_form.specs.Format.Pair.{head_size, pair_size};
-ghost use Rattle.cdb_form.specs.Views.Reading.{ReadsNoFurther, IsKept};
+ghost use Rattle.cdb_form.specs.Views.Reading.{ReadsNoFurther, ReadsNoRecord};
+ghost use Rattle.cdb_form.specs.Views.Reading.{ReadsFirst, IsKept};
 ghost use Rattle.cdb_form.specs.Format.Record.{KeyValue, record_size};
 ghost use Rattle.cdb_form.specs.Format.Walk.{walk_of, walk_from, record_end, no_walk};
 ghost use Rattle.cdb_form.specs.Format.Walk.{with_first};
@@ -43,7 +44,9 @@ fn read_record<R: Read, L: Width>(
         × FromTo (R.remaining reader.old) (R.remaining reader.new) (λ text rest.
         (walk_from L.WORD area.place area.end text
         ≡ with_first r (walk_from L.WORD behind.place area.end rest))
-        × (rest ≡ drop (behind.place - area.place) text))) }
+        × (rest ≡ drop (behind.place - area.place) text))
+        × ReadsFirst r (walk_from L.WORD area.place area.end)
+        (walk_from L.WORD behind.place area.end) (R.remaining reader.old) (R.remaining reader.new)) }
     ensures place { IfOk result (λ behind. area.place < behind.place) }
     ensures end { IfOk result (λ behind. behind.end ≡ area.end) }
     ensures fails { IfErr result (λ f. IsDamage f → IfSome (R.remaining reader.old) (λ text.
@@ -53,6 +56,8 @@ fn read_record<R: Read, L: Width>(
         (R.remaining reader.new)) }
     ensures loses { LosesAtMost (R.remaining reader.old)
         (R.remaining reader.new) (area.end - area.place) }
+    ensures part { OnErr result (ReadsNoRecord (walk_from L.WORD area.place area.end)
+        (R.remaining reader.old) (R.remaining reader.new)) }
 {
     let early = WalkFault::Record(area.place);
     let size = pair_size::<L>();
@@ -188,7 +193,9 @@ impl<R: Read, L: Width> RecordReader<R, L> {
             ((r : KeyValue) × IsKept keeping into.new r
             × Between R.remaining self.old self.new (λ text rest.
             (walk_of L.WORD text ≡ with_first r (walk_left L.WORD self.new rest))
-            × (behind_end L.WORD self.new rest ≡ drop (record_end L.WORD text) text)))) }
+            × (behind_end L.WORD self.new rest ≡ drop (record_end L.WORD text) text))
+            × ReadsFirst r (walk_of L.WORD) (walk_left L.WORD self.new)
+            (unread R.remaining self.old) (unread R.remaining self.new))) }
         ensures fewer { IfOk result (λ given.
             OnTrue given (IsGoing self.new × (bytes_left self.new < 2 ^ 64))) }
         ensures end { IfOk result (λ given.
@@ -209,6 +216,8 @@ impl<R: Read, L: Width> RecordReader<R, L> {
         ensures still_behind { OnErr result
             (Between R.remaining self.old self.new (λ text rest.
             StillFrom (max (head_size L.WORD) (record_end L.WORD text)) text rest)) }
+        ensures part { OnErr result (ReadsNoRecord (walk_of L.WORD)
+            (unread R.remaining self.old) (unread R.remaining self.new)) }
     {
         let area = read_area::<R, L>(&mut self.reader)?;
         self.record_at(into, area, keeping)
@@ -226,7 +235,9 @@ impl<R: Read, L: Width> RecordReader<R, L> {
             × Between R.remaining self.old self.new (λ text rest.
             (walk_from L.WORD area.place area.end text
             ≡ with_first r (walk_left L.WORD self.new rest))
-            × (behind_end L.WORD self.new rest ≡ drop (area.end - area.place) text)))) }
+            × (behind_end L.WORD self.new rest ≡ drop (area.end - area.place) text))
+            × ReadsFirst r (walk_from L.WORD area.place area.end) (walk_left L.WORD self.new)
+            (unread R.remaining self.old) (unread R.remaining self.new))) }
         ensures fewer { IfOk result (λ given.
             OnTrue given (IsGoing self.new × (bytes_left self.new < area.end - area.place))) }
         ensures end { IfOk result (λ given.
@@ -243,6 +254,8 @@ impl<R: Read, L: Width> RecordReader<R, L> {
         ensures still_behind { OnErr result
             (Between R.remaining self.old self.new (λ text rest.
             StillFrom (area.end - area.place) text rest)) }
+        ensures part { OnErr result (ReadsNoRecord (walk_from L.WORD area.place area.end)
+            (unread R.remaining self.old) (unread R.remaining self.new)) }
     {
         if area.place == area.end {
             return Ok(false);

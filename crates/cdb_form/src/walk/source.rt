@@ -1,10 +1,10 @@
 // Bytes of a file from a reader. That it has no more is a damage of the file.
-ghost use Rattle.std.specs.Prelude.{◌+◌, ◌≡◌, ◌<◌, ◌≤◌, length, OnOk, IfOk, IfErr};
+ghost use Rattle.std.specs.Prelude.{◌+◌, ◌≡◌, ◌<◌, ◌≤◌, length, OnOk, OnErr, IfOk, IfErr};
 ghost use Rattle.std.specs.Io.KnownBytes.{Consumes};
 ghost use Rattle.cdb_form.specs.Format.Pair.{head_size, pair_size};
 ghost use Rattle.cdb_form.specs.Format.Record.{AreBytes, KeyValue};
 ghost use Rattle.cdb_form.specs.declared.walk.fault.WalkFault.TheVariants.{Short};
-ghost use Rattle.cdb_form.specs.Views.KnownBytes.{LosesAtMost};
+ghost use Rattle.cdb_form.specs.Views.KnownBytes.{LosesAtMost, LosesFewer};
 ghost use Rattle.cdb_form.specs.Views.Reading.{ReadsShort, HeadRead, HeaderRead, Passes, ValueRead};
 ghost use Rattle.cdb_form.specs.Views.Reading.{BodyRead, IsKept};
 ghost use Rattle.cdb_form.specs.Views.WalkFault.{IsDamage};
@@ -43,6 +43,8 @@ fn fill<R: Read>(reader: &mut R, into: &mut [u8], early: WalkFault) -> Result<()
         (R.remaining reader.new)) }
     ensures loses { LosesAtMost (R.remaining reader.old)
         (R.remaining reader.new) (length into.old) }
+    ensures loses_fewer { OnErr result (LosesFewer
+        (R.remaining reader.old) (R.remaining reader.new) (length into.old)) }
 {
     let mut asks = ASKS;
     match all_bytes(reader, &mut asks, into) {
@@ -66,6 +68,8 @@ fn bytes<R: Read>(
         IsDamage f → (f ≡ early) × ReadsShort len (R.remaining reader.old)
         (R.remaining reader.new)) }
     ensures loses { LosesAtMost (R.remaining reader.old) (R.remaining reader.new) len }
+    ensures loses_fewer { OnErr result (LosesFewer
+        (R.remaining reader.old) (R.remaining reader.new) len) }
 {
     let mut asks = ASKS;
     match vector(reader, &mut asks, into, len, PIECE) {
@@ -81,6 +85,8 @@ pub(crate) fn file_head<R: Read, L: Width>(reader: &mut R) -> Result<Head, WalkF
         × ReadsShort (head_size L.WORD) (R.remaining reader.old) (R.remaining reader.new)) }
     ensures loses { LosesAtMost
         (R.remaining reader.old) (R.remaining reader.new) (head_size L.WORD) }
+    ensures loses_fewer { OnErr result (LosesFewer
+        (R.remaining reader.old) (R.remaining reader.new) (head_size L.WORD)) }
 {
     let mut bytes = [0u8; GREATEST_HEAD];
     let size = head_size::<L>();
@@ -99,6 +105,8 @@ pub(crate) fn record_header<R: Read, L: Width>(
         × ReadsShort (pair_size L.WORD) (R.remaining reader.old) (R.remaining reader.new)) }
     ensures loses { LosesAtMost
         (R.remaining reader.old) (R.remaining reader.new) (pair_size L.WORD) }
+    ensures loses_fewer { OnErr result (LosesFewer
+        (R.remaining reader.old) (R.remaining reader.new) (pair_size L.WORD)) }
 {
     let mut bytes = [0u8; GREATEST_HEADER];
     let size = pair_size::<L>();
@@ -122,6 +130,8 @@ fn pass<R: Read>(reader: &mut R, len: u64, early: WalkFault) -> Result<(), WalkF
     ensures fails { IfErr result (λ f. IsDamage f → (f ≡ early)
         × ReadsShort len (R.remaining reader.old) (R.remaining reader.new)) }
     ensures loses { LosesAtMost (R.remaining reader.old) (R.remaining reader.new) len }
+    ensures loses_fewer { OnErr result (LosesFewer
+        (R.remaining reader.old) (R.remaining reader.new) len) }
 {
     let mut asks = ASKS;
     match skip(reader, &mut asks, len, &mut [0; PASSED]) {
@@ -144,6 +154,8 @@ fn record_value<R: Read>(
     ensures fails { IfErr result (λ f. IsDamage f → (f ≡ early)
         × ReadsShort len (R.remaining reader.old) (R.remaining reader.new)) }
     ensures loses { LosesAtMost (R.remaining reader.old) (R.remaining reader.new) len }
+    ensures loses_fewer { OnErr result (LosesFewer
+        (R.remaining reader.old) (R.remaining reader.new) len) }
 {
     match keeping {
         Keeping::Both => bytes(reader, into, len, early),
@@ -169,6 +181,8 @@ pub(crate) fn record_body<R: Read>(
         (R.remaining reader.old) (R.remaining reader.new)) }
     ensures loses { LosesAtMost
         (R.remaining reader.old) (R.remaining reader.new) (header.klen + header.vlen) }
+    ensures loses_fewer { OnErr result (LosesFewer
+        (R.remaining reader.old) (R.remaining reader.new) (header.klen + header.vlen)) }
 {
     bytes(reader, &mut into.key, header.klen, early)?;
     record_value(reader, &mut into.value, header.vlen, keeping, early)

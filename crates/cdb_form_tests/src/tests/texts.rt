@@ -31,7 +31,7 @@ fn read_narrow(alloc: Global, text: &[u8]) -> (usize, Option<TextFault>) {
 }
 
 /// Texts, how many records they have, and their faults.
-const READ: [(&[u8], usize, Option<TextFault>); 14] = [
+const READ: [(&[u8], usize, Option<TextFault>); 15] = [
     (TWO, 2, None),
     (b"\n", 0, None),
     (b"+0,0:->\n\n", 1, None),
@@ -46,6 +46,7 @@ const READ: [(&[u8], usize, Option<TextFault>); 14] = [
     (b"+3,5:one->Hello!", 0, Some(TextFault::Syntax(15))),
     (b"+3,5:one->Hello\n", 1, Some(TextFault::Ended(16))),
     (b"+1,1:a->1\n-1:a\n\n", 1, Some(TextFault::Syntax(10))),
+    (b"-3:one\n\n", 0, Some(TextFault::Syntax(0))),
 ];
 
 #[test]

@@ -3,7 +3,7 @@ use Rattle.std.proofs.lemmas.Result.{err_from_is_err_and}
 use Rattle.std.proofs.lemmas.List.{append-nil}
 use Rattle.std.specs.Io.KnownBytes.{Consumes}
 use Rattle.cdb_form.proofs.ReadBack.{same_words}
-use Rattle.cdb_form.proofs.RecordReads.{front_told, no_room, header_early, body_no_room, body_early, record_read, loses_then}
+use Rattle.cdb_form.proofs.RecordReads.{front_told, no_room, header_early, body_no_room, body_early, record_read, record_cut, loses_then, none_no_room, none_header, none_body_no_room, none_body}
 use Rattle.cdb_form.proofs.walk.record_reader.read_record.Goals.{then-left-header-via-then-left-header, then-left-header-via-else-left-header+then-left-header-2}
 use Rattle.cdb_form.proofs.walk.record_reader.read_record.Goals as goal
 
@@ -62,7 +62,37 @@ returns-clause-record g c =
           (elim g.met.L.Width.four_or_eight [ inl a ↦ omega arith | inr b ↦ omega arith ])
           r.read b.read r.long (sym r.lengths ∙ same_words _ _ (sym b.klen) (sym b.vlen)) (omega (arith, c.pair_size-size.ensures, b.klen, b.vlen))
           (omega (arith, c.pair_size-size.ensures, c.if-left-size.false, c.if-left-header.false, c.if-left-header-2.false)),
+      record_cut g.L.Width.WORD c.args.area.place c.args.area.end _ _ _ _ r.bytes body.0
+          (elim g.met.L.Width.four_or_eight [ inl a ↦ omega arith | inr b ↦ omega arith ])
+          r.read b.read r.long (sym r.lengths ∙ same_words _ _ (sym b.klen) (sym b.vlen)) (omega (arith, c.pair_size-size.ensures, b.klen, b.vlen))
+          (omega (arith, c.pair_size-size.ensures, c.if-left-size.false, c.if-left-header.false, c.if-left-header-2.false)),
     )
 
 pub returns-then-left-header-clause-loses : goal.returns-then-left-header-clause-loses
 returns-then-left-header-clause-loses g c = search rules
+
+pub returns-then-left-size-clause-part : goal.returns-then-left-size-clause-part
+returns-then-left-size-clause-part g c = none_no_room g.L.Width.WORD c.args.area.place c.args.area.end (g.R.Read.remaining c.args.reader.now) c.requires (omega (arith, c.pair_size-size.ensures, c.if-left-size.true))
+
+pub returns-in_err-header-clause-part : goal.returns-in_err-header-clause-part
+returns-in_err-header-clause-part g c =
+    let p = err_from_is_err_and c.from_residual.result c.from_residual.ensures.1 in
+    rw (p.1) (none_header g.L.Width.WORD c.args.area.place c.args.area.end _ _ c.requires c.in_err-header.ensures.loses_fewer)
+
+pub returns-then-left-header-clause-part : goal.returns-then-left-header-clause-part
+returns-then-left-header-clause-part g c =
+    let r = c.in_ok-header.ensures.read in
+    let told = front_told g.L.Width.WORD r.bytes c.in_ok-header.header r.lengths in
+    none_body_no_room g.L.Width.WORD c.args.area.place c.args.area.end _ _ r.bytes c.requires r.read r.long (omega (arith, c.pair_size-size.ensures, c.if-left-size.false))
+    (elim c.then-left-header.branch [
+      | then-left-header-via-then-left-header w ↦ omega (arith, told, c.pair_size-size.ensures, w.if-left-header.true)
+      | then-left-header-via-else-left-header+then-left-header-2 w ↦ omega (arith, told, c.pair_size-size.ensures, w.if-left-header.false, w.if-left-header-2.true)
+    ])
+
+pub returns-in_err-record_body-clause-part : goal.returns-in_err-record_body-clause-part
+returns-in_err-record_body-clause-part g c =
+    let p = err_from_is_err_and c.from_residual-in_err-record_body.result c.from_residual-in_err-record_body.ensures.1 in
+    let r = c.in_ok-header.ensures.read in
+    let told = front_told g.L.Width.WORD r.bytes c.in_ok-header.header r.lengths in
+    rw (p.1) (none_body g.L.Width.WORD c.args.area.place c.args.area.end (c.in_ok-header.header.klen + c.in_ok-header.header.vlen) _ _ _ r.bytes c.requires r.read
+    c.in_err-record_body.ensures.loses_fewer r.long (omega (arith, c.pair_size-size.ensures, c.if-left-size.false)) (omega (arith, told)))

@@ -1,7 +1,7 @@
-use Rattle.std.proofs.Common.{refl, arith}
-use Rattle.std.proofs.lemmas.Result.{on_ok_weaker}
+use Rattle.std.proofs.Common.{refl, arith, ◌+◌}
+use Rattle.std.proofs.lemmas.Result.{on_ok_weaker, on_err_weaker}
 use Rattle.cdb_form.proofs.SourceLemmas.{consumes_then}
-use Rattle.cdb_form.proofs.RecordReads.{loses_then}
+use Rattle.cdb_form.proofs.RecordReads.{loses_then, fewer_then}
 use Rattle.cdb_form.proofs.walk.source.record_body.Goals as goal
 
 pub returns-clause-read : goal.returns-clause-read
@@ -15,3 +15,7 @@ returns-clause-read g c =
 
 pub returns-clause-loses : goal.returns-clause-loses
 returns-clause-loses g c = loses_then _ _ _ c.bytes.new.into.items c.args.header.vlen _ c.in_ok-bytes.ensures.read c.record_value.ensures.loses (omega (arith, c.in_ok-bytes.ensures.long))
+
+pub returns-clause-loses_fewer : goal.returns-clause-loses_fewer
+returns-clause-loses_fewer g c =
+    on_err_weaker c.record_value.result (λ l. fewer_then _ _ _ c.bytes.new.into.items c.args.header.vlen (c.args.header.klen + c.args.header.vlen) c.in_ok-bytes.ensures.read l (omega (arith, c.in_ok-bytes.ensures.long))) c.record_value.ensures.loses_fewer

@@ -1,9 +1,9 @@
-use Rattle.std.proofs.Common.{◌≡◌, ℕ, [], arith, sym, subst}
+use Rattle.std.proofs.Common.{◌≡◌, ℕ, [], true, false, arith, sym, subst, ◌∙◌}
 use Rattle.std.proofs.lemmas.Result.{err_from_is_err_and}
 use Rattle.cdb_form.proofs.SourceLemmas.{kept_consumes, part_seen, seen_past, leaves_past}
-use Rattle.cdb_form.specs.Views.NativeParser.{FailsRecord}
+use Rattle.cdb_form.specs.Views.NativeParser.{FailsEntry}
 use Rattle.cdb_form.specs.declared.text.fault.TextFault.TheVariants.{Ended}
-use Rattle.cdb_form.proofs.Stops.{ended_first, syntax_first, record_first, nothing_read}
+use Rattle.cdb_form.proofs.Stops.{ended_first, syntax_first, mark_first, nothing_read}
 use Rattle.std.proofs.lemmas.Grind.{common_steps}
 use Rattle.cdb_form.proofs.text.source.Source.entry.Goals as goal
 
@@ -11,8 +11,8 @@ pub returns-in_err-byte-clause-fails : goal.returns-in_err-byte-clause-fails
 returns-in_err-byte-clause-fails g c =
     let p = err_from_is_err_and c.from_residual.result c.from_residual.ensures.1 in
     let e = c.in_err-byte.ensures in
-    rw (p.1, p.2) (part_seen (FailsRecord c.args.greatest c.args.self.now.taken) _ _ c.args.self.now.taken c.byte.new.self.taken [] c.in_err-byte.field-0.0 e.fails (kept_consumes _ _ e.kept) (omega (arith, e.same))
-    (subst (λ (n : ℕ). FailsRecord c.args.greatest c.args.self.now.taken [] (Ended n)) (sym e.same) (nothing_read c.args.greatest c.args.self.now.taken)))
+    rw (p.1, p.2) (part_seen (FailsEntry c.args.removals c.args.greatest c.args.self.now.taken) _ _ c.args.self.now.taken c.byte.new.self.taken [] c.in_err-byte.field-0.0 e.fails (kept_consumes _ _ e.kept) (omega (arith, e.same))
+    (subst (λ (n : ℕ). FailsEntry c.args.removals c.args.greatest c.args.self.now.taken [] (Ended n)) (sym e.same) (nothing_read c.args.removals c.args.greatest c.args.self.now.taken)))
 
 pub returns-in_err-record-in-Some-eq43-clause-fails : goal.returns-in_err-record-in-Some-eq43-clause-fails
 returns-in_err-record-in-Some-eq43-clause-fails g c =
@@ -20,7 +20,7 @@ returns-in_err-record-in-Some-eq43-clause-fails g c =
     let plus : c.in-Some-eq43.field-0 ≡ 43 = omega arith in
     let counted = rw c.in-Some-eq43.is at c.in_ok-byte.ensures.counted in
     let h = c.in_err-record-in-Some-eq43.ensures in
-    rw (p.1, p.2) (record_first _ _ _ _ _ (seen_past _ _ _ _ _ [] 43 c.in_err-record-in-Some-eq43.field-0.0 (rw (c.in-Some-eq43.is, plus) at c.in_ok-byte.ensures.bytes) counted h.later) (h.fails c.args.self.now.taken counted))
+    rw (p.1, p.2) (mark_first (FailsEntry c.args.removals c.args.greatest c.args.self.now.taken) 43 _ _ _ (seen_past _ _ _ _ _ [] 43 c.in_err-record-in-Some-eq43.field-0.0 (rw (c.in-Some-eq43.is, plus) at c.in_ok-byte.ensures.bytes) counted h.later) (h.fails c.args.self.now.taken c.args.removals counted))
 
 pub returns-in_err-record-in-Some-eq43-clause-leaves : goal.returns-in_err-record-in-Some-eq43-clause-leaves
 returns-in_err-record-in-Some-eq43-clause-leaves g c =
@@ -30,10 +30,34 @@ returns-in_err-record-in-Some-eq43-clause-leaves g c =
     rw (p.1, p.2) (leaves_past _ _ _ _ [] 43 _ (rw (c.in-Some-eq43.is, plus) at c.in_ok-byte.ensures.bytes) counted (omega (arith, counted, c.in_ok-byte.ensures.spends)) c.in_err-record-in-Some-eq43.ensures.leaves)
 
 pub returns-in-None-clause-fails : goal.returns-in-None-clause-fails
-returns-in-None-clause-fails g c = ended_first _ _ _ (rw c.in-None.is at c.in_ok-byte.ensures.bytes).0
+returns-in-None-clause-fails g c = ended_first c.args.removals _ _ _ (rw c.in-None.is at c.in_ok-byte.ensures.bytes).0
 
+pub returns-in_err-removal-in-Some-eq45-clause-fails : goal.returns-in_err-removal-in-Some-eq45-clause-fails
+returns-in_err-removal-in-Some-eq45-clause-fails g c =
+    let p = err_from_is_err_and c.from_residual-in_err-removal-in-Some-eq45.result c.from_residual-in_err-removal-in-Some-eq45.ensures.1 in
+    let minus : c.in-Some-eq45.field-0 ≡ 45 = omega arith in
+    let counted = rw c.in-Some-eq45.is at c.in_ok-byte.ensures.counted in
+    let h = c.in_err-removal-in-Some-eq45.ensures in
+    rw (p.1, p.2, c.if-removals.true) (mark_first (FailsEntry true c.args.greatest c.args.self.now.taken) 45 _ _ _ (seen_past _ _ _ _ _ [] 45 c.in_err-removal-in-Some-eq45.field-0.0 (rw (c.in-Some-eq45.is, minus) at c.in_ok-byte.ensures.bytes) counted h.later) (h.fails c.args.self.now.taken counted))
+
+pub returns-in_err-removal-in-Some-eq45-clause-leaves : goal.returns-in_err-removal-in-Some-eq45-clause-leaves
+returns-in_err-removal-in-Some-eq45-clause-leaves g c =
+    let p = err_from_is_err_and c.from_residual-in_err-removal-in-Some-eq45.result c.from_residual-in_err-removal-in-Some-eq45.ensures.1 in
+    let minus : c.in-Some-eq45.field-0 ≡ 45 = omega arith in
+    let counted = rw c.in-Some-eq45.is at c.in_ok-byte.ensures.counted in
+    rw (p.1, p.2) (leaves_past _ _ _ _ [] 45 _ (rw (c.in-Some-eq45.is, minus) at c.in_ok-byte.ensures.bytes) counted (omega (arith, counted, c.in_ok-byte.ensures.spends)) c.in_err-removal-in-Some-eq45.ensures.leaves)
+
+pub returns-in-Some-2-clause-fails : goal.returns-in-Some-2-clause-fails
+returns-in-Some-2-clause-fails g c =
+    let h = c.in-Some.field-0-test in
+    syntax_first c.args.removals _ _ c.in-Some.field-0 _ _ (rw c.in-Some.is at c.in_ok-byte.ensures.bytes) h.0.0.1 h.0.1 (λ e. h.1)
+
+-- a minus where no removals are taken
 pub returns-in-Some-clause-fails : goal.returns-in-Some-clause-fails
-returns-in-Some-clause-fails g c = let h = c.in-Some.field-0-test in syntax_first _ _ c.in-Some.field-0 _ _ (rw c.in-Some.is at c.in_ok-byte.ensures.bytes) h.0.1 h.1
+returns-in-Some-clause-fails g c =
+    let minus : c.in-Some-eq45.field-0 ≡ 45 = omega arith in
+    syntax_first c.args.removals _ _ c.in-Some-eq45.field-0 _ _ (rw c.in-Some-eq45.is at c.in_ok-byte.ensures.bytes) (λ e. omega (arith, minus, e)) (λ e. omega (arith, minus, e))
+    (λ e. let no : false ≡ true = sym c.if-removals.false ∙ e in absurd (let n : ⊥ = cc in n))
 
 pub returns-in-None-clause-leaves : goal.returns-in-None-clause-leaves
 returns-in-None-clause-leaves g c = grind (arith, common_steps)

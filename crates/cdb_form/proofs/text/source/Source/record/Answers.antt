@@ -17,15 +17,15 @@ returns-clause-read g c =
     (omega (arith, a.3, b.3, k.long, v.long, k.counted, v.counted, c.in_ok-expect_byte.ensures.counted))
 
 pub returns-in_err-klen-clause-fails : goal.returns-in_err-klen-clause-fails
-returns-in_err-klen-clause-fails g c = λ from e.
+returns-in_err-klen-clause-fails g c = λ from removals e.
     let p = err_from_is_err_and c.from_residual.result c.from_residual.ensures.1 in
-    rw (p.1, p.2) (record_fails _ from _ _ _ e (λ F s. base_klen F _ _ _ _ s c.in_err-klen.ensures.fails))
+    rw (p.1, p.2) (record_fails removals _ from _ _ _ e (λ F s. base_klen F _ _ _ _ s c.in_err-klen.ensures.fails))
 
 pub returns-in_err-vlen-clause-fails : goal.returns-in_err-vlen-clause-fails
-returns-in_err-vlen-clause-fails g c = λ from e.
+returns-in_err-vlen-clause-fails g c = λ from removals e.
     let p = err_from_is_err_and c.from_residual-in_err-vlen.result c.from_residual-in_err-vlen.ensures.1 in
     let a = c.in_ok-klen.ensures.read in
-    rw (p.1, p.2) (record_fails _ from _ _ _ e (λ F s.
+    rw (p.1, p.2) (record_fails removals _ from _ _ _ e (λ F s.
     lift_klen F _ c.in_ok-klen.klen _ _ _ _ a.0 _ a.1 c.in_ok-klen.ensures.fits a.3 (seen_past _ _ _ _ _ a.0 44 c.in_err-vlen.field-0.0 a.2 a.3 (omega (arith, c.in_err-vlen.ensures.later)))
     (base_vlen F _ c.in_ok-klen.klen _ _ _ s c.in_err-vlen.ensures.fails)))
 
@@ -37,11 +37,11 @@ returns-in_err-vlen-clause-leaves g c =
     c.in_err-vlen.ensures.leaves)
 
 pub returns-in_err-field-clause-fails : goal.returns-in_err-field-clause-fails
-returns-in_err-field-clause-fails g c = λ from e.
+returns-in_err-field-clause-fails g c = λ from removals e.
     let p = err_from_is_err_and c.from_residual-in_err-field.result c.from_residual-in_err-field.ensures.1 in
     let a = c.in_ok-klen.ensures.read in
     let b = c.in_ok-vlen.ensures.read in
-    rw (p.1, p.2) (record_fails _ from _ _ _ e (λ F s.
+    rw (p.1, p.2) (record_fails removals _ from _ _ _ e (λ F s.
     lift_klen F _ c.in_ok-klen.klen _ _ _ _ a.0 _ a.1 c.in_ok-klen.ensures.fits a.3 (seen_past _ _ _ _ _ a.0 44 c.in_err-field.field-0.0 a.2 a.3 (omega (arith, c.in_ok-vlen.ensures.later, c.in_err-field.ensures.later)))
     (lift_vlen F _ c.in_ok-klen.klen c.in_ok-vlen.vlen _ _ _ _ b.0 _ b.1 c.in_ok-vlen.ensures.fits b.3 (seen_past _ _ _ _ _ b.0 58 c.in_err-field.field-0.0 b.2 b.3 (omega (arith, c.in_err-field.ensures.later)))
     (base_key F _ c.in_ok-klen.klen c.in_ok-vlen.vlen _ _ _ s c.in_err-field.ensures.fails))))
@@ -56,12 +56,12 @@ returns-in_err-field-clause-leaves g c =
     c.in_err-field.ensures.leaves))
 
 pub returns-in_err-expect_byte-clause-fails : goal.returns-in_err-expect_byte-clause-fails
-returns-in_err-expect_byte-clause-fails g c = λ from e.
+returns-in_err-expect_byte-clause-fails g c = λ from removals e.
     let p = err_from_is_err_and c.from_residual-in_err-expect_byte.result c.from_residual-in_err-expect_byte.ensures.1 in
     let a = c.in_ok-klen.ensures.read in
     let b = c.in_ok-vlen.ensures.read in
     let k = c.in_ok-field.ensures in
-    rw (p.1, p.2) (record_fails _ from _ _ _ e (λ F s.
+    rw (p.1, p.2) (record_fails removals _ from _ _ _ e (λ F s.
     lift_klen F _ c.in_ok-klen.klen _ _ _ _ a.0 _ a.1 c.in_ok-klen.ensures.fits a.3 (seen_past _ _ _ _ _ a.0 44 c.in_err-expect_byte.field-0.0 a.2 a.3 (omega (arith, c.in_ok-vlen.ensures.later, c.in_ok-field.ensures.later, c.in_err-expect_byte.ensures.later)))
     (lift_vlen F _ c.in_ok-klen.klen c.in_ok-vlen.vlen _ _ _ _ b.0 _ b.1 c.in_ok-vlen.ensures.fits b.3 (seen_past _ _ _ _ _ b.0 58 c.in_err-expect_byte.field-0.0 b.2 b.3 (omega (arith, c.in_ok-field.ensures.later, c.in_err-expect_byte.ensures.later)))
     (lift_key F _ c.in_ok-klen.klen c.in_ok-vlen.vlen _ _ _ _ _ _ k.long k.are k.counted (seen_past _ _ _ _ _ c.field.new.into.items 45 c.in_err-expect_byte.field-0.0 k.read (omega (arith, k.counted, k.long)) (omega (arith, c.in_err-expect_byte.ensures.later)))
@@ -79,12 +79,12 @@ returns-in_err-expect_byte-clause-leaves g c =
     c.in_err-expect_byte.ensures.leaves)))
 
 pub returns-in_err-field-2-clause-fails : goal.returns-in_err-field-2-clause-fails
-returns-in_err-field-2-clause-fails g c = λ from e.
+returns-in_err-field-2-clause-fails g c = λ from removals e.
     let p = err_from_is_err_and c.from_residual-in_err-field-2.result c.from_residual-in_err-field-2.ensures.1 in
     let a = c.in_ok-klen.ensures.read in
     let b = c.in_ok-vlen.ensures.read in
     let k = c.in_ok-field.ensures in
-    rw (p.1, p.2) (record_fails _ from _ _ _ e (λ F s.
+    rw (p.1, p.2) (record_fails removals _ from _ _ _ e (λ F s.
     lift_klen F _ c.in_ok-klen.klen _ _ _ _ a.0 _ a.1 c.in_ok-klen.ensures.fits a.3 (seen_past _ _ _ _ _ a.0 44 c.in_err-field-2.field-0.0 a.2 a.3 (omega (arith, c.in_ok-vlen.ensures.later, c.in_ok-field.ensures.later, c.in_ok-expect_byte.ensures.later, c.in_err-field-2.ensures.later)))
     (lift_vlen F _ c.in_ok-klen.klen c.in_ok-vlen.vlen _ _ _ _ b.0 _ b.1 c.in_ok-vlen.ensures.fits b.3 (seen_past _ _ _ _ _ b.0 58 c.in_err-field-2.field-0.0 b.2 b.3 (omega (arith, c.in_ok-field.ensures.later, c.in_ok-expect_byte.ensures.later, c.in_err-field-2.ensures.later)))
     (lift_key F _ c.in_ok-klen.klen c.in_ok-vlen.vlen _ _ _ _ _ _ k.long k.are k.counted (seen_past _ _ _ _ _ c.field.new.into.items 45 c.in_err-field-2.field-0.0 k.read (omega (arith, k.counted, k.long)) (omega (arith, c.in_ok-expect_byte.ensures.later, c.in_err-field-2.ensures.later)))

@@ -11,6 +11,7 @@ returns-in-Err-clause-fails g c = elim c.match-self.branch [
         failed = refl;
         exact = rw w.in-AtHead.is (rw is at e.fails);
         behind = rw (w.self-is, w.in-AtHead.is) (rw is at e.still_behind);
+        part = rw (w.self-is, w.in-AtHead.is) (rw is at e.part);
         no_further = λ going. rw (w.self-is, w.in-AtHead.is) (rw is at e.header);
       }
   | in-At w ↦
@@ -20,6 +21,7 @@ returns-in-Err-clause-fails g c = elim c.match-self.branch [
         failed = refl;
         exact = rw w.in-At.is (rw is at e.fails);
         behind = rw (w.self-is, w.in-At.is) (rw is at e.still_behind);
+        part = rw (w.self-is, w.in-At.is) (rw is at e.part);
         no_further = λ going. rw (w.self-is, w.in-At.is) (rw is at e.header);
       }
 ]

@@ -1,0 +1,12 @@
+use Rattle.std.proofs.Common.{arith}
+use Rattle.std.proofs.lemmas.List.Elements.{recursion_from_All}
+use Rattle.cdb_form.specs.Laws.Text.{ChangeFits}
+use Rattle.cdb_form.specs.Views.Pairs.{changes_of}
+use Rattle.cdb_form.proofs.RecordLemmas.{are_fitting}
+use Rattle.cdb_form.proofs.TextLaws.{changes_read_back as law}
+use Rattle.cdb_form.proofs.laws.amending_text_reads_back.Goals as goal
+
+pub returns : goal.returns
+returns g c = λ fit.
+    let xs = changes_of c.args._items.now in
+    law g.L.Width.GREATEST xs c.args._rest.now (omega (arith, g.met.L.Width.greatest_fits.1)) (are_fitting g.L.Width.GREATEST c.args._items.now (recursion_from_All (ChangeFits g.L.Width.GREATEST) xs fit))

@@ -1,0 +1,114 @@
+// Items out of an amending text.
+ghost use Rattle.std.specs.Prelude.{◌≡◌, ◌^◌, ◌≤◌, IfOk, IfErr, MatchOption};
+ghost use Rattle.cdb_form.specs.Views.Pairs.{change_in, change_of};
+
+use crate::item::{Item, ItemKind};
+use crate::record::Record;
+use crate::text::fault::TextFault;
+use crate::text::going::Going;
+use crate::text::source::Source;
+use crate::width::Width;
+use std::alloc::Global;
+use std::io::Read;
+use std::marker::PhantomData;
+
+/// Reads the items of an amending text, one after the other: the puts of a native text, and
+/// removals of keys.
+///
+/// Its reader is asked for no byte past those that the answer needs, and for at most 4096 at once.
+/// What follows the newline that ends the text stays unread.
+#[derive(Drop)]
+pub struct AmendReader<R, L> {
+    alloc: Global,
+    source: Source<R>,
+    going: Going,
+    width: PhantomData<L>,
+}
+
+impl<R: Read, L: Width> AmendReader<R, L> {
+    ghost use Rattle.cdb_form.specs.Views.AmendReader.{unread, taken_of, asks_left, IsGoing};
+    ghost use Rattle.cdb_form.specs.Views.AmendReader.{HasEnded, HasFailed, GivesChange, GivesEnd};
+    ghost use Rattle.cdb_form.specs.Views.AmendReader.{Fails};
+    /// A reader of the text that `reader` gives, which may be asked 2^48 times.
+    pub fn new(alloc: Global, reader: R) -> AmendReader<R, L>
+        ensures unread { unread R.remaining result ≡ R.remaining reader }
+        ensures taken { taken_of result ≡ 0 }
+        ensures asks { asks_left result ≡ 2 ^ 48 }
+        ensures going { IsGoing result }
+    {
+        AmendReader::with_bound(alloc, reader, 1 << 48)
+    }
+
+    /// A reader of the text that `reader` gives, which may be asked so many times.
+    pub fn with_bound(alloc: Global, reader: R, asks: u64) -> AmendReader<R, L>
+        requires { asks ≤ 2 ^ 48 }
+        ensures unread { unread R.remaining result ≡ R.remaining reader }
+        ensures taken { taken_of result ≡ 0 }
+        ensures asks { asks_left result ≡ asks }
+        ensures going { IsGoing result }
+    {
+        AmendReader {
+            alloc,
+            source: Source::new(reader, asks),
+            going: Going::On,
+            width: PhantomData,
+        }
+    }
+
+    /// The next item, or `None` at the newline that ends the text.
+    ///
+    /// After the end it answers `Ok(None)` for good, and after a fault that fault. The faults are
+    /// those of `TextReader::next`, of the larger form.
+    pub fn next(&mut self) -> Result<Option<Item>, TextFault>
+        ensures gives { IfOk result (λ found. MatchOption found
+            (GivesEnd R.remaining self.old self.new)
+            (λ item. GivesChange L.GREATEST R.remaining self.old self.new (change_of item))) }
+        ensures fails { IfErr result (Fails L.GREATEST R.remaining self.old self.new) }
+        // After the end and after a fault nothing is read, and the answer stays.
+        ensures ended { HasEnded self.old → (result ≡ Ok None) × (self.new ≡ self.old) }
+        ensures failed { (fault : _) → HasFailed self.old fault →
+            (result ≡ Err fault) × (self.new ≡ self.old) }
+    {
+        let mut record = Record {
+            key: Vec::new(self.alloc),
+            value: Vec::new(self.alloc),
+        };
+        match self.read_into(&mut record)? {
+            None => Ok(None),
+            Some(ItemKind::Put) => Ok(Some(Item::Put(record))),
+            Some(ItemKind::Remove) => Ok(Some(Item::Remove(record.key))),
+        }
+    }
+
+    /// Reads the next item over a record, whose memory it takes, and answers its kind. The answers
+    /// are those of `next`. A removal leaves its key in the record's `key`, and any bytes in its
+    /// `value`; after `None` and after a fault the record holds anything.
+    pub fn read_into(&mut self, into: &mut Record) -> Result<Option<ItemKind>, TextFault>
+        ensures gives { IfOk result (λ found. MatchOption found
+            (GivesEnd R.remaining self.old self.new)
+            (λ kind. GivesChange L.GREATEST R.remaining self.old self.new
+            (change_in kind into.new))) }
+        ensures fails { IfErr result (Fails L.GREATEST R.remaining self.old self.new) }
+        // After the end and after a fault nothing is read, and the answer stays.
+        ensures ended { HasEnded self.old → (result ≡ Ok None) × (self.new ≡ self.old) }
+        ensures failed { (fault : _) → HasFailed self.old fault →
+            (result ≡ Err fault) × (self.new ≡ self.old) }
+    {
+        match self.going {
+            Going::On => {}
+            Going::AtEnd => return Ok(None),
+            Going::Failed(fault) => return Err(fault),
+        }
+        match self.source.entry(into, L::GREATEST, true) {
+            Ok(Some(kind)) => Ok(Some(kind)),
+            Ok(None) => {
+                self.going = Going::AtEnd;
+                Ok(None)
+            }
+            Err(fault) => {
+                self.going = Going::Failed(fault);
+                Err(fault)
+            }
+        }
+    }
+}

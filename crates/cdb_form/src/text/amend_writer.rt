@@ -1,0 +1,22 @@
+// A removal of an amending text to a writer.
+ghost use Rattle.std.specs.Prelude.{OnOk, OnErr};
+ghost use Rattle.std.specs.Io.KnownBytes.{Appends};
+ghost use Rattle.cdb_form.specs.Text.Amending.{removal_line};
+ghost use Rattle.cdb_form.specs.Views.KnownBytes.{AppendsFront};
+
+use crate::writing::{OutFault, write_pieces};
+use itoa::Buffer;
+use std::io::Write;
+
+/// Writes a removal of an amending text, with the shortest numeral. After an `OutFault` the writer
+/// holds a front of it.
+pub fn write_removal<W: Write>(w: &mut W, key: &[u8]) -> Result<(), OutFault>
+    ensures ok { OnOk result (Appends (W.contents w.old) (W.contents w.new)
+        (removal_line key.now)) }
+    ensures err { OnErr result (AppendsFront (W.contents w.old)
+        (W.contents w.new) (removal_line key.now)) }
+{
+    let mut klen = Buffer::new();
+    let klen = klen.format(key.len()).as_bytes();
+    write_pieces(w, &[b"-", klen, b":", key, b"\n"])
+}
