@@ -5,6 +5,8 @@ use Rattle.std.proofs.lemmas.List.{take_at, take-take, drop-take, drop-drop, len
 use Rattle.std.proofs.lemmas.Slice.Eq.{bytes_eq-Decides}
 use Rattle.std.proofs.Math.Seq.{take-add}
 use Rattle.cdb_store.specs.Images.{part, AfterRead}
+use Rattle.cdb_store.specs.Reads.{OnlyReads}
+use Rattle.cdb_store.specs.declared.store.Store.{Ghosts}
 use Rattle.cdb_store.proofs.Parts.{part_add}
 use Rattle.cdb_make.specs.Looks.{NoNewImage, TellsSame}
 
@@ -49,11 +51,9 @@ agrees_more at done n key p b inside l e f same =
     ∙ ap (λ v. take done key ++ v) (ap (λ k. part (at + done) k b) (sym l) ∙ f ∙ same)
     ∙ sym (take-add done n key)
 
-pub read_new : {at : ℕ} {bytes : List ℕ} {old new : List ℕ → Type 0} → AfterRead at bytes old new → NoNewImage old new
-read_new r = record { no_other = r.no_other }
-
-pub new_trans : {a b c : List ℕ → Type 0} → NoNewImage a b → NoNewImage b c → NoNewImage a c
-new_trans p q = record { no_other = λ x is. p.no_other x (q.no_other x is) }
+-- reading brings no image
+pub reads_fewer : {S : Type 0} {s : Ghosts S} {old new : S} → OnlyReads s old new → NoNewImage (s.image old) (s.image new)
+reads_fewer r = record { no_other = r.images }
 
 pub agrees_piece : {at : ℕ} (done n : ℕ) (key : List ℕ) {p : List ℕ} {old new : List ℕ → Type 0} → done + n ≤ length key → length p ≡ n → AgreesSoFar at (take done key) old → AfterRead (at + done) p old new → p ≡ take n (drop done key)
     → AgreesSoFar at (take (done + n) key) new
@@ -65,6 +65,3 @@ pub tells_other : {at : ℕ} (done n : ℕ) (key : List ℕ) {p : List ℕ} {old
 tells_other {at = at} done n key {p = p} inside l r other = record {
   each = λ b is. (λ e. cc, λ e. absurd (other (sym (r.read b is) ∙ ap (λ k. part (at + done) k b) l ∙ part_inner at done n key b inside e)));
 }
-
-pub new_same : (images : List ℕ → Type 0) → NoNewImage images images
-new_same images = record { no_other = λ b is. is }

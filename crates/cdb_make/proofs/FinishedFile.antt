@@ -1,5 +1,5 @@
 -- What a store holds once the tables and the head are written and the rest is cut: the whole file.
-use Rattle.std.proofs.Common.{◌≡◌, ℕ, ◌+◌, ◌-◌, ◌*◌, ◌≤◌, List, ◌++◌, length, take, drop, map, flat_map, sym, ap, ◌∙◌, arith, append_assoc, length-append, sum_by}
+use Rattle.std.proofs.Common.{inl, inr, ◌≡◌, ℕ, ◌+◌, ◌-◌, ◌*◌, ◌≤◌, List, ◌++◌, length, take, drop, map, flat_map, sym, ap, ◌∙◌, arith, append_assoc, length-append, sum_by}
 use Rattle.std.specs.List.{range_with_len}
 use Rattle.std.proofs.lemmas.List.{drop-append-le, length-take-le, take_at, drop-take, length-map}
 use Rattle.cdb_store.specs.Images.{overwrite, part, AfterWrite, AfterCut, AreSized, KeepsPart}
@@ -10,7 +10,8 @@ use Rattle.cdb_form.specs.Format.Record.{KeyValue, record_bytes, record_size, re
 use Rattle.cdb_form.specs.Format.Table.{file_tables, slots_of, table_entries}
 use Rattle.cdb_form.proofs.HeadLemmas.{length-flat_map_words}
 use Rattle.cdb_form.proofs.Sizes.{length-pointers_from, tables_are}
-use Rattle.cdb_make.specs.Finished.{IsFinished}
+use Rattle.cdb_store.specs.Images.{Holds, SameImages}
+use Rattle.cdb_make.specs.Finished.{IsFinished, HeadIsLast}
 use Rattle.cdb_make.specs.Parts.{head_bytes, table_bytes, tables_end}
 use Rattle.cdb_make.specs.Stands.{Tells, Stands}
 use Rattle.cdb_make.proofs.TableBytes.{length-tables}
@@ -53,6 +54,15 @@ finished {w = w} {end = end} {last = last} {ls = ls} long start inside behind si
             ∙ both_written (head_size w) end last t.0 (head_bytes w end ls) (flat_map (table_bytes w) ls) (length-head_bytes w end ls long) start (omega arith) (omega (arith, bytes)),
       );
 }
+
+pub head_kept : {w end : ℕ} {ls : List (List WordPair)} {i j : List ℕ → Type 0} → KeepsPart 0 (head_size w) i j → HeadIsLast w end ls i j
+head_kept k = record { each = λ b is. inl (k.each b is) }
+
+pub tables_held : {w end : ℕ} {ls : List (List WordPair)} {i j : List ℕ → Type 0} → Holds end (flat_map (table_bytes w) ls) j → HeadIsLast w end ls i j
+tables_held h = record { each = λ b is. inr (h.each b is) }
+
+pub head_then : {w end : ℕ} {ls : List (List WordPair)} {i j k : List ℕ → Type 0} → SameImages i j → HeadIsLast w end ls j k → HeadIsLast w end ls i k
+head_then same h = record { each = λ b is. elim (h.each b is) [ inl a ↦ inl (a.0, same.no_other a.0 a.1, a.2) | inr t ↦ inr t ] }
 
 pub kept_then : {pos n : ℕ} {i j k : List ℕ → Type 0} → KeepsPart pos n i j → KeepsPart pos n j k → KeepsPart pos n i k
 kept_then p q = record { each = λ b is. let h = q.each b is in let o = p.each h.0 h.1 in (o.0, o.1, h.2 ∙ o.2) }

@@ -1,8 +1,15 @@
 -- A store that holds a whole file.
-use Rattle.std.specs.Prelude.{ℕ, ◌-◌, ◌≡◌, List, ◌++◌, flat_map}
+use Rattle.std.specs.Prelude.{ℕ, ◌-◌, ◌≡◌, ◌⊎◌, List, ◌++◌, flat_map, length}
 use Rattle.cdb_store.specs.Images.{part}
 use Rattle.cdb_form.specs.Format.Pair.{WordPair, head_size}
 use Rattle.cdb_make.specs.Parts.{head_bytes, table_bytes}
+
+-- in each image the head is that of an old one, or all tables stand
+pub record HeadIsLast (w end : ℕ) (lists : List (List WordPair)) (old new : List ℕ → Type 0)
+    : Type 0 where
+  pub each : (b : List ℕ) → new b
+      → ((a : List ℕ) × old a × (part 0 (head_size w) b ≡ part 0 (head_size w) a))
+      ⊎ (part end (length (flat_map (table_bytes w) lists)) b ≡ flat_map (table_bytes w) lists)
 
 -- each image is the head, the records' bytes of an old one, and the tables of some lists of entries
 pub record IsFinished (w end : ℕ) (lists : List (List WordPair)) (old new : List ℕ → Type 0)

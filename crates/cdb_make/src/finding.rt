@@ -1,8 +1,9 @@
 // The records of a key, found among the entries of its table.
 ghost use Rattle.std.specs.Prelude.{◌≡◌, ℕ, ◌+◌, ◌<◌, ◌≤◌, ◌^◌, length, vec_capacity, IfOk, OnOk};
+ghost use Rattle.cdb_store.specs.Reads.{OnlyReads};
 ghost use Rattle.cdb_make.specs.declared.looking.LookFault.TheVariants.{Failed, Foreign};
 ghost use Rattle.cdb_make.specs.Gaps.{AreApart};
-ghost use Rattle.cdb_make.specs.Looks.{NoNewImage, Picks, TellsThere, NoneChained};
+ghost use Rattle.cdb_make.specs.Looks.{Picks, TellsThere, NoneChained};
 ghost use Rattle.cdb_make.specs.Views.EntryList.{list_entries};
 
 use crate::gap::Gap;
@@ -35,11 +36,7 @@ pub(crate) fn find_gaps<S: Store, L: Width>(
     ensures foreign { result ≡ Err Foreign → NoneChained L.WORD start
         (list_entries list.now) end (S.image store.new) }
     ensures failed { result ≡ Err Failed → S.failures store.old < S.failures store.new }
-    ensures images { NoNewImage (S.image store.old) (S.image store.new) }
-    ensures size { S.size store.new ≡ S.size store.old }
-    ensures written { S.written store.new ≡ S.written store.old }
-    ensures room { S.room store.old ≤ S.room store.new }
-    ensures failures { S.failures store.old ≤ S.failures store.new }
+    ensures reads { OnlyReads S.Store store.old store.new }
     ensures capacity { vec_capacity gaps.new ≡ vec_capacity gaps.old }
 {
     gaps.clear();
@@ -76,11 +73,7 @@ pub(crate) fn some_has<S: Store, L: Width>(
     ensures foreign { result ≡ Err Foreign → (start : ℕ) → NoneChained L.WORD start
         (list_entries list.now) end (S.image store.new) }
     ensures failed { result ≡ Err Failed → S.failures store.old < S.failures store.new }
-    ensures images { NoNewImage (S.image store.old) (S.image store.new) }
-    ensures size { S.size store.new ≡ S.size store.old }
-    ensures written { S.written store.new ≡ S.written store.old }
-    ensures room { S.room store.old ≤ S.room store.new }
-    ensures failures { S.failures store.old ≤ S.failures store.new }
+    ensures reads { OnlyReads S.Store store.old store.new }
 {
     let mut next = list.next_place(hash, 0);
     while next < list.len() {

@@ -5,7 +5,7 @@ ghost use Rattle.cdb_store.specs.declared.store.StoreFault.TheVariants.{NoMemory
 ghost use Rattle.cdb_store.specs.Images.{SameImages, KeepsPart, HasCause};
 ghost use Rattle.cdb_form.specs.Format.Pair.{head_size, pair_size};
 ghost use Rattle.cdb_make.specs.declared.fault.MakeFault.TheVariants.{NoMemory, Writing};
-ghost use Rattle.cdb_make.specs.Finished.{IsFinished};
+ghost use Rattle.cdb_make.specs.Finished.{IsFinished, HeadIsLast};
 ghost use Rattle.cdb_make.specs.Parts.{tables_end};
 ghost use Rattle.cdb_make.specs.Views.EntryList.{lists_entries};
 
@@ -46,6 +46,8 @@ fn write_parts<S: Store, L: Width>(
     ensures written { OnOk result
         (S.written store.new + end ≡ S.written store.old + (head_size L.WORD + last)) }
     ensures settled { OnOk result (S.settled store.new) }
+    ensures head_last { HeadIsLast L.WORD end (lists_entries lists.now) (S.image store.old)
+        (S.image store.new) }
     ensures kept { KeepsPart (head_size L.WORD) (end - head_size L.WORD)
         (S.image store.old) (S.image store.new) }
     ensures inside { end ≤ S.size store.new }
@@ -83,6 +85,8 @@ pub(crate) fn finish<S: Store, L: Width>(
     ensures written { OnOk result (S.written store.new + end ≡ S.written store.old
         + (head_size L.WORD + tables_end L.WORD end (lists_entries lists.now))) }
     ensures settled { OnOk result (S.settled store.new) }
+    ensures head_last { HeadIsLast L.WORD end (lists_entries lists.now) (S.image store.old)
+        (S.image store.new) }
     ensures kept { KeepsPart (head_size L.WORD) (end - head_size L.WORD)
         (S.image store.old) (S.image store.new) }
     ensures inside { end ≤ S.size store.new }

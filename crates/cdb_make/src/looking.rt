@@ -1,8 +1,9 @@
 // The record at a place, and whether it has a key.
 ghost use Rattle.std.specs.Prelude.{◌≡◌, ◌+◌, ◌<◌, ◌≤◌, ◌^◌, length, OnErr, IfOk, IsErrOf};
 ghost use Rattle.cdb_store.specs.declared.store.StoreFault.TheVariants.{NoMemory};
+ghost use Rattle.cdb_store.specs.Reads.{OnlyReads};
 ghost use Rattle.cdb_make.specs.declared.looking.LookFault.TheVariants.{Failed, Foreign};
-ghost use Rattle.cdb_make.specs.Looks.{NoNewImage, TellsSame, LooksAt, SizeWithin};
+ghost use Rattle.cdb_make.specs.Looks.{TellsSame, LooksAt, SizeWithin};
 
 use cdb_form::{Width, pair_size, read_header};
 use cdb_store::{Store, StoreFault};
@@ -44,11 +45,7 @@ fn is_read_at<S: Store>(
     requires inside { place + length key.now ≤ S.size store.old }
     requires fits { place + length key.now < 2 ^ 63 }
     ensures same { IfOk result (λ same. TellsSame same place key.now (S.image store.new)) }
-    ensures images { NoNewImage (S.image store.old) (S.image store.new) }
-    ensures size { S.size store.new ≡ S.size store.old }
-    ensures written { S.written store.new ≡ S.written store.old }
-    ensures room { S.room store.old ≤ S.room store.new }
-    ensures failures { S.failures store.old ≤ S.failures store.new }
+    ensures reads { OnlyReads S.Store store.old store.new }
     ensures failed { OnErr result (S.failures store.old < S.failures store.new) }
     ensures memory { IsErrOf result NoMemory → ⊥ }
 {
@@ -70,11 +67,7 @@ pub(crate) fn key_is_at<S: Store>(store: &mut S, place: u64, key: &[u8]) -> Resu
     requires inside { place + length key.now ≤ S.size store.old }
     requires fits { place + length key.now < 2 ^ 63 }
     ensures same { IfOk result (λ same. TellsSame same place key.now (S.image store.new)) }
-    ensures images { NoNewImage (S.image store.old) (S.image store.new) }
-    ensures size { S.size store.new ≡ S.size store.old }
-    ensures written { S.written store.new ≡ S.written store.old }
-    ensures room { S.room store.old ≤ S.room store.new }
-    ensures failures { S.failures store.old ≤ S.failures store.new }
+    ensures reads { OnlyReads S.Store store.old store.new }
     ensures failed { OnErr result (S.failures store.old < S.failures store.new) }
     ensures memory { IsErrOf result NoMemory → ⊥ }
 {
@@ -98,11 +91,7 @@ pub(crate) fn look_at<S: Store, L: Width>(
     requires fits { end < 2 ^ 63 }
     ensures looks { LooksAt L.WORD place end key.now result (S.image store.new) }
     ensures within { SizeWithin place end result }
-    ensures images { NoNewImage (S.image store.old) (S.image store.new) }
-    ensures size { S.size store.new ≡ S.size store.old }
-    ensures written { S.written store.new ≡ S.written store.old }
-    ensures room { S.room store.old ≤ S.room store.new }
-    ensures failures { S.failures store.old ≤ S.failures store.new }
+    ensures reads { OnlyReads S.Store store.old store.new }
     ensures failed { result ≡ Err Failed → S.failures store.old < S.failures store.new }
 {
     let header_size = pair_size::<L>();

@@ -5,6 +5,7 @@ ghost use Rattle.std.specs.Prelude.{IfOk, IfErr, OnOk};
 ghost use Rattle.cdb_form.specs.Format.File.{file_bytes};
 ghost use Rattle.cdb_form.specs.Format.Pair.{head_size};
 ghost use Rattle.cdb_form.specs.Format.Record.{KeyValue};
+ghost use Rattle.cdb_make.specs.Finished.{HeadIsLast};
 ghost use Rattle.cdb_make.specs.Views.EntryList.{lists_entries};
 ghost use Rattle.cdb_make.specs.Views.Making.{MakingFault};
 
@@ -105,6 +106,8 @@ impl<S: Store, L: Width> Maker<S, L> {
         ensures written { OnOk result (S.written self.new.store + self.old.end
             ≡ S.written self.old.store + (head_size L.WORD + made_size self.old)) }
         ensures settled { OnOk result (S.settled self.new.store) }
+        ensures head_last { HeadIsLast L.WORD self.old.end (lists_entries self.old.lists.items)
+            (S.image self.old.store) (S.image self.new.store) }
         ensures comes { ComesFrom (S.image self.old.store) (S.image self.new.store) }
         ensures failures { S.failures self.old.store ≤ S.failures self.new.store }
         ensures fails { IfErr result (FailsFinishing self.old self.new) }
@@ -131,6 +134,9 @@ impl<S: Store, L: Width> Maker<S, L> {
         ensures settled { IfOk result S.settled }
         ensures comes { IfOk result (λ s. ComesFrom (S.image self.store) (S.image s)) }
         ensures fails { IfErr result (λ u. FailsFinishing self u.maker u.fault) }
+        // In each image the head is an old one, or all tables stand.
+        ensures head_last { IfErr result (λ u. HeadIsLast L.WORD self.end
+            (lists_entries self.lists.items) (S.image self.store) (S.image u.maker.store)) }
         ensures fails_comes { IfErr result (λ u.
             ComesFrom (S.image self.store) (S.image u.maker.store)) }
     {

@@ -2,10 +2,10 @@
 ghost use Rattle.std.specs.Prelude.{◌≡◌, ℕ, ◌+◌, ◌<◌, ◌≤◌, true, false, List, length, sum_by, ◌-◌};
 ghost use Rattle.std.specs.Prelude.{IfOk, IfErr, OnOk, OnErr, vec_capacity};
 ghost use Rattle.cdb_store.specs.Images.{TornWithin};
+ghost use Rattle.cdb_store.specs.Reads.{OnlyReads};
 ghost use Rattle.cdb_form.specs.Format.Pair.{head_size};
 ghost use Rattle.cdb_form.specs.Format.Record.{KeyValue};
 ghost use Rattle.cdb_make.specs.Gaps.{AreApart, first_place};
-ghost use Rattle.cdb_make.specs.Looks.{NoNewImage};
 ghost use Rattle.cdb_make.specs.Stands.{Stands, AreGapsOf, AreTakenOut, WritesSurvivors};
 ghost use Rattle.cdb_make.specs.Views.EntryList.{lists_entries, AreClosed};
 
@@ -35,9 +35,7 @@ impl<S: Store, L: Width> Maker<S, L> {
         ensures fails { IfErr result (FailsLooking self.old self.new) }
         ensures counts { SameCounts self.old self.new }
         ensures lists { self.new.lists ≡ self.old.lists }
-        ensures images { NoNewImage (S.image self.old.store) (S.image self.new.store) }
-        ensures room { S.room self.old.store ≤ S.room self.new.store }
-        ensures failures { S.failures self.old.store ≤ S.failures self.new.store }
+        ensures reads { OnlyReads S.Store self.old.store self.new.store }
     {
         if self.broken {
             return Err(MakeFault::Broken);

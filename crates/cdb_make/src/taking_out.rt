@@ -4,12 +4,12 @@ ghost use Rattle.std.specs.Prelude.{IfOk, OnOk, OnErr, IsErrOf, sum_by};
 ghost use Rattle.cdb_store.specs.declared.store.StoreFault.TheVariants.{NoMemory};
 ghost use Rattle.cdb_store.specs.Images.{TornWithin, HasCause};
 ghost use Rattle.cdb_store.specs.Laws.{HasNoImage};
+ghost use Rattle.cdb_store.specs.Reads.{OnlyReads};
 ghost use Rattle.cdb_form.specs.Format.Hash.{key_hash};
 ghost use Rattle.cdb_form.specs.Format.Pair.{head_size};
 ghost use Rattle.cdb_form.specs.Format.Record.{KeyValue};
 ghost use Rattle.cdb_make.specs.declared.looking.LookFault.TheVariants.{Failed, Foreign};
 ghost use Rattle.cdb_make.specs.Gaps.{AreApart, first_place, kept_len};
-ghost use Rattle.cdb_make.specs.Looks.{NoNewImage};
 ghost use Rattle.cdb_make.specs.Stands.{Stands, AreGapsOf, IsCount, IsThere, AreTakenOut};
 ghost use Rattle.cdb_make.specs.Stands.{WritesSurvivors};
 ghost use Rattle.cdb_make.specs.Views.EntryList.{lists_entries, entry_count, AreClosed};
@@ -57,11 +57,7 @@ pub(crate) fn find<S: Store, L: Width>(
         → Stands L.WORD end (lists_entries lists.now) rs (S.image store.old)
         → HasNoImage (S.image store.new) }
     ensures failed { result ≡ Err Failed → S.failures store.old < S.failures store.new }
-    ensures images { NoNewImage (S.image store.old) (S.image store.new) }
-    ensures size { S.size store.new ≡ S.size store.old }
-    ensures written { S.written store.new ≡ S.written store.old }
-    ensures room { S.room store.old ≤ S.room store.new }
-    ensures failures { S.failures store.old ≤ S.failures store.new }
+    ensures reads { OnlyReads S.Store store.old store.new }
     ensures capacity { vec_capacity gaps.new ≡ vec_capacity gaps.old }
 {
     let list = &lists[table_number(u64::from(hash))];
@@ -93,11 +89,7 @@ pub(crate) fn exists<S: Store, L: Width>(
         → Stands L.WORD end (lists_entries lists.now) rs (S.image store.old)
         → HasNoImage (S.image store.new) }
     ensures failed { result ≡ Err Failed → S.failures store.old < S.failures store.new }
-    ensures images { NoNewImage (S.image store.old) (S.image store.new) }
-    ensures size { S.size store.new ≡ S.size store.old }
-    ensures written { S.written store.new ≡ S.written store.old }
-    ensures room { S.room store.old ≤ S.room store.new }
-    ensures failures { S.failures store.old ≤ S.failures store.new }
+    ensures reads { OnlyReads S.Store store.old store.new }
 {
     let list = &lists[table_number(u64::from(hash))];
     some_has::<S, L>(store, list, hash, key, end)

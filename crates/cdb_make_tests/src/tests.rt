@@ -6,6 +6,7 @@ mod files;
 mod maker;
 mod makers;
 mod refusals;
+mod said;
 mod scarce;
 mod scripts;
 mod taking;

@@ -170,6 +170,27 @@ fn asks_with_a_replacement(rt: HostRuntime) -> Result<(), Fail> {
     tell(&rt, make(rt.alloc(), 0, &order())?)
 }
 
+/// Four values of a key, which are replaced by one.
+fn four() -> [Row<'static>; 5] {
+    [
+        (add(b"a", b"1"), ADDED, 10),
+        (add(b"a", b"2"), ADDED, 10),
+        (add(b"a", b"3"), ADDED, 10),
+        (add(b"a", b"4"), ADDED, 10),
+        (replace(b"a", b"5"), replaced(4), 10),
+    ]
+}
+
+#[test]
+fn asks_before_a_replacement_of_four(rt: HostRuntime) -> Result<(), Fail> {
+    tell(&rt, make(rt.alloc(), 0, &four()[..4])?)
+}
+
+#[test]
+fn asks_with_a_replacement_of_four(rt: HostRuntime) -> Result<(), Fail> {
+    tell(&rt, make(rt.alloc(), 0, &four())?)
+}
+
 #[test]
 fn asks_before_a_removal(rt: HostRuntime) -> Result<(), Fail> {
     tell(&rt, make(rt.alloc(), 0, &gaps()[..5])?)

@@ -1,12 +1,13 @@
 use Rattle.std.proofs.Common.{rules, arith, ap, refl, sym, subst, ◌∙◌, ◌≡◌, ◌+◌, ◌<◌, ◌≤◌, ℕ, List, length, [], ◌∷◌, ◌++◌, drop, get_or, vec_len, vec_capacity, Ok, Err, Option, Some, None}
 use Rattle.cdb_form.specs.Format.Pair.{WordPair}
+use Rattle.cdb_store.proofs.Reading.{reads_more, reads_nothing}
 use Rattle.cdb_make.specs.declared.gap.Gap.{Gap}
 use Rattle.cdb_make.specs.declared.looking.LookFault.{LookFault}
 use Rattle.cdb_make.specs.declared.looking.LookFault.TheVariants.{Foreign}
 use Rattle.cdb_make.specs.Gaps.{AreApart}
 use Rattle.cdb_make.specs.Looks.{LooksAt, SizeWithin}
 use Rattle.cdb_make.specs.Views.EntryList.{entries_of}
-use Rattle.cdb_make.proofs.Compare.{new_trans, new_same}
+use Rattle.cdb_make.proofs.Compare.{reads_fewer}
 use Rattle.cdb_make.proofs.Sides.{entry_at, list_long}
 use Rattle.cdb_make.proofs.Picking.{PicksSoFar, Noted, noted_none, noted_one, entries_over, picks_until, picks_all, picks_done, chains_none, chains_back, chains_until, chains_all, apart_higher}
 use Rattle.cdb_make.proofs.finding.find_gaps.Goals.{in-Some+else-place-last, in_default}
@@ -35,11 +36,7 @@ loop-next-init g c =
       picks = subst (λ (v : List Gap). PicksSoFar g.L.Width.WORD c.args.hash c.args.key.now v (drop n (entries_of hs ps)) (entries_of hs ps) (g.S.Store.image c.args.store.now)) (sym none)
           (picks_until hs ps 0 n refl (omega arith) c.args.list.now.paired c.next_place-next.ensures.within c.next_place-next.ensures.none (picks_all g.L.Width.WORD c.args.hash c.args.key.now (entries_of hs ps) (g.S.Store.image c.args.store.now)));
       chains = chains_until (entries_of hs ps) 0 n (omega arith) (chains_all g.L.Width.WORD c.args.start (entries_of hs ps) c.args.end (g.S.Store.image c.args.store.now));
-      images = new_same _;
-      size = refl;
-      written = refl;
-      room = omega arith;
-      failures = omega arith;
+      reads = reads_nothing _ _ refl;
     }
 
 pub loop-next-preserved : goal.loop-next-preserved
@@ -68,11 +65,11 @@ loop-next-preserved g c =
           subst (λ (o : Option ℕ). LooksAt w e.second c.args.end c.args.key.now (Ok o) new) x.in-Some.is c.in_ok-size.ensures.looks in
           let within : e.second + m ≤ c.args.end = subst (λ (o : Option ℕ). SizeWithin e.second c.args.end (Ok o)) x.in-Some.is c.in_ok-size.ensures.within in
           let items : c.match-branch-2.gaps.items ≡ c.loop-next.gaps.items ++ (record { place = e.second; size = m } ∷ []) = rw x.gaps-is x.push_reserved.ensures.items in
-          noted_one e rest m c.match-branch-2.last same hashed x.if-place-last.false within x.last-is items before c.look_at.ensures.images looks)
+          noted_one e rest m c.match-branch-2.last same hashed x.if-place-last.false within x.last-is items before (reads_fewer c.look_at.ensures.reads) looks)
       | in_default x ↦
           (let looks : LooksAt w e.second c.args.end c.args.key.now (Ok None) new =
           subst (λ (o : Option ℕ). LooksAt w e.second c.args.end c.args.key.now (Ok o) new) x.in_default.is c.in_ok-size.ensures.looks in
-          rw x.gaps-is (rw x.last-is (noted_none e rest same before c.look_at.ensures.images looks)))
+          rw x.gaps-is (rw x.last-is (noted_none e rest same before (reads_fewer c.look_at.ensures.reads) looks)))
     ] in
     let few : vec_len c.match-branch-2.gaps ≤ i + 1 = elim c.match-branch-2.branch [
       | in-Some+else-place-last x ↦ rw x.gaps-is (omega (arith, x.push_reserved.ensures.len))
@@ -91,11 +88,7 @@ loop-next-preserved g c =
       apart = noted.apart;
       picks = picks_until hs ps (i + 1) n refl c.next_place-next-in-loop-next.ensures.from c.args.list.now.paired c.next_place-next-in-loop-next.ensures.within c.next_place-next-in-loop-next.ensures.none noted.picks;
       chains = chains_until all (i + 1) n c.next_place-next-in-loop-next.ensures.from noted.chains;
-      images = new_trans v.images c.look_at.ensures.images;
-      size = omega (arith, c.look_at.ensures.size);
-      written = omega (arith, c.look_at.ensures.written);
-      room = omega (arith, c.look_at.ensures.room);
-      failures = omega (arith, c.look_at.ensures.failures);
+      reads = reads_more v.reads c.look_at.ensures.reads;
     }
 
 pub returns-in_err-size-clause-foreign : goal.returns-in_err-size-clause-foreign
@@ -110,7 +103,7 @@ returns-in_err-size-clause-foreign g c = λ h.
     let was : c.in_err-size.field-0.0 ≡ Foreign = search (rules, h, c.from_residual.ensures) in
     let looks : LooksAt g.L.Width.WORD e.second c.args.end c.args.key.now (Err Foreign) (g.S.Store.image c.look_at.new.store) =
     subst (λ (o : LookFault). LooksAt g.L.Width.WORD e.second c.args.end c.args.key.now (Err o) (g.S.Store.image c.look_at.new.store)) was c.in_err-size.ensures.looks in
-    chains_none e rest same c.loop-next.invariant.chains c.look_at.ensures.images (λ b is. looks.each b is)
+    chains_none e rest same c.loop-next.invariant.chains (reads_fewer c.look_at.ensures.reads) (λ b is. looks.each b is)
 
 pub returns-then-place-last-clause-foreign : goal.returns-then-place-last-clause-foreign
 returns-then-place-last-clause-foreign g c = λ h.
@@ -121,7 +114,7 @@ returns-then-place-last-clause-foreign g c = λ h.
     let e : WordPair = record { first = get_or hs i 0; second = get_or c.places.result.now i 0 } in
     let rest : List WordPair = drop (i + 1) (entries_of hs ps) in
     let same : drop i (entries_of hs ps) ≡ e ∷ rest = entry_at hs ps c.places.result.now i c.args.list.now.paired lt c.places.ensures in
-    chains_back e rest same c.loop-next.invariant.chains c.look_at.ensures.images c.if-place-last.true
+    chains_back e rest same c.loop-next.invariant.chains (reads_fewer c.look_at.ensures.reads) c.if-place-last.true
 
 pub returns-clause-picks : goal.returns-clause-picks
 returns-clause-picks g c =

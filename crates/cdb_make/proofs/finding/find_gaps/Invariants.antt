@@ -1,7 +1,7 @@
 use Rattle.std.proofs.Common.{◌≡◌, ◌<◌, ◌≤◌, ◌-◌, drop, length, vec_len, vec_capacity}
 use Rattle.std.specs.Prelude.{slice_index}
+use Rattle.cdb_store.specs.Reads.{OnlyReads}
 use Rattle.cdb_make.specs.Gaps.{AreApart}
-use Rattle.cdb_make.specs.Looks.{NoNewImage}
 use Rattle.cdb_make.specs.Views.EntryList.{entries_of}
 use Rattle.cdb_make.proofs.Picking.{PicksSoFar, ChainsOn}
 use Rattle.cdb_make.proofs.finding.find_gaps.Given as goal
@@ -16,11 +16,7 @@ invariant-loop-next g l = record {
   apart : AreApart l.start l.gaps.items l.last;
   picks : PicksSoFar g.L.Width.WORD l.hash l.key l.gaps.items (drop l.next (entries_of l.list.hashes.items l.list.places.items)) (entries_of l.list.hashes.items l.list.places.items) (g.S.Store.image l.store);
   chains : ChainsOn g.L.Width.WORD l.start l.last (drop l.next (entries_of l.list.hashes.items l.list.places.items)) (entries_of l.list.hashes.items l.list.places.items) l.end (g.S.Store.image l.store);
-  images : NoNewImage (g.S.Store.image l.fn.store) (g.S.Store.image l.store);
-  size : g.S.Store.size l.store ≡ g.S.Store.size l.fn.store;
-  written : g.S.Store.written l.store ≡ g.S.Store.written l.fn.store;
-  room : g.S.Store.room l.fn.store ≤ g.S.Store.room l.store;
-  failures : g.S.Store.failures l.fn.store ≤ g.S.Store.failures l.store;
+  reads : OnlyReads g.S.Store l.fn.store l.store;
 }
 
 abbrev pub decreases-loop-next : goal.decreases-loop-next

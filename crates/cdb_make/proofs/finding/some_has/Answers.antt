@@ -1,10 +1,11 @@
 use Rattle.std.proofs.Common.{rules, arith, ap, subst, sym, ◌≡◌, ◌+◌, ◌<◌, ℕ, length, List, ◌∷◌, drop, get_or, Err, refl}
 use Rattle.cdb_form.specs.Format.Pair.{WordPair}
+use Rattle.cdb_store.proofs.Reading.{reads_more, reads_nothing}
 use Rattle.cdb_make.specs.declared.looking.LookFault.{LookFault}
 use Rattle.cdb_make.specs.declared.looking.LookFault.TheVariants.{Foreign}
 use Rattle.cdb_make.specs.Looks.{LooksAt, size_at}
 use Rattle.cdb_make.specs.Views.EntryList.{entries_of}
-use Rattle.cdb_make.proofs.Compare.{new_trans, new_same}
+use Rattle.cdb_make.proofs.Compare.{reads_fewer}
 use Rattle.cdb_make.proofs.Sides.{entry_at, list_long}
 use Rattle.cdb_make.proofs.Picking.{skip_key, take_entry, entries_over, picks_skip, picks_until, picks_all, chains_skip, chains_none, chains_until, chains_low, tells_none, tells_some, has_it, has_it_not}
 use Rattle.cdb_make.proofs.finding.some_has.Goals as goal
@@ -25,11 +26,7 @@ loop-next-init g c =
       found = c.next_place-next.ensures.found;
       picks = picks_until hs ps 0 n refl (omega arith) c.args.list.now.paired c.next_place-next.ensures.within c.next_place-next.ensures.none (picks_all g.L.Width.WORD c.args.hash c.args.key.now (entries_of hs ps) (g.S.Store.image c.args.store.now));
       chains = λ start. chains_until (entries_of hs ps) 0 n (omega arith) (chains_low g.L.Width.WORD start (entries_of hs ps) c.args.end (g.S.Store.image c.args.store.now));
-      images = new_same _;
-      size = refl;
-      written = refl;
-      room = omega arith;
-      failures = omega arith;
+      reads = reads_nothing _ _ refl;
     }
 
 pub returns-in_err-look_at-clause-foreign : goal.returns-in_err-look_at-clause-foreign
@@ -44,7 +41,7 @@ returns-in_err-look_at-clause-foreign g c = λ h start.
     let was : c.in_err-look_at.field-0.0 ≡ Foreign = search (rules, h, c.from_residual.ensures) in
     let looks : LooksAt g.L.Width.WORD e.second c.args.end c.args.key.now (Err Foreign) (g.S.Store.image c.look_at.new.store) =
     subst (λ (o : LookFault). LooksAt g.L.Width.WORD e.second c.args.end c.args.key.now (Err o) (g.S.Store.image c.look_at.new.store)) was c.in_err-look_at.ensures.looks in
-    chains_none e rest same (c.loop-next.invariant.chains start) c.look_at.ensures.images (λ b is. looks.each b is)
+    chains_none e rest same (c.loop-next.invariant.chains start) (reads_fewer c.look_at.ensures.reads) (λ b is. looks.each b is)
 
 pub returns-then-is_some-clause-tells : goal.returns-then-is_some-clause-tells
 returns-then-is_some-clause-tells g c =
@@ -58,7 +55,7 @@ returns-then-is_some-clause-tells g c =
     let rest : List WordPair = drop (i + 1) (entries_of hs ps) in
     let same : drop i (entries_of hs ps) ≡ e ∷ rest = entry_at hs ps c.places.result.now i c.args.list.now.paired lt c.places.ensures in
     let hashed : e.first ≡ c.args.hash = c.loop-next.invariant.found lt in
-    tells_some e rest (λ b. record { place = e.second; size = size_at w e.second b }) same c.loop-next.invariant.picks c.look_at.ensures.images
+    tells_some e rest (λ b. record { place = e.second; size = size_at w e.second b }) same c.loop-next.invariant.picks (reads_fewer c.look_at.ensures.reads)
     (λ b is. take_entry w c.args.hash (size_at w e.second b) key b e rest hashed (has_it c.in_ok-look_at.field-0 (sym c.if-is_some.ensures) c.in_ok-look_at.ensures.looks b is) refl)
 
 pub loop-next-preserved : goal.loop-next-preserved
@@ -77,13 +74,9 @@ loop-next-preserved g c =
       within = c.next_place-next-in-loop-next.ensures.within;
       found = c.next_place-next-in-loop-next.ensures.found;
       picks = picks_until hs ps (i + 1) n refl c.next_place-next-in-loop-next.ensures.from c.args.list.now.paired c.next_place-next-in-loop-next.ensures.within c.next_place-next-in-loop-next.ensures.none
-          (picks_skip e rest same v.picks c.look_at.ensures.images (λ b is. skip_key w c.args.hash c.args.key.now b e rest (has_it_not c.in_ok-look_at.field-0 (sym c.if-is_some.ensures) c.in_ok-look_at.ensures.looks b is)));
-      chains = λ start. chains_until (entries_of hs ps) (i + 1) n c.next_place-next-in-loop-next.ensures.from (chains_skip e rest same (v.chains start) c.look_at.ensures.images);
-      images = new_trans v.images c.look_at.ensures.images;
-      size = omega (arith, c.look_at.ensures.size);
-      written = omega (arith, c.look_at.ensures.written);
-      room = omega (arith, c.look_at.ensures.room);
-      failures = omega (arith, c.look_at.ensures.failures);
+          (picks_skip e rest same v.picks (reads_fewer c.look_at.ensures.reads) (λ b is. skip_key w c.args.hash c.args.key.now b e rest (has_it_not c.in_ok-look_at.field-0 (sym c.if-is_some.ensures) c.in_ok-look_at.ensures.looks b is)));
+      chains = λ start. chains_until (entries_of hs ps) (i + 1) n c.next_place-next-in-loop-next.ensures.from (chains_skip e rest same (v.chains start) (reads_fewer c.look_at.ensures.reads));
+      reads = reads_more v.reads c.look_at.ensures.reads;
     }
 
 pub returns-clause-tells : goal.returns-clause-tells
@@ -93,5 +86,5 @@ returns-clause-tells g c =
 pub returns-then-is_some-clause-failed : goal.returns-then-is_some-clause-failed
 returns-then-is_some-clause-failed g c = search rules
 
-pub returns-then-is_some-clause-images : goal.returns-then-is_some-clause-images
-returns-then-is_some-clause-images g c = search rules
+pub returns-then-is_some-clause-reads : goal.returns-then-is_some-clause-reads
+returns-then-is_some-clause-reads g c = search rules

@@ -4,7 +4,7 @@ use Rattle.cdb_store.specs.Images.{SameImages}
 use Rattle.cdb_store.proofs.Moves.{kept_same}
 use Rattle.cdb_form.specs.Format.Pair.{WordPair}
 use Rattle.cdb_make.specs.Finished.{IsFinished}
-use Rattle.cdb_make.proofs.FinishedFile.{kept_then}
+use Rattle.cdb_make.proofs.FinishedFile.{kept_then, head_kept, head_then}
 use Rattle.cdb_make.proofs.finish.finish.Goals as goal
 
 -- room that is made first changes no image
@@ -19,6 +19,15 @@ returns-in_err-reserve-clause-kept g c = kept_same _ _ c.reserve.ensures.images
 
 pub returns-in_err-write_parts-clause-kept : goal.returns-in_err-write_parts-clause-kept
 returns-in_err-write_parts-clause-kept g c = kept_then (kept_same _ _ c.reserve.ensures.images) c.write_parts.ensures.kept
+
+pub returns-in_err-reserve-clause-head_last : goal.returns-in_err-reserve-clause-head_last
+returns-in_err-reserve-clause-head_last g c = head_kept (kept_same _ _ c.reserve.ensures.images)
+
+pub returns-in_err-write_parts-clause-head_last : goal.returns-in_err-write_parts-clause-head_last
+returns-in_err-write_parts-clause-head_last g c = head_then c.reserve.ensures.images c.write_parts.ensures.head_last
+
+pub returns-clause-head_last : goal.returns-clause-head_last
+returns-clause-head_last g c = head_then c.reserve.ensures.images c.write_parts.ensures.head_last
 
 pub returns-clause-file : goal.returns-clause-file
 returns-clause-file g c = finished_same c.reserve.ensures.images c.in_ok-write_parts.ensures.file

@@ -1,6 +1,7 @@
 use Rattle.std.proofs.Common.{rules, subst, arith, ◌≡◌, ◌+◌, ◌*◌, ◌<◌, ◌≤◌, length, ℕ, true, false}
 use Rattle.cdb_store.specs.Images.{AreSized}
 use Rattle.cdb_make.specs.Looks.{TellsSame}
+use Rattle.cdb_make.proofs.Compare.{reads_fewer}
 use Rattle.cdb_make.proofs.Headers.{HasLengths, has_lengths, fewer_lengths, no_header, no_room, other_length, other_key, same_key}
 use Rattle.cdb_make.proofs.looking.look_at.Goals.{then-room-header-via-then-room-header, then-room-header-via-else-room-header+then-room-header-2, then-header-key-via-then-header-key, then-header-key-via-else-header-key+in_ok-key_is_at+then-not-branch}
 use Rattle.std.proofs.lemmas.Grind.{common_steps}
@@ -42,7 +43,7 @@ returns-then-header-key-clause-looks g c =
           let no : w.in_ok-key_is_at.field-0 ≡ false = search rules in
           let tells : TellsSame false c.saturating_add-key_place.result c.args.key.now (g.S.Store.image w.key_is_at.new.store) =
           subst (λ v. TellsSame v c.saturating_add-key_place.result c.args.key.now (g.S.Store.image w.key_is_at.new.store)) no w.in_ok-key_is_at.ensures.same in
-          rw w.store-is (other_key c.saturating_add-key_place.result c.args.end c.args.key.now at same (fewer_lengths w.key_is_at.ensures.images h) fits tells))
+          rw w.store-is (other_key c.saturating_add-key_place.result c.args.end c.args.key.now at same (fewer_lengths (reads_fewer w.key_is_at.ensures.reads) h) fits tells))
     ]
 
 pub returns-clause-looks : goal.returns-clause-looks
@@ -58,16 +59,13 @@ returns-clause-looks g c =
     let yes : c.in_ok-key_is_at.field-0 ≡ true = search rules in
     let tells : TellsSame true c.saturating_add-key_place.result c.args.key.now (g.S.Store.image c.key_is_at.new.store) =
     subst (λ v. TellsSame v c.saturating_add-key_place.result c.args.key.now (g.S.Store.image c.key_is_at.new.store)) yes c.in_ok-key_is_at.ensures.same in
-    same_key c.saturating_add-key_place.result c.args.end _ c.args.key.now at (omega (arith, c.pair_size-header_size.ensures)) same (fewer_lengths c.key_is_at.ensures.images h) fits tells
+    same_key c.saturating_add-key_place.result c.args.end _ c.args.key.now at (omega (arith, c.pair_size-header_size.ensures)) same (fewer_lengths (reads_fewer c.key_is_at.ensures.reads) h) fits tells
 
 pub read_header-header-requires : goal.read_header-header-requires
 read_header-header-requires g c = grind (arith, common_steps)
 
-pub returns-clause-images : goal.returns-clause-images
-returns-clause-images g c = grind (arith, common_steps)
-
-pub returns-then-header-key-clause-written : goal.returns-then-header-key-clause-written
-returns-then-header-key-clause-written g c = grind (arith, common_steps)
+pub returns-clause-reads : goal.returns-clause-reads
+returns-clause-reads g c = grind (arith, common_steps)
 
 pub returns-then-room-header-clause-failed : goal.returns-then-room-header-clause-failed
 returns-then-room-header-clause-failed g c = grind (arith, common_steps)

@@ -1,6 +1,7 @@
 use Rattle.std.proofs.Common.{arith, ap, ◌∙◌, ◌≡◌, ℕ, get_or}
 use Rattle.std.proofs.lemmas.Result.{IfOk-weaker}
 use Rattle.cdb_form.specs.Format.Hash.{table_number}
+use Rattle.cdb_make.proofs.Compare.{reads_fewer}
 use Rattle.cdb_make.specs.Views.EntryList.{list_entries}
 use Rattle.cdb_make.proofs.Whole.{there_found, none_stands, stands_fewer}
 use Rattle.cdb_make.proofs.taking_out.exists.Goals as goal
@@ -12,7 +13,7 @@ returns-clause-there g c = λ rs stands.
     ap list_entries c.index-lists-table_number.is
     ∙ ap (λ (n : ℕ). list_entries (get_or c.args.lists.now n d)) (c.table_number.ensures.number ∙ ap table_number c.from.ensures) in
     IfOk-weaker c.some_has.result _ _
-    (λ there tells. there_found there g.L.Width.TOP c.args.end c.args.lists.now d rs g.met.L.Width.top_is (omega (arith, c.requires.fits, g.met.L.Width.greatest_fits.0)) c.requires.all c.requires.hash here c.some_has.ensures.images stands tells)
+    (λ there tells. there_found there g.L.Width.TOP c.args.end c.args.lists.now d rs g.met.L.Width.top_is (omega (arith, c.requires.fits, g.met.L.Width.greatest_fits.0)) c.requires.all c.requires.hash here (reads_fewer c.some_has.ensures.reads) stands tells)
     c.some_has.ensures.tells
 
 pub returns-clause-foreign : goal.returns-clause-foreign
@@ -21,7 +22,7 @@ returns-clause-foreign g c = λ err rs stands.
     let here : list_entries d ≡ list_entries (get_or c.args.lists.now (table_number c.args.hash) d) =
     ap list_entries c.index-lists-table_number.is
     ∙ ap (λ (n : ℕ). list_entries (get_or c.args.lists.now n d)) (c.table_number.ensures.number ∙ ap table_number c.from.ensures) in
-    none_stands {start = 0} c.args.hash g.L.Width.TOP c.args.end c.args.lists.now d rs g.met.L.Width.top_is (omega (arith, c.requires.fits, g.met.L.Width.greatest_fits.0)) c.requires.all (omega arith) here c.some_has.ensures.images stands (c.some_has.ensures.foreign err 0)
+    none_stands {start = 0} c.args.hash g.L.Width.TOP c.args.end c.args.lists.now d rs g.met.L.Width.top_is (omega (arith, c.requires.fits, g.met.L.Width.greatest_fits.0)) c.requires.all (omega arith) here (reads_fewer c.some_has.ensures.reads) stands (c.some_has.ensures.foreign err 0)
 
 pub returns-clause-stands : goal.returns-clause-stands
-returns-clause-stands g c = λ rs stands. stands_fewer c.some_has.ensures.images stands
+returns-clause-stands g c = λ rs stands. stands_fewer (reads_fewer c.some_has.ensures.reads) stands

@@ -2,6 +2,7 @@ use Rattle.std.proofs.Common.{arith, sym, ap, ◌<◌, ◌∙◌, ◌≡◌, ℕ
 use Rattle.std.proofs.lemmas.List.{get_or-map}
 use Rattle.std.proofs.lemmas.Result.{on_ok_weaker}
 use Rattle.cdb_form.specs.Format.Hash.{table_number}
+use Rattle.cdb_make.proofs.Compare.{reads_fewer}
 use Rattle.cdb_make.specs.Views.EntryList.{list_entries, lists_entries}
 use Rattle.cdb_make.specs.declared.list.EntryList.{EntryList}
 use Rattle.cdb_make.proofs.Whole.{gaps_found, count_found, none_stands, stands_fewer}
@@ -36,7 +37,7 @@ returns-clause-gaps g c = λ rs stands.
     ap list_entries c.index-lists-table_number.is
     ∙ ap (λ (n : ℕ). list_entries (get_or c.args.lists.now n d)) (c.table_number.ensures.number ∙ ap table_number c.from.ensures) in
     on_ok_weaker c.find_gaps.result
-    (λ picks. gaps_found g.L.Width.TOP c.args.end c.args.lists.now d rs g.met.L.Width.top_is (omega (arith, c.requires.fits, g.met.L.Width.greatest_fits.0)) c.requires.all c.requires.hash here c.find_gaps.ensures.images stands picks)
+    (λ picks. gaps_found g.L.Width.TOP c.args.end c.args.lists.now d rs g.met.L.Width.top_is (omega (arith, c.requires.fits, g.met.L.Width.greatest_fits.0)) c.requires.all c.requires.hash here (reads_fewer c.find_gaps.ensures.reads) stands picks)
     c.find_gaps.ensures.picks
 
 pub returns-clause-count : goal.returns-clause-count
@@ -48,7 +49,7 @@ returns-clause-foreign g c = λ err rs stands.
     let here : list_entries d ≡ list_entries (get_or c.args.lists.now (table_number c.args.hash) d) =
     ap list_entries c.index-lists-table_number.is
     ∙ ap (λ (n : ℕ). list_entries (get_or c.args.lists.now n d)) (c.table_number.ensures.number ∙ ap table_number c.from.ensures) in
-    none_stands c.args.hash g.L.Width.TOP c.args.end c.args.lists.now d rs g.met.L.Width.top_is (omega (arith, c.requires.fits, g.met.L.Width.greatest_fits.0)) c.requires.all (omega (arith, c.head_size-start.ensures)) here c.find_gaps.ensures.images stands (c.find_gaps.ensures.foreign err)
+    none_stands c.args.hash g.L.Width.TOP c.args.end c.args.lists.now d rs g.met.L.Width.top_is (omega (arith, c.requires.fits, g.met.L.Width.greatest_fits.0)) c.requires.all (omega (arith, c.head_size-start.ensures)) here (reads_fewer c.find_gaps.ensures.reads) stands (c.find_gaps.ensures.foreign err)
 
 pub returns-clause-stands : goal.returns-clause-stands
-returns-clause-stands g c = λ rs stands. stands_fewer c.find_gaps.ensures.images stands
+returns-clause-stands g c = λ rs stands. stands_fewer (reads_fewer c.find_gaps.ensures.reads) stands

@@ -1,25 +1,24 @@
-use Rattle.std.proofs.Common.{refl, ap, ◌∙◌, Err, rules, arith}
+use Rattle.std.proofs.Common.{refl, ap, sym, subst, ◌∙◌, Err, rules, arith}
+use Rattle.cdb_store.specs.Reads.{OnlyReads}
+use Rattle.cdb_make.proofs.Compare.{reads_fewer}
 use Rattle.cdb_make.proofs.Makers.{writes_looked, fails_looked}
 use Rattle.std.proofs.lemmas.Grind.{common_steps}
 use Rattle.cdb_make.proofs.maker.Maker.find.Goals as goal
 
 pub returns-in-Ok-clause-ok : goal.returns-in-Ok-clause-ok
-returns-in-Ok-clause-ok g c = writes_looked c.if-self.false c.if-self.false refl refl c.find.ensures.images c.find.ensures.written
+returns-in-Ok-clause-ok g c = writes_looked c.if-self.false c.if-self.false refl refl (reads_fewer c.find.ensures.reads) c.find.ensures.reads.written
 
 pub returns-in-Err-clause-fails : goal.returns-in-Err-clause-fails
 returns-in-Err-clause-fails g c =
     let e = c.failed_look.ensures in
-    fails_looked {s = g.S.Store} {l = g.L.Width} _ _ c.find.new.store c.deref.result.now c.in-Err.fault _ c.deref.ensures.value e.fault c.if-self.false e.broken e.counts.end e.lists e.store c.find.ensures.images c.find.ensures.written
+    fails_looked {s = g.S.Store} {l = g.L.Width} _ _ c.find.new.store c.deref.result.now c.in-Err.fault _ c.deref.ensures.value e.fault c.if-self.false e.broken e.counts.end e.lists e.store (reads_fewer c.find.ensures.reads) c.find.ensures.reads.written
     (λ h. c.find.ensures.failed (c.in-Err.is ∙ ap Err h)) (λ h. c.find.ensures.foreign (c.in-Err.is ∙ ap Err h))
 
 pub returns-in-Ok-clause-count : goal.returns-in-Ok-clause-count
 returns-in-Ok-clause-count g c = search rules
 
-pub returns-in-Err-clause-room : goal.returns-in-Err-clause-room
-returns-in-Err-clause-room g c = grind (arith, common_steps)
-
-pub returns-in-Err-clause-failures : goal.returns-in-Err-clause-failures
-returns-in-Err-clause-failures g c = grind (arith, common_steps)
+pub returns-in-Err-clause-reads : goal.returns-in-Err-clause-reads
+returns-in-Err-clause-reads g c = subst (OnlyReads g.S.Store c.args.self.now.store) (sym c.failed_look.ensures.store) c.find.ensures.reads
 
 pub find-requires-clause-room : goal.find-requires-clause-room
 find-requires-clause-room g c = grind (arith, common_steps)

@@ -10,7 +10,7 @@ returns-in_err-self-clause-fails g c =
     let p = err_from_is_err_and c.from_residual-in_err-self.result c.from_residual-in_err-self.ensures.1 in
     let e = c.in_ok-taken.ensures in
     let some : 0 < length c.find.new.self.gaps.items = omega (arith, c.if-taken-gt0.true, e.count) in
-    rw (p.1, p.2) (fails_removing {s = g.S.Store} {l = g.L.Width} _ c.find.new.self _ _ _ e.ok c.take_out.ensures.broken some c.find.ensures.failures e.gaps (comes_torn c.take_out.ensures.torn) (c.in_err-self.ensures.fails _))
+    rw (p.1, p.2) (fails_removing {s = g.S.Store} {l = g.L.Width} _ c.find.new.self _ _ _ e.ok c.take_out.ensures.broken some c.find.ensures.reads.failures e.gaps (comes_torn c.take_out.ensures.torn) (c.in_err-self.ensures.fails _))
 
 pub returns-in_ok-self-clause-removes : goal.returns-in_ok-self-clause-removes
 returns-in_ok-self-clause-removes g c =

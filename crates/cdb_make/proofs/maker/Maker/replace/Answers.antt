@@ -22,7 +22,7 @@ returns-in_err-add-clause-fails g c =
     let p = err_from_is_err_and c.from_residual-in_err-add.result c.from_residual-in_err-add.ensures.1 in
     let e = c.in_ok-taken.ensures in
     let none : c.find.new.self.gaps.items ≡ [] = nil_from_length c.find.new.self.gaps.items (omega (arith, e.count, c.if-taken-eq0.true)) in
-    rw (p.1, p.2) (fails_added {s = g.S.Store} {l = g.L.Width} _ c.find.new.self _ Replace _ Added _ e.ok c.find.ensures.counts.limit c.find.ensures.failures c.add.ensures.comes (λ rs h. just_replace rs _ none (e.gaps rs h)) c.in_err-add.ensures.fails)
+    rw (p.1, p.2) (fails_added {s = g.S.Store} {l = g.L.Width} _ c.find.new.self _ Replace _ Added _ e.ok c.find.ensures.counts.limit c.find.ensures.reads.failures c.add.ensures.comes (λ rs h. just_replace rs _ none (e.gaps rs h)) c.in_err-add.ensures.fails)
 
 pub returns-then-taken-eq0-clause-puts : goal.returns-then-taken-eq0-clause-puts
 returns-then-taken-eq0-clause-puts g c =
@@ -97,7 +97,7 @@ returns-in_err-reserve-clause-fails g c =
     let would = would_replace {s = g.S.Store} {l = g.L.Width} c.args.self.now m r e.ok c.find.ensures.counts.limit e.gaps fit in
     rw (p.1, p.2, fault)
     (fails_wanting {s = g.S.Store} {l = g.L.Width} _ m _ _ (m.end - c.all_sizes-gone.result) e.ok (writes_looked e.ok.stays.whole e.ok.stays.whole refl refl (record { no_other = c.reserve.ensures.images.no_other }) c.reserve.ensures.written)
-    c.find.ensures.room e.gaps (omega arith) (omega (arith, c.in_err-reserve.ensures.past_room, c.pair_size-2.ensures)) same
+    c.find.ensures.reads.room e.gaps (omega arith) (omega (arith, c.in_err-reserve.ensures.past_room, c.pair_size-2.ensures)) same
     (λ rs h. honest_comes same (would rs h)))
 
 pub returns-in_err-exchange-clause-fails : goal.returns-in_err-exchange-clause-fails
@@ -117,7 +117,7 @@ returns-in_err-exchange-clause-fails g c =
     let fit : m.end + 4 * w * m.count + whole_size w r ≤ m.limit + sum_by (λ (v : Gap). v.size) m.gaps.items + 4 * w * length m.gaps.items = omega (arith, c.size.ensures.is, c.if-not-has_room.ensures.room refl) in
     let would = would_replace {s = g.S.Store} {l = g.L.Width} c.args.self.now m r e.ok c.find.ensures.counts.limit e.gaps fit in
     rw (p.1, p.2)
-    (fails_exchange {s = g.S.Store} {l = g.L.Width} _ _ _ _ _ (writes_then _ m _ e.ok more) (omega (arith, c.find.ensures.failures, c.reserve.ensures.failures)) (λ rs h. gaps_same c.reserve.ensures.images (e.gaps rs h))
+    (fails_exchange {s = g.S.Store} {l = g.L.Width} _ _ _ _ _ (writes_then _ m _ e.ok more) (omega (arith, c.find.ensures.reads.failures, c.reserve.ensures.failures)) (λ rs h. gaps_same c.reserve.ensures.images (e.gaps rs h))
     (omega (arith, c.if-taken-eq0.false, e.count)) c.in_err-exchange.ensures.broken c.exchange.ensures.comes
     (λ rs h. honest_comes (comes_then (comes_same c.reserve.ensures.images) c.exchange.ensures.comes) (would rs h)) c.in_err-exchange.ensures.fails)
 
