@@ -1,21 +1,11 @@
 -- Bytes that are read piece by piece.
-use Rattle.std.proofs.Common.{◌≡◌, ℕ, ◌+◌, List, ◌++◌, length, sym, ap, ◌∙◌, arith, subst, Option}
+use Rattle.std.proofs.Common.{◌≡◌, ℕ, ◌+◌, List, ◌++◌, length, sym, ap, ◌∙◌, subst, Option}
 use Rattle.std.specs.Io.KnownBytes.{Appends}
 use Rattle.cdb_store.specs.Images.{AfterRead, part}
-use Rattle.cdb_store.specs.declared.store.Store.{Ghosts}
 use Rattle.cdb_store.proofs.Parts.{part_add}
 use Rattle.cdb_form.specs.Views.KnownBytes.{AppendsFront}
 use Rattle.cdb_form.proofs.WritingLemmas.{appends_then, front_then}
-use Rattle.cdb_read.specs.Views.Reads.{OnlyReads}
-
-pub reads_more : {S : Type 0} {s : Ghosts S} {a b c : S} → OnlyReads s a b → OnlyReads s b c → OnlyReads s a c
-reads_more p q = record {
-  images = λ x is. p.images x (q.images x is);
-  size = q.size ∙ p.size;
-  written = q.written ∙ p.written;
-  room = (let f = p.room in let g = q.room in omega arith);
-  failures = (let f = p.failures in let g = q.failures in omega arith);
-}
+pub use Rattle.cdb_store.proofs.Reading.{reads_more}
 
 -- in each image, a writer holds what it held and then n bytes from a place on
 pub record HasCopied (place n : ℕ) (old new : Option (List ℕ)) (images : List ℕ → Type 0) : Type 0 where

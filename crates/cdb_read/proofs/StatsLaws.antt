@@ -13,7 +13,8 @@ use Rattle.cdb_form.specs.Format.Walk.{walk_of}
 use Rattle.cdb_read.specs.Statistics.{statistics_of, statistics_damage, is_outside, key_lengths, value_lengths, table_sizes, distances_of, stats_of}
 use Rattle.cdb_read.specs.Views.Counting.{Counts, Spreads}
 use Rattle.cdb_read.specs.Views.Lengths.{HasLengths, LengthsFail}
-use Rattle.cdb_read.specs.Views.Reads.{OnlyReads, StoreFails}
+use Rattle.cdb_store.specs.Reads.{OnlyReads}
+use Rattle.cdb_read.specs.Views.Reads.{StoreFails}
 use Rattle.cdb_read.specs.Views.Inside.{StandsInside}
 use Rattle.cdb_read.specs.Views.Stats.{HasStats, StatsFail}
 use Rattle.cdb_read.specs.declared.distances.Distances.{Distances}

@@ -4,7 +4,7 @@ use Rattle.cdb_store.specs.declared.store.Store.{Ghosts}
 use Rattle.cdb_form.specs.declared.damage.Damage.{Damage}
 use Rattle.cdb_form.specs.declared.damage.Damage.TheVariants as damage
 use Rattle.cdb_read.specs.Views.Check.{FaultTells, InEach, ReadTells, CheckTells}
-use Rattle.cdb_read.specs.Views.Reads.{OnlyReads}
+use Rattle.cdb_store.specs.Reads.{OnlyReads}
 use Rattle.cdb_read.specs.declared.fault.ReadFault.{ReadFault}
 use Rattle.cdb_read.specs.declared.fault.ReadFault.TheVariants.{Short, Table, Record, Slot, Twice, Unindexed, Device, NoMemory, Output}
 

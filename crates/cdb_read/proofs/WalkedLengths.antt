@@ -1,5 +1,5 @@
 -- The lengths of the records that a walk has given.
-use Rattle.std.proofs.Common.{◌≡◌, ℕ, ◌+◌, ◌<◌, ◌≤◌, ◌⊎◌, inl, inr, List, [], ◌∷◌, ◌++◌, length, refl, sym, ap, ◌∙◌, subst, append_assoc, arith}
+use Rattle.std.proofs.Common.{◌≡◌, ℕ, ◌+◌, ◌<◌, ◌≤◌, ◌⊎◌, inl, inr, List, [], ◌∷◌, ◌++◌, length, sym, ap, ◌∙◌, subst, append_assoc, arith}
 use Rattle.std.specs.Prelude.{Some}
 use Rattle.cdb_store.specs.declared.store.Store.{Ghosts}
 use Rattle.cdb_form.specs.declared.width.Width.{Ghosts as Widths}
@@ -13,7 +13,8 @@ use Rattle.cdb_read.specs.Lookup.{bytes_of}
 use Rattle.cdb_read.specs.Statistics.{key_lengths, value_lengths}
 use Rattle.cdb_read.specs.Views.Counting.{Spreads}
 use Rattle.cdb_read.specs.Views.Lengths.{HasLengths, LengthsFail}
-use Rattle.cdb_read.specs.Views.Reads.{OnlyReads}
+pub use Rattle.cdb_store.proofs.Reading.{reads_nothing}
+use Rattle.cdb_store.specs.Reads.{OnlyReads}
 use Rattle.cdb_read.specs.Views.Walk.{left_of, WalkingFails}
 use Rattle.cdb_read.specs.Views.Walking.{record_of, behind, LiesAt}
 use Rattle.cdb_read.specs.declared.fault.ReadFault.{ReadFault}
@@ -66,17 +67,6 @@ few_more w place next count now pair some lies is few more =
 pub some_word : (w : ℕ) → (w ≡ 4) ⊎ (w ≡ 8) → 0 < w
 some_word w (inl e) = omega arith
 some_word w (inr e) = omega arith
-
-pub reads_nothing : {S : Type 0} {s : Ghosts S} (old new : S) → new ≡ old → OnlyReads s old new
-reads_nothing {s = s} old new same =
-    subst (OnlyReads s old) (sym same)
-    (record {
-      images = λ b is. is;
-      size = refl;
-      written = refl;
-      room = omega arith;
-      failures = omega arith;
-    })
 
 -- nothing is left
 pub walked_all : (w : ℕ) (b : List ℕ) (left : Walked) (lengths : Lengths) → WalkedSoFar w b left lengths.keys lengths.values → left ≡ no_walk → HasLengths w b lengths

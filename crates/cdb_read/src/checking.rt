@@ -5,7 +5,7 @@ ghost use Rattle.cdb_read.specs.Sound.{IsSound};
 ghost use Rattle.cdb_read.specs.Views.Check.{CheckFails, ReadTells};
 ghost use Rattle.cdb_read.specs.Views.Checked.{TablesAreClear, TablesHave};
 ghost use Rattle.cdb_read.specs.Views.Inside.{StandsInside};
-ghost use Rattle.cdb_read.specs.Views.Reads.{OnlyReads};
+ghost use Rattle.cdb_store.specs.Reads.{OnlyReads};
 
 use crate::entries::Entries;
 use crate::fault::ReadFault;
@@ -53,7 +53,7 @@ impl<S: Store, L: Width> Reader<S, L> {
 /// The walk, and then the slots, are read through the window, 4096 bytes at once. It takes 13 bytes
 /// of memory a record, and time in order n log n. Whatever it answers, the reader stays as usable
 /// as it was.
-pub fn check<S: Store, L: Width>(alloc: Global, reader: &mut Reader<S, L>) -> Result<(), ReadFault>
+pub fn check<L: Width, S: Store>(alloc: Global, reader: &mut Reader<S, L>) -> Result<(), ReadFault>
     ensures reads { OnlyReads S.Store reader.old.store reader.new.store }
     ensures sound { (b : List ℕ) → S.image reader.new.store b
         → OnOk result (IsSound L.WORD b) }

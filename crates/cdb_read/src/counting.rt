@@ -5,7 +5,8 @@ ghost use Rattle.cdb_form.specs.Views.Pairs.{pointer_pair};
 ghost use Rattle.cdb_read.specs.Statistics.{distances_of};
 ghost use Rattle.cdb_read.specs.Views.Counting.{Counts};
 ghost use Rattle.cdb_read.specs.Views.Inside.{StandsInside};
-ghost use Rattle.cdb_read.specs.Views.Reads.{OnlyReads, StoreFails};
+ghost use Rattle.cdb_store.specs.Reads.{OnlyReads};
+ghost use Rattle.cdb_read.specs.Views.Reads.{StoreFails};
 ghost use Rattle.cdb_read.specs.Views.Stats.{HasStats, StatsFail};
 
 use crate::distances::Distances;
@@ -37,7 +38,7 @@ impl<S: Store, L: Width> Reader<S, L> {
 /// It answers `Table` where a table with slots doesn't lie behind the head and inside the file,
 /// the first one by its number; else `Record` where no whole record stands; and `Device` where the
 /// store failed. The reader stays as usable as it was.
-pub fn stats<S: Store, L: Width>(reader: &mut Reader<S, L>) -> Result<Stats, ReadFault>
+pub fn stats<L: Width, S: Store>(reader: &mut Reader<S, L>) -> Result<Stats, ReadFault>
     ensures reads { OnlyReads S.Store reader.old.store reader.new.store }
     ensures counts { (b : List ℕ) → S.image reader.new.store b
         → IfOk result (HasStats L.WORD b) }

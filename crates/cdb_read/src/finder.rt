@@ -7,7 +7,8 @@ ghost use Rattle.cdb_form.specs.Views.KnownBytes.{AppendsFront};
 ghost use Rattle.cdb_form.specs.Views.Pairs.{pointer_pair};
 ghost use Rattle.cdb_read.specs.Lookup.{bytes_of, lookup_of};
 ghost use Rattle.cdb_read.specs.Views.Inside.{LiesInside};
-ghost use Rattle.cdb_read.specs.Views.Reads.{OnlyReads, StoreFails, CopyingFails};
+ghost use Rattle.cdb_store.specs.Reads.{OnlyReads};
+ghost use Rattle.cdb_read.specs.Views.Reads.{StoreFails, CopyingFails};
 ghost use Rattle.cdb_read.specs.Views.Search.{found_ahead, Meets, MetWithin};
 ghost use Rattle.cdb_read.specs.Views.Turning.{TurnInside, IsTurnInside};
 
@@ -33,7 +34,7 @@ pub struct Finder<'a, S: Store, L: Width> {
 }
 
 /// Whether a table lies behind the head and inside a file of so many bytes.
-pub(crate) fn lies_inside<L: Width>(table: Pointer, size: u64) -> bool
+pub fn lies_inside<L: Width>(table: Pointer, size: u64) -> bool
     ensures { Decides result (LiesInside L.WORD size (pointer_pair table)) }
 {
     let slot_size = pair_size::<L>() as u64;

@@ -1,7 +1,8 @@
 // The record at a place, and whether it has a key.
 ghost use Rattle.std.specs.Prelude.{◌≡◌, ◌+◌, ◌<◌, ◌≤◌, ◌^◌, length, IfOk, IfErr};
 ghost use Rattle.std.specs.Bool.{Decides};
-ghost use Rattle.cdb_read.specs.Views.Reads.{OnlyReads, StoreFails};
+ghost use Rattle.cdb_store.specs.Reads.{OnlyReads};
+ghost use Rattle.cdb_read.specs.Views.Reads.{StoreFails};
 ghost use Rattle.cdb_read.specs.Views.Search.{TellsSame, LooksAt, LookWithin};
 ghost use Rattle.cdb_read.specs.Views.Window.{Shows};
 
@@ -13,7 +14,7 @@ use cdb_store::Store;
 
 /// What stands at a place.
 #[derive(Clone, Copy)]
-pub(crate) enum Look {
+pub enum Look {
     /// No whole record.
     Broken,
     /// A record with another key.
@@ -50,7 +51,7 @@ fn key_is_at<S: Store>(
 }
 
 /// Whether a file of so many bytes has `len` bytes from a place on.
-pub(crate) fn has_bytes(size: u64, place: u64, len: u64) -> bool
+pub fn has_bytes(size: u64, place: u64, len: u64) -> bool
     ensures { Decides result (place + len ≤ size) }
 {
     place <= size && len <= size - place

@@ -6,7 +6,8 @@ ghost use Rattle.cdb_form.specs.Format.Reading.{head_at};
 ghost use Rattle.cdb_form.specs.Views.Pairs.{head_pairs};
 ghost use Rattle.cdb_form.specs.Views.KnownBytes.{AppendsFront};
 ghost use Rattle.cdb_read.specs.Lookup.{bytes_of};
-ghost use Rattle.cdb_read.specs.Views.Reads.{OnlyReads, OpeningFails, CopyingFails, ValueFails};
+ghost use Rattle.cdb_store.specs.Reads.{OnlyReads};
+ghost use Rattle.cdb_read.specs.Views.Reads.{OpeningFails, CopyingFails, ValueFails};
 ghost use Rattle.cdb_read.specs.Views.Window.{Shows};
 
 use crate::fault::ReadFault;

@@ -2,7 +2,8 @@
 ghost use Rattle.std.specs.Prelude.{◌≡◌, ℕ, ◌+◌, ◌≤◌, List, IfOk, IfErr, MatchOption};
 ghost use Rattle.std.specs.Prelude.{Ok, Err, None};
 ghost use Rattle.cdb_read.specs.Lookup.{bytes_of};
-ghost use Rattle.cdb_read.specs.Views.Reads.{OnlyReads, ValueFails};
+ghost use Rattle.cdb_store.specs.Reads.{OnlyReads};
+ghost use Rattle.cdb_read.specs.Views.Reads.{ValueFails};
 
 use crate::fault::ReadFault;
 use crate::reader::Reader;

@@ -6,7 +6,8 @@ ghost use Rattle.cdb_form.specs.Views.Pairs.{pointer_pair, slot_pair};
 ghost use Rattle.cdb_read.specs.Lookup.{slots_at};
 ghost use Rattle.cdb_read.specs.Runs.{run_of};
 ghost use Rattle.cdb_read.specs.Views.Inside.{StandsInside};
-ghost use Rattle.cdb_read.specs.Views.Reads.{OnlyReads, StoreFails};
+ghost use Rattle.cdb_store.specs.Reads.{OnlyReads};
+ghost use Rattle.cdb_read.specs.Views.Reads.{StoreFails};
 ghost use Rattle.cdb_read.specs.Views.Window.{Shows};
 
 use crate::fault::ReadFault;

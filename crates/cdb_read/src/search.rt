@@ -2,7 +2,8 @@
 ghost use Rattle.std.specs.Prelude.{◌≡◌, ℕ, ◌<◌, ◌^◌, List, length, IfOk, IfErr};
 ghost use Rattle.cdb_form.specs.Format.Hash.{key_hash};
 ghost use Rattle.cdb_form.specs.Views.Pairs.{slot_pair};
-ghost use Rattle.cdb_read.specs.Views.Reads.{OnlyReads, StoreFails};
+ghost use Rattle.cdb_store.specs.Reads.{OnlyReads};
+ghost use Rattle.cdb_read.specs.Views.Reads.{StoreFails};
 ghost use Rattle.cdb_read.specs.Views.Search.{turn_slot, StepsFrom, StepWithin, Meets, MetWithin};
 ghost use Rattle.cdb_read.specs.Views.Turning.{TurnInside};
 ghost use Rattle.cdb_read.specs.Views.Window.{Shows};
@@ -21,7 +22,7 @@ const SLOTS_AHEAD: usize = 64;
 
 /// What one turn of a search comes to.
 #[derive(Clone, Copy)]
-pub(crate) enum Step {
+pub enum Step {
     /// The slot is empty, and ends the search.
     Empty,
     /// Its record has another key.
@@ -34,7 +35,7 @@ pub(crate) enum Step {
 
 /// What some turns of a search come to.
 #[derive(Clone, Copy)]
-pub(crate) enum Met {
+pub enum Met {
     /// No slot is left.
     End,
     /// A value, and the turn behind it.

@@ -6,7 +6,7 @@ ghost use Rattle.cdb_read.specs.Views.Check.{FaultTells, ReadTells};
 ghost use Rattle.cdb_read.specs.Views.Checked.{SlotIsClear, SlotHas, TableIsClear, TableHas};
 ghost use Rattle.cdb_read.specs.Views.Checked.{TablesAreClear, TablesHave};
 ghost use Rattle.cdb_read.specs.Views.Inside.{StandsInside};
-ghost use Rattle.cdb_read.specs.Views.Reads.{OnlyReads};
+ghost use Rattle.cdb_store.specs.Reads.{OnlyReads};
 ghost use Rattle.cdb_read.specs.Views.Window.{Shows};
 
 use crate::entries::Entries;

@@ -1,6 +1,7 @@
 // The record that stands at a place.
 ghost use Rattle.std.specs.Prelude.{◌≡◌, ◌<◌, IfOk, IfErr};
-ghost use Rattle.cdb_read.specs.Views.Reads.{OnlyReads, StoreFails};
+ghost use Rattle.cdb_store.specs.Reads.{OnlyReads};
+ghost use Rattle.cdb_read.specs.Views.Reads.{StoreFails};
 ghost use Rattle.cdb_read.specs.Views.Walking.{StandsAt, StandsWithin};
 ghost use Rattle.cdb_read.specs.Views.Window.{Shows};
 

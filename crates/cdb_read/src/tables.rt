@@ -10,7 +10,8 @@ ghost use Rattle.cdb_read.specs.Statistics.{distances_in, distances_of, is_outsi
 ghost use Rattle.cdb_read.specs.Statistics.{table_sizes};
 ghost use Rattle.cdb_read.specs.Views.Counting.{Counts, Spreads};
 ghost use Rattle.cdb_read.specs.Views.Inside.{StandsInside};
-ghost use Rattle.cdb_read.specs.Views.Reads.{OnlyReads, StoreFails};
+ghost use Rattle.cdb_store.specs.Reads.{OnlyReads};
+ghost use Rattle.cdb_read.specs.Views.Reads.{StoreFails};
 ghost use Rattle.cdb_read.specs.Views.Window.{Shows};
 
 use crate::distances::Distances;

@@ -6,7 +6,7 @@ use cdb_form::Pointer;
 
 /// What a search does next.
 #[derive(Clone, Copy)]
-pub(crate) enum Searching {
+pub enum Searching {
     /// It looks at a slot.
     At(Turn),
     /// Nothing is left.
@@ -19,18 +19,18 @@ pub(crate) enum Searching {
 
 /// A slot that a search looks at, of a table.
 #[derive(Clone, Copy)]
-pub(crate) struct Turn {
+pub struct Turn {
     /// Where the table stands.
-    pub(crate) table: Pointer,
+    pub table: Pointer,
     /// The number of the slot.
-    pub(crate) slot: u64,
+    pub slot: u64,
     /// How many slots are left, this one among them.
-    pub(crate) left: u64,
+    pub left: u64,
 }
 
 impl Turn {
     /// The turn behind this one. Behind the last slot comes the first.
-    pub(crate) fn next(self) -> Turn
+    pub fn next(self) -> Turn
         requires slot { self.slot < self.table.slots }
         requires left { 0 < self.left }
         ensures { result ≡ next_turn self }

@@ -2,7 +2,7 @@
 ghost use Rattle.std.specs.Prelude.{◌≡◌, ℕ, List, IfOk, IfErr, length};
 ghost use Rattle.cdb_read.specs.Views.Check.{CheckTells};
 ghost use Rattle.cdb_read.specs.Views.Checked.{HasEntries, WalkHas};
-ghost use Rattle.cdb_read.specs.Views.Reads.{OnlyReads};
+ghost use Rattle.cdb_store.specs.Reads.{OnlyReads};
 
 use crate::entries::Entries;
 use crate::fault::ReadFault;

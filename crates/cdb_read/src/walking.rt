@@ -3,7 +3,8 @@ ghost use Rattle.std.specs.Prelude.{◌≡◌, ℕ, ◌+◌, ◌<◌, ◌≤◌,
 ghost use Rattle.cdb_form.specs.Format.Walk.{walk_of};
 ghost use Rattle.cdb_form.specs.Format.Pair.{head_size};
 ghost use Rattle.cdb_read.specs.Lookup.{bytes_of};
-ghost use Rattle.cdb_read.specs.Views.Reads.{OnlyReads, StoreFails, ValueFails};
+ghost use Rattle.cdb_store.specs.Reads.{OnlyReads};
+ghost use Rattle.cdb_read.specs.Views.Reads.{StoreFails, ValueFails};
 ghost use Rattle.cdb_read.specs.Views.Walking.{walk_ahead, next_place, StandsAt, StandsWithin};
 ghost use Rattle.cdb_read.specs.Views.Walk.{left_of, place_of};
 
@@ -64,7 +65,7 @@ impl<S: Store, L: Width> Reader<S, L> {
 }
 
 /// A walk over the records of a database. Nothing is read yet.
-pub fn walk<S: Store, L: Width>(reader: &mut Reader<S, L>) -> Walk<'_, S, L>
+pub fn walk<L: Width, S: Store>(reader: &mut Reader<S, L>) -> Walk<'_, S, L>
     ensures same_reader { result.reader.ghost_name ≡ reader.entry.ghost_name }
     ensures reader { result.reader.now ≡ reader.old }
     ensures walks { (b : List ℕ) → S.image reader.old.store b

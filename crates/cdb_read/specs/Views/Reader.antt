@@ -1,7 +1,7 @@
 -- What a reader leaves of its store.
 use Rattle.cdb_store.specs.declared.store.Store.{Ghosts}
 use Rattle.cdb_form.specs.declared.width.Width.{Ghosts as Widths}
-use Rattle.cdb_read.specs.Views.Reads.{OnlyReads}
+use Rattle.cdb_store.specs.Reads.{OnlyReads}
 use Rattle.cdb_read.specs.declared.reader.Reader.{Reader}
 
 -- a database was opened in a store, which was read

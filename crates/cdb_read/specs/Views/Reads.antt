@@ -1,17 +1,10 @@
--- What reading leaves of a store, and why it ends.
+-- Why reading a store ends.
 use Rattle.std.specs.Prelude.{ℕ, ◌≡◌, ◌<◌, ◌≤◌, List}
 use Rattle.cdb_store.specs.declared.store.Store.{Ghosts}
+pub use Rattle.cdb_store.specs.Reads.{OnlyReads}
 use Rattle.cdb_form.specs.Format.Pair.{head_size}
 use Rattle.cdb_read.specs.declared.fault.ReadFault.{ReadFault}
 use Rattle.cdb_read.specs.declared.fault.ReadFault.TheVariants.{Short, Device, NoMemory, Output}
-
--- a store was read and nothing else: its images are fewer or the same
-pub record OnlyReads {S : Type 0} (s : Ghosts S) (old new : S) : Type 0 where
-  pub images : (b : List ℕ) → s.image new b → s.image old b
-  pub size : s.size new ≡ s.size old
-  pub written : s.written new ≡ s.written old
-  pub room : s.room old ≤ s.room new
-  pub failures : s.failures old ≤ s.failures new
 
 -- why none was: the store is too short, and wasn't read, or it failed
 abbrev pub OpeningFails : {S : Type 0} → ℕ → Ghosts S → S → S → ReadFault → Type 0

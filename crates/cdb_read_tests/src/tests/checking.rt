@@ -103,7 +103,7 @@ fn files_of_other_programs_are_sound(rt: HostRuntime) -> Result<(), Fail> {
     Ok(())
 }
 
-const TABLES: [Row<'static>; 6] = [
+const TABLES: [Row<'static>; 8] = [
     (
         "a table at the end",
         56,
@@ -121,6 +121,18 @@ const TABLES: [Row<'static>; 6] = [
         2040,
         b"\x42\x08\0\0\x01\0\0\0",
         Err(ReadFault::Table(255)),
+    ),
+    (
+        "a pointer of all ones",
+        1032,
+        b"\xff\xff\xff\xff\xff\xff\xff\xff",
+        Err(ReadFault::Table(129)),
+    ),
+    (
+        "a key length of all ones",
+        2048,
+        b"\xff\xff\xff\xff",
+        Err(ReadFault::Record(2048)),
     ),
     (
         "a value that passes the record end",
@@ -148,8 +160,18 @@ const TABLES: [Row<'static>; 6] = [
 fn tables_and_records_are_told(rt: HostRuntime) -> Result<(), Fail> {
     let other = not_told(rt.alloc(), &TABLES)?;
     assert!(rt; other.is_empty(), "{other}");
-    let cut = of_cut(rt.alloc(), 2070, Err(ReadFault::Table(41)))?;
-    assert!(rt; cut, "cut within the second record");
+    let ones = of_wide(rt.alloc(), 4096, &[0xff; 16], Err(ReadFault::Record(4096)))?;
+    assert!(rt; ones, "a wide header of all ones");
+    Ok(())
+}
+
+#[test]
+fn a_file_that_is_cut_has_lost_its_tables(rt: HostRuntime) -> Result<(), Fail> {
+    for len in 2048..2114usize {
+        let lost = if len < 2098 { 41 } else { 129 };
+        let cut = of_cut(rt.alloc(), len, Err(ReadFault::Table(lost)));
+        assert!(rt; cut == Ok(true), "{len}");
+    }
     Ok(())
 }
 

@@ -111,14 +111,16 @@ fn damaged_files_are_not_counted(rt: HostRuntime) -> Result<(), Fail> {
     let alloc = rt.alloc();
     // Table 7 begins at the file's end.
     let outside = b"\x42\x08\0\0\x01\0\0\0";
-    // A table at the end, one in the head; and a value with a byte more, which passes the record
-    // end.
+    let ones = b"\xff\xff\xff\xff\xff\xff\xff\xff";
+    // A table at the end, one in the head; a pointer of all ones; and a value with a byte more,
+    // which passes the record end.
     let are_told = [
         counts_with(alloc, 56, outside, Err(ReadFault::Table(7)))?,
         counts_with(alloc, 0, b"\x64\0\0\0\x01\0\0\0", Err(ReadFault::Table(0)))?,
+        counts_with(alloc, 1032, ones, Err(ReadFault::Table(129)))?,
         counts_with(alloc, 2068, b"\x08", Err(ReadFault::Record(2064)))?,
     ];
-    assert!(rt; are_told == [true; 3], "{are_told:?}");
+    assert!(rt; are_told == [true; 4], "{are_told:?}");
     let both = changed(changed(two_file(alloc)?, 56, outside), 2068, b"\x08");
     let is_told = always_counts::<Narrow>(&both, Err(ReadFault::Table(7)))?;
     assert!(rt; is_told, "a table is told before a record");

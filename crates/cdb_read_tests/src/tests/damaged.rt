@@ -1,6 +1,6 @@
 // Look-ups in files that are damaged, or that another program made.
-use super::files::{changed, two_file, wide_file};
-use super::finding::{Answer, always_gives, two_values, value};
+use super::files::{changed, fused, two_file, wide_file};
+use super::finding::{Answer, always_gives, gives, two_values, value};
 use cdb_form::{Narrow, Wide};
 use cdb_read::ReadFault;
 use std::alloc::{AllocError, Global};
@@ -131,6 +131,14 @@ fn files_of_another_program_are_looked_up(rt: HostRuntime) -> Result<(), Fail> {
         always_gives::<Narrow>(&zeros, b"a", &[NONE, NONE])?,
     ];
     assert!(rt; are_found == [true; 4], "{are_found:?}");
+    Ok(())
+}
+
+#[test]
+fn a_look_up_asks_for_one_slot_where_there_is_one(rt: HostRuntime) -> Result<(), Fail> {
+    // The head, and then the slot, which is the file's end.
+    let asked = gives::<Narrow>(fused(foreign(rt.alloc())?, u64::MAX), b"bc", &[NONE]);
+    assert!(rt; asked == Ok((true, 2)), "{asked:?}");
     Ok(())
 }
 

@@ -1,4 +1,5 @@
 // Look-ups: values in order, damage, and a store that fails each call in turn.
+use super::counting::four_file;
 use super::files::{Fused, changed, fused, opened_again, two_file, wide_file};
 use cdb_form::{Narrow, Wide, Width};
 use cdb_read::{Finder, ReadFault, Span};
@@ -18,7 +19,11 @@ fn next_again<L: Width>(finder: &mut Finder<'_, Fused, L>) -> Answer {
 }
 
 /// Whether the look-up of a key gives these answers, and how many calls the store then counted.
-fn gives<L: Width>(store: Fused, key: &[u8], wanted: &[Answer]) -> Result<(bool, u64), ReadFault> {
+pub(super) fn gives<L: Width>(
+    store: Fused,
+    key: &[u8],
+    wanted: &[Answer],
+) -> Result<(bool, u64), ReadFault> {
     let mut reader = opened_again::<L>(store)?;
     let mut finder = reader.find(key);
     let mut same = true;
@@ -84,6 +89,21 @@ fn the_values_of_worked_files_are_found(rt: HostRuntime) -> Result<(), Fail> {
 }
 
 #[test]
+fn four_values_are_found_whichever_call_of_the_store_fails(rt: HostRuntime) -> Result<(), Fail> {
+    let wanted = [
+        value(2057, 1),
+        value(2067, 1),
+        value(2077, 1),
+        value(2087, 1),
+        Ok(None),
+        Ok(None),
+    ];
+    let four = always_gives::<Narrow>(&four_file(rt.alloc())?, b"a", &wanted);
+    assert!(rt; four == Ok(true), "{four:?}");
+    Ok(())
+}
+
+#[test]
 fn a_look_up_reads_little(rt: HostRuntime) -> Result<(), Fail> {
     let file = two_file(rt.alloc())?;
     // The head; then some slots, and a header with its key.
@@ -122,6 +142,58 @@ fn a_damage_is_met_and_stays(rt: HostRuntime) -> Result<(), Fail> {
     let damage = Err(ReadFault::Table(129));
     let met = always_gives::<Narrow>(&cut, b"one", &[damage, damage])?;
     assert!(rt; met, "a table that passes the end");
+    Ok(())
+}
+
+/// Adds a finder's next value, if any. A copy that failed is made again, and what it had written is
+/// left out.
+fn copy_next(
+    alloc: Global,
+    finder: &mut Finder<'_, Fused, Narrow>,
+    out: &mut Vec<u8>,
+) -> Result<bool, ReadFault> {
+    let Some(span) = finder.next()? else {
+        return Ok(false);
+    };
+    let mut piece = Vec::new(alloc);
+    if finder.copy(span, &mut piece) == Err(ReadFault::Device) {
+        piece = Vec::new(alloc);
+        finder.copy(span, &mut piece)?;
+    }
+    out.extend_from_slice(&piece)?;
+    Ok(true)
+}
+
+/// All values of a key, copied by a finder whose store fails at most one call: then it is asked
+/// again.
+fn all_copied(alloc: Global, store: Fused, key: &[u8]) -> Result<Vec<u8>, ReadFault> {
+    let mut out = Vec::new(alloc);
+    let mut reader = opened_again::<Narrow>(store)?;
+    let mut finder = reader.find(key);
+    for _ in 0..10u8 {
+        let is_more = match copy_next(alloc, &mut finder, &mut out) {
+            Err(ReadFault::Device) => copy_next(alloc, &mut finder, &mut out)?,
+            answer => answer?,
+        };
+        if !is_more {
+            break;
+        }
+    }
+    Ok(out)
+}
+
+/// Whether the four values of `a` are copied though the store fails its call of a number.
+fn copies_four(alloc: Global, fails: u64) -> Result<bool, ReadFault> {
+    let copied = all_copied(alloc, fused(four_file(alloc)?, fails), b"a")?;
+    Ok(copied.as_slice() == b"1234".as_slice())
+}
+
+#[test]
+fn four_values_are_copied_whichever_call_of_the_store_fails(rt: HostRuntime) -> Result<(), Fail> {
+    // The head; the slots, twice since they go round; a header with its key and a value, four times.
+    for fails in 0..16u64 {
+        assert!(rt; copies_four(rt.alloc(), fails) == Ok(true), "{fails}");
+    }
     Ok(())
 }
 

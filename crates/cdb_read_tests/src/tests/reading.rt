@@ -2,6 +2,7 @@
 ghost use Rattle.std.specs.Prelude.{◌+◌, ◌≤◌};
 ghost use Rattle.std.specs.Bool.{Decides};
 
+use super::counting::four_file;
 use super::files::{Fused, fused, opened_again, two_file, wide_file};
 use cdb_form::{Narrow, Wide, Width};
 use cdb_read::{ReadFault, Reader, Span};
@@ -196,10 +197,29 @@ fn a_copy_goes_on_whichever_call_of_the_store_fails(rt: HostRuntime) -> Result<(
     Ok(())
 }
 
-/// Why no database is opened in so many bytes over a store that fails a call of a number, and how
-/// many bytes the store has that is handed back.
+/// The values of the file of four of `a`, by their places.
+const FOUR: [(u64, &[u8]); 4] = [(2057, b"1"), (2067, b"2"), (2077, b"3"), (2087, b"4")];
+
+#[test]
+fn four_values_are_given_whichever_call_of_the_store_fails(rt: HostRuntime) -> Result<(), Fail> {
+    let alloc = rt.alloc();
+    for &(place, bytes) in &FOUR {
+        let span = Span { place, len: 1 };
+        // The first call is that of the opening, and the second is the value's.
+        for fails in [0, 1, u64::MAX] {
+            let value = has_value::<Narrow>(alloc, four_file(alloc)?, fails, span, bytes);
+            let copy = copies_again(alloc, four_file(alloc)?, fails, span, bytes);
+            assert!(rt; value == Ok(true) && copy == Ok(true), "{place}, {fails}");
+        }
+    }
+    Ok(())
+}
+
+/// The first bytes of the file of two records, so many, opened over a store that fails a call of a
+/// number: why not, and how many bytes the store has that is handed back.
 fn refusal(alloc: Global, size: usize, fails: u64) -> Result<Option<(ReadFault, u64)>, AllocError> {
-    let file = vec![in alloc; 0u8; size]?;
+    let mut file = two_file(alloc)?;
+    file.truncate(size);
     match Reader::<Fused, Narrow>::open(fused(file, fails)) {
         Ok(_) => Ok(None),
         Err(unread) => Ok(Some((unread.fault, unread.store.len()))),

@@ -1,4 +1,5 @@
 // Walks: records in order, damage, and a store that fails each call in turn.
+use super::counting::four_file;
 use super::files::{Fused, changed, fused, opened_again, two_file, wide_file};
 use cdb_form::{Narrow, Wide, Width};
 use cdb_read::{Pair, ReadFault, Span, Walk, walk};
@@ -78,13 +79,22 @@ fn the_records_of_worked_files_are_walked(rt: HostRuntime) -> Result<(), Fail> {
     let two = [given(ONE), given(TWO), Ok(None), Ok(None)];
     let wide = [pair(4096, 16, 3, 5), Ok(None), Ok(None)];
     let zeros = vec![in rt.alloc(); 0u8; 2048]?;
-    // Two records; in words of 8 bytes; and a head of zeros.
+    let four = [
+        pair(2048, 8, 1, 1),
+        pair(2058, 8, 1, 1),
+        pair(2068, 8, 1, 1),
+        pair(2078, 8, 1, 1),
+        Ok(None),
+        Ok(None),
+    ];
+    // Two records; four values of one key; in words of 8 bytes; and a head of zeros.
     let are_walked = [
         always_gives::<Narrow>(&two_file(rt.alloc())?, &two)?,
+        always_gives::<Narrow>(&four_file(rt.alloc())?, &four)?,
         always_gives::<Wide>(&wide_file(rt.alloc())?, &wide)?,
         always_gives::<Narrow>(&zeros, &[Ok(None), Ok(None)])?,
     ];
-    assert!(rt; are_walked == [true; 3], "{are_walked:?}");
+    assert!(rt; are_walked == [true; 4], "{are_walked:?}");
     Ok(())
 }
 

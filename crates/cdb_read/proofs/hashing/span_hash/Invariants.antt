@@ -1,7 +1,7 @@
 use Rattle.std.proofs.Common.{◌≡◌, ◌-◌, ◌≤◌, ℕ, List}
 use Rattle.cdb_store.specs.Images.{part}
 use Rattle.cdb_form.specs.Format.Hash.{key_hash}
-use Rattle.cdb_read.specs.Views.Reads.{OnlyReads}
+use Rattle.cdb_store.specs.Reads.{OnlyReads}
 use Rattle.cdb_read.specs.Views.Window.{Shows}
 use Rattle.cdb_read.proofs.hashing.span_hash.Given as goal
 

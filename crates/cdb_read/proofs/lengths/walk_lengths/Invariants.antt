@@ -1,5 +1,5 @@
 use Rattle.std.proofs.Common.{◌≡◌, ◌≤◌, ℕ, List}
-use Rattle.cdb_read.specs.Views.Reads.{OnlyReads}
+use Rattle.cdb_store.specs.Reads.{OnlyReads}
 use Rattle.cdb_read.specs.Views.Walk.{left_of, place_of, bytes_left}
 use Rattle.cdb_read.proofs.WalkedLengths.{WalkedSoFar}
 use Rattle.cdb_read.proofs.lengths.walk_lengths.Given as goal

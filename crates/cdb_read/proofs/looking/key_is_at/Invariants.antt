@@ -1,5 +1,5 @@
 use Rattle.std.proofs.Common.{◌-◌, ◌≤◌, length, take}
-use Rattle.cdb_read.specs.Views.Reads.{OnlyReads}
+use Rattle.cdb_store.specs.Reads.{OnlyReads}
 use Rattle.cdb_read.specs.Views.Window.{Shows}
 use Rattle.cdb_read.proofs.Compare.{AgreesSoFar}
 use Rattle.cdb_read.proofs.looking.key_is_at.Given as goal

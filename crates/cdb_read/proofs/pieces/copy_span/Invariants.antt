@@ -1,5 +1,5 @@
 use Rattle.std.proofs.Common.{◌-◌, ◌≡◌, ◌≤◌, length}
-use Rattle.cdb_read.specs.Views.Reads.{OnlyReads}
+use Rattle.cdb_store.specs.Reads.{OnlyReads}
 use Rattle.cdb_read.proofs.PieceReads.{HasCopied}
 use Rattle.cdb_read.proofs.pieces.copy_span.Given as goal
 

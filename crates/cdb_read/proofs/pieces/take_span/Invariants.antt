@@ -1,5 +1,5 @@
 use Rattle.std.proofs.Common.{◌-◌, ◌≡◌, ◌≤◌, length}
-use Rattle.cdb_read.specs.Views.Reads.{OnlyReads}
+use Rattle.cdb_store.specs.Reads.{OnlyReads}
 use Rattle.cdb_read.proofs.PieceReads.{HasTaken}
 use Rattle.cdb_read.proofs.pieces.take_span.Given as goal
 

@@ -1,5 +1,5 @@
 use Rattle.std.proofs.Common.{◌≡◌, ℕ, List, length}
-use Rattle.cdb_read.specs.Views.Reads.{OnlyReads}
+use Rattle.cdb_store.specs.Reads.{OnlyReads}
 use Rattle.cdb_read.specs.Views.Walk.{left_of, place_of, bytes_left}
 use Rattle.cdb_read.proofs.EnteredWalk.{EnteredSoFar}
 use Rattle.cdb_read.proofs.walked.walk_entries.Given as goal
