@@ -1,4 +1,5 @@
 # make            builds the proved program, bin/cdb
+# make try        runs the program unproved, in a minute: writes the two-record database bin/two.cdb
 # make demo       builds it and shows it at work on a small alias map
 # make test       the gate: proves everything from nothing and runs every test
 # make faults     builds it, and refuses memory and calls of the system to each command in turn (wants a C compiler)
@@ -16,12 +17,19 @@ PYTHON ?= python3
 SOURCES := $(shell find crates \( -name out -o -name tests -o -name tests.rt \) -prune -o \
 	-type f \( -name '*.rt' -o -name '*.antt' \) -print) crates.txt
 
-.PHONY: all demo test faults install uninstall interop bench clean
+.PHONY: all try demo test faults install uninstall interop bench clean
 
 all: bin/cdb
 
 bin/cdb: $(SOURCES)
-	@RT='$(RT)' $(PYTHON) tools/build.py crates/cdb_tool bin/cdb
+	@RT='$(RT)' $(PYTHON) tools/build.py crates/cdb bin/cdb
+
+try:
+	@mkdir -p bin
+	@echo 'Compiles cdb without proving it, and writes bin/two.cdb, a database of two records.'
+	@cd crates/cdb && $(RT) try -- -c - < stdin > ../../bin/two.cdb.new
+	@mv bin/two.cdb.new bin/two.cdb
+	@echo 'bin/two.cdb is written.'
 
 demo:
 	@echo 'The demo: builds cdb unless it is there, then shows it at work, in a second.'
@@ -31,12 +39,12 @@ demo:
 # The program that the gate leaves is the one that was proved from nothing.
 test:
 	$(RT) ci
-	$(PYTHON) tests/cli/run.py crates/cdb_tool/out/cdb_tool
-	$(PYTHON) tests/cli/pages.py crates/cdb_tool/out/cdb_tool
-	$(PYTHON) tests/cli/kills.py crates/cdb_tool/out/cdb_tool
+	$(PYTHON) tests/cli/run.py crates/cdb/out/cdb
+	RT='$(RT)' $(PYTHON) tests/cli/pages.py crates/cdb/out/cdb
+	$(PYTHON) tests/cli/kills.py crates/cdb/out/cdb
 	@if command -v $(firstword $(CC)) > /dev/null; then \
 		$(MAKE) -s bin/refuse.so && \
-		$(PYTHON) tests/faults/run.py crates/cdb_tool/out/cdb_tool bin/refuse.so memory && \
+		$(PYTHON) tests/faults/run.py crates/cdb/out/cdb bin/refuse.so memory && \
 		$(PYTHON) tests/faults/calls.py bin/refuse.so; \
 	else \
 		echo '0 passed, 0 failed: no C compiler is here, so no ask for memory was refused'; \

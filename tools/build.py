@@ -3,10 +3,10 @@
 
     tools/build.py CRATE TARGET
 
-It says what it does, and for each crate how many functions have been checked: on a terminal in one
-line that is written over, else in a line each time the checker tells. All that the checker says
-goes to the file build.log beside the target, of which the end is shown where a step fails. The
-checker is the command in the environment's RT, else `rt`.
+It proves crates side by side: as many at once as there are processors, and 4 GB of memory for each.
+After each crate that was not proved before it says how many were proved. All that the checker says goes to the file build.log
+beside the target; if a step fails, its end is shown. The checker is the command in the
+environment's RT, else `rt`.
 """
 
 import os
@@ -22,62 +22,61 @@ TEXT = b"\n"
 WORDS = ["-c", "-"]
 SHOWN_LINES = 40
 
-# The checker names a crate when it begins with it, tells how far it is, and sums up at its end.
-BEGINS = re.compile(r"rt: chose --jobs \d+ for (\w+)")
-GOES_ON = re.compile(r"so far: (\d+ of \d+ functions)")
-ENDS = re.compile(r"logic=proved ")
 # Lines of the log that tell nothing of a failure.
 WENT_WELL = re.compile(r"\w+ .*: proved$|so far: |statements |logic |crate ")
 
 
-class Progress:
-    """One line a crate on standard output."""
+# How much memory a check takes at most, in bytes.
+CHECK_MEMORY = 4 << 30
 
-    def __init__(self):
-        self.is_terminal = sys.stdout.isatty()
-        self.crate = None
-        self.began = 0.0
 
-    def read(self, line):
-        """Takes a line of the checker, and says what it tells of how far the check is."""
-        begins, goes_on = BEGINS.match(line), GOES_ON.match(line)
-        if begins:
-            self.crate, self.began = begins[1], time.monotonic()
-        elif self.crate and goes_on:
-            self.say(goes_on[1])
-        elif self.crate and ENDS.match(line):
-            self.say(f"proved, {time.monotonic() - self.began:.0f} s")
-            self.close()
+# The checker names a crate when it has checked it, and then sums up.
+CHECKED = re.compile(r"crate (\w+): modules loaded")
+PROVED = re.compile(r"logic=proved ")
 
-    def say(self, what):
-        """Says how far the crate is, over what was said of it before where that can be."""
-        text = f"  {self.crate}: {what}"
-        print(f"\r{text}\033[K" if self.is_terminal else text, end="" if self.is_terminal else "\n")
-        sys.stdout.flush()
 
-    def close(self):
-        """Ends the crate's line."""
-        if self.is_terminal and self.crate:
-            print(flush=True)
-        self.crate = None
+def count_crates(top):
+    """How many crates the repository has."""
+    with open(os.path.join(top, "crates.txt")) as lines:
+        return sum(1 for line in lines if line.split("#")[0].strip())
+
+
+def most_at_once():
+    """How many checks this machine can run side by side."""
+    memory = os.sysconf("SC_PAGE_SIZE") * os.sysconf("SC_PHYS_PAGES")
+    return max(1, min(len(os.sched_getaffinity(0)), memory // CHECK_MEMORY))
+
+
+def prove(top, log):
+    """Proves all crates, and says after each how many are proved. Answers the checker's status."""
+    words = [os.environ.get("RT") or "rt", "all", "check", "--jobs", str(most_at_once())]
+    wanted, proved, crate = count_crates(top), 0, None
+    how = {"stdout": subprocess.PIPE, "stderr": subprocess.STDOUT}
+    with subprocess.Popen(words, cwd=top, **how) as running:
+        for line in running.stdout:
+            log.write(line)
+            log.flush()
+            text = line.decode(errors="replace")
+            checked = CHECKED.match(text)
+            if checked:
+                crate = checked[1]
+            elif crate and PROVED.match(text):
+                proved += 1
+                print(f"  {proved} of {wanted} crates: {crate} proved", flush=True)
+                crate = None
+    if running.returncode == 0:
+        print(f"  all {wanted} crates are proved", flush=True)
+    return running.returncode
 
 
 def build(crate, log):
-    """The status of the build. All that it says goes to the log, and how far it is to the user."""
+    """Builds the proved program, and answers the status."""
     words = [os.environ.get("RT") or "rt", "run", "--", *WORDS]
-    progress = Progress()
     with tempfile.TemporaryFile() as text:
         text.write(TEXT)
         text.seek(0)
-        how = {"stdin": text, "stdout": subprocess.DEVNULL, "stderr": subprocess.PIPE}
-        running = subprocess.Popen(words, cwd=crate, **how)
-    with running:
-        for line in running.stderr:
-            log.write(line)
-            log.flush()
-            progress.read(line.decode(errors="replace"))
-    progress.close()
-    return running.returncode
+        how = {"stdin": text, "stdout": subprocess.DEVNULL, "stderr": log}
+        return subprocess.run(words, cwd=crate, **how).returncode
 
 
 def show_end(path):
@@ -96,12 +95,12 @@ def main():
     path = os.path.join(os.path.dirname(target), "build.log")
     os.makedirs(os.path.dirname(target), exist_ok=True)
     print(f"Proves each function of the program and builds {target}.")
-    print("The first time it takes 8 to 16 minutes on two cores, later less.")
+    print("The first time it proves every crate, later only what changed.")
     print(f"What the checker says goes to {path}.", flush=True)
     began = time.monotonic()
     try:
         with open(path, "wb") as log:
-            status = build(crate, log)
+            status = prove(os.path.join(crate, "..", ".."), log) or build(crate, log)
     except FileNotFoundError as fault:
         sys.exit(f"{fault.filename} is not there: the Rattle toolchain has it")
     except KeyboardInterrupt:

@@ -4,7 +4,8 @@
     tests/cli/pages.py PROGRAM
 
 The synopsis is to be the usage text, each letter of it is to be described, and each line that the
-cases of cases.py await on standard error is to stand among the diagnostics.
+cases of cases.py await on standard error is to stand among the diagnostics. README.md is to name the
+toolchain that proves the program: what the command in the environment's RT, else `rt`, prints.
 """
 
 import os
@@ -16,6 +17,7 @@ from cases import CASES
 
 HERE = os.path.dirname(os.path.abspath(__file__))
 PAGE = os.path.join(HERE, "..", "..", "man", "cdb.1")
+README = os.path.join(HERE, "..", "..", "README.md")
 # What stands in a diagnostic in place of a number.
 NUMBER = "[A-Z]"
 
@@ -71,6 +73,11 @@ def diagnostics_of(page):
     return [re.compile(re.sub(rf"\b{NUMBER}\b", r"\\d+", re.escape(text))) for text in texts]
 
 
+def toolchain_of(readme):
+    """The toolchain that README.md names."""
+    return re.search(r"^Proved with: `(.*)`\.$", readme, re.MULTILINE)[1]
+
+
 def main():
     if len(sys.argv) != 2:
         sys.exit(__doc__)
@@ -92,9 +99,15 @@ def main():
     told = [line for line in lines if not any(it.fullmatch(line) for it in patterns)]
     if told:
         wrong.append(f"no diagnostic: {sorted(told)}")
+    rt = os.environ.get("RT") or "rt"
+    version = subprocess.run([rt, "version"], capture_output=True, check=True).stdout.decode()
+    with open(README, encoding="utf-8") as file:
+        toolchain = toolchain_of(file.read())
+    if toolchain != version.strip():
+        wrong.append(f"README.md names {toolchain}, and this is {version.strip()}")
     for it in wrong:
         print(it)
-    print(f"{3 - len(wrong)} passed, {len(wrong)} failed")
+    print(f"{4 - len(wrong)} passed, {len(wrong)} failed")
     sys.exit(1 if wrong else 0)
 
 

@@ -23,7 +23,10 @@ from refusing import Refusing
 
 CRATES = os.path.join(os.path.dirname(os.path.abspath(__file__)), "..", "..", "crates")
 TESTS = {
-    "cdb_form_tests": ["a_map_reader_tells_refused_memory"],
+    "cdb_form_tests": [
+        "a_map_reader_tells_refused_memory",
+        "an_amend_reader_tells_refused_memory",
+    ],
     "cdb_make_tests": [
         "adds_tell_refused_memory",
         "a_replacement_tells_no_refused_memory",
@@ -32,7 +35,7 @@ TESTS = {
     ],
     "cdb_read_tests": ["values_tell_refused_memory", "a_check_tells_refused_memory"],
     "cdb_command_tests": ["a_create_tells_refused_memory", "a_refused_line_tells_refused_memory"],
-    "cdb_runs_tests": [
+    "cdb_tool_tests": [
         "a_list_tells_refused_memory",
         "a_list_of_a_map_tells_refused_memory",
         "a_load_tells_refused_memory",
@@ -41,6 +44,7 @@ TESTS = {
 ALIKE = {
     "cdb_make_tests": [
         ["asks_before_a_replacement", "asks_with_a_replacement"],
+        ["asks_before_a_replacement_of_four", "asks_with_a_replacement_of_four"],
         ["asks_before_a_removal", "asks_with_a_removal", "asks_with_a_removal_and_a_look"],
         ["asks_before_a_longer_replacement", "asks_with_a_longer_replacement"],
         ["asks_before_a_long_record", "asks_with_a_long_record"],

@@ -1,8 +1,0 @@
-use Rattle.std.proofs.Common.{arith}
-use Rattle.cdb_runs.proofs.OutputLemmas.{some_passed_on}
-use Rattle.cdb_runs.proofs.output.Output.pass_on.Goals as goal
-
-pub returns-clause-ok : goal.returns-clause-ok
-returns-clause-ok g c =
-    let o = c.hand_on.new.self in
-    some_passed_on c.write_some.result o.buffer.items c.args.bytes.now c.min-most.result o.start _ _ _ (omega (arith, c.in_ok-hand_on.ensures.empty, o.buffer.ok.0)) c.hand_on.ensures.bytes c.write_some.ensures.count c.write_some.ensures.ok

@@ -1,8 +1,0 @@
-use Rattle.std.proofs.Common.{arith}
-use Rattle.cdb_runs.proofs.OutputLemmas.{taken_in}
-use Rattle.cdb_runs.proofs.output.Output.take.Goals as goal
-
-pub returns-clause-ok : goal.returns-clause-ok
-returns-clause-ok g c =
-    let o = c.args.self.now in
-    taken_in o.buffer.items c.extend_from_slice.new.self.items _ o.start (g.W.Write.contents o.writer) (omega (arith, o.within, o.buffer.ok.0)) c.in_ok-extend_from_slice.ensures.items

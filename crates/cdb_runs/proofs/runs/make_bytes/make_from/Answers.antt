@@ -1,5 +1,0 @@
-use Rattle.cdb_runs.proofs.WholeRuns.{makes_flushed}
-use Rattle.cdb_runs.proofs.runs.make_bytes.make_from.Goals as goal
-
-pub returns : goal.returns
-returns g c = makes_flushed _ _ _ _ _ _ _ _ _ c.make_unflushed-made.ensures c.flushed.ensures

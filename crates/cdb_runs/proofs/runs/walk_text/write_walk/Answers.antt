@@ -1,5 +1,0 @@
-use Rattle.cdb_runs.proofs.WholeTexts.{written_flushed}
-use Rattle.cdb_runs.proofs.runs.walk_text.write_walk.Goals as goal
-
-pub returns : goal.returns
-returns g c = written_flushed _ _ _ _ _ _ _ _ _ c.write_unflushed-written.ensures c.flushed.ensures

@@ -1,6 +1,0 @@
-//! Tests of `cdb_runs`: files and lines worked out by hand, and faults of readers, writers and
-//! stores.
-#![tactic(auto)]
-
-#[cfg(test)]
-mod tests;

@@ -1,0 +1,225 @@
+-- The values of a key that were found so far, and how a query ends.
+use Rattle.std.proofs.Common.{◌≡◌, ◌∙◌, ℕ, ◌+◌, ◌-◌, ◌≤◌, true, false, Bool, List, [], ◌∷◌, ◌++◌, length, take, drop, map, flat_map, refl, sym, ap, subst, arith, append_assoc, codes, Option, None, Some, Result, Ok, Err}
+use Rattle.std.proofs.lemmas.Bool.{le-leb, cond-true}
+use Rattle.std.proofs.lemmas.List.{append-nil, length-map, map-append, length-append}
+use Rattle.std.proofs.lemmas.List.Concat.{flat_map-append}
+use Rattle.std.proofs.Math.Seq.{drop-append_seam}
+use Rattle.std.specs.Io.KnownBytes.{Appends}
+use Rattle.cdb_store.specs.declared.store.Store.{Ghosts}
+use Rattle.cdb_form.specs.declared.width.Width.{Ghosts as Widths}
+use Rattle.cdb_form.specs.declared.damage.Damage.{Damage}
+use Rattle.cdb_form.specs.Format.Pair.{head_size}
+use Rattle.cdb_form.specs.Views.KnownBytes.{AppendsFront}
+use Rattle.cdb_form.proofs.WritingLemmas.{appends_then, front_then}
+use Rattle.cdb_make.proofs.Written.{front_last}
+use Rattle.cdb_read.specs.Lookup.{Found, bytes_of, lookup_of, with_spans}
+use Rattle.cdb_read.specs.Views.Finder.{left_in, GivesSpan}
+use Rattle.cdb_store.specs.Reads.{OnlyReads}
+use Rattle.cdb_read.specs.Views.Reads.{CopyingFails}
+use Rattle.cdb_read.specs.Views.Search.{found_ahead}
+use Rattle.cdb_read.specs.declared.fault.ReadFault.{ReadFault}
+use Rattle.cdb_read.specs.declared.fault.ReadFault.TheVariants as read
+use Rattle.cdb_read.specs.declared.finder.Finder.{Finder}
+use Rattle.cdb_read.specs.declared.span.Span.{Span}
+use Rattle.cdb_store.proofs.Reading.{reads_more}
+use Rattle.cdb_tool.specs.Views.Fault.{read_fault}
+use Rattle.cdb_tool.specs.Runs.Query.{Query, asked_of, value_text, spans_text, query_text, has_asked, why_missing, found_answer, query_answer, WritesFront, QueryFails, Queries}
+use Rattle.cdb_tool.specs.declared.fault.Fault.{Fault}
+use Rattle.cdb_tool.proofs.Courses.{appends_none}
+
+-- ---- reading
+
+pub reads_none : {S : Type 0} (s : Ghosts S) (store : S) → OnlyReads s store store
+reads_none s store = record { images = λ b is. is; size = refl; written = refl; room = omega arith; failures = omega arith }
+
+abbrev pub ending : List Span → Option Damage → Found
+ending spans damage = record { spans = spans; damage = damage }
+
+-- the store was only read, and in each image these spans are the first of the look-up
+pub record FoundSoFar {S L : Type 0} {s : Ghosts S} {l : Widths L} (w : ℕ) (key : List ℕ) (old : S) (t : Finder S L s l) (spans : List Span) : Type 0 where
+  pub reads : OnlyReads s old t.reader.now.store
+  pub first : (b : List ℕ) → s.image t.reader.now.store b → lookup_of w b key ≡ with_spans spans (left_in w b t)
+
+pub found_none : {S L : Type 0} {s : Ghosts S} {l : Widths L} (w : ℕ) (key : List ℕ) (old : S) (t : Finder S L s l) → t.reader.now.store ≡ old → ((b : List ℕ) → s.image old b → left_in w b t ≡ lookup_of w b key) → FoundSoFar w key old t []
+found_none {s = s} w key old t same finds = record {
+  reads = subst (OnlyReads s old) (sym same) (reads_none s old);
+  first = λ b is. sym (finds b (subst (λ x. s.image x b) same is));
+}
+
+-- one more was given
+pub found_more : {S L : Type 0} {s : Ghosts S} {l : Widths L} (w : ℕ) (key : List ℕ) (old : S) (t u : Finder S L s l) (spans : List Span) (span : Span) → FoundSoFar w key old t spans → OnlyReads s t.reader.now.store u.reader.now.store → GivesSpan w t u span
+    → FoundSoFar w key old u (spans ++ span ∷ [])
+found_more w key old t u spans span h reads gives = record {
+  reads = reads_more h.reads reads;
+  first = λ b is.
+      h.first b (reads.images b is) ∙ ap (with_spans spans) (gives.first b is)
+      ∙ ap (λ xs. ending xs (left_in w b u).damage) (sym (append_assoc spans (span ∷ []) (left_in w b u).spans));
+}
+
+-- a value was read
+pub found_still : {S L : Type 0} {s : Ghosts S} {l : Widths L} (w : ℕ) (key : List ℕ) (old : S) (t u : Finder S L s l) (spans : List Span) → FoundSoFar w key old t spans → OnlyReads s t.reader.now.store u.reader.now.store → u.key.now ≡ t.key.now
+    → u.searching ≡ t.searching → FoundSoFar w key old u spans
+found_still w key old t u spans h reads same stays = record {
+  reads = reads_more h.reads reads;
+  first = λ b is.
+      h.first b (reads.images b is)
+      ∙ ap (with_spans spans) (sym (ap (λ k. found_ahead w b k u.searching) same ∙ ap (found_ahead w b t.key.now) stays));
+}
+
+-- ---- what is written
+
+pub in_lines : (lines : Bool) (value : List ℕ) → lines ≡ true → value_text lines value ≡ value ++ codes "\n"
+in_lines true value is = refl
+in_lines false value is = absurd (let k : false ≡ true = is in cc)
+
+abbrev pub texts : Bool → List (List ℕ) → List ℕ
+texts lines values = flat_map (value_text lines) values
+
+text_append : (lines : Bool) (b : List ℕ) (xs ys : List Span) → texts lines (map (bytes_of b) (xs ++ ys)) ≡ texts lines (map (bytes_of b) xs) ++ texts lines (map (bytes_of b) ys)
+text_append lines b xs ys = ap (texts lines) (map-append (bytes_of b) xs ys) ∙ flat_map-append (value_text lines) (map (bytes_of b) xs) (map (bytes_of b) ys)
+
+text_push : (lines : Bool) (b : List ℕ) (spans : List Span) (span : Span) → texts lines (map (bytes_of b) (spans ++ span ∷ [])) ≡ texts lines (map (bytes_of b) spans) ++ value_text lines (bytes_of b span)
+text_push lines b spans span = text_append lines b spans (span ∷ []) ∙ ap (λ t. texts lines (map (bytes_of b) spans) ++ t) (append-nil (value_text lines (bytes_of b span)))
+
+text_amid : (lines : Bool) (b : List ℕ) (spans rest : List Span) (span : Span) → texts lines (map (bytes_of b) ((spans ++ span ∷ []) ++ rest)) ≡ texts lines (map (bytes_of b) spans) ++ (value_text lines (bytes_of b span) ++ texts lines (map (bytes_of b) rest))
+text_amid lines b spans rest span =
+    text_append lines b (spans ++ span ∷ []) rest
+    ∙ ap (λ t. t ++ texts lines (map (bytes_of b) rest)) (text_push lines b spans span)
+    ∙ append_assoc (texts lines (map (bytes_of b) spans)) (value_text lines (bytes_of b span)) (texts lines (map (bytes_of b) rest))
+
+-- behind the values before the number stands the one that is asked for
+nth_one : (lines : Bool) (b : List ℕ) (spans rest : List Span) (span : Span) (number : ℕ) → length spans + 1 ≡ number → texts lines (asked_of (Some number) (map (bytes_of b) ((spans ++ span ∷ []) ++ rest))) ≡ value_text lines (bytes_of b span)
+nth_one lines b spans rest span number count =
+    let many : length (map (bytes_of b) spans) ≡ length spans = length-map spans (bytes_of b) in
+    let place : number - 1 ≡ length (map (bytes_of b) spans) = omega (arith, many, count) in
+    ap (λ xs. texts lines (take 1 (drop (number - 1) (map (bytes_of b) xs)))) (append_assoc spans (span ∷ []) rest)
+    ∙ ap (λ xs. texts lines (take 1 (drop (number - 1) xs))) (map-append (bytes_of b) spans (span ∷ rest))
+    ∙ ap (λ n. texts lines (take 1 (drop n (map (bytes_of b) spans ++ (bytes_of b span ∷ map (bytes_of b) rest))))) place
+    ∙ ap (λ xs. texts lines (take 1 xs)) (drop-append_seam (map (bytes_of b) spans) (bytes_of b span ∷ map (bytes_of b) rest))
+    ∙ append-nil (value_text lines (bytes_of b span))
+
+-- nothing was written yet
+pub none_front : (start now : Option (List ℕ)) (text : List ℕ) → Appends start now [] → AppendsFront start now text
+none_front start now text h = record { front = []; more = text; split = refl; appended = h }
+
+-- ---- how a query ends
+
+answer_whole : (w : ℕ) (b : List ℕ) (q : Query) (found : Found) → lookup_of w b q.key ≡ found → has_asked q.number found.spans found.damage ≡ true → Ok tt ≡ query_answer w b q
+answer_whole w b q found e all = sym (ap (found_answer q.number) e ∙ cond-true (has_asked q.number found.spans found.damage) (Ok tt) (Err (why_missing found.damage)) all)
+
+text_is : (w : ℕ) (b : List ℕ) (q : Query) (found : Found) → lookup_of w b q.key ≡ found → query_text w b q ≡ spans_text b q found.spans
+text_is w b q found e = ap (λ f. spans_text b q f.spans) e
+
+still_long : {S : Type 0} {s : Ghosts S} {old new : S} (w : ℕ) → OnlyReads s old new → head_size w ≤ s.size old → head_size w ≤ s.size new
+still_long {s = s} {old = old} {new = new} w reads long = subst (λ n. head_size w ≤ n) (sym reads.size) long
+
+-- the store that is handed back is the finder's
+pub handed_back : {S : Type 0} {w : ℕ} {s : Ghosts S} {q : Query} {old : S} {start now : Option (List ℕ)} {answer : Result Unit Fault} (new last : S) → last ≡ new → Queries w s q old new start now answer → Queries w s q old last start now answer
+handed_back {w = w} {s = s} {q = q} {old = old} {start = start} {now = now} {answer = answer} new last same h = subst (λ x. Queries w s q old x start now answer) (sym same) h
+
+-- a value was not written whole
+copying_fault : {S : Type 0} (w : ℕ) (s : Ghosts S) (q : Query) (old mid new : S) (start now : Option (List ℕ)) (f : ReadFault) → OnlyReads s old mid → OnlyReads s mid new → head_size w ≤ s.size old → CopyingFails s mid new f
+    → WritesFront w s q new start now → QueryFails w s q old new start now (read_fault f)
+copying_fault w s q old mid new start now read.Device before reads long fails front = (let p = before.failures in omega (arith, p, fails), front)
+copying_fault w s q old mid new start now read.Output before reads long fails front = (still_long w (reads_more before reads) long, front)
+copying_fault w s q old mid new start now read.Short before reads long fails front = absurd fails
+copying_fault w s q old mid new start now (read.Table n) before reads long fails front = absurd fails
+copying_fault w s q old mid new start now (read.Record place) before reads long fails front = absurd fails
+copying_fault w s q old mid new start now (read.Slot n i) before reads long fails front = absurd fails
+copying_fault w s q old mid new start now (read.Twice place) before reads long fails front = absurd fails
+copying_fault w s q old mid new start now (read.Unindexed place) before reads long fails front = absurd fails
+copying_fault w s q old mid new start now read.NoMemory before reads long fails front = absurd fails
+
+pub copying_fails : {S : Type 0} (w : ℕ) (s : Ghosts S) (q : Query) (old mid new : S) (start now : Option (List ℕ)) (f : ReadFault) → OnlyReads s old mid → OnlyReads s mid new → head_size w ≤ s.size old → CopyingFails s mid new f
+    → ((b : List ℕ) → s.image new b → AppendsFront start now (query_text w b q)) → Queries w s q old new start now (Err (read_fault f))
+copying_fails w s q old mid new start now f before reads long fails front =
+    record { reads = reads_more before reads; ok = tt; err = copying_fault w s q old mid new start now f before reads long fails (record { written = front }) }
+
+-- ---- all values
+
+abbrev pub all_of : List ℕ → Bool → Query
+all_of key lines = record { key = key; number = None; lines = lines }
+
+-- the values so far were written
+pub record WrittenSoFar {S L : Type 0} {s : Ghosts S} {l : Widths L} (w : ℕ) (key : List ℕ) (lines : Bool) (old : S) (t : Finder S L s l) (start now : Option (List ℕ)) (any : Bool) : Type 0 where
+  pub spans : List Span
+  pub found : FoundSoFar w key old t spans
+  pub some : any ≡ has_asked None spans None
+  pub written : (b : List ℕ) → s.image t.reader.now.store b → Appends start now (texts lines (map (bytes_of b) spans))
+
+pub written_none : {S L : Type 0} {s : Ghosts S} {l : Widths L} (w : ℕ) (key : List ℕ) (lines : Bool) (old : S) (t : Finder S L s l) (start : Option (List ℕ)) → FoundSoFar w key old t [] → WrittenSoFar w key lines old t start start false
+written_none w key lines old t start found = record { spans = []; found = found; some = refl; written = λ b is. appends_none start }
+
+some_pushed : (spans : List Span) (span : Span) → true ≡ has_asked None (spans ++ span ∷ []) None
+some_pushed [] span = refl
+some_pushed (s ∷ spans) span = refl
+
+pub written_more : {S L : Type 0} {s : Ghosts S} {l : Widths L} (w : ℕ) (key : List ℕ) (lines : Bool) (old : S) (t u : Finder S L s l) (start mid now : Option (List ℕ)) (spans : List Span) (span : Span) → FoundSoFar w key old u (spans ++ span ∷ [])
+    → ((b : List ℕ) → s.image u.reader.now.store b → Appends start mid (texts lines (map (bytes_of b) spans))) → ((b : List ℕ) → s.image u.reader.now.store b → Appends mid now (value_text lines (bytes_of b span))) → WrittenSoFar w key lines old u start now true
+written_more w key lines old t u start mid now spans span found before one = record {
+  spans = spans ++ span ∷ [];
+  found = found;
+  some = some_pushed spans span;
+  written = λ b is. subst (Appends start now) (sym (text_push lines b spans span)) (appends_then start mid now _ _ (before b is) (one b is));
+}
+
+-- the writer failed in a value
+pub front_amid : {S L : Type 0} {s : Ghosts S} {l : Widths L} (w : ℕ) (key : List ℕ) (lines : Bool) (old : S) (u : Finder S L s l) (start mid now : Option (List ℕ)) (spans : List Span) (span : Span) (b : List ℕ) → FoundSoFar w key old u (spans ++ span ∷ []) → s.image u.reader.now.store b
+    → Appends start mid (texts lines (map (bytes_of b) spans)) → AppendsFront mid now (value_text lines (bytes_of b span)) → AppendsFront start now (query_text w b (all_of key lines))
+front_amid w key lines old u start mid now spans span b found is before front =
+    front_then start mid now _ _ _ _ before front
+    (text_is w b (all_of key lines) (with_spans (spans ++ span ∷ []) (left_in w b u)) (found.first b is) ∙ text_amid lines b spans (left_in w b u).spans span)
+
+-- ---- the value of a number
+
+abbrev pub nth_of : List ℕ → ℕ → Bool → Query
+nth_of key number lines = record { key = key; number = Some number; lines = lines }
+
+-- the values so far are before the number, and nothing was written
+pub record PassedSoFar {S L : Type 0} {s : Ghosts S} {l : Widths L} (w : ℕ) (key : List ℕ) (old : S) (t : Finder S L s l) (number left : ℕ) (start now : Option (List ℕ)) : Type 0 where
+  pub spans : List Span
+  pub found : FoundSoFar w key old t spans
+  pub counted : length spans + left ≡ number
+  pub more : 1 ≤ left
+  pub kept : Appends start now []
+
+pub passed_none : {S L : Type 0} {s : Ghosts S} {l : Widths L} (w : ℕ) (key : List ℕ) (old : S) (t : Finder S L s l) (number : ℕ) (start : Option (List ℕ)) → FoundSoFar w key old t [] → 1 ≤ number → PassedSoFar w key old t number number start start
+passed_none w key old t number start found some = record { spans = []; found = found; counted = omega arith; more = some; kept = appends_none start }
+
+pub passed_more : {S L : Type 0} {s : Ghosts S} {l : Widths L} (w : ℕ) (key : List ℕ) (old : S) (t u : Finder S L s l) (number left less : ℕ) (start now : Option (List ℕ)) (span : Span) → PassedSoFar w key old t number left start now → OnlyReads s t.reader.now.store u.reader.now.store
+    → GivesSpan w t u span → left ≡ less + 1 → 1 ≤ less → PassedSoFar w key old u number less start now
+passed_more w key old t u number left less start now span h reads gives one some =
+    let many : length (h.spans ++ span ∷ []) ≡ length h.spans + 1 = length-append h.spans (span ∷ []) in
+    record {
+      spans = h.spans ++ span ∷ [];
+      found = found_more w key old t u h.spans span h.found reads gives;
+      counted = (let k = h.counted in omega (arith, many, k, one));
+      more = some;
+      kept = h.kept;
+    }
+
+-- the value of the number was found, the last of some
+nth_text : {S L : Type 0} {s : Ghosts S} {l : Widths L} (w : ℕ) (key : List ℕ) (lines : Bool) (old : S) (u : Finder S L s l) (number : ℕ) (spans : List Span) (span : Span) (b : List ℕ) → FoundSoFar w key old u (spans ++ span ∷ []) → length spans + 1 ≡ number → s.image u.reader.now.store b
+    → query_text w b (nth_of key number lines) ≡ value_text lines (bytes_of b span)
+nth_text w key lines old u number spans span b found count is =
+    text_is w b (nth_of key number lines) (with_spans (spans ++ span ∷ []) (left_in w b u)) (found.first b is) ∙ nth_one lines b spans (left_in w b u).spans span number count
+
+pub nth_written : {S L : Type 0} {s : Ghosts S} {l : Widths L} (w : ℕ) (key : List ℕ) (lines : Bool) (old : S) (u : Finder S L s l) (number : ℕ) (start mid now : Option (List ℕ)) (spans : List Span) (span : Span) → FoundSoFar w key old u (spans ++ span ∷ []) → length spans + 1 ≡ number
+    → head_size w ≤ s.size old → Appends start mid [] → ((b : List ℕ) → s.image u.reader.now.store b → Appends mid now (value_text lines (bytes_of b span))) → Queries w s (nth_of key number lines) old u.reader.now.store start now (Ok tt)
+nth_written w key lines old u number start mid now spans span found count long kept wrote = record {
+  reads = found.reads;
+  ok = record {
+    long = still_long w found.reads long;
+    answered = λ b is.
+        let rest = left_in w b u in
+        let many : length ((spans ++ span ∷ []) ++ rest.spans) ≡ length (spans ++ span ∷ []) + length rest.spans = length-append (spans ++ span ∷ []) rest.spans in
+        let more : length (spans ++ span ∷ []) ≡ length spans + 1 = length-append spans (span ∷ []) in
+        answer_whole w b (nth_of key number lines) (with_spans (spans ++ span ∷ []) rest) (found.first b is) (le-leb number (length ((spans ++ span ∷ []) ++ rest.spans)) (omega (arith, many, more, count)));
+    written = λ b is. subst (Appends start now) (sym (nth_text w key lines old u number spans span b found count is)) (appends_then start mid now [] _ kept (wrote b is));
+  };
+  err = tt;
+}
+
+pub nth_front : {S L : Type 0} {s : Ghosts S} {l : Widths L} (w : ℕ) (key : List ℕ) (lines : Bool) (old : S) (u : Finder S L s l) (number : ℕ) (start mid now : Option (List ℕ)) (spans : List Span) (span : Span) (b : List ℕ) → FoundSoFar w key old u (spans ++ span ∷ [])
+    → length spans + 1 ≡ number → s.image u.reader.now.store b → Appends start mid [] → AppendsFront mid now (value_text lines (bytes_of b span)) → AppendsFront start now (query_text w b (nth_of key number lines))
+nth_front w key lines old u number start mid now spans span b found count is kept front = front_last start mid now [] _ _ kept front (nth_text w key lines old u number spans span b found count is)

@@ -1,0 +1,64 @@
+use Rattle.std.proofs.Common.{ap, ◌+◌, ℕ, rules, arith}
+use Rattle.std.proofs.lemmas.Result.{err_from_is_err_and}
+use Rattle.cdb_tool.proofs.InputRuns.{put_none, put_next, inputs_taken, run_fails}
+use Rattle.std.proofs.lemmas.Grind.{common_steps}
+use Rattle.cdb_tool.proofs.runs.make.put_inputs.Goals as goal
+
+pub loop-input-init : goal.loop-input-init
+loop-input-init g c =
+    record { next = tt; finite = tt; put = put_none {s = g.S.Store} {l = g.L.Width} _ g.R.Read.remaining _ _ _ _ c.args.maker.now c.into_iter-input-iterator.ensures.into_iter_gives.0 }
+
+pub loop-input-preserved-in_ok-put_input : goal.loop-input-preserved-in_ok-put_input
+loop-input-preserved-in_ok-put_input g c =
+    let e = c.put_input.ensures in
+    let put = put_next {s = g.S.Store} {l = g.L.Width} _ g.R.Read.remaining _ _ _ _ _ _ _ _ _ _ _ _ _ c.loop-input.invariant.put c.in-Some.ensures.steps.0 c.new-records.ensures.unread c.in_ok-put_input.ensures.ok e.comes e.failures in
+    record { next = tt; finite = tt; put = put }
+
+pub loop-input-preserved : goal.loop-input-preserved
+loop-input-preserved g c =
+    let e = c.put_input.ensures in
+    let put = put_next {s = g.S.Store} {l = g.L.Width} _ g.R.Read.remaining _ _ _ _ _ _ _ _ _ _ _ _ _ c.loop-input.invariant.put c.in-Some.ensures.steps.0 c.new-records.ensures.unread c.in_ok-put_input.ensures.ok e.comes e.failures in
+    record { next = tt; finite = tt; put = put }
+
+pub returns-in_err-put_input-clause-fails : goal.returns-in_err-put_input-clause-fails
+returns-in_err-put_input-clause-fails g c = λ start h.
+    let p = err_from_is_err_and c.from_residual.result c.from_residual.ensures.1 in
+    let put = c.loop-input.invariant.put in
+    let are = inputs_taken g.R.Read.remaining _ _ put.read _ _ _ c.in-Some.input _ c.in-Some.ensures.steps.0 c.new-records.ensures.unread put.are in
+    rw (p.1, p.2) (run_fails _ _ _ put.read _ _ _ start _ _ c.in_err-put_input.field-0.0 are (c.in_err-put_input.ensures.fails put.read start (ap (λ (n : ℕ). n + 1) put.number) (put.course start h)))
+
+pub returns-clause-fails : goal.returns-clause-fails
+returns-clause-fails g c = search rules
+
+pub returns-clause-failed : goal.returns-clause-failed
+returns-clause-failed g c = search rules
+
+pub returns-clause-comes : goal.returns-clause-comes
+returns-clause-comes g c = search rules
+
+pub returns-in_err-put_input-clause-failures : goal.returns-in_err-put_input-clause-failures
+returns-in_err-put_input-clause-failures g c = search rules
+
+pub put_input-requires-clause-fresh : goal.put_input-requires-clause-fresh
+put_input-requires-clause-fresh g c = search rules
+
+pub returns-clause-failures : goal.returns-clause-failures
+returns-clause-failures g c = search rules
+
+pub overflow_add-number : goal.overflow_add-number
+overflow_add-number g c = search rules
+
+pub put_input-requires-clause-style : goal.put_input-requires-clause-style
+put_input-requires-clause-style g c = search rules
+
+pub loop-input-preserved-derived : goal.loop-input-preserved-derived
+loop-input-preserved-derived g c = search rules
+
+pub loop-input-preserved-in_ok-put_input-derived : goal.loop-input-preserved-in_ok-put_input-derived
+loop-input-preserved-in_ok-put_input-derived g c = search rules
+
+pub returns-in_err-put_input-clause-comes : goal.returns-in_err-put_input-clause-comes
+returns-in_err-put_input-clause-comes g c = grind (arith, common_steps)
+
+pub returns-clause-ok : goal.returns-clause-ok
+returns-clause-ok g c = grind (arith, common_steps)

@@ -1,0 +1,29 @@
+use Rattle.std.proofs.Common.{◌∙◌}
+use Rattle.std.proofs.lemmas.Result.{err_from_is_err_and}
+use Rattle.cdb_make.proofs.Written.{same_front, same_appends}
+use Rattle.cdb_tool.proofs.WholeRuns.{nothing_made, file_made, file_fails}
+use Rattle.cdb_tool.proofs.runs.make_bytes.make_unflushed.Goals as goal
+
+pub returns-in_err-maker : goal.returns-in_err-maker
+returns-in_err-maker g c =
+    let p = err_from_is_err_and c.from_residual.result c.from_residual.ensures.1 in
+    rw (p.1, p.2) (nothing_made _ _ _ _ _ _ c.in_err-maker.ensures.err)
+
+pub returns-in_err-file : goal.returns-in_err-file
+returns-in_err-file g c =
+    let p = err_from_is_err_and c.from_residual-in_err-file.result c.from_residual-in_err-file.ensures.1 in
+    let read = c.in_ok-maker.ensures.ok in
+    rw (p.1, p.2, c.in_err-file.ensures.err read.0 read.1) (nothing_made _ _ _ _ _ _ tt)
+
+pub returns-in_err-write_whole : goal.returns-in_err-write_whole
+returns-in_err-write_whole g c =
+    let p = err_from_is_err_and c.from_residual-in_err-write_whole.result c.from_residual-in_err-write_whole.ensures.1 in
+    let read = c.in_ok-maker.ensures.ok in
+    let bytes = c.deref.ensures.value ∙ c.in_ok-file.ensures.ok read.0 read.1 in
+    rw (p.1, p.2) (file_fails _ _ _ _ _ _ read.0 read.2 (same_front _ _ _ _ bytes c.in_err-write_whole.ensures.err))
+
+pub returns : goal.returns
+returns g c =
+    let read = c.in_ok-maker.ensures.ok in
+    let bytes = c.deref.ensures.value ∙ c.in_ok-file.ensures.ok read.0 read.1 in
+    file_made _ _ _ _ _ _ read.0 read.2 (same_appends _ _ _ _ bytes c.in_ok-write_whole.ensures.ok)

@@ -1,0 +1,95 @@
+-- What is said of a fault: where it is, what it is, and the line on standard error.
+use Rattle.std.specs.Prelude.{ℕ, List, [], ◌++◌, decimal, codes}
+use Rattle.cdb_form.specs.declared.text.fault.TextFault.{TextFault}
+use Rattle.cdb_form.specs.declared.text.fault.TextFault.TheVariants as text
+use Rattle.cdb_form.specs.declared.walk.fault.WalkFault.{WalkFault}
+use Rattle.cdb_form.specs.declared.walk.fault.WalkFault.TheVariants as walk
+use Rattle.cdb_form.specs.Views.TextFault.{text_message}
+use Rattle.cdb_form.specs.Views.WalkFault.{walk_message}
+use Rattle.cdb_make.specs.Views.MakeFault.{make_message}
+use Rattle.cdb_make.specs.declared.fault.MakeFault.TheVariants.{TooBig}
+use Rattle.cdb_read.specs.Views.ReadFault.{read_message}
+use Rattle.cdb_read.specs.declared.fault.ReadFault.{ReadFault}
+use Rattle.cdb_read.specs.declared.fault.ReadFault.TheVariants as read
+use Rattle.cdb_tool.specs.declared.message.Place.{Place}
+use Rattle.cdb_tool.specs.declared.message.Place.TheVariants.{Nowhere, Input, Byte, Table, Record}
+use Rattle.cdb_tool.specs.declared.message.Place.TheVariants.{Slot}
+use Rattle.cdb_tool.specs.declared.fault.Fault.{Fault}
+use Rattle.cdb_tool.specs.declared.fault.Fault.TheVariants.{Text, Make, Read, Walk, Output}
+use Rattle.cdb_tool.specs.declared.fault.Fault.TheVariants.{Duplicate, Missing, Long, Open, Rename}
+use Rattle.cdb_tool.specs.declared.fault.Fault.TheVariants.{NoMemory}
+
+-- what a fault is
+abbrev pub fault_message : Fault → List ℕ
+fault_message (Text input fault) = text_message fault
+fault_message (Make fault) = make_message fault
+fault_message Duplicate = codes "stopped at a duplicate key"
+fault_message Missing = codes "no such value"
+fault_message (Read fault) = read_message fault
+fault_message (Walk fault) = walk_message fault
+fault_message Output = codes "output cannot be written"
+fault_message Long = make_message TooBig
+fault_message Open = codes "file cannot be opened"
+fault_message Rename = codes "database cannot be renamed"
+fault_message NoMemory = codes "no memory"
+
+-- a part of what is named by its number
+abbrev pub numbered : List ℕ → ℕ → List ℕ
+numbered part n = part ++ decimal n ++ codes ": "
+
+-- how a place is said
+abbrev pub said_place : Place → List ℕ
+said_place Nowhere = []
+said_place (Input input) = numbered (codes "input ") input
+said_place (Byte input at) = numbered (codes "input ") input ++ numbered (codes "byte ") at
+said_place (Table n) = numbered (codes "table ") n
+said_place (Record at) = numbered (codes "record at ") at
+said_place (Slot n i) = numbered (codes "table ") n ++ numbered (codes "slot ") i
+
+-- where the fault of an input is: at a byte of it, or in it as a whole
+abbrev pub text_place : ℕ → TextFault → Place
+text_place input (text.Syntax at) = Byte input at
+text_place input (text.Ended at) = Byte input at
+text_place input (text.Large at) = Byte input at
+text_place input text.NoMemory = Nowhere
+text_place input fault = Input input
+
+-- where the fault of a database file is
+abbrev pub walk_place : WalkFault → Place
+walk_place (walk.Table n) = Table n
+walk_place (walk.Record place) = Record place
+walk_place fault = Nowhere
+
+-- where that of a database in a store is
+abbrev pub read_place : ReadFault → Place
+read_place (read.Table n) = Table n
+read_place (read.Record place) = Record place
+read_place (read.Slot n i) = Slot n i
+read_place (read.Twice place) = Record place
+read_place (read.Unindexed place) = Record place
+read_place fault = Nowhere
+
+-- where a fault is
+abbrev pub fault_place : Fault → Place
+fault_place (Text input fault) = text_place input fault
+fault_place (Read fault) = read_place fault
+fault_place (Walk fault) = walk_place fault
+fault_place fault = Nowhere
+
+-- where a fault is and what it is
+abbrev pub fault_text : Fault → List ℕ
+fault_text fault = said_place (fault_place fault) ++ fault_message fault
+
+-- the line that says it
+abbrev pub said_line : Fault → List ℕ
+said_line fault = codes "cdb: " ++ fault_text fault ++ codes "\n"
+
+-- the line of a fault: none where a value is missing, which the exit status tells
+abbrev pub fault_line : Fault → List ℕ
+fault_line Missing = []
+fault_line fault = said_line fault
+
+-- the line of a record whose key was there already: its input and its number there
+abbrev pub duplicate_line : ℕ → ℕ → List ℕ
+duplicate_line input number = codes "cdb: " ++ numbered (codes "input ") input
+    ++ numbered (codes "record ") number ++ codes "duplicate key\n"

@@ -1,0 +1,104 @@
+-- What a query of a key leaves, in words of w bytes. An image is one of its store as it was handed
+-- back.
+use Rattle.std.specs.Prelude.{ℕ, ◌≡◌, ◌-◌, ◌<◌, ◌≤◌, Bool, true, false, nat_le, if◌then◌else◌}
+use Rattle.std.specs.Prelude.{List, [], ◌∷◌, ◌++◌, length, take, drop, map, flat_map, codes}
+use Rattle.std.specs.Prelude.{Option, None, Some, Result, Ok, Err, OnOk, IfErr}
+use Rattle.std.specs.Io.KnownBytes.{Appends, Keeps}
+use Rattle.cdb_store.specs.declared.store.Store.{Ghosts}
+use Rattle.cdb_form.specs.Format.Pair.{head_size}
+use Rattle.cdb_form.specs.Views.KnownBytes.{AppendsFront}
+use Rattle.cdb_form.specs.declared.damage.Damage.{Damage}
+use Rattle.cdb_read.specs.Lookup.{Found, bytes_of, lookup_of}
+use Rattle.cdb_read.specs.Views.ReadFault.{damage_fault}
+use Rattle.cdb_store.specs.Reads.{OnlyReads}
+use Rattle.cdb_read.specs.declared.fault.ReadFault.TheVariants as read
+use Rattle.cdb_read.specs.declared.span.Span.{Span}
+use Rattle.cdb_tool.specs.declared.fault.Fault.{Fault}
+use Rattle.cdb_tool.specs.declared.fault.Fault.TheVariants.{Missing, Read, Output}
+
+-- what is asked: all values of a key, or the one of a number, from 1 on, in lines or not
+pub record Query : Type 0 where
+  pub key : List ℕ
+  pub number : Option ℕ
+  pub lines : Bool
+
+-- the values that are asked for
+abbrev pub asked_of : Option ℕ → List (List ℕ) → List (List ℕ)
+asked_of None values = values
+asked_of (Some number) values = take 1 (drop (number - 1) values)
+
+-- a value as it is written, with a newline behind it in lines
+abbrev pub value_text : Bool → List ℕ → List ℕ
+value_text lines value = value ++ (if lines then codes "\n" else [])
+
+-- what is written of some spans of an image
+abbrev pub spans_text : List ℕ → Query → List Span → List ℕ
+spans_text b q spans =
+    flat_map (value_text q.lines) (asked_of q.number (map (bytes_of b) spans))
+
+-- what is written of the values that the key has in an image
+abbrev pub query_text : ℕ → List ℕ → Query → List ℕ
+query_text w b q = spans_text b q (lookup_of w b q.key).spans
+
+-- whether all is there that is asked for: some value, and no damage behind the last; or as many
+-- values as the number
+abbrev pub has_asked : Option ℕ → List Span → Option Damage → Bool
+has_asked (Some number) spans damage = nat_le number (length spans)
+has_asked None spans (Some damage) = false
+has_asked None [] None = false
+has_asked None (span ∷ spans) None = true
+
+-- why it isn't
+abbrev pub why_missing : Option Damage → Fault
+why_missing None = Missing
+why_missing (Some damage) = Read (damage_fault damage)
+
+-- the answer
+abbrev pub found_answer : Option ℕ → Found → Result Unit Fault
+found_answer number found =
+    if has_asked number found.spans found.damage then Ok tt else Err (why_missing found.damage)
+
+abbrev pub query_answer : ℕ → List ℕ → Query → Result Unit Fault
+query_answer w b q = found_answer q.number (lookup_of w b q.key)
+
+-- the file has a head, in each image this is the answer, and the text was appended
+pub record Answers {S : Type 0} (w : ℕ) (s : Ghosts S) (q : Query) (store : S)
+    (start end : Option (List ℕ)) (answer : Result Unit Fault) : Type 0 where
+  pub long : head_size w ≤ s.size store
+  pub answered : (b : List ℕ) → s.image store b → answer ≡ query_answer w b q
+  pub written : (b : List ℕ) → s.image store b → Appends start end (query_text w b q)
+
+-- in each image a front of the text was
+pub record WritesFront {S : Type 0} (w : ℕ) (s : Ghosts S) (q : Query) (store : S)
+    (start end : Option (List ℕ)) : Type 0 where
+  pub written : (b : List ℕ) → s.image store b → AppendsFront start end (query_text w b q)
+
+-- the file has no head: nothing was read, and nothing written
+pub record IsShort {S : Type 0} (w : ℕ) (s : Ghosts S) (old new : S)
+    (start end : Option (List ℕ)) : Type 0 where
+  pub short : s.size old < head_size w
+  pub unread : new ≡ old
+  pub kept : Keeps start end
+
+-- what a fault leaves: the text where it is the answer; a front of it where the store failed, or
+-- the writer
+abbrev pub QueryFails : {S : Type 0} → ℕ → Ghosts S → Query → (old new : S) → Option (List ℕ)
+    → Option (List ℕ) → Fault → Type 0
+QueryFails w s q old new start end Missing = Answers w s q new start end (Err Missing)
+QueryFails w s q old new start end (Read read.Short) = IsShort w s old new start end
+QueryFails w s q old new start end (Read (read.Table n)) =
+    Answers w s q new start end (Err (Read (read.Table n)))
+QueryFails w s q old new start end (Read (read.Record place)) =
+    Answers w s q new start end (Err (Read (read.Record place)))
+QueryFails w s q old new start end (Read read.Device) =
+    (s.failures old < s.failures new) × WritesFront w s q new start end
+QueryFails w s q old new start end Output =
+    (head_size w ≤ s.size new) × WritesFront w s q new start end
+QueryFails w s q old new start end fault = ⊥
+
+-- what a query leaves
+pub record Queries {S : Type 0} (w : ℕ) (s : Ghosts S) (q : Query) (old new : S)
+    (start end : Option (List ℕ)) (result : Result Unit Fault) : Type 0 where
+  pub reads : OnlyReads s old new
+  pub ok : OnOk result (Answers w s q new start end (Ok tt))
+  pub err : IfErr result (QueryFails w s q old new start end)

@@ -1,0 +1,12 @@
+-- What an output holds.
+use Rattle.std.specs.Prelude.{ℕ, List, drop, Option}
+use Rattle.std.specs.Io.KnownBytes.{append_known}
+use Rattle.cdb_tool.specs.declared.output.Output.{Output}
+
+-- the bytes in the buffer that the writer hasn't taken yet
+abbrev pub held_by : {W : Type 0} → Output W → List ℕ
+held_by o = drop o.start o.buffer.items
+
+-- the bytes of the writer, where they are known, and then those in the buffer
+abbrev pub output_bytes : {W : Type 0} → (W → Option (List ℕ)) → Output W → Option (List ℕ)
+output_bytes contents o = append_known (contents o.writer) (held_by o)

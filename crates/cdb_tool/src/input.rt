@@ -1,0 +1,122 @@
+// Input through a window, from which single bytes come fast.
+ghost use Rattle.std.specs.Prelude.{◌≡◌, ℕ, ◌+◌, ◌<◌, ◌≤◌, [], length, take, min, IfOk, OnOk};
+ghost use Rattle.std.specs.Prelude.{OnErr, vec_len};
+ghost use Rattle.std.specs.Io.KnownBytes.{Keeps, Consumes, IsAtEnd};
+
+use std::alloc::{AllocError, Global};
+use std::io::{self, ErrorKind, Read};
+
+/// From so many bytes on a read goes past the empty window, which saves a copy. That it is known
+/// when the program is compiled keeps shorter reads as fast as they are without it.
+const LONG: usize = 65536;
+
+/// Gives the bytes of a reader, which is asked for many at once.
+#[derive(Drop)]
+pub struct Input<R> {
+    reader: R,
+    window: Vec<u8>,
+    start: usize,
+    end: usize,
+    ghost some: { 0 < vec_len window },
+    ghost ordered: { start ≤ end },
+    ghost within: { end ≤ vec_len window },
+}
+
+impl<R: Read> Input<R> {
+    ghost use Rattle.cdb_tool.specs.Views.Input.{input_bytes, window_of};
+
+    /// An input over a reader, with a window of so many bytes, which is empty yet.
+    pub fn new(alloc: Global, reader: R, size: usize) -> Result<Input<R>, AllocError>
+    where
+        R: Drop,
+        requires { 0 < size }
+        ensures bytes { IfOk result (λ i. input_bytes R.remaining i ≡ R.remaining reader) }
+        ensures empty { IfOk result (λ i. window_of i ≡ []) }
+        ensures size { IfOk result (λ i. vec_len i.window ≡ size) }
+    {
+        let window = vec![in alloc; 0u8; size]?;
+        Ok(Input {
+            reader,
+            window,
+            start: 0,
+            end: 0,
+        })
+    }
+
+    /// Fills the empty window, by one ask of the reader.
+    #[cold]
+    #[inline(never)]
+    fn refill(&mut self) -> Result<(), ErrorKind>
+        requires { self.old.start ≡ self.old.end }
+        ensures bytes { Keeps (input_bytes R.remaining self.old)
+            (input_bytes R.remaining self.new) }
+        ensures end { OnOk result
+            (self.new.start ≡ self.new.end → IsAtEnd (input_bytes R.remaining self.new)) }
+        ensures empty { OnErr result (self.new.start ≡ self.new.end) }
+    {
+        match self.reader.read(&mut self.window) {
+            Ok(n) => {
+                self.start = 0;
+                self.end = n;
+                Ok(())
+            }
+            Err(e) => Err(e.kind()),
+        }
+    }
+
+    /// Gives bytes of the reader past the empty window, by one ask.
+    #[cold]
+    #[inline(never)]
+    fn read_past(&mut self, buf: &mut [u8]) -> Result<usize, ErrorKind>
+        requires { self.old.start ≡ self.old.end }
+        ensures bound { IfOk result (λ n. n ≤ length buf.old) }
+        ensures bytes { IfOk result (λ n. Consumes (input_bytes R.remaining self.old)
+            (input_bytes R.remaining self.new) (take n buf.new)) }
+        ensures end { IfOk result (λ n.
+            n ≡ 0 → 0 < length buf.old → IsAtEnd (input_bytes R.remaining self.new)) }
+        ensures kept { OnErr result (Keeps (input_bytes R.remaining self.old)
+            (input_bytes R.remaining self.new)) }
+    {
+        match self.reader.read(buf) {
+            Ok(n) => Ok(n),
+            Err(e) => Err(e.kind()),
+        }
+    }
+
+    /// Gives bytes of the window.
+    fn give(&mut self, buf: &mut [u8]) -> usize
+        ensures count { result ≡ min (length buf.old) (length (window_of self.old)) }
+        ensures bytes { Consumes (input_bytes R.remaining self.old)
+            (input_bytes R.remaining self.new) (take result buf.new) }
+    {
+        let n = buf.len().min(self.end - self.start);
+        buf[..n].copy_from_slice(&self.window[self.start..self.start + n]);
+        self.start += n;
+        n
+    }
+}
+
+impl<R: Read> Read for Input<R> {
+    ghost use Rattle.cdb_tool.specs.Views.Input.{input_bytes};
+
+    ghost remaining = { input_bytes R.remaining };
+
+    #[inline(always)]
+    fn read(&mut self, buf: &mut [u8]) -> io::Result<usize> {
+        if LONG <= buf.len() && self.start == self.end {
+            return match self.read_past(buf) {
+                Ok(n) => Ok(n),
+                Err(kind) => Err(io::Error::from(kind)),
+            };
+        }
+        if self.start == self.end
+            && let Err(kind) = self.refill()
+        {
+            return Err(io::Error::from(kind));
+        }
+        if self.start == self.end {
+            return Ok(0);
+        }
+        Ok(self.give(buf))
+    }
+}

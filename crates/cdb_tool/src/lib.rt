@@ -1,0 +1,28 @@
+//! What the program `cdb` does with its inputs, stores and outputs: a run each, which a program of
+//! one's own may call as well.
+#![tactic(auto)]
+
+mod fault;
+mod input;
+pub mod laws;
+mod message;
+mod output;
+mod runs;
+mod status;
+
+pub use cdb_command::{Command, MakeOptions, Style, Usage, plan, write_usage};
+pub use fault::Fault;
+pub use input::Input;
+pub use message::write_fault;
+pub use output::Output;
+pub use runs::check::check_run;
+pub use runs::content::Content;
+pub use runs::dump::{dump_from, dump_run};
+pub use runs::flushed::flushed;
+pub use runs::list::{list_from, list_run};
+pub use runs::load::{load, load_from};
+pub use runs::make::make_run;
+pub use runs::make_bytes::{make_bytes, make_from};
+pub use runs::query::query_run;
+pub use runs::stats::stats_run;
+pub use status::{BAD_USAGE, DONE, FAILED, status_of};

@@ -1,0 +1,15 @@
+// What the program is asked to do, a run each.
+pub mod check;
+pub mod content;
+pub mod dump;
+pub(crate) mod flushed;
+mod input_reader;
+pub mod list;
+pub mod load;
+pub mod make;
+pub mod make_bytes;
+mod make_input;
+pub mod query;
+pub mod stats;
+mod stats_text;
+mod walk_text;

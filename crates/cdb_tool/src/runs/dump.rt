@@ -1,0 +1,54 @@
+// A file made a text of its records.
+ghost use Rattle.std.specs.Prelude.{ℕ, List, Option};
+ghost use Rattle.cdb_form.specs.Views.RecordReader.{unread, IsFresh};
+ghost use Rattle.cdb_tool.specs.Runs.Form.{dump_form};
+ghost use Rattle.cdb_tool.specs.Runs.WalkText.{WritesWalk};
+
+use crate::fault::Fault;
+use crate::runs::content::Content;
+use crate::runs::walk_text::write_walk;
+use cdb_command::Style;
+use cdb_form::{RecordReader, Width};
+use std::alloc::Global;
+use std::io::{Read, Write};
+
+/// Writes the text of the records of a database file, of which nothing was read yet.
+///
+/// It does what `dump_run` does, and leaves in the reader of the records what it did not read: at
+/// Ok what stands behind the record end.
+pub fn dump_from<L: Width, R: Read, W: Write>(
+    alloc: Global,
+    records: &mut RecordReader<R, L>,
+    style: Style,
+    w: &mut W,
+) -> Result<(), Fault>
+    requires { IsFresh records.old }
+    ensures { WritesWalk L.WORD (dump_form style) (unread R.remaining records.old)
+        (unread R.remaining records.new) (W.contents w.old) (W.contents w.new) result }
+{
+    write_walk::<L, R, W>(alloc, records, Content::Records, style, w)
+}
+
+/// Writes the text of the records of a database file, in one pass over the file.
+///
+/// The file is read up to the end of its records and no further, and one record is held at a time.
+/// The faults:
+/// - `Walk(Short)`, `Walk(Table(n))`, `Walk(Record(place))`: the file is damaged; the texts of all
+///   whole records before the damage were written, and no closing newline;
+/// - `Walk(Input)`: the reader failed; the texts of all records that were read were written;
+/// - `NoMemory`: a growth was refused; the texts of all records that were read were written;
+/// - `Output`: the writer failed, and holds a front of the text.
+///
+/// The writer is flushed last, after a fault too.
+pub fn dump_run<L: Width, R: Read + Drop, W: Write>(
+    alloc: Global,
+    reader: R,
+    style: Style,
+    w: &mut W,
+) -> Result<(), Fault>
+    ensures { (rest : Option (List ℕ)) × WritesWalk L.WORD (dump_form style)
+        (R.remaining reader) rest (W.contents w.old) (W.contents w.new) result }
+{
+    let mut records = RecordReader::<R, L>::new(alloc, reader);
+    dump_from::<L, R, W>(alloc, &mut records, style, w)
+}

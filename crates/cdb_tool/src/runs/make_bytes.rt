@@ -1,0 +1,128 @@
+// A text made a file.
+ghost use Rattle.std.specs.Prelude.{◌≡◌, ℕ, [], List, Option, IfOk, IfErr};
+ghost use Rattle.cdb_form.specs.Format.File.{file_bytes};
+ghost use Rattle.cdb_form.specs.Format.Record.{KeyValue};
+ghost use Rattle.cdb_form.specs.Views.TextReader.{unread};
+ghost use Rattle.cdb_make.specs.Views.Maker.{Holds, limit_of};
+ghost use Rattle.cdb_tool.specs.declared.fault.Fault.TheVariants.{NoMemory};
+ghost use Rattle.cdb_tool.specs.Runs.MakeBytes.{IsNewText, ReadsFitting, NotRead, Makes};
+
+use crate::fault::Fault;
+use crate::runs::flushed::flushed;
+use cdb_form::{Record, TextReader, Width, write_whole};
+use cdb_make::{Maker, Mode};
+use cdb_store::MemStore;
+use std::alloc::Global;
+use std::io::{Read, Write};
+
+/// The number of the one input.
+const INPUT: u64 = 1;
+
+/// A maker of a file in memory. It fails only where memory runs out.
+fn maker_in_memory<L: Width>(alloc: Global) -> Result<Maker<MemStore, L>, Fault>
+    ensures holds { IfOk result (λ m. Holds m []) }
+    ensures limit { IfOk result (λ m. limit_of m ≡ L.GREATEST) }
+    ensures err { IfErr result (λ f. f ≡ NoMemory) }
+{
+    match Maker::new(alloc, MemStore::new(alloc), L::GREATEST) {
+        Ok(maker) => Ok(maker),
+        Err(refused) => Err(Fault::from(refused.fault)),
+    }
+}
+
+/// The records of a text, up to its end, where their file isn't too large.
+fn fitting_records<L: Width, R: Read>(
+    alloc: Global,
+    text: &mut TextReader<R, L>,
+) -> Result<Maker<MemStore, L>, Fault>
+    requires { IsNewText text.old }
+    ensures ok { IfOk result (λ m. (records : List KeyValue) × Holds m records
+        × ReadsFitting L.WORD L.GREATEST (unread R.remaining text.old) (unread R.remaining text.new)
+        records) }
+    ensures err { IfErr result
+        (NotRead L.WORD L.GREATEST (unread R.remaining text.old) (unread R.remaining text.new)) }
+{
+    let mut maker = maker_in_memory::<L>(alloc)?;
+    let mut record = Record {
+        key: Vec::new(alloc),
+        value: Vec::new(alloc),
+    };
+    loop {
+        match text.read_into(&mut record) {
+            Err(fault) => return Err(Fault::of_text(INPUT, fault)),
+            Ok(false) => return Ok(maker),
+            Ok(true) => {}
+        }
+        maker.put(Mode::Add, &record.key, &record.value)?;
+    }
+}
+
+/// The file that a maker finishes in memory. It fails only where memory runs out.
+fn file_in_memory<L: Width>(maker: Maker<MemStore, L>) -> Result<Vec<u8>, Fault>
+    ensures ok { (records : List KeyValue) → Holds maker records
+        → IfOk result (λ v. v.items ≡ file_bytes L.WORD records) }
+    ensures err { (records : List KeyValue) → Holds maker records
+        → IfErr result (λ f. f ≡ NoMemory) }
+{
+    match maker.finish() {
+        Ok(store) => Ok(store.into_vec()),
+        Err(unfinished) => Err(Fault::from(unfinished.fault)),
+    }
+}
+
+/// Writes the file of a text, which the writer may keep in a buffer.
+fn make_unflushed<L: Width, R: Read, W: Write>(
+    alloc: Global,
+    text: &mut TextReader<R, L>,
+    w: &mut W,
+) -> Result<(), Fault>
+    requires { IsNewText text.old }
+    ensures { Makes L.WORD L.GREATEST (unread R.remaining text.old) (unread R.remaining text.new)
+        (W.contents w.old) (W.contents w.new) result }
+{
+    let maker = fitting_records::<L, R>(alloc, text)?;
+    let file = file_in_memory::<L>(maker)?;
+    write_whole(w, &file)?;
+    Ok(())
+}
+
+/// Makes the database file of one native text, of which nothing was read yet.
+///
+/// It does what `make_bytes` does, and leaves in the reader of the text what it did not read: at Ok
+/// what follows the text, after a fault of the text what follows the byte at its place.
+pub fn make_from<L: Width, R: Read, W: Write>(
+    alloc: Global,
+    text: &mut TextReader<R, L>,
+    w: &mut W,
+) -> Result<(), Fault>
+    requires { IsNewText text.old }
+    ensures { Makes L.WORD L.GREATEST (unread R.remaining text.old) (unread R.remaining text.new)
+        (W.contents w.old) (W.contents w.new) result }
+{
+    let made = make_unflushed::<L, R, W>(alloc, text, w);
+    flushed(w, made)
+}
+
+/// Makes the database file of one native text, in memory, and writes it whole.
+///
+/// The text is read up to its end, and no further, before the first byte is written. Each of its
+/// records is added, so a key may have several. The faults, in their order:
+/// - `Make(TooBig)`: the file of the whole records so far would be longer than `L::GREATEST` bytes;
+/// - `Text(1, fault)`: the text has this fault, its place in bytes from the reader's first one,
+///   or the reader failed or has no end;
+/// - `NoMemory`: a growth was refused;
+/// - `Output`: the writer failed, and holds a front of the file.
+///
+/// After any other fault than `Output` nothing was written. The writer is flushed last, after a
+/// fault too.
+pub fn make_bytes<L: Width, R: Read + Drop, W: Write>(
+    alloc: Global,
+    reader: R,
+    w: &mut W,
+) -> Result<(), Fault>
+    ensures { (rest : Option (List ℕ)) × Makes L.WORD L.GREATEST (R.remaining reader) rest
+        (W.contents w.old) (W.contents w.new) result }
+{
+    let mut text = TextReader::<R, L>::new(alloc, reader);
+    make_from::<L, R, W>(alloc, &mut text, w)
+}

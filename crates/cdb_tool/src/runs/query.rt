@@ -1,0 +1,140 @@
+// The values of a key.
+ghost use Rattle.std.specs.Prelude.{◌≡◌, ◌+◌, ◌≤◌, ℕ, List, Some, None, IfSome, IfErr, OnOk, OnErr};
+ghost use Rattle.std.specs.Io.KnownBytes.{Appends};
+ghost use Rattle.cdb_form.specs.Views.KnownBytes.{AppendsFront};
+ghost use Rattle.cdb_read.specs.Lookup.{bytes_of};
+ghost use Rattle.cdb_store.specs.Reads.{OnlyReads};
+ghost use Rattle.cdb_read.specs.Views.Reads.{CopyingFails};
+ghost use Rattle.cdb_tool.specs.Runs.Query.{Queries, value_text};
+
+use crate::fault::Fault;
+use crate::runs::flushed::flushed;
+use cdb_form::{Width, write_whole};
+use cdb_read::{Finder, ReadFault, Reader, Span};
+use cdb_store::Store;
+use std::io::Write;
+
+/// Writes a value that a finder gave, with a newline behind it in lines. After a fault the writer
+/// holds a front of that.
+fn write_value<L: Width, S: Store, W: Write>(
+    finder: &mut Finder<'_, S, L>,
+    value: Span,
+    lines: bool,
+    w: &mut W,
+) -> Result<(), ReadFault>
+    requires inside { value.place + value.len ≤ S.size finder.old.reader.now.store }
+    ensures same_reader { finder.new.reader.ghost_name ≡ finder.old.reader.ghost_name }
+    ensures key { finder.new.key.now ≡ finder.old.key.now }
+    ensures stays { finder.new.searching ≡ finder.old.searching }
+    ensures reads { OnlyReads S.Store finder.old.reader.now.store finder.new.reader.now.store }
+    ensures writes { (b : List ℕ) → S.image finder.new.reader.now.store b
+        → OnOk result (Appends (W.contents w.old) (W.contents w.new)
+        (value_text lines (bytes_of b value))) }
+    ensures front { (b : List ℕ) → S.image finder.new.reader.now.store b
+        → OnErr result (AppendsFront (W.contents w.old) (W.contents w.new)
+        (value_text lines (bytes_of b value))) }
+    ensures fails { IfErr result
+        (CopyingFails S.Store finder.old.reader.now.store finder.new.reader.now.store) }
+{
+    finder.copy(value, w)?;
+    if lines {
+        write_whole(w, b"\n")?;
+    }
+    Ok(())
+}
+
+/// Writes all values of a key.
+fn write_all<L: Width, S: Store, W: Write>(
+    reader: &mut Reader<S, L>,
+    key: &[u8],
+    lines: bool,
+    w: &mut W,
+) -> Result<(), Fault>
+    ensures { Queries L.WORD S.Store (record { key = key.now; number = None; lines = lines })
+        reader.old.store reader.new.store (W.contents w.old) (W.contents w.new) result }
+{
+    let mut finder = reader.find(key);
+    let mut found = false;
+    while let Some(value) = finder.next()? {
+        write_value(&mut finder, value, lines, w)?;
+        found = true;
+    }
+    if found { Ok(()) } else { Err(Fault::Missing) }
+}
+
+/// Writes the value of a key that has this number, counted from 1. The ones before it are found and
+/// not read, and none behind it is looked for.
+fn write_nth<L: Width, S: Store, W: Write>(
+    reader: &mut Reader<S, L>,
+    key: &[u8],
+    number: u64,
+    lines: bool,
+    w: &mut W,
+) -> Result<(), Fault>
+    requires { 1 ≤ number }
+    ensures { Queries L.WORD S.Store (record { key = key.now; number = Some number; lines = lines })
+        reader.old.store reader.new.store (W.contents w.old) (W.contents w.new) result }
+{
+    let mut finder = reader.find(key);
+    let mut left = number;
+    while let Some(value) = finder.next()? {
+        left -= 1;
+        if left == 0 {
+            write_value(&mut finder, value, lines, w)?;
+            return Ok(());
+        }
+    }
+    Err(Fault::Missing)
+}
+
+/// Writes values of a key, which the writer may keep in a buffer.
+fn query_unflushed<L: Width, S: Store, W: Write>(
+    store: S,
+    key: &[u8],
+    number: Option<u64>,
+    lines: bool,
+    w: &mut W,
+) -> (S, Result<(), Fault>)
+    requires { IfSome number (λ j. 1 ≤ j) }
+    ensures { Queries L.WORD S.Store (record { key = key.now; number = number; lines = lines })
+        store result.0 (W.contents w.old) (W.contents w.new) result.1 }
+{
+    let mut reader = match Reader::<S, L>::open(store) {
+        Ok(reader) => reader,
+        Err(unread) => return (unread.store, Err(Fault::from(unread.fault))),
+    };
+    let answer = match number {
+        None => write_all(&mut reader, key, lines, w),
+        Some(number) => write_nth(&mut reader, key, number, lines, w),
+    };
+    (reader.into_store(), answer)
+}
+
+/// Writes the values that a key has in the database in a store, one behind the other, or the value
+/// with a number, counted from 1, alone. With `lines` a newline stands behind each.
+///
+/// Values go from the store to the writer in pieces, and no memory is taken. The faults:
+/// - `Missing`: there is no value, or fewer than the number;
+/// - `Read(Short)`: the store is shorter than a head; it was not read, and nothing was written;
+/// - `Read(Table(n))`, `Read(Record(place))`: the look-up met this damage; the values before it
+///   that were asked for were written. Damage behind the value with the number is not met;
+/// - `Read(Device)`: the store failed; a front of the text was written;
+/// - `Output`: the writer failed, and holds a front of the text.
+///
+/// The store is handed back whatever the answer, and was only read. The writer is flushed last,
+/// after a fault too.
+pub fn query_run<L: Width, S: Store, W: Write>(
+    store: S,
+    key: &[u8],
+    number: Option<u64>,
+    lines: bool,
+    w: &mut W,
+) -> (S, Result<(), Fault>)
+    requires { IfSome number (λ j. 1 ≤ j) }
+    ensures { Queries L.WORD S.Store (record { key = key.now; number = number; lines = lines })
+        store result.0 (W.contents w.old) (W.contents w.new) result.1 }
+{
+    let (store, queried) = query_unflushed::<L, S, W>(store, key, number, lines, w);
+    let answer = flushed(w, queried);
+    (store, answer)
+}

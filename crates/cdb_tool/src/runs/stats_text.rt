@@ -1,0 +1,106 @@
+// The text of statistics.
+ghost use Rattle.std.specs.Prelude.{◌++◌, codes, decimal, OnOk, OnErr};
+ghost use Rattle.std.specs.Io.KnownBytes.{Appends};
+ghost use Rattle.cdb_form.specs.Views.KnownBytes.{AppendsFront};
+ghost use Rattle.cdb_tool.specs.Runs.StatsText.{count_line, triple_line, distance_lines};
+ghost use Rattle.cdb_tool.specs.Runs.StatsText.{stats_text};
+
+use cdb_form::{OutFault, write_pieces};
+use cdb_read::Stats;
+use itoa::Buffer;
+use std::io::Write;
+
+/// Writes a line of a number. After an `OutFault` the writer holds a front of it.
+fn write_count<W: Write>(words: &[u8], count: u64, w: &mut W) -> Result<(), OutFault>
+    ensures ok { OnOk result (Appends (W.contents w.old) (W.contents w.new)
+        (count_line words.now count)) }
+    ensures err { OnErr result
+        (AppendsFront (W.contents w.old) (W.contents w.new) (count_line words.now count)) }
+{
+    let mut digits = Buffer::new();
+    let count = digits.format(count).as_bytes();
+    write_pieces(w, &[words, b": ", count, b"\n"])
+}
+
+/// Writes a line of three numbers. After an `OutFault` the writer holds a front of it.
+fn write_triple<W: Write>(
+    words: &[u8],
+    first: u64,
+    second: u64,
+    third: u64,
+    w: &mut W,
+) -> Result<(), OutFault>
+    ensures ok { OnOk result (Appends (W.contents w.old) (W.contents w.new)
+        (triple_line words.now first second third)) }
+    ensures err { OnErr result (AppendsFront (W.contents w.old) (W.contents w.new)
+        (triple_line words.now first second third)) }
+{
+    let mut digits = (Buffer::new(), Buffer::new(), Buffer::new());
+    let first = digits.0.format(first).as_bytes();
+    let second = digits.1.format(second).as_bytes();
+    let third = digits.2.format(third).as_bytes();
+    write_pieces(w, &[words, b": ", first, b"/", second, b"/", third, b"\n"])
+}
+
+/// Writes the line of a distance below 10. After an `OutFault` the writer holds a front of it.
+fn write_distance<W: Write>(distance: usize, count: u64, w: &mut W) -> Result<(), OutFault>
+    ensures ok { OnOk result (Appends (W.contents w.old) (W.contents w.new)
+        (count_line (codes "distance " ++ decimal distance) count)) }
+    ensures err { OnErr result (AppendsFront (W.contents w.old) (W.contents w.new)
+        (count_line (codes "distance " ++ decimal distance) count)) }
+{
+    let (mut distances, mut counts) = (Buffer::new(), Buffer::new());
+    let distance = distances.format(distance).as_bytes();
+    let count = counts.format(count).as_bytes();
+    write_pieces(w, &[b"distance ", distance, b": ", count, b"\n"])
+}
+
+/// Writes the lines of all distances. After an `OutFault` the writer holds a front of them.
+fn write_distances<W: Write>(counts: &[u64; 11], w: &mut W) -> Result<(), OutFault>
+    ensures ok { OnOk result (Appends (W.contents w.old) (W.contents w.new)
+        (distance_lines counts.now)) }
+    ensures err { OnErr result
+        (AppendsFront (W.contents w.old) (W.contents w.new) (distance_lines counts.now)) }
+{
+    for distance in 0..10usize {
+        write_distance(distance, counts[distance], w)?;
+    }
+    write_count(b"distance 10 or more", counts[10], w)
+}
+
+/// Writes the text of statistics. After an `OutFault` the writer holds a front of it.
+pub(crate) fn write_stats<W: Write>(stats: &Stats, w: &mut W) -> Result<(), OutFault>
+    ensures ok { OnOk result (Appends (W.contents w.old) (W.contents w.new)
+        (stats_text stats.now)) }
+    ensures err { OnErr result
+        (AppendsFront (W.contents w.old) (W.contents w.new) (stats_text stats.now)) }
+{
+    write_count(b"records", stats.records, w)?;
+    let words = b"key lengths least/average/greatest";
+    write_triple(
+        words,
+        stats.key_least,
+        stats.key_average,
+        stats.key_greatest,
+        w,
+    )?;
+    let words = b"value lengths least/average/greatest";
+    write_triple(
+        words,
+        stats.value_least,
+        stats.value_average,
+        stats.value_greatest,
+        w,
+    )?;
+    let words = b"tables/entries/collisions";
+    write_triple(words, stats.tables, stats.entries, stats.collisions, w)?;
+    let words = b"table sizes least/average/greatest";
+    write_triple(
+        words,
+        stats.size_least,
+        stats.size_average,
+        stats.size_greatest,
+        w,
+    )?;
+    write_distances(&stats.distances, w)
+}

@@ -1,0 +1,110 @@
+// The text of the records or of the keys of a file.
+ghost use Rattle.std.specs.Prelude.{OnOk, OnErr, IfOk, IfErr, MatchBool};
+ghost use Rattle.std.specs.Io.KnownBytes.{Appends};
+ghost use Rattle.cdb_form.specs.Format.Record.{KeyValue};
+ghost use Rattle.cdb_form.specs.Views.KnownBytes.{AppendsFront};
+ghost use Rattle.cdb_form.specs.Views.RecordReader.{unread, IsFresh, GivesRecord, GivesEnd, Fails};
+ghost use Rattle.cdb_tool.specs.Runs.Form.{item_of, end_of, form_of, IsHeld};
+ghost use Rattle.cdb_tool.specs.Runs.WalkText.{WritesWalk};
+
+use crate::fault::Fault;
+use crate::runs::content::Content;
+use crate::runs::flushed::flushed;
+use cdb_command::Style;
+use cdb_form::{
+    OutFault, Record, RecordReader, WalkFault, Width, write_end, write_list_record, write_map_key,
+    write_map_record, write_record,
+};
+use std::alloc::Global;
+use std::io::{Read, Write};
+
+/// Reads what the text has of the next record over another record. A value that it does not have is
+/// passed over, and takes no memory.
+fn read_item<L: Width, R: Read>(
+    records: &mut RecordReader<R, L>,
+    content: Content,
+    into: &mut Record,
+) -> Result<bool, WalkFault>
+    ensures gives { IfOk result (λ given. MatchBool given
+        ((r : KeyValue) × IsHeld content into.new r
+        × GivesRecord L.WORD R.remaining records.old records.new r)
+        (GivesEnd L.WORD R.remaining records.old records.new)) }
+    ensures fails { IfErr result (Fails L.WORD R.remaining records.old records.new) }
+{
+    match content {
+        Content::Records => records.read_into(into),
+        Content::Keys => records.read_key(into),
+    }
+}
+
+/// Writes what the text has of a record. After an `OutFault` the writer holds a front of it.
+fn write_item<W: Write>(
+    w: &mut W,
+    content: Content,
+    style: Style,
+    held: &Record,
+) -> Result<(), OutFault>
+    ensures ok { OnOk result ((r : KeyValue) → IsHeld content held.now r →
+        Appends (W.contents w.old) (W.contents w.new) (item_of content style r)) }
+    ensures err { OnErr result ((r : KeyValue) → IsHeld content held.now r →
+        AppendsFront (W.contents w.old) (W.contents w.new) (item_of content style r)) }
+{
+    match (content, style) {
+        (Content::Records, Style::Native) => write_record(w, &held.key, &held.value),
+        (Content::Records, Style::Map) => write_map_record(w, &held.key, &held.value),
+        (Content::Keys, Style::Native) => write_list_record(w, &held.key),
+        (Content::Keys, Style::Map) => write_map_key(w, &held.key),
+    }
+}
+
+/// Writes what ends the text. After an `OutFault` the writer holds a front of it.
+fn write_last<W: Write>(w: &mut W, style: Style) -> Result<(), OutFault>
+    ensures ok { OnOk result (Appends (W.contents w.old) (W.contents w.new) (end_of style)) }
+    ensures err { OnErr result
+        (AppendsFront (W.contents w.old) (W.contents w.new) (end_of style)) }
+{
+    match style {
+        Style::Native => write_end(w),
+        Style::Map => Ok(()),
+    }
+}
+
+/// Writes the text of a file, which the writer may keep in a buffer.
+fn write_unflushed<L: Width, R: Read, W: Write>(
+    alloc: Global,
+    records: &mut RecordReader<R, L>,
+    content: Content,
+    style: Style,
+    w: &mut W,
+) -> Result<(), Fault>
+    requires { IsFresh records.old }
+    ensures { WritesWalk L.WORD (form_of content style) (unread R.remaining records.old)
+        (unread R.remaining records.new) (W.contents w.old) (W.contents w.new) result }
+{
+    let mut record = Record {
+        key: Vec::new(alloc),
+        value: Vec::new(alloc),
+    };
+    while read_item(records, content, &mut record)? {
+        write_item(w, content, style, &record)?;
+    }
+    write_last(w, style)?;
+    Ok(())
+}
+
+/// Writes the text of a file, of which nothing was read yet, and flushes the writer, after a fault
+/// too.
+pub(crate) fn write_walk<L: Width, R: Read, W: Write>(
+    alloc: Global,
+    records: &mut RecordReader<R, L>,
+    content: Content,
+    style: Style,
+    w: &mut W,
+) -> Result<(), Fault>
+    requires { IsFresh records.old }
+    ensures { WritesWalk L.WORD (form_of content style) (unread R.remaining records.old)
+        (unread R.remaining records.new) (W.contents w.old) (W.contents w.new) result }
+{
+    let written = write_unflushed::<L, R, W>(alloc, records, content, style, w);
+    flushed(w, written)
+}
