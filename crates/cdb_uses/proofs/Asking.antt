@@ -20,7 +20,8 @@ use Rattle.cdb_read.specs.Laws.{FindsValues}
 use Rattle.cdb_read.specs.Lookup.{Found, nothing_found, found_damaged, with_span, with_spans, bytes_of, lookup_of}
 use Rattle.cdb_read.specs.Values.{values_of}
 use Rattle.cdb_read.specs.Views.Finder.{left_in, FindingFails}
-use Rattle.cdb_read.specs.Views.Reads.{OnlyReads, CopyingFails}
+use Rattle.cdb_store.specs.Reads.{OnlyReads}
+use Rattle.cdb_read.specs.Views.Reads.{CopyingFails}
 use Rattle.cdb_read.specs.Views.Search.{found_ahead}
 use Rattle.cdb_read.specs.declared.fault.ReadFault.{ReadFault}
 use Rattle.cdb_read.specs.declared.fault.ReadFault.TheVariants.{Short, Table, Record, Slot, Twice, Unindexed, Device, NoMemory, Output}

@@ -7,7 +7,8 @@ ghost use Rattle.cdb_form.specs.Format.Record.{KeyValue, IsRecord};
 ghost use Rattle.cdb_form.specs.Views.KnownBytes.{AppendsFront};
 ghost use Rattle.cdb_make.specs.Views.Maker.{IsFile};
 ghost use Rattle.cdb_read.specs.Values.{values_of};
-ghost use Rattle.cdb_read.specs.Views.Reads.{OnlyReads, CopyingFails};
+ghost use Rattle.cdb_store.specs.Reads.{OnlyReads};
+ghost use Rattle.cdb_read.specs.Views.Reads.{CopyingFails};
 
 use cdb_form::Width;
 use cdb_read::{ReadFault, Reader};
@@ -18,7 +19,7 @@ use std::io::Write;
 ///
 /// Of a file that was made nothing is damaged: it fails by `Device` where the store did, and by
 /// `Output` where the writer did. Either way the writer then holds a front of the values.
-pub fn write_values<S: Store, L: Width, W: Write>(
+pub fn write_values<L: Width, S: Store, W: Write>(
     reader: &mut Reader<S, L>,
     key: &[u8],
     w: &mut W,

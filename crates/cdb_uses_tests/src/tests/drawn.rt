@@ -325,7 +325,7 @@ fn checks(alloc: Global, file: &Vec<u8>) -> Result<bool, AllocError> {
     let Ok(mut reader) = Reader::open(MemStore::from_vec(file.clone()?)) else {
         return Ok(file.len() < 2048);
     };
-    let answer = check::<MemStore, Narrow>(alloc, &mut reader);
+    let answer = check::<Narrow, MemStore>(alloc, &mut reader);
     if answer.err() != checked(alloc, file)? {
         return Ok(false);
     }

@@ -1,6 +1,6 @@
 use Rattle.std.proofs.Common.{◌≡◌}
 use Rattle.cdb_read.specs.Views.Finder.{left_in, slots_left}
-use Rattle.cdb_read.specs.Views.Reads.{OnlyReads}
+use Rattle.cdb_store.specs.Reads.{OnlyReads}
 use Rattle.cdb_uses.proofs.Asking.{AskedSoFar}
 use Rattle.cdb_uses.proofs.read.write_values.Given as goal
 

@@ -1,0 +1,3 @@
+-- The state of a search and of a walk over bytes in memory, and what each call says of it.
+pub mod Searches
+pub mod Walks

@@ -1,0 +1,6 @@
+//! What contracts can't say.
+mod damaged;
+mod files;
+mod finding;
+mod uses;
+mod walking;
