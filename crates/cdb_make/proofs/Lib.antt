@@ -18,6 +18,7 @@ pub mod Whole
 pub mod Entering
 pub mod Added
 pub mod Makers
+pub mod KeptHeads
 pub mod TableBytes
 pub mod FinishedFile
 pub mod ClosedAll

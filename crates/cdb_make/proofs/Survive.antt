@@ -100,7 +100,7 @@ kept_first at end (g ∷ gs) a h =
     let z : g.place - g.place ≡ 0 = omega arith in
     ap (λ v. part at (g.place - at) a ++ (part g.place v a ++ kept (g.place + g.size) gs end a)) (sym z)
 
-first_above : (at end : ℕ) (gs : List Gap) → AreApart at gs end → at ≤ first_place gs end
+pub first_above : (at end : ℕ) (gs : List Gap) → AreApart at gs end → at ≤ first_place gs end
 first_above at end [] h = h
 first_above at end (g ∷ gs) h = h.0
 

@@ -7,5 +7,6 @@ pub mod Tag
 pub mod Looks
 pub mod Stands
 pub mod Finished
+pub mod Unfinished
 pub mod Laws
 pub mod Examples

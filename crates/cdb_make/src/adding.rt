@@ -6,6 +6,7 @@ ghost use Rattle.cdb_form.specs.Format.Hash.{key_hash};
 ghost use Rattle.cdb_form.specs.Format.Pair.{head_size};
 ghost use Rattle.cdb_form.specs.Format.Record.{KeyValue, record_size};
 ghost use Rattle.cdb_make.specs.Stands.{Stands};
+ghost use Rattle.cdb_make.specs.Unfinished.{KeepsHead};
 ghost use Rattle.cdb_make.specs.Views.EntryList.{lists_entries, entry_count, entry_room};
 ghost use Rattle.cdb_make.specs.Views.EntryList.{AreWithin, HasSpareGaps};
 ghost use Rattle.cdb_make.specs.Views.Adding.{AddFails};
@@ -62,6 +63,7 @@ pub(crate) fn add<S: Store, L: Width>(
         (KeepsPart (head_size L.WORD) (end - head_size L.WORD) (S.image store.old)
         (S.image store.new)) }
     ensures comes { ComesFrom (S.image store.old) (S.image store.new) }
+    ensures head { KeepsHead L.WORD (S.image store.old) (S.image store.new) }
     ensures fails { IfErr result
         (AddFails (S.written store.old) (S.written store.new) (S.failures store.old)
         (S.failures store.new)

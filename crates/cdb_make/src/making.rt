@@ -6,6 +6,7 @@ ghost use Rattle.cdb_form.specs.Format.File.{file_bytes};
 ghost use Rattle.cdb_form.specs.Format.Pair.{head_size};
 ghost use Rattle.cdb_form.specs.Format.Record.{KeyValue};
 ghost use Rattle.cdb_make.specs.Finished.{HeadIsLast};
+ghost use Rattle.cdb_make.specs.Unfinished.{IsUnfinished};
 ghost use Rattle.cdb_make.specs.Views.EntryList.{lists_entries};
 ghost use Rattle.cdb_make.specs.Views.Making.{MakingFault};
 
@@ -40,10 +41,11 @@ pub struct Unfinished<S: Store, L: Width> {
 /// The longest head, that of words of 8 bytes.
 const HEAD: usize = 4096;
 
-/// Leaves a head of zeros in a store and nothing else, and gives lists without entries. All memory
-/// is taken first.
+/// Leaves a head of all ones in a store and nothing else, and gives lists without entries. All
+/// memory is taken first.
 fn emptied<S: Store, L: Width>(alloc: Global, store: &mut S) -> Result<Vec<EntryList>, MakeFault>
     ensures lists { IfOk result (λ v. lists_entries v.items ≡ replicate 256 []) }
+    ensures head { OnOk result (IsUnfinished L.WORD (S.image store.new)) }
     ensures size { OnOk result (S.size store.new ≡ head_size L.WORD) }
     ensures written { OnOk result (S.written store.new ≡ S.written store.old + head_size L.WORD) }
     ensures room { S.room store.old ≤ S.room store.new }
@@ -52,7 +54,7 @@ fn emptied<S: Store, L: Width>(alloc: Global, store: &mut S) -> Result<Vec<Entry
         (MakingFault S.image S.size S.written S.failures store.old store.new) }
 {
     let lists = no_entries(alloc)?;
-    let head = [0; HEAD];
+    let head = [0xff; HEAD];
     let len = head_size::<L>();
     store.reserve(len as u64)?;
     store.cut(0)?;
@@ -66,6 +68,9 @@ impl<S: Store, L: Width> Maker<S, L> {
 
     /// A maker of a file of at most `limit` bytes in a store, which is emptied.
     ///
+    /// Until the finish the head is one of all ones, whose tables stand outside of any file: so what
+    /// a maker leaves that does not finish is told as damaged.
+    ///
     /// The store is handed back where that failed: with `NoMemory` as it was, and with `Writing`
     /// it failed, and may hold anything.
     pub fn new(alloc: Global, store: S, limit: u64) -> Result<Maker<S, L>, Refused<S>>
@@ -73,6 +78,8 @@ impl<S: Store, L: Width> Maker<S, L> {
         requires words { limit ≤ L.GREATEST }
         ensures holds { IfOk result (λ m. Holds m []) }
         ensures limit { IfOk result (λ m. limit_of m ≡ limit) }
+        ensures head { IfOk result (λ m. IsUnfinished L.WORD (S.image m.store)) }
+        ensures size { IfOk result (λ m. S.size m.store ≡ head_size L.WORD) }
         ensures written { IfOk result (λ m.
             S.written m.store ≡ S.written store + head_size L.WORD) }
         ensures room { IfOk result (λ m. S.room store ≤ S.room m.store) }
@@ -133,7 +140,10 @@ impl<S: Store, L: Width> Maker<S, L> {
             S.written s + self.end ≡ S.written self.store + (head_size L.WORD + made_size self)) }
         ensures settled { IfOk result S.settled }
         ensures comes { IfOk result (λ s. ComesFrom (S.image self.store) (S.image s)) }
+        ensures failures { IfOk result (λ s. S.failures self.store ≤ S.failures s) }
         ensures fails { IfErr result (λ u. FailsFinishing self u.maker u.fault) }
+        ensures fails_failures { IfErr result (λ u.
+            S.failures self.store ≤ S.failures u.maker.store) }
         // In each image the head is an old one, or all tables stand.
         ensures head_last { IfErr result (λ u. HeadIsLast L.WORD self.end
             (lists_entries self.lists.items) (S.image self.store) (S.image u.maker.store)) }

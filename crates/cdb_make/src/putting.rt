@@ -6,6 +6,7 @@ ghost use Rattle.cdb_form.specs.Format.File.{whole_size};
 ghost use Rattle.cdb_form.specs.Format.Record.{KeyValue, record_size};
 ghost use Rattle.cdb_make.specs.declared.mode.Mode.TheVariants.{Replace};
 ghost use Rattle.cdb_make.specs.Gaps.{AreApart};
+ghost use Rattle.cdb_make.specs.Unfinished.{KeepsHead};
 
 use crate::adding::add;
 use crate::fault::MakeFault;
@@ -42,6 +43,7 @@ impl<S: Store, L: Width> Maker<S, L> {
         ensures fails { IfErr result
             (FailsAdding self.old self.new (record { key = key.now; value = value.now })) }
         ensures comes { ComesFrom (S.image self.old.store) (S.image self.new.store) }
+        ensures head { KeepsHead L.WORD (S.image self.old.store) (S.image self.new.store) }
         ensures limit { self.new.limit ≡ self.old.limit }
         ensures counts { OnErr result (SameCounts self.old self.new) }
         ensures room { S.room self.old.store ≤ S.room self.new.store }
@@ -81,6 +83,7 @@ impl<S: Store, L: Width> Maker<S, L> {
         ensures fails { IfErr result (FailsClosing self.old self.new key.now) }
         ensures broken { OnErr result (self.new.broken ≡ true) }
         ensures comes { ComesFrom (S.image self.old.store) (S.image self.new.store) }
+        ensures head { KeepsHead L.WORD (S.image self.old.store) (S.image self.new.store) }
         ensures limit { self.new.limit ≡ self.old.limit }
         ensures counts { OnErr result (SameCounts self.old self.new) }
         ensures room { S.room self.old.store ≤ S.room self.new.store }
@@ -108,6 +111,7 @@ impl<S: Store, L: Width> Maker<S, L> {
         ensures fails { IfErr result
             (FailsPutting self.old self.new Replace (record { key = key.now; value = value.now })) }
         ensures comes { ComesFrom (S.image self.old.store) (S.image self.new.store) }
+        ensures head { KeepsHead L.WORD (S.image self.old.store) (S.image self.new.store) }
         ensures limit { self.new.limit ≡ self.old.limit }
         ensures counts { OnErr result (SameCounts self.old self.new) }
         ensures room { S.room self.old.store ≤ S.room self.new.store }
@@ -142,6 +146,7 @@ impl<S: Store, L: Width> Maker<S, L> {
         ensures fails { IfErr result
             (FailsPutting self.old self.new mode (record { key = key.now; value = value.now })) }
         ensures comes { ComesFrom (S.image self.old.store) (S.image self.new.store) }
+        ensures head { KeepsHead L.WORD (S.image self.old.store) (S.image self.new.store) }
         ensures limit { self.new.limit ≡ self.old.limit }
         ensures counts { OnErr result (SameCounts self.old self.new) }
         ensures room { S.room self.old.store ≤ S.room self.new.store }

@@ -7,6 +7,7 @@ ghost use Rattle.cdb_form.specs.Format.Pair.{head_size};
 ghost use Rattle.cdb_form.specs.Format.Record.{KeyValue};
 ghost use Rattle.cdb_make.specs.Gaps.{AreApart, first_place};
 ghost use Rattle.cdb_make.specs.Stands.{Stands, AreGapsOf, AreTakenOut, WritesSurvivors};
+ghost use Rattle.cdb_make.specs.Unfinished.{KeepsHead};
 ghost use Rattle.cdb_make.specs.Views.EntryList.{lists_entries, AreClosed};
 
 use crate::fault::MakeFault;
@@ -107,6 +108,7 @@ impl<S: Store, L: Width> Maker<S, L> {
         ensures removes { IfOk result (Removes self.old self.new key.now) }
         ensures fails { IfErr result (FailsRemoving self.old self.new key.now) }
         ensures comes { ComesFrom (S.image self.old.store) (S.image self.new.store) }
+        ensures head { KeepsHead L.WORD (S.image self.old.store) (S.image self.new.store) }
         ensures limit { self.new.limit ≡ self.old.limit }
         ensures counts { OnErr result (SameCounts self.old self.new) }
         ensures room { S.room self.old.store ≤ S.room self.new.store }

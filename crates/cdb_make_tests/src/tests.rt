@@ -10,4 +10,5 @@ mod said;
 mod scarce;
 mod scripts;
 mod taking;
+mod unfinished;
 mod uses;

@@ -1,7 +1,7 @@
 // Stores in files of the system. The files lie in the folder that each test runs in.
 use cdb_store::{FileStore, Store, StoreFault};
 use std::fs::{self, File, Permissions};
-use std::os::unix::fs::{PermissionsExt, symlink};
+use std::os::unix::fs::{FileExt, PermissionsExt, symlink};
 use std::test::Fail;
 
 /// Leaves `xy` in an empty store, and has it flushed.
@@ -99,5 +99,32 @@ fn a_full_device(rt: HostRuntime) -> Result<(), Fail> {
     let once = store.len() == 0 && store.write_at(0, b"abc") == failed;
     let twice = store.len() == 0 && store.write_at(0, b"abc") == failed;
     assert!(rt; once && twice && store.flush() == failed);
+    Ok(())
+}
+
+/// Leaves a file of 5 GiB of which the last two bytes alone are written, where there is room.
+fn leave_long(rt: &HostRuntime, name: &str) -> Result<bool, Fail> {
+    let file = File::create(rt, name)?;
+    match file.write_at(b"xy", (5 << 30) - 2) {
+        Ok(2) => Ok(true),
+        _ => Ok(false),
+    }
+}
+
+#[test]
+fn a_file_is_read_above_4_gib(rt: HostRuntime) -> Result<(), Fail> {
+    if !leave_long(&rt, "long.store")? {
+        println!(rt; "not tested: no file of 5 GiB can be made here")?;
+        return Ok(());
+    }
+    let mut store = FileStore::open(&rt, "long.store")?;
+    let mut into = [0; 2];
+    let is_read = store.len() == 5 << 30 && store.read_at((5 << 30) - 2, &mut into).is_ok();
+    // Where a position cut to 32 bits would read.
+    let mut low = [1; 2];
+    let is_low = store.len() == 5 << 30 && store.read_at((1 << 30) - 2, &mut low).is_ok();
+    fs::remove_file(&rt, "long.store")?;
+    assert!(rt; is_read && into == *b"xy");
+    assert!(rt; is_low && low == [0; 2]);
     Ok(())
 }

@@ -61,3 +61,10 @@ returns-clause-one_more g c = grind (arith, common_steps)
 
 pub returns-in_err-append_record-clause-fails : goal.returns-in_err-append_record-clause-fails
 returns-in_err-append_record-clause-fails g c = grind (arith, common_steps)
+
+pub returns-in_err-append_record-clause-head : goal.returns-in_err-append_record-clause-head
+returns-in_err-append_record-clause-head g c = kept_torn 0 (head_size g.L.Width.WORD) (inl (omega (arith, c.requires.start))) c.append_record.ensures.torn
+
+pub returns-clause-head : goal.returns-clause-head
+returns-clause-head g c = kept_torn 0 (head_size g.L.Width.WORD) (inl (omega (arith, c.requires.start))) c.append_record.ensures.torn
+

@@ -7,6 +7,8 @@ use Rattle.cdb_make.proofs.Makers.{comes_torn}
 use Rattle.cdb_make.proofs.Puts.{comes_then}
 use Rattle.cdb_make.proofs.Whole.{count_found}
 use Rattle.std.proofs.lemmas.Grind.{common_steps}
+use Rattle.cdb_make.proofs.FinishedFile.{kept_then}
+use Rattle.cdb_make.proofs.KeptHeads.{head_moved}
 use Rattle.cdb_make.proofs.maker.Maker.exchange.Goals as goal
 
 pub returns-in_err-last-clause-fails : goal.returns-in_err-last-clause-fails
@@ -78,3 +80,16 @@ returns-in-Err-clause-room g c = search rules
 
 pub returns-in-Err-clause-broken : goal.returns-in-Err-clause-broken
 returns-in-Err-clause-broken g c = search rules
+
+pub returns-in_err-last-clause-head : goal.returns-in_err-last-clause-head
+returns-in_err-last-clause-head g c = head_moved g.L.Width.WORD _ _ c.args.self.now.gaps.items c.requires.apart c.take_out.ensures.torn
+
+pub returns-in-Ok-clause-head : goal.returns-in-Ok-clause-head
+returns-in-Ok-clause-head g c = kept_then (head_moved g.L.Width.WORD _ _ c.args.self.now.gaps.items c.requires.apart c.take_out.ensures.torn) c.add.ensures.head
+
+pub returns-in-Err-NoMemory-clause-head : goal.returns-in-Err-NoMemory-clause-head
+returns-in-Err-NoMemory-clause-head g c = kept_then (head_moved g.L.Width.WORD _ _ c.args.self.now.gaps.items c.requires.apart c.take_out.ensures.torn) c.add.ensures.head
+
+pub returns-in-Err-clause-head : goal.returns-in-Err-clause-head
+returns-in-Err-clause-head g c = kept_then (head_moved g.L.Width.WORD _ _ c.args.self.now.gaps.items c.requires.apart c.take_out.ensures.torn) c.add.ensures.head
+

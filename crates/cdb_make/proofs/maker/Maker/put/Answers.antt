@@ -4,6 +4,8 @@ use Rattle.cdb_make.specs.declared.mode.Mode.TheVariants.{Add, Warn, Insert}
 use Rattle.cdb_make.specs.declared.mode.Put.TheVariants.{Added, AddedAgain}
 use Rattle.cdb_make.proofs.Puts.{puts_added, fails_added, fails_add, puts_present, just_add, just_warn, just_insert, writes_same}
 use Rattle.std.proofs.lemmas.Grind.{common_steps}
+use Rattle.cdb_make.proofs.FinishedFile.{kept_then}
+use Rattle.cdb_make.proofs.KeptHeads.{head_looked}
 use Rattle.cdb_make.proofs.maker.Maker.put.Goals as goal
 
 pub returns-in_err-add-in-Add-clause-fails : goal.returns-in_err-add-in-Add-clause-fails
@@ -67,3 +69,28 @@ returns-in_ok-add-in-Insert-clause-comes g c = grind (arith, common_steps)
 
 pub returns-else-there-clause-comes : goal.returns-else-there-clause-comes
 returns-else-there-clause-comes g c = grind (arith, common_steps)
+
+pub returns-in_err-there-in-Warn-clause-head : goal.returns-in_err-there-in-Warn-clause-head
+returns-in_err-there-in-Warn-clause-head g c = head_looked g.L.Width.WORD c.exists.ensures.images.no_other
+
+pub returns-in_err-add-in-Warn-clause-head : goal.returns-in_err-add-in-Warn-clause-head
+returns-in_err-add-in-Warn-clause-head g c = kept_then (head_looked g.L.Width.WORD c.exists.ensures.images.no_other) c.add-in-Warn.ensures.head
+
+pub returns-then-there-clause-head : goal.returns-then-there-clause-head
+returns-then-there-clause-head g c = kept_then (head_looked g.L.Width.WORD c.exists.ensures.images.no_other) c.add-in-Warn.ensures.head
+
+pub returns-else-there-clause-head : goal.returns-else-there-clause-head
+returns-else-there-clause-head g c = kept_then (head_looked g.L.Width.WORD c.exists.ensures.images.no_other) c.add-in-Warn.ensures.head
+
+pub returns-in_err-exists-in-Insert-clause-head : goal.returns-in_err-exists-in-Insert-clause-head
+returns-in_err-exists-in-Insert-clause-head g c = head_looked g.L.Width.WORD c.exists-in-Insert.ensures.images.no_other
+
+pub returns-then-branch-clause-head : goal.returns-then-branch-clause-head
+returns-then-branch-clause-head g c = head_looked g.L.Width.WORD c.exists-in-Insert.ensures.images.no_other
+
+pub returns-in_err-add-in-Insert-clause-head : goal.returns-in_err-add-in-Insert-clause-head
+returns-in_err-add-in-Insert-clause-head g c = kept_then (head_looked g.L.Width.WORD c.exists-in-Insert.ensures.images.no_other) c.add-in-Insert.ensures.head
+
+pub returns-in_ok-add-in-Insert-clause-head : goal.returns-in_ok-add-in-Insert-clause-head
+returns-in_ok-add-in-Insert-clause-head g c = kept_then (head_looked g.L.Width.WORD c.exists-in-Insert.ensures.images.no_other) c.add-in-Insert.ensures.head
+

@@ -3,6 +3,8 @@ use Rattle.std.proofs.lemmas.Result.{err_from_is_err_and}
 use Rattle.cdb_make.proofs.Makers.{removes_none, removes_some, fails_removing, comes_torn}
 use Rattle.cdb_make.proofs.Replacing.{fewer_within}
 use Rattle.std.proofs.lemmas.Grind.{common_steps}
+use Rattle.cdb_make.proofs.FinishedFile.{kept_then}
+use Rattle.cdb_make.proofs.KeptHeads.{head_looked, head_moved}
 use Rattle.cdb_make.proofs.maker.Maker.remove.Goals as goal
 
 pub returns-in_err-self-clause-fails : goal.returns-in_err-self-clause-fails
@@ -42,3 +44,16 @@ returns-in_ok-self-clause-comes g c = grind (arith, common_steps)
 
 pub returns-else-taken-gt0-clause-comes : goal.returns-else-taken-gt0-clause-comes
 returns-else-taken-gt0-clause-comes g c = grind (arith, common_steps)
+
+pub returns-in_err-taken-clause-head : goal.returns-in_err-taken-clause-head
+returns-in_err-taken-clause-head g c = head_looked g.L.Width.WORD c.find.ensures.reads.images
+
+pub returns-in_err-self-clause-head : goal.returns-in_err-self-clause-head
+returns-in_err-self-clause-head g c = kept_then (head_looked g.L.Width.WORD c.find.ensures.reads.images) (head_moved g.L.Width.WORD _ _ c.find.new.self.gaps.items c.in_ok-taken.ensures.apart c.take_out.ensures.torn)
+
+pub returns-in_ok-self-clause-head : goal.returns-in_ok-self-clause-head
+returns-in_ok-self-clause-head g c = kept_then (head_looked g.L.Width.WORD c.find.ensures.reads.images) (head_moved g.L.Width.WORD _ _ c.find.new.self.gaps.items c.in_ok-taken.ensures.apart c.take_out.ensures.torn)
+
+pub returns-else-taken-gt0-clause-head : goal.returns-else-taken-gt0-clause-head
+returns-else-taken-gt0-clause-head g c = head_looked g.L.Width.WORD c.find.ensures.reads.images
+

@@ -15,6 +15,9 @@ use Rattle.cdb_make.proofs.Makers.{honest_comes, writes_looked}
 use Rattle.cdb_make.proofs.Puts.{puts_added, fails_added, comes_same, comes_then, writes_then}
 use Rattle.cdb_make.proofs.Replacing.{just_replace, fewer_bytes, wants_memory, fails_too_big, would_replace, fails_wanting, fails_exchange, puts_exchanged, gaps_same}
 use Rattle.std.proofs.lemmas.Grind.{common_steps}
+use Rattle.cdb_store.proofs.Moves.{kept_same}
+use Rattle.cdb_make.proofs.FinishedFile.{kept_then}
+use Rattle.cdb_make.proofs.KeptHeads.{head_looked}
 use Rattle.cdb_make.proofs.maker.Maker.replace.Goals as goal
 
 pub returns-in_err-add-clause-fails : goal.returns-in_err-add-clause-fails
@@ -148,3 +151,25 @@ overflow_mul-left-2 g c = grind (arith, common_steps)
 
 pub returns-clause-comes : goal.returns-clause-comes
 returns-clause-comes g c = grind (arith, common_steps)
+
+pub returns-in_err-taken-clause-head : goal.returns-in_err-taken-clause-head
+returns-in_err-taken-clause-head g c = head_looked g.L.Width.WORD c.find.ensures.reads.images
+
+pub returns-in_err-add-clause-head : goal.returns-in_err-add-clause-head
+returns-in_err-add-clause-head g c = kept_then (head_looked g.L.Width.WORD c.find.ensures.reads.images) c.add.ensures.head
+
+pub returns-then-taken-eq0-clause-head : goal.returns-then-taken-eq0-clause-head
+returns-then-taken-eq0-clause-head g c = kept_then (head_looked g.L.Width.WORD c.find.ensures.reads.images) c.add.ensures.head
+
+pub returns-then-not-has_room-clause-head : goal.returns-then-not-has_room-clause-head
+returns-then-not-has_room-clause-head g c = head_looked g.L.Width.WORD c.find.ensures.reads.images
+
+pub returns-in_err-reserve-clause-head : goal.returns-in_err-reserve-clause-head
+returns-in_err-reserve-clause-head g c = kept_then (head_looked g.L.Width.WORD c.find.ensures.reads.images) (kept_same 0 (head_size g.L.Width.WORD) c.reserve.ensures.images)
+
+pub returns-in_err-exchange-clause-head : goal.returns-in_err-exchange-clause-head
+returns-in_err-exchange-clause-head g c = kept_then (kept_then (head_looked g.L.Width.WORD c.find.ensures.reads.images) (kept_same 0 (head_size g.L.Width.WORD) c.reserve.ensures.images)) c.exchange.ensures.head
+
+pub returns-clause-head : goal.returns-clause-head
+returns-clause-head g c = kept_then (kept_then (head_looked g.L.Width.WORD c.find.ensures.reads.images) (kept_same 0 (head_size g.L.Width.WORD) c.reserve.ensures.images)) c.exchange.ensures.head
+
