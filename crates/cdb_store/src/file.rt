@@ -131,11 +131,14 @@ impl<F: RawFile> FileStore<F> {
 }
 
 impl<F: RawFile + Drop> FileStore<F> {
+    ghost use Rattle.cdb_store.specs.FileStore.{images_of};
+
     /// A store in a raw file that was just opened, of the length that it tells.
     ///
     /// `Device`: it tells none, or 2^63 bytes or more.
     pub fn over(mut file: F) -> Result<FileStore<F>, StoreFault>
         requires { F.calls file ≡ [] }
+        ensures images { IfOk result (λ f. (b : List ℕ) → (images_of f b ↔ (length b ≡ f.len))) }
         ensures told { IfOk result (λ f. F.calls f.file ≡ (Length f.len, []) ∷ []) }
         ensures memory { IsErrOf result NoMemory → ⊥ }
     {

@@ -168,6 +168,13 @@ impl<S: Store> Store for FuseStore<S> {
             (self.new.written ≡ capped (self.old.written + length bytes.now)) }
         ensures count_err { OnErr result (IsLast self.old ⊎ (self.new.written ≡ self.old.written)) }
         ensures fails { IsLast self.old → IsErrOf result Device }
+        ensures part_torn { IsLast self.old
+            → AfterTornWrite pos (length (take self.old.part bytes.now)) (S.image self.old.inner)
+            (S.image self.new.inner) }
+        ensures part_size { IsLast self.old → S.size self.new.inner
+            ≤ max (S.size self.old.inner) (pos + length (take self.old.part bytes.now)) }
+        ensures part_written { IsLast self.old → S.written self.new.inner
+            ≤ S.written self.old.inner + length (take self.old.part bytes.now) }
         ensures part { IsLast self.old
             → PartWritten pos (take self.old.part bytes.now) (S.image self.old.inner)
             (S.image self.new.inner) (S.failures self.old.inner, S.failures self.new.inner)

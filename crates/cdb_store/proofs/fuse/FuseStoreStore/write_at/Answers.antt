@@ -53,3 +53,9 @@ returns-in-Ok-clause-memory_failures g c = search rules
 
 pub returns-in_default-clause-part : goal.returns-in_default-clause-part
 returns-in_default-clause-part g c = grind (arith, common_steps)
+
+pub returns-in-Ok-clause-part_torn : goal.returns-in-Ok-clause-part_torn
+returns-in-Ok-clause-part_torn g c = λ last. torn_wider c.args.pos _ _ _ _ (omega (arith, length-take {A = ℕ})) c.write_at.ensures.torn
+
+pub returns-in_default-clause-part_torn : goal.returns-in_default-clause-part_torn
+returns-in_default-clause-part_torn g c = λ last. torn_wider c.args.pos _ _ _ _ (omega (arith, length-take {A = ℕ})) c.write_at.ensures.torn
