@@ -67,4 +67,3 @@ returns-in_err-append_record-clause-head g c = kept_torn 0 (head_size g.L.Width.
 
 pub returns-clause-head : goal.returns-clause-head
 returns-clause-head g c = kept_torn 0 (head_size g.L.Width.WORD) (inl (omega (arith, c.requires.start))) c.append_record.ensures.torn
-

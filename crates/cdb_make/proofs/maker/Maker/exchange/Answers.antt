@@ -92,4 +92,3 @@ returns-in-Err-NoMemory-clause-head g c = kept_then (head_moved g.L.Width.WORD _
 
 pub returns-in-Err-clause-head : goal.returns-in-Err-clause-head
 returns-in-Err-clause-head g c = kept_then (head_moved g.L.Width.WORD _ _ c.args.self.now.gaps.items c.requires.apart c.take_out.ensures.torn) c.add.ensures.head
-

@@ -93,4 +93,3 @@ returns-in_err-add-in-Insert-clause-head g c = kept_then (head_looked g.L.Width.
 
 pub returns-in_ok-add-in-Insert-clause-head : goal.returns-in_ok-add-in-Insert-clause-head
 returns-in_ok-add-in-Insert-clause-head g c = kept_then (head_looked g.L.Width.WORD c.exists-in-Insert.ensures.images.no_other) c.add-in-Insert.ensures.head
-

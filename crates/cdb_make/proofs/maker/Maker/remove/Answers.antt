@@ -56,4 +56,3 @@ returns-in_ok-self-clause-head g c = kept_then (head_looked g.L.Width.WORD c.fin
 
 pub returns-else-taken-gt0-clause-head : goal.returns-else-taken-gt0-clause-head
 returns-else-taken-gt0-clause-head g c = head_looked g.L.Width.WORD c.find.ensures.reads.images
-

@@ -172,4 +172,3 @@ returns-in_err-exchange-clause-head g c = kept_then (kept_then (head_looked g.L.
 
 pub returns-clause-head : goal.returns-clause-head
 returns-clause-head g c = kept_then (kept_then (head_looked g.L.Width.WORD c.find.ensures.reads.images) (kept_same 0 (head_size g.L.Width.WORD) c.reserve.ensures.images)) c.exchange.ensures.head
-
