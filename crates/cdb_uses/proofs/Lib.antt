@@ -1,3 +1,5 @@
 pub mod Asking
 pub mod Changing
 pub mod Checking
+pub mod Stepping
+pub mod Unfinishing

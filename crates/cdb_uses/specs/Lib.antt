@@ -4,4 +4,6 @@ pub mod Changes
 pub mod Examples
 pub mod FirstRecord
 pub mod Latest
+pub mod Steps
+pub mod Unfinished
 pub mod Checks

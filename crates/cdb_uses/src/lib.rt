@@ -8,6 +8,8 @@ mod check;
 mod form;
 mod make;
 mod read;
+mod steps;
+mod unfinished;
 
 pub use ask::{AskFault, write_finished};
 pub use changes::{Change, ChangedFile, change_and_ask};
@@ -15,3 +17,5 @@ pub use check::open_checked;
 pub use form::first_record;
 pub use make::file_of_latest;
 pub use read::write_values;
+pub use steps::{Built, Step, build, build_and_ask};
+pub use unfinished::unfinished_is_damaged;

@@ -4,10 +4,10 @@ mod drawn;
 use cdb_form::{Narrow, Record, Wide, Width};
 use cdb_make::{MakeFault, Maker, Mode};
 use cdb_read::ReadFault;
-use cdb_store::MemStore;
+use cdb_store::{FuseStore, MemStore};
 use cdb_uses::{
-    AskFault, Change, ChangedFile, change_and_ask, file_of_latest, first_record, open_checked,
-    write_finished,
+    AskFault, Built, Change, ChangedFile, Step, build_and_ask, change_and_ask, file_of_latest,
+    first_record, open_checked, write_finished,
 };
 use std::alloc::Global;
 use std::prelude::*;
@@ -186,5 +186,65 @@ fn a_file_is_opened_where_it_is_sound(rt: HostRuntime) -> Result<(), Fail> {
     assert!(rt; told_of(rt.alloc(), 1, 0) == Ok(()));
     assert!(rt; told_of(rt.alloc(), 2, 0) == Err(ReadFault::Table(0)));
     assert!(rt; told_of(rt.alloc(), 1, 1) == Err(ReadFault::Slot(0, 0)));
+    Ok(())
+}
+
+/// A record, a finish, and another record of the same key.
+fn steps_round_a_finish(alloc: Global) -> Result<Vec<Step>, Fail> {
+    let mut steps = Vec::new(alloc);
+    for change in changes(alloc, &SCRATCH[..1])? {
+        steps.push(Step::Change(change))?;
+    }
+    steps.push(Step::Finish)?;
+    for change in changes(alloc, &SCRATCH[1..2])? {
+        steps.push(Step::Change(change))?;
+    }
+    Ok(steps)
+}
+
+#[test]
+fn a_finish_that_is_refused_keeps_the_records(rt: HostRuntime) -> Result<(), Fail> {
+    let alloc = rt.alloc();
+    let steps = steps_round_a_finish(alloc)?;
+    let (mut taken, mut refused) = (0, 0);
+    for calls in 0..30u64 {
+        let mut out = Vec::new(alloc);
+        let fuse = FuseStore::new(MemStore::new(alloc), calls, 0);
+        let built = build_and_ask::<_, Narrow, _>(
+            alloc,
+            fuse,
+            Narrow::GREATEST,
+            &steps,
+            b"a",
+            &mut out,
+        );
+        let Ok(Built { store, faults }) = built else {
+            continue;
+        };
+        let size = store.into_inner().into_vec().len();
+        if faults.len() == 3 {
+            assert!(rt; out.as_slice() == b"12".as_slice() && size == 2100);
+            refused += 1;
+        } else if out.as_slice() == b"1".as_slice() {
+            assert!(rt; faults.len() == 1 && size == 2074);
+            taken += 1;
+        }
+    }
+    // A finish of one record makes four calls, each of which failed once.
+    assert!(rt; refused == 4 && taken > 0);
+    Ok(())
+}
+
+#[test]
+fn a_database_that_is_not_finished_is_damaged(rt: HostRuntime) -> Result<(), Fail> {
+    let alloc = rt.alloc();
+    let store = MemStore::new(alloc);
+    let Ok(mut maker) = Maker::<_, Narrow>::new(alloc, store, Narrow::GREATEST) else {
+        return Err(Fail::new("no maker"));
+    };
+    maker.put(Mode::Add, b"a", b"1")?;
+    let left = maker.into_store().into_vec();
+    let opened = open_checked::<Narrow>(alloc, left, b"a");
+    assert!(rt; matches!(opened, Err(ReadFault::Table(0))));
     Ok(())
 }

@@ -1,6 +1,5 @@
-use Rattle.std.proofs.Common.{◌≡◌, refl, sym, ap, ◌∙◌, subst}
+use Rattle.std.proofs.Common.{◌≡◌, refl, sym, ◌∙◌, subst}
 use Rattle.std.proofs.lemmas.Result.{err_from_is_err_and}
-use Rattle.cdb_store.specs.contracts.memory.MemStoreStore.TheImpl.{ghosts}
 use Rattle.cdb_read.specs.Laws.{FindsWalked}
 use Rattle.cdb_read.specs.Sound.{IsSound}
 use Rattle.cdb_uses.specs.Checks.{IsUnsound}

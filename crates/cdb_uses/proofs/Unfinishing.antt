@@ -1,0 +1,107 @@
+-- A head of all ones names tables outside of the file.
+use Rattle.std.proofs.Common.{◌≡◌, ◌⊎◌, ◌+◌, ◌*◌, ◌^◌, ◌<◌, ◌≤◌, true, false, ℕ, Bool, zero, suc, inl, inr, List, ◌++◌, flat_map, length, take, drop, replicate, refl, sym, ap, ◌∙◌, arith, Some}
+use Rattle.std.specs.Prelude.{◌&&◌, not, nat_le, nat_lt}
+use Rattle.std.specs.List.{range_with_len}
+use Rattle.std.specs.Option.{option_or}
+use Rattle.std.proofs.lemmas.Bool.{cond-false, le-ltb, lt-leb}
+use Rattle.std.proofs.lemmas.List.{replicate-append-replicate, take-append-drop, get_or-replicate, length-take, length-replicate}
+use Rattle.std.proofs.lemmas.List.Elements.{All-replicate, recursion_from_All}
+use Rattle.cdb_store.specs.Images.{part}
+use Rattle.cdb_form.specs.Format.Hash.{key_hash, table_number}
+use Rattle.cdb_form.specs.Format.Pair.{WordPair, pair_bytes, head_size}
+use Rattle.cdb_form.specs.Format.Reading.{nth_pair}
+use Rattle.cdb_form.specs.Format.Walk.{has_slots, walk_of}
+use Rattle.cdb_form.specs.Views.Pairs.{PairFits}
+use Rattle.cdb_form.specs.declared.damage.Damage.TheVariants.{Table}
+use Rattle.cdb_form.proofs.ReadBack.{nth_pair-flat_map}
+use Rattle.cdb_make.specs.Unfinished.{unfinished_head}
+use Rattle.cdb_read.specs.Faults.{first_fault, first_of, table_fault, fault_if, slots_fault, entry_fault}
+use Rattle.cdb_read.specs.Lookup.{lookup_of, is_inside, found_damaged}
+use Rattle.cdb_read.specs.Sound.{walk_entries}
+use Rattle.cdb_read.proofs.LookupLaws.{lookup_of-is, found_by}
+use Rattle.cdb_read.proofs.FaultSteps.{first_of-cons}
+use Rattle.cdb_uses.specs.Unfinished.{IsDamaged}
+
+-- the pointer whose bytes are all ones
+abbrev ones : ℕ → WordPair
+ones top = record { first = top; second = top }
+
+ones_bytes : (w top : ℕ) → (w ≡ 4) ⊎ (w ≡ 8) → top + 1 ≡ 256 ^ w → pair_bytes w (ones top) ≡ replicate (2 * w) 255
+ones_bytes w top (inl e) top_is =
+    let t : top ≡ 4294967295 = (let k : top + 1 ≡ 256 ^ 4 = top_is ∙ ap (λ n. 256 ^ n) e in omega arith) in
+    ap (λ n. pair_bytes n (ones top)) e ∙ ap (λ n. pair_bytes 4 (ones n)) t ∙ sym (ap (λ n. replicate (2 * n) 255) e)
+ones_bytes w top (inr e) top_is =
+    let t : top ≡ 18446744073709551615 = (let k : top + 1 ≡ 256 ^ 8 = top_is ∙ ap (λ n. 256 ^ n) e in omega arith) in
+    ap (λ n. pair_bytes n (ones top)) e ∙ ap (λ n. pair_bytes 8 (ones n)) t ∙ sym (ap (λ n. replicate (2 * n) 255) e)
+
+many_ones : (w top n : ℕ) → pair_bytes w (ones top) ≡ replicate (2 * w) 255 → flat_map (pair_bytes w) (replicate n (ones top)) ≡ replicate (2 * w * n) 255
+many_ones w top zero one = let none : 0 ≡ 2 * w * 0 = omega arith in ap (λ n. replicate n 255) none
+many_ones w top (suc n) one =
+    let more : 2 * w + 2 * w * n ≡ 2 * w * suc n = omega arith in
+    ap (λ xs. xs ++ flat_map (pair_bytes w) (replicate n (ones top))) one
+    ∙ ap (λ xs. replicate (2 * w) 255 ++ xs) (many_ones w top n one)
+    ∙ replicate-append-replicate (2 * w) (2 * w * n) 255
+    ∙ ap (λ m. replicate m 255) more
+
+-- each pointer of such a head is that one
+pointer_ones : (w top n : ℕ) (b : List ℕ) → (w ≡ 4) ⊎ (w ≡ 8) → top + 1 ≡ 256 ^ w → n < 256 → part 0 (head_size w) b ≡ unfinished_head w → nth_pair w b n ≡ ones top
+unfolding unfinished_head
+pointer_ones w top n b width top_is low head =
+    let ps : List WordPair = replicate 256 (ones top) in
+    let rest : List ℕ = drop (head_size w) b in
+    let size : 512 * w ≡ 2 * w * 256 = omega arith in
+    let front : take (head_size w) b ≡ flat_map (pair_bytes w) ps = head ∙ ap (λ m. replicate m 255) size ∙ sym (many_ones w top 256 (ones_bytes w top width top_is)) in
+    let whole : b ≡ flat_map (pair_bytes w) ps ++ rest = sym (take-append-drop (head_size w) b) ∙ ap (λ xs. xs ++ rest) front in
+    let long : length ps ≡ 256 = length-replicate 256 (ones top) in
+    ap (λ v. nth_pair w v n) whole
+    ∙ nth_pair-flat_map w top n ps (ones top) rest top_is (omega arith) (recursion_from_All (PairFits top) ps (All-replicate (PairFits top) 256 (ones top) (record { first = omega arith; second = omega arith })))
+    ∙ get_or-replicate 256 n (ones top) (ones top) low
+
+-- its table has slots, and lies outside
+ones_slots : (w top : ℕ) → (w ≡ 4) ⊎ (w ≡ 8) → top + 1 ≡ 256 ^ w → has_slots (ones top) ≡ true
+ones_slots w top (inl e) top_is = let t : top ≡ 4294967295 = (let k : top + 1 ≡ 256 ^ 4 = top_is ∙ ap (λ n. 256 ^ n) e in omega arith) in ap (λ n. has_slots (ones n)) t
+ones_slots w top (inr e) top_is = let t : top ≡ 18446744073709551615 = (let k : top + 1 ≡ 256 ^ 8 = top_is ∙ ap (λ n. 256 ^ n) e in omega arith) in ap (λ n. has_slots (ones n)) t
+
+and_false : (a b : Bool) → b ≡ false → (a && b) ≡ false
+and_false true b e = e
+and_false false b e = refl
+
+ones_outside : (w top : ℕ) (b : List ℕ) → length b < top → is_inside w b (ones top) ≡ false
+ones_outside w top b short = and_false (nat_le (head_size w) top) (nat_le (top + 2 * w * top) (length b)) (lt-leb (top + 2 * w * top) (length b) (omega arith))
+
+-- so the look-up of each key meets it
+looked_up : (w top : ℕ) (b key : List ℕ) → has_slots (ones top) ≡ true → is_inside w b (ones top) ≡ false → nth_pair w b (table_number (key_hash key)) ≡ ones top → lookup_of w b key ≡ found_damaged (Table (table_number (key_hash key)))
+looked_up w top b key some outside pointer =
+    let start : lookup_of w b key ≡ found_by w b key (ones top) = lookup_of-is w b key ∙ ap (found_by w b key) pointer in
+    start ∙ cond-false (not (has_slots (ones top))) _ _ (ap not some) ∙ cond-false (is_inside w b (ones top)) _ _ outside
+
+-- and a check at the first table
+table_outside : (w top : ℕ) (b : List ℕ) → has_slots (ones top) ≡ true → is_inside w b (ones top) ≡ false → nth_pair w b 0 ≡ ones top → table_fault w b 0 ≡ Some (Table 0)
+table_outside w top b some outside pointer =
+    ap (λ p. fault_if (has_slots p && not (is_inside w b p)) (Table 0)) pointer
+    ∙ ap (λ x. fault_if (x && not (is_inside w b (ones top))) (Table 0)) some
+    ∙ ap (λ x. fault_if (not x) (Table 0)) outside
+
+first_table : (w : ℕ) (b : List ℕ) → table_fault w b 0 ≡ Some (Table 0) → first_of (table_fault w b) (range_with_len 0 256) ≡ Some (Table 0)
+first_table w b is = first_of-cons (table_fault w b) 0 (range_with_len 1 255) ∙ ap (λ f. option_or f (first_of (table_fault w b) (range_with_len 1 255))) is
+
+checked : (w : ℕ) (b : List ℕ) → head_size w ≤ length b → first_of (table_fault w b) (range_with_len 0 256) ≡ Some (Table 0) → first_fault w b ≡ Some (Table 0)
+unfolding first_fault
+checked w b long is =
+    cond-false (nat_lt (length b) (head_size w)) _ _ (le-ltb (length b) (head_size w) long)
+    ∙ ap (λ f. option_or f (option_or (walk_of w b).damage (option_or (first_of (slots_fault w b (walk_entries w b)) (range_with_len 0 256)) (first_of (entry_fault w b) (walk_entries w b))))) is
+
+head_long : (w : ℕ) (b : List ℕ) → part 0 (head_size w) b ≡ unfinished_head w → head_size w ≤ length b
+unfolding unfinished_head
+head_long w b head =
+    let n : length (take (head_size w) b) ≡ head_size w = ap length head ∙ length-replicate (head_size w) 255 in
+    omega (arith, length-take (head_size w) b)
+
+pub damaged_whole : (w top : ℕ) (b key : List ℕ) → (w ≡ 4) ⊎ (w ≡ 8) → top + 1 ≡ 256 ^ w → table_number (key_hash key) < 256 → length b < top → part 0 (head_size w) b ≡ unfinished_head w → IsDamaged w b key
+damaged_whole w top b key width top_is low short head =
+    let some = ones_slots w top width top_is in
+    let outside = ones_outside w top b short in
+    record {
+      first = checked w b (head_long w b head) (first_table w b (table_outside w top b some outside (pointer_ones w top 0 b width top_is (omega arith) head)));
+      looked = looked_up w top b key some outside (pointer_ones w top (table_number (key_hash key)) b width top_is low head);
+    }
