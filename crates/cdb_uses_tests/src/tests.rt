@@ -206,7 +206,7 @@ fn steps_round_a_finish(alloc: Global) -> Result<Vec<Step>, Fail> {
 fn a_finish_that_is_refused_keeps_the_records(rt: HostRuntime) -> Result<(), Fail> {
     let alloc = rt.alloc();
     let steps = steps_round_a_finish(alloc)?;
-    let (mut taken, mut refused) = (0, 0);
+    let (mut taken, mut refused) = (0u64, 0u64);
     for calls in 0..30u64 {
         let mut out = Vec::new(alloc);
         let fuse = FuseStore::new(MemStore::new(alloc), calls, 0);
@@ -224,10 +224,10 @@ fn a_finish_that_is_refused_keeps_the_records(rt: HostRuntime) -> Result<(), Fai
         let size = store.into_inner().into_vec().len();
         if faults.len() == 3 {
             assert!(rt; out.as_slice() == b"12".as_slice() && size == 2100);
-            refused += 1;
+            refused = refused.saturating_add(1);
         } else if out.as_slice() == b"1".as_slice() {
             assert!(rt; faults.len() == 1 && size == 2074);
-            taken += 1;
+            taken = taken.saturating_add(1);
         }
     }
     // A finish of one record makes four calls, each of which failed once.

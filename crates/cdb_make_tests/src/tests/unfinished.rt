@@ -9,14 +9,8 @@ use std::test::Fail;
 
 /// How many of the first bytes of a maker's store are all ones.
 fn ones<L: Width>(maker: &Maker<MemStore, L>) -> usize {
-    let mut count = 0;
-    for byte in maker.store().bytes() {
-        if *byte != 0xff {
-            break;
-        }
-        count += 1;
-    }
-    count
+    let bytes = maker.store().bytes();
+    bytes.iter().take_while(|byte| **byte == 0xff).count()
 }
 
 /// How many bytes of all ones stand at the front of a store after each of five calls, and once it
