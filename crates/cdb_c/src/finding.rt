@@ -1,0 +1,157 @@
+// Look-ups of a key.
+ghost use Rattle.std.specs.Prelude.{◌≡◌, ◌+◌, ◌<◌, ◌≤◌, pos, negsuc, length};
+ghost use Rattle.cdb_form.specs.Format.Hash.{key_hash};
+ghost use Rattle.cdb_form.specs.Format.Pair.{head_size};
+ghost use Rattle.cdb_read.specs.Lookup.{lookup_of, nothing_found};
+ghost use Rattle.cdb_read.specs.Views.Turning.{TurnInside};
+ghost use Rattle.cdb_memory.specs.Searches.{turn_of, ahead, IsInside, Begins};
+ghost use Rattle.cdb_memory.specs.Searches.{GivesSpan, GivesNone, Advances, HasFirst};
+ghost use Rattle.cdb_c.specs.Answers.{Says, IsDamaged, span_of, search_of};
+
+use cdb_form::Narrow;
+use cdb_memory::{Search, Span, begin, find, next};
+
+/// Where a value was found.
+#[repr(C)]
+#[derive(Clone, Copy)]
+pub struct Found {
+    /// The place of its first byte.
+    pub place: u32,
+    /// How many bytes it has.
+    pub len: u32,
+}
+
+impl Found {
+    /// A span that ends before 4 GiB.
+    fn of(span: Span) -> Found
+        requires { span.place + span.len ≤ 4294967295 }
+        ensures { span_of result ≡ span }
+    {
+        Found {
+            place: span.place as u32,
+            len: span.len as u32,
+        }
+    }
+}
+
+/// Where the search of a key is.
+#[repr(C)]
+#[derive(Clone, Copy)]
+pub struct State {
+    /// The hash of the key.
+    pub hash: u64,
+    /// The place of the table.
+    pub table: u64,
+    /// How many slots the table has.
+    pub slots: u64,
+    /// The number of the next slot.
+    pub slot: u64,
+    /// How many slots are left, that one among them.
+    pub left: u64,
+}
+
+impl State {
+    /// The state of a search.
+    fn of(search: Search) -> State
+        ensures { search_of result ≡ search }
+    {
+        State {
+            hash: search.hash,
+            table: search.table,
+            slots: search.slots,
+            slot: search.slot,
+            left: search.left,
+        }
+    }
+
+    /// The search at a state.
+    fn search(&self) -> Search
+        ensures { result ≡ search_of self.now }
+    {
+        Search {
+            hash: self.hash,
+            table: self.table,
+            slots: self.slots,
+            slot: self.slot,
+            left: self.left,
+        }
+    }
+}
+
+/// The first value of a key in a file, which has at least a head and less than 4 GiB.
+#[unsafe(no_mangle)]
+pub extern "C" fn cdb_c_find(file: &[u8], key: &[u8], found: &mut Found) -> i32
+    requires head { head_size 4 ≤ length file.now }
+    requires narrow { length file.now ≤ 4294967295 }
+    ensures { Says result
+        (HasFirst file.now (lookup_of 4 file.now key.now) (span_of found.new))
+        (lookup_of 4 file.now key.now ≡ nothing_found)
+        (IsDamaged (lookup_of 4 file.now key.now)) }
+{
+    match find::<Narrow>(file, key) {
+        Ok(Some(span)) => {
+            *found = Found::of(span);
+            1
+        }
+        Ok(None) => 0,
+        Err(_) => -1,
+    }
+}
+
+/// Begins the search of a key in a file, which has at least a head. 0 says that it ends at once.
+#[unsafe(no_mangle)]
+pub extern "C" fn cdb_c_begin(file: &[u8], key: &[u8], state: &mut State) -> i32
+    requires { head_size 4 ≤ length file.now }
+    ensures begins { Says result
+        (Begins 4 file.now key.now (search_of state.new))
+        (Begins 4 file.now key.now (search_of state.new))
+        (IsDamaged (lookup_of 4 file.now key.now)) }
+    ensures left { Says result (0 < state.new.left) (state.new.left ≡ 0)
+        (state.new ≡ state.old) }
+{
+    match begin::<Narrow>(file, key) {
+        Ok(search) => {
+            *state = State::of(search);
+            i32::from(search.left > 0)
+        }
+        Err(_) => -1,
+    }
+}
+
+/// The next value of a key, whose search in this file is at a state. After a damage the state
+/// stays.
+///
+/// Any state is safe to pass: the value lies inside the file.
+#[unsafe(no_mangle)]
+pub extern "C" fn cdb_c_next(file: &[u8], key: &[u8], state: &mut State, found: &mut Found) -> i32
+    requires { length file.now ≤ 4294967295 }
+    ensures gives { state.old.hash ≡ key_hash key.now
+        → IsInside 4 (length file.now) (search_of state.old)
+        → Says result
+        (GivesSpan 4 file.now key.now (search_of state.old) (search_of state.new)
+        (span_of found.new))
+        (GivesNone 4 file.now key.now (search_of state.old) (search_of state.new))
+        (IsDamaged (ahead 4 file.now key.now (search_of state.old))) }
+    ensures advances { Says result
+        (Advances 4 (length file.now) (search_of state.old) (search_of state.new)
+        (span_of found.new))
+        (state.new.left ≡ 0)
+        (state.new ≡ state.old) }
+    ensures astray { 0 < state.old.left
+        → (TurnInside 4 (length file.now) (turn_of (search_of state.old)) → ⊥)
+        → result ≡ negsuc 0 }
+{
+    let mut search = state.search();
+    match next::<Narrow>(file, key, &mut search) {
+        Ok(Some(span)) => {
+            *state = State::of(search);
+            *found = Found::of(span);
+            1
+        }
+        Ok(None) => {
+            *state = State::of(search);
+            0
+        }
+        Err(_) => -1,
+    }
+}
