@@ -3,7 +3,9 @@
 # make demo       builds it and shows it at work on a small alias map
 # make test       the gate: proves everything from nothing and runs every test
 # make faults     builds it, and refuses memory and calls of the system to each command in turn (wants a C compiler)
+# make clib       builds the C library, bin/libcdb.so.1 and bin/libcdb.a (wants a C compiler)
 # make install    installs cdb and its manual pages below $(DESTDIR)$(PREFIX)
+# make install-clib  installs the C library, its header and its manual page there
 # make uninstall  takes them away again
 # make interop    compares it with the cdb programs that are installed
 # make bench      times it beside tinycdb and freecdb, where they are installed
@@ -17,7 +19,10 @@ PYTHON ?= python3
 SOURCES := $(shell find crates \( -name out -o -name tests -o -name tests.rt \) -prune -o \
 	-type f \( -name '*.rt' -o -name '*.antt' \) -print) crates.txt
 
-.PHONY: all try demo test faults install uninstall interop bench clean
+# How the C of the library is compiled.
+CLIB_FLAGS := -std=c11 -O2 -Wall -Wextra -Werror -fPIC -fvisibility=default
+
+.PHONY: all try demo test faults clib test-clib install install-clib uninstall interop bench clean
 
 all: bin/cdb
 
@@ -49,6 +54,11 @@ test:
 	else \
 		echo '0 passed, 0 failed: no C compiler is here, so no ask for memory was refused'; \
 	fi
+	@if command -v $(firstword $(CC)) > /dev/null; then \
+		$(MAKE) -s test-clib PROGRAM=crates/cdb/out/cdb; \
+	else \
+		echo '0 passed, 0 failed: no C compiler is here, so no C library was built'; \
+	fi
 
 faults: bin/cdb bin/refuse.so
 	$(PYTHON) tests/faults/run.py bin/cdb bin/refuse.so memory
@@ -58,15 +68,54 @@ bin/refuse.so: tests/faults/refuse.c
 	@mkdir -p bin
 	$(CC) -O2 -Wall -shared -fPIC -o $@ $<
 
+clib: bin/libcdb.so.1 bin/libcdb.a
+
+bin/libcdb_c.a: $(SOURCES)
+	@mkdir -p bin
+	@echo 'Proves the look-ups of the C library.'
+	@cd crates/cdb_c && $(RT) lib > ../../bin/clib.log 2>&1 || { tail -n 40 ../../bin/clib.log; exit 1; }
+	@cp crates/cdb_c/out/libcdb_c.a $@
+
+bin/libcdb.o: clib/libcdb.c clib/cdb.h
+	@mkdir -p bin
+	$(CC) $(CLIB_FLAGS) $(CFLAGS) -c -o $@ clib/libcdb.c
+
+bin/libcdb.so.1: bin/libcdb.o bin/libcdb_c.a clib/libcdb.map
+	$(CC) -shared $(CFLAGS) $(LDFLAGS) -Wl,-soname,libcdb.so.1 -Wl,--version-script=clib/libcdb.map \
+		-Wl,--gc-sections -o $@ bin/libcdb.o bin/libcdb_c.a
+
+# One object, whose other symbols are its own.
+bin/libcdb.a: bin/libcdb.o bin/libcdb_c.a
+	$(LD) -r -o bin/libcdb_whole.o bin/libcdb.o bin/libcdb_c.a
+	objcopy -w -G 'cdb_[!c]*' bin/libcdb_whole.o
+	rm -f $@
+	$(AR) rc $@ bin/libcdb_whole.o
+
+bin/answers: tests/clib/answers.c clib/cdb.h bin/libcdb.so.1
+	$(CC) -O2 -Wall -Wextra -Werror -Iclib -o $@ tests/clib/answers.c bin/libcdb.so.1
+
+test-clib: bin/answers bin/libcdb.a $(if $(PROGRAM),,bin/cdb)
+	$(PYTHON) tests/clib/run.py bin/answers bin $(or $(PROGRAM),bin/cdb)
+
 install: bin/cdb
 	install -D -m 755 bin/cdb $(DESTDIR)$(PREFIX)/bin/cdb
 	install -D -m 644 man/cdb.1 $(DESTDIR)$(PREFIX)/share/man/man1/cdb.1
 	install -D -m 644 man/cdb.5 $(DESTDIR)$(PREFIX)/share/man/man5/cdb.5
 
+install-clib: clib
+	install -D -m 755 bin/libcdb.so.1 $(DESTDIR)$(PREFIX)/lib/libcdb.so.1
+	ln -sf libcdb.so.1 $(DESTDIR)$(PREFIX)/lib/libcdb.so
+	install -D -m 644 bin/libcdb.a $(DESTDIR)$(PREFIX)/lib/libcdb.a
+	install -D -m 644 clib/cdb.h $(DESTDIR)$(PREFIX)/include/cdb.h
+	install -D -m 644 man/cdb.3 $(DESTDIR)$(PREFIX)/share/man/man3/cdb.3
+
 uninstall:
 	rm -f $(DESTDIR)$(PREFIX)/bin/cdb
 	rm -f $(DESTDIR)$(PREFIX)/share/man/man1/cdb.1
 	rm -f $(DESTDIR)$(PREFIX)/share/man/man5/cdb.5
+	rm -f $(DESTDIR)$(PREFIX)/lib/libcdb.so.1 $(DESTDIR)$(PREFIX)/lib/libcdb.so
+	rm -f $(DESTDIR)$(PREFIX)/lib/libcdb.a $(DESTDIR)$(PREFIX)/include/cdb.h
+	rm -f $(DESTDIR)$(PREFIX)/share/man/man3/cdb.3
 
 interop: bin/cdb
 	$(PYTHON) tests/interop/run.py bin/cdb

@@ -1,0 +1,204 @@
+/* The C functions of libcdb over the proved look-ups of crates/cdb_c.
+ *
+ * What a key's values are and which records a file has is answered there. Here a file is mapped,
+ * the caller's structs are read and written, and errno is set.
+ */
+#define _DEFAULT_SOURCE
+#define _FILE_OFFSET_BITS 64
+#include <assert.h>
+#include <errno.h>
+#include <limits.h>
+#include <stddef.h>
+#include <stdint.h>
+#include <string.h>
+#include <sys/mman.h>
+#include <sys/stat.h>
+#include <unistd.h>
+#include "cdb.h"
+
+/* The layout that programs are built with. */
+static_assert(UINT_MAX == 0xffffffff, "a place has 32 bits");
+#if UINTPTR_MAX > 0xffffffff
+static_assert(sizeof(struct cdb) == 40, "size of struct cdb");
+static_assert(offsetof(struct cdb, cdb_fd) == 0, "cdb_fd");
+static_assert(offsetof(struct cdb, cdb_fsize) == 4, "cdb_fsize");
+static_assert(offsetof(struct cdb, cdb_dend) == 8, "cdb_dend");
+static_assert(offsetof(struct cdb, cdb_mem) == 16, "cdb_mem");
+static_assert(offsetof(struct cdb, cdb_vpos) == 24, "cdb_vpos");
+static_assert(offsetof(struct cdb, cdb_vlen) == 28, "cdb_vlen");
+static_assert(offsetof(struct cdb, cdb_kpos) == 32, "cdb_kpos");
+static_assert(offsetof(struct cdb, cdb_klen) == 36, "cdb_klen");
+static_assert(sizeof(struct cdb_find) == 64, "size of struct cdb_find");
+static_assert(offsetof(struct cdb_find, cdb_cdbp) == 0, "cdb_cdbp");
+#endif
+
+/* The structs and functions of crates/cdb_c. A slice is an address and a size. */
+struct found { uint32_t place, len; };
+struct state { uint64_t hash, table, slots, slot, left; };
+struct placed { uint32_t place, key_place, key_len, value_place, value_len; };
+
+uint32_t cdb_c_hash(const uint8_t *key, size_t klen);
+int32_t cdb_c_find(const uint8_t *file, size_t size, const uint8_t *key, size_t klen,
+                   struct found *found);
+int32_t cdb_c_begin(const uint8_t *file, size_t size, const uint8_t *key, size_t klen,
+                    struct state *state);
+int32_t cdb_c_next(const uint8_t *file, size_t size, const uint8_t *key, size_t klen,
+                   struct state *state, struct found *found);
+uint64_t cdb_c_record_end(const uint8_t *file, size_t size);
+int32_t cdb_c_next_record(const uint8_t *file, size_t size, uint64_t end, uint32_t *place,
+                          struct placed *found);
+
+#define HEAD_SIZE 2048
+
+/* A damage is -1 and EPROTO. */
+static int damaged(void) { return errno = EPROTO, -1; }
+
+/* The bytes of a key: a slice has no null address. */
+static const uint8_t *bytes_of(const void *key) { return key ? key : (const uint8_t *)""; }
+
+/* Whether a database is open, so that its head is mapped. */
+static int is_open(const struct cdb *c) { return c->cdb_mem && c->cdb_fsize >= HEAD_SIZE; }
+
+unsigned cdb_hash(const void *buf, unsigned len) { return cdb_c_hash(bytes_of(buf), len); }
+
+/* Maps a file, of which places reach the first 4 GiB. */
+static int map_file(struct cdb *c, int fd)
+{
+  struct stat file;
+  if (fstat(fd, &file) < 0) return -1;
+  if (file.st_size < HEAD_SIZE) return damaged();
+  unsigned size = file.st_size < UINT_MAX ? (unsigned)file.st_size : UINT_MAX;
+  void *mem = mmap(NULL, size, PROT_READ, MAP_SHARED, fd, 0);
+  if (mem == MAP_FAILED) return -1;
+  *c = (struct cdb){ .cdb_fd = fd, .cdb_fsize = size, .cdb_mem = mem };
+  return 0;
+}
+
+/* Opens a database. A record end is a word of the file, so it fits. */
+int cdb_init(struct cdb *c, int fd)
+{
+  if (map_file(c, fd) < 0) return -1;
+  c->cdb_dend = (unsigned)cdb_c_record_end(c->cdb_mem, c->cdb_fsize);
+  return 0;
+}
+
+void cdb_free(struct cdb *c)
+{
+  if (c->cdb_mem) munmap((void *)(uintptr_t)c->cdb_mem, c->cdb_fsize);
+  c->cdb_mem = NULL;
+  c->cdb_fsize = 0;
+}
+
+const void *cdb_get(const struct cdb *c, unsigned len, unsigned pos)
+{
+  if (pos > c->cdb_fsize || len > c->cdb_fsize - pos) return damaged(), NULL;
+  return c->cdb_mem + pos;
+}
+
+int cdb_read(const struct cdb *c, void *buf, unsigned len, unsigned pos)
+{
+  const void *data = cdb_get(c, len, pos);
+  if (!data) return -1;
+  if (len) memcpy(buf, data, len);
+  return 0;
+}
+
+/* Notes a value. Its key is before it. */
+static int note(struct cdb *c, const struct found *value, unsigned klen)
+{
+  c->cdb_vpos = value->place;
+  c->cdb_vlen = value->len;
+  c->cdb_kpos = value->place - klen;
+  c->cdb_klen = klen;
+  return 1;
+}
+
+int cdb_find(struct cdb *c, const void *key, unsigned klen)
+{
+  struct found value;
+  if (!is_open(c)) return damaged();
+  int32_t said = cdb_c_find(c->cdb_mem, c->cdb_fsize, bytes_of(key), klen, &value);
+  return said > 0 ? note(c, &value, klen) : said ? damaged() : 0;
+}
+
+/* Keeps a state as addresses. Its table and slot are inside the file if it has slots left. */
+static void keep(struct cdb_find *s, const struct state *state)
+{
+  s->cdb_httodo = (unsigned)(8 * state->left);
+  if (!state->left) return;
+  s->cdb_hval = (unsigned)state->hash;
+  s->cdb_htab = s->cdb_cdbp->cdb_mem + state->table;
+  s->cdb_htend = s->cdb_htab + 8 * state->slots;
+  s->cdb_htp = s->cdb_htab + 8 * state->slot;
+}
+
+int cdb_findinit(struct cdb_find *s, struct cdb *c, const void *key, unsigned klen)
+{
+  struct state state;
+  *s = (struct cdb_find){ .cdb_cdbp = c, .cdb_key = key, .cdb_klen = klen };
+  if (!is_open(c)) return damaged();
+  int32_t said = cdb_c_begin(c->cdb_mem, c->cdb_fsize, bytes_of(key), klen, &state);
+  if (said < 0) return damaged();
+  keep(s, &state);
+  return said;
+}
+
+int cdb_findnext(struct cdb_find *s)
+{
+  struct cdb *c = s->cdb_cdbp;
+  struct found value;
+  if (!s->cdb_httodo) return 0;
+  struct state state = {
+    .hash = s->cdb_hval,
+    .table = (uint64_t)(s->cdb_htab - c->cdb_mem),
+    .slots = (uint64_t)(s->cdb_htend - s->cdb_htab) / 8,
+    .slot = (uint64_t)(s->cdb_htp - s->cdb_htab) / 8,
+    .left = s->cdb_httodo / 8,
+  };
+  if (!is_open(c)) return damaged();
+  int32_t said = cdb_c_next(c->cdb_mem, c->cdb_fsize, bytes_of(s->cdb_key), s->cdb_klen, &state,
+                            &value);
+  if (said < 0) return damaged();
+  keep(s, &state);
+  return said ? note(c, &value, s->cdb_klen) : 0;
+}
+
+int cdb_seqnext(unsigned *cptr, struct cdb *c)
+{
+  struct placed record;
+  if (!is_open(c)) return damaged();
+  int32_t said = cdb_c_next_record(c->cdb_mem, c->cdb_fsize, c->cdb_dend, cptr, &record);
+  if (said <= 0) return said ? damaged() : 0;
+  c->cdb_kpos = record.key_place;
+  c->cdb_klen = record.key_len;
+  c->cdb_vpos = record.value_place;
+  c->cdb_vlen = record.value_len;
+  return 1;
+}
+
+/* Finds a value in a file, and moves the file's offset to it. */
+int cdb_seek(int fd, const void *key, unsigned klen, unsigned *dlenp)
+{
+  struct cdb c;
+  if (map_file(&c, fd) < 0) return -1;
+  int said = cdb_find(&c, key, klen);
+  cdb_free(&c);
+  if (said <= 0) return said;
+  if (lseek(fd, c.cdb_vpos, SEEK_SET) < 0) return -1;
+  *dlenp = c.cdb_vlen;
+  return 1;
+}
+
+int cdb_bread(int fd, void *buf, int len)
+{
+  char *to = buf;
+  while (len > 0) {
+    ssize_t some = read(fd, to, (size_t)len);
+    if (some < 0 && errno == EINTR) continue;
+    if (some < 0) return -1;
+    if (!some) return errno = EIO, -1;
+    to += some;
+    len -= (int)some;
+  }
+  return 0;
+}
