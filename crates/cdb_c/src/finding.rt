@@ -137,6 +137,7 @@ pub extern "C" fn cdb_c_next(file: &[u8], key: &[u8], state: &mut State, found: 
         (span_of found.new))
         (state.new.left ≡ 0)
         (state.new ≡ state.old) }
+    ensures ended { state.old.left ≡ 0 → (result ≡ pos 0) × (state.new ≡ state.old) }
     ensures astray { 0 < state.old.left
         → (TurnInside 4 (length file.now) (turn_of (search_of state.old)) → ⊥)
         → result ≡ negsuc 0 }
