@@ -20,7 +20,7 @@ SOURCES := $(shell find crates \( -name out -o -name tests -o -name tests.rt \) 
 	-type f \( -name '*.rt' -o -name '*.antt' \) -print) crates.txt
 
 # How the C of the library is compiled.
-CLIB_FLAGS := -std=c11 -O2 -Wall -Wextra -Werror -fPIC -fvisibility=default
+CLIB_FLAGS := -std=c11 -O2 -Wall -Wextra -Werror -fPIC
 
 .PHONY: all try demo test faults clib test-clib install install-clib uninstall interop bench clean
 
@@ -80,9 +80,13 @@ bin/libcdb.o: clib/libcdb.c clib/cdb.h
 	@mkdir -p bin
 	$(CC) $(CLIB_FLAGS) $(CFLAGS) -c -o $@ clib/libcdb.c
 
-bin/libcdb.so.1: bin/libcdb.o bin/libcdb_c.a clib/libcdb.map
+bin/making.o: clib/making.c
+	@mkdir -p bin
+	$(CC) $(CLIB_FLAGS) $(CFLAGS) -c -o $@ clib/making.c
+
+bin/libcdb.so.1: bin/libcdb.o bin/making.o bin/libcdb_c.a clib/libcdb.map
 	$(CC) -shared $(CFLAGS) $(LDFLAGS) -Wl,-soname,libcdb.so.1 -Wl,--version-script=clib/libcdb.map \
-		-Wl,--gc-sections -o $@ bin/libcdb.o bin/libcdb_c.a
+		-Wl,--gc-sections -o $@ bin/libcdb.o bin/making.o bin/libcdb_c.a
 
 # One object, whose other symbols are its own.
 bin/libcdb.a: bin/libcdb.o bin/libcdb_c.a
@@ -119,12 +123,18 @@ uninstall:
 
 interop: bin/cdb
 	$(PYTHON) tests/interop/run.py bin/cdb
+	@if command -v $(firstword $(CC)) > /dev/null; then \
+		$(MAKE) -s bin/answers && $(PYTHON) tests/clib/interop.py bin/answers bin; \
+	fi
 
 bench: bin/cdb
 	$(PYTHON) bench/run.py --cdb bin/cdb
 	$(PYTHON) bench/jobs.py --cdb bin/cdb
 	$(PYTHON) bench/stores.py
 	$(PYTHON) bench/makers.py
+	@if command -v $(firstword $(CC)) > /dev/null; then \
+		$(MAKE) -s clib && $(PYTHON) bench/clib.py bin; \
+	fi
 
 clean:
 	rm -rf bin crates/*/out

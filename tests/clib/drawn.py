@@ -7,7 +7,7 @@ import struct
 import sys
 
 HERE = os.path.dirname(os.path.abspath(__file__))
-sys.path.insert(0, os.path.join(HERE, "..", "cli"))
+sys.path.append(os.path.join(HERE, "..", "cli"))
 
 from cases import CASES
 from files import FOUR_FILE, LARGE, LARGE_FILE, TWO_FILE, file_of
