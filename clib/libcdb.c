@@ -56,8 +56,8 @@ static int damaged(void) { return errno = EPROTO, -1; }
 /* The bytes of a key: a slice has no null address. */
 static const uint8_t *bytes_of(const void *key) { return key ? key : (const uint8_t *)""; }
 
-/* Whether a database is open, so that its head is mapped. */
-static int is_open(const struct cdb *c) { return c->cdb_mem && c->cdb_fsize >= HEAD_SIZE; }
+/* Whether a database is open, so that its head is mapped. After cdb_free it has no bytes. */
+static int is_open(const struct cdb *c) { return c->cdb_fsize >= HEAD_SIZE; }
 
 unsigned cdb_hash(const void *buf, unsigned len) { return cdb_c_hash(bytes_of(buf), len); }
 
@@ -121,26 +121,28 @@ int cdb_find(struct cdb *c, const void *key, unsigned klen)
   return said > 0 ? note(c, &value, klen) : said ? damaged() : 0;
 }
 
-/* Keeps a state as addresses. Its table and slot are inside the file if it has slots left. */
+/* Keeps a state that has slots left, so its table and its slot are inside the file. */
 static void keep(struct cdb_find *s, const struct state *state)
 {
-  s->cdb_httodo = (unsigned)(8 * state->left);
-  if (!state->left) return;
   s->cdb_hval = (unsigned)state->hash;
   s->cdb_htab = s->cdb_cdbp->cdb_mem + state->table;
   s->cdb_htend = s->cdb_htab + 8 * state->slots;
   s->cdb_htp = s->cdb_htab + 8 * state->slot;
+  s->cdb_httodo = (unsigned)(8 * state->left);
 }
 
 int cdb_findinit(struct cdb_find *s, struct cdb *c, const void *key, unsigned klen)
 {
   struct state state;
-  *s = (struct cdb_find){ .cdb_cdbp = c, .cdb_key = key, .cdb_klen = klen };
+  s->cdb_cdbp = c;
+  s->cdb_key = key;
+  s->cdb_klen = klen;
+  s->cdb_httodo = 0;
   if (!is_open(c)) return damaged();
   int32_t said = cdb_c_begin(c->cdb_mem, c->cdb_fsize, bytes_of(key), klen, &state);
-  if (said < 0) return damaged();
+  if (said <= 0) return said ? damaged() : 0;
   keep(s, &state);
-  return said;
+  return 1;
 }
 
 int cdb_findnext(struct cdb_find *s)
@@ -148,6 +150,7 @@ int cdb_findnext(struct cdb_find *s)
   struct cdb *c = s->cdb_cdbp;
   struct found value;
   if (!s->cdb_httodo) return 0;
+  if (!is_open(c)) return damaged();
   struct state state = {
     .hash = s->cdb_hval,
     .table = (uint64_t)(s->cdb_htab - c->cdb_mem),
@@ -155,12 +158,12 @@ int cdb_findnext(struct cdb_find *s)
     .slot = (uint64_t)(s->cdb_htp - s->cdb_htab) / 8,
     .left = s->cdb_httodo / 8,
   };
-  if (!is_open(c)) return damaged();
   int32_t said = cdb_c_next(c->cdb_mem, c->cdb_fsize, bytes_of(s->cdb_key), s->cdb_klen, &state,
                             &value);
   if (said < 0) return damaged();
+  if (!said) return s->cdb_httodo = 0, 0;
   keep(s, &state);
-  return said ? note(c, &value, s->cdb_klen) : 0;
+  return note(c, &value, s->cdb_klen);
 }
 
 int cdb_seqnext(unsigned *cptr, struct cdb *c)
