@@ -19,8 +19,9 @@ PYTHON ?= python3
 SOURCES := $(shell find crates \( -name out -o -name tests -o -name tests.rt \) -prune -o \
 	-type f \( -name '*.rt' -o -name '*.antt' \) -print) crates.txt
 
-# How the C of the library is compiled.
-CLIB_FLAGS := -std=c11 -O2 -Wall -Wextra -Werror -fPIC
+# How the C of the library is compiled. An export writes words, which a read of several at once
+# would wait for.
+CLIB_FLAGS := -std=c11 -O2 -Wall -Wextra -Werror -fPIC -fno-tree-slp-vectorize
 
 .PHONY: all try demo test faults clib test-clib install install-clib uninstall interop bench clean
 

@@ -16,14 +16,14 @@ import sys
 import tempfile
 
 HERE = os.path.dirname(os.path.abspath(__file__))
-ROUNDS = 9
+ROUNDS = 40
 # A job, its records, its calls, and what one call of it is.
 JOBS = [
-    ("find", 10_000, 1_000_000, "cdb_find"),
-    ("find", 1_000_000, 1_000_000, "cdb_find"),
-    ("all", 10_000, 1_000_000, "cdb_findinit, cdb_findnext to the end"),
-    ("all", 1_000_000, 1_000_000, "cdb_findinit, cdb_findnext to the end"),
-    ("walk", 10_000, 100, "cdb_seqnext"),
+    ("find", 10_000, 200_000, "cdb_find"),
+    ("find", 1_000_000, 200_000, "cdb_find"),
+    ("all", 10_000, 200_000, "cdb_findinit, cdb_findnext to the end"),
+    ("all", 1_000_000, 200_000, "cdb_findinit, cdb_findnext to the end"),
+    ("walk", 10_000, 200, "cdb_seqnext"),
     ("walk", 1_000_000, 1, "cdb_seqnext"),
 ]
 COUNTED = 10_000
