@@ -30,6 +30,11 @@ static_assert(offsetof(struct cdb, cdb_kpos) == 32, "cdb_kpos");
 static_assert(offsetof(struct cdb, cdb_klen) == 36, "cdb_klen");
 static_assert(sizeof(struct cdb_find) == 64, "size of struct cdb_find");
 static_assert(offsetof(struct cdb_find, cdb_cdbp) == 0, "cdb_cdbp");
+static_assert(offsetof(struct cdb_find, cdb_hval) == 8, "cdb_hval");
+static_assert(offsetof(struct cdb_find, cdb_htp) == 16, "cdb_htp");
+static_assert(offsetof(struct cdb_find, cdb_httodo) == 40, "cdb_httodo");
+static_assert(offsetof(struct cdb_find, cdb_key) == 48, "cdb_key");
+static_assert(offsetof(struct cdb_find, cdb_klen) == 56, "cdb_klen");
 #endif
 
 /* The structs and functions of crates/cdb_c. A slice is an address and a size. */

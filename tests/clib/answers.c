@@ -53,7 +53,6 @@ static void answer(int status)
 /* The command's status for the last answer of a call: `after` for no more. */
 static int status_of(int said, int after)
 {
-  want(said <= 0, "an answer is neither 1, 0 nor -1");
   if (said == 0) return after;
   want(said == -1, "an answer is neither 1, 0 nor -1");
   want(errno == EPROTO, "a damage is not EPROTO");

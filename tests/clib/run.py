@@ -23,8 +23,8 @@ GROUPS = {
     "files cut to each length": cut_files,
     "files damaged by chance": drawn_files,
 }
-# How many of the files of each group the command reads, and how many keys of each, and how many
-# files valgrind watches, the last ones of the group.
+# How many keys of a file the command looks up, and how many files of a group valgrind watches, the
+# last ones.
 KEYS_OF_THE_COMMAND = 3
 WATCHED = 120
 
