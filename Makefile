@@ -4,6 +4,8 @@
 # make test       the gate: proves everything from nothing and runs every test
 # make faults     builds it, and refuses memory and calls of the system to each command in turn (wants a C compiler)
 # make clib       builds the C library, bin/libcdb.so.1 and bin/libcdb.a (wants a C compiler)
+# make dist       makes the tarball of the sources that are committed, dist/pezundrix-VERSION.tar.gz
+# make deb        builds it, and makes the Debian package, dist/pezundrix_VERSION_ARCHITECTURE.deb
 # make install    installs cdb and its manual pages below $(DESTDIR)$(PREFIX)
 # make install-clib  installs the C library, its header and its manual page there
 # make uninstall  takes them away again
@@ -23,7 +25,7 @@ SOURCES := $(shell find crates \( -name out -o -name tests -o -name tests.rt \) 
 # would wait for.
 CLIB_FLAGS := -std=c11 -O2 -Wall -Wextra -Werror -fPIC -fno-tree-slp-vectorize
 
-.PHONY: all try demo test faults clib test-clib install install-clib uninstall interop bench clean
+.PHONY: all try demo test faults clib test-clib dist deb install install-clib uninstall interop bench clean
 
 all: bin/cdb
 
@@ -48,6 +50,8 @@ test:
 	$(PYTHON) tests/cli/run.py crates/cdb/out/cdb
 	RT='$(RT)' $(PYTHON) tests/cli/pages.py crates/cdb/out/cdb
 	$(PYTHON) tests/cli/kills.py crates/cdb/out/cdb
+	$(PYTHON) tests/package/version.py
+	$(PYTHON) tests/package/run.py crates/cdb/out/cdb
 	@if command -v $(firstword $(CC)) > /dev/null; then \
 		$(MAKE) -s bin/refuse.so && \
 		$(PYTHON) tests/faults/run.py crates/cdb/out/cdb bin/refuse.so memory && \
@@ -102,6 +106,12 @@ bin/answers: tests/clib/answers.c clib/cdb.h bin/libcdb.so.1
 test-clib: bin/answers bin/libcdb.a $(if $(PROGRAM),,bin/cdb)
 	$(PYTHON) tests/clib/run.py bin/answers bin $(or $(PROGRAM),bin/cdb)
 
+dist:
+	@$(PYTHON) tools/package.py dist dist
+
+deb: bin/cdb
+	@$(PYTHON) tools/package.py deb bin/cdb dist
+
 install: bin/cdb
 	install -D -m 755 bin/cdb $(DESTDIR)$(PREFIX)/bin/cdb
 	install -D -m 644 man/cdb.1 $(DESTDIR)$(PREFIX)/share/man/man1/cdb.1
@@ -138,4 +148,4 @@ bench: bin/cdb
 	fi
 
 clean:
-	rm -rf bin crates/*/out
+	rm -rf bin dist crates/*/out

@@ -1,0 +1,123 @@
+#!/usr/bin/env python3
+"""Makes the package of a program twice, unpacks it, and runs the worked example from it.
+
+    tests/package/run.py PROGRAM
+
+The example is the text of two records and its file, worked out by hand in tests/cli/files.py. Where
+`lintian` is installed it may find no error. In a git checkout the tarball of the sources is made
+twice too. Without `dpkg-deb` nothing is tested, and the last line says so.
+"""
+
+import hashlib
+import os
+import re
+import shutil
+import subprocess
+import sys
+import tarfile
+import tempfile
+
+HERE = os.path.dirname(os.path.abspath(__file__))
+TOP = os.path.join(HERE, "..", "..")
+sys.path.insert(0, os.path.join(HERE, "..", "cli"))
+
+from files import TWO_FILE, TWO_TEXT
+
+TOOL = os.path.join(TOP, "tools", "package.py")
+# What the package holds, with the permissions of each.
+HELD = {
+    "usr/bin/cdb": 0o755,
+    "usr/share/man/man1/cdb.1.gz": 0o644,
+    "usr/share/man/man5/cdb.5.gz": 0o644,
+    "usr/share/doc/pezundrix/copyright": 0o644,
+    "usr/share/doc/pezundrix/changelog.gz": 0o644,
+}
+
+
+def made_twice(*words):
+    """Makes a file twice, in folders of their own. Answers its name, and whether each time has the
+    same bytes and the sum that was printed."""
+    found = []
+    for folder in (tempfile.mkdtemp(dir=words[-1]), tempfile.mkdtemp(dir=words[-1])):
+        done = subprocess.run([TOOL, *words[:-1], folder], capture_output=True, check=True)
+        told, path = done.stdout.decode().removesuffix("\n").split("  ")
+        with open(path, "rb") as file:
+            data = file.read()
+        found.append((data, told == hashlib.sha256(data).hexdigest()))
+    return path, found[0] == found[1] and found[0][1]
+
+
+def output_of(words, data=b""):
+    """What a command that succeeds writes."""
+    return subprocess.run(words, input=data, capture_output=True, check=True).stdout
+
+
+def runs_example(program, folder):
+    """Whether a program makes the worked file of the worked text, dumps it, and finds a value."""
+    path = os.path.join(folder, "two.cdb")
+    output_of([program, "-c", path], TWO_TEXT)
+    with open(path, "rb") as file:
+        is_worked = file.read() == TWO_FILE
+    dumped = output_of([program, "-d", path])
+    return is_worked and dumped == TWO_TEXT and output_of([program, "-q", path, "two"]) == b"Goodbye"
+
+
+def holds_files(tree):
+    """Whether each file of the package is there, with its permissions."""
+    paths = {os.path.join(tree, name): mode for name, mode in HELD.items()}
+    return all(os.path.isfile(it) and os.stat(it).st_mode & 0o7777 == mode for it, mode in paths.items())
+
+
+def conflicts(package):
+    """Whether the package takes the place of tinycdb's command, and does not pass for it."""
+    names = ("Conflicts", "Replaces", "Provides")
+    fields = [output_of(["dpkg-deb", "--field", package, it]).strip() for it in names]
+    return fields == [b"tinycdb", b"tinycdb", b""]
+
+
+def has_no_error(package):
+    """Whether lintian finds no error."""
+    done = subprocess.run(["lintian", "--allow-root", package], capture_output=True, check=False)
+    errors = re.findall(r"^E: .*$", done.stdout.decode(), re.M)
+    print("\n".join(errors), end="\n" if errors else "")
+    return not errors
+
+
+def tests_of(program, folder):
+    """What is tested, each with whether it holds."""
+    package, is_same = made_twice("deb", program, folder)
+    tree = os.path.join(folder, "tree")
+    output_of(["dpkg-deb", "--extract", package, tree])
+    held = {
+        "the package has the same bytes each time, and their sum": is_same,
+        "the package holds its files": holds_files(tree),
+        "the package conflicts with tinycdb": conflicts(package),
+        "the example runs from the package": runs_example(os.path.join(tree, "usr", "bin", "cdb"), folder),
+    }
+    if shutil.which("lintian"):
+        held["lintian finds no error"] = has_no_error(package)
+    if shutil.which("git") and os.path.exists(os.path.join(TOP, ".git")):
+        tarball, is_same = made_twice("dist", folder)
+        held["the tarball has the same bytes each time, and their sum"] = is_same
+        with tarfile.open(tarball) as tar:
+            held["the tarball has the version"] = any(it.endswith("/VERSION") for it in tar.getnames())
+    return held
+
+
+def main():
+    if len(sys.argv) != 2:
+        sys.exit(__doc__)
+    if shutil.which("dpkg-deb") is None:
+        print("0 passed, 0 failed: dpkg-deb is not here, so no package was made")
+        return
+    with tempfile.TemporaryDirectory() as folder:
+        held = tests_of(os.path.abspath(sys.argv[1]), folder)
+    wrong = [what for what, holds in held.items() if not holds]
+    for what in wrong:
+        print(f"not so: {what}")
+    print(f"{len(held) - len(wrong)} passed, {len(wrong)} failed")
+    sys.exit(1 if wrong else 0)
+
+
+if __name__ == "__main__":
+    main()
