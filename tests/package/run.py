@@ -4,7 +4,7 @@
     tests/package/run.py PROGRAM
 
 The example is the text of two records and its file, worked out by hand in tests/cli/files.py. Where
-`lintian` is installed it may find no error. In a git checkout the tarball of the sources is made
+`lintian` is installed it may find no error, and where `mandoc` is, no warning. In a git checkout the tarball of the sources is made
 twice too. Without `dpkg-deb` nothing is tested, and the last line says so.
 """
 
@@ -96,6 +96,10 @@ def tests_of(program, folder):
     }
     if shutil.which("lintian"):
         held["lintian finds no error"] = has_no_error(package)
+    if shutil.which("mandoc"):
+        pages = [os.path.join(TOP, "man", it) for it in ("cdb.1", "cdb.5")]
+        done = subprocess.run(["mandoc", "-T", "lint", "-W", "warning", *pages], check=False)
+        held["mandoc warns of nothing in the pages"] = done.returncode == 0
     if shutil.which("git") and os.path.exists(os.path.join(TOP, ".git")):
         tarball, is_same = made_twice("dist", folder)
         held["the tarball has the same bytes each time, and their sum"] = is_same
