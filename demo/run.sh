@@ -1,5 +1,5 @@
 #!/bin/sh
-# Shows cdb at work on a small alias map: each command as it is typed, and below it what it writes.
+# Shows cdb at work on a small alias map: each command as it is typed, then what it writes.
 #
 #     demo/run.sh PROGRAM
 set -eu
@@ -31,20 +31,20 @@ show_status() {
 printf '\nMail aliases, a line each: a map.\n\n'
 show 'cat aliases.txt'
 
-printf '\nThe database of the map, and a question.\n\n'
+printf '\nThe database of the map, and a query.\n\n'
 show 'cdb -c -m aliases.cdb aliases.txt'
 show 'cdb -q -m aliases.cdb abuse'
 
-printf '\nA key that is not there has the status 100.\n\n'
+printf '\nA key that is not there: the status is 100.\n\n'
 show_status 100 'cdb -q aliases.cdb sales'
 
-printf '\nA change: a second file, whose records take the places of those of their keys.\n\n'
+printf '\nA change: a second file, whose records replace those of their keys.\n\n'
 show "printf 'abuse security@example.invalid\\nsales sam@example.invalid\\n' > changes.txt"
 show 'cdb -c -m -r aliases.cdb aliases.txt changes.txt'
 show 'cdb -q -m aliases.cdb abuse'
 show 'cdb -q -m aliases.cdb sales'
 
-printf '\nA key that stands twice where that is forbidden: the database stays as it was.\n\n'
+printf '\nA key that appears twice, under -e: the old database stays.\n\n'
 show_status 111 'cdb -c -m -e aliases.cdb aliases.txt changes.txt'
 show 'cdb -q -m aliases.cdb abuse'
 
@@ -56,7 +56,7 @@ printf '\nIts text, and the database of that text, which is the same.\n\n'
 show 'cdb -d aliases.cdb | cdb -c copy.cdb'
 show 'cmp aliases.cdb copy.cdb && echo the same bytes'
 
-printf '\nA database that was cut: the check says where, and the records before the cut are still given.\n\n'
+printf '\nA database that was cut: the check says where, and the dump has every record before the cut.\n\n'
 show 'head -c 2150 aliases.cdb > cut.cdb'
 show_status 100 'cdb -k cut.cdb'
 show_status 111 'cdb -d -m cut.cdb'
