@@ -83,6 +83,14 @@ def has_no_error(package):
     return not errors
 
 
+def is_checkout():
+    """Whether git knows the commit of this tree."""
+    if shutil.which("git") is None:
+        return False
+    words = ["git", "-C", TOP, "rev-parse", "--verify", "HEAD:VERSION"]
+    return subprocess.run(words, capture_output=True, check=False).returncode == 0
+
+
 def tests_of(program, folder):
     """What is tested, each with whether it holds."""
     package, is_same = made_twice("deb", program, folder)
@@ -100,7 +108,7 @@ def tests_of(program, folder):
         pages = [os.path.join(TOP, "man", it) for it in ("cdb.1", "cdb.5")]
         done = subprocess.run(["mandoc", "-T", "lint", "-W", "warning", *pages], check=False)
         held["mandoc warns of nothing in the pages"] = done.returncode == 0
-    if shutil.which("git") and os.path.exists(os.path.join(TOP, ".git")):
+    if is_checkout():
         tarball, is_same = made_twice("dist", folder)
         held["the tarball has the same bytes each time, and their sum"] = is_same
         with tarfile.open(tarball) as tar:
