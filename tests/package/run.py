@@ -3,9 +3,9 @@
 
     tests/package/run.py PROGRAM
 
-The example is the text of two records and its file, worked out by hand in tests/cli/files.py. Where
-`lintian` is installed it may find no error, and where `mandoc` is, no warning. In a git checkout the tarball of the sources is made
-twice too. Without `dpkg-deb` nothing is tested, and the last line says so.
+The example is the text of two records and its file, worked out by hand in tests/cli/files.py. If
+`lintian` is installed it may find no error, if `mandoc` is, no warning. In a git checkout the tarball
+of the sources is made twice too. Without `dpkg-deb` nothing is tested, and the last line says so.
 """
 
 import hashlib
