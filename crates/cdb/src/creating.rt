@@ -116,10 +116,11 @@ where
     }
 }
 
-/// Makes it in a temporary file, which takes its name once it is whole. One of that name is removed
-/// first, so neither a link there is followed nor an input of that name that is open overwritten;
-/// unless it is the database itself, which stays, and the temporary file can't be made. After a
-/// fault the temporary file is removed, and what had the database's name still has it.
+/// Makes it in a temporary file, which is renamed once it is whole.
+///
+/// An existing file of that name is removed first, so a link is not followed and an open input is not
+/// overwritten. If the name refers to the database itself, nothing is removed and the call fails.
+/// After a fault the temporary file is removed, and the old database still has its name.
 fn make_apart<L, R, I, E>(
     rt: &R,
     temporary: &str,
