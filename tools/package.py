@@ -56,7 +56,7 @@ License: 0BSD
 CHANGELOG = """\
 {name} ({version}) unstable; urgency=medium
 
-  * Version {version}. CHANGELOG.gz has what users got.
+  * Version {version}. NEWS.gz has what users got.
 
  -- {maintainer}  {date}
 """
@@ -120,7 +120,7 @@ def files_of(program, when):
         f"usr/share/lintian/overrides/{NAME}": (0o644, OVERRIDES.format(**facts).encode()),
         f"{notes}/copyright": (0o644, COPYRIGHT.format(license=license_lines(), **facts).encode()),
         f"{notes}/changelog.gz": (0o644, squeezed(CHANGELOG.format(date=date, **facts).encode())),
-        f"{notes}/CHANGELOG.gz": (0o644, squeezed(read("CHANGELOG.md"))),
+        f"{notes}/NEWS.gz": (0o644, squeezed(read("CHANGELOG.md"))),
     }
     for page in PAGES:
         if os.path.exists(os.path.join(TOP, "man", page)):
