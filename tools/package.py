@@ -99,9 +99,15 @@ def architecture_of(program):
 
 
 def depends_of(program):
-    """The field that names the least C library with all that a program takes of it, if any."""
-    found = [(int(first), int(second)) for first, second in re.findall(rb"GLIBC_(\d+)\.(\d+)", program)]
-    return "Depends: libc6 (>= %d.%d)\n" % max(found) if found else ""
+    """The field that names the libraries that a program needs, if any."""
+    versions = re.findall(rb"GLIBC_(\d+)\.(\d+)", program)
+    needed = []
+    if versions:
+        least = max((int(first), int(second)) for first, second in versions)
+        needed.append("libc6 (>= %d.%d)" % least)
+    if b"\0libgcc_s.so.1\0" in program:
+        needed.append("libgcc-s1")
+    return f"Depends: {', '.join(needed)}\n" if needed else ""
 
 
 def license_lines():
