@@ -3,9 +3,11 @@
 # make demo       builds it, and shows it at work on a small alias map
 # make test       the gate: proves everything from nothing and runs every test
 # make faults     builds it, and refuses memory and system calls to each command in turn (needs a C compiler)
+# make clib       builds the C library, bin/libcdb.so.1 and bin/libcdb.a (needs a C compiler)
 # make dist       makes the tarball of the sources that are committed, dist/pezundrix-VERSION.tar.gz
 # make deb        builds it, and makes the Debian package, dist/pezundrix_VERSION_ARCHITECTURE.deb
 # make install    installs cdb and its manual pages below $(DESTDIR)$(PREFIX)
+# make install-clib  installs the C library, its header and its manual page there
 # make uninstall  removes them
 # make interop    builds it, and compares it with the cdb programs that are installed
 # make bench      times it beside tinycdb and freecdb, if they are installed
@@ -19,7 +21,11 @@ PYTHON ?= python3
 SOURCES := $(shell find crates \( -name out -o -name tests -o -name tests.rt \) -prune -o \
 	-type f \( -name '*.rt' -o -name '*.antt' \) -print) crates.txt
 
-.PHONY: all try demo test faults dist deb install uninstall interop bench clean
+# How the C of the library is compiled. An export writes words, which a read of several at once
+# would wait for.
+CLIB_FLAGS := -std=c11 -O2 -Wall -Wextra -Werror -fPIC -fno-tree-slp-vectorize
+
+.PHONY: all try demo test faults clib test-clib dist deb install install-clib uninstall interop bench clean
 
 all: bin/cdb
 
@@ -53,6 +59,11 @@ test:
 	else \
 		echo '0 passed, 0 failed: no C compiler is here, so no request for memory was refused'; \
 	fi
+	@if command -v $(firstword $(CC)) > /dev/null; then \
+		$(MAKE) -s test-clib PROGRAM=crates/cdb/out/cdb; \
+	else \
+		echo '0 passed, 0 failed: no C compiler is here, so no C library was built'; \
+	fi
 
 faults: bin/cdb bin/refuse.so
 	$(PYTHON) tests/faults/run.py bin/cdb bin/refuse.so memory
@@ -61,6 +72,39 @@ faults: bin/cdb bin/refuse.so
 bin/refuse.so: tests/faults/refuse.c
 	@mkdir -p bin
 	$(CC) -O2 -Wall -shared -fPIC -o $@ $<
+
+clib: bin/libcdb.so.1 bin/libcdb.a
+
+bin/libcdb_c.a: $(SOURCES)
+	@mkdir -p bin
+	@echo 'Proves the look-ups of the C library.'
+	@cd crates/cdb_c && $(RT) lib > ../../bin/clib.log 2>&1 || { tail -n 40 ../../bin/clib.log; exit 1; }
+	@cp crates/cdb_c/out/libcdb_c.a $@
+
+bin/libcdb.o: clib/libcdb.c clib/cdb.h
+	@mkdir -p bin
+	$(CC) $(CLIB_FLAGS) $(CFLAGS) -c -o $@ clib/libcdb.c
+
+bin/making.o: clib/making.c
+	@mkdir -p bin
+	$(CC) $(CLIB_FLAGS) $(CFLAGS) -c -o $@ clib/making.c
+
+bin/libcdb.so.1: bin/libcdb.o bin/making.o bin/libcdb_c.a clib/libcdb.map
+	$(CC) -shared $(CFLAGS) $(LDFLAGS) -Wl,-soname,libcdb.so.1 -Wl,--version-script=clib/libcdb.map \
+		-Wl,--gc-sections -o $@ bin/libcdb.o bin/making.o bin/libcdb_c.a
+
+# One object, whose other symbols are its own.
+bin/libcdb.a: bin/libcdb.o bin/libcdb_c.a
+	$(LD) -r -o bin/libcdb_whole.o bin/libcdb.o bin/libcdb_c.a
+	objcopy -w -G 'cdb_[!c]*' bin/libcdb_whole.o
+	rm -f $@
+	$(AR) rc $@ bin/libcdb_whole.o
+
+bin/answers: tests/clib/answers.c clib/cdb.h bin/libcdb.so.1
+	$(CC) -O2 -Wall -Wextra -Werror -Iclib -o $@ tests/clib/answers.c bin/libcdb.so.1
+
+test-clib: bin/answers bin/libcdb.a $(if $(PROGRAM),,bin/cdb)
+	$(PYTHON) tests/clib/run.py bin/answers bin $(or $(PROGRAM),bin/cdb)
 
 dist:
 	@$(PYTHON) tools/package.py dist dist
@@ -73,19 +117,35 @@ install: bin/cdb
 	install -D -m 644 man/cdb.1 $(DESTDIR)$(PREFIX)/share/man/man1/cdb.1
 	install -D -m 644 man/cdb.5 $(DESTDIR)$(PREFIX)/share/man/man5/cdb.5
 
+install-clib: clib
+	install -D -m 755 bin/libcdb.so.1 $(DESTDIR)$(PREFIX)/lib/libcdb.so.1
+	ln -sf libcdb.so.1 $(DESTDIR)$(PREFIX)/lib/libcdb.so
+	install -D -m 644 bin/libcdb.a $(DESTDIR)$(PREFIX)/lib/libcdb.a
+	install -D -m 644 clib/cdb.h $(DESTDIR)$(PREFIX)/include/cdb.h
+	install -D -m 644 man/cdb.3 $(DESTDIR)$(PREFIX)/share/man/man3/cdb.3
+
 uninstall:
 	rm -f $(DESTDIR)$(PREFIX)/bin/cdb
 	rm -f $(DESTDIR)$(PREFIX)/share/man/man1/cdb.1
 	rm -f $(DESTDIR)$(PREFIX)/share/man/man5/cdb.5
+	rm -f $(DESTDIR)$(PREFIX)/lib/libcdb.so.1 $(DESTDIR)$(PREFIX)/lib/libcdb.so
+	rm -f $(DESTDIR)$(PREFIX)/lib/libcdb.a $(DESTDIR)$(PREFIX)/include/cdb.h
+	rm -f $(DESTDIR)$(PREFIX)/share/man/man3/cdb.3
 
 interop: bin/cdb
 	$(PYTHON) tests/interop/run.py bin/cdb
+	@if command -v $(firstword $(CC)) > /dev/null; then \
+		$(MAKE) -s bin/answers && $(PYTHON) tests/clib/interop.py bin/answers bin; \
+	fi
 
 bench: bin/cdb
 	$(PYTHON) bench/run.py --cdb bin/cdb
 	$(PYTHON) bench/jobs.py --cdb bin/cdb
 	$(PYTHON) bench/stores.py
 	$(PYTHON) bench/makers.py
+	@if command -v $(firstword $(CC)) > /dev/null; then \
+		$(MAKE) -s clib && $(PYTHON) bench/clib.py bin; \
+	fi
 
 clean:
 	rm -rf bin dist crates/*/out

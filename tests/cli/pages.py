@@ -103,7 +103,8 @@ def main():
     version = subprocess.run([rt, "version"], capture_output=True, check=True).stdout.decode()
     with open(README, encoding="utf-8") as file:
         toolchain = toolchain_of(file.read())
-    if toolchain != version.strip():
+    # Kits of one logic check alike; a kit's own name changes with its tools.
+    if toolchain.split(" logic ")[-1] != version.strip().split(" logic ")[-1]:
         wrong.append(f"README.md names {toolchain}, and this is {version.strip()}")
     for it in wrong:
         print(it)
