@@ -33,11 +33,12 @@ fn count_values(file: &[u8], key: &[u8]) -> Result<u64, Damage> {
         return Ok(0);
     }
     let mut search = begin::<Narrow>(file, key)?;
-    let mut many = 0u64;
-    while next::<Narrow>(file, key, &mut search)?.is_some() {
-        many = many.saturating_add(1);
+    for many in 0..u64::MAX {
+        if next::<Narrow>(file, key, &mut search)?.is_none() {
+            return Ok(many);
+        }
     }
-    Ok(many)
+    Ok(u64::MAX)
 }
 
 /// How many records a database has.
@@ -46,11 +47,12 @@ fn count_records(file: &[u8]) -> Result<u64, Damage> {
         return Ok(0);
     }
     let mut rest = first_record::<Narrow>(file)?;
-    let mut many = 0u64;
-    while next_record::<Narrow>(file, &mut rest)?.is_some() {
-        many = many.saturating_add(1);
+    for many in 0..u64::MAX {
+        if next_record::<Narrow>(file, &mut rest)?.is_none() {
+            return Ok(many);
+        }
     }
-    Ok(many)
+    Ok(u64::MAX)
 }
 
 #[test]
