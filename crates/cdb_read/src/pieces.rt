@@ -1,5 +1,5 @@
 // Bytes of a store, read piece by piece.
-ghost use Rattle.std.specs.Prelude.{◌≡◌, ℕ, ◌+◌, ◌<◌, ◌≤◌, ◌^◌, List, length, IfOk, IfErr};
+ghost use Rattle.std.specs.Prelude.{◌≡◌, ℕ, ◌+◌, ◌<◌, ◌≤◌, ◌^◌, List, length, IfErr};
 ghost use Rattle.std.specs.Prelude.{OnOk, OnErr};
 ghost use Rattle.std.specs.Io.KnownBytes.{Appends};
 ghost use Rattle.cdb_form.specs.Views.KnownBytes.{AppendsFront};
@@ -12,7 +12,6 @@ use crate::fault::ReadFault;
 use crate::span::Span;
 use cdb_form::write_whole;
 use cdb_store::Store;
-use std::alloc::Global;
 use std::io::Write;
 
 /// Fills `into` with the bytes from a place on.
@@ -60,29 +59,29 @@ pub(crate) fn copy_span<S: Store, W: Write>(
     Ok(())
 }
 
-/// The bytes of a span. The vector grows as they come.
+/// Reads the bytes of a span over a vector, which grows as they come.
 pub(crate) fn take_span<S: Store>(
     store: &mut S,
     span: Span,
     piece: &mut [u8],
-    alloc: Global,
-) -> Result<Vec<u8>, ReadFault>
+    into: &mut Vec<u8>,
+) -> Result<(), ReadFault>
     requires piece { 0 < length piece.old }
     requires inside { span.place + span.len ≤ S.size store.old }
     requires fits { S.size store.old < 2 ^ 64 }
     ensures reads { OnlyReads S.Store store.old store.new }
     ensures is { (b : List ℕ) → S.image store.new b
-        → IfOk result (λ v. v.items ≡ bytes_of b span) }
+        → OnOk result (into.new.items ≡ bytes_of b span) }
     ensures fails { IfErr result (ValueFails S.Store store.old store.new) }
 {
-    let mut taken = Vec::new(alloc);
+    into.clear();
     let mut done = 0;
     while done < span.len {
         let n = (span.len - done).min(piece.len() as u64);
         let part = &mut piece[..n as usize];
         read_part(store, span.place + done, part)?;
-        taken.extend_from_slice(part)?;
+        into.extend_from_slice(part)?;
         done += n;
     }
-    Ok(taken)
+    Ok(())
 }

@@ -103,7 +103,21 @@ impl<S: Store, L: Width> Reader<S, L> {
             → IfOk result (λ v. v.items ≡ bytes_of b span) }
         ensures fails { IfErr result (ValueFails S.Store self.old.store self.new.store) }
     {
-        take_span(&mut self.store, span, &mut self.piece, alloc)
+        let mut taken = Vec::new(alloc);
+        self.value_into(span, &mut taken)?;
+        Ok(taken)
+    }
+
+    /// Reads the bytes of a span, which lies inside the file, over a vector, whose memory it takes.
+    /// The vector grows as they come; after a fault it holds anything.
+    pub(crate) fn value_into(&mut self, span: Span, into: &mut Vec<u8>) -> Result<(), ReadFault>
+        requires inside { span.place + span.len ≤ S.size self.old.store }
+        ensures reads { OnlyReads S.Store self.old.store self.new.store }
+        ensures is { (b : List ℕ) → S.image self.new.store b
+            → OnOk result (into.new.items ≡ bytes_of b span) }
+        ensures fails { IfErr result (ValueFails S.Store self.old.store self.new.store) }
+    {
+        take_span(&mut self.store, span, &mut self.piece, into)
     }
 
     /// How many bytes its file has.

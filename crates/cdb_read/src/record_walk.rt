@@ -1,6 +1,6 @@
 // A walk over the records of a database.
 ghost use Rattle.std.specs.Prelude.{◌≡◌, ℕ, ◌+◌, ◌≤◌, List, IfOk, IfErr, MatchOption};
-ghost use Rattle.std.specs.Prelude.{Ok, Err, None};
+ghost use Rattle.std.specs.Prelude.{Ok, Err, None, OnOk};
 ghost use Rattle.cdb_read.specs.Lookup.{bytes_of};
 ghost use Rattle.cdb_store.specs.Reads.{OnlyReads};
 ghost use Rattle.cdb_read.specs.Views.Reads.{ValueFails};
@@ -78,6 +78,24 @@ impl<'a, S: Store, L: Width> Walk<'a, S, L> {
         ensures fails { IfErr result
             (ValueFails S.Store self.old.reader.now.store self.new.reader.now.store) }
     {
-        self.reader.shown_value(alloc, span)
+        let mut taken = Vec::new(alloc);
+        self.value_into(span, &mut taken)?;
+        Ok(taken)
+    }
+
+    /// Reads the bytes of a span over a vector, whose memory it takes, so that a walk over many
+    /// records takes none for each. After a fault the vector holds anything. What is left of the
+    /// walk stays.
+    pub fn value_into(&mut self, span: Span, into: &mut Vec<u8>) -> Result<(), ReadFault>
+        requires inside { span.place + span.len ≤ S.size self.old.reader.now.store }
+        ensures same_reader { self.new.reader.ghost_name ≡ self.old.reader.ghost_name }
+        ensures stays { self.new.walking ≡ self.old.walking }
+        ensures reads { OnlyReads S.Store self.old.reader.now.store self.new.reader.now.store }
+        ensures is { (b : List ℕ) → S.image self.new.reader.now.store b
+            → OnOk result (into.new.items ≡ bytes_of b span) }
+        ensures fails { IfErr result
+            (ValueFails S.Store self.old.reader.now.store self.new.reader.now.store) }
+    {
+        self.reader.shown_into(span, into)
     }
 }

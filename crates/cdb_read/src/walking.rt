@@ -1,5 +1,5 @@
 // The records of a database, one after the other.
-ghost use Rattle.std.specs.Prelude.{◌≡◌, ℕ, ◌+◌, ◌<◌, ◌≤◌, List, IfOk, IfErr};
+ghost use Rattle.std.specs.Prelude.{◌≡◌, ℕ, ◌+◌, ◌<◌, ◌≤◌, List, IfOk, IfErr, OnOk};
 ghost use Rattle.cdb_form.specs.Format.Walk.{walk_of};
 ghost use Rattle.cdb_form.specs.Format.Pair.{head_size};
 ghost use Rattle.cdb_read.specs.Lookup.{bytes_of};
@@ -16,7 +16,6 @@ use crate::span::{Pair, Span};
 use crate::standing::pair_at;
 use cdb_form::{Width, head_size};
 use cdb_store::Store;
-use std::alloc::Global;
 
 impl<S: Store, L: Width> Reader<S, L> {
     /// Where a walk begins.
@@ -46,21 +45,21 @@ impl<S: Store, L: Width> Reader<S, L> {
         pair_at::<S, L>(&mut self.store, &mut self.window, rest)
     }
 
-    /// The bytes of a span, which lies inside the file. The store is asked where the window lacks
-    /// them.
-    pub(crate) fn shown_value(&mut self, alloc: Global, span: Span) -> Result<Vec<u8>, ReadFault>
+    /// Reads the bytes of a span, which lies inside the file, over a vector. The store is asked where
+    /// the window lacks them.
+    pub(crate) fn shown_into(&mut self, span: Span, into: &mut Vec<u8>) -> Result<(), ReadFault>
         requires inside { span.place + span.len ≤ S.size self.old.store }
         ensures reads { OnlyReads S.Store self.old.store self.new.store }
         ensures is { (b : List ℕ) → S.image self.new.store b
-            → IfOk result (λ v. v.items ≡ bytes_of b span) }
+            → OnOk result (into.new.items ≡ bytes_of b span) }
         ensures fails { IfErr result (ValueFails S.Store self.old.store self.new.store) }
     {
         if self.window.covers(span.place, span.len) {
-            let mut taken = Vec::new(alloc);
-            taken.extend_from_slice(self.window.shown(span.place, span.len as usize))?;
-            return Ok(taken);
+            into.clear();
+            into.extend_from_slice(self.window.shown(span.place, span.len as usize))?;
+            return Ok(());
         }
-        self.value(alloc, span)
+        self.value_into(span, into)
     }
 }
 

@@ -8,7 +8,7 @@ invariant-loop-done g l = record {
   within : l.done ≤ l.span.len;
   piece : length l.piece ≡ length l.fn.piece;
   reads : OnlyReads g.S.Store l.fn.store l.store;
-  taken : HasTaken l.span.place l.done l.taken.items (g.S.Store.image l.store);
+  taken : HasTaken l.span.place l.done l.into.items (g.S.Store.image l.store);
 }
 
 abbrev pub decreases-loop-done : goal.decreases-loop-done

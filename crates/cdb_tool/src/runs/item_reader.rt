@@ -1,0 +1,61 @@
+// The items of an input, whatever its form.
+ghost use Rattle.std.specs.Prelude.{◌≡◌, IfOk, IfErr, MatchOption};
+ghost use Rattle.cdb_form.specs.Views.Pairs.{change_in};
+ghost use Rattle.cdb_tool.specs.Runs.Inputs.{input_form};
+ghost use Rattle.cdb_tool.specs.Views.ItemReader.{form_of, unread, IsNew};
+ghost use Rattle.cdb_tool.specs.Views.ItemReader.{GivesItem, GivesEnd, Fails};
+
+use crate::runs::input_reader::InputReader;
+use cdb_command::Style;
+use cdb_form::{AmendReader, ItemKind, Record, TextFault, Width};
+use std::alloc::Global;
+use std::io::Read;
+
+/// Reads what an input says, one item after the other.
+#[derive(Drop)]
+pub(crate) enum ItemReader<R, L> {
+    /// An input that only puts records.
+    Puts(InputReader<R, L>),
+    /// An amending text.
+    Changes(AmendReader<R, L>),
+}
+
+impl<R: Read, L: Width> ItemReader<R, L> {
+    /// A reader of the input that `reader` gives, which may be asked 2^48 times. Where a base is
+    /// amended, a native text may also remove keys.
+    pub(crate) fn new(alloc: Global, style: Style, amends: bool, reader: R) -> ItemReader<R, L>
+        ensures form { form_of result ≡ input_form style amends }
+        ensures unread { unread R.remaining result ≡ R.remaining reader }
+        ensures fresh { IsNew result }
+    {
+        match style {
+            Style::Map => ItemReader::Puts(InputReader::new(alloc, Style::Map, reader)),
+            Style::Native => {
+                if amends {
+                    ItemReader::Changes(AmendReader::new(alloc, reader))
+                } else {
+                    ItemReader::Puts(InputReader::new(alloc, Style::Native, reader))
+                }
+            }
+        }
+    }
+
+    /// Reads the next item over a record, whose memory it takes, and answers its kind, or that there
+    /// is none.
+    pub(crate) fn read_into(&mut self, into: &mut Record) -> Result<Option<ItemKind>, TextFault>
+        ensures gives { IfOk result (λ found. MatchOption found
+            (GivesEnd R.remaining self.old self.new)
+            (λ kind. GivesItem L.GREATEST R.remaining self.old self.new
+            (change_in kind into.new))) }
+        ensures fails { IfErr result (Fails L.GREATEST R.remaining self.old self.new) }
+    {
+        match self {
+            ItemReader::Puts(records) => match records.read_into(into) {
+                Ok(true) => Ok(Some(ItemKind::Put)),
+                Ok(false) => Ok(None),
+                Err(fault) => Err(fault),
+            },
+            ItemReader::Changes(items) => items.read_into(into),
+        }
+    }
+}
