@@ -83,7 +83,9 @@ fn make_on_output<L: Width, I: Read + Drop, O: Write, E: Write>(
     check_limit::<L>(options)?;
     let mut lines = Output::new(alloc, errors, LINES)?;
     let store = MemStore::new(alloc);
-    let (store, made) = make_run::<L, _, _, _>(alloc, store, sources, options, &mut lines);
+    let (store, _, made) = make_run::<L, _, MemStore, _, _>(
+        alloc, store, None, sources, options, &mut lines,
+    );
     made?;
     let written = write_whole(output, store.bytes());
     flushed(output, written.map_err(Fault::from))
@@ -162,7 +164,7 @@ fn make_in_file<L: Width, I: Read + Drop, E: Write>(
         return Err(Fault::NoMemory);
     };
     let mut lines = Output::new(alloc, errors, LINES)?;
-    make_run::<L, _, _, _>(alloc, store, sources, options, &mut lines).1
+    make_run::<L, _, MemStore, _, _>(alloc, store, None, sources, options, &mut lines).2
 }
 
 /// Refuses a limit that no file of the width can have.

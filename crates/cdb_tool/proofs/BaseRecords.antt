@@ -1,11 +1,14 @@
 -- A base whose records are added to a maker, one after the other.
-use Rattle.std.proofs.Common.{◌≡◌, ◌≢◌, ℕ, ◌+◌, ◌*◌, ◌<◌, ◌≤◌, List, [], ◌∷◌, ◌++◌, refl, sym, ap, subst, ◌∙◌, arith, append_assoc, Some, None}
+use Rattle.std.proofs.Common.{◌≡◌, ◌≢◌, ℕ, ◌+◌, ◌*◌, ◌<◌, ◌≤◌, List, [], ◌∷◌, ◌++◌, refl, sym, ap, subst, ◌∙◌, arith, append_assoc, length, Option, Some, None}
 use Rattle.std.proofs.lemmas.List.{append-nil}
 use Rattle.cdb_store.specs.declared.store.Store.{Ghosts}
 use Rattle.cdb_form.specs.declared.width.Width.{Ghosts as Widths}
 use Rattle.cdb_form.specs.Format.File.{file_size}
 use Rattle.cdb_form.specs.Format.Record.{KeyValue, record_size}
 use Rattle.cdb_form.specs.Format.Walk.{Walked, walk_of, no_walk, damaged, with_first, with_records}
+use Rattle.cdb_form.proofs.WalkSteps.{walk_of-short}
+use Rattle.cdb_form.specs.declared.text.fault.TextFault.{TextFault}
+use Rattle.cdb_form.specs.declared.text.fault.TextFault.TheVariants as text
 use Rattle.cdb_form.specs.declared.damage.Damage.{Damage}
 use Rattle.cdb_form.specs.declared.damage.Damage.TheVariants as damage
 use Rattle.cdb_make.specs.Views.Maker.{Holds, WhereHonest, Puts, FailsPutting, limit_of}
@@ -17,15 +20,19 @@ use Rattle.cdb_make.specs.declared.mode.Put.{Put}
 use Rattle.cdb_make.proofs.EntryLists.{size_push}
 use Rattle.cdb_make.proofs.Makers.{held_size}
 use Rattle.cdb_read.specs.Lookup.{bytes_of}
-use Rattle.cdb_read.specs.Views.Reads.{ValueFails}
+use Rattle.cdb_read.specs.Views.Reads.{OpeningFails}
 use Rattle.cdb_read.specs.Views.Walk.{left_of, WalkingFails}
 use Rattle.cdb_read.specs.Views.Walking.{record_of}
 use Rattle.cdb_read.specs.declared.fault.ReadFault.{ReadFault}
 use Rattle.cdb_read.specs.declared.fault.ReadFault.TheVariants as read
 use Rattle.cdb_read.specs.declared.record_walk.Walk.{Walk}
 use Rattle.cdb_read.specs.declared.span.Pair.{Pair}
-use Rattle.cdb_tool.specs.Views.Fault.{read_fault, make_fault}
-use Rattle.cdb_tool.specs.Runs.Make.{BaseFails, AddsBase, IsOfBase, IsOfStore}
+use Rattle.cdb_tool.specs.Views.Fault.{read_fault, make_fault, text_fault}
+use Rattle.cdb_tool.specs.Runs.Course.{TellFails}
+use Rattle.cdb_tool.specs.Runs.Make.{BaseFails, AddsBase, IsOfBase}
+use Rattle.cdb_tool.specs.declared.fault.Fault.{Fault}
+use Rattle.cdb_tool.specs.declared.fault.Fault.TheVariants as fault
+use Rattle.cdb_command.specs.declared.options.MakeOptions.{MakeOptions}
 
 -- these records were given and added, and then comes what is left of the walk
 pub record AddedSoFar {S L : Type 0} {s : Ghosts S} {l : Widths L} (w : ℕ) (images : List ℕ → Type 0) (left : List ℕ → Walked) (first m : Maker S L s l) : Type 0 where
@@ -99,56 +106,6 @@ pub walk_stopped : {S L B : Type 0} {s : Ghosts S} {l : Widths L} {t : Ghosts B}
     → WhereHonest (s.image m.store) (BaseFails l.WORD (limit_of first) b (read_fault f))
 walk_stopped old new first m f h fewer x limit holds b i = record { each = λ a j. stopped_so old new first m f h fewer x limit holds b i a j }
 
--- what fails so is no fault of the maker's store, and one of the base's store comes where that failed
-pub walk_failed : {L B : Type 0} {l : Widths L} {t : Ghosts B} (w : ℕ) (old new : Walk B L t l) (f : ReadFault) → WalkingFails w old new f → IsOfBase (read_fault f) → t.failures old.reader.now.store < t.failures new.reader.now.store
-walk_failed w old new read.Short x is = absurd is
-walk_failed w old new (read.Table n) x is = absurd is
-walk_failed w old new (read.Record place) x is = absurd is
-walk_failed w old new (read.Slot n k) x is = absurd is
-walk_failed w old new (read.Twice place) x is = absurd is
-walk_failed w old new (read.Unindexed place) x is = absurd is
-walk_failed w old new read.Device x is = x.1
-walk_failed w old new read.NoMemory x is = absurd is
-walk_failed w old new read.Output x is = absurd is
-
-pub read_no_store : (f : ReadFault) → IsOfStore (read_fault f) → ⊥
-read_no_store read.Short is = is
-read_no_store (read.Table n) is = is
-read_no_store (read.Record place) is = is
-read_no_store (read.Slot n k) is = is
-read_no_store (read.Twice place) is = is
-read_no_store (read.Unindexed place) is = is
-read_no_store read.Device is = is
-read_no_store read.NoMemory is = is
-read_no_store read.Output is = is
-
--- ---- a key or a value was not read
-
-value_so : {B : Type 0} (t : Ghosts B) (old new : B) (w limit : ℕ) (b : List ℕ) (f : ReadFault) → ValueFails t old new f → BaseFails w limit b (read_fault f)
-value_so t old new w limit b read.NoMemory x = tt
-value_so t old new w limit b read.Device x = tt
-value_so t old new w limit b read.Short x = absurd x
-value_so t old new w limit b (read.Table n) x = absurd x
-value_so t old new w limit b (read.Record place) x = absurd x
-value_so t old new w limit b (read.Slot n k) x = absurd x
-value_so t old new w limit b (read.Twice place) x = absurd x
-value_so t old new w limit b (read.Unindexed place) x = absurd x
-value_so t old new w limit b read.Output x = absurd x
-
-pub value_stopped : {B : Type 0} (t : Ghosts B) (old new : B) (w limit : ℕ) (images : List ℕ → Type 0) (b : List ℕ) (f : ReadFault) → ValueFails t old new f → WhereHonest images (BaseFails w limit b (read_fault f))
-value_stopped t old new w limit images b f x = record { each = λ a j. value_so t old new w limit b f x }
-
-pub value_failed : {B : Type 0} (t : Ghosts B) (old new : B) (f : ReadFault) → ValueFails t old new f → IsOfBase (read_fault f) → t.failures old < t.failures new
-value_failed t old new read.NoMemory x is = absurd is
-value_failed t old new read.Device x is = x
-value_failed t old new read.Short x is = absurd is
-value_failed t old new (read.Table n) x is = absurd is
-value_failed t old new (read.Record place) x is = absurd is
-value_failed t old new (read.Slot n k) x is = absurd is
-value_failed t old new (read.Twice place) x is = absurd is
-value_failed t old new (read.Unindexed place) x is = absurd is
-value_failed t old new read.Output x is = absurd is
-
 -- ---- a record was not added
 
 -- more records take no less room
@@ -187,10 +144,54 @@ add_stopped {l = l} old new left rest first m now pair k v f h fewer more key va
       unadded_so (limit_of first) b h.done is (rest b) m now f all x limit (h.holds holds) a j;
 }
 
--- what fails so is no fault of the base's store, and one of the maker's store comes where that failed
+-- what fails so is no fault of the base's store
 pub make_no_base : (f : MakeFault) → IsOfBase (make_fault f) → ⊥
 make_no_base make.Broken is = is
 make_no_base make.Lookup is = is
 make_no_base make.TooBig is = is
 make_no_base make.NoMemory is = is
 make_no_base make.Writing is = is
+
+pub told_no_base : (o : MakeOptions) (i j : ℕ) (put : Put) (old new : Option (List ℕ)) (f : Fault) → TellFails o i j put old new f → IsOfBase f → ⊥
+told_no_base o i j put old new (fault.Text n f) x is = absurd is
+told_no_base o i j put old new (fault.Make f) x is = absurd x
+told_no_base o i j put old new (fault.Walk f) x is = absurd is
+told_no_base o i j put old new fault.Missing x is = absurd is
+told_no_base o i j put old new (fault.Read f) x is = absurd x
+told_no_base o i j put old new fault.Long x is = absurd is
+told_no_base o i j put old new fault.Open x is = absurd is
+told_no_base o i j put old new fault.Rename x is = absurd is
+told_no_base o i j put old new fault.NoMemory x is = absurd is
+told_no_base o i j put old new fault.Output x is = absurd is
+told_no_base o i j put old new fault.Duplicate x is = absurd is
+
+pub text_no_base : (n : ℕ) (f : TextFault) → IsOfBase (text_fault n f) → ⊥
+text_no_base n text.NoMemory is = is
+text_no_base n (text.Syntax at) is = is
+text_no_base n (text.Ended at) is = is
+text_no_base n (text.Large at) is = is
+text_no_base n text.Input is = is
+text_no_base n text.Endless is = is
+
+-- ---- no database was opened
+
+unopened_so : {S L B : Type 0} {s : Ghosts S} {l : Widths L} (t : Ghosts B) (old new : B) (m : Maker S L s l) (f : ReadFault) → OpeningFails l.WORD t old new f → ((b : List ℕ) → t.image new b → length b ≡ t.size new) → Holds m [] → (b : List ℕ) → t.image new b → (a : List ℕ) → s.image m.store a
+    → BaseFails l.WORD (limit_of m) b (read_fault f)
+unopened_so {l = l} t old new m read.Short x size holds b i a j =
+    let long = size b i in
+    let same = ap t.size x.1 in
+    let few = x.0 in
+    let p = damage_fails b [] damage.Short m (walk_of-short l.WORD b (omega (arith, long, same, few))) holds a j in
+    (damage.Short, refl, p.0, p.1)
+unopened_so t old new m read.Device x size holds b i a j = tt
+unopened_so t old new m (read.Table n) x size holds b i a j = absurd x
+unopened_so t old new m (read.Record place) x size holds b i a j = absurd x
+unopened_so t old new m (read.Slot n k) x size holds b i a j = absurd x
+unopened_so t old new m (read.Twice place) x size holds b i a j = absurd x
+unopened_so t old new m (read.Unindexed place) x size holds b i a j = absurd x
+unopened_so t old new m read.NoMemory x size holds b i a j = tt
+unopened_so t old new m read.Output x size holds b i a j = absurd x
+
+pub unopened : {S L B : Type 0} {s : Ghosts S} {l : Widths L} (t : Ghosts B) (old new : B) (m : Maker S L s l) (f : ReadFault) → OpeningFails l.WORD t old new f → ((b : List ℕ) → t.image new b → length b ≡ t.size new) → Holds m [] → (b : List ℕ) → t.image new b
+    → WhereHonest (s.image m.store) (BaseFails l.WORD (limit_of m) b (read_fault f))
+unopened t old new m f x size holds b i = record { each = λ a j. unopened_so t old new m f x size holds b i a j }

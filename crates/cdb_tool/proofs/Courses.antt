@@ -1,4 +1,4 @@
--- A run, record after record.
+-- A run, item after item.
 use Rattle.std.proofs.Common.{◌≡◌, ◌+◌, ◌*◌, ◌<◌, true, false, ℕ, inl, inr, List, [], ◌∷◌, ◌++◌, length, refl, sym, ap, subst, ◌∙◌, arith, append_assoc, Option, Some, None, Result, Ok, Err, if◌then◌else◌}
 use Rattle.std.specs.Prelude.{OnOk, IfErr}
 use Rattle.std.proofs.lemmas.Bool.{le-leb, lt-leb}
@@ -9,10 +9,11 @@ use Rattle.cdb_store.specs.declared.store.Store.{Ghosts}
 use Rattle.cdb_form.specs.declared.width.Width.{Ghosts as Widths}
 use Rattle.cdb_form.specs.Format.Record.{KeyValue}
 use Rattle.cdb_form.specs.Format.File.{file_size}
+use Rattle.cdb_form.specs.Text.Amending.{Change, Putting, Removing}
 use Rattle.cdb_form.specs.Views.KnownBytes.{AppendsFront}
 use Rattle.cdb_form.proofs.WritingLemmas.{appends_then, front_then}
-use Rattle.cdb_make.specs.Survivors.{put_list, put_answer, fits}
-use Rattle.cdb_make.specs.Views.Maker.{Holds, HoldsIn, WhereHonest, ComesFrom, Puts, FailsPutting, limit_of}
+use Rattle.cdb_make.specs.Survivors.{put_list, put_answer, fits, without}
+use Rattle.cdb_make.specs.Views.Maker.{Holds, HoldsIn, WhereHonest, ComesFrom, Puts, FailsPutting, Removes, FailsRemoving, limit_of}
 use Rattle.cdb_make.specs.declared.fault.MakeFault.{MakeFault}
 use Rattle.cdb_make.specs.declared.fault.MakeFault.TheVariants as make
 use Rattle.cdb_make.specs.declared.maker.Maker.{Maker}
@@ -20,74 +21,78 @@ use Rattle.cdb_make.specs.declared.mode.Mode.{Mode}
 use Rattle.cdb_make.specs.declared.mode.Put.{Put}
 use Rattle.cdb_make.proofs.Makers.{held_size}
 use Rattle.cdb_tool.specs.Views.Fault.{make_fault}
-use Rattle.cdb_tool.specs.Runs.Course.{Incoming, Course, from_input, from_inputs, mode_of, said, ends, is_going, with_put, with_next, at_start, course_of, TellFails, Goes, StopsSo}
+use Rattle.cdb_tool.specs.Runs.Course.{Task, Incoming, Course, from_input, from_inputs, mode_of, said, ends, is_going, with_put, with_change, with_next, at_start, course_of, TellFails, Goes, StopsSo}
 use Rattle.cdb_tool.specs.Runs.Make.{InCourse, PutStops, IsOfStore}
 use Rattle.cdb_tool.specs.declared.fault.Fault.{Fault}
 use Rattle.cdb_tool.specs.declared.fault.Fault.TheVariants.{Text, Make, Duplicate, Missing, Read, Walk, Output, Long, Open, Rename, NoMemory}
 use Rattle.cdb_command.specs.declared.options.MakeOptions.{MakeOptions}
 
--- ---- the course over one record more, which was put
+-- ---- the course over one item more
 
-abbrev pub course_put : ℕ → MakeOptions → List Incoming → Incoming → Put → Course
-course_put w o cs c put =
-    let s = course_of w o cs in
-    record { records = put_list (mode_of o) c.it s.records; lines = s.lines ++ said o c.input c.number (Ok put); ended = ends o (Ok put) }
+course_next : (w : ℕ) (t : Task) (cs : List Incoming) (c : Incoming) → (course_of w t cs).ended ≡ None → course_of w t (cs ++ c ∷ []) ≡ with_change w t.options (course_of w t cs) c.input c.number c.it
+course_next w t cs c going =
+    let s = course_of w t cs in
+    fold-append (with_next w t.options) (at_start t) cs (c ∷ []) ∙ ap (λ e. if is_going e then with_change w t.options s c.input c.number c.it else s) going
 
-course_next : (w : ℕ) (o : MakeOptions) (cs : List Incoming) (c : Incoming) → (course_of w o cs).ended ≡ None → course_of w o (cs ++ c ∷ []) ≡ with_put w o (course_of w o cs) c
-course_next w o cs c going =
-    let s = course_of w o cs in
-    fold-append (with_next w o) at_start cs (c ∷ []) ∙ ap (λ e. if is_going e then with_put w o s c else s) going
+-- a record that comes
+abbrev pub putting : ℕ → ℕ → KeyValue → Incoming
+putting i n r = record { input = i; number = n; it = Putting r }
 
-put_fits : (w : ℕ) (o : MakeOptions) (s : Course) (c : Incoming) (put : Put) → fits w o.limit (mode_of o) c.it s.records ≡ true → put ≡ put_answer (mode_of o) c.it s.records
-    → with_put w o s c ≡ record { records = put_list (mode_of o) c.it s.records; lines = s.lines ++ said o c.input c.number (Ok put); ended = ends o (Ok put) }
-put_fits w o s c put fit answer =
-    let rs = put_list (mode_of o) c.it s.records in
-    let p = put_answer (mode_of o) c.it s.records in
-    ap (λ b. let a : Result Put MakeFault = (if b then Ok p else Err make.TooBig) in record { records = if b then rs else s.records; lines = s.lines ++ said o c.input c.number a; ended = ends o a }) fit
-    ∙ ap (λ q. record { records = rs; lines = s.lines ++ said o c.input c.number (Ok q); ended = ends o (Ok q) }) (sym answer)
+abbrev pub course_put : ℕ → Task → List Incoming → ℕ → ℕ → KeyValue → Put → Course
+course_put w t cs i n r put =
+    let s = course_of w t cs in
+    record { records = put_list (mode_of t.options) r s.records; lines = s.lines ++ said t.options i n (Ok put); ended = ends t.options (Ok put) }
 
-put_full : (w : ℕ) (o : MakeOptions) (s : Course) (c : Incoming) → fits w o.limit (mode_of o) c.it s.records ≡ false → with_put w o s c ≡ record { records = s.records; lines = s.lines ++ []; ended = Some (Make make.TooBig) }
-put_full w o s c full =
-    let rs = put_list (mode_of o) c.it s.records in
-    let p = put_answer (mode_of o) c.it s.records in
-    ap (λ b. let a : Result Put MakeFault = (if b then Ok p else Err make.TooBig) in record { records = if b then rs else s.records; lines = s.lines ++ said o c.input c.number a; ended = ends o a }) full
+put_fits : (w : ℕ) (o : MakeOptions) (s : Course) (i n : ℕ) (r : KeyValue) (put : Put) → fits w o.limit (mode_of o) r s.records ≡ true → put ≡ put_answer (mode_of o) r s.records
+    → with_put w o s i n r ≡ record { records = put_list (mode_of o) r s.records; lines = s.lines ++ said o i n (Ok put); ended = ends o (Ok put) }
+put_fits w o s i n r put fit answer =
+    let rs = put_list (mode_of o) r s.records in
+    let p = put_answer (mode_of o) r s.records in
+    ap (λ b. let a : Result Put MakeFault = (if b then Ok p else Err make.TooBig) in record { records = if b then rs else s.records; lines = s.lines ++ said o i n a; ended = ends o a }) fit
+    ∙ ap (λ q. record { records = rs; lines = s.lines ++ said o i n (Ok q); ended = ends o (Ok q) }) (sym answer)
+
+put_full : (w : ℕ) (o : MakeOptions) (s : Course) (i n : ℕ) (r : KeyValue) → fits w o.limit (mode_of o) r s.records ≡ false → with_put w o s i n r ≡ record { records = s.records; lines = s.lines ++ []; ended = Some (Make make.TooBig) }
+put_full w o s i n r full =
+    let rs = put_list (mode_of o) r s.records in
+    let p = put_answer (mode_of o) r s.records in
+    ap (λ b. let a : Result Put MakeFault = (if b then Ok p else Err make.TooBig) in record { records = if b then rs else s.records; lines = s.lines ++ said o i n a; ended = ends o a }) full
 
 -- ---- a put
 
-record IsPut {S L : Type 0} {s : Ghosts S} {l : Widths L} (o : MakeOptions) (cs : List Incoming) (c : Incoming) (start mid : Option (List ℕ)) (m : Maker S L s l) (put : Put) (b : List ℕ) : Type 0 where
-  goes : Goes l.WORD o cs start mid
-  is : course_of l.WORD o (cs ++ c ∷ []) ≡ course_put l.WORD o cs c put
-  held : HoldsIn m (put_list (mode_of o) c.it (course_of l.WORD o cs).records) b
+record IsPut {S L : Type 0} {s : Ghosts S} {l : Widths L} (t : Task) (cs : List Incoming) (i n : ℕ) (r : KeyValue) (start mid : Option (List ℕ)) (m : Maker S L s l) (put : Put) (b : List ℕ) : Type 0 where
+  goes : Goes l.WORD t cs start mid
+  is : course_of l.WORD t (cs ++ putting i n r ∷ []) ≡ course_put l.WORD t cs i n r put
+  held : HoldsIn m (put_list (mode_of t.options) r (course_of l.WORD t cs).records) b
 
-is_put : {S L : Type 0} {s : Ghosts S} {l : Widths L} (o : MakeOptions) (cs : List Incoming) (c : Incoming) (start mid : Option (List ℕ)) (old new : Maker S L s l) (put : Put) → InCourse o cs start mid old → Puts old new (mode_of o) c.it put
-    → ComesFrom (s.image old.store) (s.image new.store) → limit_of new ≡ limit_of old → (b : List ℕ) → s.image new.store b → IsPut o cs c start mid new put b
-is_put {l = l} o cs c start mid old new put h puts comes limit b is =
-    let rs = (course_of l.WORD o cs).records in
-    let all = put_list (mode_of o) c.it rs in
+is_put : {S L : Type 0} {s : Ghosts S} {l : Widths L} (t : Task) (cs : List Incoming) (i n : ℕ) (r : KeyValue) (start mid : Option (List ℕ)) (old new : Maker S L s l) (put : Put) → InCourse t cs start mid old → Puts old new (mode_of t.options) r put
+    → ComesFrom (s.image old.store) (s.image new.store) → limit_of new ≡ limit_of old → (b : List ℕ) → s.image new.store b → IsPut t cs i n r start mid new put b
+is_put {l = l} t cs i n r start mid old new put h puts comes limit b is =
+    let rs = (course_of l.WORD t cs).records in
+    let all = put_list (mode_of t.options) r rs in
     let a = comes.each b is in
     let goes = h.goes.each a.0 a.1 in
     let holds = puts.holds rs h.holds in
     let size : new.end + 4 * l.WORD * new.count ≡ file_size l.WORD all = (held_size new all _ refl holds).each b is in
-    let same : new.limit ≡ o.limit = limit ∙ h.limit in
-    let fit : fits l.WORD o.limit (mode_of o) c.it rs ≡ true = le-leb (file_size l.WORD all) o.limit (omega (arith, size, same, new.within)) in
+    let same : new.limit ≡ t.options.limit = limit ∙ h.limit in
+    let fit : fits l.WORD t.options.limit (mode_of t.options) r rs ≡ true = le-leb (file_size l.WORD all) t.options.limit (omega (arith, size, same, new.within)) in
     record {
       goes = goes;
-      is = course_next l.WORD o cs c goes.going ∙ put_fits l.WORD o (course_of l.WORD o cs) c put fit ((puts.answers rs h.holds).each b is);
+      is = course_next l.WORD t cs (putting i n r) goes.going ∙ put_fits l.WORD t.options (course_of l.WORD t cs) i n r put fit ((puts.answers rs h.holds).each b is);
       held = holds.each b is;
     }
 
 -- the run goes on
-pub put_goes : {S L : Type 0} {s : Ghosts S} {l : Widths L} (o : MakeOptions) (cs : List Incoming) (c : Incoming) (start mid end : Option (List ℕ)) (old new : Maker S L s l) (put : Put) → InCourse o cs start mid old → Puts old new (mode_of o) c.it put
-    → ComesFrom (s.image old.store) (s.image new.store) → limit_of new ≡ limit_of old → Appends mid end (said o c.input c.number (Ok put)) → ends o (Ok put) ≡ None → InCourse o (cs ++ c ∷ []) start end new
-put_goes {l = l} o cs c start mid end old new put h puts comes limit told going = record {
+put_goes : {S L : Type 0} {s : Ghosts S} {l : Widths L} (t : Task) (cs : List Incoming) (i n : ℕ) (r : KeyValue) (start mid end : Option (List ℕ)) (old new : Maker S L s l) (put : Put) → InCourse t cs start mid old → Puts old new (mode_of t.options) r put
+    → ComesFrom (s.image old.store) (s.image new.store) → limit_of new ≡ limit_of old → Appends mid end (said t.options i n (Ok put)) → ends t.options (Ok put) ≡ None → InCourse t (cs ++ putting i n r ∷ []) start end new
+put_goes {l = l} t cs i n r start mid end old new put h puts comes limit told going = record {
   holds = record {
     whole = puts.whole;
-    each = λ b is. let p = is_put o cs c start mid old new put h puts comes limit b is in subst (λ s. HoldsIn new s.records b) (sym p.is) p.held;
+    each = λ b is. let p = is_put t cs i n r start mid old new put h puts comes limit b is in subst (λ s. HoldsIn new s.records b) (sym p.is) p.held;
   };
   limit = limit ∙ h.limit;
   goes = record {
     each = λ b is.
-        let p = is_put o cs c start mid old new put h puts comes limit b is in
+        let p = is_put t cs i n r start mid old new put h puts comes limit b is in
         record {
           going = ap (λ s. s.ended) p.is ∙ going;
           lines = subst (λ s. Appends start end s.lines) (sym p.is) (appends_then start mid end _ _ p.goes.lines told);
@@ -96,31 +101,31 @@ put_goes {l = l} o cs c start mid end old new put h puts comes limit told going 
 }
 
 -- or stops where it was told
-told_so : {S L : Type 0} {s : Ghosts S} {l : Widths L} (o : MakeOptions) (cs : List Incoming) (c : Incoming) (start mid end : Option (List ℕ)) (m : Maker S L s l) (put : Put) (f : Fault) (b : List ℕ) → IsPut o cs c start mid m put b → TellFails o c.input c.number put mid end f
-    → StopsSo l.WORD o (cs ++ c ∷ []) start end f
-told_so o cs c start mid end m put (Text n f) b p x = absurd x
-told_so o cs c start mid end m put (Make f) b p x = absurd x
-told_so o cs c start mid end m put (Walk f) b p x = absurd x
-told_so o cs c start mid end m put Missing b p x = absurd x
-told_so o cs c start mid end m put (Read f) b p x = absurd x
-told_so o cs c start mid end m put Long b p x = absurd x
-told_so o cs c start mid end m put Open b p x = absurd x
-told_so o cs c start mid end m put Rename b p x = absurd x
-told_so o cs c start mid end m put NoMemory b p x = absurd x
-told_so {l = l} o cs c start mid end m put Output b p x =
-    subst (λ s. AppendsFront start end s.lines) (sym p.is) (front_then start mid end (course_of l.WORD o cs).lines (said o c.input c.number (Ok put)) [] _ p.goes.lines x (ap (λ t. (course_of l.WORD o cs).lines ++ t) (sym (append-nil _))))
-told_so o cs c start mid end m put Duplicate b p x = record {
+told_so : {S L : Type 0} {s : Ghosts S} {l : Widths L} (t : Task) (cs : List Incoming) (i n : ℕ) (r : KeyValue) (start mid end : Option (List ℕ)) (m : Maker S L s l) (put : Put) (f : Fault) (b : List ℕ) → IsPut t cs i n r start mid m put b → TellFails t.options i n put mid end f
+    → StopsSo l.WORD t (cs ++ putting i n r ∷ []) start end f
+told_so t cs i n r start mid end m put (Text j f) b p x = absurd x
+told_so t cs i n r start mid end m put (Make f) b p x = absurd x
+told_so t cs i n r start mid end m put (Walk f) b p x = absurd x
+told_so t cs i n r start mid end m put Missing b p x = absurd x
+told_so t cs i n r start mid end m put (Read f) b p x = absurd x
+told_so t cs i n r start mid end m put Long b p x = absurd x
+told_so t cs i n r start mid end m put Open b p x = absurd x
+told_so t cs i n r start mid end m put Rename b p x = absurd x
+told_so t cs i n r start mid end m put NoMemory b p x = absurd x
+told_so {l = l} t cs i n r start mid end m put Output b p x =
+    subst (λ s. AppendsFront start end s.lines) (sym p.is) (front_then start mid end (course_of l.WORD t cs).lines (said t.options i n (Ok put)) [] _ p.goes.lines x (ap (λ u. (course_of l.WORD t cs).lines ++ u) (sym (append-nil _))))
+told_so t cs i n r start mid end m put Duplicate b p x = record {
   before = cs;
-  last = c;
+  last = putting i n r;
   are = refl;
   going = p.goes.going;
   ended = ap (λ s. s.ended) p.is ∙ x.1;
   lines = subst (λ s. Appends start end s.lines) (sym p.is) (appends_then start mid end _ _ p.goes.lines x.0);
 }
 
-pub put_told : {S L : Type 0} {s : Ghosts S} {l : Widths L} (o : MakeOptions) (cs : List Incoming) (c : Incoming) (start mid end : Option (List ℕ)) (old new : Maker S L s l) (put : Put) (f : Fault) → InCourse o cs start mid old → Puts old new (mode_of o) c.it put
-    → ComesFrom (s.image old.store) (s.image new.store) → limit_of new ≡ limit_of old → TellFails o c.input c.number put mid end f → WhereHonest (s.image new.store) (PutStops l.WORD o cs c start end f)
-put_told o cs c start mid end old new put f h puts comes limit x = record { each = λ b is. inr (told_so o cs c start mid end new put f b (is_put o cs c start mid old new put h puts comes limit b is) x) }
+put_told : {S L : Type 0} {s : Ghosts S} {l : Widths L} (t : Task) (cs : List Incoming) (i n : ℕ) (r : KeyValue) (start mid end : Option (List ℕ)) (old new : Maker S L s l) (put : Put) (f : Fault) → InCourse t cs start mid old → Puts old new (mode_of t.options) r put
+    → ComesFrom (s.image old.store) (s.image new.store) → limit_of new ≡ limit_of old → TellFails t.options i n put mid end f → WhereHonest (s.image new.store) (PutStops l.WORD t cs (putting i n r) start end f)
+put_told t cs i n r start mid end old new put f h puts comes limit x = record { each = λ b is. inr (told_so t cs i n r start mid end new put f b (is_put t cs i n r start mid old new put h puts comes limit b is) x) }
 
 -- what a teller answers is no fault of the store
 pub told_store : (o : MakeOptions) (i j : ℕ) (put : Put) (old new : Option (List ℕ)) (f : Fault) → TellFails o i j put old new f → IsOfStore f → ⊥
@@ -138,42 +143,110 @@ told_store o i j put old new Duplicate x is = absurd is
 
 -- ---- a put that was refused
 
-full_so : {S L : Type 0} {s : Ghosts S} {l : Widths L} (o : MakeOptions) (cs : List Incoming) (c : Incoming) (start mid : Option (List ℕ)) (old : Maker S L s l) → Goes l.WORD o cs start mid → limit_of old ≡ o.limit
-    → limit_of old < file_size l.WORD (put_list (mode_of o) c.it (course_of l.WORD o cs).records) → StopsSo l.WORD o (cs ++ c ∷ []) start mid (Make make.TooBig)
-full_so {l = l} o cs c start mid old goes limit large =
-    let s = course_of l.WORD o cs in
-    let full : fits l.WORD o.limit (mode_of o) c.it s.records ≡ false = lt-leb (file_size l.WORD (put_list (mode_of o) c.it s.records)) o.limit (omega (arith, large, limit)) in
-    let is = course_next l.WORD o cs c goes.going ∙ put_full l.WORD o s c full in
+full_so : {S L : Type 0} {s : Ghosts S} {l : Widths L} (t : Task) (cs : List Incoming) (i n : ℕ) (r : KeyValue) (start mid : Option (List ℕ)) (old : Maker S L s l) → Goes l.WORD t cs start mid → limit_of old ≡ t.options.limit
+    → limit_of old < file_size l.WORD (put_list (mode_of t.options) r (course_of l.WORD t cs).records) → StopsSo l.WORD t (cs ++ putting i n r ∷ []) start mid (Make make.TooBig)
+full_so {l = l} t cs i n r start mid old goes limit large =
+    let s = course_of l.WORD t cs in
+    let o = t.options in
+    let full : fits l.WORD o.limit (mode_of o) r s.records ≡ false = lt-leb (file_size l.WORD (put_list (mode_of o) r s.records)) o.limit (omega (arith, large, limit)) in
+    let is = course_next l.WORD t cs (putting i n r) goes.going ∙ put_full l.WORD o s i n r full in
     record {
       before = cs;
-      last = c;
+      last = putting i n r;
       are = refl;
       going = goes.going;
       ended = ap (λ v. v.ended) is;
       lines = subst (λ v. Appends start mid v.lines) (sym is) (subst (Appends start mid) (sym (append-nil s.lines)) goes.lines);
     }
 
-refused_so : {S L : Type 0} {s : Ghosts S} {l : Widths L} (o : MakeOptions) (cs : List Incoming) (c : Incoming) (start mid : Option (List ℕ)) (old new : Maker S L s l) (f : MakeFault) → InCourse o cs start mid old → FailsPutting old new (mode_of o) c.it f
-    → ComesFrom (s.image old.store) (s.image new.store) → (b : List ℕ) → s.image new.store b → PutStops l.WORD o cs c start mid (make_fault f)
-refused_so {l = l} o cs c start mid old new make.Broken h x comes b is = absurd (x.cause (course_of l.WORD o cs).records h.holds b is)
-refused_so o cs c start mid old new make.Lookup h x comes b is = let a = comes.each b is in inl (h.goes.each a.0 a.1)
-refused_so {l = l} o cs c start mid old new make.TooBig h x comes b is =
+refused_so : {S L : Type 0} {s : Ghosts S} {l : Widths L} (t : Task) (cs : List Incoming) (i n : ℕ) (r : KeyValue) (start mid : Option (List ℕ)) (old new : Maker S L s l) (f : MakeFault) → InCourse t cs start mid old → FailsPutting old new (mode_of t.options) r f
+    → ComesFrom (s.image old.store) (s.image new.store) → (b : List ℕ) → s.image new.store b → PutStops l.WORD t cs (putting i n r) start mid (make_fault f)
+refused_so {l = l} t cs i n r start mid old new make.Broken h x comes b is = absurd (x.cause (course_of l.WORD t cs).records h.holds b is)
+refused_so t cs i n r start mid old new make.Lookup h x comes b is = let a = comes.each b is in inl (h.goes.each a.0 a.1)
+refused_so {l = l} t cs i n r start mid old new make.TooBig h x comes b is =
     let a = comes.each b is in
-    inr (full_so o cs c start mid old (h.goes.each a.0 a.1) h.limit ((x.1 (course_of l.WORD o cs).records h.holds).each b is))
-refused_so o cs c start mid old new make.NoMemory h x comes b is = let a = comes.each b is in inl (h.goes.each a.0 a.1)
-refused_so o cs c start mid old new make.Writing h x comes b is = let a = comes.each b is in inl (h.goes.each a.0 a.1)
+    inr (full_so t cs i n r start mid old (h.goes.each a.0 a.1) h.limit ((x.1 (course_of l.WORD t cs).records h.holds).each b is))
+refused_so t cs i n r start mid old new make.NoMemory h x comes b is = let a = comes.each b is in inl (h.goes.each a.0 a.1)
+refused_so t cs i n r start mid old new make.Writing h x comes b is = let a = comes.each b is in inl (h.goes.each a.0 a.1)
 
-pub put_refused : {S L : Type 0} {s : Ghosts S} {l : Widths L} (o : MakeOptions) (cs : List Incoming) (c : Incoming) (start mid : Option (List ℕ)) (old new : Maker S L s l) (f : MakeFault) → InCourse o cs start mid old → FailsPutting old new (mode_of o) c.it f
-    → ComesFrom (s.image old.store) (s.image new.store) → WhereHonest (s.image new.store) (PutStops l.WORD o cs c start mid (make_fault f))
-put_refused o cs c start mid old new f h x comes = record { each = λ b is. refused_so o cs c start mid old new f h x comes b is }
+put_refused : {S L : Type 0} {s : Ghosts S} {l : Widths L} (t : Task) (cs : List Incoming) (i n : ℕ) (r : KeyValue) (start mid : Option (List ℕ)) (old new : Maker S L s l) (f : MakeFault) → InCourse t cs start mid old → FailsPutting old new (mode_of t.options) r f
+    → ComesFrom (s.image old.store) (s.image new.store) → WhereHonest (s.image new.store) (PutStops l.WORD t cs (putting i n r) start mid (make_fault f))
+put_refused t cs i n r start mid old new f h x comes = record { each = λ b is. refused_so t cs i n r start mid old new f h x comes b is }
 
 -- a fault of the store comes where it failed
-pub refused_store : {S L : Type 0} {s : Ghosts S} {l : Widths L} (old new : Maker S L s l) (o : MakeOptions) (r : KeyValue) (f : MakeFault) → FailsPutting old new (mode_of o) r f → IsOfStore (make_fault f) → s.failures old.store < s.failures new.store
-refused_store old new o r make.Broken x is = absurd is
-refused_store old new o r make.Lookup x is = x.1
-refused_store old new o r make.TooBig x is = absurd is
-refused_store old new o r make.NoMemory x is = absurd is
-refused_store old new o r make.Writing x is = elim x.0 [ inl stays ↦ stays.1 | inr torn ↦ torn.0.failed ]
+pub refused_store : {S L : Type 0} {s : Ghosts S} {l : Widths L} (old new : Maker S L s l) (mode : Mode) (r : KeyValue) (f : MakeFault) → FailsPutting old new mode r f → IsOfStore (make_fault f) → s.failures old.store < s.failures new.store
+refused_store old new mode r make.Broken x is = absurd is
+refused_store old new mode r make.Lookup x is = x.1
+refused_store old new mode r make.TooBig x is = absurd is
+refused_store old new mode r make.NoMemory x is = absurd is
+refused_store old new mode r make.Writing x is = elim x.0 [ inl stays ↦ stays.1 | inr torn ↦ torn.0.failed ]
+
+-- ---- the same of a run that has these options
+
+pub put_goes_so : {S L : Type 0} {s : Ghosts S} {l : Widths L} (t : Task) (o : MakeOptions) (cs : List Incoming) (i n : ℕ) (r : KeyValue) (start mid end : Option (List ℕ)) (old new : Maker S L s l) (put : Put) → t.options ≡ o → InCourse t cs start mid old → Puts old new (mode_of o) r put
+    → ComesFrom (s.image old.store) (s.image new.store) → limit_of new ≡ limit_of old → Appends mid end (said o i n (Ok put)) → ends o (Ok put) ≡ None → InCourse t (cs ++ putting i n r ∷ []) start end new
+put_goes_so t o cs i n r start mid end old new put same h puts comes limit told going =
+    put_goes t cs i n r start mid end old new put h (subst (λ v. Puts old new (mode_of v) r put) (sym same) puts) comes limit
+    (subst (λ v. Appends mid end (said v i n (Ok put))) (sym same) told) (subst (λ v. ends v (Ok put) ≡ None) (sym same) going)
+
+pub put_told_so : {S L : Type 0} {s : Ghosts S} {l : Widths L} (t : Task) (o : MakeOptions) (cs : List Incoming) (i n : ℕ) (r : KeyValue) (start mid end : Option (List ℕ)) (old new : Maker S L s l) (put : Put) (f : Fault) → t.options ≡ o → InCourse t cs start mid old → Puts old new (mode_of o) r put
+    → ComesFrom (s.image old.store) (s.image new.store) → limit_of new ≡ limit_of old → TellFails o i n put mid end f → WhereHonest (s.image new.store) (PutStops l.WORD t cs (putting i n r) start end f)
+put_told_so t o cs i n r start mid end old new put f same h puts comes limit x =
+    put_told t cs i n r start mid end old new put f h (subst (λ v. Puts old new (mode_of v) r put) (sym same) puts) comes limit (subst (λ v. TellFails v i n put mid end f) (sym same) x)
+
+pub put_refused_so : {S L : Type 0} {s : Ghosts S} {l : Widths L} (t : Task) (o : MakeOptions) (cs : List Incoming) (i n : ℕ) (r : KeyValue) (start mid : Option (List ℕ)) (old new : Maker S L s l) (f : MakeFault) → t.options ≡ o → InCourse t cs start mid old → FailsPutting old new (mode_of o) r f
+    → ComesFrom (s.image old.store) (s.image new.store) → WhereHonest (s.image new.store) (PutStops l.WORD t cs (putting i n r) start mid (make_fault f))
+put_refused_so t o cs i n r start mid old new f same h x comes = put_refused t cs i n r start mid old new f h (subst (λ v. FailsPutting old new (mode_of v) r f) (sym same) x) comes
+
+-- ---- a removal
+
+-- a key that comes, whose records go
+abbrev pub removing : ℕ → ℕ → List ℕ → Incoming
+removing i n key = record { input = i; number = n; it = Removing key }
+
+pub removed_goes : {S L : Type 0} {s : Ghosts S} {l : Widths L} (t : Task) (cs : List Incoming) (i n : ℕ) (key : List ℕ) (count : ℕ) (start now : Option (List ℕ)) (old new : Maker S L s l) → InCourse t cs start now old → Removes old new key count
+    → ComesFrom (s.image old.store) (s.image new.store) → limit_of new ≡ limit_of old → InCourse t (cs ++ removing i n key ∷ []) start now new
+removed_goes {l = l} t cs i n key count start now old new h removes comes limit =
+    let rs = (course_of l.WORD t cs).records in
+    let held = removes.holds rs h.holds in
+    record {
+      holds = record {
+        whole = removes.whole;
+        each = λ b is.
+            let a = comes.each b is in
+            subst (λ s. HoldsIn new s.records b) (sym (course_next l.WORD t cs (removing i n key) (h.goes.each a.0 a.1).going)) (held.each b is);
+      };
+      limit = limit ∙ h.limit;
+      goes = record {
+        each = λ b is.
+            let a = comes.each b is in
+            let goes = h.goes.each a.0 a.1 in
+            let next = course_next l.WORD t cs (removing i n key) goes.going in
+            record {
+              going = ap (λ s. s.ended) next ∙ goes.going;
+              lines = subst (λ s. Appends start now s.lines) (sym next) goes.lines;
+            };
+      };
+    }
+
+unremoved_so : {S L : Type 0} {s : Ghosts S} {l : Widths L} (t : Task) (cs : List Incoming) (key : List ℕ) (start now : Option (List ℕ)) (old new : Maker S L s l) (f : MakeFault) → InCourse t cs start now old → FailsRemoving old new key f
+    → ComesFrom (s.image old.store) (s.image new.store) → (b : List ℕ) → s.image new.store b → StopsSo l.WORD t cs start now (make_fault f)
+unremoved_so {l = l} t cs key start now old new make.Broken h x comes b is = absurd (x.cause (course_of l.WORD t cs).records h.holds b is)
+unremoved_so t cs key start now old new make.Lookup h x comes b is = let a = comes.each b is in h.goes.each a.0 a.1
+unremoved_so t cs key start now old new make.Writing h x comes b is = let a = comes.each b is in h.goes.each a.0 a.1
+unremoved_so t cs key start now old new make.TooBig h x comes b is = absurd x
+unremoved_so t cs key start now old new make.NoMemory h x comes b is = absurd x
+
+pub unremoved : {S L : Type 0} {s : Ghosts S} {l : Widths L} (t : Task) (cs : List Incoming) (key : List ℕ) (start now : Option (List ℕ)) (old new : Maker S L s l) (f : MakeFault) → InCourse t cs start now old → FailsRemoving old new key f
+    → ComesFrom (s.image old.store) (s.image new.store) → WhereHonest (s.image new.store) (StopsSo l.WORD t cs start now (make_fault f))
+unremoved t cs key start now old new f h x comes = record { each = λ b is. unremoved_so t cs key start now old new f h x comes b is }
+
+pub unremoved_store : {S L : Type 0} {s : Ghosts S} {l : Widths L} (old new : Maker S L s l) (key : List ℕ) (f : MakeFault) → FailsRemoving old new key f → IsOfStore (make_fault f) → s.failures old.store < s.failures new.store
+unremoved_store old new key make.Broken x is = absurd is
+unremoved_store old new key make.Lookup x is = x.1
+unremoved_store old new key make.Writing x is = x.failed
+unremoved_store old new key make.TooBig x is = absurd is
+unremoved_store old new key make.NoMemory x is = absurd is
 
 -- ---- the start
 
@@ -181,16 +254,16 @@ pub appends_none : (o : Option (List ℕ)) → Appends o o []
 appends_none None = tt
 appends_none (Some xs) = sym (append-nil xs)
 
-pub course_starts : {S L : Type 0} {s : Ghosts S} {l : Widths L} (o : MakeOptions) (start : Option (List ℕ)) (m : Maker S L s l) → Holds m [] → limit_of m ≡ o.limit → InCourse o [] start start m
-course_starts o start m h limit = record { holds = h; limit = limit; goes = record { each = λ b is. record { going = refl; lines = appends_none start } } }
+pub course_starts : {S L : Type 0} {s : Ghosts S} {l : Widths L} (t : Task) (start : Option (List ℕ)) (m : Maker S L s l) → Holds m (at_start t).records → limit_of m ≡ t.options.limit → InCourse t [] start start m
+course_starts t start m h limit = record { holds = h; limit = limit; goes = record { each = λ b is. record { going = refl; lines = appends_none start } } }
 
--- ---- the records of inputs, one more
+-- ---- the items of inputs, one more
 
-input_more : (i j n : ℕ) (rs : List KeyValue) (r : KeyValue) → n ≡ j + length rs → from_input i j (rs ++ r ∷ []) ≡ from_input i j rs ++ record { input = i; number = n; it = r } ∷ []
+input_more : (i j n : ℕ) (rs : List Change) (r : Change) → n ≡ j + length rs → from_input i j (rs ++ r ∷ []) ≡ from_input i j rs ++ record { input = i; number = n; it = r } ∷ []
 input_more i j n [] r e = let same : j ≡ n = omega (arith, e) in ap (λ (k : ℕ). record { input = i; number = k; it = r } ∷ []) same
 input_more i j n (q ∷ rs) r e = ap (λ t. record { input = i; number = j; it = q } ∷ t) (input_more i (j + 1) n rs r (omega (arith, e)))
 
-inputs_more : (i k n : ℕ) (read : List (List KeyValue)) (last : List KeyValue) (r : KeyValue) → k ≡ i + length read → n ≡ length last + 1
+inputs_more : (i k n : ℕ) (read : List (List Change)) (last : List Change) (r : Change) → k ≡ i + length read → n ≡ length last + 1
     → from_inputs i (read ++ (last ++ r ∷ []) ∷ []) ≡ from_inputs i (read ++ last ∷ []) ++ record { input = k; number = n; it = r } ∷ []
 inputs_more i k n [] last r e f =
     let same : k ≡ i = omega (arith, e) in
@@ -201,15 +274,15 @@ inputs_more i k n [] last r e f =
 inputs_more i k n (q ∷ read) last r e f =
     ap (λ t. from_input i 1 q ++ t) (inputs_more (i + 1) k n read last r (omega (arith, e)) f) ∙ sym (append_assoc (from_input i 1 q) _ _)
 
-pub came_more : (input number : ℕ) (read : List (List KeyValue)) (last : List KeyValue) (r : KeyValue) → input ≡ length read + 1 → number ≡ length last + 1
+pub came_more : (input number : ℕ) (read : List (List Change)) (last : List Change) (r : Change) → input ≡ length read + 1 → number ≡ length last + 1
     → from_inputs 1 (read ++ (last ++ r ∷ []) ∷ []) ≡ from_inputs 1 (read ++ last ∷ []) ++ record { input = input; number = number; it = r } ∷ []
 came_more input number read last r e f = inputs_more 1 input number read last r (omega (arith, e)) f
 
-inputs_none : (i : ℕ) (read : List (List KeyValue)) → from_inputs i (read ++ [] ∷ []) ≡ from_inputs i read
+inputs_none : (i : ℕ) (read : List (List Change)) → from_inputs i (read ++ [] ∷ []) ≡ from_inputs i read
 inputs_none i [] = refl
 inputs_none i (q ∷ read) = ap (λ t. from_input i 1 q ++ t) (inputs_none (i + 1) read)
 
-pub came_none : (read : List (List KeyValue)) → from_inputs 1 (read ++ [] ∷ []) ≡ from_inputs 1 read
+pub came_none : (read : List (List Change)) → from_inputs 1 (read ++ [] ∷ []) ≡ from_inputs 1 read
 came_none read = inputs_none 1 read
 
 -- ---- what a put was told

@@ -5,7 +5,7 @@ use Rattle.std.specs.Prelude.{codes}
 use Rattle.std.specs.Io.KnownBytes.{Consumes}
 use Rattle.cdb_form.specs.Format.Record.{KeyValue}
 use Rattle.cdb_form.specs.Text.Map.{map_lines, with_newlines, IsLineOf}
-use Rattle.cdb_form.specs.Text.Native.{Spelled, Reads}
+use Rattle.cdb_form.specs.Text.Native.{Spells, Spelled, Reads}
 use Rattle.cdb_form.specs.Views.KnownBytes.{FromTo}
 use Rattle.cdb_form.specs.Views.MapParser.{EndsLine}
 use Rattle.cdb_form.specs.Views.MapReader as maps
@@ -142,7 +142,7 @@ native_fault g remaining (Some x) t u rs f a b m other = record {
         part = take to x;
         more = drop to x;
         split = sym (take-append-drop to x);
-        amid = subst (λ (n : ℕ). HasFaultBehind g (take to x) rs (Ended n)) (sym short) p.1;
+        amid = subst (λ (n : ℕ). HasFaultBehind Spells g (take to x) rs (Ended n)) (sym short) p.1;
         asked = λ endless. omega (arith, short, m.spent endless, m.spends, b);
       };
 }

@@ -5,6 +5,8 @@ pub mod Checks
 pub mod NativeInputs
 pub mod WholeRuns
 pub mod InputTexts
+pub mod ItemTexts
+pub mod BaseRecords
 pub mod Courses
 pub mod InputRuns
 pub mod RunEnds

@@ -8,7 +8,7 @@ use Rattle.cdb_form.specs.declared.text.fault.TextFault.TheVariants.{Ended}
 use Rattle.cdb_form.specs.Views.TextReader.{StopsAmid}
 use Rattle.cdb_form.specs.Views.TextFault.{IsOfText, IsReadFault}
 use Rattle.cdb_form.specs.Views.KnownBytes.{Took}
-use Rattle.cdb_form.specs.Text.Native.{Spelled, HasFault, HasNoRecord}
+use Rattle.cdb_form.specs.Text.Native.{Spells, Spelled, HasFault, HasNoRecord}
 use Rattle.cdb_form.proofs.WholeText.{SoFar, so_far_fault, fault_behind}
 use Rattle.cdb_tool.specs.Runs.Inputs.{HasFaultBehind}
 
@@ -17,7 +17,7 @@ some_weaker None f p = tt
 some_weaker (Some a) f p = f a p
 
 pub fault_of_text : (g : ℕ) (o m : Option (List ℕ)) (taken : ℕ) (rs : List KeyValue) (f : TextFault) → SoFar g o m taken rs
-    → IfSome m (λ mid. HasFault g taken mid f) → IfSome m (λ mid. IsOfText f → HasNoRecord g mid) → IfSome o (λ t. IsOfText f → HasFaultBehind g t rs f)
+    → IfSome m (λ mid. HasFault g taken mid f) → IfSome m (λ mid. IsOfText f → HasNoRecord g mid) → IfSome o (λ t. IsOfText f → HasFaultBehind Spells g t rs f)
 fault_of_text g None m taken rs f a b n = tt
 fault_of_text g (Some t) None taken rs f a b n = absurd a
 fault_of_text g (Some t) (Some m) taken rs f a b n = λ of_text.
@@ -47,7 +47,7 @@ pub front_of : (g : ℕ) (rs : List KeyValue) (t mid : List ℕ) → Spelled g r
 front_of g rs t mid sp = let s = spelling g rs t mid sp in (s.front, s.split)
 
 part_fails : (g from to k : ℕ) (t mid : List ℕ) (rs : List KeyValue) → Spelled g rs t mid → from + length mid ≡ length t → to ≡ from + k → k ≤ length mid
-    → HasFault g from (take (to - from) mid) (Ended to) → HasNoRecord g (take (to - from) mid) → HasFaultBehind g (take to t) rs (Ended to)
+    → HasFault g from (take (to - from) mid) (Ended to) → HasNoRecord g (take (to - from) mid) → HasFaultBehind Spells g (take to t) rs (Ended to)
 part_fails g from to k t mid rs sp long e few has none =
     let s = spelling g rs t mid sp in
     let place : from ≡ length s.front = omega (arith, long, ap length s.split, length-append s.front mid) in
@@ -67,7 +67,7 @@ part_fails g from to k t mid rs sp long e few has none =
 
 -- the part is no longer than the text, and has its fault at its end
 pub fault_of_part : (g : ℕ) (o m n : Option (List ℕ)) (from to : ℕ) (rs : List KeyValue) (f : TextFault) → SoFar g o m from rs → Took m n from to
-    → IfSome m (λ mid. IsReadFault f → StopsAmid g from to mid) → IfSome o (λ t. IsReadFault f → (to ≤ length t) × HasFaultBehind g (take to t) rs (Ended to))
+    → IfSome m (λ mid. IsReadFault f → StopsAmid g from to mid) → IfSome o (λ t. IsReadFault f → (to ≤ length t) × HasFaultBehind Spells g (take to t) rs (Ended to))
 fault_of_part g None m n from to rs f a took b = tt
 fault_of_part g (Some t) None n from to rs f a took b = absurd a
 fault_of_part g (Some t) (Some m) None from to rs f a took b = absurd took.read

@@ -1,108 +1,193 @@
 -- How a run ends: without a record, with a fault of its inputs or its store, or with its file; and
 -- then the flush.
-use Rattle.std.proofs.Common.{◌≡◌, true, false, ℕ, inl, inr, List, [], ◌∷◌, refl, sym, subst, ◌∙◌, Option, Some, None, IfSome, Result, Ok, Err}
+use Rattle.std.proofs.Common.{◌≡◌, ◌+◌, ◌*◌, ◌≤◌, Bool, true, false, ℕ, inl, inr, List, [], ◌∷◌, refl, sym, ap, subst, ◌∙◌, Option, Some, None, IfSome, is_some, Result, Ok, Err, arith}
 use Rattle.std.specs.Prelude.{IsOk}
 use Rattle.std.specs.Io.KnownBytes.{Keeps}
 use Rattle.cdb_store.specs.declared.store.Store.{Ghosts}
 use Rattle.cdb_form.specs.declared.width.Width.{Ghosts as Widths}
 use Rattle.cdb_form.specs.Format.Record.{KeyValue}
+use Rattle.cdb_form.specs.Format.File.{file_size}
+use Rattle.cdb_form.specs.Format.Walk.{Walked, walk_of}
+use Rattle.cdb_form.specs.Text.Amending.{Change}
 use Rattle.cdb_form.specs.Text.Map.{map_lines}
 use Rattle.cdb_form.specs.Views.KnownBytes.{AppendsFront}
 use Rattle.cdb_form.proofs.WritingLemmas.{appends_kept}
-use Rattle.cdb_make.specs.Views.Maker.{Holds, WhereHonest, ComesFrom, IsFile, FailsFinishing}
+use Rattle.cdb_make.specs.Views.Maker.{Holds, WhereHonest, ComesFrom, IsFile, FailsFinishing, limit_of}
 use Rattle.cdb_make.specs.Views.Making.{MakingFault}
 use Rattle.cdb_make.specs.declared.fault.MakeFault.{MakeFault}
 use Rattle.cdb_make.specs.declared.fault.MakeFault.TheVariants as make
 use Rattle.cdb_make.specs.declared.maker.Maker.{Maker}
+use Rattle.cdb_make.proofs.Makers.{held_size}
 use Rattle.cdb_tool.specs.Views.Fault.{make_fault}
 use Rattle.cdb_tool.specs.Runs.Flushed.{Flushed}
-use Rattle.cdb_tool.specs.Runs.Course.{Incoming, from_inputs, course_of, Goes, EndsSo, StopsSo}
-use Rattle.cdb_tool.specs.Runs.Inputs.{BeginsWith, AreInputs, FirstBegins}
-use Rattle.cdb_tool.specs.Runs.Make.{InCourse, Stops, RunFails, Runs, came}
+use Rattle.cdb_tool.specs.Runs.Course.{Task, task_of, Incoming, from_inputs, course_of, Goes, EndsSo, StopsSo}
+use Rattle.cdb_tool.specs.Runs.Inputs.{InputForm, BeginsWithItems, AreInputs, FirstBegins}
+use Rattle.cdb_tool.specs.Runs.Inputs as form
+use Rattle.cdb_tool.specs.Runs.Make.{InCourse, Stops, InputsFail, RunFails, BaseStops, InputsStop, Makes, MakesDatabase, Runs, came, form_of, records_of, OfBase, HoldsBase, BaseStopped, HandsBack, IsBase, IsSomeBase, BaseFails}
 use Rattle.cdb_tool.specs.declared.fault.Fault.{Fault}
 use Rattle.cdb_tool.specs.declared.fault.Fault.TheVariants.{Text, Make, Duplicate, Missing, Read, Walk, Output, Long, Open, Rename, NoMemory}
 use Rattle.cdb_command.specs.declared.options.MakeOptions.{MakeOptions}
 use Rattle.cdb_command.specs.declared.style.Style.{Style}
 use Rattle.cdb_command.specs.declared.style.Style.TheVariants as style
 use Rattle.cdb_tool.proofs.WholeRuns.{front_kept, whole_front, not_ok}
-use Rattle.cdb_tool.proofs.Courses.{came_none, appends_none}
+use Rattle.cdb_tool.proofs.Courses.{came_none, appends_none, course_starts}
 
 -- ---- no maker was made
 
-begins_none : (st : Style) (g : ℕ) (input : Option (List ℕ)) → IfSome input (BeginsWith st g [])
+begins_none : (st : InputForm) (g : ℕ) (input : Option (List ℕ)) → IfSome input (BeginsWithItems st g [])
 begins_none st g None = tt
-begins_none style.Native g (Some text) = (text, refl)
-begins_none style.Map g (Some text) = (map_lines text, refl)
+begins_none (form.Puts style.Native) g (Some text) = ([], refl, (text, refl))
+begins_none (form.Puts style.Map) g (Some text) = ([], refl, (map_lines text, refl))
+begins_none form.Changes g (Some text) = (text, refl)
 
-first_none : (st : Style) (g : ℕ) (inputs : List (Option (List ℕ))) → FirstBegins st g [] inputs
+first_none : (st : InputForm) (g : ℕ) (inputs : List (Option (List ℕ))) → FirstBegins st g [] inputs
 first_none st g [] = refl
 first_none st g (input ∷ inputs) = begins_none st g input
 
 -- nothing was read
-stops_none : (w g : ℕ) (o : MakeOptions) (inputs : List (Option (List ℕ))) (start : Option (List ℕ)) (f : Fault) → StopsSo w o [] start start f → Stops w g o inputs start start f
-stops_none w g o inputs start f h = record { read = []; last = []; rest = inputs; are = refl; begins = first_none o.style g inputs; stops = h }
+stops_none : (w g : ℕ) (t : Task) (inputs : List (Option (List ℕ))) (start : Option (List ℕ)) (f : Fault) → StopsSo w t [] start start f → Stops w g t inputs start start f
+stops_none w g t inputs start f h = record { read = []; last = []; rest = inputs; are = refl; begins = first_none (form_of t) g inputs; stops = h }
 
-goes_none : (w : ℕ) (o : MakeOptions) (start : Option (List ℕ)) → Goes w o [] start start
-goes_none w o start = record { going = refl; lines = appends_none start }
+goes_none : (w : ℕ) (t : Task) (start : Option (List ℕ)) → Goes w t [] start start
+goes_none w t start = record { going = refl; lines = appends_none start }
 
-not_made : {S : Type 0} (image : S → List ℕ → Type 0) (size written failures : S → ℕ) (w g : ℕ) (o : MakeOptions) (inputs : List (Option (List ℕ))) (start : Option (List ℕ)) (old new : S) (f : MakeFault) → MakingFault image size written failures old new f
-    → RunFails w g o inputs start start (make_fault f)
-not_made image size written failures w g o inputs start old new make.NoMemory h = stops_none w g o inputs start NoMemory (goes_none w o start)
-not_made image size written failures w g o inputs start old new make.Writing h = stops_none w g o inputs start (Make make.Writing) (goes_none w o start)
-not_made image size written failures w g o inputs start old new make.Broken h = absurd h
-not_made image size written failures w g o inputs start old new make.Lookup h = absurd h
-not_made image size written failures w g o inputs start old new make.TooBig h = absurd h
+not_made : {S : Type 0} (image : S → List ℕ → Type 0) (size written failures : S → ℕ) (w g : ℕ) (o : MakeOptions) (x : Option (List ℕ)) (inputs : List (Option (List ℕ))) (start : Option (List ℕ)) (old new : S) (f : MakeFault) → MakingFault image size written failures old new f
+    → RunFails w g o x inputs start start (make_fault f)
+not_made image size written failures w g o None inputs start old new make.NoMemory h = inr (record { based = tt; fails = stops_none w g (task_of o None) inputs start NoMemory (goes_none w (task_of o None) start) })
+not_made image size written failures w g o None inputs start old new make.Writing h = inr (record { based = tt; fails = stops_none w g (task_of o None) inputs start (Make make.Writing) (goes_none w (task_of o None) start) })
+not_made image size written failures w g o (Some b) inputs start old new make.NoMemory h = inl (record { fails = tt; lines = appends_none start })
+not_made image size written failures w g o (Some b) inputs start old new make.Writing h = inl (record { fails = tt; lines = appends_none start })
+not_made image size written failures w g o x inputs start old new make.Broken h = absurd h
+not_made image size written failures w g o x inputs start old new make.Lookup h = absurd h
+not_made image size written failures w g o x inputs start old new make.TooBig h = absurd h
 
-pub runs_not : {S : Type 0} (image : S → List ℕ → Type 0) (size written failures : S → ℕ) (w g : ℕ) (o : MakeOptions) (inputs : List (Option (List ℕ))) (start : Option (List ℕ)) (old new : S) (images : List ℕ → Type 0) (f : MakeFault)
-    → MakingFault image size written failures old new f → WhereHonest images (Runs w g o inputs images start start (Err (make_fault f)))
-runs_not image size written failures w g o inputs start old new images f h = record { each = λ b is. record { ok = tt; err = not_made image size written failures w g o inputs start old new f h } }
+-- what holds whatever the base is
+each_base : {B : Type 0} (s : Ghosts B) (base : Option B) (P : Option (List ℕ) → Type 0) → ((x : Option (List ℕ)) → P x) → OfBase s base P
+each_base s None P f = f None
+each_base s (Some base) P f = λ b is. f (Some b)
 
--- ---- the inputs stopped it
+pub runs_not : {S B : Type 0} (image : S → List ℕ → Type 0) (size written failures : S → ℕ) (s : Ghosts B) (base : Option B) (w g : ℕ) (o : MakeOptions) (inputs : List (Option (List ℕ))) (start : Option (List ℕ)) (old new : S) (images : List ℕ → Type 0) (f : MakeFault)
+    → MakingFault image size written failures old new f → WhereHonest images (OfBase s base (λ x. Runs w g o x inputs images start start (Err (make_fault f))))
+runs_not image size written failures s base w g o inputs start old new images f h =
+    record { each = λ a j. each_base s base _ (λ x. record { ok = tt; err = not_made image size written failures w g o x inputs start old new f h }) }
 
-pub runs_stopped : (w g : ℕ) (o : MakeOptions) (inputs : List (Option (List ℕ))) (start now : Option (List ℕ)) (images : List ℕ → Type 0) (f : Fault) → WhereHonest images (RunFails w g o inputs start now f)
-    → WhereHonest images (Runs w g o inputs images start now (Err f))
-runs_stopped w g o inputs start now images f h = record { each = λ b is. record { ok = tt; err = h.each b is } }
+-- ---- its base stopped it
+
+pub hands_some : {B : Type 0} (s : Ghosts B) (old new : Option B) → HandsBack s old new → is_some new ≡ is_some old
+hands_some s None None h = refl
+hands_some s (Some old) (Some new) h = refl
+hands_some s None (Some new) h = absurd h
+hands_some s (Some old) None h = absurd h
+
+pub hands_same : {B : Type 0} (s : Ghosts B) (base : Option B) → HandsBack s base base
+hands_same s None = tt
+hands_same s (Some base) = record { images = λ b is. is; size = refl; written = refl; room = omega arith; failures = omega arith }
+
+pub runs_unbased : {B : Type 0} (s : Ghosts B) (base : Option B) (w g : ℕ) (o : MakeOptions) (limit : ℕ) (inputs : List (Option (List ℕ))) (start : Option (List ℕ)) (images : List ℕ → Type 0) (f : Fault) → limit ≡ o.limit → BaseStopped w limit s base images f
+    → WhereHonest images (OfBase s base (λ x. Runs w g o x inputs images start start (Err f)))
+runs_unbased s None w g o limit inputs start images f same h = absurd h
+runs_unbased s (Some base) w g o limit inputs start images f same h = record {
+  each = λ a j. λ b is. record {
+    ok = tt;
+    err = inl (record { fails = subst (λ (k : ℕ). BaseFails w k b f) same ((h b is).each a j); lines = appends_none start });
+  };
+}
+
+-- ---- its inputs stopped it
+
+-- a base that was added can be amended
+is_base : {S L : Type 0} {s : Ghosts S} {l : Widths L} (o : MakeOptions) (b : List ℕ) (rs : List KeyValue) (m : Maker S L s l) → walk_of l.WORD b ≡ record { records = rs; damage = None } → Holds m rs → limit_of m ≡ o.limit → (a : List ℕ) → s.image m.store a → IsBase l.WORD o.limit b
+is_base {l = l} o b rs m is holds limit a j =
+    let size : m.end + 4 * l.WORD * m.count ≡ file_size l.WORD rs = (held_size m rs _ refl holds).each a j in
+    let same : file_size l.WORD (walk_of l.WORD b).records ≡ file_size l.WORD rs = ap (λ v. file_size l.WORD v.records) is in
+    record { whole = ap (λ v. v.damage) is; fits = omega (arith, size, same, m.within, limit) }
+
+-- and the run begins with its records
+begins_based : {S L : Type 0} {s : Ghosts S} {l : Widths L} (o : MakeOptions) (b : List ℕ) (rs : List KeyValue) (start : Option (List ℕ)) (m : Maker S L s l) → walk_of l.WORD b ≡ record { records = rs; damage = None } → Holds m rs → limit_of m ≡ o.limit
+    → InCourse (task_of o (records_of l.WORD (Some b))) [] start start m
+begins_based {l = l} o b rs start m is holds limit =
+    course_starts (task_of o (records_of l.WORD (Some b))) start m (subst (Holds m) (sym (ap (λ v. v.records) is)) holds) limit
+
+-- what is so for each run that begins with such records, is so of the base
+of_held : {S L B : Type 0} {s : Ghosts S} {l : Widths L} (t : Ghosts B) (base : Option B) (o : MakeOptions) (start : Option (List ℕ)) (m : Maker S L s l) (P : Option (List ℕ) → Type 0) → HoldsBase l.WORD t base m → limit_of m ≡ o.limit → (a : List ℕ) → s.image m.store a
+    → ((x : Option (List ℕ)) → is_some (records_of l.WORD x) ≡ is_some base → IsSomeBase l.WORD o.limit x → InCourse (task_of o (records_of l.WORD x)) [] start start m → P x) → OfBase t base P
+of_held t None o start m P h limit a j f = f None refl tt (course_starts (task_of o None) start m h limit)
+of_held t (Some base) o start m P h limit a j f = λ b is.
+    f (Some b) refl (is_base o b h.records m (h.each b is) h.holds limit a j) (begins_based o b h.records start m (h.each b is) h.holds limit)
+
+pub runs_stopped : {S L B : Type 0} {s : Ghosts S} {l : Widths L} (t : Ghosts B) (base : Option B) (g : ℕ) (o : MakeOptions) (amends : Bool) (inputs : List (Option (List ℕ))) (start now : Option (List ℕ)) (m : Maker S L s l) (images : List ℕ → Type 0) (f : Fault)
+    → HoldsBase l.WORD t base m → limit_of m ≡ o.limit → is_some base ≡ amends → ComesFrom (s.image m.store) images
+    → ((k : Task) → k.options ≡ o → is_some k.base ≡ amends → InCourse k [] start start m → WhereHonest images (InputsFail l.WORD g k inputs start now f))
+    → WhereHonest images (OfBase t base (λ x. Runs l.WORD g o x inputs images start now (Err f)))
+runs_stopped {l = l} t base g o amends inputs start now m images f h limit some comes fails = record {
+  each = λ b is.
+      let a = comes.each b is in
+      of_held t base o start m _ h limit a.0 a.1
+      (λ x same based begins. record { ok = tt; err = inr (record { based = based; fails = (fails (task_of o (records_of l.WORD x)) refl (same ∙ some) begins).each b is }) });
+}
 
 -- ---- all inputs were put
 
-pub runs_whole : {S L : Type 0} {s : Ghosts S} {l : Widths L} (g : ℕ) (o : MakeOptions) (inputs : List (Option (List ℕ))) (read : List (List KeyValue)) (start now : Option (List ℕ)) (m : Maker S L s l) (images : List ℕ → Type 0) → AreInputs o.style g read inputs []
-    → InCourse o (from_inputs 1 read) start now m → ComesFrom (s.image m.store) images → ((rs : List KeyValue) → Holds m rs → IsFile l.WORD rs images) → WhereHonest images (Runs l.WORD g o inputs images start now (Ok tt))
-runs_whole g o inputs read start now m images are course comes file = record {
+pub runs_whole : {S L B : Type 0} {s : Ghosts S} {l : Widths L} (t : Ghosts B) (base : Option B) (g : ℕ) (o : MakeOptions) (inputs : List (Option (List ℕ))) (read : List (List Change)) (start now : Option (List ℕ)) (first m : Maker S L s l) (images : List ℕ → Type 0)
+    → HoldsBase l.WORD t base first → limit_of first ≡ o.limit → AreInputs (form.input_form o.style (is_some base)) g read inputs []
+    → ((k : Task) → k.options ≡ o → InCourse k [] start start first → InCourse k (from_inputs 1 read) start now m)
+    → ComesFrom (s.image first.store) (s.image m.store) → ComesFrom (s.image m.store) images → ((rs : List KeyValue) → Holds m rs → IsFile l.WORD rs images) → WhereHonest images (OfBase t base (λ x. Runs l.WORD g o x inputs images start now (Ok tt)))
+runs_whole {l = l} t base g o inputs read start now first m images h limit are course before comes file = record {
   each = λ b is.
       let a = comes.each b is in
+      let c = before.each a.0 a.1 in
+      of_held t base o start first _ h limit c.0 c.1
+      (λ x same based begins.
+      let k : Task = task_of o (records_of l.WORD x) in
+      let put = course k refl begins in
       record {
-        ok = record { read = read; are = are; goes = course.goes.each a.0 a.1; file = file _ course.holds };
+        ok = record {
+          based = based;
+          made = record { read = read; are = subst (λ (v : Bool). AreInputs (form.input_form o.style v) g read inputs []) (sym same) are; goes = put.goes.each a.0 a.1; file = file _ put.holds };
+        };
         err = tt;
-      };
+      });
 }
 
 -- the file was not finished
-stops_whole : (w g : ℕ) (o : MakeOptions) (inputs : List (Option (List ℕ))) (read : List (List KeyValue)) (start now : Option (List ℕ)) (f : Fault) → AreInputs o.style g read inputs [] → StopsSo w o (from_inputs 1 read) start now f → Stops w g o inputs start now f
-stops_whole w g o inputs read start now f are h = record { read = read; last = []; rest = []; are = are; begins = refl; stops = subst (λ cs. StopsSo w o cs start now f) (sym (came_none read)) h }
+stops_whole : (w g : ℕ) (t : Task) (inputs : List (Option (List ℕ))) (read : List (List Change)) (start now : Option (List ℕ)) (f : Fault) → AreInputs (form_of t) g read inputs [] → StopsSo w t (from_inputs 1 read) start now f → Stops w g t inputs start now f
+stops_whole w g t inputs read start now f are h = record { read = read; last = []; rest = []; are = are; begins = refl; stops = subst (λ cs. StopsSo w t cs start now f) (sym (came_none read)) h }
 
-not_finished : {S L : Type 0} {s : Ghosts S} {l : Widths L} (g : ℕ) (o : MakeOptions) (inputs : List (Option (List ℕ))) (read : List (List KeyValue)) (start now : Option (List ℕ)) (old new : Maker S L s l) (f : MakeFault) → AreInputs o.style g read inputs []
-    → old.broken ≡ false → Goes l.WORD o (from_inputs 1 read) start now → FailsFinishing old new f → RunFails l.WORD g o inputs start now (make_fault f)
-not_finished g o inputs read start now old new make.Broken are whole goes h = absurd (let k : true ≡ false = sym h.0 ∙ whole in cc)
-not_finished {l = l} g o inputs read start now old new make.NoMemory are whole goes h = stops_whole l.WORD g o inputs read start now NoMemory are goes
-not_finished {l = l} g o inputs read start now old new make.Writing are whole goes h = stops_whole l.WORD g o inputs read start now (Make make.Writing) are goes
-not_finished g o inputs read start now old new make.Lookup are whole goes h = absurd h
-not_finished g o inputs read start now old new make.TooBig are whole goes h = absurd h
+not_finished : {S L : Type 0} {s : Ghosts S} {l : Widths L} (g : ℕ) (t : Task) (inputs : List (Option (List ℕ))) (read : List (List Change)) (start now : Option (List ℕ)) (old new : Maker S L s l) (f : MakeFault) → AreInputs (form_of t) g read inputs []
+    → old.broken ≡ false → Goes l.WORD t (from_inputs 1 read) start now → FailsFinishing old new f → InputsFail l.WORD g t inputs start now (make_fault f)
+not_finished g t inputs read start now old new make.Broken are whole goes h = absurd (let k : true ≡ false = sym h.0 ∙ whole in cc)
+not_finished {l = l} g t inputs read start now old new make.NoMemory are whole goes h = stops_whole l.WORD g t inputs read start now NoMemory are goes
+not_finished {l = l} g t inputs read start now old new make.Writing are whole goes h = stops_whole l.WORD g t inputs read start now (Make make.Writing) are goes
+not_finished g t inputs read start now old new make.Lookup are whole goes h = absurd h
+not_finished g t inputs read start now old new make.TooBig are whole goes h = absurd h
 
-pub runs_unfinished : {S L : Type 0} {s : Ghosts S} {l : Widths L} (g : ℕ) (o : MakeOptions) (inputs : List (Option (List ℕ))) (read : List (List KeyValue)) (start now : Option (List ℕ)) (old new : Maker S L s l) (images : List ℕ → Type 0) (f : MakeFault)
-    → AreInputs o.style g read inputs [] → InCourse o (from_inputs 1 read) start now old → ComesFrom (s.image old.store) images → FailsFinishing old new f → WhereHonest images (Runs l.WORD g o inputs images start now (Err (make_fault f)))
-runs_unfinished g o inputs read start now old new images f are course comes h = record {
-  each = λ b is. let a = comes.each b is in record { ok = tt; err = not_finished g o inputs read start now old new f are course.holds.whole (course.goes.each a.0 a.1) h };
+pub runs_unfinished : {S L B : Type 0} {s : Ghosts S} {l : Widths L} (t : Ghosts B) (base : Option B) (g : ℕ) (o : MakeOptions) (inputs : List (Option (List ℕ))) (read : List (List Change)) (start now : Option (List ℕ)) (first old new : Maker S L s l) (images : List ℕ → Type 0) (f : MakeFault)
+    → HoldsBase l.WORD t base first → limit_of first ≡ o.limit → AreInputs (form.input_form o.style (is_some base)) g read inputs []
+    → ((k : Task) → k.options ≡ o → InCourse k [] start start first → InCourse k (from_inputs 1 read) start now old)
+    → ComesFrom (s.image first.store) (s.image old.store) → ComesFrom (s.image old.store) images → FailsFinishing old new f → WhereHonest images (OfBase t base (λ x. Runs l.WORD g o x inputs images start now (Err (make_fault f))))
+runs_unfinished {l = l} t base g o inputs read start now first old new images f h limit are course before comes fails = record {
+  each = λ b is.
+      let a = comes.each b is in
+      let c = before.each a.0 a.1 in
+      of_held t base o start first _ h limit c.0 c.1
+      (λ x same based begins.
+      let k : Task = task_of o (records_of l.WORD x) in
+      let put = course k refl begins in
+      record {
+        ok = tt;
+        err = inr (record { based = based; fails = not_finished g k inputs read start now old new f (subst (λ (v : Bool). AreInputs (form.input_form o.style v) g read inputs []) (sym same) are) put.holds.whole (put.goes.each a.0 a.1) fails });
+      });
 }
 
 -- ---- the flush
 
-goes_kept : (w : ℕ) (o : MakeOptions) (cs : List Incoming) (old mid new : Option (List ℕ)) → Goes w o cs old mid → Keeps mid new → Goes w o cs old new
+goes_kept : (w : ℕ) (o : Task) (cs : List Incoming) (old mid new : Option (List ℕ)) → Goes w o cs old mid → Keeps mid new → Goes w o cs old new
 goes_kept w o cs old mid new h k = record { going = h.going; lines = appends_kept old mid new _ h.lines k }
 
-ends_kept : (w : ℕ) (o : MakeOptions) (cs : List Incoming) (f : Fault) (old mid new : Option (List ℕ)) → EndsSo w o cs f old mid → Keeps mid new → EndsSo w o cs f old new
+ends_kept : (w : ℕ) (o : Task) (cs : List Incoming) (f : Fault) (old mid new : Option (List ℕ)) → EndsSo w o cs f old mid → Keeps mid new → EndsSo w o cs f old new
 ends_kept w o cs f old mid new h k = record { before = h.before; last = h.last; are = h.are; going = h.going; ended = h.ended; lines = appends_kept old mid new _ h.lines k }
 
-stops_kept : (w : ℕ) (o : MakeOptions) (cs : List Incoming) (old mid new : Option (List ℕ)) (f : Fault) → StopsSo w o cs old mid f → Keeps mid new → StopsSo w o cs old new f
+stops_kept : (w : ℕ) (o : Task) (cs : List Incoming) (old mid new : Option (List ℕ)) (f : Fault) → StopsSo w o cs old mid f → Keeps mid new → StopsSo w o cs old new f
 stops_kept w o cs old mid new (Make make.TooBig) h k = ends_kept w o cs _ old mid new h k
 stops_kept w o cs old mid new (Make make.Lookup) h k = goes_kept w o cs old mid new h k
 stops_kept w o cs old mid new (Make make.Writing) h k = goes_kept w o cs old mid new h k
@@ -119,10 +204,10 @@ stops_kept w o cs old mid new Long h k = absurd h
 stops_kept w o cs old mid new Open h k = absurd h
 stops_kept w o cs old mid new Rename h k = absurd h
 
-stop_kept : (w g : ℕ) (o : MakeOptions) (inputs : List (Option (List ℕ))) (old mid new : Option (List ℕ)) (f : Fault) → Stops w g o inputs old mid f → Keeps mid new → Stops w g o inputs old new f
+stop_kept : (w g : ℕ) (o : Task) (inputs : List (Option (List ℕ))) (old mid new : Option (List ℕ)) (f : Fault) → Stops w g o inputs old mid f → Keeps mid new → Stops w g o inputs old new f
 stop_kept w g o inputs old mid new f h k = record { read = h.read; last = h.last; rest = h.rest; are = h.are; begins = h.begins; stops = stops_kept w o (came h.read h.last) old mid new f h.stops k }
 
-fails_kept : (w g : ℕ) (o : MakeOptions) (inputs : List (Option (List ℕ))) (old mid new : Option (List ℕ)) (f : Fault) → RunFails w g o inputs old mid f → Keeps mid new → RunFails w g o inputs old new f
+fails_kept : (w g : ℕ) (o : Task) (inputs : List (Option (List ℕ))) (old mid new : Option (List ℕ)) (f : Fault) → InputsFail w g o inputs old mid f → Keeps mid new → InputsFail w g o inputs old new f
 fails_kept w g o inputs old mid new (Text n f) h k =
     record { read = h.read; last = h.last; input = h.input; rest = h.rest; are = h.are; numbered = h.numbered; memory = h.memory; native = h.native; has = h.has; goes = goes_kept w o (came h.read h.last) old mid new h.goes k }
 fails_kept w g o inputs old mid new (Make f) h k = stop_kept w g o inputs old mid new (Make f) h k
@@ -136,27 +221,51 @@ fails_kept w g o inputs old mid new Open h k = stop_kept w g o inputs old mid ne
 fails_kept w g o inputs old mid new Rename h k = stop_kept w g o inputs old mid new Rename h k
 fails_kept w g o inputs old mid new NoMemory h k = stop_kept w g o inputs old mid new NoMemory h k
 
-runs_kept : (w g : ℕ) (o : MakeOptions) (inputs : List (Option (List ℕ))) (images : List ℕ → Type 0) (old mid new : Option (List ℕ)) (r : Result Unit Fault) → Runs w g o inputs images old mid r → Keeps mid new → Runs w g o inputs images old new r
-runs_kept w g o inputs images old mid new (Ok u) h k = record {
-  ok = record { read = h.ok.read; are = h.ok.are; goes = goes_kept w o (from_inputs 1 h.ok.read) old mid new h.ok.goes k; file = h.ok.file };
-  err = tt;
-}
-runs_kept w g o inputs images old mid new (Err f) h k = record { ok = tt; err = fails_kept w g o inputs old mid new f h.err k }
+run_kept : (w g : ℕ) (o : MakeOptions) (x : Option (List ℕ)) (inputs : List (Option (List ℕ))) (old mid new : Option (List ℕ)) (f : Fault) → RunFails w g o x inputs old mid f → Keeps mid new → RunFails w g o x inputs old new f
+run_kept w g o x inputs old mid new f h k = elim h as (λ _. RunFails w g o x inputs old new f) [
+  | inl base ↦ inl (record { fails = base.fails; lines = appends_kept old mid new [] base.lines k })
+  | inr stop ↦ inr (record { based = stop.based; fails = fails_kept w g (task_of o (records_of w x)) inputs old mid new f stop.fails k })
+]
 
-flush_fails : (w g : ℕ) (o : MakeOptions) (inputs : List (Option (List ℕ))) (images : List ℕ → Type 0) (old mid new : Option (List ℕ)) (r : Result Unit Fault) → Runs w g o inputs images old mid r → Keeps mid new → IsOk r → Runs w g o inputs images old new (Err Output)
-flush_fails w g o inputs images old mid new (Ok u) h k is =
-    let lines = appends_kept old mid new _ h.ok.goes.lines k in
+runs_kept : (w g : ℕ) (o : MakeOptions) (x : Option (List ℕ)) (inputs : List (Option (List ℕ))) (images : List ℕ → Type 0) (old mid new : Option (List ℕ)) (r : Result Unit Fault) → Runs w g o x inputs images old mid r → Keeps mid new → Runs w g o x inputs images old new r
+runs_kept w g o x inputs images old mid new (Ok u) h k =
+    let made = h.ok.made in
+    record {
+      ok = record {
+        based = h.ok.based;
+        made = record { read = made.read; are = made.are; goes = goes_kept w (task_of o (records_of w x)) (from_inputs 1 made.read) old mid new made.goes k; file = made.file };
+      };
+      err = tt;
+    }
+runs_kept w g o x inputs images old mid new (Err f) h k = record { ok = tt; err = run_kept w g o x inputs old mid new f h.err k }
+
+flush_fails : (w g : ℕ) (o : MakeOptions) (x : Option (List ℕ)) (inputs : List (Option (List ℕ))) (images : List ℕ → Type 0) (old mid new : Option (List ℕ)) (r : Result Unit Fault) → Runs w g o x inputs images old mid r → Keeps mid new → IsOk r → Runs w g o x inputs images old new (Err Output)
+flush_fails w g o x inputs images old mid new (Ok u) h k is =
+    let t : Task = task_of o (records_of w x) in
+    let made = h.ok.made in
+    let lines = appends_kept old mid new _ made.goes.lines k in
     record {
       ok = tt;
-      err = record { read = h.ok.read; last = []; rest = []; are = h.ok.are; begins = refl; stops = subst (λ cs. AppendsFront old new (course_of w o cs).lines) (sym (came_none h.ok.read)) (whole_front old new _ lines) };
+      err = inr (record {
+        based = h.ok.based;
+        fails = record { read = made.read; last = []; rest = []; are = made.are; begins = refl; stops = subst (λ cs. AppendsFront old new (course_of w t cs).lines) (sym (came_none made.read)) (whole_front old new _ lines) };
+      });
     }
-flush_fails w g o inputs images old mid new (Err f) h k is = absurd (not_ok is)
+flush_fails w g o x inputs images old mid new (Err f) h k is = absurd (not_ok is)
 
-pub runs_flushed : (w g : ℕ) (o : MakeOptions) (inputs : List (Option (List ℕ))) (images : List ℕ → Type 0) (old mid new : Option (List ℕ)) (answer result : Result Unit Fault) → WhereHonest images (Runs w g o inputs images old mid answer) → Flushed mid new answer result
-    → WhereHonest images (Runs w g o inputs images old new result)
-runs_flushed w g o inputs images old mid new answer result h f = record {
-  each = λ b is. elim f.answered as (λ _. Runs w g o inputs images old new result) [
-    | inl e ↦ subst (Runs w g o inputs images old new) (sym e) (runs_kept w g o inputs images old mid new answer (h.each b is) f.kept)
-    | inr e ↦ subst (Runs w g o inputs images old new) (sym e.1) (flush_fails w g o inputs images old mid new answer (h.each b is) f.kept e.0)
-  ];
+flush_each : (w g : ℕ) (o : MakeOptions) (x : Option (List ℕ)) (inputs : List (Option (List ℕ))) (images : List ℕ → Type 0) (old mid new : Option (List ℕ)) (answer result : Result Unit Fault) → Flushed mid new answer result → Runs w g o x inputs images old mid answer → Runs w g o x inputs images old new result
+flush_each w g o x inputs images old mid new answer result f h = elim f.answered as (λ _. Runs w g o x inputs images old new result) [
+  | inl e ↦ subst (Runs w g o x inputs images old new) (sym e) (runs_kept w g o x inputs images old mid new answer h f.kept)
+  | inr e ↦ subst (Runs w g o x inputs images old new) (sym e.1) (flush_fails w g o x inputs images old mid new answer h f.kept e.0)
+]
+
+base_weaker : {B : Type 0} (s : Ghosts B) (base : Option B) (P Q : Option (List ℕ) → Type 0) → ((x : Option (List ℕ)) → P x → Q x) → OfBase s base P → OfBase s base Q
+base_weaker s None P Q f h = f None h
+base_weaker s (Some base) P Q f h = λ b is. f (Some b) (h b is)
+
+pub runs_flushed : {B : Type 0} (s : Ghosts B) (base : Option B) (w g : ℕ) (o : MakeOptions) (inputs : List (Option (List ℕ))) (images : List ℕ → Type 0) (old mid new : Option (List ℕ)) (answer result : Result Unit Fault)
+    → WhereHonest images (OfBase s base (λ x. Runs w g o x inputs images old mid answer)) → Flushed mid new answer result
+    → WhereHonest images (OfBase s base (λ x. Runs w g o x inputs images old new result))
+runs_flushed s base w g o inputs images old mid new answer result h f = record {
+  each = λ b is. base_weaker s base _ _ (λ x. flush_each w g o x inputs images old mid new answer result f) (h.each b is);
 }

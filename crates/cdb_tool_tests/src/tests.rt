@@ -1,5 +1,6 @@
 // Tests of what no contract says: files and lines worked out by hand, and faults of readers and
 // writers.
+mod amending;
 mod checking;
 mod counting;
 mod dumping;

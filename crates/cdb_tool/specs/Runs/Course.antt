@@ -1,11 +1,12 @@
--- How a run that makes a database goes: its records are put one after the other, up to the one that
--- ends it.
+-- How a run that makes a database goes: it begins with the records of its base, if it has one; then
+-- what its inputs say is done, one item after the other, up to the one that ends it.
 use Rattle.std.specs.Prelude.{ℕ, ◌≡◌, ◌+◌, Bool, true, false, ◌&&◌, ◌||◌, if◌then◌else◌}
-use Rattle.std.specs.Prelude.{List, [], ◌∷◌, ◌++◌, fold, Option, None, Some, Result, Ok, Err}
+use Rattle.std.specs.Prelude.{List, [], ◌∷◌, ◌++◌, fold, Option, None, Some, unwrap_or, Result, Ok, Err}
 use Rattle.std.specs.Io.KnownBytes.{Appends}
 use Rattle.cdb_form.specs.Format.Record.{KeyValue}
+use Rattle.cdb_form.specs.Text.Amending.{Change, Putting, Removing}
 use Rattle.cdb_form.specs.Views.KnownBytes.{AppendsFront}
-use Rattle.cdb_make.specs.Survivors.{put_step, put_result}
+use Rattle.cdb_make.specs.Survivors.{put_step, put_result, without}
 use Rattle.cdb_make.specs.declared.fault.MakeFault.{MakeFault}
 use Rattle.cdb_make.specs.declared.fault.MakeFault.TheVariants.{TooBig, Lookup, Writing}
 use Rattle.cdb_make.specs.declared.mode.Mode.{Mode}
@@ -17,22 +18,30 @@ use Rattle.cdb_tool.specs.declared.fault.Fault.{Fault}
 use Rattle.cdb_tool.specs.declared.fault.Fault.TheVariants.{Make, Duplicate, Output, NoMemory}
 use Rattle.cdb_command.specs.declared.options.MakeOptions.{MakeOptions}
 
--- a record that comes, the number of its input, and its own there, each from 1 on
+-- what a run is to do: its options, and the records of its base, if it has one
+pub record Task : Type 0 where
+  pub options : MakeOptions
+  pub base : Option (List KeyValue)
+
+abbrev pub task_of : MakeOptions → Option (List KeyValue) → Task
+task_of options base = record { options = options; base = base }
+
+-- an item that comes, the number of its input, and its own there, each from 1 on
 pub record Incoming : Type 0 where
   pub input : ℕ
   pub number : ℕ
-  pub it : KeyValue
+  pub it : Change
 
--- the records of an input from a number on
-abbrev pub from_input : ℕ → ℕ → List KeyValue → List Incoming
+-- the items of an input from a number on
+abbrev pub from_input : ℕ → ℕ → List Change → List Incoming
 from_input input number [] = []
-from_input input number (r ∷ rs) =
-    record { input = input; number = number; it = r } ∷ from_input input (number + 1) rs
+from_input input number (c ∷ cs) =
+    record { input = input; number = number; it = c } ∷ from_input input (number + 1) cs
 
--- the records of all inputs from one on
-abbrev pub from_inputs : ℕ → List (List KeyValue) → List Incoming
+-- the items of all inputs from one on
+abbrev pub from_inputs : ℕ → List (List Change) → List Incoming
 from_inputs input [] = []
-from_inputs input (rs ∷ inputs) = from_input input 1 rs ++ from_inputs (input + 1) inputs
+from_inputs input (cs ∷ inputs) = from_input input 1 cs ++ from_inputs (input + 1) inputs
 
 -- how each record is put
 abbrev pub mode_of : MakeOptions → Mode
@@ -63,29 +72,37 @@ pub record Course : Type 0 where
   pub lines : List ℕ
   pub ended : Option Fault
 
-abbrev pub at_start : Course
-at_start = record { records = []; lines = []; ended = None }
+-- before the inputs the records of the base are held, which were added one after the other
+abbrev pub at_start : Task → Course
+at_start t = record { records = unwrap_or t.base []; lines = []; ended = None }
 
 abbrev pub is_going : Option Fault → Bool
 is_going None = true
 is_going (Some fault) = false
 
--- one record more comes, which is put unless the run has ended
-abbrev pub with_put : ℕ → MakeOptions → Course → Incoming → Course
-with_put w o s c =
-    let answer = put_result w o.limit (mode_of o) c.it s.records in
+-- a record of an input is put
+abbrev pub with_put : ℕ → MakeOptions → Course → ℕ → ℕ → KeyValue → Course
+with_put w o s input number r =
+    let answer = put_result w o.limit (mode_of o) r s.records in
     record {
-      records = put_step w o.limit (mode_of o) c.it s.records;
-      lines = s.lines ++ said o c.input c.number answer;
+      records = put_step w o.limit (mode_of o) r s.records;
+      lines = s.lines ++ said o input number answer;
       ended = ends o answer;
     }
 
-abbrev pub with_next : ℕ → MakeOptions → Course → Incoming → Course
-with_next w o s c = if is_going s.ended then with_put w o s c else s
+-- an item is done: a removal takes out every record of its key, and nothing is said of it
+abbrev pub with_change : ℕ → MakeOptions → Course → ℕ → ℕ → Change → Course
+with_change w o s input number (Putting r) = with_put w o s input number r
+with_change w o s input number (Removing key) =
+    record { records = without key s.records; lines = s.lines; ended = s.ended }
 
--- the course over these records
-abbrev pub course_of : ℕ → MakeOptions → List Incoming → Course
-course_of w o cs = fold (with_next w o) at_start cs
+-- one item more comes, which is done unless the run has ended
+abbrev pub with_next : ℕ → MakeOptions → Course → Incoming → Course
+with_next w o s c = if is_going s.ended then with_change w o s c.input c.number c.it else s
+
+-- the course over these items
+abbrev pub course_of : ℕ → Task → List Incoming → Course
+course_of w t cs = fold (with_next w t.options) (at_start t) cs
 
 -- what is told of a put where the run stops there: its line was appended, or a front of it where
 -- the writer failed
@@ -97,29 +114,29 @@ TellFails o input number put old new Output = AppendsFront old new (said o input
 TellFails o input number put old new fault = ⊥
 
 -- the run has not ended, and its lines were appended
-pub record Goes (w : ℕ) (o : MakeOptions) (cs : List Incoming) (old new : Option (List ℕ)) : Type 0
+pub record Goes (w : ℕ) (t : Task) (cs : List Incoming) (old new : Option (List ℕ)) : Type 0
   where
-    pub going : (course_of w o cs).ended ≡ None
-    pub lines : Appends old new (course_of w o cs).lines
+    pub going : (course_of w t cs).ended ≡ None
+    pub lines : Appends old new (course_of w t cs).lines
 
--- the last of these records ended it, and its lines were appended
-pub record EndsSo (w : ℕ) (o : MakeOptions) (cs : List Incoming) (fault : Fault)
+-- the last of these items ended it, and its lines were appended
+pub record EndsSo (w : ℕ) (t : Task) (cs : List Incoming) (fault : Fault)
     (old new : Option (List ℕ)) : Type 0 where
   pub before : List Incoming
   pub last : Incoming
   pub are : cs ≡ before ++ last ∷ []
-  pub going : (course_of w o before).ended ≡ None
-  pub ended : (course_of w o cs).ended ≡ Some fault
-  pub lines : Appends old new (course_of w o cs).lines
+  pub going : (course_of w t before).ended ≡ None
+  pub ended : (course_of w t cs).ended ≡ Some fault
+  pub lines : Appends old new (course_of w t cs).lines
 
--- how a run stopped after these records: by the last one; before it by a fault of the store or of
+-- how a run stopped after these items: by the last one; before it by a fault of the store or of
 -- memory; or by one of the writer of its lines
-abbrev pub StopsSo : ℕ → MakeOptions → List Incoming → Option (List ℕ) → Option (List ℕ) → Fault
+abbrev pub StopsSo : ℕ → Task → List Incoming → Option (List ℕ) → Option (List ℕ) → Fault
     → Type 0
-StopsSo w o cs old new (Make TooBig) = EndsSo w o cs (Make TooBig) old new
-StopsSo w o cs old new Duplicate = EndsSo w o cs Duplicate old new
-StopsSo w o cs old new (Make Lookup) = Goes w o cs old new
-StopsSo w o cs old new (Make Writing) = Goes w o cs old new
-StopsSo w o cs old new NoMemory = Goes w o cs old new
-StopsSo w o cs old new Output = AppendsFront old new (course_of w o cs).lines
-StopsSo w o cs old new fault = ⊥
+StopsSo w t cs old new (Make TooBig) = EndsSo w t cs (Make TooBig) old new
+StopsSo w t cs old new Duplicate = EndsSo w t cs Duplicate old new
+StopsSo w t cs old new (Make Lookup) = Goes w t cs old new
+StopsSo w t cs old new (Make Writing) = Goes w t cs old new
+StopsSo w t cs old new NoMemory = Goes w t cs old new
+StopsSo w t cs old new Output = AppendsFront old new (course_of w t cs).lines
+StopsSo w t cs old new fault = ⊥

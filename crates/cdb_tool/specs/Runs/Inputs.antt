@@ -1,10 +1,12 @@
--- The records of the inputs of a run, by their style. An input is the bytes of its reader, where
--- they are known.
-use Rattle.std.specs.Prelude.{ℕ, ◌≡◌, ◌+◌, ◌*◌, ◌^◌, ◌≤◌, List, [], ◌∷◌, ◌++◌, length}
-use Rattle.std.specs.Prelude.{Option, IfSome}
+-- The items of the inputs of a run, by the form of its inputs. An input is the bytes of its reader,
+-- where they are known.
+use Rattle.std.specs.Prelude.{ℕ, ◌≡◌, ◌+◌, ◌*◌, ◌^◌, ◌≤◌, Bool, true, false, List, [], ◌∷◌, ◌++◌}
+use Rattle.std.specs.Prelude.{length, map, Option, IfSome}
 use Rattle.cdb_form.specs.Format.Record.{KeyValue}
+use Rattle.cdb_form.specs.Text.Amending.{Change, Putting, SpellsChange, SpelledChanges, ReadsChanges}
+use Rattle.cdb_form.specs.Text.Form.{WholeItems, HasFault}
 use Rattle.cdb_form.specs.Text.Map.{map_lines}
-use Rattle.cdb_form.specs.Text.Native.{Spelled, Reads, WholeRecords, HasFault}
+use Rattle.cdb_form.specs.Text.Native.{Spells, Spelled, Reads}
 use Rattle.cdb_form.specs.Views.MapReader.{ReadAmid}
 use Rattle.cdb_form.specs.Views.TextFault.{IsOfText, IsReadFault}
 use Rattle.cdb_form.specs.declared.text.fault.TextFault.{TextFault}
@@ -12,12 +14,41 @@ use Rattle.cdb_form.specs.declared.text.fault.TextFault.TheVariants.{Ended, Endl
 use Rattle.cdb_command.specs.declared.style.Style.{Style}
 use Rattle.cdb_command.specs.declared.style.Style.TheVariants.{Native, Map}
 
--- a native text has this fault, behind these records, all that are whole
-pub record HasFaultBehind (greatest : ℕ) (text : List ℕ) (records : List KeyValue)
-    (fault : TextFault) : Type 0 where
+-- an input puts the records of a style, or is an amending text
+pub data InputForm : Type 0 where
+  Puts : Style → InputForm
+  Changes : InputForm
+
+-- with a base a native input is an amending text; in a map text nothing removes
+abbrev pub input_form : Style → Bool → InputForm
+input_form Native true = Changes
+input_form Native false = Puts Native
+input_form Map amends = Puts Map
+
+-- a text has this fault, behind these items, all that are whole
+pub record HasFaultBehind {X : Type 0} (spelling : ℕ → List ℕ → X → Type 0) (greatest : ℕ)
+    (text : List ℕ) (xs : List X) (fault : TextFault) : Type 0 where
   pub rest : List ℕ
-  pub whole : WholeRecords greatest text records rest
-  pub has : HasFault greatest 0 text fault
+  pub whole : WholeItems spelling greatest text xs rest
+  pub has : HasFault spelling greatest 0 text fault
+
+-- the reader of an input failed behind this part of it, or has no end: it took 2^48 asks, of 1001
+-- at most for a byte or an end
+pub record StopsReading (Ends : List ℕ → Type 0) (ends : ℕ) (fault : TextFault)
+    (input : List ℕ) : Type 0 where
+  pub part : List ℕ
+  pub more : List ℕ
+  pub split : input ≡ part ++ more
+  pub amid : Ends part
+  pub asked : fault ≡ Endless → 2 ^ 48 ≤ 1001 * (length part + ends)
+
+-- an input has this fault, of its text or of its reader
+pub record HasFaultOf (InText : Type 0) (Ends : List ℕ → Type 0) (ends : ℕ)
+    (fault : TextFault) (input : List ℕ) : Type 0 where
+  pub of_text : IsOfText fault → InText
+  pub of_reader : IsReadFault fault → StopsReading Ends ends fault input
+
+-- ---- inputs that only put
 
 -- an input is a text of these records, and begins with these
 abbrev pub IsInput : Style → ℕ → List KeyValue → List ℕ → Type 0
@@ -31,7 +62,8 @@ BeginsWith Map greatest records input =
 
 -- a part of a text ends amid what follows these records
 abbrev pub EndsAmid : Style → ℕ → List KeyValue → List ℕ → Type 0
-EndsAmid Native greatest records part = HasFaultBehind greatest part records (Ended (length part))
+EndsAmid Native greatest records part =
+    HasFaultBehind Spells greatest part records (Ended (length part))
 EndsAmid Map greatest records part = ReadAmid part [] records
 
 -- how often at most the end of an input is met: a map text's last line may end there too
@@ -39,32 +71,48 @@ abbrev pub ends_met : Style → ℕ
 ends_met Native = 1
 ends_met Map = 2
 
--- the reader of an input failed behind this part of it, or has no end: it took 2^48 asks, of 1001
--- at most for a byte or an end
-pub record StopsReading (style : Style) (greatest : ℕ) (records : List KeyValue)
-    (fault : TextFault) (input : List ℕ) : Type 0 where
-  pub part : List ℕ
-  pub more : List ℕ
-  pub split : input ≡ part ++ more
-  pub amid : EndsAmid style greatest records part
-  pub asked : fault ≡ Endless → 2 ^ 48 ≤ 1001 * (length part + ends_met style)
-
 -- an input has this fault behind these records
-pub record HasInputFault (style : Style) (greatest : ℕ) (records : List KeyValue)
-    (fault : TextFault) (input : List ℕ) : Type 0 where
-  pub of_text : IsOfText fault → HasFaultBehind greatest input records fault
-  pub of_reader : IsReadFault fault → StopsReading style greatest records fault input
+abbrev pub HasInputFault : Style → ℕ → List KeyValue → TextFault → List ℕ → Type 0
+HasInputFault style greatest records fault input =
+    HasFaultOf (HasFaultBehind Spells greatest input records fault)
+    (EndsAmid style greatest records) (ends_met style) fault input
 
--- the first inputs are texts of these records, and the others follow
-abbrev pub AreInputs : Style → ℕ → List (List KeyValue) → List (Option (List ℕ))
+-- ---- inputs of any form
+
+-- these items are puts of records of which this holds
+abbrev pub ArePuts : List Change → (List KeyValue → Type 0) → Type 0
+ArePuts items P = (records : List KeyValue) × (items ≡ map Putting records) × P records
+
+-- an input is a text of these items, and begins with these
+abbrev pub IsInputOf : InputForm → ℕ → List Change → List ℕ → Type 0
+IsInputOf (Puts style) greatest items input =
+    ArePuts items (λ records. IsInput style greatest records input)
+IsInputOf Changes greatest items input = (rest : List ℕ) × ReadsChanges greatest items input rest
+
+abbrev pub BeginsWithItems : InputForm → ℕ → List Change → List ℕ → Type 0
+BeginsWithItems (Puts style) greatest items input =
+    ArePuts items (λ records. BeginsWith style greatest records input)
+BeginsWithItems Changes greatest items input =
+    (rest : List ℕ) × SpelledChanges greatest items input rest
+
+-- an input has this fault behind these items
+abbrev pub HasItemFault : InputForm → ℕ → List Change → TextFault → List ℕ → Type 0
+HasItemFault (Puts style) greatest items fault input =
+    ArePuts items (λ records. HasInputFault style greatest records fault input)
+HasItemFault Changes greatest items fault input =
+    HasFaultOf (HasFaultBehind SpellsChange greatest input items fault)
+    (λ part. HasFaultBehind SpellsChange greatest part items (Ended (length part))) 1 fault input
+
+-- the first inputs are texts of these items, and the others follow
+abbrev pub AreInputs : InputForm → ℕ → List (List Change) → List (Option (List ℕ))
     → List (Option (List ℕ)) → Type 0
-AreInputs style greatest [] inputs rest = inputs ≡ rest
-AreInputs style greatest (records ∷ read) [] rest = ⊥
-AreInputs style greatest (records ∷ read) (input ∷ inputs) rest =
-    IfSome input (IsInput style greatest records) × AreInputs style greatest read inputs rest
+AreInputs form greatest [] inputs rest = inputs ≡ rest
+AreInputs form greatest (items ∷ read) [] rest = ⊥
+AreInputs form greatest (items ∷ read) (input ∷ inputs) rest =
+    IfSome input (IsInputOf form greatest items) × AreInputs form greatest read inputs rest
 
--- the first of these inputs begins with these records
-abbrev pub FirstBegins : Style → ℕ → List KeyValue → List (Option (List ℕ)) → Type 0
-FirstBegins style greatest records [] = records ≡ []
-FirstBegins style greatest records (input ∷ inputs) =
-    IfSome input (BeginsWith style greatest records)
+-- the first of these inputs begins with these items
+abbrev pub FirstBegins : InputForm → ℕ → List Change → List (Option (List ℕ)) → Type 0
+FirstBegins form greatest items [] = items ≡ []
+FirstBegins form greatest items (input ∷ inputs) =
+    IfSome input (BeginsWithItems form greatest items)

@@ -1,71 +1,162 @@
--- What a run leaves that makes a database of the records of some inputs.
-use Rattle.std.specs.Prelude.{ℕ, ◌≡◌, ◌≢◌, ◌+◌, ⊤, List, [], ◌∷◌, ◌++◌, length, Option, Result, ◌⊎◌}
-use Rattle.std.specs.Prelude.{IfSome, OnOk, IfErr}
+-- What a run leaves that makes a database of the records of a base, if it has one, and of what its
+-- inputs say.
+use Rattle.std.specs.Prelude.{ℕ, ◌≡◌, ◌≢◌, ◌+◌, ◌<◌, ◌≤◌, ⊤, ◌⊎◌, Bool, true, false, List, [], ◌∷◌}
+use Rattle.std.specs.Prelude.{◌++◌, length, Option, None, Some, is_some, Result, IfSome, OnOk, IfErr}
+use Rattle.std.specs.Io.KnownBytes.{Appends}
+use Rattle.cdb_store.specs.Reads.{OnlyReads}
 use Rattle.cdb_store.specs.declared.store.Store.{Ghosts}
 use Rattle.cdb_form.specs.declared.width.Width.{Ghosts as Widths}
+use Rattle.cdb_form.specs.Format.File.{file_size}
 use Rattle.cdb_form.specs.Format.Record.{KeyValue}
+use Rattle.cdb_form.specs.Format.Walk.{walk_of}
+use Rattle.cdb_form.specs.Text.Amending.{Change}
 use Rattle.cdb_form.specs.Views.TextFault.{IsOfText}
+use Rattle.cdb_form.specs.declared.damage.Damage.{Damage}
 use Rattle.cdb_form.specs.declared.text.fault.TextFault.{TextFault}
 use Rattle.cdb_form.specs.declared.text.fault.TextFault.TheVariants as text_fault
 use Rattle.cdb_make.specs.Views.Maker.{Holds, WhereHonest, IsFile, limit_of}
-use Rattle.cdb_make.specs.declared.fault.MakeFault.TheVariants.{Lookup, Writing}
+use Rattle.cdb_make.specs.declared.fault.MakeFault.TheVariants.{Lookup, TooBig, Writing}
 use Rattle.cdb_make.specs.declared.maker.Maker.{Maker}
-use Rattle.cdb_tool.specs.Runs.Course.{Incoming, from_inputs, course_of, Goes, StopsSo}
-use Rattle.cdb_tool.specs.Runs.Inputs.{HasInputFault, AreInputs, FirstBegins, BeginsWith}
+use Rattle.cdb_read.specs.Views.ReadFault.{damage_fault}
+use Rattle.cdb_read.specs.declared.fault.ReadFault.{ReadFault}
+use Rattle.cdb_read.specs.declared.fault.ReadFault.TheVariants as read
+use Rattle.cdb_tool.specs.Runs.Course.{Task, task_of, Incoming, from_inputs, course_of, Goes}
+use Rattle.cdb_tool.specs.Runs.Course.{StopsSo}
+use Rattle.cdb_tool.specs.Runs.Inputs.{InputForm, input_form, HasItemFault, AreInputs}
+use Rattle.cdb_tool.specs.Runs.Inputs.{FirstBegins, BeginsWithItems}
 use Rattle.cdb_tool.specs.declared.fault.Fault.{Fault}
-use Rattle.cdb_tool.specs.declared.fault.Fault.TheVariants.{Text, Make}
+use Rattle.cdb_tool.specs.declared.fault.Fault.TheVariants.{Text, Make, Read, NoMemory}
 use Rattle.cdb_command.specs.declared.options.MakeOptions.{MakeOptions}
 use Rattle.cdb_command.specs.declared.style.Style.TheVariants.{Native}
 
--- the records of some inputs, and then of one more, as they come
-abbrev pub came : List (List KeyValue) → List KeyValue → List Incoming
+-- ---- the base
+
+-- the base can be amended: its walk has no damage, and its file with the gaps closed keeps the limit
+pub record IsBase (w limit : ℕ) (b : List ℕ) : Type 0 where
+  pub whole : (walk_of w b).damage ≡ None
+  pub fits : file_size w (walk_of w b).records ≤ limit
+
+-- why it can't be: its records pass the limit, which comes first; or its walk has a damage; or the
+-- store or the memory failed
+abbrev pub BaseFails : ℕ → ℕ → List ℕ → Fault → Type 0
+BaseFails w limit b (Make TooBig) = limit < file_size w (walk_of w b).records
+BaseFails w limit b (Make Writing) = ⊤
+BaseFails w limit b (Read read.Device) = ⊤
+BaseFails w limit b (Read fault) = (damage : Damage) × (fault ≡ damage_fault damage)
+    × ((walk_of w b).damage ≡ Some damage) × (file_size w (walk_of w b).records ≤ limit)
+BaseFails w limit b NoMemory = ⊤
+BaseFails w limit b fault = ⊥
+
+-- the records of a base
+abbrev pub records_of : ℕ → Option (List ℕ) → Option (List KeyValue)
+records_of w None = None
+records_of w (Some b) = Some (walk_of w b).records
+
+-- a base is none, or can be amended; and why it can't be
+abbrev pub IsSomeBase : ℕ → ℕ → Option (List ℕ) → Type 0
+IsSomeBase w limit None = ⊤
+IsSomeBase w limit (Some b) = IsBase w limit b
+
+abbrev pub SomeBaseFails : ℕ → ℕ → Option (List ℕ) → Fault → Type 0
+SomeBaseFails w limit None fault = ⊥
+SomeBaseFails w limit (Some b) fault = BaseFails w limit b fault
+
+-- this holds of each image of a base, if there is one, and without one where there is none
+abbrev pub OfBase : {B : Type 0} → Ghosts B → Option B → (Option (List ℕ) → Type 0) → Type 0
+OfBase s None P = P None
+OfBase s (Some base) P = (b : List ℕ) → s.image base b → P (Some b)
+
+-- a base is handed back, and was read and nothing else
+abbrev pub HandsBack : {B : Type 0} → Ghosts B → Option B → Option B → Type 0
+HandsBack s None None = ⊤
+HandsBack s (Some old) (Some new) = OnlyReads s old new
+HandsBack s old new = ⊥
+
+-- its store has failed
+abbrev pub HasFailed : {B : Type 0} → Ghosts B → Option B → Option B → Type 0
+HasFailed s (Some old) (Some new) = s.failures old < s.failures new
+HasFailed s old new = ⊥
+
+-- ---- the inputs
+
+-- the form of the inputs of a run
+abbrev pub form_of : Task → InputForm
+form_of t = input_form t.options.style (is_some t.base)
+
+-- the items of some inputs, and then of one more, as they come
+abbrev pub came : List (List Change) → List Change → List Incoming
 came read last = from_inputs 1 (read ++ last ∷ [])
 
 -- all inputs were read, and each image is the file of the records that the run came to
-pub record MakesDatabase (w greatest : ℕ) (o : MakeOptions) (inputs : List (Option (List ℕ)))
+pub record MakesDatabase (w greatest : ℕ) (t : Task) (inputs : List (Option (List ℕ)))
     (images : List ℕ → Type 0) (old new : Option (List ℕ)) : Type 0 where
-  pub read : List (List KeyValue)
-  pub are : AreInputs o.style greatest read inputs []
-  pub goes : Goes w o (from_inputs 1 read) old new
-  pub file : IsFile w (course_of w o (from_inputs 1 read)).records images
+  pub read : List (List Change)
+  pub are : AreInputs (form_of t) greatest read inputs []
+  pub goes : Goes w t (from_inputs 1 read) old new
+  pub file : IsFile w (course_of w t (from_inputs 1 read)).records images
 
 -- inputs were read up to one with this fault
-pub record MeetsInput (w greatest : ℕ) (o : MakeOptions) (inputs : List (Option (List ℕ)))
+pub record MeetsInput (w greatest : ℕ) (t : Task) (inputs : List (Option (List ℕ)))
     (old new : Option (List ℕ)) (number : ℕ) (fault : TextFault) : Type 0 where
-  pub read : List (List KeyValue)
-  pub last : List KeyValue
+  pub read : List (List Change)
+  pub last : List Change
   pub input : Option (List ℕ)
   pub rest : List (Option (List ℕ))
-  pub are : AreInputs o.style greatest read inputs (input ∷ rest)
+  pub are : AreInputs (form_of t) greatest read inputs (input ∷ rest)
   pub numbered : number ≡ length read + 1
   pub memory : fault ≢ text_fault.NoMemory
-  pub native : IsOfText fault → o.style ≡ Native
-  pub has : IfSome input (HasInputFault o.style greatest last fault)
-  pub goes : Goes w o (came read last) old new
+  pub native : IsOfText fault → t.options.style ≡ Native
+  pub has : IfSome input (HasItemFault (form_of t) greatest last fault)
+  pub goes : Goes w t (came read last) old new
 
--- inputs were read, of the last one these records, and then the run stopped
-pub record Stops (w greatest : ℕ) (o : MakeOptions) (inputs : List (Option (List ℕ)))
+-- inputs were read, of the last one these items, and then the run stopped
+pub record Stops (w greatest : ℕ) (t : Task) (inputs : List (Option (List ℕ)))
     (old new : Option (List ℕ)) (fault : Fault) : Type 0 where
-  pub read : List (List KeyValue)
-  pub last : List KeyValue
+  pub read : List (List Change)
+  pub last : List Change
   pub rest : List (Option (List ℕ))
-  pub are : AreInputs o.style greatest read inputs rest
-  pub begins : FirstBegins o.style greatest last rest
-  pub stops : StopsSo w o (came read last) old new fault
+  pub are : AreInputs (form_of t) greatest read inputs rest
+  pub begins : FirstBegins (form_of t) greatest last rest
+  pub stops : StopsSo w t (came read last) old new fault
 
--- what a fault leaves
-abbrev pub RunFails : ℕ → ℕ → MakeOptions → List (Option (List ℕ)) → Option (List ℕ)
+-- what a fault of the inputs, of the store or of the lines leaves
+abbrev pub InputsFail : ℕ → ℕ → Task → List (Option (List ℕ)) → Option (List ℕ)
     → Option (List ℕ) → Fault → Type 0
-RunFails w greatest o inputs old new (Text number fault) =
-    MeetsInput w greatest o inputs old new number fault
-RunFails w greatest o inputs old new fault = Stops w greatest o inputs old new fault
+InputsFail w greatest t inputs old new (Text number fault) =
+    MeetsInput w greatest t inputs old new number fault
+InputsFail w greatest t inputs old new fault = Stops w greatest t inputs old new fault
+
+-- ---- the run
+
+-- it made the database of its base and its inputs
+pub record Makes (w greatest : ℕ) (o : MakeOptions) (base : Option (List ℕ))
+    (inputs : List (Option (List ℕ))) (images : List ℕ → Type 0) (old new : Option (List ℕ))
+    : Type 0 where
+  pub based : IsSomeBase w o.limit base
+  pub made : MakesDatabase w greatest (task_of o (records_of w base)) inputs images old new
+
+-- its base failed, and no line was written; or it came to the inputs
+pub record BaseStops (w limit : ℕ) (base : Option (List ℕ)) (old new : Option (List ℕ))
+    (fault : Fault) : Type 0 where
+  pub fails : SomeBaseFails w limit base fault
+  pub lines : Appends old new []
+
+pub record InputsStop (w greatest : ℕ) (o : MakeOptions) (base : Option (List ℕ))
+    (inputs : List (Option (List ℕ))) (old new : Option (List ℕ)) (fault : Fault) : Type 0 where
+  pub based : IsSomeBase w o.limit base
+  pub fails : InputsFail w greatest (task_of o (records_of w base)) inputs old new fault
+
+abbrev pub RunFails : ℕ → ℕ → MakeOptions → Option (List ℕ) → List (Option (List ℕ))
+    → Option (List ℕ) → Option (List ℕ) → Fault → Type 0
+RunFails w greatest o base inputs old new fault =
+    BaseStops w o.limit base old new fault ⊎ InputsStop w greatest o base inputs old new fault
 
 -- what a run leaves, where its store has an image
-pub record Runs (w greatest : ℕ) (o : MakeOptions) (inputs : List (Option (List ℕ)))
-    (images : List ℕ → Type 0) (old new : Option (List ℕ)) (result : Result Unit Fault) : Type 0
-  where
-    pub ok : OnOk result (MakesDatabase w greatest o inputs images old new)
-    pub err : IfErr result (RunFails w greatest o inputs old new)
+pub record Runs (w greatest : ℕ) (o : MakeOptions) (base : Option (List ℕ))
+    (inputs : List (Option (List ℕ))) (images : List ℕ → Type 0) (old new : Option (List ℕ))
+    (result : Result Unit Fault) : Type 0 where
+  pub ok : OnOk result (Makes w greatest o base inputs images old new)
+  pub err : IfErr result (RunFails w greatest o base inputs old new)
 
 -- the fault is one of the store
 abbrev pub IsOfStore : Fault → Type 0
@@ -76,36 +167,63 @@ IsOfStore fault = ⊥
 -- ---- amid a run
 
 -- a maker holds the records that a run came to so far
-pub record InCourse {S L : Type 0} {s : Ghosts S} {l : Widths L} (o : MakeOptions)
+pub record InCourse {S L : Type 0} {s : Ghosts S} {l : Widths L} (t : Task)
     (cs : List Incoming) (old new : Option (List ℕ)) (m : Maker S L s l) : Type 0 where
-  pub holds : Holds m (course_of l.WORD o cs).records
-  pub limit : limit_of m ≡ o.limit
-  pub goes : WhereHonest (s.image m.store) (Goes l.WORD o cs old new)
+  pub holds : Holds m (course_of l.WORD t cs).records
+  pub limit : limit_of m ≡ t.options.limit
+  pub goes : WhereHonest (s.image m.store) (Goes l.WORD t cs old new)
 
--- how a run stopped in a put, before its record came or with it
-abbrev pub PutStops : ℕ → MakeOptions → List Incoming → Incoming → Option (List ℕ)
+-- how a run stopped at an item, before it came or with it
+abbrev pub PutStops : ℕ → Task → List Incoming → Incoming → Option (List ℕ)
     → Option (List ℕ) → Fault → Type 0
-PutStops w o cs c old new fault =
-    StopsSo w o cs old new fault ⊎ StopsSo w o (cs ++ c ∷ []) old new fault
+PutStops w t cs c old new fault =
+    StopsSo w t cs old new fault ⊎ StopsSo w t (cs ++ c ∷ []) old new fault
 
--- how it stopped in an input of which these records are whole
-pub record StopsIn (w greatest : ℕ) (o : MakeOptions) (read : List (List KeyValue))
+-- how it stopped in an input of which these items are whole
+pub record StopsIn (w greatest : ℕ) (t : Task) (read : List (List Change))
     (input old new : Option (List ℕ)) (fault : Fault) : Type 0 where
-  pub last : List KeyValue
-  pub begins : IfSome input (BeginsWith o.style greatest last)
-  pub stops : StopsSo w o (came read last) old new fault
+  pub last : List Change
+  pub begins : IfSome input (BeginsWithItems (form_of t) greatest last)
+  pub stops : StopsSo w t (came read last) old new fault
 
-pub record MeetsHere (w greatest : ℕ) (o : MakeOptions) (read : List (List KeyValue))
+pub record MeetsHere (w greatest : ℕ) (t : Task) (read : List (List Change))
     (input old new : Option (List ℕ)) (number : ℕ) (fault : TextFault) : Type 0 where
-  pub last : List KeyValue
+  pub last : List Change
   pub numbered : number ≡ length read + 1
   pub memory : fault ≢ text_fault.NoMemory
-  pub native : IsOfText fault → o.style ≡ Native
-  pub has : IfSome input (HasInputFault o.style greatest last fault)
-  pub goes : Goes w o (came read last) old new
+  pub native : IsOfText fault → t.options.style ≡ Native
+  pub has : IfSome input (HasItemFault (form_of t) greatest last fault)
+  pub goes : Goes w t (came read last) old new
 
-abbrev pub InputFails : ℕ → ℕ → MakeOptions → List (List KeyValue) → Option (List ℕ)
+abbrev pub InputFails : ℕ → ℕ → Task → List (List Change) → Option (List ℕ)
     → Option (List ℕ) → Option (List ℕ) → Fault → Type 0
-InputFails w greatest o read input old new (Text number fault) =
-    MeetsHere w greatest o read input old new number fault
-InputFails w greatest o read input old new fault = StopsIn w greatest o read input old new fault
+InputFails w greatest t read input old new (Text number fault) =
+    MeetsHere w greatest t read input old new number fault
+InputFails w greatest t read input old new fault = StopsIn w greatest t read input old new fault
+
+-- ---- the base, amid a run
+
+-- the fault is one of the base's store
+abbrev pub IsOfBase : Fault → Type 0
+IsOfBase (Read read.Device) = ⊤
+IsOfBase fault = ⊥
+
+-- a maker holds the records of each image of a base, whose walk has no damage
+pub record AddsBase {S L : Type 0} {s : Ghosts S} {l : Widths L} (w : ℕ) (images : List ℕ → Type 0)
+    (m : Maker S L s l) : Type 0 where
+  pub records : List KeyValue
+  pub holds : Holds m records
+  pub each : (b : List ℕ) → images b → walk_of w b ≡ record { records = records; damage = None }
+
+-- it holds those of a base, or none where there is no base
+abbrev pub HoldsBase : {S L B : Type 0} {s : Ghosts S} {l : Widths L} → ℕ → Ghosts B → Option B
+    → Maker S L s l → Type 0
+HoldsBase w s None m = Holds m []
+HoldsBase w s (Some base) m = AddsBase w (s.image base) m
+
+-- the base stopped the run
+abbrev pub BaseStopped : {B : Type 0} → ℕ → ℕ → Ghosts B → Option B → (List ℕ → Type 0) → Fault
+    → Type 0
+BaseStopped w limit s None images fault = ⊥
+BaseStopped w limit s (Some base) images fault =
+    (b : List ℕ) → s.image base b → WhereHonest images (BaseFails w limit b fault)

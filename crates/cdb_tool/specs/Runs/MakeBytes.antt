@@ -5,7 +5,7 @@ use Rattle.std.specs.Prelude.{Option, Result, IfSome, OnOk, IfErr}
 use Rattle.std.specs.Io.KnownBytes.{Appends, Keeps}
 use Rattle.cdb_form.specs.Format.Record.{KeyValue}
 use Rattle.cdb_form.specs.Format.File.{file_size, file_bytes}
-use Rattle.cdb_form.specs.Text.Native.{Spelled, Reads}
+use Rattle.cdb_form.specs.Text.Native.{Spells, Spelled, Reads}
 use Rattle.cdb_form.specs.Views.TextFault.{IsOfText, IsReadFault, LastRead}
 use Rattle.cdb_form.specs.Views.KnownBytes.{AppendsFront, FromTo, Took}
 use Rattle.cdb_form.specs.Views.TextReader.{IsGoing, taken_of, asks_left}
@@ -34,7 +34,7 @@ pub record ReadsFitting (w greatest : ℕ) (text rest : Option (List ℕ)) (reco
 pub record FailsText (w greatest : ℕ) (text : List ℕ) (fault : TextFault) : Type 0 where
   pub records : List KeyValue
   pub fits : file_size w records ≤ greatest
-  pub behind : HasFaultBehind greatest text records fault
+  pub behind : HasFaultBehind Spells greatest text records fault
 
 -- How far the text was read: up to the byte at its fault's place. Where the reader failed, what it
 -- gave ends early as a text: behind its whole records, whose file fits, it has neither a record nor

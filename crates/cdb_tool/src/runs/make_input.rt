@@ -1,21 +1,24 @@
-// The records of an input, put one after the other.
+// The items of an input, one after the other: records are put, and keys removed.
 ghost use Rattle.std.specs.Prelude.{◌≡◌, ◌+◌, ◌<◌, ◌≤◌, ℕ, List, [], ◌∷◌, ◌++◌, length, Option};
 ghost use Rattle.std.specs.Prelude.{◌||◌, None, IfSome, OnOk, IfErr};
 ghost use Rattle.std.specs.Io.KnownBytes.{Appends};
 ghost use Rattle.cdb_form.specs.Format.Record.{KeyValue};
-ghost use Rattle.cdb_form.specs.Views.Pairs.{key_value};
+ghost use Rattle.cdb_form.specs.Text.Amending.{Change, Putting, Removing};
+ghost use Rattle.cdb_form.specs.Views.Pairs.{key_value, change_in};
 ghost use Rattle.cdb_make.specs.Views.Maker.{WhereHonest, ComesFrom};
-ghost use Rattle.cdb_tool.specs.Views.InputReader.{style_of, unread, IsNew};
+ghost use Rattle.cdb_tool.specs.Views.ItemReader.{form_of, unread, IsNew};
 ghost use Rattle.cdb_tool.specs.Runs.Course.{Incoming, from_inputs, mode_of, meets_key, said};
-ghost use Rattle.cdb_tool.specs.Runs.Course.{ends, TellFails};
-ghost use Rattle.cdb_tool.specs.Runs.Inputs.{IsInput};
-ghost use Rattle.cdb_tool.specs.Runs.Make.{InCourse, PutStops, InputFails, IsOfStore};
+ghost use Rattle.cdb_tool.specs.Runs.Course.{Task, ends, TellFails};
+ghost use Rattle.cdb_tool.specs.Runs.Inputs.{IsInputOf};
+ghost use Rattle.cdb_tool.specs.Runs.Make.{InCourse, PutStops, InputFails, IsOfStore, IsOfBase};
+ghost use Rattle.cdb_tool.specs.Runs.Course.{StopsSo};
+ghost use Rattle.cdb_tool.specs.Runs.Make.{form_of as task_form};
 
 use crate::fault::Fault;
 use crate::message::write_duplicate;
-use crate::runs::input_reader::InputReader;
+use crate::runs::item_reader::ItemReader;
 use cdb_command::MakeOptions;
-use cdb_form::{Record, Width};
+use cdb_form::{ItemKind, Record, Width};
 use cdb_make::{Maker, Mode, Put};
 use cdb_store::Store;
 use std::alloc::Global;
@@ -81,66 +84,126 @@ fn put_record<L: Width, S: Store, E: Write>(
     from: &Record,
     errors: &mut E,
 ) -> Result<(), Fault>
-    ensures ok { (cs : List Incoming) (start : Option (List ℕ))
-        → InCourse options.now cs start (E.contents errors.old) maker.old
-        → OnOk result (InCourse options.now
-        (cs ++ record { input = input; number = number; it = key_value from.now } ∷ [])
+    ensures ok { (t : Task) (cs : List Incoming) (start : Option (List ℕ))
+        → t.options ≡ options.now
+        → InCourse t cs start (E.contents errors.old) maker.old
+        → OnOk result (InCourse t
+        (cs ++ record { input = input; number = number; it = Putting (key_value from.now) } ∷ [])
         start (E.contents errors.new) maker.new) }
-    ensures fails { (cs : List Incoming) (start : Option (List ℕ))
-        → InCourse options.now cs start (E.contents errors.old) maker.old
-        → IfErr result (λ f. WhereHonest (S.image maker.new.store) (PutStops L.WORD options.now cs
-        (record { input = input; number = number; it = key_value from.now })
+    ensures fails { (t : Task) (cs : List Incoming) (start : Option (List ℕ))
+        → t.options ≡ options.now
+        → InCourse t cs start (E.contents errors.old) maker.old
+        → IfErr result (λ f. WhereHonest (S.image maker.new.store) (PutStops L.WORD t cs
+        (record { input = input; number = number; it = Putting (key_value from.now) })
         start (E.contents errors.new) f)) }
     ensures comes { ComesFrom (S.image maker.old.store) (S.image maker.new.store) }
     ensures failures { S.failures maker.old.store ≤ S.failures maker.new.store }
     ensures failed { IfErr result
         (λ f. IsOfStore f → S.failures maker.old.store < S.failures maker.new.store) }
+    ensures own { IfErr result (λ f. IsOfBase f → ⊥) }
 {
     let put = maker.put(put_mode(options), &from.key, &from.value)?;
     tell_put(options, input, number, put, errors)
 }
 
-/// Puts the records of an input, whose number is counted from 1, up to its end.
-pub(crate) fn put_input<L: Width, S: Store, R: Read, E: Write>(
-    alloc: Global,
+/// Removes the records of a key. Nothing is told of it.
+fn remove_key<L: Width, S: Store>(maker: &mut Maker<S, L>, key: &[u8]) -> Result<(), Fault>
+    ensures ok { (t : Task) (cs : List Incoming) (start now : Option (List ℕ))
+        (input number : ℕ) → InCourse t cs start now maker.old
+        → OnOk result (InCourse t
+        (cs ++ record { input = input; number = number; it = Removing key.now } ∷ [])
+        start now maker.new) }
+    ensures fails { (t : Task) (cs : List Incoming) (start now : Option (List ℕ))
+        → InCourse t cs start now maker.old
+        → IfErr result (λ f. WhereHonest (S.image maker.new.store)
+        (StopsSo L.WORD t cs start now f)) }
+    ensures comes { ComesFrom (S.image maker.old.store) (S.image maker.new.store) }
+    ensures failures { S.failures maker.old.store ≤ S.failures maker.new.store }
+    ensures failed { IfErr result
+        (λ f. IsOfStore f → S.failures maker.old.store < S.failures maker.new.store) }
+    ensures own { IfErr result (λ f. IsOfBase f → ⊥) }
+{
+    maker.remove(key)?;
+    Ok(())
+}
+
+/// Does what an item of an input says, both counted from 1.
+fn do_item<L: Width, S: Store, E: Write>(
     maker: &mut Maker<S, L>,
     options: &MakeOptions,
     input: u64,
-    records: &mut InputReader<R, L>,
+    number: u64,
+    kind: ItemKind,
+    item: &Record,
     errors: &mut E,
 ) -> Result<(), Fault>
-    requires fresh { IsNew records.old }
-    requires style { style_of records.old ≡ options.now.style }
-    ensures ok { OnOk result ((last : List KeyValue)
-        × IfSome (unread R.remaining records.old) (IsInput options.now.style L.GREATEST last)
-        × ((read : List (List KeyValue)) (start : Option (List ℕ))
-        → input ≡ length read + 1
-        → InCourse options.now (from_inputs 1 read) start (E.contents errors.old) maker.old
-        → InCourse options.now (from_inputs 1 (read ++ last ∷ [])) start (E.contents errors.new)
-        maker.new)) }
-    ensures fails { (read : List (List KeyValue)) (start : Option (List ℕ))
-        → input ≡ length read + 1
-        → InCourse options.now (from_inputs 1 read) start (E.contents errors.old) maker.old
-        → IfErr result (λ f. WhereHonest (S.image maker.new.store)
-        (InputFails L.WORD L.GREATEST options.now read (unread R.remaining records.old)
+    ensures ok { (t : Task) (cs : List Incoming) (start : Option (List ℕ))
+        → t.options ≡ options.now
+        → InCourse t cs start (E.contents errors.old) maker.old
+        → OnOk result (InCourse t
+        (cs ++ record { input = input; number = number; it = change_in kind item.now } ∷ [])
+        start (E.contents errors.new) maker.new) }
+    ensures fails { (t : Task) (cs : List Incoming) (start : Option (List ℕ))
+        → t.options ≡ options.now
+        → InCourse t cs start (E.contents errors.old) maker.old
+        → IfErr result (λ f. WhereHonest (S.image maker.new.store) (PutStops L.WORD t cs
+        (record { input = input; number = number; it = change_in kind item.now })
         start (E.contents errors.new) f)) }
     ensures comes { ComesFrom (S.image maker.old.store) (S.image maker.new.store) }
     ensures failures { S.failures maker.old.store ≤ S.failures maker.new.store }
     ensures failed { IfErr result
         (λ f. IsOfStore f → S.failures maker.old.store < S.failures maker.new.store) }
+    ensures own { IfErr result (λ f. IsOfBase f → ⊥) }
 {
-    let mut record = Record {
+    match kind {
+        ItemKind::Put => put_record(maker, options, input, number, item, errors),
+        ItemKind::Remove => remove_key(maker, &item.key),
+    }
+}
+
+/// Does what the items of an input say, whose number is counted from 1, up to its end.
+pub(crate) fn put_input<L: Width, S: Store, R: Read, E: Write>(
+    alloc: Global,
+    maker: &mut Maker<S, L>,
+    options: &MakeOptions,
+    input: u64,
+    items: &mut ItemReader<R, L>,
+    errors: &mut E,
+) -> Result<(), Fault>
+    requires fresh { IsNew items.old }
+    ensures ok { OnOk result ((last : List Change)
+        × IfSome (unread R.remaining items.old)
+        (IsInputOf (form_of items.old) L.GREATEST last)
+        × ((t : Task) (read : List (List Change)) (start : Option (List ℕ))
+        → t.options ≡ options.now → input ≡ length read + 1
+        → InCourse t (from_inputs 1 read) start (E.contents errors.old) maker.old
+        → InCourse t (from_inputs 1 (read ++ last ∷ [])) start (E.contents errors.new)
+        maker.new)) }
+    ensures fails { (t : Task) (read : List (List Change)) (start : Option (List ℕ))
+        → t.options ≡ options.now → task_form t ≡ form_of items.old
+        → input ≡ length read + 1
+        → InCourse t (from_inputs 1 read) start (E.contents errors.old) maker.old
+        → IfErr result (λ f. WhereHonest (S.image maker.new.store)
+        (InputFails L.WORD L.GREATEST t read (unread R.remaining items.old)
+        start (E.contents errors.new) f)) }
+    ensures comes { ComesFrom (S.image maker.old.store) (S.image maker.new.store) }
+    ensures failures { S.failures maker.old.store ≤ S.failures maker.new.store }
+    ensures failed { IfErr result
+        (λ f. IsOfStore f → S.failures maker.old.store < S.failures maker.new.store) }
+    ensures own { IfErr result (λ f. IsOfBase f → ⊥) }
+{
+    let mut item = Record {
         key: Vec::new(alloc),
         value: Vec::new(alloc),
     };
     let mut number = 0;
     loop {
-        match records.read_into(&mut record) {
+        let kind = match items.read_into(&mut item) {
             Err(fault) => return Err(Fault::of_text(input, fault)),
-            Ok(false) => return Ok(()),
-            Ok(true) => {}
-        }
+            Ok(None) => return Ok(()),
+            Ok(Some(kind)) => kind,
+        };
         number += 1;
-        put_record(maker, options, input, number, &record, errors)?;
+        do_item(maker, options, input, number, kind, &item, errors)?;
     }
 }

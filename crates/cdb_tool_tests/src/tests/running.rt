@@ -26,14 +26,14 @@ const OTHER_LINE: &[u8] = b"cdb: input 2: record 1: duplicate key\n";
 
 /// What is done about a record whose key was there already, beside its put.
 #[derive(Clone, Copy, Debug, PartialEq, Eq)]
-enum Duplicates {
+pub(super) enum Duplicates {
     Silent,
     Told,
     Last,
 }
 
 /// What a run is told, that may make a file of so many bytes.
-fn options(mode: Mode, duplicates: Duplicates, style: Style, limit: u64) -> MakeOptions
+pub(super) fn options(mode: Mode, duplicates: Duplicates, style: Style, limit: u64) -> MakeOptions
     ensures { result.limit ≡ limit }
 {
     MakeOptions {
@@ -66,7 +66,10 @@ impl Made {
 }
 
 /// The inputs, each to be read.
-fn texts(alloc: Global, inputs: &[&'static [u8]]) -> Result<Vec<&'static [u8]>, AllocError> {
+pub(super) fn texts(
+    alloc: Global,
+    inputs: &[&'static [u8]],
+) -> Result<Vec<&'static [u8]>, AllocError> {
     let mut texts = Vec::new(alloc);
     for input in inputs {
         texts.push(*input).map_err(AllocError::from)?;
@@ -82,8 +85,8 @@ fn make(alloc: Global, inputs: &[&'static [u8]], options: MakeOptions) -> Result
     let texts = texts(alloc, inputs)?;
     let mut lines = Vec::new(alloc);
     let store = MemStore::new(alloc);
-    let (store, answer) = make_run::<Narrow, MemStore, &[u8], Vec<u8>>(
-        alloc, store, texts, options, &mut lines,
+    let (store, _, answer) = make_run::<Narrow, MemStore, MemStore, &[u8], Vec<u8>>(
+        alloc, store, None, texts, options, &mut lines,
     );
     Ok(Made {
         answer,
@@ -239,7 +242,9 @@ fn told(
     let texts = texts(alloc, &[input])?;
     let store = MemStore::new(alloc);
     let told = options(Mode::Warn, Duplicates::Told, Style::Native, 4294967295);
-    let (_, answer) = make_run::<Narrow, MemStore, &[u8], FakeWriter>(alloc, store, texts, told, w);
+    let (_, _, answer) = make_run::<Narrow, MemStore, MemStore, &[u8], FakeWriter>(
+        alloc, store, None, texts, told, w,
+    );
     Ok(answer)
 }
 
@@ -274,8 +279,8 @@ fn over_fuse(alloc: Global, calls: u64) -> Result<(Result<(), Fault>, Vec<u8>), 
     let mut lines = Vec::new(alloc);
     let store = FuseStore::new(MemStore::new(alloc), calls, 1);
     let told = options(Mode::Replace, Duplicates::Told, Style::Native, 4294967295);
-    let (store, answer) = make_run::<Narrow, FuseStore<MemStore>, &[u8], Vec<u8>>(
-        alloc, store, texts, told, &mut lines,
+    let (store, _, answer) = make_run::<Narrow, FuseStore<MemStore>, MemStore, &[u8], Vec<u8>>(
+        alloc, store, None, texts, told, &mut lines,
     );
     Ok((answer, store.into_inner().into_vec()))
 }

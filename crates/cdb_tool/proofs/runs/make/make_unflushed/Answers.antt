@@ -1,32 +1,61 @@
-use Rattle.cdb_tool.proofs.Courses.{course_starts}
-use Rattle.cdb_tool.proofs.RunEnds.{runs_not, runs_stopped, runs_whole, runs_unfinished}
-use Rattle.std.proofs.Common.{arith}
-use Rattle.std.proofs.lemmas.Grind.{common_steps}
+use Rattle.cdb_tool.proofs.RunEnds.{runs_not, runs_unbased, runs_stopped, runs_whole, runs_unfinished, hands_same, hands_some}
+use Rattle.std.proofs.Common.{sym, subst, ◌∙◌, map, [], Bool}
+use Rattle.cdb_tool.proofs.BaseRecords.{make_no_base}
+use Rattle.cdb_tool.specs.Runs.Inputs.{input_form, AreInputs}
 use Rattle.cdb_tool.proofs.runs.make.make_unflushed.Goals as goal
 
 pub returns-in-Err-clause-runs : goal.returns-in-Err-clause-runs
 returns-in-Err-clause-runs g c =
     let s = g.S.Store in
-    rw c.from.ensures (runs_not s.image s.size s.written s.failures _ _ _ _ _ c.args.store c.in-Err.refused.store _ c.in-Err.refused.fault c.in-Err.ensures.fails)
+    rw c.from.ensures (runs_not s.image s.size s.written s.failures g.B.Store _ _ _ _ _ _ c.args.store c.in-Err.refused.store _ c.in-Err.refused.fault c.in-Err.ensures.fails)
+
+pub returns-in-Err-clause-hands : goal.returns-in-Err-clause-hands
+returns-in-Err-clause-hands g c = hands_same g.B.Store c.args.base
 
 pub returns-in-Err-put_inputs-clause-runs : goal.returns-in-Err-put_inputs-clause-runs
 returns-in-Err-put_inputs-clause-runs g c =
-    let start = course_starts {s = g.S.Store} {l = g.L.Width} c.args.options.now (g.E.Write.contents c.args.errors.now) c.in-Ok.maker c.in-Ok.ensures.holds c.in-Ok.ensures.limit in
-    rw c.into_store.ensures (runs_stopped _ _ _ _ _ _ _ c.in-Err-put_inputs.fault (c.in-Err-put_inputs.ensures.fails _ start))
+    let add = c.add_base-base.ensures in
+    let base = c.add_base-base.result.0 in
+    let holds = (rw c.in_default.is at add.ok) c.in-Ok.ensures.holds in
+    let some = hands_some g.B.Store c.args.base base add.hands ∙ sym c.is_some-amends.ensures in
+    rw c.into_store-in-Err-put_inputs.ensures
+    (runs_stopped {s = g.S.Store} {l = g.L.Width} g.B.Store base g.L.Width.GREATEST c.args.options.now c.is_some-amends.result _ (g.E.Write.contents c.args.errors.now) _ c.add_base-base.new.maker _ c.in-Err-put_inputs.fault
+    holds (add.limit ∙ c.in-Ok.ensures.limit) some c.put_inputs.ensures.comes
+    (λ k same based begins. c.in-Err-put_inputs.ensures.fails k _ same based begins))
 
 pub returns-in-Ok-finish-clause-runs : goal.returns-in-Ok-finish-clause-runs
 returns-in-Ok-finish-clause-runs g c =
-    let put = c.in_default.ensures.ok in
-    let start = course_starts {s = g.S.Store} {l = g.L.Width} c.args.options.now (g.E.Write.contents c.args.errors.now) c.in-Ok.maker c.in-Ok.ensures.holds c.in-Ok.ensures.limit in
-    runs_whole {s = g.S.Store} {l = g.L.Width} _ _ _ put.0 _ _ c.put_inputs.new.maker _ put.1 (put.2 _ start) c.in-Ok-finish.ensures.comes c.in-Ok-finish.ensures.file
+    let add = c.add_base-base.ensures in
+    let base = c.add_base-base.result.0 in
+    let holds = (rw c.in_default.is at add.ok) c.in-Ok.ensures.holds in
+    let some = hands_some g.B.Store c.args.base base add.hands ∙ sym c.is_some-amends.ensures in
+    let put = c.in_default-put_inputs.ensures.ok in
+    let are = subst (λ (v : Bool). AreInputs (input_form c.args.options.now.style v) g.L.Width.GREATEST put.0 (map g.R.Read.remaining c.args.inputs.items) []) (sym some) put.1 in
+    runs_whole {s = g.S.Store} {l = g.L.Width} g.B.Store base g.L.Width.GREATEST c.args.options.now _ put.0 (g.E.Write.contents c.args.errors.now) _ c.add_base-base.new.maker c.put_inputs.new.maker _
+    holds (add.limit ∙ c.in-Ok.ensures.limit) are (λ k same begins. put.2 k _ same begins) c.put_inputs.ensures.comes c.in-Ok-finish.ensures.comes c.in-Ok-finish.ensures.file
 
 pub returns-in-Err-finish-clause-runs : goal.returns-in-Err-finish-clause-runs
 returns-in-Err-finish-clause-runs g c =
-    let put = c.in_default.ensures.ok in
+    let add = c.add_base-base.ensures in
+    let base = c.add_base-base.result.0 in
+    let holds = (rw c.in_default.is at add.ok) c.in-Ok.ensures.holds in
+    let some = hands_some g.B.Store c.args.base base add.hands ∙ sym c.is_some-amends.ensures in
+    let put = c.in_default-put_inputs.ensures.ok in
     let e = c.in-Err-finish.ensures in
-    let start = course_starts {s = g.S.Store} {l = g.L.Width} c.args.options.now (g.E.Write.contents c.args.errors.now) c.in-Ok.maker c.in-Ok.ensures.holds c.in-Ok.ensures.limit in
+    let are = subst (λ (v : Bool). AreInputs (input_form c.args.options.now.style v) g.L.Width.GREATEST put.0 (map g.R.Read.remaining c.args.inputs.items) []) (sym some) put.1 in
     rw (c.from-in-Err-finish.ensures, c.into_store-in-Err-finish.ensures)
-    (runs_unfinished {s = g.S.Store} {l = g.L.Width} _ _ _ put.0 _ _ c.put_inputs.new.maker c.in-Err-finish.unfinished.maker _ c.in-Err-finish.unfinished.fault put.1 (put.2 _ start) e.fails_comes e.fails)
+    (runs_unfinished {s = g.S.Store} {l = g.L.Width} g.B.Store base g.L.Width.GREATEST c.args.options.now _ put.0 (g.E.Write.contents c.args.errors.now) _ c.add_base-base.new.maker c.put_inputs.new.maker c.in-Err-finish.unfinished.maker _ c.in-Err-finish.unfinished.fault
+    holds (add.limit ∙ c.in-Ok.ensures.limit) are (λ k same begins. put.2 k _ same begins) c.put_inputs.ensures.comes e.fails_comes e.fails)
 
-pub returns-in-Err-finish-clause-failed : goal.returns-in-Err-finish-clause-failed
-returns-in-Err-finish-clause-failed g c = grind (arith, common_steps)
+pub returns-in-Err-finish-clause-base_failed : goal.returns-in-Err-finish-clause-base_failed
+returns-in-Err-finish-clause-base_failed g c = rw c.from-in-Err-finish.ensures (λ is. absurd (make_no_base c.in-Err-finish.unfinished.fault is))
+
+pub returns-in-Err-clause-base_failed : goal.returns-in-Err-clause-base_failed
+returns-in-Err-clause-base_failed g c = rw c.from.ensures (λ is. absurd (make_no_base c.in-Err.refused.fault is))
+
+pub returns-in-Err-added-clause-runs : goal.returns-in-Err-added-clause-runs
+returns-in-Err-added-clause-runs g c =
+    let add = c.add_base-base.ensures in
+    let base = c.add_base-base.result.0 in
+    let fails = (rw c.in-Err-added.is at add.fails) c.in-Ok.ensures.holds in
+    rw c.into_store.ensures (runs_unbased g.B.Store base _ _ c.args.options.now _ _ (g.E.Write.contents c.args.errors.now) _ c.in-Err-added.fault c.in-Ok.ensures.limit fails)

@@ -1,40 +1,46 @@
+use Rattle.std.proofs.Common.{subst, sym}
 use Rattle.std.proofs.lemmas.Result.{err_from_is_err_and}
 use Rattle.cdb_form.specs.Views.Pairs.{key_value}
 use Rattle.cdb_make.specs.Views.Maker.{Puts, FailsPutting}
-use Rattle.cdb_tool.proofs.Courses.{put_goes, put_told, told_store, put_refused, refused_store, as_told, ok_both, err_each}
+use Rattle.cdb_tool.proofs.BaseRecords.{make_no_base, told_no_base}
+use Rattle.cdb_tool.proofs.Courses.{put_goes_so, put_told_so, told_store, put_refused_so, refused_store, as_told, ok_both, err_each}
 use Rattle.cdb_tool.proofs.runs.make_input.put_record.Goals as goal
 
 pub returns-in_err-put-clause-fails : goal.returns-in_err-put-clause-fails
 returns-in_err-put-clause-fails g c =
     let p = err_from_is_err_and c.from_residual.result c.from_residual.ensures.1 in
     let f = c.in_err-put.field-0.0 in
-    let o = c.args.options.now in
     let fails = as_told (λ m r. FailsPutting {s = g.S.Store} {l = g.L.Width} c.args.maker.now c.put.new.self m r f) _ _ _ _ (key_value c.args.from.now) c.put_mode.ensures c.deref.ensures.value c.deref-2.ensures.value c.in_err-put.ensures.fails in
-    rw (p.1, p.2) (λ cs start h. put_refused {s = g.S.Store} {l = g.L.Width} o cs _ start _ c.args.maker.now c.put.new.self f h fails c.put.ensures.comes)
+    rw (p.1, p.2) (λ t cs start same h. put_refused_so {s = g.S.Store} {l = g.L.Width} t _ cs c.args.input c.args.number _ start _ c.args.maker.now c.put.new.self f same h fails c.put.ensures.comes)
 
 pub returns-in_err-put-clause-failed : goal.returns-in_err-put-clause-failed
 returns-in_err-put-clause-failed g c =
     let p = err_from_is_err_and c.from_residual.result c.from_residual.ensures.1 in
     let f = c.in_err-put.field-0.0 in
-    let o = c.args.options.now in
     let fails = as_told (λ m r. FailsPutting {s = g.S.Store} {l = g.L.Width} c.args.maker.now c.put.new.self m r f) _ _ _ _ (key_value c.args.from.now) c.put_mode.ensures c.deref.ensures.value c.deref-2.ensures.value c.in_err-put.ensures.fails in
-    rw (p.1, p.2) (refused_store {s = g.S.Store} {l = g.L.Width} c.args.maker.now c.put.new.self o _ f fails)
+    rw (p.1, p.2) (refused_store {s = g.S.Store} {l = g.L.Width} c.args.maker.now c.put.new.self _ _ f fails)
 
 pub returns-clause-ok : goal.returns-clause-ok
-returns-clause-ok g c = λ cs start h.
-    let o = c.args.options.now in
+returns-clause-ok g c = λ t cs start same h.
     let puts = as_told (λ m r. Puts {s = g.S.Store} {l = g.L.Width} c.args.maker.now c.put.new.self m r c.in_ok-put.put) _ _ _ _ (key_value c.args.from.now) c.put_mode.ensures c.deref.ensures.value c.deref-2.ensures.value c.in_ok-put.ensures.puts in
     ok_both c.tell_put.result
-    (λ told going. put_goes {s = g.S.Store} {l = g.L.Width} o cs _ start _ _ c.args.maker.now c.put.new.self c.in_ok-put.put h puts c.put.ensures.comes c.put.ensures.limit told going)
+    (λ told going. put_goes_so {s = g.S.Store} {l = g.L.Width} t _ cs c.args.input c.args.number _ start _ _ c.args.maker.now c.put.new.self c.in_ok-put.put same h puts c.put.ensures.comes c.put.ensures.limit told going)
     c.tell_put.ensures.ok c.tell_put.ensures.goes
 
 pub returns-clause-fails : goal.returns-clause-fails
-returns-clause-fails g c = λ cs start h.
-    let o = c.args.options.now in
+returns-clause-fails g c = λ t cs start same h.
     let puts = as_told (λ m r. Puts {s = g.S.Store} {l = g.L.Width} c.args.maker.now c.put.new.self m r c.in_ok-put.put) _ _ _ _ (key_value c.args.from.now) c.put_mode.ensures c.deref.ensures.value c.deref-2.ensures.value c.in_ok-put.ensures.puts in
     err_each c.tell_put.result
-    (λ f told. put_told {s = g.S.Store} {l = g.L.Width} o cs _ start _ _ c.args.maker.now c.put.new.self c.in_ok-put.put f h puts c.put.ensures.comes c.put.ensures.limit told)
+    (λ f told. put_told_so {s = g.S.Store} {l = g.L.Width} t _ cs c.args.input c.args.number _ start _ _ c.args.maker.now c.put.new.self c.in_ok-put.put f same h puts c.put.ensures.comes c.put.ensures.limit told)
     c.tell_put.ensures.fails
 
 pub returns-clause-failed : goal.returns-clause-failed
 returns-clause-failed g c = err_each c.tell_put.result (λ f told is. absurd (told_store c.args.options.now c.args.input c.args.number c.in_ok-put.put _ _ f told is)) c.tell_put.ensures.fails
+
+pub returns-in_err-put-clause-own : goal.returns-in_err-put-clause-own
+returns-in_err-put-clause-own g c =
+    let p = err_from_is_err_and c.from_residual.result c.from_residual.ensures.1 in
+    rw (p.1, p.2) (make_no_base c.in_err-put.field-0.0)
+
+pub returns-clause-own : goal.returns-clause-own
+returns-clause-own g c = err_each c.tell_put.result (λ f told is. absurd (told_no_base c.args.options.now c.args.input c.args.number c.in_ok-put.put _ _ f told is)) c.tell_put.ensures.fails

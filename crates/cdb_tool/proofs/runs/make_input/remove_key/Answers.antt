@@ -1,4 +1,5 @@
 use Rattle.std.proofs.lemmas.Result.{err_from_is_err_and}
+use Rattle.cdb_tool.proofs.BaseRecords.{make_no_base}
 use Rattle.cdb_tool.proofs.Courses.{removed_goes, unremoved, unremoved_store}
 use Rattle.cdb_tool.proofs.runs.make_input.remove_key.Goals as goal
 
@@ -15,3 +16,8 @@ pub returns-in_err-remove-clause-failed : goal.returns-in_err-remove-clause-fail
 returns-in_err-remove-clause-failed g c =
     let p = err_from_is_err_and c.from_residual.result c.from_residual.ensures.1 in
     rw (p.1, p.2) (unremoved_store {s = g.S.Store} {l = g.L.Width} c.args.maker.now c.remove.new.self c.args.key.now c.in_err-remove.field-0.0 c.in_err-remove.ensures.fails)
+
+pub returns-in_err-remove-clause-own : goal.returns-in_err-remove-clause-own
+returns-in_err-remove-clause-own g c =
+    let p = err_from_is_err_and c.from_residual.result c.from_residual.ensures.1 in
+    rw (p.1, p.2) (make_no_base c.in_err-remove.field-0.0)

@@ -1,0 +1,8 @@
+use Rattle.std.proofs.Common.{rules}
+use Rattle.cdb_tool.proofs.BaseRecords.{unopened}
+use Rattle.cdb_tool.proofs.runs.make_base.add_base.Goals as goal
+
+pub returns-in-Err-clause-fails : goal.returns-in-Err-clause-fails
+returns-in-Err-clause-fails g c = λ none b i.
+    let here : g.B.Store.image c.in-Err.unread.store b = search rules in
+    rw c.from.ensures (unopened {s = g.S.Store} {l = g.L.Width} g.B.Store c.in-Some.base c.in-Err.unread.store c.args.maker.now c.in-Err.unread.fault c.in-Err.ensures.fails (g.met.B.Store.image_size c.in-Err.unread.store) none b here)

@@ -1,0 +1,316 @@
+// make_run over a base, with files worked out by hand, and over bases that fail.
+ghost use Rattle.std.specs.Prelude.{◌≤◌};
+
+use super::running::{Duplicates, options, texts};
+use super::worked::{File, Run, bytes_of};
+use cdb_form::{Narrow, TextFault, Wide};
+use cdb_make::{MakeFault, Mode};
+use cdb_read::ReadFault;
+use cdb_store::{FuseStore, MemStore};
+use cdb_tool::{Fault, MakeOptions, Style, make_run};
+use std::alloc::{AllocError, Global};
+use std::prelude::*;
+use std::test::Fail;
+
+/// The file of `two` with `Goodbye` alone.
+const LAST_ALONE: [Run; 6] = [
+    (41, b"\x12\x08\0\0\0\0\0\0"),
+    (1, b"\x12\x08\0\0\x02\0\0\0"),
+    (214, b"\x22\x08\0\0\0\0\0\0"),
+    (1, b"\x03\0\0\0\x07\0\0\0twoGoodbye"),
+    (1, b"\x29\x60\x87\x0b\0\x08\0\0"),
+    (1, b"\0\0\0\0\0\0\0\0"),
+];
+
+/// The file of `two` with `Goodbye` and then `one` with `Again`.
+const ONE_AGAIN: [Run; 10] = [
+    (41, b"\x22\x08\0\0\0\0\0\0"),
+    (1, b"\x22\x08\0\0\x02\0\0\0"),
+    (87, b"\x32\x08\0\0\0\0\0\0"),
+    (1, b"\x32\x08\0\0\x02\0\0\0"),
+    (126, b"\x42\x08\0\0\0\0\0\0"),
+    (1, b"\x03\0\0\0\x07\0\0\0twoGoodbye"),
+    (1, b"\x03\0\0\0\x05\0\0\0oneAgain"),
+    (1, b"\x29\x60\x87\x0b\0\x08\0\0"),
+    (2, b"\0\0\0\0\0\0\0\0"),
+    (1, b"\x81\x5b\x87\x0b\x12\x08\0\0"),
+];
+
+/// What came of amending a base in memory.
+#[derive(Drop)]
+struct Amended {
+    answer: Result<(), Fault>,
+    file: Vec<u8>,
+    lines: Vec<u8>,
+    base: Vec<u8>,
+}
+
+impl Amended {
+    /// Whether the file and the lines are these, and the base is what it was.
+    fn made(&self, file: &[u8], lines: &[u8], base: &[u8]) -> bool {
+        self.answer == Ok(())
+            && self.file.as_slice() == file
+            && self.lines.as_slice() == lines
+            && self.base.as_slice() == base
+    }
+
+    /// Whether it failed so, with these lines, and the base is what it was.
+    fn fails(&self, fault: Fault, lines: &[u8], base: &[u8]) -> bool {
+        self.answer == Err(fault) && self.lines.as_slice() == lines && self.base.as_slice() == base
+    }
+}
+
+/// The bytes of a base that was handed back.
+fn handed(alloc: Global, base: Option<MemStore>) -> Vec<u8> {
+    match base {
+        Some(base) => base.into_vec(),
+        None => Vec::new(alloc),
+    }
+}
+
+/// A base amended by one input.
+fn amend(
+    alloc: Global,
+    base: &[u8],
+    input: &'static [u8],
+    options: MakeOptions,
+) -> Result<Amended, AllocError>
+    requires least { 2048 ≤ options.limit }
+    requires most { options.limit ≤ 4294967295 }
+{
+    let texts = texts(alloc, &[input])?;
+    let mut lines = Vec::new(alloc);
+    let base = MemStore::from_vec(Vec::from_slice(alloc, base)?);
+    let store = MemStore::new(alloc);
+    let (store, base, answer) = make_run::<Narrow, MemStore, MemStore, &[u8], Vec<u8>>(
+        alloc,
+        store,
+        Some(base),
+        texts,
+        options,
+        &mut lines,
+    );
+    Ok(Amended {
+        answer,
+        file: store.into_vec(),
+        lines,
+        base: handed(alloc, base),
+    })
+}
+
+/// The two-record file amended.
+fn amend_two(
+    alloc: Global,
+    input: &'static [u8],
+    mode: Mode,
+    duplicates: Duplicates,
+) -> Result<Amended, AllocError> {
+    let two = File::Two.bytes(alloc)?;
+    amend(
+        alloc,
+        &two,
+        input,
+        options(mode, duplicates, Style::Native, 4294967295),
+    )
+}
+
+#[test]
+fn a_removal_and_a_put_amend_a_base(rt: HostRuntime) -> Result<(), Fail> {
+    let alloc = rt.alloc();
+    let two = File::Two.bytes(alloc)?;
+    let alone = bytes_of(alloc, &LAST_ALONE)?;
+    let again = bytes_of(alloc, &ONE_AGAIN)?;
+    let taken = amend_two(alloc, b"-3:one\n\n", Mode::Add, Duplicates::Silent)?;
+    assert!(rt; taken.made(&alone, b"", &two), "removed");
+    let put = amend_two(
+        alloc,
+        b"-3:one\n+3,5:one->Again\n\n",
+        Mode::Warn,
+        Duplicates::Told,
+    )?;
+    assert!(rt; put.made(&again, b"", &two), "again");
+    Ok(())
+}
+
+#[test]
+fn nothing_amended_is_the_same_file(rt: HostRuntime) -> Result<(), Fail> {
+    let alloc = rt.alloc();
+    let two = File::Two.bytes(alloc)?;
+    let same = amend_two(alloc, b"\n", Mode::Add, Duplicates::Silent)?;
+    assert!(rt; same.made(&two, b"", &two), "no item");
+    let absent = amend_two(alloc, b"-3:zzz\n\n", Mode::Warn, Duplicates::Told)?;
+    assert!(rt; absent.made(&two, b"", &two), "an absent key");
+    Ok(())
+}
+
+#[test]
+fn records_of_a_base_are_added_whatever_the_mode(rt: HostRuntime) -> Result<(), Fail> {
+    let alloc = rt.alloc();
+    let four = File::FourValues.bytes(alloc)?;
+    let replaced = options(Mode::Replace, Duplicates::Silent, Style::Native, 4294967295);
+    assert!(rt;
+        amend(alloc, &four, b"\n", replaced)?.made(&four, b"", &four),
+        "replace"
+    );
+    let stopped = options(Mode::Add, Duplicates::Last, Style::Native, 4294967295);
+    assert!(rt;
+        amend(alloc, &four, b"\n", stopped)?.made(&four, b"", &four),
+        "stop"
+    );
+    Ok(())
+}
+
+#[test]
+fn removals_are_counted_and_not_told(rt: HostRuntime) -> Result<(), Fail> {
+    let alloc = rt.alloc();
+    let two = File::Two.bytes(alloc)?;
+    let told = amend_two(
+        alloc,
+        b"-3:zzz\n+3,1:one->X\n\n",
+        Mode::Warn,
+        Duplicates::Told,
+    )?;
+    assert!(rt;
+        told.lines.as_slice() == b"cdb: input 1: record 2: duplicate key\n".as_slice(),
+        "the second item"
+    );
+    let last = amend_two(alloc, b"+3,1:one->X\n\n", Mode::Warn, Duplicates::Last)?;
+    assert!(rt;
+        last.fails(
+            Fault::Duplicate,
+            b"cdb: input 1: record 1: duplicate key\n",
+            &two
+        ),
+        "stopped"
+    );
+    Ok(())
+}
+
+#[test]
+fn faults_of_amending_texts_are_told(rt: HostRuntime) -> Result<(), Fail> {
+    let alloc = rt.alloc();
+    let two = File::Two.bytes(alloc)?;
+    let rows: [(&'static [u8], TextFault); 4] = [
+        (b"-3:on", TextFault::Ended(5)),
+        (b"-4294967296:", TextFault::Large(10)),
+        (b"-3:onex", TextFault::Syntax(6)),
+        (b"-3,", TextFault::Syntax(2)),
+    ];
+    for (input, fault) in rows {
+        let made = amend_two(alloc, input, Mode::Add, Duplicates::Silent)?;
+        assert!(rt; made.fails(Fault::Text(1, fault), b"", &two), "{input:?}");
+    }
+    Ok(())
+}
+
+/// The answer to a text that removes a key, with no base.
+fn without_base(alloc: Global) -> Result<Result<(), Fault>, AllocError> {
+    let texts = texts(alloc, &[b"-3:one\n\n"])?;
+    let mut lines = Vec::new(alloc);
+    let added = options(Mode::Add, Duplicates::Silent, Style::Native, 4294967295);
+    let store = MemStore::new(alloc);
+    let (_, _, answer) = make_run::<Narrow, MemStore, MemStore, &[u8], Vec<u8>>(
+        alloc, store, None, texts, added, &mut lines,
+    );
+    Ok(answer)
+}
+
+#[test]
+fn a_removal_needs_a_base(rt: HostRuntime) -> Result<(), Fail> {
+    let answer = without_base(rt.alloc())?;
+    assert!(rt; answer == Err(Fault::Text(1, TextFault::Syntax(0))));
+    Ok(())
+}
+
+#[test]
+fn a_damaged_base_is_told_behind_its_limit(rt: HostRuntime) -> Result<(), Fail> {
+    let alloc = rt.alloc();
+    let two = File::Two.bytes(alloc)?;
+    let cut = &two[..2070];
+    let added = options(Mode::Add, Duplicates::Silent, Style::Native, 4294967295);
+    let damaged = Fault::Read(ReadFault::Record(2064));
+    assert!(rt;
+        amend(alloc, cut, b"x", added)?.fails(damaged, b"", cut),
+        "before the input"
+    );
+    let few = options(Mode::Add, Duplicates::Silent, Style::Native, 2079);
+    let big = Fault::Make(MakeFault::TooBig);
+    assert!(rt;
+        amend(alloc, cut, b"x", few)?.fails(big, b"", cut),
+        "its first record"
+    );
+    let short = &two[..2047];
+    let no_head = Fault::Read(ReadFault::Short);
+    assert!(rt;
+        amend(alloc, short, b"x", added)?.fails(no_head, b"", short),
+        "no head"
+    );
+    Ok(())
+}
+
+/// The answer over a base of which a call fails, its bytes then, and the file.
+fn over_fuse(
+    alloc: Global,
+    calls: u64,
+) -> Result<(Result<(), Fault>, Vec<u8>, Vec<u8>), AllocError> {
+    let texts = texts(alloc, &[b"-3:one\n\n"])?;
+    let mut lines = Vec::new(alloc);
+    let base = FuseStore::new(MemStore::from_vec(File::Two.bytes(alloc)?), calls, 1);
+    let added = options(Mode::Add, Duplicates::Silent, Style::Native, 4294967295);
+    let store = MemStore::new(alloc);
+    let (store, base, answer) = make_run::<Narrow, MemStore, FuseStore<MemStore>, &[u8], Vec<u8>>(
+        alloc,
+        store,
+        Some(base),
+        texts,
+        added,
+        &mut lines,
+    );
+    let base = match base {
+        Some(base) => base.into_inner().into_vec(),
+        None => Vec::new(alloc),
+    };
+    Ok((answer, base, store.into_vec()))
+}
+
+#[test]
+fn a_base_that_fails_is_handed_back(rt: HostRuntime) -> Result<(), Fail> {
+    let two = File::Two.bytes(rt.alloc())?;
+    let alone = bytes_of(rt.alloc(), &LAST_ALONE)?;
+    for calls in 0..64u64 {
+        let (answer, base, file) = over_fuse(rt.alloc(), calls)?;
+        assert!(rt; base.as_slice() == two.as_slice(), "{calls}");
+        if answer == Ok(()) {
+            assert!(rt; calls > 0 && file.as_slice() == alone.as_slice());
+            return Ok(());
+        }
+        assert!(rt; answer == Err(Fault::Read(ReadFault::Device)), "{calls}");
+    }
+    Err(Fail::new("no run met no fault"))
+}
+
+/// A wide base of one record, which is removed.
+fn wide_emptied(alloc: Global) -> Result<Vec<u8>, AllocError> {
+    let texts = texts(alloc, &[b"-3:one\n\n"])?;
+    let mut lines = Vec::new(alloc);
+    let base = MemStore::from_vec(File::WideOne.bytes(alloc)?);
+    let added = options(Mode::Add, Duplicates::Silent, Style::Native, 4294967295);
+    let store = MemStore::new(alloc);
+    let (store, _, _) = make_run::<Wide, MemStore, MemStore, &[u8], Vec<u8>>(
+        alloc,
+        store,
+        Some(base),
+        texts,
+        added,
+        &mut lines,
+    );
+    Ok(store.into_vec())
+}
+
+#[test]
+fn a_wide_base_is_amended(rt: HostRuntime) -> Result<(), Fail> {
+    let none = File::WideNone.bytes(rt.alloc())?;
+    let made = wide_emptied(rt.alloc())?;
+    assert!(rt; made.as_slice() == none.as_slice());
+    Ok(())
+}
