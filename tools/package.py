@@ -21,7 +21,7 @@ import tempfile
 TOP = os.path.join(os.path.dirname(os.path.abspath(__file__)), "..")
 NAME = "pezundrix"
 MAINTAINER = "Pezundrix maintainers <maintainers@users.noreply.pezundrix.example>"
-PAGES = ("cdb.1", "cdb.3", "cdb.5")
+PAGES = ("cdb.1", "cdb.5")
 
 CONTROL = """\
 Package: {name}
