@@ -32,6 +32,8 @@ static_assert(sizeof(struct cdb_find) == 64, "size of struct cdb_find");
 static_assert(offsetof(struct cdb_find, cdb_cdbp) == 0, "cdb_cdbp");
 static_assert(offsetof(struct cdb_find, cdb_hval) == 8, "cdb_hval");
 static_assert(offsetof(struct cdb_find, cdb_htp) == 16, "cdb_htp");
+static_assert(offsetof(struct cdb_find, cdb_htab) == 24, "cdb_htab");
+static_assert(offsetof(struct cdb_find, cdb_htend) == 32, "cdb_htend");
 static_assert(offsetof(struct cdb_find, cdb_httodo) == 40, "cdb_httodo");
 static_assert(offsetof(struct cdb_find, cdb_key) == 48, "cdb_key");
 static_assert(offsetof(struct cdb_find, cdb_klen) == 56, "cdb_klen");
