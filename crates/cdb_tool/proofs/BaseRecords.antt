@@ -1,11 +1,11 @@
 -- A base whose records are added to a maker, one after the other.
-use Rattle.std.proofs.Common.{◌≡◌, ◌≢◌, ℕ, ◌+◌, ◌*◌, ◌<◌, ◌≤◌, List, [], ◌∷◌, ◌++◌, refl, sym, ap, subst, ◌∙◌, arith, append_assoc, length, Option, Some, None}
+use Rattle.std.proofs.Common.{◌≡◌, ◌≢◌, ℕ, ◌+◌, ◌*◌, ◌<◌, ◌≤◌, List, [], ◌∷◌, ◌++◌, refl, sym, ap, subst, ◌∙◌, arith, append_assoc, length, Option, Some}
 use Rattle.std.proofs.lemmas.List.{append-nil}
 use Rattle.cdb_store.specs.declared.store.Store.{Ghosts}
 use Rattle.cdb_form.specs.declared.width.Width.{Ghosts as Widths}
 use Rattle.cdb_form.specs.Format.File.{file_size}
-use Rattle.cdb_form.specs.Format.Record.{KeyValue, record_size}
-use Rattle.cdb_form.specs.Format.Walk.{Walked, walk_of, no_walk, damaged, with_first, with_records}
+use Rattle.cdb_form.specs.Format.Record.{KeyValue}
+use Rattle.cdb_form.specs.Format.Walk.{Walked, walk_of, damaged, with_first, with_records}
 use Rattle.cdb_form.proofs.WalkSteps.{walk_of-short}
 use Rattle.cdb_form.specs.declared.text.fault.TextFault.{TextFault}
 use Rattle.cdb_form.specs.declared.text.fault.TextFault.TheVariants as text
@@ -29,7 +29,7 @@ use Rattle.cdb_read.specs.declared.record_walk.Walk.{Walk}
 use Rattle.cdb_read.specs.declared.span.Pair.{Pair}
 use Rattle.cdb_tool.specs.Views.Fault.{read_fault, make_fault, text_fault}
 use Rattle.cdb_tool.specs.Runs.Course.{TellFails}
-use Rattle.cdb_tool.specs.Runs.Make.{BaseFails, AddsBase, IsOfBase}
+use Rattle.cdb_tool.specs.Runs.Make.{BaseFails, IsOfBase}
 use Rattle.cdb_tool.specs.declared.fault.Fault.{Fault}
 use Rattle.cdb_tool.specs.declared.fault.Fault.TheVariants as fault
 use Rattle.cdb_command.specs.declared.options.MakeOptions.{MakeOptions}
@@ -58,17 +58,6 @@ added_more w old new left rest first m now pair k v put h fewer more key value p
       ∙ ap (λ rs. let walk : Walked = record { records = rs; damage = (rest b).damage } in walk) (sym (append_assoc h.done (r ∷ []) (rest b).records))
       ∙ ap (λ q. with_records (h.done ++ q ∷ []) (rest b)) (sym same);
   holds = λ none. puts.holds h.done (h.holds none);
-}
-
--- all were
-pub added_all : {S L : Type 0} {s : Ghosts S} {l : Widths L} (w : ℕ) (old new : List ℕ → Type 0) (left : List ℕ → Walked) (first m : Maker S L s l) → AddedSoFar w old left first m → ((b : List ℕ) → new b → old b) → ((b : List ℕ) → new b → left b ≡ no_walk)
-    → Holds first [] → AddsBase w new m
-added_all w old new left first m h fewer none holds = record {
-  records = h.done;
-  holds = h.holds holds;
-  each = λ b i.
-      h.all b (fewer b i) ∙ ap (with_records h.done) (none b i)
-      ∙ ap (λ rs. let walk : Walked = record { records = rs; damage = None } in walk) (append-nil h.done);
 }
 
 -- ---- the walk stopped
