@@ -222,29 +222,36 @@ fn a_removal_needs_a_base(rt: HostRuntime) -> Result<(), Fail> {
     Ok(())
 }
 
+/// The first bytes of the two-record file.
+fn first_bytes(alloc: Global, many: usize) -> Result<Vec<u8>, AllocError> {
+    let mut bytes = File::Two.bytes(alloc)?;
+    bytes.truncate(many);
+    Ok(bytes)
+}
+
+/// Whether a base is refused so, before an input that is no text is read.
+fn refuses(alloc: Global, base: &[u8], limit: u64, fault: Fault) -> Result<bool, AllocError>
+    requires least { 2048 ≤ limit }
+    requires most { limit ≤ 4294967295 }
+{
+    let added = options(Mode::Add, Duplicates::Silent, Style::Native, limit);
+    Ok(amend(alloc, base, b"x", added)?.fails(fault, b"", base))
+}
+
 #[test]
 fn a_damaged_base_is_told_behind_its_limit(rt: HostRuntime) -> Result<(), Fail> {
     let alloc = rt.alloc();
-    let two = File::Two.bytes(alloc)?;
-    let cut = &two[..2070];
-    let added = options(Mode::Add, Duplicates::Silent, Style::Native, 4294967295);
+    let cut = first_bytes(alloc, 2070)?;
     let damaged = Fault::Read(ReadFault::Record(2064));
     assert!(rt;
-        amend(alloc, cut, b"x", added)?.fails(damaged, b"", cut),
+        refuses(alloc, &cut, 4294967295, damaged)?,
         "before the input"
     );
-    let few = options(Mode::Add, Duplicates::Silent, Style::Native, 2079);
     let big = Fault::Make(MakeFault::TooBig);
-    assert!(rt;
-        amend(alloc, cut, b"x", few)?.fails(big, b"", cut),
-        "its first record"
-    );
-    let short = &two[..2047];
+    assert!(rt; refuses(alloc, &cut, 2079, big)?, "its first record");
+    let short = first_bytes(alloc, 2047)?;
     let no_head = Fault::Read(ReadFault::Short);
-    assert!(rt;
-        amend(alloc, short, b"x", added)?.fails(no_head, b"", short),
-        "no head"
-    );
+    assert!(rt; refuses(alloc, &short, 4294967295, no_head)?, "no head");
     Ok(())
 }
 
