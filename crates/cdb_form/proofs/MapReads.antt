@@ -2,7 +2,7 @@
 use Rattle.std.proofs.Common.{All, List, None, Option, Some, [], append_assoc, ap, arith, false, get_or, length-append, refl, subst, sym, true, ◌++◌, ◌+◌, ◌<◌, ◌∙◌, ◌∷◌, ◌≡◌, ◌≢◌, ◌≤◌, ℕ}
 use Rattle.std.specs.List.{AllPass}
 use Rattle.std.specs.Prelude.{◌==◌}
-use Rattle.std.specs.Io.KnownBytes.{Consumes}
+use Rattle.std.specs.Io.KnownBytes.{Consumes, IsAtEnd, Keeps}
 use Rattle.std.proofs.lemmas.Bool.{eqb-true}
 use Rattle.std.proofs.lemmas.List.{append-nil}
 use Rattle.std.proofs.lemmas.List.Concat.{flat_map-append}
@@ -11,14 +11,17 @@ use Rattle.cdb_form.specs.Format.Record.{KeyValue}
 use Rattle.cdb_form.specs.Text.Map.{IsIgnoredLine, IsLineOf, Lacks, behind_blanks, is_blank, is_newline, line_pair, with_newlines}
 use Rattle.cdb_form.specs.Views.MapParser.{ReadsLine, ReadsPair, ReadsRun, ReadsToEnding, ReadsValue, is_of}
 use Rattle.cdb_form.specs.Views.MapReader.{IsAmidLines}
+use Rattle.cdb_form.specs.Views.AtHand.{MovesCounted}
 use Rattle.cdb_form.specs.Views.Source.{LeavesAmid, Takes, budget}
+use Rattle.cdb_form.specs.Views.TextFault.{IsOfText, IsReadFault, IsSpent}
 use Rattle.cdb_form.specs.declared.text.fault.TextFault.{TextFault}
-use Rattle.cdb_form.specs.declared.text.map_parser.Kind.{Kind}
-use Rattle.cdb_form.specs.declared.text.map_parser.Kind.TheVariants.{Blank, InLine, InWord}
+use Rattle.cdb_form.specs.declared.text.fault.TextFault.TheVariants.{Syntax, Ended, Large, Input, Endless, NoMemory}
+use Rattle.cdb_form.specs.declared.text.kind.Kind.{Kind}
+use Rattle.cdb_form.specs.declared.text.kind.Kind.TheVariants.{Blank, InLine, InWord}
 use Rattle.cdb_form.specs.declared.text.map_parser.LineRead.TheVariants.{Ignored, Last, Pair}
 use Rattle.cdb_form.specs.declared.text.source.Source.{Source}
 use Rattle.cdb_form.proofs.MapLines.{behind_blanks-run, blank_line, noted_line, kept_line, line_pair-key}
-use Rattle.cdb_form.proofs.SourceLemmas.{consumes_then}
+use Rattle.cdb_form.proofs.SourceLemmas.{consumes_then, kept_consumes}
 
 -- ---- kinds of bytes
 
@@ -78,9 +81,65 @@ run_more kind remaining old mid new bytes b so read counted fewer spends of_kind
   spends = omega (arith, so.spends, spends, counted);
 }
 
+-- more bytes that were at hand
+pub run_at_hand : {R : Type 0} (kind : Kind) (remaining : R → Option (List ℕ)) (old mid new : Source R) (bytes held holds : List ℕ) → RunSoFar kind remaining old mid bytes
+    → (m : MovesCounted kind remaining mid new held holds) → RunSoFar kind remaining old new (bytes ++ m.bytes)
+run_at_hand kind remaining old mid new bytes held holds so m = record {
+  each = All-append (λ c. is_of kind c ≡ true) bytes m.bytes so.each m.each;
+  takes = takes_then remaining old mid new bytes m.bytes so.takes m.takes;
+  asks = omega (arith, so.asks, m.asks);
+  spends = omega (arith, so.spends, m.spends);
+}
+
 -- what was kept of it
+pub kept_at_hand : (old new bytes more : List ℕ) (first : ℕ) → new ≡ old ++ more → old ≡ first ∷ bytes → new ≡ first ∷ (bytes ++ more)
+kept_at_hand old new bytes more first e so = e ∙ ap (λ t. t ++ more) so
+
 pub kept_more : (old new bytes : List ℕ) (first b : ℕ) → new ≡ old ++ b ∷ [] → old ≡ first ∷ bytes → new ≡ first ∷ (bytes ++ b ∷ [])
 kept_more old new bytes first b e so = e ∙ ap (λ t. t ++ b ∷ []) so
+
+-- the byte behind it
+pub run_stopped : {R : Type 0} (kind : Kind) (remaining : R → Option (List ℕ)) (old mid new : Source R) (bytes : List ℕ) (b : ℕ) → RunSoFar kind remaining old mid bytes
+    → Consumes (remaining mid.reader) (remaining new.reader) (b ∷ []) → new.taken ≡ mid.taken + 1 → mid.asks ≤ new.asks + 1001 → is_of kind b ≡ false
+    → ReadsRun kind remaining old new bytes (Some b)
+run_stopped kind remaining old mid new bytes b so read counted spends other = record {
+  each = so.each;
+  takes = takes_then remaining old mid new bytes (b ∷ []) so.takes (byte_takes remaining mid new b read counted);
+  other = other;
+  end = tt;
+  spends = omega (arith, so.spends, spends, counted);
+}
+
+-- or the end
+pub run_ended : {R : Type 0} (kind : Kind) (remaining : R → Option (List ℕ)) (old mid new : Source R) (bytes : List ℕ) → RunSoFar kind remaining old mid bytes
+    → Keeps (remaining mid.reader) (remaining new.reader) → IsAtEnd (remaining new.reader) → new.taken ≡ mid.taken → mid.asks ≤ new.asks + 1001
+    → ReadsRun kind remaining old new bytes None
+run_ended kind remaining old mid new bytes so kept end counted spends = record {
+  each = so.each;
+  takes = takes_then remaining old mid new bytes [] so.takes (record { read = kept_consumes _ _ kept; counted = omega (arith, counted) });
+  other = tt;
+  end = end;
+  spends = omega (arith, so.spends, spends, counted);
+}
+
+-- or a fault of the reader
+pub run_failed : {R : Type 0} (kind : Kind) (remaining : R → Option (List ℕ)) (old mid new : Source R) (bytes : List ℕ) (f : TextFault) → RunSoFar kind remaining old mid bytes
+    → Keeps (remaining mid.reader) (remaining new.reader) → new.taken ≡ mid.taken → mid.asks ≤ new.asks + 1001 → (IsOfText f → ⊥) → IsSpent new.asks f
+    → LeavesAmid (Lacks is_newline) remaining old new f
+run_failed kind remaining old mid new bytes f so kept counted spends outside spent = record {
+  outside = outside;
+  part = λ other. (bytes ++ [], All-append (λ c. is_newline c ≡ false) bytes [] (run_lacks kind bytes so.each) (All-nil _), takes_then remaining old mid new bytes [] so.takes (record { read = kept_consumes _ _ kept; counted = omega (arith, counted) }));
+  spent = spent;
+  spends = omega (arith, so.spends, spends, counted);
+}
+
+pub read_fault_outside : (f : TextFault) → IsReadFault f → IsOfText f → ⊥
+read_fault_outside (Syntax at) h t = h
+read_fault_outside (Ended at) h t = h
+read_fault_outside (Large at) h t = h
+read_fault_outside Input h t = t
+read_fault_outside Endless h t = t
+read_fault_outside NoMemory h t = h
 
 -- ---- one piece after another
 

@@ -8,6 +8,7 @@ pub mod WalkFault
 pub mod Source
 pub mod NativeParser
 pub mod MapParser
+pub mod AtHand
 pub mod FormReader
 pub mod TextReader
 pub mod AmendReader

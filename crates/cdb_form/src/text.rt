@@ -1,8 +1,10 @@
 // The texts of a list of records, and of a list of items.
 pub(crate) mod amend_reader;
 pub(crate) mod amend_writer;
+pub(crate) mod at_hand;
 pub(crate) mod fault;
 pub(crate) mod going;
+pub(crate) mod kind;
 pub(crate) mod list_writer;
 mod map_parser;
 pub(crate) mod map_reader;

@@ -7,8 +7,8 @@ use Rattle.cdb_form.specs.Format.Record.{KeyValue}
 use Rattle.cdb_form.specs.Text.Map.{BeginsOther, IsIgnoredLine, IsLineOf, Lacks, is_blank}
 use Rattle.cdb_form.specs.Text.Map.{is_newline, line_pair}
 use Rattle.cdb_form.specs.Views.Source.{Takes, budget}
-use Rattle.cdb_form.specs.declared.text.map_parser.Kind.{Kind}
-use Rattle.cdb_form.specs.declared.text.map_parser.Kind.TheVariants.{Blank, InLine, InWord}
+use Rattle.cdb_form.specs.declared.text.kind.Kind.{Kind}
+use Rattle.cdb_form.specs.declared.text.kind.Kind.TheVariants.{Blank, InLine, InWord}
 use Rattle.cdb_form.specs.declared.text.map_parser.LineRead.{LineRead}
 use Rattle.cdb_form.specs.declared.text.map_parser.LineRead.TheVariants.{Ignored, Last, Pair}
 use Rattle.cdb_form.specs.declared.text.source.Source.{Source}

@@ -1,41 +1,21 @@
-// The parser of a map text: it takes line after line, byte by byte.
+// The parser of a map text: it takes line after line, and runs of bytes in them.
 ghost use Rattle.std.specs.Prelude.{◌≡◌, ◌<◌, true, ℕ, List, ◌∷◌, OnOk, IfOk, IfErr, MatchBool};
 ghost use Rattle.cdb_form.specs.Format.Record.{AreBytes};
 ghost use Rattle.cdb_form.specs.Text.Map.{Lacks, is_newline};
 ghost use Rattle.cdb_form.specs.Views.MapParser.{ReadsLine, ReadsPair, ReadsRun, ReadsValue, is_of};
+ghost use Rattle.cdb_form.specs.Views.AtHand.{MovesCounted};
 ghost use Rattle.cdb_form.specs.Views.MapReader.{IsAmidLines, ReadsIgnored, ReadsLinesOf};
+ghost use Rattle.cdb_form.specs.declared.text.fault.TextFault.TheVariants.{NoMemory};
 ghost use Rattle.cdb_form.specs.Views.Pairs.{key_value};
 ghost use Rattle.cdb_form.specs.Views.Source.{LeavesAmid};
-ghost use Rattle.cdb_form.specs.declared.text.map_parser.Kind.TheVariants.{Blank, InLine, InWord};
+ghost use Rattle.cdb_form.specs.declared.text.kind.Kind.TheVariants.{InWord};
 
 use crate::record::Record;
+use crate::text::at_hand::AtHand;
 use crate::text::fault::TextFault;
+use crate::text::kind::Kind;
 use crate::text::source::Source;
 use std::io::Read;
-
-/// A kind of bytes that stand in a row.
-#[derive(Clone, Copy)]
-pub(crate) enum Kind {
-    /// A space or a tab.
-    Blank,
-    /// What a key is made of: neither a blank nor a newline.
-    InWord,
-    /// What a line is made of: no newline.
-    InLine,
-}
-
-impl Kind {
-    /// Whether a byte is of this kind.
-    fn has(self, byte: u8) -> bool
-        ensures { result ≡ is_of self byte }
-    {
-        match self {
-            Kind::Blank => byte == b' ' || byte == b'\t',
-            Kind::InWord => byte != b' ' && byte != b'\t' && byte != b'\n',
-            Kind::InLine => byte != b'\n',
-        }
-    }
-}
 
 /// What was found in a line.
 #[derive(Clone, Copy)]
@@ -67,9 +47,34 @@ impl<R: Read> Source<R> {
         }
     }
 
+    /// Puts bytes of a kind that are at hand behind what `into` holds. Each counts as an ask, as if
+    /// it had been asked for.
+    #[inline(always)]
+    fn keep_at_hand<A: AtHand<R>>(
+        &mut self,
+        kind: Kind,
+        into: &mut Vec<u8>,
+    ) -> Result<(), TextFault>
+        ensures moved { OnOk result (MovesCounted kind R.remaining self.old self.new
+            into.old.items into.new.items) }
+        ensures err { IfErr result (λ f. (f ≡ NoMemory)
+            × (self.new.taken ≡ self.old.taken) × (self.new.asks ≡ self.old.asks)
+            × (into.new.items ≡ into.old.items)) }
+    {
+        let n = A::take_run(&mut self.reader, kind, self.asks, into)?;
+        self.asks -= n;
+        self.taken += n;
+        Ok(())
+    }
+
     /// Puts `first` and the bytes of a kind behind it over what `into` holds, and takes the byte
     /// behind them: `None` is the end.
-    fn keep(&mut self, first: u8, kind: Kind, into: &mut Vec<u8>) -> Result<Option<u8>, TextFault>
+    fn keep<A: AtHand<R>>(
+        &mut self,
+        first: u8,
+        kind: Kind,
+        into: &mut Vec<u8>,
+    ) -> Result<Option<u8>, TextFault>
         ensures run { IfOk result (λ stop. (bytes : List ℕ) × (into.new.items ≡ first ∷ bytes)
             × ReadsRun kind R.remaining self.old self.new bytes stop) }
         ensures are { AreBytes into.new.items }
@@ -80,6 +85,7 @@ impl<R: Read> Source<R> {
         into.clear();
         into.push(first)?;
         loop {
+            self.keep_at_hand::<A>(kind, into)?;
             let Some(byte) = self.byte()? else {
                 return Ok(None);
             };
@@ -91,7 +97,7 @@ impl<R: Read> Source<R> {
     }
 
     /// Takes the rest of a line behind the first blank behind a key: more blanks, and the value.
-    fn value(&mut self, into: &mut Vec<u8>) -> Result<(), TextFault>
+    fn value<A: AtHand<R>>(&mut self, into: &mut Vec<u8>) -> Result<(), TextFault>
         ensures reads { OnOk result (ReadsValue R.remaining self.old self.new into.new.items) }
         ensures are { AreBytes into.new.items }
         ensures fewer { OnOk result (self.new.asks < self.old.asks) }
@@ -105,12 +111,12 @@ impl<R: Read> Source<R> {
         if first == b'\n' {
             return Ok(());
         }
-        self.keep(first, Kind::InLine, into)?;
+        self.keep::<A>(first, Kind::InLine, into)?;
         Ok(())
     }
 
     /// Takes the rest of a record's line behind its first byte, which is one of its key.
-    fn pair(&mut self, first: u8, into: &mut Record) -> Result<(), TextFault>
+    fn pair<A: AtHand<R>>(&mut self, first: u8, into: &mut Record) -> Result<(), TextFault>
         requires { is_of InWord first ≡ true }
         ensures reads { OnOk result (ReadsPair R.remaining self.old self.new first
             (key_value into.new)) }
@@ -119,17 +125,17 @@ impl<R: Read> Source<R> {
             R.remaining self.old self.new) }
     {
         into.value.clear();
-        let Some(stop) = self.keep(first, Kind::InWord, &mut into.key)? else {
+        let Some(stop) = self.keep::<A>(first, Kind::InWord, &mut into.key)? else {
             return Ok(());
         };
         if stop == b'\n' {
             return Ok(());
         }
-        self.value(&mut into.value)
+        self.value::<A>(&mut into.value)
     }
 
     /// Takes a line.
-    fn line(&mut self, into: &mut Record) -> Result<LineRead, TextFault>
+    fn line<A: AtHand<R>>(&mut self, into: &mut Record) -> Result<LineRead, TextFault>
         ensures reads { IfOk result (ReadsLine R.remaining self.old self.new
             (key_value into.new)) }
         ensures fewer { OnOk result (self.new.asks < self.old.asks) }
@@ -144,14 +150,14 @@ impl<R: Read> Source<R> {
                 Some(_) => Ok(LineRead::Ignored),
             },
             Some(first) => {
-                self.pair(first, into)?;
+                self.pair::<A>(first, into)?;
                 Ok(LineRead::Pair)
             }
         }
     }
 
     /// Takes lines up to the first record's, and answers whether there is one.
-    pub(crate) fn map_entry(&mut self, into: &mut Record) -> Result<bool, TextFault>
+    pub(crate) fn map_entry<A: AtHand<R>>(&mut self, into: &mut Record) -> Result<bool, TextFault>
         ensures reads { IfOk result (λ given. MatchBool given
             (ReadsLinesOf R.remaining self.old self.new (key_value into.new))
             (ReadsIgnored R.remaining self.old self.new)) }
@@ -159,7 +165,7 @@ impl<R: Read> Source<R> {
         ensures leaves { IfErr result (LeavesAmid IsAmidLines R.remaining self.old self.new) }
     {
         loop {
-            match self.line(into)? {
+            match self.line::<A>(into)? {
                 LineRead::Ignored => {}
                 LineRead::Last => return Ok(false),
                 LineRead::Pair => return Ok(true),

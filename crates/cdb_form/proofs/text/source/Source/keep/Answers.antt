@@ -1,30 +1,78 @@
-use Rattle.std.proofs.Common.{[], ◌++◌, ◌∷◌, ◌≡◌, ◌<◌, arith, true, rules}
+use Rattle.std.proofs.Common.{[], ◌++◌, ◌∷◌, ◌≡◌, ◌<◌, arith, false, subst, sym, true}
+use Rattle.std.proofs.lemmas.Result.{err_from_is_err_and}
+use Rattle.cdb_form.specs.Format.Record.{AreBytes}
 use Rattle.cdb_form.specs.Views.MapParser.{is_of}
-use Rattle.cdb_form.proofs.ByteLemmas.{AreBytes-push}
-use Rattle.cdb_form.proofs.MapReads.{run_more, kept_more}
-use Rattle.std.proofs.lemmas.Grind.{common_steps}
+use Rattle.cdb_form.proofs.ByteLemmas.{AreBytes-append, AreBytes-push}
+use Rattle.cdb_form.proofs.MapReads.{kept_at_hand, kept_more, read_fault_outside, run_at_hand, run_ended, run_failed, run_more, run_stopped}
 use Rattle.cdb_form.proofs.text.source.Source.keep.Goals as goal
 
-pub loop-byte-preserved : goal.loop-byte-preserved
-loop-byte-preserved g c =
+pub loop-self-preserved : goal.loop-self-preserved
+loop-self-preserved g c =
     let e = c.in_ok-byte.ensures in
     let b = c.in-Some.byte in
-    let inv = c.loop-byte.invariant in
+    let so = c.loop-self.invariant in
+    let m = c.in_ok-keep_at_hand.ensures.moved in
     let read = rw c.in-Some.is at e.bytes in
     let counted = rw c.in-Some.is at e.counted in
     let of_kind : is_of c.args.kind b ≡ true = grind arith in
     let byte : b < 256 = omega arith in
+    let run = run_at_hand _ _ _ _ _ so.run.0 _ _ so.run.2 m in
+    let kept = kept_at_hand _ _ so.run.0 m.bytes _ m.moved so.run.1 in
+    let are = subst AreBytes (sym m.moved) (AreBytes-append _ m.bytes so.are m.are) in
     let items = c.in_ok-push-2.ensures.items in
     record {
-      run = (inv.run.0 ++ b ∷ [], kept_more _ _ inv.run.0 _ b items inv.run.1, run_more _ _ _ _ _ _ _ inv.run.2 read counted e.fewer e.spends of_kind);
-      are = AreBytes-push _ _ b items inv.are byte;
+      run = ((so.run.0 ++ m.bytes) ++ b ∷ [], kept_more _ _ (so.run.0 ++ m.bytes) _ b items kept, run_more _ _ _ _ _ _ _ run read counted e.fewer e.spends of_kind);
+      are = AreBytes-push _ _ b items are byte;
     }
 
 pub returns-in_default-clause-run : goal.returns-in_default-clause-run
-returns-in_default-clause-run g c = grind (arith, common_steps)
+returns-in_default-clause-run g c =
+    let e = c.in_ok-byte.ensures in
+    let so = c.loop-self.invariant in
+    let m = c.in_ok-keep_at_hand.ensures.moved in
+    let end = rw c.in_default.is at e.bytes in
+    let counted = rw c.in_default.is at e.counted in
+    let run = run_at_hand _ _ _ _ _ so.run.0 _ _ so.run.2 m in
+    let kept = kept_at_hand _ _ so.run.0 m.bytes _ m.moved so.run.1 in
+    (so.run.0 ++ m.bytes, kept, run_ended _ _ _ _ _ _ run end.1 end.2 counted e.spends)
+
+pub returns-in_default-clause-are : goal.returns-in_default-clause-are
+returns-in_default-clause-are g c =
+    let so = c.loop-self.invariant in
+    let m = c.in_ok-keep_at_hand.ensures.moved in
+    subst AreBytes (sym m.moved) (AreBytes-append _ m.bytes so.are m.are)
 
 pub returns-then-not-has-clause-are : goal.returns-then-not-has-clause-are
-returns-then-not-has-clause-are g c = search rules
+returns-then-not-has-clause-are g c =
+    let so = c.loop-self.invariant in
+    let m = c.in_ok-keep_at_hand.ensures.moved in
+    subst AreBytes (sym m.moved) (AreBytes-append _ m.bytes so.are m.are)
 
 pub returns-then-not-has-clause-run : goal.returns-then-not-has-clause-run
-returns-then-not-has-clause-run g c = grind (arith, common_steps)
+returns-then-not-has-clause-run g c =
+    let e = c.in_ok-byte.ensures in
+    let b = c.in-Some.byte in
+    let so = c.loop-self.invariant in
+    let m = c.in_ok-keep_at_hand.ensures.moved in
+    let read = rw c.in-Some.is at e.bytes in
+    let counted = rw c.in-Some.is at e.counted in
+    let other : is_of c.args.kind b ≡ false = grind arith in
+    let run = run_at_hand _ _ _ _ _ so.run.0 _ _ so.run.2 m in
+    let kept = kept_at_hand _ _ so.run.0 m.bytes _ m.moved so.run.1 in
+    (so.run.0 ++ m.bytes, kept, run_stopped _ _ _ _ _ _ _ run read counted e.spends other)
+
+pub returns-in_err-byte-clause-leaves : goal.returns-in_err-byte-clause-leaves
+returns-in_err-byte-clause-leaves g c =
+    let e = c.in_err-byte.ensures in
+    let so = c.loop-self.invariant in
+    let m = c.in_ok-keep_at_hand.ensures.moved in
+    let p = err_from_is_err_and c.from_residual-in_err-byte.result c.from_residual-in_err-byte.ensures.1 in
+    let run = run_at_hand _ _ _ _ _ so.run.0 _ _ so.run.2 m in
+    rw (p.1, p.2) (run_failed _ _ _ _ _ _ _ run e.kept e.same e.spends (read_fault_outside _ e.fails) e.spent)
+
+pub returns-in_err-push-2-clause-are : goal.returns-in_err-push-2-clause-are
+returns-in_err-push-2-clause-are g c =
+    let so = c.loop-self.invariant in
+    let m = c.in_ok-keep_at_hand.ensures.moved in
+    let same : c.push-in-loop-self.new.self.items ≡ c.keep_at_hand.new.into.items = grind arith in
+    subst AreBytes (sym same) (subst AreBytes (sym m.moved) (AreBytes-append _ m.bytes so.are m.are))

@@ -4,12 +4,12 @@ use Rattle.cdb_form.proofs.MapReads.{RunSoFar}
 use Rattle.cdb_form.proofs.text.source.Source.keep.Given as goal
 
 -- the bytes so far are of the kind, and kept
-abbrev pub invariant-loop-byte : goal.invariant-loop-byte
-invariant-loop-byte g l =
+abbrev pub invariant-loop-self : goal.invariant-loop-self
+invariant-loop-self g l =
     record {
       run : (bytes : List ℕ) × (l.into.items ≡ l.first ∷ bytes) × RunSoFar l.kind g.R.Read.remaining l.fn.self l.self bytes;
       are : AreBytes l.into.items;
     }
 
-abbrev pub decreases-loop-byte : goal.decreases-loop-byte
-decreases-loop-byte g l = l.self.asks
+abbrev pub decreases-loop-self : goal.decreases-loop-self
+decreases-loop-self g l = l.self.asks

@@ -1,5 +1,5 @@
 use Rattle.std.proofs.Common.{rules}
-use Rattle.cdb_form.proofs.text.map_reader.MapReader.read_into.Goals as goal
+use Rattle.cdb_form.proofs.text.map_reader.MapReader.read_by.Goals as goal
 
 pub returns-in-Err-clause-fails : goal.returns-in-Err-clause-fails
 returns-in-Err-clause-fails g c = search rules

@@ -1,0 +1,30 @@
+-- What is taken of the bytes that a reader has at hand.
+use Rattle.std.specs.Io.KnownBytes.{Consumes}
+use Rattle.std.specs.List.{AllPass}
+use Rattle.std.specs.Prelude.{List, Option, length, ◌++◌, ◌≡◌, ◌≤◌, ℕ}
+use Rattle.cdb_form.specs.Format.Record.{AreBytes}
+use Rattle.cdb_form.specs.Views.MapParser.{is_of}
+use Rattle.cdb_form.specs.Views.Source.{Takes, budget}
+use Rattle.cdb_form.specs.declared.text.kind.Kind.{Kind}
+use Rattle.cdb_form.specs.declared.text.source.Source.{Source}
+
+-- n bytes of a kind went from the front of what was unread behind what was held
+pub record MovesRun (kind : Kind) (old new : Option (List ℕ)) (held holds : List ℕ) (n : ℕ) :
+    Type 0 where
+  pub bytes : List ℕ
+  pub read : Consumes old new bytes
+  pub moved : holds ≡ held ++ bytes
+  pub each : AllPass (is_of kind) bytes
+  pub are : AreBytes bytes
+  pub long : length bytes ≡ n
+
+-- the same of a source, which counted them, and took an ask for each
+pub record MovesCounted {R : Type 0} (kind : Kind) (remaining : R → Option (List ℕ))
+    (old new : Source R) (held holds : List ℕ) : Type 0 where
+  pub bytes : List ℕ
+  pub takes : Takes remaining old new bytes
+  pub moved : holds ≡ held ++ bytes
+  pub each : AllPass (is_of kind) bytes
+  pub are : AreBytes bytes
+  pub asks : new.asks ≤ old.asks
+  pub spends : budget old ≤ budget new

@@ -1,0 +1,47 @@
+// The kinds of bytes of a map text.
+ghost use Rattle.std.specs.Prelude.{◌≡◌, ◌≤◌, length, take};
+ghost use Rattle.std.specs.List.{AllPass};
+ghost use Rattle.cdb_form.specs.Views.MapParser.{is_of};
+
+use memchr::{memchr, memchr3};
+
+/// A kind of bytes that stand in a row.
+#[derive(Clone, Copy, Debug, PartialEq, Eq)]
+pub enum Kind {
+    /// A space or a tab.
+    Blank,
+    /// What a key is made of: neither a blank nor a newline.
+    InWord,
+    /// What a line is made of: no newline.
+    InLine,
+}
+
+impl Kind {
+    /// Whether a byte is of this kind.
+    pub fn has(self, byte: u8) -> bool
+        ensures { result ≡ is_of self byte }
+    {
+        match self {
+            Kind::Blank => byte == b' ' || byte == b'\t',
+            Kind::InWord => byte != b' ' && byte != b'\t' && byte != b'\n',
+            Kind::InLine => byte != b'\n',
+        }
+    }
+
+    /// How many bytes of this kind some bytes begin with. Blanks are few, and not looked for.
+    #[inline(always)]
+    pub fn run(self, bytes: &[u8]) -> usize
+        ensures within { result ≤ length bytes.now }
+        ensures each { AllPass (is_of self) (take result bytes.now) }
+    {
+        let other = match self {
+            Kind::Blank => Some(0),
+            Kind::InWord => memchr3(b' ', b'\t', b'\n', bytes),
+            Kind::InLine => memchr(b'\n', bytes),
+        };
+        match other {
+            Some(place) => place,
+            None => bytes.len(),
+        }
+    }
+}
