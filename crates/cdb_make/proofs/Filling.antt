@@ -1,6 +1,7 @@
 -- The search for an empty slot.
-use Rattle.std.proofs.Common.{◌≡◌, ℕ, ◌+◌, ◌-◌, ◌%◌, ◌<◌, ◌≤◌, Bool, true, eqb, List, [], ◌∷◌, length, take, drop, map, get_or, refl, sym, ap, ◌∙◌, arith, length-drop, fold, replicate, slice_set, suc}
-use Rattle.std.proofs.lemmas.List.{length-map, drop-map, take-map, length-take-le, take_more, map-set}
+use Rattle.std.proofs.Common.{◌≡◌, ℕ, ◌+◌, ◌-◌, ◌%◌, ◌<◌, ◌≤◌, Bool, true, eqb, List, [], ◌∷◌, length, take, drop, map, get_or, refl, sym, ap, ◌∙◌, ◌++◌, arith, min, inl, inr, length-drop, fold, replicate, slice_set, suc}
+use Rattle.std.proofs.lemmas.Bool.{cases_lt}
+use Rattle.std.proofs.lemmas.List.{length-map, take-append-drop, length-take-le, take_more, map-set}
 use Rattle.std.proofs.lemmas.List.Sums.{prefix_len-le-length, fold-append}
 use Rattle.std.proofs.Math.Nat.{mod-eq_of_lt, add-mod_left}
 use Rattle.std.proofs.lemmas.List.Folds.{prefix_len-append}
@@ -34,14 +35,30 @@ first_before p xs home n b a l h e large ea =
     let small : a < n = omega arith in
     (small, let total : home + prefix_len p (slots_from home xs) ≡ n + a = omega arith in sym (ap (λ (m : ℕ). m % n) total ∙ add-mod_left n a ∙ mod-eq_of_lt small))
 
-pub first_behind_slots : (xs : List Slot) (home b : ℕ) → home < length xs → b ≡ prefix_len is_used (map slot_pair (drop home xs)) → b < length xs - home → home + b ≡ (home + prefix_len is_used (slots_from home (map slot_pair xs))) % length xs
-first_behind_slots xs home b h e small =
-    first_behind is_used (map slot_pair xs) home (length xs) b (length-map xs slot_pair) h (e ∙ ap (prefix_len is_used) (sym (drop-map slot_pair home xs))) small
+-- from the front on as many are used as before home, if all from home on are
+pub before_home : (p : WordPair → Bool) (xs : List WordPair) (home n : ℕ) → length xs ≡ n → home < n → n ≤ home + prefix_len p (drop home xs) → min (prefix_len p xs) home ≡ prefix_len p (take home xs)
+before_home p xs home n l h large =
+    let d : length (drop home xs) ≡ n - home = simp length-drop (omega arith) in
+    let lt : length (take home xs) ≡ home = length-take-le home xs (omega arith) in
+    let le = prefix_len-le-length p (take home xs) in
+    let s = prefix_len-append p (take home xs) (drop home xs) in
+    let whole : prefix_len p (take home xs ++ drop home xs) ≡ prefix_len p xs = ap (prefix_len p) (take-append-drop home xs) in
+    elim (cases_lt (prefix_len p (take home xs)) home) [
+      | inl low ↦ let same : prefix_len p xs ≡ prefix_len p (take home xs) = grind (arith, nat_tests) in omega (arith, same, low)
+      | inr high ↦ let more : prefix_len p xs ≡ home + prefix_len p (drop home xs) = grind (arith, nat_tests) in omega (arith, more, high, le, lt)
+    ]
 
-pub first_before_slots : (xs : List Slot) (home b a : ℕ) → home < length xs → b ≡ prefix_len is_used (map slot_pair (drop home xs)) → length xs - home ≤ b → a ≡ prefix_len is_used (map slot_pair (take home xs))
-    → (a < length xs) × (a ≡ (home + prefix_len is_used (slots_from home (map slot_pair xs))) % length xs)
-first_before_slots xs home b a h e large ea =
-    first_before is_used (map slot_pair xs) home (length xs) b a (length-map xs slot_pair) h (e ∙ ap (prefix_len is_used) (sym (drop-map slot_pair home xs))) large (ea ∙ ap (prefix_len is_used) (sym (take-map slot_pair home xs)))
+pub first_behind_slots : (xs : List Slot) (home b : ℕ) → home < length xs → b ≡ home + prefix_len is_used (drop home (map slot_pair xs)) → b < length xs → b ≡ (home + prefix_len is_used (slots_from home (map slot_pair xs))) % length xs
+first_behind_slots xs home b h e small =
+    e ∙ first_behind is_used (map slot_pair xs) home (length xs) (prefix_len is_used (drop home (map slot_pair xs))) (length-map xs slot_pair) h refl (omega (arith, e, small, h))
+
+pub first_before_slots : (xs : List Slot) (home b a m : ℕ) → home < length xs → b ≡ home + prefix_len is_used (drop home (map slot_pair xs)) → length xs ≤ b → a ≡ 0 + prefix_len is_used (drop 0 (map slot_pair xs)) → m ≡ min a home
+    → m ≡ (home + prefix_len is_used (slots_from home (map slot_pair xs))) % length xs
+first_before_slots xs home b a m h e large ea em =
+    let l : length (map slot_pair xs) ≡ length xs = length-map xs slot_pair in
+    let all : a ≡ prefix_len is_used (map slot_pair xs) = omega (arith, ea) in
+    let before : m ≡ prefix_len is_used (take home (map slot_pair xs)) = em ∙ ap (λ (n : ℕ). min n home) all ∙ before_home is_used (map slot_pair xs) home (length xs) l h (omega (arith, e, large)) in
+    (first_before is_used (map slot_pair xs) home (length xs) (prefix_len is_used (drop home (map slot_pair xs))) m l h refl (omega (arith, e, large)) before).1
 
 -- one entry more
 pub entry_put : (slots : List Slot) (e : Slot) (home place n : ℕ) → n ≡ length slots → home ≡ home_slot e.hash n → place ≡ (home + prefix_len is_used (slots_from home (map slot_pair slots))) % n

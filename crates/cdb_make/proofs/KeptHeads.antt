@@ -1,7 +1,7 @@
 -- The head of a store that is not finished stays.
 use Rattle.std.proofs.Common.{◌≡◌, ◌≤◌, ℕ, List, replicate, inl, refl, length, take, arith, ap, sym, ◌∙◌}
 use Rattle.std.proofs.lemmas.List.{take-replicate, length-replicate}
-use Rattle.cdb_store.specs.Images.{AfterWrite, AreSized, KeepsPart, TornWithin, part}
+use Rattle.cdb_store.specs.Images.{AfterWrite, AreSized, TornWithin, part}
 use Rattle.cdb_store.proofs.Moves.{kept_within, held_first}
 use Rattle.cdb_form.specs.Format.Pair.{head_size}
 use Rattle.cdb_make.specs.Gaps.{AreApart, first_place}

@@ -1,4 +1,5 @@
 pub mod Filling
+pub mod RunLemmas
 pub mod EntryLists
 pub mod Written
 pub mod HeadPointers

@@ -1,6 +1,7 @@
 -- A list of entries is gone through beside the gaps.
 use Rattle.std.proofs.Common.{◌≡◌, ℕ, zero, suc, ◌+◌, ◌-◌, ◌<◌, ◌≤◌, false, List, [], ◌∷◌, ◌++◌, length, get_or, set, take, drop, refl, sym, ap, subst, ◌∙◌, arith, append_assoc, add-one}
-use Rattle.std.proofs.lemmas.List.{drop-set-lt}
+use Rattle.std.proofs.lemmas.List.{drop-set-lt, drop_all, append-nil, take_all}
+use Rattle.cdb_make.proofs.Sides.{length-entries_of}
 use Rattle.std.proofs.Math.Seq.{take-suc-set}
 use Rattle.cdb_form.specs.Format.Pair.{WordPair}
 use Rattle.cdb_make.specs.declared.gap.Gap.{Gap}
@@ -100,3 +101,17 @@ not_falling p (h ∷ hs) (q ∷ ps) e r zero zero d le lt = omega arith
 not_falling p (h ∷ hs) (q ∷ ps) e r zero (suc j) d le lt = let t : q + 1 ≤ get_or ps j d = rising_least (q + 1) j d hs ps (omega arith) r.1 (omega arith) in omega arith
 not_falling p (h ∷ hs) (q ∷ ps) e r (suc i) zero d le lt = absurd (omega arith)
 not_falling p (h ∷ hs) (q ∷ ps) e r (suc i) (suc j) d le lt = not_falling (q + 1) hs ps (omega arith) r.1 i j d (omega arith) (omega arith)
+
+-- a list whose last place is below another has no place from there on
+pub below_last : (hs ps : List ℕ) (last place : ℕ) → length hs ≡ length ps → last < length ps → length ps ≤ last + 1 → get_or ps last 0 < place → IsRising 0 (entries_of hs ps) → (k : ℕ) → k < length ps → get_or ps k 0 < place
+below_last hs ps last place e in_it end low rise k lt =
+    let sorted = not_falling 0 hs ps e rise k last 0 (omega (arith, lt, end)) in_it in
+    omega (arith, sorted, low)
+
+-- entries below the first gap stay
+pub closed_below : (hs ps : List ℕ) (gs : List Gap) (end top : ℕ) → length hs ≡ length ps → AreApart 0 gs end → ((k : ℕ) → k < length ps → get_or ps k 0 < first_place gs top) → entries_of hs ps ≡ closed_by 0 gs (entries_of hs ps)
+closed_below hs ps gs end top e apart below =
+    let es : List WordPair = entries_of hs ps in
+    let l : length es ≡ length hs = length-entries_of hs ps e in
+    let front = closed_front hs ps (length es) gs end top e apart (λ i lt. below i (omega (arith, lt, l, e))) in
+    sym (front ∙ ap (λ v. take (length es) es ++ closed_by 0 gs v) (drop_all (length es) es (omega arith)) ∙ append-nil _ ∙ take_all (length es) es (omega arith))

@@ -1,5 +1,6 @@
 -- What making a database is to do.
 pub mod Parts
+pub mod Runs
 pub mod Views
 pub mod Gaps
 pub mod Survivors

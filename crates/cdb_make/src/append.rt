@@ -5,13 +5,59 @@ ghost use Rattle.cdb_store.specs.Images.{SameImages, AfterWrite, AfterTornWrite,
 
 use cdb_store::{Store, StoreFault};
 
-/// Writes a record's header, key and value from `pos` on, one behind another, as one
-/// write would: over what stands there, and past the end.
-///
-/// `pos` is at most the store's length. The store's room is made first, so where memory is refused
-/// (`NoMemory`) nothing has changed. After `Device` the record's range may hold any bytes, and
-/// those outside of it stay.
-pub(crate) fn append_record<S: Store>(
+/// The longest record that is collected for one write, in bytes.
+const PIECE: usize = 256;
+
+/// Leaves three parts in a piece, one behind another.
+fn collect(piece: &mut [u8], header: &[u8], key: &[u8], value: &[u8])
+    requires { length piece.old ≡ length header.now + (length key.now + length value.now) }
+    ensures { piece.new ≡ header.now ++ (key.now ++ value.now) }
+{
+    let (front, rest) = piece.split_at_mut(header.len());
+    let (middle, back) = rest.split_at_mut(key.len());
+    front.copy_from_slice(header);
+    middle.copy_from_slice(key);
+    back.copy_from_slice(value);
+}
+
+/// Makes the room for some bytes and writes them, as `append_record` does.
+fn append_piece<S: Store>(store: &mut S, pos: u64, bytes: &[u8]) -> Result<(), StoreFault>
+    requires inside { pos ≤ S.size store.old }
+    requires end { pos + length bytes.now < 2 ^ 63 }
+    ensures ok { OnOk result
+        (AfterWrite pos bytes.now (S.image store.old)
+        (S.image store.new)) }
+    ensures ok_size { OnOk result
+        (S.size store.new
+        ≡ max (S.size store.old) (pos + length bytes.now)) }
+    ensures ok_written { OnOk result
+        (S.written store.new
+        ≡ S.written store.old + length bytes.now) }
+    ensures torn { AfterTornWrite pos (length bytes.now)
+        (S.image store.old) (S.image store.new) }
+    ensures longer { S.size store.old ≤ S.size store.new }
+    ensures not_past { S.size store.new
+        ≤ max (S.size store.old) (pos + length bytes.now) }
+    ensures more_written { S.written store.old ≤ S.written store.new }
+    ensures at_most_written { S.written store.new
+        ≤ S.written store.old + length bytes.now }
+    ensures memory { IsErrOf result NoMemory → SameImages (S.image store.old) (S.image store.new) }
+    ensures memory_size { IsErrOf result NoMemory → S.size store.new ≡ S.size store.old }
+    ensures memory_written { IsErrOf result NoMemory → S.written store.new ≡ S.written store.old }
+    ensures memory_room { IsErrOf result NoMemory → S.room store.new ≡ S.room store.old }
+    ensures memory_failures { IsErrOf result NoMemory
+        → S.failures store.new ≡ S.failures store.old }
+    ensures past_room { IsErrOf result NoMemory
+        → S.room store.old < pos + length bytes.now }
+    ensures room { S.room store.old ≤ S.room store.new }
+    ensures cause { HasCause (S.failures store.old) (S.failures store.new) result }
+{
+    store.reserve(pos + bytes.len() as u64)?;
+    store.write_at(pos, bytes)
+}
+
+/// Writes a record part by part, as `append_record` does.
+fn append_parts<S: Store>(
     store: &mut S,
     pos: u64,
     header: &[u8],
@@ -54,4 +100,60 @@ pub(crate) fn append_record<S: Store>(
     store.write_at(pos, header)?;
     store.write_at(key_pos, key)?;
     store.write_at(value_pos, value)
+}
+
+/// Writes a record's header, key and value from `pos` on, one behind another, as one
+/// write would: over what stands there, and past the end. A short record takes one write.
+///
+/// `pos` is at most the store's length. The store's room is made first, so where memory is refused
+/// (`NoMemory`) nothing has changed. After `Device` the record's range may hold any bytes, and
+/// those outside of it stay.
+pub(crate) fn append_record<S: Store>(
+    store: &mut S,
+    pos: u64,
+    header: &[u8],
+    key: &[u8],
+    value: &[u8],
+) -> Result<(), StoreFault>
+    requires inside { pos ≤ S.size store.old }
+    requires end { pos + length (header.now ++ (key.now ++ value.now)) < 2 ^ 63 }
+    ensures ok { OnOk result
+        (AfterWrite pos (header.now ++ (key.now ++ value.now)) (S.image store.old)
+        (S.image store.new)) }
+    ensures ok_size { OnOk result
+        (S.size store.new
+        ≡ max (S.size store.old) (pos + length (header.now ++ (key.now ++ value.now)))) }
+    ensures ok_written { OnOk result
+        (S.written store.new
+        ≡ S.written store.old + length (header.now ++ (key.now ++ value.now))) }
+    ensures torn { AfterTornWrite pos (length (header.now ++ (key.now ++ value.now)))
+        (S.image store.old) (S.image store.new) }
+    ensures longer { S.size store.old ≤ S.size store.new }
+    ensures not_past { S.size store.new
+        ≤ max (S.size store.old) (pos + length (header.now ++ (key.now ++ value.now))) }
+    ensures more_written { S.written store.old ≤ S.written store.new }
+    ensures at_most_written { S.written store.new
+        ≤ S.written store.old + length (header.now ++ (key.now ++ value.now)) }
+    ensures memory { IsErrOf result NoMemory → SameImages (S.image store.old) (S.image store.new) }
+    ensures memory_size { IsErrOf result NoMemory → S.size store.new ≡ S.size store.old }
+    ensures memory_written { IsErrOf result NoMemory → S.written store.new ≡ S.written store.old }
+    ensures memory_room { IsErrOf result NoMemory → S.room store.new ≡ S.room store.old }
+    ensures memory_failures { IsErrOf result NoMemory
+        → S.failures store.new ≡ S.failures store.old }
+    ensures past_room { IsErrOf result NoMemory
+        → S.room store.old < pos + length (header.now ++ (key.now ++ value.now)) }
+    ensures room { S.room store.old ≤ S.room store.new }
+    ensures cause { HasCause (S.failures store.old) (S.failures store.new) result }
+{
+    let len = header
+        .len()
+        .saturating_add(key.len())
+        .saturating_add(value.len());
+    if len > PIECE {
+        return append_parts(store, pos, header, key, value);
+    }
+    let mut piece = [0; PIECE];
+    let piece = &mut piece[..len];
+    collect(piece, header, key, value);
+    append_piece(store, pos, piece)
 }

@@ -29,6 +29,7 @@ fn write_parts<S: Store, L: Width>(
     end: u64,
     last: u64,
     slots: &mut [Slot],
+    runs: &mut [usize],
     bytes: &mut [u8],
 ) -> Result<(), StoreFault>
     requires long { length lists.now ≡ 256 }
@@ -38,6 +39,7 @@ fn write_parts<S: Store, L: Width>(
     requires limit { last ≤ L.GREATEST }
     requires room { last ≤ S.room store.old }
     requires slots { All (λ list. 2 * length list ≤ length slots.old) (lists_entries lists.now) }
+    requires runs { length slots.old ≤ length runs.old }
     requires bytes { length bytes.old ≡ pair_size L.WORD * length slots.old }
     requires fits { All (All (λ e. e.second ≤ L.TOP)) (lists_entries lists.now) }
     ensures file { OnOk result (IsFinished L.WORD end (lists_entries lists.now)
@@ -55,7 +57,7 @@ fn write_parts<S: Store, L: Width>(
     ensures memory { IsErrOf result Refused → ⊥ }
     ensures cause { HasCause (S.failures store.old) (S.failures store.new) result }
 {
-    write_tables::<S, L>(store, lists, end, slots, bytes)?;
+    write_tables::<S, L>(store, lists, end, slots, runs, bytes)?;
     write_pointers::<S, L>(store, lists, end)?;
     store.cut(last)?;
     store.flush()
@@ -100,9 +102,10 @@ pub(crate) fn finish<S: Store, L: Width>(
 {
     let most = 2 * longest(lists);
     let mut slots = vec![in alloc; EMPTY; most]?;
+    let mut runs = vec![in alloc; 0usize; most]?;
     let mut bytes = vec![in alloc; 0u8; pair_size::<L>() * most]?;
     let last = end + 2 * pair_size::<L>() as u64 * count_all(lists);
     store.reserve(last)?;
-    write_parts::<S, L>(store, lists, end, last, &mut slots, &mut bytes)?;
+    write_parts::<S, L>(store, lists, end, last, &mut slots, &mut runs, &mut bytes)?;
     Ok(())
 }

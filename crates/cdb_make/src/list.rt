@@ -1,9 +1,9 @@
 // The entries of one table, as a maker keeps them.
 ghost use Rattle.std.specs.Prelude.{◌≡◌, ℕ, ◌<◌, ◌≤◌, ◌^◌, [], ◌∷◌, ◌++◌, length, get_or, All};
-ghost use Rattle.std.specs.Prelude.{OnOk, OnErr, map, slice_index, vec_capacity};
+ghost use Rattle.std.specs.Prelude.{true, OnOk, OnErr, map, slice_index, vec_capacity};
 ghost use Rattle.cdb_make.specs.Tag.{tag_of};
 
-use crate::gap::Gap;
+use crate::gap::{Gap, first_place};
 use crate::repair::close_entries;
 use crate::scan::{next_place, tag};
 use cdb_form::Slot;
@@ -112,9 +112,17 @@ impl EntryList {
         self.tags.push_reserved(tag(hash));
     }
 
-    /// Takes out the entries at the gaps, and lowers each other place by the gaps below it. The
-    /// room stays.
-    pub(crate) fn close(&mut self, gaps: &[Gap])
+    /// Whether each entry stands below a place.
+    fn is_below(&self, place: u64) -> bool
+        ensures { result ≡ true → IsRising 0 (list_entries self.now) → (k : ℕ)
+            → k < length self.now.places.items → get_or self.now.places.items k 0 < place }
+    {
+        let count = self.places.len();
+        count == 0 || self.places[count - 1] < place
+    }
+
+    /// Closes the gaps as `close` does, from the first entry that they reach on.
+    fn close_reached(&mut self, gaps: &[Gap])
         requires { AreApart 0 gaps.now (2 ^ 63) }
         ensures entries { IsRising 0 (list_entries self.old) → list_entries self.new
             ≡ closed_by 0 gaps.now (list_entries self.old) }
@@ -128,5 +136,21 @@ impl EntryList {
         self.hashes.truncate(kept);
         self.places.truncate(kept);
         self.tags.truncate(kept);
+    }
+
+    /// Takes out the entries at the gaps, and lowers each other place by the gaps below it. The
+    /// room stays.
+    pub(crate) fn close(&mut self, gaps: &[Gap])
+        requires { AreApart 0 gaps.now (2 ^ 63) }
+        ensures entries { IsRising 0 (list_entries self.old) → list_entries self.new
+            ≡ closed_by 0 gaps.now (list_entries self.old) }
+        ensures fewer { length (list_entries self.new) ≤ length (list_entries self.old) }
+        ensures bounded { (most : ℕ) → All (λ e. e.second ≤ most) (list_entries self.old)
+            → All (λ e. e.second ≤ most) (list_entries self.new) }
+        ensures room { list_room self.new ≡ list_room self.old }
+    {
+        if !self.is_below(first_place(gaps, u64::MAX)) {
+            self.close_reached(gaps);
+        }
     }
 }

@@ -38,6 +38,24 @@ pub struct Unfinished<S: Store, L: Width> {
     pub fault: MakeFault,
 }
 
+impl<S: Drop> From<Refused<S>> for MakeFault {
+    ghost from_gives = { λ r f. f ≡ r.fault };
+
+    /// Lets the store go.
+    fn from(refused: Refused<S>) -> MakeFault {
+        refused.fault
+    }
+}
+
+impl<S: Store + Drop, L: Width> From<Unfinished<S, L>> for MakeFault {
+    ghost from_gives = { λ u f. f ≡ u.fault };
+
+    /// Lets the maker go.
+    fn from(unfinished: Unfinished<S, L>) -> MakeFault {
+        unfinished.fault
+    }
+}
+
 /// The longest head, that of words of 8 bytes.
 const HEAD: usize = 4096;
 

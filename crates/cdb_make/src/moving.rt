@@ -8,11 +8,48 @@ use cdb_store::{Store, StoreFault};
 /// How many bytes are moved at once.
 const PIECE: usize = 4096;
 
-/// Copies `len` bytes from the position `from` to the lower position `to`, in pieces of 4096 bytes
-/// from the front on. The two ranges may overlap.
+/// The longest move for which a piece of this length does.
+const SHORT: usize = 256;
+
+/// Copies as `move_down` does, in pieces as long as this one.
+fn move_pieces<S: Store>(
+    store: &mut S,
+    from: u64,
+    to: u64,
+    len: u64,
+    piece: &mut [u8],
+) -> Result<(), StoreFault>
+    requires piece { 0 < length piece.old }
+    requires lower { to ≤ from }
+    requires inside { from + len ≤ S.size store.old }
+    requires end { from + len < 2 ^ 63 }
+    ensures copied { OnOk result (Copied from to len (S.image store.old) (S.image store.new)) }
+    ensures written { OnOk result (S.written store.new ≡ S.written store.old + len) }
+    ensures torn { TornWithin to len (S.image store.old) (S.image store.new) }
+    ensures size { S.size store.new ≡ S.size store.old }
+    ensures more_written { S.written store.old ≤ S.written store.new }
+    ensures at_most_written { S.written store.new ≤ S.written store.old + len }
+    ensures room { S.room store.old ≤ S.room store.new }
+    ensures memory { IsErrOf result NoMemory → ⊥ }
+    ensures cause { HasCause (S.failures store.old) (S.failures store.new) result }
+{
+    let mut done = 0;
+    while done < len {
+        let n = (len - done).min(piece.len() as u64);
+        let part = &mut piece[..n as usize];
+        store.read_at(from + done, part)?;
+        store.write_at(to + done, part)?;
+        done += n;
+    }
+    Ok(())
+}
+
+/// Copies `len` bytes from the position `from` to the lower position `to`, in pieces of at most
+/// 4096 bytes from the front on. The two ranges may overlap.
 ///
 /// The bytes lie inside the store, whose length stays, and no memory is taken. `Device`: a piece
-/// couldn't be read or written, and the bytes outside of the `len` from `to` on stay.
+/// couldn't be read or written, and the bytes outside of the `len` from `to` on stay. A piece is
+/// zeroed at each call, so short moves have a short one.
 pub(crate) fn move_down<S: Store>(
     store: &mut S,
     from: u64,
@@ -32,14 +69,11 @@ pub(crate) fn move_down<S: Store>(
     ensures memory { IsErrOf result NoMemory → ⊥ }
     ensures cause { HasCause (S.failures store.old) (S.failures store.new) result }
 {
-    let mut piece = [0; PIECE];
-    let mut done = 0;
-    while done < len {
-        let n = (len - done).min(PIECE as u64);
-        let part = &mut piece[..n as usize];
-        store.read_at(from + done, part)?;
-        store.write_at(to + done, part)?;
-        done += n;
+    if len == 0 {
+        Ok(())
+    } else if len <= SHORT as u64 {
+        move_pieces(store, from, to, len, &mut [0; SHORT])
+    } else {
+        move_pieces(store, from, to, len, &mut [0; PIECE])
     }
-    Ok(())
 }

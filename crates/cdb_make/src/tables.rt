@@ -10,19 +10,22 @@ ghost use Rattle.cdb_make.specs.Parts.{table_bytes, tables_end};
 ghost use Rattle.cdb_make.specs.Views.EntryList.{list_entries, lists_entries};
 
 use crate::list::EntryList;
-use crate::table::{clear, encode_slots, put_entry};
+use crate::table::{clear, encode_slots, forget, put_entry};
 use cdb_form::{Slot, Width, pair_size};
 use cdb_store::{Store, StoreFault};
 
 /// Leaves the table of a list's entries, filled in their order. It has two slots for each.
-fn fill_table_of(slots: &mut [Slot], list: &EntryList)
-    requires { length slots.old ≡ 2 * length (list_entries list.now) }
+fn fill_table_of(slots: &mut [Slot], runs: &mut [usize], list: &EntryList)
+    requires slots { length slots.old ≡ 2 * length (list_entries list.now) }
+    requires runs { length slots.old ≤ length runs.old }
     ensures filled { map slot_pair slots.new ≡ slots_of (list_entries list.now) }
     ensures hashes { All (λ e. e.first < 2 ^ 32) (list_entries list.now) }
 {
     clear(slots);
+    let runs = &mut runs[..slots.len()];
+    forget(runs);
     for n in 0..list.len() {
-        put_entry(slots, list.entry(n));
+        put_entry(slots, runs, list.entry(n));
     }
 }
 
@@ -35,9 +38,11 @@ fn write_table<S: Store, L: Width>(
     place: u64,
     list: &EntryList,
     slots: &mut [Slot],
+    runs: &mut [usize],
     bytes: &mut [u8],
 ) -> Result<(), StoreFault>
     requires slots { length slots.old ≡ 2 * length (list_entries list.now) }
+    requires runs { length slots.old ≤ length runs.old }
     requires bytes { length bytes.old ≡ pair_size L.WORD * length slots.old }
     requires fits { All (λ e. e.second ≤ L.TOP) (list_entries list.now) }
     requires inside { place ≤ S.size store.old }
@@ -57,7 +62,7 @@ fn write_table<S: Store, L: Width>(
     if slots.is_empty() {
         return Ok(());
     }
-    fill_table_of(slots, list);
+    fill_table_of(slots, runs, list);
     encode_slots::<L>(slots, bytes);
     store.write_at(place, bytes)
 }
@@ -71,9 +76,11 @@ pub(crate) fn write_tables<S: Store, L: Width>(
     lists: &[EntryList],
     end: u64,
     slots: &mut [Slot],
+    runs: &mut [usize],
     bytes: &mut [u8],
 ) -> Result<(), StoreFault>
     requires slots { All (λ list. 2 * length list ≤ length slots.old) (lists_entries lists.now) }
+    requires runs { length slots.old ≤ length runs.old }
     requires bytes { length bytes.old ≡ pair_size L.WORD * length slots.old }
     requires fits { All (All (λ e. e.second ≤ L.TOP)) (lists_entries lists.now) }
     requires inside { end ≤ S.size store.old }
@@ -98,7 +105,7 @@ pub(crate) fn write_tables<S: Store, L: Width>(
     for list in lists {
         let count = 2 * list.len();
         let bytes = &mut bytes[..size * count];
-        write_table::<S, L>(store, place, list, &mut slots[..count], bytes)?;
+        write_table::<S, L>(store, place, list, &mut slots[..count], runs, bytes)?;
         place += bytes.len() as u64;
     }
     Ok(())

@@ -3,6 +3,7 @@ mod again;
 mod drawn;
 mod faults;
 mod files;
+mod filling;
 mod maker;
 mod makers;
 mod refusals;

@@ -13,7 +13,7 @@ const KEYS: [&[u8]; 6] = [b"", b"a", b"bc", b"cB", b"one", b"two"];
 const VALUES: &[u8] = b"0123456789abcdefghijklmnopqrstuvwxyz";
 
 /// The next number that is drawn.
-fn draw(state: &mut u64) -> u64 {
+pub(super) fn draw(state: &mut u64) -> u64 {
     let one = *state ^ (*state << 13);
     let two = one ^ (one >> 7);
     *state = two ^ (two << 17);

@@ -217,3 +217,20 @@ fn words_of_8_bytes_are_made_in_place(rt: HostRuntime) -> Result<(), Fail> {
     assert!(rt; made.wrote.as_slice() == [24, 18, 26, 68, 50, 4160].as_slice());
     Ok(())
 }
+
+#[test]
+fn records_of_about_the_length_of_a_piece_stand_whole(rt: HostRuntime) -> Result<(), Fail> {
+    let bytes = long(rt.alloc(), 300)?;
+    for len in 240..260usize {
+        let value = bytes.get(..len).unwrap_or(b"");
+        let made = comes_to::<Narrow>(rt.alloc(), &[add(b"one", value)])?;
+        let mut record = Vec::new(rt.alloc());
+        record.extend_from_slice(&3u32.to_le_bytes())?;
+        record.extend_from_slice(&(len as u32).to_le_bytes())?;
+        record.extend_from_slice(b"one")?;
+        record.extend_from_slice(value)?;
+        let stands = made.file.get(2048..2059 + len) == Some(record.as_slice());
+        assert!(rt; stands && made.wrote.first() == Some(&(11 + len as u64)));
+    }
+    Ok(())
+}

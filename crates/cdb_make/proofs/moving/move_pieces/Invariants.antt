@@ -1,6 +1,6 @@
 use Rattle.std.proofs.Common.{◌-◌, ◌≡◌, ◌+◌, ◌≤◌}
 use Rattle.cdb_store.specs.Images.{TornWithin, Copied}
-use Rattle.cdb_make.proofs.moving.move_down.Given as goal
+use Rattle.cdb_make.proofs.moving.move_pieces.Given as goal
 
 abbrev pub invariant-loop-done : goal.invariant-loop-done
 invariant-loop-done g l = record {

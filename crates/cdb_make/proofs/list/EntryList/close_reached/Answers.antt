@@ -1,0 +1,70 @@
+use Rattle.std.proofs.Common.{arith, ap, sym, subst, ◌∙◌, ◌≡◌, ◌++◌, ◌≤◌, ℕ, List, length, map, take, length-take}
+use Rattle.std.specs.Prelude.{All}
+use Rattle.std.proofs.lemmas.List.{take_at, take-map}
+use Rattle.std.proofs.lemmas.List.Elements.{All-same, All-take}
+use Rattle.cdb_form.specs.Format.Pair.{WordPair}
+use Rattle.cdb_make.specs.Gaps.{IsRising, closed_by}
+use Rattle.cdb_make.specs.Tag.{tag_of}
+use Rattle.cdb_make.specs.Views.EntryList.{entries_of}
+use Rattle.cdb_make.proofs.Sides.{entries_of-take, length-entries_of, places_below, entries_below}
+use Rattle.cdb_make.proofs.list.EntryList.close_reached.Goals as goal
+
+-- what is left where both sides were lent, and then cut
+cut_entries : (n m k : ℕ) (hs ps hs₁ ps₁ rest more : List ℕ) → length hs ≡ n → length ps ≡ m → hs₁ ≡ take k (take n (hs ++ rest)) → ps₁ ≡ take k (take m (ps ++ more))
+    → entries_of hs₁ ps₁ ≡ take k (entries_of hs ps)
+cut_entries n m k hs ps hs₁ ps₁ rest more l o h p =
+    ap (λ v. entries_of v ps₁) (h ∙ ap (take k) (take_at hs rest n l))
+    ∙ ap (entries_of (take k hs)) (p ∙ ap (take k) (take_at ps more m o))
+    ∙ entries_of-take hs ps k
+
+-- and the tags, that stay those of the hashes
+cut_tags : (n m k : ℕ) (ts hs ts₁ hs₁ rest more : List ℕ) → length ts ≡ n → length hs ≡ m → ts₁ ≡ take k (take n (ts ++ rest)) → hs₁ ≡ take k (take m (hs ++ more)) → ts ≡ map tag_of hs
+    → ts₁ ≡ map tag_of hs₁
+cut_tags n m k ts hs ts₁ hs₁ rest more l o t h tagged =
+    t ∙ ap (take k) (take_at ts rest n l ∙ tagged) ∙ take-map tag_of k hs ∙ ap (map tag_of) (sym (h ∙ ap (take k) (take_at hs more m o)))
+
+pub invariant_of-self-clause-tagged : goal.invariant_of-self-clause-tagged
+invariant_of-self-clause-tagged c =
+    let s = c.args.self.now in
+    cut_tags _ _ c.close_entries-kept.result c.close_entries-kept.new.tags c.close_entries-kept.new.hashes _ _ _ _
+    (omega (arith, c.close_entries-kept.auto.tags, c.deref_mut-3.ensures.len, s.tags.ok.0)) (omega (arith, c.close_entries-kept.auto.hashes, c.deref_mut.ensures.len, s.hashes.ok.0))
+    c.truncate-3.ensures.items c.truncate.ensures.items c.close_entries-kept.ensures.tagged
+
+pub returns-clause-entries : goal.returns-clause-entries
+returns-clause-entries c = λ r.
+    let s = c.args.self.now in
+    let hs : List ℕ = s.hashes.items in
+    let ps : List ℕ = s.places.items in
+    let es : List WordPair = entries_of c.deref_mut.result.now c.deref_mut-2.result.now in
+    let same : es ≡ entries_of hs ps = ap (λ v. entries_of v c.deref_mut-2.result.now) c.deref_mut.ensures.value ∙ ap (entries_of hs) c.deref_mut-2.ensures.value in
+    cut_entries _ _ c.close_entries-kept.result c.close_entries-kept.new.hashes c.close_entries-kept.new.places _ _ _ _
+    (omega (arith, c.close_entries-kept.auto.hashes, c.deref_mut.ensures.len, s.hashes.ok.0)) (omega (arith, c.close_entries-kept.auto.places, c.deref_mut-2.ensures.len, s.places.ok.0))
+    c.truncate.ensures.items c.truncate-2.ensures.items
+    ∙ c.close_entries-kept.ensures.entries (subst (λ (v : List WordPair). IsRising 0 v) (sym same) r)
+    ∙ ap (closed_by 0 c.args.gaps.now) same
+
+pub returns-clause-fewer : goal.returns-clause-fewer
+returns-clause-fewer c =
+    let s = c.args.self.now in
+    let hs : List ℕ = c.close_entries-kept.new.hashes in
+    let ps : List ℕ = c.close_entries-kept.new.places in
+    let k : ℕ = c.close_entries-kept.result in
+    let h : length hs ≡ length s.hashes.items = omega (arith, c.close_entries-kept.auto.hashes, c.deref_mut.ensures.len, s.hashes.ok.0) in
+    let p : length ps ≡ length s.places.items = omega (arith, c.close_entries-kept.auto.places, c.deref_mut-2.ensures.len, s.places.ok.0) in
+    let cut : length (entries_of c.truncate.new.self.items c.truncate-2.new.self.items) ≡ length (take k (entries_of hs ps)) =
+    ap length (cut_entries _ _ k hs ps _ _ _ _ (omega (arith, s.hashes.ok.0)) (omega (arith, s.places.ok.0)) c.truncate.ensures.items c.truncate-2.ensures.items) in
+    omega (arith, length-take {A = WordPair}, length-entries_of hs ps (omega (arith, s.paired)), length-entries_of s.hashes.items s.places.items s.paired)
+
+pub returns-clause-bounded : goal.returns-clause-bounded
+returns-clause-bounded c = λ most all.
+    let s = c.args.self.now in
+    let hs : List ℕ = c.close_entries-kept.new.hashes in
+    let ps : List ℕ = c.close_entries-kept.new.places in
+    let k : ℕ = c.close_entries-kept.result in
+    let was : All (λ p. p ≤ most) c.deref_mut-2.result.now = All-same (λ p. p ≤ most) _ _ c.deref_mut-2.ensures.value (places_below most s.hashes.items s.places.items s.paired all) in
+    let now : All (λ p. p ≤ most) ps = c.close_entries-kept.ensures.bounded most was in
+    All-same (λ e. e.second ≤ most) _ _
+    (cut_entries _ _ k hs ps _ _ _ _
+    (omega (arith, c.close_entries-kept.auto.hashes, c.deref_mut.ensures.len, s.hashes.ok.0)) (omega (arith, c.close_entries-kept.auto.places, c.deref_mut-2.ensures.len, s.places.ok.0))
+    c.truncate.ensures.items c.truncate-2.ensures.items)
+    (All-take (λ e. e.second ≤ most) k (entries_of hs ps) (entries_below most hs ps now))

@@ -1,0 +1,12 @@
+-- Which slots of a table are known to be used, as a search notes it.
+use Rattle.std.specs.Prelude.{◌≡◌, ℕ, ◌+◌, ◌<◌, true, List, get_or}
+use Rattle.cdb_form.specs.Format.Pair.{WordPair}
+use Rattle.cdb_form.specs.Format.Table.{is_used, empty_slot}
+
+-- so many slots, from this one on, are used
+abbrev pub IsRun : ℕ → ℕ → List WordPair → Type 0
+IsRun at len slots = (k : ℕ) → k < len → is_used (get_or slots (at + k) empty_slot) ≡ true
+
+-- as many from each slot on as is noted there
+abbrev pub AreRuns : List ℕ → List WordPair → Type 0
+AreRuns runs slots = (at : ℕ) → IsRun at (get_or runs at 0) slots
