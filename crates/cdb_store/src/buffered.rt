@@ -91,6 +91,22 @@ impl<S: Store> BufferedStore<S> {
         (inner, answer)
     }
 
+    /// The inner store, as it is. What is left in the buffer is let go: after a flush that is nothing.
+    pub fn discard(self) -> S
+        ensures { result ≡ self.inner }
+    {
+        let BufferedStore {
+            inner,
+            buffer,
+            pos: _,
+            capacity: _,
+            trace,
+        } = self;
+        drop(buffer);
+        drop(trace);
+        inner
+    }
+
     /// Hands on what was collected.
     fn settle(&mut self) -> Result<(), StoreFault>
         ensures images { SameImages (images_of self.old) (images_of self.new) }

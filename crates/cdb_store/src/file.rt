@@ -111,6 +111,36 @@ impl<F: RawFile> FileStore<F> {
 }
 
 impl<F: RawFile> FileStore<F> {
+    /// A store in a raw file that was just made.
+    pub fn made(file: F) -> FileStore<F>
+        requires { F.calls file ≡ (Made, []) ∷ [] }
+        ensures size { result.len ≡ 0 }
+        ensures file { result.file ≡ file }
+    {
+        FileStore::empty(file)
+    }
+
+    /// Its raw file, to ask about it.
+    pub fn file(&self) -> &F
+        ensures { result.now ≡ self.now.file }
+    {
+        &self.file
+    }
+
+    /// Its raw file.
+    pub fn into_file(self) -> F
+        ensures { result ≡ self.file }
+    {
+        let FileStore {
+            file,
+            len: _,
+            is_lost: _,
+        } = self;
+        file
+    }
+}
+
+impl<F: RawFile> FileStore<F> {
     ghost use Rattle.cdb_store.specs.FileStore.{calls_of};
 
     /// Answers `Device` where the length is lost, without asking the file.

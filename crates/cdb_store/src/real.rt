@@ -4,9 +4,10 @@ ghost use Rattle.std.specs.IoError.{error_kind};
 
 use crate::raw::{RawFault, RawFile, note_part};
 use crate::trace::{Call, Trace};
-use std::fs::File;
+use std::fs::{File, Metadata, OpenOptions};
 use std::io::{self, ErrorKind};
 use std::os::unix::fs::FileExt;
+use std::rt::Files;
 
 /// A file of the system.
 #[derive(Drop)]
@@ -33,6 +34,28 @@ impl RealFile {
         let mut made = RealFile::opened(file);
         made.trace.note(&Call::Made, &[]);
         made
+    }
+
+    /// Makes a file under a name that nothing has, and reads and writes it. It follows no link.
+    pub fn create_new<R: Files<File = File>>(rt: &R, path: &str) -> io::Result<RealFile>
+        ensures made { IfOk result (λ f. f.trace.events ≡ (Call.Made, []) ∷ []) }
+    {
+        let mut options = OpenOptions::new();
+        options.create_new(true);
+        let file = options.read(true).write(true).open(rt, path)?;
+        Ok(RealFile::made(file))
+    }
+
+    /// The calls on it, which only clauses read.
+    pub fn trace(&self) -> &Trace
+        ensures { result.now ≡ self.now.trace }
+    {
+        &self.trace
+    }
+
+    /// What the system tells of it: its kind, and its device and inode. No byte of it is read.
+    pub fn metadata(&self) -> io::Result<Metadata> {
+        self.file.metadata()
     }
 }
 
