@@ -6,6 +6,7 @@ pub mod Inside
 pub mod Turning
 pub mod Search
 pub mod Finder
+pub mod Getting
 pub mod Window
 pub mod Walking
 pub mod Walk

@@ -7,6 +7,7 @@ mod distances;
 mod entries;
 mod fault;
 mod finder;
+mod getting;
 mod hashing;
 pub mod laws;
 mod lengths;

@@ -32,6 +32,15 @@ pub struct Unread<S> {
     pub fault: ReadFault,
 }
 
+impl<S: Drop> From<Unread<S>> for ReadFault {
+    ghost from_gives = { λ u f. f ≡ u.fault };
+
+    /// Lets the store go.
+    fn from(unread: Unread<S>) -> ReadFault {
+        unread.fault
+    }
+}
+
 /// A database in a store.
 #[derive(Drop)]
 pub struct Reader<S: Store, L: Width> {
