@@ -1,0 +1,178 @@
+-- The calls of a replacement, one after the other, and what a crash between them leaves.
+use Rattle.std.proofs.Common.{◌≡◌, ◌≢◌, ℕ, ◌⊎◌, inl, inr, List, [], ◌∷◌, ◌++◌, Option, None, Some, Bool, true, false, cond, refl, sym, ◌∙◌, ap, subst, append_assoc}
+use Rattle.std.specs.List.{AllByRecursion}
+use Rattle.std.proofs.lemmas.Bool.{false≢true}
+use Rattle.cdb_store.specs.Calls.{Calls, IsSynced, FileImage}
+use Rattle.cdb_files.specs.declared.name_trace.NameCall.{NameCall}
+use Rattle.cdb_files.specs.declared.name_trace.NameCall.TheVariants.{Folder, One, Apart, Made, NotMade}
+use Rattle.cdb_files.specs.declared.name_trace.NameCall.TheVariants.{Removed, NotRemoved, Renamed, NotRenamed, Synced, NotSynced}
+use Rattle.cdb_files.specs.Folder.{NameCalls, IsRemoval, IsCleared, MayHave, Has, LeavesFile}
+use Rattle.cdb_files.specs.Replacing.{IsReady, IsOfReplacing, AreOfReplacing, AtEach, AtEachMoment, IsNew, LeavesOldOrNew, LeavesNew}
+
+-- one call
+abbrev pub NameEvent : Type 0
+NameEvent = NameCall × List ℕ × List ℕ × Calls
+
+pub none_yet : {t n : List ℕ} {whole : List ℕ → Type 0} (calls : NameCalls) → AreOfReplacing t n whole calls calls
+none_yet calls = record { since = []; calls = refl; each = tt }
+
+pub one_more : {t n : List ℕ} {whole : List ℕ → Type 0} {old mid : NameCalls} (new : NameCalls) (call : NameEvent)
+    → AreOfReplacing t n whole old mid → new ≡ call ∷ mid → IsOfReplacing t n whole call
+    → AreOfReplacing t n whole old new
+one_more new call are is may =
+    record { since = call ∷ are.since; calls = is ∙ ap (λ cs. call ∷ cs) are.calls; each = (may, are.each) }
+
+-- the same of a file known by its length and its calls
+pub of_file : {P : List ℕ → Type 0} (len n : ℕ) (calls file : Calls) → n ≡ len → file ≡ calls
+    → ((b : List ℕ) → FileImage len calls b → P b) → (b : List ℕ) → FileImage n file b → P b
+of_file len n calls file same_len same all b is =
+    all b (subst (λ (cs : Calls). FileImage len cs b) same (subst (λ (m : ℕ). FileImage m file b) same_len is))
+
+weaker_one : (t n : List ℕ) {P Q : List ℕ → Type 0} → ((b : List ℕ) → P b → Q b) → (call : NameEvent)
+    → IsOfReplacing t n P call → IsOfReplacing t n Q call
+weaker_one t n f (Renamed len, from, to, file) r =
+    record { from_is = r.from_is; to_is = r.to_is; synced = r.synced; is_whole = λ b is. f b (r.is_whole b is) }
+weaker_one t n f (NotRenamed len, from, to, file) r =
+    record { from_is = r.from_is; to_is = r.to_is; synced = r.synced; is_whole = λ b is. f b (r.is_whole b is) }
+weaker_one t n f (Made, one, other, file) r = r
+weaker_one t n f (Removed, one, other, file) r = r
+weaker_one t n f (NotRemoved, one, other, file) r = r
+weaker_one t n f (Folder is, one, other, file) r = tt
+weaker_one t n f (One, one, other, file) r = tt
+weaker_one t n f (Apart, one, other, file) r = tt
+weaker_one t n f (NotMade, one, other, file) r = tt
+weaker_one t n f (Synced, one, other, file) r = tt
+weaker_one t n f (NotSynced, one, other, file) r = tt
+
+weaker_all : (t n : List ℕ) {P Q : List ℕ → Type 0} → ((b : List ℕ) → P b → Q b) → (since : NameCalls)
+    → AllByRecursion (IsOfReplacing t n P) since → AllByRecursion (IsOfReplacing t n Q) since
+weaker_all t n f [] all = tt
+weaker_all t n f (call ∷ since) all = (weaker_one t n f call all.0, weaker_all t n f since all.1)
+
+both : (P : NameEvent → Type 0) (xs ys : NameCalls) → AllByRecursion P xs → AllByRecursion P ys
+    → AllByRecursion P (xs ++ ys)
+both P [] ys all more = more
+both P (x ∷ xs) ys all more = (all.0, both P xs ys all.1 more)
+
+-- what a weaker claim allows is allowed, and what follows it is too
+pub go_on : {t n : List ℕ} {P Q : List ℕ → Type 0} {old mid new : NameCalls} → ((b : List ℕ) → P b → Q b)
+    → AreOfReplacing t n Q old mid → AreOfReplacing t n P mid new → AreOfReplacing t n Q old new
+go_on {t = t} {n = n} {Q = Q} {old = old} f are more =
+    record {
+      since = more.since ++ are.since;
+      calls = more.calls ∙ ap (λ cs. more.since ++ cs) are.calls ∙ sym (append_assoc more.since are.since old);
+      each = both (IsOfReplacing t n Q) more.since are.since (weaker_all t n f more.since more.each) are.each;
+    }
+
+pub weaker : {t n : List ℕ} {P Q : List ℕ → Type 0} {old new : NameCalls} → ((b : List ℕ) → P b → Q b)
+    → AreOfReplacing t n P old new → AreOfReplacing t n Q old new
+weaker {t = t} {n = n} f are = record { since = are.since; calls = are.calls; each = weaker_all t n f are.since are.each }
+
+-- what the rename leaves under the name is the file, whole
+new_file : {t n : List ℕ} {whole : List ℕ → Type 0} {len : ℕ} {from to : List ℕ} {file : Calls}
+    (held : Option (List ℕ)) → IsReady t n whole len from to file → LeavesFile len file held
+    → IsNew whole held
+new_file None ready leaves = leaves
+new_file (Some b) ready leaves = ready.is_whole b (leaves ready.synced)
+
+-- a call that a replacement may make keeps what a crash leaves
+keeps : {t n : List ℕ} {whole : List ℕ → Type 0} (old now : NameCalls) → t ≢ n → (call : NameEvent)
+    → IsOfReplacing t n whole call → LeavesOldOrNew n whole old now
+    → LeavesOldOrNew n whole old (call ∷ now)
+keeps old now apart (Made, one, other, file) may before first held (inl is) = absurd (apart (sym may ∙ is.0))
+keeps old now apart (Made, one, other, file) may before first held (inr was) = before first held was
+keeps old now apart (Removed, one, other, file) may before first held (inl is) = absurd (apart (sym may ∙ is.0))
+keeps old now apart (Removed, one, other, file) may before first held (inr was) = before first held was
+keeps old now apart (NotRemoved, one, other, file) may before first held (inl is) = absurd (apart (sym may ∙ is.0))
+keeps old now apart (NotRemoved, one, other, file) may before first held (inr was) = before first held was
+keeps old now apart (Renamed len, from, to, file) may before first held (inl is) = inr (new_file held may is.1)
+keeps old now apart (Renamed len, from, to, file) may before first held (inr (inl is)) = absurd (apart (sym may.from_is ∙ is.0))
+keeps old now apart (Renamed len, from, to, file) may before first held (inr (inr was)) = before first held was
+keeps old now apart (NotRenamed len, from, to, file) may before first held (inl is) = inr (new_file held may is.1)
+keeps old now apart (NotRenamed len, from, to, file) may before first held (inr (inl is)) = absurd (apart (sym may.from_is ∙ is.0))
+keeps old now apart (NotRenamed len, from, to, file) may before first held (inr (inr was)) = before first held was
+keeps old now apart (Synced, one, other, file) may before first held is = before first held is.0
+keeps old now apart (Folder is, one, other, file) may before first held was = before first held was
+keeps old now apart (One, one, other, file) may before first held was = before first held was
+keeps old now apart (Apart, one, other, file) may before first held was = before first held was
+keeps old now apart (NotMade, one, other, file) may before first held was = before first held was
+keeps old now apart (NotSynced, one, other, file) may before first held was = before first held was
+
+newest : (P : NameCalls → Type 0) (since old : NameCalls) → AtEach P since old → P (since ++ old)
+newest P [] old at = at
+newest P (call ∷ since) old at = at.0
+
+each_of : (t n : List ℕ) (whole : List ℕ → Type 0) (old : NameCalls) → t ≢ n → (since : NameCalls)
+    → AllByRecursion (IsOfReplacing t n whole) since → AtEach (LeavesOldOrNew n whole old) since old
+each_of t n whole old apart [] all = λ first held was. inl was
+each_of t n whole old apart (call ∷ since) all =
+    let at = each_of t n whole old apart since all.1 in
+    (keeps old (since ++ old) apart call all.0 (newest (LeavesOldOrNew n whole old) since old at), at)
+
+-- a crash at any moment leaves the old file or the new one
+pub at_each_moment : {t n : List ℕ} {whole : List ℕ → Type 0} {old new : NameCalls} → t ≢ n
+    → AreOfReplacing t n whole old new → AtEachMoment (LeavesOldOrNew n whole old) old new
+at_each_moment {t = t} {n = n} {whole = whole} {old = old} apart are =
+    record { since = are.since; calls = are.calls; each = each_of t n whole old apart are.since are.each }
+
+-- the same where nothing was done at one name
+pub at_each_or_none : {t n : List ℕ} {whole : List ℕ → Type 0} {old new : NameCalls} → ((t ≢ n) ⊎ (new ≡ old))
+    → AreOfReplacing t n whole old new → AtEachMoment (LeavesOldOrNew n whole old) old new
+at_each_or_none (inl apart) are = at_each_moment apart are
+at_each_or_none (inr same) are = record { since = []; calls = same; each = λ first held was. inl was }
+
+-- the sync of the folder leaves what the name has
+has_new : {t n : List ℕ} {whole : List ℕ → Type 0} (len : ℕ) (file : Calls) (mid : NameCalls)
+    → IsReady t n whole len t n file → (first held : Option (List ℕ))
+    → Has n first ((Renamed len, t, n, file) ∷ mid) held → IsNew whole held
+has_new len file mid ready first held (inl is) = new_file held ready is.1
+has_new len file mid ready first held (inr not) = absurd (not.0 refl)
+
+-- the newest call is that the folder was synced
+is_synced : NameCalls → Bool
+is_synced ((Synced, one, other, file) ∷ calls) = true
+is_synced _ = false
+
+pub ready : {t n : List ℕ} {whole : List ℕ → Type 0} (len : ℕ) (file : Calls) → IsSynced file
+    → ((b : List ℕ) → FileImage len file b → whole b) → IsReady t n whole len t n file
+ready len file is all = record { from_is = refl; to_is = refl; synced = is; is_whole = all }
+
+pub sure : {n : List ℕ} {whole : List ℕ → Type 0} (t : List ℕ) (len : ℕ) (file : Calls) (mid named now : NameCalls) (r : Bool)
+    → IsReady t n whole len t n file → named ≡ (Renamed len, t, n, file) ∷ mid
+    → now ≡ (cond r Synced NotSynced, n, [], []) ∷ named → LeavesNew n whole now
+unfolding is_synced
+sure {n = n} t len file mid named now true all is after_is before newest_is first held may =
+    let after = subst (λ (cs : NameCalls). MayHave n first cs held) after_is may in
+    has_new len file mid all first held (subst (λ (cs : NameCalls). Has n first cs held) is (after.1 refl))
+sure {n = n} t len file mid named now false all is after_is before newest_is first held may =
+    absurd (false≢true (ap is_synced (sym after_is ∙ newest_is)))
+
+weaker_new : {P Q : List ℕ → Type 0} → ((b : List ℕ) → P b → Q b) → (held : Option (List ℕ)) → IsNew P held → IsNew Q held
+weaker_new f None new = new
+weaker_new f (Some b) new = f b new
+
+pub weaker_sure : (n : List ℕ) {P Q : List ℕ → Type 0} (now : NameCalls) → ((b : List ℕ) → P b → Q b) → LeavesNew n P now
+    → LeavesNew n Q now
+weaker_sure n now f leaves before is first held may = weaker_new f held (leaves before is first held may)
+
+removal : (t n : List ℕ) (whole : List ℕ → Type 0) (call : NameCall) → IsRemoval call
+    → IsOfReplacing t n whole (call, t, [], [])
+removal t n whole call (inl is) = subst (λ (g : NameCall). IsOfReplacing t n whole (g, t, [], [])) (sym is) refl
+removal t n whole call (inr is) = subst (λ (g : NameCall). IsOfReplacing t n whole (g, t, [], [])) (sym is) refl
+
+pub cleared : {t n : List ℕ} {whole : List ℕ → Type 0} {old mid : NameCalls} (new : NameCalls)
+    → AreOfReplacing t n whole old mid → IsCleared t mid new → AreOfReplacing t n whole old new
+cleared {t = t} {n = n} {whole = whole} new are is =
+    one_more new (is.0, t, [], []) are is.2 (removal t n whole is.0 is.1)
+
+pub told : {t n : List ℕ} {whole : List ℕ → Type 0} {old mid : NameCalls} (new : NameCalls) (r : Bool)
+    → AreOfReplacing t n whole old mid → new ≡ (cond r One Apart, t, n, []) ∷ mid
+    → AreOfReplacing t n whole old new
+told {t = t} {n = n} new true are is = one_more new (One, t, n, []) are is tt
+told {t = t} {n = n} new false are is = one_more new (Apart, t, n, []) are is tt
+
+pub synced : {t n : List ℕ} {whole : List ℕ → Type 0} {old mid : NameCalls} (new : NameCalls) (r : Bool)
+    → AreOfReplacing t n whole old mid → new ≡ (cond r Synced NotSynced, n, [], []) ∷ mid
+    → AreOfReplacing t n whole old new
+synced {n = n} new true are is = one_more new (Synced, n, [], []) are is tt
+synced {n = n} new false are is = one_more new (NotSynced, n, [], []) are is tt

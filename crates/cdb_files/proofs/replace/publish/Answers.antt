@@ -1,0 +1,18 @@
+use Rattle.cdb_files.specs.declared.name_trace.NameCall.TheVariants.{Renamed, NotRenamed}
+use Rattle.cdb_files.proofs.Replacing.{none_yet, one_more, cleared, synced, ready, sure}
+use Rattle.cdb_files.proofs.replace.publish.Goals as goal
+
+pub returns-in-Ok-clause-calls : goal.returns-in-Ok-clause-calls
+returns-in-Ok-clause-calls g c =
+    let file = g.N.File.RawFile.calls c.args.file in
+    synced {mid = g.N.Names.calls c.rename.new.self} _ c.sync_folder.result (one_more _ (Renamed c.args.len, c.args.temporary.now, c.args.name.now, file) (none_yet (g.N.Names.calls c.args.names.now)) c.in-Ok.ensures.ok (ready c.args.len file c.requires.settled (λ b is. is))) c.sync_folder.ensures
+
+pub returns-in-Ok-clause-sure : goal.returns-in-Ok-clause-sure
+returns-in-Ok-clause-sure g c =
+    let file = g.N.File.RawFile.calls c.args.file in
+    sure c.args.temporary.now c.args.len file (g.N.Names.calls c.args.names.now) (g.N.Names.calls c.rename.new.self) _ c.sync_folder.result (ready c.args.len file c.requires.settled (λ b is. is)) c.in-Ok.ensures.ok c.sync_folder.ensures
+
+pub returns-in-Err-clause-calls : goal.returns-in-Err-clause-calls
+returns-in-Err-clause-calls g c =
+    let file = g.N.File.RawFile.calls c.args.file in
+    cleared {mid = g.N.Names.calls c.rename.new.self} _ (one_more _ (NotRenamed c.args.len, c.args.temporary.now, c.args.name.now, file) (none_yet (g.N.Names.calls c.args.names.now)) c.in-Err.ensures.err (ready c.args.len file c.requires.settled (λ b is. is))) c.remove_own.ensures

@@ -1,0 +1,43 @@
+use Rattle.std.proofs.Common.{inl, inr, ap, sym, subst, ◌≡◌, ◌⊎◌, List, ℕ}
+use Rattle.cdb_files.specs.Replacing.{EndsIn, FailsRename}
+use Rattle.cdb_files.specs.Folder.{NameCalls}
+use Rattle.cdb_files.specs.declared.replace.ReplaceFault.{ReplaceFault}
+use Rattle.cdb_files.specs.declared.replace.ReplaceFault.TheVariants.{NoMemory, Rename}
+use Rattle.cdb_files.proofs.Replacing.{weaker, go_on, cleared, at_each_moment, at_each_or_none, weaker_sure, of_file}
+use Rattle.std.proofs.lemmas.Result.{on_ok_weaker, IfErr-weaker}
+use Rattle.cdb_files.proofs.replace.replace_file.Goals as goal
+
+ends_in : {E : Type 0} {t n : List ℕ} (old new : NameCalls) (e : ReplaceFault E) → (e ≡ Rename) ⊎ (e ≡ NoMemory) → FailsRename t n new → EndsIn t n old new e
+ends_in {E = E} {t = t} {n = n} old new e (inl is) fails = subst (λ (f : ReplaceFault E). EndsIn t n old new f) (sym is) (inr fails)
+ends_in {E = E} {t = t} {n = n} old new e (inr is) fails = subst (λ (f : ReplaceFault E). EndsIn t n old new f) (sym is) (inr fails)
+
+pub returns-in_err-empty-clause-calls : goal.returns-in_err-empty-clause-calls
+returns-in_err-empty-clause-calls g c = weaker (λ b none. absurd none) c.make_apart.ensures.calls
+
+pub returns-in-Ok-clause-calls : goal.returns-in-Ok-clause-calls
+returns-in-Ok-clause-calls g c =
+    go_on (of_file _ _ _ _ c.len-len.ensures (ap g.N.File.RawFile.calls c.into_file.ensures) (rw c.in-Ok.is at c.build-store.ensures.built)) (weaker (λ b none. absurd none) c.make_apart.ensures.calls) c.publish.ensures.calls
+
+pub returns-in-Err-clause-calls : goal.returns-in-Err-clause-calls
+returns-in-Err-clause-calls g c =
+    cleared _ (weaker (λ b none. absurd none) c.make_apart.ensures.calls) c.remove_own.ensures
+
+pub returns-in-Ok-clause-any_moment : goal.returns-in-Ok-clause-any_moment
+returns-in-Ok-clause-any_moment g c =
+    at_each_moment c.in_ok-empty.ensures.apart (go_on (of_file _ _ _ _ c.len-len.ensures (ap g.N.File.RawFile.calls c.into_file.ensures) (rw c.in-Ok.is at c.build-store.ensures.built)) (weaker (λ b none. absurd none) c.make_apart.ensures.calls) c.publish.ensures.calls)
+
+pub returns-in-Err-clause-any_moment : goal.returns-in-Err-clause-any_moment
+returns-in-Err-clause-any_moment g c =
+    at_each_moment c.in_ok-empty.ensures.apart (cleared _ (weaker (λ b none. absurd none) c.make_apart.ensures.calls) c.remove_own.ensures)
+
+pub returns-in-Ok-clause-sure : goal.returns-in-Ok-clause-sure
+returns-in-Ok-clause-sure g c =
+    on_ok_weaker c.publish.result (weaker_sure c.args.name.now _ (of_file _ _ _ _ c.len-len.ensures (ap g.N.File.RawFile.calls c.into_file.ensures) (rw c.in-Ok.is at c.build-store.ensures.built))) c.publish.ensures.sure
+
+pub returns-in-Ok-clause-err : goal.returns-in-Ok-clause-err
+returns-in-Ok-clause-err g c =
+    IfErr-weaker c.publish.result _ _ (λ e h. ends_in _ _ e h.0 h.1) c.publish.ensures.err
+
+pub returns-in_err-empty-clause-any_moment : goal.returns-in_err-empty-clause-any_moment
+returns-in_err-empty-clause-any_moment g c =
+    at_each_or_none c.make_apart.ensures.one_name (weaker (λ b none. absurd none) c.make_apart.ensures.calls)

@@ -1,0 +1,70 @@
+-- What the calls on names answered, and what that says of a name. The newest call comes first.
+use Rattle.std.specs.Prelude.{◌≡◌, ◌≢◌, ℕ, ◌⊎◌, List, [], ◌∷◌, Option, None, Some}
+use Rattle.cdb_store.specs.Calls.{Calls, IsSynced, FileImage}
+use Rattle.cdb_files.specs.declared.name_trace.NameCall.{NameCall}
+use Rattle.cdb_files.specs.declared.name_trace.NameCall.TheVariants.{Made}
+use Rattle.cdb_files.specs.declared.name_trace.NameCall.TheVariants.{Removed, NotRemoved}
+use Rattle.cdb_files.specs.declared.name_trace.NameCall.TheVariants.{Renamed, NotRenamed, Synced}
+
+-- the calls, each with its name, its other name, and the calls on its file
+abbrev pub NameCalls : Type 0
+NameCalls = List (NameCall × List ℕ × List ℕ × Calls)
+
+-- a name was taken from its file, or was to be
+abbrev pub IsRemoval : NameCall → Type 0
+IsRemoval call = (call ≡ Removed) ⊎ (call ≡ NotRemoved)
+
+-- the last call was to take a name from its file
+abbrev pub IsCleared : (name : List ℕ) (before calls : NameCalls) → Type 0
+IsCleared name before calls =
+    (gone : NameCall) × IsRemoval gone × (calls ≡ (gone, name, [], []) ∷ before)
+
+-- what a crash leaves of a file of this length: its bytes, if it was synced after its last change,
+-- and else any
+abbrev pub LeavesFile : (len : ℕ) → Calls → Option (List ℕ) → Type 0
+LeavesFile len file None = ⊥
+LeavesFile len file (Some b) = IsSynced file → FileImage len file b
+
+-- a file is there, of any bytes
+abbrev pub IsThere : Option (List ℕ) → Type 0
+IsThere None = ⊥
+IsThere (Some b) = Unit {0}
+
+-- what a name has if no crash comes, but for bytes that are not sure: nothing, or a file with these
+-- bytes
+abbrev pub Has : (name : List ℕ) (first : Option (List ℕ)) → NameCalls → Option (List ℕ) → Type 0
+Has name first [] held = held ≡ first
+Has name first ((Made, made, other, file) ∷ calls) held =
+    ((made ≡ name) × IsThere held) ⊎ ((made ≢ name) × Has name first calls held)
+Has name first ((Removed, gone, other, file) ∷ calls) held =
+    ((gone ≡ name) × (held ≡ None)) ⊎ ((gone ≢ name) × Has name first calls held)
+Has name first ((NotRemoved, gone, other, file) ∷ calls) held =
+    ((gone ≡ name) × (held ≡ None)) ⊎ Has name first calls held
+Has name first ((Renamed len, from, to, file) ∷ calls) held =
+    ((to ≡ name) × LeavesFile len file held)
+    ⊎ ((to ≢ name) × (((from ≡ name) × (held ≡ None)) ⊎ ((from ≢ name) × Has name first calls held)))
+Has name first ((NotRenamed len, from, to, file) ∷ calls) held =
+    ((to ≡ name) × LeavesFile len file held) ⊎ ((from ≡ name) × (held ≡ None))
+    ⊎ Has name first calls held
+Has name first ((_, one, other, file) ∷ calls) held = Has name first calls held
+
+-- what a crash after the calls may leave under a name: of each change that was not synced with its
+-- folder, the old or the new
+abbrev pub MayHave : (name : List ℕ) (first : Option (List ℕ)) → NameCalls → Option (List ℕ)
+    → Type 0
+MayHave name first [] held = held ≡ first
+MayHave name first ((Made, made, other, file) ∷ calls) held =
+    ((made ≡ name) × IsThere held) ⊎ MayHave name first calls held
+MayHave name first ((Removed, gone, other, file) ∷ calls) held =
+    ((gone ≡ name) × (held ≡ None)) ⊎ MayHave name first calls held
+MayHave name first ((NotRemoved, gone, other, file) ∷ calls) held =
+    ((gone ≡ name) × (held ≡ None)) ⊎ MayHave name first calls held
+MayHave name first ((Renamed len, from, to, file) ∷ calls) held =
+    ((to ≡ name) × LeavesFile len file held) ⊎ ((from ≡ name) × (held ≡ None))
+    ⊎ MayHave name first calls held
+MayHave name first ((NotRenamed len, from, to, file) ∷ calls) held =
+    ((to ≡ name) × LeavesFile len file held) ⊎ ((from ≡ name) × (held ≡ None))
+    ⊎ MayHave name first calls held
+MayHave name first ((Synced, synced, other, file) ∷ calls) held =
+    MayHave name first calls held × (synced ≡ name → Has name first calls held)
+MayHave name first ((_, one, other, file) ∷ calls) held = MayHave name first calls held

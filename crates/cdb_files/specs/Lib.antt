@@ -1,0 +1,4 @@
+pub mod Folder
+pub mod Replacing
+pub mod FileFault
+pub mod Made

@@ -1,0 +1,18 @@
+//! Files under their names: a file is replaced at once or not at all, whatever happens.
+#![tactic(auto)]
+
+mod fault;
+mod making;
+mod name_trace;
+mod names;
+mod opening;
+mod real_names;
+mod replace;
+
+pub use fault::FileFault;
+pub use making::{Records, make_file, make_file_in};
+pub use name_trace::{NameCall, NameTrace};
+pub use names::{NameFault, Names, Unrenamed};
+pub use opening::open_file;
+pub use real_names::{RealNames, is_name_of};
+pub use replace::{Builder, ReplaceFault, replace_file};

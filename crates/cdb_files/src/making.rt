@@ -1,0 +1,157 @@
+// A database of some records, under its name.
+ghost use Rattle.std.specs.Prelude.{◌≡◌, [], IfErr, OnOk, OnErr};
+ghost use Rattle.cdb_form.specs.Views.Pairs.{key_values};
+ghost use Rattle.cdb_make.specs.Views.Maker.{Holds, IsFile};
+ghost use Rattle.cdb_files.specs.Made.{IsFileOf, FailsMaking};
+ghost use Rattle.cdb_files.specs.Replacing.{
+  AreOfReplacing,
+  AtEachMoment,
+  IsRenamed,
+  LeavesNew,
+  LeavesOldOrNew,
+  renames,
+};
+
+use crate::fault::FileFault;
+use crate::names::Names;
+use crate::real_names::RealNames;
+use crate::replace::{Builder, replace_file};
+use cdb_form::{Record, Width};
+use cdb_make::{MakeFault, Maker, Mode};
+use cdb_store::{BufferedStore, FileStore, Store};
+use std::alloc::Global;
+use std::fs::File;
+use std::marker::PhantomData;
+use std::rt::Files;
+
+/// How many bytes of records are held before they are written.
+const WINDOW: usize = 65536;
+
+/// Builds the database of some records, in their order.
+#[derive(Drop)]
+pub struct Records<'a, L: Width> {
+    alloc: Global,
+    records: &'a [Record],
+    width: PhantomData<L>,
+}
+
+impl<'a, L: Width> Records<'a, L> {
+    /// What builds the database of these records.
+    pub fn new(alloc: Global, records: &'a [Record]) -> Records<'a, L>
+        ensures { result.records.now ≡ records.now }
+    {
+        Records {
+            alloc,
+            records,
+            width: PhantomData,
+        }
+    }
+}
+
+/// Puts records into a maker that holds none.
+fn put_records<S: Store, L: Width>(
+    maker: &mut Maker<S, L>,
+    records: &[Record],
+) -> Result<(), MakeFault>
+    requires { Holds maker.old [] }
+    ensures { OnOk result (Holds maker.new (key_values records.now)) }
+{
+    for record in records {
+        maker.put(Mode::Add, &record.key, &record.value)?;
+    }
+    Ok(())
+}
+
+/// Puts records into a store that is emptied, and finishes their file.
+fn put_all<S: Store, L: Width>(
+    alloc: Global,
+    store: S,
+    records: &[Record],
+) -> (S, Result<(), MakeFault>)
+    ensures settled { OnOk result.1 (S.settled result.0) }
+    ensures file { OnOk result.1 (IsFile L.WORD (key_values records.now) (S.image result.0)) }
+{
+    let mut maker = match Maker::<S, L>::new(alloc, store, L::GREATEST) {
+        Ok(maker) => maker,
+        Err(refused) => return (refused.store, Err(refused.fault)),
+    };
+    match put_records(&mut maker, records) {
+        Ok(()) => {}
+        Err(fault) => return (maker.into_store(), Err(fault)),
+    }
+    match maker.finish() {
+        Ok(store) => (store, Ok(())),
+        Err(unfinished) => (unfinished.maker.into_store(), Err(unfinished.fault)),
+    }
+}
+
+impl<'a, S: Store, L: Width> Builder<S> for Records<'a, L> {
+    type Fault = MakeFault;
+
+    ghost builds = { λ r. IsFileOf L.WORD r.records.now };
+
+    fn build(self, store: S) -> (S, Result<(), MakeFault>) {
+        let Records {
+            alloc,
+            records,
+            width: _,
+        } = self;
+        match BufferedStore::new(alloc, store, WINDOW) {
+            Ok(buffered) => {
+                let (buffered, made) = put_all::<BufferedStore<S>, L>(alloc, buffered, records);
+                (buffered.discard(), made)
+            }
+            Err(store) => (store, Err(MakeFault::NoMemory)),
+        }
+    }
+}
+
+/// Makes the database of some records under a name, by way of a temporary name, in place of what
+/// has the name. Several records may have one key.
+///
+/// What had the name keeps it until the new file is whole and flushed, and after a fault.
+pub fn make_file_in<L: Width, N: Names>(
+    names: &mut N,
+    alloc: Global,
+    name: &str,
+    temporary: &str,
+    records: &[Record],
+) -> Result<(), FileFault>
+    ensures ok { OnOk result (IsRenamed temporary.now name.now (N.calls names.new)) }
+    ensures calls { AreOfReplacing temporary.now name.now (IsFileOf L.WORD records.now)
+        (N.calls names.old) (N.calls names.new) }
+    ensures kept { OnErr result (renames (N.calls names.new) ≡ renames (N.calls names.old)) }
+    ensures err { IfErr result
+        (FailsMaking temporary.now name.now (N.calls names.old) (N.calls names.new)) }
+    // A crash at any moment leaves the old file or the database of the records.
+    ensures any_moment { AtEachMoment (LeavesOldOrNew name.now (IsFileOf L.WORD records.now)
+        (N.calls names.old)) (N.calls names.old) (N.calls names.new) }
+    // Once the folder was synced, a crash leaves the database of the records.
+    ensures sure { OnOk result
+        (LeavesNew name.now (IsFileOf L.WORD records.now) (N.calls names.new)) }
+{
+    let builder = Records::<L>::new(alloc, records);
+    match replace_file::<N, Records<L>>(names, name, temporary, builder) {
+        Ok(()) => Ok(()),
+        Err(fault) => Err(FileFault::from(fault)),
+    }
+}
+
+/// Makes the database of some records under a name, by way of the name with `.tmp` behind it.
+///
+/// `Open`: the name is empty or ends in a slash, or no file can be made of that temporary name.
+/// `Rename`: the file cannot be given the name, which may be that of a folder. `NoMemory`: there
+/// was none for the temporary name. `Make`: the database was not made, and what had the name has
+/// it still, as after each fault.
+pub fn make_file<L: Width, R: Files<File = File> + AllocGlobal>(
+    rt: &R,
+    name: &str,
+    records: &[Record],
+) -> Result<(), FileFault> {
+    let alloc = rt.alloc();
+    let Ok(temporary) = format!(in alloc; "{name}.tmp") else {
+        return Err(FileFault::NoMemory);
+    };
+    let mut names = RealNames::new(rt);
+    make_file_in::<L, RealNames<R>>(&mut names, alloc, name, temporary.as_str(), records)
+}

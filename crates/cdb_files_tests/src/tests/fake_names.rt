@@ -1,0 +1,177 @@
+// A folder in memory that fails its calls from one on.
+ghost use Rattle.std.specs.Prelude.{◌≡◌, [], ◌∷◌, OnOk, OnErr};
+ghost use Rattle.cdb_files.specs.Folder.{IsCleared};
+ghost use Rattle.cdb_files.specs.declared.name_trace.NameCall.TheVariants.{Renamed, NotRenamed};
+
+use super::fake_file::FakeFile;
+use cdb_files::{NameCall, NameFault, NameTrace, Names, Unrenamed};
+use cdb_store::Trace;
+use std::alloc::Global;
+
+/// What the name of the database has.
+#[derive(Clone, Copy, Debug, PartialEq, Eq)]
+pub enum Held {
+    /// The old file.
+    Old,
+    /// The new file, which was synced before it got the name.
+    New,
+    /// A file that a crash may leave with any bytes.
+    Torn,
+    /// Nothing.
+    Nothing,
+}
+
+/// A folder with a database. So many of its calls in a row, from one on, fail; and of a file that
+/// it makes.
+#[derive(Drop)]
+pub struct FakeNames {
+    /// What the database's name has.
+    pub database: Held,
+    /// The bytes of a new file under it.
+    pub bytes: Vec<u8>,
+    /// Whether the temporary name has a file.
+    pub has_temporary: bool,
+    /// How many calls were made.
+    pub calls: u64,
+    alloc: Global,
+    first: u64,
+    count: u64,
+    file_first: u64,
+    trace: NameTrace,
+}
+
+/// The name of the database; any other is the temporary name.
+pub const DATABASE: &str = "db";
+
+impl FakeNames {
+    /// A folder with an old database and an old temporary file.
+    pub fn new(alloc: Global, first: u64, count: u64, file_first: u64) -> FakeNames {
+        FakeNames {
+            database: Held::Old,
+            bytes: Vec::new(alloc),
+            has_temporary: true,
+            calls: 0,
+            alloc,
+            first,
+            count,
+            file_first,
+            trace: NameTrace::new(),
+        }
+    }
+
+    /// Counts a call, and tells whether it fails.
+    fn fails(&mut self) -> bool
+        ensures { self.new.trace ≡ self.old.trace }
+    {
+        let call = self.calls;
+        self.calls = call.saturating_add(1);
+        call >= self.first && call - self.first < self.count
+    }
+
+    /// Notes a call that is on no file.
+    fn note(&mut self, call: &NameCall, name: &str, other: &str)
+        ensures { self.new.trace.events
+            ≡ (call.now, name.now, other.now, []) ∷ self.old.trace.events }
+    {
+        self.trace
+            .note(call, name.as_bytes(), other.as_bytes(), &Trace::new());
+    }
+
+    /// Takes a name from its file, unless that fails, and notes it.
+    fn take(&mut self, name: &str)
+        ensures { IsCleared name.now self.old.trace.events self.new.trace.events }
+    {
+        if self.fails() {
+            self.note(&NameCall::NotRemoved, name, "");
+            return;
+        }
+        if name == DATABASE {
+            self.database = Held::Nothing;
+        } else {
+            self.has_temporary = false;
+        }
+        self.note(&NameCall::Removed, name, "");
+    }
+}
+
+impl Names for FakeNames {
+    type File = FakeFile;
+
+    ghost calls = { λ n. n.trace.events };
+
+    fn is_folder(&mut self, name: &str) -> bool {
+        let is = self.fails();
+        self.note(&NameCall::Folder(is), name, "");
+        is
+    }
+
+    fn is_file_of(&mut self, name: &str, other: &str) -> bool {
+        let is = self.fails();
+        let call = if is { NameCall::One } else { NameCall::Apart };
+        self.note(&call, name, other);
+        is
+    }
+
+    fn remove_stale(&mut self, name: &str, _other: &str) {
+        self.take(name);
+    }
+
+    fn make_new(&mut self, name: &str) -> Result<FakeFile, NameFault> {
+        if self.fails() || self.has_temporary {
+            self.note(&NameCall::NotMade, name, "");
+            return Err(NameFault::Failed);
+        }
+        self.has_temporary = true;
+        self.note(&NameCall::Made, name, "");
+        Ok(FakeFile::made(Vec::new(self.alloc), self.file_first, self.count))
+    }
+
+    fn remove_own(&mut self, name: &str, _file: &FakeFile) {
+        self.take(name);
+    }
+
+    fn rename(
+        &mut self,
+        file: FakeFile,
+        len: u64,
+        name: &str,
+        other: &str,
+    ) -> Result<(), Unrenamed<FakeFile>>
+        ensures ok { OnOk result (self.new.trace.events
+            ≡ (Renamed len, name.now, other.now, file.trace.events) ∷ self.old.trace.events) }
+        ensures err { OnErr result (self.new.trace.events
+            ≡ (NotRenamed len, name.now, other.now, file.trace.events) ∷ self.old.trace.events) }
+    {
+        let fails = self.fails();
+        let call = if fails {
+            NameCall::NotRenamed(len)
+        } else {
+            NameCall::Renamed(len)
+        };
+        self.trace
+            .note(&call, name.as_bytes(), other.as_bytes(), file.trace());
+        if fails {
+            let fault = NameFault::Failed;
+            return Err(Unrenamed { file, fault });
+        }
+        self.has_temporary = false;
+        self.database = if file.is_sure && file.bytes.len() as u64 == len {
+            Held::New
+        } else {
+            Held::Torn
+        };
+        self.bytes = file.bytes;
+        Ok(())
+    }
+
+    fn sync_folder(&mut self, name: &str) -> bool {
+        let is_synced = !self.fails();
+        let call = if is_synced {
+            NameCall::Synced
+        } else {
+            NameCall::NotSynced
+        };
+        self.note(&call, name, "");
+        is_synced
+    }
+}

@@ -1,0 +1,91 @@
+// Each call on a name, and each on the file, fails in turn, alone and with all that come after it.
+use super::fake_names::{DATABASE, FakeNames, Held};
+use cdb_files::make_file_in;
+use cdb_form::{Narrow, Record};
+use std::alloc::Global;
+use std::test::Fail;
+
+/// How many calls on names a make takes: folder, compare, remove, make, rename, sync.
+const NAME_CALLS: u64 = 6;
+
+/// More calls than a make takes of the file.
+const FILE_CALLS: u64 = 40;
+
+/// The two records of the worked file.
+pub fn two_records(alloc: Global) -> Result<Vec<Record>, Fail> {
+    let mut records = Vec::new(alloc);
+    for (key, value) in [("one", "Hello"), ("two", "Goodbye")] {
+        records.push(Record {
+            key: Vec::from_slice(alloc, key.as_bytes())?,
+            value: Vec::from_slice(alloc, value.as_bytes())?,
+        })?;
+    }
+    Ok(records)
+}
+
+/// Whether a make that answered so left what it is to leave: at a fault the old file and, unless
+/// the removal failed, no temporary name; at Ok the new one.
+fn is_right(names: &FakeNames, made: bool) -> bool {
+    match names.database {
+        Held::Old => !made,
+        Held::New => made && !names.has_temporary && names.bytes.len() == 2048 + 16 + 18 + 32,
+        Held::Torn | Held::Nothing => false,
+    }
+}
+
+#[test]
+fn each_call_on_a_name_fails(rt: HostRuntime) -> Result<(), Fail> {
+    let records = two_records(rt.alloc())?;
+    for first in 0..=NAME_CALLS {
+        for count in [1, 100] {
+            let mut names = FakeNames::new(rt.alloc(), first, count, 1 << 40);
+            let made = make_file_in::<Narrow, FakeNames>(
+                &mut names,
+                rt.alloc(),
+                DATABASE,
+                "db.tmp",
+                &records,
+            );
+            assert!(rt; made.is_ok() == (first >= 5), "{first} {count}");
+            assert!(rt; is_right(&names, made.is_ok()), "{first} {count}");
+        }
+    }
+    Ok(())
+}
+
+#[test]
+fn each_call_on_the_file_fails(rt: HostRuntime) -> Result<(), Fail> {
+    let records = two_records(rt.alloc())?;
+    for first in 0..FILE_CALLS {
+        let mut names = FakeNames::new(rt.alloc(), 1 << 40, 1 << 40, first);
+        let made = make_file_in::<Narrow, FakeNames>(
+            &mut names,
+            rt.alloc(),
+            DATABASE,
+            "db.tmp",
+            &records,
+        );
+        assert!(rt; is_right(&names, made.is_ok()), "{first}");
+        assert!(rt; made.is_ok() || !names.has_temporary, "{first}");
+        assert!(rt; first != 0 || made.is_err(), "the first call");
+        assert!(rt; first != FILE_CALLS - 1 || made.is_ok(), "no call");
+    }
+    Ok(())
+}
+
+#[test]
+fn bad_names_are_refused_before_anything_is_touched(rt: HostRuntime) -> Result<(), Fail> {
+    let records = two_records(rt.alloc())?;
+    for (name, temporary) in [("", ".tmp"), ("sub/", "sub/.tmp"), ("db", "db")] {
+        let mut names = FakeNames::new(rt.alloc(), 1 << 40, 1, 1 << 40);
+        let made = make_file_in::<Narrow, FakeNames>(
+            &mut names,
+            rt.alloc(),
+            name,
+            temporary,
+            &records,
+        );
+        assert!(rt; made.is_err() && names.calls == 0, "{name}");
+    }
+    Ok(())
+}

@@ -1,0 +1,62 @@
+// Files of the system: made, opened and asked.
+use super::faults::two_records;
+use cdb_files::{FileFault, make_file, open_file};
+use cdb_form::{Narrow, Wide};
+use std::fs;
+use std::test::Fail;
+
+#[test]
+fn a_file_is_made_and_asked(rt: HostRuntime) -> Result<(), Fail> {
+    let records = two_records(rt.alloc())?;
+    make_file::<Narrow, _>(&rt, "made.cdb", &records)?;
+    let mut reader = open_file::<Narrow, _>(&rt, "made.cdb")?;
+    for record in &records {
+        match reader.get(rt.alloc(), &record.key)? {
+            Some(value) => assert!(rt; value == record.value, "value"),
+            None => assert!(rt; false, "no value"),
+        }
+    }
+    assert!(rt; reader.get(rt.alloc(), b"three")?.is_none(), "three");
+    assert!(rt; !fs::exists(&rt, "made.cdb.tmp")?, "temporary");
+    fs::remove_file(&rt, "made.cdb")?;
+    Ok(())
+}
+
+#[test]
+fn the_first_value_is_given(rt: HostRuntime) -> Result<(), Fail> {
+    let mut records = two_records(rt.alloc())?;
+    for record in two_records(rt.alloc())? {
+        let mut record = record;
+        record.value = Vec::from_slice(rt.alloc(), b"later")?;
+        records.push(record)?;
+    }
+    make_file::<Wide, _>(&rt, "first.cdb", &records)?;
+    let mut reader = open_file::<Wide, _>(&rt, "first.cdb")?;
+    match reader.get(rt.alloc(), b"one")? {
+        Some(value) => assert!(rt; value.as_slice() == b"Hello".as_slice(), "value"),
+        None => assert!(rt; false, "no value"),
+    }
+    fs::remove_file(&rt, "first.cdb")?;
+    Ok(())
+}
+
+#[test]
+fn a_file_that_is_not_there_is_not_opened(rt: HostRuntime) -> Result<(), Fail> {
+    assert!(rt;
+        open_file::<Narrow, _>(&rt, "none.cdb").err() == Some(FileFault::Open),
+        "open"
+    );
+    Ok(())
+}
+
+#[test]
+fn a_link_of_the_temporary_name_is_not_followed(rt: HostRuntime) -> Result<(), Fail> {
+    fs::write(&rt, "other", "kept")?;
+    std::os::unix::fs::symlink(&rt, "other", "link.cdb.tmp")?;
+    let records = two_records(rt.alloc())?;
+    make_file::<Narrow, _>(&rt, "link.cdb", &records)?;
+    assert!(rt; fs::metadata(&rt, "other")?.len() == 4, "other");
+    fs::remove_file(&rt, "other")?;
+    fs::remove_file(&rt, "link.cdb")?;
+    Ok(())
+}
