@@ -2,15 +2,17 @@
 ghost use Rattle.std.specs.Prelude.{◌≤◌, OnOk};
 ghost use Rattle.cdb_form.specs.Format.Pair.{head_size};
 
-use crate::files::{Opening, is_file_of, opened_store, publish, remove};
-use crate::source::{Source, WINDOW, sources_of};
+use crate::files::{is_file_of, is_folder, is_same_file, made_store, opened_store};
+use crate::source::{InSource, STANDARD_INPUT, Source, WINDOW, sources_of};
+use cdb_files::{Builder, RealNames, ReplaceFault, replace_file};
 use cdb_form::{Width, head_size, write_whole};
 use cdb_make::{MakeFault, Mode};
-use cdb_store::{BufferedStore, FileStore, MemStore};
-use cdb_tool::{Fault, Input, MakeOptions, Output, Style, flushed, make_bytes, make_run};
+use cdb_store::{BufferedStore, FileStore, MemStore, Store};
+use cdb_tool::{Fault, Input, MakeOptions, Output, Style, flushed, make_bytes, make_run_by};
 use std::alloc::Global;
 use std::fs::File;
 use std::io::{Read, Write};
+use std::marker::PhantomData;
 use std::rt::Files;
 
 /// How many bytes of lines are held before they are written.
@@ -24,6 +26,8 @@ const NO_FILE: &str = "-";
 pub(crate) struct Creation<'a> {
     /// The database.
     pub(crate) name: &'a str,
+    /// The database whose records come first, if one is amended.
+    pub(crate) base: Option<&'a str>,
     /// The inputs. No input is standard input.
     pub(crate) inputs: &'a [String],
     /// The file in which the database is made; `None` is its name with `.tmp` behind it.
@@ -33,6 +37,15 @@ pub(crate) struct Creation<'a> {
 }
 
 impl Creation<'_> {
+    /// Whether it reads a file of such a name.
+    fn reads<F: Fn(&str) -> bool>(&self, is_such: F) -> bool
+        requires { F.IsAlwaysCallable is_such }
+    {
+        self.base.is_some_and(|base| is_such(base))
+            || self.inputs.iter().any(|input| input.as_str() != STANDARD_INPUT
+                && is_such(input.as_str()))
+    }
+
     /// Whether it is the file of one native text, with each of its records.
     fn is_plain(&self) -> bool {
         let MakeOptions {
@@ -42,11 +55,20 @@ impl Creation<'_> {
             style,
             limit: _,
         } = self.options;
-        self.inputs.is_empty() && mode == Mode::Add && !warn && !stop && style == Style::Native
+        let reads_one_text = self.base.is_none() && self.inputs.is_empty();
+        reads_one_text && mode == Mode::Add && !warn && !stop && style == Style::Native
     }
 }
 
-/// Makes a database. All inputs are opened before anything is made.
+/// What a database is made of, with its files opened.
+#[derive(Drop)]
+struct Contents<I> {
+    base: Option<FileStore>,
+    sources: Vec<Source<I>>,
+    options: MakeOptions,
+}
+
+/// Makes a database. The base and then all inputs are opened before anything is made.
 pub(crate) fn create<L, R, I, O, E>(
     rt: &R,
     creation: Creation<'_>,
@@ -65,26 +87,43 @@ where
     if creation.name == NO_FILE && creation.is_plain() {
         return make_bytes::<L, _, O>(alloc, Input::new(alloc, input, WINDOW)?, output);
     }
-    let sources = sources_of(rt, alloc, creation.inputs, input)?;
+    let base = base_of(rt, creation.base)?;
+    let contents = Contents {
+        base,
+        sources: sources_of(rt, alloc, creation.inputs, input)?,
+        options: creation.options,
+    };
     if creation.name == NO_FILE {
-        return make_on_output::<L, I, O, E>(alloc, sources, creation.options, output, errors);
+        return make_on_output::<L, I, O, E>(alloc, contents, output, errors);
     }
-    make_named::<L, R, I, E>(rt, creation, sources, errors)
+    make_named::<L, R, I, E>(rt, creation, contents, errors)
+}
+
+/// Opens the base, if there is one.
+fn base_of<R: Files<File = File>>(rt: &R, name: Option<&str>) -> Result<Option<FileStore>, Fault> {
+    match name {
+        Some(name) => Ok(Some(opened_store(rt, name)?)),
+        None => Ok(None),
+    }
 }
 
 /// Makes it in memory and writes it.
 fn make_on_output<L: Width, I: Read + Drop, O: Write, E: Write>(
     alloc: Global,
-    sources: Vec<Source<I>>,
-    options: MakeOptions,
+    contents: Contents<I>,
     output: &mut O,
     errors: &mut E,
 ) -> Result<(), Fault> {
+    let Contents {
+        base,
+        sources,
+        options,
+    } = contents;
     check_limit::<L>(options)?;
     let mut lines = Output::new(alloc, errors, LINES)?;
     let store = MemStore::new(alloc);
-    let (store, _, made) = make_run::<L, _, MemStore, _, _>(
-        alloc, store, None, sources, options, &mut lines,
+    let (store, _, made) = make_run_by::<L, _, _, _, _, InSource>(
+        alloc, store, base, sources, options, &mut lines,
     );
     made?;
     let written = write_whole(output, store.bytes());
@@ -92,10 +131,13 @@ fn make_on_output<L: Width, I: Read + Drop, O: Write, E: Write>(
 }
 
 /// Makes it under its name: in a temporary file, or in place.
+///
+/// `Open`: the name is empty or ends in a slash. `Rename`: it is that of a folder, which nothing
+/// replaces.
 fn make_named<L, R, I, E>(
     rt: &R,
     creation: Creation<'_>,
-    sources: Vec<Source<I>>,
+    contents: Contents<I>,
     errors: &mut E,
 ) -> Result<(), Fault>
 where
@@ -105,29 +147,28 @@ where
     E: Write,
 {
     let name = creation.name;
+    if name.is_empty() || name.as_bytes().ends_with(b"/") {
+        return Err(Fault::Open);
+    }
     match creation.temporary {
         Some(temporary) if temporary == NO_FILE || temporary == name => {
-            let store = opened_store(rt, name, Opening::Create)?;
-            make_in_file::<L, I, E>(rt.alloc(), store, sources, creation.options, errors)
+            make_in_place::<L, R, I, E>(rt, creation, contents, errors)
         }
-        Some(temporary) => make_apart::<L, R, I, E>(rt, temporary, creation, sources, errors),
+        Some(temporary) => make_apart::<L, R, I, E>(rt, temporary, creation, contents, errors),
         None => {
             let temporary = format!(in rt.alloc(); "{name}.tmp")?;
-            make_apart::<L, R, I, E>(rt, temporary.as_str(), creation, sources, errors)
+            make_apart::<L, R, I, E>(rt, temporary.as_str(), creation, contents, errors)
         }
     }
 }
 
-/// Makes it in a temporary file, which is renamed once it is whole.
+/// Makes it in the file of its name, which is emptied first.
 ///
-/// An existing file of that name is removed first, so a link is not followed and an open input is not
-/// overwritten. If the name refers to the database itself, nothing is removed and the call fails.
-/// After a fault the temporary file is removed, and the old database still has its name.
-fn make_apart<L, R, I, E>(
+/// `Open`: the base or an input is that file, and would be lost.
+fn make_in_place<L, R, I, E>(
     rt: &R,
-    temporary: &str,
     creation: Creation<'_>,
-    sources: Vec<Source<I>>,
+    contents: Contents<I>,
     errors: &mut E,
 ) -> Result<(), Fault>
 where
@@ -136,35 +177,123 @@ where
     I: Read + Drop,
     E: Write,
 {
-    if !is_file_of(rt, temporary, creation.name) {
-        remove(rt, temporary);
+    let name = creation.name;
+    if creation.reads(|file| is_same_file(rt, name, file)) {
+        return Err(Fault::Open);
     }
-    let store = opened_store(rt, temporary, Opening::CreateNew)?;
-    let made = make_in_file::<L, I, E>(rt.alloc(), store, sources, creation.options, errors);
-    let published = match made {
-        Ok(()) => publish(rt, temporary, creation.name),
-        Err(fault) => Err(fault),
+    let store = made_store(rt, name)?;
+    make_in_file::<L, I, E>(rt.alloc(), store, contents, errors)
+}
+
+/// Makes it in a temporary file, which is renamed once it is whole: `replace_file` says what holds
+/// of the names.
+///
+/// If the temporary name refers to the base or to an input, nothing is removed and the call fails.
+fn make_apart<L, R, I, E>(
+    rt: &R,
+    temporary: &str,
+    creation: Creation<'_>,
+    contents: Contents<I>,
+    errors: &mut E,
+) -> Result<(), Fault>
+where
+    L: Width,
+    R: Files<File = File> + AllocGlobal,
+    I: Read + Drop,
+    E: Write,
+{
+    if is_folder(rt, creation.name) {
+        return Err(Fault::Rename);
+    }
+    if creation.reads(|file| is_file_of(rt, temporary, file)) {
+        return Err(Fault::Open);
+    }
+    let builder = Building::<L, I, E> {
+        alloc: rt.alloc(),
+        contents,
+        errors,
+        width: PhantomData,
     };
-    if published.is_err() {
-        remove(rt, temporary);
+    let mut names = RealNames::new(rt);
+    match replace_file::<RealNames<R>, Building<L, I, E>>(
+        &mut names,
+        creation.name,
+        temporary,
+        builder,
+    ) {
+        Ok(()) => Ok(()),
+        Err(ReplaceFault::Open) => Err(Fault::Open),
+        Err(ReplaceFault::NoMemory) => Err(Fault::NoMemory),
+        Err(ReplaceFault::Rename) => Err(Fault::Rename),
+        Err(ReplaceFault::Build(fault)) => Err(fault),
     }
-    published
+}
+
+/// Builds a database in a file that is empty.
+#[derive(Drop)]
+struct Building<'a, L: Width, I, E> {
+    alloc: Global,
+    contents: Contents<I>,
+    errors: &'a mut E,
+    width: PhantomData<L>,
+}
+
+impl<'a, S: Store + Drop, L: Width, I: Read + Drop, E: Write> Builder<S> for Building<'a, L, I, E> {
+    type Fault = Fault;
+
+    ghost builds = { λ _ _. Unit {0} };
+
+    fn build(self, store: S) -> (S, Result<(), Fault>) {
+        let Building {
+            alloc,
+            contents,
+            errors,
+            width: _,
+        } = self;
+        make_in_store::<L, S, I, E>(alloc, store, contents, errors)
+    }
 }
 
 /// Makes it in a file, which is closed then.
 fn make_in_file<L: Width, I: Read + Drop, E: Write>(
     alloc: Global,
     file: FileStore,
-    sources: Vec<Source<I>>,
-    options: MakeOptions,
+    contents: Contents<I>,
     errors: &mut E,
 ) -> Result<(), Fault> {
-    check_limit::<L>(options)?;
-    let Ok(store) = BufferedStore::new(alloc, file, WINDOW) else {
-        return Err(Fault::NoMemory);
+    make_in_store::<L, FileStore, I, E>(alloc, file, contents, errors).1
+}
+
+/// Makes it in a store, which is handed back.
+fn make_in_store<L: Width, S: Store + Drop, I: Read + Drop, E: Write>(
+    alloc: Global,
+    store: S,
+    contents: Contents<I>,
+    errors: &mut E,
+) -> (S, Result<(), Fault>)
+    ensures { OnOk result.1 (S.settled result.0) }
+{
+    let Contents {
+        base,
+        sources,
+        options,
+    } = contents;
+    if let Err(fault) = check_limit::<L>(options) {
+        return (store, Err(fault));
+    }
+    let mut lines = match Output::new(alloc, errors, LINES) {
+        Ok(lines) => lines,
+        Err(_) => return (store, Err(Fault::NoMemory)),
     };
-    let mut lines = Output::new(alloc, errors, LINES)?;
-    make_run::<L, _, MemStore, _, _>(alloc, store, None, sources, options, &mut lines).2
+    match BufferedStore::new(alloc, store, WINDOW) {
+        Ok(store) => {
+            let (store, _, made) = make_run_by::<L, _, _, _, _, InSource>(
+                alloc, store, base, sources, options, &mut lines,
+            );
+            (store.discard(), made)
+        }
+        Err(store) => (store, Err(Fault::NoMemory)),
+    }
 }
 
 /// Refuses a limit that no file of the width can have.

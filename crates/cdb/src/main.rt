@@ -6,11 +6,15 @@ mod files;
 mod source;
 mod steps;
 
+use crate::files::LAST_STANDARD;
 use cdb_tool::Usage;
 use std::fs::File;
 use std::io::ErrorKind;
 use std::os::fd::AsRawFd;
 use std::process::ExitCode;
+
+/// The device that takes all and gives nothing.
+const NULL: &str = "/dev/null";
 
 fn main(rt: HostRuntime) -> ExitCode {
     let _held = [held(&rt), held(&rt), held(&rt)];
@@ -22,13 +26,32 @@ fn main(rt: HostRuntime) -> ExitCode {
     ExitCode::from(status)
 }
 
-/// What holds the place of a standard stream that is closed, if one is. A file of the program would
-/// get its number else, and what is meant for the stream would be written into a database. A folder
-/// is neither read nor written, as the stream itself.
+/// What holds the place of a standard stream that is closed, if one is. Otherwise a file of the
+/// program would get its number, and what is meant for the stream would be written into a database.
+/// A folder is neither read nor written, as the stream itself. If no folder can be opened, the null
+/// device takes its place, opened so that it cannot do what the stream would do.
 fn held(rt: &HostRuntime) -> Option<File> {
-    match File::open(rt, "/") {
-        Ok(folder) if folder.as_raw_fd() <= 2 => Some(folder),
-        _ => None,
+    for folder in ["/", "."] {
+        if let Ok(folder) = File::open(rt, folder) {
+            return standard(folder);
+        }
+    }
+    match File::options().write(true).open(rt, NULL) {
+        Ok(input) if input.as_raw_fd() == 0 => Some(input),
+        Ok(output) => {
+            drop(output);
+            standard(File::open(rt, NULL).ok()?)
+        }
+        Err(_) => None,
+    }
+}
+
+/// A file, if it has the number of a standard stream.
+fn standard(file: File) -> Option<File> {
+    if file.as_raw_fd() <= LAST_STANDARD {
+        Some(file)
+    } else {
+        None
     }
 }
 

@@ -1,6 +1,7 @@
 // The inputs of a create, of which several may be standard input.
 use crate::files::opened;
-use cdb_tool::{Fault, Input};
+use cdb_form::{AtHand, Kind};
+use cdb_tool::{Fault, InWindow, Input};
 use std::alloc::{AllocError, Global};
 use std::cell::RefCell;
 use std::fs::File;
@@ -12,7 +13,7 @@ use std::rt::Files;
 pub(crate) const WINDOW: usize = 65536;
 
 /// The name that stands for standard input.
-const STANDARD_INPUT: &str = "-";
+pub(crate) const STANDARD_INPUT: &str = "-";
 
 /// An input of a create.
 #[derive(Drop)]
@@ -32,6 +33,27 @@ impl<I: Read> Read for Source<I> {
             Source::Standard(shared) => match shared.try_borrow_mut() {
                 Ok(mut input) => input.read(buf),
                 Err(_) => Err(io::Error::other("standard input is in use")),
+            },
+        }
+    }
+}
+
+/// The bytes of an input's window are at hand.
+pub(crate) struct InSource;
+
+impl<I: Read> AtHand<Source<I>> for InSource {
+    #[inline(always)]
+    fn take_run(
+        source: &mut Source<I>,
+        kind: Kind,
+        most: u64,
+        into: &mut Vec<u8>,
+    ) -> Result<u64, AllocError> {
+        match source {
+            Source::File(input) => InWindow::take_run(input, kind, most, into),
+            Source::Standard(shared) => match shared.try_borrow_mut() {
+                Ok(mut input) => InWindow::take_run(&mut *input, kind, most, into),
+                Err(_) => Ok(0),
             },
         }
     }

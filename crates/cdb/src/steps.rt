@@ -1,6 +1,6 @@
 // What the program does: each command over its files and streams.
 use crate::creating::{Creation, create};
-use crate::files::{Opening, opened, opened_store};
+use crate::files::{is_stream, opened, opened_store};
 use crate::source::WINDOW;
 use cdb_form::{Narrow, Wide, Width, write_pieces, write_whole};
 use cdb_store::MemStore;
@@ -135,6 +135,7 @@ where
         Command::Check { name, .. } => check::<L, R, I>(rt, name, input),
         Command::Create {
             name,
+            base,
             inputs,
             temporary,
             options,
@@ -142,6 +143,7 @@ where
         } => {
             let creation = Creation {
                 name: name.as_str(),
+                base: base.as_deref(),
                 inputs: inputs.as_slice(),
                 temporary: temporary.as_deref(),
                 options: *options,
@@ -167,7 +169,7 @@ fn query<L: Width, R: Files<File = File>, O: Write>(
     if number == Some(0) {
         return Err(Fault::Missing);
     }
-    let store = opened_store(rt, name, Opening::Read)?;
+    let store = opened_store(rt, name)?;
     query_run::<L, _, O>(store, key.as_bytes(), number, lines, output).1
 }
 
@@ -205,28 +207,30 @@ fn text<L: Width, R: Files<File = File> + AllocGlobal, I: Read + Drop, O: Write>
     }
 }
 
-/// Standard input, taken into memory.
+/// A stream, taken into memory.
 fn taken<L: Width, I: Read + Drop>(alloc: Global, input: I) -> Result<MemStore, Fault> {
     load(alloc, Input::new(alloc, input, WINDOW)?, L::GREATEST)
 }
 
-/// Writes the statistics of a file, or of standard input.
+/// Writes the statistics of a file, or of a stream: standard input, a pipe or a device.
 fn stats<L: Width, R: Files<File = File> + AllocGlobal, I: Read + Drop, O: Write>(
     rt: &R,
     name: &Option<String>,
     input: I,
     output: &mut O,
 ) -> Result<(), Fault> {
+    let alloc = rt.alloc();
     match name {
-        Some(name) => {
-            let store = opened_store(rt, name.as_str(), Opening::Read)?;
+        Some(name) if is_stream(rt, name.as_str()) => {
+            let store = taken::<L, _>(alloc, opened(rt, name.as_str())?)?;
             stats_run::<L, _, O>(store, output).1
         }
-        None => stats_run::<L, _, O>(taken::<L, I>(rt.alloc(), input)?, output).1,
+        Some(name) => stats_run::<L, _, O>(opened_store(rt, name.as_str())?, output).1,
+        None => stats_run::<L, _, O>(taken::<L, I>(alloc, input)?, output).1,
     }
 }
 
-/// Checks a file, or standard input.
+/// Checks a file, or a stream: standard input, a pipe or a device.
 fn check<L: Width, R: Files<File = File> + AllocGlobal, I: Read + Drop>(
     rt: &R,
     name: &Option<String>,
@@ -234,10 +238,11 @@ fn check<L: Width, R: Files<File = File> + AllocGlobal, I: Read + Drop>(
 ) -> Result<(), Fault> {
     let alloc = rt.alloc();
     match name {
-        Some(name) => {
-            let store = opened_store(rt, name.as_str(), Opening::Read)?;
+        Some(name) if is_stream(rt, name.as_str()) => {
+            let store = taken::<L, _>(alloc, opened(rt, name.as_str())?)?;
             check_run::<L, _>(alloc, store).1
         }
+        Some(name) => check_run::<L, _>(alloc, opened_store(rt, name.as_str())?).1,
         None => check_run::<L, _>(alloc, taken::<L, I>(alloc, input)?).1,
     }
 }

@@ -80,7 +80,7 @@ plan_none : (g : Given) → NoWords (line_plan g)
 plan_none g =
     either g.flags.help _ _ (given _)
     (then (only_letter (letters_in g.flags)) _ (letter_none (letters_in g.flags))
-    (λ x. then (no_stray (first_stray (taken_by x) (options_in g))) _ (stray_none _)
+    (λ x. then (no_stray (first_stray (taken_by x g) (options_in g))) _ (stray_none _)
     (λ _. then (number_in g.number) _ (number_none g.number)
     (λ number. command_none x g number))))
 

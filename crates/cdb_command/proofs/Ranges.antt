@@ -70,7 +70,7 @@ plan_range : (g : Given) → Within IsInRange (line_plan g)
 plan_range g =
     either g.flags.help _ _ (of _ tt)
     (then (only_letter (letters_in g.flags)) _
-    (λ x. then (no_stray (first_stray (taken_by x) (options_in g))) _
+    (λ x. then (no_stray (first_stray (taken_by x g) (options_in g))) _
     (λ _. kept (number_in g.number) _ (number_range g.number)
     (λ number p. command_range x g number p))))
 

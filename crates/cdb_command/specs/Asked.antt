@@ -16,8 +16,8 @@ pub data Asked : Type 0 where
   Listing : (name : Option Text) (style : Style) (wide : Bool) → Asked
   Stats : (name : Option Text) (wide : Bool) → Asked
   Check : (name : Option Text) (wide : Bool) → Asked
-  Create : (name : Text) (inputs : List Text) (temporary : Option Text) (options : MakeOptions)
-      (wide : Bool) → Asked
+  Create : (name : Text) (base : Option Text) (inputs : List Text) (temporary : Option Text)
+      (options : MakeOptions) (wide : Bool) → Asked
   Help : Asked
 
 abbrev pub asked_in : Command → Asked
@@ -27,9 +27,9 @@ asked_in (command.Dump name style wide) = Dump (option_map string_bytes name) st
 asked_in (command.List name style wide) = Listing (option_map string_bytes name) style wide
 asked_in (command.Stats name wide) = Stats (option_map string_bytes name) wide
 asked_in (command.Check name wide) = Check (option_map string_bytes name) wide
-asked_in (command.Create name inputs temporary options wide) =
-    Create (string_bytes name) (map string_bytes inputs.items) (option_map string_bytes temporary)
-    options wide
+asked_in (command.Create name base inputs temporary options wide) =
+    Create (string_bytes name) (option_map string_bytes base) (map string_bytes inputs.items)
+    (option_map string_bytes temporary) options wide
 asked_in command.Help = Help
 
 -- the values of a key are counted from 1, and a database may be as long as its width allows
@@ -39,7 +39,7 @@ IsInRange (Dump name style wide) = Unit
 IsInRange (Listing name style wide) = Unit
 IsInRange (Stats name wide) = Unit
 IsInRange (Check name wide) = Unit
-IsInRange (Create name inputs temporary options wide) =
+IsInRange (Create name base inputs temporary options wide) =
     options.limit ≡ (if wide then 9223372036854775807 else 4294967295)
 IsInRange Help = Unit
 

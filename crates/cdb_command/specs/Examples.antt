@@ -65,7 +65,7 @@ pub hyphen_for_a_name : asks (codes "-d" ∷ codes "-" ∷ []) ≡ Ok (Dump None
 unfolding cdb_rows cdb_faults walk_fault flags_fault defaults_fault bundle_met walked chars encode
 hyphen_for_a_name = refl
 
-pub created : asks (codes "-cm" ∷ codes "x" ∷ []) ≡ Ok (Create (codes "x") [] None (record {
+pub created : asks (codes "-cm" ∷ codes "x" ∷ []) ≡ Ok (Create (codes "x") None [] None (record {
   mode = Add;
   warn = false;
   stop = false;
@@ -74,3 +74,19 @@ pub created : asks (codes "-cm" ∷ codes "x" ∷ []) ≡ Ok (Create (codes "x")
 }) false)
 unfolding cdb_rows cdb_faults walk_fault flags_fault defaults_fault bundle_met walked chars encode
 created = refl
+
+pub base_of_the_same_name : asks (codes "-c" ∷ codes "-b" ∷ codes "x" ∷ codes "x" ∷ [])
+    ≡ Ok (Create (codes "x") (Some (codes "x")) [] None (record {
+      mode = Add;
+      warn = false;
+      stop = false;
+      style = Native;
+      limit = 4294967295;
+    }) false)
+unfolding cdb_rows cdb_faults walk_fault flags_fault defaults_fault bundle_met walked chars encode
+base_of_the_same_name = refl
+
+pub base_that_is_built_in : asks (codes "-c" ∷ codes "-b" ∷ codes "x.tmp" ∷ codes "x" ∷ [])
+    ≡ Err (Option (code "b"))
+unfolding cdb_rows cdb_faults walk_fault flags_fault defaults_fault bundle_met walked chars encode
+base_that_is_built_in = refl

@@ -2,7 +2,7 @@
 use Prim.Native.Char.{code}
 use Rattle.std.specs.Prelude.{ℕ, ◌^◌, ◌==◌, Bool, not, ◌&&◌, ◌||◌, true, false, nat_lt}
 use Rattle.std.specs.Prelude.{if◌then◌else◌, List, [], ◌∷◌, ◌++◌, find, codes, bytes_eq, Option}
-use Rattle.std.specs.Prelude.{Some, None, is_some, Result, Ok, Err}
+use Rattle.std.specs.Prelude.{Some, None, is_some, option_map, unwrap_or, Result, Ok, Err}
 use Rattle.std.specs.List.{list_any}
 use Rattle.std.specs.Str.{all_ascii_digits}
 use Rattle.std.specs.Str.Parse.{digits_value}
@@ -38,19 +38,42 @@ only_letter (x ∷ y ∷ more) = Err usage.TwoCommands
 
 -- ---- and options that it takes
 
-abbrev pub taken_by : Letter → Text
-taken_by letter.Query = codes "mn"
-taken_by letter.Dump = codes "m"
-taken_by letter.List = codes "m"
-taken_by letter.Stats = []
-taken_by letter.Check = []
-taken_by letter.Create = codes "mtweru"
+-- the name `-` is a standard stream
+abbrev pub is_stream : Text → Bool
+is_stream name = bytes_eq name (codes "-")
+
+-- whether a create writes the database to standard output, where no file is built
+abbrev pub writes_out : List Text → Bool
+writes_out [] = false
+writes_out (name ∷ inputs) = is_stream name
+
+-- whether the file in which a create builds has this name; it is the database's name and `.tmp`
+-- where none is given
+abbrev pub is_built_in : Option Text → List Text → Text → Bool
+is_built_in (Some temporary) names file = bytes_eq temporary file
+is_built_in None [] file = false
+is_built_in None (name ∷ inputs) file = bytes_eq (name ++ codes ".tmp") file
+
+-- whether a create takes this base: not where it builds in place by `-t -`, and not where it would
+-- build in the base
+abbrev pub takes_base : Given → Text → Bool
+takes_base g base = not (unwrap_or (option_map is_stream g.temporary) false)
+    && (writes_out g.names || not (is_built_in g.temporary g.names base))
+
+abbrev pub taken_by : Letter → Given → Text
+taken_by letter.Query g = codes "mn"
+taken_by letter.Dump g = codes "m"
+taken_by letter.List g = codes "m"
+taken_by letter.Stats g = []
+taken_by letter.Check g = []
+taken_by letter.Create g =
+    codes "mtweru" ++ when (unwrap_or (option_map (takes_base g) g.base) true) (code "b")
 
 -- the options on a line that a create alone takes, in the order in which they are looked at
 abbrev pub making_options_in : Given → Text
 making_options_in g = when (is_some g.temporary) (code "t") ++ (when g.flags.warn (code "w")
     ++ (when g.flags.stop (code "e") ++ (when g.flags.replace (code "r")
-    ++ when g.flags.insert (code "u"))))
+    ++ (when g.flags.insert (code "u") ++ when (is_some g.base) (code "b")))))
 
 -- all that some command takes
 abbrev pub options_in : Given → Text
@@ -82,7 +105,7 @@ number_in (Some text) = decimal_in text >>= λ n. Ok (Some n)
 
 -- the name `-` is standard input
 abbrev pub file_named : Text → Option Text
-file_named name = if bytes_eq name (codes "-") then None else Some name
+file_named name = if is_stream name then None else Some name
 
 -- and so is no name
 abbrev pub one_name : List Text → Result (Option Text) Usage
@@ -129,7 +152,7 @@ abbrev pub create_in : Given → Result Asked Usage
 create_in g = do
   p ← first_name g.names
   _ ← not_both g.flags
-  Ok (Create p.0 p.1 g.temporary (options_of g.flags) g.flags.wide)
+  Ok (Create p.0 g.base p.1 g.temporary (options_of g.flags) g.flags.wide)
 
 abbrev pub command_in : Letter → Given → Option ℕ → Result Asked Usage
 command_in letter.Query g number = query_in g number
@@ -145,7 +168,7 @@ command_in letter.Create g number = create_in g
 abbrev pub plan_without_help : Given → Result Asked Usage
 plan_without_help g = do
   letter ← only_letter (letters_in g.flags)
-  _ ← no_stray (first_stray (taken_by letter) (options_in g))
+  _ ← no_stray (first_stray (taken_by letter g) (options_in g))
   number ← number_in g.number
   command_in letter g number
 

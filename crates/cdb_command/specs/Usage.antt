@@ -25,6 +25,6 @@ usage_text = codes "usage: cdb -q [-W] [-m] [-n number] database key\n"
     ++ (codes "       cdb -d [-W] [-m] [database]\n"
     ++ (codes "       cdb -l [-W] [-m] [database]\n"
     ++ (codes "       cdb -s [-W] [database]\n"
-    ++ (codes "       cdb -c [-W] [-m] [-t temporary] [-weru] database [input ...]\n"
+    ++ (codes "       cdb -c [-W] [-m] [-t temporary] [-b base] [-weru] database [input ...]\n"
     ++ (codes "       cdb -k [-W] [database]\n"
     ++ codes "       cdb -h\n")))))

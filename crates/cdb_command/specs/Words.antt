@@ -45,7 +45,7 @@ abbrev pub letter_rules : List Rule
 letter_rules = flag "m" ∷ flag "W" ∷ flag "w" ∷ flag "e" ∷ flag "r" ∷ flag "u" ∷ []
 
 abbrev pub value_rules : List Rule
-value_rules = option "n" ∷ option "t" ∷ names_rule ∷ []
+value_rules = option "n" ∷ option "t" ∷ option "b" ∷ names_rule ∷ []
 
 abbrev pub with_rules : App → List Rule → App
 with_rules = fold with_rule
@@ -94,6 +94,7 @@ given_of rows = record {
   flags = flags_of rows;
   number = first_of (codes "n") rows;
   temporary = first_of (codes "t") rows;
+  base = first_of (codes "b") rows;
   names = unwrap_or (all_of (codes "names") rows) [];
 }
 

@@ -44,6 +44,7 @@ fn create_of(alloc: Global, line: &Line<'_, '_>) -> Result<Command, Usage>
     not_both(line.flags)?;
     Ok(Command::Create {
         name: owned(alloc, name)?,
+        base: owned_option(alloc, line.base)?,
         inputs: owned_all(alloc, inputs)?,
         temporary: owned_option(alloc, line.temporary)?,
         options: options_of(line.flags),

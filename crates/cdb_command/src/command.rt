@@ -37,10 +37,11 @@ pub enum Command {
         name: Option<String>,
         wide: bool,
     },
-    /// A database is made of the records of some inputs in turn, in a temporary file, whose name
-    /// is the program's to choose where none is given.
+    /// Make a database of the records of a base, if there is one, and of the inputs in turn. It is
+    /// built in a temporary file, whose name the program chooses if none is given.
     Create {
         name: String,
+        base: Option<String>,
         inputs: Vec<String>,
         temporary: Option<String>,
         options: MakeOptions,

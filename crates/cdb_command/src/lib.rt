@@ -2,6 +2,7 @@
 #![tactic(auto)]
 
 mod asking;
+mod base;
 mod command;
 mod letter;
 mod line;

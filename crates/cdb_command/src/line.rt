@@ -26,6 +26,8 @@ pub(crate) struct Line<'a, 'b> {
     pub(crate) number: Option<&'a str>,
     /// The value of `-t`.
     pub(crate) temporary: Option<&'a str>,
+    /// The value of `-b`.
+    pub(crate) base: Option<&'a str>,
     /// The names, or `None` where there are none.
     pub(crate) names: Option<&'b [&'a str]>,
 }

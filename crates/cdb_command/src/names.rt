@@ -2,7 +2,7 @@
 ghost use Rattle.std.specs.Prelude.{◌≡◌, map, option_map};
 ghost use Rattle.cdb_command.specs.Line.{names_in};
 ghost use Rattle.cdb_command.specs.Asked.{map_ok};
-ghost use Rattle.cdb_command.specs.Rules.{two_names, file_named, one_name, first_name};
+ghost use Rattle.cdb_command.specs.Rules.{is_stream, two_names, file_named, one_name, first_name};
 
 use crate::usage::Usage;
 
@@ -16,11 +16,18 @@ pub(crate) fn two_names<'a>(names: Option<&[&'a str]>) -> Result<(&'a str, &'a s
     }
 }
 
+/// Whether a name is that of a standard stream.
+pub(crate) fn is_stream(name: &str) -> bool
+    ensures { result ≡ is_stream name.now }
+{
+    name == "-"
+}
+
 /// The file of a name, or `None` for `-`, which is standard input.
 fn file_named(name: &str) -> Option<&str>
     ensures { option_map (λ s. s.now) result ≡ file_named name.entry.now }
 {
-    if name == "-" { None } else { Some(name) }
+    if is_stream(name) { None } else { Some(name) }
 }
 
 /// The file to be read: standard input where there is no name. `Names` where there are several.

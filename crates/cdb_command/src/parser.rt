@@ -108,6 +108,7 @@ fn with_values<'a>(alloc: Global, parser: Command<'a>) -> Result<Command<'a>, Al
 {
     let parser = with_option(alloc, parser, "n", 'n')?;
     let parser = with_option(alloc, parser, "t", 't')?;
+    let parser = with_option(alloc, parser, "b", 'b')?;
     with_names(alloc, parser)
 }
 

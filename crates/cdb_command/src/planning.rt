@@ -15,11 +15,13 @@ use std::alloc::Global;
 /// Letters stand alone or several behind one hyphen, in any order, before names, between them and
 /// behind them; a letter without a value that stands often is as one. Behind `--` all words are
 /// names. The answer is the first that holds of these:
-/// - `Words`: an unknown letter, `-n` or `-t` without a value, or one of them twice;
+/// - `Words`: an unknown letter, `-n`, `-t` or `-b` without a value, or one of them twice;
 /// - `Ok(Help)`: `-h` is there;
 /// - `NoCommand`, `TwoCommands`: none or several of `-q`, `-d`, `-l`, `-s`, `-c` and `-k`;
-/// - `Option(letter)`: the command doesn't take this option, the first such of `m n t w e r u`.
-///   `-q` takes `m` and `n`, `-d` and `-l` take `m`, and `-c` takes all but `n`;
+/// - `Option(letter)`: the command doesn't take this option, the first such of `m n t w e r u b`.
+///   `-q` takes `m` and `n`, `-d` and `-l` take `m`, and `-c` takes all but `n`. It takes no `b`
+///   beside `-t -`, nor if it would build in the base: if `-t`, or the database's name and `.tmp`,
+///   is the base's name. A database named `-` is built in no file;
 /// - `Number`: the value of `-n` isn't decimal digits alone, of a number from 1 to 4294967295;
 /// - `Names`: `-q` takes two names, `-c` one and any number of inputs, the others one at most;
 /// - `Both`: `-r` and `-u`;

@@ -3,14 +3,17 @@ ghost use Rattle.std.specs.Prelude.{◌≡◌, []};
 ghost use Rattle.cdb_command.specs.Line.{given_in};
 ghost use Rattle.cdb_command.specs.Rules.{taken_by, making_options_in, options_in, first_stray};
 ghost use Rattle.cdb_command.specs.Rules.{no_stray};
+ghost use Rattle.cdb_command.specs.declared.letter.Letter.TheVariants as letter;
 
+use crate::base::takes_base;
 use crate::letter::Letter;
 use crate::line::Line;
 use crate::usage::Usage;
 
-/// The first option on a line, in the order `m n t w e r u`, that the command does not take.
+/// The first option on a line, in the order `m n t w e r u b`, that the command does not take.
 fn stray_option(letter: Letter, line: &Line<'_, '_>) -> Option<char>
-    ensures { result ≡ first_stray (taken_by letter) (options_in (given_in line.now)) }
+    ensures { result ≡ first_stray (taken_by letter (given_in line.now))
+        (options_in (given_in line.now)) }
 {
     let flags = line.flags;
     let (takes_map, takes_number, takes_making) = match letter {
@@ -24,13 +27,21 @@ fn stray_option(letter: Letter, line: &Line<'_, '_>) -> Option<char>
     } else if line.number.is_some() && !takes_number {
         Some('n')
     } else if takes_making {
-        None
+        stray_base(line)
     } else {
         making_option(line)
     }
 }
 
-/// The first option on a line, in the order `t w e r u`, of those that a create alone takes.
+/// The option `b`, if a create does not take the base of a line.
+fn stray_base(line: &Line<'_, '_>) -> Option<char>
+    ensures { result ≡ first_stray (taken_by letter.Create (given_in line.now))
+        (making_options_in (given_in line.now)) }
+{
+    if takes_base(line) { None } else { Some('b') }
+}
+
+/// The first option on a line, in the order `t w e r u b`, of those that a create alone takes.
 fn making_option(line: &Line<'_, '_>) -> Option<char>
     ensures { result ≡ first_stray [] (making_options_in (given_in line.now)) }
 {
@@ -45,6 +56,8 @@ fn making_option(line: &Line<'_, '_>) -> Option<char>
         Some('r')
     } else if flags.insert {
         Some('u')
+    } else if line.base.is_some() {
+        Some('b')
     } else {
         None
     }
@@ -52,7 +65,8 @@ fn making_option(line: &Line<'_, '_>) -> Option<char>
 
 /// `Option` of the first option on a line that the command does not take.
 pub(crate) fn without_stray(letter: Letter, line: &Line<'_, '_>) -> Result<(), Usage>
-    ensures { result ≡ no_stray (first_stray (taken_by letter) (options_in (given_in line.now))) }
+    ensures { result ≡ no_stray (first_stray (taken_by letter (given_in line.now))
+        (options_in (given_in line.now))) }
 {
     match stray_option(letter, line) {
         Some(option) => Err(Usage::Option(option)),

@@ -17,7 +17,7 @@ pub fn write_usage<W: Write>(w: &mut W) -> Result<(), OutFault>
         b"       cdb -d [-W] [-m] [database]\n",
         b"       cdb -l [-W] [-m] [database]\n",
         b"       cdb -s [-W] [database]\n",
-        b"       cdb -c [-W] [-m] [-t temporary] [-weru] database [input ...]\n",
+        b"       cdb -c [-W] [-m] [-t temporary] [-b base] [-weru] database [input ...]\n",
         b"       cdb -k [-W] [database]\n",
         b"       cdb -h\n",
     ];

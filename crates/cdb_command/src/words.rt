@@ -77,6 +77,7 @@ pub(crate) fn line_of<'a, 'b>(matches: &'b ArgMatches<'a>) -> Line<'a, 'b>
         flags: flags_of(matches),
         number: matches.get_str("n"),
         temporary: matches.get_str("t"),
+        base: matches.get_str("b"),
         names: matches.get_strs("names"),
     }
 }

@@ -12,7 +12,7 @@ use Rattle.cdb_form.specs.Format.File.{file_size}
 use Rattle.cdb_form.specs.Text.Amending.{Change, Putting, Removing}
 use Rattle.cdb_form.specs.Views.KnownBytes.{AppendsFront}
 use Rattle.cdb_form.proofs.WritingLemmas.{appends_then, front_then}
-use Rattle.cdb_make.specs.Survivors.{put_list, put_answer, fits, without}
+use Rattle.cdb_make.specs.Survivors.{put_list, put_answer, fits}
 use Rattle.cdb_make.specs.Views.Maker.{Holds, HoldsIn, WhereHonest, ComesFrom, Puts, FailsPutting, Removes, FailsRemoving, limit_of}
 use Rattle.cdb_make.specs.declared.fault.MakeFault.{MakeFault}
 use Rattle.cdb_make.specs.declared.fault.MakeFault.TheVariants as make

@@ -1,11 +1,10 @@
 -- What a reader gave of an input, whatever its form.
-use Rattle.std.proofs.Common.{◌≡◌, ◌≢◌, ℕ, ◌+◌, ◌*◌, ◌^◌, ◌<◌, ◌≤◌, List, [], ◌∷◌, ◌++◌, Bool, true, false, refl, Option, Some, None, IfSome, map, sym, ap, subst, ◌∙◌, length, take, drop, arith}
+use Rattle.std.proofs.Common.{◌≡◌, ◌≢◌, ℕ, ◌^◌, ◌<◌, ◌≤◌, List, [], ◌∷◌, ◌++◌, Bool, true, false, refl, Option, Some, None, IfSome, map, sym, ap, subst, ◌∙◌, length, take, drop, arith}
 use Rattle.std.proofs.lemmas.List.{map-append, take-append-drop, length-take-le}
 use Rattle.std.specs.Prelude.{codes}
 use Rattle.std.specs.Io.KnownBytes.{Consumes}
 use Rattle.cdb_form.specs.Format.Record.{KeyValue}
 use Rattle.cdb_form.specs.Text.Amending.{Change, Putting, SpellsChange, SpelledChanges, ReadsChanges}
-use Rattle.cdb_form.specs.Text.Form.{HasFault}
 use Rattle.cdb_form.specs.Views.AmendReader as changes
 use Rattle.cdb_form.specs.Views.TextFault.{IsOfText}
 use Rattle.cdb_form.specs.declared.text.amend_reader.AmendReader.{AmendReader}
@@ -19,7 +18,6 @@ use Rattle.cdb_tool.specs.Runs.Inputs as form
 use Rattle.cdb_tool.specs.Runs.Make.{form_of as task_form}
 use Rattle.cdb_tool.specs.Views.InputReader as puts
 use Rattle.cdb_tool.specs.Views.ItemReader.{form_of, unread, asks_left, IsNew, GivesItem, GivesEnd, Fails}
-use Rattle.cdb_tool.specs.declared.runs.input_reader.InputReader.{InputReader}
 use Rattle.cdb_tool.specs.declared.runs.item_reader.ItemReader.{ItemReader}
 use Rattle.cdb_tool.specs.declared.runs.item_reader.ItemReader.TheVariants.{Puts, Changes}
 use Rattle.cdb_command.specs.declared.style.Style.{Style}

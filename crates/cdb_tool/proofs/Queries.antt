@@ -1,5 +1,5 @@
 -- The values of a key that were found so far, and how a query ends.
-use Rattle.std.proofs.Common.{◌≡◌, ◌∙◌, ℕ, ◌+◌, ◌-◌, ◌≤◌, true, false, Bool, List, [], ◌∷◌, ◌++◌, length, take, drop, map, flat_map, refl, sym, ap, subst, arith, append_assoc, codes, Option, None, Some, Result, Ok, Err}
+use Rattle.std.proofs.Common.{◌≡◌, ◌∙◌, ℕ, ◌+◌, ◌-◌, ◌≤◌, true, false, Bool, List, [], ◌∷◌, ◌++◌, length, take, drop, map, flat_map, refl, sym, ap, subst, arith, append_assoc, codes, Option, None, Some, Result, Ok, Err, OnOk, IfErr, ◌≢◌, true≢false, ◌<◌}
 use Rattle.std.proofs.lemmas.Bool.{le-leb, cond-true}
 use Rattle.std.proofs.lemmas.List.{append-nil, length-map, map-append, length-append}
 use Rattle.std.proofs.lemmas.List.Concat.{flat_map-append}
@@ -8,12 +8,13 @@ use Rattle.std.specs.Io.KnownBytes.{Appends}
 use Rattle.cdb_store.specs.declared.store.Store.{Ghosts}
 use Rattle.cdb_form.specs.declared.width.Width.{Ghosts as Widths}
 use Rattle.cdb_form.specs.declared.damage.Damage.{Damage}
+use Rattle.cdb_form.specs.declared.damage.Damage.TheVariants as damage
 use Rattle.cdb_form.specs.Format.Pair.{head_size}
 use Rattle.cdb_form.specs.Views.KnownBytes.{AppendsFront}
 use Rattle.cdb_form.proofs.WritingLemmas.{appends_then, front_then}
 use Rattle.cdb_make.proofs.Written.{front_last}
 use Rattle.cdb_read.specs.Lookup.{Found, bytes_of, lookup_of, with_spans}
-use Rattle.cdb_read.specs.Views.Finder.{left_in, GivesSpan}
+use Rattle.cdb_read.specs.Views.Finder.{left_in, GivesSpan, GivesNone, FindingFails}
 use Rattle.cdb_store.specs.Reads.{OnlyReads}
 use Rattle.cdb_read.specs.Views.Reads.{CopyingFails}
 use Rattle.cdb_read.specs.Views.Search.{found_ahead}
@@ -23,8 +24,9 @@ use Rattle.cdb_read.specs.declared.finder.Finder.{Finder}
 use Rattle.cdb_read.specs.declared.span.Span.{Span}
 use Rattle.cdb_store.proofs.Reading.{reads_more}
 use Rattle.cdb_tool.specs.Views.Fault.{read_fault}
-use Rattle.cdb_tool.specs.Runs.Query.{Query, asked_of, value_text, spans_text, query_text, has_asked, why_missing, found_answer, query_answer, WritesFront, QueryFails, Queries}
+use Rattle.cdb_tool.specs.Runs.Query.{Query, asked_of, value_text, values_text, spans_text, query_text, has_asked, why_missing, found_answer, query_answer, Answers, WritesFront, QueryFails, Queries, WritesAll, in_hand, WritesSome, WritesEach, LeftFails}
 use Rattle.cdb_tool.specs.declared.fault.Fault.{Fault}
+use Rattle.cdb_tool.specs.declared.fault.Fault.TheVariants.{Text, Make, Duplicate, Missing, Read, Walk, Output, Long, Open, Rename, NoMemory}
 use Rattle.cdb_tool.proofs.Courses.{appends_none}
 
 -- ---- reading
@@ -35,21 +37,21 @@ reads_none s store = record { images = λ b is. is; size = refl; written = refl;
 abbrev pub ending : List Span → Option Damage → Found
 ending spans damage = record { spans = spans; damage = damage }
 
--- the store was only read, and in each image these spans are the first of the look-up
-pub record FoundSoFar {S L : Type 0} {s : Ghosts S} {l : Widths L} (w : ℕ) (key : List ℕ) (old : S) (t : Finder S L s l) (spans : List Span) : Type 0 where
+-- the store was only read, and in each image these spans are the first of all that is found there
+pub record FoundSoFar {S L : Type 0} {s : Ghosts S} {l : Widths L} (w : ℕ) (all : List ℕ → Found) (old : S) (t : Finder S L s l) (spans : List Span) : Type 0 where
   pub reads : OnlyReads s old t.reader.now.store
-  pub first : (b : List ℕ) → s.image t.reader.now.store b → lookup_of w b key ≡ with_spans spans (left_in w b t)
+  pub first : (b : List ℕ) → s.image t.reader.now.store b → all b ≡ with_spans spans (left_in w b t)
 
-pub found_none : {S L : Type 0} {s : Ghosts S} {l : Widths L} (w : ℕ) (key : List ℕ) (old : S) (t : Finder S L s l) → t.reader.now.store ≡ old → ((b : List ℕ) → s.image old b → left_in w b t ≡ lookup_of w b key) → FoundSoFar w key old t []
-found_none {s = s} w key old t same finds = record {
+pub found_none : {S L : Type 0} {s : Ghosts S} {l : Widths L} (w : ℕ) (all : List ℕ → Found) (old : S) (t : Finder S L s l) → t.reader.now.store ≡ old → ((b : List ℕ) → s.image old b → left_in w b t ≡ all b) → FoundSoFar w all old t []
+found_none {s = s} w all old t same finds = record {
   reads = subst (OnlyReads s old) (sym same) (reads_none s old);
   first = λ b is. sym (finds b (subst (λ x. s.image x b) same is));
 }
 
 -- one more was given
-pub found_more : {S L : Type 0} {s : Ghosts S} {l : Widths L} (w : ℕ) (key : List ℕ) (old : S) (t u : Finder S L s l) (spans : List Span) (span : Span) → FoundSoFar w key old t spans → OnlyReads s t.reader.now.store u.reader.now.store → GivesSpan w t u span
-    → FoundSoFar w key old u (spans ++ span ∷ [])
-found_more w key old t u spans span h reads gives = record {
+pub found_more : {S L : Type 0} {s : Ghosts S} {l : Widths L} (w : ℕ) (all : List ℕ → Found) (old : S) (t u : Finder S L s l) (spans : List Span) (span : Span) → FoundSoFar w all old t spans → OnlyReads s t.reader.now.store u.reader.now.store → GivesSpan w t u span
+    → FoundSoFar w all old u (spans ++ span ∷ [])
+found_more w all old t u spans span h reads gives = record {
   reads = reads_more h.reads reads;
   first = λ b is.
       h.first b (reads.images b is) ∙ ap (with_spans spans) (gives.first b is)
@@ -57,9 +59,9 @@ found_more w key old t u spans span h reads gives = record {
 }
 
 -- a value was read
-pub found_still : {S L : Type 0} {s : Ghosts S} {l : Widths L} (w : ℕ) (key : List ℕ) (old : S) (t u : Finder S L s l) (spans : List Span) → FoundSoFar w key old t spans → OnlyReads s t.reader.now.store u.reader.now.store → u.key.now ≡ t.key.now
-    → u.searching ≡ t.searching → FoundSoFar w key old u spans
-found_still w key old t u spans h reads same stays = record {
+pub found_still : {S L : Type 0} {s : Ghosts S} {l : Widths L} (w : ℕ) (all : List ℕ → Found) (old : S) (t u : Finder S L s l) (spans : List Span) → FoundSoFar w all old t spans → OnlyReads s t.reader.now.store u.reader.now.store → u.key.now ≡ t.key.now
+    → u.searching ≡ t.searching → FoundSoFar w all old u spans
+found_still w all old t u spans h reads same stays = record {
   reads = reads_more h.reads reads;
   first = λ b is.
       h.first b (reads.images b is)
@@ -72,7 +74,7 @@ pub in_lines : (lines : Bool) (value : List ℕ) → lines ≡ true → value_te
 in_lines true value is = refl
 in_lines false value is = absurd (let k : false ≡ true = is in cc)
 
-abbrev pub texts : Bool → List (List ℕ) → List ℕ
+abbrev texts : Bool → List (List ℕ) → List ℕ
 texts lines values = flat_map (value_text lines) values
 
 text_append : (lines : Bool) (b : List ℕ) (xs ys : List Span) → texts lines (map (bytes_of b) (xs ++ ys)) ≡ texts lines (map (bytes_of b) xs) ++ texts lines (map (bytes_of b) ys)
@@ -80,12 +82,6 @@ text_append lines b xs ys = ap (texts lines) (map-append (bytes_of b) xs ys) ∙
 
 text_push : (lines : Bool) (b : List ℕ) (spans : List Span) (span : Span) → texts lines (map (bytes_of b) (spans ++ span ∷ [])) ≡ texts lines (map (bytes_of b) spans) ++ value_text lines (bytes_of b span)
 text_push lines b spans span = text_append lines b spans (span ∷ []) ∙ ap (λ t. texts lines (map (bytes_of b) spans) ++ t) (append-nil (value_text lines (bytes_of b span)))
-
-text_amid : (lines : Bool) (b : List ℕ) (spans rest : List Span) (span : Span) → texts lines (map (bytes_of b) ((spans ++ span ∷ []) ++ rest)) ≡ texts lines (map (bytes_of b) spans) ++ (value_text lines (bytes_of b span) ++ texts lines (map (bytes_of b) rest))
-text_amid lines b spans rest span =
-    text_append lines b (spans ++ span ∷ []) rest
-    ∙ ap (λ t. t ++ texts lines (map (bytes_of b) rest)) (text_push lines b spans span)
-    ∙ append_assoc (texts lines (map (bytes_of b) spans)) (value_text lines (bytes_of b span)) (texts lines (map (bytes_of b) rest))
 
 -- behind the values before the number stands the one that is asked for
 nth_one : (lines : Bool) (b : List ℕ) (spans rest : List Span) (span : Span) (number : ℕ) → length spans + 1 ≡ number → texts lines (asked_of (Some number) (map (bytes_of b) ((spans ++ span ∷ []) ++ rest))) ≡ value_text lines (bytes_of b span)
@@ -135,40 +131,156 @@ pub copying_fails : {S : Type 0} (w : ℕ) (s : Ghosts S) (q : Query) (old mid n
 copying_fails w s q old mid new start now f before reads long fails front =
     record { reads = reads_more before reads; ok = tt; err = copying_fault w s q old mid new start now f before reads long fails (record { written = front }) }
 
--- ---- all values
-
 abbrev pub all_of : List ℕ → Bool → Query
 all_of key lines = record { key = key; number = None; lines = lines }
 
 -- the values so far were written
-pub record WrittenSoFar {S L : Type 0} {s : Ghosts S} {l : Widths L} (w : ℕ) (key : List ℕ) (lines : Bool) (old : S) (t : Finder S L s l) (start now : Option (List ℕ)) (any : Bool) : Type 0 where
+pub record WrittenSoFar {S L : Type 0} {s : Ghosts S} {l : Widths L} (w : ℕ) (all : List ℕ → Found) (lines : Bool) (old : S) (t : Finder S L s l) (start now : Option (List ℕ)) (any : Bool) : Type 0 where
   pub spans : List Span
-  pub found : FoundSoFar w key old t spans
+  pub found : FoundSoFar w all old t spans
   pub some : any ≡ has_asked None spans None
-  pub written : (b : List ℕ) → s.image t.reader.now.store b → Appends start now (texts lines (map (bytes_of b) spans))
+  pub written : (b : List ℕ) → s.image t.reader.now.store b → Appends start now (values_text lines b spans)
 
-pub written_none : {S L : Type 0} {s : Ghosts S} {l : Widths L} (w : ℕ) (key : List ℕ) (lines : Bool) (old : S) (t : Finder S L s l) (start : Option (List ℕ)) → FoundSoFar w key old t [] → WrittenSoFar w key lines old t start start false
-written_none w key lines old t start found = record { spans = []; found = found; some = refl; written = λ b is. appends_none start }
+pub written_none : {S L : Type 0} {s : Ghosts S} {l : Widths L} (w : ℕ) (all : List ℕ → Found) (lines : Bool) (old : S) (t : Finder S L s l) (start : Option (List ℕ)) → FoundSoFar w all old t [] → WrittenSoFar w all lines old t start start false
+written_none w all lines old t start found = record { spans = []; found = found; some = refl; written = λ b is. appends_none start }
 
 some_pushed : (spans : List Span) (span : Span) → true ≡ has_asked None (spans ++ span ∷ []) None
 some_pushed [] span = refl
 some_pushed (s ∷ spans) span = refl
 
-pub written_more : {S L : Type 0} {s : Ghosts S} {l : Widths L} (w : ℕ) (key : List ℕ) (lines : Bool) (old : S) (t u : Finder S L s l) (start mid now : Option (List ℕ)) (spans : List Span) (span : Span) → FoundSoFar w key old u (spans ++ span ∷ [])
-    → ((b : List ℕ) → s.image u.reader.now.store b → Appends start mid (texts lines (map (bytes_of b) spans))) → ((b : List ℕ) → s.image u.reader.now.store b → Appends mid now (value_text lines (bytes_of b span))) → WrittenSoFar w key lines old u start now true
-written_more w key lines old t u start mid now spans span found before one = record {
+pub written_more : {S L : Type 0} {s : Ghosts S} {l : Widths L} (w : ℕ) (all : List ℕ → Found) (lines : Bool) (old : S) (t u : Finder S L s l) (start mid now : Option (List ℕ)) (spans : List Span) (span : Span) → FoundSoFar w all old u (spans ++ span ∷ [])
+    → ((b : List ℕ) → s.image u.reader.now.store b → Appends start mid (values_text lines b spans)) → ((b : List ℕ) → s.image u.reader.now.store b → Appends mid now (value_text lines (bytes_of b span))) → WrittenSoFar w all lines old u start now true
+written_more w all lines old t u start mid now spans span found before one = record {
   spans = spans ++ span ∷ [];
   found = found;
   some = some_pushed spans span;
   written = λ b is. subst (Appends start now) (sym (text_push lines b spans span)) (appends_then start mid now _ _ (before b is) (one b is));
 }
 
--- the writer failed in a value
-pub front_amid : {S L : Type 0} {s : Ghosts S} {l : Widths L} (w : ℕ) (key : List ℕ) (lines : Bool) (old : S) (u : Finder S L s l) (start mid now : Option (List ℕ)) (spans : List Span) (span : Span) (b : List ℕ) → FoundSoFar w key old u (spans ++ span ∷ []) → s.image u.reader.now.store b
-    → Appends start mid (texts lines (map (bytes_of b) spans)) → AppendsFront mid now (value_text lines (bytes_of b span)) → AppendsFront start now (query_text w b (all_of key lines))
-front_amid w key lines old u start mid now spans span b found is before front =
-    front_then start mid now _ _ _ _ before front
-    (text_is w b (all_of key lines) (with_spans (spans ++ span ∷ []) (left_in w b u)) (found.first b is) ∙ text_amid lines b spans (left_in w b u).spans span)
+-- ---- what is left of a finder
+
+-- behind these spans nothing but a damage, or none, is found
+with_nothing : (spans : List Span) (damage : Option Damage) → with_spans spans (ending [] damage) ≡ ending spans damage
+with_nothing spans damage = ap (λ xs. ending xs damage) (append-nil spans)
+
+pub ends_all : {S L : Type 0} {s : Ghosts S} {l : Widths L} (w : ℕ) (lines : Bool) (old t u : Finder S L s l) (start now : Option (List ℕ)) (any : Bool) (damage : Option Damage) (h : WrittenSoFar w (λ b. left_in w b old) lines old.reader.now.store t start now any)
+    → OnlyReads s t.reader.now.store u.reader.now.store → ((b : List ℕ) → s.image u.reader.now.store b → left_in w b t ≡ ending [] damage) → WritesAll w lines old u start now h.spans damage
+ends_all w lines old t u start now any damage h reads none = record {
+  given = λ b is. h.found.first b (reads.images b is) ∙ ap (with_spans h.spans) (none b is) ∙ with_nothing h.spans damage;
+  written = λ b is. h.written b (reads.images b is);
+}
+
+-- no value is in hand
+nothing_in_hand : (now : Option (List ℕ)) → AppendsFront now now []
+nothing_in_hand now = none_front now now [] (appends_none now)
+
+pub finding_fails : {S L : Type 0} {s : Ghosts S} {l : Widths L} (w : ℕ) (lines : Bool) (old t u : Finder S L s l) (start now : Option (List ℕ)) (any : Bool) (f : ReadFault) → WrittenSoFar w (λ b. left_in w b old) lines old.reader.now.store t start now any
+    → OnlyReads s t.reader.now.store u.reader.now.store → u.key.now ≡ t.key.now → FindingFails w t u f → LeftFails w lines old u start now (read_fault f)
+finding_fails w lines old t u start now any (read.Table n) h reads same fails = (fails.0, record { spans = h.spans; all = ends_all w lines old t u start now any (Some (damage.Table n)) h reads fails.1 })
+finding_fails w lines old t u start now any (read.Record place) h reads same fails = (fails.0, record { spans = h.spans; all = ends_all w lines old t u start now any (Some (damage.Record place)) h reads fails.1 })
+finding_fails {s = s} w lines old t u start now any read.Device h reads same fails =
+    let p = h.found.reads.failures in
+    let found = found_still w (λ b. left_in w b old) old.reader.now.store t u h.spans h.found reads same fails.0 in (
+      (let q = fails.1 in omega (arith, p, q)),
+      record {
+        spans = h.spans;
+        hand = None;
+        before = now;
+        given = λ b is. found.first b is ∙ ap (λ xs. with_spans xs (left_in w b u)) (sym (append-nil h.spans));
+        written = λ b is. h.written b (reads.images b is);
+        front = λ b is. nothing_in_hand now;
+      },
+    )
+finding_fails w lines old t u start now any read.Short h reads same fails = absurd fails
+finding_fails w lines old t u start now any (read.Slot n i) h reads same fails = absurd fails
+finding_fails w lines old t u start now any (read.Twice place) h reads same fails = absurd fails
+finding_fails w lines old t u start now any (read.Unindexed place) h reads same fails = absurd fails
+finding_fails w lines old t u start now any read.NoMemory h reads same fails = absurd fails
+finding_fails w lines old t u start now any read.Output h reads same fails = absurd fails
+
+-- a value was not written whole
+pub value_fails : {S L : Type 0} {s : Ghosts S} {l : Widths L} (w : ℕ) (lines : Bool) (old t u : Finder S L s l) (start mid now : Option (List ℕ)) (spans : List Span) (span : Span) (f : ReadFault) → FoundSoFar w (λ b. left_in w b old) old.reader.now.store u (spans ++ span ∷ [])
+    → s.failures old.reader.now.store ≤ s.failures t.reader.now.store → CopyingFails s t.reader.now.store u.reader.now.store f → ((b : List ℕ) → s.image u.reader.now.store b → Appends start mid (values_text lines b spans))
+    → ((b : List ℕ) → s.image u.reader.now.store b → AppendsFront mid now (value_text lines (bytes_of b span))) → LeftFails w lines old u start now (read_fault f)
+value_fails {s = s} w lines old t u start mid now spans span f found before fails whole front = by f fails
+  where
+    some : WritesSome w lines old u start now
+    some = record {
+      spans = spans;
+      hand = Some span;
+      before = mid;
+      given = found.first;
+      written = whole;
+      front = λ b is. subst (AppendsFront mid now) (sym (append-nil (value_text lines (bytes_of b span)))) (front b is);
+    }
+
+    by : (f : ReadFault) → CopyingFails s t.reader.now.store u.reader.now.store f → LeftFails w lines old u start now (read_fault f)
+    by read.Device fails = (omega (arith, before, fails), some)
+    by read.Output fails = some
+    by read.Short fails = absurd fails
+    by (read.Table n) fails = absurd fails
+    by (read.Record place) fails = absurd fails
+    by (read.Slot n i) fails = absurd fails
+    by (read.Twice place) fails = absurd fails
+    by (read.Unindexed place) fails = absurd fails
+    by read.NoMemory fails = absurd fails
+
+-- ---- all values of a key
+
+-- a query of the values that its finder has left
+module _ {S L : Type 0} {s : Ghosts S} {l : Widths L} (w : ℕ) (key : List ℕ) (lines : Bool) (old : S) (t u : Finder S L s l) (start now : Option (List ℕ)) (same : t.reader.now.store ≡ old) (finds : (b : List ℕ) → s.image old b → left_in w b t ≡ lookup_of w b key) (long : head_size w ≤ s.size old)
+    (reads : OnlyReads s t.reader.now.store u.reader.now.store) where
+  read_from : OnlyReads s old u.reader.now.store
+  read_from = subst (λ x. OnlyReads s x u.reader.now.store) same reads
+
+  looked_up : (b : List ℕ) → s.image u.reader.now.store b → lookup_of w b key ≡ left_in w b t
+  looked_up b is = sym (finds b (read_from.images b is))
+
+  answers : (spans : List Span) (damage : Option Damage) (answer : Result Unit Fault) → WritesAll w lines t u start now spans damage → answer ≡ found_answer None (ending spans damage) → Answers w s (all_of key lines) u.reader.now.store start now answer
+  answers spans damage answer h is_answer = record {
+    long = still_long w read_from long;
+    answered = λ b is. is_answer ∙ ap (found_answer None) (sym (looked_up b is ∙ h.given b is));
+    written = λ b is. subst (λ f. Appends start now (values_text lines b f.spans)) (sym (looked_up b is ∙ h.given b is)) (h.written b is);
+  }
+
+  some_front : WritesSome w lines t u start now → WritesFront w s (all_of key lines) u.reader.now.store start now
+  some_front h = record {
+    written = λ b is.
+        front_then start h.before now _ _ _ _ (h.written b is) (h.front b is)
+        (text_is w b (all_of key lines) _ (looked_up b is ∙ h.given b is)
+        ∙ text_append lines b (h.spans ++ in_hand h.hand) (left_in w b u).spans
+        ∙ ap (λ t. t ++ values_text lines b (left_in w b u).spans) (text_append lines b h.spans (in_hand h.hand))
+        ∙ append_assoc (values_text lines b h.spans) (values_text lines b (in_hand h.hand)) (values_text lines b (left_in w b u).spans));
+  }
+
+  each_found : (spans : List Span) → spans ≢ [] → Ok tt ≡ found_answer None (ending spans None)
+  each_found [] some = absurd (some refl)
+  each_found (s ∷ spans) some = refl
+
+  left_fault : (f : Fault) → LeftFails w lines t u start now f → QueryFails w s (all_of key lines) old u.reader.now.store start now f
+  left_fault Missing h = answers [] None _ h.1 refl
+  left_fault (Read (read.Table n)) h = answers h.1.spans (Some (damage.Table n)) _ h.1.all refl
+  left_fault (Read (read.Record place)) h = answers h.1.spans (Some (damage.Record place)) _ h.1.all refl
+  left_fault (Read read.Device) h = (subst (λ x. s.failures x < s.failures u.reader.now.store) same h.0, some_front h.1)
+  left_fault Output h = (still_long w read_from long, some_front h)
+  left_fault (Read read.Short) h = absurd h
+  left_fault (Read (read.Slot n i)) h = absurd h
+  left_fault (Read (read.Twice place)) h = absurd h
+  left_fault (Read (read.Unindexed place)) h = absurd h
+  left_fault (Read read.NoMemory) h = absurd h
+  left_fault (Read read.Output) h = absurd h
+  left_fault (Text n f) h = absurd h
+  left_fault (Make f) h = absurd h
+  left_fault Duplicate h = absurd h
+  left_fault (Walk f) h = absurd h
+  left_fault Long h = absurd h
+  left_fault Open h = absurd h
+  left_fault Rename h = absurd h
+  left_fault NoMemory h = absurd h
+
+  pub queries_left : (result : Result Unit Fault) → OnOk result (WritesEach w lines t u start now) → IfErr result (LeftFails w lines t u start now) → Queries w s (all_of key lines) old u.reader.now.store start now result
+  queries_left (Ok tt) each none = record { reads = read_from; ok = answers each.spans None (Ok tt) each.all (each_found each.spans each.some); err = tt }
+  queries_left (Err f) none fails = record { reads = read_from; ok = tt; err = left_fault f fails }
 
 -- ---- the value of a number
 
@@ -178,12 +290,12 @@ nth_of key number lines = record { key = key; number = Some number; lines = line
 -- the values so far are before the number, and nothing was written
 pub record PassedSoFar {S L : Type 0} {s : Ghosts S} {l : Widths L} (w : ℕ) (key : List ℕ) (old : S) (t : Finder S L s l) (number left : ℕ) (start now : Option (List ℕ)) : Type 0 where
   pub spans : List Span
-  pub found : FoundSoFar w key old t spans
+  pub found : FoundSoFar w (λ b. lookup_of w b key) old t spans
   pub counted : length spans + left ≡ number
   pub more : 1 ≤ left
   pub kept : Appends start now []
 
-pub passed_none : {S L : Type 0} {s : Ghosts S} {l : Widths L} (w : ℕ) (key : List ℕ) (old : S) (t : Finder S L s l) (number : ℕ) (start : Option (List ℕ)) → FoundSoFar w key old t [] → 1 ≤ number → PassedSoFar w key old t number number start start
+pub passed_none : {S L : Type 0} {s : Ghosts S} {l : Widths L} (w : ℕ) (key : List ℕ) (old : S) (t : Finder S L s l) (number : ℕ) (start : Option (List ℕ)) → FoundSoFar w (λ b. lookup_of w b key) old t [] → 1 ≤ number → PassedSoFar w key old t number number start start
 passed_none w key old t number start found some = record { spans = []; found = found; counted = omega arith; more = some; kept = appends_none start }
 
 pub passed_more : {S L : Type 0} {s : Ghosts S} {l : Widths L} (w : ℕ) (key : List ℕ) (old : S) (t u : Finder S L s l) (number left less : ℕ) (start now : Option (List ℕ)) (span : Span) → PassedSoFar w key old t number left start now → OnlyReads s t.reader.now.store u.reader.now.store
@@ -192,19 +304,19 @@ passed_more w key old t u number left less start now span h reads gives one some
     let many : length (h.spans ++ span ∷ []) ≡ length h.spans + 1 = length-append h.spans (span ∷ []) in
     record {
       spans = h.spans ++ span ∷ [];
-      found = found_more w key old t u h.spans span h.found reads gives;
+      found = found_more w (λ b. lookup_of w b key) old t u h.spans span h.found reads gives;
       counted = (let k = h.counted in omega (arith, many, k, one));
       more = some;
       kept = h.kept;
     }
 
 -- the value of the number was found, the last of some
-nth_text : {S L : Type 0} {s : Ghosts S} {l : Widths L} (w : ℕ) (key : List ℕ) (lines : Bool) (old : S) (u : Finder S L s l) (number : ℕ) (spans : List Span) (span : Span) (b : List ℕ) → FoundSoFar w key old u (spans ++ span ∷ []) → length spans + 1 ≡ number → s.image u.reader.now.store b
+nth_text : {S L : Type 0} {s : Ghosts S} {l : Widths L} (w : ℕ) (key : List ℕ) (lines : Bool) (old : S) (u : Finder S L s l) (number : ℕ) (spans : List Span) (span : Span) (b : List ℕ) → FoundSoFar w (λ b. lookup_of w b key) old u (spans ++ span ∷ []) → length spans + 1 ≡ number → s.image u.reader.now.store b
     → query_text w b (nth_of key number lines) ≡ value_text lines (bytes_of b span)
 nth_text w key lines old u number spans span b found count is =
     text_is w b (nth_of key number lines) (with_spans (spans ++ span ∷ []) (left_in w b u)) (found.first b is) ∙ nth_one lines b spans (left_in w b u).spans span number count
 
-pub nth_written : {S L : Type 0} {s : Ghosts S} {l : Widths L} (w : ℕ) (key : List ℕ) (lines : Bool) (old : S) (u : Finder S L s l) (number : ℕ) (start mid now : Option (List ℕ)) (spans : List Span) (span : Span) → FoundSoFar w key old u (spans ++ span ∷ []) → length spans + 1 ≡ number
+pub nth_written : {S L : Type 0} {s : Ghosts S} {l : Widths L} (w : ℕ) (key : List ℕ) (lines : Bool) (old : S) (u : Finder S L s l) (number : ℕ) (start mid now : Option (List ℕ)) (spans : List Span) (span : Span) → FoundSoFar w (λ b. lookup_of w b key) old u (spans ++ span ∷ []) → length spans + 1 ≡ number
     → head_size w ≤ s.size old → Appends start mid [] → ((b : List ℕ) → s.image u.reader.now.store b → Appends mid now (value_text lines (bytes_of b span))) → Queries w s (nth_of key number lines) old u.reader.now.store start now (Ok tt)
 nth_written w key lines old u number start mid now spans span found count long kept wrote = record {
   reads = found.reads;
@@ -220,6 +332,6 @@ nth_written w key lines old u number start mid now spans span found count long k
   err = tt;
 }
 
-pub nth_front : {S L : Type 0} {s : Ghosts S} {l : Widths L} (w : ℕ) (key : List ℕ) (lines : Bool) (old : S) (u : Finder S L s l) (number : ℕ) (start mid now : Option (List ℕ)) (spans : List Span) (span : Span) (b : List ℕ) → FoundSoFar w key old u (spans ++ span ∷ [])
+pub nth_front : {S L : Type 0} {s : Ghosts S} {l : Widths L} (w : ℕ) (key : List ℕ) (lines : Bool) (old : S) (u : Finder S L s l) (number : ℕ) (start mid now : Option (List ℕ)) (spans : List Span) (span : Span) (b : List ℕ) → FoundSoFar w (λ b. lookup_of w b key) old u (spans ++ span ∷ [])
     → length spans + 1 ≡ number → s.image u.reader.now.store b → Appends start mid [] → AppendsFront mid now (value_text lines (bytes_of b span)) → AppendsFront start now (query_text w b (nth_of key number lines))
 nth_front w key lines old u number start mid now spans span b found count is kept front = front_last start mid now [] _ _ kept front (nth_text w key lines old u number spans span b found count is)

@@ -1,13 +1,13 @@
 -- How a run ends: without a record, with a fault of its inputs or its store, or with its file; and
 -- then the flush.
-use Rattle.std.proofs.Common.{◌≡◌, ◌+◌, ◌*◌, ◌≤◌, Bool, true, false, ℕ, inl, inr, List, [], ◌∷◌, refl, sym, ap, subst, ◌∙◌, Option, Some, None, IfSome, is_some, Result, Ok, Err, arith}
+use Rattle.std.proofs.Common.{◌≡◌, ◌+◌, ◌*◌, Bool, true, false, ℕ, inl, inr, List, [], ◌∷◌, refl, sym, ap, subst, ◌∙◌, Option, Some, None, IfSome, is_some, Result, Ok, Err, arith}
 use Rattle.std.specs.Prelude.{IsOk}
 use Rattle.std.specs.Io.KnownBytes.{Keeps}
 use Rattle.cdb_store.specs.declared.store.Store.{Ghosts}
 use Rattle.cdb_form.specs.declared.width.Width.{Ghosts as Widths}
 use Rattle.cdb_form.specs.Format.Record.{KeyValue}
 use Rattle.cdb_form.specs.Format.File.{file_size}
-use Rattle.cdb_form.specs.Format.Walk.{Walked, walk_of}
+use Rattle.cdb_form.specs.Format.Walk.{walk_of}
 use Rattle.cdb_form.specs.Text.Amending.{Change}
 use Rattle.cdb_form.specs.Text.Map.{map_lines}
 use Rattle.cdb_form.specs.Views.KnownBytes.{AppendsFront}
@@ -23,11 +23,10 @@ use Rattle.cdb_tool.specs.Runs.Flushed.{Flushed}
 use Rattle.cdb_tool.specs.Runs.Course.{Task, task_of, Incoming, from_inputs, course_of, Goes, EndsSo, StopsSo}
 use Rattle.cdb_tool.specs.Runs.Inputs.{InputForm, BeginsWithItems, AreInputs, FirstBegins}
 use Rattle.cdb_tool.specs.Runs.Inputs as form
-use Rattle.cdb_tool.specs.Runs.Make.{InCourse, Stops, InputsFail, RunFails, BaseStops, InputsStop, Makes, MakesDatabase, Runs, came, form_of, records_of, OfBase, HoldsBase, BaseStopped, HandsBack, IsBase, IsSomeBase, BaseFails}
+use Rattle.cdb_tool.specs.Runs.Make.{InCourse, Stops, InputsFail, RunFails, Runs, came, form_of, records_of, OfBase, HoldsBase, BaseStopped, HandsBack, IsBase, IsSomeBase, BaseFails}
 use Rattle.cdb_tool.specs.declared.fault.Fault.{Fault}
 use Rattle.cdb_tool.specs.declared.fault.Fault.TheVariants.{Text, Make, Duplicate, Missing, Read, Walk, Output, Long, Open, Rename, NoMemory}
 use Rattle.cdb_command.specs.declared.options.MakeOptions.{MakeOptions}
-use Rattle.cdb_command.specs.declared.style.Style.{Style}
 use Rattle.cdb_command.specs.declared.style.Style.TheVariants as style
 use Rattle.cdb_tool.proofs.WholeRuns.{front_kept, whole_front, not_ok}
 use Rattle.cdb_tool.proofs.Courses.{came_none, appends_none, course_starts}

@@ -2,7 +2,9 @@
 ghost use Rattle.std.specs.Prelude.{◌≡◌, ℕ, ◌+◌, ◌<◌, ◌≤◌, [], length, take, min, IfOk, OnOk};
 ghost use Rattle.std.specs.Prelude.{OnErr, vec_len};
 ghost use Rattle.std.specs.Io.KnownBytes.{Keeps, Consumes, IsAtEnd};
+ghost use Rattle.cdb_form.specs.Views.AtHand.{MovesRun};
 
+use cdb_form::{AtHand, Kind};
 use std::alloc::{AllocError, Global};
 use std::io::{self, ErrorKind, Read};
 
@@ -94,6 +96,25 @@ impl<R: Read> Input<R> {
         self.start += n;
         n
     }
+
+    /// Moves bytes of a kind out of the window, `most` at most, behind what a vector holds, and
+    /// answers how many. Where memory is refused none are moved.
+    #[inline(always)]
+    fn give_run(&mut self, kind: Kind, most: u64, into: &mut Vec<u8>) -> Result<u64, AllocError>
+        ensures moved { IfOk result (MovesRun kind (input_bytes R.remaining self.old)
+            (input_bytes R.remaining self.new) into.old.items into.new.items) }
+        ensures most { IfOk result (λ n. n ≤ most) }
+        ensures kept { OnErr result (Keeps (input_bytes R.remaining self.old)
+            (input_bytes R.remaining self.new)) }
+        ensures holds { OnErr result (into.new.items ≡ into.old.items) }
+    {
+        let held = ((self.end - self.start) as u64).min(most) as usize;
+        let window = &self.window[self.start..self.start + held];
+        let run = kind.run(window);
+        into.extend_from_slice(&window[..run])?;
+        self.start += run;
+        Ok(run as u64)
+    }
 }
 
 impl<R: Read> Read for Input<R> {
@@ -118,5 +139,21 @@ impl<R: Read> Read for Input<R> {
             return Ok(0);
         }
         Ok(self.give(buf))
+    }
+}
+
+/// The window's bytes are at hand.
+#[derive(Clone, Copy, Debug)]
+pub struct InWindow;
+
+impl<R: Read> AtHand<Input<R>> for InWindow {
+    #[inline(always)]
+    fn take_run(
+        reader: &mut Input<R>,
+        kind: Kind,
+        most: u64,
+        into: &mut Vec<u8>,
+    ) -> Result<u64, AllocError> {
+        reader.give_run(kind, most, into)
     }
 }

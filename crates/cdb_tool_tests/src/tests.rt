@@ -11,6 +11,8 @@ mod loading;
 mod making;
 mod querying;
 mod refusals;
+mod resuming;
 mod running;
 mod streams;
+mod windows;
 mod worked;

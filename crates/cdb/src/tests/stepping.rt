@@ -141,6 +141,7 @@ fn within(rt: &HostRuntime, limit: u64) -> Result<(), Fault> {
     };
     let creation = Creation {
         name: "z.store",
+        base: None,
         inputs: &[],
         temporary: None,
         options,

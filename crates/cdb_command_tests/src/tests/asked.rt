@@ -17,12 +17,13 @@ fn asks(alloc: Global, line: &str, shown: &str) -> Result<bool, AllocError> {
 fn creates(
     alloc: Global,
     line: &str,
+    base: &str,
     inputs: &str,
     temporary: &str,
     options: &str,
 ) -> Result<bool, AllocError> {
     let shown = format!(in alloc;
-        "Create {{ name: \"x\", inputs: [{inputs}], \
+        "Create {{ name: \"x\", base: {base}, inputs: [{inputs}], \
         temporary: {temporary}, options: MakeOptions {{ {options}, limit: 4294967295 }}, \
         wide: false }}"
     )?;
@@ -114,7 +115,7 @@ const MADE: [(&str, &str, &str, &str); 6] = [
 fn lines_ask_for_what_is_made(rt: HostRuntime) -> Result<(), Fail> {
     for &(line, inputs, temporary, options) in &MADE {
         assert!(rt;
-            creates(rt.alloc(), line, inputs, temporary, options)?,
+            creates(rt.alloc(), line, "None", inputs, temporary, options)?,
             "at {line}"
         );
     }
@@ -123,9 +124,42 @@ fn lines_ask_for_what_is_made(rt: HostRuntime) -> Result<(), Fail> {
 
 #[test]
 fn a_wide_line_asks_for_a_wide_file(rt: HostRuntime) -> Result<(), Fail> {
-    let shown = "Create { name: \"x\", inputs: [], temporary: None, options: MakeOptions { \
+    let shown =
+        "Create { name: \"x\", base: None, inputs: [], temporary: None, options: MakeOptions { \
         mode: Add, warn: false, stop: false, style: Native, limit: 9223372036854775807 }, \
         wide: true }";
     assert!(rt; asks(rt.alloc(), "-cW x", shown)?, "-cW x");
+    Ok(())
+}
+
+/// How a create with no option is shown.
+const ADDS: &str = "mode: Add, warn: false, stop: false, style: Native";
+
+/// Lines that ask for a create of `x` with a base, the base, and the temporary file.
+const AMENDED: [(&str, &str, &str); 5] = [
+    ("-c -b x x", "Some(\"x\")", "None"),
+    ("-c -b - x", "Some(\"-\")", "None"),
+    ("-c -b ./x.tmp x", "Some(\"./x.tmp\")", "None"),
+    ("-c -b y.tmp x", "Some(\"y.tmp\")", "None"),
+    ("-cb y -t x x", "Some(\"y\")", "Some(\"x\")"),
+];
+
+#[test]
+fn lines_ask_for_a_base(rt: HostRuntime) -> Result<(), Fail> {
+    for &(line, base, temporary) in &AMENDED {
+        assert!(rt;
+            creates(rt.alloc(), line, base, "", temporary, ADDS)?,
+            "at {line}"
+        );
+    }
+    Ok(())
+}
+
+#[test]
+fn a_base_is_taken_on_standard_output(rt: HostRuntime) -> Result<(), Fail> {
+    let shown = "Create { name: \"-\", base: Some(\"-.tmp\"), inputs: [], temporary: None, \
+        options: MakeOptions { mode: Add, warn: false, stop: false, style: Native, \
+        limit: 4294967295 }, wide: false }";
+    assert!(rt; asks(rt.alloc(), "-c -b-.tmp -", shown)?, "-c -b-.tmp -");
     Ok(())
 }

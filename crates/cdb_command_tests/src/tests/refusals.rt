@@ -29,7 +29,7 @@ fn came_of_create(planned: &Result<Command, Usage>) -> Came {
 
 /// How it ends.
 fn plan_create(alloc: Global) -> Came {
-    match words_of(alloc, "-cew -t temporary database one two") {
+    match words_of(alloc, "-cew -t temporary -b base database one two") {
         Ok(words) => came_of_create(&plan(alloc, words)),
         Err(_) => Came::NoInputs,
     }

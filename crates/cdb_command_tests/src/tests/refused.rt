@@ -14,7 +14,7 @@ fn is_refused(alloc: Global, line: &str, fault: &Usage) -> Result<bool, AllocErr
 }
 
 /// Lines, and their faults.
-const REFUSED: [(&str, Usage); 30] = [
+const REFUSED: [(&str, Usage); 42] = [
     ("", Usage::NoCommand),
     ("x", Usage::NoCommand),
     ("-q -d x", Usage::TwoCommands),
@@ -40,7 +40,19 @@ const REFUSED: [(&str, Usage); 30] = [
     ("-c -r -u x", Usage::Both),
     ("-W", Usage::NoCommand),
     ("-Z", Usage::Words),
-    ("-b x", Usage::Words),
+    ("-b x", Usage::NoCommand),
+    ("-d -b x", Usage::Option('b')),
+    ("-k -u -b x", Usage::Option('u')),
+    ("-c -b x.tmp x", Usage::Option('b')),
+    ("-c -b x -t x y", Usage::Option('b')),
+    ("-c -b x -t - y", Usage::Option('b')),
+    ("-c -b x -t - -", Usage::Option('b')),
+    ("-c -b x -t x", Usage::Option('b')),
+    ("-c -n 0 -b x -t -", Usage::Option('n')),
+    ("-c -r -u -b x.tmp x", Usage::Option('b')),
+    ("-c -b x", Usage::Names),
+    ("-c x -b", Usage::Words),
+    ("-c -b x -b y z", Usage::Words),
     ("-h -Z", Usage::Words),
     ("-q x -k -n", Usage::Words),
     ("-q -n 1 -n 2 x k", Usage::Words),

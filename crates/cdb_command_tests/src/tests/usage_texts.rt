@@ -8,7 +8,7 @@ const TEXT: &str = "usage: cdb -q [-W] [-m] [-n number] database key
        cdb -d [-W] [-m] [database]
        cdb -l [-W] [-m] [database]
        cdb -s [-W] [database]
-       cdb -c [-W] [-m] [-t temporary] [-weru] database [input ...]
+       cdb -c [-W] [-m] [-t temporary] [-b base] [-weru] database [input ...]
        cdb -k [-W] [database]
        cdb -h
 ";

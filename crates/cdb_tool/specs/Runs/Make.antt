@@ -1,6 +1,6 @@
 -- What a run leaves that makes a database of the records of a base, if it has one, and of what its
 -- inputs say.
-use Rattle.std.specs.Prelude.{ℕ, ◌≡◌, ◌≢◌, ◌+◌, ◌<◌, ◌≤◌, ⊤, ◌⊎◌, Bool, true, false, List, [], ◌∷◌}
+use Rattle.std.specs.Prelude.{ℕ, ◌≡◌, ◌≢◌, ◌+◌, ◌<◌, ◌≤◌, ⊤, ◌⊎◌, List, [], ◌∷◌}
 use Rattle.std.specs.Prelude.{◌++◌, length, Option, None, Some, is_some, Result, IfSome, OnOk, IfErr}
 use Rattle.std.specs.Io.KnownBytes.{Appends}
 use Rattle.cdb_store.specs.Reads.{OnlyReads}
@@ -18,7 +18,6 @@ use Rattle.cdb_make.specs.Views.Maker.{Holds, WhereHonest, IsFile, limit_of}
 use Rattle.cdb_make.specs.declared.fault.MakeFault.TheVariants.{Lookup, TooBig, Writing}
 use Rattle.cdb_make.specs.declared.maker.Maker.{Maker}
 use Rattle.cdb_read.specs.Views.ReadFault.{damage_fault}
-use Rattle.cdb_read.specs.declared.fault.ReadFault.{ReadFault}
 use Rattle.cdb_read.specs.declared.fault.ReadFault.TheVariants as read
 use Rattle.cdb_tool.specs.Runs.Course.{Task, task_of, Incoming, from_inputs, course_of, Goes}
 use Rattle.cdb_tool.specs.Runs.Course.{StopsSo}

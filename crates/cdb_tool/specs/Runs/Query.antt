@@ -1,6 +1,6 @@
 -- What a query of a key leaves, in words of w bytes. An image is one of its store as it was handed
 -- back.
-use Rattle.std.specs.Prelude.{ℕ, ◌≡◌, ◌-◌, ◌<◌, ◌≤◌, Bool, true, false, nat_le, if◌then◌else◌}
+use Rattle.std.specs.Prelude.{ℕ, ◌≡◌, ◌≢◌, ◌-◌, ◌<◌, ◌≤◌, Bool, true, false, nat_le, if◌then◌else◌}
 use Rattle.std.specs.Prelude.{List, [], ◌∷◌, ◌++◌, length, take, drop, map, flat_map, codes}
 use Rattle.std.specs.Prelude.{Option, None, Some, Result, Ok, Err, OnOk, IfErr}
 use Rattle.std.specs.Io.KnownBytes.{Appends, Keeps}
@@ -8,7 +8,11 @@ use Rattle.cdb_store.specs.declared.store.Store.{Ghosts}
 use Rattle.cdb_form.specs.Format.Pair.{head_size}
 use Rattle.cdb_form.specs.Views.KnownBytes.{AppendsFront}
 use Rattle.cdb_form.specs.declared.damage.Damage.{Damage}
-use Rattle.cdb_read.specs.Lookup.{Found, bytes_of, lookup_of}
+use Rattle.cdb_form.specs.declared.damage.Damage.TheVariants as damage
+use Rattle.cdb_form.specs.declared.width.Width.{Ghosts as Widths}
+use Rattle.cdb_read.specs.Lookup.{Found, bytes_of, lookup_of, with_spans}
+use Rattle.cdb_read.specs.Views.Finder.{left_in, HasEnded, HasNoTable, HasNoRecord}
+use Rattle.cdb_read.specs.declared.finder.Finder.{Finder}
 use Rattle.cdb_read.specs.Views.ReadFault.{damage_fault}
 use Rattle.cdb_store.specs.Reads.{OnlyReads}
 use Rattle.cdb_read.specs.declared.fault.ReadFault.TheVariants as read
@@ -30,6 +34,10 @@ asked_of (Some number) values = take 1 (drop (number - 1) values)
 -- a value as it is written, with a newline behind it in lines
 abbrev pub value_text : Bool → List ℕ → List ℕ
 value_text lines value = value ++ (if lines then codes "\n" else [])
+
+-- the text of the values at some spans of an image
+abbrev pub values_text : Bool → List ℕ → List Span → List ℕ
+values_text lines b spans = flat_map (value_text lines) (map (bytes_of b) spans)
 
 -- what is written of some spans of an image
 abbrev pub spans_text : List ℕ → Query → List Span → List ℕ
@@ -102,3 +110,61 @@ pub record Queries {S : Type 0} (w : ℕ) (s : Ghosts S) (q : Query) (old new : 
   pub reads : OnlyReads s old new
   pub ok : OnOk result (Answers w s q new start end (Ok tt))
   pub err : IfErr result (QueryFails w s q old new start end)
+
+-- ---- the values that a finder has left
+
+-- it gave these spans, and then this damage or none: all their values were written whole
+pub record WritesAll {S L : Type 0} {s : Ghosts S} {l : Widths L} (w : ℕ) (lines : Bool)
+    (old new : Finder S L s l) (start end : Option (List ℕ)) (spans : List Span)
+    (damage : Option Damage) : Type 0 where
+  pub given : (b : List ℕ) → s.image new.reader.now.store b
+      → left_in w b old ≡ record { spans = spans; damage = damage }
+  pub written : (b : List ℕ) → s.image new.reader.now.store b
+      → Appends start end (values_text lines b spans)
+
+abbrev pub in_hand : Option Span → List Span
+in_hand None = []
+in_hand (Some span) = span ∷ []
+
+-- it has others left: the values that it gave were written whole, but of the last, where that is
+-- still in hand, a front
+pub record WritesSome {S L : Type 0} {s : Ghosts S} {l : Widths L} (w : ℕ) (lines : Bool)
+    (old new : Finder S L s l) (start end : Option (List ℕ)) : Type 0 where
+  pub spans : List Span
+  pub hand : Option Span
+  pub before : Option (List ℕ)
+  pub given : (b : List ℕ) → s.image new.reader.now.store b
+      → left_in w b old ≡ with_spans (spans ++ in_hand hand) (left_in w b new)
+  pub written : (b : List ℕ) → s.image new.reader.now.store b
+      → Appends start before (values_text lines b spans)
+  pub front : (b : List ℕ) → s.image new.reader.now.store b
+      → AppendsFront before end (values_text lines b (in_hand hand))
+
+-- all values were written, at least one
+pub record WritesEach {S L : Type 0} {s : Ghosts S} {l : Widths L} (w : ℕ) (lines : Bool)
+    (old new : Finder S L s l) (start end : Option (List ℕ)) : Type 0 where
+  pub spans : List Span
+  pub some : spans ≢ []
+  pub all : WritesAll w lines old new start end spans None
+  pub ended : HasEnded new
+
+-- a damage followed them
+pub record WritesToDamage {S L : Type 0} {s : Ghosts S} {l : Widths L} (w : ℕ) (lines : Bool)
+    (old new : Finder S L s l) (start end : Option (List ℕ)) (found : Damage) : Type 0 where
+  pub spans : List Span
+  pub all : WritesAll w lines old new start end spans (Some found)
+
+-- what a fault leaves
+abbrev pub LeftFails : {S L : Type 0} {s : Ghosts S} {l : Widths L} → ℕ → Bool
+    → (old new : Finder S L s l) → Option (List ℕ) → Option (List ℕ) → Fault → Type 0
+LeftFails w lines old new start end Missing =
+    HasEnded new × WritesAll w lines old new start end [] None
+LeftFails w lines old new start end (Read (read.Table n)) =
+    HasNoTable new n × WritesToDamage w lines old new start end (damage.Table n)
+LeftFails w lines old new start end (Read (read.Record place)) =
+    HasNoRecord new place × WritesToDamage w lines old new start end (damage.Record place)
+LeftFails {s = s} w lines old new start end (Read read.Device) =
+    (s.failures old.reader.now.store < s.failures new.reader.now.store)
+    × WritesSome w lines old new start end
+LeftFails w lines old new start end Output = WritesSome w lines old new start end
+LeftFails w lines old new start end fault = ⊥

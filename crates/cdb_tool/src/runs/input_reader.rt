@@ -5,7 +5,7 @@ ghost use Rattle.cdb_tool.specs.Views.InputReader.{style_of, unread, IsNew};
 ghost use Rattle.cdb_tool.specs.Views.InputReader.{GivesRecord, GivesEnd, Fails};
 
 use cdb_command::Style;
-use cdb_form::{MapReader, Record, TextFault, TextReader, Width};
+use cdb_form::{AtHand, MapReader, Record, TextFault, TextReader, Width};
 use std::alloc::Global;
 use std::io::Read;
 
@@ -30,8 +30,8 @@ impl<R: Read, L: Width> InputReader<R, L> {
     }
 
     /// Reads the next record over another one, whose memory it takes, and answers whether there is
-    /// one.
-    pub(crate) fn read_into(&mut self, into: &mut Record) -> Result<bool, TextFault>
+    /// one. Bytes at hand are taken without an ask.
+    pub(crate) fn read_into<A: AtHand<R>>(&mut self, into: &mut Record) -> Result<bool, TextFault>
         ensures gives { IfOk result (λ given. MatchBool given
             (GivesRecord L.GREATEST R.remaining self.old self.new (key_value into.new))
             (GivesEnd R.remaining self.old self.new)) }
@@ -39,7 +39,7 @@ impl<R: Read, L: Width> InputReader<R, L> {
     {
         match self {
             InputReader::Native(text) => text.read_into(into),
-            InputReader::Map(text) => text.read_into(into),
+            InputReader::Map(text) => text.read_by::<A>(into),
         }
     }
 }

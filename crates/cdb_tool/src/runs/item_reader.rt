@@ -7,7 +7,7 @@ ghost use Rattle.cdb_tool.specs.Views.ItemReader.{GivesItem, GivesEnd, Fails};
 
 use crate::runs::input_reader::InputReader;
 use cdb_command::Style;
-use cdb_form::{AmendReader, ItemKind, Record, TextFault, Width};
+use cdb_form::{AmendReader, AtHand, ItemKind, Record, TextFault, Width};
 use std::alloc::Global;
 use std::io::Read;
 
@@ -41,8 +41,11 @@ impl<R: Read, L: Width> ItemReader<R, L> {
     }
 
     /// Reads the next item over a record, whose memory it takes, and answers its kind, or that there
-    /// is none.
-    pub(crate) fn read_into(&mut self, into: &mut Record) -> Result<Option<ItemKind>, TextFault>
+    /// is none. Bytes at hand are taken without an ask.
+    pub(crate) fn read_into<A: AtHand<R>>(
+        &mut self,
+        into: &mut Record,
+    ) -> Result<Option<ItemKind>, TextFault>
         ensures gives { IfOk result (λ found. MatchOption found
             (GivesEnd R.remaining self.old self.new)
             (λ kind. GivesItem L.GREATEST R.remaining self.old self.new
@@ -50,7 +53,7 @@ impl<R: Read, L: Width> ItemReader<R, L> {
         ensures fails { IfErr result (Fails L.GREATEST R.remaining self.old self.new) }
     {
         match self {
-            ItemReader::Puts(records) => match records.read_into(into) {
+            ItemReader::Puts(records) => match records.read_into::<A>(into) {
                 Ok(true) => Ok(Some(ItemKind::Put)),
                 Ok(false) => Ok(None),
                 Err(fault) => Err(fault),

@@ -15,14 +15,14 @@ use crate::runs::item_reader::ItemReader;
 use crate::runs::make_base::add_base;
 use crate::runs::make_input::put_input;
 use cdb_command::MakeOptions;
-use cdb_form::Width;
+use cdb_form::{AtHand, NoneAtHand, Width};
 use cdb_make::Maker;
 use cdb_store::Store;
 use std::alloc::Global;
 use std::io::{Read, Write};
 
 /// Does what all inputs say. Where a base is amended, native inputs may remove keys.
-fn put_inputs<L: Width, S: Store, R: Read + Drop, E: Write>(
+fn put_inputs<L: Width, S: Store, R: Read + Drop, E: Write, A: AtHand<R>>(
     alloc: Global,
     maker: &mut Maker<S, L>,
     options: &MakeOptions,
@@ -52,13 +52,13 @@ fn put_inputs<L: Width, S: Store, R: Read + Drop, E: Write>(
     for input in inputs {
         number += 1;
         let mut items = ItemReader::new(alloc, options.style, amends, input);
-        put_input(alloc, maker, options, number, &mut items, errors)?;
+        put_input::<L, S, R, E, A>(alloc, maker, options, number, &mut items, errors)?;
     }
     Ok(())
 }
 
 /// Makes the database, whose lines the writer may keep in a buffer.
-fn make_unflushed<L: Width, S: Store, B: Store, R: Read + Drop, E: Write>(
+fn make_unflushed<L: Width, S: Store, B: Store, R: Read + Drop, E: Write, A: AtHand<R>>(
     alloc: Global,
     store: S,
     base: Option<B>,
@@ -86,7 +86,8 @@ fn make_unflushed<L: Width, S: Store, B: Store, R: Read + Drop, E: Write>(
     if let Err(fault) = added {
         return (maker.into_store(), base, Err(fault));
     }
-    if let Err(fault) = put_inputs(alloc, &mut maker, options, amends, inputs, errors) {
+    let put = put_inputs::<L, S, R, E, A>(alloc, &mut maker, options, amends, inputs, errors);
+    if let Err(fault) = put {
         return (maker.into_store(), base, Err(fault));
     }
     match maker.finish() {
@@ -144,7 +145,30 @@ pub fn make_run<L: Width, S: Store, B: Store, R: Read + Drop, E: Write>(
         (λ f. IsOfStore f → S.failures store < S.failures result.0) }
     ensures base_failed { IfErr result.2 (λ f. IsOfBase f → HasFailed B.Store base result.1) }
 {
-    let (store, base, made) = make_unflushed::<L, S, B, R, E>(
+    make_run_by::<L, S, B, R, E, NoneAtHand>(alloc, store, base, inputs, options, errors)
+}
+
+/// Does what `make_run` does, and takes bytes that an input has at hand without an ask.
+pub fn make_run_by<L: Width, S: Store, B: Store, R: Read + Drop, E: Write, A: AtHand<R>>(
+    alloc: Global,
+    store: S,
+    base: Option<B>,
+    inputs: Vec<R>,
+    options: MakeOptions,
+    errors: &mut E,
+) -> (S, Option<B>, Result<(), Fault>)
+    requires head { head_size L.WORD ≤ options.limit }
+    requires words { options.limit ≤ L.GREATEST }
+    ensures runs { WhereHonest (S.image result.0) (OfBase B.Store result.1 (λ base.
+        Runs L.WORD L.GREATEST options base (map R.remaining inputs.items)
+        (S.image result.0) (E.contents errors.old) (E.contents errors.new) result.2)) }
+    ensures hands { HandsBack B.Store base result.1 }
+    ensures settled { OnOk result.2 (S.settled result.0) }
+    ensures failed { IfErr result.2
+        (λ f. IsOfStore f → S.failures store < S.failures result.0) }
+    ensures base_failed { IfErr result.2 (λ f. IsOfBase f → HasFailed B.Store base result.1) }
+{
+    let (store, base, made) = make_unflushed::<L, S, B, R, E, A>(
         alloc, store, base, inputs, &options, errors,
     );
     let answer = flushed(errors, made);

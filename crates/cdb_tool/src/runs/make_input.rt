@@ -18,7 +18,7 @@ use crate::fault::Fault;
 use crate::message::write_duplicate;
 use crate::runs::item_reader::ItemReader;
 use cdb_command::MakeOptions;
-use cdb_form::{ItemKind, Record, Width};
+use cdb_form::{AtHand, ItemKind, Record, Width};
 use cdb_make::{Maker, Mode, Put};
 use cdb_store::Store;
 use std::alloc::Global;
@@ -162,7 +162,7 @@ fn do_item<L: Width, S: Store, E: Write>(
 }
 
 /// Does what the items of an input say, whose number is counted from 1, up to its end.
-pub(crate) fn put_input<L: Width, S: Store, R: Read, E: Write>(
+pub(crate) fn put_input<L: Width, S: Store, R: Read, E: Write, A: AtHand<R>>(
     alloc: Global,
     maker: &mut Maker<S, L>,
     options: &MakeOptions,
@@ -198,7 +198,7 @@ pub(crate) fn put_input<L: Width, S: Store, R: Read, E: Write>(
     };
     let mut number = 0;
     loop {
-        let kind = match items.read_into(&mut item) {
+        let kind = match items.read_into::<A>(&mut item) {
             Err(fault) => return Err(Fault::of_text(input, fault)),
             Ok(None) => return Ok(()),
             Ok(Some(kind)) => kind,

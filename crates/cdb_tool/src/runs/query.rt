@@ -5,7 +5,7 @@ ghost use Rattle.cdb_form.specs.Views.KnownBytes.{AppendsFront};
 ghost use Rattle.cdb_read.specs.Lookup.{bytes_of};
 ghost use Rattle.cdb_store.specs.Reads.{OnlyReads};
 ghost use Rattle.cdb_read.specs.Views.Reads.{CopyingFails};
-ghost use Rattle.cdb_tool.specs.Runs.Query.{Queries, value_text};
+ghost use Rattle.cdb_tool.specs.Runs.Query.{Queries, value_text, WritesEach, LeftFails};
 
 use crate::fault::Fault;
 use crate::runs::flushed::flushed;
@@ -43,6 +43,38 @@ fn write_value<L: Width, S: Store, W: Write>(
     Ok(())
 }
 
+/// Writes the values that a finder has left, one after the other, with a newline after each in lines.
+///
+/// It does what `query_run` does, and leaves in the finder what it did not give. The faults:
+/// - `Missing`: no value was left;
+/// - `Read(Table(n))`, `Read(Record(place))`: this damage follows the values, which were all written;
+/// - `Read(Device)`: the store failed. The values that the finder gave before were written whole, and
+///   of the one in hand a prefix;
+/// - `Output`: the writer failed, and holds as much.
+///
+/// After `Read(Device)` a further call goes on with the values that the finder has left. The writer is
+/// not flushed.
+pub fn query_from<L: Width, S: Store, W: Write>(
+    finder: &mut Finder<'_, S, L>,
+    lines: bool,
+    w: &mut W,
+) -> Result<(), Fault>
+    ensures same_reader { finder.new.reader.ghost_name ≡ finder.old.reader.ghost_name }
+    ensures key { finder.new.key.now ≡ finder.old.key.now }
+    ensures reads { OnlyReads S.Store finder.old.reader.now.store finder.new.reader.now.store }
+    ensures ok { OnOk result (WritesEach L.WORD lines finder.old finder.new
+        (W.contents w.old) (W.contents w.new)) }
+    ensures fails { IfErr result (LeftFails L.WORD lines finder.old finder.new
+        (W.contents w.old) (W.contents w.new)) }
+{
+    let mut found = false;
+    while let Some(value) = finder.next()? {
+        write_value(finder, value, lines, w)?;
+        found = true;
+    }
+    if found { Ok(()) } else { Err(Fault::Missing) }
+}
+
 /// Writes all values of a key.
 fn write_all<L: Width, S: Store, W: Write>(
     reader: &mut Reader<S, L>,
@@ -53,13 +85,7 @@ fn write_all<L: Width, S: Store, W: Write>(
     ensures { Queries L.WORD S.Store (record { key = key.now; number = None; lines = lines })
         reader.old.store reader.new.store (W.contents w.old) (W.contents w.new) result }
 {
-    let mut finder = reader.find(key);
-    let mut found = false;
-    while let Some(value) = finder.next()? {
-        write_value(&mut finder, value, lines, w)?;
-        found = true;
-    }
-    if found { Ok(()) } else { Err(Fault::Missing) }
+    query_from(&mut reader.find(key), lines, w)
 }
 
 /// Writes the value of a key that has this number, counted from 1. The ones before it are found and

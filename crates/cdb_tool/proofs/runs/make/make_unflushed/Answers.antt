@@ -12,16 +12,16 @@ returns-in-Err-clause-runs g c =
 pub returns-in-Err-clause-hands : goal.returns-in-Err-clause-hands
 returns-in-Err-clause-hands g c = hands_same g.B.Store c.args.base
 
-pub returns-in-Err-put_inputs-clause-runs : goal.returns-in-Err-put_inputs-clause-runs
-returns-in-Err-put_inputs-clause-runs g c =
+pub returns-in-Err-put-clause-runs : goal.returns-in-Err-put-clause-runs
+returns-in-Err-put-clause-runs g c =
     let add = c.add_base-base.ensures in
     let base = c.add_base-base.result.0 in
     let holds = (rw c.in_default.is at add.ok) c.in-Ok.ensures.holds in
     let some = hands_some g.B.Store c.args.base base add.hands ∙ sym c.is_some-amends.ensures in
-    rw c.into_store-in-Err-put_inputs.ensures
-    (runs_stopped {s = g.S.Store} {l = g.L.Width} g.B.Store base g.L.Width.GREATEST c.args.options.now c.is_some-amends.result _ (g.E.Write.contents c.args.errors.now) _ c.add_base-base.new.maker _ c.in-Err-put_inputs.fault
-    holds (add.limit ∙ c.in-Ok.ensures.limit) some c.put_inputs.ensures.comes
-    (λ k same based begins. c.in-Err-put_inputs.ensures.fails k _ same based begins))
+    rw c.into_store-in-Err-put.ensures
+    (runs_stopped {s = g.S.Store} {l = g.L.Width} g.B.Store base g.L.Width.GREATEST c.args.options.now c.is_some-amends.result _ (g.E.Write.contents c.args.errors.now) _ c.add_base-base.new.maker _ c.in-Err-put.fault
+    holds (add.limit ∙ c.in-Ok.ensures.limit) some c.put_inputs-put.ensures.comes
+    (λ k same based begins. c.in-Err-put.ensures.fails k _ same based begins))
 
 pub returns-in-Ok-finish-clause-runs : goal.returns-in-Ok-finish-clause-runs
 returns-in-Ok-finish-clause-runs g c =
@@ -29,10 +29,10 @@ returns-in-Ok-finish-clause-runs g c =
     let base = c.add_base-base.result.0 in
     let holds = (rw c.in_default.is at add.ok) c.in-Ok.ensures.holds in
     let some = hands_some g.B.Store c.args.base base add.hands ∙ sym c.is_some-amends.ensures in
-    let put = c.in_default-put_inputs.ensures.ok in
+    let put = c.in_default-put.ensures.ok in
     let are = subst (λ (v : Bool). AreInputs (input_form c.args.options.now.style v) g.L.Width.GREATEST put.0 (map g.R.Read.remaining c.args.inputs.items) []) (sym some) put.1 in
-    runs_whole {s = g.S.Store} {l = g.L.Width} g.B.Store base g.L.Width.GREATEST c.args.options.now _ put.0 (g.E.Write.contents c.args.errors.now) _ c.add_base-base.new.maker c.put_inputs.new.maker _
-    holds (add.limit ∙ c.in-Ok.ensures.limit) are (λ k same begins. put.2 k _ same begins) c.put_inputs.ensures.comes c.in-Ok-finish.ensures.comes c.in-Ok-finish.ensures.file
+    runs_whole {s = g.S.Store} {l = g.L.Width} g.B.Store base g.L.Width.GREATEST c.args.options.now _ put.0 (g.E.Write.contents c.args.errors.now) _ c.add_base-base.new.maker c.put_inputs-put.new.maker _
+    holds (add.limit ∙ c.in-Ok.ensures.limit) are (λ k same begins. put.2 k _ same begins) c.put_inputs-put.ensures.comes c.in-Ok-finish.ensures.comes c.in-Ok-finish.ensures.file
 
 pub returns-in-Err-finish-clause-runs : goal.returns-in-Err-finish-clause-runs
 returns-in-Err-finish-clause-runs g c =
@@ -40,12 +40,12 @@ returns-in-Err-finish-clause-runs g c =
     let base = c.add_base-base.result.0 in
     let holds = (rw c.in_default.is at add.ok) c.in-Ok.ensures.holds in
     let some = hands_some g.B.Store c.args.base base add.hands ∙ sym c.is_some-amends.ensures in
-    let put = c.in_default-put_inputs.ensures.ok in
+    let put = c.in_default-put.ensures.ok in
     let e = c.in-Err-finish.ensures in
     let are = subst (λ (v : Bool). AreInputs (input_form c.args.options.now.style v) g.L.Width.GREATEST put.0 (map g.R.Read.remaining c.args.inputs.items) []) (sym some) put.1 in
     rw (c.from-in-Err-finish.ensures, c.into_store-in-Err-finish.ensures)
-    (runs_unfinished {s = g.S.Store} {l = g.L.Width} g.B.Store base g.L.Width.GREATEST c.args.options.now _ put.0 (g.E.Write.contents c.args.errors.now) _ c.add_base-base.new.maker c.put_inputs.new.maker c.in-Err-finish.unfinished.maker _ c.in-Err-finish.unfinished.fault
-    holds (add.limit ∙ c.in-Ok.ensures.limit) are (λ k same begins. put.2 k _ same begins) c.put_inputs.ensures.comes e.fails_comes e.fails)
+    (runs_unfinished {s = g.S.Store} {l = g.L.Width} g.B.Store base g.L.Width.GREATEST c.args.options.now _ put.0 (g.E.Write.contents c.args.errors.now) _ c.add_base-base.new.maker c.put_inputs-put.new.maker c.in-Err-finish.unfinished.maker _ c.in-Err-finish.unfinished.fault
+    holds (add.limit ∙ c.in-Ok.ensures.limit) are (λ k same begins. put.2 k _ same begins) c.put_inputs-put.ensures.comes e.fails_comes e.fails)
 
 pub returns-in-Err-finish-clause-base_failed : goal.returns-in-Err-finish-clause-base_failed
 returns-in-Err-finish-clause-base_failed g c = rw c.from-in-Err-finish.ensures (λ is. absurd (make_no_base c.in-Err-finish.unfinished.fault is))

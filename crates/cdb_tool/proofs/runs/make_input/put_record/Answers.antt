@@ -1,4 +1,3 @@
-use Rattle.std.proofs.Common.{subst, sym}
 use Rattle.std.proofs.lemmas.Result.{err_from_is_err_and}
 use Rattle.cdb_form.specs.Views.Pairs.{key_value}
 use Rattle.cdb_make.specs.Views.Maker.{Puts, FailsPutting}

@@ -1,5 +1,5 @@
 use Rattle.cdb_tool.proofs.RunEnds.{runs_flushed}
-use Rattle.cdb_tool.proofs.runs.make.make_run.Goals as goal
+use Rattle.cdb_tool.proofs.runs.make.make_run_by.Goals as goal
 
 pub returns-clause-runs : goal.returns-clause-runs
 returns-clause-runs g c = runs_flushed g.B.Store _ _ _ _ _ _ _ _ _ _ _ c.make_unflushed-store.ensures.runs c.flushed-answer.ensures
