@@ -5,7 +5,7 @@ input, a path to open there, or CLOSED; `stdout` is the bytes that it is to writ
 there, CLOSED, or UNREAD; `errors` is the exact text on standard error, and `status` the exit
 status; with `stderr` that is CLOSED none is open. `files` are there before, and `left` behind it (the same ones, where it is None): bytes, a
 FOLDER, a PIPE or a Link each, by its name. No file may become longer than `most` bytes, where that is a
-number; a `sealed` folder takes no new name.
+number; a `sealed` folder takes no new name. The program's memory has at most `space` bytes.
 """
 
 from files import (
@@ -52,7 +52,7 @@ STOPPED = "stopped at a duplicate key"
 def case(given, stdin=b"", stdout=b"", line=None, status=0, files=None, left=None, **other):
     """A case, of which `line` is the text, or the texts, on standard error."""
     lines = [] if line is None else [line] if isinstance(line, str) else line
-    whole = dict(stderr=None, most=None, sealed=False)
+    whole = dict(stderr=None, most=None, space=None, sealed=False)
     whole.update(other)
     return dict(
         words=given,
@@ -131,6 +131,31 @@ def keeps(given, line, stdin=b"", files=None, left=None, **other):
     return case(given, stdin, b"", line, 111, files, left, **other)
 
 
+# How much memory is enough for what came.
+LITTLE = 200_000_000
+
+
+def long_record(key, value):
+    """A database that is cut behind the first byte of a record with lengths that it does not have."""
+    return words(4294967280, 1) + words(0, 0) * 255 + words(key, value) + b"a"
+
+
+def told(given, stdin, line, files=None):
+    """A command that reads a length that nothing follows."""
+    return case(given, stdin, b"", line, 111, files, space=LITTLE)
+
+
+def amends(given, file, changes, line=None):
+    """A create of the database x from the two-record base and an input, where an old one is."""
+    files = {"base": TWO_FILE, "in": changes}
+    return case(["-c", "-b", "base", *given], b"", b"", line, 0, {"x": ONE_FILE, **files}, {"x": file, **files})
+
+
+def unamended(changes, line, options=()):
+    """The same of standard input, with a fault: both databases are as they were."""
+    return keeps(["-c", "-b", "base", *options, "x"], line, changes, {"base": TWO_FILE})
+
+
 def asks(given, value, file=TWO_FILE, line=None, status=0):
     """A query of the database x."""
     return case(["-q", *given], b"", value, line, status, {"x": file})
@@ -156,7 +181,7 @@ usage: cdb -q [-W] [-m] [-n number] database key
        cdb -d [-W] [-m] [database]
        cdb -l [-W] [-m] [database]
        cdb -s [-W] [database]
-       cdb -c [-W] [-m] [-t temporary] [-weru] database [input ...]
+       cdb -c [-W] [-m] [-t temporary] [-b base] [-weru] database [input ...]
        cdb -k [-W] [database]
        cdb -h
 """
@@ -336,15 +361,23 @@ CASES = {
         ["-c", "x"], f"input 1: byte 0: {NO_RECORD}", b"*",
         {"x.tmp": Link("y"), "y": b"kept"}, {"y": b"kept"},
     ),
-    "an input that is the old temporary file": case(
-        ["-c", "x", "x.tmp"], files={"x.tmp": TWO_TEXT}, left={"x": TWO_FILE}
+    "an input that is the temporary file": case(
+        ["-c", "x", "x.tmp"], b"", b"", NO_FILE, 111, {"x.tmp": TWO_TEXT}
+    ),
+    "an input behind a link to the temporary file": keeps(
+        ["-c", "x", "in"], NO_FILE, files={"x.tmp": TWO_TEXT, "in": Link("x.tmp")}
+    ),
+    "in place, an input that is the database": keeps(["-cm", "-t-", "x", "./x"], NO_FILE),
+    "a database that ends in a slash": case(
+        ["-c", "sub/"], TWO_TEXT, b"", NO_FILE, 111, {".tmp": b"kept"}
     ),
     "a temporary file that is a folder": keeps(["-c", "x"], NO_FILE, TWO_TEXT, {"x.tmp": FOLDER}),
     "a temporary file in no folder": keeps(["-c", "-t", "no/y", "x"], NO_FILE, TWO_TEXT),
     "a temporary file that is a pipe": keeps(["-c", "x"], NO_FILE, TWO_TEXT, {"x.tmp": PIPE}),
     "a database that is a folder": case(["-c", "x"], TWO_TEXT, b"", NO_NAME, 111, {"x": FOLDER}),
     "a database in no folder": case(["-c", "no/x"], TWO_TEXT, b"", NO_FILE, 111),
-    "a database of no name": case(["-c", ""], TWO_TEXT, b"", NO_NAME, 111),
+    "a database of no name": case(["-c", ""], TWO_TEXT, b"", NO_FILE, 111, {".tmp": b"kept"}),
+    "a database that is a folder, and a faulty text": case(["-c", "x"], b"*", b"", NO_NAME, 111, {"x": FOLDER}),
     "a folder that takes no name": keeps(["-c", "x"], NO_FILE, TWO_TEXT, sealed=True),
     "an input that is missing": keeps(["-c", "x", "in"], NO_FILE),
     "a second input that is missing": keeps(["-c", "x", "in", "no"], NO_FILE, files={"in": TWO_TEXT}),
@@ -536,4 +569,99 @@ CASES = {
     "a number that is empty": not_understood("-q", "-n", "", "x", "one"),
     "a number twice": not_understood("-q", "-n", "1", "-n", "2", "x", "one"),
     "a number that is missing": not_understood("-q", "x", "one", "-n"),
+    # create: a base that is amended
+    "a key removed": amends(["x", "in"], file_of([(b"two", b"Goodbye")]), b"-3:one\n\n"),
+    "nothing changed": amends(["x", "in"], TWO_FILE, b"\n"),
+    "an absent key removed": amends(["x", "in"], TWO_FILE, b"-3:zzz\n\n"),
+    "a removal that is cut": unamended(b"-3:on", "input 1: byte 5: " + EARLY),
+    "a base that is cut": case(
+        ["-c", "-b", "base", "x"], b"\n", b"", not_whole(2064), 111,
+        {"x": ONE_FILE, "base": TWO_FILE[:2070]},
+    ),
+    "a removal after records": case(
+        ["-c", "-b", "base", "x"],
+        b"+1,1:a->1\n+3,5:one->Hello\n+3,7:two->Goodbye\n+1,1:a->2\n-1:a\n\n",
+        files={"base": EMPTY_FILE}, left={"base": EMPTY_FILE, "x": TWO_FILE},
+    ),
+    "a record of the base met again, which ends a run": unamended(
+        b"+3,1:one->X\n\n", [again(1), STOPPED], ["-e"]
+    ),
+    "a record put again after its removal": amends(
+        ["-w", "x", "in"], file_of([(b"two", b"Goodbye"), (b"one", b"Again")]),
+        b"-3:one\n+3,5:one->Again\n\n",
+    ),
+    "a removal counts as a record": amends(
+        ["-w", "x", "in"], file_of([(b"one", b"Hello"), (b"two", b"Goodbye"), (b"one", b"X")]),
+        b"-3:zzz\n+3,1:one->X\n\n", again(2),
+    ),
+    "a key to remove that is too long": unamended(b"-4294967296:", f"input 1: byte 10: {LARGE_LENGTH}"),
+    "a key to remove that goes on": unamended(b"-3:onex", f"input 1: byte 6: {NO_RECORD}"),
+    "a removal with a value": unamended(b"-3,", f"input 1: byte 2: {NO_RECORD}"),
+    "a removal with no base": refused(b"-3:one\n\n", 0, NO_RECORD),
+    "a removal with no base, by name": keeps(["-c", "x"], f"input 1: byte 0: {NO_RECORD}", b"-3:one\n\n"),
+    "a base that is the database": case(
+        ["-c", "-b", "x", "x"], b"-3:two\n\n", files={"x": TWO_FILE}, left={"x": ONE_FILE}
+    ),
+    "a base that is the database, and a fault": keeps(
+        ["-c", "-b", "x", "x"], f"input 1: byte 7: {NO_RECORD}", b"-3:two\n*"
+    ),
+    "a base that is the database behind a link": case(
+        ["-c", "-b", "base", "x"], b"-3:two\n\n", files={"x": TWO_FILE, "base": Link("x")},
+        left={"x": ONE_FILE, "base": Link("x")},
+    ),
+    "a wide base": case(
+        ["-cW", "-b", "base", "x"], b"-3:one\n\n", files={"base": WIDE_FILE},
+        left={"base": WIDE_FILE, "x": wide_words(4096, 0) * 256},
+    ),
+    "a base whose records replace none": case(
+        ["-cr", "-b", "base", "x"], b"\n", files={"base": FOUR_FILE}, left={"base": FOUR_FILE, "x": FOUR_FILE}
+    ),
+    "a base and map texts": amends(["-m", "x", "in"], file_of([(b"one", b"Hello"), (b"two", b"Goodbye"), (b"-3:one", b"")]), b"-3:one\n"),
+    "a base, on standard output": case(
+        ["-c", "-b", "base", "-"], b"-3:two\n\n", ONE_FILE, files={"base": TWO_FILE}
+    ),
+    "a base of the default name, on standard output": case(
+        ["-c", "-b-.tmp", "-"], b"\n", TWO_FILE, files={"-.tmp": TWO_FILE}
+    ),
+    "a base that is missing": keeps(["-c", "-b", "base", "x", "no"], NO_FILE),
+    "a base that is a hyphen is a file": keeps(["-c", "-b", "-", "x"], NO_FILE, TWO_FILE),
+    "a base that is a pipe": keeps(["-c", "-b", "base", "x"], NO_FILE, b"\n", {"base": PIPE}),
+    "a base that is a folder": keeps(["-c", "-b", "base", "x"], NO_DATABASE, b"\n", {"base": FOLDER}),
+    "a base that is no database": keeps(["-c", "-b", "base", "x"], SHORT, b"\n", {"base": TWO_TEXT}),
+    "a damaged base comes before an input": keeps(
+        ["-c", "-b", "base", "x"], not_whole(2048), b"*", {"base": b"\xff" * 2048}
+    ),
+    "a base that is the temporary file, spelled otherwise": keeps(
+        ["-c", "-b", "./x.tmp", "x"], NO_FILE, b"\n", {"x.tmp": TWO_FILE}
+    ),
+    "in place, the base": case(
+        ["-c", "-t", "x", "-b", "./x", "x"], b"\n", b"", NO_FILE, 111, {"x": TWO_FILE}
+    ),
+    "in place, another base": case(
+        ["-c", "-t", "x", "-b", "base", "x"], b"-3:two\n\n", files={"x": LARGE_FILE, "base": TWO_FILE},
+        left={"x": ONE_FILE, "base": TWO_FILE},
+    ),
+    "a base in place": not_understood("-c", "-b", "x", "-t", "-", "y"),
+    "a base that is the default temporary file": not_understood("-c", "-b", "x.tmp", "x"),
+    "a base that is the temporary file": not_understood("-c", "-b", "x", "-t", "x", "y"),
+    "a base for a dump": not_understood("-d", "-b", "x"),
+    "a base and no database": not_understood("-c", "-b", "x"),
+    # commands on a database that is a pipe
+    "a query of a pipe": case(["-q", "x", "one"], line=NO_FILE, status=111, files={"x": PIPE}),
+    "a check of standard input by its name": case(["-k", "/dev/stdin"], TWO_FILE),
+    "statistics of standard input by its name": case(
+        ["-s", "/dev/stdin"], EMPTY_FILE, NO_STATISTICS
+    ),
+    # lengths of 3 GiB that nothing follows, in little memory
+    "a long key": told(CREATE, b"+3221225472,1:", f"input 1: byte 14: {EARLY}"),
+    "a long value": told(CREATE, b"+1,3221225472:a->b", f"input 1: byte 18: {EARLY}"),
+    "a long key to remove": told(
+        ["-c", "-b", "x", "y"], b"-3221225472:a", f"input 1: byte 13: {EARLY}", {"x": EMPTY_FILE}
+    ),
+    "a dump of a long key": told(DUMP, long_record(3221225472, 1), not_whole(2048)),
+    "a dump of a long value": told(DUMP, long_record(1, 3221225472), not_whole(2048)),
+    "a list of a long value": told(["-l"], long_record(1, 3221225472), not_whole(2048)),
+    "a base with a long value": told(
+        ["-c", "-b", "x", "y"], b"\n", not_whole(2048), {"x": long_record(1, 3221225472)}
+    ),
 }

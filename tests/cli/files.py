@@ -93,9 +93,10 @@ def hash_of(key):
     return number
 
 
-def table_of(entries, words):
-    """The table of some hashes and places: each in the first empty slot from its own on."""
-    slots = [(0, 0)] * (2 * len(entries))
+def table_of(entries, words, count=None):
+    """The table of some hashes and places: each in the first empty slot from its own on. It has twice
+    as many slots as entries, or so many."""
+    slots = [(0, 0)] * (2 * len(entries) if count is None else count)
     for number, place in entries:
         slot = (number >> 8) % len(slots)
         while slots[slot][1] != 0:

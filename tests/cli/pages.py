@@ -18,6 +18,8 @@ from cases import CASES
 HERE = os.path.dirname(os.path.abspath(__file__))
 PAGE = os.path.join(HERE, "..", "..", "man", "cdb.1")
 README = os.path.join(HERE, "..", "..", "README.md")
+LIBRARY = os.path.join(HERE, "..", "..", "docs", "LIBRARY.md")
+CALLER = os.path.join(HERE, "..", "..", "crates", "cdb_uses", "src", "files.rt")
 # What stands in a diagnostic in place of a number.
 NUMBER = "[A-Z]"
 
@@ -78,6 +80,12 @@ def toolchain_of(readme):
     return re.search(r"^Proved with: `(.*)`\.$", readme, re.MULTILINE)[1]
 
 
+def is_shown(page, source):
+    """Whether a page shows the code of a file, which follows its first line."""
+    with open(page, encoding="utf-8") as shown, open(source, encoding="utf-8") as file:
+        return "```rust\n" + file.read().split("\n", 1)[1] + "```" in shown.read()
+
+
 def main():
     if len(sys.argv) != 2:
         sys.exit(__doc__)
@@ -106,9 +114,11 @@ def main():
     # Kits of one logic check alike; a kit's own name changes with its tools.
     if toolchain.split(" logic ")[-1] != version.strip().split(" logic ")[-1]:
         wrong.append(f"README.md names {toolchain}, and this is {version.strip()}")
+    if not is_shown(LIBRARY, CALLER):
+        wrong.append("docs/LIBRARY.md does not show the first caller as it is in cdb_uses")
     for it in wrong:
         print(it)
-    print(f"{4 - len(wrong)} passed, {len(wrong)} failed")
+    print(f"{5 - len(wrong)} passed, {len(wrong)} failed")
     sys.exit(1 if wrong else 0)
 
 

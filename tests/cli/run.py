@@ -82,6 +82,8 @@ def prepared(case, closed):
         if case["most"] is not None:
             signal.signal(signal.SIGXFSZ, signal.SIG_IGN)
             resource.setrlimit(resource.RLIMIT_FSIZE, (case["most"], case["most"]))
+        if case["space"] is not None:
+            resource.setrlimit(resource.RLIMIT_AS, (case["space"], case["space"]))
         if case["sealed"] and os.getuid() == 0:
             os.setgid(NOBODY)
             os.setuid(NOBODY)

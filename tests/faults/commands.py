@@ -39,6 +39,7 @@ TEXT = text_of(RECORDS)
 DATABASE = file_of(RECORDS)
 OLD = file_of([(b"old", b"database")])
 KEPT = {"x": OLD}
+CHANGES = b"-4:key3\n+4,5:key7->again\n+3,3:new->one\n" * 3 + b"\n"
 COMMANDS = {
     "create on output": Command(["-c", "-"], TEXT),
     "create": Command(["-c", "x"], TEXT, KEPT),
@@ -49,6 +50,8 @@ COMMANDS = {
     "create that stops": Command(["-cme", "x"], lines(40), KEPT),
     "create beside an old temporary file": Command(["-c", "x"], TEXT, {**KEPT, "x.tmp": b"old"}),
     "create with warnings on output": Command(["-cmw", "-"], lines(40)),
+    "amending": Command(["-cw", "-b", "base", "x"], CHANGES, {**KEPT, "base": DATABASE}),
+    "amending the database itself": Command(["-cr", "-b", "x", "x"], CHANGES, {"x": DATABASE}),
     "wide create": Command(["-cW", "x"], TEXT, KEPT),
     "query": Command(["-q", "x", "key7"], b"", {"x": DATABASE}),
     "query of a line": Command(["-qm", "-n", "1", "x", "key9"], b"", {"x": DATABASE}),

@@ -15,8 +15,9 @@ class Refusing:
         self.library = library
         self.what = what
 
-    def run(self, words, stdin, first=0, last=0, folder=None):
-        """What it left, with the asks from the first to the last refused, and how many it made.
+    def run(self, words, stdin, first=0, last=0, folder=None, closed=()):
+        """What it left, with the asks from the first to the last refused, and how many it made. Some of
+        its standard streams may be closed.
 
         It reads a file and no pipe, so that each run reads as much at once.
         """
@@ -39,6 +40,7 @@ class Refusing:
                 env=refusing,
                 stdin=given,
                 capture_output=True,
+                preexec_fn=lambda: [os.close(number) for number in closed],
                 timeout=60,
             )
             with open(count.name, "rb") as counted:

@@ -5,6 +5,7 @@
 mod ask;
 mod changes;
 mod check;
+mod files;
 mod form;
 mod make;
 mod read;
@@ -14,6 +15,7 @@ mod unfinished;
 pub use ask::{AskFault, write_finished};
 pub use changes::{Change, ChangedFile, change_and_ask};
 pub use check::open_checked;
+pub use files::make_and_get;
 pub use form::first_record;
 pub use make::file_of_latest;
 pub use read::write_values;

@@ -7,7 +7,7 @@ use cdb_read::ReadFault;
 use cdb_store::{FuseStore, MemStore};
 use cdb_uses::{
     AskFault, Built, Change, ChangedFile, Step, build_and_ask, change_and_ask, file_of_latest,
-    first_record, open_checked, write_finished,
+    first_record, make_and_get, open_checked, write_finished,
 };
 use std::alloc::Global;
 use std::prelude::*;
@@ -20,6 +20,29 @@ fn the_first_record_of_a_text(rt: HostRuntime) -> Result<(), Fail> {
     assert!(rt; record.key.as_slice() == b"one".as_slice());
     let none: &[u8] = b"\n";
     assert!(rt; matches!(first_record(rt.alloc(), none), Ok(None)));
+    Ok(())
+}
+
+/// Whether the database of `one` with `Hello`, made under a name, gives this value of a key.
+fn gives(rt: &HostRuntime, key: &[u8], wanted: Option<&[u8]>) -> Result<bool, Fail> {
+    let mut records = Vec::new(rt.alloc());
+    records.push(Record {
+        key: b"one".to_vec(rt.alloc())?,
+        value: b"Hello".to_vec(rt.alloc())?,
+    })?;
+    match make_and_get(rt, "made.store", &records, key) {
+        Ok(value) => Ok(value.as_deref() == wanted),
+        Err(_) => Ok(false),
+    }
+}
+
+#[test]
+fn a_database_is_made_under_its_name_and_asked(rt: HostRuntime) -> Result<(), Fail> {
+    assert!(rt;
+        gives(&rt, b"one", Some(b"Hello".as_slice()))?,
+        "a key that is there"
+    );
+    assert!(rt; gives(&rt, b"two", None)?, "one that is not");
     Ok(())
 }
 

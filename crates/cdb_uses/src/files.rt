@@ -1,0 +1,19 @@
+// A caller of cdb_files: a database is made under its name, opened, and asked for a value.
+use cdb_files::{FileFault, make_file, open_file};
+use cdb_form::{Narrow, Record};
+use std::fs::File;
+use std::rt::Files;
+
+/// Makes the database of some records under a name, and gives the first value of a key in it.
+///
+/// What had the name keeps it until the database is whole, and after a fault.
+pub fn make_and_get<R: Files<File = File> + AllocGlobal>(
+    rt: &R,
+    name: &str,
+    records: &[Record],
+    key: &[u8],
+) -> Result<Option<Vec<u8>>, FileFault> {
+    make_file::<Narrow, R>(rt, name, records)?;
+    let mut reader = open_file::<Narrow, R>(rt, name)?;
+    Ok(reader.get(rt.alloc(), key)?)
+}

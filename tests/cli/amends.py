@@ -1,0 +1,168 @@
+#!/usr/bin/env python3
+"""Amends bases by drawn changes, and compares each database with one that is made here from scratch.
+
+    tests/cli/amends.py PROGRAM
+
+The model is a plain list of records. The bases are made here too: some as `cdb` lays a file out, some
+as other programs may, with the tables in another order and unused bytes between them. After the drawn
+cases each byte of a small base is changed in turn, and a text of changes is cut at each byte.
+"""
+
+import os
+import random
+import subprocess
+import sys
+import tempfile
+
+from files import TWO_FILE, file_of, hash_of, table_of, text_of, wide_words, words
+
+CASES = 5000
+KEYS = [b"a", b"bc", b"cB", b"", b"one"]
+ADD, WARN, INSERT, REPLACE = "", "-w", "-u", "-r"
+CHANGES = b"-3:one\n+3,5:one->Again\n\n"
+
+
+def foreign_file_of(chosen, records):
+    """A database of some records with its tables in a drawn order, larger than needed, and apart."""
+    parts, lists, place = [], [[] for _ in range(256)], 2048
+    for key, value in records:
+        lists[hash_of(key) % 256].append((hash_of(key), place))
+        parts += [words(len(key), len(value)), key, value]
+        place += 8 + len(key) + len(value)
+    head = [words(7, 0)] * 256
+    order = [n for n in range(256) if lists[n]]
+    chosen.shuffle(order)
+    for n in order:
+        count = len(lists[n]) + chosen.randint(0, 3)
+        table = table_of(lists[n], words, count)
+        head[n] = words(place, count)
+        parts += [table, chosen.randbytes(chosen.randint(0, 9))]
+        place += len(table) + len(parts[-1])
+    return b"".join(head + parts)
+
+
+def drawn(chosen, most):
+    """Some records with few keys."""
+    return [(chosen.choice(KEYS), chosen.randbytes(chosen.randint(0, 6))) for _ in range(chosen.randint(0, most))]
+
+
+def changed(records, changes, mode):
+    """The records after the changes, and the numbers of the changes that met their key."""
+    records, met = list(records), []
+    for number, (key, value) in enumerate(changes, 1):
+        is_there = any(other == key for other, _ in records)
+        if value is None or (mode == REPLACE and is_there):
+            records = [it for it in records if it[0] != key]
+        if value is None:
+            continue
+        if is_there:
+            met.append(number)
+        if mode != INSERT or not is_there:
+            records.append((key, value))
+    return records, met
+
+
+def spelled(changes):
+    """The amending text of some changes."""
+    lines = (
+        b"-%d:%s\n" % (len(key), key) if value is None else text_of([(key, value)])[:-1]
+        for key, value in changes
+    )
+    return b"".join(lines) + b"\n"
+
+
+def walk_of(file):
+    """The records of any bytes, and whether damage follows them."""
+    if len(file) < 2048:
+        return [], True
+    head = [int.from_bytes(file[i : i + 4], "little") for i in range(0, 2048, 4)]
+    ends = [head[2 * n] for n in range(256) if head[2 * n + 1] != 0]
+    end, place, records = min(ends, default=2048), 2048, []
+    if end < 2048:
+        return [], True
+    while place < end:
+        klen, vlen = (int.from_bytes(file[place + i : place + i + 4], "little") for i in (0, 4))
+        following = place + 8 + klen + vlen
+        if place + 8 > len(file) or following > min(end, len(file)):
+            return records, True
+        records.append((file[place + 8 : place + 8 + klen], file[place + 8 + klen : following]))
+        place = following
+    return records, end > len(file)
+
+
+class Folder:
+    """A folder with a base and an old database."""
+
+    def __init__(self, program, path):
+        self.program, self.path = program, path
+
+    def write(self, name, file):
+        with open(os.path.join(self.path, name), "wb") as out:
+            out.write(file)
+
+    def read(self, name):
+        with open(os.path.join(self.path, name), "rb") as file:
+            return file.read()
+
+    def amend(self, base, changes, *options):
+        """What amending a base leaves: the status, the lines, and the database."""
+        self.write("base", base)
+        self.write("x", b"old")
+        words = [self.program, "-c", *options, "-b", "base", "x"]
+        done = subprocess.run(words, cwd=self.path, input=changes, capture_output=True, timeout=60)
+        if self.read("base") != base or sorted(os.listdir(self.path)) != ["base", "x"]:
+            return None
+        return done.returncode, done.stderr, self.read("x")
+
+
+def drawn_case(folder, number):
+    """Whether a drawn base, amended by drawn changes, is the database of what survives."""
+    chosen = random.Random(number)
+    records, mode = drawn(chosen, 8), chosen.choice([ADD, WARN, INSERT, REPLACE])
+    changes = [(key, None if chosen.random() < 0.4 else value) for key, value in drawn(chosen, 6)]
+    after, met = changed(records, changes, mode)
+    letters = [it for it in (mode, chosen.choice(["", "-w"])) if it]
+    lines = b"".join(b"cdb: input 1: record %d: duplicate key\n" % it for it in met)
+    if number % 4 == 0:
+        bytes_of, letters = wide_words, ["-W", *letters]
+    else:
+        bytes_of = words
+    base = foreign_file_of(chosen, records) if number % 4 == 1 else file_of(records, bytes_of)
+    told = lines if "-w" in letters else b""
+    return folder.amend(base, spelled(changes), *letters) == (0, told, file_of(after, bytes_of))
+
+
+def damaged_case(folder, place):
+    """Whether a base with one byte changed is amended if its walk is whole, and refused otherwise."""
+    base = TWO_FILE[:place] + bytes([TWO_FILE[place] ^ 0x41]) + TWO_FILE[place + 1 :]
+    records, is_damaged = walk_of(base)
+    left = folder.amend(base, b"\n")
+    if is_damaged:
+        return left is not None and left[0] == 111 and left[2] == b"old"
+    return left == (0, b"", file_of(records))
+
+
+def cut_case(folder, end):
+    """Whether a text that is cut there is reported at its end, and the old database stays."""
+    line = b"cdb: input 1: byte %d: text ends early\n" % end
+    return folder.amend(TWO_FILE, CHANGES[:end]) == (111, line, b"old")
+
+
+def main():
+    if len(sys.argv) != 2:
+        sys.exit(__doc__)
+    program = os.path.abspath(sys.argv[1])
+    with tempfile.TemporaryDirectory() as path:
+        folder = Folder(program, path)
+        answers = [(f"drawn case {n}", drawn_case(folder, n)) for n in range(CASES)]
+        answers += [(f"byte {n} of the base", damaged_case(folder, n)) for n in range(len(TWO_FILE))]
+        answers += [(f"a text of {n} bytes", cut_case(folder, n)) for n in range(len(CHANGES))]
+    wrong = [name for name, is_right in answers if not is_right]
+    for name in wrong[:20]:
+        print(f"{name}: something else was left")
+    print(f"{len(answers) - len(wrong)} passed, {len(wrong)} failed")
+    sys.exit(1 if wrong else 0)
+
+
+if __name__ == "__main__":
+    main()
