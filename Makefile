@@ -50,11 +50,14 @@ test:
 	$(PYTHON) tests/cli/run.py crates/cdb/out/cdb
 	RT='$(RT)' $(PYTHON) tests/cli/pages.py crates/cdb/out/cdb
 	$(PYTHON) tests/cli/kills.py crates/cdb/out/cdb
+	$(PYTHON) tests/cli/taken.py crates/cdb/out/cdb
+	$(PYTHON) tests/cli/amends.py crates/cdb/out/cdb
 	$(PYTHON) tests/package/version.py
 	$(PYTHON) tests/package/run.py crates/cdb/out/cdb
 	@if command -v $(firstword $(CC)) > /dev/null; then \
 		$(MAKE) -s bin/refuse.so && \
 		$(PYTHON) tests/faults/run.py crates/cdb/out/cdb bin/refuse.so memory && \
+		$(PYTHON) tests/faults/closed.py crates/cdb/out/cdb bin/refuse.so && \
 		$(PYTHON) tests/faults/calls.py bin/refuse.so; \
 	else \
 		echo '0 passed, 0 failed: no C compiler is here, so no request for memory was refused'; \

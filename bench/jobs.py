@@ -10,6 +10,7 @@ what counts is the processor time of each run, of which the median is told.
 """
 
 import argparse
+import itertools
 import os
 import random
 import shutil
@@ -54,6 +55,17 @@ def write_same(path, records):
         out.write(b"\n")
 
 
+def write_changes(path, keys):
+    """Writes an amending text that removes half of some keys, and puts others in place of the rest."""
+    with open(path, "wb") as out:
+        for number, key in enumerate(keys):
+            if number % 2 == 0:
+                out.write(b"-%d:%s\n" % (len(key), key))
+            else:
+                out.write(spelled(key[::-1], b"new"))
+        out.write(b"\n")
+
+
 class Bench:
     """The programs, and a folder for their files."""
 
@@ -94,6 +106,24 @@ class Bench:
                 f"{letters} of {options.records}", [letters, ours, again], [letters, tiny, again], rounds=2
             )
         self.compare(f"-cr of {options.replaced}", ["-cr", ours, few], ["-cr", tiny, few], rounds=3)
+
+    def amends(self, options):
+        """A database amended by ten changes, beside all of it made again: of a text, and by a pipe."""
+        text, changes, base = self.path("text"), self.path("changes"), self.path("base.cdb")
+        keys = [key for key, _ in itertools.islice(pairs(options.records), 0, options.records, options.records // 10)]
+        write_changes(changes, keys)
+        self.make(base, text)
+        ours, tiny, out = self.path("ours.cdb"), self.path("tiny.cdb"), self.path("out")
+        script = "".join("/^+10,[0-9]*:%s->/d;" % key.decode() for key in keys[::2])
+        pipe = '"$0" -d "$1" | sed "$2" | "$0" -c "$3"'
+        programs = [
+            ("cdb -c -b", [self.ours, "-c", "-b", base, ours, changes], os.devnull, out),
+            ("cdb -c of the text", [self.ours, "-c", ours, text], os.devnull, out),
+        ]
+        if self.tiny:
+            words = ["sh", "-c", pipe, self.tiny, base, script, tiny]
+            programs.append(("tinycdb -d, sed, -c", words, os.devnull, out))
+        compare(f"ten changes of {options.records}", programs, self.rounds)
 
     def creates_large(self, records):
         """A database of long records that come through a pipe."""
@@ -161,6 +191,7 @@ def main():
     with tempfile.TemporaryDirectory() as folder:
         bench = Bench(os.path.abspath(options.cdb), options.rounds, folder)
         bench.creates(options)
+        bench.amends(options)
         bench.reads(options)
         bench.same(options.same)
         if options.large:

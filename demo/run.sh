@@ -44,6 +44,11 @@ show 'cdb -c -m -r aliases.cdb aliases.txt changes.txt'
 show 'cdb -q -m aliases.cdb abuse'
 show 'cdb -q -m aliases.cdb sales'
 
+printf '\nA change of the finished database alone, as a text: one key removed, one record put.\n\n'
+show "printf '%s\\n' '-5:sales' '+5,3:hosts->jim' '' > amend.txt"
+show 'cdb -c -b aliases.cdb aliases.cdb amend.txt'
+show 'cdb -d -m aliases.cdb | tail -n 1'
+
 printf '\nA key that appears twice, under -e: the old database stays.\n\n'
 show_status 111 'cdb -c -m -e aliases.cdb aliases.txt changes.txt'
 show 'cdb -q -m aliases.cdb abuse'
