@@ -15,9 +15,9 @@ use Rattle.cdb_read.specs.Faults.{first_of, faults_behind, slots_fault}
 use Rattle.cdb_read.specs.Lookup.{slots_at}
 use Rattle.cdb_read.specs.Sound.{table_at, tables_below, all_slots}
 use Rattle.cdb_read.specs.Views.Checked.{TableIsClear, TableHas, TablesAreClear, TablesHave}
-use Rattle.cdb_read.specs.Views.Entries.{Marks}
-use Rattle.cdb_read.specs.Views.Lists.{ListsMark}
-use Rattle.cdb_read.specs.declared.entries.Entries.{Entries}
+use Rattle.cdb_read.specs.Views.TableRecords.{Marks}
+use Rattle.cdb_read.specs.Views.RecordLists.{ListsMark}
+use Rattle.cdb_read.specs.declared.table_records.TableRecords.{TableRecords}
 use Rattle.cdb_read.proofs.Beginnings.{pointer_known}
 use Rattle.cdb_read.proofs.Elsewhere.{faults_in, marks_elsewhere}
 use Rattle.cdb_read.proofs.FaultSteps.{range_split, first_of-nil, none_next, first_next}
@@ -38,11 +38,11 @@ unfolding slots_fault
 slots_fault_is w b es n = refl
 
 -- the first n tables have no fault, and their records are marked
-pub record AreClearTo (w : ℕ) (b : List ℕ) (old new : List Entries) (n : ℕ) : Type 0 where
+pub record AreClearTo (w : ℕ) (b : List ℕ) (old new : List TableRecords) (n : ℕ) : Type 0 where
   pub none : (entries : List WordPair) → ListsMark old entries [] → first_of (slots_fault w b entries) (range_with_len 0 n) ≡ None
   pub marks : (entries : List WordPair) → ListsMark old entries [] → ListsMark new entries (tables_below w b n)
 
-pub are_clear_none : (w : ℕ) (b : List ℕ) (old : List Entries) → AreClearTo w b old old 0
+pub are_clear_none : (w : ℕ) (b : List ℕ) (old : List TableRecords) → AreClearTo w b old old 0
 are_clear_none w b old = record { none = λ es m. first_of-nil (slots_fault w b es); marks = λ es m. m }
 
 -- the fault of the next table, by the records of its list
@@ -54,7 +54,7 @@ next_fault w b ps n d es known l =
     ∙ ap (faults_behind (filter (in_table n) es) (tables_below w b n) n) (sym (table_is w b ps n d known l))
 
 -- the marks of each list, where those of table n have all slots of it
-marks_next : (w : ℕ) (b : List ℕ) (n : ℕ) (mid : List Entries) (new : Entries) (es : List WordPair) → n < 256 → slots_fault w b es n ≡ None → ListsMark mid es (tables_below w b n)
+marks_next : (w : ℕ) (b : List ℕ) (n : ℕ) (mid : List TableRecords) (new : TableRecords) (es : List WordPair) → n < 256 → slots_fault w b es n ≡ None → ListsMark mid es (tables_below w b n)
     → Marks new (filter (in_table n) es) (tables_below w b n ++ table_at w b n) → ListsMark (set mid n new) es (tables_below w b (n + 1))
 marks_next w b n mid new es l none m here = record {
   many = length-set mid n new ∙ m.many;
@@ -72,7 +72,7 @@ marks_next w b n mid new es l none m here = record {
       ]);
 }
 
-pub are_clear_more : (w : ℕ) (b : List ℕ) (ps : List Pointer) (n : ℕ) (d : Pointer) (old mid : List Entries) (z new : Entries) → head_at w b ≡ map pointer_pair ps → n < 256 → AreClearTo w b old mid n
+pub are_clear_more : (w : ℕ) (b : List ℕ) (ps : List Pointer) (n : ℕ) (d : Pointer) (old mid : List TableRecords) (z new : TableRecords) → head_at w b ≡ map pointer_pair ps → n < 256 → AreClearTo w b old mid n
     → TableIsClear w n (pointer_pair (get_or ps n d)) b (get_or mid n z) new → AreClearTo w b old (set mid n new) (n + 1)
 are_clear_more w b ps n d old mid z new known l before clear =
     let none : (es : List WordPair) → ListsMark old es [] → slots_fault w b es n ≡ None = λ es m.
@@ -84,7 +84,7 @@ are_clear_more w b ps n d old mid z new known l before clear =
           (clear.marks (filter (in_table n) es) (tables_below w b n) ((before.marks es m).each n z l)));
     }
 
-pub are_clear_all : (w : ℕ) (b : List ℕ) (old new : List Entries) (n : ℕ) → n ≡ 256 → AreClearTo w b old new n → TablesAreClear w b old new
+pub are_clear_all : (w : ℕ) (b : List ℕ) (old new : List TableRecords) (n : ℕ) → n ≡ 256 → AreClearTo w b old new n → TablesAreClear w b old new
 unfolding all_slots
 are_clear_all w b old new n e clear = record {
   none = λ es m. ap (λ k. first_of (slots_fault w b es) (range_with_len 0 k)) (sym e) ∙ clear.none es m;
@@ -92,7 +92,7 @@ are_clear_all w b old new n e clear = record {
 }
 
 -- and the first fault in the next
-pub fault_in : (w : ℕ) (b : List ℕ) (ps : List Pointer) (n : ℕ) (q : Pointer) (old mid : List Entries) (z : Entries) (d : Damage) → head_at w b ≡ map pointer_pair ps → n < 256 → AreClearTo w b old mid n
+pub fault_in : (w : ℕ) (b : List ℕ) (ps : List Pointer) (n : ℕ) (q : Pointer) (old mid : List TableRecords) (z : TableRecords) (d : Damage) → head_at w b ≡ map pointer_pair ps → n < 256 → AreClearTo w b old mid n
     → TableHas w n (pointer_pair (get_or ps n q)) (get_or mid n z) b d → TablesHave w old b d
 fault_in w b ps n q old mid z d known l before has = λ es m.
     first_next (slots_fault w b es) n 256 d l (before.none es m)

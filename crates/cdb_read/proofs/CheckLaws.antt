@@ -20,8 +20,8 @@ use Rattle.cdb_read.specs.Statistics.{is_outside}
 use Rattle.cdb_read.specs.Views.Check.{IsFirst}
 use Rattle.cdb_read.specs.Views.Checked.{HasEntries, WalkHas, TablesAreClear, TablesHave}
 use Rattle.cdb_read.specs.Views.Inside.{StandsInside}
-use Rattle.cdb_read.specs.Views.Lists.{ListsMark}
-use Rattle.cdb_read.specs.declared.entries.Entries.{Entries}
+use Rattle.cdb_read.specs.Views.RecordLists.{ListsMark}
+use Rattle.cdb_read.specs.declared.table_records.TableRecords.{TableRecords}
 use Rattle.cdb_read.proofs.Beginnings.{pointer_known}
 use Rattle.cdb_read.proofs.FaultLaws.{first_fault-whole, none_of-all, all_numbers, sound_is_no_damage}
 use Rattle.cdb_read.proofs.FaultSteps.{first_next}
@@ -81,30 +81,30 @@ first_in_walk w b ps d whole inside has =
     behind_tables w b ps whole inside
     ∙ ap (λ x. option_or x (option_or (first_of (slots_fault w b (walk_entries w b)) (range_with_len 0 256)) (first_of (entry_fault w b) (walk_entries w b)))) has
 
-behind_walk : (w : ℕ) (b : List ℕ) (ps : List Pointer) (kept : List Entries) → IsWhole w b ps → All (StandsInside w (length b)) (map pointer_pair ps) → HasEntries w b kept
+behind_walk : (w : ℕ) (b : List ℕ) (ps : List Pointer) (kept : List TableRecords) → IsWhole w b ps → All (StandsInside w (length b)) (map pointer_pair ps) → HasEntries w b kept
     → first_fault w b ≡ option_or (first_of (slots_fault w b (walk_entries w b)) (range_with_len 0 256)) (first_of (entry_fault w b) (walk_entries w b))
 behind_walk w b ps kept whole inside has =
     behind_tables w b ps whole inside
     ∙ ap (λ x. option_or x (option_or (first_of (slots_fault w b (walk_entries w b)) (range_with_len 0 256)) (first_of (entry_fault w b) (walk_entries w b)))) has.whole
 
-pub first_in_slots : (w : ℕ) (b : List ℕ) (ps : List Pointer) (kept : List Entries) (d : Damage) → IsWhole w b ps → All (StandsInside w (length b)) (map pointer_pair ps) → HasEntries w b kept → TablesHave w kept b d → IsFirst w b d
+pub first_in_slots : (w : ℕ) (b : List ℕ) (ps : List Pointer) (kept : List TableRecords) (d : Damage) → IsWhole w b ps → All (StandsInside w (length b)) (map pointer_pair ps) → HasEntries w b kept → TablesHave w kept b d → IsFirst w b d
 first_in_slots w b ps kept d whole inside has slots =
     behind_walk w b ps kept whole inside has
     ∙ ap (λ x. option_or x (first_of (entry_fault w b) (walk_entries w b))) (slots (walk_entries w b) has.marks)
 
-behind_slots : (w : ℕ) (b : List ℕ) (ps : List Pointer) (kept marked : List Entries) (lost : Option ℕ) → IsWhole w b ps → All (StandsInside w (length b)) (map pointer_pair ps) → HasEntries w b kept → TablesAreClear w b kept marked
+behind_slots : (w : ℕ) (b : List ℕ) (ps : List Pointer) (kept marked : List TableRecords) (lost : Option ℕ) → IsWhole w b ps → All (StandsInside w (length b)) (map pointer_pair ps) → HasEntries w b kept → TablesAreClear w b kept marked
     → ((entries slots : List WordPair) → ListsMark marked entries slots → option_map (λ place. Unindexed place) lost ≡ first_of (lost_fault slots) entries) → first_fault w b ≡ option_map (λ place. Unindexed place) lost
 behind_slots w b ps kept marked lost whole inside has clear unmarked =
     behind_walk w b ps kept whole inside has
     ∙ ap (λ x. option_or x (first_of (entry_fault w b) (walk_entries w b))) (clear.none (walk_entries w b) has.marks)
     ∙ sym (unmarked (walk_entries w b) (all_slots w b) (clear.marks (walk_entries w b) has.marks))
 
-pub first_is_lost : (w place : ℕ) (b : List ℕ) (ps : List Pointer) (kept marked : List Entries) (lost : Option ℕ) → lost ≡ Some place → IsWhole w b ps → All (StandsInside w (length b)) (map pointer_pair ps) → HasEntries w b kept → TablesAreClear w b kept marked
+pub first_is_lost : (w place : ℕ) (b : List ℕ) (ps : List Pointer) (kept marked : List TableRecords) (lost : Option ℕ) → lost ≡ Some place → IsWhole w b ps → All (StandsInside w (length b)) (map pointer_pair ps) → HasEntries w b kept → TablesAreClear w b kept marked
     → ((entries slots : List WordPair) → ListsMark marked entries slots → option_map (λ place. Unindexed place) lost ≡ first_of (lost_fault slots) entries) → IsFirst w b (Unindexed place)
 first_is_lost w place b ps kept marked lost e whole inside has clear unmarked =
     behind_slots w b ps kept marked lost whole inside has clear unmarked ∙ ap (option_map (λ place. Unindexed place)) e
 
-pub sound_is : (w : ℕ) (b : List ℕ) (ps : List Pointer) (kept marked : List Entries) (lost : Option ℕ) → lost ≡ None → 0 < w → IsWhole w b ps → All (StandsInside w (length b)) (map pointer_pair ps) → HasEntries w b kept → TablesAreClear w b kept marked
+pub sound_is : (w : ℕ) (b : List ℕ) (ps : List Pointer) (kept marked : List TableRecords) (lost : Option ℕ) → lost ≡ None → 0 < w → IsWhole w b ps → All (StandsInside w (length b)) (map pointer_pair ps) → HasEntries w b kept → TablesAreClear w b kept marked
     → ((entries slots : List WordPair) → ListsMark marked entries slots → option_map (λ place. Unindexed place) lost ≡ first_of (lost_fault slots) entries) → IsSound w b
 sound_is w b ps kept marked lost e some whole inside has clear unmarked =
     (sound_is_no_damage w b some).1 (behind_slots w b ps kept marked lost whole inside has clear unmarked ∙ ap (option_map (λ place. Unindexed place)) e)

@@ -11,9 +11,9 @@ use Rattle.cdb_form.specs.Format.Table.{in_table}
 use Rattle.cdb_form.specs.declared.damage.Damage.{Damage}
 use Rattle.cdb_form.specs.declared.damage.Damage.TheVariants.{Unindexed}
 use Rattle.cdb_read.specs.Faults.{first_of, fault_if, lost_fault}
-use Rattle.cdb_read.specs.Views.Entries.{is_told, Marks}
-use Rattle.cdb_read.specs.Views.Lists.{earlier_of, IsRising, ListsMark}
-use Rattle.cdb_read.specs.declared.entries.Entries.{Entries}
+use Rattle.cdb_read.specs.Views.TableRecords.{is_told, Marks}
+use Rattle.cdb_read.specs.Views.RecordLists.{earlier_of, IsRising, ListsMark}
+use Rattle.cdb_read.specs.declared.table_records.TableRecords.{TableRecords}
 use Rattle.cdb_read.proofs.FaultSteps.{first_of-cons, first_of-nil}
 use Rattle.cdb_read.proofs.Rising.{rising_filter}
 
@@ -160,13 +160,13 @@ all_below n (e ∷ es) l =
     ∙ ap (λ t. e ∷ t) (all_below n es l)
 
 -- the place of the first record of the first n lists that no slot tells
-pub record IsFirstOf (lists : List Entries) (n : ℕ) (first : Option ℕ) : Type 0 where
+pub record IsFirstOf (lists : List TableRecords) (n : ℕ) (first : Option ℕ) : Type 0 where
   lost : (entries slots : List WordPair) → ListsMark lists entries slots → first ≡ lost_in (below_table n) slots entries
 
-pub first_none : (lists : List Entries) → IsFirstOf lists 0 None
+pub first_none : (lists : List TableRecords) → IsFirstOf lists 0 None
 first_none lists = record { lost = λ es slots m. sym (none_below slots es) }
 
-pub first_more : (lists : List Entries) (n : ℕ) (list : Entries) (first other : Option ℕ) → n < length lists → list ≡ get_or lists n list → IsFirstOf lists n first
+pub first_more : (lists : List TableRecords) (n : ℕ) (list : TableRecords) (first other : Option ℕ) → n < length lists → list ≡ get_or lists n list → IsFirstOf lists n first
     → ((entries slots : List WordPair) → Marks list entries slots → as_lost other ≡ first_of (lost_fault slots) entries) → IsFirstOf lists (n + 1) (earlier_of first other)
 unfolding lost_in
 first_more lists n list first other l is before here = record {
@@ -178,7 +178,7 @@ first_more lists n list first other l is before here = record {
       ∙ earlier_in (below_table n) (in_table n) (below_table (n + 1)) slots 1 es (below_next n) m.rising;
 }
 
-pub first_all : (lists : List Entries) (n : ℕ) (first : Option ℕ) (es slots : List WordPair) → ListsMark lists es slots → length lists ≤ n → IsFirstOf lists n first → as_lost first ≡ first_of (lost_fault slots) es
+pub first_all : (lists : List TableRecords) (n : ℕ) (first : Option ℕ) (es slots : List WordPair) → ListsMark lists es slots → length lists ≤ n → IsFirstOf lists n first → as_lost first ≡ first_of (lost_fault slots) es
 unfolding lost_in
 first_all lists n first es slots m l before =
     ap as_lost (before.lost es slots m ∙ ap (lost_place slots) (all_below n es (omega (arith, m.many)))) ∙ sym (lost_is slots es)

@@ -13,9 +13,9 @@ use Rattle.cdb_form.specs.Format.Table.{empty_slot, in_table, is_used}
 use Rattle.cdb_form.specs.declared.damage.Damage.{Damage}
 use Rattle.cdb_read.specs.Faults.{first_of, faults_behind, is_right_slot, is_same, slot_fault, slots_fault, used_fault}
 use Rattle.cdb_read.specs.Sound.{has_place, is_reached, nth_slot, table_at, tables_below}
-use Rattle.cdb_read.specs.Views.Entries.{is_told, marks_of, Marks}
-use Rattle.cdb_read.specs.Views.Lists.{IsRising}
-use Rattle.cdb_read.specs.declared.entries.Entries.{Entries}
+use Rattle.cdb_read.specs.Views.TableRecords.{is_told, marks_of, Marks}
+use Rattle.cdb_read.specs.Views.RecordLists.{IsRising}
+use Rattle.cdb_read.specs.declared.table_records.TableRecords.{TableRecords}
 use Rattle.cdb_read.proofs.Apart.{apart_same}
 use Rattle.cdb_read.proofs.FaultLaws.{slot_clean, slots_clean}
 use Rattle.cdb_read.proofs.Rising.{rising_above, rising_is_apart}
@@ -106,7 +106,7 @@ marks_of-more before more (e ∷ es) all =
     ap (λ b. b ∷ marks_of before es) same
     ∙ ap (λ t. is_told (before ++ more) e ∷ t) (marks_of-more before more es (All-tail (λ x. is_told more x ≡ false) e es all))
 
-pub marks_elsewhere : (w : ℕ) (b : List ℕ) (list : Entries) (es before : List WordPair) (n k : ℕ) → IsRising 1 es → slots_fault w b es n ≡ None → (k ≡ n → ⊥) → Marks list (filter (in_table k) es) before → Marks list (filter (in_table k) es) (before ++ table_at w b n)
+pub marks_elsewhere : (w : ℕ) (b : List ℕ) (list : TableRecords) (es before : List WordPair) (n k : ℕ) → IsRising 1 es → slots_fault w b es n ≡ None → (k ≡ n → ⊥) → Marks list (filter (in_table k) es) before → Marks list (filter (in_table k) es) (before ++ table_at w b n)
 marks_elsewhere w b list es before n k up none other m = record {
   are = m.are;
   marked = m.marked ∙ marks_of-more before (table_at w b n) (filter (in_table k) es)

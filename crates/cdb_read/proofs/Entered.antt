@@ -15,8 +15,8 @@ use Rattle.cdb_form.specs.declared.damage.Damage.{Damage}
 use Rattle.cdb_form.specs.declared.damage.Damage.TheVariants.{Slot, Twice, Unindexed}
 use Rattle.cdb_read.specs.Faults.{first_of, fault_if, is_same, is_right_slot, used_fault, lost_fault}
 use Rattle.cdb_read.specs.Sound.{has_place}
-use Rattle.cdb_read.specs.Views.Entries.{entries_of, entry_pairs, is_told, marks_of, Marks}
-use Rattle.cdb_read.specs.declared.entries.Entries.{Entries}
+use Rattle.cdb_read.specs.Views.TableRecords.{entries_of, entry_pairs, is_told, marks_of, Marks}
+use Rattle.cdb_read.specs.declared.table_records.TableRecords.{TableRecords}
 use Rattle.cdb_read.proofs.FaultSteps.{first_of-cons, first_of-nil}
 
 pub length-entries_of : (ps hs : List ℕ) → length hs ≡ length ps → length (entries_of ps hs) ≡ length ps
@@ -160,7 +160,7 @@ told_right es slots n i s reached there table way =
     let right : (list_any (is_same s) es && ((table_number s.first == n) && reached)) ≡ true = and_from _ _ there (and_from _ _ (eq-eqb (table_number s.first) n table) way) in
     ap (λ b. option_or (fault_if (not b) (Slot n i)) (fault_if (list_any (has_place s) slots) (Twice s.second))) right
 
-pub told_by_mark : (e : Entries) (es slots : List WordPair) (n i k : ℕ) (s : WordPair) (reached b : Bool) → Marks e es slots → k < length e.places.items → get_or e.places.items k 0 ≡ s.second → get_or e.hashes.items k 0 ≡ s.first → get_or e.marks.items k false ≡ b
+pub told_by_mark : (e : TableRecords) (es slots : List WordPair) (n i k : ℕ) (s : WordPair) (reached b : Bool) → Marks e es slots → k < length e.places.items → get_or e.places.items k 0 ≡ s.second → get_or e.hashes.items k 0 ≡ s.first → get_or e.marks.items k false ≡ b
     → table_number s.first ≡ n → reached ≡ true → used_fault slots (is_right_slot es n s reached) n i s ≡ fault_if b (Twice s.second)
 told_by_mark e es slots n i k s reached b m l place hash mark table way =
     let there : list_any (is_same s) es ≡ true = ap (list_any (is_same s)) (sym m.are) ∙ record_there e.places.items e.hashes.items s k e.paired l place hash in
@@ -168,7 +168,7 @@ told_by_mark e es slots n i k s reached b m l place hash mark table way =
     told_right es slots n i s reached there table way ∙ ap (λ x. fault_if x (Twice s.second)) marked
 
 -- and its record is marked then
-pub marks_told : (old new : Entries) (es slots : List WordPair) (k : ℕ) (s : WordPair) → Marks old es slots → k < length old.places.items → get_or old.places.items k 0 ≡ s.second → new.places ≡ old.places → new.hashes ≡ old.hashes → new.marks.items ≡ set old.marks.items k true → Marks new es (slots ++ s ∷ [])
+pub marks_told : (old new : TableRecords) (es slots : List WordPair) (k : ℕ) (s : WordPair) → Marks old es slots → k < length old.places.items → get_or old.places.items k 0 ≡ s.second → new.places ≡ old.places → new.hashes ≡ old.hashes → new.marks.items ≡ set old.marks.items k true → Marks new es (slots ++ s ∷ [])
 marks_told old new es slots k s m l place same_places same_hashes mark =
     let ps : new.places.items ≡ old.places.items = ap (λ v. v.items) same_places in
     let hs : new.hashes.items ≡ old.hashes.items = ap (λ v. v.items) same_hashes in
@@ -182,7 +182,7 @@ marks_told old new es slots k s m l place same_places same_hashes mark =
     }
 
 -- an empty slot tells no record
-pub marks_unused : (e : Entries) (es slots : List WordPair) (s : WordPair) → s.second ≡ 0 → Marks e es slots → Marks e es (slots ++ s ∷ [])
+pub marks_unused : (e : TableRecords) (es slots : List WordPair) (s : WordPair) → s.second ≡ 0 → Marks e es slots → Marks e es (slots ++ s ∷ [])
 marks_unused e es slots s z m =
     let ps = e.places.items in
     let hs = e.hashes.items in
@@ -211,20 +211,20 @@ lost_at ps hs slots k marks b e l is here =
     ap (λ p. fault_if (not (list_any (λ (x : WordPair). x.second == p) slots)) (Unindexed p)) (place-entries_of ps hs k e l)
     ∙ ap (λ t. fault_if (not t) (Unindexed (get_or ps k 0))) (sym (mark_at ps hs slots k (get_or ps k 0) false e l refl) ∙ sym (ap (λ m. get_or m k false) is) ∙ here)
 
-marks_here : (e : Entries) (es slots : List WordPair) → Marks e es slots → e.marks.items ≡ marks_of slots (entry_pairs e)
+marks_here : (e : TableRecords) (es slots : List WordPair) → Marks e es slots → e.marks.items ≡ marks_of slots (entry_pairs e)
 marks_here e es slots m = m.marked ∙ ap (marks_of slots) (sym m.are)
 
-pub lost_more : (e : Entries) (es slots : List WordPair) (k : ℕ) → Marks e es slots → k < length e.places.items → get_or e.marks.items k false ≡ true → lost_from slots (entry_pairs e) k ≡ lost_from slots (entry_pairs e) (k + 1)
+pub lost_more : (e : TableRecords) (es slots : List WordPair) (k : ℕ) → Marks e es slots → k < length e.places.items → get_or e.marks.items k false ≡ true → lost_from slots (entry_pairs e) k ≡ lost_from slots (entry_pairs e) (k + 1)
 lost_more e es slots k m l here =
     lost_step e.places.items e.hashes.items slots k e.paired l
     ∙ ap (λ x. option_or x (lost_from slots (entry_pairs e) (k + 1))) (lost_at e.places.items e.hashes.items slots k e.marks.items true e.paired l (marks_here e es slots m) here)
 
-pub lost_here : (e : Entries) (es slots : List WordPair) (k : ℕ) → Marks e es slots → k < length e.places.items → get_or e.marks.items k false ≡ false → lost_from slots (entry_pairs e) k ≡ Some (Unindexed (get_or e.places.items k 0))
+pub lost_here : (e : TableRecords) (es slots : List WordPair) (k : ℕ) → Marks e es slots → k < length e.places.items → get_or e.marks.items k false ≡ false → lost_from slots (entry_pairs e) k ≡ Some (Unindexed (get_or e.places.items k 0))
 lost_here e es slots k m l here =
     lost_step e.places.items e.hashes.items slots k e.paired l
     ∙ ap (λ x. option_or x (lost_from slots (entry_pairs e) (k + 1))) (lost_at e.places.items e.hashes.items slots k e.marks.items false e.paired l (marks_here e es slots m) here)
 
-pub lost_none : (e : Entries) (slots : List WordPair) (k : ℕ) → length e.places.items ≤ k → lost_from slots (entry_pairs e) k ≡ None
+pub lost_none : (e : TableRecords) (slots : List WordPair) (k : ℕ) → length e.places.items ≤ k → lost_from slots (entry_pairs e) k ≡ None
 lost_none e slots k past =
     let long = length-entries_of e.places.items e.hashes.items e.paired in
     ap (first_of (lost_fault slots)) (drop_all k (entry_pairs e) (omega arith)) ∙ first_of-nil (lost_fault slots)

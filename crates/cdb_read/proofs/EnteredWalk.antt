@@ -10,21 +10,21 @@ use Rattle.cdb_form.specs.Format.Table.{entries_from, file_entries}
 use Rattle.cdb_form.specs.Format.Walk.{Walked, walk_of, no_walk, with_first, with_records}
 use Rattle.cdb_read.specs.Lookup.{bytes_of}
 use Rattle.cdb_read.specs.Views.Checked.{HasEntries}
-use Rattle.cdb_read.specs.Views.Lists.{IsRising, ListsMark, HasAdded}
+use Rattle.cdb_read.specs.Views.RecordLists.{IsRising, ListsMark, HasAdded}
 use Rattle.cdb_read.specs.Views.Walking.{record_of, behind, LiesAt}
-use Rattle.cdb_read.specs.declared.entries.Entries.{Entries}
+use Rattle.cdb_read.specs.declared.table_records.TableRecords.{TableRecords}
 use Rattle.cdb_read.specs.declared.span.Pair.{Pair}
 use Rattle.cdb_read.proofs.Rising.{rising_entries, rising_from_one}
 use Rattle.cdb_read.proofs.WalkedLengths.{length_of}
 
 -- some records were given, which are kept, and then what is left of the walk, from a place on
-pub record EnteredSoFar (w : ℕ) (b : List ℕ) (left : Walked) (place : ℕ) (lists : List Entries) : Type 0 where
+pub record EnteredSoFar (w : ℕ) (b : List ℕ) (left : Walked) (place : ℕ) (lists : List TableRecords) : Type 0 where
   pub done : List KeyValue
   pub all : walk_of w b ≡ with_records done left
   pub here : place ≡ head_size w + sum_by (record_size w) done
   pub marks : ListsMark lists (file_entries w done) []
 
-pub entered_none : (w : ℕ) (b : List ℕ) (left : Walked) (place : ℕ) (lists : List Entries) → left ≡ walk_of w b → place ≡ head_size w → ListsMark lists [] [] → EnteredSoFar w b left place lists
+pub entered_none : (w : ℕ) (b : List ℕ) (left : Walked) (place : ℕ) (lists : List TableRecords) → left ≡ walk_of w b → place ≡ head_size w → ListsMark lists [] [] → EnteredSoFar w b left place lists
 unfolding entries_from
 entered_none w b left place lists is here none = record {
   done = [];
@@ -45,7 +45,7 @@ entries_push w at (q ∷ rs) r =
     (entries_push w (at + record_size w q) rs r
     ∙ ap (λ (p : ℕ). let e : WordPair = record { first = key_hash r.key; second = p } in entries_from w (at + record_size w q) rs ++ e ∷ []) z)
 
-pub entered_more : (w place next : ℕ) (b : List ℕ) (old new : Walked) (pair : Pair) (hash : ℕ) (kept now : List Entries) → 0 < w → EnteredSoFar w b old place kept → old ≡ with_first (record_of b pair) new → LiesAt w place pair → next ≡ behind pair → behind pair ≤ length b
+pub entered_more : (w place next : ℕ) (b : List ℕ) (old new : Walked) (pair : Pair) (hash : ℕ) (kept now : List TableRecords) → 0 < w → EnteredSoFar w b old place kept → old ≡ with_first (record_of b pair) new → LiesAt w place pair → next ≡ behind pair → behind pair ≤ length b
     → hash ≡ key_hash (bytes_of b pair.key) → HasAdded kept now (record { first = hash; second = pair.place }) → EnteredSoFar w b new next now
 entered_more w place next b old new pair hash kept now some so_far first lies ends inside hashed more =
     let r = record_of b pair in
@@ -73,7 +73,7 @@ entered_more w place next b old new pair hash kept now some so_far first lies en
     }
 
 -- nothing is left
-pub entered_all : (w : ℕ) (b : List ℕ) (left : Walked) (place : ℕ) (lists : List Entries) → EnteredSoFar w b left place lists → left ≡ no_walk → HasEntries w b lists
+pub entered_all : (w : ℕ) (b : List ℕ) (left : Walked) (place : ℕ) (lists : List TableRecords) → EnteredSoFar w b left place lists → left ≡ no_walk → HasEntries w b lists
 entered_all w b left place lists so_far none =
     let all : walk_of w b ≡ with_records so_far.done no_walk = so_far.all ∙ ap (with_records so_far.done) none in
     let same : so_far.done ≡ (walk_of w b).records = sym (ap (λ (x : Walked). x.records) all ∙ append-nil so_far.done) in

@@ -8,14 +8,14 @@ use Rattle.std.proofs.lemmas.List.Elements.{All-get_or, All-weaker, filter-appen
 use Rattle.cdb_form.specs.Format.Hash.{table_number}
 use Rattle.cdb_form.specs.Format.Pair.{WordPair}
 use Rattle.cdb_form.specs.Format.Table.{in_table}
-use Rattle.cdb_read.specs.Views.Entries.{entry_pairs, marks_of, HasMore, Marks}
-use Rattle.cdb_read.specs.Views.Lists.{IsRising, ListsMark, HasAdded}
-use Rattle.cdb_read.specs.declared.entries.Entries.{Entries}
+use Rattle.cdb_read.specs.Views.TableRecords.{entry_pairs, marks_of, HasMore, Marks}
+use Rattle.cdb_read.specs.Views.RecordLists.{IsRising, ListsMark, HasAdded}
+use Rattle.cdb_read.specs.declared.table_records.TableRecords.{TableRecords}
 use Rattle.cdb_read.proofs.Entered.{marks_of-push}
 use Rattle.cdb_read.proofs.Rising.{rising_filter, places_rise, places_above}
 
 -- a list with some records, whose places rise
-marks_are : (e : Entries) (es slots : List WordPair) → entry_pairs e ≡ es → IsRising 1 es → e.marks.items ≡ marks_of slots es → Marks e es slots
+marks_are : (e : TableRecords) (es slots : List WordPair) → entry_pairs e ≡ es → IsRising 1 es → e.marks.items ≡ marks_of slots es → Marks e es slots
 marks_are e es slots are up marked =
     let rise : IsRising 1 (entry_pairs e) = subst (IsRising 1) (sym are) up in
     record {
@@ -26,11 +26,11 @@ marks_are e es slots are up marked =
     }
 
 -- without records
-pub marks_nothing : (e : Entries) → entry_pairs e ≡ [] → e.marks.items ≡ [] → Marks e [] []
+pub marks_nothing : (e : TableRecords) → entry_pairs e ≡ [] → e.marks.items ≡ [] → Marks e [] []
 unfolding marks_of
 marks_nothing e are unmarked = marks_are e [] [] are tt unmarked
 
-pub lists_none : (lists : List Entries) → length lists ≡ 256 → All (λ e. Marks e [] []) lists → ListsMark lists [] []
+pub lists_none : (lists : List TableRecords) → length lists ≡ 256 → All (λ e. Marks e [] []) lists → ListsMark lists [] []
 lists_none lists many all = record {
   many = many;
   rising = tt;
@@ -49,12 +49,12 @@ in_other es e n other =
     ∙ ap (λ t. filter (in_table n) es ++ t) (cond-false (in_table n e) (e ∷ []) [] (ne_eqb (table_number e.first) n (λ i. other (sym i))))
     ∙ append-nil (filter (in_table n) es)
 
-list_more : (old new : Entries) (es : List WordPair) (e : WordPair) → Marks old es [] → HasMore old new e.second e.first → IsRising 1 (es ++ e ∷ []) → Marks new (es ++ e ∷ []) []
+list_more : (old new : TableRecords) (es : List WordPair) (e : WordPair) → Marks old es [] → HasMore old new e.second e.first → IsRising 1 (es ++ e ∷ []) → Marks new (es ++ e ∷ []) []
 list_more old new es e m more up =
     marks_are new (es ++ e ∷ []) [] (more.entries ∙ ap (λ t. t ++ e ∷ []) m.are) up
     (more.marks ∙ ap (λ t. t ++ false ∷ []) m.marked ∙ marks_of-push es e)
 
-pub lists_more : (lists : List Entries) (n : ℕ) (list new : Entries) (e : WordPair) → length lists ≡ 256 → n ≡ table_number e.first → n < 256 → list ≡ get_or lists n list → HasMore list new e.second e.first → HasAdded lists (set lists n new) e
+pub lists_more : (lists : List TableRecords) (n : ℕ) (list new : TableRecords) (e : WordPair) → length lists ≡ 256 → n ≡ table_number e.first → n < 256 → list ≡ get_or lists n list → HasMore list new e.second e.first → HasAdded lists (set lists n new) e
 lists_more lists n list new e long number l is more = λ es m up. record {
   many = length-set lists n new ∙ long;
   rising = up;

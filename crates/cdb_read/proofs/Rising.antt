@@ -8,8 +8,8 @@ use Rattle.std.proofs.lemmas.List.Elements.{All-nil, All-cons, All-weaker}
 use Rattle.cdb_form.specs.Format.Pair.{WordPair}
 use Rattle.cdb_form.specs.Format.Record.{KeyValue, record_size}
 use Rattle.cdb_form.specs.Format.Table.{entries_from}
-use Rattle.cdb_read.specs.Views.Entries.{entries_of}
-use Rattle.cdb_read.specs.Views.Lists.{IsRising}
+use Rattle.cdb_read.specs.Views.TableRecords.{entries_of}
+use Rattle.cdb_read.specs.Views.RecordLists.{IsRising}
 use Rattle.cdb_read.proofs.Apart.{AreApart}
 
 rising_lower : (low high : ℕ) (es : List WordPair) → low ≤ high → IsRising high es → IsRising low es

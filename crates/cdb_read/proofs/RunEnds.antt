@@ -9,7 +9,7 @@ use Rattle.std.proofs.lemmas.List.Folds.{list_all-append}
 use Rattle.cdb_form.specs.Format.Hash.{home_slot}
 use Rattle.cdb_form.specs.Format.Pair.{WordPair}
 use Rattle.cdb_form.specs.Format.Table.{is_used, slots_from}
-use Rattle.cdb_read.specs.Runs.{run_of}
+use Rattle.cdb_read.specs.SlotRuns.{run_of}
 use Rattle.cdb_read.specs.Sound.{distance, is_reached, nth_slot}
 use Rattle.cdb_read.proofs.Filled.{turned-before, turned-behind}
 use Rattle.cdb_read.proofs.Reached.{distance-turned}

@@ -10,7 +10,7 @@ use Rattle.cdb_read.specs.Lookup.{Found, found_at, has_hash, slots_at}
 use Rattle.cdb_read.specs.Lookup.{nothing_found, with_span}
 use Rattle.cdb_read.specs.Views.Search.{found_ahead, turn_slot, LooksAt, StepsFrom, Meets}
 use Rattle.cdb_read.specs.Views.Turning.{TurnInside, next_turn}
-use Rattle.cdb_read.specs.declared.looking.Look.TheVariants as look
+use Rattle.cdb_read.specs.declared.record_look.Look.TheVariants as look
 use Rattle.cdb_read.specs.declared.search.Step.TheVariants as step
 use Rattle.cdb_read.specs.declared.search.Met.TheVariants as met
 use Rattle.cdb_read.specs.declared.span.Span.{Span}

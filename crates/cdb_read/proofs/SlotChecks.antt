@@ -12,8 +12,8 @@ use Rattle.cdb_read.specs.Faults.{first_of, slot_fault, used_fault, is_right_slo
 use Rattle.cdb_read.specs.Lookup.{slots_at}
 use Rattle.cdb_read.specs.Sound.{nth_slot, is_reached}
 use Rattle.cdb_read.specs.Views.Checked.{SlotIsClear, SlotHas, TableIsClear, TableHas}
-use Rattle.cdb_read.specs.Views.Entries.{Marks}
-use Rattle.cdb_read.specs.declared.entries.Entries.{Entries}
+use Rattle.cdb_read.specs.Views.TableRecords.{Marks}
+use Rattle.cdb_read.specs.declared.table_records.TableRecords.{TableRecords}
 use Rattle.cdb_read.proofs.Entered.{marks_unused}
 use Rattle.cdb_read.proofs.FaultSteps.{first_of-nil, none_next, first_next}
 use Rattle.cdb_read.proofs.Turns.{slot_is, length-slots_at}
@@ -43,21 +43,21 @@ slot_fault_empty : (es before slots : List WordPair) (n i : ℕ) (s : WordPair) 
 slot_fault_empty es before slots n i s here empty = cond-false (is_used (nth_slot slots i)) _ _ (ap is_used here ∙ empty)
 
 -- the first i slots of table n have no fault, and their records are marked
-pub record IsClearTo (w n : ℕ) (p : WordPair) (b : List ℕ) (old new : Entries) (i : ℕ) : Type 0 where
+pub record IsClearTo (w n : ℕ) (p : WordPair) (b : List ℕ) (old new : TableRecords) (i : ℕ) : Type 0 where
   pub none : (entries slots : List WordPair) → Marks old entries slots → first_of (slot_fault entries slots n (slots_at w b p)) (range_with_len 0 i) ≡ None
   pub marks : (entries slots : List WordPair) → Marks old entries slots → Marks new entries (slots ++ take i (slots_at w b p))
 
-pub clear_to_none : (w n : ℕ) (p : WordPair) (b : List ℕ) (old : Entries) → IsClearTo w n p b old old 0
+pub clear_to_none : (w n : ℕ) (p : WordPair) (b : List ℕ) (old : TableRecords) → IsClearTo w n p b old old 0
 clear_to_none w n p b old = record {
   none = λ es slots m. first_of-nil (slot_fault es slots n (slots_at w b p));
   marks = λ es slots m. subst (Marks old es) (sym (append-nil slots)) m;
 }
 
-marks_more : (w : ℕ) (b : List ℕ) (p : WordPair) (new : Entries) (es slots : List WordPair) (i : ℕ) (s : WordPair) → i < p.second → nth_slot (slots_at w b p) i ≡ s → Marks new es ((slots ++ take i (slots_at w b p)) ++ s ∷ []) → Marks new es (slots ++ take (i + 1) (slots_at w b p))
+marks_more : (w : ℕ) (b : List ℕ) (p : WordPair) (new : TableRecords) (es slots : List WordPair) (i : ℕ) (s : WordPair) → i < p.second → nth_slot (slots_at w b p) i ≡ s → Marks new es ((slots ++ take i (slots_at w b p)) ++ s ∷ []) → Marks new es (slots ++ take (i + 1) (slots_at w b p))
 marks_more w b p new es slots i s l here m =
     subst (Marks new es) (append_assoc slots (take i (slots_at w b p)) (s ∷ []) ∙ ap (λ t. slots ++ t) (sym (slots_more w b p i s l here))) m
 
-pub clear_to_used : (w n : ℕ) (p : WordPair) (b : List ℕ) (old mid new : Entries) (i : ℕ) (s : WordPair) (reached : Bool) → i < p.second → nth_slot (slots_at w b p) i ≡ s → (s.second ≡ 0 → ⊥) → reached ≡ is_reached (slots_at w b p) i
+pub clear_to_used : (w n : ℕ) (p : WordPair) (b : List ℕ) (old mid new : TableRecords) (i : ℕ) (s : WordPair) (reached : Bool) → i < p.second → nth_slot (slots_at w b p) i ≡ s → (s.second ≡ 0 → ⊥) → reached ≡ is_reached (slots_at w b p) i
     → IsClearTo w n p b old mid i → SlotIsClear n i s reached mid new → IsClearTo w n p b old new (i + 1)
 clear_to_used w n p b old mid new i s reached l here used way before clear =
     let u : is_used s ≡ true = not_from_false _ (ne_eqb s.second 0 used) in
@@ -67,7 +67,7 @@ clear_to_used w n p b old mid new i s reached l here used way before clear =
       marks = λ es slots m. marks_more w b p new es slots i s l here (clear.marks es (slots ++ take i (slots_at w b p)) (before.marks es slots m));
     }
 
-pub clear_to_empty : (w n : ℕ) (p : WordPair) (b : List ℕ) (old new : Entries) (i : ℕ) (s : WordPair) → i < p.second → nth_slot (slots_at w b p) i ≡ s → s.second ≡ 0 → IsClearTo w n p b old new i → IsClearTo w n p b old new (i + 1)
+pub clear_to_empty : (w n : ℕ) (p : WordPair) (b : List ℕ) (old new : TableRecords) (i : ℕ) (s : WordPair) → i < p.second → nth_slot (slots_at w b p) i ≡ s → s.second ≡ 0 → IsClearTo w n p b old new i → IsClearTo w n p b old new (i + 1)
 clear_to_empty w n p b old new i s l here empty before =
     let u : is_used s ≡ false = not_from_true _ (eq-eqb s.second 0 empty) in
     record {
@@ -76,7 +76,7 @@ clear_to_empty w n p b old new i s l here empty before =
     }
 
 -- the slots of a whole table
-pub clear_to_all : (w n : ℕ) (p : WordPair) (b : List ℕ) (old new : Entries) (i : ℕ) → i ≡ p.second → IsClearTo w n p b old new i → TableIsClear w n p b old new
+pub clear_to_all : (w n : ℕ) (p : WordPair) (b : List ℕ) (old new : TableRecords) (i : ℕ) → i ≡ p.second → IsClearTo w n p b old new i → TableIsClear w n p b old new
 clear_to_all w n p b old new i e clear =
     let long : length (slots_at w b p) ≡ i = omega (arith, length-slots_at w b p) in
     record {
@@ -85,7 +85,7 @@ clear_to_all w n p b old new i e clear =
     }
 
 -- and the first fault among them
-pub fault_at : (w n : ℕ) (p : WordPair) (b : List ℕ) (old mid : Entries) (i : ℕ) (s : WordPair) (reached : Bool) (d : Damage) → i < p.second → nth_slot (slots_at w b p) i ≡ s → (s.second ≡ 0 → ⊥) → reached ≡ is_reached (slots_at w b p) i
+pub fault_at : (w n : ℕ) (p : WordPair) (b : List ℕ) (old mid : TableRecords) (i : ℕ) (s : WordPair) (reached : Bool) (d : Damage) → i < p.second → nth_slot (slots_at w b p) i ≡ s → (s.second ≡ 0 → ⊥) → reached ≡ is_reached (slots_at w b p) i
     → IsClearTo w n p b old mid i → SlotHas n i s reached mid d → TableHas w n p old b d
 fault_at w n p b old mid i s reached d l here used way before has = λ es slots m.
     let u : is_used s ≡ true = not_from_false _ (ne_eqb s.second 0 used) in

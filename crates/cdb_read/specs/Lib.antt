@@ -3,7 +3,7 @@ pub mod Lookup
 pub mod Values
 pub mod Sound
 pub mod Faults
-pub mod Runs
+pub mod SlotRuns
 pub mod Laws
 pub mod Statistics
 pub mod Views

@@ -13,7 +13,7 @@ pub mod Walk
 pub mod Counting
 pub mod Lengths
 pub mod Stats
-pub mod Entries
-pub mod Lists
+pub mod TableRecords
+pub mod RecordLists
 pub mod Check
 pub mod Checked

@@ -7,13 +7,13 @@ ghost use Rattle.cdb_read.specs.Views.Checked.{TablesAreClear, TablesHave};
 ghost use Rattle.cdb_read.specs.Views.Inside.{StandsInside};
 ghost use Rattle.cdb_store.specs.Reads.{OnlyReads};
 
-use crate::entries::Entries;
+use crate::collected::walk_entries;
 use crate::fault::ReadFault;
-use crate::lists::first_unmarked;
 use crate::reader::Reader;
+use crate::record_lists::first_unmarked;
 use crate::slots::check_tables;
+use crate::table_records::TableRecords;
 use crate::tables::first_outside;
-use crate::walked::walk_entries;
 use cdb_form::Width;
 use cdb_store::Store;
 use std::alloc::Global;
@@ -21,7 +21,7 @@ use std::alloc::Global;
 impl<S: Store, L: Width> Reader<S, L> {
     /// Checks the slots of all tables, which lie inside the file where they have slots, and marks
     /// their records.
-    fn check_slots(&mut self, lists: &mut [Entries]) -> Result<(), ReadFault>
+    fn check_slots(&mut self, lists: &mut [TableRecords]) -> Result<(), ReadFault>
         requires many { length lists.old ≡ 256 }
         requires inside { All (StandsInside L.WORD (S.size self.old.store))
             (map pointer_pair self.old.head.pointers) }

@@ -6,7 +6,7 @@ ghost use Rattle.cdb_store.specs.Reads.{OnlyReads};
 use crate::fault::ReadFault;
 use crate::reader::Reader;
 use crate::spread::Spread;
-use crate::walking::walk;
+use crate::walk_start::walk;
 use cdb_form::Width;
 use cdb_store::Store;
 

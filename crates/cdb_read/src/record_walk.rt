@@ -7,8 +7,8 @@ ghost use Rattle.cdb_read.specs.Views.Reads.{ValueFails};
 
 use crate::fault::ReadFault;
 use crate::reader::Reader;
-use crate::rest::{Rest, Walking};
 use crate::span::{Pair, Span};
+use crate::walk_state::{Rest, Walking};
 use cdb_form::Width;
 use cdb_store::Store;
 use std::alloc::Global;

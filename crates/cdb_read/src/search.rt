@@ -9,7 +9,7 @@ ghost use Rattle.cdb_read.specs.Views.Turning.{TurnInside};
 ghost use Rattle.cdb_read.specs.Views.Window.{Shows};
 
 use crate::fault::ReadFault;
-use crate::looking::{Look, look_at};
+use crate::record_look::{Look, look_at};
 use crate::span::Span;
 use crate::tables::slot_at;
 use crate::turn::Turn;

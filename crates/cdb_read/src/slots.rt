@@ -9,9 +9,9 @@ ghost use Rattle.cdb_read.specs.Views.Inside.{StandsInside};
 ghost use Rattle.cdb_store.specs.Reads.{OnlyReads};
 ghost use Rattle.cdb_read.specs.Views.Window.{Shows};
 
-use crate::entries::Entries;
 use crate::fault::ReadFault;
-use crate::runs::{last_run, run_with};
+use crate::slot_runs::{last_run, run_with};
+use crate::table_records::TableRecords;
 use crate::tables::{distance_of, slot_at};
 use crate::window::{WINDOW, Window};
 use cdb_form::{Pointer, Slot, Width, table_number};
@@ -20,7 +20,7 @@ use cdb_store::Store;
 /// Checks used slot `i` of table `n`, where it is known whether a search comes to it. Its record is
 /// marked where the slot is right.
 fn check_slot(
-    entries: &mut Entries,
+    entries: &mut TableRecords,
     n: u64,
     i: u64,
     slot: Slot,
@@ -51,7 +51,7 @@ fn check_table<S: Store, L: Width>(
     n: u64,
     table: Pointer,
     window: &mut Window,
-    entries: &mut Entries,
+    entries: &mut TableRecords,
 ) -> Result<(), ReadFault>
     requires inside { StandsInside L.WORD (S.size store.old) (pointer_pair table) }
     requires fits { S.size store.old < 2 ^ 64 }
@@ -80,7 +80,7 @@ pub(crate) fn check_tables<S: Store, L: Width>(
     store: &mut S,
     tables: &[Pointer],
     window: &mut Window,
-    lists: &mut [Entries],
+    lists: &mut [TableRecords],
 ) -> Result<(), ReadFault>
     requires many { length tables.now ≡ 256 }
     requires lists { length lists.old ≡ 256 }

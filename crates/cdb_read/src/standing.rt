@@ -6,9 +6,9 @@ ghost use Rattle.cdb_read.specs.Views.Walking.{StandsAt, StandsWithin};
 ghost use Rattle.cdb_read.specs.Views.Window.{Shows};
 
 use crate::fault::ReadFault;
-use crate::looking::has_bytes;
-use crate::rest::Rest;
+use crate::record_look::has_bytes;
 use crate::span::{Pair, Span};
+use crate::walk_state::Rest;
 use crate::window::{WINDOW, Window};
 use cdb_form::{Width, pair_size, read_header};
 use cdb_store::Store;

@@ -12,8 +12,8 @@ use Rattle.cdb_form.specs.Views.Pairs.{pointer_pair}
 use Rattle.cdb_read.specs.Lookup.{Found, nothing_found, found_damaged, with_span, found_at}
 use Rattle.cdb_read.specs.Lookup.{has_hash, has_key, is_whole, slots_at, value_span}
 use Rattle.cdb_read.specs.Views.Turning.{TurnInside, next_turn}
-use Rattle.cdb_read.specs.declared.looking.Look.{Look}
-use Rattle.cdb_read.specs.declared.looking.Look.TheVariants as look
+use Rattle.cdb_read.specs.declared.record_look.Look.{Look}
+use Rattle.cdb_read.specs.declared.record_look.Look.TheVariants as look
 use Rattle.cdb_read.specs.declared.search.Met.{Met}
 use Rattle.cdb_read.specs.declared.search.Met.TheVariants as met
 use Rattle.cdb_read.specs.declared.search.Step.{Step}

@@ -9,7 +9,7 @@ use Rattle.cdb_read.specs.Views.Walking.{LiesAt}
 use Rattle.cdb_read.specs.declared.fault.ReadFault.{ReadFault}
 use Rattle.cdb_read.specs.declared.fault.ReadFault.TheVariants.{Table, Record, Device}
 use Rattle.cdb_read.specs.declared.record_walk.Walk.{Walk}
-use Rattle.cdb_read.specs.declared.rest.Walking.TheVariants.{AtEnd, NoTable, NoRecord}
+use Rattle.cdb_read.specs.declared.walk_state.Walking.TheVariants.{AtEnd, NoTable, NoRecord}
 use Rattle.cdb_read.specs.declared.span.Pair.{Pair}
 
 -- what is left of the walk, in a list of bytes

@@ -5,9 +5,9 @@ use Rattle.cdb_form.specs.Format.Pair.{pair_size, head_size}
 use Rattle.cdb_form.specs.Format.Record.{KeyValue}
 use Rattle.cdb_form.specs.Format.Walk.{Walked, walk_from, no_walk, damaged, with_first}
 use Rattle.cdb_read.specs.Lookup.{bytes_of}
-use Rattle.cdb_read.specs.declared.rest.Rest.{Rest}
-use Rattle.cdb_read.specs.declared.rest.Walking.{Walking}
-use Rattle.cdb_read.specs.declared.rest.Walking.TheVariants.{At, AtEnd, NoTable, NoRecord}
+use Rattle.cdb_read.specs.declared.walk_state.Rest.{Rest}
+use Rattle.cdb_read.specs.declared.walk_state.Walking.{Walking}
+use Rattle.cdb_read.specs.declared.walk_state.Walking.TheVariants.{At, AtEnd, NoTable, NoRecord}
 use Rattle.cdb_read.specs.declared.span.Pair.{Pair}
 
 -- the record of a pair

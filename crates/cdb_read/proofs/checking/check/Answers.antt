@@ -6,7 +6,7 @@ use Rattle.cdb_form.specs.Views.Pairs.{pointer_pair}
 use Rattle.cdb_read.specs.Views.Check.{CheckFails, IsFirst}
 use Rattle.cdb_read.specs.Views.Checked.{HasEntries, WalkHas, TablesAreClear, TablesHave}
 use Rattle.cdb_read.specs.Views.Inside.{StandsInside}
-use Rattle.cdb_read.specs.declared.entries.Entries.{Entries}
+use Rattle.cdb_read.specs.declared.table_records.TableRecords.{TableRecords}
 use Rattle.cdb_read.proofs.CheckLaws.{IsWhole, first_is_table, first_in_walk, first_in_slots, first_is_lost, sound_is}
 use Rattle.cdb_read.proofs.Tells.{read_tells, check_tells, check_tells_more}
 use Rattle.cdb_read.proofs.WalkedLengths.{some_word}
@@ -14,7 +14,7 @@ use Rattle.std.proofs.lemmas.Grind.{common_steps}
 use Rattle.cdb_read.proofs.checking.check.Goals as goal
 
 -- a vector whose items were all changed in place
-written : (len : ℕ) (new rest : List Entries) → len ≡ length new → take len (new ++ rest) ≡ new
+written : (len : ℕ) (new rest : List TableRecords) → len ≡ length new → take len (new ++ rest) ≡ new
 written len new rest e = ap (λ (n : ℕ). take n (new ++ rest)) e ∙ take-append_seam new rest
 
 pub returns-in-Some-clause-fails : goal.returns-in-Some-clause-fails

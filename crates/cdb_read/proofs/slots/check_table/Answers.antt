@@ -4,7 +4,7 @@ use Rattle.std.proofs.lemmas.List.{append-nil, append_assoc}
 use Rattle.std.proofs.lemmas.Result.{err_from_is_err_and}
 use Rattle.cdb_form.specs.Views.Pairs.{pointer_pair, slot_pair}
 use Rattle.cdb_read.specs.Lookup.{slots_at}
-use Rattle.cdb_read.specs.Runs.{run_of}
+use Rattle.cdb_read.specs.SlotRuns.{run_of}
 use Rattle.cdb_read.specs.Sound.{is_reached}
 use Rattle.cdb_read.specs.Views.Check.{ReadTells}
 use Rattle.cdb_read.specs.Views.Checked.{SlotHas, TableHas}

@@ -1,7 +1,7 @@
 use Rattle.std.proofs.Common.{◌≡◌, ◌+◌, ◌≤◌, ℕ, List, take, ◌++◌}
 use Rattle.cdb_form.specs.Views.Pairs.{pointer_pair}
 use Rattle.cdb_read.specs.Lookup.{slots_at}
-use Rattle.cdb_read.specs.Runs.{run_of}
+use Rattle.cdb_read.specs.SlotRuns.{run_of}
 use Rattle.cdb_store.specs.Reads.{OnlyReads}
 use Rattle.cdb_read.specs.Views.Window.{Shows}
 use Rattle.cdb_read.proofs.SlotChecks.{IsClearTo}

@@ -1,0 +1,108 @@
+// The records of a walk whose keys have one table, as a check keeps them.
+ghost use Rattle.std.specs.Prelude.{◌≡◌, ◌<◌, ◌≤◌, [], OnOk, IfSome, MatchOption, length};
+ghost use Rattle.std.specs.Prelude.{get_or, slice_set, true, false, List, option_map};
+
+use cdb_form::Slot;
+use std::alloc::{AllocError, Global};
+
+/// The records of one table, in the order of their places: 13 bytes each.
+///
+/// Places, hashes and marks stand apart, so that a search for a place reads little but the places.
+#[derive(Drop)]
+pub(crate) struct TableRecords {
+    /// Where each record stands, in bytes from the file's start.
+    places: Vec<u64>,
+    /// The hash of each record's key.
+    hashes: Vec<u32>,
+    /// Whether a slot has told the record.
+    marks: Vec<bool>,
+    ghost paired: { length hashes.items ≡ length places.items },
+    ghost marked: { length marks.items ≡ length places.items },
+}
+
+impl TableRecords {
+    ghost use Rattle.std.specs.List.{list_any};
+    ghost use Rattle.std.specs.List.Sorted.{IsStrictlyIncreasing};
+    ghost use Rattle.cdb_form.specs.Format.Pair.{WordPair};
+    ghost use Rattle.cdb_form.specs.Views.Pairs.{slot_pair};
+    ghost use Rattle.cdb_form.specs.declared.damage.Damage.TheVariants.{Unindexed};
+    ghost use Rattle.cdb_read.specs.Faults.{first_of, is_same, lost_fault};
+    ghost use Rattle.cdb_read.specs.Views.TableRecords.{entry_pairs, HasEntry, HasMore, Marks};
+
+    /// No records.
+    pub(crate) fn new(alloc: Global) -> TableRecords
+        ensures entries { entry_pairs result ≡ [] }
+        ensures marks { result.marks.items ≡ [] }
+    {
+        TableRecords {
+            places: Vec::new(alloc),
+            hashes: Vec::new(alloc),
+            marks: Vec::new(alloc),
+        }
+    }
+
+    /// One more record behind the others, which no slot has told. Where memory is refused, the
+    /// records stay.
+    pub(crate) fn add(&mut self, place: u64, hash: u32) -> Result<(), AllocError>
+        ensures { OnOk result (HasMore self.old self.new place hash) }
+    {
+        self.places.reserve(1)?;
+        self.hashes.reserve(1)?;
+        self.marks.reserve(1)?;
+        self.places.push_reserved(place);
+        self.hashes.push_reserved(hash);
+        self.marks.push_reserved(false);
+        Ok(())
+    }
+
+    /// The number of the record that has the place and the hash of a slot.
+    pub(crate) fn find(&self, slot: Slot) -> Option<usize>
+        ensures within { IfSome result (λ k. k < length self.now.places.items) }
+        ensures finds { IsStrictlyIncreasing self.now.places.items → MatchOption result
+            (list_any (is_same (slot_pair slot)) (entry_pairs self.now) ≡ false)
+            (HasEntry self.now slot) }
+    {
+        match self.places.binary_search(&slot.place) {
+            Ok(k) => {
+                if u64::from(self.hashes[k]) == slot.hash {
+                    Some(k)
+                } else {
+                    None
+                }
+            }
+            Err(_) => None,
+        }
+    }
+
+    /// Whether a slot has told a record.
+    pub(crate) fn is_marked(&self, k: usize) -> bool
+        requires { k < length self.now.places.items }
+        ensures { result ≡ get_or self.now.marks.items k false }
+    {
+        self.marks[k]
+    }
+
+    /// Notes that a slot has told a record.
+    pub(crate) fn mark(&mut self, k: usize)
+        requires { k < length self.old.places.items }
+        ensures places { self.new.places ≡ self.old.places }
+        ensures hashes { self.new.hashes ≡ self.old.hashes }
+        ensures marks { self.new.marks.items ≡ slice_set self.old.marks.items k true }
+    {
+        self.marks[k] = true;
+    }
+
+    /// The place of the first record that no slot has told.
+    pub(crate) fn first_unmarked(&self) -> Option<u64>
+        ensures { (entries slots : List WordPair) → Marks self.now entries slots
+            → option_map (λ place. Unindexed place) result
+            ≡ first_of (lost_fault slots) entries }
+    {
+        for k in 0..self.places.len() {
+            if !self.marks[k] {
+                return Some(self.places[k]);
+            }
+        }
+        None
+    }
+}
