@@ -17,6 +17,7 @@ use crate::reader::Reader;
 use crate::search::{Met, next_met};
 use crate::span::Span;
 use crate::turn::{Searching, Turn};
+use crate::window::WINDOW;
 use cdb_form::{Pointer, Width, hash, head_size, home_slot, pair_size, table_number};
 use cdb_store::Store;
 use std::io::Write;
@@ -30,6 +31,8 @@ pub struct Finder<'a, S: Store, L: Width> {
     pub(crate) key: &'a [u8],
     /// Where the search stands.
     pub(crate) searching: Searching,
+    /// Whether it gave a value. The next ones are mostly near, so more is read at once.
+    pub(crate) has_given: bool,
     ghost inside: { IsTurnInside L.WORD (S.size reader.now.store) searching },
 }
 
@@ -68,8 +71,8 @@ impl<S: Store, L: Width> Reader<S, L> {
         })
     }
 
-    /// The search of a key from a turn on, up to its next value.
-    fn next_met(&mut self, from: Turn, key: &[u8]) -> Result<Met, ReadFault>
+    /// The search of a key from a turn on, up to its next value. So many bytes are read at once.
+    fn next_met(&mut self, from: Turn, key: &[u8], ahead: usize) -> Result<Met, ReadFault>
         requires inside { TurnInside L.WORD (S.size self.old.store) from }
         ensures meets { IfOk result (λ met.
             Meets L.WORD key.now from met (S.image self.new.store)) }
@@ -77,7 +80,33 @@ impl<S: Store, L: Width> Reader<S, L> {
         ensures reads { OnlyReads S.Store self.old.store self.new.store }
         ensures fails { IfErr result (StoreFails S.Store self.old.store self.new.store) }
     {
-        next_met::<S, L>(&mut self.store, from, key, &mut self.window)
+        next_met::<S, L>(
+            &mut self.store,
+            from,
+            key,
+            &mut self.slots,
+            &mut self.window,
+            ahead,
+        )
+    }
+
+    /// The same. After a first value more bytes are read than are needed; if that failed, these alone
+    /// are read again, so a bad place among the others spoils nothing.
+    fn met_from(&mut self, from: Turn, key: &[u8], has_given: bool) -> Result<Met, ReadFault>
+        requires inside { TurnInside L.WORD (S.size self.old.store) from }
+        ensures meets { IfOk result (λ met.
+            Meets L.WORD key.now from met (S.image self.new.store)) }
+        ensures within { IfOk result (MetWithin L.WORD (S.size self.new.store) from) }
+        ensures reads { OnlyReads S.Store self.old.store self.new.store }
+        ensures fails { IfErr result (StoreFails S.Store self.old.store self.new.store) }
+    {
+        if !has_given {
+            return self.next_met(from, key, 0);
+        }
+        match self.next_met(from, key, WINDOW) {
+            Ok(met) => Ok(met),
+            Err(_) => self.next_met(from, key, 0),
+        }
     }
 
     /// A finder of the values of a key. Nothing is read yet.
@@ -93,6 +122,7 @@ impl<S: Store, L: Width> Reader<S, L> {
             reader: self,
             key,
             searching,
+            has_given: false,
         }
     }
 }
@@ -102,7 +132,7 @@ impl<'a, S: Store, L: Width> Finder<'a, S, L> {
     ghost use Rattle.cdb_read.specs.Views.Finder.{HasEnded, HasNoTable, HasNoRecord};
     ghost use Rattle.cdb_read.specs.declared.fault.ReadFault.TheVariants.{Table, Record};
 
-    /// The next value.
+    /// The next value. From the second on more bytes are read at once than it needs.
     pub fn next(&mut self) -> Result<Option<Span>, ReadFault>
         ensures same_reader { self.new.reader.ghost_name ≡ self.old.reader.ghost_name }
         ensures key { self.new.key.now ≡ self.old.key.now }
@@ -124,13 +154,14 @@ impl<'a, S: Store, L: Width> Finder<'a, S, L> {
             Searching::NoRecord(place) => return Err(ReadFault::Record(place)),
             Searching::At(turn) => turn,
         };
-        match self.reader.next_met(turn, self.key)? {
+        match self.reader.met_from(turn, self.key, self.has_given)? {
             Met::End => {
                 self.searching = Searching::AtEnd;
                 Ok(None)
             }
             Met::Value(span, then) => {
                 self.searching = Searching::At(then);
+                self.has_given = true;
                 Ok(Some(span))
             }
             Met::Broken(place) => {

@@ -14,7 +14,7 @@ use crate::fault::ReadFault;
 use crate::pieces::{copy_span, read_part, take_span};
 use crate::span::Span;
 use crate::window::Window;
-use cdb_form::{Head, Width, head_size, read_head};
+use cdb_form::{Head, Width, head_size, read_head, write_whole};
 use cdb_store::Store;
 use std::alloc::Global;
 use std::io::Write;
@@ -50,13 +50,16 @@ pub struct Reader<S: Store, L: Width> {
     pub(crate) head: Head,
     /// Through which values are read.
     pub(crate) piece: [u8; PIECE],
-    /// Through which slots and the headers of a walk are read.
+    /// Through which records are read, and the slots of a whole table.
     pub(crate) window: Window,
+    /// Through which the slots of a search are read.
+    pub(crate) slots: Window,
     /// How wide a word is.
     pub(crate) width: PhantomData<L>,
     ghost fits: { S.size store < 2 ^ 64 },
     ghost long: { head_size L.WORD ≤ S.size store },
     ghost shows: { Shows window (S.image store) },
+    ghost slots_shown: { Shows slots (S.image store) },
     ghost known: { (b : List ℕ) → S.image store b → head_at L.WORD b ≡ head_pairs head },
 }
 
@@ -86,12 +89,13 @@ impl<S: Store, L: Width> Reader<S, L> {
             head,
             piece,
             window: Window::new(),
+            slots: Window::new(),
             width: PhantomData,
         })
     }
 
-    /// Writes the bytes of a span, which lies inside the file. After a fault the writer holds a
-    /// front of them.
+    /// Writes the bytes of a span, which lies inside the file. What was read ahead is not read again.
+    /// After a fault the writer holds a prefix of them.
     pub fn copy<W: Write>(&mut self, span: Span, w: &mut W) -> Result<(), ReadFault>
         requires inside { span.place + span.len ≤ S.size self.old.store }
         ensures reads { OnlyReads S.Store self.old.store self.new.store }
@@ -101,6 +105,10 @@ impl<S: Store, L: Width> Reader<S, L> {
             → OnErr result (AppendsFront (W.contents w.old) (W.contents w.new) (bytes_of b span)) }
         ensures fails { IfErr result (CopyingFails S.Store self.old.store self.new.store) }
     {
+        if self.window.covers(span.place, span.len) {
+            write_whole(w, self.window.shown(span.place, span.len as usize))?;
+            return Ok(());
+        }
         copy_span(&mut self.store, span, &mut self.piece, w)
     }
 
@@ -113,7 +121,7 @@ impl<S: Store, L: Width> Reader<S, L> {
         ensures fails { IfErr result (ValueFails S.Store self.old.store self.new.store) }
     {
         let mut taken = Vec::new(alloc);
-        self.value_into(span, &mut taken)?;
+        self.shown_into(span, &mut taken)?;
         Ok(taken)
     }
 
@@ -145,6 +153,7 @@ impl<S: Store, L: Width> Reader<S, L> {
             head: _,
             piece: _,
             window: _,
+            slots: _,
             width: _,
         } = self;
         store

@@ -57,12 +57,14 @@ pub fn has_bytes(size: u64, place: u64, len: u64) -> bool
     place <= size && len <= size - place
 }
 
-/// What stands at a place, as the bytes of a key tell it.
+/// The record at a place, and whether it has a key. Bytes that the window lacks are read with so
+/// many after the place, or, if those are fewer, with the header and as many as the key has.
 pub(crate) fn look_at<S: Store, L: Width>(
     store: &mut S,
     place: u64,
     key: &[u8],
     window: &mut Window,
+    ahead: usize,
 ) -> Result<Look, ReadFault>
     requires shows { Shows window.old (S.image store.old) }
     ensures shows { Shows window.new (S.image store.new) }
@@ -81,7 +83,7 @@ pub(crate) fn look_at<S: Store, L: Width>(
         store,
         place,
         header_size,
-        header_size.saturating_add(key.len()),
+        header_size.saturating_add(key.len()).max(ahead),
     )?;
     let header = read_header::<L>(window.shown(place, header_size));
     let key_place = place + header_size as u64;

@@ -17,7 +17,7 @@ use crate::window::Window;
 use cdb_form::{Slot, Width, hash};
 use cdb_store::Store;
 
-/// How many bytes of slots are read at once.
+/// How many bytes of slots are read at once, if no more are to be read ahead.
 const SLOTS_AHEAD: usize = 64;
 
 /// What one turn of a search comes to.
@@ -49,6 +49,7 @@ fn read_turn<S: Store, L: Width>(
     store: &mut S,
     turn: Turn,
     window: &mut Window,
+    ahead: usize,
 ) -> Result<Slot, ReadFault>
     requires inside { TurnInside L.WORD (S.size store.old) turn }
     requires fits { S.size store.old < 2 ^ 64 }
@@ -59,7 +60,7 @@ fn read_turn<S: Store, L: Width>(
     ensures reads { OnlyReads S.Store store.old store.new }
     ensures fails { IfErr result (StoreFails S.Store store.old store.new) }
 {
-    slot_at::<S, L>(store, turn.table, turn.slot, window, SLOTS_AHEAD)
+    slot_at::<S, L>(store, turn.table, turn.slot, window, SLOTS_AHEAD.max(ahead))
 }
 
 /// One turn of the search of a key, which has this hash.
@@ -68,44 +69,53 @@ fn take_turn<S: Store, L: Width>(
     turn: Turn,
     key: &[u8],
     hash: u64,
+    slots: &mut Window,
     window: &mut Window,
+    ahead: usize,
 ) -> Result<Step, ReadFault>
     requires inside { TurnInside L.WORD (S.size store.old) turn }
     requires left { 0 < turn.left }
     requires hash { hash ≡ key_hash key.now }
     requires fits { S.size store.old < 2 ^ 64 }
     requires shows { Shows window.old (S.image store.old) }
+    requires slots { Shows slots.old (S.image store.old) }
     ensures shows { Shows window.new (S.image store.new) }
+    ensures slots { Shows slots.new (S.image store.new) }
     ensures steps { IfOk result (λ step. StepsFrom L.WORD key.now turn step (S.image store.new)) }
     ensures within { IfOk result (StepWithin (S.size store.new)) }
     ensures reads { OnlyReads S.Store store.old store.new }
     ensures fails { IfErr result (StoreFails S.Store store.old store.new) }
 {
-    let slot = read_turn::<S, L>(store, turn, window)?;
+    let slot = read_turn::<S, L>(store, turn, slots, ahead)?;
     if slot.place == 0 {
         return Ok(Step::Empty);
     }
     if slot.hash != hash {
         return Ok(Step::Passed);
     }
-    match look_at::<S, L>(store, slot.place, key, window)? {
+    match look_at::<S, L>(store, slot.place, key, window, ahead)? {
         Look::Broken => Ok(Step::Broken(slot.place)),
         Look::Other => Ok(Step::Passed),
         Look::Value(span) => Ok(Step::Value(span)),
     }
 }
 
-/// The search of a key from a turn on, up to its next value.
+/// The search of a key from a turn on, up to its next value. Slots are read through one window and
+/// records through the other, `ahead` bytes at once if what is needed has fewer.
 pub(crate) fn next_met<S: Store, L: Width>(
     store: &mut S,
     from: Turn,
     key: &[u8],
+    slots: &mut Window,
     window: &mut Window,
+    ahead: usize,
 ) -> Result<Met, ReadFault>
     requires inside { TurnInside L.WORD (S.size store.old) from }
     requires fits { S.size store.old < 2 ^ 64 }
     requires shows { Shows window.old (S.image store.old) }
+    requires slots { Shows slots.old (S.image store.old) }
     ensures shows { Shows window.new (S.image store.new) }
+    ensures slots { Shows slots.new (S.image store.new) }
     ensures meets { IfOk result (λ met. Meets L.WORD key.now from met (S.image store.new)) }
     ensures within { IfOk result (MetWithin L.WORD (S.size store.new) from) }
     ensures reads { OnlyReads S.Store store.old store.new }
@@ -114,7 +124,7 @@ pub(crate) fn next_met<S: Store, L: Width>(
     let hash = u64::from(hash(key));
     let mut turn = from;
     while turn.left > 0 {
-        match take_turn::<S, L>(store, turn, key, hash, window)? {
+        match take_turn::<S, L>(store, turn, key, hash, slots, window, ahead)? {
             Step::Empty => return Ok(Met::End),
             Step::Passed => turn = turn.next(),
             Step::Value(span) => return Ok(Met::Value(span, turn.next())),

@@ -10,6 +10,7 @@ invariant-loop-turn g l = record {
   inside : TurnInside g.L.Width.WORD (g.S.Store.size l.store) l.turn;
   fewer : l.turn.left ≤ l.fn.from.left;
   shows : Shows l.window (g.S.Store.image l.store);
+  slots : Shows l.slots (g.S.Store.image l.store);
   reads : OnlyReads g.S.Store l.fn.store l.store;
   same : SameAhead g.L.Width.WORD l.key l.fn.from l.turn (g.S.Store.image l.store);
 }

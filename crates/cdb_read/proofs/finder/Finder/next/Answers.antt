@@ -3,11 +3,11 @@ use Rattle.cdb_read.specs.Views.Turning.{IsTurnInside}
 use Rattle.std.proofs.lemmas.Grind.{common_steps}
 use Rattle.cdb_read.proofs.finder.Finder.next.Goals as goal
 
-pub next_met-requires : goal.next_met-requires
-next_met-requires g c = record { inside = c.args.self.now.inside c.in-At.turn c.in-At.is }
+pub met_from-requires : goal.met_from-requires
+met_from-requires g c = record { inside = c.args.self.now.inside c.in-At.turn c.in-At.is }
 
 pub invariant_of-self : goal.invariant_of-self
-invariant_of-self g c = record { inside = subst (λ (n : ℕ). IsTurnInside g.L.Width.WORD n c.args.self.now.searching) (sym c.next_met.ensures.reads.size) c.args.self.now.inside }
+invariant_of-self g c = record { inside = subst (λ (n : ℕ). IsTurnInside g.L.Width.WORD n c.args.self.now.searching) (sym c.met_from.ensures.reads.size) c.args.self.now.inside }
 
 pub returns-in-Broken-clause-fails : goal.returns-in-Broken-clause-fails
 returns-in-Broken-clause-fails g c = search rules
