@@ -5,6 +5,7 @@ ghost use Rattle.cdb_files.specs.FileFault.{file_display, of_replace};
 use crate::replace::ReplaceFault;
 use cdb_make::MakeFault;
 use cdb_read::{ReadFault, Unread};
+use std::alloc::AllocFailed;
 use std::error::Error;
 use std::fmt;
 
@@ -49,6 +50,17 @@ impl From<ReplaceFault<MakeFault>> for FileFault {
             ReplaceFault::Rename => FileFault::Rename,
             ReplaceFault::Build(fault) => FileFault::Make(fault),
         }
+    }
+}
+
+impl<T: Drop> From<AllocFailed<T>> for FileFault {
+    ghost use Rattle.cdb_files.specs.declared.fault.FileFault.TheVariants.{NoMemory};
+
+    ghost from_gives = { λ _ f. f ≡ NoMemory };
+
+    /// Lets go of what was not stored.
+    fn from(_: AllocFailed<T>) -> FileFault {
+        FileFault::NoMemory
     }
 }
 

@@ -101,7 +101,7 @@ impl<'a, S: Store, L: Width> Builder<S> for Records<'a, L> {
                 let (buffered, made) = put_all::<BufferedStore<S>, L>(alloc, buffered, records);
                 (buffered.discard(), made)
             }
-            Err(store) => (store, Err(MakeFault::NoMemory)),
+            Err(failed) => (failed.value, Err(MakeFault::NoMemory)),
         }
     }
 }

@@ -9,7 +9,7 @@ ghost use Rattle.cdb_store.specs.Lengths.{over_size};
 use crate::bytes::read_from;
 use crate::trace::{Call, Trace};
 use crate::{Store, StoreFault};
-use std::alloc::Global;
+use std::alloc::{AllocFailed, Global};
 
 /// A store over another that collects writes which continue one another in one buffer.
 ///
@@ -40,15 +40,15 @@ impl<S: Store> BufferedStore<S> {
 
     /// A store over `inner` with a buffer of `capacity` bytes.
     ///
-    /// Where memory for the buffer is refused, the inner store is handed back as it was.
-    pub fn new(alloc: Global, inner: S, capacity: usize) -> Result<BufferedStore<S>, S>
+    /// If memory for the buffer is refused, the inner store is handed back as it was.
+    pub fn new(alloc: Global, inner: S, capacity: usize) -> Result<BufferedStore<S>, AllocFailed<S>>
         ensures images { IfOk result (λ f. SameImages (S.image inner) (images_of f)) }
         ensures size { IfOk result (λ f. size_of f ≡ S.size inner) }
         ensures failures { IfOk result (λ f. S.failures f.inner ≡ S.failures inner) }
         ensures room { IfOk result (λ f. S.room f.inner ≡ S.room inner) }
         ensures inner { IfOk result (λ f. f.inner ≡ inner) }
         ensures capacity { IfOk result (λ f. f.capacity ≡ capacity) }
-        ensures err { IfErr result (λ s. s ≡ inner) }
+        ensures err { IfErr result (λ f. f.value ≡ inner) }
     {
         match Vec::with_capacity(alloc, capacity) {
             Ok(buffer) => Ok(BufferedStore {
@@ -58,7 +58,7 @@ impl<S: Store> BufferedStore<S> {
                 capacity,
                 trace: Trace::new(),
             }),
-            Err(_) => Err(inner),
+            Err(_) => Err(AllocFailed { value: inner }),
         }
     }
 

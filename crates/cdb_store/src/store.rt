@@ -12,7 +12,7 @@ ghost use Rattle.cdb_store.specs.Images.{
 };
 ghost use Rattle.cdb_store.specs.Faults.{fault_number, fault_message};
 
-use std::alloc::AllocError;
+use std::alloc::{AllocError, AllocFailed};
 use std::error::Error;
 use std::fmt::{self, Display, Formatter, Write};
 
@@ -63,6 +63,15 @@ impl From<AllocError> for StoreFault {
     ghost from_gives = { λ _ e. e ≡ NoMemory };
 
     fn from(_: AllocError) -> Self {
+        StoreFault::NoMemory
+    }
+}
+
+impl<T: Drop> From<AllocFailed<T>> for StoreFault {
+    ghost from_gives = { λ _ e. e ≡ NoMemory };
+
+    /// Lets go of what was not stored.
+    fn from(_: AllocFailed<T>) -> Self {
         StoreFault::NoMemory
     }
 }

@@ -6,7 +6,7 @@ ghost use Rattle.cdb_tool.specs.Views.Fault.{in_fault, read_fault};
 use cdb_form::{InFault, OutFault, TextFault, WalkFault};
 use cdb_make::MakeFault;
 use cdb_read::ReadFault;
-use std::alloc::AllocError;
+use std::alloc::{AllocError, AllocFailed};
 
 /// Why a run stopped.
 #[derive(Clone, Copy, Debug, PartialEq, Eq)]
@@ -122,6 +122,17 @@ impl From<AllocError> for Fault {
     ghost from_gives = { λ _ f. f ≡ NoMemory };
 
     fn from(_: AllocError) -> Fault {
+        Fault::NoMemory
+    }
+}
+
+impl<T: Drop> From<AllocFailed<T>> for Fault {
+    ghost use Rattle.cdb_tool.specs.declared.fault.Fault.TheVariants.{NoMemory};
+
+    ghost from_gives = { λ _ f. f ≡ NoMemory };
+
+    /// Lets go of what was not stored.
+    fn from(_: AllocFailed<T>) -> Fault {
         Fault::NoMemory
     }
 }

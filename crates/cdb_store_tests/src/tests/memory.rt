@@ -43,13 +43,15 @@ fn writes_past_the_end(rt: HostRuntime) -> Result<(), Fail> {
     Ok(())
 }
 
-/// Whether a store of `abc` stays as it is where it is refused room, and is handed back so where a
-/// buffer over it is.
+/// Whether a store of `abc` stays as it is if it is refused room, and is handed back so if a buffer
+/// over it is.
 fn stays(alloc: Global, mut store: MemStore) -> bool {
     let is_refused = store.reserve(1 << 62) == Err(StoreFault::NoMemory);
     let is_whole = store.bytes() == b"abc".as_slice();
     let handed_back = BufferedStore::new(alloc, store, 1 << 62);
-    is_refused && is_whole && handed_back.is_err_and(|inner| inner.bytes() == b"abc".as_slice())
+    is_refused
+        && is_whole
+        && handed_back.is_err_and(|failed| failed.value.bytes() == b"abc".as_slice())
 }
 
 #[test]
