@@ -1,26 +1,30 @@
 -- A head of all ones names tables outside of the file.
-use Rattle.std.proofs.Common.{◌≡◌, ◌⊎◌, ◌+◌, ◌*◌, ◌^◌, ◌<◌, ◌≤◌, true, false, ℕ, Bool, zero, suc, inl, inr, List, ◌++◌, flat_map, length, take, drop, replicate, refl, sym, ap, ◌∙◌, arith, Some}
-use Rattle.std.specs.Prelude.{◌&&◌, not, nat_le, nat_lt}
-use Rattle.std.specs.List.{range_with_len}
+use Rattle.std.proofs.Common.{◌≡◌, ◌⊎◌, ◌+◌, ◌-◌, ◌*◌, ◌^◌, ◌<◌, ◌≤◌, true, false, ℕ, Bool, zero, suc, inl, inr, List, [], ◌∷◌, ◌++◌, flat_map, length, take, drop, replicate, refl, sym, ap, ◌∙◌, arith, Some, None, length-drop}
+use Rattle.std.specs.Prelude.{◌&&◌, ◌==◌, not, nat_le, nat_lt, sum_by}
+use Rattle.std.specs.List.{AllByRecursion, range_with_len}
 use Rattle.std.specs.Option.{option_or}
-use Rattle.std.proofs.lemmas.Bool.{cond-false, le-ltb, lt-leb}
-use Rattle.std.proofs.lemmas.List.{replicate-append-replicate, take-append-drop, get_or-replicate, length-take, length-replicate}
+use Rattle.std.proofs.lemmas.Bool.{cond-false, cond_both, le-ltb, leb-true, lt-leb, ne_eqb}
+use Rattle.std.proofs.lemmas.List.{replicate-append-replicate, take-append-drop, take_all, get_or-replicate, length-take, length-replicate}
+use Rattle.std.proofs.lemmas.List.Sums.{sum_by-cons}
 use Rattle.std.proofs.lemmas.List.Elements.{All-replicate, recursion_from_All}
 use Rattle.cdb_store.specs.Images.{part}
 use Rattle.cdb_form.specs.Format.Hash.{key_hash, table_number}
 use Rattle.cdb_form.specs.Format.Pair.{WordPair, pair_bytes, head_size}
-use Rattle.cdb_form.specs.Format.Reading.{nth_pair}
-use Rattle.cdb_form.specs.Format.Walk.{has_slots, walk_of}
+use Rattle.cdb_form.specs.Format.Reading.{head_at, nth_pair, pair_at}
+use Rattle.cdb_form.specs.Format.Record.{KeyValue, record_size}
+use Rattle.cdb_form.specs.Format.Walk.{Walked, front_record, front_size, has_slots, least_place, record_end, walk_from, walk_of, whole_records}
 use Rattle.cdb_form.specs.Views.Pairs.{PairFits}
-use Rattle.cdb_form.specs.declared.damage.Damage.TheVariants.{Table}
-use Rattle.cdb_form.proofs.ReadBack.{nth_pair-flat_map}
+use Rattle.cdb_form.specs.declared.damage.Damage.TheVariants.{Record, Table}
+use Rattle.cdb_form.proofs.Fronts.{all_records, fits_front}
+use Rattle.cdb_form.proofs.ReadBack.{map-nth_pair, nth_pair-flat_map}
+use Rattle.cdb_form.proofs.WalkSteps.{walk_from-is, walk_of-records, walk_with}
 use Rattle.cdb_make.specs.Unfinished.{unfinished_head}
 use Rattle.cdb_read.specs.Faults.{first_fault, first_of, table_fault, fault_if, slots_fault, entry_fault}
 use Rattle.cdb_read.specs.Lookup.{lookup_of, is_inside, found_damaged}
 use Rattle.cdb_read.specs.Sound.{walk_entries}
 use Rattle.cdb_read.proofs.LookupLaws.{lookup_of-is, found_by}
 use Rattle.cdb_read.proofs.FaultSteps.{first_of-cons}
-use Rattle.cdb_uses.specs.Unfinished.{IsDamaged}
+use Rattle.cdb_uses.specs.Unfinished.{IsDamaged, broken_off}
 
 -- the pointer whose bytes are all ones
 abbrev ones : ℕ → WordPair
@@ -43,19 +47,71 @@ many_ones w top (suc n) one =
     ∙ replicate-append-replicate (2 * w) (2 * w * n) 255
     ∙ ap (λ m. replicate m 255) more
 
--- each pointer of such a head is that one
-pointer_ones : (w top n : ℕ) (b : List ℕ) → (w ≡ 4) ⊎ (w ≡ 8) → top + 1 ≡ 256 ^ w → n < 256 → part 0 (head_size w) b ≡ unfinished_head w → nth_pair w b n ≡ ones top
+-- such a head, and what follows it
+record HasOnes (w top : ℕ) (b : List ℕ) : Type 0 where
+  pub whole : b ≡ flat_map (pair_bytes w) (replicate 256 (ones top)) ++ drop (head_size w) b
+
+head_ones : (w top : ℕ) (b : List ℕ) → (w ≡ 4) ⊎ (w ≡ 8) → top + 1 ≡ 256 ^ w → part 0 (head_size w) b ≡ unfinished_head w → HasOnes w top b
 unfolding unfinished_head
-pointer_ones w top n b width top_is low head =
-    let ps : List WordPair = replicate 256 (ones top) in
-    let rest : List ℕ = drop (head_size w) b in
+head_ones w top b width top_is head =
     let size : 512 * w ≡ 2 * w * 256 = omega arith in
-    let front : take (head_size w) b ≡ flat_map (pair_bytes w) ps = head ∙ ap (λ m. replicate m 255) size ∙ sym (many_ones w top 256 (ones_bytes w top width top_is)) in
-    let whole : b ≡ flat_map (pair_bytes w) ps ++ rest = sym (take-append-drop (head_size w) b) ∙ ap (λ xs. xs ++ rest) front in
-    let long : length ps ≡ 256 = length-replicate 256 (ones top) in
-    ap (λ v. nth_pair w v n) whole
-    ∙ nth_pair-flat_map w top n ps (ones top) rest top_is (omega arith) (recursion_from_All (PairFits top) ps (All-replicate (PairFits top) 256 (ones top) (record { first = omega arith; second = omega arith })))
+    let front : take (head_size w) b ≡ flat_map (pair_bytes w) (replicate 256 (ones top)) = head ∙ ap (λ m. replicate m 255) size ∙ sym (many_ones w top 256 (ones_bytes w top width top_is)) in
+    record { whole = sym (take-append-drop (head_size w) b) ∙ ap (λ xs. xs ++ drop (head_size w) b) front }
+
+all_fit : (top : ℕ) → AllByRecursion (PairFits top) (replicate 256 (ones top))
+all_fit top = recursion_from_All (PairFits top) (replicate 256 (ones top)) (All-replicate (PairFits top) 256 (ones top) (record { first = omega arith; second = omega arith }))
+
+-- each pointer of it is that one
+pointer_ones : (w top n : ℕ) (b : List ℕ) → top + 1 ≡ 256 ^ w → n < 256 → HasOnes w top b → nth_pair w b n ≡ ones top
+pointer_ones w top n b top_is low has =
+    let long : length (replicate 256 (ones top)) ≡ 256 = length-replicate 256 (ones top) in
+    ap (λ v. nth_pair w v n) has.whole
+    ∙ nth_pair-flat_map w top n (replicate 256 (ones top)) (ones top) (drop (head_size w) b) top_is (omega arith) (all_fit top)
     ∙ get_or-replicate 256 n (ones top) (ones top) low
+
+-- so the records end nowhere
+least_ones : (w top none : ℕ) → (w ≡ 4) ⊎ (w ≡ 8) → top + 1 ≡ 256 ^ w → least_place none (replicate 256 (ones top)) ≡ top
+least_ones w top none (inl e) top_is = let t : top ≡ 4294967295 = (let k : top + 1 ≡ 256 ^ 4 = top_is ∙ ap (λ n. 256 ^ n) e in omega arith) in ap (λ n. least_place none (replicate 256 (ones n))) t ∙ sym t
+least_ones w top none (inr e) top_is = let t : top ≡ 18446744073709551615 = (let k : top + 1 ≡ 256 ^ 8 = top_is ∙ ap (λ n. 256 ^ n) e in omega arith) in ap (λ n. least_place none (replicate 256 (ones n))) t ∙ sym t
+
+end_ones : (w top : ℕ) (b : List ℕ) → (w ≡ 4) ⊎ (w ≡ 8) → top + 1 ≡ 256 ^ w → HasOnes w top b → record_end w b ≡ top
+unfolding record_end head_at
+end_ones w top b width top_is has =
+    ap (λ v. least_place (head_size w) (head_at w v)) has.whole
+    ∙ ap (least_place (head_size w)) (map-nth_pair w top 256 (replicate 256 (ones top)) (drop (head_size w) b) top_is (length-replicate 256 (ones top)) (all_fit top))
+    ∙ least_ones w top (head_size w) width top_is
+
+-- whole records are no longer than the bytes that they were found in
+records_within : (w most : ℕ) (xs : List ℕ) → sum_by (record_size w) (whole_records w most xs) ≤ length xs
+unfolding whole_records
+records_within w zero xs = omega arith
+records_within w (suc most) xs =
+    cond_both (fits_front w xs) (front_record w xs ∷ whole_records w most (drop (front_size w xs) xs)) [] (λ rs. sum_by (record_size w) rs ≤ length xs)
+    (λ t.
+    (let size = leb-true (front_size w xs) (length xs) t in
+    let rest = records_within w most (drop (front_size w xs) xs) in
+    let left = length-drop (front_size w xs) xs in
+    let key = length-take (pair_at w xs).first (drop (2 * w) xs) in
+    let value = length-take (pair_at w xs).second (drop (2 * w + (pair_at w xs).first) xs) in
+    let both = sum_by-cons (record_size w) (front_record w xs) (whole_records w most (drop (front_size w xs) xs)) in
+    let one : record_size w (front_record w xs) ≤ front_size w xs = omega arith in
+    omega arith))
+    (λ f. omega arith)
+
+-- and a walk gives each of them, and then stops
+walk_broken : (w top : ℕ) (b : List ℕ) → head_size w ≤ length b → length b < top → record_end w b ≡ top → walk_of w b ≡ broken_off w b
+walk_broken w top b long short end =
+    let area : List ℕ = drop (head_size w) b in
+    let rs : List KeyValue = all_records w area in
+    let left : length area ≡ length b - head_size w = length-drop (head_size w) b in
+    let within : sum_by (record_size w) rs ≤ length area = records_within w (length area) area in
+    let stop : ℕ = head_size w + sum_by (record_size w) rs in
+    let other : stop ≡ top → ⊥ = λ s. absurd (omega arith) in
+    walk_of-records w b long (omega arith)
+    ∙ ap (λ e. walk_from w (head_size w) e area) end
+    ∙ walk_from-is w (head_size w) top area
+    ∙ ap (λ t. walk_with w (head_size w) top (all_records w t)) (take_all (top - head_size w) area (omega arith))
+    ∙ ap (λ d. let v : Walked = record { records = rs; damage = d } in v) (cond-false (stop == top) _ _ (ne_eqb stop top other))
 
 -- its table has slots, and lies outside
 ones_slots : (w top : ℕ) → (w ≡ 4) ⊎ (w ≡ 8) → top + 1 ≡ 256 ^ w → has_slots (ones top) ≡ true
@@ -101,7 +157,10 @@ pub damaged_whole : (w top : ℕ) (b key : List ℕ) → (w ≡ 4) ⊎ (w ≡ 8)
 damaged_whole w top b key width top_is low short head =
     let some = ones_slots w top width top_is in
     let outside = ones_outside w top b short in
+    let has = head_ones w top b width top_is head in
+    let long = head_long w b head in
     record {
-      first = checked w b (head_long w b head) (first_table w b (table_outside w top b some outside (pointer_ones w top 0 b width top_is (omega arith) head)));
-      looked = looked_up w top b key some outside (pointer_ones w top (table_number (key_hash key)) b width top_is low head);
+      first = checked w b long (first_table w b (table_outside w top b some outside (pointer_ones w top 0 b top_is (omega arith) has)));
+      looked = looked_up w top b key some outside (pointer_ones w top (table_number (key_hash key)) b top_is low has);
+      walked = walk_broken w top b long short (end_ones w top b width top_is has);
     }

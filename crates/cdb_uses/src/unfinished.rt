@@ -7,9 +7,9 @@ ghost use Rattle.cdb_uses.specs.Unfinished.{IsDamaged};
 
 use cdb_form::Width;
 
-/// A file with the head of a database that is not finished is told as damaged, whatever stands
-/// behind the head: its first fault is table 0, and the look-up of each key needs a table outside of
-/// the file.
+/// A file with the head of a database that is not finished is damaged, whatever follows the head: its
+/// first fault is table 0, the look-up of each key needs a table outside of the file, and a walk gives
+/// each whole record, and then its damage.
 pub fn unfinished_is_damaged<L: Width>(_bytes: &[u8], _key: &[u8])
     ensures { length _bytes.now < L.TOP
         → part 0 (head_size L.WORD) _bytes.now ≡ unfinished_head L.WORD
