@@ -1,5 +1,8 @@
 // Stores in files of the system. The files lie in the folder that each test runs in.
-use cdb_store::{FileStore, Store, StoreFault};
+ghost use Rattle.std.specs.Prelude.{◌≡◌, false};
+ghost use Rattle.cdb_store.specs.Calls.{lost};
+
+use cdb_store::{FileStore, RawFault, RawFile, RealFile, Store, StoreFault};
 use std::fs::{self, File, Permissions};
 use std::os::unix::fs::{FileExt, PermissionsExt, symlink};
 use std::test::Fail;
@@ -126,5 +129,49 @@ fn a_file_is_read_above_4_gib(rt: HostRuntime) -> Result<(), Fail> {
     fs::remove_file(&rt, "long.store")?;
     assert!(rt; is_read && into == *b"xy");
     assert!(rt; is_low && low == [0; 2]);
+    Ok(())
+}
+
+/// What a raw file of the system answers of its length.
+fn has_length<F: RawFile>(file: &mut F, len: u64) -> bool
+    requires { lost (F.calls file.old) ≡ false }
+    ensures { lost (F.calls file.new) ≡ false }
+{
+    file.length() == Ok(len)
+}
+
+/// Writes two bytes at the end of 5 GiB, and cuts one of them off.
+fn write_long<F: RawFile>(file: &mut F) -> Result<bool, RawFault>
+    requires { lost (F.calls file.old) ≡ false }
+    ensures { lost (F.calls file.new) ≡ false }
+{
+    let written = file.write_some((5 << 30) - 2, b"xy")?;
+    let is_long = has_length(file, 5 << 30);
+    file.set_length((5 << 30) - 1)?;
+    Ok(written == 2 && is_long && has_length(file, (5 << 30) - 1))
+}
+
+/// Whether a raw file has this byte at a position.
+fn has_byte<F: RawFile>(file: &mut F, pos: u64, byte: u8) -> bool
+    requires { lost (F.calls file.old) ≡ false }
+    ensures { lost (F.calls file.new) ≡ false }
+{
+    let mut into = [byte ^ 1];
+    file.read_some(pos, &mut into) == Ok(1) && into == [byte]
+}
+
+#[test]
+fn a_file_is_written_and_cut_above_4_gib(rt: HostRuntime) -> Result<(), Fail> {
+    let mut file = RealFile::create_new(&rt, "longer.store")?;
+    let answer = write_long(&mut file);
+    let is_there = has_byte(&mut file, (5 << 30) - 2, b'x');
+    // Where a position cut to 32 bits would be written.
+    let is_low = has_byte(&mut file, (1 << 30) - 2, 0);
+    fs::remove_file(&rt, "longer.store")?;
+    if answer == Err(RawFault::Failed) {
+        println!(rt; "not tested: no file of 5 GiB can be made here")?;
+        return Ok(());
+    }
+    assert!(rt; answer == Ok(true) && is_there && is_low);
     Ok(())
 }
