@@ -8,7 +8,7 @@ use Rattle.cdb_store.specs.Images.{overwrite, Torn}
 use Rattle.cdb_store.specs.Calls.{Calls, Agrees, failure_count, written_count, lost, interrupted, Asked, AskedInVain, AfterPut, AfterTornPut, AreAtLeast}
 use Rattle.cdb_store.specs.Lengths.{length-overwrite}
 use Rattle.cdb_store.proofs.Parts.{take-overwrite, drop-overwrite, overwrite-overwrite, overwrite_nothing}
-use Rattle.cdb_store.proofs.RawCalls.{untouched_interrupted}
+use Rattle.cdb_store.proofs.RawCalls.{untouched_interrupted, failures_interrupted}
 
 -- the bytes so far, with a piece more
 pub take_piece_put : (d k n : ℕ) (xs ys : List ℕ) → d ≤ length xs → n ≤ length ys → take (d + n) (put_mid d k xs ys) ≡ take d xs ++ take n ys
@@ -98,9 +98,9 @@ torn_behind_put {pos = pos} {next = next} {n = n} {m = m} {xs = xs} here sum v w
     }
 
 pub written_asked : {pos : ℕ} {bytes : List ℕ} {old new : Calls} → Asked (Wrote pos, bytes) old new
-    → (written_count new ≡ written_count old + length bytes) × (failure_count old ≤ failure_count new) × (lost new ≡ lost old)
+    → (written_count new ≡ written_count old + length bytes) × (failure_count new ≡ failure_count old) × (lost new ≡ lost old)
 written_asked {bytes = bytes} {old = old} a = let u = untouched_interrupted a.times old in
-    rw (a.calls) (omega (arith, u.written), u.later, u.known)
+    rw (a.calls) (omega (arith, u.written), failures_interrupted a.times old, u.known)
 
 not_written_counts : (pos n k : ℕ) (old new : Calls) → new ≡ (NotWritten pos n, []) ∷ interrupted k old
     → (written_count new ≡ written_count old) × (failure_count old < failure_count new) × (lost new ≡ lost old)

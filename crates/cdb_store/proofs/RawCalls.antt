@@ -25,7 +25,7 @@ unfolding interrupted
 lost_interrupted zero calls = refl
 lost_interrupted (suc k) calls = lost_interrupted k calls
 
-failures_interrupted : (k : ℕ) (calls : Calls) → failure_count (interrupted k calls) ≡ failure_count calls
+pub failures_interrupted : (k : ℕ) (calls : Calls) → failure_count (interrupted k calls) ≡ failure_count calls
 unfolding interrupted
 failures_interrupted zero calls = refl
 failures_interrupted (suc k) calls = failures_interrupted k calls
@@ -72,6 +72,9 @@ untouched_interrupted k calls = record {
 -- a piece came
 pub read_untouched : {pos : ℕ} {piece : List ℕ} {old new : Calls} → Asked (Read pos, piece) old new → Untouched old new
 read_untouched {pos = pos} {piece = piece} {old = old} a = let u = untouched_interrupted a.times old in rw (a.calls) (record { same = u.same; written = u.written; later = u.later; known = u.known })
+
+pub read_fine : {pos : ℕ} {piece : List ℕ} {old new : Calls} → Asked (Read pos, piece) old new → failure_count new ≡ failure_count old
+read_fine {old = old} a = rw (a.calls) (failures_interrupted a.times old)
 
 -- no piece came
 pub vain_untouched : {old new : Calls} → AskedInVain Failed Refused old new → Untouched old new

@@ -127,6 +127,7 @@ impl<S: Store> BufferedStore<S> {
         ensures room { S.room self.old.inner ≤ S.room self.new.inner }
         ensures memory { IsErrOf result NoMemory → ⊥ }
         ensures cause { HasCause (S.failures self.old.inner) (S.failures self.new.inner) result }
+        ensures ok_failures { OnOk result (S.failures self.new.inner ≡ S.failures self.old.inner) }
     {
         if !self.buffer.is_empty() {
             self.inner.write_at(self.pos, &self.buffer)?;
@@ -150,6 +151,7 @@ impl<S: Store> BufferedStore<S> {
         ensures room { S.room self.old.inner ≤ S.room self.new.inner }
         ensures memory { IsErrOf result NoMemory → ⊥ }
         ensures cause { HasCause (S.failures self.old.inner) (S.failures self.new.inner) result }
+        ensures ok_failures { OnOk result (S.failures self.new.inner ≡ S.failures self.old.inner) }
     {
         let held = self.buffer.len();
         if pos == self.pos + held as u64 && n <= self.capacity - held {
@@ -209,6 +211,7 @@ impl<S: Store> Store for BufferedStore<S> {
         ensures written { written_of self.new ≡ written_of self.old }
         ensures room { S.room self.old.inner ≤ S.room self.new.inner }
         ensures cause { HasCause (S.failures self.old.inner) (S.failures self.new.inner) result }
+        ensures ok_failures { OnOk result (S.failures self.new.inner ≡ S.failures self.old.inner) }
         ensures memory { IsErrOf result NoMemory → ⊥ }
         ensures passed { AreApart pos (length into.old) self.old.pos (held_of self.old)
             → pos + length into.old ≤ S.size self.old.inner
@@ -258,6 +261,7 @@ impl<S: Store> Store for BufferedStore<S> {
         ensures written { written_of self.new ≡ written_of self.old }
         ensures room { S.room self.old.inner ≤ S.room self.new.inner }
         ensures cause { HasCause (S.failures self.old.inner) (S.failures self.new.inner) result }
+        ensures ok_failures { OnOk result (S.failures self.new.inner ≡ S.failures self.old.inner) }
         ensures memory { IsErrOf result NoMemory → ⊥ }
         ensures ok { OnOk result ((self.new.buffer.items ≡ []) × S.settled self.new.inner) }
         ensures handed { OnOk result

@@ -214,6 +214,7 @@ impl<F: RawFile> Store for FileStore<F> {
         ensures size { self.new.len ≡ self.old.len }
         ensures written { written_of self.new ≡ written_of self.old }
         ensures cause { HasCause (failures_of self.old) (failures_of self.new) result }
+        ensures ok_failures { OnOk result (failures_of self.new ≡ failures_of self.old) }
         ensures memory { IsErrOf result NoMemory → ⊥ }
         ensures lost { lost (calls_of self.old) ≡ true → IsErrOf result Device }
         ensures still_known { lost (calls_of self.new) ≡ lost (calls_of self.old) }
@@ -240,6 +241,7 @@ impl<F: RawFile> Store for FileStore<F> {
         ensures at_most_written { written_of self.new ≤ written_of self.old + length bytes.now }
         ensures memory { IsErrOf result NoMemory → ⊥ }
         ensures cause { HasCause (failures_of self.old) (failures_of self.new) result }
+        ensures ok_failures { OnOk result (failures_of self.new ≡ failures_of self.old) }
         ensures lost { lost (calls_of self.old) ≡ true → IsErrOf result Device }
         ensures measured { OnErr result
             (IsMeasured self.old.len (max self.old.len (pos + length bytes.now)) self.old.len
@@ -274,6 +276,7 @@ impl<F: RawFile> Store for FileStore<F> {
         ensures no_longer { self.new.len ≤ self.old.len }
         ensures written { written_of self.new ≡ written_of self.old }
         ensures cause { HasCause (failures_of self.old) (failures_of self.new) result }
+        ensures ok_failures { OnOk result (failures_of self.new ≡ failures_of self.old) }
         ensures memory { IsErrOf result NoMemory → ⊥ }
         ensures lost { lost (calls_of self.old) ≡ true → IsErrOf result Device }
         ensures measured { OnErr result
@@ -302,6 +305,7 @@ impl<F: RawFile> Store for FileStore<F> {
         ensures size { self.new.len ≡ self.old.len }
         ensures written { written_of self.new ≡ written_of self.old }
         ensures cause { HasCause (failures_of self.old) (failures_of self.new) result }
+        ensures ok_failures { OnOk result (failures_of self.new ≡ failures_of self.old) }
         ensures memory { IsErrOf result NoMemory → ⊥ }
         ensures lost { lost (calls_of self.old) ≡ true → IsErrOf result Device }
         ensures still_known { lost (calls_of self.new) ≡ lost (calls_of self.old) }

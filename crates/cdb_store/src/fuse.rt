@@ -85,7 +85,7 @@ fn blows(calls: &mut u64, limit: u64) -> bool
     is_last
 }
 
-#[tactic(auto, using(crate::proofs::FuseLemmas::fuse_passes))]
+#[tactic(auto, using(crate::proofs::FuseLemmas::fuse_passes, crate::proofs::FuseLemmas::fuse_passes_fine))]
 impl<S: Store> Store for FuseStore<S> {
     ghost use Rattle.cdb_store.specs.FuseStore.{failures_of, IsLast, IsCounted};
 
@@ -119,6 +119,8 @@ impl<S: Store> Store for FuseStore<S> {
         ensures room { S.room self.old.inner ≤ S.room self.new.inner }
         ensures cause { HasCause (failures_of S.failures self.old) (failures_of S.failures self.new)
             result }
+        ensures ok_failures { OnOk result
+            (failures_of S.failures self.new ≡ failures_of S.failures self.old) }
         ensures memory { IsErrOf result NoMemory → ⊥ }
         ensures counted { IsCounted self.old self.new }
         ensures same_written { self.new.written ≡ self.old.written }
@@ -163,6 +165,8 @@ impl<S: Store> Store for FuseStore<S> {
         ensures room { S.room self.old.inner ≤ S.room self.new.inner }
         ensures cause { HasCause (failures_of S.failures self.old) (failures_of S.failures self.new)
             result }
+        ensures ok_failures { OnOk result
+            (failures_of S.failures self.new ≡ failures_of S.failures self.old) }
         ensures counted { IsCounted self.old self.new }
         ensures count_ok { OnOk result
             (self.new.written ≡ capped (self.old.written + length bytes.now)) }
@@ -197,6 +201,8 @@ impl<S: Store> Store for FuseStore<S> {
         ensures ok { OnOk result (len ≤ S.room self.new.inner) }
         ensures past_room { OnErr result (S.room self.old.inner < len) }
         ensures err_room { OnErr result (S.room self.new.inner ≡ S.room self.old.inner) }
+        ensures ok_failures { OnOk result
+            (S.failures self.new.inner ≡ S.failures self.old.inner) }
         ensures err_failures { OnErr result
             (S.failures self.new.inner ≡ S.failures self.old.inner) }
         ensures device { IsErrOf result Device → ⊥ }
@@ -224,6 +230,8 @@ impl<S: Store> Store for FuseStore<S> {
         ensures room { S.room self.old.inner ≤ S.room self.new.inner }
         ensures cause { HasCause (failures_of S.failures self.old) (failures_of S.failures self.new)
             result }
+        ensures ok_failures { OnOk result
+            (failures_of S.failures self.new ≡ failures_of S.failures self.old) }
         ensures memory { IsErrOf result NoMemory → ⊥ }
         ensures counted { IsCounted self.old self.new }
         ensures same_written { self.new.written ≡ self.old.written }
@@ -244,6 +252,8 @@ impl<S: Store> Store for FuseStore<S> {
         ensures room { S.room self.old.inner ≤ S.room self.new.inner }
         ensures cause { HasCause (failures_of S.failures self.old) (failures_of S.failures self.new)
             result }
+        ensures ok_failures { OnOk result
+            (failures_of S.failures self.new ≡ failures_of S.failures self.old) }
         ensures memory { IsErrOf result NoMemory → ⊥ }
         ensures counted { IsCounted self.old self.new }
         ensures same_written { self.new.written ≡ self.old.written }

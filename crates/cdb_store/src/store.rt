@@ -119,6 +119,7 @@ pub trait Store {
         ensures written { written self.new ≡ written self.old }
         ensures room { room self.old ≤ room self.new }
         ensures cause { HasCause (failures self.old) (failures self.new) result }
+        ensures ok_failures { OnOk result (failures self.new ≡ failures self.old) }
         ensures memory { IsErrOf result NoMemory → ⊥ };
 
     /// Writes the bytes from `pos` on, which is at most the store's length, over what
@@ -146,6 +147,7 @@ pub trait Store {
         ensures memory_failures { IsErrOf result NoMemory → failures self.new ≡ failures self.old }
         ensures past_room { IsErrOf result NoMemory → room self.old < pos + length bytes.now }
         ensures room { room self.old ≤ room self.new }
+        ensures ok_failures { OnOk result (failures self.new ≡ failures self.old) }
         ensures cause { HasCause (failures self.old) (failures self.new) result };
 
     /// Makes room, so that no write that ends at or before `len` takes memory.
@@ -156,6 +158,7 @@ pub trait Store {
         ensures ok { OnOk result (len ≤ room self.new) }
         ensures past_room { OnErr result (room self.old < len) }
         ensures err_room { OnErr result (room self.new ≡ room self.old) }
+        ensures ok_failures { OnOk result (failures self.new ≡ failures self.old) }
         ensures err_failures { OnErr result (failures self.new ≡ failures self.old) }
         ensures device { IsErrOf result Device → ⊥ }
         ensures images { SameImages (image self.old) (image self.new) }
@@ -176,6 +179,7 @@ pub trait Store {
         ensures written { written self.new ≡ written self.old }
         ensures room { room self.old ≤ room self.new }
         ensures cause { HasCause (failures self.old) (failures self.new) result }
+        ensures ok_failures { OnOk result (failures self.new ≡ failures self.old) }
         ensures memory { IsErrOf result NoMemory → ⊥ };
 
     /// Hands everything on to what holds the bytes. After `Device` no byte has changed.
@@ -186,6 +190,7 @@ pub trait Store {
         ensures written { written self.new ≡ written self.old }
         ensures room { room self.old ≤ room self.new }
         ensures cause { HasCause (failures self.old) (failures self.new) result }
+        ensures ok_failures { OnOk result (failures self.new ≡ failures self.old) }
         ensures memory { IsErrOf result NoMemory → ⊥ };
 
     /// What it has takes no memory.

@@ -69,6 +69,8 @@ pub(crate) fn read_all<F: RawFile>(
     requires known { lost (F.calls file.old) ≡ false }
     ensures ok { OnOk result (Came pos into.new (F.calls file.new)) }
     ensures untouched { Untouched (F.calls file.old) (F.calls file.new) }
+    ensures ok_failures { OnOk result
+        (failure_count (F.calls file.new) ≡ failure_count (F.calls file.old)) }
     ensures cause { OnErr result
         (failure_count (F.calls file.old) < failure_count (F.calls file.new)) }
     ensures memory { IsErrOf result NoMemory → ⊥ }
@@ -90,6 +92,8 @@ pub(crate) fn write_all<F: RawFile>(file: &mut F, pos: u64, bytes: &[u8]) -> Res
         (written_count (F.calls file.new) ≡ written_count (F.calls file.old) + length bytes.now) }
     ensures err { OnErr result
         (AfterTornPut pos (length bytes.now) (F.calls file.old) (F.calls file.new)) }
+    ensures ok_failures { OnOk result
+        (failure_count (F.calls file.new) ≡ failure_count (F.calls file.old)) }
     ensures cause { OnErr result
         (failure_count (F.calls file.old) < failure_count (F.calls file.new)) }
     ensures more_written { written_count (F.calls file.old) ≤ written_count (F.calls file.new) }

@@ -1,13 +1,13 @@
 use Rattle.std.proofs.Common.{arith, ◌≡◌, ◌≤◌, ◌<◌, ◌-◌, ℕ, length, take, ◌∙◌}
 use Rattle.std.proofs.lemmas.List.{take_all, length-take-le}
 use Rattle.cdb_store.specs.Calls.{failure_count}
-use Rattle.cdb_store.proofs.RawCalls.{came_none, came_more, read_untouched, vain_untouched, vain_failed, untouched_refl, untouched_trans}
+use Rattle.cdb_store.proofs.RawCalls.{came_none, came_more, read_untouched, read_fine, vain_untouched, vain_failed, untouched_refl, untouched_trans}
 use Rattle.cdb_store.proofs.Puts.{take_piece_put}
 use Rattle.cdb_store.proofs.Answered.{held_on_err}
 use Rattle.cdb_store.proofs.transfer.read_all.Goals as goal
 
 pub loop-done-init : goal.loop-done-init
-loop-done-init g c = record { inside = omega arith; came = came_none c.args.pos (g.F.RawFile.calls c.args.file.now); untouched = untouched_refl _ }
+loop-done-init g c = record { inside = omega arith; came = came_none c.args.pos (g.F.RawFile.calls c.args.file.now); untouched = untouched_refl _; fine = omega arith }
 
 pub read_some-requires-clause-known : goal.read_some-requires-clause-known
 read_some-requires-clause-known g c = c.loop-done.invariant.untouched.known ∙ c.requires.known
@@ -32,6 +32,7 @@ loop-done-preserved g c =
       came = rw (take_piece_put d (length c.loop-done.into - d) n c.loop-done.into c.read_some.new.into (omega arith) fits)
           (came_more c.args.pos (take d c.loop-done.into) (omega arith) c.loop-done.invariant.came c.in_ok-done.ensures.ok);
       untouched = untouched_trans c.loop-done.invariant.untouched (read_untouched c.in_ok-done.ensures.ok);
+      fine = read_fine c.in_ok-done.ensures.ok ∙ c.loop-done.invariant.fine;
     }
 
 pub returns-clause-ok : goal.returns-clause-ok
@@ -39,3 +40,6 @@ returns-clause-ok g c = rw (← take_all c.loop-done.done c.loop-done.into (omeg
 
 pub returns-clause-untouched : goal.returns-clause-untouched
 returns-clause-untouched g c = c.loop-done.invariant.untouched
+
+pub returns-clause-ok_failures : goal.returns-clause-ok_failures
+returns-clause-ok_failures g c = c.loop-done.invariant.fine

@@ -1,5 +1,5 @@
-use Rattle.std.proofs.Common.{◌≤◌, ◌-◌, length, take}
-use Rattle.cdb_store.specs.Calls.{Came, Untouched}
+use Rattle.std.proofs.Common.{◌≡◌, ◌≤◌, ◌-◌, length, take}
+use Rattle.cdb_store.specs.Calls.{Came, Untouched, failure_count}
 use Rattle.cdb_store.proofs.transfer.read_all.Given as goal
 
 abbrev pub invariant-loop-done : goal.invariant-loop-done
@@ -7,6 +7,7 @@ invariant-loop-done g l = record {
   inside : l.done ≤ length l.into;
   came : Came l.pos (take l.done l.into) (g.F.RawFile.calls l.file);
   untouched : Untouched (g.F.RawFile.calls l.fn.file) (g.F.RawFile.calls l.file);
+  fine : failure_count (g.F.RawFile.calls l.file) ≡ failure_count (g.F.RawFile.calls l.fn.file);
 }
 
 abbrev pub decreases-loop-done : goal.decreases-loop-done

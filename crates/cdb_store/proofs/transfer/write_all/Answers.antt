@@ -7,7 +7,7 @@ use Rattle.cdb_store.proofs.Answered.{held_on_err}
 use Rattle.cdb_store.proofs.transfer.write_all.Goals as goal
 
 pub loop-done-init : goal.loop-done-init
-loop-done-init g c = record { inside = omega arith; put = put_none _ _ c.requires.inside; written = omega arith; later = omega arith; known = c.requires.known }
+loop-done-init g c = record { inside = omega arith; put = put_none _ _ c.requires.inside; written = omega arith; fine = omega arith; known = c.requires.known }
 
 pub write_some-requires-clause-known : goal.write_some-requires-clause-known
 write_some-requires-clause-known g c = c.loop-done.invariant.known
@@ -21,7 +21,7 @@ returns-in_err-done-clause-err g c =
 pub returns-in_err-done-clause-cause : goal.returns-in_err-done-clause-cause
 returns-in_err-done-clause-cause g c =
     let w = written_vain c.in_err-done.ensures.err in
-    let rises : failure_count (g.F.RawFile.calls c.args.file.now) < failure_count (g.F.RawFile.calls c.write_some.new.file) = omega (arith, w.1, c.loop-done.invariant.later) in
+    let rises : failure_count (g.F.RawFile.calls c.args.file.now) < failure_count (g.F.RawFile.calls c.write_some.new.file) = omega (arith, w.1, c.loop-done.invariant.fine) in
     held_on_err _ _ rises
 
 pub returns-in_err-done-clause-more_written : goal.returns-in_err-done-clause-more_written
@@ -31,7 +31,7 @@ pub returns-in_err-done-clause-at_most_written : goal.returns-in_err-done-clause
 returns-in_err-done-clause-at_most_written g c = let w = written_vain c.in_err-done.ensures.err in omega (arith, w.0, c.loop-done.invariant.written, c.loop-done.invariant.inside)
 
 pub returns-in_err-done-clause-later : goal.returns-in_err-done-clause-later
-returns-in_err-done-clause-later g c = let w = written_vain c.in_err-done.ensures.err in omega (arith, w.1, c.loop-done.invariant.later)
+returns-in_err-done-clause-later g c = let w = written_vain c.in_err-done.ensures.err in omega (arith, w.1, c.loop-done.invariant.fine)
 
 pub returns-in_err-done-clause-still_known : goal.returns-in_err-done-clause-still_known
 returns-in_err-done-clause-still_known g c = let w = written_vain c.in_err-done.ensures.err in w.2 ∙ c.loop-done.invariant.known
@@ -50,7 +50,7 @@ loop-done-preserved g c =
       inside = omega arith;
       put = rw (take_piece_of d (length c.args.bytes.now - d) n c.args.bytes.now few) (put_more (omega arith) c.loop-done.invariant.put (put_asked c.in_ok-done.ensures.ok));
       written = omega (arith, w.0, p, c.loop-done.invariant.written);
-      later = omega (arith, w.1, c.loop-done.invariant.later);
+      fine = w.1 ∙ c.loop-done.invariant.fine;
       known = w.2 ∙ c.loop-done.invariant.known;
     }
 
@@ -67,7 +67,10 @@ pub returns-clause-at_most_written : goal.returns-clause-at_most_written
 returns-clause-at_most_written g c = omega (arith, c.loop-done.invariant.written, c.loop-done.invariant.inside)
 
 pub returns-clause-later : goal.returns-clause-later
-returns-clause-later g c = c.loop-done.invariant.later
+returns-clause-later g c = omega (arith, c.loop-done.invariant.fine)
 
 pub returns-clause-still_known : goal.returns-clause-still_known
 returns-clause-still_known g c = c.loop-done.invariant.known
+
+pub returns-clause-ok_failures : goal.returns-clause-ok_failures
+returns-clause-ok_failures g c = c.loop-done.invariant.fine

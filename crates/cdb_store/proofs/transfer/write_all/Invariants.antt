@@ -7,7 +7,7 @@ invariant-loop-done g l = record {
   inside : l.done ≤ length l.bytes;
   put : AfterPut l.pos (take l.done l.bytes) (g.F.RawFile.calls l.fn.file) (g.F.RawFile.calls l.file);
   written : written_count (g.F.RawFile.calls l.file) ≡ written_count (g.F.RawFile.calls l.fn.file) + l.done;
-  later : failure_count (g.F.RawFile.calls l.fn.file) ≤ failure_count (g.F.RawFile.calls l.file);
+  fine : failure_count (g.F.RawFile.calls l.file) ≡ failure_count (g.F.RawFile.calls l.fn.file);
   known : lost (g.F.RawFile.calls l.file) ≡ false;
 }
 
