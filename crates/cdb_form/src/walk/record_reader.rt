@@ -9,6 +9,7 @@ ghost use Rattle.cdb_form.specs.Views.Reading.{ReadsFirst, IsKept};
 ghost use Rattle.cdb_form.specs.Format.Record.{KeyValue, record_size};
 ghost use Rattle.cdb_form.specs.Format.Walk.{walk_of, walk_from, record_end, no_walk};
 ghost use Rattle.cdb_form.specs.Format.Walk.{with_first};
+ghost use Rattle.cdb_form.specs.declared.walk.source.Keeping.TheVariants.{Key};
 ghost use Rattle.cdb_form.specs.Views.WalkFault.{IsDamage, stopped_by};
 ghost use Rattle.cdb_form.specs.Views.Pairs.{key_value};
 
@@ -47,6 +48,7 @@ fn read_record<R: Read, L: Width>(
         × (rest ≡ drop (behind.place - area.place) text))
         × ReadsFirst r (walk_from L.WORD area.place area.end)
         (walk_from L.WORD behind.place area.end) (R.remaining reader.old) (R.remaining reader.new)) }
+    ensures value { keeping ≡ Key → into.new.value ≡ into.old.value }
     ensures place { IfOk result (λ behind. area.place < behind.place) }
     ensures end { IfOk result (λ behind. behind.end ≡ area.end) }
     ensures fails { IfErr result (λ f. IsDamage f → IfSome (R.remaining reader.old) (λ text.
@@ -148,12 +150,13 @@ impl<R: Read, L: Width> RecordReader<R, L> {
         self.read_kept(into, Keeping::Both)
     }
 
-    /// Reads the key of the next record over another record, and passes over the value, which takes
-    /// no memory. The answers are those of `read_into`.
+    /// Reads the key of the next record over another record. It passes over the value, which takes no
+    /// memory, and leaves the one that the other record has. The answers are those of `read_into`.
     pub fn read_key(&mut self, into: &mut Record) -> Result<bool, WalkFault>
         ensures gives { IfOk result (λ given. MatchBool given
             (GivesKey L.WORD R.remaining self.old self.new into.new.key.items)
             (GivesEnd L.WORD R.remaining self.old self.new)) }
+        ensures value { into.new.value ≡ into.old.value }
         ensures fails { IfErr result (Fails L.WORD R.remaining self.old self.new) }
         // After the end and after a fault nothing is read, and the answer stays.
         ensures ended { HasEnded self.old → (result ≡ Ok false) × (self.new ≡ self.old) }
@@ -168,6 +171,7 @@ impl<R: Read, L: Width> RecordReader<R, L> {
         ensures gives { IfOk result (λ given. MatchBool given
             (GivesKept L.WORD R.remaining self.old self.new keeping into.new)
             (GivesEnd L.WORD R.remaining self.old self.new)) }
+        ensures value { keeping ≡ Key → into.new.value ≡ into.old.value }
         ensures fails { IfErr result (Fails L.WORD R.remaining self.old self.new) }
         ensures ended { HasEnded self.old → (result ≡ Ok false) × (self.new ≡ self.old) }
         ensures failed { (fault : _) → HasFailed self.old fault →
@@ -196,6 +200,7 @@ impl<R: Read, L: Width> RecordReader<R, L> {
             × (behind_end L.WORD self.new rest ≡ drop (record_end L.WORD text) text))
             × ReadsFirst r (walk_of L.WORD) (walk_left L.WORD self.new)
             (unread R.remaining self.old) (unread R.remaining self.new))) }
+        ensures value { keeping ≡ Key → into.new.value ≡ into.old.value }
         ensures fewer { IfOk result (λ given.
             OnTrue given (IsGoing self.new × (bytes_left self.new < 2 ^ 64))) }
         ensures end { IfOk result (λ given.
@@ -238,6 +243,7 @@ impl<R: Read, L: Width> RecordReader<R, L> {
             × (behind_end L.WORD self.new rest ≡ drop (area.end - area.place) text))
             × ReadsFirst r (walk_from L.WORD area.place area.end) (walk_left L.WORD self.new)
             (unread R.remaining self.old) (unread R.remaining self.new))) }
+        ensures value { keeping ≡ Key → into.new.value ≡ into.old.value }
         ensures fewer { IfOk result (λ given.
             OnTrue given (IsGoing self.new × (bytes_left self.new < area.end - area.place))) }
         ensures end { IfOk result (λ given.

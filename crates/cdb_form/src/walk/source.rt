@@ -4,6 +4,7 @@ ghost use Rattle.std.specs.Io.KnownBytes.{Consumes};
 ghost use Rattle.cdb_form.specs.Format.Pair.{head_size, pair_size};
 ghost use Rattle.cdb_form.specs.Format.Record.{AreBytes, KeyValue};
 ghost use Rattle.cdb_form.specs.declared.walk.fault.WalkFault.TheVariants.{Short};
+ghost use Rattle.cdb_form.specs.declared.walk.source.Keeping.TheVariants.{Key};
 ghost use Rattle.cdb_form.specs.Views.KnownBytes.{LosesAtMost, LosesFewer};
 ghost use Rattle.cdb_form.specs.Views.Reading.{ReadsShort, HeadRead, HeaderRead, Passes, ValueRead};
 ghost use Rattle.cdb_form.specs.Views.Reading.{BodyRead, IsKept};
@@ -140,7 +141,7 @@ fn pass<R: Read>(reader: &mut R, len: u64, early: WalkFault) -> Result<(), WalkF
     }
 }
 
-/// Reads the value of a record, or passes it over and leaves an empty one.
+/// Reads the value of a record, or passes it over and leaves the one that is there.
 fn record_value<R: Read>(
     reader: &mut R,
     into: &mut Vec<u8>,
@@ -150,6 +151,7 @@ fn record_value<R: Read>(
 ) -> Result<(), WalkFault>
     ensures read { OnOk result (ValueRead keeping len
         (R.remaining reader.old) (R.remaining reader.new) into.new.items) }
+    ensures same { keeping ≡ Key → into.new ≡ into.old }
     ensures are { AreBytes into.new.items }
     ensures fails { IfErr result (λ f. IsDamage f → (f ≡ early)
         × ReadsShort len (R.remaining reader.old) (R.remaining reader.new)) }
@@ -159,10 +161,7 @@ fn record_value<R: Read>(
 {
     match keeping {
         Keeping::Both => bytes(reader, into, len, early),
-        Keeping::Key => {
-            into.clear();
-            pass(reader, len, early)
-        }
+        Keeping::Key => pass(reader, len, early),
     }
 }
 
@@ -176,6 +175,7 @@ pub(crate) fn record_body<R: Read>(
 ) -> Result<(), WalkFault>
     ensures read { OnOk result ((r : KeyValue) × IsKept keeping into.new r
         × BodyRead (R.remaining reader.old) (R.remaining reader.new) header r) }
+    ensures value { keeping ≡ Key → into.new.value ≡ into.old.value }
     ensures fails { IfErr result (λ f. IsDamage f → (f ≡ early)
         × ReadsShort (header.klen + header.vlen)
         (R.remaining reader.old) (R.remaining reader.new)) }
