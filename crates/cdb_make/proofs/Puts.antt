@@ -83,7 +83,7 @@ pub adds_none : {S L : Type 0} {s : Ghosts S} {l : Widths L} (old new : Maker S 
 adds_none old new r full past Broken was fit whole end lists keeps fails = absurd fails
 adds_none old new r full past Lookup was fit whole end lists keeps fails = absurd fails
 adds_none old new r full past TooBig was fit whole end lists keeps fails = absurd fails
-adds_none old new r full past NoMemory was fit whole end lists keeps fails = (record { stays = stays_kept old new was whole end lists keeps; written = fails.0 }, fit)
+adds_none old new r full past NoMemory was fit whole end lists keeps fails = (record { stays = stays_kept old new was whole end lists keeps; written = fails.0 }, fit, fails.2)
 adds_none old new r full past Writing was fit whole end lists keeps fails = (stays_kept old new was whole end lists keeps, fails, fit)
 
 abbrev IsReplace : Mode → Type 0
@@ -151,7 +151,7 @@ would_add {s = s} {l = l} old mid new mode r answer stays limit comes just fit =
 
 -- and what one that failed leaves
 pub fails_added : {S L : Type 0} {s : Ghosts S} {l : Widths L} (old mid new : Maker S L s l) (mode : Mode) (r : KeyValue) (answer : Put) (fault : MakeFault) → WritesNothing old mid → mid.limit ≡ old.limit
-    → s.failures old.store ≤ s.failures mid.store → ComesFrom (s.image mid.store) (s.image new.store) → ((rs : List KeyValue) → Holds old rs → WhereHonest (s.image mid.store) (JustAdds l.WORD mode r rs answer))
+    → s.failures mid.store ≡ s.failures old.store → ComesFrom (s.image mid.store) (s.image new.store) → ((rs : List KeyValue) → Holds old rs → WhereHonest (s.image mid.store) (JustAdds l.WORD mode r rs answer))
     → FailsAdding mid new r fault → FailsPutting old new mode r fault
 fails_added old mid new mode r answer Broken stays limit later comes just fails = absurd (let k : true ≡ false = sym fails.0 ∙ stays.stays.whole in cc)
 fails_added old mid new mode r answer Lookup stays limit later comes just fails = absurd fails
@@ -166,11 +166,13 @@ fails_added {s = s} {l = l} old mid new mode r answer TooBig stays limit later c
             let m : file_size l.WORD (put_list mode r rs) ≡ file_size l.WORD (rs ++ r ∷ []) = ap (file_size l.WORD) j.list in
             omega (arith, size_push l.WORD rs r);
       }),
+      ap (λ (v : _). s.failures v.store) same ∙ later,
     )
-fails_added old mid new mode r answer NoMemory stays limit later comes just fails = (
+fails_added {s = s} old mid new mode r answer NoMemory stays limit later comes just fails = (
   writes_then old mid new stays fails.0,
   λ rs h replaces. honest_comes comes (record { each = λ a is there. absurd (((just rs h).each a is).absent replaces there) }),
   would_add old mid new mode r answer stays.stays limit comes just fails.1,
+  fails.2 ∙ later,
 )
 fails_added {s = s} old mid new mode r answer Writing stays limit later comes just fails = (
   inl (
@@ -210,9 +212,9 @@ fails_add old new r Broken comes fails = record {
   cause = λ rs h. absurd (let k : true ≡ false = sym fails.0 ∙ h.whole in cc);
 }
 fails_add old new r Lookup comes fails = absurd fails
-fails_add old new r TooBig comes fails = fails_added old old new Add r Added TooBig (writes_same old fails.1) refl (omega arith) comes (λ rs h. just_add _ rs r) fails
-fails_add old new r NoMemory comes fails = fails_added old old new Add r Added NoMemory (writes_same old fails.0.stays.was) refl (omega arith) comes (λ rs h. just_add _ rs r) fails
-fails_add old new r Writing comes fails = fails_added old old new Add r Added Writing (writes_same old fails.0.was) refl (omega arith) comes (λ rs h. just_add _ rs r) fails
+fails_add old new r TooBig comes fails = fails_added old old new Add r Added TooBig (writes_same old fails.1) refl refl comes (λ rs h. just_add _ rs r) fails
+fails_add old new r NoMemory comes fails = fails_added old old new Add r Added NoMemory (writes_same old fails.0.stays.was) refl refl comes (λ rs h. just_add _ rs r) fails
+fails_add old new r Writing comes fails = fails_added old old new Add r Added Writing (writes_same old fails.0.was) refl refl comes (λ rs h. just_add _ rs r) fails
 
 -- an insertion of a record whose key is there
 pub puts_present : {S L : Type 0} {s : Ghosts S} {l : Widths L} (old new : Maker S L s l) (r : KeyValue) (there : Bool) → WritesNothing old new → there ≡ true

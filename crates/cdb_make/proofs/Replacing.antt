@@ -66,14 +66,15 @@ left_size {l = l} m rs r h found = record {
       omega (arith, size_push w xs r, size_split w rs, size_split w xs);
 }
 
-pub fails_too_big : {S L : Type 0} {s : Ghosts S} {l : Widths L} (old mid : Maker S L s l) (r : KeyValue) (left : ℕ) → WritesNothing old mid → mid.limit ≡ old.limit
+pub fails_too_big : {S L : Type 0} {s : Ghosts S} {l : Widths L} (old mid : Maker S L s l) (r : KeyValue) (left : ℕ) → WritesNothing old mid → s.failures mid.store ≡ s.failures old.store → mid.limit ≡ old.limit
     → ((rs : List KeyValue) → Holds old rs → AreGapsOf l.WORD r.key mid.gaps.items rs (s.image mid.store)) → left + sum_by (λ g. g.size) mid.gaps.items + 4 * l.WORD * length mid.gaps.items ≡ made_size mid
     → mid.limit < left + whole_size l.WORD r → FailsPutting old mid Replace r TooBig
-fails_too_big {l = l} old mid r left stays limit gaps size large = (
+fails_too_big {l = l} old mid r left stays fine limit gaps size large = (
   stays,
   λ rs h. record {
     each = λ b is. (let k = (left_size mid rs r (stays.stays.holds rs h) (gaps rs h)).each b is in omega arith);
   },
+  fine,
 )
 
 -- a replacement that keeps the limit
@@ -86,10 +87,10 @@ would_replace old mid r stays limit gaps fit = λ rs h. record {
       (λ e. not_present (is_there r.key rs) (count_of r.key rs) e, omega arith);
 }
 
-pub fails_wanting : {S L : Type 0} {s : Ghosts S} {l : Widths L} (old mid new : Maker S L s l) (r : KeyValue) (last : ℕ) → WritesNothing old mid → WritesNothing mid new → s.room old.store ≤ s.room mid.store
+pub fails_wanting : {S L : Type 0} {s : Ghosts S} {l : Widths L} (old mid new : Maker S L s l) (r : KeyValue) (last : ℕ) → WritesNothing old mid → WritesNothing mid new → s.failures new.store ≡ s.failures old.store → s.room old.store ≤ s.room mid.store
     → ((rs : List KeyValue) → Holds old rs → AreGapsOf l.WORD r.key mid.gaps.items rs (s.image mid.store)) → last + sum_by (λ g. g.size) mid.gaps.items ≡ mid.end
     → s.room mid.store < last + record_size l.WORD r → ComesFrom (s.image mid.store) (s.image new.store) → WouldPut old new Replace r → FailsPutting old new Replace r NoMemory
-fails_wanting {s = s} {l = l} old mid new r last stays same room gaps low past comes would = (
+fails_wanting {s = s} {l = l} old mid new r last stays same fine room gaps low past comes would = (
   writes_then old mid new stays same,
   λ rs h e. honest_comes comes (record {
     each = λ b is there.
@@ -102,6 +103,7 @@ fails_wanting {s = s} {l = l} old mid new r last stays same room gaps low past c
         omega (arith, sum_by_push (record_size w) (without k rs) r);
   }),
   would,
+  fine,
 )
 
 pub fails_exchange : {S L : Type 0} {s : Ghosts S} {l : Widths L} (old mid new : Maker S L s l) (r : KeyValue) (fault : MakeFault) → WritesNothing old mid → s.failures old.store ≤ s.failures mid.store

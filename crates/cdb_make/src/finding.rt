@@ -35,6 +35,7 @@ pub(crate) fn find_gaps<S: Store, L: Width>(
     ensures few { OnOk result (length gaps.new.items ≤ length (list_entries list.now)) }
     ensures foreign { result ≡ Err Foreign → NoneChained L.WORD start
         (list_entries list.now) end (S.image store.new) }
+    ensures ok_failures { OnOk result (S.failures store.new ≡ S.failures store.old) }
     ensures failed { result ≡ Err Failed → S.failures store.old < S.failures store.new }
     ensures reads { OnlyReads S.Store store.old store.new }
     ensures capacity { vec_capacity gaps.new ≡ vec_capacity gaps.old }
@@ -72,6 +73,7 @@ pub(crate) fn some_has<S: Store, L: Width>(
         (list_entries list.now) (S.image store.new)) }
     ensures foreign { result ≡ Err Foreign → (start : ℕ) → NoneChained L.WORD start
         (list_entries list.now) end (S.image store.new) }
+    ensures ok_failures { OnOk result (S.failures store.new ≡ S.failures store.old) }
     ensures failed { result ≡ Err Failed → S.failures store.old < S.failures store.new }
     ensures reads { OnlyReads S.Store store.old store.new }
 {

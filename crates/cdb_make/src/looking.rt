@@ -1,5 +1,5 @@
 // The record at a place, and whether it has a key.
-ghost use Rattle.std.specs.Prelude.{◌≡◌, ◌+◌, ◌<◌, ◌≤◌, ◌^◌, length, OnErr, IfOk, IsErrOf};
+ghost use Rattle.std.specs.Prelude.{◌≡◌, ◌+◌, ◌<◌, ◌≤◌, ◌^◌, length, OnOk, OnErr, IfOk, IsErrOf};
 ghost use Rattle.cdb_store.specs.declared.store.StoreFault.TheVariants.{NoMemory};
 ghost use Rattle.cdb_store.specs.Reads.{OnlyReads};
 ghost use Rattle.cdb_make.specs.declared.looking.LookFault.TheVariants.{Failed, Foreign};
@@ -46,6 +46,7 @@ fn is_read_at<S: Store>(
     requires fits { place + length key.now < 2 ^ 63 }
     ensures same { IfOk result (λ same. TellsSame same place key.now (S.image store.new)) }
     ensures reads { OnlyReads S.Store store.old store.new }
+    ensures ok_failures { OnOk result (S.failures store.new ≡ S.failures store.old) }
     ensures failed { OnErr result (S.failures store.old < S.failures store.new) }
     ensures memory { IsErrOf result NoMemory → ⊥ }
 {
@@ -68,6 +69,7 @@ pub(crate) fn key_is_at<S: Store>(store: &mut S, place: u64, key: &[u8]) -> Resu
     requires fits { place + length key.now < 2 ^ 63 }
     ensures same { IfOk result (λ same. TellsSame same place key.now (S.image store.new)) }
     ensures reads { OnlyReads S.Store store.old store.new }
+    ensures ok_failures { OnOk result (S.failures store.new ≡ S.failures store.old) }
     ensures failed { OnErr result (S.failures store.old < S.failures store.new) }
     ensures memory { IsErrOf result NoMemory → ⊥ }
 {
@@ -92,6 +94,7 @@ pub(crate) fn look_at<S: Store, L: Width>(
     ensures looks { LooksAt L.WORD place end key.now result (S.image store.new) }
     ensures within { SizeWithin place end result }
     ensures reads { OnlyReads S.Store store.old store.new }
+    ensures ok_failures { OnOk result (S.failures store.new ≡ S.failures store.old) }
     ensures failed { result ≡ Err Failed → S.failures store.old < S.failures store.new }
 {
     let header_size = pair_size::<L>();

@@ -54,7 +54,7 @@ pub struct Maker<S: Store, L: Width> {
 impl<S: Store, L: Width> Maker<S, L> {
     ghost use Rattle.cdb_make.specs.Views.Maker.{Holds, WhereHonest, made_size, StaysWhole};
     ghost use Rattle.cdb_make.specs.Views.Maker.{FailsLooking, SameCounts, WritesNothing};
-    ghost use Rattle.cdb_make.specs.Views.Maker.{look_fault, is_foreign};
+    ghost use Rattle.cdb_make.specs.Views.Maker.{look_fault, is_foreign, HasNotFailed};
 
     /// How many records it holds.
     ///
@@ -147,6 +147,7 @@ impl<S: Store, L: Width> Maker<S, L> {
         ensures images { NoNewImage (S.image self.old.store) (S.image self.new.store) }
         ensures room { S.room self.old.store ≤ S.room self.new.store }
         ensures failures { S.failures self.old.store ≤ S.failures self.new.store }
+        ensures ok_failures { OnOk result (HasNotFailed self.old self.new) }
     {
         if self.broken {
             return Err(MakeFault::Broken);

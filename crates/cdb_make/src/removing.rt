@@ -21,7 +21,7 @@ use cdb_store::Store;
 impl<S: Store, L: Width> Maker<S, L> {
     ghost use Rattle.cdb_make.specs.Views.Maker.{Holds, Removes, FailsRemoving, FailsLooking};
     ghost use Rattle.cdb_make.specs.Views.Maker.{SameCounts, WritesNothing, FailsClosing};
-    ghost use Rattle.cdb_make.specs.Views.Maker.{ComesFrom};
+    ghost use Rattle.cdb_make.specs.Views.Maker.{ComesFrom, HasNotFailed};
 
     /// How many records have a key, whose gaps are noted.
     pub(crate) fn find(&mut self, key: &[u8]) -> Result<u64, MakeFault>
@@ -37,6 +37,7 @@ impl<S: Store, L: Width> Maker<S, L> {
         ensures counts { SameCounts self.old self.new }
         ensures lists { self.new.lists ≡ self.old.lists }
         ensures reads { OnlyReads S.Store self.old.store self.new.store }
+        ensures ok_failures { OnOk result (HasNotFailed self.old self.new) }
     {
         if self.broken {
             return Err(MakeFault::Broken);

@@ -56,6 +56,7 @@ pub(crate) fn find<S: Store, L: Width>(
     ensures foreign { result ≡ Err Foreign → (rs : List KeyValue)
         → Stands L.WORD end (lists_entries lists.now) rs (S.image store.old)
         → HasNoImage (S.image store.new) }
+    ensures ok_failures { OnOk result (S.failures store.new ≡ S.failures store.old) }
     ensures failed { result ≡ Err Failed → S.failures store.old < S.failures store.new }
     ensures reads { OnlyReads S.Store store.old store.new }
     ensures capacity { vec_capacity gaps.new ≡ vec_capacity gaps.old }
@@ -88,6 +89,7 @@ pub(crate) fn exists<S: Store, L: Width>(
     ensures foreign { result ≡ Err Foreign → (rs : List KeyValue)
         → Stands L.WORD end (lists_entries lists.now) rs (S.image store.old)
         → HasNoImage (S.image store.new) }
+    ensures ok_failures { OnOk result (S.failures store.new ≡ S.failures store.old) }
     ensures failed { result ≡ Err Failed → S.failures store.old < S.failures store.new }
     ensures reads { OnlyReads S.Store store.old store.new }
 {

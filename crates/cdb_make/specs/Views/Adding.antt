@@ -9,6 +9,6 @@ use Rattle.cdb_make.specs.declared.fault.MakeFault.TheVariants.{Writing}
 abbrev pub AddFails : (written written₁ failures failures₁ : ℕ) → Type 0 → Type 0 → MakeFault
     → Type 0
 AddFails written written₁ failures failures₁ full past NoMemory =
-    (written₁ ≡ written) × (full ⊎ past)
+    (written₁ ≡ written) × (full ⊎ past) × (failures₁ ≡ failures)
 AddFails written written₁ failures failures₁ full past Writing = failures < failures₁
 AddFails written written₁ failures failures₁ full past fault = ⊥

@@ -36,6 +36,13 @@ limit_of m = m.limit
 abbrev pub made_size : {S L : Type 0} {s : Ghosts S} {l : Widths L} → Maker S L s l → ℕ
 made_size {l = l} m = m.end + 4 * l.WORD * m.count
 
+-- how many records it counts, and whether an earlier call broke it
+abbrev pub count_in : {S L : Type 0} {s : Ghosts S} {l : Widths L} → Maker S L s l → ℕ
+count_in m = m.count
+
+abbrev pub IsUsable : {S L : Type 0} {s : Ghosts S} {l : Widths L} → Maker S L s l → Type 0
+IsUsable m = m.broken ≡ false
+
 -- in an image it holds these records, from behind the head on and nowhere else
 pub record HoldsIn {S L : Type 0} {s : Ghosts S} {l : Widths L} (m : Maker S L s l)
     (rs : List KeyValue) (b : List ℕ) : Type 0 where
@@ -65,6 +72,11 @@ pub record WritesNothing {S L : Type 0} {s : Ghosts S} {l : Widths L} (old new :
 abbrev pub HasStoreFailed : {S L : Type 0} {s : Ghosts S} {l : Widths L} → Maker S L s l
     → Maker S L s l → Type 0
 HasStoreFailed {s = s} old new = s.failures old.store < s.failures new.store
+
+-- and no failure of it was counted
+abbrev pub HasNotFailed : {S L : Type 0} {s : Ghosts S} {l : Widths L} → Maker S L s l
+    → Maker S L s l → Type 0
+HasNotFailed {s = s} old new = s.failures new.store ≡ s.failures old.store
 
 -- it is broken, since it was or since its store has given back other bytes than it was told to
 -- write
@@ -154,7 +166,7 @@ abbrev pub FailsAdding : {S L : Type 0} {s : Ghosts S} {l : Widths L} → Maker 
 FailsAdding old new r Broken = (old.broken ≡ true) × (new ≡ old)
 FailsAdding {s = s} {l = l} old new r TooBig =
     (new ≡ old) × (old.broken ≡ false) × (old.limit < made_size old + whole_size l.WORD r)
-FailsAdding old new r NoMemory = WritesNothing old new × HasRoom old r
+FailsAdding old new r NoMemory = WritesNothing old new × HasRoom old r × HasNotFailed old new
 FailsAdding old new r Writing = StaysWhole old new × HasStoreFailed old new × HasRoom old r
 FailsAdding old new r Lookup = ⊥
 
@@ -222,9 +234,11 @@ abbrev pub FailsPutting : {S L : Type 0} {s : Ghosts S} {l : Widths L} → Maker
 FailsPutting old new mode r Broken = IsBroken old new
 FailsPutting old new mode r Lookup =
     WritesNothing old new × HasStoreFailed old new × (mode ≢ Add)
-FailsPutting old new mode r TooBig = WritesNothing old new × IsTooBig old new mode r
+FailsPutting old new mode r TooBig =
+    WritesNothing old new × IsTooBig old new mode r × HasNotFailed old new
 FailsPutting old new mode r NoMemory =
     WritesNothing old new × WantsRoom old new mode r × WouldPut old new mode r
+    × HasNotFailed old new
 FailsPutting old new mode r Writing =
     ((StaysWhole old new × HasStoreFailed old new × OnlyAdds old new mode r)
     ⊎ (IsTorn old new r.key × (mode ≡ Replace))) × WouldPut old new mode r

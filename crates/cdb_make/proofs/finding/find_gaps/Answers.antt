@@ -37,6 +37,7 @@ loop-next-init g c =
           (picks_until hs ps 0 n refl (omega arith) c.args.list.now.paired c.next_place-next.ensures.within c.next_place-next.ensures.none (picks_all g.L.Width.WORD c.args.hash c.args.key.now (entries_of hs ps) (g.S.Store.image c.args.store.now)));
       chains = chains_until (entries_of hs ps) 0 n (omega arith) (chains_all g.L.Width.WORD c.args.start (entries_of hs ps) c.args.end (g.S.Store.image c.args.store.now));
       reads = reads_nothing _ _ refl;
+      fine = refl;
     }
 
 pub loop-next-preserved : goal.loop-next-preserved
@@ -89,6 +90,7 @@ loop-next-preserved g c =
       picks = picks_until hs ps (i + 1) n refl c.next_place-next-in-loop-next.ensures.from c.args.list.now.paired c.next_place-next-in-loop-next.ensures.within c.next_place-next-in-loop-next.ensures.none noted.picks;
       chains = chains_until all (i + 1) n c.next_place-next-in-loop-next.ensures.from noted.chains;
       reads = reads_more v.reads c.look_at.ensures.reads;
+      fine = c.in_ok-size.ensures.ok_failures ∙ v.fine;
     }
 
 pub returns-in_err-size-clause-foreign : goal.returns-in_err-size-clause-foreign

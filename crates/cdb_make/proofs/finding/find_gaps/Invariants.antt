@@ -17,6 +17,7 @@ invariant-loop-next g l = record {
   picks : PicksSoFar g.L.Width.WORD l.hash l.key l.gaps.items (drop l.next (entries_of l.list.hashes.items l.list.places.items)) (entries_of l.list.hashes.items l.list.places.items) (g.S.Store.image l.store);
   chains : ChainsOn g.L.Width.WORD l.start l.last (drop l.next (entries_of l.list.hashes.items l.list.places.items)) (entries_of l.list.hashes.items l.list.places.items) l.end (g.S.Store.image l.store);
   reads : OnlyReads g.S.Store l.fn.store l.store;
+  fine : g.S.Store.failures l.store ≡ g.S.Store.failures l.fn.store;
 }
 
 abbrev pub decreases-loop-next : goal.decreases-loop-next

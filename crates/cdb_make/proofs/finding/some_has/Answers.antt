@@ -1,4 +1,4 @@
-use Rattle.std.proofs.Common.{rules, arith, ap, subst, sym, ◌≡◌, ◌+◌, ◌<◌, ℕ, length, List, ◌∷◌, drop, get_or, Err, refl}
+use Rattle.std.proofs.Common.{rules, arith, ap, subst, sym, ◌∙◌, ◌≡◌, ◌+◌, ◌<◌, ℕ, length, List, ◌∷◌, drop, get_or, Err, refl}
 use Rattle.cdb_form.specs.Format.Pair.{WordPair}
 use Rattle.cdb_store.proofs.Reading.{reads_more, reads_nothing}
 use Rattle.cdb_make.specs.declared.looking.LookFault.{LookFault}
@@ -27,6 +27,7 @@ loop-next-init g c =
       picks = picks_until hs ps 0 n refl (omega arith) c.args.list.now.paired c.next_place-next.ensures.within c.next_place-next.ensures.none (picks_all g.L.Width.WORD c.args.hash c.args.key.now (entries_of hs ps) (g.S.Store.image c.args.store.now));
       chains = λ start. chains_until (entries_of hs ps) 0 n (omega arith) (chains_low g.L.Width.WORD start (entries_of hs ps) c.args.end (g.S.Store.image c.args.store.now));
       reads = reads_nothing _ _ refl;
+      fine = refl;
     }
 
 pub returns-in_err-look_at-clause-foreign : goal.returns-in_err-look_at-clause-foreign
@@ -77,6 +78,7 @@ loop-next-preserved g c =
           (picks_skip e rest same v.picks (reads_fewer c.look_at.ensures.reads) (λ b is. skip_key w c.args.hash c.args.key.now b e rest (has_it_not c.in_ok-look_at.field-0 (sym c.if-is_some.ensures) c.in_ok-look_at.ensures.looks b is)));
       chains = λ start. chains_until (entries_of hs ps) (i + 1) n c.next_place-next-in-loop-next.ensures.from (chains_skip e rest same (v.chains start) (reads_fewer c.look_at.ensures.reads));
       reads = reads_more v.reads c.look_at.ensures.reads;
+      fine = c.in_ok-look_at.ensures.ok_failures ∙ v.fine;
     }
 
 pub returns-clause-tells : goal.returns-clause-tells

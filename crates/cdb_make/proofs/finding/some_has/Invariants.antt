@@ -12,6 +12,7 @@ invariant-loop-next g l = record {
   picks : PicksSoFar g.L.Width.WORD l.hash l.key [] (drop l.next (entries_of l.list.hashes.items l.list.places.items)) (entries_of l.list.hashes.items l.list.places.items) (g.S.Store.image l.store);
   chains : (start : ℕ) → ChainsOn g.L.Width.WORD start 0 (drop l.next (entries_of l.list.hashes.items l.list.places.items)) (entries_of l.list.hashes.items l.list.places.items) l.end (g.S.Store.image l.store);
   reads : OnlyReads g.S.Store l.fn.store l.store;
+  fine : g.S.Store.failures l.store ≡ g.S.Store.failures l.fn.store;
 }
 
 abbrev pub decreases-loop-next : goal.decreases-loop-next

@@ -1,4 +1,4 @@
-use Rattle.std.proofs.Common.{rules, arith, ◌≡◌, length, length-append, length-drop}
+use Rattle.std.proofs.Common.{rules, arith, ◌≡◌, ◌∙◌, length, length-append, length-drop}
 use Rattle.cdb_store.specs.Reads.{OnlyReads}
 use Rattle.cdb_store.proofs.Reading.{reads_more}
 use Rattle.cdb_make.proofs.Compare.{differs, agrees, agrees_piece, tells_other}
@@ -26,6 +26,7 @@ loop-done-preserved g c =
       piece = simp (length-append, length-drop) (omega (arith, l, c.loop-done.invariant.piece));
       agrees = agrees_piece c.loop-done.done c.min-n.result c.args.key.now (omega arith) l c.loop-done.invariant.agrees c.in_ok-read_at.ensures.ok (agrees c.min-n.result c.loop-done.done c.read_at.new.into c.loop-done.piece c.args.key.now l c.if-ne.ensures);
       reads = reads_more c.loop-done.invariant.reads read;
+      fine = c.in_ok-read_at.ensures.ok_failures ∙ c.loop-done.invariant.fine;
     }
 
 pub slice_bounds-ne-end-in-loop-done : goal.slice_bounds-ne-end-in-loop-done

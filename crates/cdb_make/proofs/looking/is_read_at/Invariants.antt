@@ -9,6 +9,7 @@ invariant-loop-done g l = record {
   piece : length l.piece ≡ length l.fn.piece;
   agrees : AgreesSoFar l.place (take l.done l.key) (g.S.Store.image l.store);
   reads : OnlyReads g.S.Store l.fn.store l.store;
+  fine : g.S.Store.failures l.store ≡ g.S.Store.failures l.fn.store;
 }
 
 abbrev pub decreases-loop-done : goal.decreases-loop-done

@@ -25,7 +25,7 @@ returns-in_err-add-clause-fails g c =
     let p = err_from_is_err_and c.from_residual-in_err-add.result c.from_residual-in_err-add.ensures.1 in
     let e = c.in_ok-taken.ensures in
     let none : c.find.new.self.gaps.items ≡ [] = nil_from_length c.find.new.self.gaps.items (omega (arith, e.count, c.if-taken-eq0.true)) in
-    rw (p.1, p.2) (fails_added {s = g.S.Store} {l = g.L.Width} _ c.find.new.self _ Replace _ Added _ e.ok c.find.ensures.counts.limit c.find.ensures.reads.failures c.add.ensures.comes (λ rs h. just_replace rs _ none (e.gaps rs h)) c.in_err-add.ensures.fails)
+    rw (p.1, p.2) (fails_added {s = g.S.Store} {l = g.L.Width} _ c.find.new.self _ Replace _ Added _ e.ok c.find.ensures.counts.limit e.ok_failures c.add.ensures.comes (λ rs h. just_replace rs _ none (e.gaps rs h)) c.in_err-add.ensures.fails)
 
 pub returns-then-taken-eq0-clause-puts : goal.returns-then-taken-eq0-clause-puts
 returns-then-taken-eq0-clause-puts g c =
@@ -72,7 +72,7 @@ returns-then-not-has_room-clause-fails g c =
     let p : 2 * c.pair_size.result * t ≡ 4 * w * length m.gaps.items = ap (λ (v : ℕ). v * t) n ∙ ap (λ (v : ℕ). 4 * w * v) e.count in
     let q : 4 * w * t ≡ 4 * w * length m.gaps.items = ap (λ (v : ℕ). 4 * w * v) e.count in
     let few = fewer_bytes w t m.count g.met.L.Width.four_or_eight e.few in
-    fails_too_big {s = g.S.Store} {l = g.L.Width} _ m _ _ e.ok c.find.ensures.counts.limit e.gaps (omega (arith, c.size.ensures.is)) (c.if-not-has_room.ensures.none refl)
+    fails_too_big {s = g.S.Store} {l = g.L.Width} _ m _ _ e.ok e.ok_failures c.find.ensures.counts.limit e.gaps (omega (arith, c.size.ensures.is)) (c.if-not-has_room.ensures.none refl)
 
 pub overflow_sub-self : goal.overflow_sub-self
 overflow_sub-self g c =
@@ -100,7 +100,7 @@ returns-in_err-reserve-clause-fails g c =
     let would = would_replace {s = g.S.Store} {l = g.L.Width} c.args.self.now m r e.ok c.find.ensures.counts.limit e.gaps fit in
     rw (p.1, p.2, fault)
     (fails_wanting {s = g.S.Store} {l = g.L.Width} _ m _ _ (m.end - c.all_sizes-gone.result) e.ok (writes_looked e.ok.stays.whole e.ok.stays.whole refl refl (record { no_other = c.reserve.ensures.images.no_other }) c.reserve.ensures.written)
-    c.find.ensures.reads.room e.gaps (omega arith) (omega (arith, c.in_err-reserve.ensures.past_room, c.pair_size-2.ensures)) same
+    (c.in_err-reserve.ensures.err_failures ∙ e.ok_failures) c.find.ensures.reads.room e.gaps (omega arith) (omega (arith, c.in_err-reserve.ensures.past_room, c.pair_size-2.ensures)) same
     (λ rs h. honest_comes same (would rs h)))
 
 pub returns-in_err-exchange-clause-fails : goal.returns-in_err-exchange-clause-fails
