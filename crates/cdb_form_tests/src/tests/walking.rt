@@ -277,6 +277,49 @@ fn interruptions_and_small_pieces(rt: HostRuntime) -> Result<(), Fail> {
     Ok(())
 }
 
+/// A file of one record, of a key and a value of so many bytes.
+fn long_file(alloc: Global, klen: u32, vlen: u32) -> Result<Vec<u8>, AllocError> {
+    let (klen, vlen) = (klen.min(4096), vlen.min(4096));
+    let mut file = vec![in alloc; 0u8; 2048]?;
+    put_words(&mut file, 0, 2056 + klen + vlen, 1);
+    file.extend_from_slice(&klen.to_le_bytes())?;
+    file.extend_from_slice(&vlen.to_le_bytes())?;
+    for _ in 0..klen + vlen {
+        file.push(b'x')?;
+    }
+    Ok(file)
+}
+
+/// Whether a reader of keys alone gives one of so many bytes, and then the end.
+fn gives_key(alloc: Global, reader: FakeReader<'_>, klen: usize) -> bool {
+    let mut reader: RecordReader<FakeReader<'_>, Narrow> = RecordReader::new(alloc, reader);
+    let mut record = Record {
+        key: Vec::new(alloc),
+        value: Vec::new(alloc),
+    };
+    let is_given = reader.read_key(&mut record) == Ok(true) && record.key.len() == klen;
+    is_given && reader.read_key(&mut record) == Ok(false)
+}
+
+#[test]
+fn long_keys_and_values_come_byte_by_byte(rt: HostRuntime) -> Result<(), Fail> {
+    // More pieces than interrupts are waited for.
+    for (klen, vlen) in [(1, 3000), (3000, 1)] {
+        let file = long_file(rt.alloc(), klen, vlen)?;
+        let mut reader = FakeReader::new(&file, Behind::Failure);
+        reader.most = 1;
+        let is_walked = walks::<Narrow, FakeReader<'_>>(rt.alloc(), reader, 1, None)?;
+        assert!(rt; is_walked, "{klen} and {vlen}");
+        let mut reader = FakeReader::new(&file, Behind::Failure);
+        reader.most = 1;
+        assert!(rt;
+            gives_key(rt.alloc(), reader, klen as usize),
+            "{klen} alone"
+        );
+    }
+    Ok(())
+}
+
 #[test]
 fn interruptions_are_counted_in_a_row(rt: HostRuntime) -> Result<(), Fail> {
     let file = foreign_file(rt.alloc())?;
@@ -331,27 +374,28 @@ fn what_follows_the_record_end_stays(rt: HostRuntime) -> Result<(), Fail> {
     Ok(())
 }
 
-// Whether the keys of the two records are read without their values, and then the end.
-fn reads_keys(alloc: Global, rest: &mut &[u8]) -> bool {
+// Whether the keys of the two records are read over a record whose value stays, and then the end.
+fn reads_keys(alloc: Global, rest: &mut &[u8]) -> Result<bool, AllocError> {
     let mut reader: RecordReader<&mut &[u8], Narrow> = RecordReader::new(alloc, rest);
     let mut record = Record {
         key: Vec::new(alloc),
-        value: Vec::new(alloc),
+        value: b"kept".to_vec(alloc)?,
     };
     for key in [b"one", b"two"] {
-        let is_given = reader.read_key(&mut record) == Ok(true) && record.value.is_empty();
+        let is_given = reader.read_key(&mut record) == Ok(true)
+            && record.value.as_slice() == b"kept".as_slice();
         if !is_given || record.key.as_slice() != key.as_slice() {
-            return false;
+            return Ok(false);
         }
     }
-    reader.read_key(&mut record) == Ok(false)
+    Ok(reader.read_key(&mut record) == Ok(false) && record.value.as_slice() == b"kept".as_slice())
 }
 
 #[test]
 fn keys_are_read_without_their_values(rt: HostRuntime) -> Result<(), Fail> {
     let file = two_file(rt.alloc())?;
     let mut rest = file.as_slice();
-    assert!(rt; reads_keys(rt.alloc(), &mut rest));
+    assert!(rt; reads_keys(rt.alloc(), &mut rest)?);
     assert!(rt; file.len() == 2114 && Some(rest) == file.get(2082..));
     Ok(())
 }
