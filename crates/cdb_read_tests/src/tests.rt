@@ -1,4 +1,6 @@
 //! What contracts can't say.
+mod bad_bytes;
+mod bad_file;
 mod checking;
 mod counting;
 mod damaged;

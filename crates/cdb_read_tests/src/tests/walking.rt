@@ -175,6 +175,44 @@ fn a_walk_reads_many_records_at_once(rt: HostRuntime) -> Result<(), Fail> {
     Ok(())
 }
 
+/// Whether each record that a walk gives, of so many, has this key and this value, and how many
+/// calls its store counted.
+fn taken(
+    alloc: Global,
+    store: Fused,
+    n: u64,
+    record: (&[u8], &[u8]),
+) -> Result<(bool, u64), ReadFault> {
+    let mut reader = opened_again::<Narrow>(store)?;
+    let mut records = walk(&mut reader);
+    let mut bytes = Vec::new(alloc);
+    let mut same = true;
+    for _ in 0..n {
+        let Some(pair) = records.next()? else {
+            return Err(ReadFault::Short);
+        };
+        records.value_into(pair.key, &mut bytes)?;
+        same = same && bytes.as_slice() == record.0;
+        records.value_into(pair.value, &mut bytes)?;
+        same = same && bytes.as_slice() == record.1;
+    }
+    Ok((same, reader.into_store().calls()))
+}
+
+#[test]
+fn the_values_of_a_walk_come_from_what_was_read(rt: HostRuntime) -> Result<(), Fail> {
+    let file = many(rt.alloc(), 2000)?;
+    let record: (&[u8], &[u8]) = (b"key of 8", b"a value of 14.");
+    // The head and 15 windows; each window but the last may end in a record whose key or value is
+    // read by itself.
+    let answer = taken(rt.alloc(), fused(file, u64::MAX), 2000, record);
+    assert!(rt;
+        answer.is_ok_and(|it| it.0 && it.1 <= 16 + 2 * 14),
+        "{answer:?}"
+    );
+    Ok(())
+}
+
 /// The value of the first record, and the key of the second, as a walk gives them.
 fn values(alloc: Global, store: Fused) -> Result<(Vec<u8>, Vec<u8>), ReadFault> {
     let mut reader = opened_again::<Narrow>(store)?;
