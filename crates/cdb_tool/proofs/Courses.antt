@@ -1,5 +1,5 @@
 -- A run, item after item.
-use Rattle.std.proofs.Common.{◌≡◌, ◌+◌, ◌*◌, ◌<◌, true, false, ℕ, inl, inr, List, [], ◌∷◌, ◌++◌, length, refl, sym, ap, subst, ◌∙◌, arith, append_assoc, Option, Some, None, Result, Ok, Err, if◌then◌else◌}
+use Rattle.std.proofs.Common.{◌≡◌, ◌+◌, ◌*◌, ◌<◌, ◌≤◌, true, false, ℕ, inl, inr, List, [], ◌∷◌, ◌++◌, length, refl, sym, ap, subst, ◌∙◌, arith, append_assoc, Option, Some, None, Result, Ok, Err, if◌then◌else◌}
 use Rattle.std.specs.Prelude.{OnOk, IfErr}
 use Rattle.std.proofs.lemmas.Bool.{le-leb, lt-leb}
 use Rattle.std.proofs.lemmas.List.{append-nil}
@@ -13,16 +13,17 @@ use Rattle.cdb_form.specs.Text.Amending.{Change, Putting, Removing}
 use Rattle.cdb_form.specs.Views.KnownBytes.{AppendsFront}
 use Rattle.cdb_form.proofs.WritingLemmas.{appends_then, front_then}
 use Rattle.cdb_make.specs.Survivors.{put_list, put_answer, fits}
-use Rattle.cdb_make.specs.Views.Maker.{Holds, HoldsIn, WhereHonest, ComesFrom, Puts, FailsPutting, Removes, FailsRemoving, limit_of}
+use Rattle.cdb_make.specs.Views.Maker.{Holds, HoldsIn, WhereHonest, ComesFrom, StaysWhole, Puts, WouldPut, FailsPutting, Removes, FailsRemoving, limit_of, count_in, IsUsable}
 use Rattle.cdb_make.specs.declared.fault.MakeFault.{MakeFault}
 use Rattle.cdb_make.specs.declared.fault.MakeFault.TheVariants as make
 use Rattle.cdb_make.specs.declared.maker.Maker.{Maker}
 use Rattle.cdb_make.specs.declared.mode.Mode.{Mode}
 use Rattle.cdb_make.specs.declared.mode.Put.{Put}
-use Rattle.cdb_make.proofs.Makers.{held_size}
+use Rattle.cdb_make.specs.declared.mode.Put.TheVariants.{Added, AddedAgain, Present, Replaced}
+use Rattle.cdb_make.proofs.Makers.{held_count, held_size}
 use Rattle.cdb_tool.specs.Views.Fault.{make_fault}
 use Rattle.cdb_tool.specs.Runs.Course.{Task, Incoming, Course, from_input, from_inputs, mode_of, said, ends, is_going, with_put, with_change, with_next, at_start, course_of, TellFails, Goes, StopsSo}
-use Rattle.cdb_tool.specs.Runs.Make.{InCourse, PutStops, IsOfStore}
+use Rattle.cdb_tool.specs.Runs.Make.{InCourse, PutStops, IsOfStore, StandsAt, IsHalt, TakesNext}
 use Rattle.cdb_tool.specs.declared.fault.Fault.{Fault}
 use Rattle.cdb_tool.specs.declared.fault.Fault.TheVariants.{Text, Make, Duplicate, Missing, Read, Walk, Output, Long, Open, Rename, NoMemory}
 use Rattle.cdb_command.specs.declared.options.MakeOptions.{MakeOptions}
@@ -180,6 +181,101 @@ refused_store old new mode r make.Lookup x is = x.1
 refused_store old new mode r make.TooBig x is = absurd is
 refused_store old new mode r make.NoMemory x is = absurd is
 refused_store old new mode r make.Writing x is = elim x.0 [ inl stays ↦ stays.1 | inr torn ↦ torn.0.failed ]
+
+-- ---- where a run came to that was halted
+
+stands_so : {S L : Type 0} {s : Ghosts S} {l : Widths L} (t : Task) (cs : List Incoming) (start mid : Option (List ℕ)) (old new : Maker S L s l) → InCourse t cs start mid old → ComesFrom (s.image old.store) (s.image new.store) → count_in new ≡ count_in old
+    → (IsUsable new → Holds new (course_of l.WORD t cs).records) → StandsAt t cs start mid new
+stands_so {l = l} t cs start mid old new h comes count holds = record {
+  holds = holds;
+  count = record { each = λ b is. let a = comes.each b is in count ∙ (held_count old (course_of l.WORD t cs).records h.holds).each a.0 a.1 };
+  goes = record { each = λ b is. let a = comes.each b is in h.goes.each a.0 a.1 };
+}
+
+stands_whole : {S L : Type 0} {s : Ghosts S} {l : Widths L} (t : Task) (cs : List Incoming) (start mid : Option (List ℕ)) (old new : Maker S L s l) → InCourse t cs start mid old → ComesFrom (s.image old.store) (s.image new.store) → count_in new ≡ count_in old → StaysWhole old new
+    → StandsAt t cs start mid new
+stands_whole {l = l} t cs start mid old new h comes count stays = stands_so t cs start mid old new h comes count (λ usable. stays.holds (course_of l.WORD t cs).records h.holds)
+
+stands_broken : {S L : Type 0} {s : Ghosts S} {l : Widths L} (t : Task) (cs : List Incoming) (start mid : Option (List ℕ)) (old new : Maker S L s l) → InCourse t cs start mid old → ComesFrom (s.image old.store) (s.image new.store) → count_in new ≡ count_in old → new.broken ≡ true
+    → StandsAt t cs start mid new
+stands_broken t cs start mid old new h comes count broken = stands_so t cs start mid old new h comes count (λ usable. absurd (let k : true ≡ false = sym broken ∙ usable in cc))
+
+pub course_stands : {S L : Type 0} {s : Ghosts S} {l : Widths L} (t : Task) (cs : List Incoming) (start now : Option (List ℕ)) (m : Maker S L s l) → InCourse t cs start now m → StandsAt t cs start now m
+course_stands t cs start now m h = stands_so t cs start now m m h (record { each = λ b is. (b, is) }) refl (λ usable. h.holds)
+
+put_halted : {S L : Type 0} {s : Ghosts S} {l : Widths L} (t : Task) (cs : List Incoming) (r : KeyValue) (start mid : Option (List ℕ)) (old new : Maker S L s l) (f : MakeFault) → InCourse t cs start mid old → FailsPutting old new (mode_of t.options) r f
+    → ComesFrom (s.image old.store) (s.image new.store) → count_in new ≡ count_in old → IsHalt (make_fault f) → StandsAt t cs start mid new
+put_halted t cs r start mid old new make.Broken h x comes count is = absurd is
+put_halted t cs r start mid old new make.Lookup h x comes count is = stands_whole t cs start mid old new h comes count x.0.stays
+put_halted t cs r start mid old new make.TooBig h x comes count is = absurd is
+put_halted t cs r start mid old new make.NoMemory h x comes count is = stands_whole t cs start mid old new h comes count x.0.stays
+put_halted t cs r start mid old new make.Writing h x comes count is = elim x.0 [
+  | inl stays ↦ stands_whole t cs start mid old new h comes count stays.0
+  | inr torn ↦ stands_broken t cs start mid old new h comes count torn.0.broken
+]
+
+pub put_halted_so : {S L : Type 0} {s : Ghosts S} {l : Widths L} (t : Task) (o : MakeOptions) (cs : List Incoming) (r : KeyValue) (start mid : Option (List ℕ)) (old new : Maker S L s l) (f : MakeFault) → t.options ≡ o → InCourse t cs start mid old → FailsPutting old new (mode_of o) r f
+    → ComesFrom (s.image old.store) (s.image new.store) → count_in new ≡ count_in old → IsHalt (make_fault f) → StandsAt t cs start mid new
+put_halted_so t o cs r start mid old new f same h x comes count is = put_halted t cs r start mid old new f h (subst (λ v. FailsPutting old new (mode_of v) r f) (sym same) x) comes count is
+
+pub removal_halted : {S L : Type 0} {s : Ghosts S} {l : Widths L} (t : Task) (cs : List Incoming) (key : List ℕ) (start now : Option (List ℕ)) (old new : Maker S L s l) (f : MakeFault) → InCourse t cs start now old → FailsRemoving old new key f
+    → ComesFrom (s.image old.store) (s.image new.store) → count_in new ≡ count_in old → IsHalt (make_fault f) → StandsAt t cs start now new
+removal_halted t cs key start now old new make.Broken h x comes count is = absurd is
+removal_halted t cs key start now old new make.Lookup h x comes count is = stands_whole t cs start now old new h comes count x.0.stays
+removal_halted t cs key start now old new make.TooBig h x comes count is = absurd is
+removal_halted t cs key start now old new make.NoMemory h x comes count is = absurd x
+removal_halted t cs key start now old new make.Writing h x comes count is = stands_broken t cs start now old new h comes count x.broken
+
+-- what a teller answers does not halt a run
+pub told_halts : (o : MakeOptions) (i j : ℕ) (put : Put) (old new : Option (List ℕ)) (f : Fault) → TellFails o i j put old new f → IsHalt f → ⊥
+told_halts o i j put old new (Text n f) x is = absurd is
+told_halts o i j put old new (Make f) x is = absurd x
+told_halts o i j put old new (Walk f) x is = absurd is
+told_halts o i j put old new Missing x is = absurd is
+told_halts o i j put old new (Read f) x is = absurd is
+told_halts o i j put old new Long x is = absurd is
+told_halts o i j put old new Open x is = absurd is
+told_halts o i j put old new Rename x is = absurd is
+told_halts o i j put old new NoMemory x is = absurd x
+told_halts o i j put old new Output x is = absurd is
+told_halts o i j put old new Duplicate x is = absurd is
+
+-- ---- a put that was refused memory
+
+goes_on : (o : MakeOptions) (put : Put) → (put ≡ Present → ⊥) → ends o (Ok put) ≡ None
+goes_on o Added h = refl
+goes_on o AddedAgain h = refl
+goes_on o Present h = absurd (h refl)
+goes_on o (Replaced n) h = refl
+
+would_take : {S L : Type 0} {s : Ghosts S} {l : Widths L} (t : Task) (cs : List Incoming) (i n : ℕ) (r : KeyValue) (start mid : Option (List ℕ)) (old new : Maker S L s l) → InCourse t cs start mid old → WouldPut old new (mode_of t.options) r
+    → ComesFrom (s.image old.store) (s.image new.store) → WhereHonest (s.image new.store) (TakesNext l.WORD t cs (putting i n r))
+would_take {l = l} t cs i n r start mid old new h would comes = record {
+  each = λ b is.
+      let s = course_of l.WORD t cs in
+      let o = t.options in
+      let a = comes.each b is in
+      let goes = h.goes.each a.0 a.1 in
+      let w = (would s.records h.holds).each b is in
+      let small : file_size l.WORD (put_list (mode_of o) r s.records) ≤ o.limit = omega (arith, w.1, h.limit) in
+      let fit : fits l.WORD o.limit (mode_of o) r s.records ≡ true = le-leb (file_size l.WORD (put_list (mode_of o) r s.records)) o.limit small in
+      ap (λ v. v.ended) (course_next l.WORD t cs (putting i n r) goes.going ∙ put_fits l.WORD o s i n r (put_answer (mode_of o) r s.records) fit refl) ∙ goes_on o (put_answer (mode_of o) r s.records) w.0;
+}
+
+memory_taken : {S L : Type 0} {s : Ghosts S} {l : Widths L} (t : Task) (cs : List Incoming) (i n : ℕ) (r : KeyValue) (start mid : Option (List ℕ)) (old new : Maker S L s l) (f : MakeFault) → InCourse t cs start mid old → FailsPutting old new (mode_of t.options) r f
+    → ComesFrom (s.image old.store) (s.image new.store) → make_fault f ≡ NoMemory → WhereHonest (s.image new.store) (TakesNext l.WORD t cs (putting i n r))
+memory_taken t cs i n r start mid old new make.NoMemory h x comes e = would_take t cs i n r start mid old new h x.2 comes
+memory_taken t cs i n r start mid old new make.Broken h x comes e = absurd (let k : Make make.Broken ≡ NoMemory = e in cc)
+memory_taken t cs i n r start mid old new make.Lookup h x comes e = absurd (let k : Make make.Lookup ≡ NoMemory = e in cc)
+memory_taken t cs i n r start mid old new make.TooBig h x comes e = absurd (let k : Make make.TooBig ≡ NoMemory = e in cc)
+memory_taken t cs i n r start mid old new make.Writing h x comes e = absurd (let k : Make make.Writing ≡ NoMemory = e in cc)
+
+pub memory_taken_so : {S L : Type 0} {s : Ghosts S} {l : Widths L} (t : Task) (o : MakeOptions) (cs : List Incoming) (i n : ℕ) (r : KeyValue) (start mid : Option (List ℕ)) (old new : Maker S L s l) (f : MakeFault) → t.options ≡ o → InCourse t cs start mid old → FailsPutting old new (mode_of o) r f
+    → ComesFrom (s.image old.store) (s.image new.store) → make_fault f ≡ NoMemory → WhereHonest (s.image new.store) (TakesNext l.WORD t cs (putting i n r))
+memory_taken_so t o cs i n r start mid old new f same h x comes e = memory_taken t cs i n r start mid old new f h (subst (λ v. FailsPutting old new (mode_of v) r f) (sym same) x) comes e
+
+pub told_memory : (o : MakeOptions) (i j : ℕ) (put : Put) (old new : Option (List ℕ)) (f : Fault) → TellFails o i j put old new f → f ≡ NoMemory → ⊥
+told_memory o i j put old new f x e = told_halts o i j put old new f x (subst IsHalt (sym e) tt)
 
 -- ---- the same of a run that has these options
 

@@ -12,7 +12,7 @@ use Rattle.cdb_tool.specs.Views.Fault.{text_fault}
 use Rattle.cdb_tool.specs.Views.ItemReader.{form_of, Fails}
 use Rattle.cdb_tool.specs.Runs.Course.{Task, Incoming, from_inputs, Goes, StopsSo}
 use Rattle.cdb_tool.specs.Runs.Inputs.{InputForm, input_form, IsInputOf, BeginsWithItems, HasItemFault, AreInputs}
-use Rattle.cdb_tool.specs.Runs.Make.{InCourse, PutStops, InputFails, StopsIn, Stops, InputsFail, came, IsOfStore}
+use Rattle.cdb_tool.specs.Runs.Make.{InCourse, PutStops, InputFails, StopsIn, Stops, InputsFail, came, IsOfStore, StandsAt, StandsIn, Stands}
 use Rattle.cdb_tool.specs.Runs.Make.{form_of as task_form}
 use Rattle.cdb_tool.specs.declared.fault.Fault.{Fault}
 use Rattle.cdb_tool.specs.declared.fault.Fault.TheVariants.{Text, Make, Duplicate, Missing, Read, Walk, Output, Long, Open, Rename, NoMemory}
@@ -87,6 +87,11 @@ text_store n (fault.Large at) is = is
 text_store n fault.Input is = is
 text_store n fault.Endless is = is
 
+-- a run that was halted in an input, or behind its items
+pub halted_here : {S K : Type 0} {s : Ghosts S} {k : Widths K} (form is : InputForm) (g : ℕ) (o : Task) (read : List (List Change)) (input : Option (List ℕ)) (last : List Change) (start now : Option (List ℕ)) (m : Maker S K s k) → is ≡ form → IfSome input (BeginsWithItems is g last)
+    → StandsAt o (came read last) start now m → StandsIn form g o read input start now m
+halted_here form is g o read input last start now m same b h = record { last = last; begins = subst (λ v. IfSome input (BeginsWithItems v g last)) same b; stands = h }
+
 -- ---- one input more
 
 pub inputs_next : (st : InputForm) (g : ℕ) (read : List (List Change)) (last : List Change) (x : Option (List ℕ)) (inputs rest : List (Option (List ℕ))) → AreInputs st g read inputs (x ∷ rest) → IfSome x (IsInputOf st g last) → AreInputs st g (read ++ last ∷ []) inputs rest
@@ -123,6 +128,17 @@ pub inputs_taken : {R : Type 0} (remaining : R → Option (List ℕ)) (st : Inpu
     → AreInputs st g read inputs (x ∷ map remaining rest)
 inputs_taken remaining st g read inputs left rest r x e same are =
     subst (λ v. AreInputs st g read inputs (v ∷ map remaining rest)) (sym same) (subst (λ v. AreInputs st g read inputs (map remaining v)) e are)
+
+pub halted : {R S K : Type 0} {s : Ghosts S} {k : Widths K} (g : ℕ) (remaining : R → Option (List ℕ)) (form is : InputForm) (o : Task) (read : List (List Change)) (inputs left rest : List R) (r : R) (x : Option (List ℕ)) (start now : Option (List ℕ)) (m : Maker S K s k)
+    → is ≡ form → AreInputs form g read (map remaining inputs) (map remaining left) → left ≡ r ∷ rest → x ≡ remaining r → StandsIn is g o read x start now m → Stands form g o (map remaining inputs) start now m
+halted g remaining form is o read inputs left rest r x start now m same are e one h = record {
+  read = read;
+  last = h.last;
+  rest = x ∷ map remaining rest;
+  are = inputs_taken remaining form g read _ left rest r x e one are;
+  begins = subst (λ v. IfSome x (BeginsWithItems v g h.last)) same h.begins;
+  stands = h.stands;
+}
 
 -- and its items were done: so many inputs were, and so many are left
 pub record PutSoFar {R S L : Type 0} {s : Ghosts S} {l : Widths L} (g : ℕ) (remaining : R → Option (List ℕ)) (o : MakeOptions) (form : InputForm) (inputs left : List R) (done : ℕ) (before now : Option (List ℕ)) (old new : Maker S L s l) : Type 0 where

@@ -14,7 +14,7 @@ use Rattle.cdb_form.specs.Views.TextFault.{IsOfText}
 use Rattle.cdb_form.specs.declared.damage.Damage.{Damage}
 use Rattle.cdb_form.specs.declared.text.fault.TextFault.{TextFault}
 use Rattle.cdb_form.specs.declared.text.fault.TextFault.TheVariants as text_fault
-use Rattle.cdb_make.specs.Views.Maker.{Holds, WhereHonest, IsFile, limit_of}
+use Rattle.cdb_make.specs.Views.Maker.{Holds, WhereHonest, IsFile, limit_of, count_in, IsUsable}
 use Rattle.cdb_make.specs.declared.fault.MakeFault.TheVariants.{Lookup, TooBig, Writing}
 use Rattle.cdb_make.specs.declared.maker.Maker.{Maker}
 use Rattle.cdb_read.specs.Views.ReadFault.{damage_fault}
@@ -171,6 +171,45 @@ pub record InCourse {S L : Type 0} {s : Ghosts S} {l : Widths L} (t : Task)
   pub holds : Holds m (course_of l.WORD t cs).records
   pub limit : limit_of m ≡ t.options.limit
   pub goes : WhereHonest (s.image m.store) (Goes l.WORD t cs old new)
+
+-- a maker is where a run came to: it counts its records and, unless it is broken, holds them; and
+-- the lines are those of the same items
+pub record StandsAt {S L : Type 0} {s : Ghosts S} {l : Widths L} (t : Task) (cs : List Incoming)
+    (old new : Option (List ℕ)) (m : Maker S L s l) : Type 0 where
+  pub holds : IsUsable m → Holds m (course_of l.WORD t cs).records
+  pub count : WhereHonest (s.image m.store)
+      (count_in m ≡ length (course_of l.WORD t cs).records)
+  pub goes : WhereHonest (s.image m.store) (Goes l.WORD t cs old new)
+
+-- the same behind these items of an input, which comes after those that were read
+pub record StandsIn {S L : Type 0} {s : Ghosts S} {l : Widths L} (form : InputForm) (greatest : ℕ)
+    (t : Task) (read : List (List Change)) (input old new : Option (List ℕ)) (m : Maker S L s l)
+    : Type 0 where
+  pub last : List Change
+  pub begins : IfSome input (BeginsWithItems form greatest last)
+  pub stands : StandsAt t (came read last) old new m
+
+-- and behind the items of some inputs, and these of the next one
+pub record Stands {S L : Type 0} {s : Ghosts S} {l : Widths L} (form : InputForm) (greatest : ℕ)
+    (t : Task) (inputs : List (Option (List ℕ))) (old new : Option (List ℕ)) (m : Maker S L s l)
+    : Type 0 where
+  pub read : List (List Change)
+  pub last : List Change
+  pub rest : List (Option (List ℕ))
+  pub are : AreInputs form greatest read inputs rest
+  pub begins : FirstBegins form greatest last rest
+  pub stands : StandsAt t (came read last) old new m
+
+-- the fault is one of the store or of memory, which no item brings
+abbrev pub IsHalt : Fault → Type 0
+IsHalt (Make Lookup) = ⊤
+IsHalt (Make Writing) = ⊤
+IsHalt NoMemory = ⊤
+IsHalt fault = ⊥
+
+-- one item more would not end the run
+abbrev pub TakesNext : ℕ → Task → List Incoming → Incoming → Type 0
+TakesNext w t cs c = (course_of w t (cs ++ c ∷ [])).ended ≡ None
 
 -- how a run stopped at an item, before it came or with it
 abbrev pub PutStops : ℕ → Task → List Incoming → Incoming → Option (List ℕ)

@@ -7,7 +7,7 @@ ghost use Rattle.cdb_make.specs.Views.Maker.{WhereHonest, ComesFrom};
 ghost use Rattle.cdb_tool.specs.Runs.Course.{Task, from_inputs};
 ghost use Rattle.cdb_tool.specs.Runs.Inputs.{AreInputs, input_form};
 ghost use Rattle.cdb_tool.specs.Runs.Make.{InCourse, Runs, InputsFail, IsOfStore, IsOfBase};
-ghost use Rattle.cdb_tool.specs.Runs.Make.{OfBase, HandsBack, HasFailed};
+ghost use Rattle.cdb_tool.specs.Runs.Make.{OfBase, HandsBack, HasFailed, Stands, IsHalt};
 
 use crate::fault::Fault;
 use crate::runs::flushed::flushed;
@@ -21,8 +21,13 @@ use cdb_store::Store;
 use std::alloc::Global;
 use std::io::{Read, Write};
 
-/// Does what all inputs say. Where a base is amended, native inputs may remove keys.
-fn put_inputs<L: Width, S: Store, R: Read + Drop, E: Write, A: AtHand<R>>(
+/// Does what some inputs say, one after the other, to a maker that its caller keeps: what `make_run`
+/// does between the base and the finish. With `amends`, native inputs may remove keys.
+///
+/// The faults are those of `make_run` that an input, the maker or `errors` brings. After `NoMemory`,
+/// `Make(Lookup)` and `Make(Writing)` the maker holds the records of the items that were done,
+/// unless it is broken, and the lines are those of these items. `errors` is not flushed.
+pub fn put_inputs<L: Width, S: Store, R: Read + Drop, E: Write, A: AtHand<R>>(
     alloc: Global,
     maker: &mut Maker<S, L>,
     options: &MakeOptions,
@@ -42,6 +47,10 @@ fn put_inputs<L: Width, S: Store, R: Read + Drop, E: Write, A: AtHand<R>>(
         → IfErr result (λ f. WhereHonest (S.image maker.new.store)
         (InputsFail L.WORD L.GREATEST t (map R.remaining inputs.items)
         start (E.contents errors.new) f)) }
+    ensures stands { (t : Task) (start : Option (List ℕ)) → t.options ≡ options.now
+        → InCourse t [] start (E.contents errors.old) maker.old
+        → IfErr result (λ f. IsHalt f → Stands (input_form options.now.style amends) L.GREATEST t
+        (map R.remaining inputs.items) start (E.contents errors.new) maker.new) }
     ensures comes { ComesFrom (S.image maker.old.store) (S.image maker.new.store) }
     ensures failures { S.failures maker.old.store ≤ S.failures maker.new.store }
     ensures failed { IfErr result

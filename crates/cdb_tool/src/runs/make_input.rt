@@ -11,7 +11,9 @@ ghost use Rattle.cdb_tool.specs.Runs.Course.{Incoming, from_inputs, mode_of, mee
 ghost use Rattle.cdb_tool.specs.Runs.Course.{Task, ends, TellFails};
 ghost use Rattle.cdb_tool.specs.Runs.Inputs.{IsInputOf};
 ghost use Rattle.cdb_tool.specs.Runs.Make.{InCourse, PutStops, InputFails, IsOfStore, IsOfBase};
+ghost use Rattle.cdb_tool.specs.Runs.Make.{StandsAt, StandsIn, IsHalt, TakesNext};
 ghost use Rattle.cdb_tool.specs.Runs.Course.{StopsSo};
+ghost use Rattle.cdb_tool.specs.declared.fault.Fault.TheVariants.{NoMemory};
 ghost use Rattle.cdb_tool.specs.Runs.Make.{form_of as task_form};
 
 use crate::fault::Fault;
@@ -96,6 +98,17 @@ fn put_record<L: Width, S: Store, E: Write>(
         → IfErr result (λ f. WhereHonest (S.image maker.new.store) (PutStops L.WORD t cs
         (record { input = input; number = number; it = Putting (key_value from.now) })
         start (E.contents errors.new) f)) }
+    ensures stands { (t : Task) (cs : List Incoming) (start : Option (List ℕ))
+        → t.options ≡ options.now
+        → InCourse t cs start (E.contents errors.old) maker.old
+        → IfErr result (λ f. IsHalt f
+        → StandsAt t cs start (E.contents errors.new) maker.new) }
+    ensures takes { (t : Task) (cs : List Incoming) (start : Option (List ℕ))
+        → t.options ≡ options.now
+        → InCourse t cs start (E.contents errors.old) maker.old
+        → IfErr result (λ f. f ≡ NoMemory → WhereHonest (S.image maker.new.store)
+        (TakesNext L.WORD t cs
+        (record { input = input; number = number; it = Putting (key_value from.now) }))) }
     ensures comes { ComesFrom (S.image maker.old.store) (S.image maker.new.store) }
     ensures failures { S.failures maker.old.store ≤ S.failures maker.new.store }
     ensures failed { IfErr result
@@ -117,6 +130,9 @@ fn remove_key<L: Width, S: Store>(maker: &mut Maker<S, L>, key: &[u8]) -> Result
         → InCourse t cs start now maker.old
         → IfErr result (λ f. WhereHonest (S.image maker.new.store)
         (StopsSo L.WORD t cs start now f)) }
+    ensures stands { (t : Task) (cs : List Incoming) (start now : Option (List ℕ))
+        → InCourse t cs start now maker.old
+        → IfErr result (λ f. IsHalt f → StandsAt t cs start now maker.new) }
     ensures comes { ComesFrom (S.image maker.old.store) (S.image maker.new.store) }
     ensures failures { S.failures maker.old.store ≤ S.failures maker.new.store }
     ensures failed { IfErr result
@@ -149,6 +165,11 @@ fn do_item<L: Width, S: Store, E: Write>(
         → IfErr result (λ f. WhereHonest (S.image maker.new.store) (PutStops L.WORD t cs
         (record { input = input; number = number; it = change_in kind item.now })
         start (E.contents errors.new) f)) }
+    ensures stands { (t : Task) (cs : List Incoming) (start : Option (List ℕ))
+        → t.options ≡ options.now
+        → InCourse t cs start (E.contents errors.old) maker.old
+        → IfErr result (λ f. IsHalt f
+        → StandsAt t cs start (E.contents errors.new) maker.new) }
     ensures comes { ComesFrom (S.image maker.old.store) (S.image maker.new.store) }
     ensures failures { S.failures maker.old.store ≤ S.failures maker.new.store }
     ensures failed { IfErr result
@@ -186,6 +207,11 @@ pub(crate) fn put_input<L: Width, S: Store, R: Read, E: Write, A: AtHand<R>>(
         → IfErr result (λ f. WhereHonest (S.image maker.new.store)
         (InputFails L.WORD L.GREATEST t read (unread R.remaining items.old)
         start (E.contents errors.new) f)) }
+    ensures stands { (t : Task) (read : List (List Change)) (start : Option (List ℕ))
+        → t.options ≡ options.now → input ≡ length read + 1
+        → InCourse t (from_inputs 1 read) start (E.contents errors.old) maker.old
+        → IfErr result (λ f. IsHalt f → StandsIn (form_of items.old) L.GREATEST t read
+        (unread R.remaining items.old) start (E.contents errors.new) maker.new) }
     ensures comes { ComesFrom (S.image maker.old.store) (S.image maker.new.store) }
     ensures failures { S.failures maker.old.store ≤ S.failures maker.new.store }
     ensures failed { IfErr result

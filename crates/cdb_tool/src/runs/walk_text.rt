@@ -1,11 +1,12 @@
 // The text of the records or of the keys of a file.
-ghost use Rattle.std.specs.Prelude.{OnOk, OnErr, IfOk, IfErr, MatchBool};
+ghost use Rattle.std.specs.Prelude.{◌≡◌, OnOk, OnErr, IfOk, IfErr, MatchBool};
 ghost use Rattle.std.specs.Io.KnownBytes.{Appends};
 ghost use Rattle.cdb_form.specs.Format.Record.{KeyValue};
 ghost use Rattle.cdb_form.specs.Views.KnownBytes.{AppendsFront};
 ghost use Rattle.cdb_form.specs.Views.RecordReader.{unread, IsFresh, GivesRecord, GivesEnd, Fails};
 ghost use Rattle.cdb_tool.specs.Runs.Form.{item_of, end_of, form_of, IsHeld};
 ghost use Rattle.cdb_tool.specs.Runs.WalkText.{WritesWalk};
+ghost use Rattle.cdb_tool.specs.declared.runs.content.Content.TheVariants.{Keys};
 
 use crate::fault::Fault;
 use crate::runs::content::Content;
@@ -29,6 +30,7 @@ fn read_item<L: Width, R: Read>(
         ((r : KeyValue) × IsHeld content into.new r
         × GivesRecord L.WORD R.remaining records.old records.new r)
         (GivesEnd L.WORD R.remaining records.old records.new)) }
+    ensures value { content ≡ Keys → into.new.value ≡ into.old.value }
     ensures fails { IfErr result (Fails L.WORD R.remaining records.old records.new) }
 {
     match content {

@@ -1,6 +1,6 @@
 use Rattle.std.proofs.Common.{refl, ap, sym, ◌∙◌, ◌+◌, ℕ, rules, arith}
 use Rattle.std.proofs.lemmas.Result.{err_from_is_err_and}
-use Rattle.cdb_tool.proofs.InputRuns.{put_none, put_next, form_is, inputs_fail, puts_in_form}
+use Rattle.cdb_tool.proofs.InputRuns.{put_none, put_next, form_is, inputs_fail, puts_in_form, halted}
 use Rattle.std.proofs.lemmas.Grind.{common_steps}
 use Rattle.cdb_tool.proofs.runs.make.put_inputs.Goals as goal
 
@@ -63,3 +63,11 @@ returns-in_err-put_input-clause-comes g c = grind (arith, common_steps)
 
 pub returns-clause-ok : goal.returns-clause-ok
 returns-clause-ok g c = grind (arith, common_steps)
+
+pub returns-in_err-put_input-clause-stands : goal.returns-in_err-put_input-clause-stands
+returns-in_err-put_input-clause-stands g c = λ t start same h.
+    let p = err_from_is_err_and c.from_residual.result c.from_residual.ensures.1 in
+    let put = c.loop-input.invariant.put in
+    let stands = c.in_err-put_input.ensures.stands t put.read start same (ap (λ (n : ℕ). n + 1) put.number) (put.course t start same h) in
+    rw (p.1, p.2)
+    (λ halt. halted {s = g.S.Store} {k = g.L.Width} _ g.R.Read.remaining _ _ t put.read _ _ _ c.in-Some.input _ start _ c.put_input.new.maker c.new-items.ensures.form put.are c.in-Some.ensures.steps.0 c.new-items.ensures.unread (stands halt))

@@ -7,9 +7,9 @@ use Rattle.cdb_tool.specs.Runs.Inputs.{IsInputOf, BeginsWithItems}
 use Rattle.cdb_tool.specs.Runs.Make.{InCourse, form_of as task_form}
 use Rattle.cdb_tool.specs.Views.ItemReader.{unread}
 use Rattle.cdb_tool.proofs.BaseRecords.{text_no_base}
-use Rattle.cdb_tool.proofs.Courses.{came_more}
+use Rattle.cdb_tool.proofs.Courses.{came_more, course_stands}
 use Rattle.cdb_tool.proofs.ItemTexts.{items_none, items_more, items_all, items_first, items_fewer, same_form}
-use Rattle.cdb_tool.proofs.InputRuns.{none_put, put_stops, input_fails, text_store}
+use Rattle.cdb_tool.proofs.InputRuns.{none_put, put_stops, input_fails, text_store, halted_here}
 use Rattle.cdb_tool.proofs.runs.make_input.put_input.Goals as goal
 
 pub loop-fault-init : goal.loop-fault-init
@@ -87,3 +87,24 @@ returns-in-Err-clause-failed g c = rw c.of_text.ensures (λ is. absurd (text_sto
 
 pub returns-in-Err-clause-own : goal.returns-in-Err-clause-own
 returns-in-Err-clause-own g c = rw c.of_text.ensures (λ is. absurd (text_no_base c.args.input c.in-Err.fault is))
+
+pub returns-in-Err-clause-stands : goal.returns-in-Err-clause-stands
+returns-in-Err-clause-stands g c = λ t read start o n h.
+    let inv = c.loop-fault.invariant in
+    let greatest = g.L.Width.GREATEST in
+    let remaining = g.R.Read.remaining in
+    let input = unread remaining c.args.items.now in
+    rw c.of_text.ensures
+    (λ halt. halted_here {s = g.S.Store} {k = g.L.Width} _ _ greatest t read input inv.last start _ c.loop-fault.maker inv.form (items_first greatest remaining input c.loop-fault.items inv.last inv.gave)
+    (course_stands {s = g.S.Store} {l = g.L.Width} t _ start _ c.loop-fault.maker (inv.course t read start o n h)))
+
+pub returns-in_err-do_item-clause-stands : goal.returns-in_err-do_item-clause-stands
+returns-in_err-do_item-clause-stands g c = λ t read start o n h.
+    let p = err_from_is_err_and c.from_residual.result c.from_residual.ensures.1 in
+    let inv = c.loop-fault.invariant in
+    let greatest = g.L.Width.GREATEST in
+    let remaining = g.R.Read.remaining in
+    let input = unread remaining c.args.items.now in
+    let stands = c.in_err-do_item.ensures.stands t _ start o (inv.course t read start o n h) in
+    rw (p.1, p.2)
+    (λ halt. halted_here {s = g.S.Store} {k = g.L.Width} _ _ greatest t read input inv.last start _ c.do_item.new.maker inv.form (items_first greatest remaining input c.loop-fault.items inv.last inv.gave) (stands halt))

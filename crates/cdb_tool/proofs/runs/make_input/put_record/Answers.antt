@@ -2,7 +2,7 @@ use Rattle.std.proofs.lemmas.Result.{err_from_is_err_and}
 use Rattle.cdb_form.specs.Views.Pairs.{key_value}
 use Rattle.cdb_make.specs.Views.Maker.{Puts, FailsPutting}
 use Rattle.cdb_tool.proofs.BaseRecords.{make_no_base, told_no_base}
-use Rattle.cdb_tool.proofs.Courses.{put_goes_so, put_told_so, told_store, put_refused_so, refused_store, as_told, ok_both, err_each}
+use Rattle.cdb_tool.proofs.Courses.{put_goes_so, put_told_so, told_store, put_refused_so, put_halted_so, memory_taken_so, told_halts, told_memory, refused_store, as_told, ok_both, err_each}
 use Rattle.cdb_tool.proofs.runs.make_input.put_record.Goals as goal
 
 pub returns-in_err-put-clause-fails : goal.returns-in_err-put-clause-fails
@@ -43,3 +43,25 @@ returns-in_err-put-clause-own g c =
 
 pub returns-clause-own : goal.returns-clause-own
 returns-clause-own g c = err_each c.tell_put.result (λ f told is. absurd (told_no_base c.args.options.now c.args.input c.args.number c.in_ok-put.put _ _ f told is)) c.tell_put.ensures.fails
+
+pub returns-in_err-put-clause-stands : goal.returns-in_err-put-clause-stands
+returns-in_err-put-clause-stands g c =
+    let p = err_from_is_err_and c.from_residual.result c.from_residual.ensures.1 in
+    let f = c.in_err-put.field-0.0 in
+    let fails = as_told (λ m r. FailsPutting {s = g.S.Store} {l = g.L.Width} c.args.maker.now c.put.new.self m r f) _ _ _ _ (key_value c.args.from.now) c.put_mode.ensures c.deref.ensures.value c.deref-2.ensures.value c.in_err-put.ensures.fails in
+    rw (p.1, p.2) (λ t cs start same h. put_halted_so {s = g.S.Store} {l = g.L.Width} t _ cs _ start _ c.args.maker.now c.put.new.self f same h fails c.put.ensures.comes c.in_err-put.ensures.counts.count)
+
+pub returns-in_err-put-clause-takes : goal.returns-in_err-put-clause-takes
+returns-in_err-put-clause-takes g c =
+    let p = err_from_is_err_and c.from_residual.result c.from_residual.ensures.1 in
+    let f = c.in_err-put.field-0.0 in
+    let fails = as_told (λ m r. FailsPutting {s = g.S.Store} {l = g.L.Width} c.args.maker.now c.put.new.self m r f) _ _ _ _ (key_value c.args.from.now) c.put_mode.ensures c.deref.ensures.value c.deref-2.ensures.value c.in_err-put.ensures.fails in
+    rw (p.1, p.2) (λ t cs start same h. memory_taken_so {s = g.S.Store} {l = g.L.Width} t _ cs c.args.input c.args.number _ start _ c.args.maker.now c.put.new.self f same h fails c.put.ensures.comes)
+
+pub returns-clause-stands : goal.returns-clause-stands
+returns-clause-stands g c = λ t cs start same h.
+    err_each c.tell_put.result (λ f told is. absurd (told_halts c.args.options.now c.args.input c.args.number c.in_ok-put.put _ _ f told is)) c.tell_put.ensures.fails
+
+pub returns-clause-takes : goal.returns-clause-takes
+returns-clause-takes g c = λ t cs start same h.
+    err_each c.tell_put.result (λ f told is. absurd (told_memory c.args.options.now c.args.input c.args.number c.in_ok-put.put _ _ f told is)) c.tell_put.ensures.fails
