@@ -9,6 +9,7 @@ pub mod Compare
 pub mod Sides
 pub mod Headers
 pub mod Nowhere
+pub mod Rings
 pub mod Places
 pub mod Picking
 pub mod Merge

@@ -4,7 +4,7 @@ pub mod Runs
 pub mod Views
 pub mod Gaps
 pub mod Survivors
-pub mod Tag
+pub mod Rings
 pub mod Looks
 pub mod Stands
 pub mod Finished

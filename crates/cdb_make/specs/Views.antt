@@ -1,5 +1,6 @@
 -- What clauses read of the types of this crate.
 pub mod MakeFault
+pub mod Index
 pub mod EntryList
 pub mod Maker
 pub mod Adding

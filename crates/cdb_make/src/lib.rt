@@ -10,6 +10,7 @@ mod fault;
 mod finding;
 mod finish;
 mod gap;
+mod index;
 pub mod laws;
 mod list;
 mod lists;

@@ -1,30 +1,28 @@
 // The entries of one table, as a maker keeps them.
-ghost use Rattle.std.specs.Prelude.{◌≡◌, ℕ, ◌<◌, ◌≤◌, ◌^◌, [], ◌∷◌, ◌++◌, length, get_or, All};
-ghost use Rattle.std.specs.Prelude.{true, OnOk, OnErr, map, slice_index, vec_capacity};
-ghost use Rattle.cdb_make.specs.Tag.{tag_of};
+ghost use Rattle.std.specs.Prelude.{◌≡◌, ℕ, ◌<◌, ◌≤◌, ◌^◌, ◌-◌, [], ◌∷◌, ◌++◌, length, get_or, All};
+ghost use Rattle.std.specs.Prelude.{true, OnOk, OnErr, min, slice_index, vec_capacity};
+ghost use Rattle.cdb_make.specs.Rings.{AreLinked};
 
 use crate::gap::{Gap, first_place};
+use crate::index::Index;
 use crate::repair::close_entries;
-use crate::scan::{next_place, tag};
 use cdb_form::Slot;
 use std::alloc::{AllocError, Global};
 
-/// The entries of one table, in the order of their places: 14 bytes each.
-///
-/// Tags, hashes and places stand apart, so that a search for a hash reads little but the tags.
+/// The entries of one table, in the order of their places: 20 to 24 bytes each.
 #[derive(Drop)]
 pub(crate) struct EntryList {
     /// The hash of each record's key.
     hashes: Vec<u32>,
     /// Where each record stands, in bytes from the file's start.
     places: Vec<u64>,
-    /// The tag of each hash.
-    tags: Vec<u16>,
+    /// Where the entries of a hash are.
+    index: Index,
     ghost paired: { length hashes.items ≡ length places.items },
-    ghost tagged: { tags.items ≡ map tag_of hashes.items },
+    ghost linked: { AreLinked index.ends.items index.next.items hashes.items },
+    ghost covered: { length index.next.items ≡ min (length hashes.items) (2 ^ 32 - 1) },
     ghost hash_room: { length hashes.items ≤ vec_capacity hashes },
     ghost place_room: { length places.items ≤ vec_capacity places },
-    ghost tag_room: { length tags.items ≤ vec_capacity tags },
 }
 
 impl EntryList {
@@ -39,7 +37,7 @@ impl EntryList {
         EntryList {
             hashes: Vec::new(alloc),
             places: Vec::new(alloc),
-            tags: Vec::new(alloc),
+            index: Index::new(alloc),
         }
     }
 
@@ -73,7 +71,7 @@ impl EntryList {
         ensures found { result < length self.now.hashes.items
             → slice_index self.now.hashes.items result ≡ hash }
     {
-        next_place(&self.tags, &self.hashes, hash, from)
+        self.index.next_place(&self.hashes, hash, from)
     }
 
     /// An entry, as a slot of its table holds it.
@@ -97,7 +95,7 @@ impl EntryList {
     {
         self.hashes.reserve(1)?;
         self.places.reserve(1)?;
-        self.tags.reserve(1)
+        self.index.reserve(&self.hashes)
     }
 
     /// One more entry, for which there is room.
@@ -109,7 +107,7 @@ impl EntryList {
     {
         self.hashes.push_reserved(hash);
         self.places.push_reserved(place);
-        self.tags.push_reserved(tag(hash));
+        self.index.link_all(&self.hashes);
     }
 
     /// Whether each entry stands below a place.
@@ -131,11 +129,13 @@ impl EntryList {
             → All (λ e. e.second ≤ most) (list_entries self.new) }
         ensures room { list_room self.new ≡ list_room self.old }
     {
-        let (hashes, places, tags) = (&mut self.hashes, &mut self.places, &mut self.tags);
-        let kept = close_entries(hashes, places, tags, gaps);
+        let kept = close_entries(&mut self.hashes, &mut self.places, gaps);
+        if kept < self.hashes.len() {
+            self.index.clear();
+        }
         self.hashes.truncate(kept);
         self.places.truncate(kept);
-        self.tags.truncate(kept);
+        self.index.link_all(&self.hashes);
     }
 
     /// Takes out the entries at the gaps, and lowers each other place by the gaps below it. The

@@ -22,7 +22,7 @@ use std::marker::PhantomData;
 /// Makes a database in a store: each record is written as it is put.
 ///
 /// The store holds the records one behind another, from behind the head on, and the maker keeps
-/// the hash of each key, its tag and the record's place: 14 bytes a record.
+/// the hash of each key, the record's place and an index by hash: 20 to 24 bytes a record.
 #[derive(Drop)]
 pub struct Maker<S: Store, L: Width> {
     pub(crate) alloc: Global,

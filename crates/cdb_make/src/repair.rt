@@ -1,9 +1,8 @@
 // The entries of one table once gaps are closed.
-ghost use Rattle.std.specs.Prelude.{◌≡◌, ℕ, ◌<◌, ◌≤◌, ◌^◌, length, map, slice_index, take, All};
+ghost use Rattle.std.specs.Prelude.{◌≡◌, ℕ, ◌<◌, ◌≤◌, ◌^◌, length, slice_index, take, All};
 ghost use Rattle.std.specs.List.Sorted.{IsNonDecreasing};
 ghost use Rattle.cdb_make.specs.Gaps.{AreApart, IsRising, closed_by};
 ghost use Rattle.cdb_make.specs.Views.EntryList.{entries_of};
-ghost use Rattle.cdb_make.specs.Tag.{tag_of};
 
 use crate::gap::{Gap, first_place};
 
@@ -18,19 +17,13 @@ fn below(places: &[u64], end: u64) -> usize
 
 /// Leaves in front the entries at no gap, each place lower by the gaps below it, and says how many
 /// they are. The entries below the first gap aren't touched.
-pub(crate) fn close_entries(
-    hashes: &mut [u32],
-    places: &mut [u64],
-    tags: &mut [u16],
-    gaps: &[Gap],
-) -> usize
-    requires tagged { tags.old ≡ map tag_of hashes.old }
+pub(crate) fn close_entries(hashes: &mut [u32], places: &mut [u64], gaps: &[Gap]) -> usize
     requires paired { length hashes.old ≡ length places.old }
     requires apart { AreApart 0 gaps.now (2 ^ 63) }
     ensures entries { IsRising 0 (entries_of hashes.old places.old)
         → take result (entries_of hashes.new places.new)
         ≡ closed_by 0 gaps.now (entries_of hashes.old places.old) }
-    ensures tagged { tags.new ≡ map tag_of hashes.new }
+    ensures same { result ≡ length hashes.old → hashes.new ≡ hashes.old }
     ensures within { result ≤ length places.old }
     ensures bounded { (most : ℕ) → All (λ p. p ≤ most) places.old → All (λ p. p ≤ most) places.new }
 {
@@ -48,7 +41,6 @@ pub(crate) fn close_entries(
         } else {
             hashes[kept] = hashes[entry];
             places[kept] = place.saturating_sub(gone);
-            tags[kept] = tags[entry];
             kept += 1;
             entry += 1;
         }

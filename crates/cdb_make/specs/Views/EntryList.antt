@@ -6,6 +6,7 @@ use Rattle.cdb_form.specs.Format.Pair.{WordPair}
 use Rattle.cdb_make.specs.declared.gap.Gap.{Gap}
 use Rattle.cdb_make.specs.declared.list.EntryList.{EntryList}
 use Rattle.cdb_make.specs.Gaps.{IsRising, closed_by}
+use Rattle.cdb_make.specs.Views.Index.{index_room}
 
 -- hashes and places side by side
 abbrev pub entries_of : List ℕ → List ℕ → List WordPair
@@ -24,7 +25,7 @@ lists_entries ls = map list_entries ls
 
 -- how many entries a list holds without taking memory
 abbrev pub list_room : EntryList → ℕ
-list_room l = min (min (vec_capacity l.hashes) (vec_capacity l.places)) (vec_capacity l.tags)
+list_room l = min (min (vec_capacity l.hashes) (vec_capacity l.places)) (index_room l.index)
 
 -- the k-th list is the old one with the gaps closed
 pub record IsClosed (gaps : List Gap) (old new : EntryList) : Type 0 where

@@ -1,13 +1,12 @@
-use Rattle.std.proofs.Common.{arith, sym, ap, subst, ◌∙◌, ◌≡◌, ◌+◌, ◌-◌, ◌<◌, ◌≤◌, ◌^◌, ℕ, length, List, [], ◌∷◌, ◌++◌, get_or, set, drop, take, length-set}
+use Rattle.std.proofs.Common.{arith, refl, sym, ap, subst, ◌∙◌, ◌≡◌, ◌+◌, ◌-◌, ◌<◌, ◌≤◌, ◌^◌, ℕ, length, List, [], ◌∷◌, ◌++◌, get_or, set, drop, take, length-set}
 use Rattle.std.specs.Prelude.{All}
-use Rattle.std.proofs.lemmas.List.{at_drop_all, append-nil}
+use Rattle.std.proofs.lemmas.List.{at_drop_all, append-nil, set-get_or}
 use Rattle.std.proofs.lemmas.List.Elements.{All-get_or, All-set}
 use Rattle.cdb_form.specs.Format.Pair.{WordPair}
 use Rattle.cdb_make.specs.declared.gap.Gap.{Gap}
 use Rattle.cdb_make.specs.Gaps.{IsRising, closed_by, first_place}
 use Rattle.cdb_make.specs.Views.EntryList.{entries_of}
 use Rattle.cdb_make.proofs.Apart.{next_gap, last_gap, apart_next, NextApart}
-use Rattle.cdb_make.proofs.Nowhere.{tag_kept}
 use Rattle.cdb_make.proofs.Merge.{FarFrom, apart_lower, keep_step, pass_step, rising_next, set_drop, sofar_kept, closed_front, rising_drop, not_falling}
 use Rattle.cdb_make.proofs.Places.{closed_here}
 use Rattle.cdb_make.proofs.Sides.{entry_here, entries_of-set, length-entries_of}
@@ -27,8 +26,8 @@ loop-entry-init c =
       behind = omega arith;
       within = c.below-kept.ensures.within;
       gap_within = omega arith;
-      tagged = c.requires.tagged;
       paired = c.requires.paired;
+      same = λ e. refl;
       apart = c.requires.apart;
       rising = λ r. rising_drop k es r;
       sofar = λ r. closed_front hs ps k c.args.gaps.now (2 ^ 63) (2 ^ 64 - 1) c.requires.paired c.requires.apart (λ i lt. front i r lt);
@@ -60,8 +59,8 @@ loop-entry-preserved-then-gaps-next c =
       behind = c.loop-entry.invariant.behind;
       within = c.loop-entry.invariant.within;
       gap_within = omega arith;
-      tagged = c.loop-entry.invariant.tagged;
       paired = c.loop-entry.invariant.paired;
+      same = c.loop-entry.invariant.same;
       apart = apart_lower (c.loop-entry.gone + gap.size) (gap.place + gap.size) rest (2 ^ 63) (omega (arith, n.order)) n.rest_apart;
       rising = c.loop-entry.invariant.rising;
       bounded = c.loop-entry.invariant.bounded;
@@ -90,8 +89,8 @@ loop-entry-preserved-then-gaps-next-2 c =
       behind = omega (arith, c.loop-entry.invariant.behind);
       within = omega arith;
       gap_within = c.loop-entry.invariant.gap_within;
-      tagged = c.loop-entry.invariant.tagged;
       paired = c.loop-entry.invariant.paired;
+      same = λ k. absurd (omega (arith, c.loop-entry.invariant.behind));
       apart = c.loop-entry.invariant.apart;
       rising = λ r. rising_next (drop i es) x (drop (i + 1) es) d (c.loop-entry.invariant.rising r);
       bounded = c.loop-entry.invariant.bounded;
@@ -136,8 +135,8 @@ loop-entry-preserved c =
       behind = omega (arith, c.loop-entry.invariant.behind);
       within = omega (arith, length-set {A = ℕ});
       gap_within = c.loop-entry.invariant.gap_within;
-      tagged = tag_kept i n c.loop-entry.tags hs c.loop-entry.invariant.tagged;
       paired = length-set hs n x.first ∙ c.loop-entry.invariant.paired ∙ sym (length-set ps n c.saturating_sub.result);
+      same = λ k. let h : n ≡ i = omega arith in ap (λ (m : ℕ). set hs m (get_or hs i 0)) h ∙ set-get_or hs i 0 ∙ c.loop-entry.invariant.same h;
       apart = c.loop-entry.invariant.apart;
       rising = λ r.
           subst (λ (v : List WordPair). IsRising 0 (drop (i + 1) v)) (sym same)
@@ -168,8 +167,5 @@ returns-clause-bounded c = c.loop-entry.invariant.bounded
 pub loop-entry-smaller : goal.loop-entry-smaller
 loop-entry-smaller c = grind (arith, common_steps)
 
-pub bounds-tags-entry : goal.bounds-tags-entry
-bounds-tags-entry c = grind (arith, common_steps)
-
-pub bounds-tags-kept : goal.bounds-tags-kept
-bounds-tags-kept c = grind (arith, common_steps)
+pub returns-clause-same : goal.returns-clause-same
+returns-clause-same c = λ e. c.loop-entry.invariant.same (omega (arith, c.loop-entry.invariant.behind, c.loop-entry.invariant.within, c.loop-entry-test.false, c.loop-entry.invariant.paired))

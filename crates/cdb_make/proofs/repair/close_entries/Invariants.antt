@@ -1,7 +1,6 @@
 use Rattle.std.specs.Prelude.{All}
-use Rattle.std.proofs.Common.{ℕ, ◌≡◌, ◌+◌, ◌-◌, ◌≤◌, ◌^◌, ◌++◌, take, drop, length, map}
+use Rattle.std.proofs.Common.{ℕ, ◌≡◌, ◌+◌, ◌-◌, ◌≤◌, ◌^◌, ◌++◌, take, drop, length}
 use Rattle.cdb_make.specs.Gaps.{AreApart, IsRising, closed_by}
-use Rattle.cdb_make.specs.Tag.{tag_of}
 use Rattle.cdb_make.specs.Views.EntryList.{entries_of}
 use Rattle.cdb_make.proofs.repair.close_entries.Given as goal
 
@@ -10,8 +9,8 @@ invariant-loop-entry l = record {
   behind : l.kept ≤ l.entry;
   within : l.entry ≤ length l.places;
   gap_within : l.next ≤ length l.gaps;
-  tagged : l.tags ≡ map tag_of l.hashes;
   paired : length l.hashes ≡ length l.places;
+  same : l.kept ≡ l.entry → l.hashes ≡ l.fn.hashes;
   apart : AreApart l.gone (drop l.next l.gaps) (2 ^ 63);
   rising : IsRising 0 (entries_of l.fn.hashes l.fn.places) → IsRising 0 (drop l.entry (entries_of l.hashes l.places));
   sofar : IsRising 0 (entries_of l.fn.hashes l.fn.places)

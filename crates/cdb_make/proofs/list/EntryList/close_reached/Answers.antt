@@ -1,10 +1,9 @@
-use Rattle.std.proofs.Common.{arith, ap, sym, subst, ◌∙◌, ◌≡◌, ◌++◌, ◌≤◌, ℕ, List, length, map, take, length-take}
+use Rattle.std.proofs.Common.{arith, ap, sym, subst, ◌∙◌, ◌≡◌, ◌++◌, ◌≤◌, ℕ, List, length, take, length-take}
 use Rattle.std.specs.Prelude.{All}
-use Rattle.std.proofs.lemmas.List.{take_at, take-map}
+use Rattle.std.proofs.lemmas.List.{take_at}
 use Rattle.std.proofs.lemmas.List.Elements.{All-same, All-take}
 use Rattle.cdb_form.specs.Format.Pair.{WordPair}
 use Rattle.cdb_make.specs.Gaps.{IsRising, closed_by}
-use Rattle.cdb_make.specs.Tag.{tag_of}
 use Rattle.cdb_make.specs.Views.EntryList.{entries_of}
 use Rattle.cdb_make.proofs.Sides.{entries_of-take, length-entries_of, places_below, entries_below}
 use Rattle.cdb_make.proofs.list.EntryList.close_reached.Goals as goal
@@ -16,19 +15,6 @@ cut_entries n m k hs ps hs₁ ps₁ rest more l o h p =
     ap (λ v. entries_of v ps₁) (h ∙ ap (take k) (take_at hs rest n l))
     ∙ ap (entries_of (take k hs)) (p ∙ ap (take k) (take_at ps more m o))
     ∙ entries_of-take hs ps k
-
--- and the tags, that stay those of the hashes
-cut_tags : (n m k : ℕ) (ts hs ts₁ hs₁ rest more : List ℕ) → length ts ≡ n → length hs ≡ m → ts₁ ≡ take k (take n (ts ++ rest)) → hs₁ ≡ take k (take m (hs ++ more)) → ts ≡ map tag_of hs
-    → ts₁ ≡ map tag_of hs₁
-cut_tags n m k ts hs ts₁ hs₁ rest more l o t h tagged =
-    t ∙ ap (take k) (take_at ts rest n l ∙ tagged) ∙ take-map tag_of k hs ∙ ap (map tag_of) (sym (h ∙ ap (take k) (take_at hs more m o)))
-
-pub invariant_of-self-clause-tagged : goal.invariant_of-self-clause-tagged
-invariant_of-self-clause-tagged c =
-    let s = c.args.self.now in
-    cut_tags _ _ c.close_entries-kept.result c.close_entries-kept.new.tags c.close_entries-kept.new.hashes _ _ _ _
-    (omega (arith, c.close_entries-kept.auto.tags, c.deref_mut-3.ensures.len, s.tags.ok.0)) (omega (arith, c.close_entries-kept.auto.hashes, c.deref_mut.ensures.len, s.hashes.ok.0))
-    c.truncate-3.ensures.items c.truncate.ensures.items c.close_entries-kept.ensures.tagged
 
 pub returns-clause-entries : goal.returns-clause-entries
 returns-clause-entries c = λ r.

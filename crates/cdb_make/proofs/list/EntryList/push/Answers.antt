@@ -1,8 +1,8 @@
-use Rattle.std.proofs.Common.{ℕ, List, [], ◌∷◌, ◌++◌, ap, ◌∙◌, arith}
+use Rattle.std.proofs.Common.{ℕ, ◌≡◌, ◌+◌, List, [], ◌∷◌, ◌++◌, length, length-append, ap, sym, subst, ◌∙◌, arith}
+use Rattle.cdb_make.specs.Rings.{AreLinked}
+use Rattle.cdb_make.proofs.Rings.{linked_push}
 use Rattle.cdb_make.specs.Views.EntryList.{entries_of}
-use Rattle.cdb_make.proofs.Nowhere.{tags_long}
 use Rattle.cdb_make.proofs.Sides.{length-entries_of, entries_of-push}
-use Rattle.std.proofs.lemmas.Grind.{common_steps}
 use Rattle.cdb_make.proofs.list.EntryList.push.Goals as goal
 
 pub push_reserved-requires : goal.push_reserved-requires
@@ -15,11 +15,6 @@ push_reserved-requires-2 c =
     let s = c.args.self.now in
     omega (arith, length-entries_of s.hashes.items s.places.items s.paired, s.places.ok.0, s.paired, c.requires)
 
-pub push_reserved-requires-3 : goal.push_reserved-requires-3
-push_reserved-requires-3 c =
-    let s = c.args.self.now in
-    omega (arith, length-entries_of s.hashes.items s.places.items s.paired, s.tags.ok.0, tags_long s.tags.items s.hashes.items s.tagged, c.requires)
-
 pub returns-clause-entries : goal.returns-clause-entries
 returns-clause-entries c =
     let s = c.args.self.now in
@@ -27,5 +22,13 @@ returns-clause-entries c =
     ∙ ap (entries_of (s.hashes.items ++ c.args.hash ∷ [])) c.push_reserved-2.ensures.items
     ∙ entries_of-push s.hashes.items s.places.items c.args.hash c.args.place s.paired
 
-pub invariant_of-self : goal.invariant_of-self
-invariant_of-self c = grind (arith, common_steps)
+pub link_all-requires-clause-linked : goal.link_all-requires-clause-linked
+link_all-requires-clause-linked c =
+    let s = c.args.self.now in
+    subst (AreLinked s.index.ends.items s.index.next.items) (sym (c.deref.ensures.value ∙ c.push_reserved.ensures.items)) (linked_push s.index.ends.items s.index.next.items s.hashes.items c.args.hash s.linked)
+
+pub link_all-requires-clause-room : goal.link_all-requires-clause-room
+link_all-requires-clause-room c =
+    let s = c.args.self.now in
+    let more : length c.deref.result.now ≡ length s.hashes.items + 1 = ap length (c.deref.ensures.value ∙ c.push_reserved.ensures.items) ∙ length-append s.hashes.items (c.args.hash ∷ []) in
+    omega (arith, more, length-entries_of s.hashes.items s.places.items s.paired, c.requires)

@@ -1,0 +1,182 @@
+// The entries of a list, found by their hashes.
+ghost use Rattle.std.specs.Prelude.{◌≡◌, ℕ, List, [], ◌+◌, ◌-◌, ◌<◌, ◌≤◌, ◌^◌, length, min};
+ghost use Rattle.std.specs.Prelude.{slice_index, vec_capacity, OnOk, OnErr};
+ghost use Rattle.cdb_make.specs.Rings.{AreLinked, bucket_of};
+
+use crate::scan::first_place;
+use std::alloc::{AllocError, Global};
+
+/// How many entries of a list an index has at most, since their numbers are 32 bits wide.
+const MOST: usize = 4294967295;
+
+/// How many buckets an index has at first.
+const FEW: usize = 4;
+
+/// The first entries of a list in rings, a ring for the hashes of each bucket: 8 to 12 bytes an
+/// entry. So a search looks at few entries but those of its hash, however many there are.
+#[derive(Drop)]
+pub(crate) struct Index {
+    /// The number after the last entry of each bucket, or 0 if it has none.
+    ends: Vec<u32>,
+    /// The next entry of each entry's bucket. After the last comes the first.
+    next: Vec<u32>,
+    ghost next_room: { length next.items ≤ vec_capacity next },
+    ghost spread: { length next.items ≤ length ends.items },
+    ghost most: { length next.items ≤ 2 ^ 32 - 1 },
+}
+
+impl Index {
+    ghost use Rattle.cdb_make.specs.Views.EntryList.{IsNowhereIn};
+    ghost use Rattle.cdb_make.specs.Views.Index.{index_room};
+
+    /// An index of no entries.
+    pub(crate) fn new(alloc: Global) -> Index
+        ensures ends { result.ends.items ≡ [] }
+        ensures next { result.next.items ≡ [] }
+    {
+        Index {
+            ends: Vec::new(alloc),
+            next: Vec::new(alloc),
+        }
+    }
+
+    /// The bucket of a hash. The lowest byte of all hashes in a list is the same.
+    fn bucket(&self, hash: u32) -> usize
+        requires { 0 < length self.now.ends.items }
+        ensures bucket { result ≡ bucket_of (length self.now.ends.items) hash }
+        ensures within { result < length self.now.ends.items }
+    {
+        (hash / 256) as usize % self.ends.len()
+    }
+
+    /// The entry after this one in its bucket, or the number of entries.
+    fn after(&self, at: usize) -> usize
+        requires { at < length self.now.next.items }
+        ensures next { at < slice_index self.now.next.items at
+            → result ≡ slice_index self.now.next.items at }
+        ensures last { slice_index self.now.next.items at ≤ at
+            → result ≡ length self.now.next.items }
+    {
+        let next = self.next[at] as usize;
+        if at < next { next } else { self.next.len() }
+    }
+
+    /// An entry in the bucket of a hash, or the number of entries. No entry from `from` up to it
+    /// has the hash.
+    fn start(&self, hashes: &[u32], hash: u32, from: usize) -> usize
+        requires { AreLinked self.now.ends.items self.now.next.items hashes.now }
+        ensures within { result ≤ length self.now.next.items }
+        ensures same { result < length self.now.next.items
+            → bucket_of (length self.now.ends.items) (slice_index hashes.now result)
+            ≡ bucket_of (length self.now.ends.items) hash }
+        ensures none { IsNowhereIn hash hashes.now from result }
+    {
+        if 0 < from && from <= self.next.len() && hashes[from - 1] == hash {
+            return self.after(from - 1);
+        }
+        if self.next.is_empty() {
+            return 0;
+        }
+        let end = self.ends[self.bucket(hash)] as usize;
+        if end == 0 {
+            self.next.len()
+        } else {
+            self.next[end - 1] as usize
+        }
+    }
+
+    /// The first entry with a hash from `from` on, or the number of the hashes.
+    pub(crate) fn next_place(&self, hashes: &[u32], hash: u32, from: usize) -> usize
+        requires linked { AreLinked self.now.ends.items self.now.next.items hashes.now }
+        requires from { from ≤ length hashes.now }
+        ensures from { from ≤ result }
+        ensures within { result ≤ length hashes.now }
+        ensures none { IsNowhereIn hash hashes.now from result }
+        ensures found { result < length hashes.now → slice_index hashes.now result ≡ hash }
+    {
+        let mut at = self.start(hashes, hash, from);
+        while at < self.next.len() {
+            if from <= at && hashes[at] == hash {
+                return at;
+            }
+            at = self.after(at);
+        }
+        let rest = from.max(at);
+        rest + first_place(&hashes[rest..], hash)
+    }
+
+    /// Makes room for one more entry. Where memory is refused, the index stays.
+    pub(crate) fn reserve(&mut self, hashes: &[u32]) -> Result<(), AllocError>
+        requires linked { AreLinked self.old.ends.items self.old.next.items hashes.now }
+        requires all { length self.old.next.items ≡ min (length hashes.now) (2 ^ 32 - 1) }
+        ensures linked { AreLinked self.new.ends.items self.new.next.items hashes.now }
+        ensures all { length self.new.next.items ≡ length self.old.next.items }
+        ensures ok { OnOk result (length hashes.now < index_room self.new) }
+        ensures full { OnErr result (index_room self.old ≤ length hashes.now) }
+        ensures room { index_room self.old ≤ index_room self.new }
+    {
+        if self.next.len() == MOST {
+            return Ok(());
+        }
+        self.next.reserve(1)?;
+        if self.next.len() == self.ends.len() {
+            self.ends.resize((2 * self.ends.len()).max(FEW), 0)?;
+            self.clear();
+            self.link_all(hashes);
+        }
+        Ok(())
+    }
+
+    /// Takes all entries out of the rings. The room stays.
+    pub(crate) fn clear(&mut self)
+        ensures none { self.new.next.items ≡ [] }
+        ensures linked { (hashes : List ℕ)
+            → AreLinked self.new.ends.items self.new.next.items hashes }
+        ensures wide { length self.new.ends.items ≡ length self.old.ends.items }
+        ensures capacity { vec_capacity self.new.next ≡ vec_capacity self.old.next }
+    {
+        self.next.clear();
+        for end in self.ends.iter_mut() {
+            *end = 0;
+        }
+    }
+
+    /// Puts the first entry that is in no ring into that of its bucket.
+    fn link(&mut self, hashes: &[u32])
+        requires linked { AreLinked self.old.ends.items self.old.next.items hashes.now }
+        requires some { length self.old.next.items < length hashes.now }
+        requires room { length self.old.next.items < vec_capacity self.old.next }
+        requires spread { length self.old.next.items < length self.old.ends.items }
+        requires most { length self.old.next.items < 2 ^ 32 - 1 }
+        ensures linked { AreLinked self.new.ends.items self.new.next.items hashes.now }
+        ensures more { length self.new.next.items ≡ length self.old.next.items + 1 }
+        ensures wide { length self.new.ends.items ≡ length self.old.ends.items }
+        ensures capacity { vec_capacity self.new.next ≡ vec_capacity self.old.next }
+    {
+        let entry = self.next.len();
+        let bucket = self.bucket(hashes[entry]);
+        let end = self.ends[bucket] as usize;
+        if end == 0 {
+            self.next.push_reserved(entry as u32);
+        } else {
+            self.next.push_reserved(self.next[end - 1]);
+            self.next[end - 1] = entry as u32;
+        }
+        self.ends[bucket] = entry as u32 + 1;
+    }
+
+    /// Puts each entry that is in no ring into that of its bucket.
+    pub(crate) fn link_all(&mut self, hashes: &[u32])
+        requires linked { AreLinked self.old.ends.items self.old.next.items hashes.now }
+        requires room { length hashes.now ≤ index_room self.old }
+        ensures linked { AreLinked self.new.ends.items self.new.next.items hashes.now }
+        ensures all { length self.new.next.items ≡ min (length hashes.now) (2 ^ 32 - 1) }
+        ensures wide { length self.new.ends.items ≡ length self.old.ends.items }
+        ensures capacity { vec_capacity self.new.next ≡ vec_capacity self.old.next }
+    {
+        let most = hashes.len().min(MOST);
+        while self.next.len() < most {
+            self.link(hashes);
+        }
+    }
+}
