@@ -25,6 +25,7 @@ pub mod TableBytes
 pub mod FinishedFile
 pub mod ClosedAll
 pub mod Puts
+pub mod Following
 pub mod Exchanged
 pub mod Replacing
 pub mod Finishes

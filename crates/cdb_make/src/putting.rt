@@ -6,7 +6,6 @@ ghost use Rattle.cdb_form.specs.Format.File.{whole_size};
 ghost use Rattle.cdb_form.specs.Format.Record.{KeyValue, record_size};
 ghost use Rattle.cdb_make.specs.declared.mode.Mode.TheVariants.{Replace};
 ghost use Rattle.cdb_make.specs.Gaps.{AreApart};
-ghost use Rattle.cdb_make.specs.Unfinished.{KeepsHead};
 
 use crate::adding::add;
 use crate::fault::MakeFault;
@@ -18,7 +17,7 @@ use cdb_store::Store;
 
 impl<S: Store, L: Width> Maker<S, L> {
     ghost use Rattle.cdb_make.specs.Views.Maker.{SameCounts, Adds, FailsAdding, Puts, FailsPutting};
-    ghost use Rattle.cdb_make.specs.Views.Maker.{made_size, Exchanges, FailsClosing, ComesFrom};
+    ghost use Rattle.cdb_make.specs.Views.Maker.{made_size, Exchanges, FailsClosing, Follows};
 
     /// Whether a file of so many bytes, within the limit, has room for a record more.
     fn has_room(&self, size: u64, key: &[u8], value: &[u8]) -> bool
@@ -42,12 +41,8 @@ impl<S: Store, L: Width> Maker<S, L> {
             (Adds self.old self.new (record { key = key.now; value = value.now })) }
         ensures fails { IfErr result
             (FailsAdding self.old self.new (record { key = key.now; value = value.now })) }
-        ensures comes { ComesFrom (S.image self.old.store) (S.image self.new.store) }
-        ensures head { KeepsHead L.WORD (S.image self.old.store) (S.image self.new.store) }
-        ensures limit { self.new.limit ≡ self.old.limit }
+        ensures follows { Follows self.old self.new }
         ensures counts { OnErr result (SameCounts self.old self.new) }
-        ensures room { S.room self.old.store ≤ S.room self.new.store }
-        ensures failures { S.failures self.old.store ≤ S.failures self.new.store }
     {
         if self.broken {
             return Err(MakeFault::Broken);
@@ -82,12 +77,8 @@ impl<S: Store, L: Width> Maker<S, L> {
             (Exchanges self.old self.new (record { key = key.now; value = value.now })) }
         ensures fails { IfErr result (FailsClosing self.old self.new key.now) }
         ensures broken { OnErr result (self.new.broken ≡ true) }
-        ensures comes { ComesFrom (S.image self.old.store) (S.image self.new.store) }
-        ensures head { KeepsHead L.WORD (S.image self.old.store) (S.image self.new.store) }
-        ensures limit { self.new.limit ≡ self.old.limit }
+        ensures follows { Follows self.old self.new }
         ensures counts { OnErr result (SameCounts self.old self.new) }
-        ensures room { S.room self.old.store ≤ S.room self.new.store }
-        ensures failures { S.failures self.old.store ≤ S.failures self.new.store }
     {
         let last = self.take_out()?;
         let (store, lists, gaps) = (&mut self.store, &mut self.lists, &mut self.gaps);
@@ -110,12 +101,8 @@ impl<S: Store, L: Width> Maker<S, L> {
             (Puts self.old self.new Replace (record { key = key.now; value = value.now })) }
         ensures fails { IfErr result
             (FailsPutting self.old self.new Replace (record { key = key.now; value = value.now })) }
-        ensures comes { ComesFrom (S.image self.old.store) (S.image self.new.store) }
-        ensures head { KeepsHead L.WORD (S.image self.old.store) (S.image self.new.store) }
-        ensures limit { self.new.limit ≡ self.old.limit }
+        ensures follows { Follows self.old self.new }
         ensures counts { OnErr result (SameCounts self.old self.new) }
-        ensures room { S.room self.old.store ≤ S.room self.new.store }
-        ensures failures { S.failures self.old.store ≤ S.failures self.new.store }
     {
         let taken = self.find(key)?;
         if taken == 0 {
@@ -145,12 +132,8 @@ impl<S: Store, L: Width> Maker<S, L> {
             (Puts self.old self.new mode (record { key = key.now; value = value.now })) }
         ensures fails { IfErr result
             (FailsPutting self.old self.new mode (record { key = key.now; value = value.now })) }
-        ensures comes { ComesFrom (S.image self.old.store) (S.image self.new.store) }
-        ensures head { KeepsHead L.WORD (S.image self.old.store) (S.image self.new.store) }
-        ensures limit { self.new.limit ≡ self.old.limit }
+        ensures follows { Follows self.old self.new }
         ensures counts { OnErr result (SameCounts self.old self.new) }
-        ensures room { S.room self.old.store ≤ S.room self.new.store }
-        ensures failures { S.failures self.old.store ≤ S.failures self.new.store }
     {
         match mode {
             Mode::Add => self.add(key, value)?,

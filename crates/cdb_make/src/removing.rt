@@ -7,7 +7,6 @@ ghost use Rattle.cdb_form.specs.Format.Pair.{head_size};
 ghost use Rattle.cdb_form.specs.Format.Record.{KeyValue};
 ghost use Rattle.cdb_make.specs.Gaps.{AreApart, first_place};
 ghost use Rattle.cdb_make.specs.Stands.{Stands, AreGapsOf, AreTakenOut, WritesSurvivors};
-ghost use Rattle.cdb_make.specs.Unfinished.{KeepsHead};
 ghost use Rattle.cdb_make.specs.Views.EntryList.{lists_entries, AreClosed};
 
 use crate::fault::MakeFault;
@@ -21,7 +20,7 @@ use cdb_store::Store;
 impl<S: Store, L: Width> Maker<S, L> {
     ghost use Rattle.cdb_make.specs.Views.Maker.{Holds, Removes, FailsRemoving, FailsLooking};
     ghost use Rattle.cdb_make.specs.Views.Maker.{SameCounts, WritesNothing, FailsClosing};
-    ghost use Rattle.cdb_make.specs.Views.Maker.{ComesFrom, HasNotFailed};
+    ghost use Rattle.cdb_make.specs.Views.Maker.{Follows, HasNotFailed};
 
     /// How many records have a key, whose gaps are noted.
     pub(crate) fn find(&mut self, key: &[u8]) -> Result<u64, MakeFault>
@@ -108,12 +107,8 @@ impl<S: Store, L: Width> Maker<S, L> {
     pub fn remove(&mut self, key: &[u8]) -> Result<u64, MakeFault>
         ensures removes { IfOk result (Removes self.old self.new key.now) }
         ensures fails { IfErr result (FailsRemoving self.old self.new key.now) }
-        ensures comes { ComesFrom (S.image self.old.store) (S.image self.new.store) }
-        ensures head { KeepsHead L.WORD (S.image self.old.store) (S.image self.new.store) }
-        ensures limit { self.new.limit ≡ self.old.limit }
+        ensures follows { Follows self.old self.new }
         ensures counts { OnErr result (SameCounts self.old self.new) }
-        ensures room { S.room self.old.store ≤ S.room self.new.store }
-        ensures failures { S.failures self.old.store ≤ S.failures self.new.store }
     {
         let taken = self.find(key)?;
         if taken > 0 {

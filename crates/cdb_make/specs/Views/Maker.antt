@@ -19,6 +19,7 @@ use Rattle.cdb_make.specs.declared.looking.LookFault.TheVariants.{Failed, Foreig
 use Rattle.cdb_make.specs.Stands.{Tells, AreGapsOf}
 use Rattle.cdb_make.specs.Survivors.{has_key, is_there, count_of, without, behind_first, put_list}
 use Rattle.cdb_make.specs.Survivors.{put_answer}
+use Rattle.cdb_make.specs.Unfinished.{KeepsHead}
 use Rattle.cdb_make.specs.Views.EntryList.{lists_entries}
 
 -- this holds where some byte list is an image
@@ -101,6 +102,16 @@ pub record SameCounts {S L : Type 0} {s : Ghosts S} {l : Widths L} (old new : Ma
   pub end : new.end ≡ old.end
   pub count : new.count ≡ old.count
   pub limit : new.limit ≡ old.limit
+
+-- it came of the other, whatever the call answered: each image of its store comes of an old one and
+-- has the head of one, its limit is the same, and room and failures of its store are no less
+pub record Follows {S L : Type 0} {s : Ghosts S} {l : Widths L} (old new : Maker S L s l)
+    : Type 0 where
+  pub comes : ComesFrom (s.image old.store) (s.image new.store)
+  pub head : KeepsHead l.WORD (s.image old.store) (s.image new.store)
+  pub limit : new.limit ≡ old.limit
+  pub room : s.room old.store ≤ s.room new.store
+  pub failures : s.failures old.store ≤ s.failures new.store
 
 -- what a fault of a look is to its caller, and whether it breaks the maker
 abbrev pub look_fault : LookFault → MakeFault

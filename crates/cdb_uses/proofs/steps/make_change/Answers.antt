@@ -6,7 +6,7 @@ pub returns-in-Put-clause-holds : goal.returns-in-Put-clause-holds
 returns-in-Put-clause-holds g c = λ rs h.
     let e = c.put.ensures in
     rw (c.in-Put.is, c.err.ensures.value, sym c.deref.ensures.value, sym c.deref-in-Put.ensures.value)
-    (put_kept {s = g.S.Store} {l = g.L.Width} c.args.maker.now c.put.new.self _ _ _ rs e.puts e.fails e.limit h)
+    (put_kept {s = g.S.Store} {l = g.L.Width} c.args.maker.now c.put.new.self _ _ _ rs e.puts e.fails e.follows.limit h)
 
 pub returns-in-Remove-clause-holds : goal.returns-in-Remove-clause-holds
 returns-in-Remove-clause-holds g c = λ rs h.

@@ -7,8 +7,7 @@ use Rattle.cdb_make.proofs.Makers.{comes_torn}
 use Rattle.cdb_make.proofs.Puts.{comes_then}
 use Rattle.cdb_make.proofs.Whole.{count_found}
 use Rattle.std.proofs.lemmas.Grind.{common_steps}
-use Rattle.cdb_make.proofs.FinishedFile.{kept_then}
-use Rattle.cdb_make.proofs.KeptHeads.{head_moved}
+use Rattle.cdb_make.proofs.Following.{follows_moved, follows_then}
 use Rattle.cdb_make.proofs.maker.Maker.exchange.Goals as goal
 
 pub returns-in_err-last-clause-fails : goal.returns-in_err-last-clause-fails
@@ -28,9 +27,6 @@ returns-in-Ok-clause-ok g c =
       written = λ rs h found. exchanged_written g.L.Width.WORD _ _ _ r rs (e.written rs c.args.key.now h found) c.in-Ok.ensures.written c.add.ensures.comes;
     }
 
-pub returns-in-Ok-clause-comes : goal.returns-in-Ok-clause-comes
-returns-in-Ok-clause-comes g c = comes_then (comes_torn c.take_out.ensures.torn) c.add.ensures.comes
-
 pub returns-in-Err-NoMemory-clause-fails : goal.returns-in-Err-NoMemory-clause-fails
 returns-in-Err-NoMemory-clause-fails g c = λ rs h found b is.
     let w : ℕ = g.L.Width.WORD in
@@ -48,12 +44,6 @@ returns-in-Err-NoMemory-clause-fails g c = λ rs h found b is.
       | inr past ↦ omega (arith, past, c.requires.room, e.end, c.take_out.ensures.room)
     ]
 
-pub returns-in-Err-NoMemory-clause-comes : goal.returns-in-Err-NoMemory-clause-comes
-returns-in-Err-NoMemory-clause-comes g c = comes_then (comes_torn c.take_out.ensures.torn) c.add.ensures.comes
-
-pub returns-in-Err-clause-comes : goal.returns-in-Err-clause-comes
-returns-in-Err-clause-comes g c = comes_then (comes_torn c.take_out.ensures.torn) c.add.ensures.comes
-
 pub overflow_add-self : goal.overflow_add-self
 overflow_add-self g c = omega arith
 
@@ -63,32 +53,31 @@ returns-in-Err-NoMemory-clause-broken g c = search rules
 pub add-requires-clause-fits : goal.add-requires-clause-fits
 add-requires-clause-fits g c = grind (arith, common_steps)
 
-pub returns-in-Err-NoMemory-clause-room : goal.returns-in-Err-NoMemory-clause-room
-returns-in-Err-NoMemory-clause-room g c = search rules
-
-pub returns-in-Err-NoMemory-clause-failures : goal.returns-in-Err-NoMemory-clause-failures
-returns-in-Err-NoMemory-clause-failures g c = search rules
-
-pub returns-in-Err-clause-limit : goal.returns-in-Err-clause-limit
-returns-in-Err-clause-limit g c = search rules
-
-pub returns-in-Err-clause-failures : goal.returns-in-Err-clause-failures
-returns-in-Err-clause-failures g c = search rules
-
-pub returns-in-Err-clause-room : goal.returns-in-Err-clause-room
-returns-in-Err-clause-room g c = search rules
-
 pub returns-in-Err-clause-broken : goal.returns-in-Err-clause-broken
 returns-in-Err-clause-broken g c = search rules
 
-pub returns-in_err-last-clause-head : goal.returns-in_err-last-clause-head
-returns-in_err-last-clause-head g c = head_moved g.L.Width.WORD _ _ c.args.self.now.gaps.items c.requires.apart c.take_out.ensures.torn
+pub returns-in_err-last-clause-follows : goal.returns-in_err-last-clause-follows
+returns-in_err-last-clause-follows g c =
+    let t = c.take_out.ensures in
+    follows_moved {s = g.S.Store} {l = g.L.Width} c.args.self.now c.take_out.new.self c.requires.apart t.torn t.counts t.room t.failures
 
-pub returns-in-Ok-clause-head : goal.returns-in-Ok-clause-head
-returns-in-Ok-clause-head g c = kept_then (head_moved g.L.Width.WORD _ _ c.args.self.now.gaps.items c.requires.apart c.take_out.ensures.torn) c.add.ensures.head
+pub returns-in-Ok-clause-follows : goal.returns-in-Ok-clause-follows
+returns-in-Ok-clause-follows g c =
+    let t = c.take_out.ensures in
+    let a = c.add.ensures in
+    follows_then (follows_moved {s = g.S.Store} {l = g.L.Width} c.args.self.now c.take_out.new.self c.requires.apart t.torn t.counts t.room t.failures)
+    (record { comes = a.comes; head = a.head; limit = refl; room = a.room; failures = a.failures })
 
-pub returns-in-Err-NoMemory-clause-head : goal.returns-in-Err-NoMemory-clause-head
-returns-in-Err-NoMemory-clause-head g c = kept_then (head_moved g.L.Width.WORD _ _ c.args.self.now.gaps.items c.requires.apart c.take_out.ensures.torn) c.add.ensures.head
+pub returns-in-Err-NoMemory-clause-follows : goal.returns-in-Err-NoMemory-clause-follows
+returns-in-Err-NoMemory-clause-follows g c =
+    let t = c.take_out.ensures in
+    let a = c.add.ensures in
+    follows_then (follows_moved {s = g.S.Store} {l = g.L.Width} c.args.self.now c.take_out.new.self c.requires.apart t.torn t.counts t.room t.failures)
+    (record { comes = a.comes; head = a.head; limit = refl; room = a.room; failures = a.failures })
 
-pub returns-in-Err-clause-head : goal.returns-in-Err-clause-head
-returns-in-Err-clause-head g c = kept_then (head_moved g.L.Width.WORD _ _ c.args.self.now.gaps.items c.requires.apart c.take_out.ensures.torn) c.add.ensures.head
+pub returns-in-Err-clause-follows : goal.returns-in-Err-clause-follows
+returns-in-Err-clause-follows g c =
+    let t = c.take_out.ensures in
+    let a = c.add.ensures in
+    follows_then (follows_moved {s = g.S.Store} {l = g.L.Width} c.args.self.now c.take_out.new.self c.requires.apart t.torn t.counts t.room t.failures)
+    (record { comes = a.comes; head = a.head; limit = refl; room = a.room; failures = a.failures })

@@ -4,14 +4,12 @@ use Rattle.cdb_make.specs.declared.mode.Mode.TheVariants.{Add, Warn, Insert}
 use Rattle.cdb_make.specs.declared.mode.Put.TheVariants.{Added, AddedAgain}
 use Rattle.cdb_make.proofs.Puts.{puts_added, fails_added, fails_add, puts_present, just_add, just_warn, just_insert, writes_same}
 use Rattle.std.proofs.lemmas.Grind.{common_steps}
-use Rattle.cdb_make.proofs.FinishedFile.{kept_then}
-use Rattle.cdb_make.proofs.KeptHeads.{head_looked}
 use Rattle.cdb_make.proofs.maker.Maker.put.Goals as goal
 
 pub returns-in_err-add-in-Add-clause-fails : goal.returns-in_err-add-in-Add-clause-fails
 returns-in_err-add-in-Add-clause-fails g c =
     let p = err_from_is_err_and c.from_residual.result c.from_residual.ensures.1 in
-    rw (p.1, p.2, c.in-Add.is) (fails_add {s = g.S.Store} {l = g.L.Width} _ _ _ _ c.add.ensures.comes c.in_err-add-in-Add.ensures.fails)
+    rw (p.1, p.2, c.in-Add.is) (fails_add {s = g.S.Store} {l = g.L.Width} _ _ _ _ c.add.ensures.follows.comes c.in_err-add-in-Add.ensures.fails)
 
 pub returns-in_ok-add-in-Add-clause-puts : goal.returns-in_ok-add-in-Add-clause-puts
 returns-in_ok-add-in-Add-clause-puts g c =
@@ -24,7 +22,7 @@ returns-in_err-add-in-Warn-clause-fails g c =
     let p = err_from_is_err_and c.from_residual-in_err-add-in-Warn.result c.from_residual-in_err-add-in-Warn.ensures.1 in
     let e = c.in_ok-there-in-Warn.ensures in
     rw (p.1, p.2, c.in-Warn.is)
-    (fails_added {s = g.S.Store} {l = g.L.Width} _ c.exists.new.self _ Warn _ _ _ e.ok c.exists.ensures.counts.limit e.ok_failures c.add-in-Warn.ensures.comes
+    (fails_added {s = g.S.Store} {l = g.L.Width} _ c.exists.new.self _ Warn _ _ _ e.ok c.exists.ensures.counts.limit e.ok_failures c.add-in-Warn.ensures.follows.comes
     (λ rs h. just_warn c.in_ok-there-in-Warn.there _ rs _ refl (e.there rs h)) c.in_err-add-in-Warn.ensures.fails)
 
 pub returns-then-there-clause-puts : goal.returns-then-there-clause-puts
@@ -51,7 +49,7 @@ returns-in_err-add-in-Insert-clause-fails g c =
     let p = err_from_is_err_and c.from_residual-in_err-add-in-Insert.result c.from_residual-in_err-add-in-Insert.ensures.1 in
     let e = c.in_ok-exists-in-Insert.ensures in
     rw (p.1, p.2, c.in-Insert.is)
-    (fails_added {s = g.S.Store} {l = g.L.Width} _ c.exists-in-Insert.new.self _ Insert _ Added _ e.ok c.exists-in-Insert.ensures.counts.limit e.ok_failures c.add-in-Insert.ensures.comes
+    (fails_added {s = g.S.Store} {l = g.L.Width} _ c.exists-in-Insert.new.self _ Insert _ Added _ e.ok c.exists-in-Insert.ensures.counts.limit e.ok_failures c.add-in-Insert.ensures.follows.comes
     (λ rs h. just_insert c.in_ok-exists-in-Insert.field-0 rs _ c.if-branch.false (e.there rs h)) c.in_err-add-in-Insert.ensures.fails)
 
 pub returns-in_ok-add-in-Insert-clause-puts : goal.returns-in_ok-add-in-Insert-clause-puts
@@ -63,33 +61,3 @@ returns-in_ok-add-in-Insert-clause-puts g c =
 
 pub returns-in-Replace-clause-fails : goal.returns-in-Replace-clause-fails
 returns-in-Replace-clause-fails g c = rw (c.in-Replace.is) c.replace.ensures.fails
-
-pub returns-in_ok-add-in-Insert-clause-comes : goal.returns-in_ok-add-in-Insert-clause-comes
-returns-in_ok-add-in-Insert-clause-comes g c = grind (arith, common_steps)
-
-pub returns-else-there-clause-comes : goal.returns-else-there-clause-comes
-returns-else-there-clause-comes g c = grind (arith, common_steps)
-
-pub returns-in_err-there-in-Warn-clause-head : goal.returns-in_err-there-in-Warn-clause-head
-returns-in_err-there-in-Warn-clause-head g c = head_looked g.L.Width.WORD c.exists.ensures.images.no_other
-
-pub returns-in_err-add-in-Warn-clause-head : goal.returns-in_err-add-in-Warn-clause-head
-returns-in_err-add-in-Warn-clause-head g c = kept_then (head_looked g.L.Width.WORD c.exists.ensures.images.no_other) c.add-in-Warn.ensures.head
-
-pub returns-then-there-clause-head : goal.returns-then-there-clause-head
-returns-then-there-clause-head g c = kept_then (head_looked g.L.Width.WORD c.exists.ensures.images.no_other) c.add-in-Warn.ensures.head
-
-pub returns-else-there-clause-head : goal.returns-else-there-clause-head
-returns-else-there-clause-head g c = kept_then (head_looked g.L.Width.WORD c.exists.ensures.images.no_other) c.add-in-Warn.ensures.head
-
-pub returns-in_err-exists-in-Insert-clause-head : goal.returns-in_err-exists-in-Insert-clause-head
-returns-in_err-exists-in-Insert-clause-head g c = head_looked g.L.Width.WORD c.exists-in-Insert.ensures.images.no_other
-
-pub returns-then-branch-clause-head : goal.returns-then-branch-clause-head
-returns-then-branch-clause-head g c = head_looked g.L.Width.WORD c.exists-in-Insert.ensures.images.no_other
-
-pub returns-in_err-add-in-Insert-clause-head : goal.returns-in_err-add-in-Insert-clause-head
-returns-in_err-add-in-Insert-clause-head g c = kept_then (head_looked g.L.Width.WORD c.exists-in-Insert.ensures.images.no_other) c.add-in-Insert.ensures.head
-
-pub returns-in_ok-add-in-Insert-clause-head : goal.returns-in_ok-add-in-Insert-clause-head
-returns-in_ok-add-in-Insert-clause-head g c = kept_then (head_looked g.L.Width.WORD c.exists-in-Insert.ensures.images.no_other) c.add-in-Insert.ensures.head

@@ -3,8 +3,7 @@ use Rattle.std.proofs.lemmas.Result.{err_from_is_err_and}
 use Rattle.cdb_make.proofs.Makers.{removes_none, removes_some, fails_removing, comes_torn}
 use Rattle.cdb_make.proofs.Replacing.{fewer_within}
 use Rattle.std.proofs.lemmas.Grind.{common_steps}
-use Rattle.cdb_make.proofs.FinishedFile.{kept_then}
-use Rattle.cdb_make.proofs.KeptHeads.{head_looked, head_moved}
+use Rattle.cdb_make.proofs.Following.{follows_looked, follows_moved, follows_then}
 use Rattle.cdb_make.proofs.maker.Maker.remove.Goals as goal
 
 pub returns-in_err-self-clause-fails : goal.returns-in_err-self-clause-fails
@@ -39,20 +38,15 @@ invariant_of-self g c =
       spare = m.spare;
     }
 
-pub returns-in_ok-self-clause-comes : goal.returns-in_ok-self-clause-comes
-returns-in_ok-self-clause-comes g c = grind (arith, common_steps)
+pub returns-in_err-self-clause-follows : goal.returns-in_err-self-clause-follows
+returns-in_err-self-clause-follows g c =
+    let t = c.take_out.ensures in
+    follows_then (follows_looked {s = g.S.Store} {l = g.L.Width} c.args.self.now c.find.new.self c.find.ensures.reads c.find.ensures.counts)
+    (follows_moved {s = g.S.Store} {l = g.L.Width} c.find.new.self c.take_out.new.self c.in_ok-taken.ensures.apart t.torn t.counts t.room t.failures)
 
-pub returns-else-taken-gt0-clause-comes : goal.returns-else-taken-gt0-clause-comes
-returns-else-taken-gt0-clause-comes g c = grind (arith, common_steps)
-
-pub returns-in_err-taken-clause-head : goal.returns-in_err-taken-clause-head
-returns-in_err-taken-clause-head g c = head_looked g.L.Width.WORD c.find.ensures.reads.images
-
-pub returns-in_err-self-clause-head : goal.returns-in_err-self-clause-head
-returns-in_err-self-clause-head g c = kept_then (head_looked g.L.Width.WORD c.find.ensures.reads.images) (head_moved g.L.Width.WORD _ _ c.find.new.self.gaps.items c.in_ok-taken.ensures.apart c.take_out.ensures.torn)
-
-pub returns-in_ok-self-clause-head : goal.returns-in_ok-self-clause-head
-returns-in_ok-self-clause-head g c = kept_then (head_looked g.L.Width.WORD c.find.ensures.reads.images) (head_moved g.L.Width.WORD _ _ c.find.new.self.gaps.items c.in_ok-taken.ensures.apart c.take_out.ensures.torn)
-
-pub returns-else-taken-gt0-clause-head : goal.returns-else-taken-gt0-clause-head
-returns-else-taken-gt0-clause-head g c = head_looked g.L.Width.WORD c.find.ensures.reads.images
+pub returns-in_ok-self-clause-follows : goal.returns-in_ok-self-clause-follows
+returns-in_ok-self-clause-follows g c =
+    let t = c.take_out.ensures in
+    let f = follows_then (follows_looked {s = g.S.Store} {l = g.L.Width} c.args.self.now c.find.new.self c.find.ensures.reads c.find.ensures.counts)
+    (follows_moved {s = g.S.Store} {l = g.L.Width} c.find.new.self c.take_out.new.self c.in_ok-taken.ensures.apart t.torn t.counts t.room t.failures) in
+    record { comes = f.comes; head = f.head; limit = f.limit; room = f.room; failures = f.failures }

@@ -15,9 +15,6 @@ use Rattle.cdb_make.proofs.Makers.{honest_comes, writes_looked}
 use Rattle.cdb_make.proofs.Puts.{puts_added, fails_added, comes_same, comes_then, writes_then}
 use Rattle.cdb_make.proofs.Replacing.{just_replace, fewer_bytes, wants_memory, fails_too_big, would_replace, fails_wanting, fails_exchange, puts_exchanged, gaps_same}
 use Rattle.std.proofs.lemmas.Grind.{common_steps}
-use Rattle.cdb_store.proofs.Moves.{kept_same}
-use Rattle.cdb_make.proofs.FinishedFile.{kept_then}
-use Rattle.cdb_make.proofs.KeptHeads.{head_looked}
 use Rattle.cdb_make.proofs.maker.Maker.replace.Goals as goal
 
 pub returns-in_err-add-clause-fails : goal.returns-in_err-add-clause-fails
@@ -25,7 +22,7 @@ returns-in_err-add-clause-fails g c =
     let p = err_from_is_err_and c.from_residual-in_err-add.result c.from_residual-in_err-add.ensures.1 in
     let e = c.in_ok-taken.ensures in
     let none : c.find.new.self.gaps.items ≡ [] = nil_from_length c.find.new.self.gaps.items (omega (arith, e.count, c.if-taken-eq0.true)) in
-    rw (p.1, p.2) (fails_added {s = g.S.Store} {l = g.L.Width} _ c.find.new.self _ Replace _ Added _ e.ok c.find.ensures.counts.limit e.ok_failures c.add.ensures.comes (λ rs h. just_replace rs _ none (e.gaps rs h)) c.in_err-add.ensures.fails)
+    rw (p.1, p.2) (fails_added {s = g.S.Store} {l = g.L.Width} _ c.find.new.self _ Replace _ Added _ e.ok c.find.ensures.counts.limit e.ok_failures c.add.ensures.follows.comes (λ rs h. just_replace rs _ none (e.gaps rs h)) c.in_err-add.ensures.fails)
 
 pub returns-then-taken-eq0-clause-puts : goal.returns-then-taken-eq0-clause-puts
 returns-then-taken-eq0-clause-puts g c =
@@ -121,18 +118,15 @@ returns-in_err-exchange-clause-fails g c =
     let would = would_replace {s = g.S.Store} {l = g.L.Width} c.args.self.now m r e.ok c.find.ensures.counts.limit e.gaps fit in
     rw (p.1, p.2)
     (fails_exchange {s = g.S.Store} {l = g.L.Width} _ _ _ _ _ (writes_then _ m _ e.ok more) (omega (arith, c.find.ensures.reads.failures, c.reserve.ensures.failures)) (λ rs h. gaps_same c.reserve.ensures.images (e.gaps rs h))
-    (omega (arith, c.if-taken-eq0.false, e.count)) c.in_err-exchange.ensures.broken c.exchange.ensures.comes
-    (λ rs h. honest_comes (comes_then (comes_same c.reserve.ensures.images) c.exchange.ensures.comes) (would rs h)) c.in_err-exchange.ensures.fails)
+    (omega (arith, c.if-taken-eq0.false, e.count)) c.in_err-exchange.ensures.broken c.exchange.ensures.follows.comes
+    (λ rs h. honest_comes (comes_then (comes_same c.reserve.ensures.images) c.exchange.ensures.follows.comes) (would rs h)) c.in_err-exchange.ensures.fails)
 
 pub returns-clause-puts : goal.returns-clause-puts
 returns-clause-puts g c =
     let m = c.find.new.self in
     let e = c.in_ok-taken.ensures in
     let more = writes_looked e.ok.stays.whole e.ok.stays.whole refl refl (record { no_other = c.reserve.ensures.images.no_other }) c.reserve.ensures.written in
-    puts_exchanged {s = g.S.Store} {l = g.L.Width} _ _ _ _ _ (writes_then _ m _ e.ok more) (λ rs h. gaps_same c.reserve.ensures.images (e.gaps rs h)) e.count (omega (arith, c.if-taken-eq0.false)) c.exchange.ensures.comes c.in_ok-exchange.ensures.ok
-
-pub exchange-requires-clause-room : goal.exchange-requires-clause-room
-exchange-requires-clause-room g c = search rules
+    puts_exchanged {s = g.S.Store} {l = g.L.Width} _ _ _ _ _ (writes_then _ m _ e.ok more) (λ rs h. gaps_same c.reserve.ensures.images (e.gaps rs h)) e.count (omega (arith, c.if-taken-eq0.false)) c.exchange.ensures.follows.comes c.in_ok-exchange.ensures.ok
 
 pub invariant_of-self : goal.invariant_of-self
 invariant_of-self g c = grind (arith, common_steps)
@@ -143,32 +137,8 @@ overflow_add-self g c = search rules
 pub exchange-requires-clause-fits : goal.exchange-requires-clause-fits
 exchange-requires-clause-fits g c = grind (arith, common_steps)
 
-pub returns-then-not-has_room-clause-comes : goal.returns-then-not-has_room-clause-comes
-returns-then-not-has_room-clause-comes g c = grind (arith, common_steps)
-
 pub overflow_mul-left-2 : goal.overflow_mul-left-2
 overflow_mul-left-2 g c = grind (arith, common_steps)
 
-pub returns-clause-comes : goal.returns-clause-comes
-returns-clause-comes g c = grind (arith, common_steps)
-
-pub returns-in_err-taken-clause-head : goal.returns-in_err-taken-clause-head
-returns-in_err-taken-clause-head g c = head_looked g.L.Width.WORD c.find.ensures.reads.images
-
-pub returns-in_err-add-clause-head : goal.returns-in_err-add-clause-head
-returns-in_err-add-clause-head g c = kept_then (head_looked g.L.Width.WORD c.find.ensures.reads.images) c.add.ensures.head
-
-pub returns-then-taken-eq0-clause-head : goal.returns-then-taken-eq0-clause-head
-returns-then-taken-eq0-clause-head g c = kept_then (head_looked g.L.Width.WORD c.find.ensures.reads.images) c.add.ensures.head
-
-pub returns-then-not-has_room-clause-head : goal.returns-then-not-has_room-clause-head
-returns-then-not-has_room-clause-head g c = head_looked g.L.Width.WORD c.find.ensures.reads.images
-
-pub returns-in_err-reserve-clause-head : goal.returns-in_err-reserve-clause-head
-returns-in_err-reserve-clause-head g c = kept_then (head_looked g.L.Width.WORD c.find.ensures.reads.images) (kept_same 0 (head_size g.L.Width.WORD) c.reserve.ensures.images)
-
-pub returns-in_err-exchange-clause-head : goal.returns-in_err-exchange-clause-head
-returns-in_err-exchange-clause-head g c = kept_then (kept_then (head_looked g.L.Width.WORD c.find.ensures.reads.images) (kept_same 0 (head_size g.L.Width.WORD) c.reserve.ensures.images)) c.exchange.ensures.head
-
-pub returns-clause-head : goal.returns-clause-head
-returns-clause-head g c = kept_then (kept_then (head_looked g.L.Width.WORD c.find.ensures.reads.images) (kept_same 0 (head_size g.L.Width.WORD) c.reserve.ensures.images)) c.exchange.ensures.head
+pub exchange-requires-clause-room : goal.exchange-requires-clause-room
+exchange-requires-clause-room g c = search rules

@@ -41,9 +41,9 @@ loop-value-preserved g c =
           (λ b i. c.in_ok-value_into.ensures.is b (value.reads.images b i))
           (λ b i. c.in_ok-value_into-2.ensures.is b i)
           puts;
-      comes = comes_then inv.comes c.put.ensures.comes;
-      limit = c.put.ensures.limit ∙ inv.limit;
-      failures = omega (arith, inv.failures, c.put.ensures.failures);
+      comes = comes_then inv.comes c.put.ensures.follows.comes;
+      limit = c.put.ensures.follows.limit ∙ inv.limit;
+      failures = omega (arith, inv.failures, c.put.ensures.follows.failures);
     }
 
 pub returns-in_err-pair-clause-fails : goal.returns-in_err-pair-clause-fails

@@ -36,7 +36,7 @@ loop-fault-preserved g c =
     let size = (held_size m (held.records ++ r ∷ []) _ refl holds).each m.store.bytes.items refl in
     record {
       going = one.going;
-      so_far = holds_so_far_more _ _ _ _ _ _ _ _ _ r held one.reads one.spends holds (omega (arith, m.within, m.limited)) c.put.ensures.limit;
+      so_far = holds_so_far_more _ _ _ _ _ _ _ _ _ r held one.reads one.spends holds (omega (arith, m.within, m.limited)) c.put.ensures.follows.limit;
     }
 
 pub loop-fault-smaller : goal.loop-fault-smaller
