@@ -1,4 +1,5 @@
 //! What contracts can't say.
+mod ahead;
 mod bad_bytes;
 mod bad_file;
 mod checking;

@@ -10,13 +10,13 @@ use std::prelude::*;
 use std::test::Fail;
 
 /// Where the bad bytes of a file stand.
-type Bad<'a> = &'a [(u64, u64)];
+pub(super) type Bad<'a> = &'a [(u64, u64)];
 
 /// A database in a file with bad bytes.
-type Spoiled<'a, L> = Reader<FileStore<BadFile<'a>>, L>;
+pub(super) type Spoiled<'a, L> = Reader<FileStore<BadFile<'a>>, L>;
 
 /// A reader of a file with bad bytes.
-fn opened<L: Width>(file: Vec<u8>, bad: Bad<'_>) -> Result<Spoiled<'_, L>, ReadFault> {
+pub(super) fn opened<L: Width>(file: Vec<u8>, bad: Bad<'_>) -> Result<Spoiled<'_, L>, ReadFault> {
     let store = match FileStore::over(BadFile::new(file, bad)) {
         Ok(store) => store,
         Err(StoreFault::Device) => return Err(ReadFault::Device),

@@ -15,7 +15,12 @@ const TWO_BODY: &[u8] = b"\x03\0\0\0\x05\0\0\0oneHello\x03\0\0\0\x07\0\0\0twoGoo
     \0\0\0\0\0\0\0\0\x81\x5b\x87\x0b\0\x08\0\0";
 
 /// Adds two words of a size.
-fn push_words(file: &mut Vec<u8>, first: u64, second: u64, size: usize) -> Result<(), AllocError> {
+pub(super) fn push_words(
+    file: &mut Vec<u8>,
+    first: u64,
+    second: u64,
+    size: usize,
+) -> Result<(), AllocError> {
     let size = size.min(8);
     file.extend_from_slice(&first.to_le_bytes()[..size])?;
     file.extend_from_slice(&second.to_le_bytes()[..size])?;
