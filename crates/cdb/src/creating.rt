@@ -30,7 +30,7 @@ pub(crate) struct Creation<'a> {
     pub(crate) base: Option<&'a str>,
     /// The inputs. No input is standard input.
     pub(crate) inputs: &'a [String],
-    /// The file in which the database is made; `None` is its name with `.tmp` behind it.
+    /// The file in which the database is made; `None` is its name with `.tmp` after it.
     pub(crate) temporary: Option<&'a str>,
     /// How it is made.
     pub(crate) options: MakeOptions,

@@ -12,7 +12,7 @@ use std::rt::Files;
 /// How many bytes the window of a stream has, and the buffer of a file.
 pub(crate) const WINDOW: usize = 65536;
 
-/// The name that stands for standard input.
+/// The name of standard input.
 pub(crate) const STANDARD_INPUT: &str = "-";
 
 /// An input of a create.

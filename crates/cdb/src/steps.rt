@@ -67,7 +67,7 @@ fn write_line<E: Write>(line: &[u8; LINE], left: usize, errors: &mut E) {
     let _ = write_whole(errors, &line[..LINE.saturating_sub(left)]);
 }
 
-/// Performs a command, in the width that it tells.
+/// Performs a command, in its width.
 fn perform<R, I, O, E>(
     rt: &R,
     command: &Command,

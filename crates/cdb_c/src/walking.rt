@@ -42,7 +42,7 @@ impl Placed {
 }
 
 /// Where the records of a file end, which has at least a head. 0 says that they would end before
-/// the head does. The first record is behind the head, at 2048.
+/// the head does. The first record follows the head, at 2048.
 #[unsafe(no_mangle)]
 pub extern "C" fn cdb_c_record_end(file: &[u8]) -> u64
     requires { head_size 4 ≤ length file.now }
@@ -56,7 +56,7 @@ pub extern "C" fn cdb_c_record_end(file: &[u8]) -> u64
 }
 
 /// The next record of a walk at a place of a file, whose records end there; then the walk is at
-/// the place behind it. After a damage it stays, and so it does at the record end.
+/// the place after it. After a damage it stays, and so it does at the record end.
 ///
 /// Any place and any record end are safe to pass: the record lies inside the file. A record end
 /// in the head is a damage.

@@ -84,7 +84,7 @@ fn command_of(
     }
 }
 
-/// What a line asks for, or the first of its faults.
+/// The command of a line, or the first of its faults.
 pub(crate) fn asked_on(alloc: Global, line: &Line<'_, '_>) -> Result<Command, Usage>
     ensures { Gives asked_in result (line_plan (given_in line.now)) }
 {

@@ -2,12 +2,12 @@
 use crate::options::MakeOptions;
 use crate::style::Style;
 
-/// What a command line asks for. A name that is `None` is standard input, and `wide` says that
+/// What a command line means. A name that is `None` is standard input, and `wide` says that
 /// words have 8 bytes.
 #[derive(Debug, Drop)]
 pub enum Command {
     /// The values of a key, or the one with a number, counted from 1, are written, with a newline
-    /// behind each in `lines`.
+    /// after each in `lines`.
     Query {
         name: String,
         key: String,
@@ -32,7 +32,7 @@ pub enum Command {
         name: Option<String>,
         wide: bool,
     },
-    /// It is told whether the database is sound.
+    /// The database is checked.
     Check {
         name: Option<String>,
         wide: bool,

@@ -16,8 +16,8 @@ pub(crate) enum Letter {
     Check,
 }
 
-/// The one command whose letter stands on a line. `NoCommand` where there is none, `TwoCommands`
-/// where there are several.
+/// The one command whose letter is on a line. `NoCommand` if there is none, `TwoCommands` if
+/// there are several.
 pub(crate) fn only_letter(flags: Flags) -> Result<Letter, Usage>
     ensures { result ≡ only_letter (letters_in flags) }
 {

@@ -1,6 +1,6 @@
 // What stands on a command line.
 
-/// Which letters without a value stand on a line, each once or often.
+/// Which letters without a value are on a line, each once or often.
 #[derive(Clone, Copy)]
 pub(crate) struct Flags {
     pub(crate) query: bool,
@@ -18,7 +18,7 @@ pub(crate) struct Flags {
     pub(crate) insert: bool,
 }
 
-/// What stands on a line behind the program's name.
+/// What is on a line after the program's name.
 #[derive(Clone, Copy)]
 pub(crate) struct Line<'a, 'b> {
     pub(crate) flags: Flags,
@@ -28,6 +28,6 @@ pub(crate) struct Line<'a, 'b> {
     pub(crate) temporary: Option<&'a str>,
     /// The value of `-b`.
     pub(crate) base: Option<&'a str>,
-    /// The names, or `None` where there are none.
+    /// The names, or `None` if there are none.
     pub(crate) names: Option<&'b [&'a str]>,
 }

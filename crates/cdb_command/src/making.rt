@@ -49,7 +49,7 @@ pub(crate) fn options_of(flags: Flags) -> MakeOptions
     }
 }
 
-/// `Both` where duplicates are to be replaced, and to be left out.
+/// `Both` if duplicates are to be replaced, and to be left out.
 pub(crate) fn not_both(flags: Flags) -> Result<(), Usage>
     ensures { result ≡ not_both flags }
 {

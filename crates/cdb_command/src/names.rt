@@ -6,7 +6,7 @@ ghost use Rattle.cdb_command.specs.Rules.{is_stream, two_names, file_named, one_
 
 use crate::usage::Usage;
 
-/// Two names. `Names` where there are fewer or more.
+/// Two names. `Names` if there are fewer or more.
 pub(crate) fn two_names<'a>(names: Option<&[&'a str]>) -> Result<(&'a str, &'a str), Usage>
     ensures { map_ok (λ p. (p.0.now, p.1.now)) result ≡ two_names (names_in names.entry) }
 {
@@ -30,7 +30,7 @@ fn file_named(name: &str) -> Option<&str>
     if is_stream(name) { None } else { Some(name) }
 }
 
-/// The file to be read: standard input where there is no name. `Names` where there are several.
+/// The file to be read: standard input if there is no name. `Names` if there are several.
 pub(crate) fn one_name<'a>(names: Option<&[&'a str]>) -> Result<Option<&'a str>, Usage>
     ensures { map_ok (option_map (λ s. s.now)) result ≡ one_name (names_in names.entry) }
 {
@@ -41,7 +41,7 @@ pub(crate) fn one_name<'a>(names: Option<&[&'a str]>) -> Result<Option<&'a str>,
     }
 }
 
-/// The first name, and those behind it. `Names` where there is none.
+/// The first name, and those after it. `Names` if there is none.
 pub(crate) fn first_name<'a, 'b>(
     names: Option<&'b [&'a str]>,
 ) -> Result<(&'a str, &'b [&'a str]), Usage>

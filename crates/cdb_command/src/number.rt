@@ -12,7 +12,7 @@ fn is_digits(text: &str) -> bool
     text.bytes().all(|b| b.is_ascii_digit())
 }
 
-/// `Number` where it is 0: values are counted from 1.
+/// `Number` if it is 0: values are counted from 1.
 fn value_number(number: u32) -> Result<u32, Usage>
     ensures { result ≡ value_number number }
 {
@@ -23,7 +23,7 @@ fn value_number(number: u32) -> Result<u32, Usage>
     }
 }
 
-/// The number of a value. `Number` where the text isn't decimal digits alone, of a number from 1
+/// The number of a value. `Number` if the text isn't decimal digits alone, of a number from 1
 /// to 4294967295.
 fn decimal(text: &str) -> Result<u32, Usage>
     ensures { result ≡ decimal_in text.now }
@@ -37,7 +37,7 @@ fn decimal(text: &str) -> Result<u32, Usage>
     }
 }
 
-/// The number of a value, where there is one.
+/// The number of a value, if there is one.
 pub(crate) fn number_of(text: Option<&str>) -> Result<Option<u64>, Usage>
     ensures { result ≡ number_in (option_map (λ s. s.now) text.entry) }
 {

@@ -7,9 +7,9 @@ use cdb_make::Mode;
 pub struct MakeOptions {
     /// What is done with a record whose key is there already, unless the run is to stop there.
     pub mode: Mode,
-    /// Whether such a record is told.
+    /// Whether such a record is reported.
     pub warn: bool,
-    /// Whether the run stops at the first such record, which is told. Each record is put by
+    /// Whether the run stops at the first such record and reports it. Each record is put by
     /// `Insert` then, whatever the mode.
     pub stop: bool,
     /// The form of the inputs.

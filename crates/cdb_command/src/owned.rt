@@ -12,7 +12,7 @@ pub(crate) fn owned(alloc: Global, text: &str) -> Result<String, Usage>
     Ok(String::from_str(alloc, text)?)
 }
 
-/// A text of its own, where there is one.
+/// A text of its own, if there is one.
 pub(crate) fn owned_option(alloc: Global, text: Option<&str>) -> Result<Option<String>, Usage>
     ensures { Gives (option_map string_bytes) result (Ok (option_map (λ s. s.now) text.entry)) }
 {

@@ -9,7 +9,7 @@ ghost use Rattle.cdb_command.specs.Words.{cdb_app};
 use clap::{Arg, ArgAction, Command};
 use std::alloc::{AllocError, Global};
 
-/// A letter without a value, which may stand often.
+/// A letter without a value, which may come often.
 fn flag<'a>(alloc: Global, id: &'a str, letter: char) -> Arg<'a>
     ensures rule { rule_of result ≡ flag_rule id.entry.now letter }
     ensures local { result.global ≡ false }
@@ -17,7 +17,7 @@ fn flag<'a>(alloc: Global, id: &'a str, letter: char) -> Arg<'a>
     Arg::new(alloc, id).short(letter).action(ArgAction::Count)
 }
 
-/// A letter with a value, which may stand once.
+/// A letter with a value, which may come once.
 fn option<'a>(alloc: Global, id: &'a str, letter: char) -> Arg<'a>
     ensures rule { rule_of result ≡ option_rule id.entry.now letter }
     ensures local { result.global ≡ false }
@@ -121,7 +121,7 @@ fn bare<'a>(alloc: Global) -> Command<'a>
         .disable_version_flag(true)
 }
 
-/// What `clap` is told of the program's command line.
+/// The program's command line, for `clap`.
 pub(crate) fn parser<'a>(alloc: Global) -> Result<Command<'a>, AllocError>
     ensures { IfOk result (λ r. app_of r ≡ cdb_app) }
 {

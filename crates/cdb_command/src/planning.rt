@@ -12,8 +12,8 @@ use std::alloc::Global;
 
 /// What the words of a command line ask for, the first of which is the program's name.
 ///
-/// Letters stand alone or several behind one hyphen, in any order, before names, between them and
-/// behind them; a letter without a value that stands often is as one. Behind `--` all words are
+/// Letters come alone or several after one hyphen, in any order, before names, between them and
+/// after them; a letter without a value that comes often is as one. After `--` all words are
 /// names. The answer is the first that holds of these:
 /// - `Words`: an unknown letter, `-n`, `-t` or `-b` without a value, or one of them twice;
 /// - `Ok(Help)`: `-h` is there;
@@ -25,10 +25,10 @@ use std::alloc::Global;
 /// - `Number`: the value of `-n` isn't decimal digits alone, of a number from 1 to 4294967295;
 /// - `Names`: `-q` takes two names, `-c` one and any number of inputs, the others one at most;
 /// - `Both`: `-r` and `-u`;
-/// - the command. Where it reads one file, no name and `-` are standard input. `-W` stands with
+/// - the command. If it reads one file, no name and `-` are standard input. `-W` goes with
 ///   every command.
 ///
-/// `NoMemory` may stand in place of any. The limit of a create is the greatest length in bytes of a
+/// `NoMemory` may come in place of any. The limit of a create is the greatest length in bytes of a
 /// file of its width, 4294967295 or 9223372036854775807.
 pub fn plan(alloc: Global, words: Vec<String>) -> Result<Command, Usage>
     ensures exact { Gives asked_in result (plan_of (map string_bytes words.items)) }

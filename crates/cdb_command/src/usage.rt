@@ -6,7 +6,7 @@ use std::alloc::{AllocError, AllocFailed};
 use std::error::Error;
 use std::fmt;
 
-/// Why a command line asks for no command.
+/// Why a command line has no meaning.
 #[derive(Debug, Drop, PartialEq, Eq)]
 pub enum Usage {
     /// It has a letter that is no option, an option without its value, or one twice.
@@ -44,7 +44,7 @@ impl Usage {
         }
     }
 
-    /// What is said of the fault: one sentence for all of them but want of memory.
+    /// The words of the fault: one sentence for all of them but `NoMemory`.
     pub fn message(&self) -> &'static str
         ensures { result.now ≡ usage_message self.now }
     {

@@ -7,7 +7,7 @@ ghost use Rattle.cdb_command.specs.Usage.{usage_text};
 use cdb_form::{OutFault, write_pieces};
 use std::io::Write;
 
-/// Writes the usage text. After an `OutFault` the writer holds a front of it.
+/// Writes the usage text. After an `OutFault` the writer holds a prefix of it.
 pub fn write_usage<W: Write>(w: &mut W) -> Result<(), OutFault>
     ensures ok { OnOk result (Appends (W.contents w.old) (W.contents w.new) usage_text) }
     ensures err { OnErr result (AppendsFront (W.contents w.old) (W.contents w.new) usage_text) }

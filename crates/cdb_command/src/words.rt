@@ -25,7 +25,7 @@ fn refusal(error: &clap::Error) -> Usage
     }
 }
 
-/// What `clap` makes of the words, the first of which is the program's name. `Words` where it
+/// What `clap` makes of the words, the first of which is the program's name. `Words` if it
 /// refuses them.
 pub(crate) fn matches_of<'a>(alloc: Global, words: &'a [String]) -> Result<ArgMatches<'a>, Usage>
     ensures ok { IfOk result (λ m. rows_of (found_of m)
@@ -69,7 +69,7 @@ fn flags_of(matches: &ArgMatches<'_>) -> Flags
     }
 }
 
-/// What stands on the line.
+/// What is on the line.
 pub(crate) fn line_of<'a, 'b>(matches: &'b ArgMatches<'a>) -> Line<'a, 'b>
     ensures { given_in result ≡ given_of (rows_of (found_of matches.now)) }
 {

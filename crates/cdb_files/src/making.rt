@@ -137,7 +137,7 @@ pub fn make_file_in<L: Width, N: Names>(
     }
 }
 
-/// Makes the database of some records under a name, by way of the name with `.tmp` behind it.
+/// Makes the database of some records under a name, by way of the name with `.tmp` after it.
 ///
 /// `Open`: the name is empty or ends in a slash, or no file can be made of that temporary name.
 /// `Rename`: the file cannot be given the name, which may be that of a folder. `NoMemory`: there

@@ -88,7 +88,7 @@ pub trait Names {
         ensures err { OnErr result (calls self.new
             ≡ (NotRenamed len, name.now, other.now, Self.File.calls file) ∷ calls self.old) };
 
-    /// Has the folder of a name put its names where a loss of power does not take them, and tells
+    /// Syncs the folder of a name, so that its names survive a loss of power, and answers
     /// whether it did.
     fn sync_folder(&mut self, name: &str) -> bool
         ensures { calls self.new

@@ -20,7 +20,7 @@ pub struct RealNames<'a, R> {
 }
 
 impl<'a, R: Files<File = File>> RealNames<'a, R> {
-    /// Names of which nothing was asked yet.
+    /// Names on which no call was made yet.
     pub fn new(rt: &'a R) -> RealNames<'a, R>
         ensures { result.trace.events ≡ [] }
     {

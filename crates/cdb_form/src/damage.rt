@@ -6,10 +6,10 @@
 pub enum Damage {
     /// The file is shorter than its head.
     Short,
-    /// The table of this number has slots and doesn't lie behind the head and inside the file; for
+    /// The table of this number has slots and doesn't lie after the head and inside the file; for
     /// a walk, the records end before the head does.
     Table(u64),
-    /// No whole record stands at this place.
+    /// No whole record is at this place.
     Record(u64),
     /// Of the table of the first number the slot of the second, from 0 on, is wrong.
     Slot(u64, u64),

@@ -10,7 +10,7 @@ ghost use Rattle.cdb_form.specs.Views.Pairs.{pointer_pair, head_pairs, PairFits}
 use crate::pair::{Pair, pair_size, read_pair, write_pair};
 use crate::width::Width;
 
-/// Where a table stands.
+/// Where a table lies.
 #[derive(Clone, Copy, Debug, PartialEq, Eq)]
 pub struct Pointer {
     /// The place of its first slot, in bytes from the file's start.
@@ -35,7 +35,7 @@ fn least_place(pointers: &[Pointer]) -> Option<u64>
     used.map(|p| p.place).min()
 }
 
-/// The number of the first table that has slots and stands at a place.
+/// The number of the first table that has slots and lies at a place.
 fn first_at(pointers: &[Pointer], at: u64) -> Option<usize>
     ensures { result ≡ position (λ p. not (p.slots == 0) && (p.place == at)) pointers.now }
 {
@@ -45,15 +45,15 @@ fn first_at(pointers: &[Pointer], at: u64) -> Option<usize>
 impl Head {
     ghost use Rattle.cdb_form.specs.Format.Walk.{least_place, first_table_at};
 
-    /// Where the records end: at the least place of a table that has slots, or behind the head
-    /// where none has.
+    /// Where the records end: at the least place of a table that has slots, or after the head
+    /// if none has.
     pub fn record_end<L: Width>(&self) -> u64
         ensures { result ≡ least_place (head_size L.WORD) (head_pairs self.now) }
     {
         least_place(&self.pointers).unwrap_or(head_size::<L>() as u64)
     }
 
-    /// The number of the first table that has slots and stands at a place; 256 where there is none.
+    /// The number of the first table that has slots and lies at a place; 256 if there is none.
     pub fn first_table_at(&self, place: u64) -> usize
         ensures { result ≡ first_table_at place (head_pairs self.now) }
     {

@@ -10,7 +10,7 @@ pub fn hash(key: &[u8]) -> u32
     hash_more(5381, key)
 }
 
-/// The hash of a key that goes on with these bytes, where this is the hash of it up to them: so a
+/// The hash of a key that goes on with these bytes, if this is the hash of it up to them: so a
 /// key is hashed piece by piece, from `hash(&[])` on.
 pub fn hash_more(hash: u32, bytes: &[u8]) -> u32
     ensures { result ≡ fold hash_step hash bytes.now }
@@ -22,7 +22,7 @@ pub fn hash_more(hash: u32, bytes: &[u8]) -> u32
     hash
 }
 
-/// The number of the table, from 0 to 255, that the records of a hash stand in.
+/// The number of the table, from 0 to 255, that has the records of a hash.
 pub fn table_number(hash: u64) -> usize
     ensures number { result ≡ table_number hash }
     ensures within { result < 256 }

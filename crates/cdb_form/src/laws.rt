@@ -43,13 +43,13 @@ pub fn file_has_size<L: Width>(_records: &[Record])
         ≡ file_size L.WORD (key_values _records.now) }
 {}
 
-/// A walk gives the longest list of records that stands in a file, inside both the record end and
+/// A walk gives the longest list of records that lies in a file, inside both the record end and
 /// the file.
 pub fn walk_is_longest<L: Width>(_bytes: &[u8])
     ensures { IsWalk L.WORD _bytes.now (walk_of L.WORD _bytes.now) }
 {}
 
-/// The walk of the file of some records, where its size fits, gives these records and no damage.
+/// The walk of the file of some records, if its size fits, gives these records and no damage.
 pub fn walk_of_file<L: Width>(_records: &[Record])
     ensures { file_size L.WORD (key_values _records.now) ≤ L.GREATEST →
         WalksBack L.WORD (key_values _records.now) }

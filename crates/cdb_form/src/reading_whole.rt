@@ -54,9 +54,9 @@ impl Error for InFault {}
 
 /// Takes all that a reader has into a vector, over what it holds, if that is `most` bytes or fewer.
 ///
-/// One byte more is asked for, to see that there is none. At `More` the vector holds `most + 1`
+/// One byte more is requested, to see that there is none. At `More` the vector holds `most + 1`
 /// bytes, and the reader has what follows them. At `Failed` it holds the bytes that came before
-/// the fault. Memory is asked for as bytes come, a piece ahead.
+/// the fault. Memory is requested as bytes come, a piece ahead.
 pub fn read_whole<R: Read>(reader: &mut R, into: &mut Vec<u8>, most: u64) -> Result<Extent, InFault>
     ensures given { IfOk result (Gives most (R.remaining reader.old)
         (R.remaining reader.new) into.new.items) }

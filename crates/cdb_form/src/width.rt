@@ -21,7 +21,7 @@ pub trait Width {
     /// The greatest size of a file, and the greatest length in a native text, in bytes.
     const GREATEST: u64;
 
-    /// The number that `WORD` bytes stand for, the lowest byte first.
+    /// The number that `WORD` bytes are, the lowest byte first.
     fn read_word(from: &[u8]) -> u64
         requires { length from.now ≡ WORD }
         ensures number { result ≡ little_number WORD from.now }

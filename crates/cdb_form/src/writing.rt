@@ -27,7 +27,7 @@ impl Error for OutFault {}
 
 /// Writes some of the bytes, at least one, and answers how many.
 ///
-/// The writer is asked again where a signal interrupts it, up to 1000 times in a row. After an
+/// The writer is called again if a signal interrupts it, up to 1000 times in a row. After an
 /// `OutFault` it holds what it held.
 #[inline(always)]
 pub fn write_some<W: Write>(w: &mut W, bytes: &[u8]) -> Result<usize, OutFault>
@@ -50,7 +50,7 @@ pub fn write_some<W: Write>(w: &mut W, bytes: &[u8]) -> Result<usize, OutFault>
     Err(OutFault)
 }
 
-/// Writes all the bytes. After an `OutFault` the writer holds a front of them.
+/// Writes all the bytes. After an `OutFault` the writer holds a prefix of them.
 pub fn write_whole<W: Write>(w: &mut W, bytes: &[u8]) -> Result<(), OutFault>
     ensures ok { OnOk result (Appends (W.contents w.old) (W.contents w.new) bytes.now) }
     ensures err { OnErr result (AppendsFront (W.contents w.old) (W.contents w.new) bytes.now) }
@@ -62,7 +62,7 @@ pub fn write_whole<W: Write>(w: &mut W, bytes: &[u8]) -> Result<(), OutFault>
     Ok(())
 }
 
-/// Writes one piece after the other. After an `OutFault` the writer holds a front of them all.
+/// Writes one piece after the other. After an `OutFault` the writer holds a prefix of them all.
 pub fn write_pieces<W: Write>(w: &mut W, pieces: &[&[u8]]) -> Result<(), OutFault>
     ensures ok { OnOk result (Appends (W.contents w.old) (W.contents w.new) (flat_map (λ p.
         p.now) pieces.now)) }
@@ -75,7 +75,7 @@ pub fn write_pieces<W: Write>(w: &mut W, pieces: &[&[u8]]) -> Result<(), OutFaul
     Ok(())
 }
 
-/// Flushes a writer. It is asked again where a signal interrupts it, as in a write.
+/// Flushes a writer. It is called again if a signal interrupts it, as in a write.
 pub fn flush_whole<W: Write>(w: &mut W) -> Result<(), OutFault>
     ensures { Keeps (W.contents w.old) (W.contents w.new) }
 {

@@ -8,7 +8,7 @@ use cdb_store::{Store, StoreFault};
 /// The longest record that is collected for one write, in bytes.
 const PIECE: usize = 256;
 
-/// Leaves three parts in a piece, one behind another.
+/// Leaves three parts in a piece, one after another.
 fn collect(piece: &mut [u8], header: &[u8], key: &[u8], value: &[u8])
     requires { length piece.old ≡ length header.now + (length key.now + length value.now) }
     ensures { piece.new ≡ header.now ++ (key.now ++ value.now) }
@@ -102,10 +102,10 @@ fn append_parts<S: Store>(
     store.write_at(value_pos, value)
 }
 
-/// Writes a record's header, key and value from `pos` on, one behind another, as one
-/// write would: over what stands there, and past the end. A short record takes one write.
+/// Writes a record's header, key and value from `pos` on, one after another, as one
+/// write would: over what is there, and past the end. A short record takes one write.
 ///
-/// `pos` is at most the store's length. The store's room is made first, so where memory is refused
+/// `pos` is at most the store's length. The store's room is made first, so if memory is refused
 /// (`NoMemory`) nothing has changed. After `Device` the record's range may hold any bytes, and
 /// those outside of it stay.
 pub(crate) fn append_record<S: Store>(

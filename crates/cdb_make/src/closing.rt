@@ -8,7 +8,7 @@ use crate::gap::Gap;
 use crate::moving::move_down;
 use cdb_store::{Store, StoreFault};
 
-/// Moves the bytes between the gaps, and those behind the last up to `end`, down to `start`: each
+/// Moves the bytes between the gaps, and those after the last up to `end`, down to `start`: each
 /// at most once.
 ///
 /// `Device`: the bytes outside of those from `start` to `end` stay.

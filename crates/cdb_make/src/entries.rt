@@ -20,7 +20,7 @@ pub(crate) fn no_entries(alloc: Global) -> Result<Vec<EntryList>, AllocError>
     Ok(lists)
 }
 
-/// Makes room for an entry in the list of its hash, and for a gap for each entry there. Where
+/// Makes room for an entry in the list of its hash, and for a gap for each entry there. If
 /// memory is refused, the entries stay.
 pub(crate) fn reserve_entry(
     lists: &mut Vec<EntryList>,

@@ -15,7 +15,7 @@ use cdb_store::Store;
 /// Leaves the gaps that the records of a key would leave, of those at these entries. It takes no
 /// memory, since there is room for a gap an entry.
 ///
-/// `Foreign`: the records at these entries don't stand one behind another up to `end`.
+/// `Foreign`: the records at these entries don't lie one after another up to `end`.
 pub(crate) fn find_gaps<S: Store, L: Width>(
     store: &mut S,
     list: &EntryList,
@@ -59,7 +59,7 @@ pub(crate) fn find_gaps<S: Store, L: Width>(
 
 /// Whether some record at these entries has a key.
 ///
-/// `Foreign`: the records at these entries don't stand one behind another up to `end`.
+/// `Foreign`: the records at these entries don't lie one after another up to `end`.
 pub(crate) fn some_has<S: Store, L: Width>(
     store: &mut S,
     list: &EntryList,

@@ -19,7 +19,7 @@ use cdb_form::{Slot, Width, pair_size};
 use cdb_store::{Store, StoreFault};
 use std::alloc::Global;
 
-/// Writes the tables from `end` to `last` and then the head, cuts the store behind them, and
+/// Writes the tables from `end` to `last` and then the head, cuts the store after them, and
 /// flushes it. It takes no memory.
 ///
 /// `Device`: the bytes between the head and `end` stay.
@@ -63,7 +63,7 @@ fn write_parts<S: Store, L: Width>(
     store.flush()
 }
 
-/// Writes the tables and the head of the records that stand up to `end`, cuts the store behind
+/// Writes the tables and the head of the records that lie up to `end`, cuts the store after
 /// the tables, and flushes it.
 ///
 /// All memory is taken before the first byte is written, so `NoMemory` leaves the store as it was.

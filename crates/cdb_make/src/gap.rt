@@ -11,7 +11,7 @@ pub(crate) struct Gap {
     pub(crate) size: u64,
 }
 
-/// The place of the first gap, or the end where there is none.
+/// The place of the first gap, or the end if there is none.
 pub(crate) fn first_place(gaps: &[Gap], end: u64) -> u64
     ensures { result ≡ first_place gaps.now end }
 {

@@ -105,7 +105,7 @@ impl Index {
         rest + first_place(&hashes[rest..], hash)
     }
 
-    /// Makes room for one more entry. Where memory is refused, the index stays.
+    /// Makes room for one more entry. If memory is refused, the index stays.
     pub(crate) fn reserve(&mut self, hashes: &[u32]) -> Result<(), AllocError>
         requires linked { AreLinked self.old.ends.items self.old.next.items hashes.now }
         requires all { length self.old.next.items ≡ min (length hashes.now) (2 ^ 32 - 1) }

@@ -14,7 +14,7 @@ use std::alloc::{AllocError, Global};
 pub(crate) struct EntryList {
     /// The hash of each record's key.
     hashes: Vec<u32>,
-    /// Where each record stands, in bytes from the file's start.
+    /// Where each record lies, in bytes from the file's start.
     places: Vec<u64>,
     /// Where the entries of a hash are.
     index: Index,
@@ -86,7 +86,7 @@ impl EntryList {
         }
     }
 
-    /// Makes room for one more entry. Where memory is refused, the entries stay.
+    /// Makes room for one more entry. If memory is refused, the entries stay.
     pub(crate) fn reserve(&mut self) -> Result<(), AllocError>
         ensures entries { list_entries self.new ≡ list_entries self.old }
         ensures ok { OnOk result (length (list_entries self.new) < list_room self.new) }
@@ -110,7 +110,7 @@ impl EntryList {
         self.index.link_all(&self.hashes);
     }
 
-    /// Whether each entry stands below a place.
+    /// Whether each entry lies below a place.
     fn is_below(&self, place: u64) -> bool
         ensures { result ≡ true → IsRising 0 (list_entries self.now) → (k : ℕ)
             → k < length self.now.places.items → get_or self.now.places.items k 0 < place }

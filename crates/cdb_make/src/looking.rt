@@ -34,7 +34,7 @@ impl From<StoreFault> for LookFault {
     }
 }
 
-/// Whether a key's bytes stand at a place. As many are read at once as a piece has.
+/// Whether a key's bytes are at a place. As many are read at once as a piece has.
 fn is_read_at<S: Store>(
     store: &mut S,
     place: u64,
@@ -62,7 +62,7 @@ fn is_read_at<S: Store>(
     Ok(true)
 }
 
-/// Whether a key's bytes stand at a place. A piece is zeroed at each call, so short keys have a
+/// Whether a key's bytes are at a place. A piece is zeroed at each call, so short keys have a
 /// short one.
 pub(crate) fn key_is_at<S: Store>(store: &mut S, place: u64, key: &[u8]) -> Result<bool, StoreFault>
     requires inside { place + length key.now ≤ S.size store.old }
@@ -80,9 +80,9 @@ pub(crate) fn key_is_at<S: Store>(store: &mut S, place: u64, key: &[u8]) -> Resu
     }
 }
 
-/// How many bytes the record at a place takes, where it has this key.
+/// How many bytes the record at a place takes, if it has this key.
 ///
-/// `Foreign`: the place, or the record as its header tells it, passes `end`.
+/// `Foreign`: the place, or the record by the lengths of its header, passes `end`.
 pub(crate) fn look_at<S: Store, L: Width>(
     store: &mut S,
     place: u64,

@@ -21,7 +21,7 @@ use std::marker::PhantomData;
 
 /// Makes a database in a store: each record is written as it is put.
 ///
-/// The store holds the records one behind another, from behind the head on, and the maker keeps
+/// The store holds the records one after another, from the end of the head on, and the maker keeps
 /// the hash of each key, the record's place and an index by hash: 20 to 24 bytes a record.
 #[derive(Drop)]
 pub struct Maker<S: Store, L: Width> {
@@ -114,7 +114,7 @@ impl<S: Store, L: Width> Maker<S, L> {
         store
     }
 
-    /// Why a look failed. Where the store gave back other bytes than were written, the maker is
+    /// Why a look failed. If the store gave back other bytes than were written, the maker is
     /// broken from then on.
     pub(crate) fn failed_look(&mut self, fault: LookFault) -> MakeFault
         requires { self.old.broken ≡ false }

@@ -86,10 +86,10 @@ impl<S: Store, L: Width> Maker<S, L> {
 
     /// A maker of a file of at most `limit` bytes in a store, which is emptied.
     ///
-    /// Until the finish the head is one of all ones, whose tables stand outside of any file: so what
-    /// a maker leaves that does not finish is told as damaged.
+    /// Until the finish the head is one of all ones, whose tables lie outside of any file: so what
+    /// a maker leaves that does not finish is damaged.
     ///
-    /// The store is handed back where that failed: with `NoMemory` as it was, and with `Writing`
+    /// The store is handed back if that failed: with `NoMemory` as it was, and with `Writing`
     /// it failed, and may hold anything.
     pub fn new(alloc: Global, store: S, limit: u64) -> Result<Maker<S, L>, Refused<S>>
         requires head { head_size L.WORD ≤ limit }
@@ -147,7 +147,7 @@ impl<S: Store, L: Width> Maker<S, L> {
     /// has handed it on to what holds its bytes.
     ///
     /// All memory is taken before the first byte is written, and the head is written last. The
-    /// maker is handed back where that failed, and holds what it held: with `NoMemory` nothing was
+    /// maker is handed back if that failed, and holds what it held: with `NoMemory` nothing was
     /// written, with `Writing` the store failed. `Broken`: an earlier call broke the maker.
     pub fn finish(mut self) -> Result<S, Unfinished<S, L>>
         ensures whole { IfOk result (λ _. self.broken ≡ false) }

@@ -1,13 +1,13 @@
 // How a record is put, and what the put answers.
 
-/// What a put does where its key is there already.
+/// What a put does if its key is there already.
 #[derive(Clone, Copy, Debug, PartialEq, Eq)]
 pub enum Mode {
     /// The record is appended, and nothing is looked for.
     Add,
-    /// The record is appended, and the answer tells whether its key was there.
+    /// The record is appended, and the answer says whether its key was there.
     Warn,
-    /// The record is appended only where its key isn't there.
+    /// The record is appended only if its key isn't there.
     Insert,
     /// Every record of its key is taken out, and the record is appended.
     Replace,

@@ -34,9 +34,9 @@ fn head_of<L: Width>(lists: &[EntryList], end: u64) -> Head
     Head { pointers }
 }
 
-/// Writes the head at the store's front. It takes no memory.
+/// Writes the head at the store's start. It takes no memory.
 ///
-/// `Device`: the head's bytes may be any, and those behind it stay.
+/// `Device`: the head's bytes may be any, and those after it stay.
 pub(crate) fn write_pointers<S: Store, L: Width>(
     store: &mut S,
     lists: &[EntryList],

@@ -35,7 +35,7 @@ impl<S: Store, L: Width> Maker<S, L> {
         words <= left && klen <= left - words && vlen <= left - words - klen
     }
 
-    /// One more record, behind the others.
+    /// One more record, after the others.
     fn add(&mut self, key: &[u8], value: &[u8]) -> Result<(), MakeFault>
         ensures ok { OnOk result
             (Adds self.old self.new (record { key = key.now; value = value.now })) }
@@ -56,7 +56,7 @@ impl<S: Store, L: Width> Maker<S, L> {
         Ok(())
     }
 
-    /// Takes out the records whose gaps are noted, so many, and adds one behind the others. There
+    /// Takes out the records whose gaps are noted, so many, and adds one after the others. There
     /// is room for it in the store.
     ///
     /// `Broken`: the store gave back other bytes than were written.
@@ -95,7 +95,7 @@ impl<S: Store, L: Width> Maker<S, L> {
         }
     }
 
-    /// The record in the place of those of its key.
+    /// The record instead of those of its key.
     fn replace(&mut self, key: &[u8], value: &[u8]) -> Result<Put, MakeFault>
         ensures puts { IfOk result
             (Puts self.old self.new Replace (record { key = key.now; value = value.now })) }
@@ -120,11 +120,11 @@ impl<S: Store, L: Width> Maker<S, L> {
         Ok(Put::Replaced(taken))
     }
 
-    /// Puts a record: what is done where its key is there already, the mode says.
+    /// Puts a record: the mode says what is done if its key is there already.
     ///
     /// `Lookup`: the store failed while it was read. `TooBig`: the file would pass the limit.
     /// `NoMemory`: memory was refused to a put that would have been taken, and nothing was written.
-    /// All these leave the records as they were. `Writing`: the store failed; where records were to
+    /// All these leave the records as they were. `Writing`: the store failed; if records were to
     /// be taken out, the maker is broken, else its records are what they were. `Broken`: an earlier
     /// call broke it, or the store gave back other bytes than were written.
     pub fn put(&mut self, mode: Mode, key: &[u8], value: &[u8]) -> Result<Put, MakeFault>

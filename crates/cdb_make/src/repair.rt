@@ -6,7 +6,7 @@ ghost use Rattle.cdb_make.specs.Views.EntryList.{entries_of};
 
 use crate::gap::{Gap, first_place};
 
-/// How many entries stand below a place, where their places rise.
+/// How many entries lie below a place, if their places rise.
 fn below(places: &[u64], end: u64) -> usize
     ensures within { result ≤ length places.now }
     ensures below { IsNonDecreasing places.now → (k : ℕ) → k < result

@@ -48,7 +48,7 @@ fn next_empty(slots: &[Slot], runs: &mut [usize], from: usize) -> usize
     at
 }
 
-/// The first empty slot from `home` on, and round to it; `home` where there is none.
+/// The first empty slot from `home` on, and round to it; `home` if there is none.
 fn first_empty(slots: &[Slot], runs: &mut [usize], home: usize) -> usize
     requires long { length runs.old ≡ length slots.now }
     requires runs { AreRuns runs.old (map slot_pair slots.now) }

@@ -32,7 +32,7 @@ fn fill_table_of(slots: &mut [Slot], runs: &mut [usize], list: &EntryList)
 /// Writes the table of a list's entries at a place, by way of its slots and of its bytes. It takes
 /// no memory. A table with no slots isn't written.
 ///
-/// `Device`: the table's bytes may be any, and those before and behind it stay.
+/// `Device`: the table's bytes may be any, and those before and after it stay.
 fn write_table<S: Store, L: Width>(
     store: &mut S,
     place: u64,
@@ -70,7 +70,7 @@ fn write_table<S: Store, L: Width>(
 /// Writes one table after another from `end` on, each by way of the same slots and bytes. It takes
 /// no memory.
 ///
-/// `Device`: the tables' bytes may be any, and those before and behind them stay.
+/// `Device`: the tables' bytes may be any, and those before and after them stay.
 pub(crate) fn write_tables<S: Store, L: Width>(
     store: &mut S,
     lists: &[EntryList],

@@ -25,7 +25,7 @@ use cdb_store::{Store, StoreFault};
 
 /// Leaves the gaps that the records of a key would leave.
 ///
-/// Nothing is written, no list changes, records that stood still stand, and no memory is taken.
+/// Nothing is written, no list changes, records that were there still are, and no memory is taken.
 /// `Failed`: the store failed.
 /// `Foreign`: no byte list is an image any more in which the records stood.
 pub(crate) fn find<S: Store, L: Width>(
@@ -97,8 +97,8 @@ pub(crate) fn exists<S: Store, L: Width>(
     some_has::<S, L>(store, list, hash, key, end)
 }
 
-/// Moves the bytes behind the gaps down, takes the entries at the gaps out of the lists, and
-/// answers where the records end then. Where there is no gap, nothing is done.
+/// Moves the bytes after the gaps down, takes the entries at the gaps out of the lists, and
+/// answers where the records end then. If there is no gap, nothing is done.
 ///
 /// It takes no memory. `Device`: the lists are as they were, and the bytes below the first gap and
 /// those from `end` on stay.

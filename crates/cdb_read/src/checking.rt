@@ -19,7 +19,7 @@ use cdb_store::Store;
 use std::alloc::Global;
 
 impl<S: Store, L: Width> Reader<S, L> {
-    /// Checks the slots of all tables, which lie inside the file where they have slots, and marks
+    /// Checks the slots of all tables, which lie inside the file if they have slots, and marks
     /// their records.
     fn check_slots(&mut self, lists: &mut [TableRecords]) -> Result<(), ReadFault>
         requires many { length lists.old ≡ 256 }
@@ -40,15 +40,15 @@ impl<S: Store, L: Width> Reader<S, L> {
     }
 }
 
-/// Checks whether a file is sound: its tables and its records lie where they are to, and the slots
+/// Checks whether a file is sound: its tables and its records lie where they should, and the slots
 /// that are used are those of the records, one each, where a search for the hash comes to it.
 ///
 /// It answers the first fault that there is, in this order: `Table`, the first table by its number
-/// that has slots and doesn't lie behind the head and inside the file; `Record` where no whole
-/// record stands; at the first used slot that is wrong `Slot`, where no record has its hash and its
-/// place, its hash is of another table, or an empty slot stands on the way from where its search
-/// begins, and else `Twice`, where an earlier slot has its record; and `Unindexed`, the first
-/// record that no slot has. `NoMemory` and `Device` come where memory ran out or the store failed.
+/// that has slots and doesn't lie after the head and inside the file; `Record` if no whole
+/// record is there; at the first used slot that is wrong `Slot`, if no record has its hash and its
+/// place, its hash is of another table, or an empty slot lies on the way from where its search
+/// begins, and else `Twice`, if an earlier slot has its record; and `Unindexed`, the first
+/// record that no slot has. `NoMemory` and `Device` come if memory ran out or the store failed.
 ///
 /// The walk, and then the slots, are read through the window, 4096 bytes at once. It takes 13 bytes
 /// of memory a record, and time in order n log n. Whatever it answers, the reader stays as usable

@@ -19,7 +19,7 @@ use cdb_form::Width;
 use cdb_store::Store;
 
 impl<S: Store, L: Width> Reader<S, L> {
-    /// Counts the used slots of all tables, which lie inside the file where they have slots.
+    /// Counts the used slots of all tables, which lie inside the file if they have slots.
     fn count_slots(&mut self) -> Result<Distances, ReadFault>
         requires inside { All (StandsInside L.WORD (S.size self.old.store))
             (map pointer_pair self.old.head.pointers) }
@@ -35,8 +35,8 @@ impl<S: Store, L: Width> Reader<S, L> {
 /// Counts what a database holds. Records and the slots of each table are read through the window,
 /// and no memory is taken.
 ///
-/// It answers `Table` where a table with slots doesn't lie behind the head and inside the file,
-/// the first one by its number; else `Record` where no whole record stands; and `Device` where the
+/// It answers `Table` if a table with slots doesn't lie after the head and inside the file,
+/// the first one by its number; else `Record` if there is no whole record; and `Device` if the
 /// store failed. The reader stays as usable as it was.
 pub fn stats<L: Width, S: Store>(reader: &mut Reader<S, L>) -> Result<Stats, ReadFault>
     ensures reads { OnlyReads S.Store reader.old.store reader.new.store }

@@ -1,7 +1,7 @@
 // How far the used slots of tables stand from where their searches begin.
 ghost use Rattle.std.specs.Prelude.{ℕ, ◌≡◌, ◌++◌, [], ◌∷◌, List};
 
-/// How many distances are told apart: 0 to 9, and 10 or more.
+/// How many distances are counted apart: 0 to 9, and 10 or more.
 pub(crate) const DISTANCES: usize = 11;
 
 /// Counts of used slots, each of which stops at the greatest number.
@@ -9,9 +9,9 @@ pub(crate) const DISTANCES: usize = 11;
 pub(crate) struct Distances {
     /// How many they are.
     pub(crate) entries: u64,
-    /// How many stand elsewhere than where their searches begin.
+    /// How many lie elsewhere than where their searches begin.
     pub(crate) collisions: u64,
-    /// How many stand at each distance; the last count is that of all greater ones too.
+    /// How many lie at each distance; the last count is that of all greater ones too.
     pub(crate) counts: [u64; DISTANCES],
 }
 

@@ -13,9 +13,9 @@ use std::fmt;
 pub enum ReadFault {
     /// The file is shorter than its head.
     Short,
-    /// The table of this number doesn't lie behind the head and inside the file.
+    /// The table of this number doesn't lie after the head and inside the file.
     Table(u64),
-    /// No whole record stands at this place.
+    /// No whole record is at this place.
     Record(u64),
     /// Of the table of the first number the slot of the second, from 0 on, is wrong.
     Slot(u64, u64),
@@ -49,7 +49,7 @@ impl ReadFault {
         }
     }
 
-    /// What the fault is, in words that stand behind the part of the file where it names one.
+    /// What the fault is, in words that follow the part of the file, if it names one.
     pub fn message(&self) -> &'static str
         ensures { result.now ≡ read_message self.now }
     {

@@ -29,14 +29,14 @@ pub struct Finder<'a, S: Store, L: Width> {
     pub(crate) reader: &'a mut Reader<S, L>,
     /// The key.
     pub(crate) key: &'a [u8],
-    /// Where the search stands.
+    /// Where the search is.
     pub(crate) searching: Searching,
     /// Whether it gave a value. The next ones are mostly near, so more is read at once.
     pub(crate) has_given: bool,
     ghost inside: { IsTurnInside L.WORD (S.size reader.now.store) searching },
 }
 
-/// Whether a table lies behind the head and inside a file of so many bytes.
+/// Whether a table lies after the head and inside a file of so many bytes.
 pub fn lies_inside<L: Width>(table: Pointer, size: u64) -> bool
     ensures { Decides result (LiesInside L.WORD size (pointer_pair table)) }
 {
@@ -90,8 +90,8 @@ impl<S: Store, L: Width> Reader<S, L> {
         )
     }
 
-    /// The same. After a first value more bytes are read than are needed; if that failed, these alone
-    /// are read again, so a bad place among the others spoils nothing.
+    /// The same. After a first value more bytes are read than are needed; if that failed, these
+    /// alone are read again, so a bad place among the others spoils nothing.
     fn met_from(&mut self, from: Turn, key: &[u8], has_given: bool) -> Result<Met, ReadFault>
         requires inside { TurnInside L.WORD (S.size self.old.store) from }
         ensures meets { IfOk result (λ met.

@@ -67,7 +67,7 @@ impl<S: Store, L: Width> Reader<S, L> {
     ghost use Rattle.cdb_read.specs.Views.Reader.{Opens};
 
     /// A reader of the database in a store, of which it reads the head. The store is handed back
-    /// where that failed: it is `Short`, or a `Device` failed.
+    /// if that failed: it is `Short`, or a `Device` failed.
     pub fn open(store: S) -> Result<Reader<S, L>, Unread<S>>
         ensures reads { IfOk result (λ r. Opens store r) }
         ensures fails { IfErr result (λ u. OpeningFails L.WORD S.Store store u.store u.fault) }
@@ -94,8 +94,8 @@ impl<S: Store, L: Width> Reader<S, L> {
         })
     }
 
-    /// Writes the bytes of a span, which lies inside the file. What was read ahead is not read again.
-    /// After a fault the writer holds a prefix of them.
+    /// Writes the bytes of a span, which lies inside the file. What was read ahead is not read
+    /// again. After a fault the writer holds a prefix of them.
     pub fn copy<W: Write>(&mut self, span: Span, w: &mut W) -> Result<(), ReadFault>
         requires inside { span.place + span.len ≤ S.size self.old.store }
         ensures reads { OnlyReads S.Store self.old.store self.new.store }

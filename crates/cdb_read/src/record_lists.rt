@@ -20,7 +20,7 @@ pub(crate) fn no_lists(alloc: Global) -> Result<Vec<TableRecords>, AllocError>
     Ok(lists)
 }
 
-/// One more record in the list of its table, which no slot has told.
+/// One more record in the list of its table, to which no slot points.
 pub(crate) fn add_entry(
     lists: &mut Vec<TableRecords>,
     place: u64,
@@ -34,7 +34,7 @@ pub(crate) fn add_entry(
     lists[table_number(u64::from(hash))].add(place, hash)
 }
 
-/// The lesser of two places, where there are any.
+/// The lesser of two places, if there are any.
 fn earlier(first: Option<u64>, other: Option<u64>) -> Option<u64>
     ensures { result ≡ earlier_of first other }
 {
@@ -45,7 +45,7 @@ fn earlier(first: Option<u64>, other: Option<u64>) -> Option<u64>
     }
 }
 
-/// The place of the first record that no slot has told.
+/// The place of the first record to which no slot points.
 pub(crate) fn first_unmarked(lists: &[TableRecords]) -> Option<u64>
     ensures { (entries slots : List WordPair) → ListsMark lists.now entries slots
         → option_map (λ place. Unindexed place) result ≡ first_of (lost_fault slots) entries }

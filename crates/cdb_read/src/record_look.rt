@@ -12,18 +12,18 @@ use crate::window::{WINDOW, Window};
 use cdb_form::{Width, head_size, pair_size, read_header};
 use cdb_store::Store;
 
-/// What stands at a place.
+/// What is at a place.
 #[derive(Clone, Copy)]
 pub enum Look {
     /// No whole record.
     Broken,
     /// A record with another key.
     Other,
-    /// A record with the key, and where its value stands.
+    /// A record with the key, and where its value lies.
     Value(Span),
 }
 
-/// Whether a key's bytes stand at a place. As many are read at once as a window has room for.
+/// Whether a key's bytes are at a place. As many are read at once as a window has room for.
 fn key_is_at<S: Store>(
     store: &mut S,
     place: u64,

@@ -18,7 +18,7 @@ use std::alloc::Global;
 pub struct Walk<'a, S: Store, L: Width> {
     /// The database.
     pub(crate) reader: &'a mut Reader<S, L>,
-    /// Where the walk stands.
+    /// Where the walk is.
     pub(crate) walking: Walking,
 }
 

@@ -29,7 +29,7 @@ pub enum Step {
     Passed,
     /// Its record has the key, and this value.
     Value(Span),
-    /// At its place, this one, no whole record stands.
+    /// At its place, this one, is no whole record.
     Broken(u64),
 }
 
@@ -38,9 +38,9 @@ pub enum Step {
 pub enum Met {
     /// No slot is left.
     End,
-    /// A value, and the turn behind it.
+    /// A value, and the turn after it.
     Value(Span, Turn),
-    /// No whole record stands at this place.
+    /// No whole record is at this place.
     Broken(u64),
 }
 

@@ -16,7 +16,7 @@ use crate::window::{WINDOW, Window};
 use cdb_form::{Pointer, Slot, Width};
 use cdb_store::Store;
 
-/// How many used slots in a row end some slots, where so many end those before the last.
+/// How many used slots in a row end some slots, if so many end those before the last.
 pub(crate) fn run_with(run: u64, slot: Slot) -> u64
     requires { run < 2 ^ 63 }
     ensures run { (slots : List WordPair) → run ≡ run_of slots

@@ -17,8 +17,8 @@ use crate::window::{WINDOW, Window};
 use cdb_form::{Pointer, Slot, Width, table_number};
 use cdb_store::Store;
 
-/// Checks used slot `i` of table `n`, where it is known whether a search comes to it. Its record is
-/// marked where the slot is right.
+/// Checks used slot `i` of table `n`, of which is known whether a search comes to it. Its record is
+/// marked if the slot is right.
 fn check_slot(
     entries: &mut TableRecords,
     n: u64,

@@ -9,7 +9,7 @@ pub struct Span {
     pub len: u64,
 }
 
-/// Where a record of a file stands.
+/// Where a record of a file lies.
 #[derive(Clone, Copy, Debug, PartialEq, Eq)]
 pub struct Pair {
     /// The place of the record.

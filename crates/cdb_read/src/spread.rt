@@ -1,7 +1,7 @@
 // How numbers lie: the least, the average and the greatest of them.
 ghost use Rattle.std.specs.Prelude.{ℕ, ◌+◌, ◌*◌, ◌<◌, ◌≤◌, ◌≡◌, ◌++◌, [], ◌∷◌, List};
 
-/// What is told of some numbers. Of none all is 0.
+/// What is reported of some numbers. Of none all is 0.
 #[derive(Clone, Copy)]
 pub(crate) struct Spread {
     /// How many they are.

@@ -27,7 +27,7 @@ pub struct Stats {
     pub tables: u64,
     /// How many slots are used.
     pub entries: u64,
-    /// How many used slots stand elsewhere than where their searches begin.
+    /// How many used slots lie elsewhere than where their searches begin.
     pub collisions: u64,
     /// The fewest slots of a table that has some.
     pub size_least: u64,
@@ -35,7 +35,7 @@ pub struct Stats {
     pub size_average: u64,
     /// The most slots of a table.
     pub size_greatest: u64,
-    /// How many used slots stand at a distance of 0 to 9 slots from where their searches begin, and
+    /// How many used slots lie at a distance of 0 to 9 slots from where their searches begin, and
     /// how many at 10 or more.
     pub distances: [u64; 11],
 }

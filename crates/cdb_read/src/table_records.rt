@@ -7,14 +7,14 @@ use std::alloc::{AllocError, Global};
 
 /// The records of one table, in the order of their places: 13 bytes each.
 ///
-/// Places, hashes and marks stand apart, so that a search for a place reads little but the places.
+/// Places, hashes and marks are kept apart, so a search for a place reads little else.
 #[derive(Drop)]
 pub(crate) struct TableRecords {
-    /// Where each record stands, in bytes from the file's start.
+    /// Where each record lies, in bytes from the file's start.
     places: Vec<u64>,
     /// The hash of each record's key.
     hashes: Vec<u32>,
-    /// Whether a slot has told the record.
+    /// Whether a slot points to the record.
     marks: Vec<bool>,
     ghost paired: { length hashes.items ≡ length places.items },
     ghost marked: { length marks.items ≡ length places.items },
@@ -41,7 +41,7 @@ impl TableRecords {
         }
     }
 
-    /// One more record behind the others, which no slot has told. Where memory is refused, the
+    /// One more record after the others, to which no slot points. If memory is refused, the
     /// records stay.
     pub(crate) fn add(&mut self, place: u64, hash: u32) -> Result<(), AllocError>
         ensures { OnOk result (HasMore self.old self.new place hash) }
@@ -74,7 +74,7 @@ impl TableRecords {
         }
     }
 
-    /// Whether a slot has told a record.
+    /// Whether a slot points to a record.
     pub(crate) fn is_marked(&self, k: usize) -> bool
         requires { k < length self.now.places.items }
         ensures { result ≡ get_or self.now.marks.items k false }
@@ -82,7 +82,7 @@ impl TableRecords {
         self.marks[k]
     }
 
-    /// Notes that a slot has told a record.
+    /// Notes that a slot points to a record.
     pub(crate) fn mark(&mut self, k: usize)
         requires { k < length self.old.places.items }
         ensures places { self.new.places ≡ self.old.places }
@@ -92,7 +92,7 @@ impl TableRecords {
         self.marks[k] = true;
     }
 
-    /// The place of the first record that no slot has told.
+    /// The place of the first record to which no slot points.
     pub(crate) fn first_unmarked(&self) -> Option<u64>
         ensures { (entries slots : List WordPair) → Marks self.now entries slots
             → option_map (λ place. Unindexed place) result

@@ -22,7 +22,7 @@ use crate::window::{WINDOW, Window};
 use cdb_form::{Pointer, Slot, Width, home_slot, pair_size, read_slot};
 use cdb_store::Store;
 
-/// The number of the first table with slots that doesn't lie behind the head and inside a file of
+/// The number of the first table with slots that doesn't lie after the head and inside a file of
 /// so many bytes.
 pub(crate) fn first_outside<L: Width>(tables: &[Pointer], size: u64) -> Option<u64>
     ensures first { (b : List ℕ) → length b ≡ size
@@ -52,7 +52,7 @@ pub(crate) fn sizes_of(tables: &[Pointer]) -> Spread
     sizes
 }
 
-/// How far a slot stands behind the one at which the search for a hash begins.
+/// How far a slot lies after the one at which the search for a hash begins.
 pub(crate) fn distance_of(slots: u64, hash: u64, n: u64) -> u64
     requires { n < slots }
     ensures distance { result ≡ distance (home_slot hash slots) slots n }
@@ -66,7 +66,7 @@ pub(crate) fn distance_of(slots: u64, hash: u64, n: u64) -> u64
     }
 }
 
-/// A slot of a table. The store is asked where the window lacks it, for `ahead` bytes.
+/// A slot of a table. If the window lacks it, the store is read, for `ahead` bytes.
 pub(crate) fn slot_at<S: Store, L: Width>(
     store: &mut S,
     table: Pointer,

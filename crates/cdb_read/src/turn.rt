@@ -13,14 +13,14 @@ pub enum Searching {
     AtEnd,
     /// The table of this number isn't inside the file.
     NoTable(u64),
-    /// No whole record stands at this place.
+    /// No whole record is at this place.
     NoRecord(u64),
 }
 
 /// A slot that a search looks at, of a table.
 #[derive(Clone, Copy)]
 pub struct Turn {
-    /// Where the table stands.
+    /// Where the table lies.
     pub table: Pointer,
     /// The number of the slot.
     pub slot: u64,
@@ -29,7 +29,7 @@ pub struct Turn {
 }
 
 impl Turn {
-    /// The turn behind this one. Behind the last slot comes the first.
+    /// The turn after this one. After the last slot comes the first.
     pub fn next(self) -> Turn
         requires slot { self.slot < self.table.slots }
         requires left { 0 < self.left }

@@ -45,8 +45,8 @@ impl<S: Store, L: Width> Reader<S, L> {
         pair_at::<S, L>(&mut self.store, &mut self.window, rest)
     }
 
-    /// Reads the bytes of a span, which lies inside the file, over a vector. The store is asked where
-    /// the window lacks them.
+    /// Reads the bytes of a span, which lies inside the file, over a vector. The store is read
+    /// only if the window lacks them.
     pub(crate) fn shown_into(&mut self, span: Span, into: &mut Vec<u8>) -> Result<(), ReadFault>
         requires inside { span.place + span.len ≤ S.size self.old.store }
         ensures reads { OnlyReads S.Store self.old.store self.new.store }

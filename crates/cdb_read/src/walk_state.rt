@@ -1,7 +1,7 @@
 // Where a walk stands.
 ghost use Rattle.std.specs.Prelude.{◌≤◌};
 
-/// Where the records stand that a walk has left: from the next place to the record end.
+/// Where the records lie that a walk has left: from the next place to the record end.
 #[derive(Clone, Copy)]
 pub(crate) struct Rest {
     /// The place of the next record, in bytes from the file's start.
@@ -18,8 +18,8 @@ pub(crate) enum Walking {
     At(Rest),
     /// Nothing is left.
     AtEnd,
-    /// The table of this number stands before the record area.
+    /// The table of this number lies before the record area.
     NoTable(u64),
-    /// No whole record stands at this place.
+    /// No whole record is at this place.
     NoRecord(u64),
 }

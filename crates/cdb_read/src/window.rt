@@ -14,10 +14,10 @@ use cdb_store::Store;
 /// How many bytes a window has room for.
 pub(crate) const WINDOW: usize = 4096;
 
-/// Bytes of a store that were read, and where they stand.
+/// Bytes of a store that were read, and their place.
 #[derive(Drop)]
 pub(crate) struct Window {
-    /// The bytes, and behind them others.
+    /// The bytes, and after them others.
     pub(crate) bytes: [u8; WINDOW],
     /// The place of the first of them.
     pub(crate) place: u64,
@@ -72,7 +72,7 @@ impl Window {
         Ok(())
     }
 
-    /// Covers so many bytes from a place on. The store is asked where the window lacks them, for
+    /// Covers so many bytes from a place on. If the window lacks them, the store is read, for
     /// `ahead` bytes.
     pub(crate) fn cover<S: Store>(
         &mut self,

@@ -16,14 +16,14 @@ use std::alloc::{AllocFailed, Global};
 /// It hands the bytes on when another position is written, at a read of bytes that lie in the buffer
 /// in part, at a cut, at `flush`, and when the buffer is full. Bytes in the buffer are read from it,
 /// and a read that touches none of them is passed straight on. A write first has the inner store
-/// reserve its room, so what is in the buffer takes no memory to be handed on. Where handing on
+/// reserve its room, so what is in the buffer takes no memory to be handed on. If handing on
 /// fails the buffer keeps its bytes, and the next call tries again. A buffer that is let go is lost:
 /// call `flush` or `into_inner` first.
 #[derive(Drop)]
 pub struct BufferedStore<S: Store> {
     inner: S,
     buffer: Vec<u8>,
-    /// Where the buffer's bytes stand.
+    /// The position of the buffer's bytes.
     pos: u64,
     /// How many bytes it holds at most.
     capacity: usize,

@@ -5,7 +5,7 @@ ghost use Rattle.cdb_store.specs.Images.{overwrite, part};
 
 use std::alloc::AllocError;
 
-/// Writes bytes over what stands from `pos` on, and past the end.
+/// Writes bytes over those from `pos` on, and past the end.
 pub(crate) fn write_over(bytes: &mut Vec<u8>, pos: usize, new: &[u8]) -> Result<(), AllocError>
     requires start { pos ≤ vec_len bytes.old }
     requires end { pos + length new.now < 2 ^ 63 }

@@ -21,7 +21,7 @@ const GREATEST_LENGTH: u64 = (1 << 63) - 1;
 
 /// A store in a file.
 ///
-/// It takes no memory. After a write or a cut that failed it asks the file for its length. Where
+/// It takes no memory. After a write or a cut that failed it requests the file's length. If
 /// that fails too, or the length is none that the call can have left, `len` keeps its value and
 /// every later call but `len` and `reserve` answers `Device`, without asking the file.
 #[derive(Drop)]
@@ -143,7 +143,7 @@ impl<F: RawFile> FileStore<F> {
 impl<F: RawFile> FileStore<F> {
     ghost use Rattle.cdb_store.specs.FileStore.{calls_of};
 
-    /// Answers `Device` where the length is lost, without asking the file.
+    /// Answers `Device` if the length is lost, with no call of the file.
     fn refuse_if_lost(&mut self) -> Result<(), StoreFault>
         ensures ok { OnOk result (self.new.is_lost ≡ false) }
         ensures same { OnOk result (self.new ≡ self.old) }
@@ -163,9 +163,9 @@ impl<F: RawFile> FileStore<F> {
 impl<F: RawFile + Drop> FileStore<F> {
     ghost use Rattle.cdb_store.specs.FileStore.{images_of};
 
-    /// A store in a raw file that was just opened, of the length that it tells.
+    /// A store in a raw file that was just opened, of the length that it reports.
     ///
-    /// `Device`: it tells none, or 2^63 bytes or more.
+    /// `Device`: it reports none, or 2^63 bytes or more.
     pub fn over(mut file: F) -> Result<FileStore<F>, StoreFault>
         requires { F.calls file ≡ [] }
         ensures images { IfOk result (λ f. (b : List ℕ) → (images_of f b ↔ (length b ≡ f.len))) }

@@ -74,7 +74,7 @@ impl<S: Store> FuseStore<S> {
     }
 }
 
-/// Counts a call, and tells whether it is the one to fail.
+/// Counts a call, and answers whether it is the one to fail.
 fn blows(calls: &mut u64, limit: u64) -> bool
     ensures counted { calls.new ≡ capped (calls.old + 1) }
     ensures fits { calls.old < 2 ^ 64 }

@@ -17,7 +17,7 @@ ghost use Rattle.cdb_store.specs.Laws.{StaysHeld, HasNoImage, Gathered};
 use crate::Store;
 
 /// Bytes that a store holds stay held by a write of `n` bytes elsewhere, done or failed, by a move
-/// to elsewhere, by a cut behind them, by a read, and by what changes no byte.
+/// to elsewhere, by a cut after them, by a read, and by what changes no byte.
 pub fn held_bytes_stay<S: Store>(
     _before: &S,
     _after: &S,
@@ -42,7 +42,7 @@ pub fn held_bytes_stay<S: Store>(
         → StaysHeld _pos _held.now (S.image _before.now) (S.image _after.now) }
 {}
 
-/// Bytes that were written are held, and bytes that are held one behind the other are held as one.
+/// Bytes that were written are held, and bytes that are held one after the other are held as one.
 pub fn written_bytes_are_held<S: Store>(
     _before: &S,
     _after: &S,
@@ -58,7 +58,7 @@ pub fn written_bytes_are_held<S: Store>(
         → Holds _pos (_bytes.now ++ _more.now) (S.image _after.now) }
 {}
 
-/// Where other bytes come back than are held, no image is left.
+/// If other bytes come back than are held, no image is left.
 pub fn other_bytes_leave_no_image<S: Store>(
     _before: &S,
     _after: &S,
@@ -91,7 +91,7 @@ pub fn moved_bytes_are_held<S: Store>(
         → Holds (_to + _offset) _held.now (S.image _after.now) }
 {}
 
-/// Two pieces that were moved down one behind the other stand there as one.
+/// Two pieces that were moved down one after the other are there as one.
 pub fn moved_pieces_are_one<S: Store>(
     _before: &S,
     _between: &S,

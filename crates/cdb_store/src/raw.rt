@@ -21,8 +21,8 @@ pub enum RawFault {
 
 /// A file by its raw calls, each of which notes what it answered in proof-only data.
 ///
-/// A call asks the file once, and may do less than it is asked for. After the file's length is
-/// lost it isn't asked again. `give`, `refuse`, `give_up` and `lose` do nothing at run time: a
+/// A call makes one request of the file, which may do less. After the file's length is
+/// lost no call reaches it. `give`, `refuse`, `give_up` and `lose` do nothing at run time: a
 /// store notes by them what it makes of the answers, and each requires the answers that allow it.
 pub trait RawFile {
     /// The calls, the newest first.
@@ -48,7 +48,7 @@ pub trait RawFile {
             (λ e. calls self.new
             ≡ (ended (NotWritten pos (length bytes.now)) e, []) ∷ calls self.old) };
 
-    /// Asks for the length.
+    /// Requests the length.
     fn length(&mut self) -> Result<u64, RawFault>
         requires { lost (calls self.old) ≡ false }
         ensures ok { IfOk result (λ n. calls self.new ≡ (Length n, []) ∷ calls self.old) }
@@ -60,7 +60,7 @@ pub trait RawFile {
         ensures ok { OnOk result (calls self.new ≡ (Cut len, []) ∷ calls self.old) }
         ensures err { OnErr result (calls self.new ≡ (NotCut len, []) ∷ calls self.old) };
 
-    /// Has its bytes put where a loss of power does not take them.
+    /// Syncs its bytes, so that they survive a loss of power.
     fn sync(&mut self) -> Result<(), RawFault>
         requires { lost (calls self.old) ≡ false }
         ensures ok { OnOk result (calls self.new ≡ (Synced, []) ∷ calls self.old) }
@@ -82,7 +82,7 @@ pub trait RawFile {
         requires { GivenUp (calls self.old) }
         ensures { calls self.new ≡ (NotWritten pos n, []) ∷ calls self.old };
 
-    /// Notes that the length just told isn't one from `least` to `most`, or that none was told.
+    /// Notes that the length just reported isn't one from `least` to `most`, or that none was.
     fn lose(&mut self, least: u64, most: u64)
         requires { IsUntold least most (calls self.old) }
         ensures { calls self.new ≡ (Lost, []) ∷ calls self.old };
@@ -99,7 +99,7 @@ fn ended_as(failed: Call, fault: RawFault) -> Call
 }
 
 /// Notes what a raw read or write answered: the bytes that it did, as `done`, or how it ended,
-/// which is `failed` where no signal interrupted it.
+/// which is `failed` unless a signal interrupted it.
 pub fn note_part(
     trace: &mut Trace,
     done: Call,

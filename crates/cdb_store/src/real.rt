@@ -53,13 +53,13 @@ impl RealFile {
         &self.trace
     }
 
-    /// What the system tells of it: its kind, and its device and inode. No byte of it is read.
+    /// What the system says of it: its kind, and its device and inode. No byte of it is read.
     pub fn metadata(&self) -> io::Result<Metadata> {
         self.file.metadata()
     }
 }
 
-/// Why the system's call did nothing: a signal that interrupted it is told apart from all else.
+/// Why the system's call did nothing: a signal that interrupted it, or all else.
 fn fault_of(error: &io::Error) -> RawFault
     ensures { (result ≡ RawFault.Interrupted) ↔ (error_kind error.now ≡ ErrorKind.Interrupted) }
 {

@@ -82,7 +82,7 @@ impl<T: Drop> From<AllocFailed<T>> for StoreFault {
 /// that agree with all that it was told to write and all that it gave back: a store in memory has
 /// exactly one, a file that was opened every list of its length until it is read. Its *failures*
 /// and *bytes written* are counts without a bound. Its *room* is how far writes go without taking
-/// memory. It is *settled* where all that it was told to write was handed on to what holds the
+/// memory. It is *settled* if all that it was told to write was handed on to what holds the
 /// bytes.
 pub trait Store {
     /// How many bytes it has.
@@ -123,10 +123,10 @@ pub trait Store {
         ensures memory { IsErrOf result NoMemory → ⊥ };
 
     /// Writes the bytes from `pos` on, which is at most the store's length, over what
-    /// stands there and past the end.
+    /// is there and past the end.
     ///
     /// After `Device` the range may hold any bytes and the store may have grown by a part of it,
-    /// but the bytes outside of the range stay. `NoMemory` comes only where the write ends past the
+    /// but the bytes outside of the range stay. `NoMemory` comes only if the write ends past the
     /// room, and nothing has changed then.
     fn write_at(&mut self, pos: u64, bytes: &[u8]) -> Result<(), StoreFault>
         requires start { pos ≤ size self.old }
@@ -152,7 +152,7 @@ pub trait Store {
 
     /// Makes room, so that no write that ends at or before `len` takes memory.
     ///
-    /// `NoMemory` is the only fault, comes only where `len` is past the room, and leaves the room.
+    /// `NoMemory` is the only fault, comes only if `len` is past the room, and leaves the room.
     fn reserve(&mut self, len: u64) -> Result<(), StoreFault>
         requires { len < 2 ^ 63 }
         ensures ok { OnOk result (len ≤ room self.new) }

@@ -18,7 +18,7 @@ pub enum Call {
     Wrote(u64),
     /// A write at a position, of so many bytes, failed or was given up.
     NotWritten(u64, u64),
-    /// It told its length.
+    /// It reported its length.
     Length(u64),
     /// It was cut to this length.
     Cut(u64),

@@ -12,10 +12,10 @@ ghost use Rattle.cdb_store.specs.Calls.{IsLost, AreAtLeast};
 use crate::StoreFault;
 use crate::raw::{RawFault, RawFile};
 
-/// How often a read or a write is asked in a row where signals interrupt it.
+/// How often a read or a write is made in a row if signals interrupt it.
 const ASKS: u32 = 1001;
 
-/// Reads some bytes. An interrupted call is asked again, up to 1000 times in a row.
+/// Reads some bytes. An interrupted call is made again, up to 1000 times in a row.
 fn read_some<F: RawFile>(file: &mut F, pos: u64, into: &mut [u8]) -> Result<usize, StoreFault>
     requires some { 0 < length into.old }
     requires known { lost (F.calls file.old) ≡ false }
@@ -36,7 +36,7 @@ fn read_some<F: RawFile>(file: &mut F, pos: u64, into: &mut [u8]) -> Result<usiz
     Err(StoreFault::Device)
 }
 
-/// Writes some bytes. An interrupted call is asked again, up to 1000 times in a row.
+/// Writes some bytes. An interrupted call is made again, up to 1000 times in a row.
 fn write_some<F: RawFile>(file: &mut F, pos: u64, bytes: &[u8]) -> Result<usize, StoreFault>
     requires some { 0 < length bytes.now }
     requires known { lost (F.calls file.old) ≡ false }
@@ -110,7 +110,7 @@ pub(crate) fn write_all<F: RawFile>(file: &mut F, pos: u64, bytes: &[u8]) -> Res
     Ok(())
 }
 
-/// The length that a file tells, where it lies in the range. Else the length is lost.
+/// The length that a file reports, if it lies in the range. Else the length is lost.
 pub(crate) fn length_within<F: RawFile>(file: &mut F, least: u64, most: u64) -> Option<u64>
     requires { lost (F.calls file.old) ≡ false }
     ensures range { IfSome result (λ n. (least ≤ n) × (n ≤ most)) }

@@ -17,7 +17,7 @@ pub enum Fault {
     Make(MakeFault),
     /// A record had a key that was there already, and the run was to stop there.
     Duplicate,
-    /// The value that was asked for is not there.
+    /// The value that was looked for is not there.
     Missing,
     /// A database in a store was not read.
     Read(ReadFault),
@@ -55,7 +55,7 @@ impl Fault {
         }
     }
 
-    /// The fault of a run whose input, counted from 1, was not read. Want of memory is the
+    /// The fault of a run whose input, counted from 1, was not read. Lack of memory is the
     /// run's own.
     pub fn of_text(input: u64, fault: TextFault) -> Fault
         ensures { result ≡ text_fault input fault }
@@ -67,7 +67,7 @@ impl Fault {
     }
 }
 
-/// Want of memory in a reader is the run's own, and so is a writer that failed there.
+/// Lack of memory in a reader is the run's own, and so is a writer that failed there.
 impl From<ReadFault> for Fault {
     ghost from_gives = { λ read fault. fault ≡ read_fault read };
 
@@ -80,7 +80,7 @@ impl From<ReadFault> for Fault {
     }
 }
 
-/// Want of memory in a walk is the run's own.
+/// Lack of memory in a walk is the run's own.
 impl From<WalkFault> for Fault {
     ghost from_gives = { λ walk fault. fault ≡ walk_fault walk };
 
@@ -92,7 +92,7 @@ impl From<WalkFault> for Fault {
     }
 }
 
-/// A reader that fails where a file is taken whole is told as one that fails in a walk.
+/// A reader that fails while a file is taken whole is reported as one that fails in a walk.
 impl From<InFault> for Fault {
     ghost from_gives = { λ input fault. fault ≡ in_fault input };
 
@@ -104,7 +104,7 @@ impl From<InFault> for Fault {
     }
 }
 
-/// Want of memory in a maker is the run's own.
+/// Lack of memory in a maker is the run's own.
 impl From<MakeFault> for Fault {
     ghost from_gives = { λ make fault. fault ≡ make_fault make };
 

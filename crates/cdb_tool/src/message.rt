@@ -149,7 +149,7 @@ fn write_said<E: Write>(fault: &Fault, errors: &mut E) -> Result<(), OutFault>
 }
 
 /// Writes the line that says what a fault is, with its newline. A value that is missing has no
-/// line. After an `OutFault` the writer holds a front of it.
+/// line. After an `OutFault` the writer holds a prefix of it.
 pub fn write_fault<E: Write>(fault: &Fault, errors: &mut E) -> Result<(), OutFault>
     ensures ok { OnOk result (Appends (E.contents errors.old) (E.contents errors.new)
         (fault_line fault.now)) }
@@ -163,7 +163,7 @@ pub fn write_fault<E: Write>(fault: &Fault, errors: &mut E) -> Result<(), OutFau
 }
 
 /// Writes the line of a record whose key was there already: its input, and its number there, both
-/// counted from 1. After an `OutFault` the writer holds a front of it.
+/// counted from 1. After an `OutFault` the writer holds a prefix of it.
 pub(crate) fn write_duplicate<E: Write>(
     input: u64,
     number: u64,

@@ -37,7 +37,7 @@ impl From<MakeFault> for AskFault {
 /// are exactly those of the records that the maker holds, in their order.
 ///
 /// It fails by `Make(NoMemory)`, and then nothing was written, or by `Read(Output)`, and then the
-/// writer holds a front of the values.
+/// writer holds a prefix of the values.
 pub fn write_finished<L: Width, W: Write>(
     maker: Maker<MemStore, L>,
     key: &[u8],

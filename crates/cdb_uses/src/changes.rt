@@ -16,7 +16,7 @@ use std::io::Write;
 /// A change of the records of a database.
 #[derive(Debug, Drop)]
 pub enum Change {
-    /// A record is put: what is done where its key is there already, the mode says.
+    /// A record is put: the mode says what is done if its key is there already.
     Put(Mode, Record),
     /// Every record of a key is taken out.
     Remove(Vec<u8>),
@@ -41,7 +41,7 @@ pub struct ChangedFile {
     pub faults: Vec<Option<MakeFault>>,
 }
 
-/// Makes a change, and tells why it was refused, if it was.
+/// Makes a change, and answers why it was refused, if it was.
 fn try_change<L: Width>(maker: &mut Maker<MemStore, L>, change: &Change) -> Option<MakeFault>
     ensures tries { (rs : List KeyValue) → Holds maker.old rs
         → Tries maker.old maker.new rs (call_of change.now) result }
@@ -53,7 +53,7 @@ fn try_change<L: Width>(maker: &mut Maker<MemStore, L>, change: &Change) -> Opti
     }
 }
 
-/// A maker in memory, of a file of at most `limit` bytes, after some changes in turn. Behind one
+/// A maker in memory, of a file of at most `limit` bytes, after some changes in turn. After one
 /// that is refused the others are made all the same.
 fn try_changes<L: Width>(
     alloc: Global,
@@ -84,7 +84,7 @@ fn try_changes<L: Width>(
 /// the values are exactly those that the key has among them, in their order.
 ///
 /// It fails by `Make(NoMemory)`, and then nothing was written, or by `Read(Output)`, and then the
-/// writer holds a front of the values.
+/// writer holds a prefix of the values.
 pub fn change_and_ask<L: Width, W: Write>(
     alloc: Global,
     limit: u64,

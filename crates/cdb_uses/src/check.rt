@@ -10,9 +10,9 @@ use cdb_store::MemStore;
 use std::alloc::Global;
 
 /// A reader of a file, whatever program made it, in which the look-up of a key meets no damage and
-/// finds the values that the key has in the walk, each as often as it stands there.
+/// finds the values that the key has in the walk, each as often as it is there.
 ///
-/// A file that isn't sound is refused with its first fault; `NoMemory` is answered where memory was
+/// A file that isn't sound is refused with its first fault; `NoMemory` is answered if memory was
 /// refused.
 pub fn open_checked<L: Width>(
     alloc: Global,

@@ -7,7 +7,7 @@ use cdb_form::{Narrow, Record, TextFault, TextReader};
 use std::alloc::Global;
 use std::io::Read;
 
-/// The first record of a native text, where it has one.
+/// The first record of a native text, if it has one.
 pub fn first_record<R: Read + Drop>(alloc: Global, reader: R) -> Result<Option<Record>, TextFault>
     ensures { IfOk result (λ found. MatchOption found
         (HasNone (R.remaining reader))

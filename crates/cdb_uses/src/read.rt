@@ -15,10 +15,10 @@ use cdb_read::{ReadFault, Reader};
 use cdb_store::Store;
 use std::io::Write;
 
-/// Writes the values of a key in a database, one behind the other.
+/// Writes the values of a key in a database, one after the other.
 ///
-/// Of a file that was made nothing is damaged: it fails by `Device` where the store did, and by
-/// `Output` where the writer did. Either way the writer then holds a front of the values.
+/// Of a file that was made nothing is damaged: it fails by `Device` if the store did, and by
+/// `Output` if the writer did. Either way the writer then holds a prefix of the values.
 pub fn write_values<L: Width, S: Store, W: Write>(
     reader: &mut Reader<S, L>,
     key: &[u8],

@@ -23,7 +23,7 @@ use std::io::Write;
 pub enum Step {
     /// Its records are changed.
     Change(Change),
-    /// It is finished. Where that is taken, the steps behind it are not made.
+    /// It is finished. If that succeeds, the steps after it are not made.
     Finish,
 }
 
@@ -36,7 +36,7 @@ pub struct Built<S> {
     pub faults: Vec<Option<MakeFault>>,
 }
 
-/// Makes a change, and tells why it was refused, if it was.
+/// Makes a change, and answers why it was refused, if it was.
 fn make_change<S: Store, L: Width>(maker: &mut Maker<S, L>, change: &Change) -> Option<MakeFault>
     ensures holds { (rs : List KeyValue) → HoldsWhole maker.old rs → HoldsWhole maker.new
         (answered_step L.WORD (limit_of maker.old) rs (answer_of (call_of change.now) result)) }
@@ -49,10 +49,10 @@ fn make_change<S: Store, L: Width>(maker: &mut Maker<S, L>, change: &Change) -> 
 }
 
 /// Builds a database of at most `limit` bytes in a store by some steps in turn, and then finishes
-/// it, unless one of them did. Behind a step that is refused the others are made all the same.
+/// it, unless one of them did. After a step that is refused the others are made all the same.
 ///
-/// It fails where there is no maker to begin with, where memory is refused for the list of faults,
-/// and where the last finish is refused.
+/// It fails if there is no maker to begin with, if memory is refused for the list of faults,
+/// and if the last finish is refused.
 pub fn build<S: Store + Drop, L: Width>(
     alloc: Global,
     store: S,
@@ -96,7 +96,7 @@ pub fn build<S: Store + Drop, L: Width>(
 /// images, the file made from scratch of the records that are left, and the values are exactly
 /// those that the key has among them, in their order.
 ///
-/// By `Make` it fails as `build` does, and nothing was written. By `Read` it fails where the store
+/// By `Make` it fails as `build` does, and nothing was written. By `Read` it fails if the store
 /// or the writer failed.
 pub fn build_and_ask<S: Store + Drop, L: Width, W: Write>(
     alloc: Global,

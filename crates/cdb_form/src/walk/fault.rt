@@ -13,7 +13,7 @@ use std::fmt;
 pub enum WalkFault {
     /// The file is shorter than its head.
     Short,
-    /// The table of this number has slots and stands within the head, at the record end.
+    /// The table of this number has slots and lies within the head, at the record end.
     Table(u64),
     /// The record at this place isn't whole before both the record end and the end of the file.
     Record(u64),
@@ -49,7 +49,7 @@ impl WalkFault {
         }
     }
 
-    /// What the fault is, in words that stand behind the part of the file where it names one.
+    /// What the fault is, in words that follow the part of the file, if it names one.
     pub fn message(&self) -> &'static str
         ensures { result.now ≡ walk_message self.now }
     {
@@ -62,7 +62,7 @@ impl WalkFault {
         }
     }
 
-    /// The part of the file that the fault names, and its number or place, where it names one.
+    /// The part of the file that the fault names, and its number or place, if it names one.
     pub fn part(&self) -> Option<(&'static str, u64)>
         ensures { option_map (λ p. (p.0.now, p.1)) result ≡ walk_part self.now }
     {

@@ -13,7 +13,7 @@ use crate::walk::source::file_head;
 use crate::width::Width;
 use std::io::Read;
 
-/// Where the records stand that weren't given yet: from the next place to the record end.
+/// Where the records lie that weren't given yet: from the next place to the record end.
 #[derive(Clone, Copy)]
 pub(crate) struct Area {
     pub(crate) place: u64,
@@ -21,7 +21,7 @@ pub(crate) struct Area {
     pub(crate) ghost ordered: { place ≤ end },
 }
 
-/// Reads the head, which tells where the records end.
+/// Reads the head, which says where the records end.
 pub(crate) fn read_area<R: Read, L: Width>(reader: &mut R) -> Result<Area, WalkFault>
     ensures area { IfOk result (λ area.
         FromTo (R.remaining reader.old) (R.remaining reader.new) (λ text rest.

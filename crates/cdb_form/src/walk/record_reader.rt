@@ -32,7 +32,7 @@ pub(crate) enum Walking {
     Failed(WalkFault),
 }
 
-/// Reads the record at the next place, and says where those behind it stand.
+/// Reads the record at the next place, and says where those after it lie.
 fn read_record<R: Read, L: Width>(
     reader: &mut R,
     into: &mut Record,
@@ -82,7 +82,7 @@ fn read_record<R: Read, L: Width>(
 
 /// Reads the records of a database file, one after the other, in one pass.
 ///
-/// Its reader is asked for no byte past those that the answer needs. What stands behind the record
+/// Its reader is asked for no byte past those that the answer needs. What follows the record
 /// end stays unread.
 #[derive(Drop)]
 pub struct RecordReader<R, L> {
@@ -114,7 +114,7 @@ impl<R: Read, L: Width> RecordReader<R, L> {
     ///
     /// After the end it answers `Ok(None)` for good, and after a fault that fault. `Short`, `Table`
     /// and `Record` are the damage of the file, after all whole records before it; `Input` comes
-    /// where the reader failed, or was interrupted more than 1000 times in a row; `NoMemory` where
+    /// if the reader failed, or was interrupted more than 1000 times in a row; `NoMemory` if
     /// a growth was refused.
     pub fn next(&mut self) -> Result<Option<Record>, WalkFault>
         ensures gives { IfOk result (λ found. MatchOption found

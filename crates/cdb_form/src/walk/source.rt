@@ -28,13 +28,13 @@ const GREATEST_HEAD: usize = 4096;
 
 const GREATEST_HEADER: usize = 16;
 
-/// How many bytes of a key or value are asked for at once, as many as a pipe holds.
+/// How many bytes of a key or value are requested at once, as many as a pipe holds.
 const PIECE: u64 = 65536;
 
-/// How many bytes of a value that is passed over are asked for at once.
+/// How many bytes of a value that is passed over are requested at once.
 const PASSED: usize = 512;
 
-/// Fills all of `into`, or answers `early` where the reader ends before that.
+/// Fills all of `into`, or answers `early` if the reader ends before that.
 fn fill<R: Read>(reader: &mut R, into: &mut [u8], early: WalkFault) -> Result<(), WalkFault>
     ensures bytes { OnOk result (Consumes (R.remaining reader.old)
         (R.remaining reader.new) into.new) }
@@ -54,7 +54,7 @@ fn fill<R: Read>(reader: &mut R, into: &mut [u8], early: WalkFault) -> Result<()
     }
 }
 
-/// Takes the next `len` bytes, or answers `early` where the reader ends before.
+/// Takes the next `len` bytes, or answers `early` if the reader ends before.
 fn bytes<R: Read>(
     reader: &mut R,
     into: &mut Vec<u8>,
@@ -95,7 +95,7 @@ pub(crate) fn file_head<R: Read, L: Width>(reader: &mut R) -> Result<Head, WalkF
     Ok(read_head::<L>(&bytes[..size]))
 }
 
-/// Reads the header of a record, or answers `early` where the reader ends before it does.
+/// Reads the header of a record, or answers `early` if the reader ends before it does.
 pub(crate) fn record_header<R: Read, L: Width>(
     reader: &mut R,
     early: WalkFault,
@@ -124,7 +124,7 @@ pub(crate) enum Keeping {
     Key,
 }
 
-/// Passes over the next `len` bytes, or answers `early` where the reader ends before.
+/// Passes over the next `len` bytes, or answers `early` if the reader ends before.
 fn pass<R: Read>(reader: &mut R, len: u64, early: WalkFault) -> Result<(), WalkFault>
     ensures read { OnOk result
         (Passes len (R.remaining reader.old) (R.remaining reader.new)) }
@@ -165,7 +165,7 @@ fn record_value<R: Read>(
     }
 }
 
-/// Reads the key and the value of a record, whose lengths its header tells.
+/// Reads the key and the value of a record, whose lengths are in its header.
 pub(crate) fn record_body<R: Read>(
     reader: &mut R,
     into: &mut Record,

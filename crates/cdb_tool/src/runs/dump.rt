@@ -15,7 +15,7 @@ use std::io::{Read, Write};
 /// Writes the text of the records of a database file, of which nothing was read yet.
 ///
 /// It does what `dump_run` does, and leaves in the reader of the records what it did not read: at
-/// Ok what stands behind the record end.
+/// Ok what follows the record end.
 pub fn dump_from<L: Width, R: Read, W: Write>(
     alloc: Global,
     records: &mut RecordReader<R, L>,
@@ -37,7 +37,7 @@ pub fn dump_from<L: Width, R: Read, W: Write>(
 ///   whole records before the damage were written, and no closing newline;
 /// - `Walk(Input)`: the reader failed; the texts of all records that were read were written;
 /// - `NoMemory`: a growth was refused; the texts of all records that were read were written;
-/// - `Output`: the writer failed, and holds a front of the text.
+/// - `Output`: the writer failed, and holds a prefix of the text.
 ///
 /// The writer is flushed last, after a fault too.
 pub fn dump_run<L: Width, R: Read + Drop, W: Write>(

@@ -6,7 +6,7 @@ use cdb_form::flush_whole;
 use std::io::Write;
 
 /// Flushes the writer of a run that answered so, after a fault too. A flush that fails is `Output`
-/// where no other fault came.
+/// if no other fault came.
 pub fn flushed<W: Write>(w: &mut W, answer: Result<(), Fault>) -> Result<(), Fault>
     ensures { Flushed (W.contents w.old) (W.contents w.new) answer result }
 {

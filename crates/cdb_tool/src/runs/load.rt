@@ -14,7 +14,7 @@ use std::io::Read;
 /// Takes all that a reader has into a store in memory, if that is `most` bytes or fewer.
 ///
 /// It does what `load` does, and leaves the reader at its end at Ok. One byte above `most` is taken
-/// where the reader has more, and what follows it stays.
+/// if the reader has more, and what follows it stays.
 pub fn load_from<R: Read>(alloc: Global, reader: &mut R, most: u64) -> Result<MemStore, Fault>
     ensures all { IfOk result (λ store.
         GivesAll most (R.remaining reader.old) (R.remaining reader.new) (contents store)) }
@@ -31,7 +31,7 @@ pub fn load_from<R: Read>(alloc: Global, reader: &mut R, most: u64) -> Result<Me
 
 /// Takes a file into a store in memory, if it has `most` bytes or fewer.
 ///
-/// Memory is asked for only as bytes come. The faults:
+/// Memory is requested only as bytes come. The faults:
 /// - `Long`: the file has more bytes;
 /// - `Walk(Input)`: the reader failed;
 /// - `NoMemory`: a growth was refused.

@@ -14,8 +14,8 @@ use cdb_read::{Finder, ReadFault, Reader, Span};
 use cdb_store::Store;
 use std::io::Write;
 
-/// Writes a value that a finder gave, with a newline behind it in lines. After a fault the writer
-/// holds a front of that.
+/// Writes a value that a finder gave, with a newline after it in lines. After a fault the writer
+/// holds a prefix of that.
 fn write_value<L: Width, S: Store, W: Write>(
     finder: &mut Finder<'_, S, L>,
     value: Span,
@@ -89,7 +89,7 @@ fn write_all<L: Width, S: Store, W: Write>(
 }
 
 /// Writes the value of a key that has this number, counted from 1. The ones before it are found and
-/// not read, and none behind it is looked for.
+/// not read, and none after it is looked for.
 fn write_nth<L: Width, S: Store, W: Write>(
     reader: &mut Reader<S, L>,
     key: &[u8],
@@ -136,16 +136,16 @@ fn query_unflushed<L: Width, S: Store, W: Write>(
     (reader.into_store(), answer)
 }
 
-/// Writes the values that a key has in the database in a store, one behind the other, or the value
-/// with a number, counted from 1, alone. With `lines` a newline stands behind each.
+/// Writes the values that a key has in the database in a store, one after the other, or the value
+/// with a number, counted from 1, alone. With `lines` a newline follows each.
 ///
 /// Values go from the store to the writer in pieces, and no memory is taken. The faults:
 /// - `Missing`: there is no value, or fewer than the number;
 /// - `Read(Short)`: the store is shorter than a head; it was not read, and nothing was written;
 /// - `Read(Table(n))`, `Read(Record(place))`: the look-up met this damage; the values before it
-///   that were asked for were written. Damage behind the value with the number is not met;
-/// - `Read(Device)`: the store failed; a front of the text was written;
-/// - `Output`: the writer failed, and holds a front of the text.
+///   that were wanted were written. Damage after the value with the number is not met;
+/// - `Read(Device)`: the store failed; a prefix of the text was written;
+/// - `Output`: the writer failed, and holds a prefix of the text.
 ///
 /// The store is handed back whatever the answer, and was only read. The writer is flushed last,
 /// after a fault too.

@@ -43,9 +43,9 @@ fn stats_unflushed<L: Width, S: Store, W: Write>(store: S, w: &mut W) -> (S, Res
 /// All is counted before anything is written, and no memory is taken. The faults:
 /// - `Read(Short)`: the store is shorter than a head, and was not read;
 /// - `Read(Table(n))`, `Read(Record(place))`: the file has this damage, the first of its tables
-///   outside the file, else that of its records; damaged slots are not told;
+///   outside the file, else that of its records; damaged slots are not reported;
 /// - `Read(Device)`: the store failed;
-/// - `Output`: the writer failed, and holds a front of the text.
+/// - `Output`: the writer failed, and holds a prefix of the text.
 ///
 /// But for `Output` nothing was written then. The store is handed back whatever the answer, and was
 /// only read. The writer is flushed last, after a fault too.

@@ -10,7 +10,7 @@ use cdb_read::Stats;
 use itoa::Buffer;
 use std::io::Write;
 
-/// Writes a line of a number. After an `OutFault` the writer holds a front of it.
+/// Writes a line of a number. After an `OutFault` the writer holds a prefix of it.
 fn write_count<W: Write>(words: &[u8], count: u64, w: &mut W) -> Result<(), OutFault>
     ensures ok { OnOk result (Appends (W.contents w.old) (W.contents w.new)
         (count_line words.now count)) }
@@ -22,7 +22,7 @@ fn write_count<W: Write>(words: &[u8], count: u64, w: &mut W) -> Result<(), OutF
     write_pieces(w, &[words, b": ", count, b"\n"])
 }
 
-/// Writes a line of three numbers. After an `OutFault` the writer holds a front of it.
+/// Writes a line of three numbers. After an `OutFault` the writer holds a prefix of it.
 fn write_triple<W: Write>(
     words: &[u8],
     first: u64,
@@ -42,7 +42,7 @@ fn write_triple<W: Write>(
     write_pieces(w, &[words, b": ", first, b"/", second, b"/", third, b"\n"])
 }
 
-/// Writes the line of a distance below 10. After an `OutFault` the writer holds a front of it.
+/// Writes the line of a distance below 10. After an `OutFault` the writer holds a prefix of it.
 fn write_distance<W: Write>(distance: usize, count: u64, w: &mut W) -> Result<(), OutFault>
     ensures ok { OnOk result (Appends (W.contents w.old) (W.contents w.new)
         (count_line (codes "distance " ++ decimal distance) count)) }
@@ -55,7 +55,7 @@ fn write_distance<W: Write>(distance: usize, count: u64, w: &mut W) -> Result<()
     write_pieces(w, &[b"distance ", distance, b": ", count, b"\n"])
 }
 
-/// Writes the lines of all distances. After an `OutFault` the writer holds a front of them.
+/// Writes the lines of all distances. After an `OutFault` the writer holds a prefix of them.
 fn write_distances<W: Write>(counts: &[u64; 11], w: &mut W) -> Result<(), OutFault>
     ensures ok { OnOk result (Appends (W.contents w.old) (W.contents w.new)
         (distance_lines counts.now)) }
@@ -68,7 +68,7 @@ fn write_distances<W: Write>(counts: &[u64; 11], w: &mut W) -> Result<(), OutFau
     write_count(b"distance 10 or more", counts[10], w)
 }
 
-/// Writes the text of statistics. After an `OutFault` the writer holds a front of it.
+/// Writes the text of statistics. After an `OutFault` the writer holds a prefix of it.
 pub(crate) fn write_stats<W: Write>(stats: &Stats, w: &mut W) -> Result<(), OutFault>
     ensures ok { OnOk result (Appends (W.contents w.old) (W.contents w.new)
         (stats_text stats.now)) }
