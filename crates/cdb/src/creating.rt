@@ -5,8 +5,8 @@ ghost use Rattle.cdb_form.specs.Format.Pair.{head_size};
 use crate::files::{is_file_of, is_folder, is_same_file, made_store, opened_store};
 use crate::source::{InSource, STANDARD_INPUT, Source, WINDOW, sources_of};
 use cdb_files::{Builder, RealNames, ReplaceFault, replace_file};
-use cdb_form::{Width, head_size, write_whole};
-use cdb_make::{MakeFault, Mode};
+use cdb_form::{Width, write_whole};
+use cdb_make::Mode;
 use cdb_store::{BufferedStore, FileStore, MemStore, Store};
 use cdb_tool::{Fault, Input, MakeOptions, Output, Style, flushed, make_bytes, make_run_by};
 use std::alloc::Global;
@@ -60,12 +60,15 @@ impl Creation<'_> {
     }
 }
 
-/// What a database is made of, with its files opened.
+/// What a database is made of, with its files opened. Its limit is one of its width.
 #[derive(Drop)]
-struct Contents<I> {
+struct Contents<L: Width, I> {
     base: Option<FileStore>,
     sources: Vec<Source<I>>,
     options: MakeOptions,
+    width: PhantomData<L>,
+    ghost head: { head_size L.WORD ≤ options.limit },
+    ghost words: { options.limit ≤ L.GREATEST },
 }
 
 /// Makes a database. The base and then all inputs are opened before anything is made.
@@ -82,6 +85,8 @@ where
     I: Read + Drop,
     O: Write,
     E: Write,
+    requires head { head_size L.WORD ≤ creation.options.limit }
+    requires words { creation.options.limit ≤ L.GREATEST }
 {
     let alloc = rt.alloc();
     if creation.name == NO_FILE && creation.is_plain() {
@@ -92,6 +97,7 @@ where
         base,
         sources: sources_of(rt, alloc, creation.inputs, input)?,
         options: creation.options,
+        width: PhantomData,
     };
     if creation.name == NO_FILE {
         return make_on_output::<L, I, O, E>(alloc, contents, output, errors);
@@ -110,7 +116,7 @@ fn base_of<R: Files<File = File>>(rt: &R, name: Option<&str>) -> Result<Option<F
 /// Makes it in memory and writes it.
 fn make_on_output<L: Width, I: Read + Drop, O: Write, E: Write>(
     alloc: Global,
-    contents: Contents<I>,
+    contents: Contents<L, I>,
     output: &mut O,
     errors: &mut E,
 ) -> Result<(), Fault> {
@@ -118,8 +124,8 @@ fn make_on_output<L: Width, I: Read + Drop, O: Write, E: Write>(
         base,
         sources,
         options,
+        width: _,
     } = contents;
-    check_limit::<L>(options)?;
     let mut lines = Output::new(alloc, errors, LINES)?;
     let store = MemStore::new(alloc);
     let (store, _, made) = make_run_by::<L, _, _, _, _, InSource>(
@@ -137,7 +143,7 @@ fn make_on_output<L: Width, I: Read + Drop, O: Write, E: Write>(
 fn make_named<L, R, I, E>(
     rt: &R,
     creation: Creation<'_>,
-    contents: Contents<I>,
+    contents: Contents<L, I>,
     errors: &mut E,
 ) -> Result<(), Fault>
 where
@@ -168,7 +174,7 @@ where
 fn make_in_place<L, R, I, E>(
     rt: &R,
     creation: Creation<'_>,
-    contents: Contents<I>,
+    contents: Contents<L, I>,
     errors: &mut E,
 ) -> Result<(), Fault>
 where
@@ -193,7 +199,7 @@ fn make_apart<L, R, I, E>(
     rt: &R,
     temporary: &str,
     creation: Creation<'_>,
-    contents: Contents<I>,
+    contents: Contents<L, I>,
     errors: &mut E,
 ) -> Result<(), Fault>
 where
@@ -212,7 +218,6 @@ where
         alloc: rt.alloc(),
         contents,
         errors,
-        width: PhantomData,
     };
     let mut names = RealNames::new(rt);
     match replace_file::<RealNames<R>, Building<L, I, E>>(
@@ -233,9 +238,8 @@ where
 #[derive(Drop)]
 struct Building<'a, L: Width, I, E> {
     alloc: Global,
-    contents: Contents<I>,
+    contents: Contents<L, I>,
     errors: &'a mut E,
-    width: PhantomData<L>,
 }
 
 impl<'a, S: Store + Drop, L: Width, I: Read + Drop, E: Write> Builder<S> for Building<'a, L, I, E> {
@@ -248,7 +252,6 @@ impl<'a, S: Store + Drop, L: Width, I: Read + Drop, E: Write> Builder<S> for Bui
             alloc,
             contents,
             errors,
-            width: _,
         } = self;
         make_in_store::<L, S, I, E>(alloc, store, contents, errors)
     }
@@ -258,7 +261,7 @@ impl<'a, S: Store + Drop, L: Width, I: Read + Drop, E: Write> Builder<S> for Bui
 fn make_in_file<L: Width, I: Read + Drop, E: Write>(
     alloc: Global,
     file: FileStore,
-    contents: Contents<I>,
+    contents: Contents<L, I>,
     errors: &mut E,
 ) -> Result<(), Fault> {
     make_in_store::<L, FileStore, I, E>(alloc, file, contents, errors).1
@@ -268,7 +271,7 @@ fn make_in_file<L: Width, I: Read + Drop, E: Write>(
 fn make_in_store<L: Width, S: Store + Drop, I: Read + Drop, E: Write>(
     alloc: Global,
     store: S,
-    contents: Contents<I>,
+    contents: Contents<L, I>,
     errors: &mut E,
 ) -> (S, Result<(), Fault>)
     ensures { OnOk result.1 (S.settled result.0) }
@@ -277,10 +280,8 @@ fn make_in_store<L: Width, S: Store + Drop, I: Read + Drop, E: Write>(
         base,
         sources,
         options,
+        width: _,
     } = contents;
-    if let Err(fault) = check_limit::<L>(options) {
-        return (store, Err(fault));
-    }
     let mut lines = match Output::new(alloc, errors, LINES) {
         Ok(lines) => lines,
         Err(_) => return (store, Err(Fault::NoMemory)),
@@ -292,17 +293,6 @@ fn make_in_store<L: Width, S: Store + Drop, I: Read + Drop, E: Write>(
             );
             (store.discard(), made)
         }
-        Err(store) => (store, Err(Fault::NoMemory)),
+        Err(failed) => (failed.value, Err(Fault::NoMemory)),
     }
-}
-
-/// Refuses a limit that no file of the width can have.
-fn check_limit<L: Width>(options: MakeOptions) -> Result<(), Fault>
-    ensures head { OnOk result (head_size L.WORD ≤ options.limit) }
-    ensures words { OnOk result (options.limit ≤ L.GREATEST) }
-{
-    if options.limit < head_size::<L>() as u64 || L::GREATEST < options.limit {
-        return Err(Fault::Make(MakeFault::TooBig));
-    }
-    Ok(())
 }

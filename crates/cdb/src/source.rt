@@ -81,16 +81,14 @@ pub(crate) fn sources_of<R: Files<File = File>, I: Read + Drop>(
     input: I,
 ) -> Result<Vec<Source<I>>, Fault> {
     let window = RefCell::new(Input::new(alloc, input, WINDOW)?);
-    let shared = Rc::new(alloc, window).map_err(AllocError::from)?;
+    let shared = Rc::new(alloc, window)?;
     let mut sources = Vec::new(alloc);
     if names.is_empty() {
-        sources
-            .push(Source::Standard(Rc::clone(&shared)?))
-            .map_err(AllocError::from)?;
+        sources.push(Source::Standard(Rc::clone(&shared)?))?;
     }
     for name in names {
         let source = source_of(rt, alloc, name.as_str(), &shared)?;
-        sources.push(source).map_err(AllocError::from)?;
+        sources.push(source)?;
     }
     Ok(sources)
 }

@@ -1,4 +1,8 @@
 // What the program does: each command over its files and streams.
+ghost use Rattle.std.specs.Prelude.{◌≡◌, ◌≤◌, IfSome};
+ghost use Rattle.cdb_tool.specs.Command.{asked_in, has_wide_words, FitsIn, IsInRange};
+ghost use Rattle.cdb_form.specs.Format.Pair.{head_size};
+
 use crate::creating::{Creation, create};
 use crate::files::{is_stream, opened, opened_store};
 use crate::source::WINDOW;
@@ -80,6 +84,7 @@ where
     I: Read + Drop,
     O: Write + Drop,
     E: Write,
+    requires { IsInRange (asked_in command.now) }
 {
     let mut output = Output::new(rt.alloc(), output, WINDOW)?;
     if is_wide(command) {
@@ -90,7 +95,9 @@ where
 }
 
 /// Whether a command is about words of 8 bytes.
-fn is_wide(command: &Command) -> bool {
+fn is_wide(command: &Command) -> bool
+    ensures { result ≡ has_wide_words (asked_in command.now) }
+{
     match *command {
         Command::Query { wide, .. }
         | Command::Dump { wide, .. }
@@ -116,6 +123,7 @@ where
     I: Read + Drop,
     O: Write,
     E: Write,
+    requires { FitsIn (head_size L.WORD) L.GREATEST (asked_in command.now) }
 {
     match command {
         Command::Query {
@@ -157,7 +165,7 @@ where
     }
 }
 
-/// Writes the values of a key. They are counted from 1, so none has the number 0.
+/// Writes the values of a key, which are counted from 1.
 fn query<L: Width, R: Files<File = File>, O: Write>(
     rt: &R,
     name: &str,
@@ -165,10 +173,9 @@ fn query<L: Width, R: Files<File = File>, O: Write>(
     number: Option<u64>,
     lines: bool,
     output: &mut O,
-) -> Result<(), Fault> {
-    if number == Some(0) {
-        return Err(Fault::Missing);
-    }
+) -> Result<(), Fault>
+    requires { IfSome number (λ n. 1 ≤ n) }
+{
     let store = opened_store(rt, name)?;
     query_run::<L, _, O>(store, key.as_bytes(), number, lines, output).1
 }

@@ -1,5 +1,5 @@
 -- What a command line asks for, its texts as bytes, and how an answer tells it.
-use Rattle.std.specs.Prelude.{◌≡◌, ◌≤◌, ◌⊎◌, ℕ, Bool, if◌then◌else◌, List, map, Option, IfSome}
+use Rattle.std.specs.Prelude.{◌≡◌, ◌≤◌, ◌⊎◌, ℕ, Bool, false, if◌then◌else◌, List, map, Option, IfSome}
 use Rattle.std.specs.Prelude.{option_map, Result, Ok, Err, string_bytes}
 use Rattle.cdb_command.specs.Line.{Text}
 use Rattle.cdb_command.specs.declared.command.Command.{Command}
@@ -42,6 +42,27 @@ IsInRange (Check name wide) = Unit
 IsInRange (Create name base inputs temporary options wide) =
     options.limit ≡ (if wide then 9223372036854775807 else 4294967295)
 IsInRange Help = Unit
+
+-- whether its words have 8 bytes
+abbrev pub has_wide_words : Asked → Bool
+has_wide_words (Query name key number lines wide) = wide
+has_wide_words (Dump name style wide) = wide
+has_wide_words (Listing name style wide) = wide
+has_wide_words (Stats name wide) = wide
+has_wide_words (Check name wide) = wide
+has_wide_words (Create name base inputs temporary options wide) = wide
+has_wide_words Help = false
+
+-- the same of files that have `least` bytes at least and `greatest` at most
+abbrev pub FitsIn : (least greatest : ℕ) → Asked → Type 0
+FitsIn least greatest (Query name key number lines wide) = IfSome number (λ n. 1 ≤ n)
+FitsIn least greatest (Dump name style wide) = Unit
+FitsIn least greatest (Listing name style wide) = Unit
+FitsIn least greatest (Stats name wide) = Unit
+FitsIn least greatest (Check name wide) = Unit
+FitsIn least greatest (Create name base inputs temporary options wide) =
+    (least ≤ options.limit) × (options.limit ≤ greatest)
+FitsIn least greatest Help = Unit
 
 -- the answer is the one that is wanted, or tells that memory was refused
 abbrev pub Gives : {T A : Type 0} → (T → A) → Result T Usage → Result A Usage → Type 0

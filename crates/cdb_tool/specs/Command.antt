@@ -1,4 +1,4 @@
 -- The words of the contracts of `plan` and `write_usage`, which `cdb_command` defines.
-pub use Rattle.cdb_command.specs.Asked.{Gives, asked_in, IsInRange}
+pub use Rattle.cdb_command.specs.Asked.{Gives, asked_in, has_wide_words, FitsIn, IsInRange}
 pub use Rattle.cdb_command.specs.Words.{cdb_faults, plan_of}
 pub use Rattle.cdb_command.specs.Usage.{usage_text, usage_number, usage_message}
