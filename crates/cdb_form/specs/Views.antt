@@ -9,6 +9,7 @@ pub mod Source
 pub mod NativeParser
 pub mod MapParser
 pub mod AtHand
+pub mod Front
 pub mod FormReader
 pub mod TextReader
 pub mod AmendReader

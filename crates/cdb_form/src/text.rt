@@ -3,6 +3,7 @@ pub(crate) mod amend_reader;
 pub(crate) mod amend_writer;
 pub(crate) mod at_hand;
 pub(crate) mod fault;
+pub(crate) mod front;
 pub(crate) mod going;
 pub(crate) mod kind;
 pub(crate) mod list_writer;

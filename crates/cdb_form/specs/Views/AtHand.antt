@@ -2,7 +2,8 @@
 use Rattle.std.specs.Io.KnownBytes.{Consumes}
 use Rattle.std.specs.List.{AllPass}
 use Rattle.std.specs.Prelude.{List, Option, length, ◌++◌, ◌≡◌, ◌≤◌, ℕ}
-use Rattle.cdb_form.specs.Format.Record.{AreBytes}
+use Rattle.cdb_form.specs.Format.Record.{AreBytes, KeyValue}
+use Rattle.cdb_form.specs.Text.Native.{Spells}
 use Rattle.cdb_form.specs.Views.MapParser.{is_of}
 use Rattle.cdb_form.specs.Views.Source.{Takes, budget}
 use Rattle.cdb_form.specs.declared.text.kind.Kind.{Kind}
@@ -28,3 +29,11 @@ pub record MovesCounted {R : Type 0} (kind : Kind) (remaining : R → Option (Li
   pub are : AreBytes bytes
   pub asks : new.asks ≤ old.asks
   pub spends : budget old ≤ budget new
+
+-- n bytes that spell a record went from the front of what was unread
+pub record MovesRecord (greatest : ℕ) (old new : Option (List ℕ)) (n : ℕ) (r : KeyValue) :
+    Type 0 where
+  pub text : List ℕ
+  pub spells : Spells greatest text r
+  pub read : Consumes old new text
+  pub long : length text ≡ n

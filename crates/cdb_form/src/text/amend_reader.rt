@@ -4,6 +4,7 @@ ghost use Rattle.cdb_form.specs.Views.Pairs.{change_in, change_of};
 
 use crate::item::{Item, ItemKind};
 use crate::record::Record;
+use crate::text::at_hand::{AtHand, NoneAtHand};
 use crate::text::fault::TextFault;
 use crate::text::going::Going;
 use crate::text::source::Source;
@@ -94,12 +95,31 @@ impl<R: Read, L: Width> AmendReader<R, L> {
         ensures failed { (fault : _) → HasFailed self.old fault →
             (result ≡ Err fault) × (self.new ≡ self.old) }
     {
+        self.read_by::<NoneAtHand>(into)
+    }
+
+    /// Does what `read_into` does, and takes a record that is at hand without an ask. Then each of
+    /// its bytes counts as an ask.
+    pub fn read_by<A: AtHand<R>>(
+        &mut self,
+        into: &mut Record,
+    ) -> Result<Option<ItemKind>, TextFault>
+        ensures gives { IfOk result (λ found. MatchOption found
+            (GivesEnd R.remaining self.old self.new)
+            (λ kind. GivesChange L.GREATEST R.remaining self.old self.new
+            (change_in kind into.new))) }
+        ensures fails { IfErr result (Fails L.GREATEST R.remaining self.old self.new) }
+        // After the end and after a fault nothing is read, and the answer stays.
+        ensures ended { HasEnded self.old → (result ≡ Ok None) × (self.new ≡ self.old) }
+        ensures failed { (fault : _) → HasFailed self.old fault →
+            (result ≡ Err fault) × (self.new ≡ self.old) }
+    {
         match self.going {
             Going::On => {}
             Going::AtEnd => return Ok(None),
             Going::Failed(fault) => return Err(fault),
         }
-        match self.source.entry(into, L::GREATEST, true) {
+        match self.source.entry_by::<A>(into, L::GREATEST, true) {
             Ok(Some(kind)) => Ok(Some(kind)),
             Ok(None) => {
                 self.going = Going::AtEnd;

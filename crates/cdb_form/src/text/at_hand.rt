@@ -1,8 +1,10 @@
 // The bytes that a reader can give without an ask.
-ghost use Rattle.std.specs.Prelude.{◌≡◌, ◌≤◌, IfOk, OnErr};
-ghost use Rattle.std.specs.Io.KnownBytes.{Keeps};
-ghost use Rattle.cdb_form.specs.Views.AtHand.{MovesRun};
+ghost use Rattle.std.specs.Prelude.{◌≡◌, ◌<◌, ◌≤◌, [], ◌∷◌, IfOk, OnErr, MatchOption};
+ghost use Rattle.std.specs.Io.KnownBytes.{Consumes, Keeps};
+ghost use Rattle.cdb_form.specs.Views.AtHand.{MovesRecord, MovesRun};
+ghost use Rattle.cdb_form.specs.Views.Pairs.{key_value};
 
+use crate::record::Record;
 use crate::text::kind::Kind;
 use std::alloc::AllocError;
 use std::io::Read;
@@ -22,6 +24,27 @@ pub trait AtHand<R: Read> {
         ensures most { IfOk result (λ n. n ≤ most) }
         ensures kept { OnErr result (Keeps (R.remaining reader.old) (R.remaining reader.new)) }
         ensures holds { OnErr result (into.new.items ≡ into.old.items) };
+
+    /// Takes the next byte if it is at hand.
+    fn take_byte(reader: &mut R) -> Option<u8>
+        ensures { MatchOption result (Keeps (R.remaining reader.old) (R.remaining reader.new))
+            (λ b. Consumes (R.remaining reader.old) (R.remaining reader.new) (b ∷ [])) };
+
+    /// Moves the next record of a native text over another record, if all bytes that spell it are
+    /// at hand, `most` at most, and answers how many. Else none are taken, and the record holds
+    /// anything.
+    fn take_record(
+        reader: &mut R,
+        greatest: u64,
+        most: u64,
+        into: &mut Record,
+    ) -> Result<u64, AllocError>
+        ensures moved { IfOk result (λ n. 0 < n → MovesRecord greatest (R.remaining reader.old)
+            (R.remaining reader.new) n (key_value into.new)) }
+        ensures most { IfOk result (λ n. n ≤ most) }
+        ensures none { IfOk result (λ n. n ≡ 0 →
+            Keeps (R.remaining reader.old) (R.remaining reader.new)) }
+        ensures kept { OnErr result (Keeps (R.remaining reader.old) (R.remaining reader.new)) };
 }
 
 /// No byte is at hand: each is asked for.
@@ -31,6 +54,16 @@ pub struct NoneAtHand;
 impl<R: Read> AtHand<R> for NoneAtHand {
     #[inline(always)]
     fn take_run(_: &mut R, _: Kind, _: u64, _: &mut Vec<u8>) -> Result<u64, AllocError> {
+        Ok(0)
+    }
+
+    #[inline(always)]
+    fn take_byte(_: &mut R) -> Option<u8> {
+        None
+    }
+
+    #[inline(always)]
+    fn take_record(_: &mut R, _: u64, _: u64, _: &mut Record) -> Result<u64, AllocError> {
         Ok(0)
     }
 }

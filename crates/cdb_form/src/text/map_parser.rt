@@ -30,7 +30,7 @@ pub(crate) enum LineRead {
 
 impl<R: Read> Source<R> {
     /// Passes over bytes of a kind, and takes the byte behind them: `None` is the end.
-    fn pass(&mut self, kind: Kind) -> Result<Option<u8>, TextFault>
+    fn pass<A: AtHand<R>>(&mut self, kind: Kind) -> Result<Option<u8>, TextFault>
         ensures run { IfOk result (λ stop. (bytes : List ℕ)
             × ReadsRun kind R.remaining self.old self.new bytes stop) }
         ensures fewer { OnOk result (self.new.asks < self.old.asks) }
@@ -38,7 +38,7 @@ impl<R: Read> Source<R> {
             R.remaining self.old self.new) }
     {
         loop {
-            let Some(byte) = self.byte()? else {
+            let Some(byte) = self.next_byte::<A>()? else {
                 return Ok(None);
             };
             if !kind.has(byte) {
@@ -86,7 +86,7 @@ impl<R: Read> Source<R> {
         into.push(first)?;
         loop {
             self.keep_at_hand::<A>(kind, into)?;
-            let Some(byte) = self.byte()? else {
+            let Some(byte) = self.next_byte::<A>()? else {
                 return Ok(None);
             };
             if !kind.has(byte) {
@@ -105,7 +105,7 @@ impl<R: Read> Source<R> {
             R.remaining self.old self.new) }
     {
         into.clear();
-        let Some(first) = self.pass(Kind::Blank)? else {
+        let Some(first) = self.pass::<A>(Kind::Blank)? else {
             return Ok(());
         };
         if first == b'\n' {
@@ -142,10 +142,10 @@ impl<R: Read> Source<R> {
         ensures leaves { IfErr result (LeavesAmid (Lacks is_newline)
             R.remaining self.old self.new) }
     {
-        match self.pass(Kind::Blank)? {
+        match self.pass::<A>(Kind::Blank)? {
             None => Ok(LineRead::Last),
             Some(b'\n') => Ok(LineRead::Ignored),
-            Some(b'#') => match self.pass(Kind::InLine)? {
+            Some(b'#') => match self.pass::<A>(Kind::InLine)? {
                 None => Ok(LineRead::Last),
                 Some(_) => Ok(LineRead::Ignored),
             },

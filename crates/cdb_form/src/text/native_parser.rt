@@ -16,6 +16,7 @@ ghost use Rattle.cdb_form.specs.declared.item.ItemKind.TheVariants.{Remove};
 
 use crate::item::ItemKind;
 use crate::record::Record;
+use crate::text::at_hand::AtHand;
 use crate::text::fault::TextFault;
 use crate::text::source::Source;
 use std::io::Read;
@@ -164,6 +165,7 @@ impl<R: Read> Source<R> {
 
     /// Takes the next item, and answers its kind: none is at the newline that ends the text. With
     /// no removals the text is a native one, and has puts alone.
+    #[inline(never)]
     pub(crate) fn entry(
         &mut self,
         into: &mut Record,
@@ -200,5 +202,38 @@ impl<R: Read> Source<R> {
             }
             Some(_) => Err(TextFault::Syntax(start)),
         }
+    }
+    /// Takes the next item as `entry` does, a record that is at hand by one step. Then each of its
+    /// bytes counts as an ask.
+    #[inline(always)]
+    pub(crate) fn entry_by<A: AtHand<R>>(
+        &mut self,
+        into: &mut Record,
+        greatest: u64,
+        removals: bool,
+    ) -> Result<Option<ItemKind>, TextFault>
+        requires least { 9 ≤ greatest }
+        requires most { greatest < 2 ^ 63 }
+        ensures read { IfOk result (λ found. MatchOption found
+            (Consumes (R.remaining self.old.reader) (R.remaining self.new.reader) (codes "\n")
+            × (self.new.taken ≡ self.old.taken + 1))
+            (λ kind. ReadsItem SpellsChange greatest (R.remaining self.old.reader)
+            (R.remaining self.new.reader) self.old.taken self.new.taken
+            (change_in kind into.new))) }
+        ensures puts { removals ≡ false → IfOk result (λ found. found ≢ Some Remove) }
+        ensures fewer { OnOk result (self.new.asks < self.old.asks) }
+        ensures fails { IfErr result (FailsIn R.remaining self.old self.new
+            (FailsEntry removals greatest self.old.taken)) }
+        ensures later { self.old.taken ≤ self.new.taken }
+        ensures leaves { IfErr result (Leaves R.remaining self.old self.new) }
+        ensures spends { OnOk result (budget self.old ≤ budget self.new) }
+    {
+        let n = A::take_record(&mut self.reader, greatest, self.asks, into)?;
+        if n == 0 {
+            return self.entry(into, greatest, removals);
+        }
+        self.asks -= n;
+        self.taken += n;
+        Ok(Some(ItemKind::Put))
     }
 }

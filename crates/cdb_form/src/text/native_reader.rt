@@ -3,6 +3,7 @@ ghost use Rattle.std.specs.Prelude.{◌≡◌, ◌^◌, ◌≤◌, false, IfOk, 
 ghost use Rattle.cdb_form.specs.Views.Pairs.{key_value};
 
 use crate::record::Record;
+use crate::text::at_hand::{AtHand, NoneAtHand};
 use crate::text::fault::TextFault;
 use crate::text::going::Going;
 use crate::text::source::Source;
@@ -90,12 +91,27 @@ impl<R: Read, L: Width> TextReader<R, L> {
         ensures failed { (fault : _) → HasFailed self.old fault →
             (result ≡ Err fault) × (self.new ≡ self.old) }
     {
+        self.read_by::<NoneAtHand>(into)
+    }
+
+    /// Does what `read_into` does, and takes a record that is at hand without an ask. Then each of
+    /// its bytes counts as an ask.
+    pub fn read_by<A: AtHand<R>>(&mut self, into: &mut Record) -> Result<bool, TextFault>
+        ensures gives { IfOk result (λ given. MatchBool given
+            (GivesRecord L.GREATEST R.remaining self.old self.new (key_value into.new))
+            (GivesEnd R.remaining self.old self.new)) }
+        ensures fails { IfErr result (Fails L.GREATEST R.remaining self.old self.new) }
+        // After the end and after a fault nothing is read, and the answer stays.
+        ensures ended { HasEnded self.old → (result ≡ Ok false) × (self.new ≡ self.old) }
+        ensures failed { (fault : _) → HasFailed self.old fault →
+            (result ≡ Err fault) × (self.new ≡ self.old) }
+    {
         match self.going {
             Going::On => {}
             Going::AtEnd => return Ok(false),
             Going::Failed(fault) => return Err(fault),
         }
-        match self.source.entry(into, L::GREATEST, false) {
+        match self.source.entry_by::<A>(into, L::GREATEST, false) {
             Ok(Some(_)) => Ok(true),
             Ok(None) => {
                 self.going = Going::AtEnd;

@@ -4,6 +4,7 @@ ghost use Rattle.std.specs.Prelude.{IfOk, IfErr, MatchOption};
 ghost use Rattle.std.specs.Io.KnownBytes.{Keeps, Consumes, IsAtEnd};
 
 use crate::reading::{some_bytes, vector};
+use crate::text::at_hand::AtHand;
 use crate::text::fault::TextFault;
 use std::io::Read;
 
@@ -69,6 +70,40 @@ impl<R: Read> Source<R> {
         }
         self.taken += 1;
         Ok(Some(one[0]))
+    }
+
+    /// The next byte, or `None` at the end. One that is at hand is taken without an ask, and counts
+    /// as one.
+    #[inline(always)]
+    pub(crate) fn next_byte<A: AtHand<R>>(&mut self) -> Result<Option<u8>, TextFault>
+        ensures bytes { IfOk result (λ found. MatchOption found
+            (IsAtEnd (R.remaining self.old.reader)
+            × Keeps (R.remaining self.old.reader) (R.remaining self.new.reader)
+            × IsAtEnd (R.remaining self.new.reader))
+            (λ b. Consumes (R.remaining self.old.reader) (R.remaining self.new.reader) (b ∷ []))) }
+        ensures counted { IfOk result (λ found.
+            MatchOption found (self.new.taken ≡ self.old.taken) (λ b.
+            self.new.taken ≡ self.old.taken + 1)) }
+        ensures fewer { OnOk result (self.new.asks < self.old.asks) }
+        ensures no_more { self.new.asks ≤ self.old.asks }
+        ensures spends { self.old.asks ≤ self.new.asks + 1001 }
+        ensures kept { OnErr result (Keeps (R.remaining self.old.reader)
+            (R.remaining self.new.reader)) }
+        ensures same { OnErr result (self.new.taken ≡ self.old.taken) }
+        ensures fails { IfErr result IsReadFault }
+        ensures spent { IfErr result (IsSpent self.new.asks) }
+    {
+        if self.asks == 0 {
+            return Err(TextFault::Endless);
+        }
+        match A::take_byte(&mut self.reader) {
+            Some(byte) => {
+                self.asks -= 1;
+                self.taken += 1;
+                Ok(Some(byte))
+            }
+            None => self.byte(),
+        }
     }
 
     /// Takes the next `len` bytes. Memory is asked for as they come, a piece ahead.

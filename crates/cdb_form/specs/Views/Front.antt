@@ -1,0 +1,35 @@
+-- What bytes of a native text begin with.
+use Rattle.std.specs.Prelude.{List, drop, length, take, [], codes, ◌+◌, ◌++◌, ◌∷◌, ◌≡◌, ◌≤◌, ℕ}
+use Rattle.cdb_form.specs.Format.Record.{KeyValue}
+use Rattle.cdb_form.specs.Text.Native.{IsNumeral, Spells}
+use Rattle.cdb_form.specs.declared.text.front.FrontLengths.{FrontLengths}
+use Rattle.cdb_form.specs.declared.text.front.FrontNumeral.{FrontNumeral}
+
+-- a numeral with `stop` behind it
+pub record BeginsWithNumeral (stop : ℕ) (bytes : List ℕ) (n : FrontNumeral) : Type 0 where
+  pub digits : List ℕ
+  pub is : IsNumeral digits n.value
+  pub front : take n.end bytes ≡ digits ++ stop ∷ []
+  pub within : n.end ≤ length bytes
+
+-- what stands before the key of a record, whose lengths are at most `greatest`
+pub record BeginsWithLengths (greatest : ℕ) (bytes : List ℕ) (l : FrontLengths) : Type 0 where
+  pub klen : List ℕ
+  pub vlen : List ℕ
+  pub klen_is : IsNumeral klen l.klen
+  pub vlen_is : IsNumeral vlen l.vlen
+  pub key_fits : l.klen ≤ greatest
+  pub value_fits : l.vlen ≤ greatest
+  pub front : take l.end bytes ≡ codes "+" ++ klen ++ codes "," ++ vlen ++ codes ":"
+  pub within : l.end ≤ length bytes
+
+-- a key and a value of these lengths, with what stands behind each
+pub record BeginsWithBody (klen vlen : ℕ) (bytes : List ℕ) : Type 0 where
+  pub front : take (klen + vlen + 3) bytes ≡ take klen bytes ++ codes "->"
+      ++ take vlen (drop (klen + 2) bytes) ++ codes "\n"
+  pub within : klen + vlen + 3 ≤ length bytes
+
+-- n bytes that spell a record
+pub record BeginsWithRecord (greatest : ℕ) (bytes : List ℕ) (n : ℕ) (r : KeyValue) : Type 0 where
+  pub spells : Spells greatest (take n bytes) r
+  pub within : n ≤ length bytes

@@ -1,0 +1,124 @@
+// The record of a native text that some bytes begin with.
+ghost use Rattle.std.specs.Prelude.{◌≡◌, true, ◌+◌, ◌<◌, ◌≤◌, OnOk, IfOk, IfSome};
+ghost use Rattle.cdb_form.specs.Format.Record.{AreBytes};
+ghost use Rattle.cdb_form.specs.Views.Front.{BeginsWithBody, BeginsWithLengths, BeginsWithNumeral};
+ghost use Rattle.cdb_form.specs.Views.Front.{BeginsWithRecord};
+ghost use Rattle.cdb_form.specs.Views.Pairs.{key_value};
+
+use crate::record::Record;
+use std::alloc::AllocError;
+
+/// A numeral from here on takes no further digit: so much is never at hand.
+const LONG: u64 = 100_000_000;
+
+/// A numeral at the front of some bytes.
+#[derive(Clone, Copy)]
+pub(crate) struct FrontNumeral {
+    pub(crate) value: u64,
+    /// The place behind the byte that ends it.
+    pub(crate) end: usize,
+}
+
+/// The lengths of a record at the front of some bytes.
+#[derive(Clone, Copy)]
+pub(crate) struct FrontLengths {
+    pub(crate) klen: usize,
+    pub(crate) vlen: usize,
+    /// The place of the key.
+    pub(crate) end: usize,
+}
+
+/// The short numeral that some bytes begin with, with `stop` behind it.
+#[inline(always)]
+fn front_numeral(bytes: &[u8], stop: u8) -> Option<FrontNumeral>
+    ensures begins { IfSome result (BeginsWithNumeral stop bytes.now) }
+    ensures short { IfSome result (λ n. n.value < 1000000000) }
+{
+    let mut value = 0;
+    let mut place = 0;
+    while place < bytes.len() && value < LONG {
+        let byte = bytes[place];
+        match char::from(byte).to_digit(10) {
+            Some(digit) => value = value * 10 + u64::from(digit),
+            None => {
+                return if byte == stop && 0 < place {
+                    Some(FrontNumeral {
+                        value,
+                        end: place + 1,
+                    })
+                } else {
+                    None
+                };
+            }
+        }
+        place += 1;
+    }
+    None
+}
+
+/// The lengths, neither above `greatest`, of the record that some bytes begin with.
+#[inline(always)]
+fn front_lengths(bytes: &[u8], greatest: u64) -> Option<FrontLengths>
+    ensures begins { IfSome result (BeginsWithLengths greatest bytes.now) }
+    ensures short { IfSome result (λ l. (l.klen < 1000000000) × (l.vlen < 1000000000)) }
+{
+    if bytes.is_empty() || bytes[0] != b'+' {
+        return None;
+    }
+    let klen = front_numeral(&bytes[1..], b',')?;
+    let at = 1 + klen.end;
+    let vlen = front_numeral(&bytes[at..], b':')?;
+    if greatest < klen.value || greatest < vlen.value {
+        return None;
+    }
+    Some(FrontLengths {
+        klen: klen.value as usize,
+        vlen: vlen.value as usize,
+        end: at + vlen.end,
+    })
+}
+
+/// Whether a key and a value of these lengths stand at the front of some bytes, with their marks.
+#[inline(always)]
+fn has_body(bytes: &[u8], klen: usize, vlen: usize) -> bool
+    requires { klen + vlen < 2000000000 }
+    ensures { result ≡ true → BeginsWithBody klen vlen bytes.now }
+{
+    if bytes.len() < klen + vlen + 3 {
+        return false;
+    }
+    if bytes[klen] != b'-' || bytes[klen + 1] != b'>' {
+        return false;
+    }
+    bytes[klen + 2 + vlen] == b'\n'
+}
+
+/// Copies bytes over what a vector holds.
+#[inline(always)]
+fn copy_over(bytes: &[u8], into: &mut Vec<u8>) -> Result<(), AllocError>
+    ensures holds { OnOk result (into.new.items ≡ bytes.now) }
+    ensures are { AreBytes into.new.items }
+{
+    into.clear();
+    into.extend_from_slice(bytes)
+}
+
+/// Copies the record that some bytes begin with over another one, and answers how many bytes spell
+/// it. There are none where no whole record is found, and then the record holds anything.
+#[inline(always)]
+pub fn front_record(bytes: &[u8], greatest: u64, into: &mut Record) -> Result<usize, AllocError>
+    ensures { IfOk result (λ n. 0 < n →
+        BeginsWithRecord greatest bytes.now n (key_value into.new)) }
+{
+    let Some(lengths) = front_lengths(bytes, greatest) else {
+        return Ok(0);
+    };
+    let (klen, vlen) = (lengths.klen, lengths.vlen);
+    let body = &bytes[lengths.end..];
+    if !has_body(body, klen, vlen) {
+        return Ok(0);
+    }
+    copy_over(&body[..klen], &mut into.key)?;
+    copy_over(&body[klen + 2..klen + 2 + vlen], &mut into.value)?;
+    Ok(lengths.end + (klen + vlen + 3))
+}
