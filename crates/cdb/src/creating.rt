@@ -8,7 +8,9 @@ use cdb_files::{Builder, RealNames, ReplaceFault, replace_file};
 use cdb_form::{Width, write_whole};
 use cdb_make::Mode;
 use cdb_store::{BufferedStore, FileStore, MemStore, Store};
-use cdb_tool::{Fault, Input, MakeOptions, Output, Style, flushed, make_bytes, make_run_by};
+use cdb_tool::{
+    Fault, InWindow, Input, MakeOptions, Output, Style, flushed, make_bytes_by, make_run_by,
+};
 use std::alloc::Global;
 use std::fs::File;
 use std::io::{Read, Write};
@@ -90,7 +92,8 @@ where
 {
     let alloc = rt.alloc();
     if creation.name == NO_FILE && creation.is_plain() {
-        return make_bytes::<L, _, O>(alloc, Input::new(alloc, input, WINDOW)?, output);
+        let input = Input::new(alloc, input, WINDOW)?;
+        return make_bytes_by::<L, _, O, InWindow>(alloc, input, output);
     }
     let base = base_of(rt, creation.base)?;
     let contents = Contents {

@@ -1,6 +1,6 @@
 // The inputs of a create, of which several may be standard input.
 use crate::files::opened;
-use cdb_form::{AtHand, Kind};
+use cdb_form::{AtHand, Kind, Record};
 use cdb_tool::{Fault, InWindow, Input};
 use std::alloc::{AllocError, Global};
 use std::cell::RefCell;
@@ -53,6 +53,33 @@ impl<I: Read> AtHand<Source<I>> for InSource {
             Source::File(input) => InWindow::take_run(input, kind, most, into),
             Source::Standard(shared) => match shared.try_borrow_mut() {
                 Ok(mut input) => InWindow::take_run(&mut *input, kind, most, into),
+                Err(_) => Ok(0),
+            },
+        }
+    }
+
+    #[inline(always)]
+    fn take_byte(source: &mut Source<I>) -> Option<u8> {
+        match source {
+            Source::File(input) => InWindow::take_byte(input),
+            Source::Standard(shared) => match shared.try_borrow_mut() {
+                Ok(mut input) => InWindow::take_byte(&mut *input),
+                Err(_) => None,
+            },
+        }
+    }
+
+    #[inline(always)]
+    fn take_record(
+        source: &mut Source<I>,
+        greatest: u64,
+        most: u64,
+        into: &mut Record,
+    ) -> Result<u64, AllocError> {
+        match source {
+            Source::File(input) => InWindow::take_record(input, greatest, most, into),
+            Source::Standard(shared) => match shared.try_borrow_mut() {
+                Ok(mut input) => InWindow::take_record(&mut *input, greatest, most, into),
                 Err(_) => Ok(0),
             },
         }

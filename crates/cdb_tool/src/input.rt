@@ -1,10 +1,11 @@
 // Input through a window, from which single bytes come fast.
-ghost use Rattle.std.specs.Prelude.{◌≡◌, ℕ, ◌+◌, ◌<◌, ◌≤◌, [], length, take, min, IfOk, OnOk};
-ghost use Rattle.std.specs.Prelude.{OnErr, vec_len};
+ghost use Rattle.std.specs.Prelude.{◌≡◌, ℕ, ◌+◌, ◌<◌, ◌≤◌, [], ◌∷◌, length, take, min, IfOk, OnOk};
+ghost use Rattle.std.specs.Prelude.{MatchOption, OnErr, vec_len};
 ghost use Rattle.std.specs.Io.KnownBytes.{Keeps, Consumes, IsAtEnd};
-ghost use Rattle.cdb_form.specs.Views.AtHand.{MovesRun};
+ghost use Rattle.cdb_form.specs.Views.AtHand.{MovesRecord, MovesRun};
+ghost use Rattle.cdb_form.specs.Views.Pairs.{key_value};
 
-use cdb_form::{AtHand, Kind};
+use cdb_form::{AtHand, Kind, Record, front_record};
 use std::alloc::{AllocError, Global};
 use std::io::{self, ErrorKind, Read};
 
@@ -115,6 +116,47 @@ impl<R: Read> Input<R> {
         self.start += run;
         Ok(run as u64)
     }
+
+    /// Gives the next byte of the window.
+    #[inline(always)]
+    fn give_byte(&mut self) -> Option<u8>
+        ensures { MatchOption result (Keeps (input_bytes R.remaining self.old)
+            (input_bytes R.remaining self.new)) (λ b. Consumes (input_bytes R.remaining self.old)
+            (input_bytes R.remaining self.new) (b ∷ [])) }
+    {
+        if self.start == self.end {
+            return None;
+        }
+        let byte = self.window[self.start];
+        self.start += 1;
+        Some(byte)
+    }
+
+    /// Moves the record that the window begins with over another record, if at most `most` bytes
+    /// spell it, and answers how many. There are none where the window has no whole one, and where
+    /// memory is refused none are moved.
+    #[inline(always)]
+    fn give_record(
+        &mut self,
+        greatest: u64,
+        most: u64,
+        into: &mut Record,
+    ) -> Result<u64, AllocError>
+        ensures moved { IfOk result (λ n. 0 < n → MovesRecord greatest
+            (input_bytes R.remaining self.old) (input_bytes R.remaining self.new) n
+            (key_value into.new)) }
+        ensures most { IfOk result (λ n. n ≤ most) }
+        ensures none { IfOk result (λ n. n ≡ 0 → Keeps (input_bytes R.remaining self.old)
+            (input_bytes R.remaining self.new)) }
+        ensures kept { OnErr result (Keeps (input_bytes R.remaining self.old)
+            (input_bytes R.remaining self.new)) }
+    {
+        let held = ((self.end - self.start) as u64).min(most) as usize;
+        let window = &self.window[self.start..self.start + held];
+        let taken = front_record(window, greatest, into)?;
+        self.start += taken;
+        Ok(taken as u64)
+    }
 }
 
 impl<R: Read> Read for Input<R> {
@@ -155,5 +197,20 @@ impl<R: Read> AtHand<Input<R>> for InWindow {
         into: &mut Vec<u8>,
     ) -> Result<u64, AllocError> {
         reader.give_run(kind, most, into)
+    }
+
+    #[inline(always)]
+    fn take_byte(reader: &mut Input<R>) -> Option<u8> {
+        reader.give_byte()
+    }
+
+    #[inline(always)]
+    fn take_record(
+        reader: &mut Input<R>,
+        greatest: u64,
+        most: u64,
+        into: &mut Record,
+    ) -> Result<u64, AllocError> {
+        reader.give_record(greatest, most, into)
     }
 }

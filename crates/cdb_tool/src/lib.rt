@@ -22,7 +22,7 @@ pub use runs::flushed::flushed;
 pub use runs::list::{list_from, list_run};
 pub use runs::load::{load, load_from};
 pub use runs::make::{make_run, make_run_by, put_inputs};
-pub use runs::make_bytes::{make_bytes, make_from};
+pub use runs::make_bytes::{make_bytes, make_bytes_by, make_from};
 pub use runs::query::{query_from, query_run};
 pub use runs::stats::stats_run;
 pub use status::{BAD_USAGE, DONE, FAILED, status_of};

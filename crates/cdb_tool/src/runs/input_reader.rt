@@ -38,7 +38,7 @@ impl<R: Read, L: Width> InputReader<R, L> {
         ensures fails { IfErr result (Fails L.GREATEST R.remaining self.old self.new) }
     {
         match self {
-            InputReader::Native(text) => text.read_into(into),
+            InputReader::Native(text) => text.read_by::<A>(into),
             InputReader::Map(text) => text.read_by::<A>(into),
         }
     }

@@ -58,7 +58,7 @@ impl<R: Read, L: Width> ItemReader<R, L> {
                 Ok(false) => Ok(None),
                 Err(fault) => Err(fault),
             },
-            ItemReader::Changes(items) => items.read_into(into),
+            ItemReader::Changes(items) => items.read_by::<A>(into),
         }
     }
 }

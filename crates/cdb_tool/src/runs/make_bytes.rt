@@ -9,7 +9,7 @@ ghost use Rattle.cdb_tool.specs.Runs.MakeBytes.{IsNewText, ReadsFitting, NotRead
 
 use crate::fault::Fault;
 use crate::runs::flushed::flushed;
-use cdb_form::{Record, TextReader, Width, write_whole};
+use cdb_form::{AtHand, NoneAtHand, Record, TextReader, Width, write_whole};
 use cdb_make::{Maker, Mode};
 use cdb_store::MemStore;
 use std::alloc::Global;
@@ -31,7 +31,7 @@ fn maker_in_memory<L: Width>(alloc: Global) -> Result<Maker<MemStore, L>, Fault>
 }
 
 /// The records of a text, up to its end, where their file isn't too large.
-fn fitting_records<L: Width, R: Read>(
+fn fitting_records<L: Width, R: Read, A: AtHand<R>>(
     alloc: Global,
     text: &mut TextReader<R, L>,
 ) -> Result<Maker<MemStore, L>, Fault>
@@ -48,7 +48,7 @@ fn fitting_records<L: Width, R: Read>(
         value: Vec::new(alloc),
     };
     loop {
-        match text.read_into(&mut record) {
+        match text.read_by::<A>(&mut record) {
             Err(fault) => return Err(Fault::of_text(INPUT, fault)),
             Ok(false) => return Ok(maker),
             Ok(true) => {}
@@ -71,7 +71,7 @@ fn file_in_memory<L: Width>(maker: Maker<MemStore, L>) -> Result<Vec<u8>, Fault>
 }
 
 /// Writes the file of a text, which the writer may keep in a buffer.
-fn make_unflushed<L: Width, R: Read, W: Write>(
+fn make_unflushed<L: Width, R: Read, W: Write, A: AtHand<R>>(
     alloc: Global,
     text: &mut TextReader<R, L>,
     w: &mut W,
@@ -80,10 +80,25 @@ fn make_unflushed<L: Width, R: Read, W: Write>(
     ensures { Makes L.WORD L.GREATEST (unread R.remaining text.old) (unread R.remaining text.new)
         (W.contents w.old) (W.contents w.new) result }
 {
-    let maker = fitting_records::<L, R>(alloc, text)?;
+    let maker = fitting_records::<L, R, A>(alloc, text)?;
     let file = file_in_memory::<L>(maker)?;
     write_whole(w, &file)?;
     Ok(())
+}
+
+/// Makes the database file of one native text, of which nothing was read yet, and flushes the writer
+/// last.
+fn make_text<L: Width, R: Read, W: Write, A: AtHand<R>>(
+    alloc: Global,
+    text: &mut TextReader<R, L>,
+    w: &mut W,
+) -> Result<(), Fault>
+    requires { IsNewText text.old }
+    ensures { Makes L.WORD L.GREATEST (unread R.remaining text.old) (unread R.remaining text.new)
+        (W.contents w.old) (W.contents w.new) result }
+{
+    let made = make_unflushed::<L, R, W, A>(alloc, text, w);
+    flushed(w, made)
 }
 
 /// Makes the database file of one native text, of which nothing was read yet.
@@ -99,8 +114,7 @@ pub fn make_from<L: Width, R: Read, W: Write>(
     ensures { Makes L.WORD L.GREATEST (unread R.remaining text.old) (unread R.remaining text.new)
         (W.contents w.old) (W.contents w.new) result }
 {
-    let made = make_unflushed::<L, R, W>(alloc, text, w);
-    flushed(w, made)
+    make_text::<L, R, W, NoneAtHand>(alloc, text, w)
 }
 
 /// Makes the database file of one native text, in memory, and writes it whole.
@@ -123,6 +137,18 @@ pub fn make_bytes<L: Width, R: Read + Drop, W: Write>(
     ensures { (rest : Option (List ℕ)) × Makes L.WORD L.GREATEST (R.remaining reader) rest
         (W.contents w.old) (W.contents w.new) result }
 {
+    make_bytes_by::<L, R, W, NoneAtHand>(alloc, reader, w)
+}
+
+/// Does what `make_bytes` does, and takes bytes at hand without an ask. Each counts as an ask.
+pub fn make_bytes_by<L: Width, R: Read + Drop, W: Write, A: AtHand<R>>(
+    alloc: Global,
+    reader: R,
+    w: &mut W,
+) -> Result<(), Fault>
+    ensures { (rest : Option (List ℕ)) × Makes L.WORD L.GREATEST (R.remaining reader) rest
+        (W.contents w.old) (W.contents w.new) result }
+{
     let mut text = TextReader::<R, L>::new(alloc, reader);
-    make_from::<L, R, W>(alloc, &mut text, w)
+    make_text::<L, R, W, A>(alloc, &mut text, w)
 }
