@@ -1,5 +1,5 @@
 // Bytes to a writer.
-ghost use Rattle.std.specs.Prelude.{codes, ◌+◌, ◌<◌, ◌≤◌, length, take, flat_map, IfOk};
+ghost use Rattle.std.specs.Prelude.{codes, ◌+◌, ◌<◌, ◌≤◌, length, take, flat_map, ◌≡◌, IfOk, IfSome};
 ghost use Rattle.std.specs.Prelude.{OnOk, OnErr};
 ghost use Rattle.std.specs.Io.KnownBytes.{Appends, Keeps};
 ghost use Rattle.cdb_form.specs.Views.KnownBytes.{AppendsFront};
@@ -8,6 +8,9 @@ use crate::reading::RETRIES;
 use std::error::Error;
 use std::fmt;
 use std::io::{ErrorKind, Write};
+
+/// How many bytes pieces have at most that are written as one.
+const LINE: usize = 256;
 
 /// A writer failed, or took nothing, or said that it took more than it was offered.
 #[derive(Clone, Copy, Debug, PartialEq, Eq)]
@@ -62,8 +65,26 @@ pub fn write_whole<W: Write>(w: &mut W, bytes: &[u8]) -> Result<(), OutFault>
     Ok(())
 }
 
-/// Writes one piece after the other. After an `OutFault` the writer holds a prefix of them all.
-pub fn write_pieces<W: Write>(w: &mut W, pieces: &[&[u8]]) -> Result<(), OutFault>
+/// Joins pieces in a line, if it has room for them all, and answers how many bytes they have.
+#[inline(always)]
+fn joined(pieces: &[&[u8]], line: &mut [u8]) -> Option<usize>
+    ensures within { IfSome result (λ n. n ≤ length line.new) }
+    ensures bytes { IfSome result (λ n. take n line.new ≡ flat_map (λ p. p.now) pieces.now) }
+{
+    let mut end = 0;
+    for piece in pieces {
+        if line.len() - end < piece.len() {
+            return None;
+        }
+        line[end..end + piece.len()].copy_from_slice(piece);
+        end += piece.len();
+    }
+    Some(end)
+}
+
+/// Writes one piece after the other, each by a call of the writer.
+#[inline(never)]
+fn write_each<W: Write>(w: &mut W, pieces: &[&[u8]]) -> Result<(), OutFault>
     ensures ok { OnOk result (Appends (W.contents w.old) (W.contents w.new) (flat_map (λ p.
         p.now) pieces.now)) }
     ensures err { OnErr result (AppendsFront (W.contents w.old) (W.contents w.new) (flat_map (λ p.
@@ -73,6 +94,22 @@ pub fn write_pieces<W: Write>(w: &mut W, pieces: &[&[u8]]) -> Result<(), OutFaul
         write_whole(w, piece)?;
     }
     Ok(())
+}
+
+/// Writes one piece after the other. After an `OutFault` the writer holds a prefix of them all.
+#[inline(always)]
+pub fn write_pieces<W: Write>(w: &mut W, pieces: &[&[u8]]) -> Result<(), OutFault>
+    ensures ok { OnOk result (Appends (W.contents w.old) (W.contents w.new) (flat_map (λ p.
+        p.now) pieces.now)) }
+    ensures err { OnErr result (AppendsFront (W.contents w.old) (W.contents w.new) (flat_map (λ p.
+        p.now) pieces.now)) }
+{
+    // Short pieces go as one, since each is a call of the writer.
+    let mut line = [0u8; LINE];
+    match joined(pieces, &mut line) {
+        Some(end) => write_whole(w, &line[..end]),
+        None => write_each(w, pieces),
+    }
 }
 
 /// Flushes a writer. It is called again if a signal interrupts it, as in a write.
