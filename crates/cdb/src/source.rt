@@ -3,33 +3,74 @@ use crate::files::opened;
 use cdb_form::{AtHand, Kind, Record};
 use cdb_tool::{Fault, InWindow, Input};
 use std::alloc::{AllocError, Global};
-use std::cell::RefCell;
+use std::cell::{RefCell, RefMut};
 use std::fs::File;
 use std::io::{self, Read};
 use std::rc::Rc;
 use std::rt::Files;
 
-/// How many bytes the window of a stream has, and the buffer of a file.
+/// How many bytes the window of the inputs has, and the buffer of a file that is written.
 pub(crate) const WINDOW: usize = 65536;
 
 /// The name of standard input.
 pub(crate) const STANDARD_INPUT: &str = "-";
 
+/// What is read through the window of all files: the file in hand, once there is one.
+#[derive(Drop)]
+pub(crate) struct InHand(Option<File>);
+
+impl Read for InHand {
+    #[inline(always)]
+    fn read(&mut self, buf: &mut [u8]) -> io::Result<usize> {
+        match &mut self.0 {
+            Some(file) => file.read(buf),
+            None => Ok(0),
+        }
+    }
+}
+
+/// A window, which several inputs have one after the other.
+type Shared<R> = Rc<RefCell<Input<R>>>;
+
+/// A file, which is opened before the inputs are read. The inputs are read in turn, so their files
+/// have one window between them.
+#[derive(Drop)]
+pub(crate) struct Opened {
+    /// The file, until it is the one in hand.
+    file: Option<File>,
+    window: Shared<InHand>,
+}
+
+impl Opened {
+    /// The window, through which this file is read from then on.
+    #[inline(always)]
+    fn in_hand(&mut self) -> Option<RefMut<'_, Input<InHand>>> {
+        let mut window = self.window.try_borrow_mut().ok()?;
+        if let Some(file) = self.file.take() {
+            window.restart(InHand(Some(file)));
+        }
+        Some(window)
+    }
+}
+
 /// An input of a create.
 #[derive(Drop)]
 pub(crate) enum Source<I> {
     /// A file.
-    File(Input<File>),
+    File(Opened),
     /// Standard input. All inputs that are have one window, so the next goes on where the one
     /// before it stopped.
-    Standard(Rc<RefCell<Input<I>>>),
+    Standard(Shared<I>),
 }
 
 impl<I: Read> Read for Source<I> {
     #[inline(always)]
     fn read(&mut self, buf: &mut [u8]) -> io::Result<usize> {
         match self {
-            Source::File(input) => input.read(buf),
+            Source::File(opened) => match opened.in_hand() {
+                Some(mut input) => input.read(buf),
+                None => Err(io::Error::other("the window is in use")),
+            },
             Source::Standard(shared) => match shared.try_borrow_mut() {
                 Ok(mut input) => input.read(buf),
                 Err(_) => Err(io::Error::other("standard input is in use")),
@@ -50,7 +91,10 @@ impl<I: Read> AtHand<Source<I>> for InSource {
         into: &mut Vec<u8>,
     ) -> Result<u64, AllocError> {
         match source {
-            Source::File(input) => InWindow::take_run(input, kind, most, into),
+            Source::File(opened) => match opened.in_hand() {
+                Some(mut input) => InWindow::take_run(&mut *input, kind, most, into),
+                None => Ok(0),
+            },
             Source::Standard(shared) => match shared.try_borrow_mut() {
                 Ok(mut input) => InWindow::take_run(&mut *input, kind, most, into),
                 Err(_) => Ok(0),
@@ -61,7 +105,7 @@ impl<I: Read> AtHand<Source<I>> for InSource {
     #[inline(always)]
     fn take_byte(source: &mut Source<I>) -> Option<u8> {
         match source {
-            Source::File(input) => InWindow::take_byte(input),
+            Source::File(opened) => InWindow::take_byte(&mut *opened.in_hand()?),
             Source::Standard(shared) => match shared.try_borrow_mut() {
                 Ok(mut input) => InWindow::take_byte(&mut *input),
                 Err(_) => None,
@@ -77,7 +121,10 @@ impl<I: Read> AtHand<Source<I>> for InSource {
         into: &mut Record,
     ) -> Result<u64, AllocError> {
         match source {
-            Source::File(input) => InWindow::take_record(input, greatest, most, into),
+            Source::File(opened) => match opened.in_hand() {
+                Some(mut input) => InWindow::take_record(&mut *input, greatest, most, into),
+                None => Ok(0),
+            },
             Source::Standard(shared) => match shared.try_borrow_mut() {
                 Ok(mut input) => InWindow::take_record(&mut *input, greatest, most, into),
                 Err(_) => Ok(0),
@@ -86,18 +133,9 @@ impl<I: Read> AtHand<Source<I>> for InSource {
     }
 }
 
-/// Opens an input.
-fn source_of<R: Files<File = File>, I: Read + Drop>(
-    rt: &R,
-    alloc: Global,
-    name: &str,
-    shared: &Rc<RefCell<Input<I>>>,
-) -> Result<Source<I>, Fault> {
-    if name == STANDARD_INPUT {
-        return Ok(Source::Standard(Rc::clone(shared)?));
-    }
-    let file = opened(rt, name)?;
-    Ok(Source::File(Input::new(alloc, file, WINDOW)?))
+/// A window over a reader, for several inputs.
+fn shared<R: Read + Drop>(alloc: Global, reader: R) -> Result<Shared<R>, Fault> {
+    Ok(Rc::new(alloc, RefCell::new(Input::new(alloc, reader, WINDOW)?))?)
 }
 
 /// Opens the inputs of these names. No name is standard input, as `-` is.
@@ -107,14 +145,22 @@ pub(crate) fn sources_of<R: Files<File = File>, I: Read + Drop>(
     names: &[String],
     input: I,
 ) -> Result<Vec<Source<I>>, Fault> {
-    let window = RefCell::new(Input::new(alloc, input, WINDOW)?);
-    let shared = Rc::new(alloc, window)?;
     let mut sources = Vec::new(alloc);
     if names.is_empty() {
-        sources.push(Source::Standard(Rc::clone(&shared)?))?;
+        sources.push(Source::Standard(shared(alloc, input)?))?;
+        return Ok(sources);
     }
+    let standard = shared(alloc, input)?;
+    let files = shared(alloc, InHand(None))?;
     for name in names {
-        let source = source_of(rt, alloc, name.as_str(), &shared)?;
+        let source = if name.as_str() == STANDARD_INPUT {
+            Source::Standard(Rc::clone(&standard)?)
+        } else {
+            Source::File(Opened {
+                file: Some(opened(rt, name.as_str())?),
+                window: Rc::clone(&files)?,
+            })
+        };
         sources.push(source)?;
     }
     Ok(sources)

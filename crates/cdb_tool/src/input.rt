@@ -46,6 +46,19 @@ impl<R: Read> Input<R> {
         })
     }
 
+    /// Goes on with another reader, through the same window. What the window has of the one before is
+    /// let go.
+    pub fn restart(&mut self, reader: R)
+    where
+        R: Drop,
+        ensures bytes { input_bytes R.remaining self.new ≡ R.remaining reader }
+        ensures empty { window_of self.new ≡ [] }
+    {
+        self.reader = reader;
+        self.start = 0;
+        self.end = 0;
+    }
+
     /// Fills the empty window, by one ask of the reader.
     #[cold]
     #[inline(never)]
