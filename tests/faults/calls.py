@@ -39,6 +39,7 @@ TESTS = {
         "a_list_tells_refused_memory",
         "a_list_of_a_map_tells_refused_memory",
         "a_load_tells_refused_memory",
+        "inputs_tell_refused_memory",
     ],
 }
 ALIKE = {

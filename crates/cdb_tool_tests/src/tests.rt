@@ -1,10 +1,13 @@
 // Tests of what no contract says: files and lines worked out by hand, and faults of readers and
 // writers.
 mod amending;
+mod bad_bytes;
+mod bad_file;
 mod checking;
 mod counting;
 mod dumping;
 mod fakes;
+mod halting;
 mod lines;
 mod listing;
 mod loading;

@@ -1,5 +1,6 @@
 // Runs whose asks for memory `tests/faults/calls.py` refuses, each in turn. It reads what a test
 // prints: whether the refusal came to the run, to what the run is made on, or to neither.
+use super::halting::put_in_memory;
 use super::worked::{Run, bytes_of};
 use cdb_form::Narrow;
 use cdb_tool::{Fault, Style, list_run, load};
@@ -104,6 +105,18 @@ fn a_load_tells_refused_memory(rt: HostRuntime) -> Result<(), Fail> {
             Err(Fault::NoMemory) if loads(rt.alloc(), &file) == Ok(true) => Came::NoMemory,
             _ => Came::Wrong,
         },
+    };
+    tell(&rt, came)
+}
+
+#[test]
+fn inputs_tell_refused_memory(rt: HostRuntime) -> Result<(), Fail> {
+    let came = match put_in_memory(rt.alloc()) {
+        None => Came::NoInputs,
+        Some((Ok(()), 4, true)) => Came::Whole,
+        Some((Err(Fault::NoMemory), _, true))
+            if put_in_memory(rt.alloc()) == Some((Ok(()), 4, true)) => { Came::NoMemory }
+        Some(_) => Came::Wrong,
     };
     tell(&rt, came)
 }

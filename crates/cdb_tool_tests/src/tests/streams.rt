@@ -1,6 +1,6 @@
 // The windows of the program's input and output.
 use super::fakes::{CountingReader, FakeReader, FlakyWriter, FullWriter, NotingWriter, SlowWriter};
-use cdb_form::{flush_whole, write_whole};
+use cdb_form::{InFault, flush_whole, read_whole, write_whole};
 use cdb_tool::{Input, Output};
 use std::alloc::{AllocError, Global};
 use std::io::{ErrorKind, Read, Write};
@@ -70,6 +70,44 @@ fn an_interrupted_input_reports_it(rt: HostRuntime) -> Result<(), Fail> {
         assert!(rt;
             reports_an_interrupt(rt.alloc(), size, given)?,
             "{size} bytes"
+        );
+    }
+    Ok(())
+}
+
+/// Whether all that a reader gives through a window of so many bytes is this, or it fails.
+fn reads_whole(
+    alloc: Global,
+    interrupts: u64,
+    size: usize,
+    want: Result<&[u8], InFault>,
+) -> Result<bool, AllocError> {
+    let reader = FakeReader {
+        interrupts,
+        text: b"abcde",
+        fails: false,
+    };
+    let mut input = Input::new(alloc, reader, size.max(1))?;
+    let mut given = Vec::new(alloc);
+    Ok(match read_whole(&mut input, &mut given, 100) {
+        Ok(_) => want == Ok(given.as_slice()),
+        Err(fault) => want == Err(fault),
+    })
+}
+
+#[test]
+fn an_input_is_interrupted_1000_times_in_a_row(rt: HostRuntime) -> Result<(), Fail> {
+    // Reads that go past a window of 4 bytes, and those that fill one of 4096.
+    for size in [4, 4096] {
+        let text: Result<&[u8], InFault> = Ok(b"abcde");
+        assert!(rt;
+            reads_whole(rt.alloc(), 1000, size, text)?,
+            "1000 and {size}"
+        );
+        let failed = Err(InFault::Failed);
+        assert!(rt;
+            reads_whole(rt.alloc(), 1001, size, failed)?,
+            "1001 and {size}"
         );
     }
     Ok(())
