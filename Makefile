@@ -57,6 +57,7 @@ test:
 	@if command -v $(firstword $(CC)) > /dev/null; then \
 		$(MAKE) -s bin/refuse.so && \
 		$(PYTHON) tests/faults/run.py crates/cdb/out/cdb bin/refuse.so memory && \
+		$(PYTHON) tests/faults/memory.py crates/cdb/out/cdb bin/refuse.so && \
 		$(PYTHON) tests/faults/closed.py crates/cdb/out/cdb bin/refuse.so && \
 		$(PYTHON) tests/faults/calls.py bin/refuse.so; \
 	else \

@@ -4,8 +4,8 @@
  * Asks for memory are counted from 1, from the time when the library is loaded on; or calls that open,
  * read, write, measure, cut, sync, rename or remove a file, where REFUSE_CALLS is set in the
  * environment. Refused are those from REFUSE_FIRST to REFUSE_LAST, where these are set there. The
- * count stands in the file that REFUSE_COUNT names, which is mapped, so that it is there also after a
- * crash.
+ * count stands in the file that REFUSE_COUNT names, and after it how many bytes were asked for. The
+ * file is mapped, so that both are there also after a crash.
  */
 #define _GNU_SOURCE
 #include <errno.h>
@@ -23,7 +23,7 @@ extern void *__libc_calloc(size_t items, size_t size);
 extern void *__libc_realloc(void *old, size_t size);
 extern void *__libc_memalign(size_t alignment, size_t size);
 
-static unsigned long early, *asks = &early;
+static unsigned long early[2], *asks = early;
 static unsigned long first, last;
 static int are_calls;
 
@@ -39,7 +39,7 @@ __attribute__((constructor)) static void begin(void)
 	int file = path ? syscall(SYS_openat, AT_FDCWD, path, O_RDWR) : -1;
 	void *counted = MAP_FAILED;
 	if (file >= 0) {
-		counted = mmap(NULL, sizeof *asks, PROT_READ | PROT_WRITE, MAP_SHARED, file, 0);
+		counted = mmap(NULL, sizeof early, PROT_READ | PROT_WRITE, MAP_SHARED, file, 0);
 		close(file);
 	}
 	if (counted == MAP_FAILED)
@@ -56,9 +56,12 @@ static int is_among(void)
 	return *asks >= first && *asks <= last;
 }
 
-static int is_refused(void)
+static int is_refused(size_t size)
 {
-	if (are_calls || !is_among())
+	if (are_calls)
+		return 0;
+	asks[1] += size;
+	if (!is_among())
 		return 0;
 	errno = ENOMEM;
 	return 1;
@@ -135,32 +138,32 @@ int statx(int folder, const char *path, int flags, unsigned int mask, struct sta
 
 void *malloc(size_t size)
 {
-	return is_refused() ? NULL : __libc_malloc(size);
+	return is_refused(size) ? NULL : __libc_malloc(size);
 }
 
 void *calloc(size_t items, size_t size)
 {
-	return is_refused() ? NULL : __libc_calloc(items, size);
+	return is_refused(items * size) ? NULL : __libc_calloc(items, size);
 }
 
 void *realloc(void *old, size_t size)
 {
-	return is_refused() ? NULL : __libc_realloc(old, size);
+	return is_refused(size) ? NULL : __libc_realloc(old, size);
 }
 
 void *memalign(size_t alignment, size_t size)
 {
-	return is_refused() ? NULL : __libc_memalign(alignment, size);
+	return is_refused(size) ? NULL : __libc_memalign(alignment, size);
 }
 
 void *aligned_alloc(size_t alignment, size_t size)
 {
-	return is_refused() ? NULL : __libc_memalign(alignment, size);
+	return is_refused(size) ? NULL : __libc_memalign(alignment, size);
 }
 
 int posix_memalign(void **into, size_t alignment, size_t size)
 {
-	void *given = is_refused() ? NULL : __libc_memalign(alignment, size);
+	void *given = is_refused(size) ? NULL : __libc_memalign(alignment, size);
 	if (given == NULL)
 		return ENOMEM;
 	*into = given;

@@ -18,11 +18,17 @@ class Refusing:
     def run(self, words, stdin, first=0, last=0, folder=None, closed=()):
         """What it left, with the asks from the first to the last refused, and how many it made. Some of
         its standard streams may be closed.
+        """
+        done, asks, _ = self.measure(words, stdin, first, last, folder, closed)
+        return done, asks
+
+    def measure(self, words, stdin, first=0, last=0, folder=None, closed=()):
+        """What `run` gives, and for how many bytes of memory it asked.
 
         It reads a file and no pipe, so that each run reads as much at once.
         """
         with tempfile.NamedTemporaryFile() as count, tempfile.TemporaryFile() as given:
-            count.write(bytes(struct.calcsize("L")))
+            count.write(bytes(struct.calcsize("2L")))
             count.flush()
             given.write(stdin)
             given.seek(0)
@@ -44,5 +50,5 @@ class Refusing:
                 timeout=60,
             )
             with open(count.name, "rb") as counted:
-                (asks,) = struct.unpack("L", counted.read())
-        return done, asks
+                asks, size = struct.unpack("2L", counted.read())
+        return done, asks, size

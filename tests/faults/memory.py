@@ -1,0 +1,111 @@
+#!/usr/bin/env python3
+"""Counts the asks of the program for memory, and their bytes.
+
+    tests/faults/memory.py PROGRAM LIBRARY
+
+The library is refuse.c, built to be loaded ahead of the C library; it refuses nothing here. The two
+runs in a row of ALIKE make as many asks, of as many bytes. Each run of BOUNDED makes no more asks and
+asks for no more bytes than its row says. A vector that grows asks for twice as much each time, so
+all its asks together are for less than four times what it holds in the end.
+"""
+
+import os
+import resource
+import sys
+import tempfile
+
+from commands import Command
+from refusing import Refusing
+
+from files import file_of, text_of
+
+MILLION = 1_000_000
+LONG = 64 * MILLION
+# Two windows of 64 KiB, and what the program asks for before it does anything.
+SMALL = MILLION
+
+
+def with_value(size):
+    """A database with a value of so many bytes."""
+    return file_of([(b"key", b"v" * size), (b"one", b"Hello")])
+
+
+def records(count):
+    """So many records, with keys and values of the same lengths."""
+    return [(b"key %07d" % n, b"v" * 100) for n in range(count)]
+
+
+def words(command, *names):
+    """A command on the file x, with names behind it."""
+    return [command, "x", *names]
+
+
+def of_file(given, file):
+    """A run that reads the file x."""
+    return Command(given, b"", {"x": file})
+
+
+SHORT_VALUE, LONG_VALUE = with_value(1), with_value(LONG)
+FEW, MANY = file_of(records(2_000)), file_of(records(20_000))
+# What does not depend on the length of a value, or on how many records there are.
+ALIKE = {
+    "a list reads no value": [of_file(words("-l"), it) for it in (SHORT_VALUE, LONG_VALUE)],
+    "a list of standard input": [Command(["-l"], it) for it in (SHORT_VALUE, LONG_VALUE)],
+    "a check keeps no value": [of_file(words("-k"), it) for it in (SHORT_VALUE, LONG_VALUE)],
+    "statistics keep nothing": [of_file(words("-s"), it) for it in (SHORT_VALUE, LONG_VALUE)],
+    "a query copies its value": [of_file(words("-q", "key"), it) for it in (SHORT_VALUE, LONG_VALUE)],
+    "a dump keeps one record": [of_file(words("-d"), it) for it in (FEW, MANY)],
+    "a list keeps one key": [of_file(words("-l"), it) for it in (FEW, MANY)],
+    "statistics of many records": [of_file(words("-s"), it) for it in (FEW, MANY)],
+}
+# A run, the most asks, and the most bytes.
+BOUNDED = {
+    "a list": (of_file(words("-l"), LONG_VALUE), 200, SMALL),
+    "a dump of a long value": (of_file(words("-d"), LONG_VALUE), 200, 4 * LONG + SMALL),
+    "a check of many records": (of_file(words("-k"), MANY), 10_000, 4 * 13 * 20_000 + SMALL),
+    "a load of a short database": (Command(["-s"], SHORT_VALUE), 200, SMALL),
+    "a load of a long database": (Command(["-s"], LONG_VALUE), 200, 4 * LONG + SMALL),
+    "a create of many records": (Command(["-c", "x"], text_of(records(20_000))), 10_000, 4 * 13 * 20_000 + 2 * SMALL),
+}
+
+
+def measure(program, command):
+    """How many asks a run makes, of how many bytes, or how else it ended."""
+    with tempfile.TemporaryDirectory() as folder:
+        for name, what in command.files.items():
+            with open(os.path.join(folder, name), "wb") as file:
+                file.write(what)
+        done, asks, size = program.measure(command.words, command.stdin, folder=folder)
+    if done.returncode != 0:
+        return done.returncode, done.stderr
+    return asks, size
+
+
+def compare(program, name):
+    """Says what both runs of a row ask for, and whether it is the same."""
+    before, after = [measure(program, command) for command in ALIKE[name]]
+    print(f"{name}: {before[0]} asks of {before[1]} bytes, and {after[0]} of {after[1]}")
+    return before == after and before[0] > 0
+
+
+def bound(program, name):
+    """Says what a run asks for, and whether that is no more than its row says."""
+    command, most_asks, most_bytes = BOUNDED[name]
+    asks, size = measure(program, command)
+    print(f"{name}: {asks} asks of {size} bytes, at most {most_asks} of {most_bytes}")
+    return isinstance(size, int) and asks <= most_asks and size <= most_bytes
+
+
+def main():
+    if len(sys.argv) != 3:
+        sys.exit(__doc__)
+    # A crash is to leave no file.
+    resource.setrlimit(resource.RLIMIT_CORE, (0, 0))
+    program = Refusing(os.path.abspath(sys.argv[1]), os.path.abspath(sys.argv[2]))
+    passed = [compare(program, name) for name in ALIKE] + [bound(program, name) for name in BOUNDED]
+    print(f"{sum(passed)} passed, {len(passed) - sum(passed)} failed")
+    sys.exit(0 if all(passed) else 1)
+
+
+if __name__ == "__main__":
+    main()
