@@ -15,6 +15,8 @@ from files import (
     FIRST_TEXT,
     FOREIGN_FILE,
     FOUR_FILE,
+    HUGE_END,
+    HUGE_FRONT,
     LARGE_END,
     LARGE_FILE,
     LARGE_FRONT,
@@ -23,6 +25,7 @@ from files import (
     ONE_FILE,
     TWO_FILE,
     TWO_TEXT,
+    UNFINISHED_FILE,
     WIDE_FILE,
     file_of,
     two_with,
@@ -349,6 +352,21 @@ CASES = {
     "in place, a faulty text": case(
         ["-c", "-t", "-", "x"], b"*", b"", f"input 1: byte 0: {NO_RECORD}", 111,
         {"x": LARGE_FILE}, {"x": b""},
+    ),
+    "in place, a fault behind three records": case(
+        ["-c", "-t", "-", "x"], HUGE_FRONT + b"*", b"", f"input 1: byte {len(HUGE_FRONT)}: {NO_RECORD}", 111,
+        {"x": ONE_FILE}, {"x": UNFINISHED_FILE},
+    ),
+    "in place, a duplicate that ends the run": case(
+        ["-ce", "-t", "-", "x"], HUGE_FRONT + b"\n", b"", [again(3), STOPPED], 111,
+        {"x": ONE_FILE}, {"x": UNFINISHED_FILE[: 2048 + 2 * 100_009]},
+    ),
+    "a check of a database that was not finished": checks(UNFINISHED_FILE, outside(0)),
+    "a dump of a database that was not finished": reads(
+        ["-d", "x"], UNFINISHED_FILE, HUGE_FRONT, not_whole(HUGE_END), 111
+    ),
+    "a query of a database that was not finished": asks(
+        ["x", "a"], b"", UNFINISHED_FILE, outside(196), 111
     ),
     "in place, a folder": case(
         ["-c", "-t", "-", "x"], TWO_TEXT, b"", NO_FILE, 111, {"x": FOLDER}

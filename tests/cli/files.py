@@ -121,6 +121,13 @@ def file_of(records, words=words):
     return b"".join(head + parts)
 
 
+# Three records whose values are too long to be collected before they are written, and what a create
+# in place leaves that ends behind them: a head of all ones, and the records.
+HUGE = [(b"a", b"1" * 100_000), (b"b", b"2" * 100_000), (b"a", b"3" * 100_000)]
+HUGE_FRONT = text_of(HUGE)[:-1]
+HUGE_END = 2048 + sum(8 + len(key) + len(value) for key, value in HUGE)
+UNFINISHED_FILE = b"\xff" * 2048 + file_of(HUGE)[2048:HUGE_END]
+
 LARGE = many_records()
 LARGE_TEXT = text_of(LARGE)
 LARGE_FILE = file_of(LARGE)
