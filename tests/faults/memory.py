@@ -45,6 +45,8 @@ def of_file(given, file):
     return Command(given, b"", {"x": file})
 
 
+# So many windows of 64 KiB would be 13 million bytes.
+INPUTS = [f"input{n}" for n in range(200)]
 SHORT_VALUE, LONG_VALUE = with_value(1), with_value(LONG)
 FEW, MANY = file_of(records(2_000)), file_of(records(20_000))
 # What does not depend on the length of a value, or on how many records there are.
@@ -65,7 +67,8 @@ BOUNDED = {
     "a check of many records": (of_file(words("-k"), MANY), 10_000, 4 * 13 * 20_000 + SMALL),
     "a load of a short database": (Command(["-s"], SHORT_VALUE), 200, SMALL),
     "a load of a long database": (Command(["-s"], LONG_VALUE), 200, 4 * LONG + SMALL),
-    "a create of many records": (Command(["-c", "x"], text_of(records(20_000))), 10_000, 4 * 13 * 20_000 + 2 * SMALL),
+    "a create of many records": (Command(["-c", "x"], text_of(records(20_000))), 10_000, 4 * 24 * 20_000 + 2 * SMALL),
+    "a create of many inputs": (Command(["-c", "x", *INPUTS], b"", dict.fromkeys(INPUTS, b"\n")), 10_000, SMALL),
 }
 
 
