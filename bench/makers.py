@@ -19,7 +19,7 @@ import tempfile
 
 CRATES = ["cdb_store", "cdb_form", "cdb_make"]
 LISTED = """cdb_store:
-cdb_form: byteorder itoa
+cdb_form: byteorder itoa memchr
 cdb_make: cdb_store cdb_form
 maker_bench: cdb_store cdb_form cdb_make anyhow
 """

@@ -1,6 +1,6 @@
 -- A record in the place of those of its key.
-use Rattle.std.proofs.Common.{◌≡◌, ℕ, suc, ◌+◌, ◌<◌, ◌≤◌, ◌⊎◌, inl, inr, Bool, true, false, cond, not, List, [], ◌∷◌, ◌++◌, length, get_or, refl, sym, ap, subst, ◌∙◌, arith, min}
-use Rattle.std.specs.Prelude.{vec_capacity, ◌==◌}
+use Rattle.std.proofs.Common.{◌≡◌, ℕ, suc, ◌+◌, ◌<◌, ◌≤◌, ◌⊎◌, inl, inr, Bool, true, false, cond, not, List, [], ◌∷◌, ◌++◌, length, get_or, refl, sym, ap, subst, ◌∙◌, arith}
+use Rattle.std.specs.Prelude.{◌==◌}
 use Rattle.std.specs.List.{filter, count_by}
 use Rattle.std.proofs.lemmas.List.{get_or-map, length-map}
 use Rattle.std.proofs.lemmas.List.FromFn.{get_or-map-range_with_len}
@@ -25,8 +25,6 @@ use Rattle.cdb_make.specs.Views.Adding.{AddFails}
 use Rattle.cdb_make.specs.Views.EntryList.{list_entries, lists_entries, list_room, entry_count, entry_room, AreClosed, HasSpareGaps}
 use Rattle.cdb_make.specs.Views.Maker.{Holds, HoldsIn, WhereHonest, ComesFrom, put_bytes}
 use Rattle.cdb_make.specs.declared.mode.Mode.TheVariants.{Replace}
-use Rattle.cdb_make.proofs.Rings.{room_enough}
-use Rattle.cdb_make.specs.Views.Index.{index_room}
 use Rattle.cdb_make.proofs.Sides.{length-entries_of}
 
 -- how many records have a test, by their hashes
@@ -67,12 +65,9 @@ table_fewer w h k rs hashed =
     grind (arith, nat_tests) in
     ap (λ (v : ℕ). v + count_of k rs) (entries_counted w n (head_size w) (without k rs)) ∙ fewer_left (has_key k) picks all rs ∙ sym (entries_counted w n (head_size w) rs)
 
-index_within : (l : EntryList) → length l.hashes.items ≤ index_room l.index
-index_within l = room_enough (min (vec_capacity l.index.next) (length l.index.ends.items)) (length l.hashes.items) (omega (arith, l.covered, l.index.next_room, l.index.spread)) (omega (arith, l.hashes.ok.0))
-
 -- a list holds no more than it has room for
 list_within : (l : EntryList) → length (list_entries l) ≤ list_room l
-list_within l = omega (arith, length-entries_of l.hashes.items l.places.items l.paired, l.paired, l.hash_room, l.place_room, index_within l)
+list_within l = omega (arith, length-entries_of l.hashes.items l.places.items l.paired, l.paired, l.hash_room, l.place_room, l.indexed)
 
 first_of : (ls : List EntryList) → 0 < length ls → EntryList
 first_of [] h = absurd (omega arith)

@@ -1,12 +1,12 @@
 -- Rings of entries: one entry more, and where a search goes on.
-use Rattle.std.proofs.Common.{◌≡◌, ℕ, ◌+◌, ◌-◌, ◌/◌, ◌^◌, ◌<◌, ◌≤◌, min, List, [], ◌∷◌, ◌++◌, length, set, refl, ap, sym, subst, ◌∙◌, arith, inl, inr, length-append}
+use Rattle.std.proofs.Common.{◌≡◌, ℕ, ◌+◌, ◌-◌, ◌/◌, ◌^◌, ◌<◌, ◌≤◌, min, List, [], ◌∷◌, ◌++◌, length, take, set, refl, ap, sym, subst, ◌∙◌, arith, inl, inr, length-append, length-take}
 use Rattle.std.specs.Prelude.{slice_index, cond, nat_lt, ◌≢◌, ◌⊎◌}
-use Rattle.std.proofs.lemmas.List.{get_or-set_same, get_or-set_other, get_or_append_left, length-set}
+use Rattle.std.proofs.lemmas.List.{get_or-set_same, get_or-set_other, get_or_append_left, get_or-take, length-set}
 use Rattle.std.proofs.Math.Seq.{get_or-append_seam}
 use Rattle.std.proofs.lemmas.Bool.{cases_eq, cases_lt}
 use Rattle.std.proofs.lemmas.Bool.Decides.{nat_tests}
 use Rattle.std.proofs.lemmas.Nat.{mod_below}
-use Rattle.cdb_make.specs.Rings.{bucket_of, IsFree, IsRing, AreLinked}
+use Rattle.cdb_make.specs.Rings.{bucket_of, IsFree, Follows, IsRing, AreLinked, AreCut}
 use Rattle.cdb_make.specs.Views.EntryList.{IsNowhereIn}
 
 -- nor at the next number, whose bucket is another
@@ -237,11 +237,6 @@ lowest_some ends next hs b end linked in_ends is some =
     ] in
     (omega arith, record { within = omega arith; same = λ lt. last.same; free = last.first down })
 
-pub lowest_none : (ends next hs : List ℕ) (b : ℕ) → AreLinked ends next hs → b < length ends → slice_index ends b ≡ 0 → Lowest (length ends) b hs (length next) (length next)
-lowest_none ends next hs b linked in_ends is =
-    let ring : IsRing (length ends) b hs next (length next) 0 = subst (IsRing (length ends) b hs next (length next)) is (linked.rings b in_ends) in
-    record { within = omega arith; same = λ lt. absurd (omega arith); free = ring.free }
-
 -- a hash is nowhere where its bucket is not
 pub nowhere_free : (count hash : ℕ) (hs : List ℕ) (from low end : ℕ) → low ≤ from → IsFree count (bucket_of count hash) hs low end → IsNowhereIn hash hs from end
 nowhere_free count hash hs from low end le free k above below = λ same. free k (omega arith) below (ap (bucket_of count) same)
@@ -249,15 +244,6 @@ nowhere_free count hash hs from low end le free k above below = λ same. free k 
 -- the room of an index, of which the most entries are these
 pub room_least : (r n : ℕ) → n ≤ cond (nat_lt r (2 ^ 32 - 1)) r (2 ^ 64) → min n (2 ^ 32 - 1) ≤ r
 room_least r n le = grind (arith, nat_tests)
-
-pub room_more : (r s : ℕ) → r ≤ s → cond (nat_lt r (2 ^ 32 - 1)) r (2 ^ 64) ≤ cond (nat_lt s (2 ^ 32 - 1)) s (2 ^ 64)
-room_more r s le = grind (arith, nat_tests)
-
-pub room_full : (r n : ℕ) → r ≤ n → n < 2 ^ 32 - 1 → cond (nat_lt r (2 ^ 32 - 1)) r (2 ^ 64) ≤ n
-room_full r n le lt = grind (arith, nat_tests)
-
-pub room_left : (r n : ℕ) → min n (2 ^ 32 - 1) < r ⊎ (2 ^ 32 - 1 ≤ r) → n < 2 ^ 64 → n < cond (nat_lt r (2 ^ 32 - 1)) r (2 ^ 64)
-room_left r n more lt = elim more [ inl below ↦ grind (arith, nat_tests) | inr much ↦ grind (arith, nat_tests) ]
 
 pub room_enough : (r n : ℕ) → min n (2 ^ 32 - 1) ≤ r → n < 2 ^ 64 → n ≤ cond (nat_lt r (2 ^ 32 - 1)) r (2 ^ 64)
 room_enough r n le lt = grind (arith, nat_tests)
@@ -293,3 +279,228 @@ pub linked_push : (ends next hs : List ℕ) (h : ℕ) → AreLinked ends next hs
 linked_push ends next hs h linked =
     linked_kept ends next hs (hs ++ h ∷ []) (omega (arith, linked.within, length-append {A = ℕ}))
     (λ k lt. get_or_append_left hs (h ∷ []) 0 k (omega (arith, linked.within))) linked
+
+-- the ring stays where `next` is what it was at its entries
+ring_next : (count b : ℕ) (hs next new : List ℕ) (long end : ℕ) → ((n : ℕ) → n < long → bucket_of count (slice_index hs n) ≡ b → slice_index new n ≡ slice_index next n) → IsRing count b hs next long end → IsRing count b hs new long end
+ring_next count b hs next new long end kept ring = record {
+  within = ring.within;
+  last = ring.last;
+  free = ring.free;
+  steps = λ n lt same. subst (Follows count b hs long n) (sym (kept n lt same)) (ring.steps n lt same);
+}
+
+-- the ring where its bucket has no entry from `from` on
+ring_narrow : (count b : ℕ) (hs next : List ℕ) (from long end : ℕ) → from ≤ long → IsFree count b hs from long → IsRing count b hs next long end → IsRing count b hs next from end
+ring_narrow count b hs next from long end le none ring = record {
+  within = elim (cases_lt from end) [
+    | inl lt ↦ absurd (none (end - 1) (omega arith) (omega (arith, ring.within)) (ring.last (omega arith)))
+    | inr low ↦ low
+  ];
+  last = ring.last;
+  free = λ k low high. ring.free k low (omega arith);
+  steps = λ n lt same.
+      let step = ring.steps n (omega arith) same in
+      let m : ℕ = slice_index next n in
+      record {
+        within = elim (cases_lt m from) [
+          | inl low ↦ low
+          | inr high ↦ absurd (none m high step.within step.same)
+        ];
+        same = step.same;
+        next = step.next;
+        last = λ down k low high. step.last down k low (omega arith);
+        first = step.first;
+      };
+}
+
+-- what follows an entry below the last one
+pub record GoesUp (count b : ℕ) (hs : List ℕ) (long n m : ℕ) : Type 0 where
+  pub up : n < m
+  pub within : m < long
+  pub same : bucket_of count (slice_index hs m) ≡ b
+  pub free : IsFree count b hs (n + 1) m
+
+pub goes_up : (count b : ℕ) (hs next : List ℕ) (long end n : ℕ) → n < end - 1 → bucket_of count (slice_index hs n) ≡ b → IsRing count b hs next long end → GoesUp count b hs long n (slice_index next n)
+goes_up count b hs next long end n below same ring =
+    let within : end ≤ long = ring.within in
+    let step = ring.steps n (omega arith) same in
+    let up : n < slice_index next n = elim (cases_lt n (slice_index next n)) [
+      | inl lt ↦ lt
+      | inr le ↦ absurd (step.last le (end - 1) (omega arith) (omega arith) (ring.last (omega arith)))
+    ] in
+    record { up = up; within = step.within; same = step.same; free = step.next up }
+
+-- the first entry follows the last one
+pub record GoesRound (count b : ℕ) (hs : List ℕ) (end m : ℕ) : Type 0 where
+  pub down : m < end
+  pub same : bucket_of count (slice_index hs m) ≡ b
+  pub free : IsFree count b hs 0 m
+
+pub goes_round : (count b : ℕ) (hs next : List ℕ) (long end : ℕ) → 0 < end → IsRing count b hs next long end → GoesRound count b hs end (slice_index next (end - 1))
+goes_round count b hs next long end some ring =
+    let within : end ≤ long = ring.within in
+    let last = ring.steps (end - 1) (omega arith) (ring.last some) in
+    let down : slice_index next (end - 1) ≤ end - 1 = elim (cases_lt (end - 1) (slice_index next (end - 1))) [
+      | inl up ↦ absurd (ring.free (slice_index next (end - 1)) (omega arith) last.within last.same)
+      | inr le ↦ le
+    ] in
+    record { down = omega arith; same = last.same; free = last.first down }
+
+-- the ring is cut behind its last entry below `from`, if there is one
+ring_cut : (count b : ℕ) (hs next new : List ℕ) (from long end kept : ℕ) → from < end → kept ≤ from → (0 < kept → bucket_of count (slice_index hs (kept - 1)) ≡ b) → IsFree count b hs kept from
+    → (0 < kept → slice_index new (kept - 1) ≡ slice_index next (end - 1)) → ((n : ℕ) → n < from → n + 1 ≢ kept → slice_index new n ≡ slice_index next n)
+    → IsRing count b hs next long end → IsRing count b hs new from kept
+ring_cut count b hs next new from long end kept reach le last none turned same_next ring =
+    let within : end ≤ long = ring.within in
+    let round = goes_round count b hs next long end (omega arith) ring in
+    record {
+      within = le;
+      last = last;
+      free = none;
+      steps = λ n lt same.
+          let below : n < kept = elim (cases_lt n kept) [
+            | inl low ↦ low
+            | inr high ↦ absurd (none n high lt same)
+          ] in
+          elim (cases_eq (n + 1) kept) [
+            | inl is ↦
+                let e : kept - 1 ≡ n = omega arith in
+                let m : slice_index new n ≡ slice_index next (end - 1) = ap (slice_index new) (sym e) ∙ turned (omega arith) in
+                let first : slice_index next (end - 1) ≤ n = elim (cases_lt n (slice_index next (end - 1))) [
+                  | inl up ↦ absurd (round.free n (omega arith) up same)
+                  | inr down ↦ down
+                ] in
+                record {
+                  within = omega arith;
+                  same = ap (λ (k : ℕ). bucket_of count (slice_index hs k)) m ∙ round.same;
+                  next = λ up. absurd (omega arith);
+                  last = λ down k low high. none k (omega arith) high;
+                  first = λ down k low high. round.free k low (omega arith);
+                }
+            | inr other ↦
+                let step = goes_up count b hs next long end n (omega arith) same ring in
+                let m : slice_index new n ≡ slice_index next n = same_next n lt other in
+                let most : slice_index next n < kept = elim (cases_lt (slice_index next n) kept) [
+                  | inl low ↦ low
+                  | inr high ↦ absurd (step.free (kept - 1) (omega arith) (omega arith) (last (omega arith)))
+                ] in
+                let up : n < slice_index next n = step.up in
+                record {
+                  within = omega arith;
+                  same = ap (λ (k : ℕ). bucket_of count (slice_index hs k)) m ∙ step.same;
+                  next = λ lower k low high. step.free k low (omega arith);
+                  last = λ down. absurd (omega arith);
+                  first = λ down. absurd (omega arith);
+                }
+          ];
+    }
+
+-- no ring is cut yet
+pub cut_none : (ends next hs : List ℕ) (from : ℕ) → from ≤ length next → AreLinked ends next hs → AreCut ends next hs from from
+cut_none ends next hs from le linked = record {
+  within = linked.within;
+  reach = le;
+  rings = λ b lt. inr (linked.rings b lt, λ k low high. absurd (omega arith));
+}
+
+-- a ring that is cut, or that reaches behind `from`
+pub cut_ring_at : (ends next hs : List ℕ) (from entry b end : ℕ) → AreCut ends next hs from entry → b < length ends → slice_index ends b ≡ end → from < end → IsRing (length ends) b hs next (length next) end
+cut_ring_at ends next hs from entry b end cut lt is reach = elim (cut.rings b lt) [
+  | inl ring ↦ absurd (omega (arith, ring.within))
+  | inr whole ↦ subst (IsRing (length ends) b hs next (length next)) is whole.0
+]
+
+-- the ring of an entry does not reach there
+pub cut_passed : (ends next hs : List ℕ) (from entry b : ℕ) → AreCut ends next hs from entry → b ≡ bucket_of (length ends) (slice_index hs entry) → slice_index ends b ≤ from → AreCut ends next hs from (entry + 1)
+cut_passed ends next hs from entry b cut here low = record {
+  within = cut.within;
+  reach = cut.reach;
+  rings = λ a lt. elim (cut.rings a lt) [
+    | inl ring ↦ inl ring
+    | inr whole ↦ elim (cases_eq a b) [
+      | inl is ↦
+          let short : slice_index ends a ≤ from = subst (λ (n : ℕ). slice_index ends n ≤ from) (sym is) low in
+          inl (ring_narrow (length ends) a hs next from (length next) (slice_index ends a) cut.reach (λ k least most. whole.0.free k (omega arith) most) whole.0)
+      | inr apart ↦ inr (whole.0, free_next (length ends) a hs from entry (λ at. apart (sym at ∙ sym here)) whole.1)
+    ]
+  ];
+}
+
+-- and where it is cut
+cut_more : (ends next new hs : List ℕ) (from entry b kept : ℕ) → b < length ends → length new ≡ length next → b ≡ bucket_of (length ends) (slice_index hs entry)
+    → ((n : ℕ) → n < length next → (bucket_of (length ends) (slice_index hs n) ≡ b → ⊥) → slice_index new n ≡ slice_index next n)
+    → IsRing (length ends) b hs new from kept → AreCut ends next hs from entry → AreCut (set ends b kept) new hs from (entry + 1)
+cut_more ends next new hs from entry b kept in_ends long here same ring cut =
+    let reach : from ≤ length next = cut.reach in
+    record {
+      within = omega (arith, cut.within);
+      reach = omega arith;
+      rings = λ a lt.
+          let wide : length (set ends b kept) ≡ length ends = length-set ends b kept in
+          let other : (a ≡ b → ⊥) → (n : ℕ) → n < length next → bucket_of (length ends) (slice_index hs n) ≡ a → slice_index new n ≡ slice_index next n = λ apart n below at. same n below (λ is. apart (sym at ∙ is)) in
+          let goes : IsRing (length ends) a hs new from (slice_index (set ends b kept) a) ⊎ (IsRing (length ends) a hs new (length new) (slice_index (set ends b kept) a) × IsFree (length ends) a hs from (entry + 1)) =
+          elim (cases_eq a b) [
+            | inl is ↦
+                let e : slice_index (set ends b kept) a ≡ kept = ap (slice_index (set ends b kept)) is ∙ get_or-set_same ends b kept 0 in_ends in
+                inl (subst (IsRing (length ends) a hs new from) (sym e) (subst (λ (n : ℕ). IsRing (length ends) n hs new from kept) (sym is) ring))
+            | inr apart ↦
+                let e : slice_index (set ends b kept) a ≡ slice_index ends a = get_or-set_other ends b a kept 0 apart in
+                elim (cut.rings a (omega arith)) [
+                  | inl old ↦ inl (subst (IsRing (length ends) a hs new from) (sym e) (ring_next (length ends) a hs next new from (slice_index ends a) (λ n below at. other apart n (omega arith) at) old))
+                  | inr whole ↦ inr (
+                    subst (IsRing (length ends) a hs new (length new)) (sym e)
+                        (subst (λ (n : ℕ). IsRing (length ends) a hs new n (slice_index ends a)) (sym long) (ring_next (length ends) a hs next new (length next) (slice_index ends a) (other apart) whole.0)),
+                    free_next (length ends) a hs from entry (λ at. apart (sym at ∙ sym here)) whole.1,
+                  )
+                ]
+          ] in
+          subst (λ (count : ℕ). IsRing count a hs new from (slice_index (set ends b kept) a) ⊎ (IsRing count a hs new (length new) (slice_index (set ends b kept) a) × IsFree count a hs from (entry + 1))) (sym wide) goes;
+    }
+
+-- no entry of the ring is below `from`
+pub cut_whole : (ends next hs : List ℕ) (from entry b end : ℕ) → AreCut ends next hs from entry → b < length ends → b ≡ bucket_of (length ends) (slice_index hs entry) → slice_index ends b ≡ end → from < end → IsFree (length ends) b hs 0 from
+    → AreCut (set ends b 0) next hs from (entry + 1)
+cut_whole ends next hs from entry b end cut in_ends here is reach none =
+    let ring = cut_ring_at ends next hs from entry b end cut in_ends is reach in
+    cut_more ends next next hs from entry b 0 in_ends refl here (λ n lt other. refl)
+    (ring_cut (length ends) b hs next next from (length next) end 0 reach (omega arith) (λ some. absurd (omega arith)) none (λ some. absurd (omega arith)) (λ n lt other. refl) ring) cut
+
+-- some are
+pub cut_part : (ends next hs : List ℕ) (from entry b end kept : ℕ) → AreCut ends next hs from entry → b < length ends → b ≡ bucket_of (length ends) (slice_index hs entry) → slice_index ends b ≡ end → from < end
+    → 0 < kept → kept ≤ from → bucket_of (length ends) (slice_index hs (kept - 1)) ≡ b → IsFree (length ends) b hs kept from
+    → AreCut (set ends b kept) (set next (kept - 1) (slice_index next (end - 1))) hs from (entry + 1)
+cut_part ends next hs from entry b end kept cut in_ends here is reach some le last none =
+    let ring = cut_ring_at ends next hs from entry b end cut in_ends is reach in
+    let first : ℕ = slice_index next (end - 1) in
+    let new : List ℕ = set next (kept - 1) first in
+    let long : from ≤ length next = cut.reach in
+    cut_more ends next new hs from entry b kept in_ends (length-set next (kept - 1) first) here
+    (λ n lt other. get_or-set_other next (kept - 1) n first 0 (λ at. other (ap (λ (k : ℕ). bucket_of (length ends) (slice_index hs k)) at ∙ last)))
+    (ring_cut (length ends) b hs next new from (length next) end kept reach le (λ more. last) none (λ more. get_or-set_same next (kept - 1) first 0 (omega arith))
+    (λ n lt other. get_or-set_other next (kept - 1) n first 0 (λ at. omega arith)) ring) cut
+
+-- all are cut
+pub cut_all : (ends next hs : List ℕ) (from : ℕ) → AreCut ends next hs from (length next) → AreLinked ends (take from next) hs
+cut_all ends next hs from cut =
+    let reach : from ≤ length next = cut.reach in
+    let long : length (take from next) ≡ from = omega (arith, length-take {A = ℕ}) in
+    record {
+      within = omega (arith, cut.within);
+      rings = λ b lt.
+          let ring : IsRing (length ends) b hs next from (slice_index ends b) = elim (cut.rings b lt) [
+            | inl short ↦ short
+            | inr whole ↦ ring_narrow (length ends) b hs next from (length next) (slice_index ends b) reach whole.1 whole.0
+          ] in
+          subst (λ (n : ℕ). IsRing (length ends) b hs (take from next) n (slice_index ends b)) (sym long)
+          (ring_next (length ends) b hs next (take from next) from (slice_index ends b) (λ n below at. get_or-take from next n 0 below) ring);
+    }
+
+-- the entries in rings keep their numbers where the others move
+pub linked_front : (ends next hs new : List ℕ) (linked kept start : ℕ) → length next ≤ linked → linked ≤ kept → kept ≤ length new → length new ≡ length hs → (start < linked → linked ≡ length hs) → (kept ≡ length hs → new ≡ hs)
+    → ((k : ℕ) → k < start → slice_index new k ≡ slice_index hs k) → AreLinked ends next hs → AreLinked ends next (take kept new)
+linked_front ends next hs new linked kept start short low within long all same front is =
+    linked_kept ends next hs (take kept new) (omega (arith, length-take {A = ℕ}))
+    (λ k lt. get_or-take kept new k 0 (omega arith) ∙ elim (cases_lt start linked) [
+      | inl more ↦ let e : linked ≡ length hs = all more in ap (λ (v : List ℕ). slice_index v k) (same (omega arith))
+      | inr few ↦ front k (omega arith)
+    ]) is

@@ -1,5 +1,5 @@
 -- The entries of a list in rings, by the buckets of their hashes.
-use Rattle.std.specs.Prelude.{ℕ, ◌≡◌, ◌≢◌, ◌+◌, ◌-◌, ◌/◌, ◌%◌, ◌<◌, ◌≤◌, List, length, slice_index}
+use Rattle.std.specs.Prelude.{ℕ, ◌≡◌, ◌≢◌, ◌+◌, ◌-◌, ◌/◌, ◌%◌, ◌<◌, ◌≤◌, ◌⊎◌, List, length, slice_index}
 
 -- the bucket of a hash among so many; the lowest byte is the same in a whole list
 abbrev pub bucket_of : ℕ → ℕ → ℕ
@@ -31,3 +31,12 @@ pub record AreLinked (ends next hashes : List ℕ) : Type 0 where
   pub within : length next ≤ length hashes
   pub rings : (b : ℕ) → b < length ends
       → IsRing (length ends) b hashes next (length next) (slice_index ends b)
+
+-- the rings of the entries from `from` to before `entry` are cut at `from`, the others may be
+pub record AreCut (ends next hashes : List ℕ) (from entry : ℕ) : Type 0 where
+  pub within : length next ≤ length hashes
+  pub reach : from ≤ length next
+  pub rings : (b : ℕ) → b < length ends
+      → IsRing (length ends) b hashes next from (slice_index ends b)
+      ⊎ (IsRing (length ends) b hashes next (length next) (slice_index ends b)
+      × IsFree (length ends) b hashes from entry)

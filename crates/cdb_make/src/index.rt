@@ -1,7 +1,7 @@
 // The entries of a list, found by their hashes.
 ghost use Rattle.std.specs.Prelude.{◌≡◌, ℕ, List, [], ◌+◌, ◌-◌, ◌<◌, ◌≤◌, ◌^◌, length, min};
 ghost use Rattle.std.specs.Prelude.{slice_index, vec_capacity, OnOk, OnErr};
-ghost use Rattle.cdb_make.specs.Rings.{AreLinked, bucket_of};
+ghost use Rattle.cdb_make.specs.Rings.{AreCut, AreLinked, bucket_of};
 
 use crate::scan::first_place;
 use std::alloc::{AllocError, Global};
@@ -11,6 +11,10 @@ const MOST: usize = 4294967295;
 
 /// How many buckets an index has at first.
 const FEW: usize = 4;
+
+/// So many new entries are put into rings together, which costs the caches less. Until then each
+/// search compares them one by one.
+const LATE: usize = 32;
 
 /// The first entries of a list in rings, a ring for the hashes of each bucket: 8 to 12 bytes an
 /// entry. So a search looks at few entries but those of its hash, however many there are.
@@ -108,18 +112,18 @@ impl Index {
     /// Makes room for one more entry. If memory is refused, the index stays.
     pub(crate) fn reserve(&mut self, hashes: &[u32]) -> Result<(), AllocError>
         requires linked { AreLinked self.old.ends.items self.old.next.items hashes.now }
-        requires all { length self.old.next.items ≡ min (length hashes.now) (2 ^ 32 - 1) }
+        requires room { length hashes.now ≤ index_room self.old }
         ensures linked { AreLinked self.new.ends.items self.new.next.items hashes.now }
-        ensures all { length self.new.next.items ≡ length self.old.next.items }
+        ensures kept { length self.old.next.items ≤ length self.new.next.items }
         ensures ok { OnOk result (length hashes.now < index_room self.new) }
         ensures full { OnErr result (index_room self.old ≤ length hashes.now) }
         ensures room { index_room self.old ≤ index_room self.new }
     {
-        if self.next.len() == MOST {
+        if hashes.len() >= MOST {
             return Ok(());
         }
-        self.next.reserve(1)?;
-        if self.next.len() == self.ends.len() {
+        self.next.reserve(hashes.len() + 1 - self.next.len())?;
+        if hashes.len() == self.ends.len() {
             self.ends.resize((2 * self.ends.len()).max(FEW), 0)?;
             self.clear();
             self.link_all(hashes);
@@ -134,11 +138,55 @@ impl Index {
             → AreLinked self.new.ends.items self.new.next.items hashes }
         ensures wide { length self.new.ends.items ≡ length self.old.ends.items }
         ensures capacity { vec_capacity self.new.next ≡ vec_capacity self.old.next }
+        ensures room { index_room self.new ≡ index_room self.old }
     {
         self.next.clear();
         for end in self.ends.iter_mut() {
             *end = 0;
         }
+    }
+
+    /// Takes the entries from `from` on out of the ring that `entry` is in. Those from `from` to
+    /// before `entry` are out of theirs.
+    fn cut_ring(&mut self, hashes: &[u32], from: usize, entry: usize)
+        requires cut { AreCut self.old.ends.items self.old.next.items hashes.now from entry }
+        requires from { from ≤ entry }
+        requires within { entry < length self.old.next.items }
+        ensures cut { AreCut self.new.ends.items self.new.next.items hashes.now from (entry + 1) }
+        ensures long { length self.new.next.items ≡ length self.old.next.items }
+        ensures wide { length self.new.ends.items ≡ length self.old.ends.items }
+        ensures capacity { vec_capacity self.new.next ≡ vec_capacity self.old.next }
+    {
+        let bucket = self.bucket(hashes[entry]);
+        let end = self.ends[bucket] as usize;
+        if end <= from {
+            return;
+        }
+        let first = self.next[end - 1];
+        let mut kept = 0;
+        let mut at = first as usize;
+        while at < from {
+            kept = at + 1;
+            at = self.next[at] as usize;
+        }
+        if kept > 0 {
+            self.next[kept - 1] = first;
+        }
+        self.ends[bucket] = kept as u32;
+    }
+
+    /// Takes the entries from `from` on out of their rings. The room stays.
+    pub(crate) fn cut(&mut self, hashes: &[u32], from: usize)
+        requires { AreLinked self.old.ends.items self.old.next.items hashes.now }
+        ensures linked { AreLinked self.new.ends.items self.new.next.items hashes.now }
+        ensures left { length self.new.next.items ≡ min from (length self.old.next.items) }
+        ensures room { index_room self.new ≡ index_room self.old }
+    {
+        let from = from.min(self.next.len());
+        for entry in from..self.next.len() {
+            self.cut_ring(hashes, from, entry);
+        }
+        self.next.truncate(from);
     }
 
     /// Puts the first entry that is in no ring into that of its bucket.
@@ -166,7 +214,7 @@ impl Index {
     }
 
     /// Puts each entry that is in no ring into that of its bucket.
-    pub(crate) fn link_all(&mut self, hashes: &[u32])
+    fn link_all(&mut self, hashes: &[u32])
         requires linked { AreLinked self.old.ends.items self.old.next.items hashes.now }
         requires room { length hashes.now ≤ index_room self.old }
         ensures linked { AreLinked self.new.ends.items self.new.next.items hashes.now }
@@ -177,6 +225,19 @@ impl Index {
         let most = hashes.len().min(MOST);
         while self.next.len() < most {
             self.link(hashes);
+        }
+    }
+
+    /// Puts the entries that are in no ring into those of their buckets, if they are many.
+    pub(crate) fn catch_up(&mut self, hashes: &[u32])
+        requires linked { AreLinked self.old.ends.items self.old.next.items hashes.now }
+        requires room { length hashes.now ≤ index_room self.old }
+        ensures linked { AreLinked self.new.ends.items self.new.next.items hashes.now }
+        ensures near { min (length hashes.now) (2 ^ 32 - 1) < length self.new.next.items + 32 }
+        ensures room { index_room self.new ≡ index_room self.old }
+    {
+        if hashes.len().min(MOST) >= self.next.len() + LATE {
+            self.link_all(hashes);
         }
     }
 }

@@ -1,11 +1,12 @@
 // The entries of one table, as a maker keeps them.
-ghost use Rattle.std.specs.Prelude.{◌≡◌, ℕ, ◌<◌, ◌≤◌, ◌^◌, ◌-◌, [], ◌∷◌, ◌++◌, length, get_or, All};
+ghost use Rattle.std.specs.Prelude.{◌≡◌, ℕ, ◌<◌, ◌≤◌, ◌^◌, ◌+◌, ◌-◌, [], ◌∷◌, ◌++◌, length, get_or, All};
 ghost use Rattle.std.specs.Prelude.{true, OnOk, OnErr, min, slice_index, vec_capacity};
 ghost use Rattle.cdb_make.specs.Rings.{AreLinked};
+ghost use Rattle.cdb_make.specs.Views.Index.{index_room};
 
 use crate::gap::{Gap, first_place};
 use crate::index::Index;
-use crate::repair::close_entries;
+use crate::repair::{below, close_entries, entry_at};
 use cdb_form::Slot;
 use std::alloc::{AllocError, Global};
 
@@ -20,7 +21,8 @@ pub(crate) struct EntryList {
     index: Index,
     ghost paired: { length hashes.items ≡ length places.items },
     ghost linked: { AreLinked index.ends.items index.next.items hashes.items },
-    ghost covered: { length index.next.items ≡ min (length hashes.items) (2 ^ 32 - 1) },
+    ghost near: { min (length hashes.items) (2 ^ 32 - 1) < length index.next.items + 32 },
+    ghost indexed: { length hashes.items ≤ index_room index },
     ghost hash_room: { length hashes.items ≤ vec_capacity hashes },
     ghost place_room: { length places.items ≤ vec_capacity places },
 }
@@ -107,7 +109,7 @@ impl EntryList {
     {
         self.hashes.push_reserved(hash);
         self.places.push_reserved(place);
-        self.index.link_all(&self.hashes);
+        self.index.catch_up(&self.hashes);
     }
 
     /// Whether each entry lies below a place.
@@ -129,13 +131,18 @@ impl EntryList {
             → All (λ e. e.second ≤ most) (list_entries self.new) }
         ensures room { list_room self.new ≡ list_room self.old }
     {
-        let kept = close_entries(&mut self.hashes, &mut self.places, gaps);
-        if kept < self.hashes.len() {
+        let gap = first_place(gaps, u64::MAX);
+        let start = below(&self.places, gap);
+        // The entries at gaps have one hash. Where they are in this list, one is at the first gap.
+        let linked = entry_at(&self.places, start, gap);
+        self.index.cut(&self.hashes, linked);
+        let kept = close_entries(&mut self.hashes, &mut self.places, gaps, start);
+        if kept < linked {
             self.index.clear();
         }
         self.hashes.truncate(kept);
         self.places.truncate(kept);
-        self.index.link_all(&self.hashes);
+        self.index.catch_up(&self.hashes);
     }
 
     /// Takes out the entries at the gaps, and lowers each other place by the gaps below it. The

@@ -1,6 +1,6 @@
 use Rattle.std.proofs.Common.{arith, refl, sym, ap, subst, ◌∙◌, ◌≡◌, ◌+◌, ◌-◌, ◌<◌, ◌≤◌, ◌^◌, ℕ, length, List, [], ◌∷◌, ◌++◌, get_or, set, drop, take, length-set}
 use Rattle.std.specs.Prelude.{All}
-use Rattle.std.proofs.lemmas.List.{at_drop_all, append-nil, set-get_or}
+use Rattle.std.proofs.lemmas.List.{at_drop_all, append-nil, get_or-set_other, set-get_or}
 use Rattle.std.proofs.lemmas.List.Elements.{All-get_or, All-set}
 use Rattle.cdb_form.specs.Format.Pair.{WordPair}
 use Rattle.cdb_make.specs.declared.gap.Gap.{Gap}
@@ -19,14 +19,15 @@ loop-entry-init c =
     let hs : List ℕ = c.args.hashes.now in
     let ps : List ℕ = c.args.places.now in
     let es : List WordPair = entries_of hs ps in
-    let k : ℕ = c.below-kept.result in
-    let front : (i : ℕ) → IsRising 0 es → i < k → get_or ps i 0 < first_place c.args.gaps.now (2 ^ 64 - 1) =
-    λ i r lt. omega (arith, c.below-kept.ensures.below (not_falling 0 hs ps c.requires.paired r) i lt, c.first_place.ensures) in
+    let k : ℕ = c.args.start in
+    let front : (i : ℕ) → IsRising 0 es → i < k → get_or ps i 0 < first_place c.args.gaps.now (2 ^ 64 - 1) = λ i r lt. c.requires.below (not_falling 0 hs ps c.requires.paired r) i lt in
     record {
       behind = omega arith;
-      within = c.below-kept.ensures.within;
+      within = c.requires.start;
       gap_within = omega arith;
       paired = c.requires.paired;
+      start = omega arith;
+      front = λ i lt. refl;
       same = λ e. refl;
       apart = c.requires.apart;
       rising = λ r. rising_drop k es r;
@@ -60,6 +61,8 @@ loop-entry-preserved-then-gaps-next c =
       within = c.loop-entry.invariant.within;
       gap_within = omega arith;
       paired = c.loop-entry.invariant.paired;
+      start = c.loop-entry.invariant.start;
+      front = c.loop-entry.invariant.front;
       same = c.loop-entry.invariant.same;
       apart = apart_lower (c.loop-entry.gone + gap.size) (gap.place + gap.size) rest (2 ^ 63) (omega (arith, n.order)) n.rest_apart;
       rising = c.loop-entry.invariant.rising;
@@ -90,6 +93,8 @@ loop-entry-preserved-then-gaps-next-2 c =
       within = omega arith;
       gap_within = c.loop-entry.invariant.gap_within;
       paired = c.loop-entry.invariant.paired;
+      start = c.loop-entry.invariant.start;
+      front = c.loop-entry.invariant.front;
       same = λ k. absurd (omega (arith, c.loop-entry.invariant.behind));
       apart = c.loop-entry.invariant.apart;
       rising = λ r. rising_next (drop i es) x (drop (i + 1) es) d (c.loop-entry.invariant.rising r);
@@ -136,6 +141,8 @@ loop-entry-preserved c =
       within = omega (arith, length-set {A = ℕ});
       gap_within = c.loop-entry.invariant.gap_within;
       paired = length-set hs n x.first ∙ c.loop-entry.invariant.paired ∙ sym (length-set ps n c.saturating_sub.result);
+      start = omega (arith, c.loop-entry.invariant.start);
+      front = λ k lt. get_or-set_other hs n k (get_or hs i 0) 0 (λ at. omega (arith, c.loop-entry.invariant.start)) ∙ c.loop-entry.invariant.front k lt;
       same = λ k. let h : n ≡ i = omega arith in ap (λ (m : ℕ). set hs m (get_or hs i 0)) h ∙ set-get_or hs i 0 ∙ c.loop-entry.invariant.same h;
       apart = c.loop-entry.invariant.apart;
       rising = λ r.

@@ -1,4 +1,4 @@
-use Rattle.std.specs.Prelude.{All}
+use Rattle.std.specs.Prelude.{All, slice_index, ◌<◌}
 use Rattle.std.proofs.Common.{ℕ, ◌≡◌, ◌+◌, ◌-◌, ◌≤◌, ◌^◌, ◌++◌, take, drop, length}
 use Rattle.cdb_make.specs.Gaps.{AreApart, IsRising, closed_by}
 use Rattle.cdb_make.specs.Views.EntryList.{entries_of}
@@ -10,6 +10,8 @@ invariant-loop-entry l = record {
   within : l.entry ≤ length l.places;
   gap_within : l.next ≤ length l.gaps;
   paired : length l.hashes ≡ length l.places;
+  start : l.start ≤ l.kept;
+  front : (k : ℕ) → k < l.start → slice_index l.hashes k ≡ slice_index l.fn.hashes k;
   same : l.kept ≡ l.entry → l.hashes ≡ l.fn.hashes;
   apart : AreApart l.gone (drop l.next l.gaps) (2 ^ 63);
   rising : IsRising 0 (entries_of l.fn.hashes l.fn.places) → IsRising 0 (drop l.entry (entries_of l.hashes l.places));

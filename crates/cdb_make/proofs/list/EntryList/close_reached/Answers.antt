@@ -1,11 +1,14 @@
 use Rattle.std.proofs.Common.{arith, ap, sym, subst, ◌∙◌, ◌≡◌, ◌++◌, ◌≤◌, ℕ, List, length, take, length-take}
-use Rattle.std.specs.Prelude.{All}
+use Rattle.std.specs.Prelude.{All, slice_index}
 use Rattle.std.proofs.lemmas.List.{take_at}
 use Rattle.std.proofs.lemmas.List.Elements.{All-same, All-take}
 use Rattle.cdb_form.specs.Format.Pair.{WordPair}
 use Rattle.cdb_make.specs.Gaps.{IsRising, closed_by}
 use Rattle.cdb_make.specs.Views.EntryList.{entries_of}
 use Rattle.cdb_make.proofs.Sides.{entries_of-take, length-entries_of, places_below, entries_below}
+use Rattle.cdb_make.specs.Rings.{AreLinked}
+use Rattle.cdb_make.proofs.Rings.{linked_front}
+use Rattle.cdb_make.proofs.list.EntryList.close_reached.Goals.{then-kept-linked, else-kept-linked}
 use Rattle.cdb_make.proofs.list.EntryList.close_reached.Goals as goal
 
 -- what is left where both sides were lent, and then cut
@@ -54,3 +57,29 @@ returns-clause-bounded c = λ most all.
     (omega (arith, c.close_entries-kept.auto.hashes, c.deref_mut.ensures.len, s.hashes.ok.0)) (omega (arith, c.close_entries-kept.auto.places, c.deref_mut-2.ensures.len, s.places.ok.0))
     c.truncate.ensures.items c.truncate-2.ensures.items)
     (All-take (λ e. e.second ≤ most) k (entries_of hs ps) (entries_below most hs ps now))
+
+pub catch_up-requires-clause-linked : goal.catch_up-requires-clause-linked
+catch_up-requires-clause-linked c =
+    let s = c.args.self.now in
+    let hs : List ℕ = s.hashes.items in
+    let new : List ℕ = c.close_entries-kept.new.hashes in
+    let kept : ℕ = c.close_entries-kept.result in
+    let linked : ℕ = c.entry_at-linked.result in
+    let index = c.cut.new.self in
+    let long : length new ≡ s.hashes.len = omega (arith, c.close_entries-kept.auto.hashes, c.deref_mut.ensures.len, s.hashes.ok.0) in
+    let held : length c.deref_mut.result.now ≡ length hs = ap length c.deref_mut.ensures.value in
+    let places : length c.deref_mut-2.result.now ≡ length s.places.items = ap length c.deref_mut-2.ensures.value in
+    let reached : length c.deref-2.result.now ≡ length s.places.items = ap length c.deref-2.ensures.value in
+    let cut : c.deref-4.result.now ≡ take kept new = c.deref-4.ensures.value ∙ c.truncate.ensures.items ∙ ap (take kept) (take_at new _ s.hashes.len long) in
+    let is : AreLinked index.ends.items index.next.items hs = subst (AreLinked index.ends.items index.next.items) c.deref-3.ensures.value c.cut.ensures.linked in
+    elim c.if-kept-linked.branch [
+      | then-kept-linked w ↦
+          subst (λ v. AreLinked v.1.1.1.0.ends.items v.1.1.1.0.next.items c.deref-4.result.now) (sym w.self-is) (w.clear.ensures.linked c.deref-4.result.now)
+      | else-kept-linked w ↦
+          subst (λ v. AreLinked v.1.1.1.0.ends.items v.1.1.1.0.next.items c.deref-4.result.now) (sym w.self-is)
+          (subst (AreLinked index.ends.items index.next.items) (sym cut)
+          (linked_front index.ends.items index.next.items hs new linked kept c.below-start.result (omega (arith, c.cut.ensures.left)) w.if-kept-linked.false
+          (omega (arith, c.close_entries-kept.ensures.within, s.paired, s.hashes.ok.0)) (omega (arith, s.hashes.ok.0))
+          (λ more. omega (arith, c.entry_at-linked.ensures.all more, s.paired)) (λ e. c.close_entries-kept.ensures.same (omega arith) ∙ c.deref_mut.ensures.value)
+          (λ k lt. c.close_entries-kept.ensures.front k lt ∙ ap (λ (v : List ℕ). slice_index v k) c.deref_mut.ensures.value) is))
+    ]
