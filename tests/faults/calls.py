@@ -29,6 +29,7 @@ TESTS = {
     ],
     "cdb_make_tests": [
         "adds_tell_refused_memory",
+        "many_adds_tell_refused_memory",
         "a_replacement_tells_no_refused_memory",
         "a_removal_and_a_look_tell_no_refused_memory",
         "a_finish_tells_refused_memory",

@@ -1,6 +1,6 @@
 //! Scripts that are drawn, against a plain list of records.
 use super::scripts::{Call, Step, comes_to};
-use cdb_form::Narrow;
+use cdb_form::{Narrow, hash};
 use cdb_make::Mode;
 use std::alloc::Global;
 use std::prelude::*;
@@ -20,8 +20,8 @@ pub(super) fn draw(state: &mut u64) -> u64 {
     *state
 }
 
-/// A call that is drawn.
-fn drawn_call(state: &mut u64) -> Call<'static> {
+/// A call that is drawn, with one of some keys.
+fn drawn_call<'a>(state: &mut u64, keys: &[&'a [u8]]) -> Call<'a> {
     let drawn = draw(state);
     let step = match drawn % 9 {
         0..=2 => Step::Put(Mode::Add),
@@ -31,30 +31,108 @@ fn drawn_call(state: &mut u64) -> Call<'static> {
         7 => Step::Remove,
         _ => Step::Exists,
     };
-    let key = (drawn >> 16) % 6;
+    let key = (drawn >> 16) % (keys.len() as u64).max(1);
     let start = (drawn >> 32) % 37;
     Call {
         step,
-        key: KEYS.get(key as usize).copied().unwrap_or(b""),
+        key: keys.get(key as usize).copied().unwrap_or(b""),
         value: VALUES.get(start as usize..).unwrap_or(b""),
     }
 }
 
-/// A script that is drawn.
-fn drawn_script(alloc: Global, state: &mut u64) -> Result<Vec<Call<'static>>, Fail> {
-    let mut calls = Vec::new(alloc);
-    for _ in 0..draw(state) % 16 {
-        calls.push(drawn_call(state))?;
+/// Runs scripts of so many calls that are drawn, with these keys. Each is to come to what a plain
+/// list of records does.
+fn all_come_to(alloc: Global, keys: &[&[u8]], scripts: u32, len: u32) -> Result<(), Fail> {
+    let mut state = 0x9e3779b97f4a7c15;
+    for _ in 0..scripts {
+        let mut calls = Vec::new(alloc);
+        for _ in 0..len {
+            calls.push(drawn_call(&mut state, keys))?;
+        }
+        comes_to::<Narrow>(alloc, &calls)?;
     }
-    Ok(calls)
+    Ok(())
+}
+
+/// The decimal digits of a number.
+fn digits(number: u32) -> [u8; 6] {
+    let mut digits = [b'0'; 6];
+    let mut left = number;
+    for digit in digits.iter_mut() {
+        *digit = b'0' + (left % 10) as u8;
+        left /= 10;
+    }
+    digits
+}
+
+/// Six pairs of bytes, each one of two as a bit of the number says. All such keys have one hash.
+fn colliding(number: u32) -> [u8; 12] {
+    let mut key = *b"bCbCbCbCbCbC";
+    let mut left = number;
+    for pair in key.chunks_exact_mut(2) {
+        if left % 2 == 1 {
+            pair.copy_from_slice(b"cb");
+        }
+        left /= 2;
+    }
+    key
+}
+
+/// Slices of some keys.
+fn slices_of<const N: usize>(alloc: Global, keys: &[[u8; N]]) -> Result<Vec<&[u8]>, Fail> {
+    let mut slices = Vec::new(alloc);
+    for key in keys {
+        slices.push(key.as_slice())?;
+    }
+    Ok(slices)
 }
 
 #[test]
 fn drawn_calls_come_to_what_a_list_of_records_does(rt: HostRuntime) -> Result<(), Fail> {
     let mut state = 0x9e3779b97f4a7c15;
-    for _ in 0..20000u32 {
-        let calls = drawn_script(rt.alloc(), &mut state)?;
-        comes_to::<Narrow>(rt.alloc(), &calls)?;
+    for _ in 0..400u32 {
+        all_come_to(rt.alloc(), &KEYS, 1, (draw(&mut state) % 16) as u32)?;
     }
+    Ok(())
+}
+
+#[test]
+fn drawn_calls_with_three_keys_do(rt: HostRuntime) -> Result<(), Fail> {
+    all_come_to(rt.alloc(), &[b"a", b"bc", b"cB"], 20, 300)
+}
+
+#[test]
+fn drawn_calls_with_three_thousand_keys_do(rt: HostRuntime) -> Result<(), Fail> {
+    let mut keys = Vec::new(rt.alloc());
+    for number in 0..3000u32 {
+        keys.push(digits(number))?;
+    }
+    let keys = slices_of(rt.alloc(), &keys)?;
+    all_come_to(rt.alloc(), &keys, 1, 3000)
+}
+
+#[test]
+fn drawn_calls_with_keys_of_one_table_do(rt: HostRuntime) -> Result<(), Fail> {
+    let mut keys = Vec::new(rt.alloc());
+    for number in 0..100000u32 {
+        let key = digits(number);
+        if hash(&key) % 256 == 7 {
+            keys.push(key)?;
+        }
+    }
+    let keys = slices_of(rt.alloc(), &keys)?;
+    all_come_to(rt.alloc(), &keys, 4, 1000)
+}
+
+#[test]
+fn drawn_calls_with_keys_of_one_hash_do(rt: HostRuntime) -> Result<(), Fail> {
+    let mut keys = Vec::new(rt.alloc());
+    for number in 0..64u32 {
+        keys.push(colliding(number))?;
+    }
+    let same = keys.iter().all(|key| hash(key) == hash(b"bCbCbCbCbCbC"));
+    let keys = slices_of(rt.alloc(), &keys)?;
+    all_come_to(rt.alloc(), &keys, 20, 300)?;
+    assert!(rt; same);
     Ok(())
 }

@@ -61,7 +61,8 @@ fn is_filled(alloc: Global, state: &mut u64) -> Result<bool, Fail> {
     for _ in 0..draw(state) % 200 {
         let n = (draw(state) >> 32) as usize % keys.len().max(1);
         let key = keys.get(n).copied().unwrap_or([0; 4]);
-        entries.push((hash(&key), maker.store().len() as u32))?;
+        let place = u32::try_from(maker.store().len()).unwrap_or(0);
+        entries.push((hash(&key), place))?;
         maker.put(Mode::Add, &key, b"")?;
     }
     let end = maker.store().len() as usize;

@@ -61,6 +61,13 @@ fn adds_tell_refused_memory(rt: HostRuntime) -> Result<(), Fail> {
     tell(&rt, came_of(rt.alloc(), &script, 2152)?)
 }
 
+#[test]
+fn many_adds_tell_refused_memory(rt: HostRuntime) -> Result<(), Fail> {
+    let mut script = [add(b"a", b"1"); 21];
+    script[20] = exists(b"a");
+    tell(&rt, came_of(rt.alloc(), &script, 2568)?)
+}
+
 /// Three records, of which the first is replaced.
 fn order() -> [Row<'static>; 4] {
     [
