@@ -12,6 +12,7 @@ mod lines;
 mod listing;
 mod loading;
 mod making;
+mod native_windows;
 mod querying;
 mod refusals;
 mod resuming;

@@ -29,16 +29,16 @@ const RECORDS: [(&[u8], &[u8]); 12] = [
 ];
 
 /// The sizes of the windows.
-const SIZES: [usize; 6] = [1, 2, 3, 7, 16, 4096];
+pub(super) const SIZES: [usize; 6] = [1, 2, 3, 7, 16, 4096];
 
 /// How many bytes a reader gives at once.
-const MOST: [usize; 3] = [1, 2, 4096];
+pub(super) const MOST: [usize; 3] = [1, 2, 4096];
 
 /// Gives a text, so many bytes at once at most.
 #[derive(Drop)]
-struct Dripping<'a> {
-    text: &'a [u8],
-    most: usize,
+pub(super) struct Dripping<'a> {
+    pub(super) text: &'a [u8],
+    pub(super) most: usize,
 }
 
 impl Read for Dripping<'_> {
