@@ -1,10 +1,12 @@
 // Whole writes, over writers that take little or fail.
 use super::fakes::FakeWriter;
 use cdb_form::{
-    OutFault, flush_whole, write_end, write_pieces, write_record, write_some, write_whole,
+    OutFault, flush_whole, write_end, write_list_record, write_map_key, write_map_record,
+    write_pieces, write_record, write_some, write_whole,
 };
-use std::alloc::Global;
+use std::alloc::{AllocError, Global};
 use std::prelude::*;
+use std::test::Fail;
 
 #[test]
 fn a_writer_that_fails_holds_a_front(rt: HostRuntime) {
@@ -71,4 +73,52 @@ fn a_text_is_written_or_a_front_of_it(rt: HostRuntime) {
         let answer = write_two(&mut writer);
         assert!(rt; writer.holds_front(answer, text, room), "room for {room}");
     }
+}
+
+/// Pieces one after the other.
+fn joined(alloc: Global, pieces: &[&[u8]]) -> Result<Vec<u8>, AllocError> {
+    let mut all = Vec::new(alloc);
+    for piece in pieces {
+        all.extend_from_slice(piece)?;
+    }
+    Ok(all)
+}
+
+/// The texts of a record in each style, and those of its key.
+fn written_texts(alloc: Global, key: &[u8], value: &[u8]) -> Result<Vec<u8>, Fail> {
+    let mut out: Vec<u8> = Vec::new(alloc);
+    write_record(&mut out, key, value)?;
+    write_map_record(&mut out, key, value)?;
+    write_list_record(&mut out, key)?;
+    write_map_key(&mut out, key)?;
+    Ok(out)
+}
+
+/// Whether a record of a key and a value of so many bytes each is written whole in each style.
+fn writes_all(alloc: Global, len: usize) -> Result<bool, Fail> {
+    let (key, value) = (vec![in alloc; b'k'; len]?, vec![in alloc; b'v'; len]?);
+    let (key, value): (&[u8], &[u8]) = (&key, &value);
+    let digits = format!(in alloc; "{len}")?;
+    let len = digits.as_bytes();
+    let native = joined(
+        alloc,
+        &[b"+", len, b",", len, b":", key, b"->", value, b"\n"],
+    )?;
+    let map = joined(alloc, &[key, b" ", value, b"\n"])?;
+    let list = joined(alloc, &[b"+", len, b":", key, b"\n", key, b"\n"])?;
+    let want = joined(alloc, &[&native, &map, &list])?;
+    let given = written_texts(alloc, key, value)?;
+    Ok(given.as_slice() == want.as_slice())
+}
+
+#[test]
+fn records_of_about_256_bytes_are_written_whole(rt: HostRuntime) -> Result<(), Fail> {
+    for first in [0, 115, 245] {
+        for more in 0..15 {
+            let len = first + more;
+            let is = writes_all(rt.alloc(), len)?;
+            assert!(rt; is, "{len}");
+        }
+    }
+    Ok(())
 }
