@@ -72,29 +72,6 @@ impl<R: Read> Source<R> {
         Ok(Some(one[0]))
     }
 
-    /// Does what `byte` does, and is not made part of its caller.
-    #[inline(never)]
-    fn asked_byte(&mut self) -> Result<Option<u8>, TextFault>
-        ensures bytes { IfOk result (λ found. MatchOption found
-            (IsAtEnd (R.remaining self.old.reader)
-            × Keeps (R.remaining self.old.reader) (R.remaining self.new.reader)
-            × IsAtEnd (R.remaining self.new.reader))
-            (λ b. Consumes (R.remaining self.old.reader) (R.remaining self.new.reader) (b ∷ []))) }
-        ensures counted { IfOk result (λ found.
-            MatchOption found (self.new.taken ≡ self.old.taken) (λ b.
-            self.new.taken ≡ self.old.taken + 1)) }
-        ensures fewer { OnOk result (self.new.asks < self.old.asks) }
-        ensures no_more { self.new.asks ≤ self.old.asks }
-        ensures spends { self.old.asks ≤ self.new.asks + 1001 }
-        ensures kept { OnErr result (Keeps (R.remaining self.old.reader)
-            (R.remaining self.new.reader)) }
-        ensures same { OnErr result (self.new.taken ≡ self.old.taken) }
-        ensures fails { IfErr result IsReadFault }
-        ensures spent { IfErr result (IsSpent self.new.asks) }
-    {
-        self.byte()
-    }
-
     /// The next byte, or `None` at the end. One that is at hand is taken without an ask, and counts
     /// as one.
     #[inline(always)]
@@ -125,7 +102,7 @@ impl<R: Read> Source<R> {
                 self.taken += 1;
                 Ok(Some(byte))
             }
-            None => self.asked_byte(),
+            None => self.byte(),
         }
     }
 
