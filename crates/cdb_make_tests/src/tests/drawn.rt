@@ -90,7 +90,7 @@ fn slices_of<const N: usize>(alloc: Global, keys: &[[u8; N]]) -> Result<Vec<&[u8
 #[test]
 fn drawn_calls_come_to_what_a_list_of_records_does(rt: HostRuntime) -> Result<(), Fail> {
     let mut state = 0x9e3779b97f4a7c15;
-    for _ in 0..400u32 {
+    for _ in 0..5000u32 {
         all_come_to(rt.alloc(), &KEYS, 1, (draw(&mut state) % 16) as u32)?;
     }
     Ok(())
