@@ -54,7 +54,7 @@ impl Read for Dripping<'_> {
 /// The records of a text that comes through a window, shown.
 fn shown(alloc: Global, text: &[u8], size: usize, most: usize) -> Result<Vec<u8>, Fail> {
     let mut reader = Dripping { text, most };
-    let mut maps = MapReader::new(alloc, Input::new(alloc, &mut reader, size)?);
+    let mut maps = MapReader::new(alloc, Input::new(alloc, &mut reader, size.max(1))?);
     let mut record = Record {
         key: Vec::new(alloc),
         value: Vec::new(alloc),
