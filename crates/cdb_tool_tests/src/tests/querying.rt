@@ -392,8 +392,12 @@ fn calls_of(alloc: Global, file: Vec<u8>, asked: Asked) -> u64 {
     fused(alloc, file, u64::MAX, asked).2.calls()
 }
 
-/// Whether the fault of the store is told, with a front of the text written, and the same query of
-/// what it holds writes all.
+/// How many calls a query makes up to its first value: for the head, a slot and a record.
+const FIRST: u64 = 3;
+
+/// Whether the fault of the store is reported, with a prefix of the text written, and the same query
+/// of what it holds writes all. After the first value a query may also write all at once: if bytes
+/// that were only read ahead failed, what is needed is read again.
 fn fails_and_goes_again(
     alloc: Global,
     file: Vec<u8>,
@@ -403,7 +407,9 @@ fn fails_and_goes_again(
 ) -> bool {
     let (answer, out, store) = fused(alloc, file, calls, asked);
     let is_told = answer == damaged(ReadFault::Device) && text.starts_with(&out);
-    is_told && answers::<Narrow>(alloc, store.into_inner().into_vec(), asked, Ok(()), text)
+    let is_mended = calls >= FIRST && answer == Ok(()) && out.as_slice() == text;
+    let file = store.into_inner().into_vec();
+    (is_told || is_mended) && answers::<Narrow>(alloc, file, asked, Ok(()), text)
 }
 
 /// The first call whose failure is not told so, or how many calls there are where they are too few.
