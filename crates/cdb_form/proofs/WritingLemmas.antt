@@ -1,10 +1,10 @@
 -- What a writer holds, piece after piece.
-use Rattle.std.proofs.Common.{◌≡◌, ℕ, ◌+◌, ◌<◌, List, ◌++◌, length, flat_map, get_or, take, drop, sym, ap, ◌∙◌, Option, Some, None, append_assoc}
-use Rattle.std.proofs.lemmas.List.{take-append-drop, drop_more}
+use Rattle.std.proofs.Common.{◌≡◌, ℕ, ◌+◌, ◌<◌, List, [], ◌++◌, length, flat_map, get_or, take, drop, sym, ap, subst, ◌∙◌, Option, Some, None, Result, Ok, Err, append_assoc}
+use Rattle.std.proofs.lemmas.List.{append-nil, take-append-drop, drop_more}
 use Rattle.std.proofs.lemmas.List.Concat.{flat_map-append}
 use Rattle.std.specs.Io.KnownBytes.{Appends, Keeps}
 use Rattle.std.proofs.Math.Seq.{take-add}
-use Rattle.cdb_form.specs.Views.KnownBytes.{AppendsFront}
+use Rattle.cdb_form.specs.Views.KnownBytes.{AppendsFront, Writes}
 
 pub appends_then : (old mid new : Option (List ℕ)) (xs ys : List ℕ) → Appends old mid xs → Appends mid new ys → Appends old new (xs ++ ys)
 appends_then None mid new xs ys a b = tt
@@ -31,6 +31,19 @@ front_then old mid new xs ys zs all a b e =
 -- what was taken so far is a front
 pub front_taken : (old mid new : Option (List ℕ)) (k : ℕ) (xs : List ℕ) → Appends old mid (take k xs) → Keeps mid new → AppendsFront old new xs
 front_taken old mid new k xs a b = record { front = take k xs; more = drop k xs; split = sym (take-append-drop k xs); appended = appends_kept old mid new (take k xs) a b }
+
+-- a fault left a front
+pub writes_front : {A E : Type 0} (r : Result A E) (e : E) (old new : Option (List ℕ)) (bytes : List ℕ) → r ≡ Err e → AppendsFront old new bytes → Writes r old new bytes
+writes_front r e old new bytes is front = rw is (record { ok = tt; err = front })
+
+-- the same bytes, said otherwise
+pub same_writes : {A E : Type 0} (r : Result A E) (old new : Option (List ℕ)) (xs ys : List ℕ) → xs ≡ ys → Writes r old new xs → Writes r old new ys
+same_writes r old new xs ys e w = subst (Writes r old new) e w
+
+-- the last part, behind the ones before it
+pub writes_last : {A E : Type 0} (r : Result A E) (old mid new : Option (List ℕ)) (xs ys all : List ℕ) → Appends old mid xs → Writes r mid new ys → all ≡ xs ++ ys → Writes r old new all
+writes_last (Ok x) old mid new xs ys all a w e = record { ok = subst (Appends old new) (sym e) (appends_then old mid new xs ys a w.ok); err = tt }
+writes_last (Err x) old mid new xs ys all a w e = record { ok = tt; err = front_then old mid new xs ys [] all a w.err (e ∙ ap (λ t. xs ++ t) (sym (append-nil ys))) }
 
 -- n bytes more of the rest
 pub written_more : (old mid new : Option (List ℕ)) (k n : ℕ) (xs ys : List ℕ) → Appends old mid (take k xs) → Appends mid new (take n ys) → ys ≡ drop k xs → Appends old new (take (k + n) xs)

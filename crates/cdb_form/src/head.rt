@@ -10,6 +10,9 @@ ghost use Rattle.cdb_form.specs.Views.Pairs.{pointer_pair, head_pairs, PairFits}
 use crate::pair::{Pair, pair_size, read_pair, write_pair};
 use crate::width::Width;
 
+/// How many bytes a head takes at most: that of words of 8 bytes.
+pub const GREATEST_HEAD: usize = 4096;
+
 /// Where a table lies.
 #[derive(Clone, Copy, Debug, PartialEq, Eq)]
 pub struct Pointer {

@@ -24,11 +24,14 @@ mod width;
 mod writing;
 
 pub use damage::Damage;
-pub use head::{Head, Pointer, head_size, read_head, read_pointer, write_head, write_pointer};
+pub use head::{
+    GREATEST_HEAD, Head, Pointer, head_size, read_head, read_pointer, write_head, write_pointer,
+};
 pub use header::{Header, read_header, write_header};
 pub use item::{Item, ItemKind};
 pub use key_hash::{hash, hash_more, home_slot, table_number};
-pub use pair::pair_size;
+pub use pair::{GREATEST_PAIR, pair_size};
+pub use reading::PIPE;
 pub use reading_whole::{Extent, InFault, read_whole};
 pub use record::Record;
 pub use slot::{Slot, read_slot, write_slot};

@@ -6,6 +6,9 @@ ghost use Rattle.cdb_form.specs.Views.Pairs.{pair_of, PairFits};
 
 use crate::width::Width;
 
+/// How many bytes two words take at most: those of words of 8 bytes.
+pub const GREATEST_PAIR: usize = 16;
+
 /// Two words.
 #[derive(Clone, Copy)]
 pub(crate) struct Pair {

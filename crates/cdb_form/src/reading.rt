@@ -11,6 +11,9 @@ ghost use Rattle.cdb_form.specs.declared.reading.Unread.TheVariants.{NoMemory};
 use std::alloc::AllocError;
 use std::io::{ErrorKind, Read};
 
+/// As many bytes as a pipe holds. So many are read or written at once, and make a window.
+pub const PIPE: usize = 65536;
+
 /// How often in a row a reader or a writer is asked again where a signal interrupts it.
 pub(crate) const RETRIES: u32 = 1000;
 

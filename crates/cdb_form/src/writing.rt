@@ -2,7 +2,7 @@
 ghost use Rattle.std.specs.Prelude.{codes, ◌+◌, ◌<◌, ◌≤◌, length, take, flat_map, ◌≡◌, IfOk, IfSome};
 ghost use Rattle.std.specs.Prelude.{OnOk, OnErr};
 ghost use Rattle.std.specs.Io.KnownBytes.{Appends, Keeps};
-ghost use Rattle.cdb_form.specs.Views.KnownBytes.{AppendsFront};
+ghost use Rattle.cdb_form.specs.Views.KnownBytes.{Writes};
 
 use crate::reading::RETRIES;
 use std::error::Error;
@@ -55,8 +55,7 @@ pub fn write_some<W: Write>(w: &mut W, bytes: &[u8]) -> Result<usize, OutFault>
 
 /// Writes all the bytes. After an `OutFault` the writer holds a prefix of them.
 pub fn write_whole<W: Write>(w: &mut W, bytes: &[u8]) -> Result<(), OutFault>
-    ensures ok { OnOk result (Appends (W.contents w.old) (W.contents w.new) bytes.now) }
-    ensures err { OnErr result (AppendsFront (W.contents w.old) (W.contents w.new) bytes.now) }
+    ensures { Writes result (W.contents w.old) (W.contents w.new) bytes.now }
 {
     let mut done = 0;
     while done < bytes.len() {
@@ -85,10 +84,7 @@ fn joined(pieces: &[&[u8]], line: &mut [u8]) -> Option<usize>
 /// Writes one piece after the other, each by a call of the writer.
 #[inline(never)]
 fn write_each<W: Write>(w: &mut W, pieces: &[&[u8]]) -> Result<(), OutFault>
-    ensures ok { OnOk result (Appends (W.contents w.old) (W.contents w.new) (flat_map (λ p.
-        p.now) pieces.now)) }
-    ensures err { OnErr result (AppendsFront (W.contents w.old) (W.contents w.new) (flat_map (λ p.
-        p.now) pieces.now)) }
+    ensures { Writes result (W.contents w.old) (W.contents w.new) (flat_map (λ p. p.now) pieces.now) }
 {
     for piece in pieces {
         write_whole(w, piece)?;
@@ -99,10 +95,7 @@ fn write_each<W: Write>(w: &mut W, pieces: &[&[u8]]) -> Result<(), OutFault>
 /// Writes one piece after the other. After an `OutFault` the writer holds a prefix of them all.
 #[inline(always)]
 pub fn write_pieces<W: Write>(w: &mut W, pieces: &[&[u8]]) -> Result<(), OutFault>
-    ensures ok { OnOk result (Appends (W.contents w.old) (W.contents w.new) (flat_map (λ p.
-        p.now) pieces.now)) }
-    ensures err { OnErr result (AppendsFront (W.contents w.old) (W.contents w.new) (flat_map (λ p.
-        p.now) pieces.now)) }
+    ensures { Writes result (W.contents w.old) (W.contents w.new) (flat_map (λ p. p.now) pieces.now) }
 {
     // Short pieces go as one, since each is a call of the writer.
     let mut line = [0u8; LINE];

@@ -1,6 +1,7 @@
 -- What a call does to the bytes that a reader has left or a writer holds, where they are known.
 use Rattle.std.specs.Io.KnownBytes.{Consumes, Appends}
 use Rattle.std.specs.Prelude.{drop, ◌+◌, ℕ, List, ◌++◌, length, ◌<◌, ◌≤◌, Option, ◌≡◌, ⊤, Some, None}
+use Rattle.std.specs.Prelude.{Result, OnOk, OnErr}
 
 -- no more than n bytes are lost
 pub record LosesAtMost (old new : Option (List ℕ)) (n : ℕ) : Type 0 where
@@ -30,6 +31,12 @@ pub record AppendsFront (old new : Option (List ℕ)) (bytes : List ℕ) : Type 
   pub more : List ℕ
   pub split : bytes ≡ front ++ more
   pub appended : Appends old new front
+
+-- some bytes were written: all of them, or after a fault a front of them
+pub record Writes {A E : Type 0} (result : Result A E) (old new : Option (List ℕ))
+    (bytes : List ℕ) : Type 0 where
+  pub ok : OnOk result (Appends old new bytes)
+  pub err : OnErr result (AppendsFront old new bytes)
 
 -- bytes were read of what was unread, and the count of bytes went from `from` to `to`
 pub record Took (old new : Option (List ℕ)) (from to : ℕ) : Type 0 where

@@ -2,7 +2,7 @@
 ghost use Rattle.std.specs.Prelude.{OnOk, OnErr};
 ghost use Rattle.std.specs.Io.KnownBytes.{Appends};
 ghost use Rattle.cdb_form.specs.Text.Amending.{removal_line};
-ghost use Rattle.cdb_form.specs.Views.KnownBytes.{AppendsFront};
+ghost use Rattle.cdb_form.specs.Views.KnownBytes.{Writes};
 
 use crate::writing::{OutFault, write_pieces};
 use itoa::Buffer;
@@ -11,10 +11,7 @@ use std::io::Write;
 /// Writes a removal of an amending text, with the shortest numeral. After an `OutFault` the writer
 /// holds a front of it.
 pub fn write_removal<W: Write>(w: &mut W, key: &[u8]) -> Result<(), OutFault>
-    ensures ok { OnOk result (Appends (W.contents w.old) (W.contents w.new)
-        (removal_line key.now)) }
-    ensures err { OnErr result (AppendsFront (W.contents w.old)
-        (W.contents w.new) (removal_line key.now)) }
+    ensures { Writes result (W.contents w.old) (W.contents w.new) (removal_line key.now) }
 {
     let mut klen = Buffer::new();
     let klen = klen.format(key.len()).as_bytes();

@@ -2,7 +2,7 @@
 ghost use Rattle.std.specs.Prelude.{OnOk, OnErr};
 ghost use Rattle.std.specs.Io.KnownBytes.{Appends};
 ghost use Rattle.cdb_form.specs.Text.List.{key_line, list_line};
-ghost use Rattle.cdb_form.specs.Views.KnownBytes.{AppendsFront};
+ghost use Rattle.cdb_form.specs.Views.KnownBytes.{Writes};
 
 use crate::writing::{OutFault, write_pieces};
 use itoa::Buffer;
@@ -11,9 +11,7 @@ use std::io::Write;
 /// Writes a key of a list text, with its length in the shortest decimal. After an `OutFault` the
 /// writer holds a front of it.
 pub fn write_list_record<W: Write>(w: &mut W, key: &[u8]) -> Result<(), OutFault>
-    ensures ok { OnOk result (Appends (W.contents w.old) (W.contents w.new) (list_line key.now)) }
-    ensures err { OnErr result (AppendsFront (W.contents w.old)
-        (W.contents w.new) (list_line key.now)) }
+    ensures { Writes result (W.contents w.old) (W.contents w.new) (list_line key.now) }
 {
     let mut klen = Buffer::new();
     let klen = klen.format(key.len()).as_bytes();
@@ -22,9 +20,7 @@ pub fn write_list_record<W: Write>(w: &mut W, key: &[u8]) -> Result<(), OutFault
 
 /// Writes a key and a newline. After an `OutFault` the writer holds a front of them.
 pub fn write_map_key<W: Write>(w: &mut W, key: &[u8]) -> Result<(), OutFault>
-    ensures ok { OnOk result (Appends (W.contents w.old) (W.contents w.new) (key_line key.now)) }
-    ensures err { OnErr result (AppendsFront (W.contents w.old)
-        (W.contents w.new) (key_line key.now)) }
+    ensures { Writes result (W.contents w.old) (W.contents w.new) (key_line key.now) }
 {
     write_pieces(w, &[key, b"\n"])
 }

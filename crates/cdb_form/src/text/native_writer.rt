@@ -4,7 +4,7 @@ ghost use Rattle.std.specs.Prelude.{take};
 ghost use Rattle.std.specs.Prelude.{OnOk, OnErr};
 ghost use Rattle.std.specs.Io.KnownBytes.{Appends};
 ghost use Rattle.cdb_form.specs.Text.Native.{spelling_of};
-ghost use Rattle.cdb_form.specs.Views.KnownBytes.{AppendsFront};
+ghost use Rattle.cdb_form.specs.Views.KnownBytes.{Writes};
 
 use crate::writing::{OutFault, write_pieces, write_whole};
 use itoa::Buffer;
@@ -56,10 +56,7 @@ fn put_lengths(line: &mut [u8], klen: usize, vlen: usize) -> usize
 /// Writes a record of a native text, with the shortest numerals. After an `OutFault` the writer
 /// holds a front of it.
 pub fn write_record<W: Write>(w: &mut W, key: &[u8], value: &[u8]) -> Result<(), OutFault>
-    ensures ok { OnOk result (Appends (W.contents w.old)
-        (W.contents w.new) (spelling_of (record { key = key.now; value = value.now }))) }
-    ensures err { OnErr result (AppendsFront (W.contents w.old)
-        (W.contents w.new) (spelling_of (record { key = key.now; value = value.now }))) }
+    ensures { Writes result (W.contents w.old) (W.contents w.new) (spelling_of (record { key = key.now; value = value.now })) }
 {
     // The lengths go as one piece, since each piece is a call of the writer.
     let mut line = [0u8; LONGEST];
@@ -69,8 +66,7 @@ pub fn write_record<W: Write>(w: &mut W, key: &[u8], value: &[u8]) -> Result<(),
 
 /// Writes the newline that ends a native text. After an `OutFault` the writer holds a front of it.
 pub fn write_end<W: Write>(w: &mut W) -> Result<(), OutFault>
-    ensures ok { OnOk result (Appends (W.contents w.old) (W.contents w.new) (codes "\n")) }
-    ensures err { OnErr result (AppendsFront (W.contents w.old) (W.contents w.new) (codes "\n")) }
+    ensures { Writes result (W.contents w.old) (W.contents w.new) (codes "\n") }
 {
     write_whole(w, b"\n")
 }

@@ -10,10 +10,10 @@ ghost use Rattle.cdb_form.specs.Views.Reading.{ReadsShort, HeadRead, HeaderRead,
 ghost use Rattle.cdb_form.specs.Views.Reading.{BodyRead, IsKept};
 ghost use Rattle.cdb_form.specs.Views.WalkFault.{IsDamage};
 
-use crate::head::{Head, head_size, read_head};
+use crate::head::{GREATEST_HEAD, Head, head_size, read_head};
 use crate::header::{Header, read_header};
-use crate::pair::pair_size;
-use crate::reading::{all_bytes, skip, vector};
+use crate::pair::{GREATEST_PAIR, pair_size};
+use crate::reading::{PIPE, all_bytes, skip, vector};
 use crate::record::Record;
 use crate::walk::fault::WalkFault;
 use crate::width::Width;
@@ -22,14 +22,6 @@ use std::io::Read;
 /// How often a reader may be asked for the bytes of one vector: each ask gives a byte or is one of
 /// at most 1000 in a row that signals interrupt, so no vector that memory can hold takes as many.
 const ASKS: u64 = u64::MAX;
-
-/// The bytes of the greatest head and of the greatest header, those of words of 8 bytes.
-const GREATEST_HEAD: usize = 4096;
-
-const GREATEST_HEADER: usize = 16;
-
-/// How many bytes of a key or value are requested at once, as many as a pipe holds.
-const PIECE: u64 = 65536;
 
 /// How many bytes of a value that is passed over are requested at once.
 const PASSED: usize = 512;
@@ -73,7 +65,7 @@ fn bytes<R: Read>(
         (R.remaining reader.old) (R.remaining reader.new) len) }
 {
     let mut asks = ASKS;
-    match vector(reader, &mut asks, into, len, PIECE) {
+    match vector(reader, &mut asks, into, len, PIPE as u64) {
         Ok(()) => Ok(()),
         Err(unread) => Err(WalkFault::of_reader(unread, early)),
     }
@@ -109,7 +101,7 @@ pub(crate) fn record_header<R: Read, L: Width>(
     ensures loses_fewer { OnErr result (LosesFewer
         (R.remaining reader.old) (R.remaining reader.new) (pair_size L.WORD)) }
 {
-    let mut bytes = [0u8; GREATEST_HEADER];
+    let mut bytes = [0u8; GREATEST_PAIR];
     let size = pair_size::<L>();
     fill(reader, &mut bytes[..size], early)?;
     Ok(read_header::<L>(&bytes[..size]))
