@@ -28,6 +28,14 @@ front_then old mid new xs ys zs all a b e =
       appended = appends_then old mid new xs b.front a b.appended;
     }
 
+-- a front of the first part
+pub front_in : (old new : Option (List ℕ)) (ys zs all : List ℕ) → AppendsFront old new ys → all ≡ ys ++ zs → AppendsFront old new all
+front_in old new ys zs all a e = record { front = a.front; more = a.more ++ zs; split = e ∙ ap (λ t. t ++ zs) a.split ∙ append_assoc a.front a.more zs; appended = a.appended }
+
+-- a front of the last part
+pub front_last : (old mid new : Option (List ℕ)) (xs ys all : List ℕ) → Appends old mid xs → AppendsFront mid new ys → all ≡ xs ++ ys → AppendsFront old new all
+front_last old mid new xs ys all a b e = front_then old mid new xs ys [] all a b (e ∙ ap (λ t. xs ++ t) (sym (append-nil ys)))
+
 -- what was taken so far is a front
 pub front_taken : (old mid new : Option (List ℕ)) (k : ℕ) (xs : List ℕ) → Appends old mid (take k xs) → Keeps mid new → AppendsFront old new xs
 front_taken old mid new k xs a b = record { front = take k xs; more = drop k xs; split = sym (take-append-drop k xs); appended = appends_kept old mid new (take k xs) a b }
@@ -37,6 +45,12 @@ pub writes_front : {A E : Type 0} (r : Result A E) (e : E) (old new : Option (Li
 writes_front r e old new bytes is front = rw is (record { ok = tt; err = front })
 
 -- the same bytes, said otherwise
+pub same_front : (old new : Option (List ℕ)) (xs ys : List ℕ) → xs ≡ ys → AppendsFront old new xs → AppendsFront old new ys
+same_front old new xs ys e a = subst (AppendsFront old new) e a
+
+pub same_appends : (old new : Option (List ℕ)) (xs ys : List ℕ) → xs ≡ ys → Appends old new xs → Appends old new ys
+same_appends old new xs ys e a = subst (Appends old new) e a
+
 pub same_writes : {A E : Type 0} (r : Result A E) (old new : Option (List ℕ)) (xs ys : List ℕ) → xs ≡ ys → Writes r old new xs → Writes r old new ys
 same_writes r old new xs ys e w = subst (Writes r old new) e w
 

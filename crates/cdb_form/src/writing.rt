@@ -1,6 +1,6 @@
 // Bytes to a writer.
 ghost use Rattle.std.specs.Prelude.{codes, ◌+◌, ◌<◌, ◌≤◌, length, take, flat_map, ◌≡◌, IfOk, IfSome};
-ghost use Rattle.std.specs.Prelude.{OnOk, OnErr};
+ghost use Rattle.std.specs.Prelude.{OnErr};
 ghost use Rattle.std.specs.Io.KnownBytes.{Appends, Keeps};
 ghost use Rattle.cdb_form.specs.Views.KnownBytes.{Writes};
 

@@ -1,6 +1,4 @@
 // A removal of an amending text to a writer.
-ghost use Rattle.std.specs.Prelude.{OnOk, OnErr};
-ghost use Rattle.std.specs.Io.KnownBytes.{Appends};
 ghost use Rattle.cdb_form.specs.Text.Amending.{removal_line};
 ghost use Rattle.cdb_form.specs.Views.KnownBytes.{Writes};
 

@@ -1,6 +1,4 @@
 // The texts of keys to a writer.
-ghost use Rattle.std.specs.Prelude.{OnOk, OnErr};
-ghost use Rattle.std.specs.Io.KnownBytes.{Appends};
 ghost use Rattle.cdb_form.specs.Text.List.{key_line, list_line};
 ghost use Rattle.cdb_form.specs.Views.KnownBytes.{Writes};
 

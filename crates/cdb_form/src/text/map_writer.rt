@@ -1,6 +1,4 @@
 // A map text to a writer.
-ghost use Rattle.std.specs.Prelude.{OnOk, OnErr};
-ghost use Rattle.std.specs.Io.KnownBytes.{Appends};
 ghost use Rattle.cdb_form.specs.Text.Map.{map_line};
 ghost use Rattle.cdb_form.specs.Views.KnownBytes.{Writes};
 

@@ -1,8 +1,6 @@
 // A native text to a writer.
 ghost use Rattle.std.specs.Prelude.{◌≡◌, ◌+◌, ◌<◌, ◌≤◌, ◌++◌, ◌∷◌, [], codes, decimal, length};
 ghost use Rattle.std.specs.Prelude.{take};
-ghost use Rattle.std.specs.Prelude.{OnOk, OnErr};
-ghost use Rattle.std.specs.Io.KnownBytes.{Appends};
 ghost use Rattle.cdb_form.specs.Text.Native.{spelling_of};
 ghost use Rattle.cdb_form.specs.Views.KnownBytes.{Writes};
 
