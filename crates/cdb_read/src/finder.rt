@@ -1,9 +1,8 @@
 // The values of a key, one after the other.
-ghost use Rattle.std.specs.Prelude.{◌≡◌, ℕ, ◌+◌, ◌<◌, ◌≤◌, List, IfOk, IfErr, OnOk, OnErr};
+ghost use Rattle.std.specs.Prelude.{◌≡◌, ℕ, ◌+◌, ◌<◌, ◌≤◌, List, IfOk, IfErr};
 ghost use Rattle.std.specs.Prelude.{MatchOption, Ok, Err, None};
 ghost use Rattle.std.specs.Bool.{Decides};
-ghost use Rattle.std.specs.Io.KnownBytes.{Appends};
-ghost use Rattle.cdb_form.specs.Views.KnownBytes.{AppendsFront};
+ghost use Rattle.cdb_form.specs.Views.KnownBytes.{Writes};
 ghost use Rattle.cdb_form.specs.Views.Pairs.{pointer_pair};
 ghost use Rattle.cdb_read.specs.Lookup.{bytes_of, lookup_of};
 ghost use Rattle.cdb_read.specs.Views.Inside.{LiesInside};
@@ -179,9 +178,7 @@ impl<'a, S: Store, L: Width> Finder<'a, S, L> {
         ensures stays { self.new.searching ≡ self.old.searching }
         ensures reads { OnlyReads S.Store self.old.reader.now.store self.new.reader.now.store }
         ensures copies { (b : List ℕ) → S.image self.new.reader.now.store b
-            → OnOk result (Appends (W.contents w.old) (W.contents w.new) (bytes_of b span)) }
-        ensures front { (b : List ℕ) → S.image self.new.reader.now.store b
-            → OnErr result (AppendsFront (W.contents w.old) (W.contents w.new) (bytes_of b span)) }
+            → Writes result (W.contents w.old) (W.contents w.new) (bytes_of b span) }
         ensures fails { IfErr result
             (CopyingFails S.Store self.old.reader.now.store self.new.reader.now.store) }
     {

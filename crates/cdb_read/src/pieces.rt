@@ -1,8 +1,7 @@
 // Bytes of a store, read piece by piece.
 ghost use Rattle.std.specs.Prelude.{◌≡◌, ℕ, ◌+◌, ◌<◌, ◌≤◌, ◌^◌, List, length, IfErr};
-ghost use Rattle.std.specs.Prelude.{OnOk, OnErr};
-ghost use Rattle.std.specs.Io.KnownBytes.{Appends};
-ghost use Rattle.cdb_form.specs.Views.KnownBytes.{AppendsFront};
+ghost use Rattle.std.specs.Prelude.{OnOk};
+ghost use Rattle.cdb_form.specs.Views.KnownBytes.{Writes};
 ghost use Rattle.cdb_store.specs.Images.{AfterRead};
 ghost use Rattle.cdb_read.specs.Lookup.{bytes_of};
 ghost use Rattle.cdb_store.specs.Reads.{OnlyReads};
@@ -43,9 +42,7 @@ pub(crate) fn copy_span<S: Store, W: Write>(
     requires fits { S.size store.old < 2 ^ 64 }
     ensures reads { OnlyReads S.Store store.old store.new }
     ensures copies { (b : List ℕ) → S.image store.new b
-        → OnOk result (Appends (W.contents w.old) (W.contents w.new) (bytes_of b span)) }
-    ensures front { (b : List ℕ) → S.image store.new b
-        → OnErr result (AppendsFront (W.contents w.old) (W.contents w.new) (bytes_of b span)) }
+        → Writes result (W.contents w.old) (W.contents w.new) (bytes_of b span) }
     ensures fails { IfErr result (CopyingFails S.Store store.old store.new) }
 {
     let mut done = 0;

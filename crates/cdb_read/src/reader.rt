@@ -1,10 +1,9 @@
 // A reader of a database in a store.
-ghost use Rattle.std.specs.Prelude.{◌≡◌, ℕ, ◌+◌, ◌<◌, ◌≤◌, ◌^◌, List, IfOk, IfErr, OnOk, OnErr};
-ghost use Rattle.std.specs.Io.KnownBytes.{Appends};
+ghost use Rattle.std.specs.Prelude.{◌≡◌, ℕ, ◌+◌, ◌<◌, ◌≤◌, ◌^◌, List, IfOk, IfErr, OnOk};
 ghost use Rattle.cdb_form.specs.Format.Pair.{head_size};
 ghost use Rattle.cdb_form.specs.Format.Reading.{head_at};
 ghost use Rattle.cdb_form.specs.Views.Pairs.{head_pairs};
-ghost use Rattle.cdb_form.specs.Views.KnownBytes.{AppendsFront};
+ghost use Rattle.cdb_form.specs.Views.KnownBytes.{Writes};
 ghost use Rattle.cdb_read.specs.Lookup.{bytes_of};
 ghost use Rattle.cdb_store.specs.Reads.{OnlyReads};
 ghost use Rattle.cdb_read.specs.Views.Reads.{OpeningFails, CopyingFails, ValueFails};
@@ -100,9 +99,7 @@ impl<S: Store, L: Width> Reader<S, L> {
         requires inside { span.place + span.len ≤ S.size self.old.store }
         ensures reads { OnlyReads S.Store self.old.store self.new.store }
         ensures copies { (b : List ℕ) → S.image self.new.store b
-            → OnOk result (Appends (W.contents w.old) (W.contents w.new) (bytes_of b span)) }
-        ensures front { (b : List ℕ) → S.image self.new.store b
-            → OnErr result (AppendsFront (W.contents w.old) (W.contents w.new) (bytes_of b span)) }
+            → Writes result (W.contents w.old) (W.contents w.new) (bytes_of b span) }
         ensures fails { IfErr result (CopyingFails S.Store self.old.store self.new.store) }
     {
         if self.window.covers(span.place, span.len) {

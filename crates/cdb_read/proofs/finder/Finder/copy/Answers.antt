@@ -7,6 +7,3 @@ invariant_of-self g c = record { inside = subst (λ (n : ℕ). IsTurnInside g.L.
 
 pub returns-clause-copies : goal.returns-clause-copies
 returns-clause-copies g c = search rules
-
-pub returns-clause-front : goal.returns-clause-front
-returns-clause-front g c = search rules
