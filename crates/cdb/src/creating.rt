@@ -3,9 +3,9 @@ ghost use Rattle.std.specs.Prelude.{◌≤◌, OnOk};
 ghost use Rattle.cdb_form.specs.Format.Pair.{head_size};
 
 use crate::files::{is_file_of, is_folder, is_same_file, made_store, opened_store};
-use crate::source::{InSource, STANDARD_INPUT, Source, WINDOW, sources_of};
+use crate::source::{InSource, STANDARD_INPUT, Source, sources_of};
 use cdb_files::{Builder, RealNames, ReplaceFault, replace_file};
-use cdb_form::{Width, write_whole};
+use cdb_form::{PIPE, Width, write_whole};
 use cdb_make::Mode;
 use cdb_store::{BufferedStore, FileStore, MemStore, Store};
 use cdb_tool::{
@@ -92,7 +92,7 @@ where
 {
     let alloc = rt.alloc();
     if creation.name == NO_FILE && creation.is_plain() {
-        let input = Input::new(alloc, input, WINDOW)?;
+        let input = Input::new(alloc, input, PIPE)?;
         return make_bytes_by::<L, _, O, InWindow>(alloc, input, output);
     }
     let base = base_of(rt, creation.base)?;
@@ -289,7 +289,7 @@ fn make_in_store<L: Width, S: Store + Drop, I: Read + Drop, E: Write>(
         Ok(lines) => lines,
         Err(_) => return (store, Err(Fault::NoMemory)),
     };
-    match BufferedStore::new(alloc, store, WINDOW) {
+    match BufferedStore::new(alloc, store, PIPE) {
         Ok(store) => {
             let (store, _, made) = make_run_by::<L, _, _, _, _, InSource>(
                 alloc, store, base, sources, options, &mut lines,

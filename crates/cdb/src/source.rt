@@ -1,6 +1,6 @@
 // The inputs of a create, of which several may be standard input.
 use crate::files::opened;
-use cdb_form::{AtHand, Kind, Record};
+use cdb_form::{AtHand, Kind, PIPE, Record};
 use cdb_tool::{Fault, InWindow, Input};
 use std::alloc::{AllocError, Global};
 use std::cell::{RefCell, RefMut};
@@ -8,9 +8,6 @@ use std::fs::File;
 use std::io::{self, Read};
 use std::rc::Rc;
 use std::rt::Files;
-
-/// How many bytes the window of the inputs has, and the buffer of a file that is written.
-pub(crate) const WINDOW: usize = 65536;
 
 /// The name of standard input.
 pub(crate) const STANDARD_INPUT: &str = "-";
@@ -135,7 +132,7 @@ impl<I: Read> AtHand<Source<I>> for InSource {
 
 /// A window over a reader, for several inputs.
 fn shared<R: Read + Drop>(alloc: Global, reader: R) -> Result<Shared<R>, Fault> {
-    Ok(Rc::new(alloc, RefCell::new(Input::new(alloc, reader, WINDOW)?))?)
+    Ok(Rc::new(alloc, RefCell::new(Input::new(alloc, reader, PIPE)?))?)
 }
 
 /// Opens the inputs of these names. No name is standard input, as `-` is.

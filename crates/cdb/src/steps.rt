@@ -5,8 +5,7 @@ ghost use Rattle.cdb_form.specs.Format.Pair.{head_size};
 
 use crate::creating::{Creation, create};
 use crate::files::{is_stream, opened, opened_store};
-use crate::source::WINDOW;
-use cdb_form::{Narrow, Wide, Width, write_pieces, write_whole};
+use cdb_form::{Narrow, PIPE, Wide, Width, write_pieces, write_whole};
 use cdb_store::MemStore;
 use cdb_tool::{
     BAD_USAGE, Command, Content, DONE, FAILED, Fault, Input, Output, Style, Usage, check_run,
@@ -86,7 +85,7 @@ where
     E: Write,
     requires { IsInRange (asked_in command.now) }
 {
-    let mut output = Output::new(rt.alloc(), output, WINDOW)?;
+    let mut output = Output::new(rt.alloc(), output, PIPE)?;
     if is_wide(command) {
         perform_in::<Wide, R, I, Output<O>, E>(rt, command, input, &mut output, errors)
     } else {
@@ -188,7 +187,7 @@ fn write_text<L: Width, I: Read + Drop, O: Write>(
     input: I,
     output: &mut O,
 ) -> Result<(), Fault> {
-    let input = Input::new(alloc, input, WINDOW)?;
+    let input = Input::new(alloc, input, PIPE)?;
     match content {
         Content::Records => dump_run::<L, _, O>(alloc, input, style, output),
         Content::Keys => list_run::<L, _, O>(alloc, input, style, output),
@@ -216,7 +215,7 @@ fn text<L: Width, R: Files<File = File> + AllocGlobal, I: Read + Drop, O: Write>
 
 /// A stream, taken into memory.
 fn taken<L: Width, I: Read + Drop>(alloc: Global, input: I) -> Result<MemStore, Fault> {
-    load(alloc, Input::new(alloc, input, WINDOW)?, L::GREATEST)
+    load(alloc, Input::new(alloc, input, PIPE)?, L::GREATEST)
 }
 
 /// Writes the statistics of a file, or of a stream: standard input, a pipe or a device.

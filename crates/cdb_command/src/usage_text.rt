@@ -1,7 +1,5 @@
 // The text that says how the program is called.
-ghost use Rattle.std.specs.Prelude.{OnOk, OnErr};
-ghost use Rattle.std.specs.Io.KnownBytes.{Appends};
-ghost use Rattle.cdb_form.specs.Views.KnownBytes.{AppendsFront};
+ghost use Rattle.cdb_form.specs.Views.KnownBytes.{Writes};
 ghost use Rattle.cdb_command.specs.Usage.{usage_text};
 
 use cdb_form::{OutFault, write_pieces};
@@ -9,8 +7,7 @@ use std::io::Write;
 
 /// Writes the usage text. After an `OutFault` the writer holds a prefix of it.
 pub fn write_usage<W: Write>(w: &mut W) -> Result<(), OutFault>
-    ensures ok { OnOk result (Appends (W.contents w.old) (W.contents w.new) usage_text) }
-    ensures err { OnErr result (AppendsFront (W.contents w.old) (W.contents w.new) usage_text) }
+    ensures { Writes result (W.contents w.old) (W.contents w.new) usage_text }
 {
     let lines: [&[u8]; 7] = [
         b"usage: cdb -q [-W] [-m] [-n number] database key\n",

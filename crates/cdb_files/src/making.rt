@@ -16,16 +16,13 @@ use crate::fault::FileFault;
 use crate::names::Names;
 use crate::real_names::RealNames;
 use crate::replace::{Builder, replace_file};
-use cdb_form::{Record, Width};
+use cdb_form::{PIPE, Record, Width};
 use cdb_make::{MakeFault, Maker, Mode};
 use cdb_store::{BufferedStore, FileStore, Store};
 use std::alloc::Global;
 use std::fs::File;
 use std::marker::PhantomData;
 use std::rt::Files;
-
-/// How many bytes of records are held before they are written.
-const WINDOW: usize = 65536;
 
 /// Builds the database of some records, in their order.
 #[derive(Drop)]
@@ -96,7 +93,7 @@ impl<'a, S: Store, L: Width> Builder<S> for Records<'a, L> {
             records,
             width: _,
         } = self;
-        match BufferedStore::new(alloc, store, WINDOW) {
+        match BufferedStore::new(alloc, store, PIPE) {
             Ok(buffered) => {
                 let (buffered, made) = put_all::<BufferedStore<S>, L>(alloc, buffered, records);
                 (buffered.discard(), made)

@@ -26,20 +26,6 @@ pub on_any_err : {T E : Type 0} {P : Type 0} (r : Result T E) → P → OnErr r 
 on_any_err (Ok x) h = tt
 on_any_err (Err e) h = h
 
-pub same_front : (old new : Option (List ℕ)) (xs ys : List ℕ) → xs ≡ ys → AppendsFront old new xs → AppendsFront old new ys
-same_front old new xs ys e a = subst (AppendsFront old new) e a
-
-pub same_appends : (old new : Option (List ℕ)) (xs ys : List ℕ) → xs ≡ ys → Appends old new xs → Appends old new ys
-same_appends old new xs ys e a = subst (Appends old new) e a
-
--- a front of the first part
-pub front_in : (old new : Option (List ℕ)) (ys zs all : List ℕ) → AppendsFront old new ys → all ≡ ys ++ zs → AppendsFront old new all
-front_in old new ys zs all a e = record { front = a.front; more = a.more ++ zs; split = e ∙ ap (λ t. t ++ zs) a.split ∙ append_assoc a.front a.more zs; appended = a.appended }
-
--- a front of the last part
-pub front_last : (old mid new : Option (List ℕ)) (xs ys all : List ℕ) → Appends old mid xs → AppendsFront mid new ys → all ≡ xs ++ ys → AppendsFront old new all
-front_last old mid new xs ys all a b e = front_then old mid new xs ys [] all a b (e ∙ ap (λ t. xs ++ t) (sym (append-nil ys)))
-
 pub written_front : (k : ℕ) (into xs rest : List ℕ) → into ≡ xs → length xs ≡ k → take k (into ++ rest) ≡ xs
 written_front k into xs rest e l = ap (λ t. take k (t ++ rest)) e ∙ take_at xs rest k l
 

@@ -17,11 +17,8 @@ use crate::entries::{push_entry, reserve_entry};
 use crate::fault::MakeFault;
 use crate::gap::Gap;
 use crate::list::EntryList;
-use cdb_form::{Header, Width, pair_size, write_header};
+use cdb_form::{GREATEST_PAIR, Header, Width, pair_size, write_header};
 use cdb_store::Store;
-
-/// The longest header, that of words of 8 bytes.
-const HEADER: usize = 16;
 
 /// Writes a record from `end` on and notes its entry, and answers where the records end then.
 ///
@@ -80,7 +77,7 @@ pub(crate) fn add<S: Store, L: Width>(
         klen: key.len() as u64,
         vlen: value.len() as u64,
     };
-    let mut words = [0u8; HEADER];
+    let mut words = [0u8; GREATEST_PAIR];
     let len = pair_size::<L>();
     write_header::<L>(header, &mut words[..len]);
     append_record(store, end, &words[..len], key, value)?;

@@ -15,7 +15,7 @@ use crate::fault::MakeFault;
 use crate::finish::finish;
 use crate::list::EntryList;
 use crate::maker::Maker;
-use cdb_form::{Width, head_size};
+use cdb_form::{GREATEST_HEAD, Width, head_size};
 use cdb_store::Store;
 use std::alloc::Global;
 use std::marker::PhantomData;
@@ -56,9 +56,6 @@ impl<S: Store + Drop, L: Width> From<Unfinished<S, L>> for MakeFault {
     }
 }
 
-/// The longest head, that of words of 8 bytes.
-const HEAD: usize = 4096;
-
 /// Leaves a head of all ones in a store and nothing else, and gives lists without entries. All
 /// memory is taken first.
 fn emptied<S: Store, L: Width>(alloc: Global, store: &mut S) -> Result<Vec<EntryList>, MakeFault>
@@ -72,7 +69,7 @@ fn emptied<S: Store, L: Width>(alloc: Global, store: &mut S) -> Result<Vec<Entry
         (MakingFault S.image S.size S.written S.failures store.old store.new) }
 {
     let lists = no_entries(alloc)?;
-    let head = [0xff; HEAD];
+    let head = [0xff; GREATEST_HEAD];
     let len = head_size::<L>();
     store.reserve(len as u64)?;
     store.cut(0)?;

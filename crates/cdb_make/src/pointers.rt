@@ -10,11 +10,8 @@ ghost use Rattle.cdb_make.specs.Parts.{head_bytes, tables_end};
 ghost use Rattle.cdb_make.specs.Views.EntryList.{lists_entries};
 
 use crate::list::EntryList;
-use cdb_form::{Head, Pointer, Width, head_size, pair_size, write_head};
+use cdb_form::{GREATEST_HEAD, Head, Pointer, Width, head_size, pair_size, write_head};
 use cdb_store::{Store, StoreFault};
-
-/// The longest head, that of words of 8 bytes.
-const HEAD: usize = 4096;
 
 /// The pointers to the tables of some lists of entries, the first of which begins at `end`.
 fn head_of<L: Width>(lists: &[EntryList], end: u64) -> Head
@@ -57,7 +54,7 @@ pub(crate) fn write_pointers<S: Store, L: Width>(
     ensures cause { HasCause (S.failures store.old) (S.failures store.new) result }
 {
     let head = head_of::<L>(lists, end);
-    let mut bytes = [0u8; HEAD];
+    let mut bytes = [0u8; GREATEST_HEAD];
     let bytes = &mut bytes[..head_size::<L>()];
     write_head::<L>(&head, bytes);
     store.write_at(0, bytes)

@@ -12,7 +12,7 @@ use Rattle.cdb_form.specs.declared.damage.Damage.TheVariants as damage
 use Rattle.cdb_form.specs.Format.Pair.{head_size}
 use Rattle.cdb_form.specs.Views.KnownBytes.{AppendsFront}
 use Rattle.cdb_form.proofs.WritingLemmas.{appends_then, front_then}
-use Rattle.cdb_make.proofs.Written.{front_last}
+use Rattle.cdb_form.proofs.WritingLemmas.{front_last}
 use Rattle.cdb_read.specs.Lookup.{Found, bytes_of, lookup_of, with_spans}
 use Rattle.cdb_read.specs.Views.Finder.{left_in, GivesSpan, GivesNone, FindingFails}
 use Rattle.cdb_store.specs.Reads.{OnlyReads}

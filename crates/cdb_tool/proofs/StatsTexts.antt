@@ -1,10 +1,9 @@
 -- A text that is written line after line, and the lines of distances.
-use Rattle.std.proofs.Common.{◌≡◌, ◌∙◌, ℕ, ◌+◌, ◌-◌, ◌<◌, suc, List, [], ◌++◌, flat_map, get_or, refl, sym, ap, subst, arith, append_assoc, codes, Option}
+use Rattle.std.proofs.Common.{◌≡◌, ◌∙◌, ℕ, ◌+◌, ◌-◌, ◌<◌, suc, List, [], ◌++◌, flat_map, get_or, refl, sym, ap, arith, append_assoc, codes, Option, Result}
 use Rattle.std.specs.List.{range_with_len}
-use Rattle.std.proofs.lemmas.List.{append-nil}
 use Rattle.std.specs.Io.KnownBytes.{Appends}
-use Rattle.cdb_form.specs.Views.KnownBytes.{AppendsFront}
-use Rattle.cdb_form.proofs.WritingLemmas.{appends_then, front_then}
+use Rattle.cdb_form.specs.Views.KnownBytes.{AppendsFront, Writes}
+use Rattle.cdb_form.proofs.WritingLemmas.{appends_then, front_then, writes_last}
 use Rattle.cdb_tool.specs.Runs.StatsText.{count_line, distance_line, distance_lines, records_line, keys_line, values_line, tables_line, sizes_line, stats_text}
 use Rattle.cdb_read.specs.declared.statistics.Stats.{Stats}
 use Rattle.cdb_tool.proofs.Courses.{appends_none}
@@ -32,11 +31,8 @@ pub amid_front : (start mid now : Option (List ℕ)) (text rest line less : List
 amid_front start mid now text rest line less a e one = front_then start mid now a.before line less text a.written one (a.split ∙ ap (λ t. a.before ++ t) e)
 
 -- the last line
-pub amid_last : (start mid now : Option (List ℕ)) (text rest : List ℕ) → IsAmid start mid text rest → Appends mid now rest → Appends start now text
-amid_last start mid now text rest a one = subst (Appends start now) (sym a.split) (appends_then start mid now a.before rest a.written one)
-
-pub amid_last_front : (start mid now : Option (List ℕ)) (text rest : List ℕ) → IsAmid start mid text rest → AppendsFront mid now rest → AppendsFront start now text
-amid_last_front start mid now text rest a one = amid_front start mid now text rest rest [] a (sym (append-nil rest)) one
+pub amid_last : {A E : Type 0} (r : Result A E) (start mid now : Option (List ℕ)) (text rest : List ℕ) → IsAmid start mid text rest → Writes r mid now rest → Writes r start now text
+amid_last r start mid now text rest a one = writes_last r start mid now a.before rest text a.written one a.split
 
 -- ---- the lines of distances
 

@@ -5,13 +5,9 @@ ghost use Rattle.std.specs.Io.KnownBytes.{Keeps, Consumes, IsAtEnd};
 ghost use Rattle.cdb_form.specs.Views.AtHand.{MovesRecord, MovesRun};
 ghost use Rattle.cdb_form.specs.Views.Pairs.{key_value};
 
-use cdb_form::{AtHand, Kind, Record, front_record};
+use cdb_form::{AtHand, Kind, PIPE, Record, front_record};
 use std::alloc::{AllocError, Global};
 use std::io::{self, ErrorKind, Read};
-
-/// From so many bytes on a read goes past the empty window, which saves a copy. That it is known
-/// when the program is compiled keeps shorter reads as fast as they are without it.
-const LONG: usize = 65536;
 
 /// Gives the bytes of a reader, which is asked for many at once.
 #[derive(Drop)]
@@ -179,7 +175,9 @@ impl<R: Read> Read for Input<R> {
 
     #[inline(always)]
     fn read(&mut self, buf: &mut [u8]) -> io::Result<usize> {
-        if LONG <= buf.len() && self.start == self.end {
+        // A read of as many bytes as a pipe holds goes past the empty window, which saves a copy. That
+        // their number is a constant keeps shorter reads as fast as they are without it.
+        if PIPE <= buf.len() && self.start == self.end {
             return match self.read_past(buf) {
                 Ok(n) => Ok(n),
                 Err(kind) => Err(io::Error::from(kind)),

@@ -1,7 +1,6 @@
 // What is said of a fault.
-ghost use Rattle.std.specs.Prelude.{◌≡◌, [], ◌++◌, Some, codes, OnOk, OnErr};
-ghost use Rattle.std.specs.Io.KnownBytes.{Appends};
-ghost use Rattle.cdb_form.specs.Views.KnownBytes.{AppendsFront};
+ghost use Rattle.std.specs.Prelude.{◌≡◌, [], ◌++◌, Some, codes};
+ghost use Rattle.cdb_form.specs.Views.KnownBytes.{Writes};
 ghost use Rattle.cdb_tool.specs.Message.{fault_message, numbered, said_place, fault_place};
 ghost use Rattle.cdb_tool.specs.Message.{read_place};
 ghost use Rattle.cdb_tool.specs.Message.{fault_text, said_line, fault_line, duplicate_line};
@@ -103,10 +102,7 @@ impl Error for Fault {}
 
 /// Writes what is named by a number.
 fn write_numbered<E: Write>(part: &[u8], number: u64, errors: &mut E) -> Result<(), OutFault>
-    ensures ok { OnOk result (Appends (E.contents errors.old) (E.contents errors.new)
-        (numbered part.now number)) }
-    ensures err { OnErr result
-        (AppendsFront (E.contents errors.old) (E.contents errors.new) (numbered part.now number)) }
+    ensures { Writes result (E.contents errors.old) (E.contents errors.new) (numbered part.now number) }
 {
     let mut digits = Buffer::new();
     let number = digits.format(number).as_bytes();
@@ -115,10 +111,7 @@ fn write_numbered<E: Write>(part: &[u8], number: u64, errors: &mut E) -> Result<
 
 /// Writes where a fault is.
 fn write_place<E: Write>(place: Place, errors: &mut E) -> Result<(), OutFault>
-    ensures ok { OnOk result (Appends (E.contents errors.old) (E.contents errors.new)
-        (said_place place)) }
-    ensures err { OnErr result
-        (AppendsFront (E.contents errors.old) (E.contents errors.new) (said_place place)) }
+    ensures { Writes result (E.contents errors.old) (E.contents errors.new) (said_place place) }
 {
     match place {
         Place::Nowhere => Ok(()),
@@ -138,10 +131,7 @@ fn write_place<E: Write>(place: Place, errors: &mut E) -> Result<(), OutFault>
 
 /// Writes where a fault is and what it is, in a line.
 fn write_said<E: Write>(fault: &Fault, errors: &mut E) -> Result<(), OutFault>
-    ensures ok { OnOk result (Appends (E.contents errors.old) (E.contents errors.new)
-        (said_line fault.now)) }
-    ensures err { OnErr result
-        (AppendsFront (E.contents errors.old) (E.contents errors.new) (said_line fault.now)) }
+    ensures { Writes result (E.contents errors.old) (E.contents errors.new) (said_line fault.now) }
 {
     write_whole(errors, b"cdb: ")?;
     write_place(fault.place(), errors)?;
@@ -151,10 +141,7 @@ fn write_said<E: Write>(fault: &Fault, errors: &mut E) -> Result<(), OutFault>
 /// Writes the line that says what a fault is, with its newline. A value that is missing has no
 /// line. After an `OutFault` the writer holds a prefix of it.
 pub fn write_fault<E: Write>(fault: &Fault, errors: &mut E) -> Result<(), OutFault>
-    ensures ok { OnOk result (Appends (E.contents errors.old) (E.contents errors.new)
-        (fault_line fault.now)) }
-    ensures err { OnErr result
-        (AppendsFront (E.contents errors.old) (E.contents errors.new) (fault_line fault.now)) }
+    ensures { Writes result (E.contents errors.old) (E.contents errors.new) (fault_line fault.now) }
 {
     match *fault {
         Fault::Missing => Ok(()),
@@ -169,11 +156,7 @@ pub(crate) fn write_duplicate<E: Write>(
     number: u64,
     errors: &mut E,
 ) -> Result<(), OutFault>
-    ensures ok { OnOk result (Appends (E.contents errors.old) (E.contents errors.new)
-        (duplicate_line input number)) }
-    ensures err { OnErr result
-        (AppendsFront (E.contents errors.old) (E.contents errors.new)
-        (duplicate_line input number)) }
+    ensures { Writes result (E.contents errors.old) (E.contents errors.new) (duplicate_line input number) }
 {
     let (mut inputs, mut numbers) = (Buffer::new(), Buffer::new());
     let input = inputs.format(input).as_bytes();

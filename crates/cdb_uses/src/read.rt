@@ -1,10 +1,9 @@
 // A caller of cdb_read.
-ghost use Rattle.std.specs.Prelude.{ℕ, ◌≤◌, List, All, OnOk, OnErr, IfErr};
+ghost use Rattle.std.specs.Prelude.{ℕ, ◌≤◌, List, All, IfErr};
 ghost use Rattle.std.specs.List.{concat};
-ghost use Rattle.std.specs.Io.KnownBytes.{Appends};
 ghost use Rattle.cdb_form.specs.Format.File.{file_size};
 ghost use Rattle.cdb_form.specs.Format.Record.{KeyValue, IsRecord};
-ghost use Rattle.cdb_form.specs.Views.KnownBytes.{AppendsFront};
+ghost use Rattle.cdb_form.specs.Views.KnownBytes.{Writes};
 ghost use Rattle.cdb_make.specs.Views.Maker.{IsFile};
 ghost use Rattle.cdb_read.specs.Values.{values_of};
 ghost use Rattle.cdb_store.specs.Reads.{OnlyReads};
@@ -28,13 +27,7 @@ pub fn write_values<L: Width, S: Store, W: Write>(
     ensures values { (rs : List KeyValue) → All IsRecord rs → file_size L.WORD rs ≤ L.GREATEST
         → IsFile L.WORD rs (S.image reader.old.store)
         → (b : List ℕ) → S.image reader.new.store b
-        → OnOk result (Appends (W.contents w.old) (W.contents w.new)
-        (concat (values_of key.now rs))) }
-    ensures front { (rs : List KeyValue) → All IsRecord rs → file_size L.WORD rs ≤ L.GREATEST
-        → IsFile L.WORD rs (S.image reader.old.store)
-        → (b : List ℕ) → S.image reader.new.store b
-        → OnErr result (AppendsFront (W.contents w.old) (W.contents w.new)
-        (concat (values_of key.now rs))) }
+        → Writes result (W.contents w.old) (W.contents w.new) (concat (values_of key.now rs)) }
     ensures sound { (rs : List KeyValue) → All IsRecord rs → file_size L.WORD rs ≤ L.GREATEST
         → IsFile L.WORD rs (S.image reader.old.store)
         → (b : List ℕ) → S.image reader.new.store b

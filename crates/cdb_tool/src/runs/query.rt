@@ -1,7 +1,6 @@
 // The values of a key.
-ghost use Rattle.std.specs.Prelude.{◌≡◌, ◌+◌, ◌≤◌, ℕ, List, Some, None, IfSome, IfErr, OnOk, OnErr};
-ghost use Rattle.std.specs.Io.KnownBytes.{Appends};
-ghost use Rattle.cdb_form.specs.Views.KnownBytes.{AppendsFront};
+ghost use Rattle.std.specs.Prelude.{◌≡◌, ◌+◌, ◌≤◌, ℕ, List, Some, None, IfSome, IfErr, OnOk};
+ghost use Rattle.cdb_form.specs.Views.KnownBytes.{Writes};
 ghost use Rattle.cdb_read.specs.Lookup.{bytes_of};
 ghost use Rattle.cdb_store.specs.Reads.{OnlyReads};
 ghost use Rattle.cdb_read.specs.Views.Reads.{CopyingFails};
@@ -28,11 +27,8 @@ fn write_value<L: Width, S: Store, W: Write>(
     ensures stays { finder.new.searching ≡ finder.old.searching }
     ensures reads { OnlyReads S.Store finder.old.reader.now.store finder.new.reader.now.store }
     ensures writes { (b : List ℕ) → S.image finder.new.reader.now.store b
-        → OnOk result (Appends (W.contents w.old) (W.contents w.new)
-        (value_text lines (bytes_of b value))) }
-    ensures front { (b : List ℕ) → S.image finder.new.reader.now.store b
-        → OnErr result (AppendsFront (W.contents w.old) (W.contents w.new)
-        (value_text lines (bytes_of b value))) }
+        → Writes result (W.contents w.old) (W.contents w.new)
+        (value_text lines (bytes_of b value)) }
     ensures fails { IfErr result
         (CopyingFails S.Store finder.old.reader.now.store finder.new.reader.now.store) }
 {

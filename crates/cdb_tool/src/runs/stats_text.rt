@@ -1,7 +1,6 @@
 // The text of statistics.
-ghost use Rattle.std.specs.Prelude.{◌++◌, codes, decimal, OnOk, OnErr};
-ghost use Rattle.std.specs.Io.KnownBytes.{Appends};
-ghost use Rattle.cdb_form.specs.Views.KnownBytes.{AppendsFront};
+ghost use Rattle.std.specs.Prelude.{◌++◌, codes, decimal};
+ghost use Rattle.cdb_form.specs.Views.KnownBytes.{Writes};
 ghost use Rattle.cdb_tool.specs.Runs.StatsText.{count_line, triple_line, distance_lines};
 ghost use Rattle.cdb_tool.specs.Runs.StatsText.{stats_text};
 
@@ -12,10 +11,7 @@ use std::io::Write;
 
 /// Writes a line of a number. After an `OutFault` the writer holds a prefix of it.
 fn write_count<W: Write>(words: &[u8], count: u64, w: &mut W) -> Result<(), OutFault>
-    ensures ok { OnOk result (Appends (W.contents w.old) (W.contents w.new)
-        (count_line words.now count)) }
-    ensures err { OnErr result
-        (AppendsFront (W.contents w.old) (W.contents w.new) (count_line words.now count)) }
+    ensures { Writes result (W.contents w.old) (W.contents w.new) (count_line words.now count) }
 {
     let mut digits = Buffer::new();
     let count = digits.format(count).as_bytes();
@@ -30,10 +26,7 @@ fn write_triple<W: Write>(
     third: u64,
     w: &mut W,
 ) -> Result<(), OutFault>
-    ensures ok { OnOk result (Appends (W.contents w.old) (W.contents w.new)
-        (triple_line words.now first second third)) }
-    ensures err { OnErr result (AppendsFront (W.contents w.old) (W.contents w.new)
-        (triple_line words.now first second third)) }
+    ensures { Writes result (W.contents w.old) (W.contents w.new) (triple_line words.now first second third) }
 {
     let mut digits = (Buffer::new(), Buffer::new(), Buffer::new());
     let first = digits.0.format(first).as_bytes();
@@ -44,10 +37,7 @@ fn write_triple<W: Write>(
 
 /// Writes the line of a distance below 10. After an `OutFault` the writer holds a prefix of it.
 fn write_distance<W: Write>(distance: usize, count: u64, w: &mut W) -> Result<(), OutFault>
-    ensures ok { OnOk result (Appends (W.contents w.old) (W.contents w.new)
-        (count_line (codes "distance " ++ decimal distance) count)) }
-    ensures err { OnErr result (AppendsFront (W.contents w.old) (W.contents w.new)
-        (count_line (codes "distance " ++ decimal distance) count)) }
+    ensures { Writes result (W.contents w.old) (W.contents w.new) (count_line (codes "distance " ++ decimal distance) count) }
 {
     let (mut distances, mut counts) = (Buffer::new(), Buffer::new());
     let distance = distances.format(distance).as_bytes();
@@ -57,10 +47,7 @@ fn write_distance<W: Write>(distance: usize, count: u64, w: &mut W) -> Result<()
 
 /// Writes the lines of all distances. After an `OutFault` the writer holds a prefix of them.
 fn write_distances<W: Write>(counts: &[u64; 11], w: &mut W) -> Result<(), OutFault>
-    ensures ok { OnOk result (Appends (W.contents w.old) (W.contents w.new)
-        (distance_lines counts.now)) }
-    ensures err { OnErr result
-        (AppendsFront (W.contents w.old) (W.contents w.new) (distance_lines counts.now)) }
+    ensures { Writes result (W.contents w.old) (W.contents w.new) (distance_lines counts.now) }
 {
     for distance in 0..10usize {
         write_distance(distance, counts[distance], w)?;
@@ -70,10 +57,7 @@ fn write_distances<W: Write>(counts: &[u64; 11], w: &mut W) -> Result<(), OutFau
 
 /// Writes the text of statistics. After an `OutFault` the writer holds a prefix of it.
 pub(crate) fn write_stats<W: Write>(stats: &Stats, w: &mut W) -> Result<(), OutFault>
-    ensures ok { OnOk result (Appends (W.contents w.old) (W.contents w.new)
-        (stats_text stats.now)) }
-    ensures err { OnErr result
-        (AppendsFront (W.contents w.old) (W.contents w.new) (stats_text stats.now)) }
+    ensures { Writes result (W.contents w.old) (W.contents w.new) (stats_text stats.now) }
 {
     write_count(b"records", stats.records, w)?;
     let words = b"key lengths least/average/greatest";

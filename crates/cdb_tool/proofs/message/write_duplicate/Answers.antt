@@ -1,7 +1,6 @@
 use Rattle.std.proofs.Common.{◌≡◌, ◌∙◌, ◌++◌, [], List, ℕ, sym, ap, append_assoc}
-use Rattle.std.proofs.lemmas.Result.{on_ok_weaker}
 use Rattle.std.specs.Prelude.{codes, decimal}
-use Rattle.cdb_make.proofs.Written.{on_err, same_front, same_appends}
+use Rattle.cdb_form.proofs.WritingLemmas.{same_writes}
 use Rattle.cdb_tool.specs.Message.{duplicate_line, numbered}
 use Rattle.cdb_tool.proofs.message.write_duplicate.Goals as goal
 
@@ -19,14 +18,8 @@ line_is x y i j a b =
     ∙ ap (λ t. codes "cdb: input " ++ (decimal i ++ (codes ": record " ++ (t ++ (codes ": duplicate key\n" ++ []))))) b
     ∙ sym (in_five i j)
 
-pub returns-clause-ok : goal.returns-clause-ok
-returns-clause-ok g c =
-    on_ok_weaker c.write_pieces.result
-    (same_appends _ _ _ _ (line_is _ _ c.args.input c.args.number (c.as_bytes-input.ensures.value ∙ c.format.ensures.text) (c.as_bytes-number.ensures.value ∙ c.format-2.ensures.text)))
-    c.write_pieces.ensures.ok
-
-pub returns-clause-err : goal.returns-clause-err
-returns-clause-err g c =
-    on_err c.write_pieces.result
-    (same_front _ _ _ _ (line_is _ _ c.args.input c.args.number (c.as_bytes-input.ensures.value ∙ c.format.ensures.text) (c.as_bytes-number.ensures.value ∙ c.format-2.ensures.text)))
-    c.write_pieces.ensures.err
+pub returns : goal.returns
+returns g c =
+    same_writes c.write_pieces.result _ _ _ _
+    (line_is _ _ c.args.input c.args.number (c.as_bytes-input.ensures.value ∙ c.format.ensures.text) (c.as_bytes-number.ensures.value ∙ c.format-2.ensures.text))
+    c.write_pieces.ensures

@@ -13,7 +13,7 @@ pub returns-in-Ok-write_values-clause-values : goal.returns-in-Ok-write_values-c
 returns-in-Ok-write_values-clause-values g c = λ rs h.
     let held = held_within c.args.maker rs c.args.maker.store.bytes.items refl h in
     let made = file_opened ghosts (c.in-Ok.ensures.file rs h) c.in-Ok-open.ensures.reads in
-    c.in-Ok-write_values.ensures.values rs held.0 held.1 made c.write_values.new.reader.store.bytes.items refl
+    (c.in-Ok-write_values.ensures.values rs held.0 held.1 made c.write_values.new.reader.store.bytes.items refl).ok
 
 pub returns-in-Err-write_values-clause-fails : goal.returns-in-Err-write_values-clause-fails
 returns-in-Err-write_values-clause-fails g c = λ rs h.
@@ -21,4 +21,4 @@ returns-in-Err-write_values-clause-fails g c = λ rs h.
     let made = file_opened ghosts (c.in-Ok.ensures.file rs h) c.in-Ok-open.ensures.reads in
     let b = c.write_values.new.reader.store.bytes.items in
     let e = c.in-Err-write_values.ensures in
-    writer_fails ghosts c.in-Ok-open.reader.store c.write_values.new.reader.store _ _ _ c.in-Err-write_values.fault refl (e.sound rs held.0 held.1 made b refl) (e.front rs held.0 held.1 made b refl)
+    writer_fails ghosts c.in-Ok-open.reader.store c.write_values.new.reader.store _ _ _ c.in-Err-write_values.fault refl (e.sound rs held.0 held.1 made b refl) (e.values rs held.0 held.1 made b refl).err

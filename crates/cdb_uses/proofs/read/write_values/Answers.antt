@@ -3,6 +3,7 @@ use Rattle.cdb_read.specs.Views.Reads.{CopyingFails}
 use Rattle.cdb_read.specs.Lookup.{with_span}
 use Rattle.std.proofs.Common.{rules, ap, ◌∙◌, refl}
 use Rattle.std.proofs.lemmas.Result.{err_from_is_err_and}
+use Rattle.cdb_form.proofs.WritingLemmas.{writes_front}
 use Rattle.cdb_store.proofs.Reading.{reads_more}
 use Rattle.cdb_uses.proofs.Asking.{asked_none, asked_more, asked_all, asked_front, copied_front, finds_within, finder_fails, reads_none, same_left}
 use Rattle.cdb_uses.proofs.read.write_values.Goals as goal
@@ -28,7 +29,7 @@ loop-span-preserved g c =
       reads = reads_more (reads_more inv.reads c.next.ensures.reads) copy.reads;
       asked = asked_more g.L.Width.WORD c.args.key.now _ _ _ _ _ _ _ _ c.in-Some.span inv.asked (λ b is. c.next.ensures.reads.images b (copy.reads.images b is))
           (λ b is. one.first b (copy.reads.images b is) ∙ ap (with_span c.in-Some.span) (same_left {s = g.S.Store} {l = g.L.Width} g.L.Width.WORD b c.next.new.self c.copy.new.self copy.key copy.stays))
-          (λ b is. c.in_ok-copy.ensures.copies b is);
+          (λ b is. (c.in_ok-copy.ensures.copies b is).ok);
     }
 
 pub returns-in_err-span-clause-sound : goal.returns-in_err-span-clause-sound
@@ -50,22 +51,23 @@ returns-clause-values g c = λ rs are room file b is.
     let none = rw c.in_default.is at c.in_ok-span.ensures.gives in
     let here : g.S.Store.image c.next.new.self.reader.now.store b = search rules in
     let was = c.next.ensures.reads.images b here in
-    asked_all w c.args.key.now rs _ _ (λ x. left_in w x c.loop-span.finder) _ _ b inv.asked was (none.none b here) (file.each b (inv.asked.images b was))
-    (finds_within w g.L.Width.TOP g.L.Width.GREATEST rs c.args.key.now g.met.L.Width.four_or_eight g.met.L.Width.top_is g.met.L.Width.greatest_fits.0 are room)
+    let all = asked_all w c.args.key.now rs _ _ (λ x. left_in w x c.loop-span.finder) _ _ b inv.asked was (none.none b here) (file.each b (inv.asked.images b was))
+        (finds_within w g.L.Width.TOP g.L.Width.GREATEST rs c.args.key.now g.met.L.Width.four_or_eight g.met.L.Width.top_is g.met.L.Width.greatest_fits.0 are room) in
+    record { ok = all; err = tt }
 
-pub returns-in_err-span-clause-front : goal.returns-in_err-span-clause-front
-returns-in_err-span-clause-front g c = λ rs are room file b is.
+pub returns-in_err-span-clause-values : goal.returns-in_err-span-clause-values
+returns-in_err-span-clause-values g c = λ rs are room file b is.
     let p = err_from_is_err_and c.from_residual.result c.from_residual.ensures.1 in
     let inv = c.loop-span.invariant in
     let w = g.L.Width.WORD in
     let here : g.S.Store.image c.next.new.self.reader.now.store b = search rules in
     let was = c.next.ensures.reads.images b here in
-    rw p.1
+    writes_front _ _ _ _ _ p.1
     (asked_front w c.args.key.now rs _ _ (λ x. left_in w x c.loop-span.finder) _ _ b inv.asked was (file.each b (inv.asked.images b was))
     (finds_within w g.L.Width.TOP g.L.Width.GREATEST rs c.args.key.now g.met.L.Width.four_or_eight g.met.L.Width.top_is g.met.L.Width.greatest_fits.0 are room))
 
-pub returns-in_err-copy-clause-front : goal.returns-in_err-copy-clause-front
-returns-in_err-copy-clause-front g c = λ rs are room file b is.
+pub returns-in_err-copy-clause-values : goal.returns-in_err-copy-clause-values
+returns-in_err-copy-clause-values g c = λ rs are room file b is.
     let p = err_from_is_err_and c.from_residual-in_err-copy.result c.from_residual-in_err-copy.ensures.1 in
     let inv = c.loop-span.invariant in
     let w = g.L.Width.WORD in
@@ -73,6 +75,6 @@ returns-in_err-copy-clause-front g c = λ rs are room file b is.
     let mid = c.copy.ensures.reads.images b here in
     let was = c.next.ensures.reads.images b mid in
     let one = rw c.in-Some.is at c.in_ok-span.ensures.gives in
-    rw p.1
-    (copied_front w c.args.key.now rs _ _ (λ x. left_in w x c.loop-span.finder) (λ x. left_in w x c.next.new.self) _ _ _ b c.in-Some.span inv.asked was (one.first b mid) (c.in_err-copy.ensures.front b here) (file.each b (inv.asked.images b was))
+    writes_front _ _ _ _ _ p.1
+    (copied_front w c.args.key.now rs _ _ (λ x. left_in w x c.loop-span.finder) (λ x. left_in w x c.next.new.self) _ _ _ b c.in-Some.span inv.asked was (one.first b mid) (c.in_err-copy.ensures.copies b here).err (file.each b (inv.asked.images b was))
     (finds_within w g.L.Width.TOP g.L.Width.GREATEST rs c.args.key.now g.met.L.Width.four_or_eight g.met.L.Width.top_is g.met.L.Width.greatest_fits.0 are room))

@@ -15,7 +15,7 @@ loop-value-preserved g c =
       written = written_more {s = g.S.Store} {l = g.L.Width} _ _ _ _ c.next.new.self c.write_value.new.finder _ _ _ inv.written.spans c.in-Some.value
           (found_still {s = g.S.Store} {l = g.L.Width} _ _ _ c.next.new.self c.write_value.new.finder _ found written.reads written.key written.stays)
           (λ b is. inv.written.written b (c.next.ensures.reads.images b (written.reads.images b is)))
-          (λ b is. c.in_ok-write_value.ensures.writes b is);
+          (λ b is. (c.in_ok-write_value.ensures.writes b is).ok);
     }
 
 pub returns-in_err-value-clause-fails : goal.returns-in_err-value-clause-fails
@@ -35,4 +35,4 @@ returns-in_err-write_value-clause-fails g c =
     let found = found_still {s = g.S.Store} {l = g.L.Width} _ _ _ c.next.new.self c.write_value.new.finder _ next written.reads written.key written.stays in
     rw (p.1, p.2)
     (value_fails {s = g.S.Store} {l = g.L.Width} _ _ c.args.finder.now c.next.new.self c.write_value.new.finder _ _ _ _ c.in-Some.value c.in_err-write_value.field-0.0 found next.reads.failures c.in_err-write_value.ensures.fails
-    (λ b is. inv.written.written b (c.next.ensures.reads.images b (written.reads.images b is))) (λ b is. c.in_err-write_value.ensures.front b is))
+    (λ b is. inv.written.written b (c.next.ensures.reads.images b (written.reads.images b is))) (λ b is. (c.in_err-write_value.ensures.writes b is).err))

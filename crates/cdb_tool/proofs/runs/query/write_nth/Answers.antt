@@ -40,7 +40,7 @@ returns-in_err-write_value g c =
     rw (p.1, p.2)
     (handed_back c.write_value.new.finder.reader.now.store _ (search rules)
     (copying_fails _ g.S.Store _ _ c.next.new.self.reader.now.store _ _ _ c.in_err-write_value.field-0.0 next.reads written.reads c.args.reader.now.long c.in_err-write_value.ensures.fails
-    (λ b is. nth_front {s = g.S.Store} {l = g.L.Width} _ _ _ _ c.write_value.new.finder _ _ _ _ inv.passed.spans c.in-Some.value b found count is inv.passed.kept (c.in_err-write_value.ensures.front b is))))
+    (λ b is. nth_front {s = g.S.Store} {l = g.L.Width} _ _ _ _ c.write_value.new.finder _ _ _ _ inv.passed.spans c.in-Some.value b found count is inv.passed.kept (c.in_err-write_value.ensures.writes b is).err)))
 
 pub returns-then-left-eq0 : goal.returns-then-left-eq0
 returns-then-left-eq0 g c =
@@ -53,7 +53,7 @@ returns-then-left-eq0 g c =
     let next = found_more {s = g.S.Store} {l = g.L.Width} _ _ _ c.loop-value.finder c.next.new.self _ c.in-Some.value inv.passed.found c.next.ensures.reads one in
     let found = found_still {s = g.S.Store} {l = g.L.Width} _ _ _ c.next.new.self c.write_value.new.finder _ next written.reads written.key written.stays in
     handed_back c.write_value.new.finder.reader.now.store _ (search rules)
-    (nth_written {s = g.S.Store} {l = g.L.Width} _ _ _ _ c.write_value.new.finder _ _ _ _ inv.passed.spans c.in-Some.value found count c.args.reader.now.long inv.passed.kept (λ b is. c.in_ok-write_value.ensures.writes b is))
+    (nth_written {s = g.S.Store} {l = g.L.Width} _ _ _ _ c.write_value.new.finder _ _ _ _ inv.passed.spans c.in-Some.value found count c.args.reader.now.long inv.passed.kept (λ b is. (c.in_ok-write_value.ensures.writes b is).ok))
 
 pub returns : goal.returns
 returns g c = grind (arith, common_steps)
