@@ -48,6 +48,7 @@ ALIKE = {
         ["asks_before_a_replacement", "asks_with_a_replacement"],
         ["asks_before_a_replacement_of_four", "asks_with_a_replacement_of_four"],
         ["asks_before_a_removal", "asks_with_a_removal", "asks_with_a_removal_and_a_look"],
+        ["asks_before_a_first_look", "asks_with_a_first_look"],
         ["asks_before_a_longer_replacement", "asks_with_a_longer_replacement"],
         ["asks_before_a_long_record", "asks_with_a_long_record"],
     ],

@@ -9,7 +9,7 @@ use Rattle.cdb_store.specs.declared.store.Store.{Ghosts}
 use Rattle.cdb_store.specs.Laws.{HasNoImage}
 use Rattle.cdb_store.specs.Images.{TornWithin}
 use Rattle.cdb_form.specs.declared.width.Width.{Ghosts as Widths}
-use Rattle.cdb_form.specs.Format.Pair.{head_size}
+use Rattle.cdb_form.specs.Format.Pair.{WordPair, head_size}
 use Rattle.cdb_form.specs.Format.Record.{KeyValue, IsRecord, record_size}
 use Rattle.cdb_form.specs.Format.File.{file_size}
 use Rattle.cdb_form.proofs.Sizes.{size_split, sum_by-table_entries}
@@ -45,7 +45,7 @@ held_size {l = l} m rs size is_size h = record {
 }
 
 -- a look changes nothing but that images may go
-pub stays_looked : {S L : Type 0} {s : Ghosts S} {l : Widths L} {old new : Maker S L s l} → old.broken ≡ false → new.broken ≡ false → new.end ≡ old.end → new.lists ≡ old.lists
+pub stays_looked : {S L : Type 0} {s : Ghosts S} {l : Widths L} {old new : Maker S L s l} → old.broken ≡ false → new.broken ≡ false → new.end ≡ old.end → lists_entries new.lists.items ≡ lists_entries old.lists.items
     → NoNewImage (s.image old.store) (s.image new.store) → StaysWhole old new
 stays_looked {old = old} {new = new} was whole end lists few = record {
   was = was;
@@ -59,19 +59,19 @@ stays_looked {old = old} {new = new} was whole end lists few = record {
           stand = record {
             held = o.stand.held;
             ends = end ∙ o.stand.ends;
-            entries = ap (λ v. lists_entries v.items) lists ∙ o.stand.entries;
+            entries = lists ∙ o.stand.entries;
           };
         };
   };
 }
 
-pub writes_looked : {S L : Type 0} {s : Ghosts S} {l : Widths L} {old new : Maker S L s l} → old.broken ≡ false → new.broken ≡ false → new.end ≡ old.end → new.lists ≡ old.lists
+pub writes_looked : {S L : Type 0} {s : Ghosts S} {l : Widths L} {old new : Maker S L s l} → old.broken ≡ false → new.broken ≡ false → new.end ≡ old.end → lists_entries new.lists.items ≡ lists_entries old.lists.items
     → NoNewImage (s.image old.store) (s.image new.store) → s.written new.store ≡ s.written old.store → WritesNothing old new
 writes_looked was whole end lists few written = record { stays = stays_looked was whole end lists few; written = written }
 
 -- what a look that failed leaves
-pub fails_looked : {S L : Type 0} {s : Ghosts S} {l : Widths L} (old new : Maker S L s l) (t : S) (ls : List EntryList) (look : LookFault) (fault : MakeFault) → ls ≡ old.lists.items → fault ≡ look_fault look → old.broken ≡ false → new.broken ≡ is_foreign look
-    → new.end ≡ old.end → new.lists ≡ old.lists → new.store ≡ t → NoNewImage (s.image old.store) (s.image t) → s.written t ≡ s.written old.store
+pub fails_looked : {S L : Type 0} {s : Ghosts S} {l : Widths L} (old new : Maker S L s l) (t : S) (ls : List EntryList) (look : LookFault) (fault : MakeFault) → lists_entries ls ≡ lists_entries old.lists.items → fault ≡ look_fault look → old.broken ≡ false → new.broken ≡ is_foreign look
+    → new.end ≡ old.end → lists_entries new.lists.items ≡ lists_entries old.lists.items → new.store ≡ t → NoNewImage (s.image old.store) (s.image t) → s.written t ≡ s.written old.store
     → (look ≡ Failed → s.failures old.store < s.failures t) → (look ≡ Foreign → (rs : List KeyValue) → Stands l.WORD old.end (lists_entries ls) rs (s.image old.store) → HasNoImage (s.image t))
     → FailsLooking old new fault
 fails_looked {s = s} old new t ls Failed fault own is was broken end lists same few written failed foreign =
@@ -82,7 +82,7 @@ fails_looked {s = s} {l = l} old new t ls Foreign fault own is was broken end li
     subst (λ (f : MakeFault). FailsLooking old new f) (sym is) (record {
       broken = broken;
       same = λ already. absurd (let k : true ≡ false = sym already ∙ was in cc);
-      cause = λ rs h. subst (λ (v : _). HasNoImage (s.image v)) (sym same) (foreign refl rs (subst (λ (v : List EntryList). Stands l.WORD old.end (lists_entries v) rs (s.image old.store)) (sym own) (held_stand old rs h)));
+      cause = λ rs h. subst (λ (v : _). HasNoImage (s.image v)) (sym same) (foreign refl rs (subst (λ (v : List (List WordPair)). Stands l.WORD old.end v rs (s.image old.store)) (sym own) (held_stand old rs h)));
     })
 
 -- images of a store of which a part was moved or written

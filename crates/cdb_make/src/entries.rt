@@ -44,6 +44,15 @@ pub(crate) fn reserve_entry(
     list.reserve()
 }
 
+/// Indexes the entries of the list of a hash, before a look for it.
+pub(crate) fn catch_up(lists: &mut Vec<EntryList>, hash: u32)
+    requires { length lists.old.items ≡ 256 }
+    ensures all { length lists.new.items ≡ 256 }
+    ensures entries { lists_entries lists.new.items ≡ lists_entries lists.old.items }
+{
+    lists[table_number(u64::from(hash))].catch_up();
+}
+
 /// One more entry, for which there is room.
 pub(crate) fn push_entry(lists: &mut Vec<EntryList>, hash: u32, place: u64)
     requires all { length lists.old.items ≡ 256 }

@@ -9,11 +9,7 @@ use std::alloc::{AllocError, Global};
 /// How many entries of a list an index has at most, since their numbers are 32 bits wide.
 const MOST: usize = 4294967295;
 
-/// How many buckets an index has at first.
-const FEW: usize = 4;
-
-/// So many new entries are put into rings together, which costs the caches less. Until then each
-/// search compares them one by one.
+/// So many new entries are put into rings together, before a search. Fewer it compares one by one.
 const LATE: usize = 32;
 
 /// The first entries of a list in rings, a ring for the hashes of each bucket: 8 to 12 bytes an
@@ -25,6 +21,7 @@ pub(crate) struct Index {
     /// The next entry of each entry's bucket. After the last comes the first.
     next: Vec<u32>,
     ghost next_room: { length next.items ≤ vec_capacity next },
+    ghost ends_room: { length ends.items ≤ vec_capacity ends },
     ghost spread: { length next.items ≤ length ends.items },
     ghost most: { length next.items ≤ 2 ^ 32 - 1 },
 }
@@ -109,24 +106,19 @@ impl Index {
         rest + first_place(&hashes[rest..], hash)
     }
 
-    /// Makes room for one more entry. If memory is refused, the index stays.
-    pub(crate) fn reserve(&mut self, hashes: &[u32]) -> Result<(), AllocError>
-        requires linked { AreLinked self.old.ends.items self.old.next.items hashes.now }
-        requires room { length hashes.now ≤ index_room self.old }
-        ensures linked { AreLinked self.new.ends.items self.new.next.items hashes.now }
-        ensures kept { length self.old.next.items ≤ length self.new.next.items }
-        ensures ok { OnOk result (length hashes.now < index_room self.new) }
-        ensures full { OnErr result (index_room self.old ≤ length hashes.now) }
+    /// Makes room for one more entry than so many. The rings stay.
+    pub(crate) fn reserve(&mut self, count: usize) -> Result<(), AllocError>
+        requires { count ≤ index_room self.old }
+        ensures ends { self.new.ends.items ≡ self.old.ends.items }
+        ensures next { self.new.next.items ≡ self.old.next.items }
+        ensures ok { OnOk result (count < index_room self.new) }
+        ensures full { OnErr result (index_room self.old ≤ count) }
         ensures room { index_room self.old ≤ index_room self.new }
     {
-        if hashes.len() >= MOST {
-            return Ok(());
-        }
-        self.next.reserve(hashes.len() + 1 - self.next.len())?;
-        if hashes.len() == self.ends.len() {
-            self.ends.resize((2 * self.ends.len()).max(FEW), 0)?;
-            self.clear();
-            self.link_all(hashes);
+        if count < MOST {
+            let wanted = count + 1;
+            self.next.reserve(wanted.saturating_sub(self.next.len()))?;
+            self.ends.reserve(wanted.saturating_sub(self.ends.len()))?;
         }
         Ok(())
     }
@@ -136,8 +128,6 @@ impl Index {
         ensures none { self.new.next.items ≡ [] }
         ensures linked { (hashes : List ℕ)
             → AreLinked self.new.ends.items self.new.next.items hashes }
-        ensures wide { length self.new.ends.items ≡ length self.old.ends.items }
-        ensures capacity { vec_capacity self.new.next ≡ vec_capacity self.old.next }
         ensures room { index_room self.new ≡ index_room self.old }
     {
         self.next.clear();
@@ -155,6 +145,7 @@ impl Index {
         ensures cut { AreCut self.new.ends.items self.new.next.items hashes.now from (entry + 1) }
         ensures long { length self.new.next.items ≡ length self.old.next.items }
         ensures wide { length self.new.ends.items ≡ length self.old.ends.items }
+        ensures buckets { vec_capacity self.new.ends ≡ vec_capacity self.old.ends }
         ensures capacity { vec_capacity self.new.next ≡ vec_capacity self.old.next }
     {
         let bucket = self.bucket(hashes[entry]);
@@ -199,6 +190,7 @@ impl Index {
         ensures linked { AreLinked self.new.ends.items self.new.next.items hashes.now }
         ensures more { length self.new.next.items ≡ length self.old.next.items + 1 }
         ensures wide { length self.new.ends.items ≡ length self.old.ends.items }
+        ensures buckets { vec_capacity self.new.ends ≡ vec_capacity self.old.ends }
         ensures capacity { vec_capacity self.new.next ≡ vec_capacity self.old.next }
     {
         let entry = self.next.len();
@@ -213,31 +205,56 @@ impl Index {
         self.ends[bucket] = entry as u32 + 1;
     }
 
-    /// Puts each entry that is in no ring into that of its bucket.
-    fn link_all(&mut self, hashes: &[u32])
+    /// Puts the first `most` entries into the rings of their buckets.
+    fn link_up_to(&mut self, hashes: &[u32], most: usize)
         requires linked { AreLinked self.old.ends.items self.old.next.items hashes.now }
-        requires room { length hashes.now ≤ index_room self.old }
+        requires some { length self.old.next.items ≤ most }
+        requires within { most ≤ length hashes.now }
+        requires room { most ≤ vec_capacity self.old.next }
+        requires spread { most ≤ length self.old.ends.items }
+        requires most { most ≤ 2 ^ 32 - 1 }
         ensures linked { AreLinked self.new.ends.items self.new.next.items hashes.now }
-        ensures all { length self.new.next.items ≡ min (length hashes.now) (2 ^ 32 - 1) }
-        ensures wide { length self.new.ends.items ≡ length self.old.ends.items }
+        ensures all { length self.new.next.items ≡ most }
+        ensures buckets { vec_capacity self.new.ends ≡ vec_capacity self.old.ends }
         ensures capacity { vec_capacity self.new.next ≡ vec_capacity self.old.next }
     {
-        let most = hashes.len().min(MOST);
         while self.next.len() < most {
             self.link(hashes);
         }
     }
 
-    /// Puts the entries that are in no ring into those of their buckets, if they are many.
+    /// Takes as many buckets as there is room for, and all entries out of their rings.
+    fn widen(&mut self)
+        ensures none { self.new.next.items ≡ [] }
+        ensures linked { (hashes : List ℕ)
+            → AreLinked self.new.ends.items self.new.next.items hashes }
+        ensures wide { length self.new.ends.items ≡ vec_capacity self.old.ends }
+        ensures room { vec_capacity self.old.ends ≤ vec_capacity self.new.ends }
+        ensures capacity { vec_capacity self.new.next ≡ vec_capacity self.old.next }
+    {
+        let room = self.ends.capacity();
+        self.next.clear();
+        self.ends.clear();
+        // It takes no memory.
+        let _ = self.ends.resize(room, 0);
+    }
+
+    /// Puts the entries that are in no ring into those of their buckets, if they are many. It takes
+    /// no memory.
     pub(crate) fn catch_up(&mut self, hashes: &[u32])
         requires linked { AreLinked self.old.ends.items self.old.next.items hashes.now }
         requires room { length hashes.now ≤ index_room self.old }
         ensures linked { AreLinked self.new.ends.items self.new.next.items hashes.now }
         ensures near { min (length hashes.now) (2 ^ 32 - 1) < length self.new.next.items + 32 }
-        ensures room { index_room self.new ≡ index_room self.old }
+        ensures room { index_room self.old ≤ index_room self.new }
     {
-        if hashes.len().min(MOST) >= self.next.len() + LATE {
-            self.link_all(hashes);
+        let most = hashes.len().min(MOST);
+        if most < self.next.len() + LATE {
+            return;
         }
+        if most > self.ends.len() {
+            self.widen();
+        }
+        self.link_up_to(hashes, most);
     }
 }

@@ -21,7 +21,6 @@ pub(crate) struct EntryList {
     index: Index,
     ghost paired: { length hashes.items ≡ length places.items },
     ghost linked: { AreLinked index.ends.items index.next.items hashes.items },
-    ghost near: { min (length hashes.items) (2 ^ 32 - 1) < length index.next.items + 32 },
     ghost indexed: { length hashes.items ≤ index_room index },
     ghost hash_room: { length hashes.items ≤ vec_capacity hashes },
     ghost place_room: { length places.items ≤ vec_capacity places },
@@ -97,7 +96,7 @@ impl EntryList {
     {
         self.hashes.reserve(1)?;
         self.places.reserve(1)?;
-        self.index.reserve(&self.hashes)
+        self.index.reserve(self.hashes.len())
     }
 
     /// One more entry, for which there is room.
@@ -109,6 +108,13 @@ impl EntryList {
     {
         self.hashes.push_reserved(hash);
         self.places.push_reserved(place);
+    }
+
+    /// Indexes the entries that are not yet, if they are many. It takes no memory.
+    pub(crate) fn catch_up(&mut self)
+        ensures entries { list_entries self.new ≡ list_entries self.old }
+        ensures room { list_room self.old ≤ list_room self.new }
+    {
         self.index.catch_up(&self.hashes);
     }
 
@@ -142,7 +148,6 @@ impl EntryList {
         }
         self.hashes.truncate(kept);
         self.places.truncate(kept);
-        self.index.catch_up(&self.hashes);
     }
 
     /// Takes out the entries at the gaps, and lowers each other place by the gaps below it. The

@@ -8,6 +8,7 @@ ghost use Rattle.cdb_make.specs.Looks.{NoNewImage};
 ghost use Rattle.cdb_make.specs.Stands.{IsThere};
 ghost use Rattle.cdb_make.specs.Views.EntryList.{lists_entries, AreWithin, HasSpareGaps};
 
+use crate::entries::catch_up;
 use crate::fault::MakeFault;
 use crate::gap::Gap;
 use crate::list::EntryList;
@@ -152,7 +153,9 @@ impl<S: Store, L: Width> Maker<S, L> {
         if self.broken {
             return Err(MakeFault::Broken);
         }
-        match taking_out::exists::<S, L>(&mut self.store, &self.lists, hash(key), key, self.end) {
+        let hash = hash(key);
+        catch_up(&mut self.lists, hash);
+        match taking_out::exists::<S, L>(&mut self.store, &self.lists, hash, key, self.end) {
             Ok(there) => Ok(there),
             Err(fault) => Err(self.failed_look(fault)),
         }

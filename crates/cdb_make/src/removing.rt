@@ -9,6 +9,7 @@ ghost use Rattle.cdb_make.specs.Gaps.{AreApart, first_place};
 ghost use Rattle.cdb_make.specs.Stands.{Stands, AreGapsOf, AreTakenOut, WritesSurvivors};
 ghost use Rattle.cdb_make.specs.Views.EntryList.{lists_entries, AreClosed};
 
+use crate::entries::catch_up;
 use crate::fault::MakeFault;
 use crate::gap::all_sizes;
 use crate::lists::count_all;
@@ -34,7 +35,8 @@ impl<S: Store, L: Width> Maker<S, L> {
         ensures ok { OnOk result (WritesNothing self.old self.new) }
         ensures fails { IfErr result (FailsLooking self.old self.new) }
         ensures counts { SameCounts self.old self.new }
-        ensures lists { self.new.lists ≡ self.old.lists }
+        ensures entries { lists_entries self.new.lists.items
+            ≡ lists_entries self.old.lists.items }
         ensures reads { OnlyReads S.Store self.old.store self.new.store }
         ensures ok_failures { OnOk result (HasNotFailed self.old self.new) }
     {
@@ -42,6 +44,7 @@ impl<S: Store, L: Width> Maker<S, L> {
             return Err(MakeFault::Broken);
         }
         let hash = hash(key);
+        catch_up(&mut self.lists, hash);
         let (store, gaps) = (&mut self.store, &mut self.gaps);
         match taking_out::find::<S, L>(store, &self.lists, hash, key, self.end, gaps) {
             Ok(()) => Ok(self.gaps.len() as u64),

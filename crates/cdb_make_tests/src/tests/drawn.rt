@@ -40,15 +40,37 @@ fn drawn_call<'a>(state: &mut u64, keys: &[&'a [u8]]) -> Call<'a> {
     }
 }
 
-/// Runs scripts of so many calls that are drawn, with these keys. Each is to come to what a plain
-/// list of records does.
-fn all_come_to(alloc: Global, keys: &[&[u8]], scripts: u32, len: u32) -> Result<(), Fail> {
+/// Calls that are drawn, with one of some keys each. The first of them, so many, only add.
+fn drawn_calls<'a>(
+    alloc: Global,
+    state: &mut u64,
+    keys: &[&'a [u8]],
+    adds: u32,
+    len: u32,
+) -> Result<Vec<Call<'a>>, Fail> {
+    let mut calls = Vec::new(alloc);
+    for number in 0..len {
+        let mut call = drawn_call(state, keys);
+        if number < adds {
+            call.step = Step::Put(Mode::Add);
+        }
+        calls.push(call)?;
+    }
+    Ok(calls)
+}
+
+/// Runs scripts of so many calls that are drawn, with these keys; the first calls of each script
+/// only add. Each is to come to what a plain list of records does.
+fn all_come_to(
+    alloc: Global,
+    keys: &[&[u8]],
+    scripts: u32,
+    adds: u32,
+    len: u32,
+) -> Result<(), Fail> {
     let mut state = 0x9e3779b97f4a7c15;
     for _ in 0..scripts {
-        let mut calls = Vec::new(alloc);
-        for _ in 0..len {
-            calls.push(drawn_call(&mut state, keys))?;
-        }
+        let calls = drawn_calls(alloc, &mut state, keys, adds, len)?;
         comes_to::<Narrow>(alloc, &calls)?;
     }
     Ok(())
@@ -91,14 +113,14 @@ fn slices_of<const N: usize>(alloc: Global, keys: &[[u8; N]]) -> Result<Vec<&[u8
 fn drawn_calls_come_to_what_a_list_of_records_does(rt: HostRuntime) -> Result<(), Fail> {
     let mut state = 0x9e3779b97f4a7c15;
     for _ in 0..5000u32 {
-        all_come_to(rt.alloc(), &KEYS, 1, (draw(&mut state) % 16) as u32)?;
+        all_come_to(rt.alloc(), &KEYS, 1, 0, (draw(&mut state) % 16) as u32)?;
     }
     Ok(())
 }
 
 #[test]
 fn drawn_calls_with_three_keys_do(rt: HostRuntime) -> Result<(), Fail> {
-    all_come_to(rt.alloc(), &[b"a", b"bc", b"cB"], 20, 300)
+    all_come_to(rt.alloc(), &[b"a", b"bc", b"cB"], 20, 100, 300)
 }
 
 #[test]
@@ -108,7 +130,7 @@ fn drawn_calls_with_three_thousand_keys_do(rt: HostRuntime) -> Result<(), Fail> 
         keys.push(digits(number))?;
     }
     let keys = slices_of(rt.alloc(), &keys)?;
-    all_come_to(rt.alloc(), &keys, 1, 3000)
+    all_come_to(rt.alloc(), &keys, 1, 0, 3000)
 }
 
 #[test]
@@ -121,7 +143,7 @@ fn drawn_calls_with_keys_of_one_table_do(rt: HostRuntime) -> Result<(), Fail> {
         }
     }
     let keys = slices_of(rt.alloc(), &keys)?;
-    all_come_to(rt.alloc(), &keys, 4, 1000)
+    all_come_to(rt.alloc(), &keys, 4, 300, 1000)
 }
 
 #[test]
@@ -132,7 +154,7 @@ fn drawn_calls_with_keys_of_one_hash_do(rt: HostRuntime) -> Result<(), Fail> {
     }
     let same = keys.iter().all(|key| hash(key) == hash(b"bCbCbCbCbCbC"));
     let keys = slices_of(rt.alloc(), &keys)?;
-    all_come_to(rt.alloc(), &keys, 20, 300)?;
+    all_come_to(rt.alloc(), &keys, 20, 40, 300)?;
     assert!(rt; same);
     Ok(())
 }

@@ -63,9 +63,9 @@ fn adds_tell_refused_memory(rt: HostRuntime) -> Result<(), Fail> {
 
 #[test]
 fn many_adds_tell_refused_memory(rt: HostRuntime) -> Result<(), Fail> {
-    let mut script = [add(b"a", b"1"); 21];
-    script[20] = exists(b"a");
-    tell(&rt, came_of(rt.alloc(), &script, 2568)?)
+    let mut script = [add(b"a", b"1"); 41];
+    script[40] = exists(b"a");
+    tell(&rt, came_of(rt.alloc(), &script, 3088)?)
 }
 
 /// Three records, of which the first is replaced.
@@ -211,6 +211,23 @@ fn asks_with_a_removal(rt: HostRuntime) -> Result<(), Fail> {
 #[test]
 fn asks_with_a_removal_and_a_look(rt: HostRuntime) -> Result<(), Fail> {
     tell(&rt, make(rt.alloc(), 0, &gaps())?)
+}
+
+/// Many records of a key, and then the first look.
+fn many() -> [Row<'static>; 41] {
+    let mut rows = [(add(b"a", b"1"), ADDED, 10); 41];
+    rows[40] = (exists(b"a"), Answer::There(true), 0);
+    rows
+}
+
+#[test]
+fn asks_before_a_first_look(rt: HostRuntime) -> Result<(), Fail> {
+    tell(&rt, make(rt.alloc(), 0, &many()[..40])?)
+}
+
+#[test]
+fn asks_with_a_first_look(rt: HostRuntime) -> Result<(), Fail> {
+    tell(&rt, make(rt.alloc(), 0, &many())?)
 }
 
 #[test]

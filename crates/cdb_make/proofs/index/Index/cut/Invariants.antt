@@ -7,5 +7,6 @@ invariant-loop-entry l = record {
   cut : AreCut l.self.ends.items l.self.next.items l.hashes l.from l.entry;
   long : length l.self.next.items ≡ length l.fn.self.next.items;
   wide : length l.self.ends.items ≡ length l.fn.self.ends.items;
+  buckets : vec_capacity l.self.ends ≡ vec_capacity l.fn.self.ends;
   capacity : vec_capacity l.self.next ≡ vec_capacity l.fn.self.next;
 }

@@ -58,8 +58,8 @@ returns-clause-bounded c = λ most all.
     c.truncate.ensures.items c.truncate-2.ensures.items)
     (All-take (λ e. e.second ≤ most) k (entries_of hs ps) (entries_below most hs ps now))
 
-pub catch_up-requires-clause-linked : goal.catch_up-requires-clause-linked
-catch_up-requires-clause-linked c =
+pub invariant_of-self-clause-linked : goal.invariant_of-self-clause-linked
+invariant_of-self-clause-linked c =
     let s = c.args.self.now in
     let hs : List ℕ = s.hashes.items in
     let new : List ℕ = c.close_entries-kept.new.hashes in
@@ -70,13 +70,13 @@ catch_up-requires-clause-linked c =
     let held : length c.deref_mut.result.now ≡ length hs = ap length c.deref_mut.ensures.value in
     let places : length c.deref_mut-2.result.now ≡ length s.places.items = ap length c.deref_mut-2.ensures.value in
     let reached : length c.deref-2.result.now ≡ length s.places.items = ap length c.deref-2.ensures.value in
-    let cut : c.deref-4.result.now ≡ take kept new = c.deref-4.ensures.value ∙ c.truncate.ensures.items ∙ ap (take kept) (take_at new _ s.hashes.len long) in
+    let cut : c.truncate.new.self.items ≡ take kept new = c.truncate.ensures.items ∙ ap (take kept) (take_at new _ s.hashes.len long) in
     let is : AreLinked index.ends.items index.next.items hs = subst (AreLinked index.ends.items index.next.items) c.deref-3.ensures.value c.cut.ensures.linked in
     elim c.if-kept-linked.branch [
       | then-kept-linked w ↦
-          subst (λ v. AreLinked v.1.1.1.0.ends.items v.1.1.1.0.next.items c.deref-4.result.now) (sym w.self-is) (w.clear.ensures.linked c.deref-4.result.now)
+          subst (λ v. AreLinked v.1.1.1.0.ends.items v.1.1.1.0.next.items c.truncate.new.self.items) (sym w.self-is) (w.clear.ensures.linked c.truncate.new.self.items)
       | else-kept-linked w ↦
-          subst (λ v. AreLinked v.1.1.1.0.ends.items v.1.1.1.0.next.items c.deref-4.result.now) (sym w.self-is)
+          subst (λ v. AreLinked v.1.1.1.0.ends.items v.1.1.1.0.next.items c.truncate.new.self.items) (sym w.self-is)
           (subst (AreLinked index.ends.items index.next.items) (sym cut)
           (linked_front index.ends.items index.next.items hs new linked kept c.below-start.result (omega (arith, c.cut.ensures.left)) w.if-kept-linked.false
           (omega (arith, c.close_entries-kept.ensures.within, s.paired, s.hashes.ok.0)) (omega (arith, s.hashes.ok.0))

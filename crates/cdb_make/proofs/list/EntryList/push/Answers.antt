@@ -22,19 +22,13 @@ returns-clause-entries c =
     ∙ ap (entries_of (s.hashes.items ++ c.args.hash ∷ [])) c.push_reserved-2.ensures.items
     ∙ entries_of-push s.hashes.items s.places.items c.args.hash c.args.place s.paired
 
-pub catch_up-requires-clause-linked : goal.catch_up-requires-clause-linked
-catch_up-requires-clause-linked c =
+pub invariant_of-self-clause-linked : goal.invariant_of-self-clause-linked
+invariant_of-self-clause-linked c =
     let s = c.args.self.now in
-    subst (AreLinked s.index.ends.items s.index.next.items) (sym (c.deref.ensures.value ∙ c.push_reserved.ensures.items)) (linked_push s.index.ends.items s.index.next.items s.hashes.items c.args.hash s.linked)
-
-pub catch_up-requires-clause-room : goal.catch_up-requires-clause-room
-catch_up-requires-clause-room c =
-    let s = c.args.self.now in
-    let more : length c.deref.result.now ≡ length s.hashes.items + 1 = ap length (c.deref.ensures.value ∙ c.push_reserved.ensures.items) ∙ length-append s.hashes.items (c.args.hash ∷ []) in
-    omega (arith, more, length-entries_of s.hashes.items s.places.items s.paired, c.requires)
+    subst (AreLinked s.index.ends.items s.index.next.items) (sym c.push_reserved.ensures.items) (linked_push s.index.ends.items s.index.next.items s.hashes.items c.args.hash s.linked)
 
 pub invariant_of-self-clause-indexed : goal.invariant_of-self-clause-indexed
 invariant_of-self-clause-indexed c =
     let s = c.args.self.now in
     let more : length c.push_reserved.new.self.items ≡ length s.hashes.items + 1 = ap length c.push_reserved.ensures.items ∙ length-append s.hashes.items (c.args.hash ∷ []) in
-    omega (arith, more, length-entries_of s.hashes.items s.places.items s.paired, c.requires, c.catch_up.ensures.room)
+    omega (arith, more, length-entries_of s.hashes.items s.places.items s.paired, c.requires)

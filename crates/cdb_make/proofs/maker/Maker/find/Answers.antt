@@ -1,17 +1,18 @@
 use Rattle.std.proofs.Common.{refl, ap, sym, subst, ◌∙◌, Err, rules, arith}
 use Rattle.cdb_store.specs.Reads.{OnlyReads}
+use Rattle.cdb_make.specs.Views.EntryList.{lists_entries}
 use Rattle.cdb_make.proofs.Compare.{reads_fewer}
 use Rattle.cdb_make.proofs.Makers.{writes_looked, fails_looked}
 use Rattle.std.proofs.lemmas.Grind.{common_steps}
 use Rattle.cdb_make.proofs.maker.Maker.find.Goals as goal
 
 pub returns-in-Ok-clause-ok : goal.returns-in-Ok-clause-ok
-returns-in-Ok-clause-ok g c = writes_looked c.if-self.false c.if-self.false refl refl (reads_fewer c.find.ensures.reads) c.find.ensures.reads.written
+returns-in-Ok-clause-ok g c = writes_looked c.if-self.false c.if-self.false refl c.catch_up.ensures.entries (reads_fewer c.find.ensures.reads) c.find.ensures.reads.written
 
 pub returns-in-Err-clause-fails : goal.returns-in-Err-clause-fails
 returns-in-Err-clause-fails g c =
     let e = c.failed_look.ensures in
-    fails_looked {s = g.S.Store} {l = g.L.Width} _ _ c.find.new.store c.deref.result.now c.in-Err.fault _ c.deref.ensures.value e.fault c.if-self.false e.broken e.counts.end e.lists e.store (reads_fewer c.find.ensures.reads) c.find.ensures.reads.written
+    fails_looked {s = g.S.Store} {l = g.L.Width} _ _ c.find.new.store c.deref.result.now c.in-Err.fault _ (ap lists_entries c.deref.ensures.value ∙ c.catch_up.ensures.entries) e.fault c.if-self.false e.broken e.counts.end (ap (λ v. lists_entries v.items) e.lists ∙ c.catch_up.ensures.entries) e.store (reads_fewer c.find.ensures.reads) c.find.ensures.reads.written
     (λ h. c.find.ensures.failed (c.in-Err.is ∙ ap Err h)) (λ h. c.find.ensures.foreign (c.in-Err.is ∙ ap Err h))
 
 pub returns-in-Ok-clause-count : goal.returns-in-Ok-clause-count

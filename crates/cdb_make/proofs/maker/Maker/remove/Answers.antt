@@ -2,7 +2,6 @@ use Rattle.std.proofs.Common.{arith, refl, ◌<◌, length}
 use Rattle.std.proofs.lemmas.Result.{err_from_is_err_and}
 use Rattle.cdb_make.proofs.Makers.{removes_none, removes_some, fails_removing, comes_torn}
 use Rattle.cdb_make.proofs.Replacing.{fewer_within}
-use Rattle.std.proofs.lemmas.Grind.{common_steps}
 use Rattle.cdb_make.proofs.Following.{follows_looked, follows_moved, follows_then}
 use Rattle.cdb_make.proofs.maker.Maker.remove.Goals as goal
 

@@ -105,7 +105,6 @@ returns-in_err-exchange-clause-fails g c =
     let p = err_from_is_err_and c.from_residual-in_err-exchange.result c.from_residual-in_err-exchange.ensures.1 in
     let m = c.find.new.self in
     let e = c.in_ok-taken.ensures in
-    let more = writes_looked e.ok.stays.whole e.ok.stays.whole refl refl (record { no_other = c.reserve.ensures.images.no_other }) c.reserve.ensures.written in
     let sum : c.all_sizes-gone.result ≡ sum_by (λ (v : Gap). v.size) m.gaps.items = c.all_sizes-gone.ensures ∙ ap (sum_by (λ (v : Gap). v.size)) c.deref.ensures.value in
     let most = apart_sizes (head_size g.L.Width.WORD) m.gaps.items m.end e.apart in
     let w : ℕ = g.L.Width.WORD in
@@ -117,7 +116,7 @@ returns-in_err-exchange-clause-fails g c =
     let fit : m.end + 4 * w * m.count + whole_size w r ≤ m.limit + sum_by (λ (v : Gap). v.size) m.gaps.items + 4 * w * length m.gaps.items = omega (arith, c.size.ensures.is, c.if-not-has_room.ensures.room refl) in
     let would = would_replace {s = g.S.Store} {l = g.L.Width} c.args.self.now m r e.ok c.find.ensures.counts.limit e.gaps fit in
     rw (p.1, p.2)
-    (fails_exchange {s = g.S.Store} {l = g.L.Width} _ _ _ _ _ (writes_then _ m _ e.ok more) (omega (arith, c.find.ensures.reads.failures, c.reserve.ensures.failures)) (λ rs h. gaps_same c.reserve.ensures.images (e.gaps rs h))
+    (fails_exchange {s = g.S.Store} {l = g.L.Width} _ _ _ _ _ (writes_then _ m _ e.ok (writes_looked e.ok.stays.whole e.ok.stays.whole refl refl (record { no_other = c.reserve.ensures.images.no_other }) c.reserve.ensures.written)) (omega (arith, c.find.ensures.reads.failures, c.reserve.ensures.failures)) (λ rs h. gaps_same c.reserve.ensures.images (e.gaps rs h))
     (omega (arith, c.if-taken-eq0.false, e.count)) c.in_err-exchange.ensures.broken c.exchange.ensures.follows.comes
     (λ rs h. honest_comes (comes_then (comes_same c.reserve.ensures.images) c.exchange.ensures.follows.comes) (would rs h)) c.in_err-exchange.ensures.fails)
 
@@ -125,8 +124,7 @@ pub returns-clause-puts : goal.returns-clause-puts
 returns-clause-puts g c =
     let m = c.find.new.self in
     let e = c.in_ok-taken.ensures in
-    let more = writes_looked e.ok.stays.whole e.ok.stays.whole refl refl (record { no_other = c.reserve.ensures.images.no_other }) c.reserve.ensures.written in
-    puts_exchanged {s = g.S.Store} {l = g.L.Width} _ _ _ _ _ (writes_then _ m _ e.ok more) (λ rs h. gaps_same c.reserve.ensures.images (e.gaps rs h)) e.count (omega (arith, c.if-taken-eq0.false)) c.exchange.ensures.follows.comes c.in_ok-exchange.ensures.ok
+    puts_exchanged {s = g.S.Store} {l = g.L.Width} _ _ _ _ _ (writes_then _ m _ e.ok (writes_looked e.ok.stays.whole e.ok.stays.whole refl refl (record { no_other = c.reserve.ensures.images.no_other }) c.reserve.ensures.written)) (λ rs h. gaps_same c.reserve.ensures.images (e.gaps rs h)) e.count (omega (arith, c.if-taken-eq0.false)) c.exchange.ensures.follows.comes c.in_ok-exchange.ensures.ok
 
 pub invariant_of-self : goal.invariant_of-self
 invariant_of-self g c = grind (arith, common_steps)
