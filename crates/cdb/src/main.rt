@@ -17,13 +17,22 @@ use std::process::ExitCode;
 const NULL: &str = "/dev/null";
 
 fn main(rt: HostRuntime) -> ExitCode {
-    let _held = [held(&rt), held(&rt), held(&rt)];
+    let _held = all_held(&rt);
     let mut errors = rt.stderr();
     let status = match words_of(&rt) {
         Ok(words) => steps::run(&rt, words, rt.stdin(), rt.stdout(), &mut errors),
         Err(usage) => steps::refuse(&usage, &mut errors),
     };
     ExitCode::from(status)
+}
+
+/// What holds the places of the standard streams that are closed. If the first file that is opened
+/// gets none of their numbers, all are open.
+fn all_held(rt: &HostRuntime) -> [Option<File>; 3] {
+    match held(rt) {
+        None => [None, None, None],
+        Some(first) => [Some(first), held(rt), held(rt)],
+    }
 }
 
 /// What holds the place of a standard stream that is closed, if one is. Otherwise a file of the

@@ -135,6 +135,19 @@ fn shared<R: Read + Drop>(alloc: Global, reader: R) -> Result<Shared<R>, Fault> 
     Ok(Rc::new(alloc, RefCell::new(Input::new(alloc, reader, PIPE)?))?)
 }
 
+/// The window of standard input, if it is among these names.
+fn standard_of<I: Read + Drop>(
+    alloc: Global,
+    names: &[String],
+    input: I,
+) -> Result<Option<Shared<I>>, Fault> {
+    if names.iter().any(|name| name.as_str() == STANDARD_INPUT) {
+        Ok(Some(shared(alloc, input)?))
+    } else {
+        Ok(None)
+    }
+}
+
 /// Opens the inputs of these names. No name is standard input, as `-` is.
 pub(crate) fn sources_of<R: Files<File = File>, I: Read + Drop>(
     rt: &R,
@@ -147,16 +160,15 @@ pub(crate) fn sources_of<R: Files<File = File>, I: Read + Drop>(
         sources.push(Source::Standard(shared(alloc, input)?))?;
         return Ok(sources);
     }
-    let standard = shared(alloc, input)?;
+    let standard = standard_of(alloc, names, input)?;
     let files = shared(alloc, InHand(None))?;
     for name in names {
-        let source = if name.as_str() == STANDARD_INPUT {
-            Source::Standard(Rc::clone(&standard)?)
-        } else {
-            Source::File(Opened {
+        let source = match &standard {
+            Some(shared) if name.as_str() == STANDARD_INPUT => Source::Standard(Rc::clone(shared)?),
+            _ => Source::File(Opened {
                 file: Some(opened(rt, name.as_str())?),
                 window: Rc::clone(&files)?,
-            })
+            }),
         };
         sources.push(source)?;
     }
