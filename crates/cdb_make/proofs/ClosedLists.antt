@@ -1,10 +1,16 @@
 -- Lists of entries, one closed after another.
-use Rattle.std.proofs.Common.{◌≡◌, ℕ, ◌<◌, ◌≤◌, List, length, get_or}
+use Rattle.std.proofs.Common.{◌≡◌, ℕ, ◌+◌, ◌-◌, ◌^◌, ◌<◌, ◌≤◌, List, [], length, get_or, slice_set, refl, ap, sym, subst, ◌∙◌, inl, inr, arith, sum_by}
 use Rattle.std.specs.Prelude.{All}
+use Rattle.std.proofs.lemmas.Bool.{cases_eq}
+use Rattle.std.proofs.lemmas.Grind.{get_or-set_at}
+use Rattle.std.proofs.lemmas.List.{get_or-map, get_or-set_other, get_or_default, map-set, length-map}
+use Rattle.std.proofs.lemmas.List.Sums.{sum_by-set}
 use Rattle.cdb_form.specs.Format.Pair.{WordPair}
 use Rattle.cdb_make.specs.declared.gap.Gap.{Gap}
 use Rattle.cdb_make.specs.declared.list.EntryList.{EntryList}
-use Rattle.cdb_make.specs.Views.EntryList.{IsClosed}
+use Rattle.cdb_make.specs.Gaps.{AreApart, IsRising, first_place}
+use Rattle.cdb_make.proofs.Merge.{closed_below}
+use Rattle.cdb_make.specs.Views.EntryList.{IsClosed, list_entries, lists_entries}
 
 -- those below i are closed, and the rest are as they were
 pub record ClosedBelow (i : ℕ) (gaps : List Gap) (old new : List EntryList) : Type 0 where
@@ -14,3 +20,35 @@ pub record ClosedBelow (i : ℕ) (gaps : List Gap) (old new : List EntryList) : 
 -- no list has more entries
 abbrev pub NoneLonger : ℕ → List (List WordPair) → Type 0
 NoneLonger most ls = All (λ list. length list ≤ most) ls
+
+-- one list more is closed
+pub closed_more : (i : ℕ) (gs : List Gap) (old now : List EntryList) (e new : EntryList) → i < length now → IsClosed gs (get_or now i e) new → ClosedBelow i gs old now → ClosedBelow (i + 1) gs old (slice_set now i new)
+closed_more i gs old now e new lt closed below = record {
+  closed = λ k d low. elim (cases_eq k i) [
+    | inl here ↦
+        let was : get_or now i e ≡ get_or old k d = get_or_default now i e d lt ∙ ap (λ (n : ℕ). get_or now n d) (sym here) ∙ below.same k d (omega arith) in
+        let is : get_or (slice_set now i new) k d ≡ new = get_or-set_at now i k new d here lt in
+        subst (λ (v : EntryList). IsClosed gs v (get_or (slice_set now i new) k d)) was (subst (IsClosed gs (get_or now i e)) (sym is) closed)
+    | inr apart ↦ subst (IsClosed gs (get_or old k d)) (sym (get_or-set_other now i k new d apart)) (below.closed k d (omega arith))
+  ];
+  same = λ k d le. get_or-set_other now i k new d (λ at. omega arith) ∙ below.same k d (omega arith);
+}
+
+-- the gaps are closed in a list that they do not reach
+pub closed_still : (gs : List Gap) (l : EntryList) → AreApart 0 gs (2 ^ 63) → (IsRising 0 (list_entries l) → (k : ℕ) → k < length l.places.items → get_or l.places.items k 0 < first_place gs (2 ^ 64 - 1)) → IsClosed gs l l
+closed_still gs l apart low = record {
+  entries = λ r. closed_below l.hashes.items l.places.items gs (2 ^ 63) (2 ^ 64 - 1) l.paired apart (low r);
+  fewer = omega arith;
+  bounded = λ most all. all;
+  room = refl;
+}
+
+-- as many entries less as went from a list
+pub sum_gone : (ls : List EntryList) (i gone : ℕ) (d new : EntryList) → i < length ls → length (list_entries new) + gone ≡ length (list_entries (get_or ls i d))
+    → sum_by length (lists_entries (slice_set ls i new)) + gone ≡ sum_by length (lists_entries ls)
+sum_gone ls i gone d new lt went =
+    let all : List (List WordPair) = lists_entries ls in
+    let was : length (get_or all i []) ≡ length (list_entries (get_or ls i d)) = ap length (get_or-map list_entries ls i d [] lt) in
+    let now : sum_by length (lists_entries (slice_set ls i new)) ≡ sum_by length (slice_set all i (list_entries new)) = ap (sum_by length) (map-set list_entries ls i new) in
+    let sum = sum_by-set {X = List WordPair} length all i (list_entries new) [] (simp length-map (omega arith)) in
+    omega (arith, was, now, sum, went)

@@ -119,7 +119,7 @@ impl EntryList {
     }
 
     /// Whether each entry lies below a place.
-    fn is_below(&self, place: u64) -> bool
+    pub(crate) fn is_below(&self, place: u64) -> bool
         ensures { result ≡ true → IsRising 0 (list_entries self.now) → (k : ℕ)
             → k < length self.now.places.items → get_or self.now.places.items k 0 < place }
     {
@@ -127,12 +127,13 @@ impl EntryList {
         count == 0 || self.places[count - 1] < place
     }
 
-    /// Closes the gaps as `close` does, from the first entry that they reach on.
-    fn close_reached(&mut self, gaps: &[Gap])
+    /// Takes out the entries at the gaps, lowers each other place by the gaps below it, and
+    /// answers how many went. The room stays.
+    pub(crate) fn close(&mut self, gaps: &[Gap]) -> usize
         requires { AreApart 0 gaps.now (2 ^ 63) }
         ensures entries { IsRising 0 (list_entries self.old) → list_entries self.new
             ≡ closed_by 0 gaps.now (list_entries self.old) }
-        ensures fewer { length (list_entries self.new) ≤ length (list_entries self.old) }
+        ensures gone { length (list_entries self.new) + result ≡ length (list_entries self.old) }
         ensures bounded { (most : ℕ) → All (λ e. e.second ≤ most) (list_entries self.old)
             → All (λ e. e.second ≤ most) (list_entries self.new) }
         ensures room { list_room self.new ≡ list_room self.old }
@@ -142,27 +143,13 @@ impl EntryList {
         // The entries at gaps have one hash. Where they are in this list, one is at the first gap.
         let linked = entry_at(&self.places, start, gap);
         self.index.cut(&self.hashes, linked);
+        let count = self.places.len();
         let kept = close_entries(&mut self.hashes, &mut self.places, gaps, start);
         if kept < linked {
             self.index.clear();
         }
         self.hashes.truncate(kept);
         self.places.truncate(kept);
-    }
-
-    /// Takes out the entries at the gaps, and lowers each other place by the gaps below it. The
-    /// room stays.
-    pub(crate) fn close(&mut self, gaps: &[Gap])
-        requires { AreApart 0 gaps.now (2 ^ 63) }
-        ensures entries { IsRising 0 (list_entries self.old) → list_entries self.new
-            ≡ closed_by 0 gaps.now (list_entries self.old) }
-        ensures fewer { length (list_entries self.new) ≤ length (list_entries self.old) }
-        ensures bounded { (most : ℕ) → All (λ e. e.second ≤ most) (list_entries self.old)
-            → All (λ e. e.second ≤ most) (list_entries self.new) }
-        ensures room { list_room self.new ≡ list_room self.old }
-    {
-        if !self.is_below(first_place(gaps, u64::MAX)) {
-            self.close_reached(gaps);
-        }
+        count - kept
     }
 }

@@ -1,9 +1,9 @@
 // The lists of all tables.
-ghost use Rattle.std.specs.Prelude.{◌≡◌, ◌<◌, ◌≤◌, ◌^◌, length, sum_by, All};
+ghost use Rattle.std.specs.Prelude.{◌≡◌, ◌+◌, ◌<◌, ◌≤◌, ◌^◌, length, sum_by, All};
 ghost use Rattle.cdb_make.specs.Gaps.{AreApart};
 ghost use Rattle.cdb_make.specs.Views.EntryList.{entry_count, lists_entries, AreClosed};
 
-use crate::gap::Gap;
+use crate::gap::{Gap, first_place};
 use crate::list::EntryList;
 use cdb_form::table_number;
 
@@ -39,13 +39,21 @@ pub(crate) fn longest(lists: &[EntryList]) -> usize
     most
 }
 
-/// Takes the entries at the gaps out of each list, and lowers each other place by the gaps below
-/// it. Each list's room stays.
-pub(crate) fn close_lists(lists: &mut [EntryList], gaps: &[Gap])
-    requires { AreApart 0 gaps.now (2 ^ 63) }
-    ensures { AreClosed gaps.now lists.old lists.new }
+/// Takes the entries at the gaps out of each list, lowers each other place by the gaps below it, and
+/// answers how many went. Each list's room stays.
+pub(crate) fn close_lists(lists: &mut [EntryList], gaps: &[Gap]) -> u64
+    requires apart { AreApart 0 gaps.now (2 ^ 63) }
+    requires few { sum_by length (lists_entries lists.old) < 2 ^ 64 }
+    ensures closed { AreClosed gaps.now lists.old lists.new }
+    ensures gone { sum_by length (lists_entries lists.new) + result
+        ≡ sum_by length (lists_entries lists.old) }
 {
+    let first = first_place(gaps, u64::MAX);
+    let mut gone = 0;
     for list in lists.iter_mut() {
-        list.close(gaps);
+        if !list.is_below(first) {
+            gone += list.close(gaps) as u64;
+        }
     }
+    gone
 }

@@ -12,7 +12,6 @@ ghost use Rattle.cdb_make.specs.Views.EntryList.{lists_entries, AreClosed};
 use crate::entries::catch_up;
 use crate::fault::MakeFault;
 use crate::gap::all_sizes;
-use crate::lists::count_all;
 use crate::maker::Maker;
 use crate::taking_out;
 use cdb_form::{Width, hash};
@@ -90,16 +89,16 @@ impl<S: Store, L: Width> Maker<S, L> {
         ensures failures { S.failures self.old.store ≤ S.failures self.new.store }
     {
         self.broken = true;
-        let last = taking_out::close::<S, L>(
+        let left = taking_out::close::<S, L>(
             &mut self.store,
             &mut self.lists,
             &self.gaps,
             self.end,
         )?;
-        if count_all(&self.lists) + self.gaps.len() as u64 != self.count {
+        if left.gone != self.gaps.len() as u64 {
             return Err(MakeFault::Broken);
         }
-        Ok(last)
+        Ok(left.end)
     }
 
     /// Takes out every record of a key, and answers how many they were.

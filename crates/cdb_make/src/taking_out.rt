@@ -1,6 +1,6 @@
 // All records of a key, taken out of a store and of the lists: found first, and then closed over.
-ghost use Rattle.std.specs.Prelude.{◌≡◌, ℕ, [], List, ◌+◌, ◌-◌, ◌<◌, ◌≤◌, length, vec_capacity};
-ghost use Rattle.std.specs.Prelude.{IfOk, OnOk, OnErr, IsErrOf, sum_by};
+ghost use Rattle.std.specs.Prelude.{◌≡◌, ℕ, [], List, ◌+◌, ◌-◌, ◌^◌, ◌<◌, ◌≤◌, length};
+ghost use Rattle.std.specs.Prelude.{IfOk, OnOk, OnErr, IsErrOf, sum_by, vec_capacity};
 ghost use Rattle.cdb_store.specs.declared.store.StoreFault.TheVariants.{NoMemory};
 ghost use Rattle.cdb_store.specs.Images.{TornWithin, HasCause};
 ghost use Rattle.cdb_store.specs.Laws.{HasNoImage};
@@ -97,8 +97,17 @@ pub(crate) fn exists<S: Store, L: Width>(
     some_has::<S, L>(store, list, hash, key, end)
 }
 
+/// What is left once records were taken out.
+#[derive(Clone, Copy)]
+pub(crate) struct Left {
+    /// Where the records end.
+    pub(crate) end: u64,
+    /// How many entries went.
+    pub(crate) gone: u64,
+}
+
 /// Moves the bytes after the gaps down, takes the entries at the gaps out of the lists, and
-/// answers where the records end then. If there is no gap, nothing is done.
+/// answers what is left. If there is no gap, nothing is done.
 ///
 /// It takes no memory. `Device`: the lists are as they were, and the bytes below the first gap and
 /// those from `end` on stay.
@@ -107,24 +116,27 @@ pub(crate) fn close<S: Store, L: Width>(
     lists: &mut [EntryList],
     gaps: &[Gap],
     end: u64,
-) -> Result<u64, StoreFault>
+) -> Result<Left, StoreFault>
     requires inside { end ≤ S.size store.old }
     requires fits { end ≤ L.GREATEST }
     requires all { length lists.old ≡ 256 }
     requires apart { AreApart (head_size L.WORD) gaps.now end }
+    requires few { sum_by length (lists_entries lists.old) < 2 ^ 64 }
     ensures stands { (rs : List KeyValue) (key : List ℕ)
         → Stands L.WORD end (lists_entries lists.old) rs (S.image store.old)
         → AreGapsOf L.WORD key gaps.now rs (S.image store.old)
-        → IfOk result (λ last. AreTakenOut L.WORD last (lists_entries lists.new) key rs
+        → IfOk result (λ left. AreTakenOut L.WORD left.end (lists_entries lists.new) key rs
         (S.image store.new)) }
     ensures written { (rs : List KeyValue) (key : List ℕ)
         → Stands L.WORD end (lists_entries lists.old) rs (S.image store.old)
         → AreGapsOf L.WORD key gaps.now rs (S.image store.old)
         → OnOk result (WritesSurvivors L.WORD key rs (S.image store.new)
         (S.written store.old) (S.written store.new)) }
-    ensures within { IfOk result (λ last. (head_size L.WORD ≤ last) × (last ≤ end)) }
-    ensures lower { IfOk result (λ last. last + sum_by (λ g. g.size) gaps.now ≡ end) }
-    ensures none { gaps.now ≡ [] → result ≡ Ok end }
+    ensures within { IfOk result (λ left. (head_size L.WORD ≤ left.end) × (left.end ≤ end)) }
+    ensures lower { IfOk result (λ left. left.end + sum_by (λ g. g.size) gaps.now ≡ end) }
+    ensures gone { IfOk result (λ left. sum_by length (lists_entries lists.new) + left.gone
+        ≡ sum_by length (lists_entries lists.old)) }
+    ensures none { gaps.now ≡ [] → result ≡ Ok (record { end = end; gone = 0 }) }
     ensures none_lists { gaps.now ≡ [] → lists.new ≡ lists.old }
     ensures none_store { gaps.now ≡ [] → store.new ≡ store.old }
     ensures found { OnErr result (0 < length gaps.now) }
@@ -143,10 +155,13 @@ pub(crate) fn close<S: Store, L: Width>(
     ensures failed { OnErr result (S.failures store.old < S.failures store.new) }
 {
     if gaps.is_empty() {
-        return Ok(end);
+        return Ok(Left { end, gone: 0 });
     }
     let start = first_place(gaps, end);
     close_gaps(store, start, gaps, end)?;
-    close_lists(lists, gaps);
-    Ok(end - all_sizes(gaps))
+    let gone = close_lists(lists, gaps);
+    Ok(Left {
+        end: end - all_sizes(gaps),
+        gone,
+    })
 }

@@ -1,11 +1,15 @@
-use Rattle.std.proofs.Common.{◌≡◌, ℕ, List, get_or, slice_set, arith, ap, sym, subst, ◌∙◌, inl, inr}
-use Rattle.std.proofs.lemmas.Bool.{cases_eq}
-use Rattle.std.proofs.lemmas.Grind.{get_or-set_at}
-use Rattle.std.proofs.lemmas.List.{get_or_default, get_or-set_other}
+use Rattle.std.proofs.Common.{◌+◌, ◌<◌, ℕ, List, length, sum_by, get_or, ap, sym, subst, arith}
 use Rattle.cdb_make.specs.declared.gap.Gap.{Gap}
 use Rattle.cdb_make.specs.declared.list.EntryList.{EntryList}
-use Rattle.cdb_make.specs.Views.EntryList.{IsClosed}
+use Rattle.cdb_make.specs.Views.EntryList.{IsClosed, lists_entries}
+use Rattle.cdb_make.proofs.ClosedLists.{ClosedBelow, closed_more, closed_still, sum_gone}
+use Rattle.cdb_make.proofs.lists.close_lists.Goals.{then-not-is_below, else-not-is_below}
 use Rattle.cdb_make.proofs.lists.close_lists.Goals as goal
+
+pub overflow_add-gone : goal.overflow_add-gone
+overflow_add-gone c =
+    let s = sum_gone c.loop-list.lists c.loop-list.list-index c.close.result c.list-item.result c.close.new.self (omega (arith, c.loop-list.auto.lists, c.loop-list-test.true)) c.close.ensures.gone in
+    omega (arith, s, c.loop-list.invariant.gone, c.requires.few)
 
 pub loop-list-preserved : goal.loop-list-preserved
 loop-list-preserved c =
@@ -13,19 +17,22 @@ loop-list-preserved c =
     let old : List EntryList = c.args.lists.now in
     let now : List EntryList = c.loop-list.lists in
     let i : ℕ = c.loop-list.list-index in
-    let new : EntryList = c.close.new.self in
     let item : EntryList = c.list-item.result in
-    let reach = c.loop-list-test.true in
-    record {
-      closed = λ k d lt. elim (cases_eq k i) [
-        | inl here ↦
-            let was : get_or old k d ≡ get_or now i item =
-            sym (c.loop-list.invariant.same k d (omega arith)) ∙ ap (λ (n : ℕ). get_or now n d) here ∙ get_or_default now i d item (omega (arith, c.loop-list.auto.lists)) in
-            let is : get_or (slice_set now i new) k d ≡ new = get_or-set_at now i k new d here (omega (arith, c.loop-list.auto.lists)) in
-            let closed : IsClosed gs (get_or now i item) new = record { entries = c.close.ensures.entries; fewer = c.close.ensures.fewer; bounded = c.close.ensures.bounded; room = c.close.ensures.room } in
-            subst (λ (v : EntryList). IsClosed gs v (get_or (slice_set now i new) k d)) (sym was) (subst (IsClosed gs (get_or now i item)) (sym is) closed)
-        | inr apart ↦
-            subst (IsClosed gs (get_or old k d)) (sym (get_or-set_other now i k new d apart)) (c.loop-list.invariant.closed k d (omega arith))
-      ];
-      same = λ k d le. get_or-set_other now i k new d (λ at. omega arith) ∙ c.loop-list.invariant.same k d (omega arith);
-    }
+    let here : EntryList = get_or now i item in
+    let lt : i < length now = omega (arith, c.loop-list.auto.lists, c.loop-list-test.true) in
+    elim c.if-not-is_below.branch [
+      | then-not-is_below w ↦
+          let new : EntryList = w.close.new.self in
+          let e = w.close.ensures in
+          let closed : IsClosed gs here new = record { entries = e.entries; fewer = omega (arith, e.gone); bounded = e.bounded; room = e.room } in
+          record {
+            closed = subst (ClosedBelow (i + 1) gs old) (sym w.lists-is) (closed_more i gs old now item new lt closed c.loop-list.invariant.closed);
+            gone = omega (arith, sum_gone now i w.close.result item new lt e.gone, ap (λ v. sum_by length (lists_entries v)) w.lists-is, w.gone-is, c.loop-list.invariant.gone);
+          }
+      | else-not-is_below w ↦
+          let still : IsClosed gs here here = closed_still gs here c.requires.apart (λ r k low. let b = c.is_below.ensures w.if-not-is_below.false r k low in omega (arith, b, c.first_place-first.ensures)) in
+          record {
+            closed = subst (ClosedBelow (i + 1) gs old) (sym w.lists-is) (closed_more i gs old now item here lt still c.loop-list.invariant.closed);
+            gone = omega (arith, sum_gone now i 0 item here lt (omega arith), ap (λ v. sum_by length (lists_entries v)) w.lists-is, w.gone-is, c.loop-list.invariant.gone);
+          }
+    ]

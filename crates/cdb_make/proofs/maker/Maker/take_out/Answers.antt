@@ -2,7 +2,7 @@ use Rattle.std.proofs.Common.{arith, sym, ap, subst, ◌∙◌, ◌≡◌, ◌�
 use Rattle.std.proofs.lemmas.List.{take_at}
 use Rattle.cdb_make.specs.declared.list.EntryList.{EntryList}
 use Rattle.cdb_make.specs.Views.EntryList.{lists_entries, AreWithin, HasSpareGaps}
-use Rattle.cdb_make.proofs.ClosedAll.{within_taken, spare_taken, sum_closed, count_small}
+use Rattle.cdb_make.proofs.ClosedAll.{within_taken, spare_taken, count_small}
 use Rattle.cdb_make.specs.declared.gap.Gap.{Gap}
 use Rattle.cdb_make.specs.Stands.{Stands, AreGapsOf}
 use Rattle.cdb_make.proofs.Makers.{held_stand, left_counted, comes_torn}
@@ -23,49 +23,32 @@ invariant_of-self-clause-spare g c =
     subst (λ (v : List EntryList). HasSpareGaps (lists_entries v) (vec_capacity m.gaps)) (sym (take_at c.close.new.lists _ _ long))
     (spare_taken _ _ c.close.result c.deref_mut.ensures.value c.close.ensures.lists c.close.ensures.err m.spare)
 
-pub count_all-requires : goal.count_all-requires
-count_all-requires g c =
+pub close-requires-clause-few : goal.close-requires-clause-few
+close-requires-clause-few g c =
     let m = c.args.self.now in
-    let long : length c.close.new.lists ≡ m.lists.len = omega (arith, c.close.ensures.long, m.all, m.lists.ok.0) in
-    let own : c.deref-2.result.now ≡ c.close.new.lists = c.deref-2.ensures.value ∙ take_at c.close.new.lists _ _ long in
-    let fewer = sum_closed c.in_ok-last.ensures.lists in
     let was : sum_by length (lists_entries c.deref_mut.result.now) ≡ m.count = ap (λ v. sum_by length (lists_entries v)) c.deref_mut.ensures.value ∙ m.counted c.requires.whole in
-    let same : sum_by length (lists_entries c.deref-2.result.now) ≡ sum_by length (lists_entries c.close.new.lists) = ap (λ v. sum_by length (lists_entries v)) own in
     let small : m.count ≤ m.limit = count_small g.L.Width.WORD m.count m.end m.limit g.met.L.Width.four_or_eight m.within in
     omega (arith, m.limited, g.met.L.Width.greatest_fits.1)
 
-pub overflow_add-count_all : goal.overflow_add-count_all
-overflow_add-count_all g c =
-    let m = c.args.self.now in
-    let long : length c.close.new.lists ≡ m.lists.len = omega (arith, c.close.ensures.long, m.all, m.lists.ok.0) in
-    let own : c.deref-2.result.now ≡ c.close.new.lists = c.deref-2.ensures.value ∙ take_at c.close.new.lists _ _ long in
-    let fewer = sum_closed c.in_ok-last.ensures.lists in
-    let was : sum_by length (lists_entries c.deref_mut.result.now) ≡ m.count = ap (λ v. sum_by length (lists_entries v)) c.deref_mut.ensures.value ∙ m.counted c.requires.whole in
-    let same : sum_by length (lists_entries c.deref-2.result.now) ≡ sum_by length (lists_entries c.close.new.lists) = ap (λ v. sum_by length (lists_entries v)) own in
-    let small : m.count ≤ m.limit = count_small g.L.Width.WORD m.count m.end m.limit g.met.L.Width.four_or_eight m.within in
-    omega (arith, c.count_all.ensures, c.len.ensures, m.gaps.ok.0, c.requires.few, m.limited, g.met.L.Width.greatest_fits.1)
-
-pub returns-then-count_all-len-clause-fails : goal.returns-then-count_all-len-clause-fails
-returns-then-count_all-len-clause-fails g c = λ key rs h found b is.
+pub returns-then-left-len-clause-fails : goal.returns-then-left-len-clause-fails
+returns-then-left-len-clause-fails g c = λ key rs h found b is.
     let m = c.args.self.now in
     let w : ℕ = g.L.Width.WORD in
     let images : List ℕ → Type 0 = g.S.Store.image m.store in
-    let long : length c.close.new.lists ≡ m.lists.len = omega (arith, c.close.ensures.long, m.all, m.lists.ok.0) in
-    let own : c.deref-2.result.now ≡ c.close.new.lists = c.deref-2.ensures.value ∙ take_at c.close.new.lists _ _ long in
     let was : Stands w m.end (lists_entries c.deref_mut.result.now) rs images = subst (λ (v : List EntryList). Stands w m.end (lists_entries v) rs images) (sym c.deref_mut.ensures.value) (held_stand m rs h) in
     let gaps : AreGapsOf w key c.deref.result.now rs images = subst (λ (v : List Gap). AreGapsOf w key v rs images) (sym c.deref.ensures.value) found in
-    let left = (left_counted m rs key c.in_ok-last.last c.close.new.lists h found (c.in_ok-last.ensures.stands rs key was gaps) (comes_torn c.close.ensures.torn)).each b is in
-    let same : sum_by length (lists_entries c.deref-2.result.now) ≡ sum_by length (lists_entries c.close.new.lists) = ap (λ v. sum_by length (lists_entries v)) own in
-    c.if-count_all-len.true (omega (arith, c.count_all.ensures, c.len.ensures, m.gaps.ok.0))
+    let left = (left_counted m rs key c.in_ok-left.left.end c.close.new.lists h found (c.in_ok-left.ensures.stands rs key was gaps) (comes_torn c.close.ensures.torn)).each b is in
+    let all : sum_by length (lists_entries c.deref_mut.result.now) ≡ m.count = ap (λ v. sum_by length (lists_entries v)) c.deref_mut.ensures.value ∙ m.counted c.requires.whole in
+    c.if-left-len.true (omega (arith, left, all, c.in_ok-left.ensures.gone, c.len.ensures, m.gaps.ok.0))
 
 pub invariant_of-self-clause-counted : goal.invariant_of-self-clause-counted
 invariant_of-self-clause-counted g c = search rules
 
-pub returns-in_err-last-clause-broken : goal.returns-in_err-last-clause-broken
-returns-in_err-last-clause-broken g c = search rules
+pub returns-in_err-left-clause-broken : goal.returns-in_err-left-clause-broken
+returns-in_err-left-clause-broken g c = search rules
 
-pub returns-then-count_all-len-clause-broken : goal.returns-then-count_all-len-clause-broken
-returns-then-count_all-len-clause-broken g c = search rules
+pub returns-then-left-len-clause-broken : goal.returns-then-left-len-clause-broken
+returns-then-left-len-clause-broken g c = search rules
 
 pub returns-clause-end : goal.returns-clause-end
 returns-clause-end g c = grind (arith, common_steps)
