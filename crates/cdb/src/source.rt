@@ -128,6 +128,20 @@ impl<I: Read> AtHand<Source<I>> for InSource {
             },
         }
     }
+
+    #[inline(always)]
+    fn take_line(source: &mut Source<I>, most: u64, into: &mut Record) -> Result<u64, AllocError> {
+        match source {
+            Source::File(opened) => match opened.in_hand() {
+                Some(mut input) => InWindow::take_line(&mut *input, most, into),
+                None => Ok(0),
+            },
+            Source::Standard(shared) => match shared.try_borrow_mut() {
+                Ok(mut input) => InWindow::take_line(&mut *input, most, into),
+                Err(_) => Ok(0),
+            },
+        }
+    }
 }
 
 /// A window over a reader, for several inputs.

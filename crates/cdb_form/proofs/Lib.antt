@@ -28,3 +28,5 @@ pub mod WalkText
 pub mod MapLines
 pub mod MapReads
 pub mod WholeMap
+mod LineFront
+mod LaneRuns

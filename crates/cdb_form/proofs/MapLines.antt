@@ -62,7 +62,7 @@ kept_line bs words r each other kept pair =
 -- ---- what is written is read
 
 -- a key begins with a byte that is no blank
-no_blank_first : (key rest : List ℕ) → is_ignored key ≡ false → Lacks is_blank key → (BeginsOther is_blank (key ++ rest)) × (is_ignored (key ++ rest) ≡ false)
+pub no_blank_first : (key rest : List ℕ) → is_ignored key ≡ false → Lacks is_blank key → (BeginsOther is_blank (key ++ rest)) × (is_ignored (key ++ rest) ≡ false)
 no_blank_first [] rest kept lacks = absurd (let e : true ≡ false = kept in let no : ⊥ = cc in no)
 no_blank_first (c ∷ key) rest kept lacks =
     let other : is_blank c ≡ false = (recursion_from_All (λ b. is_blank b ≡ false) (c ∷ key) lacks).0 in

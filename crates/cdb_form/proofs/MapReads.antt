@@ -11,7 +11,7 @@ use Rattle.cdb_form.specs.Format.Record.{KeyValue}
 use Rattle.cdb_form.specs.Text.Map.{IsIgnoredLine, IsLineOf, Lacks, behind_blanks, is_blank, is_newline, line_pair, with_newlines}
 use Rattle.cdb_form.specs.Views.MapParser.{ReadsLine, ReadsPair, ReadsRun, ReadsToEnding, ReadsValue, is_of}
 use Rattle.cdb_form.specs.Views.MapReader.{IsAmidLines}
-use Rattle.cdb_form.specs.Views.AtHand.{MovesCounted}
+use Rattle.cdb_form.specs.Views.AtHand.{MovesCounted, MovesLine}
 use Rattle.cdb_form.specs.Views.Source.{LeavesAmid, Takes, budget}
 use Rattle.cdb_form.specs.Views.TextFault.{IsOfText, IsReadFault, IsSpent}
 use Rattle.cdb_form.specs.declared.text.fault.TextFault.{TextFault}
@@ -152,7 +152,7 @@ leaves_behind P Q remaining old mid new first f takes spends grows l = record {
   spends = omega (arith, spends, l.spends);
 }
 
-lacks_append : (first bytes : List ℕ) → Lacks is_newline first → Lacks is_newline bytes → Lacks is_newline (first ++ bytes)
+pub lacks_append : (first bytes : List ℕ) → Lacks is_newline first → Lacks is_newline bytes → Lacks is_newline (first ++ bytes)
 lacks_append first bytes a b = All-append (λ c. is_newline c ≡ false) first bytes a b
 
 lacks_one : (c : ℕ) → is_newline c ≡ false → Lacks is_newline (c ∷ [])
@@ -174,7 +174,7 @@ run_to_newline kind remaining old new run c reads newline =
     let line = subst (λ b. ReadsRun kind remaining old new run (Some b)) newline reads in
     record { takes = line.takes; ends = refl; spends = line.spends }
 
-in_line_stop : (c : ℕ) → is_of InLine c ≡ false → c ≡ 10
+pub in_line_stop : (c : ℕ) → is_of InLine c ≡ false → c ≡ 10
 in_line_stop c h = grind (arith, eqb-true)
 
 in_line_ending : {R : Type 0} (remaining : R → Option (List ℕ)) (old new : Source R) (run : List ℕ) (stop : Option ℕ) → ReadsRun InLine remaining old new run stop → (ending : List ℕ) × ReadsToEnding remaining old new run ending
@@ -228,7 +228,7 @@ pair_none remaining old new word ending first h each reads = record {
   reads = reads;
 }
 
-word_stop : (c : ℕ) → is_of InWord c ≡ false → (c == 10) ≡ false → is_blank c ≡ true
+pub word_stop : (c : ℕ) → is_of InWord c ≡ false → (c == 10) ≡ false → is_blank c ≡ true
 word_stop c h other = grind arith
 
 pub pair_value : {R : Type 0} (remaining : R → Option (List ℕ)) (old mid new : Source R) (word value : List ℕ) (first c : ℕ) → is_of InWord first ≡ true → ReadsRun InWord remaining old mid word (Some c) → c ≢ 10 → ReadsValue remaining mid new value
@@ -287,6 +287,19 @@ line_of_pair remaining old mid new blanks c r a no_newline no_note b =
       holds = kept_line blanks (c ∷ b.tail) r a.each (rw other refl) (other_than c 35 no_note) b.pair;
     } in
     (blanks ++ c ∷ b.tail, b.ending, is, behind_stop Blank remaining old mid new blanks b.tail b.ending c a b.reads)
+
+-- a record's whole line, by one step
+pub line_at_hand : {R : Type 0} (remaining : R → Option (List ℕ)) (old new : Source R) (n : ℕ) (r : KeyValue) → MovesLine (remaining old.reader) (remaining new.reader) n r → new.taken ≡ old.taken + n → old.asks ≡ new.asks + n → ReadsLine remaining old new r Pair
+line_at_hand remaining old new n r m counted asked = (
+  m.line,
+  10 ∷ [],
+  m.is,
+  record {
+    takes = record { read = m.read; counted = omega (arith, counted, m.long, length-append m.line (10 ∷ [])) };
+    ends = refl;
+    spends = omega (arith, counted, asked);
+  },
+)
 
 -- ---- lines
 

@@ -10,6 +10,7 @@ pub mod NativeParser
 pub mod MapParser
 pub mod AtHand
 pub mod Front
+pub mod FrontLine
 pub mod FormReader
 pub mod TextReader
 pub mod AmendReader

@@ -40,6 +40,7 @@ pub use text::amend_writer::write_removal;
 pub use text::at_hand::{AtHand, NoneAtHand};
 pub use text::fault::TextFault;
 pub use text::front::front_record;
+pub use text::front_line::front_line;
 pub use text::kind::Kind;
 pub use text::list_writer::{write_list_record, write_map_key};
 pub use text::map_reader::MapReader;

@@ -2,10 +2,10 @@
 ghost use Rattle.std.specs.Prelude.{◌≡◌, ℕ, ◌+◌, ◌<◌, ◌≤◌, [], ◌∷◌, length, take, min, IfOk, OnOk};
 ghost use Rattle.std.specs.Prelude.{MatchOption, OnErr, vec_len};
 ghost use Rattle.std.specs.Io.KnownBytes.{Keeps, Consumes, IsAtEnd};
-ghost use Rattle.cdb_form.specs.Views.AtHand.{MovesRecord, MovesRun};
+ghost use Rattle.cdb_form.specs.Views.AtHand.{MovesLine, MovesRecord, MovesRun};
 ghost use Rattle.cdb_form.specs.Views.Pairs.{key_value};
 
-use cdb_form::{AtHand, Kind, PIPE, Record, front_record};
+use cdb_form::{AtHand, Kind, PIPE, Record, front_line, front_record};
 use std::alloc::{AllocError, Global};
 use std::io::{self, ErrorKind, Read};
 
@@ -166,6 +166,26 @@ impl<R: Read> Input<R> {
         self.start += taken;
         Ok(taken as u64)
     }
+
+    /// Moves the record whose line the window begins with over another record, if the line has at
+    /// most `most` bytes, and answers how many. There are none where the window has no record's
+    /// whole line, and where memory is refused none are moved.
+    #[inline(always)]
+    fn give_line(&mut self, most: u64, into: &mut Record) -> Result<u64, AllocError>
+        ensures moved { IfOk result (λ n. 0 < n → MovesLine (input_bytes R.remaining self.old)
+            (input_bytes R.remaining self.new) n (key_value into.new)) }
+        ensures most { IfOk result (λ n. n ≤ most) }
+        ensures none { IfOk result (λ n. n ≡ 0 → Keeps (input_bytes R.remaining self.old)
+            (input_bytes R.remaining self.new)) }
+        ensures kept { OnErr result (Keeps (input_bytes R.remaining self.old)
+            (input_bytes R.remaining self.new)) }
+    {
+        let held = ((self.end - self.start) as u64).min(most) as usize;
+        let window = &self.window[self.start..self.start + held];
+        let len = front_line(window, into)?;
+        self.start += len;
+        Ok(len as u64)
+    }
 }
 
 impl<R: Read> Read for Input<R> {
@@ -223,5 +243,10 @@ impl<R: Read> AtHand<Input<R>> for InWindow {
         into: &mut Record,
     ) -> Result<u64, AllocError> {
         reader.give_record(greatest, most, into)
+    }
+
+    #[inline(always)]
+    fn take_line(reader: &mut Input<R>, most: u64, into: &mut Record) -> Result<u64, AllocError> {
+        reader.give_line(most, into)
     }
 }

@@ -1,8 +1,9 @@
 -- What is taken of the bytes that a reader has at hand.
 use Rattle.std.specs.Io.KnownBytes.{Consumes}
 use Rattle.std.specs.List.{AllPass}
-use Rattle.std.specs.Prelude.{List, Option, length, ◌++◌, ◌≡◌, ◌≤◌, ℕ}
+use Rattle.std.specs.Prelude.{List, Option, codes, length, ◌+◌, ◌++◌, ◌≡◌, ◌≤◌, ℕ}
 use Rattle.cdb_form.specs.Format.Record.{AreBytes, KeyValue}
+use Rattle.cdb_form.specs.Text.Map.{IsLineOf}
 use Rattle.cdb_form.specs.Text.Native.{Spells}
 use Rattle.cdb_form.specs.Views.MapParser.{is_of}
 use Rattle.cdb_form.specs.Views.Source.{Takes, budget}
@@ -37,3 +38,10 @@ pub record MovesRecord (greatest : ℕ) (old new : Option (List ℕ)) (n : ℕ) 
   pub spells : Spells greatest text r
   pub read : Consumes old new text
   pub long : length text ≡ n
+
+-- n bytes that are a record's line with its newline went from the front of what was unread
+pub record MovesLine (old new : Option (List ℕ)) (n : ℕ) (r : KeyValue) : Type 0 where
+  pub line : List ℕ
+  pub is : IsLineOf r line
+  pub read : Consumes old new (line ++ codes "\n")
+  pub long : length line + 1 ≡ n

@@ -1,7 +1,7 @@
 // The bytes that a reader can give without an ask.
 ghost use Rattle.std.specs.Prelude.{◌≡◌, ◌<◌, ◌≤◌, [], ◌∷◌, IfOk, OnErr, MatchOption};
 ghost use Rattle.std.specs.Io.KnownBytes.{Consumes, Keeps};
-ghost use Rattle.cdb_form.specs.Views.AtHand.{MovesRecord, MovesRun};
+ghost use Rattle.cdb_form.specs.Views.AtHand.{MovesLine, MovesRecord, MovesRun};
 ghost use Rattle.cdb_form.specs.Views.Pairs.{key_value};
 
 use crate::record::Record;
@@ -45,6 +45,17 @@ pub trait AtHand<R: Read> {
         ensures none { IfOk result (λ n. n ≡ 0 →
             Keeps (R.remaining reader.old) (R.remaining reader.new)) }
         ensures kept { OnErr result (Keeps (R.remaining reader.old) (R.remaining reader.new)) };
+
+    /// Moves the record of the next line of a map text over another record, if the line holds one
+    /// and all its bytes are at hand with its newline, `most` at most, and answers how many. Else
+    /// none are taken, and the record holds anything.
+    fn take_line(reader: &mut R, most: u64, into: &mut Record) -> Result<u64, AllocError>
+        ensures moved { IfOk result (λ n. 0 < n → MovesLine (R.remaining reader.old)
+            (R.remaining reader.new) n (key_value into.new)) }
+        ensures most { IfOk result (λ n. n ≤ most) }
+        ensures none { IfOk result (λ n. n ≡ 0 →
+            Keeps (R.remaining reader.old) (R.remaining reader.new)) }
+        ensures kept { OnErr result (Keeps (R.remaining reader.old) (R.remaining reader.new)) };
 }
 
 /// No byte is at hand: each is asked for.
@@ -64,6 +75,11 @@ impl<R: Read> AtHand<R> for NoneAtHand {
 
     #[inline(always)]
     fn take_record(_: &mut R, _: u64, _: u64, _: &mut Record) -> Result<u64, AllocError> {
+        Ok(0)
+    }
+
+    #[inline(always)]
+    fn take_line(_: &mut R, _: u64, _: &mut Record) -> Result<u64, AllocError> {
         Ok(0)
     }
 }

@@ -38,19 +38,17 @@ fn front_numeral(bytes: &[u8], stop: u8) -> Option<FrontNumeral>
     let mut place = 0;
     while place < bytes.len() && value < LONG {
         let byte = bytes[place];
-        match char::from(byte).to_digit(10) {
-            Some(digit) => value = value * 10 + u64::from(digit),
-            None => {
-                return if byte == stop && 0 < place {
-                    Some(FrontNumeral {
-                        value,
-                        end: place + 1,
-                    })
-                } else {
-                    None
-                };
-            }
+        if !byte.is_ascii_digit() {
+            return if byte == stop && 0 < place {
+                Some(FrontNumeral {
+                    value,
+                    end: place + 1,
+                })
+            } else {
+                None
+            };
         }
+        value = value * 10 + u64::from(byte - b'0');
         place += 1;
     }
     None
@@ -93,12 +91,16 @@ fn has_body(bytes: &[u8], klen: usize, vlen: usize) -> bool
     bytes[klen + 2 + vlen] == b'\n'
 }
 
-/// Copies bytes over what a vector holds.
+/// Copies bytes over what a vector holds. As many need no look at the room.
 #[inline(always)]
-fn copy_over(bytes: &[u8], into: &mut Vec<u8>) -> Result<(), AllocError>
+pub(crate) fn copy_over(bytes: &[u8], into: &mut Vec<u8>) -> Result<(), AllocError>
     ensures holds { OnOk result (into.new.items ≡ bytes.now) }
     ensures are { AreBytes into.new.items }
 {
+    if into.len() == bytes.len() {
+        into.copy_from_slice(bytes);
+        return Ok(());
+    }
     into.clear();
     into.extend_from_slice(bytes)
 }

@@ -1,4 +1,5 @@
-// The parser of a map text: it takes line after line, and runs of bytes in them.
+// The parser of a map text: it takes line after line, a record's that is at hand by one step, and
+// else runs of bytes and single ones.
 ghost use Rattle.std.specs.Prelude.{◌≡◌, ◌<◌, true, ℕ, List, ◌∷◌, OnOk, IfOk, IfErr, MatchBool};
 ghost use Rattle.cdb_form.specs.Format.Record.{AreBytes};
 ghost use Rattle.cdb_form.specs.Text.Map.{Lacks, is_newline};
@@ -135,6 +136,7 @@ impl<R: Read> Source<R> {
     }
 
     /// Takes a line.
+    #[inline(never)]
     fn line<A: AtHand<R>>(&mut self, into: &mut Record) -> Result<LineRead, TextFault>
         ensures reads { IfOk result (ReadsLine R.remaining self.old self.new
             (key_value into.new)) }
@@ -156,6 +158,25 @@ impl<R: Read> Source<R> {
         }
     }
 
+    /// Takes a line as `line` does, a record's that is at hand by one step. Then each of its bytes
+    /// counts as an ask.
+    #[inline(always)]
+    fn line_by<A: AtHand<R>>(&mut self, into: &mut Record) -> Result<LineRead, TextFault>
+        ensures reads { IfOk result (ReadsLine R.remaining self.old self.new
+            (key_value into.new)) }
+        ensures fewer { OnOk result (self.new.asks < self.old.asks) }
+        ensures leaves { IfErr result (LeavesAmid (Lacks is_newline)
+            R.remaining self.old self.new) }
+    {
+        let n = A::take_line(&mut self.reader, self.asks, into)?;
+        if n == 0 {
+            return self.line::<A>(into);
+        }
+        self.asks -= n;
+        self.taken += n;
+        Ok(LineRead::Pair)
+    }
+
     /// Takes lines up to the first record's, and answers whether there is one.
     pub(crate) fn map_entry<A: AtHand<R>>(&mut self, into: &mut Record) -> Result<bool, TextFault>
         ensures reads { IfOk result (λ given. MatchBool given
@@ -165,7 +186,7 @@ impl<R: Read> Source<R> {
         ensures leaves { IfErr result (LeavesAmid IsAmidLines R.remaining self.old self.new) }
     {
         loop {
-            match self.line::<A>(into)? {
+            match self.line_by::<A>(into)? {
                 LineRead::Ignored => {}
                 LineRead::Last => return Ok(false),
                 LineRead::Pair => return Ok(true),

@@ -101,6 +101,10 @@ impl AtHand<Lent<'_, '_>> for InLent {
     ) -> Result<u64, AllocError> {
         InWindow::take_record(&mut *lent.input, greatest, most, into)
     }
+
+    fn take_line(lent: &mut Lent<'_, '_>, most: u64, into: &mut Record) -> Result<u64, AllocError> {
+        InWindow::take_line(&mut *lent.input, most, into)
+    }
 }
 
 /// How a text is read.

@@ -1,0 +1,37 @@
+// Bytes that are looked at 32 at once.
+ghost use Rattle.std.specs.Prelude.{◌≡◌, true, ℕ, ◌<◌, ◌≤◌, length, map, slice_index};
+ghost use Rattle.std.specs.Simd.Lanes.{mask_l};
+ghost use Rattle.cdb_form.specs.Views.FrontLine.{may_end};
+ghost use Rattle.cdb_form.specs.Views.MapParser.{is_of};
+
+use crate::text::kind::Kind;
+use std::simd::prelude::*;
+
+/// Which of 32 bytes may be of another kind, a bit for each.
+#[inline(always)]
+fn ends(kind: Kind, bytes: u8x32) -> u64
+    ensures { result ≡ mask_l (map (may_end kind) bytes) }
+{
+    match kind {
+        Kind::Blank => bytes.simd_ne(u8x32::splat(b' ')).to_bitmask(),
+        Kind::InWord => bytes.simd_le(u8x32::splat(b' ')).to_bitmask(),
+        Kind::InLine => bytes.simd_eq(u8x32::splat(b'\n')).to_bitmask(),
+    }
+}
+
+/// How many bytes of a kind some bytes begin with, as far as whole 32 show it.
+#[inline(always)]
+pub(crate) fn wide_run(kind: Kind, bytes: &[u8]) -> usize
+    ensures within { result ≤ length bytes.now }
+    ensures each { (k : ℕ) → k < result → is_of kind (slice_index bytes.now k) ≡ true }
+{
+    let mut place = 0;
+    while 32 <= bytes.len() - place {
+        let ends = ends(kind, u8x32::from_slice(&bytes[place..]));
+        if ends != 0 {
+            return place + ends.trailing_zeros() as usize;
+        }
+        place += 32;
+    }
+    place
+}
