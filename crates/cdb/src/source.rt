@@ -1,6 +1,6 @@
 // The inputs of a create, of which several may be standard input.
 use crate::files::opened;
-use cdb_form::{AtHand, Kind, PIPE, Record};
+use cdb_form::{AtHand, Keeping, Kind, PIPE, Record, Width};
 use cdb_tool::{Fault, InWindow, Input};
 use std::alloc::{AllocError, Global};
 use std::cell::{RefCell, RefMut};
@@ -141,6 +141,17 @@ impl<I: Read> AtHand<Source<I>> for InSource {
                 Err(_) => Ok(0),
             },
         }
+    }
+
+    /// An input is a text: no database is read from it.
+    #[inline(always)]
+    fn take_stored<L: Width>(
+        _: &mut Source<I>,
+        _: Keeping,
+        _: u64,
+        _: &mut Record,
+    ) -> Result<u64, AllocError> {
+        Ok(0)
     }
 }
 

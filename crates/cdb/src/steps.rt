@@ -8,9 +8,9 @@ use crate::files::{is_stream, opened, opened_store};
 use cdb_form::{Narrow, PIPE, Wide, Width, write_pieces, write_whole};
 use cdb_store::MemStore;
 use cdb_tool::{
-    BAD_USAGE, Command, Content, DONE, FAILED, Fault, Input, Output, Style, Usage, check_run,
-    dump_run, flushed, list_run, load, plan, query_run, stats_run, status_of, write_fault,
-    write_usage,
+    BAD_USAGE, Command, Content, DONE, FAILED, Fault, InWindow, Input, Output, Style, Usage,
+    check_run, dump_run_by, flushed, list_run_by, load, plan, query_run, stats_run, status_of,
+    write_fault, write_usage,
 };
 use std::alloc::Global;
 use std::fs::File;
@@ -189,8 +189,8 @@ fn write_text<L: Width, I: Read + Drop, O: Write>(
 ) -> Result<(), Fault> {
     let input = Input::new(alloc, input, PIPE)?;
     match content {
-        Content::Records => dump_run::<L, _, O>(alloc, input, style, output),
-        Content::Keys => list_run::<L, _, O>(alloc, input, style, output),
+        Content::Records => dump_run_by::<L, _, O, InWindow>(alloc, input, style, output),
+        Content::Keys => list_run_by::<L, _, O, InWindow>(alloc, input, style, output),
     }
 }
 

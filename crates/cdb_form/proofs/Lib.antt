@@ -23,6 +23,7 @@ pub mod AskingLemmas
 pub mod TableLemmas
 pub mod AreaLemmas
 pub mod RecordReads
+mod Stored
 pub mod StreamLemmas
 pub mod WalkText
 pub mod MapLines

@@ -7,7 +7,7 @@ use Rattle.cdb_form.specs.Views.Pairs.{key_value}
 use Rattle.cdb_form.specs.Views.RecordReader.{GivesKept, GivesRecord}
 use Rattle.cdb_form.specs.declared.record.Record.{Record}
 use Rattle.cdb_form.specs.declared.walk.record_reader.RecordReader.{RecordReader}
-use Rattle.cdb_form.specs.declared.walk.source.Keeping.TheVariants.{Both}
+use Rattle.cdb_form.specs.declared.walk.keeping.Keeping.TheVariants.{Both}
 use Rattle.std.proofs.lemmas.List.{drop_at, drop-drop, take-append-drop}
 use Rattle.cdb_form.specs.Views.KnownBytes.{LosesAtMost, FromTo, StillFrom}
 use Rattle.cdb_form.specs.Views.Reading.{ReadsNoFurther}

@@ -7,6 +7,7 @@
 //! definitions, for words of 4 bytes (`Narrow`) and of 8 bytes (`Wide`).
 #![tactic(auto)]
 
+mod copying;
 mod damage;
 mod head;
 mod header;
@@ -48,6 +49,8 @@ pub use text::map_writer::write_map_record;
 pub use text::native_reader::TextReader;
 pub use text::native_writer::{write_end, write_record};
 pub use walk::fault::WalkFault;
+pub use walk::front::front_stored;
+pub use walk::keeping::Keeping;
 pub use walk::record_reader::RecordReader;
 pub use width::{Narrow, Wide, Width};
 pub use writing::{OutFault, flush_whole, write_pieces, write_some, write_whole};

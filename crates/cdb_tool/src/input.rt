@@ -2,10 +2,13 @@
 ghost use Rattle.std.specs.Prelude.{◌≡◌, ℕ, ◌+◌, ◌<◌, ◌≤◌, [], ◌∷◌, length, take, min, IfOk, OnOk};
 ghost use Rattle.std.specs.Prelude.{MatchOption, OnErr, vec_len};
 ghost use Rattle.std.specs.Io.KnownBytes.{Keeps, Consumes, IsAtEnd};
-ghost use Rattle.cdb_form.specs.Views.AtHand.{MovesLine, MovesRecord, MovesRun};
+ghost use Rattle.cdb_form.specs.Views.AtHand.{MovesLine, MovesRecord, MovesRun, MovesStored};
 ghost use Rattle.cdb_form.specs.Views.Pairs.{key_value};
+ghost use Rattle.cdb_form.specs.declared.walk.keeping.Keeping.TheVariants.{Key};
 
-use cdb_form::{AtHand, Kind, PIPE, Record, front_line, front_record};
+use cdb_form::{
+    AtHand, Keeping, Kind, PIPE, Record, Width, front_line, front_record, front_stored,
+};
 use std::alloc::{AllocError, Global};
 use std::io::{self, ErrorKind, Read};
 
@@ -186,6 +189,32 @@ impl<R: Read> Input<R> {
         self.start += len;
         Ok(len as u64)
     }
+
+    /// Moves the record of a database file that the window begins with over another record, if it
+    /// has at most `most` bytes, and answers how many. There are none if the window has no whole
+    /// one, and if memory is refused none are moved.
+    #[inline(always)]
+    fn give_stored<L: Width>(
+        &mut self,
+        keeping: Keeping,
+        most: u64,
+        into: &mut Record,
+    ) -> Result<u64, AllocError>
+        ensures moved { IfOk result (λ n. 0 < n → MovesStored L.WORD keeping
+            (input_bytes R.remaining self.old) (input_bytes R.remaining self.new) n into.new) }
+        ensures value { keeping ≡ Key → into.new.value ≡ into.old.value }
+        ensures most { IfOk result (λ n. n ≤ most) }
+        ensures none { IfOk result (λ n. n ≡ 0 → Keeps (input_bytes R.remaining self.old)
+            (input_bytes R.remaining self.new)) }
+        ensures kept { OnErr result (Keeps (input_bytes R.remaining self.old)
+            (input_bytes R.remaining self.new)) }
+    {
+        let held = ((self.end - self.start) as u64).min(most) as usize;
+        let window = &self.window[self.start..self.start + held];
+        let size = front_stored::<L>(window, keeping, into)?;
+        self.start += size;
+        Ok(size as u64)
+    }
 }
 
 impl<R: Read> Read for Input<R> {
@@ -248,5 +277,15 @@ impl<R: Read> AtHand<Input<R>> for InWindow {
     #[inline(always)]
     fn take_line(reader: &mut Input<R>, most: u64, into: &mut Record) -> Result<u64, AllocError> {
         reader.give_line(most, into)
+    }
+
+    #[inline(always)]
+    fn take_stored<L: Width>(
+        reader: &mut Input<R>,
+        keeping: Keeping,
+        most: u64,
+        into: &mut Record,
+    ) -> Result<u64, AllocError> {
+        reader.give_stored::<L>(keeping, most, into)
     }
 }

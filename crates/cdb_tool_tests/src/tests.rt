@@ -18,5 +18,6 @@ mod refusals;
 mod resuming;
 mod running;
 mod streams;
+mod walk_windows;
 mod windows;
 mod worked;

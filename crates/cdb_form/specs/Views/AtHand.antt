@@ -4,11 +4,15 @@ use Rattle.std.specs.List.{AllPass}
 use Rattle.std.specs.Prelude.{List, Option, codes, length, ◌+◌, ◌++◌, ◌≡◌, ◌≤◌, ℕ}
 use Rattle.cdb_form.specs.Format.Record.{AreBytes, KeyValue}
 use Rattle.cdb_form.specs.Text.Map.{IsLineOf}
+use Rattle.cdb_form.specs.Format.Walk.{front_record, front_size}
 use Rattle.cdb_form.specs.Text.Native.{Spells}
 use Rattle.cdb_form.specs.Views.MapParser.{is_of}
+use Rattle.cdb_form.specs.Views.Reading.{IsKept}
 use Rattle.cdb_form.specs.Views.Source.{Takes, budget}
+use Rattle.cdb_form.specs.declared.record.Record.{Record}
 use Rattle.cdb_form.specs.declared.text.kind.Kind.{Kind}
 use Rattle.cdb_form.specs.declared.text.source.Source.{Source}
+use Rattle.cdb_form.specs.declared.walk.keeping.Keeping.{Keeping}
 
 -- n bytes of a kind went from the front of what was unread behind what was held
 pub record MovesRun (kind : Kind) (old new : Option (List ℕ)) (held holds : List ℕ) (n : ℕ) :
@@ -45,3 +49,13 @@ pub record MovesLine (old new : Option (List ℕ)) (n : ℕ) (r : KeyValue) : Ty
   pub is : IsLineOf r line
   pub read : Consumes old new (line ++ codes "\n")
   pub long : length line + 1 ≡ n
+
+-- n bytes that are a record of a database file went from the front of what was unread, and so much
+-- of it was kept
+pub record MovesStored (w : ℕ) (keeping : Keeping) (old new : Option (List ℕ)) (n : ℕ)
+    (into : Record) : Type 0 where
+  pub bytes : List ℕ
+  pub whole : front_size w bytes ≡ n
+  pub kept : IsKept keeping into (front_record w bytes)
+  pub read : Consumes old new bytes
+  pub long : length bytes ≡ n

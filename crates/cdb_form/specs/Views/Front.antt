@@ -1,9 +1,13 @@
--- What bytes of a native text begin with.
+-- What bytes of a native text begin with, and those of a database file.
 use Rattle.std.specs.Prelude.{List, drop, length, take, [], codes, ◌+◌, ◌++◌, ◌∷◌, ◌≡◌, ◌≤◌, ℕ}
 use Rattle.cdb_form.specs.Format.Record.{KeyValue}
+use Rattle.cdb_form.specs.Format.Walk.{front_record, front_size}
 use Rattle.cdb_form.specs.Text.Native.{IsNumeral, Spells}
+use Rattle.cdb_form.specs.Views.Reading.{IsKept}
+use Rattle.cdb_form.specs.declared.record.Record.{Record}
 use Rattle.cdb_form.specs.declared.text.front.FrontLengths.{FrontLengths}
 use Rattle.cdb_form.specs.declared.text.front.FrontNumeral.{FrontNumeral}
+use Rattle.cdb_form.specs.declared.walk.keeping.Keeping.{Keeping}
 
 -- a numeral with `stop` behind it
 pub record BeginsWithNumeral (stop : ℕ) (bytes : List ℕ) (n : FrontNumeral) : Type 0 where
@@ -32,4 +36,11 @@ pub record BeginsWithBody (klen vlen : ℕ) (bytes : List ℕ) : Type 0 where
 -- n bytes that spell a record
 pub record BeginsWithRecord (greatest : ℕ) (bytes : List ℕ) (n : ℕ) (r : KeyValue) : Type 0 where
   pub spells : Spells greatest (take n bytes) r
+  pub within : n ≤ length bytes
+
+-- n bytes that are a record of a database file, of which so much was kept
+pub record BeginsWithStored (w : ℕ) (keeping : Keeping) (bytes : List ℕ) (n : ℕ) (into : Record) :
+    Type 0 where
+  pub whole : front_size w (take n bytes) ≡ n
+  pub kept : IsKept keeping into (front_record w (take n bytes))
   pub within : n ≤ length bytes

@@ -6,8 +6,8 @@ use Rattle.cdb_form.specs.Format.Reading.{head_at, pair_at}
 use Rattle.cdb_form.specs.Format.Record.{KeyValue}
 use Rattle.cdb_form.specs.Format.Walk.{Walked, walk_of, walk_from, with_first}
 use Rattle.cdb_form.specs.declared.record.Record.{Record}
-use Rattle.cdb_form.specs.declared.walk.source.Keeping.{Keeping}
-use Rattle.cdb_form.specs.declared.walk.source.Keeping.TheVariants.{Both}
+use Rattle.cdb_form.specs.declared.walk.keeping.Keeping.{Keeping}
+use Rattle.cdb_form.specs.declared.walk.keeping.Keeping.TheVariants.{Both}
 use Rattle.cdb_form.specs.Views.Pairs.{head_pairs, header_pair}
 use Rattle.cdb_form.specs.declared.head.Head.{Head}
 use Rattle.cdb_form.specs.declared.header.Header.{Header}

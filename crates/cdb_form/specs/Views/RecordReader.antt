@@ -8,7 +8,7 @@ use Rattle.cdb_form.specs.Views.KnownBytes.{FromTo, StillFrom}
 use Rattle.cdb_form.specs.Views.Reading.{ReadsNoFurther, ReadsNoRecord, ReadsFirst, IsKept}
 use Rattle.cdb_form.specs.Views.WalkFault.{IsDamage, stopped_by}
 use Rattle.cdb_form.specs.declared.record.Record.{Record}
-use Rattle.cdb_form.specs.declared.walk.source.Keeping.{Keeping}
+use Rattle.cdb_form.specs.declared.walk.keeping.Keeping.{Keeping}
 use Rattle.cdb_form.specs.declared.walk.fault.WalkFault.{WalkFault}
 use Rattle.cdb_form.specs.declared.walk.record_reader.RecordReader.{RecordReader}
 use Rattle.cdb_form.specs.declared.walk.record_reader.Walking.{Walking}

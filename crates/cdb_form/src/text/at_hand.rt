@@ -1,11 +1,14 @@
 // The bytes that a reader can give without an ask.
 ghost use Rattle.std.specs.Prelude.{◌≡◌, ◌<◌, ◌≤◌, [], ◌∷◌, IfOk, OnErr, MatchOption};
 ghost use Rattle.std.specs.Io.KnownBytes.{Consumes, Keeps};
-ghost use Rattle.cdb_form.specs.Views.AtHand.{MovesLine, MovesRecord, MovesRun};
+ghost use Rattle.cdb_form.specs.Views.AtHand.{MovesLine, MovesRecord, MovesRun, MovesStored};
 ghost use Rattle.cdb_form.specs.Views.Pairs.{key_value};
+ghost use Rattle.cdb_form.specs.declared.walk.keeping.Keeping.TheVariants.{Key};
 
 use crate::record::Record;
 use crate::text::kind::Kind;
+use crate::walk::keeping::Keeping;
+use crate::width::Width;
 use std::alloc::AllocError;
 use std::io::Read;
 
@@ -56,6 +59,23 @@ pub trait AtHand<R: Read> {
         ensures none { IfOk result (λ n. n ≡ 0 →
             Keeps (R.remaining reader.old) (R.remaining reader.new)) }
         ensures kept { OnErr result (Keeps (R.remaining reader.old) (R.remaining reader.new)) };
+
+    /// Moves the next record of a database file over another record, if all its bytes are at hand,
+    /// `most` at most, and answers how many. Else none are taken. A value that isn't kept is passed
+    /// over; what would be kept of a record that is not taken holds anything.
+    fn take_stored<L: Width>(
+        reader: &mut R,
+        keeping: Keeping,
+        most: u64,
+        into: &mut Record,
+    ) -> Result<u64, AllocError>
+        ensures moved { IfOk result (λ n. 0 < n → MovesStored L.WORD keeping
+            (R.remaining reader.old) (R.remaining reader.new) n into.new) }
+        ensures value { keeping ≡ Key → into.new.value ≡ into.old.value }
+        ensures most { IfOk result (λ n. n ≤ most) }
+        ensures none { IfOk result (λ n. n ≡ 0 →
+            Keeps (R.remaining reader.old) (R.remaining reader.new)) }
+        ensures kept { OnErr result (Keeps (R.remaining reader.old) (R.remaining reader.new)) };
 }
 
 /// No byte is at hand: each is asked for.
@@ -80,6 +100,16 @@ impl<R: Read> AtHand<R> for NoneAtHand {
 
     #[inline(always)]
     fn take_line(_: &mut R, _: u64, _: &mut Record) -> Result<u64, AllocError> {
+        Ok(0)
+    }
+
+    #[inline(always)]
+    fn take_stored<L: Width>(
+        _: &mut R,
+        _: Keeping,
+        _: u64,
+        _: &mut Record,
+    ) -> Result<u64, AllocError> {
         Ok(0)
     }
 }

@@ -1,10 +1,10 @@
 // The record of a native text that some bytes begin with.
-ghost use Rattle.std.specs.Prelude.{◌≡◌, true, ◌+◌, ◌<◌, ◌≤◌, OnOk, IfOk, IfSome};
-ghost use Rattle.cdb_form.specs.Format.Record.{AreBytes};
+ghost use Rattle.std.specs.Prelude.{◌≡◌, true, ◌+◌, ◌<◌, ◌≤◌, IfOk, IfSome};
 ghost use Rattle.cdb_form.specs.Views.Front.{BeginsWithBody, BeginsWithLengths, BeginsWithNumeral};
 ghost use Rattle.cdb_form.specs.Views.Front.{BeginsWithRecord};
 ghost use Rattle.cdb_form.specs.Views.Pairs.{key_value};
 
+use crate::copying::copy_over;
 use crate::record::Record;
 use std::alloc::AllocError;
 
@@ -89,20 +89,6 @@ fn has_body(bytes: &[u8], klen: usize, vlen: usize) -> bool
         return false;
     }
     bytes[klen + 2 + vlen] == b'\n'
-}
-
-/// Copies bytes over what a vector holds. As many need no look at the room.
-#[inline(always)]
-pub(crate) fn copy_over(bytes: &[u8], into: &mut Vec<u8>) -> Result<(), AllocError>
-    ensures holds { OnOk result (into.new.items ≡ bytes.now) }
-    ensures are { AreBytes into.new.items }
-{
-    if into.len() == bytes.len() {
-        into.copy_from_slice(bytes);
-        return Ok(());
-    }
-    into.clear();
-    into.extend_from_slice(bytes)
 }
 
 /// Copies the record that some bytes begin with over another one, and answers how many bytes spell

@@ -6,8 +6,8 @@ ghost use Rattle.cdb_form.specs.Views.FrontLine.{BeginsWithLine};
 ghost use Rattle.cdb_form.specs.Views.MapParser.{is_of};
 ghost use Rattle.cdb_form.specs.Views.Pairs.{key_value};
 
+use crate::copying::copy_over;
 use crate::record::Record;
-use crate::text::front::copy_over;
 use crate::text::kind::Kind;
 use crate::text::lanes::wide_run;
 use std::alloc::AllocError;

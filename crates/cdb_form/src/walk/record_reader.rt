@@ -2,22 +2,23 @@
 ghost use Rattle.std.specs.Prelude.{◌≡◌, ◌+◌, ◌-◌, ◌^◌, ◌<◌, ◌≤◌, max, false};
 ghost use Rattle.std.specs.Prelude.{drop, OnOk, OnErr, IfOk, IfErr, IfSome, MatchOption, MatchBool};
 ghost use Rattle.std.specs.Bool.{OnTrue, OnFalse};
-ghost use Rattle.cdb_form.specs.Views.KnownBytes.{LosesAtMost, FromTo, StillFrom};
+ghost use Rattle.cdb_form.specs.Views.KnownBytes.{StillFrom};
 ghost use Rattle.cdb_form.specs.Format.Pair.{head_size, pair_size};
 ghost use Rattle.cdb_form.specs.Views.Reading.{ReadsNoFurther, ReadsNoRecord};
 ghost use Rattle.cdb_form.specs.Views.Reading.{ReadsFirst, IsKept};
-ghost use Rattle.cdb_form.specs.Format.Record.{KeyValue, record_size};
+ghost use Rattle.cdb_form.specs.Format.Record.{KeyValue};
 ghost use Rattle.cdb_form.specs.Format.Walk.{walk_of, walk_from, record_end, no_walk};
 ghost use Rattle.cdb_form.specs.Format.Walk.{with_first};
-ghost use Rattle.cdb_form.specs.declared.walk.source.Keeping.TheVariants.{Key};
+ghost use Rattle.cdb_form.specs.declared.walk.keeping.Keeping.TheVariants.{Key};
 ghost use Rattle.cdb_form.specs.Views.WalkFault.{IsDamage, stopped_by};
 ghost use Rattle.cdb_form.specs.Views.Pairs.{key_value};
 
-use crate::pair::pair_size;
 use crate::record::Record;
+use crate::text::at_hand::{AtHand, NoneAtHand};
 use crate::walk::fault::WalkFault;
+use crate::walk::keeping::Keeping;
+use crate::walk::next_record::read_record_by;
 use crate::walk::record_area::{Area, read_area};
-use crate::walk::source::{Keeping, record_body, record_header};
 use crate::width::Width;
 use std::alloc::Global;
 use std::io::Read;
@@ -30,54 +31,6 @@ pub(crate) enum Walking {
     At(Area),
     AtEnd,
     Failed(WalkFault),
-}
-
-/// Reads the record at the next place, and says where those after it lie.
-fn read_record<R: Read, L: Width>(
-    reader: &mut R,
-    into: &mut Record,
-    area: Area,
-    keeping: Keeping,
-) -> Result<Area, WalkFault>
-    requires { area.place < area.end }
-    ensures record { IfOk result (λ behind. (r : KeyValue) × IsKept keeping into.new r
-        × (behind.place ≡ area.place + record_size L.WORD r)
-        × FromTo (R.remaining reader.old) (R.remaining reader.new) (λ text rest.
-        (walk_from L.WORD area.place area.end text
-        ≡ with_first r (walk_from L.WORD behind.place area.end rest))
-        × (rest ≡ drop (behind.place - area.place) text))
-        × ReadsFirst r (walk_from L.WORD area.place area.end)
-        (walk_from L.WORD behind.place area.end) (R.remaining reader.old) (R.remaining reader.new)) }
-    ensures value { keeping ≡ Key → into.new.value ≡ into.old.value }
-    ensures place { IfOk result (λ behind. area.place < behind.place) }
-    ensures end { IfOk result (λ behind. behind.end ≡ area.end) }
-    ensures fails { IfErr result (λ f. IsDamage f → IfSome (R.remaining reader.old) (λ text.
-        walk_from L.WORD area.place area.end text ≡ stopped_by f)) }
-    ensures header { IfErr result (λ f.
-        IsDamage f → ReadsNoFurther (pair_size L.WORD) (R.remaining reader.old)
-        (R.remaining reader.new)) }
-    ensures loses { LosesAtMost (R.remaining reader.old)
-        (R.remaining reader.new) (area.end - area.place) }
-    ensures part { OnErr result (ReadsNoRecord (walk_from L.WORD area.place area.end)
-        (R.remaining reader.old) (R.remaining reader.new)) }
-{
-    let early = WalkFault::Record(area.place);
-    let size = pair_size::<L>();
-    let left = area.end - area.place;
-    if left < size as u64 {
-        return Err(early);
-    }
-    let header = record_header::<R, L>(reader, early)?;
-    let left = left - size as u64;
-    if left < header.klen || left - header.klen < header.vlen {
-        return Err(early);
-    }
-    record_body(reader, into, header, keeping, early)?;
-    let place = area.place + size as u64 + header.klen + header.vlen;
-    Ok(Area {
-        place,
-        end: area.end,
-    })
 }
 
 /// Reads the records of a database file, one after the other, in one pass.
@@ -147,7 +100,22 @@ impl<R: Read, L: Width> RecordReader<R, L> {
         ensures failed { (fault : _) → HasFailed self.old fault →
             (result ≡ Err fault) × (self.new ≡ self.old) }
     {
-        self.read_kept(into, Keeping::Both)
+        self.read_by::<NoneAtHand>(into)
+    }
+
+    /// Does what `read_into` does, and takes a record that is at hand without asking for it.
+    #[inline(always)]
+    pub fn read_by<A: AtHand<R>>(&mut self, into: &mut Record) -> Result<bool, WalkFault>
+        ensures gives { IfOk result (λ given. MatchBool given
+            (GivesRecord L.WORD R.remaining self.old self.new (key_value into.new))
+            (GivesEnd L.WORD R.remaining self.old self.new)) }
+        ensures fails { IfErr result (Fails L.WORD R.remaining self.old self.new) }
+        // After the end and after a fault nothing is read, and the answer stays.
+        ensures ended { HasEnded self.old → (result ≡ Ok false) × (self.new ≡ self.old) }
+        ensures failed { (fault : _) → HasFailed self.old fault →
+            (result ≡ Err fault) × (self.new ≡ self.old) }
+    {
+        self.read_kept::<A>(into, Keeping::Both)
     }
 
     /// Reads the key of the next record over another record. It passes over the value, which takes no
@@ -163,11 +131,32 @@ impl<R: Read, L: Width> RecordReader<R, L> {
         ensures failed { (fault : _) → HasFailed self.old fault →
             (result ≡ Err fault) × (self.new ≡ self.old) }
     {
-        self.read_kept(into, Keeping::Key)
+        self.read_key_by::<NoneAtHand>(into)
+    }
+
+    /// Does what `read_key` does, and takes a record that is at hand without asking for it.
+    #[inline(always)]
+    pub fn read_key_by<A: AtHand<R>>(&mut self, into: &mut Record) -> Result<bool, WalkFault>
+        ensures gives { IfOk result (λ given. MatchBool given
+            (GivesKey L.WORD R.remaining self.old self.new into.new.key.items)
+            (GivesEnd L.WORD R.remaining self.old self.new)) }
+        ensures value { into.new.value ≡ into.old.value }
+        ensures fails { IfErr result (Fails L.WORD R.remaining self.old self.new) }
+        // After the end and after a fault nothing is read, and the answer stays.
+        ensures ended { HasEnded self.old → (result ≡ Ok false) × (self.new ≡ self.old) }
+        ensures failed { (fault : _) → HasFailed self.old fault →
+            (result ≡ Err fault) × (self.new ≡ self.old) }
+    {
+        self.read_kept::<A>(into, Keeping::Key)
     }
 
     /// Reads the next record, of which so much is kept, and notes what to do next.
-    fn read_kept(&mut self, into: &mut Record, keeping: Keeping) -> Result<bool, WalkFault>
+    #[inline(always)]
+    fn read_kept<A: AtHand<R>>(
+        &mut self,
+        into: &mut Record,
+        keeping: Keeping,
+    ) -> Result<bool, WalkFault>
         ensures gives { IfOk result (λ given. MatchBool given
             (GivesKept L.WORD R.remaining self.old self.new keeping into.new)
             (GivesEnd L.WORD R.remaining self.old self.new)) }
@@ -178,8 +167,8 @@ impl<R: Read, L: Width> RecordReader<R, L> {
             (result ≡ Err fault) × (self.new ≡ self.old) }
     {
         let answer = match self.walking {
-            Walking::AtHead => self.first(into, keeping),
-            Walking::At(area) => self.record_at(into, area, keeping),
+            Walking::AtHead => self.first::<A>(into, keeping),
+            Walking::At(area) => self.record_at::<A>(into, area, keeping),
             Walking::AtEnd => return Ok(false),
             Walking::Failed(fault) => return Err(fault),
         };
@@ -192,7 +181,12 @@ impl<R: Read, L: Width> RecordReader<R, L> {
     }
 
     /// Reads the head, and then the first record.
-    fn first(&mut self, into: &mut Record, keeping: Keeping) -> Result<bool, WalkFault>
+    #[inline(never)]
+    fn first<A: AtHand<R>>(
+        &mut self,
+        into: &mut Record,
+        keeping: Keeping,
+    ) -> Result<bool, WalkFault>
         ensures record { IfOk result (λ given. OnTrue given
             ((r : KeyValue) × IsKept keeping into.new r
             × Between R.remaining self.old self.new (λ text rest.
@@ -225,11 +219,12 @@ impl<R: Read, L: Width> RecordReader<R, L> {
             (unread R.remaining self.old) (unread R.remaining self.new)) }
     {
         let area = read_area::<R, L>(&mut self.reader)?;
-        self.record_at(into, area, keeping)
+        self.record_at::<A>(into, area, keeping)
     }
 
     /// Reads the record at the next place, unless that is the record end.
-    fn record_at(
+    #[inline(always)]
+    fn record_at<A: AtHand<R>>(
         &mut self,
         into: &mut Record,
         area: Area,
@@ -266,7 +261,7 @@ impl<R: Read, L: Width> RecordReader<R, L> {
         if area.place == area.end {
             return Ok(false);
         }
-        let behind = read_record::<R, L>(&mut self.reader, into, area, keeping)?;
+        let behind = read_record_by::<R, L, A>(&mut self.reader, into, area, keeping)?;
         self.walking = Walking::At(behind);
         Ok(true)
     }

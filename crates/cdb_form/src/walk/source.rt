@@ -4,7 +4,7 @@ ghost use Rattle.std.specs.Io.KnownBytes.{Consumes};
 ghost use Rattle.cdb_form.specs.Format.Pair.{head_size, pair_size};
 ghost use Rattle.cdb_form.specs.Format.Record.{AreBytes, KeyValue};
 ghost use Rattle.cdb_form.specs.declared.walk.fault.WalkFault.TheVariants.{Short};
-ghost use Rattle.cdb_form.specs.declared.walk.source.Keeping.TheVariants.{Key};
+ghost use Rattle.cdb_form.specs.declared.walk.keeping.Keeping.TheVariants.{Key};
 ghost use Rattle.cdb_form.specs.Views.KnownBytes.{LosesAtMost, LosesFewer};
 ghost use Rattle.cdb_form.specs.Views.Reading.{ReadsShort, HeadRead, HeaderRead, Passes, ValueRead};
 ghost use Rattle.cdb_form.specs.Views.Reading.{BodyRead, IsKept};
@@ -16,6 +16,7 @@ use crate::pair::{GREATEST_PAIR, pair_size};
 use crate::reading::{PIPE, all_bytes, skip, vector};
 use crate::record::Record;
 use crate::walk::fault::WalkFault;
+use crate::walk::keeping::Keeping;
 use crate::width::Width;
 use std::io::Read;
 
@@ -105,15 +106,6 @@ pub(crate) fn record_header<R: Read, L: Width>(
     let size = pair_size::<L>();
     fill(reader, &mut bytes[..size], early)?;
     Ok(read_header::<L>(&bytes[..size]))
-}
-
-/// What is kept of a record that is read.
-#[derive(Clone, Copy)]
-pub(crate) enum Keeping {
-    /// The key and the value.
-    Both,
-    /// The key alone. The value is passed over, and takes no memory.
-    Key,
 }
 
 /// Passes over the next `len` bytes, or answers `early` if the reader ends before.

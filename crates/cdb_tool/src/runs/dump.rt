@@ -8,7 +8,7 @@ use crate::fault::Fault;
 use crate::runs::content::Content;
 use crate::runs::walk_text::write_walk;
 use cdb_command::Style;
-use cdb_form::{RecordReader, Width};
+use cdb_form::{AtHand, NoneAtHand, RecordReader, Width};
 use std::alloc::Global;
 use std::io::{Read, Write};
 
@@ -26,7 +26,7 @@ pub fn dump_from<L: Width, R: Read, W: Write>(
     ensures { WritesWalk L.WORD (dump_form style) (unread R.remaining records.old)
         (unread R.remaining records.new) (W.contents w.old) (W.contents w.new) result }
 {
-    write_walk::<L, R, W>(alloc, records, Content::Records, style, w)
+    write_walk::<L, R, W, NoneAtHand>(alloc, records, Content::Records, style, w)
 }
 
 /// Writes the text of the records of a database file, in one pass over the file.
@@ -49,6 +49,19 @@ pub fn dump_run<L: Width, R: Read + Drop, W: Write>(
     ensures { (rest : Option (List ℕ)) × WritesWalk L.WORD (dump_form style)
         (R.remaining reader) rest (W.contents w.old) (W.contents w.new) result }
 {
+    dump_run_by::<L, R, W, NoneAtHand>(alloc, reader, style, w)
+}
+
+/// Does what `dump_run` does, and takes a record that the reader has at hand without asking for it.
+pub fn dump_run_by<L: Width, R: Read + Drop, W: Write, A: AtHand<R>>(
+    alloc: Global,
+    reader: R,
+    style: Style,
+    w: &mut W,
+) -> Result<(), Fault>
+    ensures { (rest : Option (List ℕ)) × WritesWalk L.WORD (dump_form style)
+        (R.remaining reader) rest (W.contents w.old) (W.contents w.new) result }
+{
     let mut records = RecordReader::<R, L>::new(alloc, reader);
-    dump_from::<L, R, W>(alloc, &mut records, style, w)
+    write_walk::<L, R, W, A>(alloc, &mut records, Content::Records, style, w)
 }

@@ -8,7 +8,7 @@ use crate::fault::Fault;
 use crate::runs::content::Content;
 use crate::runs::walk_text::write_walk;
 use cdb_command::Style;
-use cdb_form::{RecordReader, Width};
+use cdb_form::{AtHand, NoneAtHand, RecordReader, Width};
 use std::alloc::Global;
 use std::io::{Read, Write};
 
@@ -26,7 +26,7 @@ pub fn list_from<L: Width, R: Read, W: Write>(
     ensures { WritesWalk L.WORD (list_form style) (unread R.remaining records.old)
         (unread R.remaining records.new) (W.contents w.old) (W.contents w.new) result }
 {
-    write_walk::<L, R, W>(alloc, records, Content::Keys, style, w)
+    write_walk::<L, R, W, NoneAtHand>(alloc, records, Content::Keys, style, w)
 }
 
 /// Writes the text of the keys of a database file, in one pass over the file.
@@ -50,6 +50,19 @@ pub fn list_run<L: Width, R: Read + Drop, W: Write>(
     ensures { (rest : Option (List ℕ)) × WritesWalk L.WORD (list_form style)
         (R.remaining reader) rest (W.contents w.old) (W.contents w.new) result }
 {
+    list_run_by::<L, R, W, NoneAtHand>(alloc, reader, style, w)
+}
+
+/// Does what `list_run` does, and takes a record that the reader has at hand without asking for it.
+pub fn list_run_by<L: Width, R: Read + Drop, W: Write, A: AtHand<R>>(
+    alloc: Global,
+    reader: R,
+    style: Style,
+    w: &mut W,
+) -> Result<(), Fault>
+    ensures { (rest : Option (List ℕ)) × WritesWalk L.WORD (list_form style)
+        (R.remaining reader) rest (W.contents w.old) (W.contents w.new) result }
+{
     let mut records = RecordReader::<R, L>::new(alloc, reader);
-    list_from::<L, R, W>(alloc, &mut records, style, w)
+    write_walk::<L, R, W, A>(alloc, &mut records, Content::Keys, style, w)
 }

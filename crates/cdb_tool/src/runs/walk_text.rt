@@ -13,15 +13,16 @@ use crate::runs::content::Content;
 use crate::runs::flushed::flushed;
 use cdb_command::Style;
 use cdb_form::{
-    OutFault, Record, RecordReader, WalkFault, Width, write_end, write_list_record, write_map_key,
-    write_map_record, write_record,
+    AtHand, OutFault, Record, RecordReader, WalkFault, Width, write_end, write_list_record,
+    write_map_key, write_map_record, write_record,
 };
 use std::alloc::Global;
 use std::io::{Read, Write};
 
 /// Reads what the text has of the next record over another record. A value that it does not have is
-/// passed over, and takes no memory.
-fn read_item<L: Width, R: Read>(
+/// passed over, and takes no memory. A record that is at hand is not asked for.
+#[inline(always)]
+fn read_item<L: Width, R: Read, A: AtHand<R>>(
     records: &mut RecordReader<R, L>,
     content: Content,
     into: &mut Record,
@@ -34,8 +35,8 @@ fn read_item<L: Width, R: Read>(
     ensures fails { IfErr result (Fails L.WORD R.remaining records.old records.new) }
 {
     match content {
-        Content::Records => records.read_into(into),
-        Content::Keys => records.read_key(into),
+        Content::Records => records.read_by::<A>(into),
+        Content::Keys => records.read_key_by::<A>(into),
     }
 }
 
@@ -72,7 +73,7 @@ fn write_last<W: Write>(w: &mut W, style: Style) -> Result<(), OutFault>
 }
 
 /// Writes the text of a file, which the writer may keep in a buffer.
-fn write_unflushed<L: Width, R: Read, W: Write>(
+fn write_unflushed<L: Width, R: Read, W: Write, A: AtHand<R>>(
     alloc: Global,
     records: &mut RecordReader<R, L>,
     content: Content,
@@ -87,7 +88,7 @@ fn write_unflushed<L: Width, R: Read, W: Write>(
         key: Vec::new(alloc),
         value: Vec::new(alloc),
     };
-    while read_item(records, content, &mut record)? {
+    while read_item::<L, R, A>(records, content, &mut record)? {
         write_item(w, content, style, &record)?;
     }
     write_last(w, style)?;
@@ -96,7 +97,7 @@ fn write_unflushed<L: Width, R: Read, W: Write>(
 
 /// Writes the text of a file, of which nothing was read yet, and flushes the writer, after a fault
 /// too.
-pub(crate) fn write_walk<L: Width, R: Read, W: Write>(
+pub(crate) fn write_walk<L: Width, R: Read, W: Write, A: AtHand<R>>(
     alloc: Global,
     records: &mut RecordReader<R, L>,
     content: Content,
@@ -107,6 +108,6 @@ pub(crate) fn write_walk<L: Width, R: Read, W: Write>(
     ensures { WritesWalk L.WORD (form_of content style) (unread R.remaining records.old)
         (unread R.remaining records.new) (W.contents w.old) (W.contents w.new) result }
 {
-    let written = write_unflushed::<L, R, W>(alloc, records, content, style, w);
+    let written = write_unflushed::<L, R, W, A>(alloc, records, content, style, w);
     flushed(w, written)
 }

@@ -2,8 +2,8 @@
 // all: each is read as byte by byte, with the same fault, and as far.
 use super::windows::{Dripping, MOST, SIZES};
 use cdb_form::{
-    AmendReader, AtHand, ItemKind, Kind, Narrow, NoneAtHand, Record, TextFault, TextReader, Wide,
-    Width,
+    AmendReader, AtHand, ItemKind, Keeping, Kind, Narrow, NoneAtHand, Record, TextFault,
+    TextReader, Wide, Width,
 };
 use cdb_tool::{InWindow, Input};
 use std::alloc::{AllocError, Global};
@@ -64,10 +64,10 @@ const TEXTS: [&[u8]; 49] = [
     b"-1:a\n-1:a\n",
 ];
 
-/// An input that a reader of a text is lent, so that what it left can be seen.
+/// An input that a reader of a text or of a file is lent, so that what it left can be seen.
 #[derive(Drop)]
-struct Lent<'a, 'b> {
-    input: &'a mut Input<Dripping<'b>>,
+pub(super) struct Lent<'a, 'b> {
+    pub(super) input: &'a mut Input<Dripping<'b>>,
 }
 
 impl Read for Lent<'_, '_> {
@@ -77,7 +77,7 @@ impl Read for Lent<'_, '_> {
 }
 
 /// The bytes of its window are at hand.
-struct InLent;
+pub(super) struct InLent;
 
 impl AtHand<Lent<'_, '_>> for InLent {
     fn take_run(
@@ -104,6 +104,20 @@ impl AtHand<Lent<'_, '_>> for InLent {
 
     fn take_line(lent: &mut Lent<'_, '_>, most: u64, into: &mut Record) -> Result<u64, AllocError> {
         InWindow::take_line(&mut *lent.input, most, into)
+    }
+
+    fn take_stored<L: Width>(
+        lent: &mut Lent<'_, '_>,
+        keeping: Keeping,
+        most: u64,
+        into: &mut Record,
+    ) -> Result<u64, AllocError> {
+        <InWindow as AtHand<Input<Dripping<'_>>>>::take_stored::<L>(
+            &mut *lent.input,
+            keeping,
+            most,
+            into,
+        )
     }
 }
 
@@ -200,7 +214,7 @@ fn read_form<R: Read + Drop, A: AtHand<R>>(
 }
 
 /// What is left of an input.
-fn rest_of(alloc: Global, input: &mut Input<Dripping<'_>>) -> Result<Vec<u8>, Fail> {
+pub(super) fn rest_of(alloc: Global, input: &mut Input<Dripping<'_>>) -> Result<Vec<u8>, Fail> {
     let mut rest = Vec::new(alloc);
     let mut piece = [0u8; 16];
     for _ in 0..100 {

@@ -4,8 +4,8 @@ use Rattle.std.proofs.lemmas.List.{append-nil}
 use Rattle.std.specs.Io.KnownBytes.{Consumes}
 use Rattle.cdb_form.proofs.ReadBack.{same_words}
 use Rattle.cdb_form.proofs.RecordReads.{front_told, no_room, header_early, body_no_room, body_early, record_read, record_cut, loses_then, none_no_room, none_header, none_body_no_room, none_body}
-use Rattle.cdb_form.proofs.walk.record_reader.read_record.Goals.{then-left-header-via-then-left-header, then-left-header-via-else-left-header+then-left-header-2}
-use Rattle.cdb_form.proofs.walk.record_reader.read_record.Goals as goal
+use Rattle.cdb_form.proofs.walk.next_record.read_record.Goals.{then-left-header-via-then-left-header, then-left-header-via-else-left-header+then-left-header-2}
+use Rattle.cdb_form.proofs.walk.next_record.read_record.Goals as goal
 
 pub returns-then-left-size-clause-fails : goal.returns-then-left-size-clause-fails
 returns-then-left-size-clause-fails g c = λ damage. no_room g.L.Width.WORD c.args.area.place c.args.area.end (g.R.Read.remaining c.args.reader.now) c.requires (omega (arith, c.pair_size-size.ensures, c.if-left-size.true))

@@ -1,0 +1,104 @@
+-- A record of a database file at the front of some bytes that are at hand.
+use Rattle.std.proofs.Common.{◌≡◌, ℕ, ◌+◌, ◌-◌, ◌*◌, ◌<◌, ◌≤◌, List, [], ◌++◌, length, take, drop, refl, sym, subst, ap, ◌∙◌, arith, Option, Some, None, append_assoc, length-append, length-drop}
+use Rattle.std.proofs.lemmas.List.{drop-drop, drop-take, length-take-le, take-append-drop, take-take, take_all}
+use Rattle.std.specs.Io.KnownBytes.{prepend_known, Consumes, Keeps}
+use Rattle.cdb_form.specs.Format.Pair.{WordPair}
+use Rattle.cdb_form.specs.Format.Reading.{pair_at}
+use Rattle.cdb_form.specs.Format.Record.{KeyValue, record_size}
+use Rattle.cdb_form.specs.Format.Walk.{Walked, front_record, front_size, walk_from, with_first}
+use Rattle.cdb_form.specs.Views.KnownBytes.{FromTo}
+use Rattle.cdb_form.specs.Views.Pairs.{header_pair}
+use Rattle.cdb_form.specs.Views.Reading.{ReadsFirst}
+use Rattle.cdb_form.specs.declared.header.Header.{Header}
+use Rattle.cdb_form.proofs.Fronts.{lengths_of}
+use Rattle.cdb_form.proofs.ReadBack.{same_words}
+use Rattle.cdb_form.proofs.RecordReads.{record_cut, record_read}
+use Rattle.cdb_form.proofs.SourceLemmas.{consumes_then, kept_consumes}
+use Rattle.cdb_form.proofs.WordLemmas.{pair_at-take}
+
+-- the parts of the record that some bytes begin with, and whose header has this size
+pub record Stored (w size n klen vlen : ℕ) (bytes : List ℕ) : Type 0 where
+  pub whole : front_size w (take n bytes) ≡ n
+  pub key : (front_record w (take n bytes)).key ≡ take klen (drop size bytes)
+  pub value : (front_record w (take n bytes)).value ≡ take vlen (drop klen (drop size bytes))
+
+-- they are those of the bytes that it has alone
+in_front : (w : ℕ) (bytes : List ℕ) (h : Header) → header_pair h ≡ pair_at w (take (2 * w) bytes) → Stored w (2 * w) (2 * w + h.klen + h.vlen) h.klen h.vlen bytes
+in_front w bytes h told =
+    let n = 2 * w + h.klen + h.vlen in
+    let twice : 2 * w ≡ w + w = omega arith in
+    let long : n ≡ 2 * w + (h.klen + h.vlen) = omega arith in
+    let words : pair_at w (take n bytes) ≡ header_pair h =
+    sym (pair_at-take w (take n bytes)) ∙ ap (pair_at w) (take-take (w + w) n bytes (omega arith)) ∙ ap (λ (k : ℕ). pair_at w (take k bytes)) (sym twice) ∙ sym told in
+    let body : drop (2 * w) (take n bytes) ≡ take (h.klen + h.vlen) (drop (2 * w) bytes) = ap (λ (k : ℕ). drop (2 * w) (take k bytes)) long ∙ drop-take (2 * w) (h.klen + h.vlen) bytes in
+    let behind : drop (2 * w + h.klen) (take n bytes) ≡ take h.vlen (drop h.klen (drop (2 * w) bytes)) =
+    drop-take (2 * w + h.klen) h.vlen bytes ∙ ap (take h.vlen) (sym (drop-drop h.klen (2 * w) bytes)) in
+    record {
+      whole = ap (λ (p : WordPair). 2 * w + p.first + p.second) words;
+      key = ap (λ (p : WordPair). take p.first (drop (2 * w) (take n bytes))) words ∙ ap (take h.klen) body ∙ take-take h.klen (h.klen + h.vlen) (drop (2 * w) bytes) (omega arith);
+      value = ap (λ (p : WordPair). take p.second (drop (2 * w + p.first) (take n bytes))) words ∙ ap (take h.vlen) behind ∙ take-take h.vlen h.vlen (drop h.klen (drop (2 * w) bytes)) (omega arith);
+    }
+
+pub stored_front : (w size : ℕ) (bytes : List ℕ) (h : Header) → size ≡ 2 * w → header_pair h ≡ pair_at w (take size bytes) → Stored w size (size + h.klen + h.vlen) h.klen h.vlen bytes
+stored_front w size bytes h e told =
+    subst (λ (k : ℕ). Stored w k (k + h.klen + h.vlen) h.klen h.vlen bytes) (sym e) (in_front w bytes h (told ∙ ap (λ (k : ℕ). pair_at w (take k bytes)) e))
+
+-- the parts of bytes that are one record
+record Parts (w : ℕ) (bytes : List ℕ) : Type 0 where
+  pub long : length (take (2 * w) bytes) ≡ 2 * w
+  pub lengths : pair_at w (take (2 * w) bytes) ≡ lengths_of (front_record w bytes)
+  pub split : bytes ≡ take (2 * w) bytes ++ ((front_record w bytes).key ++ (front_record w bytes).value)
+
+parts_of : (w : ℕ) (bytes : List ℕ) → front_size w bytes ≡ length bytes → Parts w bytes
+parts_of w bytes whole =
+    let p = pair_at w bytes in
+    let body = drop (2 * w) bytes in
+    let tail = drop (2 * w + p.first) bytes in
+    let twice : 2 * w ≡ w + w = omega arith in
+    let klong : length (take p.first body) ≡ p.first = length-take-le p.first body (omega (arith, whole, length-drop (2 * w) bytes)) in
+    let last : take p.second tail ≡ tail = take_all p.second tail (omega (arith, whole, length-drop (2 * w + p.first) bytes)) in
+    let vlong : length (take p.second tail) ≡ p.second = ap length last ∙ omega (arith, whole, length-drop (2 * w + p.first) bytes) in
+    let behind : take p.first body ++ take p.second tail ≡ body = ap (λ t. take p.first body ++ t) (last ∙ sym (drop-drop p.first (2 * w) bytes)) ∙ take-append-drop p.first body in
+    record {
+      long = length-take-le (2 * w) bytes (omega (arith, whole));
+      lengths = ap (λ (k : ℕ). pair_at w (take k bytes)) twice ∙ pair_at-take w bytes ∙ same_words p (lengths_of (front_record w bytes)) (sym klong) (sym vlong);
+      split = sym (ap (λ t. take (2 * w) bytes ++ t) behind ∙ take-append-drop (2 * w) bytes);
+    }
+
+-- what is read at once is read part after part
+first_part : (old new : Option (List ℕ)) (xs ys : List ℕ) → Consumes old new (xs ++ ys) → Consumes old (prepend_known ys new) xs
+first_part None new xs ys read = tt
+first_part (Some o) None xs ys read = absurd read
+first_part (Some o) (Some n) xs ys read = read ∙ append_assoc xs ys n
+
+last_part : (new : Option (List ℕ)) (ys : List ℕ) → Consumes (prepend_known ys new) new ys
+last_part None ys = tt
+last_part (Some n) ys = refl
+
+-- a record that was taken is the next one of the walk
+pub stored_read : (w place end next : ℕ) (old new : Option (List ℕ)) (bytes : List ℕ) → 0 < w → Consumes old new bytes → front_size w bytes ≡ length bytes → next ≡ place + length bytes → next ≤ end
+    → (next ≡ place + record_size w (front_record w bytes))
+    × FromTo old new (λ text rest. (walk_from w place end text ≡ with_first (front_record w bytes) (walk_from w next end rest)) × (rest ≡ drop (next - place) text))
+    × ReadsFirst (front_record w bytes) (walk_from w place end) (walk_from w next end) old new
+stored_read w place end next old new bytes some read whole at room =
+    let r = front_record w bytes in
+    let header = take (2 * w) bytes in
+    let parts = parts_of w bytes whole in
+    let mid = prepend_known (r.key ++ r.value) new in
+    let behind : next ≡ place + record_size w r = omega (arith, at, parts.long, ap length parts.split, length-append header (r.key ++ r.value), length-append r.key r.value) in
+    let one : Consumes old mid header = first_part old new header (r.key ++ r.value) (subst (Consumes old new) parts.split read) in
+    let two : Consumes mid new (r.key ++ r.value) = last_part new (r.key ++ r.value) in (
+      behind,
+      record_read w place end next old mid new header r some one two parts.long parts.lengths behind room,
+      record_cut w place end next old mid new header r some one two parts.long parts.lengths behind room,
+    )
+
+-- nothing was taken before
+pub kept_then : (old mid new : Option (List ℕ)) (P : List ℕ → List ℕ → Type 0) → Keeps old mid → FromTo mid new P → FromTo old new P
+kept_then None mid new P kept so = tt
+kept_then (Some o) None new P kept so = absurd kept
+kept_then (Some o) (Some m) None P kept so = absurd so
+kept_then (Some o) (Some m) (Some n) P kept so = subst (λ t. P t n) kept so
+
+pub kept_first : (old mid new : Option (List ℕ)) (r : KeyValue) (walk rest : List ℕ → Walked) → Keeps old mid → ReadsFirst r walk rest mid new → ReadsFirst r walk rest old new
+kept_first old mid new r walk rest kept one = record { bytes = one.bytes; read = consumes_then old mid new [] one.bytes (kept_consumes old mid kept) one.read; first = one.first }

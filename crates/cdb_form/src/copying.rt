@@ -1,0 +1,19 @@
+// Bytes copied into memory that is there.
+ghost use Rattle.std.specs.Prelude.{◌≡◌, OnOk};
+ghost use Rattle.cdb_form.specs.Format.Record.{AreBytes};
+
+use std::alloc::AllocError;
+
+/// Copies bytes over what a vector holds. If they are as many, its room is not looked at.
+#[inline(always)]
+pub(crate) fn copy_over(bytes: &[u8], into: &mut Vec<u8>) -> Result<(), AllocError>
+    ensures holds { OnOk result (into.new.items ≡ bytes.now) }
+    ensures are { AreBytes into.new.items }
+{
+    if into.len() == bytes.len() {
+        into.copy_from_slice(bytes);
+        return Ok(());
+    }
+    into.clear();
+    into.extend_from_slice(bytes)
+}

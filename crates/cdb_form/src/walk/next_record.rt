@@ -1,0 +1,109 @@
+// The next record of a database file.
+ghost use Rattle.std.specs.Prelude.{◌≡◌, ◌+◌, ◌-◌, ◌<◌, ◌≤◌, drop, OnErr, IfOk, IfErr, IfSome};
+ghost use Rattle.cdb_form.specs.Views.KnownBytes.{LosesAtMost, FromTo};
+ghost use Rattle.cdb_form.specs.Format.Pair.{pair_size};
+ghost use Rattle.cdb_form.specs.Views.Reading.{ReadsNoFurther, ReadsNoRecord};
+ghost use Rattle.cdb_form.specs.Views.Reading.{ReadsFirst, IsKept};
+ghost use Rattle.cdb_form.specs.Format.Record.{KeyValue, record_size};
+ghost use Rattle.cdb_form.specs.Format.Walk.{walk_from, with_first};
+ghost use Rattle.cdb_form.specs.declared.walk.keeping.Keeping.TheVariants.{Key};
+ghost use Rattle.cdb_form.specs.Views.WalkFault.{IsDamage, stopped_by};
+
+use crate::pair::pair_size;
+use crate::record::Record;
+use crate::text::at_hand::AtHand;
+use crate::walk::fault::WalkFault;
+use crate::walk::keeping::Keeping;
+use crate::walk::record_area::Area;
+use crate::walk::source::{record_body, record_header};
+use crate::width::Width;
+use std::io::Read;
+
+/// Reads the record at the next place, and says where those after it lie.
+#[inline(never)]
+fn read_record<R: Read, L: Width>(
+    reader: &mut R,
+    into: &mut Record,
+    area: Area,
+    keeping: Keeping,
+) -> Result<Area, WalkFault>
+    requires { area.place < area.end }
+    ensures record { IfOk result (λ behind. (r : KeyValue) × IsKept keeping into.new r
+        × (behind.place ≡ area.place + record_size L.WORD r)
+        × FromTo (R.remaining reader.old) (R.remaining reader.new) (λ text rest.
+        (walk_from L.WORD area.place area.end text
+        ≡ with_first r (walk_from L.WORD behind.place area.end rest))
+        × (rest ≡ drop (behind.place - area.place) text))
+        × ReadsFirst r (walk_from L.WORD area.place area.end)
+        (walk_from L.WORD behind.place area.end) (R.remaining reader.old) (R.remaining reader.new)) }
+    ensures value { keeping ≡ Key → into.new.value ≡ into.old.value }
+    ensures place { IfOk result (λ behind. area.place < behind.place) }
+    ensures end { IfOk result (λ behind. behind.end ≡ area.end) }
+    ensures fails { IfErr result (λ f. IsDamage f → IfSome (R.remaining reader.old) (λ text.
+        walk_from L.WORD area.place area.end text ≡ stopped_by f)) }
+    ensures header { IfErr result (λ f.
+        IsDamage f → ReadsNoFurther (pair_size L.WORD) (R.remaining reader.old)
+        (R.remaining reader.new)) }
+    ensures loses { LosesAtMost (R.remaining reader.old)
+        (R.remaining reader.new) (area.end - area.place) }
+    ensures part { OnErr result (ReadsNoRecord (walk_from L.WORD area.place area.end)
+        (R.remaining reader.old) (R.remaining reader.new)) }
+{
+    let early = WalkFault::Record(area.place);
+    let size = pair_size::<L>();
+    let left = area.end - area.place;
+    if left < size as u64 {
+        return Err(early);
+    }
+    let header = record_header::<R, L>(reader, early)?;
+    let left = left - size as u64;
+    if left < header.klen || left - header.klen < header.vlen {
+        return Err(early);
+    }
+    record_body(reader, into, header, keeping, early)?;
+    let place = area.place + size as u64 + header.klen + header.vlen;
+    Ok(Area {
+        place,
+        end: area.end,
+    })
+}
+
+/// Reads the record at the next place as `read_record` does, one that is at hand by one step.
+#[inline(always)]
+pub(crate) fn read_record_by<R: Read, L: Width, A: AtHand<R>>(
+    reader: &mut R,
+    into: &mut Record,
+    area: Area,
+    keeping: Keeping,
+) -> Result<Area, WalkFault>
+    requires { area.place < area.end }
+    ensures record { IfOk result (λ behind. (r : KeyValue) × IsKept keeping into.new r
+        × (behind.place ≡ area.place + record_size L.WORD r)
+        × FromTo (R.remaining reader.old) (R.remaining reader.new) (λ text rest.
+        (walk_from L.WORD area.place area.end text
+        ≡ with_first r (walk_from L.WORD behind.place area.end rest))
+        × (rest ≡ drop (behind.place - area.place) text))
+        × ReadsFirst r (walk_from L.WORD area.place area.end)
+        (walk_from L.WORD behind.place area.end) (R.remaining reader.old) (R.remaining reader.new)) }
+    ensures value { keeping ≡ Key → into.new.value ≡ into.old.value }
+    ensures place { IfOk result (λ behind. area.place < behind.place) }
+    ensures end { IfOk result (λ behind. behind.end ≡ area.end) }
+    ensures fails { IfErr result (λ f. IsDamage f → IfSome (R.remaining reader.old) (λ text.
+        walk_from L.WORD area.place area.end text ≡ stopped_by f)) }
+    ensures header { IfErr result (λ f.
+        IsDamage f → ReadsNoFurther (pair_size L.WORD) (R.remaining reader.old)
+        (R.remaining reader.new)) }
+    ensures loses { LosesAtMost (R.remaining reader.old)
+        (R.remaining reader.new) (area.end - area.place) }
+    ensures part { OnErr result (ReadsNoRecord (walk_from L.WORD area.place area.end)
+        (R.remaining reader.old) (R.remaining reader.new)) }
+{
+    let n = A::take_stored::<L>(reader, keeping, area.end - area.place, into)?;
+    if n == 0 {
+        return read_record::<R, L>(reader, into, area, keeping);
+    }
+    Ok(Area {
+        place: area.place + n,
+        end: area.end,
+    })
+}

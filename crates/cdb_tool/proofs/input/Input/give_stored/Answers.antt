@@ -1,0 +1,22 @@
+use Rattle.std.proofs.Common.{◌≡◌, ◌+◌, ◌-◌, ◌≤◌, take, drop, arith, ap, ◌∙◌}
+use Rattle.std.proofs.lemmas.List.{length-take, length-take-le, take-take}
+use Rattle.cdb_tool.proofs.InputLemmas.{given}
+use Rattle.cdb_tool.proofs.input.Input.give_stored.Goals as goal
+
+pub returns-clause-moved : goal.returns-clause-moved
+returns-clause-moved g c = λ some.
+    let n = c.in_ok-size.size in
+    let start = c.args.self.now.start in
+    let held = c.min-held.result in
+    let window = take ((start + held) - start) (drop start c.deref.result.now) in
+    let begins = c.in_ok-size.ensures.whole some in
+    let few : n ≤ (start + held) - start = omega (arith, begins.within, length-take ((start + held) - start) (drop start c.deref.result.now)) in
+    let same : take n window ≡ take n (drop start c.args.self.now.window.items) =
+    take-take n ((start + held) - start) (drop start c.deref.result.now) few ∙ ap (λ t. take n (drop start t)) c.deref.ensures.value in
+    record {
+      bytes = take n window;
+      whole = begins.whole;
+      kept = begins.kept;
+      read = given c.args.self.now.window.items (take n window) start c.args.self.now.end n (g.R.Read.remaining c.args.self.now.reader) (grind arith) same;
+      long = length-take-le n window begins.within;
+    }
