@@ -1,4 +1,4 @@
-use Rattle.std.proofs.Common.{get_or, subst, sym, arith, refl, ◌*◌, ◌+◌, ◌-◌, ◌<◌, ◌∙◌, ◌≡◌, ℕ}
+use Rattle.std.proofs.Common.{get_or, subst, sym, arith, refl, ◌*◌, ◌+◌, ◌<◌, ◌≡◌, ℕ}
 use Rattle.std.specs.Char.{digit_value}
 use Rattle.std.proofs.lemmas.Str.{digit_value_digit}
 use Rattle.cdb_form.proofs.FrontLemmas.{FrontDigits, front_digit}
