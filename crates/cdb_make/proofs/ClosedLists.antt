@@ -1,16 +1,18 @@
 -- Lists of entries, one closed after another.
-use Rattle.std.proofs.Common.{◌≡◌, ℕ, ◌+◌, ◌-◌, ◌^◌, ◌<◌, ◌≤◌, List, [], length, get_or, slice_set, refl, ap, sym, subst, ◌∙◌, inl, inr, arith, sum_by}
+use Rattle.std.proofs.Common.{◌≡◌, ℕ, ◌+◌, ◌*◌, ◌/◌, ◌%◌, ◌-◌, ◌^◌, ◌<◌, ◌≤◌, List, [], length, get_or, slice_set, refl, ap, sym, subst, ◌∙◌, inl, inr, arith, sum_by}
 use Rattle.std.specs.Prelude.{All}
-use Rattle.std.proofs.lemmas.Bool.{cases_eq}
+use Rattle.std.proofs.lemmas.Bool.{cases_eq, cases_lt}
+use Rattle.std.proofs.lemmas.List.Elements.{All-same}
 use Rattle.std.proofs.lemmas.Grind.{get_or-set_at}
 use Rattle.std.proofs.lemmas.List.{get_or-map, get_or-set_other, get_or_default, map-set, length-map}
 use Rattle.std.proofs.lemmas.List.Sums.{sum_by-set}
 use Rattle.cdb_form.specs.Format.Pair.{WordPair}
 use Rattle.cdb_make.specs.declared.gap.Gap.{Gap}
 use Rattle.cdb_make.specs.declared.list.EntryList.{EntryList}
-use Rattle.cdb_make.specs.Gaps.{AreApart, IsRising, first_place}
+use Rattle.cdb_make.specs.Gaps.{AreApart, first_place}
 use Rattle.cdb_make.proofs.Merge.{closed_below}
-use Rattle.cdb_make.specs.Views.EntryList.{IsClosed, list_entries, lists_entries}
+use Rattle.cdb_make.specs.Views.EntryList.{IsClosed, AreUnder, list_entries, lists_entries, list_tops}
+use Rattle.cdb_make.proofs.Sides.{places_below}
 
 -- those below i are closed, and the rest are as they were
 pub record ClosedBelow (i : ℕ) (gaps : List Gap) (old new : List EntryList) : Type 0 where
@@ -34,13 +36,36 @@ closed_more i gs old now e new lt closed below = record {
   same = λ k d le. get_or-set_other now i k new d (λ at. omega arith) ∙ below.same k d (omega arith);
 }
 
--- the gaps are closed in a list that they do not reach
-pub closed_still : (gs : List Gap) (l : EntryList) → AreApart 0 gs (2 ^ 63) → (IsRising 0 (list_entries l) → (k : ℕ) → k < length l.places.items → get_or l.places.items k 0 < first_place gs (2 ^ 64 - 1)) → IsClosed gs l l
-closed_still gs l apart low = record {
-  entries = λ r. closed_below l.hashes.items l.places.items gs (2 ^ 63) (2 ^ 64 - 1) l.paired apart (low r);
-  fewer = omega arith;
-  bounded = λ most all. all;
-  room = refl;
+-- the gaps are closed in a list whose places they are past
+closed_still : (gs : List Gap) (l : EntryList) (top : ℕ) → AreApart 0 gs (2 ^ 63) → All (λ e. e.second ≤ top) (list_entries l) → top < first_place gs (2 ^ 64 - 1) → IsClosed gs l l
+closed_still gs l top apart under low =
+    let all : All (λ p. p ≤ top) l.places.items = places_below top l.hashes.items l.places.items l.paired under in
+    record {
+      entries = λ r. closed_below l.hashes.items l.places.items gs (2 ^ 63) (2 ^ 64 - 1) l.paired apart (λ k lt. let p = all k 0 lt in omega arith);
+      fewer = omega arith;
+      bounded = λ most under. under;
+      top = refl;
+      room = refl;
+    }
+
+-- and in a group of lists whose top they are past
+pub closed_past : (i : ℕ) (gs : List Gap) (old now : List EntryList) → i % 16 ≡ 0 → i + 16 ≤ length old → AreApart 0 gs (2 ^ 63) → AreUnder (list_tops old) (lists_entries old) → length now ≡ length old
+    → get_or (list_tops now) i 0 < first_place gs (2 ^ 64 - 1) → ClosedBelow i gs old now → ClosedBelow (i + 16) gs old now
+closed_past i gs old now first within apart under long low below = record {
+  closed = λ k d lt. elim (cases_lt k i) [
+    | inl before ↦ below.closed k d before
+    | inr from ↦
+        let group : k / 16 * 16 ≡ i = omega arith in
+        let l : EntryList = get_or old k d in
+        let was : (get_or now i d).top ≡ (get_or old i d).top = ap (λ (v : EntryList). v.top) (below.same i d (omega arith)) in
+        let new_top : get_or (list_tops now) i 0 ≡ (get_or now i d).top = get_or-map (λ (v : EntryList). v.top) now i d 0 (omega arith) in
+        let old_top : get_or (list_tops old) i 0 ≡ (get_or old i d).top = get_or-map (λ (v : EntryList). v.top) old i d 0 (omega arith) in
+        let here : get_or (lists_entries old) k [] ≡ list_entries l = get_or-map list_entries old k d [] (omega arith) in
+        let at : All (λ e. e.second ≤ get_or (list_tops old) (k / 16 * 16) 0) (list_entries l) = All-same (λ e. e.second ≤ get_or (list_tops old) (k / 16 * 16) 0) (list_entries l) (get_or (lists_entries old) k []) (sym here) (under k) in
+        let top : get_or (list_tops old) (k / 16 * 16) 0 ≡ get_or (list_tops old) i 0 = ap (λ (n : ℕ). get_or (list_tops old) n 0) group in
+        subst (IsClosed gs l) (sym (below.same k d from)) (closed_still gs l (get_or (list_tops old) (k / 16 * 16) 0) apart at (omega arith))
+  ];
+  same = λ k d le. below.same k d (omega arith);
 }
 
 -- as many entries less as went from a list

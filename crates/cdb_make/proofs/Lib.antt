@@ -2,6 +2,7 @@ pub mod Filling
 pub mod RunLemmas
 pub mod EntryLists
 pub mod Written
+pub mod Tops
 pub mod HeadPointers
 pub mod Apart
 pub mod Squeeze

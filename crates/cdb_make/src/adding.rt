@@ -8,7 +8,7 @@ ghost use Rattle.cdb_form.specs.Format.Record.{KeyValue, record_size};
 ghost use Rattle.cdb_make.specs.Stands.{Stands};
 ghost use Rattle.cdb_make.specs.Unfinished.{KeepsHead};
 ghost use Rattle.cdb_make.specs.Views.EntryList.{lists_entries, entry_count, entry_room};
-ghost use Rattle.cdb_make.specs.Views.EntryList.{AreWithin, HasSpareGaps};
+ghost use Rattle.cdb_make.specs.Views.EntryList.{AreWithin, HasSpareGaps, list_tops, AreUnder};
 ghost use Rattle.cdb_make.specs.Views.Adding.{AddFails};
 ghost use Rattle.cdb_make.specs.Views.Maker.{ComesFrom};
 
@@ -54,6 +54,8 @@ pub(crate) fn add<S: Store, L: Width>(
         → AreWithin most (lists_entries lists.new.items) }
     ensures spare { HasSpareGaps (lists_entries lists.old.items) (vec_capacity gaps.old)
         → HasSpareGaps (lists_entries lists.new.items) (vec_capacity gaps.new) }
+    ensures under { AreUnder (list_tops lists.old.items) (lists_entries lists.old.items)
+        → AreUnder (list_tops lists.new.items) (lists_entries lists.new.items) }
     ensures all { length lists.new.items ≡ 256 }
     ensures entries { OnErr result (lists_entries lists.new.items ≡ lists_entries lists.old.items) }
     ensures kept { OnErr result

@@ -2,10 +2,11 @@
 ghost use Rattle.std.specs.Prelude.{◌≡◌, ℕ, ◌<◌, ◌≤◌, ◌⊎◌, [], length, replicate, vec_capacity};
 ghost use Rattle.std.specs.Prelude.{IfOk, OnOk, OnErr};
 ghost use Rattle.cdb_make.specs.Views.EntryList.{lists_entries, entry_count, entry_room};
-ghost use Rattle.cdb_make.specs.Views.EntryList.{with_entry};
+ghost use Rattle.cdb_make.specs.Views.EntryList.{with_entry, list_tops, AreUnder};
 
 use crate::gap::Gap;
 use crate::list::EntryList;
+use crate::lists::GROUP;
 use cdb_form::table_number;
 use std::alloc::{AllocError, Global};
 
@@ -30,6 +31,7 @@ pub(crate) fn reserve_entry(
     requires { length lists.old.items ≡ 256 }
     ensures all { length lists.new.items ≡ 256 }
     ensures entries { lists_entries lists.new.items ≡ lists_entries lists.old.items }
+    ensures tops { list_tops lists.new.items ≡ list_tops lists.old.items }
     ensures room { OnOk result
         (entry_count lists.new.items hash < entry_room lists.new.items hash) }
     ensures spare { OnOk result (entry_count lists.old.items hash < vec_capacity gaps.new) }
@@ -49,6 +51,7 @@ pub(crate) fn catch_up(lists: &mut Vec<EntryList>, hash: u32)
     requires { length lists.old.items ≡ 256 }
     ensures all { length lists.new.items ≡ 256 }
     ensures entries { lists_entries lists.new.items ≡ lists_entries lists.old.items }
+    ensures tops { list_tops lists.new.items ≡ list_tops lists.old.items }
 {
     lists[table_number(u64::from(hash))].catch_up();
 }
@@ -61,6 +64,10 @@ pub(crate) fn push_entry(lists: &mut Vec<EntryList>, hash: u32, place: u64)
     ensures entries { lists_entries lists.new.items
         ≡ with_entry (lists_entries lists.old.items)
         (record { first = hash; second = place }) }
+    ensures under { AreUnder (list_tops lists.old.items) (lists_entries lists.old.items)
+        → AreUnder (list_tops lists.new.items) (lists_entries lists.new.items) }
 {
-    lists[table_number(u64::from(hash))].push(hash, place);
+    let table = table_number(u64::from(hash));
+    lists[table].push(hash, place);
+    lists[table / GROUP * GROUP].raise(place);
 }

@@ -1,10 +1,10 @@
 // The entries of one table, as a maker keeps them.
 ghost use Rattle.std.specs.Prelude.{◌≡◌, ℕ, ◌<◌, ◌≤◌, ◌^◌, ◌+◌, ◌-◌, [], ◌∷◌, ◌++◌, length, get_or, All};
-ghost use Rattle.std.specs.Prelude.{true, OnOk, OnErr, min, slice_index, vec_capacity};
+ghost use Rattle.std.specs.Prelude.{true, OnOk, OnErr, max, slice_index, vec_capacity};
 ghost use Rattle.cdb_make.specs.Rings.{AreLinked};
 ghost use Rattle.cdb_make.specs.Views.Index.{index_room};
 
-use crate::gap::{Gap, first_place};
+use crate::gap::Gap;
 use crate::index::Index;
 use crate::repair::{below, close_entries, entry_at};
 use cdb_form::Slot;
@@ -19,6 +19,8 @@ pub(crate) struct EntryList {
     places: Vec<u64>,
     /// Where the entries of a hash are.
     index: Index,
+    /// In the first list of a group, a place that no place of the group's lists passes.
+    top: u64,
     ghost paired: { length hashes.items ≡ length places.items },
     ghost linked: { AreLinked index.ends.items index.next.items hashes.items },
     ghost indexed: { length hashes.items ≤ index_room index },
@@ -28,7 +30,7 @@ pub(crate) struct EntryList {
 
 impl EntryList {
     ghost use Rattle.cdb_form.specs.Views.Pairs.{slot_pair};
-    ghost use Rattle.cdb_make.specs.Gaps.{AreApart, IsRising, closed_by};
+    ghost use Rattle.cdb_make.specs.Gaps.{AreApart, IsRising, closed_by, first_place};
     ghost use Rattle.cdb_make.specs.Views.EntryList.{list_entries, list_room, IsNowhereIn};
 
     /// No entries.
@@ -39,7 +41,24 @@ impl EntryList {
             hashes: Vec::new(alloc),
             places: Vec::new(alloc),
             index: Index::new(alloc),
+            top: 0,
         }
+    }
+
+    /// A place that no place of its group of lists passes, if it is the first of them.
+    pub(crate) fn top(&self) -> u64
+        ensures { result ≡ self.now.top }
+    {
+        self.top
+    }
+
+    /// A place of its group may be as high as this one.
+    pub(crate) fn raise(&mut self, place: u64)
+        ensures top { self.new.top ≡ max self.old.top place }
+        ensures entries { list_entries self.new ≡ list_entries self.old }
+        ensures room { list_room self.new ≡ list_room self.old }
+    {
+        self.top = self.top.max(place);
     }
 
     /// How many entries there are.
@@ -93,6 +112,7 @@ impl EntryList {
         ensures ok { OnOk result (length (list_entries self.new) < list_room self.new) }
         ensures full { OnErr result (list_room self.old ≤ length (list_entries self.old)) }
         ensures room { list_room self.old ≤ list_room self.new }
+        ensures top { self.new.top ≡ self.old.top }
     {
         self.hashes.reserve(1)?;
         self.places.reserve(1)?;
@@ -105,6 +125,7 @@ impl EntryList {
         ensures entries { list_entries self.new
             ≡ list_entries self.old ++ record { first = hash; second = place } ∷ [] }
         ensures room { list_room self.new ≡ list_room self.old }
+        ensures top { self.new.top ≡ self.old.top }
     {
         self.hashes.push_reserved(hash);
         self.places.push_reserved(place);
@@ -114,12 +135,13 @@ impl EntryList {
     pub(crate) fn catch_up(&mut self)
         ensures entries { list_entries self.new ≡ list_entries self.old }
         ensures room { list_room self.old ≤ list_room self.new }
+        ensures top { self.new.top ≡ self.old.top }
     {
         self.index.catch_up(&self.hashes);
     }
 
     /// Whether each entry lies below a place.
-    pub(crate) fn is_below(&self, place: u64) -> bool
+    fn is_below(&self, place: u64) -> bool
         ensures { result ≡ true → IsRising 0 (list_entries self.now) → (k : ℕ)
             → k < length self.now.places.items → get_or self.now.places.items k 0 < place }
     {
@@ -127,21 +149,21 @@ impl EntryList {
         count == 0 || self.places[count - 1] < place
     }
 
-    /// Takes out the entries at the gaps, lowers each other place by the gaps below it, and
-    /// answers how many went. The room stays.
-    pub(crate) fn close(&mut self, gaps: &[Gap]) -> usize
-        requires { AreApart 0 gaps.now (2 ^ 63) }
+    /// Closes the gaps as `close` does, from the first entry that they reach on.
+    fn close_reached(&mut self, gaps: &[Gap], first: u64) -> usize
+        requires apart { AreApart 0 gaps.now (2 ^ 63) }
+        requires first { first ≡ first_place gaps.now (2 ^ 64 - 1) }
         ensures entries { IsRising 0 (list_entries self.old) → list_entries self.new
             ≡ closed_by 0 gaps.now (list_entries self.old) }
         ensures gone { length (list_entries self.new) + result ≡ length (list_entries self.old) }
         ensures bounded { (most : ℕ) → All (λ e. e.second ≤ most) (list_entries self.old)
             → All (λ e. e.second ≤ most) (list_entries self.new) }
+        ensures top { self.new.top ≡ self.old.top }
         ensures room { list_room self.new ≡ list_room self.old }
     {
-        let gap = first_place(gaps, u64::MAX);
-        let start = below(&self.places, gap);
+        let start = below(&self.places, first);
         // The entries at gaps have one hash. Where they are in this list, one is at the first gap.
-        let linked = entry_at(&self.places, start, gap);
+        let linked = entry_at(&self.places, start, first);
         self.index.cut(&self.hashes, linked);
         let count = self.places.len();
         let kept = close_entries(&mut self.hashes, &mut self.places, gaps, start);
@@ -151,5 +173,24 @@ impl EntryList {
         self.hashes.truncate(kept);
         self.places.truncate(kept);
         count - kept
+    }
+
+    /// Takes out the entries at the gaps, of which the first is at `first`, lowers each other place
+    /// by the gaps below it, and answers how many went. The room stays.
+    pub(crate) fn close(&mut self, gaps: &[Gap], first: u64) -> usize
+        requires apart { AreApart 0 gaps.now (2 ^ 63) }
+        requires first { first ≡ first_place gaps.now (2 ^ 64 - 1) }
+        ensures entries { IsRising 0 (list_entries self.old) → list_entries self.new
+            ≡ closed_by 0 gaps.now (list_entries self.old) }
+        ensures gone { length (list_entries self.new) + result ≡ length (list_entries self.old) }
+        ensures bounded { (most : ℕ) → All (λ e. e.second ≤ most) (list_entries self.old)
+            → All (λ e. e.second ≤ most) (list_entries self.new) }
+        ensures top { self.new.top ≡ self.old.top }
+        ensures room { list_room self.new ≡ list_room self.old }
+    {
+        if self.is_below(first) {
+            return 0;
+        }
+        self.close_reached(gaps, first)
     }
 }

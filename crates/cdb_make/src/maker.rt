@@ -6,7 +6,8 @@ ghost use Rattle.cdb_form.specs.Format.Record.{KeyValue};
 ghost use Rattle.cdb_form.specs.Format.File.{file_size};
 ghost use Rattle.cdb_make.specs.Looks.{NoNewImage};
 ghost use Rattle.cdb_make.specs.Stands.{IsThere};
-ghost use Rattle.cdb_make.specs.Views.EntryList.{lists_entries, AreWithin, HasSpareGaps};
+ghost use Rattle.cdb_make.specs.Views.EntryList.{lists_entries, AreWithin, HasSpareGaps, list_tops};
+ghost use Rattle.cdb_make.specs.Views.EntryList.{AreUnder};
 
 use crate::entries::catch_up;
 use crate::fault::MakeFault;
@@ -49,6 +50,7 @@ pub struct Maker<S: Store, L: Width> {
     ghost limited: { limit ≤ L.GREATEST },
     ghost counted: { broken ≡ false → sum_by length (lists_entries lists.items) ≡ count },
     ghost placed: { AreWithin L.GREATEST (lists_entries lists.items) },
+    ghost under: { AreUnder (list_tops lists.items) (lists_entries lists.items) },
     ghost spare: { HasSpareGaps (lists_entries lists.items) (vec_capacity gaps) },
 }
 

@@ -12,7 +12,8 @@ ghost use Rattle.cdb_make.specs.declared.looking.LookFault.TheVariants.{Failed, 
 ghost use Rattle.cdb_make.specs.Gaps.{AreApart, first_place, kept_len};
 ghost use Rattle.cdb_make.specs.Stands.{Stands, AreGapsOf, IsCount, IsThere, AreTakenOut};
 ghost use Rattle.cdb_make.specs.Stands.{WritesSurvivors};
-ghost use Rattle.cdb_make.specs.Views.EntryList.{lists_entries, entry_count, AreClosed};
+ghost use Rattle.cdb_make.specs.Views.EntryList.{lists_entries, entry_count, AreClosed, list_tops};
+ghost use Rattle.cdb_make.specs.Views.EntryList.{AreUnder};
 
 use crate::closing::close_gaps;
 use crate::finding::{find_gaps, some_has};
@@ -121,6 +122,7 @@ pub(crate) fn close<S: Store, L: Width>(
     requires fits { end ≤ L.GREATEST }
     requires all { length lists.old ≡ 256 }
     requires apart { AreApart (head_size L.WORD) gaps.now end }
+    requires under { AreUnder (list_tops lists.old) (lists_entries lists.old) }
     requires few { sum_by length (lists_entries lists.old) < 2 ^ 64 }
     ensures stands { (rs : List KeyValue) (key : List ℕ)
         → Stands L.WORD end (lists_entries lists.old) rs (S.image store.old)

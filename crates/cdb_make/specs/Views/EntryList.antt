@@ -1,5 +1,5 @@
 -- What a list of entries holds.
-use Rattle.std.specs.Prelude.{ℕ, ◌≡◌, ◌<◌, ◌≤◌, min, List, [], ◌∷◌, length, map, ◌≢◌}
+use Rattle.std.specs.Prelude.{ℕ, ◌*◌, ◌/◌, ◌≡◌, ◌<◌, ◌≤◌, min, List, [], ◌∷◌, length, map, ◌≢◌}
 use Rattle.std.specs.Prelude.{slice_index, slice_set, ◌++◌, get_or, vec_capacity, All}
 use Rattle.cdb_form.specs.Format.Hash.{table_number}
 use Rattle.cdb_form.specs.Format.Pair.{WordPair}
@@ -34,6 +34,7 @@ pub record IsClosed (gaps : List Gap) (old new : EntryList) : Type 0 where
   pub fewer : length (list_entries new) ≤ length (list_entries old)
   pub bounded : (most : ℕ) → All (λ e. e.second ≤ most) (list_entries old)
       → All (λ e. e.second ≤ most) (list_entries new)
+  pub top : new.top ≡ old.top
   pub room : list_room new ≡ list_room old
 
 -- each list is the old one with the gaps closed
@@ -62,6 +63,14 @@ AreWithin most lists = All (All (λ e. e.second ≤ most)) lists
 -- so many gaps are enough for the records of any key
 abbrev pub HasSpareGaps : List (List WordPair) → ℕ → Type 0
 HasSpareGaps lists room = All (λ es. length es ≤ room) lists
+
+-- the top of each list
+abbrev pub list_tops : List EntryList → List ℕ
+list_tops ls = map (λ l. l.top) ls
+
+-- no place of a list passes the top of the first list of its group of 16
+abbrev pub AreUnder : List ℕ → List (List WordPair) → Type 0
+AreUnder tops lists = (k : ℕ) → All (λ e. e.second ≤ get_or tops (k / 16 * 16) 0) (get_or lists k [])
 
 -- one entry more, in the list of its table
 abbrev pub with_entry : List (List WordPair) → WordPair → List (List WordPair)

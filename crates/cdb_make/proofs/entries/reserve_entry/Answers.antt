@@ -2,6 +2,7 @@ use Rattle.std.proofs.Common.{◌≡◌, ◌<◌, [], ap, sym, ◌∙◌, arith,
 use Rattle.std.proofs.Math.Seq.{map-set_same}
 use Rattle.std.proofs.lemmas.Result.{on_ok_weaker}
 use Rattle.cdb_form.specs.Format.Hash.{table_number}
+use Rattle.cdb_make.specs.declared.list.EntryList.{EntryList}
 use Rattle.cdb_make.specs.Views.EntryList.{list_entries, list_room}
 use Rattle.cdb_make.proofs.Entering.{told_of_set, told_of_list}
 use Rattle.cdb_make.proofs.Sides.{length-entries_of}
@@ -48,3 +49,8 @@ returns-clause-full c = grind (arith, common_steps)
 
 pub returns-in_err-reserve-clause-entries : goal.returns-in_err-reserve-clause-entries
 returns-in_err-reserve-clause-entries c = grind (arith, common_steps)
+
+pub returns-clause-tops : goal.returns-clause-tops
+returns-clause-tops c =
+    map-set_same (λ (l : EntryList). l.top) c.args.lists.now.items c.table_number.result c.reserve-2.new.self c.index_mut-list.result.now
+    (c.reserve-2.ensures.top ∙ ap (λ (l : EntryList). l.top) c.index_mut-list.ensures.value)

@@ -81,3 +81,13 @@ returns-in-Err-clause-follows g c =
     let a = c.add.ensures in
     follows_then (follows_moved {s = g.S.Store} {l = g.L.Width} c.args.self.now c.take_out.new.self c.requires.apart t.torn t.counts t.room t.failures)
     (record { comes = a.comes; head = a.head; limit = refl; room = a.room; failures = a.failures })
+
+pub invariant_of-self-clause-under : goal.invariant_of-self-clause-under
+invariant_of-self-clause-under g c = c.add.ensures.under c.take_out.new.self.under
+
+pub invariant_of-self-clause-placed : goal.invariant_of-self-clause-placed
+invariant_of-self-clause-placed g c =
+    c.add.ensures.placed g.L.Width.GREATEST (omega (arith, c.in_ok-last.ensures.end, c.args.self.now.within, c.args.self.now.limited)) c.take_out.new.self.placed
+
+pub invariant_of-self-clause-spare : goal.invariant_of-self-clause-spare
+invariant_of-self-clause-spare g c = c.add.ensures.spare c.take_out.new.self.spare

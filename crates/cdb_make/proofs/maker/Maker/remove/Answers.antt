@@ -34,6 +34,7 @@ invariant_of-self g c =
       limited = m.limited;
       counted = λ whole. omega (arith, e.left, e.counts.count, c.in_ok-taken.ensures.count);
       placed = m.placed;
+      under = m.under;
       spare = m.spare;
     }
 

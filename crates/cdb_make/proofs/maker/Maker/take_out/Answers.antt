@@ -1,7 +1,8 @@
 use Rattle.std.proofs.Common.{arith, sym, ap, subst, ◌∙◌, ◌≡◌, ◌≤◌, ℕ, List, length, sum_by, vec_capacity, rules}
 use Rattle.std.proofs.lemmas.List.{take_at}
 use Rattle.cdb_make.specs.declared.list.EntryList.{EntryList}
-use Rattle.cdb_make.specs.Views.EntryList.{lists_entries, AreWithin, HasSpareGaps}
+use Rattle.cdb_make.specs.Views.EntryList.{lists_entries, list_tops, AreWithin, AreUnder, HasSpareGaps}
+use Rattle.cdb_make.proofs.Tops.{under_taken}
 use Rattle.cdb_make.proofs.ClosedAll.{within_taken, spare_taken, count_small}
 use Rattle.cdb_make.specs.declared.gap.Gap.{Gap}
 use Rattle.cdb_make.specs.Stands.{Stands, AreGapsOf}
@@ -22,6 +23,16 @@ invariant_of-self-clause-spare g c =
     let long : length c.close.new.lists ≡ m.lists.len = omega (arith, c.close.ensures.long, m.all, m.lists.ok.0) in
     subst (λ (v : List EntryList). HasSpareGaps (lists_entries v) (vec_capacity m.gaps)) (sym (take_at c.close.new.lists _ _ long))
     (spare_taken _ _ c.close.result c.deref_mut.ensures.value c.close.ensures.lists c.close.ensures.err m.spare)
+
+pub invariant_of-self-clause-under : goal.invariant_of-self-clause-under
+invariant_of-self-clause-under g c =
+    let m = c.args.self.now in
+    let long : length c.close.new.lists ≡ m.lists.len = omega (arith, c.close.ensures.long, m.all, m.lists.ok.0) in
+    subst (λ (v : List EntryList). AreUnder (list_tops v) (lists_entries v)) (sym (take_at c.close.new.lists _ _ long))
+    (under_taken _ _ c.close.result c.deref_mut.ensures.value c.close.ensures.lists c.close.ensures.err m.under)
+
+pub close-requires-clause-under : goal.close-requires-clause-under
+close-requires-clause-under g c = subst (λ (v : List EntryList). AreUnder (list_tops v) (lists_entries v)) (sym c.deref_mut.ensures.value) c.args.self.now.under
 
 pub close-requires-clause-few : goal.close-requires-clause-few
 close-requires-clause-few g c =
