@@ -1,5 +1,5 @@
 -- Runs of bytes that are looked at 32 at once.
-use Rattle.std.proofs.Common.{List, ap, arith, drop, false, get_or, inl, inr, length, map, not, refl, subst, sym, take, true, ◌+◌, ◌<◌, ◌∙◌, ◌≡◌, ◌≢◌, ◌≤◌, ℕ}
+use Rattle.std.proofs.Common.{List, ap, arith, drop, false, get_or, inl, inr, length, map, not, sym, take, true, ◌+◌, ◌<◌, ◌∙◌, ◌≡◌, ◌≢◌, ◌≤◌, ℕ}
 use Rattle.std.specs.Int.Count.{count_trailing_zeros}
 use Rattle.std.specs.List.{prefix_len}
 use Rattle.std.specs.Simd.Lanes.{mask_l}

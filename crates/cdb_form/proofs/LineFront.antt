@@ -1,7 +1,6 @@
 -- The line that bytes of a map text begin with, part after part.
-use Rattle.std.proofs.Common.{Bool, List, [], ap, append_assoc, arith, drop, false, get_or, length, length-drop, refl, subst, sym, take, true, ◌++◌, ◌+◌, ◌-◌, ◌<◌, ◌∙◌, ◌∷◌, ◌≡◌, ◌≢◌, ◌≤◌, ℕ, suc, zero}
+use Rattle.std.proofs.Common.{Bool, List, [], ap, append_assoc, arith, drop, false, get_or, length, length-drop, refl, subst, sym, take, true, ◌++◌, ◌+◌, ◌<◌, ◌∙◌, ◌∷◌, ◌≡◌, ◌≢◌, ℕ, suc, zero}
 use Rattle.std.specs.List.{AllPass, position_or_len, prefix_len}
-use Rattle.std.specs.Prelude.{codes}
 use Rattle.std.proofs.Math.Seq.{take-add}
 use Rattle.std.proofs.lemmas.Grind.{get_or_default_zero}
 use Rattle.std.proofs.lemmas.List.{get_or-drop, get_or-take, length-take, take_more}
