@@ -7,7 +7,7 @@ use std::prelude::*;
 use std::test::Fail;
 
 /// Texts, and their records as `<key|value>`.
-const RECORDS: [(&[u8], &[u8]); 12] = [
+const RECORDS: [(&[u8], &[u8]); 22] = [
     (
         b"  one Hello\n# note\n\n  # more\n \t\nkey\ntwo\t \tGood bye",
         b"<one|Hello><key|><two|Good bye>",
@@ -25,6 +25,41 @@ const RECORDS: [(&[u8], &[u8]); 12] = [
     (
         b"a_key_of_24_bytes_or_so_ a value of more than sixteen bytes\nb c\n",
         b"<a_key_of_24_bytes_or_so_|a value of more than sixteen bytes><b|c>",
+    ),
+    (b"one Hello\ntwo Good bye\n", b"<one|Hello><two|Good bye>"),
+    (b"one Hello\ntwo Good bye", b"<one|Hello><two|Good bye>"),
+    (
+        b" \t \tone\t \tHello\t \n\t two\t\tGood\tbye \n",
+        b"<one|Hello\t ><two|Good\tbye >",
+    ),
+    (
+        b"one \ntwo\t\nthree \t \nfour\n",
+        b"<one|><two|><three|><four|>",
+    ),
+    (
+        b"# one two\n#\n\t#a b\n\n \none Hello\n#\ntwo Good bye\n# last",
+        b"<one|Hello><two|Good bye>",
+    ),
+    (
+        b"o#e #Hello\ntwo# # \n# three four\n",
+        b"<o#e|#Hello><two#|# >",
+    ),
+    (
+        b"\rone\r Hello\r\n\x0b \x0c\n\0 \0\n",
+        b"<\rone\r|Hello\r><\x0b|\x0c><\0|\0>",
+    ),
+    // Lines of 7 bytes and of 16, as long as a window.
+    (
+        b"one 12\nfive 6\nabcdef\nab    \n",
+        b"<one|12><five|6><abcdef|><ab|>",
+    ),
+    (
+        b"a line of 16 by\nof16 with its n\nand 15 with it.\nabcdefghijklmno\n",
+        b"<a|line of 16 by><of16|with its n><and|15 with it.><abcdefghijklmno|>",
+    ),
+    (
+        b"a_key_of_more_than_16_bytes\t\t \t \t \t \t \t \t \t v\n \n \nk v\n \t ",
+        b"<a_key_of_more_than_16_bytes|v><k|v>",
     ),
 ];
 
@@ -83,6 +118,54 @@ fn map_texts_through_windows(rt: HostRuntime) -> Result<(), Fail> {
                     "{text:?} by {size} and {most}"
                 );
             }
+        }
+    }
+    Ok(())
+}
+
+/// Two lines of 4 bytes.
+const TWO_LINES: &[u8] = b"a b\nc d\n";
+
+/// Asks, how many records of the two lines they give, and whether the end is found then.
+const ASKS: [(u64, usize, bool); 5] = [
+    (3, 0, false),
+    (4, 1, false),
+    (7, 1, false),
+    (8, 2, false),
+    (9, 2, true),
+];
+
+/// How many records come through a window for so many asks, and whether then the end does.
+fn given_for(alloc: Global, asks: u64, size: usize) -> Result<(usize, bool), Fail> {
+    let mut reader = Dripping {
+        text: TWO_LINES,
+        most: 4096,
+    };
+    let input = Input::new(alloc, &mut reader, size.max(1))?;
+    let mut maps = MapReader::with_bound(alloc, input, asks.min(1 << 48));
+    let mut record = Record {
+        key: Vec::new(alloc),
+        value: Vec::new(alloc),
+    };
+    for count in 0..10 {
+        match maps.read_by::<InWindow>(&mut record) {
+            Ok(true) => {}
+            Ok(false) => return Ok((count, true)),
+            Err(_) => return Ok((count, false)),
+        }
+    }
+    Ok((10, false))
+}
+
+#[test]
+fn each_byte_of_a_line_at_hand_counts_as_an_ask(rt: HostRuntime) -> Result<(), Fail> {
+    for &(asks, count, ended) in &ASKS {
+        for size in SIZES {
+            let (given, at_end) = given_for(rt.alloc(), asks, size)?;
+            assert!(rt;
+                given == count && at_end == ended,
+                "{asks} asks through a window of {size}"
+            );
         }
     }
     Ok(())
