@@ -1,8 +1,7 @@
 -- What bytes of a native text begin with, part after part.
-use Rattle.std.proofs.Common.{List, [], refl, append_assoc, ap, arith, length, length-drop, sym, ◌++◌, ◌+◌, ◌*◌, ◌^◌, ◌<◌, ◌∙◌, ◌∷◌, ◌≡◌, ◌≤◌, ℕ, take, drop, get_or, subst}
-use Rattle.std.proofs.Math.Nat.{pow-le-pow_right}
+use Rattle.std.proofs.Common.{List, [], refl, append_assoc, ap, arith, length, length-drop, sym, ◌++◌, ◌+◌, ◌*◌, ◌<◌, ◌∙◌, ◌∷◌, ◌≡◌, ◌≤◌, ℕ, take, drop, get_or, subst}
 use Rattle.std.proofs.Math.Seq.{take-add}
-use Rattle.std.proofs.lemmas.Int.Digits.{digits_push, digits_value-lt, digits_value_push}
+use Rattle.std.proofs.lemmas.Int.Digits.{digits_push, digits_value_push}
 use Rattle.std.proofs.lemmas.List.{length-take-le, take_more}
 use Rattle.std.specs.Char.{digit_value}
 use Rattle.std.specs.Prelude.{codes}
@@ -31,14 +30,6 @@ front_digit bytes place value c so here is digit =
       value_is = ap (digits_value 10) more ∙ digits_value_push 10 (take place bytes) c ∙ ap (λ (v : ℕ). v * 10 + digit_value c) value_is;
       within = omega arith;
     }
-
--- nine digits are not many
-pub front_short : (bytes : List ℕ) (place value : ℕ) → FrontDigits bytes place value → place ≤ 9 → value < 1000000000
-front_short bytes place value so few =
-    let below = digits_value-lt 10 (take place bytes) so.each in
-    let long : length (take place bytes) ≤ 9 = omega (arith, few, length-take-le place bytes so.within) in
-    let least : 10 ^ length (take place bytes) ≤ 1000000000 = pow-le-pow_right {n = 10} (omega arith) {i = length (take place bytes)} {j = 9} long in
-    omega (arith, below, least, so.value_is)
 
 pub front_stop : (bytes : List ℕ) (place c stop : ℕ) (n : FrontNumeral) → FrontDigits bytes place n.value → place < length bytes → get_or bytes place 0 ≡ c → c ≡ stop → 0 < place → n.end ≡ place + 1 → BeginsWithNumeral stop bytes n
 front_stop bytes place c stop n so here is e some end =

@@ -8,8 +8,8 @@ use crate::copying::copy_over;
 use crate::record::Record;
 use std::alloc::AllocError;
 
-/// How many bytes of a numeral are looked at: what has longer lengths is never at hand.
-const MOST: usize = 9;
+/// A numeral from here on takes no further digit: so much is never at hand.
+const LONG: u64 = 100_000_000;
 
 /// A numeral at the front of some bytes.
 #[derive(Clone, Copy)]
@@ -34,10 +34,9 @@ fn front_numeral(bytes: &[u8], stop: u8) -> Option<FrontNumeral>
     ensures begins { IfSome result (BeginsWithNumeral stop bytes.now) }
     ensures short { IfSome result (λ n. n.value < 1000000000) }
 {
-    let end = bytes.len().min(MOST);
     let mut value = 0;
     let mut place = 0;
-    while place < end {
+    while place < bytes.len() && value < LONG {
         let byte = bytes[place];
         if !byte.is_ascii_digit() {
             return if byte == stop && 0 < place {

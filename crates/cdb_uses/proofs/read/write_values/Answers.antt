@@ -52,7 +52,7 @@ returns-clause-values g c = λ rs are room file b is.
     let here : g.S.Store.image c.next.new.self.reader.now.store b = search rules in
     let was = c.next.ensures.reads.images b here in
     let all = asked_all w c.args.key.now rs _ _ (λ x. left_in w x c.loop-span.finder) _ _ b inv.asked was (none.none b here) (file.each b (inv.asked.images b was))
-        (finds_within w g.L.Width.TOP g.L.Width.GREATEST rs c.args.key.now g.met.L.Width.four_or_eight g.met.L.Width.top_is g.met.L.Width.greatest_fits.0 are room) in
+    (finds_within w g.L.Width.TOP g.L.Width.GREATEST rs c.args.key.now g.met.L.Width.four_or_eight g.met.L.Width.top_is g.met.L.Width.greatest_fits.0 are room) in
     record { ok = all; err = tt }
 
 pub returns-in_err-span-clause-values : goal.returns-in_err-span-clause-values

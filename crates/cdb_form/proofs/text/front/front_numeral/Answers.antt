@@ -1,7 +1,7 @@
 use Rattle.std.proofs.Common.{get_or, subst, sym, arith, refl, ◌*◌, ◌+◌, ◌<◌, ◌≡◌, ℕ}
 use Rattle.std.specs.Char.{digit_value}
 use Rattle.std.proofs.lemmas.Str.{digit_value_digit}
-use Rattle.cdb_form.proofs.FrontLemmas.{FrontDigits, front_digit, front_short}
+use Rattle.cdb_form.proofs.FrontLemmas.{FrontDigits, front_digit}
 use Rattle.cdb_form.proofs.text.front.front_numeral.Goals as goal
 
 pub loop-place-preserved : goal.loop-place-preserved
@@ -12,8 +12,7 @@ loop-place-preserved c =
     let low : digit_value code < 10 = rw c.if-not-is_ascii_digit.false at c.is_ascii_digit.ensures.bound in
     let is : c.from.result ≡ digit_value code = omega (arith, c.from.ensures, digit_value_digit code range) in
     let so = front_digit c.args.bytes.now place c.loop-place.value _ c.loop-place.invariant.so_far (omega arith) refl low in
-    let more = subst (λ (d : ℕ). FrontDigits c.args.bytes.now (place + 1) (c.loop-place.value * 10 + d)) (sym is) so in
     record {
-      so_far = more;
-      short = front_short c.args.bytes.now (place + 1) _ more (omega arith);
+      so_far = subst (λ (d : ℕ). FrontDigits c.args.bytes.now (place + 1) (c.loop-place.value * 10 + d)) (sym is) so;
+      short = omega (arith, c.if-value-lt-LONG.true, low, is);
     }

@@ -1,4 +1,4 @@
-use Rattle.std.proofs.Common.{◌-◌, ◌<◌}
+use Rattle.std.proofs.Common.{length, ◌-◌, ◌<◌}
 use Rattle.cdb_form.proofs.FrontLemmas.{FrontDigits}
 use Rattle.cdb_form.proofs.text.front.front_numeral.Given as goal
 
@@ -11,4 +11,4 @@ invariant-loop-place l =
     }
 
 abbrev pub decreases-loop-place : goal.decreases-loop-place
-decreases-loop-place l = l.end - l.place
+decreases-loop-place l = length l.bytes - l.place
