@@ -5,7 +5,7 @@ ghost use Rattle.cdb_store.specs.Reads.{OnlyReads};
 ghost use Rattle.cdb_make.specs.declared.looking.LookFault.TheVariants.{Failed, Foreign};
 ghost use Rattle.cdb_make.specs.Looks.{TellsSame, LooksAt, SizeWithin};
 
-use cdb_form::{Width, pair_size, read_header};
+use cdb_form::{GREATEST_PAIR, Width, pair_size, read_header};
 use cdb_store::{Store, StoreFault};
 
 /// How many bytes of a key are read at once.
@@ -13,9 +13,6 @@ const PIECE: usize = 4096;
 
 /// The longest key for which a piece of this length does.
 const SHORT: usize = 256;
-
-/// The longest header, in bytes.
-const HEADER: usize = 16;
 
 /// Why a look ended.
 #[derive(Clone, Copy)]
@@ -98,7 +95,7 @@ pub(crate) fn look_at<S: Store, L: Width>(
     ensures failed { result ≡ Err Failed → S.failures store.old < S.failures store.new }
 {
     let header_size = pair_size::<L>();
-    let mut bytes = [0; HEADER];
+    let mut bytes = [0; GREATEST_PAIR];
     let bytes = &mut bytes[..header_size];
     let key_place = place.saturating_add(header_size as u64);
     if end < key_place {
