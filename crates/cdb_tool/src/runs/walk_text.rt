@@ -1,8 +1,7 @@
 // The text of the records or of the keys of a file.
-ghost use Rattle.std.specs.Prelude.{◌≡◌, OnOk, OnErr, IfOk, IfErr, MatchBool};
-ghost use Rattle.std.specs.Io.KnownBytes.{Appends};
+ghost use Rattle.std.specs.Prelude.{◌≡◌, IfOk, IfErr, MatchBool};
 ghost use Rattle.cdb_form.specs.Format.Record.{KeyValue};
-ghost use Rattle.cdb_form.specs.Views.KnownBytes.{AppendsFront};
+ghost use Rattle.cdb_form.specs.Views.KnownBytes.{Writes};
 ghost use Rattle.cdb_form.specs.Views.RecordReader.{unread, IsFresh, GivesRecord, GivesEnd, Fails};
 ghost use Rattle.cdb_tool.specs.Runs.Form.{item_of, end_of, form_of, IsHeld};
 ghost use Rattle.cdb_tool.specs.Runs.WalkText.{WritesWalk};
@@ -47,10 +46,8 @@ fn write_item<W: Write>(
     style: Style,
     held: &Record,
 ) -> Result<(), OutFault>
-    ensures ok { OnOk result ((r : KeyValue) → IsHeld content held.now r →
-        Appends (W.contents w.old) (W.contents w.new) (item_of content style r)) }
-    ensures err { OnErr result ((r : KeyValue) → IsHeld content held.now r →
-        AppendsFront (W.contents w.old) (W.contents w.new) (item_of content style r)) }
+    ensures { (r : KeyValue) → IsHeld content held.now r
+        → Writes result (W.contents w.old) (W.contents w.new) (item_of content style r) }
 {
     match (content, style) {
         (Content::Records, Style::Native) => write_record(w, &held.key, &held.value),
@@ -62,9 +59,7 @@ fn write_item<W: Write>(
 
 /// Writes what ends the text. After an `OutFault` the writer holds a front of it.
 fn write_last<W: Write>(w: &mut W, style: Style) -> Result<(), OutFault>
-    ensures ok { OnOk result (Appends (W.contents w.old) (W.contents w.new) (end_of style)) }
-    ensures err { OnErr result
-        (AppendsFront (W.contents w.old) (W.contents w.new) (end_of style)) }
+    ensures { Writes result (W.contents w.old) (W.contents w.new) (end_of style) }
 {
     match style {
         Style::Native => write_end(w),

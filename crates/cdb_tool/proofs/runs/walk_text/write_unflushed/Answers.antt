@@ -6,7 +6,7 @@ use Rattle.cdb_tool.proofs.runs.walk_text.write_unflushed.Goals as goal
 pub loop-record-preserved : goal.loop-record-preserved
 loop-record-preserved g c =
     let one = rw c.if-branch.true at c.in_ok-read_item.ensures.gives in
-    written_more _ _ _ _ c.loop-record.records c.read_item.new.records _ _ _ one.0 c.loop-record.invariant one.2.walk one.2.behind one.2.cut (c.in_ok-write_item.ensures.ok one.0 one.1)
+    written_more _ _ _ _ c.loop-record.records c.read_item.new.records _ _ _ one.0 c.loop-record.invariant one.2.walk one.2.behind one.2.cut (c.in_ok-write_item.ensures one.0 one.1).ok
 
 pub loop-record-smaller : goal.loop-record-smaller
 loop-record-smaller g c = let one = rw c.if-branch.true at c.in_ok-read_item.ensures.gives in one.2.fewer
@@ -21,7 +21,7 @@ pub returns-in_err-write_item : goal.returns-in_err-write_item
 returns-in_err-write_item g c =
     let p = err_from_is_err_and c.from_residual-in_err-write_item.result c.from_residual-in_err-write_item.ensures.1 in
     let one = rw c.if-branch.true at c.in_ok-read_item.ensures.gives in
-    rw (p.1, p.2) (record_fails _ _ _ _ c.loop-record.records c.read_item.new.records _ _ _ one.0 c.loop-record.invariant one.2.walk one.2.behind (c.in_err-write_item.ensures.err one.0 one.1))
+    rw (p.1, p.2) (record_fails _ _ _ _ c.loop-record.records c.read_item.new.records _ _ _ one.0 c.loop-record.invariant one.2.walk one.2.behind (c.in_err-write_item.ensures one.0 one.1).err)
 
 pub returns-in_err-write_last : goal.returns-in_err-write_last
 returns-in_err-write_last g c =
