@@ -419,29 +419,46 @@ fn cut_files_through_windows(rt: HostRuntime) -> Result<(), Fail> {
     Ok(())
 }
 
-/// Whether the file of two records, which is cut and then fails, has this dump and this list through
+/// Some bytes of a file through a window, after which the reader fails.
+fn failing(alloc: Global, piece: &[u8]) -> Result<Input<FakeReader<'_>>, AllocError> {
+    let reader = FakeReader {
+        interrupts: 3,
+        text: piece,
+        fails: true,
+    };
+    Input::new(alloc, reader, 2064)
+}
+
+/// The answer of a dump of some bytes of a file, and whether this text was written.
+fn dump(alloc: Global, piece: &[u8], text: &[u8]) -> Result<(Result<(), Fault>, bool), AllocError> {
+    let mut out = Vec::new(alloc);
+    let input = failing(alloc, piece)?;
+    let answer = dump_run_by::<Narrow, _, _, InWindow>(alloc, input, Style::Native, &mut out);
+    Ok((answer, out.as_slice() == text))
+}
+
+/// The same of a list of its keys.
+fn list(alloc: Global, piece: &[u8], text: &[u8]) -> Result<(Result<(), Fault>, bool), AllocError> {
+    let mut out = Vec::new(alloc);
+    let input = failing(alloc, piece)?;
+    let answer = list_run_by::<Narrow, _, _, InWindow>(alloc, input, Style::Map, &mut out);
+    Ok((answer, out.as_slice() == text))
+}
+
+/// Whether the file of two records, cut and then failing, has this dump and this list through
 /// a window.
 fn is_written(
     alloc: Global,
     cut: usize,
     want: Result<(), Fault>,
-    dump: &[u8],
-    list: &[u8],
-) -> Result<bool, Fail> {
+    dumped: &[u8],
+    listed: &[u8],
+) -> Result<bool, AllocError> {
     let file = File::Two.bytes(alloc)?;
-    let reader = || FakeReader {
-        interrupts: 3,
-        text: file.get(..cut).unwrap_or(&[]),
-        fails: true,
-    };
-    let (mut dumped, mut listed) = (Vec::new(alloc), Vec::new(alloc));
-    let input = Input::new(alloc, reader(), 2064)?;
-    let is_dumped = dump_run_by::<Narrow, _, _, InWindow>(alloc, input, Style::Native, &mut dumped)
-        == want;
-    let input = Input::new(alloc, reader(), 2064)?;
-    let is_listed = list_run_by::<Narrow, _, _, InWindow>(alloc, input, Style::Map, &mut listed)
-        == want;
-    Ok(is_dumped && is_listed && dumped.as_slice() == dump && listed.as_slice() == list)
+    let piece = file.get(..cut).unwrap_or(&[]);
+    let (dump_answer, is_dumped) = dump(alloc, piece, dumped)?;
+    let (list_answer, is_listed) = list(alloc, piece, listed)?;
+    Ok(is_dumped && is_listed && dump_answer == want && list_answer == want)
 }
 
 #[test]
