@@ -31,6 +31,7 @@ impl<R: Read, L: Width> InputReader<R, L> {
 
     /// Reads the next record over another one, whose memory it takes, and answers whether there is
     /// one. Bytes at hand are taken without an ask.
+    #[inline(always)]
     pub(crate) fn read_into<A: AtHand<R>>(&mut self, into: &mut Record) -> Result<bool, TextFault>
         ensures gives { IfOk result (λ given. MatchBool given
             (GivesRecord L.GREATEST R.remaining self.old self.new (key_value into.new))

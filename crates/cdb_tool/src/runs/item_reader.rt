@@ -42,6 +42,7 @@ impl<R: Read, L: Width> ItemReader<R, L> {
 
     /// Reads the next item over a record, whose memory it takes, and answers its kind, or that there
     /// is none. Bytes at hand are taken without an ask.
+    #[inline(always)]
     pub(crate) fn read_into<A: AtHand<R>>(
         &mut self,
         into: &mut Record,

@@ -55,6 +55,7 @@ fn meets_key(put: Put) -> bool
 }
 
 /// Tells a put that met its key, where the options say so, and stops the run where they do.
+#[inline(always)]
 fn tell_put<E: Write>(
     options: &MakeOptions,
     input: u64,
@@ -78,6 +79,7 @@ fn tell_put<E: Write>(
 }
 
 /// Puts a record of an input, both counted from 1, and then tells it.
+#[inline(always)]
 fn put_record<L: Width, S: Store, E: Write>(
     maker: &mut Maker<S, L>,
     options: &MakeOptions,
@@ -144,6 +146,7 @@ fn remove_key<L: Width, S: Store>(maker: &mut Maker<S, L>, key: &[u8]) -> Result
 }
 
 /// Does what an item of an input says, both counted from 1.
+#[inline(always)]
 fn do_item<L: Width, S: Store, E: Write>(
     maker: &mut Maker<S, L>,
     options: &MakeOptions,
