@@ -222,7 +222,8 @@ fn many() -> [Row<'static>; 41] {
 
 #[test]
 fn asks_before_a_first_look(rt: HostRuntime) -> Result<(), Fail> {
-    tell(&rt, make(rt.alloc(), 0, &many()[..40])?)
+    let rows = [(add(b"a", b"1"), ADDED, 10); 40];
+    tell(&rt, make(rt.alloc(), 0, &rows)?)
 }
 
 #[test]
