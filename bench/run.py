@@ -67,6 +67,7 @@ def run(words, stdin, stdout, piped):
         target = os.open(stdout, os.O_WRONLY | os.O_CREAT | os.O_TRUNC, 0o644)
         os.dup2(source, 0)
         os.dup2(target, 1)
+        os.dup2(os.open(os.devnull, os.O_WRONLY), 2)
         os.execvp(words[0], words)
     os.close(source)
     _, status, usage = os.wait4(child, 0)
