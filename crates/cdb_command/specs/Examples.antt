@@ -6,7 +6,7 @@ use Rattle.std.specs.Str.{chars}
 use lib.Utf8.{encode}
 use Rattle.clap.specs.Faults.{walk_fault, flags_fault, defaults_fault}
 use Rattle.clap.specs.Walk.{bundle_met, walked}
-use Rattle.cdb_make.specs.declared.mode.Mode.TheVariants.{Add}
+use Rattle.cdb_form.specs.declared.mode.Mode.TheVariants.{Add}
 use Rattle.cdb_command.specs.Line.{Text}
 use Rattle.cdb_command.specs.Asked.{Asked, Query, Dump, Create, Help}
 use Rattle.cdb_command.specs.Words.{plan_of, cdb_rows, cdb_faults}

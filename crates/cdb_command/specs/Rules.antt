@@ -6,8 +6,8 @@ use Rattle.std.specs.Prelude.{Some, None, is_some, option_map, unwrap_or, Result
 use Rattle.std.specs.List.{list_any}
 use Rattle.std.specs.Str.{all_ascii_digits}
 use Rattle.std.specs.Str.Parse.{digits_value}
-use Rattle.cdb_make.specs.declared.mode.Mode.{Mode}
-use Rattle.cdb_make.specs.declared.mode.Mode.TheVariants.{Add, Warn, Insert, Replace}
+use Rattle.cdb_form.specs.declared.mode.Mode.{Mode}
+use Rattle.cdb_form.specs.declared.mode.Mode.TheVariants.{Add, Warn, Insert, Replace}
 use Rattle.cdb_command.specs.Line.{Text, Given}
 use Rattle.cdb_command.specs.Asked.{Asked, Query, Dump, Listing, Stats, Check, Create, Help, ◌>>=◌}
 use Rattle.cdb_command.specs.declared.letter.Letter.{Letter}

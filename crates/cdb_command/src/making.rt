@@ -6,7 +6,7 @@ use crate::line::Flags;
 use crate::options::MakeOptions;
 use crate::style::Style;
 use crate::usage::Usage;
-use cdb_make::Mode;
+use cdb_form::Mode;
 
 /// The greatest size of a file whose words have 4 bytes.
 const NARROW_LIMIT: u64 = 4294967295;

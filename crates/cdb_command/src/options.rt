@@ -1,6 +1,6 @@
 // What a run that makes a database is told.
 use crate::style::Style;
-use cdb_make::Mode;
+use cdb_form::Mode;
 
 /// How a database is made of the records of some inputs.
 #[derive(Clone, Copy, Debug, PartialEq, Eq)]

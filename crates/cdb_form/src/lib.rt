@@ -14,6 +14,7 @@ mod header;
 mod item;
 mod key_hash;
 pub mod laws;
+mod mode;
 mod pair;
 mod reading;
 mod reading_whole;
@@ -30,6 +31,7 @@ pub use head::{
 };
 pub use header::{Header, read_header, write_header};
 pub use item::{Item, ItemKind};
+pub use mode::Mode;
 pub use key_hash::{hash, hash_more, home_slot, table_number};
 pub use pair::{GREATEST_PAIR, pair_size};
 pub use reading::PIPE;

@@ -24,7 +24,7 @@ use Rattle.cdb_make.specs.Survivors.{has_key, count_of, without}
 use Rattle.cdb_make.specs.Views.Adding.{AddFails}
 use Rattle.cdb_make.specs.Views.EntryList.{list_entries, lists_entries, list_room, entry_count, entry_room, AreClosed, HasSpareGaps}
 use Rattle.cdb_make.specs.Views.Maker.{Holds, HoldsIn, WhereHonest, ComesFrom, put_bytes}
-use Rattle.cdb_make.specs.declared.mode.Mode.TheVariants.{Replace}
+use Rattle.cdb_form.specs.declared.mode.Mode.TheVariants.{Replace}
 use Rattle.cdb_make.proofs.Sides.{length-entries_of}
 
 -- how many records have a test, by their hashes

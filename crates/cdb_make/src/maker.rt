@@ -14,7 +14,7 @@ use crate::fault::MakeFault;
 use crate::gap::Gap;
 use crate::list::EntryList;
 use crate::looking::LookFault;
-use crate::mode::{Mode, Put};
+use crate::put::Put;
 use crate::taking_out;
 use cdb_form::{Width, hash, pair_size};
 use cdb_store::Store;

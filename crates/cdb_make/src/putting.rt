@@ -4,15 +4,15 @@ ghost use Rattle.std.specs.Prelude.{sum_by, IfOk, IfErr, OnOk, OnErr};
 ghost use Rattle.cdb_form.specs.Format.Pair.{head_size};
 ghost use Rattle.cdb_form.specs.Format.File.{whole_size};
 ghost use Rattle.cdb_form.specs.Format.Record.{KeyValue, record_size};
-ghost use Rattle.cdb_make.specs.declared.mode.Mode.TheVariants.{Replace};
+ghost use Rattle.cdb_form.specs.declared.mode.Mode.TheVariants.{Replace};
 ghost use Rattle.cdb_make.specs.Gaps.{AreApart};
 
 use crate::adding::add;
 use crate::fault::MakeFault;
 use crate::gap::all_sizes;
 use crate::maker::Maker;
-use crate::mode::{Mode, Put};
-use cdb_form::{Width, hash, pair_size};
+use crate::put::Put;
+use cdb_form::{Mode, Width, hash, pair_size};
 use cdb_store::Store;
 
 impl<S: Store, L: Width> Maker<S, L> {

@@ -15,8 +15,8 @@ use Rattle.cdb_make.specs.Views.Maker.{Holds, WhereHonest, Puts, FailsPutting, l
 use Rattle.cdb_make.specs.declared.fault.MakeFault.{MakeFault}
 use Rattle.cdb_make.specs.declared.fault.MakeFault.TheVariants as make
 use Rattle.cdb_make.specs.declared.maker.Maker.{Maker}
-use Rattle.cdb_make.specs.declared.mode.Mode.TheVariants.{Add}
-use Rattle.cdb_make.specs.declared.mode.Put.{Put}
+use Rattle.cdb_form.specs.declared.mode.Mode.TheVariants.{Add}
+use Rattle.cdb_make.specs.declared.put.Put.{Put}
 use Rattle.cdb_make.proofs.EntryLists.{size_push}
 use Rattle.cdb_make.proofs.Makers.{held_size}
 use Rattle.cdb_read.specs.Lookup.{bytes_of}

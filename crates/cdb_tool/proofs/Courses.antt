@@ -17,9 +17,9 @@ use Rattle.cdb_make.specs.Views.Maker.{Holds, HoldsIn, WhereHonest, ComesFrom, S
 use Rattle.cdb_make.specs.declared.fault.MakeFault.{MakeFault}
 use Rattle.cdb_make.specs.declared.fault.MakeFault.TheVariants as make
 use Rattle.cdb_make.specs.declared.maker.Maker.{Maker}
-use Rattle.cdb_make.specs.declared.mode.Mode.{Mode}
-use Rattle.cdb_make.specs.declared.mode.Put.{Put}
-use Rattle.cdb_make.specs.declared.mode.Put.TheVariants.{Added, AddedAgain, Present, Replaced}
+use Rattle.cdb_form.specs.declared.mode.Mode.{Mode}
+use Rattle.cdb_make.specs.declared.put.Put.{Put}
+use Rattle.cdb_make.specs.declared.put.Put.TheVariants.{Added, AddedAgain, Present, Replaced}
 use Rattle.cdb_make.proofs.Makers.{held_count, held_size}
 use Rattle.cdb_tool.specs.Views.Fault.{make_fault}
 use Rattle.cdb_tool.specs.Runs.Course.{Task, Incoming, Course, from_input, from_inputs, mode_of, said, ends, is_going, with_put, with_change, with_next, at_start, course_of, TellFails, Goes, StopsSo}

@@ -14,8 +14,8 @@ use Rattle.cdb_make.specs.Views.Maker.{Holds, Puts, FailsPutting, Removes, Fails
 use Rattle.cdb_make.specs.declared.fault.MakeFault.{MakeFault}
 use Rattle.cdb_make.specs.declared.fault.MakeFault.TheVariants.{Broken, Lookup, TooBig, NoMemory, Writing}
 use Rattle.cdb_make.specs.declared.maker.Maker.{Maker}
-use Rattle.cdb_make.specs.declared.mode.Mode.{Mode}
-use Rattle.cdb_make.specs.declared.mode.Put.{Put}
+use Rattle.cdb_form.specs.declared.mode.Mode.{Mode}
+use Rattle.cdb_make.specs.declared.put.Put.{Put}
 use Rattle.cdb_make.proofs.Makers.{held_size}
 use Rattle.cdb_read.specs.Values.{values_of}
 use Rattle.cdb_read.specs.declared.fault.ReadFault.TheVariants as read

@@ -15,8 +15,8 @@ use Rattle.cdb_make.specs.Views.Maker.{Holds, HoldsIn, ComesFrom, WhereHonest, P
 use Rattle.cdb_make.specs.declared.fault.MakeFault.{MakeFault}
 use Rattle.cdb_make.specs.declared.fault.MakeFault.TheVariants.{Broken, Lookup, TooBig, NoMemory, Writing}
 use Rattle.cdb_make.specs.declared.maker.Maker.{Maker}
-use Rattle.cdb_make.specs.declared.mode.Mode.{Mode}
-use Rattle.cdb_make.specs.declared.mode.Put.{Put}
+use Rattle.cdb_form.specs.declared.mode.Mode.{Mode}
+use Rattle.cdb_make.specs.declared.put.Put.{Put}
 use Rattle.cdb_make.proofs.Makers.{held_size}
 use Rattle.cdb_uses.proofs.Asking.{held_within}
 use Rattle.cdb_uses.specs.Steps.{answer_of, answers_of, answered, left_by, HoldsWhole}

@@ -14,7 +14,7 @@ use Rattle.cdb_make.specs.Views.Maker.{Holds}
 use Rattle.cdb_make.specs.declared.fault.MakeFault.{MakeFault}
 use Rattle.cdb_make.specs.declared.fault.MakeFault.TheVariants.{TooBig, NoMemory}
 use Rattle.cdb_make.specs.declared.maker.Maker.{Maker}
-use Rattle.cdb_make.specs.declared.mode.Put.TheVariants.{Present}
+use Rattle.cdb_make.specs.declared.put.Put.TheVariants.{Present}
 use Rattle.cdb_read.specs.Values.{values_of}
 use Rattle.cdb_read.specs.declared.fault.ReadFault.TheVariants.{Output}
 use Rattle.cdb_uses.specs.declared.ask.AskFault.{AskFault}

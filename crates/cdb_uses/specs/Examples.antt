@@ -5,7 +5,7 @@ use Rattle.std.proofs.Common.{refl, true}
 use Rattle.cdb_form.specs.Format.Record.{KeyValue}
 use Rattle.cdb_make.specs.Survivors.Call.{Putting, Removing}
 use Rattle.cdb_make.specs.declared.fault.MakeFault.TheVariants.{TooBig, NoMemory}
-use Rattle.cdb_make.specs.declared.mode.Mode.TheVariants.{Add, Insert, Replace}
+use Rattle.cdb_form.specs.declared.mode.Mode.TheVariants.{Add, Insert, Replace}
 use Rattle.cdb_make.proofs.Puts.{not_present}
 use Rattle.cdb_uses.specs.Changes.{Runs}
 

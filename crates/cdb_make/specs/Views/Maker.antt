@@ -10,10 +10,10 @@ use Rattle.cdb_make.specs.declared.fault.MakeFault.{MakeFault}
 use Rattle.cdb_make.specs.declared.fault.MakeFault.TheVariants.{Broken, Lookup, TooBig, NoMemory}
 use Rattle.cdb_make.specs.declared.fault.MakeFault.TheVariants.{Writing}
 use Rattle.cdb_make.specs.declared.maker.Maker.{Maker}
-use Rattle.cdb_make.specs.declared.mode.Mode.{Mode}
-use Rattle.cdb_make.specs.declared.mode.Mode.TheVariants.{Add, Warn, Insert, Replace}
-use Rattle.cdb_make.specs.declared.mode.Put.{Put}
-use Rattle.cdb_make.specs.declared.mode.Put.TheVariants.{Present}
+use Rattle.cdb_form.specs.declared.mode.Mode.{Mode}
+use Rattle.cdb_form.specs.declared.mode.Mode.TheVariants.{Add, Warn, Insert, Replace}
+use Rattle.cdb_make.specs.declared.put.Put.{Put}
+use Rattle.cdb_make.specs.declared.put.Put.TheVariants.{Present}
 use Rattle.cdb_make.specs.declared.looking.LookFault.{LookFault}
 use Rattle.cdb_make.specs.declared.looking.LookFault.TheVariants.{Failed, Foreign}
 use Rattle.cdb_make.specs.Stands.{Tells, AreGapsOf}

@@ -5,8 +5,8 @@ use Rattle.cdb_form.specs.Format.Pair.{head_size}
 use Rattle.cdb_form.specs.Format.File.{whole_size}
 use Rattle.cdb_form.specs.Format.Record.{KeyValue}
 use Rattle.cdb_make.specs.declared.gap.Gap.{Gap}
-use Rattle.cdb_make.specs.declared.mode.Mode.TheVariants.{Replace}
-use Rattle.cdb_make.specs.declared.mode.Put.TheVariants.{Added}
+use Rattle.cdb_form.specs.declared.mode.Mode.TheVariants.{Replace}
+use Rattle.cdb_make.specs.declared.put.Put.TheVariants.{Added}
 use Rattle.cdb_make.specs.Gaps.{AreApart}
 use Rattle.cdb_make.proofs.Merge.{apart_lower}
 use Rattle.cdb_make.proofs.Picking.{apart_higher}
