@@ -1,8 +1,8 @@
 # make            builds the proved program, bin/cdb
-# make try        runs the program unproved, in a minute: writes the two-record database bin/two.cdb
+# make try        runs the program unproved, in a minute: makes a small database, bin/try.cdb, and queries it
 # make demo       builds it, and shows it at work on a small alias map
 # make test       the gate: proves everything from nothing and runs every test
-# make faults     builds it, and refuses memory and system calls to each command in turn (needs a C compiler)
+# make tests BIN=bin/cdb  runs all tests that need no proof on a program that is built
 # make clib       builds the C library, bin/libcdb.so.1 and bin/libcdb.a (needs a C compiler)
 # make dist       makes the tarball of the sources that are committed, dist/pezundrix-VERSION.tar.gz
 # make deb        builds it, and makes the Debian package, dist/pezundrix_VERSION_ARCHITECTURE.deb
@@ -17,6 +17,7 @@ PREFIX ?= /usr/local
 DESTDIR ?=
 RT ?= rt
 PYTHON ?= python3
+BIN ?= bin/cdb
 # Tests, wrong bodies and documents have no part in the program.
 SOURCES := $(shell find crates \( -name out -o -name tests -o -name tests.rt \) -prune -o \
 	-type f \( -name '*.rt' -o -name '*.antt' \) -print) crates.txt
@@ -25,7 +26,7 @@ SOURCES := $(shell find crates \( -name out -o -name tests -o -name tests.rt \) 
 # would wait for.
 CLIB_FLAGS := -std=c11 -O2 -Wall -Wextra -Werror -fPIC -fno-tree-slp-vectorize
 
-.PHONY: all try demo test faults clib test-clib dist deb install install-clib uninstall interop bench clean
+.PHONY: all try demo test tests clib dist deb install install-clib uninstall interop bench clean
 
 all: bin/cdb
 
@@ -33,11 +34,7 @@ bin/cdb: $(SOURCES)
 	@RT='$(RT)' $(PYTHON) tools/build.py crates/cdb bin/cdb
 
 try:
-	@mkdir -p bin
-	@echo 'Compiles cdb without proving it, and writes bin/two.cdb, a database of two records.'
-	@cd crates/cdb && $(RT) try -- -c - < stdin > ../../bin/two.cdb.new
-	@mv bin/two.cdb.new bin/two.cdb
-	@echo 'bin/two.cdb is written.'
+	@RT='$(RT)' sh demo/try.sh
 
 demo:
 	@echo 'The demo: builds cdb unless it is there, then shows it at work.'
@@ -46,32 +43,12 @@ demo:
 
 # The program that the gate leaves is the one that was proved from nothing.
 test:
-	$(RT) ci
-	$(PYTHON) tests/cli/run.py crates/cdb/out/cdb
-	RT='$(RT)' $(PYTHON) tests/cli/pages.py crates/cdb/out/cdb
-	$(PYTHON) tests/cli/kills.py crates/cdb/out/cdb
-	$(PYTHON) tests/cli/taken.py crates/cdb/out/cdb
-	$(PYTHON) tests/cli/amends.py crates/cdb/out/cdb
-	$(PYTHON) tests/package/version.py
-	$(PYTHON) tests/package/run.py crates/cdb/out/cdb
-	@if command -v $(firstword $(CC)) > /dev/null; then \
-		$(MAKE) -s bin/refuse.so && \
-		$(PYTHON) tests/faults/run.py crates/cdb/out/cdb bin/refuse.so memory && \
-		$(PYTHON) tests/faults/memory.py crates/cdb/out/cdb bin/refuse.so && \
-		$(PYTHON) tests/faults/closed.py crates/cdb/out/cdb bin/refuse.so && \
-		$(PYTHON) tests/faults/calls.py bin/refuse.so; \
-	else \
-		echo '0 passed, 0 failed: no C compiler is here, so no request for memory was refused'; \
-	fi
-	@if command -v $(firstword $(CC)) > /dev/null; then \
-		$(MAKE) -s test-clib PROGRAM=crates/cdb/out/cdb; \
-	else \
-		echo '0 passed, 0 failed: no C compiler is here, so no C library was built'; \
-	fi
+	@began=$$(date +%s) && $(RT) ci && \
+		RT='$(RT)' CC='$(CC)' $(PYTHON) tests/run.py crates/cdb/out/cdb --gate "$$began"
 
-faults: bin/cdb bin/refuse.so
-	$(PYTHON) tests/faults/run.py bin/cdb bin/refuse.so memory
-	$(PYTHON) tests/faults/run.py bin/cdb bin/refuse.so calls
+tests:
+	@test -x '$(BIN)' || { echo '$(BIN) is not built: run make first'; exit 1; }
+	@RT='$(RT)' CC='$(CC)' $(PYTHON) tests/run.py '$(BIN)'
 
 bin/refuse.so: tests/faults/refuse.c
 	@mkdir -p bin
@@ -106,9 +83,6 @@ bin/libcdb.a: bin/libcdb.o bin/libcdb_c.a
 
 bin/answers: tests/clib/answers.c clib/cdb.h bin/libcdb.so.1
 	$(CC) -O2 -Wall -Wextra -Werror -Iclib -o $@ tests/clib/answers.c bin/libcdb.so.1
-
-test-clib: bin/answers bin/libcdb.a $(if $(PROGRAM),,bin/cdb)
-	$(PYTHON) tests/clib/run.py bin/answers bin $(or $(PROGRAM),bin/cdb)
 
 dist:
 	@$(PYTHON) tools/package.py dist dist

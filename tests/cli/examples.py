@@ -1,0 +1,174 @@
+#!/usr/bin/env python3
+"""Runs each printed example as its reader would, and compares what it does.
+
+    tests/cli/examples.py PROGRAM
+
+The examples are those of the manual page, as `mandoc` or `man` shows it, of docs/GUIDE.md and of
+README.md. Each page has a folder of its own, in which its blocks are run in turn by the shell. In a
+block with prompts each command must write what the page shows below it. What the other blocks write
+is in WRITTEN. Programs of other projects are stood in for by STAND_INS.
+"""
+
+import os
+import re
+import shutil
+import subprocess
+import sys
+import tempfile
+
+TOP = os.path.join(os.path.dirname(os.path.abspath(__file__)), "..", "..")
+# What the shell makes before the examples of a page: the files that they speak of.
+BEFORE = {
+    "README.md": "",
+    "docs/GUIDE.md": r"""
+mkdir postfix primary
+printf 'abuse@example.org root\n' > postfix/virtual
+printf 'postmaster root\nabuse      root\n' > aliases
+printf '+4,2:+one->10\n\n' | cdb -c data.cdb
+cp data.cdb primary/data.cdb
+printf '+7,5:old.net->carol\n\n' | cdb -c owners.cdb
+host=old.net
+""",
+    "man/cdb.1": "",
+}
+# The folders of the pages' own machines, in the folder of a test.
+MOVED = [("/etc/postfix/", "postfix/"), ("primary:/service/tinydns/root/", "primary/")]
+# What each block without prompts writes, in order; each page ends with what WHOLE shows.
+WRITTEN = {
+    "README.md": [None],
+    "docs/GUIDE.md": [
+        None,
+        "root\n",
+        "sound\nrecords 1\n",
+        "",
+        "old.net: carol\n",
+        "",
+        "",
+        "",
+        "",
+        "in step\n",
+    ],
+    "man/cdb.1": ["root", "", "", "", "sound\n", ""],
+}
+# A last command for each page, and what it writes: what all the examples before came to.
+WHOLE = {
+    "README.md": ("cdb -d -m aliases.cdb", "postmaster root\nhosts jim\n"),
+    "docs/GUIDE.md": (
+        "cdb -d -m words.cdb; cdb -d -m map.cdb",
+        "two Goodbye\nthree Hey\nthree Hey\npostmaster alice\n",
+    ),
+    "man/cdb.1": ("cdb -d -m copy.cdb", "postmaster alice\n"),
+}
+STAND_INS = {
+    # What it would find, by the look-up of the database that it is given.
+    "postmap": 'cdb -q -m "${3#cdb:}.cdb" "$2"',
+    "rsync": 'cp "$1" "$2"',
+    "ssh": "shift; sh -c \"$*\"",
+}
+
+
+def shown(page):
+    """A manual page, as a reader sees it."""
+    path = os.path.join(TOP, page)
+    if shutil.which("mandoc"):
+        words = ["mandoc", "-T", "utf8", "-O", "width=100", path]
+    else:
+        words = ["man", "-l", path]
+    how = {"env": {**os.environ, "MANWIDTH": "100", "LC_ALL": "C.UTF-8"}}
+    text = subprocess.run(words, capture_output=True, check=True, text=True, **how).stdout
+    # Letters are bold by being struck twice.
+    return re.sub(".\b", "", text)
+
+
+def blocks_of_manual(page):
+    """The examples of a manual page: what is indented more than the text around it."""
+    section = shown(page).split("\nEXAMPLES\n")[1].split("\nDIAGNOSTICS\n")[0]
+    indents = [len(line) - len(line.lstrip()) for line in section.splitlines() if line.strip()]
+    blocks = re.findall(rf"(?:^ {{{min(indents) + 1},}}\S.*\n)+", section.expandtabs(), re.M)
+    return ["\n".join(line.strip() for line in block.splitlines()) + "\n" for block in blocks]
+
+
+def blocks_of_page(page):
+    """The examples of a page: its blocks for the shell, but for the words of make."""
+    with open(os.path.join(TOP, page), encoding="utf-8") as file:
+        blocks = re.findall(r"^```sh\n(.*?)^```$", file.read(), re.M | re.S)
+    return [block for block in blocks if not re.match(r"make\b", block)]
+
+
+def steps_of(block):
+    """The commands of a block with prompts, each with what is shown below it."""
+    steps = []
+    for line in block.splitlines(keepends=True):
+        if line.startswith("$ "):
+            steps.append([line[2:], ""])
+        else:
+            steps[-1][1] += line
+    # A remark after a command is not for the shell to read.
+    return steps
+
+
+class Shell:
+    """The shell, in a folder of its own, with cdb and the stand-ins on its path."""
+
+    def __init__(self, program, folder):
+        programs, self.folder = os.path.join(folder, "programs"), os.path.join(folder, "work")
+        os.mkdir(programs)
+        os.mkdir(self.folder)
+        shutil.copy(program, os.path.join(programs, "cdb"))
+        for name, does in STAND_INS.items():
+            path = os.path.join(programs, name)
+            with open(path, "w", encoding="utf-8") as file:
+                file.write(f"#!/bin/sh\n{does}\n")
+            os.chmod(path, 0o755)
+        self.environment = {"PATH": f"{programs}:{os.environ['PATH']}", "host": "old.net"}
+
+    def run(self, command):
+        """What a command writes, with its errors, or its status if it fails."""
+        done = subprocess.run(
+            ["sh", "-ec", command],
+            cwd=self.folder,
+            env=self.environment,
+            stdout=subprocess.PIPE,
+            stderr=subprocess.STDOUT,
+            text=True,
+            timeout=60,
+            check=False,
+        )
+        return done.stdout if done.returncode == 0 else f"status {done.returncode}: {done.stdout}"
+
+
+def try_page(program, page, blocks):
+    """For each command of a page what it wrote, and what it is to write."""
+    written = WRITTEN[page]
+    if len(blocks) != len(written):
+        return [(f"{page}: blocks", len(blocks), len(written))]
+    came = []
+    with tempfile.TemporaryDirectory() as folder:
+        shell = Shell(program, folder)
+        came.append((f"{page}: before", shell.run(BEFORE[page]), ""))
+        for block, wanted in zip(blocks, written):
+            for old, new in MOVED:
+                block = block.replace(old, new)
+            steps = steps_of(block) if wanted is None else [[block, wanted]]
+            came += [(f"{page}: {command}", shell.run(command), it) for command, it in steps]
+        command, wanted = WHOLE[page]
+        came.append((f"{page}: {command}", shell.run(command), wanted))
+    return came
+
+
+def main():
+    if len(sys.argv) != 2:
+        sys.exit(__doc__)
+    program = os.path.abspath(sys.argv[1])
+    came = try_page(program, "man/cdb.1", blocks_of_manual("man/cdb.1"))
+    for page in ("docs/GUIDE.md", "README.md"):
+        came += try_page(program, page, blocks_of_page(page))
+    wrong = [it for it in came if it[1] != it[2]]
+    for what, got, wanted in wrong:
+        print(f"{what}: {got!r:.300} and not {wanted!r:.300}")
+    print(f"{len(came) - len(wrong)} passed, {len(wrong)} failed")
+    sys.exit(1 if wrong else 0)
+
+
+if __name__ == "__main__":
+    main()

@@ -1,0 +1,185 @@
+#!/usr/bin/env python3
+"""Checks that what the pages name is there.
+
+    tests/docs/check.py
+
+Each link of a page leads to a file, and to a heading if it names one. Each path in backquotes is that
+of a file or a folder, each name is one of the sources, each `make TARGET` a target of the Makefile.
+The page CALLING.md of a crate names each public item and function of its library, and each function
+that it declares is one of the sources. docs/audit/PROMISES.md names each wrong body.
+"""
+
+import glob
+import os
+import re
+import subprocess
+import sys
+
+TOP = os.path.normpath(os.path.join(os.path.dirname(os.path.abspath(__file__)), "..", ".."))
+PROMISES = "docs/audit/PROMISES.md"
+# What is built or kept and no file of the repository; what stands for a name of the reader's own;
+# and words of other programs, of the system or of the checker's language.
+BUILT = re.compile(r"(bin|out|dist|crates/NAME|crates/\*)/")
+FOREIGN = set(
+    """
+    cdbmake cdbdump freecdb tinycdb postmap tinydns Exim rsync chmod umask chgrp flock callgrind
+    valgrind sponge strace lintian apt dpkg mandoc libcdb1 x NAME
+    """.split()
+)
+SOURCES = (".rt", ".antt", ".py", ".c", ".h", ".map", ".sh", ".edit", ".1", ".3", ".5", ".rattle")
+
+
+def text_of(name):
+    """The text of a file, named from the top."""
+    with open(os.path.join(TOP, name), encoding="utf-8") as file:
+        return file.read()
+
+
+def files():
+    """The files of the repository: those of git, or all if this is a copy without it."""
+    words = ["git", "ls-files", "-co", "--exclude-standard"]
+    listed = subprocess.run(words, cwd=TOP, capture_output=True, text=True, check=False)
+    if listed.returncode == 0:
+        return [it for it in listed.stdout.split("\n") if os.path.isfile(os.path.join(TOP, it))]
+    found = glob.glob("**", root_dir=TOP, recursive=True)
+    return [it for it in found if os.path.isfile(os.path.join(TOP, it)) and "/out/" not in it]
+
+
+def anchors_of(page):
+    """The headings of a page, as links name them."""
+    heads = re.findall(r"^#+ (.*)$", page, re.M)
+    return {re.sub(r"[^\w \-]", "", head.lower()).replace(" ", "-") for head in heads}
+
+
+def wrong_links(page, text):
+    """The links of a page that lead nowhere."""
+    for link in re.findall(r"\]\(([^)\s]+)\)", text):
+        if re.match(r"https?:", link):
+            continue
+        name, _, head = link.partition("#")
+        path = os.path.normpath(os.path.join(os.path.dirname(page), name)) if name else page
+        if not os.path.exists(os.path.join(TOP, path)):
+            yield f"{page}: link to {link}"
+        elif head and head not in anchors_of(text_of(path)):
+            yield f"{page}: link to {link}, which has no such heading"
+
+
+class Names:
+    """What a page can name: the files, and the words in the sources."""
+
+    def __init__(self, listed):
+        self.files = set(listed)
+        self.folders = {part for it in listed for part in parents(it)}
+        self.ends = {end for it in self.files | self.folders for end in ends(it)}
+        self.words = FOREIGN | edits()
+        for it in listed:
+            if it.endswith(SOURCES) or os.path.basename(it) in ("Makefile", "crates.txt"):
+                self.words.update(re.findall(r"[A-Za-z_][A-Za-z0-9_]*", text_of(it)))
+
+    def has_path(self, path):
+        """Whether the end of some path is this one, with or without what says its kind."""
+        path = path.rstrip("/")
+        return any(path + kind in self.ends for kind in ("", ".rt", ".antt"))
+
+    def has_name(self, name):
+        """Whether each word of a name is one of the sources, or of a file's name."""
+        return all(it in self.words or self.has_path(it) for it in name.split("::") if it)
+
+
+def parents(path):
+    """The folders that a path lies in."""
+    while path := os.path.dirname(path):
+        yield path
+
+
+def ends(path):
+    """The path, and what is left of it without its first folders."""
+    parts = path.split("/")
+    return ("/".join(parts[n:]) for n in range(len(parts)))
+
+
+def wrong_names(page, text, names, targets):
+    """The paths, names and commands in a page that are not there."""
+    plain = re.sub(r"^```.*?^```", "", text, flags=re.S | re.M)
+    for code in re.findall(r"`([^`\n]+)`", plain):
+        # A path has a letter; the numbers of an example that a stroke parts have none.
+        if re.fullmatch(r"[\w*\-][\w.*\-]*(/[\w.*\-]*)+", code) and re.search("[a-z]", code):
+            if not BUILT.match(code) and not names.has_path(code):
+                yield f"{page}: path {code}"
+        elif re.fullmatch(r"[A-Za-z_]\w*(::\w+)*", code) and not names.has_name(code):
+            yield f"{page}: name {code}"
+    for target in re.findall(r"(?:^|`)make ([a-z]+(?:-[a-z]+)*)\b", text, re.M):
+        if target not in targets:
+            yield f"{page}: make {target}"
+
+
+def public_of(crate):
+    """The public items that a crate's library names, and its public functions and methods."""
+    library = text_of(f"crates/{crate}/src/lib.rt")
+    items = set()
+    for names in re.findall(r"^pub use [\w:]+::(\{[^}]*\}|\w+);", library, re.M):
+        items.update(re.findall(r"\w+", names))
+    functions = set()
+    for path in glob.glob(f"crates/{crate}/src/**/*.rt", root_dir=TOP, recursive=True):
+        functions.update(re.findall(r"^ *pub (?:const |unsafe )*fn (\w+)", text_of(path), re.M))
+    return items, functions
+
+
+def declared_in(text):
+    """The functions that a page declares in its blocks of code."""
+    blocks = re.findall(r"^```text\n(.*?)^```", text, re.M | re.S)
+    return set(re.findall(r"\bfn (?:\w+(?:<[^>]*>)?::)?(\w+)", "\n".join(blocks)))
+
+
+def wrong_calling(crate, sources):
+    """What a crate's page on calling leaves out, or names and is not there."""
+    page = f"crates/{crate}/CALLING.md"
+    text = text_of(page)
+    items, functions = public_of(crate)
+    for name in sorted(items | functions):
+        if not re.search(rf"\b{name}\b", text):
+            yield f"{page}: {name} is not named"
+    for name in sorted(declared_in(text) - items - functions):
+        if not re.search(rf"\bfn {name}\b", sources):
+            yield f"{page}: {name} is no function"
+
+
+def edits():
+    """The names of the wrong bodies, without the file and the function that each changes."""
+    paths = glob.glob("crates/*/must-fail/*.edit", root_dir=TOP)
+    return {os.path.basename(it).split(".")[-2] for it in paths}
+
+
+def wrong_promises():
+    """The wrong bodies that the page of promises leaves out."""
+    text = text_of(PROMISES)
+    for name in sorted(edits()):
+        if not re.search(rf"`{name}`", text):
+            yield f"{PROMISES}: the wrong body {name} is not named"
+
+
+def main():
+    if len(sys.argv) != 1:
+        sys.exit(__doc__)
+    listed = files()
+    names = Names(listed)
+    targets = set(re.findall(r"^([a-z\-]+):", text_of("Makefile"), re.M))
+    wrong, count = [], 1
+    for page in (it for it in listed if it.endswith(".md")):
+        text = text_of(page)
+        wrong += [*wrong_links(page, text), *wrong_names(page, text, names, targets)]
+        count += 1
+    sources = "\n".join(text_of(it) for it in listed if it.endswith(".rt"))
+    for path in sorted(glob.glob("crates/*/CALLING.md", root_dir=TOP)):
+        wrong += wrong_calling(path.split("/")[1], sources)
+        count += 1
+    wrong += wrong_promises()
+    for it in wrong:
+        print(it)
+    failed = len({it.split(":")[0] for it in wrong})
+    print(f"{count - failed} passed, {failed} failed")
+    sys.exit(1 if wrong else 0)
+
+
+if __name__ == "__main__":
+    main()

@@ -1,0 +1,123 @@
+#!/usr/bin/env python3
+"""Runs all tests that need no proof on a program that is built.
+
+    tests/run.py PROGRAM [--gate BEGAN]
+
+With --gate it also runs those that need what the proof of the whole repository leaves, its programs
+of tests, and says how long the gate took since BEGAN, a time in seconds. A part that this machine cannot run is left out and named at the end; in CI, which
+the variable CI of the environment says, that is a failure. The last line counts all that passed and
+failed.
+"""
+
+import os
+import re
+import shutil
+import subprocess
+import sys
+import time
+from dataclasses import dataclass
+
+TOP = os.path.join(os.path.dirname(os.path.abspath(__file__)), "..")
+COUNTED = re.compile(r"^(\d+) passed, (\d+) failed", re.MULTILINE)
+REFUSE = "bin/refuse.so"
+
+
+@dataclass
+class Part:
+    """A part of the tests: its script with the words after it, and what it needs of the machine."""
+
+    script: str
+    words: tuple = ()
+    needs: tuple = ()
+    # What make builds first.
+    built: tuple = ()
+
+
+def compiler():
+    """The C compiler, as make calls it."""
+    return (os.environ.get("CC") or "cc").split()[0]
+
+
+def parts_of(program, is_gate):
+    """The parts, in order."""
+    c = ("C compiler", compiler())
+    package = ("command dpkg-deb", "dpkg-deb")
+    parts = [
+        Part("tests/docs/check.py"),
+        Part("tests/cli/run.py", (program,)),
+        Part("tests/cli/pages.py", (program,)),
+        Part("tests/cli/examples.py", (program,)),
+        Part("tests/cli/kills.py", (program,)),
+        Part("tests/cli/taken.py", (program,)),
+        Part("tests/cli/amends.py", (program,)),
+        Part("tests/package/version.py"),
+        Part("tests/package/run.py", (program,), (package,)),
+        Part("tests/faults/run.py", (program, REFUSE, "memory"), (c,), (REFUSE,)),
+        Part("tests/faults/run.py", (program, REFUSE, "calls"), (c,), (REFUSE,)),
+        Part("tests/faults/memory.py", (program, REFUSE), (c,), (REFUSE,)),
+        Part("tests/faults/closed.py", (program, REFUSE), (c,), (REFUSE,)),
+    ]
+    if is_gate:
+        parts.append(Part("tests/faults/calls.py", (REFUSE,), (c,), (REFUSE,)))
+    library = ("bin/answers", "bin/libcdb.a")
+    parts.append(Part("tests/clib/run.py", ("bin/answers", "bin", program), (c,), library))
+    return parts
+
+
+def lacks(part):
+    """What a part needs and this machine lacks, or None."""
+    return next((name for name, command in part.needs if shutil.which(command) is None), None)
+
+
+def run(part):
+    """Runs a part, shows what it says, and answers how many of it passed and failed."""
+    name = " ".join((part.script, *part.words))
+    began = time.monotonic()
+    if part.built:
+        built = subprocess.run(["make", "-s", *part.built], cwd=TOP, check=False)
+        if built.returncode != 0:
+            print(f"{name}: make could not build {' '.join(part.built)}")
+            return 0, 1
+    done = subprocess.run(
+        [sys.executable, part.script, *part.words],
+        cwd=TOP,
+        stdout=subprocess.PIPE,
+        text=True,
+        check=False,
+    )
+    print(done.stdout, end="")
+    print(f"{name}: {time.monotonic() - began:.0f} s", flush=True)
+    counted = COUNTED.findall(done.stdout)
+    passed, failed = map(int, counted[-1]) if counted else (0, 0)
+    # A script that ends early has failed, whatever it counted.
+    return passed, failed or int(done.returncode != 0 or not counted)
+
+
+def main(words):
+    is_gate = len(words) == 4 and words[2] == "--gate" and words[3].isdigit()
+    if len(words) != 2 and not is_gate:
+        sys.exit(__doc__)
+    program = os.path.abspath(words[1])
+    began = time.time()
+    passed = failed = 0
+    left_out = []
+    for part in parts_of(program, is_gate):
+        lacking = lacks(part)
+        if lacking is not None:
+            left_out.append(f"{' '.join((part.script, *part.words))}: no {lacking} is here")
+            continue
+        good, bad = run(part)
+        passed, failed = passed + good, failed + bad
+    for it in left_out:
+        print(f"left out: {it}")
+    if os.environ.get("CI"):
+        failed += len(left_out)
+    print(f"These tests took {time.time() - began:.0f} s.")
+    if is_gate:
+        print(f"The gate took {(time.time() - int(words[3])) / 60:.0f} minutes.")
+    print(f"{passed} passed, {failed} failed")
+    return 1 if failed else 0
+
+
+if __name__ == "__main__":
+    sys.exit(main(sys.argv))
