@@ -4,10 +4,18 @@ ghost use Rattle.std.specs.IoError.{error_kind};
 
 use crate::raw::{RawFault, RawFile, note_part};
 use crate::trace::{Call, Trace};
-use std::fs::{File, Metadata, OpenOptions};
+use std::fs::{self, File, Metadata, OpenOptions, Permissions, TryLockError};
 use std::io::{self, ErrorKind};
-use std::os::unix::fs::FileExt;
+use std::os::unix::fs::{FileExt, MetadataExt, OpenOptionsExt};
 use std::rt::Files;
+
+/// The permission bits of a file that all may read and write, of which the umask takes some.
+pub const READ_AND_WRITTEN: u32 = 0o666;
+
+/// Whether both are of one file.
+fn is_one(one: &Metadata, other: &Metadata) -> bool {
+    one.dev() == other.dev() && one.ino() == other.ino()
+}
 
 /// A file of the system.
 #[derive(Drop)]
@@ -36,14 +44,51 @@ impl RealFile {
         made
     }
 
-    /// Makes a file under a name that nothing has, and reads and writes it. It follows no link.
-    pub fn create_new<R: Files<File = File>>(rt: &R, path: &str) -> io::Result<RealFile>
+    /// Makes a file under a name that nothing has, and reads and writes it. It follows no link. The
+    /// file gets these permission bits, less those that the umask takes.
+    pub fn create_new<R: Files<File = File>>(rt: &R, path: &str, mode: u32) -> io::Result<RealFile>
         ensures made { IfOk result (λ f. f.trace.events ≡ (Call.Made, []) ∷ []) }
     {
         let mut options = OpenOptions::new();
-        options.create_new(true);
+        options.create_new(true).mode(mode);
         let file = options.read(true).write(true).open(rt, path)?;
         Ok(RealFile::made(file))
+    }
+
+    /// Makes a file, or empties the one of this name, and reads and writes it. A link is not
+    /// followed: it is a fault, and what it leads to stays.
+    ///
+    /// A file that is no regular one, such as a device, has nothing that could be emptied.
+    pub fn emptied<R: Files<File = File>>(rt: &R, path: &str) -> io::Result<RealFile>
+        ensures made { IfOk result (λ f. f.trace.events ≡ (Call.Made, []) ∷ []) }
+    {
+        match RealFile::create_new(rt, path, READ_AND_WRITTEN) {
+            Err(error) if error.kind() == ErrorKind::AlreadyExists => {
+                let mut options = OpenOptions::new();
+                let file = options.read(true).write(true).open(rt, path)?;
+                let found = file.metadata()?;
+                // The name is looked at after the file was opened: a link has a file of its own.
+                if !is_one(&found, &fs::symlink_metadata(rt, path)?) {
+                    return Err(error);
+                }
+                if found.is_file() {
+                    file.set_len(0)?;
+                }
+                Ok(RealFile::made(file))
+            }
+            answer => answer,
+        }
+    }
+
+    /// Takes the lock of the file, which is held until the file is closed. It does not wait:
+    /// `WouldBlock` says that another has the lock.
+    pub fn try_lock(&self) -> Result<(), TryLockError> {
+        self.file.try_lock()
+    }
+
+    /// Gives the file these permission bits, whatever the umask.
+    pub fn set_permissions(&self, permissions: Permissions) -> io::Result<()> {
+        self.file.set_permissions(permissions)
     }
 
     /// The calls on it, which only clauses read.

@@ -2,7 +2,7 @@
 ghost use Rattle.std.specs.Prelude.{◌≡◌, false};
 ghost use Rattle.cdb_store.specs.Calls.{lost};
 
-use cdb_store::{FileStore, RawFault, RawFile, RealFile, Store, StoreFault};
+use cdb_store::{FileStore, READ_AND_WRITTEN, RawFault, RawFile, RealFile, Store, StoreFault};
 use std::fs::{self, File, Permissions};
 use std::os::unix::fs::{FileExt, PermissionsExt, symlink};
 use std::test::Fail;
@@ -72,6 +72,55 @@ fn a_new_file_takes_no_name_that_is_there(rt: HostRuntime) -> Result<(), Fail> {
     }
     assert!(rt; has_two(&mut FileStore::open(&rt, "new.store")?));
     assert!(rt; !fs::exists(&rt, "other.store")?);
+    Ok(())
+}
+
+/// Whether a name is refused for a file of one's own.
+fn is_foreign(rt: &HostRuntime, name: &str) -> bool {
+    FileStore::create_own(rt, name).is_err()
+}
+
+#[test]
+fn a_file_of_its_own_is_made_or_emptied_and_no_link_followed(rt: HostRuntime) -> Result<(), Fail> {
+    assert!(rt; leave_two(&mut FileStore::create_own(&rt, "own.store")?));
+    assert!(rt; has_two(&mut FileStore::open(&rt, "own.store")?));
+    symlink(&rt, "own.store", "to_own.store")?;
+    symlink(&rt, "nothing.store", "to_nothing.store")?;
+    for name in ["to_own.store", "to_nothing.store", ".", "missing/x.store"] {
+        assert!(rt; is_foreign(&rt, name), "{name}");
+    }
+    assert!(rt; has_two(&mut FileStore::open(&rt, "own.store")?));
+    assert!(rt; !fs::exists(&rt, "nothing.store")?);
+    assert!(rt; FileStore::create_own(&rt, "own.store")?.len() == 0);
+    assert!(rt; FileStore::open(&rt, "own.store")?.len() == 0);
+    Ok(())
+}
+
+/// The permission bits of the file of a name.
+fn mode_of(rt: &HostRuntime, name: &str) -> Option<u32> {
+    match fs::metadata(rt, name) {
+        Ok(found) => Some(found.permissions().mode() & 0o777),
+        Err(_) => None,
+    }
+}
+
+#[test]
+fn a_new_file_has_the_permissions_that_it_is_given(rt: HostRuntime) -> Result<(), Fail> {
+    let file = RealFile::create_new(&rt, "private.store", 0o600)?;
+    assert!(rt; mode_of(&rt, "private.store") == Some(0o600));
+    file.set_permissions(Permissions::from_mode(0o646))?;
+    assert!(rt; mode_of(&rt, "private.store") == Some(0o646));
+    Ok(())
+}
+
+#[test]
+fn a_lock_is_held_until_its_file_is_closed(rt: HostRuntime) -> Result<(), Fail> {
+    let one = RealFile::create_new(&rt, "locked.store", READ_AND_WRITTEN)?;
+    assert!(rt; one.try_lock().is_ok());
+    let other = File::open(&rt, "locked.store")?;
+    assert!(rt; other.try_lock().is_err());
+    drop(one);
+    assert!(rt; other.try_lock().is_ok());
     Ok(())
 }
 
@@ -162,7 +211,7 @@ fn has_byte<F: RawFile>(file: &mut F, pos: u64, byte: u8) -> bool
 
 #[test]
 fn a_file_is_written_and_cut_above_4_gib(rt: HostRuntime) -> Result<(), Fail> {
-    let mut file = RealFile::create_new(&rt, "longer.store")?;
+    let mut file = RealFile::create_new(&rt, "longer.store", READ_AND_WRITTEN)?;
     let answer = write_long(&mut file);
     let is_there = has_byte(&mut file, (5 << 30) - 2, b'x');
     // Where a position cut to 32 bits would be written.
