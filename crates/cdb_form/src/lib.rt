@@ -31,8 +31,8 @@ pub use head::{
 };
 pub use header::{Header, read_header, write_header};
 pub use item::{Item, ItemKind};
-pub use mode::Mode;
 pub use key_hash::{hash, hash_more, home_slot, table_number};
+pub use mode::Mode;
 pub use pair::{GREATEST_PAIR, pair_size};
 pub use reading::PIPE;
 pub use reading_whole::{Extent, InFault, read_whole};
