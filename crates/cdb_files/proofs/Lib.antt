@@ -1,1 +1,2 @@
 mod Replacing
+mod Locking

@@ -4,7 +4,7 @@ use Rattle.std.specs.List.{AllByRecursion}
 use Rattle.std.proofs.lemmas.Bool.{false≢true}
 use Rattle.cdb_store.specs.Calls.{Calls, IsSynced, FileImage}
 use Rattle.cdb_files.specs.declared.name_trace.NameCall.{NameCall}
-use Rattle.cdb_files.specs.declared.name_trace.NameCall.TheVariants.{Folder, One, Apart, Made, NotMade}
+use Rattle.cdb_files.specs.declared.name_trace.NameCall.TheVariants.{Special, One, Apart, Free, Held, Made, NotMade, Allowed, NotAllowed}
 use Rattle.cdb_files.specs.declared.name_trace.NameCall.TheVariants.{Removed, NotRemoved, Renamed, NotRenamed, Synced, NotSynced}
 use Rattle.cdb_files.specs.Folder.{NameCalls, IsRemoval, IsCleared, MayHave, Has, LeavesFile}
 use Rattle.cdb_files.specs.Replacing.{IsReady, IsOfReplacing, AreOfReplacing, AtEach, AtEachMoment, IsNew, LeavesOldOrNew, LeavesNew}
@@ -32,15 +32,19 @@ weaker_one : (t n : List ℕ) {P Q : List ℕ → Type 0} → ((b : List ℕ) �
     → IsOfReplacing t n P call → IsOfReplacing t n Q call
 weaker_one t n f (Renamed len, from, to, file) r =
     record { from_is = r.from_is; to_is = r.to_is; synced = r.synced; is_whole = λ b is. f b (r.is_whole b is) }
-weaker_one t n f (NotRenamed len, from, to, file) r =
+weaker_one t n f (NotRenamed len fault, from, to, file) r =
     record { from_is = r.from_is; to_is = r.to_is; synced = r.synced; is_whole = λ b is. f b (r.is_whole b is) }
 weaker_one t n f (Made, one, other, file) r = r
 weaker_one t n f (Removed, one, other, file) r = r
 weaker_one t n f (NotRemoved, one, other, file) r = r
-weaker_one t n f (Folder is, one, other, file) r = tt
+weaker_one t n f (Special is, one, other, file) r = tt
+weaker_one t n f (Free, one, other, file) r = tt
+weaker_one t n f (Held, one, other, file) r = tt
+weaker_one t n f (Allowed, one, other, file) r = tt
+weaker_one t n f (NotAllowed, one, other, file) r = tt
 weaker_one t n f (One, one, other, file) r = tt
 weaker_one t n f (Apart, one, other, file) r = tt
-weaker_one t n f (NotMade, one, other, file) r = tt
+weaker_one t n f (NotMade fault, one, other, file) r = tt
 weaker_one t n f (Synced, one, other, file) r = tt
 weaker_one t n f (NotSynced, one, other, file) r = tt
 
@@ -88,14 +92,18 @@ keeps old now apart (NotRemoved, one, other, file) may before first held (inr wa
 keeps old now apart (Renamed len, from, to, file) may before first held (inl is) = inr (new_file held may is.1)
 keeps old now apart (Renamed len, from, to, file) may before first held (inr (inl is)) = absurd (apart (sym may.from_is ∙ is.0))
 keeps old now apart (Renamed len, from, to, file) may before first held (inr (inr was)) = before first held was
-keeps old now apart (NotRenamed len, from, to, file) may before first held (inl is) = inr (new_file held may is.1)
-keeps old now apart (NotRenamed len, from, to, file) may before first held (inr (inl is)) = absurd (apart (sym may.from_is ∙ is.0))
-keeps old now apart (NotRenamed len, from, to, file) may before first held (inr (inr was)) = before first held was
+keeps old now apart (NotRenamed len fault, from, to, file) may before first held (inl is) = inr (new_file held may is.1)
+keeps old now apart (NotRenamed len fault, from, to, file) may before first held (inr (inl is)) = absurd (apart (sym may.from_is ∙ is.0))
+keeps old now apart (NotRenamed len fault, from, to, file) may before first held (inr (inr was)) = before first held was
 keeps old now apart (Synced, one, other, file) may before first held is = before first held is.0
-keeps old now apart (Folder is, one, other, file) may before first held was = before first held was
+keeps old now apart (Special is, one, other, file) may before first held was = before first held was
+keeps old now apart (Free, one, other, file) may before first held was = before first held was
+keeps old now apart (Held, one, other, file) may before first held was = before first held was
+keeps old now apart (Allowed, one, other, file) may before first held was = before first held was
+keeps old now apart (NotAllowed, one, other, file) may before first held was = before first held was
 keeps old now apart (One, one, other, file) may before first held was = before first held was
 keeps old now apart (Apart, one, other, file) may before first held was = before first held was
-keeps old now apart (NotMade, one, other, file) may before first held was = before first held was
+keeps old now apart (NotMade fault, one, other, file) may before first held was = before first held was
 keeps old now apart (NotSynced, one, other, file) may before first held was = before first held was
 
 newest : (P : NameCalls → Type 0) (since old : NameCalls) → AtEach P since old → P (since ++ old)
@@ -176,3 +184,9 @@ pub synced : {t n : List ℕ} {whole : List ℕ → Type 0} {old mid : NameCalls
     → AreOfReplacing t n whole old new
 synced {n = n} new true are is = one_more new (Synced, n, [], []) are is tt
 synced {n = n} new false are is = one_more new (NotSynced, n, [], []) are is tt
+
+pub allowed : {t n : List ℕ} {whole : List ℕ → Type 0} {old mid : NameCalls} (new : NameCalls) (r : Bool)
+    → AreOfReplacing t n whole old mid → new ≡ (cond r Allowed NotAllowed, t, n, []) ∷ mid
+    → AreOfReplacing t n whole old new
+allowed {t = t} {n = n} new true are is = one_more new (Allowed, t, n, []) are is tt
+allowed {t = t} {n = n} new false are is = one_more new (NotAllowed, t, n, []) are is tt

@@ -1,8 +1,8 @@
 -- What the calls on names answered, and what that says of a name. The newest call comes first.
-use Rattle.std.specs.Prelude.{◌≡◌, ◌≢◌, ℕ, ◌⊎◌, List, [], ◌∷◌, Option, None, Some}
+use Rattle.std.specs.Prelude.{◌≡◌, ◌≢◌, ℕ, ◌⊎◌, List, [], ◌∷◌, ◌++◌, Option, None, Some}
 use Rattle.cdb_store.specs.Calls.{Calls, IsSynced, FileImage}
 use Rattle.cdb_files.specs.declared.name_trace.NameCall.{NameCall}
-use Rattle.cdb_files.specs.declared.name_trace.NameCall.TheVariants.{Made}
+use Rattle.cdb_files.specs.declared.name_trace.NameCall.TheVariants.{Made, Free, Held}
 use Rattle.cdb_files.specs.declared.name_trace.NameCall.TheVariants.{Removed, NotRemoved}
 use Rattle.cdb_files.specs.declared.name_trace.NameCall.TheVariants.{Renamed, NotRenamed, Synced}
 
@@ -43,7 +43,7 @@ Has name first ((NotRemoved, gone, other, file) ∷ calls) held =
 Has name first ((Renamed len, from, to, file) ∷ calls) held =
     ((to ≡ name) × LeavesFile len file held)
     ⊎ ((to ≢ name) × (((from ≡ name) × (held ≡ None)) ⊎ ((from ≢ name) × Has name first calls held)))
-Has name first ((NotRenamed len, from, to, file) ∷ calls) held =
+Has name first ((NotRenamed len fault, from, to, file) ∷ calls) held =
     ((to ≡ name) × LeavesFile len file held) ⊎ ((from ≡ name) × (held ≡ None))
     ⊎ Has name first calls held
 Has name first ((_, one, other, file) ∷ calls) held = Has name first calls held
@@ -62,9 +62,38 @@ MayHave name first ((NotRemoved, gone, other, file) ∷ calls) held =
 MayHave name first ((Renamed len, from, to, file) ∷ calls) held =
     ((to ≡ name) × LeavesFile len file held) ⊎ ((from ≡ name) × (held ≡ None))
     ⊎ MayHave name first calls held
-MayHave name first ((NotRenamed len, from, to, file) ∷ calls) held =
+MayHave name first ((NotRenamed len fault, from, to, file) ∷ calls) held =
     ((to ≡ name) × LeavesFile len file held) ⊎ ((from ≡ name) × (held ≡ None))
     ⊎ MayHave name first calls held
 MayHave name first ((Synced, synced, other, file) ∷ calls) held =
     MayHave name first calls held × (synced ≡ name → Has name first calls held)
 MayHave name first ((_, one, other, file) ∷ calls) held = MayHave name first calls held
+
+-- no other create holds the file that a name has: the newest call that says so took its lock
+abbrev pub HasLock : (name : List ℕ) → NameCalls → Type 0
+HasLock name [] = ⊥
+HasLock name ((Free, one, other, file) ∷ calls) = (one ≡ name) ⊎ HasLock name calls
+HasLock name ((Held, one, other, file) ∷ calls) = (one ≢ name) × HasLock name calls
+HasLock name ((Made, one, other, file) ∷ calls) = (one ≢ name) × HasLock name calls
+HasLock name ((Removed, one, other, file) ∷ calls) = (one ≢ name) × HasLock name calls
+HasLock name ((NotRemoved, one, other, file) ∷ calls) = (one ≢ name) × HasLock name calls
+HasLock name ((_, one, other, file) ∷ calls) = HasLock name calls
+
+-- a call takes a name from a file, or was to, only if no other create holds that file
+abbrev pub IsLocked : NameCall × List ℕ × List ℕ × Calls → (before : NameCalls) → Type 0
+IsLocked (Removed, gone, other, file) before = HasLock gone before
+IsLocked (NotRemoved, gone, other, file) before = HasLock gone before
+IsLocked (Renamed len, from, to, file) before = HasLock from before
+IsLocked (NotRenamed len fault, from, to, file) before = HasLock from before
+IsLocked (call, one, other, file) before = Unit {0}
+
+-- each call since
+abbrev pub EachIsLocked : (since old : NameCalls) → Type 0
+EachIsLocked [] old = Unit {0}
+EachIsLocked (call ∷ since) old = IsLocked call (since ++ old) × EachIsLocked since old
+
+-- no call since took a name from a file that another create holds
+pub record AreLocked (old new : NameCalls) : Type 0 where
+  pub since : NameCalls
+  pub calls : new ≡ since ++ old
+  pub each : EachIsLocked since old

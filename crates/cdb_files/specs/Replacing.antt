@@ -3,7 +3,10 @@ use Rattle.std.specs.Prelude.{◌≡◌, ℕ, ◌+◌, ◌⊎◌, true, List, []
 use Rattle.std.specs.List.{AllByRecursion}
 use Rattle.cdb_store.specs.Calls.{Calls, IsSynced, FileImage}
 use Rattle.cdb_files.specs.declared.name_trace.NameCall.{NameCall}
-use Rattle.cdb_files.specs.declared.name_trace.NameCall.TheVariants.{Folder, One, Made, NotMade}
+use Rattle.cdb_files.specs.declared.name_fault.NameFault.{NameFault}
+use Rattle.cdb_files.specs.declared.name_fault.NameFault.TheVariants as name_fault
+use Rattle.cdb_files.specs.declared.name_trace.NameCall.TheVariants.{Special, One, Held, Made, NotMade}
+use Rattle.cdb_files.specs.declared.name_trace.NameCall.TheVariants.{NotAllowed}
 use Rattle.cdb_files.specs.declared.name_trace.NameCall.TheVariants.{Removed, NotRemoved, Renamed}
 use Rattle.cdb_files.specs.declared.name_trace.NameCall.TheVariants.{NotRenamed, Synced, NotSynced}
 use Rattle.cdb_files.specs.declared.replace.ReplaceFault.{ReplaceFault}
@@ -27,7 +30,7 @@ IsOfReplacing temporary name whole (Removed, gone, other, file) = gone ≡ tempo
 IsOfReplacing temporary name whole (NotRemoved, gone, other, file) = gone ≡ temporary
 IsOfReplacing temporary name whole (Renamed len, from, to, file) =
     IsReady temporary name whole len from to file
-IsOfReplacing temporary name whole (NotRenamed len, from, to, file) =
+IsOfReplacing temporary name whole (NotRenamed len fault, from, to, file) =
     IsReady temporary name whole len from to file
 IsOfReplacing temporary name whole (call, one, other, file) = Unit {0}
 
@@ -57,24 +60,37 @@ pub record IsRenamed (temporary name : List ℕ) (calls : NameCalls) : Type 0 wh
 abbrev pub IsNoName : List ℕ → Type 0
 IsNoName name = (name ≡ []) ⊎ ((front : List ℕ) × (name ≡ front ++ 47 ∷ []))
 
--- the rename failed, and the temporary name was to be taken from the file then
-abbrev pub FailsRename : (temporary name : List ℕ) → NameCalls → Type 0
-FailsRename temporary name calls = (len : ℕ) × (file : Calls) × (before : NameCalls)
-    × IsCleared temporary ((NotRenamed len, temporary, name, file) ∷ before) calls
+-- the rename failed so, and the temporary name was to be taken from the file then
+abbrev pub FailsRename : (temporary name : List ℕ) → NameCalls → NameFault → Type 0
+FailsRename temporary name calls fault = (len : ℕ) × (file : Calls) × (before : NameCalls)
+    × IsCleared temporary ((NotRenamed len fault, temporary, name, file) ∷ before) calls
+
+-- no file was made: another create holds one of the temporary name, or that name and the other are
+-- of one file, or the call failed, or the new file did not get its permissions
+abbrev pub StopsMaking : (temporary name : List ℕ) → NameCalls → Type 0
+StopsMaking temporary name calls = (before : NameCalls)
+    × ((calls ≡ (One, temporary, name, []) ∷ before)
+    ⊎ (calls ≡ (Held, temporary, [], []) ∷ before)
+    ⊎ (calls ≡ (NotMade name_fault.Failed, temporary, [], []) ∷ before)
+    ⊎ IsCleared temporary ((One, temporary, name, []) ∷ before) calls
+    ⊎ IsCleared temporary ((NotAllowed, temporary, name, []) ∷ before) calls)
 
 -- which calls end in this fault
 abbrev pub EndsIn : {E : Type 0} → (temporary name : List ℕ) (old new : NameCalls)
     → ReplaceFault E → Type 0
 EndsIn temporary name old new Open =
-    ((new ≡ old) × (IsNoName name ⊎ (temporary ≡ name)))
-    ⊎ (before : NameCalls) × ((new ≡ (One, temporary, name, []) ∷ before)
-    ⊎ (new ≡ (NotMade, temporary, [], []) ∷ before))
+    ((new ≡ old) × (IsNoName name ⊎ (temporary ≡ name))) ⊎ StopsMaking temporary name new
 EndsIn temporary name old new NoMemory =
-    ((before : NameCalls) × (new ≡ (NotMade, temporary, [], []) ∷ before))
-    ⊎ FailsRename temporary name new
-EndsIn temporary name old new Rename = (new ≡ (Folder true, name, [], []) ∷ old)
-    ⊎ FailsRename temporary name new
+    ((before : NameCalls) × (new ≡ (NotMade name_fault.NoMemory, temporary, [], []) ∷ before))
+    ⊎ FailsRename temporary name new name_fault.NoMemory
+EndsIn temporary name old new Rename = (new ≡ (Special true, name, [], []) ∷ old)
+    ⊎ FailsRename temporary name new name_fault.Failed
 EndsIn temporary name old new (Build fault) = (before : NameCalls) × IsCleared temporary before new
+
+-- what a fault of a name is to the caller
+abbrev pub of_name : {E : Type 0} → NameFault → ReplaceFault E
+of_name name_fault.Failed = Rename
+of_name name_fault.NoMemory = NoMemory
 
 -- at each moment from the old calls on
 abbrev pub AtEach : (NameCalls → Type 0) → (since old : NameCalls) → Type 0

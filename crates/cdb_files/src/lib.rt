@@ -3,6 +3,7 @@
 
 mod fault;
 mod making;
+mod name_fault;
 mod name_trace;
 mod names;
 mod opening;
@@ -11,8 +12,9 @@ mod replace;
 
 pub use fault::FileFault;
 pub use making::{Records, make_file, make_file_in};
+pub use name_fault::NameFault;
 pub use name_trace::{NameCall, NameTrace};
-pub use names::{NameFault, Names, Unrenamed};
+pub use names::{Names, Unrenamed};
 pub use opening::open_file;
-pub use real_names::{RealNames, is_name_of};
+pub use real_names::RealNames;
 pub use replace::{Builder, ReplaceFault, replace_file};

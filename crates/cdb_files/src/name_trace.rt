@@ -4,30 +4,39 @@ ghost use Rattle.std.specs.Borrow.{ftrue};
 ghost use Rattle.cdb_store.specs.Calls.{Calls};
 ghost use Rattle.cdb_files.specs.declared.name_trace.NameCall.{NameCall};
 
+use crate::name_fault::NameFault;
 use cdb_store::Trace;
 use std::marker::{Model, PhantomData};
 
 /// What a call on names answered.
 #[derive(Clone, Copy)]
 pub enum NameCall {
-    /// The name is that of a folder, or of a file that is no folder, or of nothing.
-    Folder(bool),
+    /// The name leads to something that is no regular file, or to a regular file or nothing.
+    Special(bool),
     /// The file of the name is that of the other name too.
     One,
     /// The two names are of two files, or one of them has none.
     Apart,
+    /// No other create holds the file of the name: its lock was taken, or it has none to take.
+    Free,
+    /// Another create holds it, or has taken the name from it.
+    Held,
     /// A new file was made under the name.
     Made,
     /// None was made.
-    NotMade,
+    NotMade(NameFault),
+    /// The file of the name got the permission bits of the other name's file, if it has one.
+    Allowed,
+    /// It did not get them.
+    NotAllowed,
     /// The name was taken from its file, or had none.
     Removed,
-    /// It was not, or only the system knows.
+    /// The removal failed, or its outcome is unknown.
     NotRemoved,
-    /// The file of the name, which has so many bytes, was given the other name in its place.
+    /// The file of the name, which has so many bytes, replaced what had the other name.
     Renamed(u64),
-    /// It was not, or only the system knows.
-    NotRenamed(u64),
+    /// The rename failed, or its outcome is unknown.
+    NotRenamed(u64, NameFault),
     /// The folder of the name was synced.
     Synced,
     /// It was not.

@@ -1,14 +1,15 @@
 // The names of the system: the lines that call the system and note what it answered.
-ghost use Rattle.std.specs.Prelude.{◌≡◌, [], ◌∷◌, OnOk, OnErr};
+ghost use Rattle.std.specs.Prelude.{◌≡◌, ◌⊎◌, [], ◌∷◌, IfErr, OnOk};
 ghost use Rattle.cdb_files.specs.declared.name_trace.NameCall.TheVariants.{Renamed, NotRenamed};
-ghost use Rattle.cdb_files.specs.Folder.{IsRemoval};
+ghost use Rattle.cdb_files.specs.Folder.{IsRemoval, IsCleared};
 
+use crate::name_fault::NameFault;
 use crate::name_trace::{NameCall, NameTrace};
-use crate::names::{NameFault, Names, Unrenamed};
-use cdb_store::{RealFile, Trace};
-use std::fs::{self, File, Metadata};
+use crate::names::{Names, Unrenamed};
+use cdb_store::{READ_AND_WRITTEN, RealFile, Trace};
+use std::fs::{self, File, Metadata, Permissions, TryLockError};
 use std::io::{self, ErrorKind};
-use std::os::unix::fs::MetadataExt;
+use std::os::unix::fs::{MetadataExt, PermissionsExt};
 use std::path::Path;
 use std::rt::Files;
 
@@ -38,6 +39,19 @@ impl<'a, R: Files<File = File>> RealNames<'a, R> {
         self.trace
             .note(call, name.as_bytes(), other.as_bytes(), &Trace::new());
     }
+
+    /// Removes a file or a link of a name, and notes whether it did.
+    fn remove_file(&mut self, name: &str)
+        ensures { IsCleared name.now self.old.trace.events self.new.trace.events }
+    {
+        let removed = match fs::symlink_metadata(self.rt, name) {
+            Ok(found) if found.is_file() || found.is_symlink() => {
+                fs::remove_file(self.rt, name).is_ok()
+            }
+            _ => false,
+        };
+        self.note(&removal(removed), name, "");
+    }
 }
 
 /// Whether both are of one file.
@@ -48,9 +62,57 @@ fn is_one(one: &io::Result<Metadata>, other: &io::Result<Metadata>) -> bool {
     }
 }
 
-/// Whether a name, which is not followed as a link, is that of a file that was opened.
-pub fn is_name_of<R: Files<File = File>>(rt: &R, name: &str, file: &File) -> bool {
-    is_one(&fs::symlink_metadata(rt, name), &file.metadata())
+/// The permission bits of a file that this user alone may read and write.
+const PRIVATE: u32 = 0o600;
+
+/// The permission bits for all, of a file's mode.
+const FOR_ALL: u32 = 0o777;
+
+/// The permission bits of the regular file of a name, which is not followed as a link.
+fn mode_of<R: Files<File = File>>(rt: &R, name: &str) -> Option<u32> {
+    match fs::symlink_metadata(rt, name) {
+        Ok(found) if found.is_file() => Some(found.permissions().mode() & FOR_ALL),
+        _ => None,
+    }
+}
+
+/// What a name has that a create finds.
+#[derive(Drop)]
+enum Stale {
+    /// A link, which has no lock, or something that a removal leaves: nothing, or no file.
+    Unlocked,
+    /// A file whose lock this process holds, until it is closed.
+    Locked(File),
+    /// A file that another create holds, or that cannot be opened to see.
+    Held,
+}
+
+/// Whether a lock was taken, or the file system knows none.
+fn is_free(answer: Result<(), TryLockError>) -> bool {
+    !matches!(answer, Err(TryLockError::WouldBlock))
+}
+
+/// What a name has, with the lock of its file.
+fn stale_of<R: Files<File = File>>(rt: &R, name: &str) -> Stale {
+    match fs::symlink_metadata(rt, name) {
+        Ok(found) if found.is_file() => {}
+        _ => return Stale::Unlocked,
+    }
+    // A lock needs an open file, for reading or for writing.
+    let opened = File::open(rt, name).or_else(|_| File::options().write(true).open(rt, name));
+    match opened {
+        Ok(file) => {
+            let is_own = is_free(file.try_lock())
+                && is_one(&fs::symlink_metadata(rt, name), &file.metadata());
+            if is_own {
+                Stale::Locked(file)
+            } else {
+                Stale::Held
+            }
+        }
+        Err(error) if error.kind() == ErrorKind::NotFound => Stale::Unlocked,
+        Err(_) => Stale::Held,
+    }
 }
 
 /// Has the system rename a file.
@@ -75,12 +137,12 @@ impl<'a, R: Files<File = File>> Names for RealNames<'a, R> {
 
     ghost calls = { λ n. n.trace.events };
 
-    fn is_folder(&mut self, name: &str) -> bool {
+    fn is_special(&mut self, name: &str) -> bool {
         let is = match fs::metadata(self.rt, name) {
-            Ok(found) => found.is_dir(),
+            Ok(found) => !found.is_file(),
             Err(_) => false,
         };
-        self.note(&NameCall::Folder(is), name, "");
+        self.note(&NameCall::Special(is), name, "");
         is
     }
 
@@ -97,27 +159,51 @@ impl<'a, R: Files<File = File>> Names for RealNames<'a, R> {
         is
     }
 
-    fn remove_stale(&mut self, name: &str, _other: &str) {
-        let removed = match fs::symlink_metadata(self.rt, name) {
-            Ok(found) if found.is_file() || found.is_symlink() => {
-                fs::remove_file(self.rt, name).is_ok()
-            }
-            _ => false,
-        };
-        self.note(&removal(removed), name, "");
+    fn remove_stale(&mut self, name: &str, _other: &str) -> bool {
+        // The lock is held until the file that has it is gone.
+        let stale = stale_of(self.rt, name);
+        if matches!(&stale, Stale::Held) {
+            self.note(&NameCall::Held, name, "");
+            return false;
+        }
+        self.note(&NameCall::Free, name, "");
+        self.remove_file(name);
+        true
     }
 
-    fn make_new(&mut self, name: &str) -> Result<RealFile, NameFault> {
-        match RealFile::create_new(self.rt, name) {
-            Ok(file) => {
-                self.note(&NameCall::Made, name, "");
-                Ok(file)
-            }
-            Err(_) => {
-                self.note(&NameCall::NotMade, name, "");
-                Err(NameFault::Failed)
-            }
+    fn make_new(&mut self, name: &str, other: &str) -> Result<RealFile, NameFault> {
+        let mode = match mode_of(self.rt, other) {
+            Some(_) => PRIVATE,
+            None => READ_AND_WRITTEN,
+        };
+        let Ok(file) = RealFile::create_new(self.rt, name, mode) else {
+            self.note(&NameCall::NotMade(NameFault::Failed), name, "");
+            return Err(NameFault::Failed);
+        };
+        self.note(&NameCall::Made, name, "");
+        if is_free(file.try_lock())
+            && is_one(&fs::symlink_metadata(self.rt, name), &file.metadata())
+        {
+            self.note(&NameCall::Free, name, "");
+            Ok(file)
+        } else {
+            self.note(&NameCall::Held, name, "");
+            Err(NameFault::Failed)
         }
+    }
+
+    fn allow(&mut self, name: &str, file: &RealFile, other: &str) -> bool {
+        let is_allowed = match mode_of(self.rt, other) {
+            Some(mode) => file.set_permissions(Permissions::from_mode(mode)).is_ok(),
+            None => true,
+        };
+        let call = if is_allowed {
+            NameCall::Allowed
+        } else {
+            NameCall::NotAllowed
+        };
+        self.note(&call, name, other);
+        is_allowed
     }
 
     fn remove_own(&mut self, name: &str, file: &RealFile) {
@@ -135,8 +221,9 @@ impl<'a, R: Files<File = File>> Names for RealNames<'a, R> {
     ) -> Result<(), Unrenamed<RealFile>>
         ensures ok { OnOk result (self.new.trace.events
             ≡ (Renamed len, name.now, other.now, file.trace.events) ∷ self.old.trace.events) }
-        ensures err { OnErr result (self.new.trace.events
-            ≡ (NotRenamed len, name.now, other.now, file.trace.events) ∷ self.old.trace.events) }
+        ensures err { IfErr result (λ u. self.new.trace.events
+            ≡ (NotRenamed len u.fault, name.now, other.now, file.trace.events)
+            ∷ self.old.trace.events) }
     {
         let found = file.metadata();
         let is_whole = matches!(&found, Ok(found) if found.len() == len);
@@ -147,7 +234,7 @@ impl<'a, R: Files<File = File>> Names for RealNames<'a, R> {
         };
         let call = match answer {
             Ok(()) => NameCall::Renamed(len),
-            Err(_) => NameCall::NotRenamed(len),
+            Err(fault) => NameCall::NotRenamed(len, fault),
         };
         self.trace
             .note(&call, name.as_bytes(), other.as_bytes(), file.trace());

@@ -1,8 +1,12 @@
 // A file is replaced under its name: at once, or not at all.
-ghost use Rattle.std.specs.Prelude.{◌≡◌, ◌≢◌, ℕ, ◌+◌, ◌↔◌, ◌⊎◌, List, IsTrue, IfOk, IfErr, OnOk, OnErr};
+ghost use Rattle.std.specs.Prelude.{◌≡◌, ◌≢◌, ℕ, ◌+◌, ◌↔◌, ◌⊎◌, List, [], ◌∷◌, IsTrue};
+ghost use Rattle.std.specs.Prelude.{IfOk, IfErr, OnOk, OnErr};
 ghost use Rattle.cdb_store.specs.Calls.{IsSynced, FileImage};
 ghost use Rattle.cdb_store.specs.FileStore.{calls_of};
-ghost use Rattle.cdb_files.specs.declared.replace.ReplaceFault.TheVariants.{NoMemory, Rename};
+ghost use Rattle.cdb_files.specs.Folder.{AreLocked, HasLock, NameCalls};
+ghost use Rattle.cdb_files.specs.declared.name_fault.NameFault.{NameFault};
+ghost use Rattle.cdb_files.specs.declared.name_trace.NameCall.TheVariants.{NotMade};
+ghost use Rattle.cdb_files.specs.declared.replace.ReplaceFault.TheVariants.{Open, NoMemory, Rename};
 ghost use Rattle.cdb_files.specs.Replacing.{
   AreOfReplacing,
   AtEachMoment,
@@ -12,10 +16,13 @@ ghost use Rattle.cdb_files.specs.Replacing.{
   IsRenamed,
   LeavesNew,
   LeavesOldOrNew,
+  StopsMaking,
+  of_name,
   renames,
 };
 
-use crate::names::{NameFault, Names, Unrenamed};
+use crate::name_fault::NameFault;
+use crate::names::{Names, Unrenamed};
 use cdb_store::{FileStore, Store};
 
 /// What builds a file in a store that is empty.
@@ -36,13 +43,13 @@ pub trait Builder<S: Store> {
 /// Why a file was not replaced.
 #[derive(Clone, Copy, Debug, PartialEq, Eq)]
 pub enum ReplaceFault<E> {
-    /// The file's name is empty, ends in a slash or is the temporary name too, or nothing could be
-    /// made under the temporary name.
+    /// The file's name is empty, ends in a slash or is the temporary name too, or another create
+    /// holds the temporary file, or none could be made, or not with the old file's permissions.
     Open,
-    /// Memory ran out as the temporary file was made or renamed.
+    /// An allocation failed as the temporary file was made or renamed.
     NoMemory,
-    /// The file's name is that of a folder, or the rename failed, or the temporary name was no
-    /// longer that of the file that was made.
+    /// The file's name leads to a folder, a device, a socket or a pipe, or the rename failed, or
+    /// the temporary name was no longer that of the file that was made.
     Rename,
     /// It was not built.
     Build(E),
@@ -58,17 +65,18 @@ fn is_no_name(name: &str) -> bool
     }
 }
 
-/// Makes a file under the temporary name, in place of an old one of that name that is not the file
-/// to be replaced.
-fn make_apart<N: Names, E: Drop>(
+/// Takes an old file or a link from the temporary name, unless it is the file to be replaced or
+/// another create holds it.
+fn clear<N: Names, E: Drop>(
     names: &mut N,
     name: &str,
     temporary: &str,
-) -> Result<FileStore<N::File>, ReplaceFault<E>>
+) -> Result<(), ReplaceFault<E>>
     ensures apart { OnOk result (temporary.now ≢ name.now) }
     ensures one_name { (temporary.now ≢ name.now) ⊎ (N.calls names.new ≡ N.calls names.old) }
     ensures calls { AreOfReplacing temporary.now name.now (λ _. ⊥) (N.calls names.old)
         (N.calls names.new) }
+    ensures locked { AreLocked (N.calls names.old) (N.calls names.new) }
     ensures renames { renames (N.calls names.new) ≡ renames (N.calls names.old) }
     ensures err { IfErr result
         (EndsIn temporary.now name.now (N.calls names.old) (N.calls names.new)) }
@@ -79,23 +87,76 @@ fn make_apart<N: Names, E: Drop>(
     if temporary == name {
         return Err(ReplaceFault::Open);
     }
-    if names.is_folder(name) {
+    if names.is_special(name) {
         return Err(ReplaceFault::Rename);
     }
     if names.is_file_of(temporary, name) {
         return Err(ReplaceFault::Open);
     }
-    names.remove_stale(temporary, name);
-    match names.make_new(temporary) {
-        Ok(file) => Ok(FileStore::made(file)),
-        Err(NameFault::Failed) => Err(ReplaceFault::Open),
-        Err(NameFault::NoMemory) => Err(ReplaceFault::NoMemory),
+    if names.remove_stale(temporary, name) {
+        Ok(())
+    } else {
+        Err(ReplaceFault::Open)
     }
+}
+
+/// Makes a file under the temporary name, with the permissions of the file to be replaced. Two
+/// names can be of one file though none was there before, so that is seen once more.
+fn make_own<N: Names, E: Drop>(
+    names: &mut N,
+    name: &str,
+    temporary: &str,
+) -> Result<FileStore<N::File>, ReplaceFault<E>>
+    ensures calls { AreOfReplacing temporary.now name.now (λ _. ⊥) (N.calls names.old)
+        (N.calls names.new) }
+    ensures locked { AreLocked (N.calls names.old) (N.calls names.new) }
+    ensures lock { OnOk result (HasLock temporary.now (N.calls names.new)) }
+    ensures renames { renames (N.calls names.new) ≡ renames (N.calls names.old) }
+    ensures err { IfErr result (λ e.
+        (e ≡ Open) × StopsMaking temporary.now name.now (N.calls names.new)
+        ⊎ (e ≡ NoMemory) × ((before : NameCalls) × (N.calls names.new
+        ≡ (NotMade NameFault.NoMemory, temporary.now, [], []) ∷ before))) }
+{
+    let file = match names.make_new(temporary, name) {
+        Ok(file) => file,
+        Err(NameFault::Failed) => return Err(ReplaceFault::Open),
+        Err(NameFault::NoMemory) => return Err(ReplaceFault::NoMemory),
+    };
+    if names.is_file_of(temporary, name) {
+        names.remove_own(temporary, &file);
+        return Err(ReplaceFault::Open);
+    }
+    if !names.allow(temporary, &file, name) {
+        names.remove_own(temporary, &file);
+        return Err(ReplaceFault::Open);
+    }
+    Ok(FileStore::made(file))
+}
+
+/// Makes a file under the temporary name, in place of an old one of that name that is not the file
+/// to be replaced and that no other create holds.
+fn make_apart<N: Names, E: Drop>(
+    names: &mut N,
+    name: &str,
+    temporary: &str,
+) -> Result<FileStore<N::File>, ReplaceFault<E>>
+    ensures apart { OnOk result (temporary.now ≢ name.now) }
+    ensures one_name { (temporary.now ≢ name.now) ⊎ (N.calls names.new ≡ N.calls names.old) }
+    ensures calls { AreOfReplacing temporary.now name.now (λ _. ⊥) (N.calls names.old)
+        (N.calls names.new) }
+    ensures locked { AreLocked (N.calls names.old) (N.calls names.new) }
+    ensures lock { OnOk result (HasLock temporary.now (N.calls names.new)) }
+    ensures renames { renames (N.calls names.new) ≡ renames (N.calls names.old) }
+    ensures err { IfErr result
+        (EndsIn temporary.now name.now (N.calls names.old) (N.calls names.new)) }
+{
+    clear(names, name, temporary)?;
+    make_own(names, name, temporary)
 }
 
 /// What the fault of a rename is to the caller.
 fn rename_fault<E>(fault: NameFault) -> ReplaceFault<E>
-    ensures { (result ≡ Rename) ⊎ (result ≡ NoMemory) }
+    ensures { result ≡ of_name fault }
 {
     match fault {
         NameFault::Failed => ReplaceFault::Rename,
@@ -103,7 +164,7 @@ fn rename_fault<E>(fault: NameFault) -> ReplaceFault<E>
     }
 }
 
-/// Gives a file of this length that is whole and flushed the name in place of its temporary one.
+/// Renames the finished, synced file of this length from its temporary name to its name.
 fn publish<N: Names, E: Drop>(
     names: &mut N,
     file: N::File,
@@ -112,17 +173,18 @@ fn publish<N: Names, E: Drop>(
     temporary: &str,
 ) -> Result<(), ReplaceFault<E>>
     requires settled { IsSynced (N.File.calls file) }
+    requires lock { HasLock temporary.now (N.calls names.old) }
     ensures ok { OnOk result (IsRenamed temporary.now name.now (N.calls names.new)) }
     ensures calls { AreOfReplacing temporary.now name.now (FileImage len (N.File.calls file))
         (N.calls names.old) (N.calls names.new) }
+    ensures locked { AreLocked (N.calls names.old) (N.calls names.new) }
     ensures sure { OnOk result (LeavesNew name.now (FileImage len (N.File.calls file))
         (N.calls names.new)) }
     ensures renames_ok { OnOk result
         (renames (N.calls names.new) ≡ renames (N.calls names.old) + 1) }
     ensures renames_err { OnErr result (renames (N.calls names.new) ≡ renames (N.calls names.old)) }
-    ensures err { IfErr result
-        (λ e. ((e ≡ Rename) ⊎ (e ≡ NoMemory))
-        × FailsRename temporary.now name.now (N.calls names.new)) }
+    ensures err { IfErr result (λ e. (fault : NameFault) × (e ≡ of_name fault)
+        × FailsRename temporary.now name.now (N.calls names.new) fault) }
 {
     match names.rename(file, len, temporary, name) {
         Ok(()) => {
@@ -140,9 +202,10 @@ fn publish<N: Names, E: Drop>(
 /// place of the file that had it.
 ///
 /// An old file of the temporary name, or a link, is removed first, unless it is the file to be
-/// replaced, so no link is followed and no file that is open is overwritten. After a fault the
-/// temporary name is taken from the file, if it still has it, and what had the name still has it.
-/// A folder that cannot be synced is no fault.
+/// replaced or another create holds it, so no link is followed and no file that is open is
+/// overwritten. The new file has the permission bits of the regular file that it replaces. It is
+/// locked until after the rename, so no other create takes it. After a fault the temporary name is
+/// taken from the file, if it still has it. A folder that cannot be synced is no fault.
 pub fn replace_file<N: Names, B: Builder<FileStore<N::File>> + Drop>(
     names: &mut N,
     name: &str,
@@ -152,6 +215,8 @@ pub fn replace_file<N: Names, B: Builder<FileStore<N::File>> + Drop>(
     // Nothing but the rename touches the name, and it comes after a flush that no write follows.
     ensures calls { AreOfReplacing temporary.now name.now (B.builds builder) (N.calls names.old)
         (N.calls names.new) }
+    // No call removes or renames a file that another create holds.
+    ensures locked { AreLocked (N.calls names.old) (N.calls names.new) }
     ensures ok { OnOk result (IsRenamed temporary.now name.now (N.calls names.new)) }
     ensures renames_ok { OnOk result
         (renames (N.calls names.new) ≡ renames (N.calls names.old) + 1) }

@@ -1,15 +1,18 @@
-use Rattle.std.proofs.Common.{inl, inr, ap, sym, subst, ◌≡◌, ◌⊎◌, List, ℕ}
-use Rattle.cdb_files.specs.Replacing.{EndsIn, FailsRename}
+use Rattle.std.proofs.Common.{inr, ap, sym, subst, ◌≡◌, List, ℕ}
+use Rattle.cdb_files.specs.Replacing.{EndsIn, FailsRename, of_name}
+use Rattle.cdb_files.specs.declared.name_fault.NameFault.{NameFault}
+use Rattle.cdb_files.specs.declared.name_fault.NameFault.TheVariants.{Failed, NoMemory}
+use Rattle.cdb_files.proofs.Locking.{lock_on, lock_cleared}
 use Rattle.cdb_files.specs.Folder.{NameCalls}
 use Rattle.cdb_files.specs.declared.replace.ReplaceFault.{ReplaceFault}
-use Rattle.cdb_files.specs.declared.replace.ReplaceFault.TheVariants.{NoMemory, Rename}
 use Rattle.cdb_files.proofs.Replacing.{weaker, go_on, cleared, at_each_moment, at_each_or_none, weaker_sure, of_file}
 use Rattle.std.proofs.lemmas.Result.{on_ok_weaker, IfErr-weaker}
 use Rattle.cdb_files.proofs.replace.replace_file.Goals as goal
 
-ends_in : {E : Type 0} {t n : List ℕ} (old new : NameCalls) (e : ReplaceFault E) → (e ≡ Rename) ⊎ (e ≡ NoMemory) → FailsRename t n new → EndsIn t n old new e
-ends_in {E = E} {t = t} {n = n} old new e (inl is) fails = subst (λ (f : ReplaceFault E). EndsIn t n old new f) (sym is) (inr fails)
-ends_in {E = E} {t = t} {n = n} old new e (inr is) fails = subst (λ (f : ReplaceFault E). EndsIn t n old new f) (sym is) (inr fails)
+ends_in : {E : Type 0} {t n : List ℕ} (old new : NameCalls) (e : ReplaceFault E)
+    → ((fault : NameFault) × (e ≡ of_name fault) × FailsRename t n new fault) → EndsIn t n old new e
+ends_in {E = E} {t = t} {n = n} old new e (Failed, is, fails) = subst (λ (f : ReplaceFault E). EndsIn t n old new f) (sym is) (inr fails)
+ends_in {E = E} {t = t} {n = n} old new e (NoMemory, is, fails) = subst (λ (f : ReplaceFault E). EndsIn t n old new f) (sym is) (inr fails)
 
 pub returns-in_err-empty-clause-calls : goal.returns-in_err-empty-clause-calls
 returns-in_err-empty-clause-calls g c = weaker (λ b none. absurd none) c.make_apart.ensures.calls
@@ -36,8 +39,15 @@ returns-in-Ok-clause-sure g c =
 
 pub returns-in-Ok-clause-err : goal.returns-in-Ok-clause-err
 returns-in-Ok-clause-err g c =
-    IfErr-weaker c.publish.result _ _ (λ e h. ends_in _ _ e h.0 h.1) c.publish.ensures.err
+    IfErr-weaker c.publish.result _ _ (λ e h. ends_in _ _ e h) c.publish.ensures.err
 
 pub returns-in_err-empty-clause-any_moment : goal.returns-in_err-empty-clause-any_moment
 returns-in_err-empty-clause-any_moment g c =
     at_each_or_none c.make_apart.ensures.one_name (weaker (λ b none. absurd none) c.make_apart.ensures.calls)
+
+pub returns-in-Ok-clause-locked : goal.returns-in-Ok-clause-locked
+returns-in-Ok-clause-locked g c = lock_on c.make_apart.ensures.locked c.publish.ensures.locked
+
+pub returns-in-Err-clause-locked : goal.returns-in-Err-clause-locked
+returns-in-Err-clause-locked g c =
+    lock_cleared _ c.make_apart.ensures.locked c.in_ok-empty.ensures.lock c.remove_own.ensures

@@ -1,0 +1,10 @@
+// Why a call on a name did nothing.
+
+/// Why a call on a name did nothing.
+#[derive(Clone, Copy, Debug, PartialEq, Eq)]
+pub enum NameFault {
+    /// The call failed.
+    Failed,
+    /// An allocation failed.
+    NoMemory,
+}
