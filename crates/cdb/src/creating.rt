@@ -2,7 +2,7 @@
 ghost use Rattle.std.specs.Prelude.{◌≤◌, OnOk};
 ghost use Rattle.cdb_form.specs.Format.Pair.{head_size};
 
-use crate::files::{is_file_of, is_folder, is_same_file, made_store, opened_store};
+use crate::files::{is_file_of, is_same_file, is_special, made_store, opened_store};
 use crate::source::{InSource, STANDARD_INPUT, Source, sources_of};
 use cdb_files::{Builder, RealNames, ReplaceFault, replace_file};
 use cdb_form::{PIPE, Width, write_whole};
@@ -141,8 +141,8 @@ fn make_on_output<L: Width, I: Read + Drop, O: Write, E: Write>(
 
 /// Makes it under its name: in a temporary file, or in place.
 ///
-/// `Open`: the name is empty or ends in a slash. `Rename`: it is that of a folder, which nothing
-/// replaces.
+/// `Open`: the name is empty or ends in a slash. `Rename`: it is that of a folder, a device, a socket
+/// or a pipe, which nothing replaces.
 fn make_named<L, R, I, E>(
     rt: &R,
     creation: Creation<'_>,
@@ -173,7 +173,7 @@ where
 
 /// Makes it in the file of its name, which is emptied first.
 ///
-/// `Open`: the base or an input is that file, and would be lost.
+/// `Open`: the base or an input is that file, and would be lost; or the name is that of a link.
 fn make_in_place<L, R, I, E>(
     rt: &R,
     creation: Creation<'_>,
@@ -211,7 +211,7 @@ where
     I: Read + Drop,
     E: Write,
 {
-    if is_folder(rt, creation.name) {
+    if is_special(rt, creation.name) {
         return Err(Fault::Rename);
     }
     if creation.reads(|file| is_file_of(rt, temporary, file)) {

@@ -46,9 +46,10 @@ pub(crate) fn opened_store<R: Files<File = File>>(rt: &R, name: &str) -> Result<
     store_of(FileStore::open(rt, name))
 }
 
-/// A store in the file of this name, emptied, or in a new one.
+/// A store in the file of this name, emptied, or in a new one. `Open`: the name is that of a link,
+/// which is not followed.
 pub(crate) fn made_store<R: Files<File = File>>(rt: &R, name: &str) -> Result<FileStore, Fault> {
-    store_of(FileStore::create(rt, name))
+    store_of(FileStore::create_own(rt, name))
 }
 
 /// Whether a name is that of a pipe or a device, which is read from its start to its end alone.
@@ -59,10 +60,11 @@ pub(crate) fn is_stream<R: Files<File = File>>(rt: &R, name: &str) -> bool {
     }
 }
 
-/// Whether a name is that of a folder.
-pub(crate) fn is_folder<R: Files<File = File>>(rt: &R, name: &str) -> bool {
+/// Whether a name leads to something that is no regular file, which nothing replaces: a folder, a
+/// device, a socket or a pipe.
+pub(crate) fn is_special<R: Files<File = File>>(rt: &R, name: &str) -> bool {
     match fs::metadata(rt, name) {
-        Ok(found) => found.is_dir(),
+        Ok(found) => !found.is_file(),
         Err(_) => false,
     }
 }

@@ -2,7 +2,7 @@
 use Rattle.std.specs.Prelude.{◌≡◌, ◌≢◌, ℕ, ◌⊎◌, List, [], ◌∷◌, ◌++◌, Option, None, Some}
 use Rattle.cdb_store.specs.Calls.{Calls, IsSynced, FileImage}
 use Rattle.cdb_files.specs.declared.name_trace.NameCall.{NameCall}
-use Rattle.cdb_files.specs.declared.name_trace.NameCall.TheVariants.{Made, Free, Held}
+use Rattle.cdb_files.specs.declared.name_trace.NameCall.TheVariants.{One, Apart, Made, Free, Held}
 use Rattle.cdb_files.specs.declared.name_trace.NameCall.TheVariants.{Removed, NotRemoved}
 use Rattle.cdb_files.specs.declared.name_trace.NameCall.TheVariants.{Renamed, NotRenamed, Synced}
 
@@ -79,21 +79,32 @@ HasLock name ((Removed, one, other, file) ∷ calls) = (one ≢ name) × HasLock
 HasLock name ((NotRemoved, one, other, file) ∷ calls) = (one ≢ name) × HasLock name calls
 HasLock name ((_, one, other, file) ∷ calls) = HasLock name calls
 
--- a call takes a name from a file, or was to, only if no other create holds that file
-abbrev pub IsLocked : NameCall × List ℕ × List ℕ × Calls → (before : NameCalls) → Type 0
-IsLocked (Removed, gone, other, file) before = HasLock gone before
-IsLocked (NotRemoved, gone, other, file) before = HasLock gone before
-IsLocked (Renamed len, from, to, file) before = HasLock from before
-IsLocked (NotRenamed len fault, from, to, file) before = HasLock from before
-IsLocked (call, one, other, file) before = Unit {0}
+-- two names were seen to be of two files, and no file was made under the first since
+abbrev pub AreApart : (name other : List ℕ) → NameCalls → Type 0
+AreApart name other [] = ⊥
+AreApart name other ((Apart, one, two, file) ∷ calls) =
+    ((one ≡ name) × (two ≡ other)) ⊎ AreApart name other calls
+AreApart name other ((One, one, two, file) ∷ calls) = (one ≢ name) × AreApart name other calls
+AreApart name other ((Made, one, two, file) ∷ calls) = (one ≢ name) × AreApart name other calls
+AreApart name other ((_, one, two, file) ∷ calls) = AreApart name other calls
+
+-- a call takes a name from a file, or was to, only if no other create holds that file; and it gives
+-- the file another name only if the two were seen to be apart
+abbrev pub IsGuarded : NameCall × List ℕ × List ℕ × Calls → (before : NameCalls) → Type 0
+IsGuarded (Removed, gone, other, file) before = HasLock gone before
+IsGuarded (NotRemoved, gone, other, file) before = HasLock gone before
+IsGuarded (Renamed len, from, to, file) before = HasLock from before × AreApart from to before
+IsGuarded (NotRenamed len fault, from, to, file) before =
+    HasLock from before × AreApart from to before
+IsGuarded (call, one, other, file) before = Unit {0}
 
 -- each call since
-abbrev pub EachIsLocked : (since old : NameCalls) → Type 0
-EachIsLocked [] old = Unit {0}
-EachIsLocked (call ∷ since) old = IsLocked call (since ++ old) × EachIsLocked since old
+abbrev pub EachIsGuarded : (since old : NameCalls) → Type 0
+EachIsGuarded [] old = Unit {0}
+EachIsGuarded (call ∷ since) old = IsGuarded call (since ++ old) × EachIsGuarded since old
 
--- no call since took a name from a file that another create holds
-pub record AreLocked (old new : NameCalls) : Type 0 where
+-- each call since was so
+pub record AreGuarded (old new : NameCalls) : Type 0 where
   pub since : NameCalls
   pub calls : new ≡ since ++ old
-  pub each : EachIsLocked since old
+  pub each : EachIsGuarded since old

@@ -2,7 +2,7 @@
 ghost use Rattle.std.specs.Prelude.{◌≡◌, [], IfErr, OnOk, OnErr};
 ghost use Rattle.cdb_form.specs.Views.Pairs.{key_values};
 ghost use Rattle.cdb_make.specs.Views.Maker.{Holds, IsFile};
-ghost use Rattle.cdb_files.specs.Folder.{AreLocked};
+ghost use Rattle.cdb_files.specs.Folder.{AreGuarded};
 ghost use Rattle.cdb_files.specs.Made.{IsFileOf, FailsMaking};
 ghost use Rattle.cdb_files.specs.Replacing.{
   AreOfReplacing,
@@ -118,8 +118,9 @@ pub fn make_file_in<L: Width, N: Names>(
     ensures ok { OnOk result (IsRenamed temporary.now name.now (N.calls names.new)) }
     ensures calls { AreOfReplacing temporary.now name.now (IsFileOf L.WORD records.now)
         (N.calls names.old) (N.calls names.new) }
-    // No call removes or renames a file that another create holds.
-    ensures locked { AreLocked (N.calls names.old) (N.calls names.new) }
+    // No call removes or renames a file that another create holds, and none renames a file that
+    // has both names.
+    ensures guarded { AreGuarded (N.calls names.old) (N.calls names.new) }
     ensures kept { OnErr result (renames (N.calls names.new) ≡ renames (N.calls names.old)) }
     ensures err { IfErr result
         (FailsMaking temporary.now name.now (N.calls names.old) (N.calls names.new)) }

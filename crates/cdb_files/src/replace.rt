@@ -3,7 +3,7 @@ ghost use Rattle.std.specs.Prelude.{◌≡◌, ◌≢◌, ℕ, ◌+◌, ◌↔�
 ghost use Rattle.std.specs.Prelude.{IfOk, IfErr, OnOk, OnErr};
 ghost use Rattle.cdb_store.specs.Calls.{IsSynced, FileImage};
 ghost use Rattle.cdb_store.specs.FileStore.{calls_of};
-ghost use Rattle.cdb_files.specs.Folder.{AreLocked, HasLock, NameCalls};
+ghost use Rattle.cdb_files.specs.Folder.{AreApart, AreGuarded, HasLock, NameCalls};
 ghost use Rattle.cdb_files.specs.declared.name_fault.NameFault.{NameFault};
 ghost use Rattle.cdb_files.specs.declared.name_trace.NameCall.TheVariants.{NotMade};
 ghost use Rattle.cdb_files.specs.declared.replace.ReplaceFault.TheVariants.{Open, NoMemory, Rename};
@@ -76,7 +76,7 @@ fn clear<N: Names, E: Drop>(
     ensures one_name { (temporary.now ≢ name.now) ⊎ (N.calls names.new ≡ N.calls names.old) }
     ensures calls { AreOfReplacing temporary.now name.now (λ _. ⊥) (N.calls names.old)
         (N.calls names.new) }
-    ensures locked { AreLocked (N.calls names.old) (N.calls names.new) }
+    ensures guarded { AreGuarded (N.calls names.old) (N.calls names.new) }
     ensures renames { renames (N.calls names.new) ≡ renames (N.calls names.old) }
     ensures err { IfErr result
         (EndsIn temporary.now name.now (N.calls names.old) (N.calls names.new)) }
@@ -109,8 +109,9 @@ fn make_own<N: Names, E: Drop>(
 ) -> Result<FileStore<N::File>, ReplaceFault<E>>
     ensures calls { AreOfReplacing temporary.now name.now (λ _. ⊥) (N.calls names.old)
         (N.calls names.new) }
-    ensures locked { AreLocked (N.calls names.old) (N.calls names.new) }
+    ensures guarded { AreGuarded (N.calls names.old) (N.calls names.new) }
     ensures lock { OnOk result (HasLock temporary.now (N.calls names.new)) }
+    ensures seen { OnOk result (AreApart temporary.now name.now (N.calls names.new)) }
     ensures renames { renames (N.calls names.new) ≡ renames (N.calls names.old) }
     ensures err { IfErr result (λ e.
         (e ≡ Open) × StopsMaking temporary.now name.now (N.calls names.new)
@@ -122,7 +123,8 @@ fn make_own<N: Names, E: Drop>(
         Err(NameFault::Failed) => return Err(ReplaceFault::Open),
         Err(NameFault::NoMemory) => return Err(ReplaceFault::NoMemory),
     };
-    if names.is_file_of(temporary, name) {
+    let is_database = names.is_file_of(temporary, name);
+    if is_database {
         names.remove_own(temporary, &file);
         return Err(ReplaceFault::Open);
     }
@@ -144,8 +146,9 @@ fn make_apart<N: Names, E: Drop>(
     ensures one_name { (temporary.now ≢ name.now) ⊎ (N.calls names.new ≡ N.calls names.old) }
     ensures calls { AreOfReplacing temporary.now name.now (λ _. ⊥) (N.calls names.old)
         (N.calls names.new) }
-    ensures locked { AreLocked (N.calls names.old) (N.calls names.new) }
+    ensures guarded { AreGuarded (N.calls names.old) (N.calls names.new) }
     ensures lock { OnOk result (HasLock temporary.now (N.calls names.new)) }
+    ensures seen { OnOk result (AreApart temporary.now name.now (N.calls names.new)) }
     ensures renames { renames (N.calls names.new) ≡ renames (N.calls names.old) }
     ensures err { IfErr result
         (EndsIn temporary.now name.now (N.calls names.old) (N.calls names.new)) }
@@ -174,10 +177,11 @@ fn publish<N: Names, E: Drop>(
 ) -> Result<(), ReplaceFault<E>>
     requires settled { IsSynced (N.File.calls file) }
     requires lock { HasLock temporary.now (N.calls names.old) }
+    requires seen { AreApart temporary.now name.now (N.calls names.old) }
     ensures ok { OnOk result (IsRenamed temporary.now name.now (N.calls names.new)) }
     ensures calls { AreOfReplacing temporary.now name.now (FileImage len (N.File.calls file))
         (N.calls names.old) (N.calls names.new) }
-    ensures locked { AreLocked (N.calls names.old) (N.calls names.new) }
+    ensures guarded { AreGuarded (N.calls names.old) (N.calls names.new) }
     ensures sure { OnOk result (LeavesNew name.now (FileImage len (N.File.calls file))
         (N.calls names.new)) }
     ensures renames_ok { OnOk result
@@ -215,8 +219,9 @@ pub fn replace_file<N: Names, B: Builder<FileStore<N::File>> + Drop>(
     // Nothing but the rename touches the name, and it comes after a flush that no write follows.
     ensures calls { AreOfReplacing temporary.now name.now (B.builds builder) (N.calls names.old)
         (N.calls names.new) }
-    // No call removes or renames a file that another create holds.
-    ensures locked { AreLocked (N.calls names.old) (N.calls names.new) }
+    // No call removes or renames a file that another create holds, and none renames a file that
+    // has both names.
+    ensures guarded { AreGuarded (N.calls names.old) (N.calls names.new) }
     ensures ok { OnOk result (IsRenamed temporary.now name.now (N.calls names.new)) }
     ensures renames_ok { OnOk result
         (renames (N.calls names.new) ≡ renames (N.calls names.old) + 1) }

@@ -1,5 +1,5 @@
 // A folder in memory that fails its calls from one on.
-ghost use Rattle.std.specs.Prelude.{◌≡◌, [], ◌∷◌, OnOk, OnErr};
+ghost use Rattle.std.specs.Prelude.{◌≡◌, [], ◌∷◌, IfErr, OnOk};
 ghost use Rattle.cdb_files.specs.Folder.{IsCleared};
 ghost use Rattle.cdb_files.specs.declared.name_trace.NameCall.TheVariants.{Renamed, NotRenamed};
 
@@ -31,6 +31,8 @@ pub struct FakeNames {
     pub bytes: Vec<u8>,
     /// Whether the temporary name has a file.
     pub has_temporary: bool,
+    /// Whether another create holds it.
+    pub is_held: bool,
     /// How many calls were made.
     pub calls: u64,
     alloc: Global,
@@ -50,6 +52,7 @@ impl FakeNames {
             database: Held::Old,
             bytes: Vec::new(alloc),
             has_temporary: true,
+            is_held: false,
             calls: 0,
             alloc,
             first,
@@ -99,9 +102,9 @@ impl Names for FakeNames {
 
     ghost calls = { λ n. n.trace.events };
 
-    fn is_folder(&mut self, name: &str) -> bool {
+    fn is_special(&mut self, name: &str) -> bool {
         let is = self.fails();
-        self.note(&NameCall::Folder(is), name, "");
+        self.note(&NameCall::Special(is), name, "");
         is
     }
 
@@ -112,18 +115,36 @@ impl Names for FakeNames {
         is
     }
 
-    fn remove_stale(&mut self, name: &str, _other: &str) {
+    fn remove_stale(&mut self, name: &str, _other: &str) -> bool {
+        if self.is_held {
+            self.note(&NameCall::Held, name, "");
+            return false;
+        }
+        self.note(&NameCall::Free, name, "");
         self.take(name);
+        true
     }
 
-    fn make_new(&mut self, name: &str) -> Result<FakeFile, NameFault> {
+    fn make_new(&mut self, name: &str, _other: &str) -> Result<FakeFile, NameFault> {
         if self.fails() || self.has_temporary {
-            self.note(&NameCall::NotMade, name, "");
+            self.note(&NameCall::NotMade(NameFault::Failed), name, "");
             return Err(NameFault::Failed);
         }
         self.has_temporary = true;
         self.note(&NameCall::Made, name, "");
+        self.note(&NameCall::Free, name, "");
         Ok(FakeFile::made(Vec::new(self.alloc), self.file_first, self.count))
+    }
+
+    fn allow(&mut self, name: &str, _file: &FakeFile, other: &str) -> bool {
+        let is_allowed = !self.fails();
+        let call = if is_allowed {
+            NameCall::Allowed
+        } else {
+            NameCall::NotAllowed
+        };
+        self.note(&call, name, other);
+        is_allowed
     }
 
     fn remove_own(&mut self, name: &str, _file: &FakeFile) {
@@ -139,12 +160,13 @@ impl Names for FakeNames {
     ) -> Result<(), Unrenamed<FakeFile>>
         ensures ok { OnOk result (self.new.trace.events
             ≡ (Renamed len, name.now, other.now, file.trace.events) ∷ self.old.trace.events) }
-        ensures err { OnErr result (self.new.trace.events
-            ≡ (NotRenamed len, name.now, other.now, file.trace.events) ∷ self.old.trace.events) }
+        ensures err { IfErr result (λ u. self.new.trace.events
+            ≡ (NotRenamed len u.fault, name.now, other.now, file.trace.events)
+            ∷ self.old.trace.events) }
     {
         let fails = self.fails();
         let call = if fails {
-            NameCall::NotRenamed(len)
+            NameCall::NotRenamed(len, NameFault::Failed)
         } else {
             NameCall::Renamed(len)
         };

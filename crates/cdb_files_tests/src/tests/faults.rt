@@ -1,12 +1,13 @@
 // Each call on a name, and each on the file, fails in turn, alone and with all that come after it.
 use super::fake_names::{DATABASE, FakeNames, Held};
-use cdb_files::make_file_in;
+use cdb_files::{FileFault, make_file_in};
 use cdb_form::{Narrow, Record};
 use std::alloc::Global;
 use std::test::Fail;
 
-/// How many calls on names a make takes: folder, compare, remove, make, rename, sync.
-const NAME_CALLS: u64 = 6;
+/// How many calls on names a make takes that can fail: special, compare, remove, make, compare,
+/// allow, rename, sync.
+const NAME_CALLS: u64 = 8;
 
 /// More calls than a make takes of the file.
 const FILE_CALLS: u64 = 40;
@@ -46,7 +47,7 @@ fn each_call_on_a_name_fails(rt: HostRuntime) -> Result<(), Fail> {
                 "db.tmp",
                 &records,
             );
-            assert!(rt; made.is_ok() == (first >= 5), "{first} {count}");
+            assert!(rt; made.is_ok() == (first >= 7), "{first} {count}");
             assert!(rt; is_right(&names, made.is_ok()), "{first} {count}");
         }
     }
@@ -87,5 +88,22 @@ fn bad_names_are_refused_before_anything_is_touched(rt: HostRuntime) -> Result<(
         );
         assert!(rt; made.is_err() && names.calls == 0, "{name}");
     }
+    Ok(())
+}
+
+#[test]
+fn a_temporary_file_that_another_create_holds_is_left(rt: HostRuntime) -> Result<(), Fail> {
+    let records = two_records(rt.alloc())?;
+    let mut names = FakeNames::new(rt.alloc(), 1 << 40, 1, 1 << 40);
+    names.is_held = true;
+    let made = make_file_in::<Narrow, FakeNames>(
+        &mut names,
+        rt.alloc(),
+        DATABASE,
+        "db.tmp",
+        &records,
+    );
+    assert!(rt; made.err() == Some(FileFault::Open));
+    assert!(rt; names.database == Held::Old && names.has_temporary);
     Ok(())
 }

@@ -8,16 +8,16 @@ pub returns-then-is_special-clause-calls : goal.returns-then-is_special-clause-c
 returns-then-is_special-clause-calls g c =
     one_more _ (Special c.is_special.result, c.args.name.now, [], []) (none_yet _) c.is_special.ensures tt
 
-pub returns-then-is_special-clause-locked : goal.returns-then-is_special-clause-locked
-returns-then-is_special-clause-locked g c =
+pub returns-then-is_special-clause-guarded : goal.returns-then-is_special-clause-guarded
+returns-then-is_special-clause-guarded g c =
     lock_more _ (Special c.is_special.result, c.args.name.now, [], []) (lock_none _) c.is_special.ensures tt
 
 pub returns-then-is_file_of-clause-calls : goal.returns-then-is_file_of-clause-calls
 returns-then-is_file_of-clause-calls g c =
     told _ c.is_file_of.result (one_more _ (Special c.is_special.result, c.args.name.now, [], []) (none_yet _) c.is_special.ensures tt) c.is_file_of.ensures
 
-pub returns-then-is_file_of-clause-locked : goal.returns-then-is_file_of-clause-locked
-returns-then-is_file_of-clause-locked g c =
+pub returns-then-is_file_of-clause-guarded : goal.returns-then-is_file_of-clause-guarded
+returns-then-is_file_of-clause-guarded g c =
     lock_told c.args.temporary.now c.args.name.now _ c.is_file_of.result (lock_more _ (Special c.is_special.result, c.args.name.now, [], []) (lock_none _) c.is_special.ensures tt) c.is_file_of.ensures
 
 pub returns-then-is_file_of-clause-err : goal.returns-then-is_file_of-clause-err
@@ -29,8 +29,8 @@ returns-then-remove_stale-clause-calls g c =
     let asked = g.N.Names.calls c.is_file_of.new.self in
     cleared _ (one_more ((Free, c.args.temporary.now, [], []) ∷ asked) (Free, c.args.temporary.now, [], []) (told asked c.is_file_of.result (one_more _ (Special c.is_special.result, c.args.name.now, [], []) (none_yet _) c.is_special.ensures tt) c.is_file_of.ensures) refl tt) (c.remove_stale.ensures.free c.if-remove_stale.true)
 
-pub returns-then-remove_stale-clause-locked : goal.returns-then-remove_stale-clause-locked
-returns-then-remove_stale-clause-locked g c =
+pub returns-then-remove_stale-clause-guarded : goal.returns-then-remove_stale-clause-guarded
+returns-then-remove_stale-clause-guarded g c =
     let asked = g.N.Names.calls c.is_file_of.new.self in
     lock_cleared _ (lock_more ((Free, c.args.temporary.now, [], []) ∷ asked) (Free, c.args.temporary.now, [], []) (lock_told c.args.temporary.now c.args.name.now asked c.is_file_of.result (lock_more _ (Special c.is_special.result, c.args.name.now, [], []) (lock_none _) c.is_special.ensures tt) c.is_file_of.ensures) refl tt) (inl refl) (c.remove_stale.ensures.free c.if-remove_stale.true)
 
@@ -38,8 +38,8 @@ pub returns-else-remove_stale-clause-calls : goal.returns-else-remove_stale-clau
 returns-else-remove_stale-clause-calls g c =
     one_more _ (Held, c.args.temporary.now, [], []) (told _ c.is_file_of.result (one_more _ (Special c.is_special.result, c.args.name.now, [], []) (none_yet _) c.is_special.ensures tt) c.is_file_of.ensures) (c.remove_stale.ensures.held c.if-remove_stale.false) tt
 
-pub returns-else-remove_stale-clause-locked : goal.returns-else-remove_stale-clause-locked
-returns-else-remove_stale-clause-locked g c =
+pub returns-else-remove_stale-clause-guarded : goal.returns-else-remove_stale-clause-guarded
+returns-else-remove_stale-clause-guarded g c =
     lock_more _ (Held, c.args.temporary.now, [], []) (lock_told c.args.temporary.now c.args.name.now _ c.is_file_of.result (lock_more _ (Special c.is_special.result, c.args.name.now, [], []) (lock_none _) c.is_special.ensures tt) c.is_file_of.ensures) (c.remove_stale.ensures.held c.if-remove_stale.false) tt
 
 pub returns-else-remove_stale-clause-err : goal.returns-else-remove_stale-clause-err

@@ -20,12 +20,12 @@ returns-in-Err-clause-calls g c =
     let file = g.N.File.RawFile.calls c.args.file in
     cleared {mid = g.N.Names.calls c.rename.new.self} _ (one_more _ (NotRenamed c.args.len _, c.args.temporary.now, c.args.name.now, file) (none_yet (g.N.Names.calls c.args.names.now)) c.in-Err.ensures.err (ready c.args.len file c.requires.settled (λ b is. is))) c.remove_own.ensures
 
-pub returns-in-Ok-clause-locked : goal.returns-in-Ok-clause-locked
-returns-in-Ok-clause-locked g c =
+pub returns-in-Ok-clause-guarded : goal.returns-in-Ok-clause-guarded
+returns-in-Ok-clause-guarded g c =
     let file = g.N.File.RawFile.calls c.args.file in
-    lock_synced {mid = g.N.Names.calls c.rename.new.self} c.args.name.now _ c.sync_folder.result (lock_more _ (Renamed c.args.len, c.args.temporary.now, c.args.name.now, file) (lock_none (g.N.Names.calls c.args.names.now)) c.in-Ok.ensures.ok c.requires.lock) c.sync_folder.ensures
+    lock_synced {mid = g.N.Names.calls c.rename.new.self} c.args.name.now _ c.sync_folder.result (lock_more _ (Renamed c.args.len, c.args.temporary.now, c.args.name.now, file) (lock_none (g.N.Names.calls c.args.names.now)) c.in-Ok.ensures.ok (c.requires.lock, c.requires.seen)) c.sync_folder.ensures
 
-pub returns-in-Err-clause-locked : goal.returns-in-Err-clause-locked
-returns-in-Err-clause-locked g c =
+pub returns-in-Err-clause-guarded : goal.returns-in-Err-clause-guarded
+returns-in-Err-clause-guarded g c =
     let file = g.N.File.RawFile.calls c.args.file in
-    lock_cleared {mid = g.N.Names.calls c.rename.new.self} _ (lock_more _ (NotRenamed c.args.len _, c.args.temporary.now, c.args.name.now, file) (lock_none (g.N.Names.calls c.args.names.now)) c.in-Err.ensures.err c.requires.lock) (subst (λ (cs : NameCalls). HasLock c.args.temporary.now cs) (sym c.in-Err.ensures.err) c.requires.lock) c.remove_own.ensures
+    lock_cleared {mid = g.N.Names.calls c.rename.new.self} _ (lock_more _ (NotRenamed c.args.len _, c.args.temporary.now, c.args.name.now, file) (lock_none (g.N.Names.calls c.args.names.now)) c.in-Err.ensures.err (c.requires.lock, c.requires.seen)) (subst (λ (cs : NameCalls). HasLock c.args.temporary.now cs) (sym c.in-Err.ensures.err) c.requires.lock) c.remove_own.ensures

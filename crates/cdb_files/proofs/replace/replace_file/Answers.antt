@@ -45,9 +45,9 @@ pub returns-in_err-empty-clause-any_moment : goal.returns-in_err-empty-clause-an
 returns-in_err-empty-clause-any_moment g c =
     at_each_or_none c.make_apart.ensures.one_name (weaker (λ b none. absurd none) c.make_apart.ensures.calls)
 
-pub returns-in-Ok-clause-locked : goal.returns-in-Ok-clause-locked
-returns-in-Ok-clause-locked g c = lock_on c.make_apart.ensures.locked c.publish.ensures.locked
+pub returns-in-Ok-clause-guarded : goal.returns-in-Ok-clause-guarded
+returns-in-Ok-clause-guarded g c = lock_on c.make_apart.ensures.guarded c.publish.ensures.guarded
 
-pub returns-in-Err-clause-locked : goal.returns-in-Err-clause-locked
-returns-in-Err-clause-locked g c =
-    lock_cleared _ c.make_apart.ensures.locked c.in_ok-empty.ensures.lock c.remove_own.ensures
+pub returns-in-Err-clause-guarded : goal.returns-in-Err-clause-guarded
+returns-in-Err-clause-guarded g c =
+    lock_cleared _ c.make_apart.ensures.guarded c.in_ok-empty.ensures.lock c.remove_own.ensures
