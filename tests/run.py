@@ -49,6 +49,8 @@ def parts_of(program, is_gate):
         Part("tests/cli/examples.py", (program,)),
         Part("tests/cli/kills.py", (program,)),
         Part("tests/cli/taken.py", (program,)),
+        Part("tests/cli/locked.py", (program,)),
+        Part("tests/cli/permissions.py", (program,)),
         Part("tests/cli/amends.py", (program,)),
         Part("tests/package/version.py"),
         Part("tests/package/run.py", (program,), (package,)),

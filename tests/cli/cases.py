@@ -28,6 +28,7 @@ from files import (
     UNFINISHED_FILE,
     WIDE_FILE,
     file_of,
+    text_of,
     two_with,
     wide_words,
     words,
@@ -346,8 +347,44 @@ CASES = {
         ["-c", "-t", "y", "x"], TWO_TEXT, b"", NO_FILE, 111, {"x": Link("y"), "y": ONE_FILE}
     ),
     "a temporary file spelled otherwise, where there is no database": case(
-        ["-c", "-t", "./x", "x"], TWO_TEXT, left={"x": TWO_FILE}
+        ["-c", "-t", "./x", "x"], TWO_TEXT, b"", NO_FILE, 111
     ),
+    "a database that is a link to its temporary file, where there is none": keeps(
+        ["-c", "x"], NO_FILE, TWO_TEXT, {"x": Link("x.tmp")}
+    ),
+    "a database that is a pipe": keeps(["-c", "x"], NO_NAME, TWO_TEXT, {"x": PIPE}),
+    "a database that is a link to a pipe": keeps(
+        ["-c", "x"], NO_NAME, TWO_TEXT, {"p": PIPE, "x": Link("p")}
+    ),
+    "a database that is a link to a folder": keeps(
+        ["-c", "x"], NO_NAME, TWO_TEXT, {"f": FOLDER, "x": Link("f")}
+    ),
+    "a database that is a link": case(
+        ["-c", "x"], TWO_TEXT, files={"y": b"kept", "x": Link("y")}, left={"y": b"kept", "x": TWO_FILE}
+    ),
+    "in place, a link": keeps(
+        ["-c", "-t", "-", "x"], NO_FILE, TWO_TEXT, {"y": b"kept", "x": Link("y")}
+    ),
+    "in place, a link to nothing": keeps(
+        ["-c", "-t", "-", "x"], NO_FILE, TWO_TEXT, {"x": Link("y")}
+    ),
+    "in place, an input that is a link to the database": keeps(
+        ["-cm", "-t", "-", "x", "in"], NO_FILE, b"", {"x": b"a b\n", "in": Link("x")}
+    ),
+    "in place, a database that is a link to an input": keeps(
+        ["-cm", "-t", "-", "x", "in"], NO_FILE, b"", {"in": b"a b\n", "x": Link("in")}
+    ),
+    "a temporary file that is a link to an input": case(
+        ["-c", "x", "in"], files={"in": TWO_TEXT, "x.tmp": Link("in")},
+        left={"in": TWO_TEXT, "x": TWO_FILE},
+    ),
+    "replacing on output, one key twice": case(
+        ["-cr", "-"], text_of([(b"a", b"1"), (b"a", b"2")]), file_of([(b"a", b"2")])
+    ),
+    "inserting on output, one key twice": case(
+        ["-cu", "-"], text_of([(b"a", b"1"), (b"a", b"2")]), file_of([(b"a", b"1")])
+    ),
+    "a base that is not there": keeps(["-c", "-b", "none", "x"], NO_FILE, b"\n", {"x": TWO_FILE}),
     "in place, of a shorter database": creates(["-c", "-t-", "x"], EMPTY_FILE, b"\n"),
     "in place, a faulty text": case(
         ["-c", "-t", "-", "x"], b"*", b"", f"input 1: byte 0: {NO_RECORD}", 111,

@@ -26,6 +26,7 @@ printf 'abuse@example.org root\n' > postfix/virtual
 printf 'postmaster root\nabuse      root\n' > aliases
 printf '+4,2:+one->10\n\n' | cdb -c data.cdb
 cp data.cdb primary/data.cdb
+printf '+5,4:abuse->kris\n+10,4:postmaster->kris\n\n' | cdb -c map.cdb
 printf '+7,5:old.net->carol\n\n' | cdb -c owners.cdb
 host=old.net
 """,
@@ -33,13 +34,20 @@ host=old.net
 }
 # The folders of the pages' own machines, in the folder of a test.
 MOVED = [("/etc/postfix/", "postfix/"), ("primary:/service/tinydns/root/", "primary/")]
+# The statistics of a database of one record.
+STATISTICS = """records: 1
+key lengths least/average/greatest: 4/4/4
+value lengths least/average/greatest: 2/2/2
+tables/entries/collisions: 1/1/0
+table sizes least/average/greatest: 2/2/2
+""" + "".join(f"distance {n}: {int(n == 0)}\n" for n in range(10)) + "distance 10 or more: 0\n"
 # What each block without prompts writes, in order; each page ends with what WHOLE shows.
 WRITTEN = {
     "README.md": [None],
     "docs/GUIDE.md": [
         None,
         "root\n",
-        "sound\nrecords 1\n",
+        "sound\n" + STATISTICS,
         "",
         "old.net: carol\n",
         "",

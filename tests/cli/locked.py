@@ -1,0 +1,168 @@
+#!/usr/bin/env python3
+"""Runs several creates of one database at once, and kills some.
+
+    tests/cli/locked.py PROGRAM
+
+A create that finds the temporary file of another that is still at work is to end with `file cannot be
+opened` and touch nothing. The file of one that was killed is removed. Whatever is killed, the
+database is one of the whole files, and of a create that answered 0 it was the file.
+"""
+
+import os
+import random
+import signal
+import subprocess
+import sys
+import tempfile
+import time
+
+from files import TWO_FILE, TWO_TEXT, file_of, text_of
+
+OPEN = b"cdb: file cannot be opened\n"
+OLD = file_of([(b"old", b"database")])
+ROUNDS = 200
+CREATES = 3
+# How long the creates of a round are left alone at most before one is killed, in seconds.
+LONGEST = 0.02
+PIPED = dict(stdin=subprocess.PIPE, stderr=subprocess.PIPE)
+
+
+def read(path):
+    """The bytes of a file, or None if it is not there."""
+    try:
+        with open(path, "rb") as file:
+            return file.read()
+    except FileNotFoundError:
+        return None
+
+
+def started(program, folder):
+    """A create that waits for its text, once its temporary file is there."""
+    process = subprocess.Popen([program, "-c", "x"], cwd=folder, **PIPED)
+    path = os.path.join(folder, "x.tmp")
+    for _ in range(1000):
+        # The permissions are given after the lock is taken.
+        if os.path.exists(path) and os.stat(path).st_mode & 0o777 == 0o644:
+            return process
+        time.sleep(0.01)
+    process.kill()
+    raise TimeoutError("no temporary file")
+
+
+def created(program, folder, text):
+    """The status and the errors of a create."""
+    words = [program, "-c", "x"]
+    done = subprocess.run(words, cwd=folder, input=text, stderr=subprocess.PIPE, check=False)
+    return done.returncode, done.stderr
+
+
+def ended(process, text):
+    """The status and the errors of a create that gets its text."""
+    _, errors = process.communicate(text, timeout=60)
+    return process.returncode, errors
+
+
+def in_folder(what):
+    """Calls it with a folder that has an old database, which all may read."""
+    with tempfile.TemporaryDirectory() as folder:
+        path = os.path.join(folder, "x")
+        with open(path, "wb") as file:
+            file.write(OLD)
+        os.chmod(path, 0o644)
+        return what(folder, lambda name: read(os.path.join(folder, name)))
+
+
+def second_is_refused(program, text):
+    """A second create, of a whole text or of a cut one, while the first waits for its own."""
+
+    def run(folder, read_file):
+        first = started(program, folder)
+        second = created(program, folder, text)
+        between = read_file("x"), read_file("x.tmp") is not None
+        answer = ended(first, TWO_TEXT)
+        return second, between, answer, read_file("x"), read_file("x.tmp")
+
+    wanted = ((111, OPEN), (OLD, True), (0, b""), TWO_FILE, None)
+    return in_folder(run) == wanted
+
+
+def second_is_killed(program):
+    """A second create that is killed takes nothing from the first."""
+
+    def run(folder, read_file):
+        first = started(program, folder)
+        second = subprocess.Popen([program, "-c", "x"], cwd=folder, **PIPED)
+        second.kill()
+        second.communicate()
+        return ended(first, TWO_TEXT), read_file("x"), read_file("x.tmp")
+
+    return in_folder(run) == ((0, b""), TWO_FILE, None)
+
+
+def first_is_killed(program):
+    """The file of a create that was killed is removed by the next."""
+
+    def run(folder, read_file):
+        first = started(program, folder)
+        first.kill()
+        first.communicate()
+        is_left = read_file("x.tmp") is not None
+        return is_left, created(program, folder, TWO_TEXT), read_file("x"), read_file("x.tmp")
+
+    return in_folder(run) == (True, (0, b""), TWO_FILE, None)
+
+
+def begun(program, folder, text):
+    """A create of some text, which it reads from a file."""
+    given = tempfile.TemporaryFile()
+    given.write(text)
+    given.seek(0)
+    with given:
+        how = dict(stdin=given, stderr=subprocess.DEVNULL)
+        return subprocess.Popen([program, "-c", "x"], cwd=folder, **how)
+
+
+def round_is_right(program, chosen):
+    """Whether creates at once, some of them killed, leave a file that one of them published."""
+    texts = [[(b"key%d" % n, chosen.randbytes(chosen.randint(0, 100_000)))] for n in range(CREATES)]
+    files = [file_of(records) for records in texts]
+
+    def run(folder, read_file):
+        running = [begun(program, folder, text_of(records)) for records in texts]
+        time.sleep(chosen.uniform(0, LONGEST))
+        killed = chosen.sample(range(CREATES), chosen.randint(0, 2))
+        for n in killed:
+            running[n].kill()
+        statuses = [process.wait(timeout=60) for process in running]
+        published = [files[n] for n in range(CREATES) if statuses[n] == 0]
+        # One that was killed may have come to the rename.
+        unknown = [files[n] for n in range(CREATES) if statuses[n] == -signal.SIGKILL]
+        found = read_file("x")
+        return found in published + unknown or (not published and found == OLD)
+
+    return in_folder(run)
+
+
+def main():
+    if len(sys.argv) != 2:
+        sys.exit(__doc__)
+    program = os.path.abspath(sys.argv[1])
+    os.umask(0o022)
+    chosen = random.Random(39)
+    held = {
+        "a second create of a whole text": second_is_refused(program, TWO_TEXT),
+        "a second create of a cut text": second_is_refused(program, TWO_TEXT[:-3]),
+        "a second create that is killed": second_is_killed(program),
+        "a first create that is killed": first_is_killed(program),
+    }
+    for n in range(ROUNDS):
+        held[f"round {n}"] = round_is_right(program, chosen)
+    wrong = [name for name, holds in held.items() if not holds]
+    for name in wrong[:5]:
+        print(name)
+    print(f"{len(held) - len(wrong)} passed, {len(wrong)} failed")
+    sys.exit(1 if wrong else 0)
+
+
+if __name__ == "__main__":
+    main()
