@@ -7,7 +7,7 @@ use Rattle.cdb_files.specs.declared.name_fault.NameFault.{NameFault}
 use Rattle.cdb_files.specs.declared.name_fault.NameFault.TheVariants.{Failed}
 use Rattle.cdb_files.specs.declared.name_trace.NameCall.TheVariants.{Free, Held, Made, NotMade}
 use Rattle.cdb_files.specs.Replacing.{AreOfReplacing, StopsMaking}
-use Rattle.cdb_files.proofs.Replacing.{NameEvent, none_yet, one_more}
+use Rattle.cdb_files.proofs.Replacing.{NameEvent, none_yet, one_more, cleared}
 
 pub lock_none : (calls : NameCalls) → AreGuarded calls calls
 lock_none calls = record { since = []; calls = refl; each = tt }
@@ -71,28 +71,6 @@ pub keeps_allowed : {mid : NameCalls} (t n one : List ℕ) (new : NameCalls) (r 
 keeps_allowed t n one new true has is = subst (λ (cs : NameCalls). HasLock one cs) (sym is) has
 keeps_allowed t n one new false has is = subst (λ (cs : NameCalls). HasLock one cs) (sym is) has
 
--- no file was made, or it was another's at once
-abbrev pub NoneMade : (t : List ℕ) (old new : NameCalls) → NameFault → Type 0
-NoneMade t old new fault = (new ≡ (NotMade fault, t, [], []) ∷ old)
-    ⊎ (fault ≡ Failed) × (new ≡ (Held, t, [], []) ∷ (Made, t, [], []) ∷ old)
-
-pub none_made_calls : {t n : List ℕ} {whole : List ℕ → Type 0} {old : NameCalls} (new : NameCalls) (fault : NameFault)
-    → NoneMade t old new fault → AreOfReplacing t n whole old new
-none_made_calls {t = t} {old = old} new fault (inl is) = one_more new (NotMade fault, t, [], []) (none_yet old) is tt
-none_made_calls {t = t} {old = old} new fault (inr is) =
-    one_more new (Held, t, [], []) (one_more ((Made, t, [], []) ∷ old) (Made, t, [], []) (none_yet old) refl refl) is.1 tt
-
-pub none_made_locked : {t : List ℕ} {old : NameCalls} (new : NameCalls) (fault : NameFault)
-    → NoneMade t old new fault → AreGuarded old new
-none_made_locked {t = t} {old = old} new fault (inl is) = lock_more new (NotMade fault, t, [], []) (lock_none old) is tt
-none_made_locked {t = t} {old = old} new fault (inr is) =
-    lock_more new (Held, t, [], []) (lock_more ((Made, t, [], []) ∷ old) (Made, t, [], []) (lock_none old) refl tt) is.1 tt
-
-pub none_made_stops : {t : List ℕ} {old : NameCalls} (n : List ℕ) (new : NameCalls) → NoneMade t old new Failed
-    → StopsMaking t n new
-none_made_stops {old = old} n new (inl is) = (old, inr (inr (inl is)))
-none_made_stops {t = t} {old = old} n new (inr is) = ((Made, t, [], []) ∷ old, inr (inl is.1))
-
 -- a new file, with its lock
 pub made_calls : {t n : List ℕ} {whole : List ℕ → Type 0} {old : NameCalls} (new : NameCalls)
     → new ≡ (Free, t, [], []) ∷ (Made, t, [], []) ∷ old → AreOfReplacing t n whole old new
@@ -107,6 +85,32 @@ made_locked {t = t} {old = old} new is =
 pub made_has : {t : List ℕ} {old : NameCalls} (new : NameCalls)
     → new ≡ (Free, t, [], []) ∷ (Made, t, [], []) ∷ old → HasLock t new
 made_has {t = t} new is = subst (λ (cs : NameCalls). HasLock t cs) (sym is) (inl refl)
+
+-- no file was made, or it was another's at once
+abbrev pub NoneMade : (t : List ℕ) (old new : NameCalls) → NameFault → Type 0
+NoneMade t old new fault = (new ≡ (NotMade fault, t, [], []) ∷ old)
+    ⊎ (fault ≡ Failed) × ((new ≡ (Held, t, [], []) ∷ (Made, t, [], []) ∷ old)
+    ⊎ IsCleared t ((Free, t, [], []) ∷ (Made, t, [], []) ∷ old) new)
+
+pub none_made_calls : {t n : List ℕ} {whole : List ℕ → Type 0} {old : NameCalls} (new : NameCalls) (fault : NameFault)
+    → NoneMade t old new fault → AreOfReplacing t n whole old new
+none_made_calls {t = t} {old = old} new fault (inl is) = one_more new (NotMade fault, t, [], []) (none_yet old) is tt
+none_made_calls {t = t} {old = old} new fault (inr (same, inl is)) =
+    one_more new (Held, t, [], []) (one_more ((Made, t, [], []) ∷ old) (Made, t, [], []) (none_yet old) refl refl) is tt
+none_made_calls {t = t} {old = old} new fault (inr (same, inr is)) = cleared new (made_calls _ refl) is
+
+pub none_made_locked : {t : List ℕ} {old : NameCalls} (new : NameCalls) (fault : NameFault)
+    → NoneMade t old new fault → AreGuarded old new
+none_made_locked {t = t} {old = old} new fault (inl is) = lock_more new (NotMade fault, t, [], []) (lock_none old) is tt
+none_made_locked {t = t} {old = old} new fault (inr (same, inl is)) =
+    lock_more new (Held, t, [], []) (lock_more ((Made, t, [], []) ∷ old) (Made, t, [], []) (lock_none old) refl tt) is tt
+none_made_locked {t = t} {old = old} new fault (inr (same, inr is)) = lock_cleared new (made_locked _ refl) (inl refl) is
+
+pub none_made_stops : {t : List ℕ} {old : NameCalls} (n : List ℕ) (new : NameCalls) → NoneMade t old new Failed
+    → StopsMaking t n new
+none_made_stops {old = old} n new (inl is) = (old, inr (inr (inl is)))
+none_made_stops {t = t} {old = old} n new (inr (same, inl is)) = ((Made, t, [], []) ∷ old, inr (inl is))
+none_made_stops {t = t} {old = old} n new (inr (same, inr is)) = ((Made, t, [], []) ∷ old, inr (inr (inr (inl is))))
 
 pub apart_allowed : {mid : NameCalls} (t n : List ℕ) (new : NameCalls) (r : Bool) → AreApart t n mid
     → new ≡ (cond r Allowed NotAllowed, t, n, []) ∷ mid → AreApart t n new

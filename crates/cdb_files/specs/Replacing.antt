@@ -5,7 +5,7 @@ use Rattle.cdb_store.specs.Calls.{Calls, IsSynced, FileImage}
 use Rattle.cdb_files.specs.declared.name_trace.NameCall.{NameCall}
 use Rattle.cdb_files.specs.declared.name_fault.NameFault.{NameFault}
 use Rattle.cdb_files.specs.declared.name_fault.NameFault.TheVariants as name_fault
-use Rattle.cdb_files.specs.declared.name_trace.NameCall.TheVariants.{Special, One, Held, Made, NotMade}
+use Rattle.cdb_files.specs.declared.name_trace.NameCall.TheVariants.{Special, One, Free, Held, Made, NotMade}
 use Rattle.cdb_files.specs.declared.name_trace.NameCall.TheVariants.{NotAllowed}
 use Rattle.cdb_files.specs.declared.name_trace.NameCall.TheVariants.{Removed, NotRemoved, Renamed}
 use Rattle.cdb_files.specs.declared.name_trace.NameCall.TheVariants.{NotRenamed, Synced, NotSynced}
@@ -66,12 +66,14 @@ FailsRename temporary name calls fault = (len : ℕ) × (file : Calls) × (befor
     × IsCleared temporary ((NotRenamed len fault, temporary, name, file) ∷ before) calls
 
 -- no file was made: another create holds one of the temporary name, or that name and the other are
--- of one file, or the call failed, or the new file did not get its permissions
+-- of one file, or the call failed, or the name was not seen to have the new file, or that did not
+-- get its permissions
 abbrev pub StopsMaking : (temporary name : List ℕ) → NameCalls → Type 0
 StopsMaking temporary name calls = (before : NameCalls)
     × ((calls ≡ (One, temporary, name, []) ∷ before)
     ⊎ (calls ≡ (Held, temporary, [], []) ∷ before)
     ⊎ (calls ≡ (NotMade name_fault.Failed, temporary, [], []) ∷ before)
+    ⊎ IsCleared temporary ((Free, temporary, [], []) ∷ before) calls
     ⊎ IsCleared temporary ((One, temporary, name, []) ∷ before) calls
     ⊎ IsCleared temporary ((NotAllowed, temporary, name, []) ∷ before) calls)
 

@@ -67,15 +67,17 @@ pub trait Names {
     /// Makes a file under a name that nothing has, reads and writes it, and takes its lock. It
     /// follows no link. If the other name has a regular file, only this user may open the new one.
     ///
-    /// `Failed`: it cannot be made, or another create took its lock or the name from it; that one
-    /// removes it.
+    /// `Failed`: it cannot be made; or another create took its lock, and removes it; or the name is
+    /// not seen to have it, and is taken from it if it has.
     fn make_new(&mut self, name: &str, other: &str) -> Result<Self::File, NameFault>
         ensures ok { OnOk result (calls self.new
             ≡ (Free, name.now, [], []) ∷ (Made, name.now, [], []) ∷ calls self.old) }
         ensures err { IfErr result (λ f.
             (calls self.new ≡ (NotMade f, name.now, [], []) ∷ calls self.old)
-            ⊎ (f ≡ NameFault.Failed) × (calls self.new
-            ≡ (Held, name.now, [], []) ∷ (Made, name.now, [], []) ∷ calls self.old)) }
+            ⊎ (f ≡ NameFault.Failed) × ((calls self.new
+            ≡ (Held, name.now, [], []) ∷ (Made, name.now, [], []) ∷ calls self.old)
+            ⊎ IsCleared name.now ((Free, name.now, [], []) ∷ (Made, name.now, [], [])
+            ∷ calls self.old) (calls self.new))) }
         ensures file { IfOk result (λ f. Self.File.calls f ≡ (FileMade, []) ∷ []) };
 
     /// Gives the file of a name the permission bits of the other name's file, if that is a regular

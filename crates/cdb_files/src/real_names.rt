@@ -181,15 +181,16 @@ impl<'a, R: Files<File = File>> Names for RealNames<'a, R> {
             return Err(NameFault::Failed);
         };
         self.note(&NameCall::Made, name, "");
-        if is_free(file.try_lock())
-            && is_one(&fs::symlink_metadata(self.rt, name), &file.metadata())
-        {
-            self.note(&NameCall::Free, name, "");
-            Ok(file)
-        } else {
+        if !is_free(file.try_lock()) {
             self.note(&NameCall::Held, name, "");
-            Err(NameFault::Failed)
+            return Err(NameFault::Failed);
         }
+        self.note(&NameCall::Free, name, "");
+        if is_one(&fs::symlink_metadata(self.rt, name), &file.metadata()) {
+            return Ok(file);
+        }
+        self.remove_own(name, &file);
+        Err(NameFault::Failed)
     }
 
     fn allow(&mut self, name: &str, file: &RealFile, other: &str) -> bool {

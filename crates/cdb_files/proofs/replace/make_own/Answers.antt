@@ -32,7 +32,7 @@ returns-then-is_database-clause-guarded g c =
 pub returns-then-is_database-clause-err : goal.returns-then-is_database-clause-err
 returns-then-is_database-clause-err g c =
     let is = c.is_file_of-is_database.ensures ∙ ap (λ r. (cond r One Apart, c.args.temporary.now, c.args.name.now, []) ∷ g.N.Names.calls c.make_new.new.self) c.if-is_database.true in
-    inl (refl, (g.N.Names.calls c.make_new.new.self, inr (inr (inr (inl (subst (λ (cs : NameCalls). IsCleared c.args.temporary.now cs (g.N.Names.calls c.remove_own.new.self)) is c.remove_own.ensures))))))
+    inl (refl, (g.N.Names.calls c.make_new.new.self, inr (inr (inr (inr (inl (subst (λ (cs : NameCalls). IsCleared c.args.temporary.now cs (g.N.Names.calls c.remove_own.new.self)) is c.remove_own.ensures)))))))
 
 pub returns-then-not-allow-clause-calls : goal.returns-then-not-allow-clause-calls
 returns-then-not-allow-clause-calls g c =
@@ -45,7 +45,7 @@ returns-then-not-allow-clause-guarded g c =
 pub returns-then-not-allow-clause-err : goal.returns-then-not-allow-clause-err
 returns-then-not-allow-clause-err g c =
     let is = c.allow.ensures ∙ ap (λ r. (cond r Allowed NotAllowed, c.args.temporary.now, c.args.name.now, []) ∷ g.N.Names.calls c.is_file_of-is_database.new.self) c.if-not-allow.true in
-    inl (refl, (g.N.Names.calls c.is_file_of-is_database.new.self, inr (inr (inr (inr (subst (λ (cs : NameCalls). IsCleared c.args.temporary.now cs (g.N.Names.calls c.remove_own-then-not-allow.new.self)) is c.remove_own-then-not-allow.ensures))))))
+    inl (refl, (g.N.Names.calls c.is_file_of-is_database.new.self, inr (inr (inr (inr (inr (subst (λ (cs : NameCalls). IsCleared c.args.temporary.now cs (g.N.Names.calls c.remove_own-then-not-allow.new.self)) is c.remove_own-then-not-allow.ensures)))))))
 
 pub returns-clause-calls : goal.returns-clause-calls
 returns-clause-calls g c =
