@@ -1,4 +1,5 @@
-use Rattle.std.proofs.Common.{rules, ◌≢◌, IfErr}
+use Rattle.std.proofs.lemmas.Grind.{common_steps}
+use Rattle.std.proofs.Common.{rules, ◌≢◌, IfErr, arith}
 use Rattle.cdb_command.proofs.NoWords.{gives_no_words}
 use Rattle.cdb_command.proofs.Ranges.{gives_in_range}
 use Rattle.cdb_command.specs.declared.usage.Usage.TheVariants.{Words}
@@ -14,3 +15,6 @@ returns-clause-refused c =
 pub returns-clause-range : goal.returns-clause-range
 returns-clause-range c =
     gives_in_range c.asked_on.result (given_in c.line_of.result) c.asked_on.ensures
+
+pub returns-clause-exact : goal.returns-clause-exact
+returns-clause-exact c = grind (arith, common_steps)

@@ -1,4 +1,5 @@
-use Rattle.std.proofs.Common.{◌≡◌, [], true, map, string_bytes, refl, subst, inl, inr}
+use Rattle.std.proofs.lemmas.Grind.{common_steps}
+use Rattle.std.proofs.Common.{◌≡◌, [], true, map, string_bytes, refl, subst, inl, inr, arith}
 use Rattle.clap.specs.Simple.{App, HasMatchesOf, app_of}
 use Rattle.clap.specs.Faults.{fault_of, is_simple_and_free}
 use Rattle.clap.specs.Kinds.{HasKind, IsAmong, Kinds}
@@ -39,3 +40,6 @@ returns-in-Err-clause-refused c =
         ],
       )
     ]
+
+pub returns-in-Ok-clause-refused : goal.returns-in-Ok-clause-refused
+returns-in-Ok-clause-refused c = grind (arith, common_steps)
