@@ -11,3 +11,6 @@ returns-clause-sound g c = search rules
 
 pub returns-clause-fails : goal.returns-clause-fails
 returns-clause-fails g c = grind (arith, common_steps)
+
+pub returns-clause-reads : goal.returns-clause-reads
+returns-clause-reads g c = grind (arith, common_steps)

@@ -1,5 +1,10 @@
+use Rattle.std.proofs.lemmas.Grind.{common_steps}
+use Rattle.std.proofs.Common.{arith}
 use Rattle.cdb_tool.proofs.RunEnds.{runs_flushed}
 use Rattle.cdb_tool.proofs.runs.make.make_run_by.Goals as goal
 
 pub returns-clause-runs : goal.returns-clause-runs
 returns-clause-runs g c = runs_flushed g.B.Store _ _ _ _ _ _ _ _ _ _ _ c.make_unflushed-store.ensures.runs c.flushed-answer.ensures
+
+pub returns-clause-settled : goal.returns-clause-settled
+returns-clause-settled g c = grind (arith, common_steps)

@@ -1,5 +1,6 @@
+use Rattle.std.proofs.lemmas.Grind.{common_steps}
 use Rattle.cdb_tool.proofs.RunEnds.{runs_not, runs_unbased, runs_stopped, runs_whole, runs_unfinished, hands_same, hands_some}
-use Rattle.std.proofs.Common.{sym, subst, ◌∙◌, map, [], Bool}
+use Rattle.std.proofs.Common.{sym, subst, ◌∙◌, map, [], Bool, arith}
 use Rattle.cdb_tool.proofs.BaseRecords.{make_no_base}
 use Rattle.cdb_tool.specs.Runs.Inputs.{input_form, AreInputs}
 use Rattle.cdb_tool.proofs.runs.make.make_unflushed.Goals as goal
@@ -59,3 +60,27 @@ returns-in-Err-added-clause-runs g c =
     let base = c.add_base-base.result.0 in
     let fails = (rw c.in-Err-added.is at add.fails) c.in-Ok.ensures.holds in
     rw c.into_store.ensures (runs_unbased g.B.Store base _ _ c.args.options.now _ _ (g.E.Write.contents c.args.errors.now) _ c.in-Err-added.fault c.in-Ok.ensures.limit fails)
+
+pub returns-in-Err-finish-clause-failed : goal.returns-in-Err-finish-clause-failed
+returns-in-Err-finish-clause-failed g c = grind (arith, common_steps)
+
+pub returns-in-Err-put-clause-failed : goal.returns-in-Err-put-clause-failed
+returns-in-Err-put-clause-failed g c = grind (arith, common_steps)
+
+pub returns-in-Err-put-clause-base_failed : goal.returns-in-Err-put-clause-base_failed
+returns-in-Err-put-clause-base_failed g c = grind (arith, common_steps)
+
+pub returns-in-Err-added-clause-failed : goal.returns-in-Err-added-clause-failed
+returns-in-Err-added-clause-failed g c = grind (arith, common_steps)
+
+pub returns-in-Err-added-clause-base_failed : goal.returns-in-Err-added-clause-base_failed
+returns-in-Err-added-clause-base_failed g c = grind (arith, common_steps)
+
+pub returns-in-Err-clause-failed : goal.returns-in-Err-clause-failed
+returns-in-Err-clause-failed g c = grind (arith, common_steps)
+
+pub returns-in-Err-finish-clause-hands : goal.returns-in-Err-finish-clause-hands
+returns-in-Err-finish-clause-hands g c = grind (arith, common_steps)
+
+pub returns-in-Ok-finish-clause-hands : goal.returns-in-Ok-finish-clause-hands
+returns-in-Ok-finish-clause-hands g c = grind (arith, common_steps)

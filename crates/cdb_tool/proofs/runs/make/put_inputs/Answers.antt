@@ -71,3 +71,18 @@ returns-in_err-put_input-clause-stands g c = λ t start same h.
     let stands = c.in_err-put_input.ensures.stands t put.read start same (ap (λ (n : ℕ). n + 1) put.number) (put.course t start same h) in
     rw (p.1, p.2)
     (λ halt. halted {s = g.S.Store} {k = g.L.Width} _ g.R.Read.remaining _ _ t put.read _ _ _ c.in-Some.input _ start _ c.put_input.new.maker c.new-items.ensures.form put.are c.in-Some.ensures.steps.0 c.new-items.ensures.unread (stands halt))
+
+pub loop-input-preserved-in_ok-put_input-2-derived : goal.loop-input-preserved-in_ok-put_input-2-derived
+loop-input-preserved-in_ok-put_input-2-derived g c = grind (arith, common_steps)
+
+pub returns-in_err-put_input-clause-own : goal.returns-in_err-put_input-clause-own
+returns-in_err-put_input-clause-own g c = grind (arith, common_steps)
+
+pub returns-clause-stands : goal.returns-clause-stands
+returns-clause-stands g c = grind (arith, common_steps)
+
+pub returns-clause-own : goal.returns-clause-own
+returns-clause-own g c = grind (arith, common_steps)
+
+pub put_input-requires : goal.put_input-requires
+put_input-requires g c = grind (arith, common_steps)

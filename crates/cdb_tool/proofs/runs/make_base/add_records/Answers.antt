@@ -1,3 +1,4 @@
+use Rattle.std.proofs.lemmas.Grind.{common_steps}
 use Rattle.std.proofs.Common.{refl, sym, ap, ◌∙◌, arith, rules}
 use Rattle.std.proofs.lemmas.Result.{err_from_is_err_and}
 use Rattle.cdb_form.specs.Format.Record.{KeyValue}
@@ -73,3 +74,54 @@ returns-in_err-put-clause-fails g c = λ none.
     (λ b i. c.in_ok-value_into.ensures.is b (value.reads.images b i))
     (λ b i. c.in_ok-value_into-2.ensures.is b i)
     fails inv.limit none b here)
+
+pub returns-in_err-put-clause-reads : goal.returns-in_err-put-clause-reads
+returns-in_err-put-clause-reads g c = grind (arith, common_steps)
+
+pub returns-in_err-value_into-2-clause-reads : goal.returns-in_err-value_into-2-clause-reads
+returns-in_err-value_into-2-clause-reads g c = grind (arith, common_steps)
+
+pub returns-in_err-value_into-clause-reads : goal.returns-in_err-value_into-clause-reads
+returns-in_err-value_into-clause-reads g c = grind (arith, common_steps)
+
+pub returns-in_err-put-clause-comes : goal.returns-in_err-put-clause-comes
+returns-in_err-put-clause-comes g c = grind (arith, common_steps)
+
+pub returns-in_err-pair-clause-reads : goal.returns-in_err-pair-clause-reads
+returns-in_err-pair-clause-reads g c = grind (arith, common_steps)
+
+pub returns-clause-ok : goal.returns-clause-ok
+returns-clause-ok g c = grind (arith, common_steps)
+
+pub returns-clause-reads : goal.returns-clause-reads
+returns-clause-reads g c = grind (arith, common_steps)
+
+pub loop-value-smaller : goal.loop-value-smaller
+loop-value-smaller g c = grind (arith, common_steps)
+
+pub value_into-requires-in-Some : goal.value_into-requires-in-Some
+value_into-requires-in-Some g c = grind (arith, common_steps)
+
+pub returns-in_err-put-clause-failures : goal.returns-in_err-put-clause-failures
+returns-in_err-put-clause-failures g c = grind (arith, common_steps)
+
+pub returns-in_err-put-clause-limit : goal.returns-in_err-put-clause-limit
+returns-in_err-put-clause-limit g c = grind (arith, common_steps)
+
+pub returns-in_err-value_into-2-clause-limit : goal.returns-in_err-value_into-2-clause-limit
+returns-in_err-value_into-2-clause-limit g c = grind (arith, common_steps)
+
+pub returns-in_err-value_into-2-clause-failures : goal.returns-in_err-value_into-2-clause-failures
+returns-in_err-value_into-2-clause-failures g c = grind (arith, common_steps)
+
+pub returns-in_err-value_into-2-clause-comes : goal.returns-in_err-value_into-2-clause-comes
+returns-in_err-value_into-2-clause-comes g c = grind (arith, common_steps)
+
+pub value_into-requires : goal.value_into-requires
+value_into-requires g c = grind (arith, common_steps)
+
+pub returns-in_err-value_into-clause-limit : goal.returns-in_err-value_into-clause-limit
+returns-in_err-value_into-clause-limit g c = grind (arith, common_steps)
+
+pub returns-in_err-value_into-clause-failures : goal.returns-in_err-value_into-clause-failures
+returns-in_err-value_into-clause-failures g c = grind (arith, common_steps)

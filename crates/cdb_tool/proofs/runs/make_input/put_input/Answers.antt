@@ -1,3 +1,4 @@
+use Rattle.std.proofs.lemmas.Grind.{common_steps}
 use Rattle.std.proofs.Common.{refl, arith, sym, subst, ap, ◌∙◌, ◌+◌, ◌∷◌, ◌++◌, [], ℕ, IfSome, length-append}
 use Rattle.std.proofs.lemmas.Result.{err_from_is_err_and}
 use Rattle.cdb_form.specs.Text.Amending.{Change}
@@ -108,3 +109,21 @@ returns-in_err-do_item-clause-stands g c = λ t read start o n h.
     let stands = c.in_err-do_item.ensures.stands t _ start o (inv.course t read start o n h) in
     rw (p.1, p.2)
     (λ halt. halted_here {s = g.S.Store} {k = g.L.Width} _ _ greatest t read input inv.last start _ c.do_item.new.maker inv.form (items_first greatest remaining input c.loop-fault.items inv.last inv.gave) (stands halt))
+
+pub returns-in_err-do_item-clause-comes : goal.returns-in_err-do_item-clause-comes
+returns-in_err-do_item-clause-comes g c = grind (arith, common_steps)
+
+pub returns-in_err-do_item-clause-failures : goal.returns-in_err-do_item-clause-failures
+returns-in_err-do_item-clause-failures g c = grind (arith, common_steps)
+
+pub returns-in-Err-clause-comes : goal.returns-in-Err-clause-comes
+returns-in-Err-clause-comes g c = grind (arith, common_steps)
+
+pub returns-in-Ok-None-clause-fails : goal.returns-in-Ok-None-clause-fails
+returns-in-Ok-None-clause-fails g c = grind (arith, common_steps)
+
+pub returns-in_err-do_item-clause-own : goal.returns-in_err-do_item-clause-own
+returns-in_err-do_item-clause-own g c = grind (arith, common_steps)
+
+pub returns-in-Ok-None-clause-comes : goal.returns-in-Ok-None-clause-comes
+returns-in-Ok-None-clause-comes g c = grind (arith, common_steps)

@@ -1,4 +1,5 @@
-use Rattle.std.proofs.Common.{◌∙◌}
+use Rattle.std.proofs.lemmas.Grind.{common_steps}
+use Rattle.std.proofs.Common.{◌∙◌, arith}
 use Rattle.std.proofs.lemmas.Result.{err_from_is_err_and}
 use Rattle.cdb_tool.proofs.Queries.{found_more, found_still, written_more, finding_fails, value_fails}
 use Rattle.cdb_tool.proofs.runs.query.query_from.Goals as goal
@@ -36,3 +37,15 @@ returns-in_err-write_value-clause-fails g c =
     rw (p.1, p.2)
     (value_fails {s = g.S.Store} {l = g.L.Width} _ _ c.args.finder.now c.next.new.self c.write_value.new.finder _ _ _ _ c.in-Some.value c.in_err-write_value.field-0.0 found next.reads.failures c.in_err-write_value.ensures.fails
     (λ b is. inv.written.written b (c.next.ensures.reads.images b (written.reads.images b is))) (λ b is. (c.in_err-write_value.ensures.writes b is).err))
+
+pub returns-then-found-clause-reads : goal.returns-then-found-clause-reads
+returns-then-found-clause-reads g c = grind (arith, common_steps)
+
+pub returns-else-found-clause-reads : goal.returns-else-found-clause-reads
+returns-else-found-clause-reads g c = grind (arith, common_steps)
+
+pub returns-then-found-clause-ok : goal.returns-then-found-clause-ok
+returns-then-found-clause-ok g c = grind (arith, common_steps)
+
+pub loop-value-smaller : goal.loop-value-smaller
+loop-value-smaller g c = grind (arith, common_steps)

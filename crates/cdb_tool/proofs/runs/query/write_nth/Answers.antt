@@ -57,3 +57,6 @@ returns-then-left-eq0 g c =
 
 pub returns : goal.returns
 returns g c = grind (arith, common_steps)
+
+pub loop-value-smaller : goal.loop-value-smaller
+loop-value-smaller g c = grind (arith, common_steps)

@@ -1,4 +1,5 @@
-use Rattle.std.proofs.Common.{refl, sym, codes}
+use Rattle.std.proofs.lemmas.Grind.{common_steps}
+use Rattle.std.proofs.Common.{refl, sym, codes, arith}
 use Rattle.std.proofs.lemmas.Result.{err_from_is_err_and}
 use Rattle.cdb_form.proofs.WritingLemmas.{appends_then, front_in, front_last, same_appends, writes_front}
 use Rattle.cdb_read.specs.Lookup.{bytes_of}
@@ -21,3 +22,6 @@ pub returns-in_ok-write_whole-clause-writes : goal.returns-in_ok-write_whole-cla
 returns-in_ok-write_whole-clause-writes g c = λ b is.
     let copied = c.in_ok-copy.ensures.copies b is in
     record { ok = same_appends _ _ _ _ (sym (in_lines c.args.lines (bytes_of b c.args.value) c.if-lines.true)) (appends_then _ _ _ (bytes_of b c.args.value) (codes "\n") copied.ok c.in_ok-write_whole.ensures.ok); err = tt }
+
+pub returns-else-lines-clause-writes : goal.returns-else-lines-clause-writes
+returns-else-lines-clause-writes g c = grind (arith, common_steps)

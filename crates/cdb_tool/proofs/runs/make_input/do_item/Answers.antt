@@ -1,0 +1,15 @@
+use Rattle.std.proofs.lemmas.Grind.{common_steps}
+use Rattle.std.proofs.Common.{arith}
+use Rattle.cdb_tool.proofs.runs.make_input.do_item.Goals as goal
+
+pub returns-in-Remove-clause-ok : goal.returns-in-Remove-clause-ok
+returns-in-Remove-clause-ok g c = grind (arith, common_steps)
+
+pub returns-in-Put-clause-ok : goal.returns-in-Put-clause-ok
+returns-in-Put-clause-ok g c = grind (arith, common_steps)
+
+pub returns-in-Remove-clause-fails : goal.returns-in-Remove-clause-fails
+returns-in-Remove-clause-fails g c = grind (arith, common_steps)
+
+pub returns-in-Remove-clause-stands : goal.returns-in-Remove-clause-stands
+returns-in-Remove-clause-stands g c = grind (arith, common_steps)
