@@ -23,8 +23,13 @@ SOURCES := $(shell find crates \( -name out -o -name tests -o -name tests.rt \) 
 	-type f \( -name '*.rt' -o -name '*.antt' \) -print) crates.txt
 
 # How the C of the library is compiled. An export writes words, which a read of several at once
-# would wait for.
-CLIB_FLAGS := -std=c11 -O2 -Wall -Wextra -Werror -fPIC -fno-tree-slp-vectorize
+# would wait for. The gate adds -Werror.
+CLIB_FLAGS := -std=c11 -O2 -Wall -Wextra -fPIC -fno-tree-slp-vectorize
+WERROR ?=
+# The library runs on each processor of its architecture, as Debian wants it to.
+LIB_CPU := $(if $(filter x86_64,$(shell uname -m)),--cpu x86-64)
+# The toolchain's own C, over malloc, by which the maker gets memory.
+HEAP = $(dir $(shell $(RT) doc))c/liblibc_c.a
 
 .PHONY: all try demo test tests clib dist deb install install-clib uninstall interop bench clean
 
@@ -59,30 +64,26 @@ clib: bin/libcdb.so.1 bin/libcdb.a
 bin/libcdb_c.a: $(SOURCES)
 	@mkdir -p bin
 	@echo 'Proves the look-ups of the C library.'
-	@cd crates/cdb_c && $(RT) lib > ../../bin/clib.log 2>&1 || { tail -n 40 ../../bin/clib.log; exit 1; }
+	@cd crates/cdb_c && $(RT) lib $(LIB_CPU) > ../../bin/clib.log 2>&1 || { tail -n 40 ../../bin/clib.log; exit 1; }
 	@cp crates/cdb_c/out/libcdb_c.a $@
 
-bin/libcdb.o: clib/libcdb.c clib/cdb.h
+bin/%.o: clib/%.c clib/cdb.h
 	@mkdir -p bin
-	$(CC) $(CLIB_FLAGS) $(CFLAGS) -c -o $@ clib/libcdb.c
+	$(CC) $(CLIB_FLAGS) $(WERROR) $(CPPFLAGS) $(CFLAGS) -c -o $@ $<
 
-bin/making.o: clib/making.c
-	@mkdir -p bin
-	$(CC) $(CLIB_FLAGS) $(CFLAGS) -c -o $@ clib/making.c
-
-bin/libcdb.so.1: bin/libcdb.o bin/making.o bin/libcdb_c.a clib/libcdb.map
-	$(CC) -shared $(CFLAGS) $(LDFLAGS) -Wl,-soname,libcdb.so.1 -Wl,--version-script=clib/libcdb.map \
-		-Wl,--gc-sections -o $@ bin/libcdb.o bin/making.o bin/libcdb_c.a
-
-# One object, whose other symbols are its own.
-bin/libcdb.a: bin/libcdb.o bin/libcdb_c.a
-	$(LD) -r -o bin/libcdb_whole.o bin/libcdb.o bin/libcdb_c.a
+# All of it in one object, which keeps the names of cdb.h alone.
+bin/libcdb.a: bin/libcdb.o bin/making.o bin/libcdb_c.a
+	$(LD) -r -o bin/libcdb_whole.o bin/libcdb.o bin/making.o bin/libcdb_c.a $(HEAP)
 	objcopy -w -G 'cdb_[!c]*' bin/libcdb_whole.o
 	rm -f $@
 	$(AR) rc $@ bin/libcdb_whole.o
 
-bin/answers: tests/clib/answers.c clib/cdb.h bin/libcdb.so.1
-	$(CC) -O2 -Wall -Wextra -Werror -Iclib -o $@ tests/clib/answers.c bin/libcdb.so.1
+bin/libcdb.so.1: bin/libcdb.o bin/making.o bin/libcdb_c.a clib/libcdb.map
+	$(CC) -shared $(CFLAGS) $(LDFLAGS) -Wl,-soname,libcdb.so.1 -Wl,--version-script=clib/libcdb.map \
+		-Wl,--gc-sections -o $@ bin/libcdb.o bin/making.o bin/libcdb_c.a $(HEAP)
+
+bin/answers bin/makes: bin/%: tests/clib/%.c clib/cdb.h bin/libcdb.so.1
+	$(CC) -O2 -Wall -Wextra $(WERROR) -Iclib -o $@ $< bin/libcdb.so.1
 
 dist:
 	@$(PYTHON) tools/package.py dist dist

@@ -1,17 +1,19 @@
-/* Constant databases: the reading calls of libcdb.
+/* Constant databases: the calls of libcdb.
  *
  * A program that was built with tinycdb's header runs on this library: the structs have the same
  * sizes and the same members at the same offsets. cdb(3) describes each call.
  */
-#ifndef CDB_H
-#define CDB_H
+#ifndef TINYCDB_VERSION
 
-/* The version of tinycdb whose reading calls these are. */
+/* The version of tinycdb whose calls these are. */
 #define TINYCDB_VERSION 0.78
 
 #ifdef __cplusplus
 extern "C" {
 #endif
+
+/* A length or a place. */
+typedef unsigned int cdbi_t;
 
 /* An open database. Programs read it by the macros below. */
 struct cdb {
@@ -67,6 +69,43 @@ int cdb_read(const struct cdb *cdbp, void *buf, unsigned len, unsigned pos);
 
 int cdb_seek(int fd, const void *key, unsigned klen, unsigned *dlenp);
 int cdb_bread(int fd, void *buf, int len);
+
+/* A database that is being made. Programs read its descriptor by cdb_fileno, and leave the other
+ * members alone. */
+struct cdb_make {
+  int cdb_fd;                        /* the descriptor that was passed to cdb_make_start */
+  unsigned cdb_dpos;                 /* 2048 */
+  unsigned cdb_rcnt;                 /* 0 */
+  unsigned char cdb_buf[4096];       /* not used */
+  unsigned char *cdb_bpos;           /* not used */
+  struct cdb_rl *cdb_rec[256];       /* the handle of the maker, and zeros */
+};
+
+/* What a put does if its key is there. Some programs test these names by #ifdef. */
+enum cdb_put_mode {
+  CDB_PUT_ADD = 0,                   /* adds the record */
+#define CDB_PUT_ADD CDB_PUT_ADD
+  CDB_PUT_REPLACE = 1,               /* removes the records of the key, and adds the record */
+#define CDB_PUT_REPLACE CDB_PUT_REPLACE
+  CDB_PUT_INSERT = 2,                /* adds nothing */
+#define CDB_PUT_INSERT CDB_PUT_INSERT
+  CDB_PUT_WARN = 3,                  /* adds the record, and returns 1 */
+#define CDB_PUT_WARN CDB_PUT_WARN
+  CDB_PUT_REPLACE0 = 4,              /* as CDB_PUT_REPLACE */
+#define CDB_PUT_REPLACE0 CDB_PUT_REPLACE0
+  CDB_FIND = CDB_PUT_ADD,            /* only looks */
+  CDB_FIND_REMOVE = CDB_PUT_REPLACE, /* removes the records of the key */
+  CDB_FIND_FILL0 = CDB_PUT_REPLACE0  /* as CDB_FIND_REMOVE */
+};
+
+int cdb_make_start(struct cdb_make *cdbmp, int fd);
+int cdb_make_add(struct cdb_make *cdbmp, const void *key, unsigned klen, const void *val,
+                 unsigned vlen);
+int cdb_make_exists(struct cdb_make *cdbmp, const void *key, unsigned klen);
+int cdb_make_find(struct cdb_make *cdbmp, const void *key, unsigned klen, enum cdb_put_mode mode);
+int cdb_make_put(struct cdb_make *cdbmp, const void *key, unsigned klen, const void *val,
+                 unsigned vlen, enum cdb_put_mode mode);
+int cdb_make_finish(struct cdb_make *cdbmp);
 
 #ifdef __cplusplus
 }

@@ -1,34 +1,159 @@
-/* The calls that make a database, which this library lacks.
+/* The C functions that make a database, over the proved maker of crates/cdb_c.
  *
- * A program whose symbols are bound when it starts, as Postfix's cdb maps, does not start if one is
- * missing. So each is there in the shared library, does nothing, and fails with ENOSYS. The header
- * declares none of them, and the static library has none.
+ * What each call does to the records is answered there, and the file is made there, in memory. Here
+ * errno is set, and the finished file is written to the descriptor.
  */
+#define _DEFAULT_SOURCE
+#define _FILE_OFFSET_BITS 64
+#include <assert.h>
 #include <errno.h>
+#include <fcntl.h>
+#include <stddef.h>
+#include <stdint.h>
+#include <string.h>
+#include <sys/stat.h>
+#include <unistd.h>
+#include "cdb.h"
 
-static int refuse(void) { return errno = ENOSYS, -1; }
+/* A handle of crates/cdb_handle. If all of it is zeros, it has no database. */
+struct handle { _Bool is_full; void *at; };
 
-int cdb_make_start(void *maker, int fd) { return (void)maker, (void)fd, refuse(); }
+/* The layout that programs are built with. */
+#if UINTPTR_MAX > 0xffffffff
+static_assert(sizeof(struct cdb_make) == 6168, "size of struct cdb_make");
+static_assert(offsetof(struct cdb_make, cdb_fd) == 0, "cdb_fd");
+static_assert(offsetof(struct cdb_make, cdb_dpos) == 4, "cdb_dpos");
+static_assert(offsetof(struct cdb_make, cdb_rcnt) == 8, "cdb_rcnt");
+static_assert(offsetof(struct cdb_make, cdb_buf) == 12, "cdb_buf");
+static_assert(offsetof(struct cdb_make, cdb_bpos) == 4112, "cdb_bpos");
+static_assert(offsetof(struct cdb_make, cdb_rec) == 4120, "cdb_rec");
+static_assert(sizeof(struct handle) == 16, "size of a handle");
+#endif
+static_assert(sizeof(struct handle) <= sizeof(((struct cdb_make *)0)->cdb_rec), "it has room");
 
-int cdb_make_add(void *maker, const void *key, unsigned klen, const void *value, unsigned vlen)
+/* The functions of crates/cdb_c. A slice is an address and a size. */
+int32_t cdb_c_make_start(struct handle *handle);
+int32_t cdb_c_make_put(struct handle *handle, uint32_t mode, const uint8_t *key, size_t klen,
+                       const uint8_t *value, size_t vlen);
+int32_t cdb_c_make_exists(struct handle *handle, const uint8_t *key, size_t klen);
+int32_t cdb_c_make_remove(struct handle *handle, const uint8_t *key, size_t klen);
+int32_t cdb_c_make_finish(struct handle *handle);
+size_t cdb_c_make_piece(struct handle *handle, uint64_t place, uint8_t *into, size_t size);
+void cdb_c_make_close(struct handle *handle);
+
+/* Two of the faults that they answer. The others say that the handle has no maker to use: the
+ * memory that holds the file does not fail to be read or written. */
+enum { TOO_BIG = -3, NO_MEMORY = -4 };
+
+#define HEAD_SIZE 2048
+#define PIECE_SIZE 65536
+
+static struct handle *handle_of(struct cdb_make *m) { return (struct handle *)(void *)m->cdb_rec; }
+
+/* The bytes of a key or a value: a slice has no null address. */
+static const uint8_t *bytes_of(const void *b) { return b ? b : (const uint8_t *)""; }
+
+/* The answer of a call. A success leaves errno as it was. */
+static int answer(int32_t said, int error_before)
 {
-  return (void)maker, (void)key, (void)klen, (void)value, (void)vlen, refuse();
+  if (said < 0) return errno = said == TOO_BIG || said == NO_MEMORY ? ENOMEM : EPROTO, -1;
+  return errno = error_before, said;
 }
 
-int cdb_make_exists(void *maker, const void *key, unsigned klen)
+/* Begins at the descriptor's first byte, and writes nothing yet. */
+int cdb_make_start(struct cdb_make *m, int fd)
 {
-  return (void)maker, (void)key, (void)klen, refuse();
+  int error_before = errno, flags;
+  memset(m, 0, sizeof *m);
+  m->cdb_fd = fd;
+  m->cdb_dpos = HEAD_SIZE;
+  if (lseek(fd, 0, SEEK_SET) < 0 || (flags = fcntl(fd, F_GETFL)) < 0) return -1;
+  /* A descriptor that appends would write the head behind the tables. */
+  if (flags & O_APPEND) return errno = EINVAL, -1;
+  return answer(cdb_c_make_start(handle_of(m)), error_before);
 }
 
-int cdb_make_find(void *maker, const void *key, unsigned klen, int mode)
+int cdb_make_put(struct cdb_make *m, const void *key, unsigned klen, const void *val,
+                 unsigned vlen, enum cdb_put_mode mode)
 {
-  return (void)maker, (void)key, (void)klen, (void)mode, refuse();
+  int error_before = errno;
+  if ((unsigned)mode > CDB_PUT_REPLACE0) return errno = EINVAL, -1;
+  int said = answer(cdb_c_make_put(handle_of(m), mode, bytes_of(key), klen, bytes_of(val), vlen),
+                    error_before);
+  if (said > 0 && mode == CDB_PUT_INSERT) errno = EEXIST;
+  return said;
 }
 
-int cdb_make_put(void *maker, const void *key, unsigned klen, const void *value, unsigned vlen,
-                 int mode)
+int cdb_make_add(struct cdb_make *m, const void *key, unsigned klen, const void *val,
+                 unsigned vlen)
 {
-  return (void)maker, (void)key, (void)klen, (void)value, (void)vlen, (void)mode, refuse();
+  return cdb_make_put(m, key, klen, val, vlen, CDB_PUT_ADD);
 }
 
-int cdb_make_finish(void *maker) { return (void)maker, refuse(); }
+int cdb_make_exists(struct cdb_make *m, const void *key, unsigned klen)
+{
+  int error_before = errno;
+  return answer(cdb_c_make_exists(handle_of(m), bytes_of(key), klen), error_before);
+}
+
+/* Another mode than these two only looks. */
+int cdb_make_find(struct cdb_make *m, const void *key, unsigned klen, enum cdb_put_mode mode)
+{
+  int error_before = errno;
+  if (mode != CDB_FIND_REMOVE && mode != CDB_FIND_FILL0) return cdb_make_exists(m, key, klen);
+  return answer(cdb_c_make_remove(handle_of(m), bytes_of(key), klen), error_before);
+}
+
+/* Writes bytes at a place of a file. */
+static int write_all(int fd, const uint8_t *bytes, size_t size, uint64_t place)
+{
+  while (size > 0) {
+    ssize_t some = pwrite(fd, bytes, size, (off_t)place);
+    if (some < 0 && errno == EINTR) continue;
+    if (some < 0) return -1;
+    if (!some) return errno = EIO, -1;
+    bytes += some;
+    size -= (size_t)some;
+    place += (uint64_t)some;
+  }
+  return 0;
+}
+
+/* Writes a head of all ones, whose tables are outside of any file. If the file has an older
+ * content, that is damaged from then on. */
+static int write_unfinished_head(int fd)
+{
+  struct stat file;
+  uint8_t head[HEAD_SIZE];
+  memset(head, 0xff, sizeof head);
+  if (fstat(fd, &file) < 0 || write_all(fd, head, sizeof head, 0) < 0) return -1;
+  return file.st_size > 0 ? fsync(fd) : 0;
+}
+
+/* Writes the finished file to the descriptor, and the head last. Until then the file is damaged, so
+ * a file that was torn is not taken for a database. */
+static int write_file(struct handle *handle, int fd)
+{
+  uint8_t piece[PIECE_SIZE];
+  uint64_t place = HEAD_SIZE;
+  size_t size;
+  if (write_unfinished_head(fd) < 0) return -1;
+  while ((size = cdb_c_make_piece(handle, place, piece, sizeof piece)) > 0) {
+    if (write_all(fd, piece, size, place) < 0) return -1;
+    place += size;
+  }
+  if (ftruncate(fd, (off_t)place) < 0 || fsync(fd) < 0) return -1;
+  size = cdb_c_make_piece(handle, 0, piece, HEAD_SIZE);
+  return write_all(fd, piece, size, 0);
+}
+
+/* Finishes the file, and frees the maker whatever the answer. */
+int cdb_make_finish(struct cdb_make *m)
+{
+  int error_before = errno;
+  int said = answer(cdb_c_make_finish(handle_of(m)), error_before);
+  if (said == 0) said = write_file(handle_of(m), m->cdb_fd);
+  int error = said < 0 ? errno : error_before;
+  cdb_c_make_close(handle_of(m));
+  return errno = error, said;
+}

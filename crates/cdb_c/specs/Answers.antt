@@ -1,5 +1,5 @@
 -- What the exports answer, in the words of look-ups and walks over bytes in memory.
-use Rattle.std.specs.Prelude.{ℕ, ℤ, pos, negsuc, zero, suc, ◌≡◌, List}
+use Rattle.std.specs.Prelude.{ℕ, ℤ, pos, negsuc, zero, suc, ◌≡◌}
 use Rattle.cdb_form.specs.declared.damage.Damage.{Damage}
 use Rattle.cdb_form.specs.Format.Walk.{Walked, damaged}
 use Rattle.cdb_read.specs.Lookup.{Found as Looked, found_damaged}

@@ -1,2 +1,3 @@
 -- What the exports answer.
 pub mod Answers
+pub mod Codes

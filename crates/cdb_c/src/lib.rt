@@ -1,12 +1,15 @@
-//! Constant databases for programs in C: what the C library looks up and walks over.
+//! Constant databases for programs in C: what the C library looks up, walks over and makes.
 //!
-//! Each function takes the bytes of a file, and answers by a number: 1 for what was found, 0 for
-//! nothing more, -1 for a damage. What it found, it writes to a struct of the caller. `clib/` has
-//! the C functions that call these.
+//! A look-up takes the bytes of a file, and answers by a number: 1 for what was found, 0 for
+//! nothing more, -1 for a damage. What it found, it writes to a struct of the caller. A making call
+//! takes a handle, and answers 0 or more, or minus the number of a fault. `clib/` has the C
+//! functions that call these.
 #![tactic(auto)]
 
+mod codes;
 mod finding;
 mod hashing;
+mod making;
 mod walking;
 mod words;
 

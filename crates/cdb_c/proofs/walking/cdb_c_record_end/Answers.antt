@@ -1,4 +1,4 @@
-use Rattle.std.proofs.Common.{◌≡◌, ℕ, subst}
+use Rattle.std.proofs.Common.{ℕ, subst}
 use Rattle.cdb_memory.specs.Walks.{Begins}
 use Rattle.cdb_c.specs.Answers.{rest_at}
 use Rattle.cdb_c.proofs.walking.cdb_c_record_end.Goals as goal

@@ -1,0 +1,139 @@
+// The making calls.
+ghost use Rattle.std.specs.Prelude.{◌≡◌, None, Err, IfOk, IfErr, negsuc};
+ghost use Rattle.cdb_make.specs.Views.Maker.{Puts, FailsPutting, Follows};
+ghost use Rattle.cdb_make.specs.Views.Maker.{Removes, FailsRemoving, FailsFinishing};
+ghost use Rattle.cdb_make.specs.Views.Maker.{WritesNothing, FailsLooking, SameCounts};
+ghost use Rattle.cdb_make.specs.declared.fault.MakeFault.TheVariants.{Broken};
+ghost use Rattle.cdb_handle.specs.Kept.{kept_in};
+ghost use Rattle.cdb_handle.specs.Calls.{Between, HasNoMaker, HasNewMaker, IsFinished};
+ghost use Rattle.cdb_handle.specs.Calls.{FindsKey, GivesPiece};
+ghost use Rattle.cdb_c.specs.Codes.{put_code, done_code, found_code, removed_code, mode_of};
+ghost use Rattle.cdb_c.specs.Codes.{Answers};
+
+use crate::codes::{done_code, found_code, mode_of, put_code, removed_code};
+use cdb_handle::{Handle, close, exists, finish, piece, put, remove, start};
+use cdb_make::{MakeFault, Put};
+use std::alloc::Global;
+
+/// Puts a record by the number of a mode.
+fn put_by(
+    alloc: Global,
+    handle: &mut Handle,
+    mode: u32,
+    key: &[u8],
+    value: &[u8],
+) -> Result<Put, MakeFault>
+    ensures puts { IfOk result (λ p. Between (kept_in handle.old) (kept_in handle.new) (λ m n.
+        Puts m.maker n.maker (mode_of mode) (record { key = key.now; value = value.now }) p)) }
+    ensures fails { IfErr result (λ f. Between (kept_in handle.old) (kept_in handle.new) (λ m n.
+        FailsPutting m.maker n.maker (mode_of mode)
+        (record { key = key.now; value = value.now }) f)) }
+    ensures follows { Between (kept_in handle.old) (kept_in handle.new) (λ m n.
+        Follows m.maker n.maker) }
+    ensures no_maker { HasNoMaker (kept_in handle.old) → result ≡ Err Broken }
+{
+    put(alloc, handle, mode_of(mode), key, value)
+}
+
+/// Begins a database. What the handle held before is freed.
+#[unsafe(no_mangle)]
+pub extern "C" fn cdb_c_make_start(alloc: Global, handle: &mut Handle) -> i32
+    ensures { Answers done_code result (λ _. HasNewMaker (kept_in handle.new))
+        (λ _. kept_in handle.new ≡ kept_in handle.old) }
+{
+    done_code(start(alloc, handle))
+}
+
+/// Puts a record by the number of a mode: 1 says that its key was there. -1: the handle has no
+/// maker, or a broken one.
+#[unsafe(no_mangle)]
+pub extern "C" fn cdb_c_make_put(
+    alloc: Global,
+    handle: &mut Handle,
+    mode: u32,
+    key: &[u8],
+    value: &[u8],
+) -> i32
+    ensures puts { Answers put_code result
+        (λ p. Between (kept_in handle.old) (kept_in handle.new) (λ m n.
+        Puts m.maker n.maker (mode_of mode) (record { key = key.now; value = value.now }) p))
+        (λ f. Between (kept_in handle.old) (kept_in handle.new) (λ m n.
+        FailsPutting m.maker n.maker (mode_of mode)
+        (record { key = key.now; value = value.now }) f)) }
+    ensures follows { Between (kept_in handle.old) (kept_in handle.new) (λ m n.
+        Follows m.maker n.maker) }
+    ensures no_maker { HasNoMaker (kept_in handle.old) → result ≡ negsuc 0 }
+{
+    put_code(put_by(alloc, handle, mode, key, value))
+}
+
+/// Whether some record has a key: 1 or 0. -1: the handle has no maker, or a broken one.
+#[unsafe(no_mangle)]
+pub extern "C" fn cdb_c_make_exists(alloc: Global, handle: &mut Handle, key: &[u8]) -> i32
+    ensures finds { Answers found_code result
+        (λ there. Between (kept_in handle.old) (kept_in handle.new) (FindsKey there key.now))
+        (λ f. Between (kept_in handle.old) (kept_in handle.new) (λ m n.
+        FailsLooking m.maker n.maker f)) }
+    ensures stays { Answers found_code result
+        (λ _. Between (kept_in handle.old) (kept_in handle.new) (λ m n.
+        WritesNothing m.maker n.maker))
+        (λ f. Between (kept_in handle.old) (kept_in handle.new) (λ m n.
+        FailsLooking m.maker n.maker f)) }
+    ensures counts { Between (kept_in handle.old) (kept_in handle.new) (λ m n.
+        SameCounts m.maker n.maker) }
+    ensures no_maker { HasNoMaker (kept_in handle.old) → result ≡ negsuc 0 }
+{
+    found_code(exists(alloc, handle, key))
+}
+
+/// Takes out every record of a key: 1 says that there were records. -1: the handle has no maker, or
+/// a broken one.
+#[unsafe(no_mangle)]
+pub extern "C" fn cdb_c_make_remove(alloc: Global, handle: &mut Handle, key: &[u8]) -> i32
+    ensures removes { Answers removed_code result
+        (λ k. Between (kept_in handle.old) (kept_in handle.new) (λ m n.
+        Removes m.maker n.maker key.now k))
+        (λ f. Between (kept_in handle.old) (kept_in handle.new) (λ m n.
+        FailsRemoving m.maker n.maker key.now f)) }
+    ensures follows { Between (kept_in handle.old) (kept_in handle.new) (λ m n.
+        Follows m.maker n.maker) }
+    ensures no_maker { HasNoMaker (kept_in handle.old) → result ≡ negsuc 0 }
+{
+    removed_code(remove(alloc, handle, key))
+}
+
+/// Finishes the file of the records, and keeps it in the handle. -1: the handle has no maker, or a
+/// broken one.
+#[unsafe(no_mangle)]
+pub extern "C" fn cdb_c_make_finish(alloc: Global, handle: &mut Handle) -> i32
+    ensures finishes { Answers done_code result
+        (λ _. IsFinished (kept_in handle.old) (kept_in handle.new))
+        (λ f. Between (kept_in handle.old) (kept_in handle.new) (λ m n.
+        FailsFinishing m.maker n.maker f)) }
+    ensures no_maker { HasNoMaker (kept_in handle.old) → result ≡ negsuc 0 }
+{
+    done_code(finish(alloc, handle))
+}
+
+/// Copies bytes of the finished file from a place on, as many as there are and as `into` has room
+/// for, and returns how many.
+#[unsafe(no_mangle)]
+pub extern "C" fn cdb_c_make_piece(
+    alloc: Global,
+    handle: &mut Handle,
+    place: u64,
+    into: &mut [u8],
+) -> usize
+    ensures piece { GivesPiece (kept_in handle.old) place into.old result into.new }
+    ensures kept { kept_in handle.new ≡ kept_in handle.old }
+{
+    piece(alloc, handle, place, into)
+}
+
+/// Frees what a handle holds.
+#[unsafe(no_mangle)]
+pub extern "C" fn cdb_c_make_close(alloc: Global, handle: &mut Handle)
+    ensures { kept_in handle.new ≡ None }
+{
+    close(alloc, handle)
+}

@@ -1,0 +1,66 @@
+-- What a call makes of the database of a handle.
+use Rattle.std.specs.Prelude.{ℕ, Bool, ◌≡◌, ◌-◌, min, List, [], length}
+use Rattle.std.specs.Prelude.{take, drop, Option, Some, None}
+use Rattle.cdb_form.specs.Format.Record.{KeyValue}
+use Rattle.cdb_store.specs.Contents.{contents}
+use Rattle.cdb_form.specs.Format.File.{file_bytes}
+use Rattle.cdb_make.specs.Survivors.{is_there}
+use Rattle.cdb_make.specs.Views.Maker.{Holds, limit_of}
+use Rattle.cdb_handle.specs.declared.database.Database.{Database}
+use Rattle.cdb_handle.specs.declared.database.Database.TheVariants.{Open, Made, Lent}
+use Rattle.cdb_handle.specs.declared.database.Finished.{Finished}
+use Rattle.cdb_handle.specs.declared.database.Making.{Making}
+
+-- the maker before a call and the maker after it are in this relation; if there was no maker,
+-- nothing changed
+abbrev pub Between : Option Database → Option Database → (Making → Making → Type 0) → Type 0
+Between None new P = new ≡ None
+Between (Some Lent) new P = new ≡ Some Lent
+Between (Some (Made f)) new P = new ≡ Some (Made f)
+Between (Some (Open m)) None P = ⊥
+Between (Some (Open m)) (Some Lent) P = ⊥
+Between (Some (Open m)) (Some (Made f)) P = ⊥
+Between (Some (Open m)) (Some (Open n)) P = P m n
+
+-- there is no maker
+abbrev pub HasNoMaker : Option Database → Type 0
+HasNoMaker None = Unit {0}
+HasNoMaker (Some Lent) = Unit {0}
+HasNoMaker (Some (Made f)) = Unit {0}
+HasNoMaker (Some (Open m)) = ⊥
+
+-- there is a maker, and it is new: it holds no records, and its file may have less than 4 GiB
+pub record IsNew (m : Making) : Type 0 where
+  pub holds : Holds m.maker []
+  pub limit : limit_of m.maker ≡ 4294967295
+
+abbrev pub HasNewMaker : Option Database → Type 0
+HasNewMaker None = ⊥
+HasNewMaker (Some Lent) = ⊥
+HasNewMaker (Some (Made f)) = ⊥
+HasNewMaker (Some (Open m)) = IsNew m
+
+-- the answer is whether some record that the maker held has the key
+pub record FindsKey (there : Bool) (key : List ℕ) (m n : Making) : Type 0 where
+  pub each : (rs : List KeyValue) → Holds m.maker rs → there ≡ is_there key rs
+
+-- the finished file is that of the records which the maker held
+pub record IsFileOf (m : Making) (f : Finished) : Type 0 where
+  pub file : (rs : List KeyValue) → Holds m.maker rs → contents f.store ≡ file_bytes 4 rs
+
+-- there was a maker, and now there is its finished file
+abbrev pub IsFinished : Option Database → Option Database → Type 0
+IsFinished (Some (Open m)) (Some (Made f)) = IsFileOf m f
+IsFinished old new = ⊥
+
+-- the bytes of a file from a place on, as many as there are and as many as have room
+pub record IsPiece (file : List ℕ) (place : ℕ) (count : ℕ) (old new : List ℕ) : Type 0 where
+  pub count_is : count ≡ min (length file - place) (length old)
+  pub bytes : take count new ≡ take count (drop place file)
+
+-- those of the finished file; if no file is finished, no bytes
+abbrev pub GivesPiece : Option Database → ℕ → List ℕ → ℕ → List ℕ → Type 0
+GivesPiece (Some (Made f)) place old count new = IsPiece (contents f.store) place count old new
+GivesPiece (Some (Open m)) place old count new = (count ≡ 0) × (new ≡ old)
+GivesPiece (Some Lent) place old count new = (count ≡ 0) × (new ≡ old)
+GivesPiece None place old count new = (count ≡ 0) × (new ≡ old)

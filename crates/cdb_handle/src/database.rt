@@ -1,0 +1,27 @@
+// A database that is being made, or is made.
+use cdb_form::Narrow;
+use cdb_make::Maker;
+use cdb_store::MemStore;
+
+/// A maker of a file in memory.
+#[derive(Drop)]
+pub struct Making {
+    pub maker: Maker<MemStore, Narrow>,
+}
+
+/// A finished file in memory.
+#[derive(Drop)]
+pub struct Finished {
+    pub store: MemStore,
+}
+
+/// A database that is being made, or its finished file.
+#[derive(Drop)]
+pub enum Database {
+    /// Records are put and taken out.
+    Open(Making),
+    /// The file is finished.
+    Made(Finished),
+    /// A call has it, and returns another.
+    Lent,
+}

@@ -1,0 +1,16 @@
+//! A maker of a database that a program in C holds between its calls.
+//!
+//! C holds a `Handle`: 16 bytes, of which zeros are no database. Each call takes the database out
+//! of the handle, makes the call of its `Maker`, and puts it back. The file is made in memory.
+#![tactic(auto)]
+
+mod database;
+mod handle;
+mod making;
+mod parts;
+mod slot;
+
+pub use database::{Database, Finished, Making};
+pub use handle::Handle;
+pub use making::{close, exists, finish, piece, put, remove, start};
+pub use slot::Slot;
