@@ -85,6 +85,15 @@ bin/libcdb.so.1: bin/libcdb.o bin/making.o bin/libcdb_c.a clib/libcdb.map
 bin/answers bin/makes: bin/%: tests/clib/%.c clib/cdb.h bin/libcdb.so.1
 	$(CC) -O2 -Wall -Wextra $(WERROR) -Iclib -o $@ $< bin/libcdb.so.1
 
+# The same calls by the static library, with memory and calls of the system refused.
+bin/refused: tests/clib/makes.c tests/clib/refuse.c clib/cdb.h bin/libcdb.a
+	$(CC) -O2 -Wall -Wextra $(WERROR) -Iclib -o $@ tests/clib/makes.c tests/clib/refuse.c bin/libcdb.a
+
+# The same by the address sanitizer, if the compiler has it.
+bin/sanitized: tests/clib/makes.c clib/libcdb.c clib/making.c clib/cdb.h bin/libcdb_c.a
+	-@$(CC) -g -fsanitize=address -Iclib -o $@ tests/clib/makes.c clib/libcdb.c clib/making.c \
+		bin/libcdb_c.a $(HEAP)
+
 dist:
 	@$(PYTHON) tools/package.py dist dist
 

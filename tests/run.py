@@ -61,8 +61,10 @@ def parts_of(program, is_gate):
     ]
     if is_gate:
         parts.append(Part("tests/faults/calls.py", (REFUSE,), (c,), (REFUSE,)))
-    library = ("bin/answers", "bin/libcdb.a")
+    library = ("bin/answers", "bin/libcdb.a", "WERROR=-Werror")
     parts.append(Part("tests/clib/run.py", ("bin/answers", "bin", program), (c,), library))
+    makers = ("bin/makes", "bin/refused", "bin/sanitized", "WERROR=-Werror")
+    parts.append(Part("tests/clib/making.py", ("bin/makes", "bin/refused", "bin"), (c,), makers))
     return parts
 
 

@@ -1,0 +1,266 @@
+#!/usr/bin/env python3
+"""Compares the databases that the C library makes with plain ones, and what its calls answer.
+
+    tests/clib/making.py MAKES REFUSED FOLDER
+
+MAKES is makes.c, built with the shared library, which FOLDER has; REFUSED is the same with the static
+library and refuse.c. Scripts are drawn by chance. Each request for memory and each call of the system
+of one script is refused in turn: every call must then answer that, or do as if nothing was refused,
+and a file that is not finished must not be read as a database. If FOLDER has `sanitized`, the scripts
+are made with it too, and if valgrind is installed, some are made under it.
+"""
+
+import errno
+import os
+import shutil
+import subprocess
+import sys
+import tempfile
+
+from maker import NO_MAKER, Maker, drawn_script, file_of, text_of
+from model import HEAD, walk
+
+SCRIPTS = 300
+CALLS = 400
+WATCHED = 12
+# A file that is there before, longer than those that are made, and one that is shorter.
+OLD_FILES = [None, b"old" * 100_000, b"\x00" * 3000]
+ERRORS = [errno.ENOSPC, errno.EFBIG, errno.EIO, errno.EDQUOT]
+LAST = 2**31
+# How many calls in a row are interrupted.
+INTERRUPTED = 9
+
+
+class Driver:
+    """A driver in a folder of its scripts and their files."""
+
+    def __init__(self, program, library, folder):
+        self.words = [os.path.abspath(program), "list"]
+        self.folder = folder
+        self.environment = dict(os.environ, LD_LIBRARY_PATH=os.path.abspath(library))
+
+    def path(self, name):
+        """The path of a file in the folder."""
+        return os.path.join(self.folder, name)
+
+    def place(self, scripts, old=None):
+        """Writes scripts and the files that are there before: of each script another, or this one."""
+        with open(self.path("list"), "w") as names:
+            for n, script in enumerate(scripts):
+                names.write(f"{n}.script {n}.cdb\n")
+                with open(self.path(f"{n}.script"), "w") as to:
+                    to.write(text_of(script))
+                before = OLD_FILES[n % len(OLD_FILES)] if old is None else old
+                if os.path.exists(self.path(f"{n}.cdb")):
+                    os.remove(self.path(f"{n}.cdb"))
+                if before is not None:
+                    with open(self.path(f"{n}.cdb"), "wb") as to:
+                        to.write(before)
+
+    def run(self, before=(), **refusing):
+        """What the driver left."""
+        named = {f"REFUSE_{name.upper()}": str(value) for name, value in refusing.items()}
+        return subprocess.run(
+            [*before, *self.words], cwd=self.folder, env=self.environment | named,
+            capture_output=True, timeout=900,
+        )
+
+    def file(self, n):
+        """The file of a script."""
+        with open(self.path(f"{n}.cdb"), "rb") as file:
+            return file.read()
+
+
+def split(printed):
+    """The answers of each script, from what the driver printed."""
+    scripts = printed.decode().split("end\n")[:-1]
+    return [[tuple(map(int, line.split())) for line in it.splitlines()] for it in scripts]
+
+
+def compare(driver, scripts, done):
+    """What scripts answered and made, beside the plain answers."""
+    if done.returncode:
+        return f"status {done.returncode}: {done.stderr.decode()[:2000]}"
+    for n, (script, said) in enumerate(zip(scripts, split(done.stdout), strict=True)):
+        maker = Maker()
+        for call, answer in zip(script, said, strict=True):
+            if maker.answer(call) != answer:
+                return f"script {n}: {call[0]} answers {answer}"
+        if driver.file(n) != maker.file:
+            return f"script {n}: another file"
+    return None
+
+
+def compare_drawn(driver):
+    """Drawn scripts."""
+    scripts = [drawn_script(seed, CALLS) for seed in range(SCRIPTS)]
+    driver.place(scripts)
+    return compare(driver, scripts, driver.run())
+
+
+def compare_short(driver):
+    """The same with writes that take few bytes each."""
+    scripts = [drawn_script(seed, 40) for seed in range(5)]
+    driver.place(scripts)
+    return compare(driver, scripts, driver.run(short=701))
+
+
+def compare_watched(driver):
+    """Some of them under valgrind, which sees each block that is not freed."""
+    scripts = [drawn_script(1000 + seed, 60) for seed in range(WATCHED)]
+    driver.place(scripts)
+    words = ["valgrind", "-q", "--leak-check=full", "--show-leak-kinds=all", "--error-exitcode=9"]
+    return compare(driver, scripts, driver.run(words))
+
+
+def late_script():
+    """Calls on a maker that has finished."""
+    script = [("start",), ("add", b"a", b"1"), ("finish",)]
+    late = [("add", b"b", b"2"), ("put", 2, b"a", b"2"), ("exists", b"a"), ("find", 1, b"a")]
+    return script + late + [("finish",), ("walk",), ("read", b"a")]
+
+
+def compare_late(driver):
+    """Calls after a finish, and a start after them."""
+    script = late_script() + [("start",), ("add", b"c", b"3"), ("finish",), ("read", b"c")]
+    driver.place([script])
+    return compare(driver, [script], driver.run())
+
+
+def compare_starts(driver):
+    """Starts on descriptors in which no database can be made, and calls after them."""
+    script = [("start",), ("add", b"a", b"1"), ("finish",)]
+    errors = {"pipe": errno.ESPIPE, "closed": errno.EBADF, "append": errno.EINVAL}
+    driver.place([script + [("on", kind) for kind in errors]])
+    said = split(driver.run().stdout)[0][len(script):]
+    wanted = [it for error in errors.values() for it in ((-1, error), NO_MAKER, NO_MAKER)]
+    if said != wanted:
+        return f"other answers: {said}"
+    return None if driver.file(0) == file_of([(b"a", b"1")]) else "another file"
+
+
+def is_database(file):
+    """Whether a file is read as a whole database."""
+    return len(file) >= HEAD and not walk(file)[1]
+
+
+def refused_script():
+    """A script in which each kind of call needs memory, and a file of more than one piece."""
+    script = [("start",)]
+    for n in range(300):
+        key, value = b"%d" % (n % 70), b"value %d " % n * 60
+        script.append(("put", n % 5, key, value))
+    return script + [("find", 1, b"7"), ("exists", b"8"), ("finish",)]
+
+
+def follow(script, said, allowed):
+    """What a script with refusals answered: calls that fail by an allowed number do nothing, the
+    others are as ever. Answers the model, whether the file was finished, and what is wrong."""
+    maker, refusals = Maker(), 0
+    for call, answer in zip(script, said, strict=True):
+        if answer[0] == -1 and answer[1] in allowed:
+            refusals += 1
+            if call[0] == "finish":
+                maker.is_open = False
+            continue
+        if maker.answer(call) != answer:
+            return maker, refusals, f"{call[0]} answers {answer}"
+    return maker, refusals, None
+
+
+def fault_of(driver, old, done, allowed):
+    """What is wrong after a refusal."""
+    if done.returncode:
+        return f"status {done.returncode}"
+    if done.stderr.split()[1] != b"0":
+        return "memory is not freed"
+    script = refused_script()
+    maker, refusals, fault = follow(script, split(done.stdout)[0], allowed)
+    if fault:
+        return fault
+    file = driver.file(0)
+    if maker.file is not None:
+        return None if file == maker.file else "another file"
+    if not refusals:
+        return "no call says that it was refused"
+    if file == old:
+        return None
+    return "a file that was not finished is a database" if is_database(file) else None
+
+
+def refuse_each(driver, allowed, many=LAST, olds=OLD_FILES, **refusing):
+    """Refuses each request of the script in turn: that one alone, and that one with so many more."""
+    for old in olds:
+        driver.place([refused_script()], old or b"")
+        counted = int(driver.run(**refusing).stderr.split()[0])
+        if counted < 4:
+            return f"only {counted} requests were counted"
+        for first in range(1, counted + 1):
+            for last in (first, first + many):
+                driver.place([refused_script()], old or b"")
+                done = driver.run(first=first, last=last, **refusing)
+                fault = fault_of(driver, old or b"", done, allowed)
+                if fault:
+                    return f"request {first} to {last} of {counted}: {fault}"
+    return None
+
+
+def refuse_memory(driver):
+    """Each request for memory."""
+    return refuse_each(driver, [errno.ENOMEM], olds=OLD_FILES[1:2])
+
+
+def refuse_calls(driver):
+    """Each call of the system, by several numbers."""
+    for error in ERRORS:
+        fault = refuse_each(driver, [error], calls=1, errno=error)
+        if fault:
+            return f"{errno.errorcode[error]}: {fault}"
+    return None
+
+
+def interrupt_writes(driver):
+    """A write that is interrupted is made again; another call is that or reported."""
+    for first in range(4, 7):
+        driver.place([refused_script()])
+        done = driver.run(first=first, last=first, calls=1, errno=errno.EINTR)
+        fault = compare(driver, [refused_script()], done)
+        if fault:
+            return f"request {first}: {fault}"
+    return refuse_each(driver, [errno.EINTR], INTERRUPTED, calls=1, errno=errno.EINTR)
+
+
+def main(makes, refused, library):
+    tests = [
+        ("drawn scripts", compare_drawn, makes),
+        ("drawn scripts by the static library", compare_drawn, refused),
+        ("short writes", compare_short, refused),
+        ("calls after a finish", compare_late, makes),
+        ("descriptors of other kinds", compare_starts, makes),
+        ("memory that is refused", refuse_memory, refused),
+        ("calls of the system that are refused", refuse_calls, refused),
+        ("calls of the system that are interrupted", interrupt_writes, refused),
+    ]
+    sanitized = os.path.join(library, "sanitized")
+    if os.path.exists(sanitized):
+        tests.append(("drawn scripts under the address sanitizer", compare_drawn, sanitized))
+    if shutil.which("valgrind"):
+        tests.append(("drawn scripts under valgrind", compare_watched, makes))
+    passed = failed = 0
+    for name, test, program in tests:
+        # A flush to a file system in memory takes no time.
+        where = "/dev/shm" if os.access("/dev/shm", os.W_OK) else None
+        with tempfile.TemporaryDirectory(dir=where) as folder:
+            fault = test(Driver(program, library, folder))
+        failed += fault is not None
+        passed += fault is None
+        if fault is not None:
+            print(f"{name}: {fault}")
+    print(f"{passed} passed, {failed} failed")
+    return 1 if failed else 0
+
+
+if __name__ == "__main__":
+    if len(sys.argv) != 4:
+        sys.exit(__doc__)
+    sys.exit(main(*sys.argv[1:]))

@@ -1,0 +1,104 @@
+/* Refuses memory, or calls of the system, to the library that a program is linked with.
+ *
+ * It counts the requests for memory, or the calls of the system if REFUSE_CALLS is in the
+ * environment, while the program is inside a call of the library. It refuses those from REFUSE_FIRST
+ * to REFUSE_LAST; a call then fails with the number REFUSE_ERRNO. If REFUSE_SHORT is set, a write
+ * takes at most so many bytes. At its end the program writes to standard error how many it counted,
+ * and how many blocks of memory it did not free.
+ */
+#define _GNU_SOURCE
+#include <errno.h>
+#include <fcntl.h>
+#include <stdarg.h>
+#include <stdio.h>
+#include <stdlib.h>
+#include <sys/stat.h>
+#include <sys/syscall.h>
+#include <unistd.h>
+
+extern int is_inside;
+extern void *__libc_malloc(size_t size);
+extern void *__libc_realloc(void *old, size_t size);
+extern void __libc_free(void *block);
+
+static long counted, blocks, first, last, most;
+static int are_calls, error;
+
+static long number(const char *name)
+{
+  const char *text = getenv(name);
+  return text ? atol(text) : 0;
+}
+
+__attribute__((constructor)) static void begin(void)
+{
+  are_calls = getenv("REFUSE_CALLS") != NULL;
+  first = number("REFUSE_FIRST");
+  last = number("REFUSE_LAST");
+  most = number("REFUSE_SHORT");
+  error = (int)number("REFUSE_ERRNO");
+}
+
+__attribute__((destructor)) static void end(void) { fprintf(stderr, "%ld %ld\n", counted, blocks); }
+
+static int is_refused(int is_call)
+{
+  if (!is_inside || is_call != are_calls) return 0;
+  ++counted;
+  if (counted < first || counted > last) return 0;
+  errno = is_call ? error : ENOMEM;
+  return 1;
+}
+
+void *malloc(size_t size)
+{
+  if (is_refused(0)) return NULL;
+  blocks += is_inside;
+  return __libc_malloc(size);
+}
+
+void *realloc(void *old, size_t size)
+{
+  if (is_refused(0)) return NULL;
+  blocks += is_inside && old == NULL;
+  return __libc_realloc(old, size);
+}
+
+void free(void *block)
+{
+  blocks -= is_inside && block != NULL;
+  __libc_free(block);
+}
+
+ssize_t pwrite64(int fd, const void *bytes, size_t size, off_t place)
+{
+  if (is_refused(1)) return -1;
+  if (most && size > (size_t)most) size = (size_t)most;
+  return syscall(SYS_pwrite64, fd, bytes, size, place);
+}
+
+int ftruncate64(int fd, off_t size)
+{
+  return is_refused(1) ? -1 : (int)syscall(SYS_ftruncate, fd, size);
+}
+
+int fsync(int fd) { return is_refused(1) ? -1 : (int)syscall(SYS_fsync, fd); }
+
+off_t lseek64(int fd, off_t to, int from)
+{
+  return is_refused(1) ? -1 : syscall(SYS_lseek, fd, to, from);
+}
+
+int fstat64(int fd, struct stat64 *into)
+{
+  return is_refused(1) ? -1 : (int)syscall(SYS_fstat, fd, into);
+}
+
+int fcntl64(int fd, int what, ...)
+{
+  va_list rest;
+  va_start(rest, what);
+  long value = va_arg(rest, long);
+  va_end(rest);
+  return is_refused(1) ? -1 : (int)syscall(SYS_fcntl, fd, what, value);
+}
