@@ -168,8 +168,8 @@ def follow(script, said, allowed):
     return maker, refusals, None
 
 
-def fault_of(driver, old, done, allowed):
-    """What is wrong after a refusal."""
+def fault_of(driver, old, done, allowed, may_do_without):
+    """What is wrong after a refusal, without which a call may do what it does."""
     if done.returncode:
         return f"status {done.returncode}"
     if done.stderr.split()[1] != b"0":
@@ -179,16 +179,16 @@ def fault_of(driver, old, done, allowed):
     if fault:
         return fault
     file = driver.file(0)
+    if not refusals and not may_do_without:
+        return "no call says that it was refused"
     if maker.file is not None:
         return None if file == maker.file else "another file"
-    if not refusals:
-        return "no call says that it was refused"
     if file == old:
         return None
     return "a file that was not finished is a database" if is_database(file) else None
 
 
-def refuse_each(driver, allowed, many=LAST, olds=OLD_FILES, **refusing):
+def refuse_each(driver, allowed, many=LAST, olds=OLD_FILES, may_do_without=False, **refusing):
     """Refuses each request of the script in turn: that one alone, and that one with so many more."""
     for old in olds:
         driver.place([refused_script()], old or b"")
@@ -199,7 +199,7 @@ def refuse_each(driver, allowed, many=LAST, olds=OLD_FILES, **refusing):
             for last in (first, first + many):
                 driver.place([refused_script()], old or b"")
                 done = driver.run(first=first, last=last, **refusing)
-                fault = fault_of(driver, old or b"", done, allowed)
+                fault = fault_of(driver, old or b"", done, allowed, may_do_without)
                 if fault:
                     return f"request {first} to {last} of {counted}: {fault}"
     return None
@@ -227,7 +227,8 @@ def interrupt_writes(driver):
         fault = compare(driver, [refused_script()], done)
         if fault:
             return f"request {first}: {fault}"
-    return refuse_each(driver, [errno.EINTR], INTERRUPTED, calls=1, errno=errno.EINTR)
+    return refuse_each(driver, [errno.EINTR], INTERRUPTED, may_do_without=True, calls=1,
+                       errno=errno.EINTR)
 
 
 def main(makes, refused, library):
