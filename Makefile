@@ -5,7 +5,7 @@
 # make tests BIN=bin/cdb  runs all tests that need no proof on a program that is built
 # make clib       builds the C library, bin/libcdb.so.1 and bin/libcdb.a (needs a C compiler)
 # make dist       makes the tarball of the sources that are committed, dist/pezundrix-VERSION.tar.gz
-# make deb        builds it, and makes the Debian package, dist/pezundrix_VERSION_ARCHITECTURE.deb
+# make deb        builds it and the C library, and makes the three Debian packages in dist/
 # make install    installs cdb and its manual pages below $(DESTDIR)$(PREFIX)
 # make install-clib  installs the C library, its header and its manual page there
 # make uninstall  removes them
@@ -14,6 +14,7 @@
 # make clean      removes what was built, and the proofs that were kept
 
 PREFIX ?= /usr/local
+LIBDIR ?= $(PREFIX)/lib
 DESTDIR ?=
 RT ?= rt
 PYTHON ?= python3
@@ -28,6 +29,9 @@ CLIB_FLAGS := -std=c11 -O2 -Wall -Wextra -fPIC -fno-tree-slp-vectorize
 WERROR ?=
 # The library runs on each processor of its architecture, as Debian wants it to.
 LIB_CPU := $(if $(filter x86_64,$(shell uname -m)),--cpu x86-64)
+# The version of tinycdb whose calls the library has, and what libraries of this name there are.
+INTERFACE = $(shell sed -n 's/^.define TINYCDB_VERSION //p' clib/cdb.h)
+OTHER_LIBRARIES = $(filter-out $(LIBDIR)/%,$(wildcard /usr/lib/libcdb.so.1 /usr/lib/*/libcdb.so.1))
 # The toolchain's own C, over malloc, by which the maker gets memory.
 HEAP = $(dir $(shell $(RT) doc))c/liblibc_c.a
 
@@ -97,27 +101,36 @@ bin/sanitized: tests/clib/makes.c clib/libcdb.c clib/making.c clib/cdb.h bin/lib
 dist:
 	@$(PYTHON) tools/package.py dist dist
 
-deb: bin/cdb
+deb: bin/cdb clib
 	@$(PYTHON) tools/package.py deb bin/cdb dist
+	@$(PYTHON) tools/package.py clib bin dist
 
 install: bin/cdb
 	install -D -m 755 bin/cdb $(DESTDIR)$(PREFIX)/bin/cdb
 	install -D -m 644 man/cdb.1 $(DESTDIR)$(PREFIX)/share/man/man1/cdb.1
 	install -D -m 644 man/cdb.5 $(DESTDIR)$(PREFIX)/share/man/man5/cdb.5
 
+# The loader may take this library for tinycdb's programs too, so a line says so.
 install-clib: clib
-	install -D -m 755 bin/libcdb.so.1 $(DESTDIR)$(PREFIX)/lib/libcdb.so.1
-	ln -sf libcdb.so.1 $(DESTDIR)$(PREFIX)/lib/libcdb.so
-	install -D -m 644 bin/libcdb.a $(DESTDIR)$(PREFIX)/lib/libcdb.a
+	install -D -m 644 bin/libcdb.so.1 $(DESTDIR)$(LIBDIR)/libcdb.so.1
+	ln -sf libcdb.so.1 $(DESTDIR)$(LIBDIR)/libcdb.so
+	install -D -m 644 bin/libcdb.a $(DESTDIR)$(LIBDIR)/libcdb.a
 	install -D -m 644 clib/cdb.h $(DESTDIR)$(PREFIX)/include/cdb.h
 	install -D -m 644 man/cdb.3 $(DESTDIR)$(PREFIX)/share/man/man3/cdb.3
+	install -d $(DESTDIR)$(LIBDIR)/pkgconfig
+	sed -e 's|@PREFIX@|$(PREFIX)|' -e 's|@LIBDIR@|$(LIBDIR)|' -e 's|@VERSION@|$(INTERFACE)|' \
+		clib/libcdb.pc.in > $(DESTDIR)$(LIBDIR)/pkgconfig/libcdb.pc
+	@for other in $(OTHER_LIBRARIES); do \
+		echo "$$other is installed too: programs load the one whose folder the loader searches first"; \
+	done
 
 uninstall:
 	rm -f $(DESTDIR)$(PREFIX)/bin/cdb
 	rm -f $(DESTDIR)$(PREFIX)/share/man/man1/cdb.1
 	rm -f $(DESTDIR)$(PREFIX)/share/man/man5/cdb.5
-	rm -f $(DESTDIR)$(PREFIX)/lib/libcdb.so.1 $(DESTDIR)$(PREFIX)/lib/libcdb.so
-	rm -f $(DESTDIR)$(PREFIX)/lib/libcdb.a $(DESTDIR)$(PREFIX)/include/cdb.h
+	rm -f $(DESTDIR)$(LIBDIR)/libcdb.so.1 $(DESTDIR)$(LIBDIR)/libcdb.so
+	rm -f $(DESTDIR)$(LIBDIR)/libcdb.a $(DESTDIR)$(LIBDIR)/pkgconfig/libcdb.pc
+	rm -f $(DESTDIR)$(PREFIX)/include/cdb.h
 	rm -f $(DESTDIR)$(PREFIX)/share/man/man3/cdb.3
 
 interop: bin/cdb

@@ -65,6 +65,7 @@ def parts_of(program, is_gate):
     parts.append(Part("tests/clib/run.py", ("bin/answers", "bin", program), (c,), library))
     makers = ("bin/makes", "bin/refused", "bin/sanitized", "WERROR=-Werror")
     parts.append(Part("tests/clib/making.py", ("bin/makes", "bin/refused", "bin"), (c,), makers))
+    parts.append(Part("tests/clib/package.py", ("bin",), (c, package), library))
     return parts
 
 

@@ -1,12 +1,15 @@
 #!/usr/bin/env python3
-"""Makes the source tarball and the Debian package.
+"""Makes the source tarball and the Debian packages.
 
     tools/package.py dist FOLDER            the commit that is checked out, as a tarball
     tools/package.py deb PROGRAM FOLDER     a program that was built, with its pages, as a package
+    tools/package.py clib LIBRARIES FOLDER  libcdb.so.1 and libcdb.a of a folder, as two packages:
+                                            the shared library, and what programs are built with
 
-Each prints the SHA-256 of the file that it made. The same commit, and the same program and pages,
-give the same bytes: every date is that of the version in CHANGELOG.md, or of the commit, and every
-file belongs to root. The package needs the command `dpkg-deb` and nothing else of Debian.
+Each prints the SHA-256 of the files that it made. The same commit, and the same program, libraries
+and pages, give the same bytes: every date is that of the version in CHANGELOG.md, or of the commit,
+and every file belongs to root. A package needs the command `dpkg-deb` and nothing else of Debian;
+those of the libraries need `strip` too.
 """
 
 import datetime
@@ -42,6 +45,49 @@ Description: make, query and check constant databases (cdb)
  of it is proved to meet its contract.
 """
 
+SHARED_CONTROL = """\
+Package: {name}-libcdb1
+Source: {name}
+Version: {version}
+Architecture: {architecture}
+Multi-Arch: same
+Maintainer: {maintainer}
+Installed-Size: {size}
+{depends}Provides: libcdb1 (= {interface})
+Conflicts: libcdb1
+Replaces: libcdb1
+Section: libs
+Priority: optional
+Description: library for constant databases (cdb)
+ The calls of the library of tinycdb: programs look up keys in constant
+ databases, walk over their records, and make databases.
+ .
+ It replaces libcdb1: a program that was built with either runs with either.
+ Its look-ups and its maker are proved to meet their contracts.
+"""
+
+BUILDING_CONTROL = """\
+Package: {name}-libcdb-dev
+Source: {name}
+Version: {version}
+Architecture: {architecture}
+Multi-Arch: same
+Maintainer: {maintainer}
+Installed-Size: {size}
+Depends: {name}-libcdb1 (= {version})
+Provides: libcdb-dev (= {interface})
+Conflicts: libcdb-dev
+Replaces: libcdb-dev
+Section: libdevel
+Priority: optional
+Description: library for constant databases (cdb), development files
+ The header, the static library and the manual page of the calls that look up
+ keys in constant databases, walk over their records, and make databases.
+ .
+ It replaces libcdb-dev: a program that was written for either is built with
+ either.
+"""
+
 COPYRIGHT = """\
 Format: https://www.debian.org/doc/packaging-manuals/copyright-format/1.0/
 Upstream-Name: {name}
@@ -67,6 +113,14 @@ OVERRIDES = "{name}: unstripped-binary-or-object\n"
 
 # The architectures of a program, by the machine in its head, as Debian names them.
 ARCHITECTURES = {3: "i386", 40: "armhf", 62: "amd64", 183: "arm64", 243: "riscv64"}
+# The folders of their libraries.
+TRIPLETS = {
+    "i386": "i386-linux-gnu",
+    "armhf": "arm-linux-gnueabihf",
+    "amd64": "x86_64-linux-gnu",
+    "arm64": "aarch64-linux-gnu",
+    "riscv64": "riscv64-linux-gnu",
+}
 
 
 def read(*names):
@@ -94,7 +148,7 @@ def squeezed(data):
 def architecture_of(program):
     """The architecture of a program, as Debian names it."""
     if program[:4] != b"\x7fELF":
-        sys.exit("the program is no ELF file: build it by `make`")
+        sys.exit("the program or library is no ELF file: build it by `make`")
     return ARCHITECTURES[int.from_bytes(program[18:20], "little")]
 
 
@@ -116,34 +170,98 @@ def license_lines():
     return "".join(f" {line.strip() or '.'}\n" for line in lines)
 
 
-def files_of(program, when):
-    """All files of the package, by name: their permissions and their bytes."""
-    facts = dict(name=NAME, version=version(), maintainer=MAINTAINER)
+def facts():
+    """What the texts of each package name."""
+    return dict(name=NAME, version=version(), maintainer=MAINTAINER, interface=interface())
+
+
+def interface():
+    """The version of tinycdb whose calls the library has."""
+    return re.search(r"^#define TINYCDB_VERSION (.*)$", read("clib", "cdb.h").decode(), re.M)[1]
+
+
+def notes_of(package, when):
+    """The license and the changes of a package."""
     date = when.strftime("%a, %d %b %Y %H:%M:%S +0000")
-    notes = f"usr/share/doc/{NAME}"
-    files = {
-        "usr/bin/cdb": (0o755, program),
-        f"usr/share/lintian/overrides/{NAME}": (0o644, OVERRIDES.format(**facts).encode()),
-        f"{notes}/copyright": (0o644, COPYRIGHT.format(license=license_lines(), **facts).encode()),
-        f"{notes}/changelog.gz": (0o644, squeezed(CHANGELOG.format(date=date, **facts).encode())),
+    notes = f"usr/share/doc/{package}"
+    license_text = COPYRIGHT.format(license=license_lines(), **facts())
+    changes = CHANGELOG.format(date=date, **facts())
+    return {
+        f"{notes}/copyright": (0o644, license_text.encode()),
+        f"{notes}/changelog.gz": (0o644, squeezed(changes.encode())),
         f"{notes}/NEWS.gz": (0o644, squeezed(read("CHANGELOG.md"))),
     }
-    for page in PAGES:
-        if os.path.exists(os.path.join(TOP, "man", page)):
-            name = f"usr/share/man/man{page[-1]}/{page}.gz"
-            files[name] = (0o644, squeezed(read("man", page)))
+
+
+def pages_of(*pages):
+    """Manual pages, where a package has them."""
+    return {
+        f"usr/share/man/man{page[-1]}/{page}.gz": (0o644, squeezed(read("man", page)))
+        for page in pages
+        if os.path.exists(os.path.join(TOP, "man", page))
+    }
+
+
+def controlled(files, control, program):
+    """The files of a package with those that describe it. A text is that of a link."""
+    held = {name: data for name, (_, data) in files.items() if isinstance(data, bytes)}
     sums = "".join(
-        f"{hashlib.md5(data).hexdigest()}  {name}\n" for name, (_, data) in sorted(files.items())
+        f"{hashlib.md5(data).hexdigest()}  {name}\n" for name, data in sorted(held.items())
     )
-    control = CONTROL.format(
+    described = control.format(
         architecture=architecture_of(program),
         depends=depends_of(program),
-        size=sum(len(data) // 1024 + 1 for _, data in files.values()),
-        **facts,
+        size=sum(len(data) // 1024 + 1 for data in held.values()),
+        **facts(),
     )
-    files["DEBIAN/md5sums"] = (0o644, sums.encode())
-    files["DEBIAN/control"] = (0o644, control.encode())
+    return files | {
+        "DEBIAN/md5sums": (0o644, sums.encode()),
+        "DEBIAN/control": (0o644, described.encode()),
+    }
+
+
+def files_of(program, when):
+    """All files of the program's package, by name: their permissions and their bytes."""
+    files = {
+        "usr/bin/cdb": (0o755, program),
+        f"usr/share/lintian/overrides/{NAME}": (0o644, OVERRIDES.format(**facts()).encode()),
+    }
+    return controlled(files | notes_of(NAME, when) | pages_of(*PAGES), CONTROL, program)
+
+
+def shared_files(library, when):
+    """All files of the shared library's package."""
+    package = f"{NAME}-libcdb1"
+    where = f"usr/lib/{TRIPLETS[architecture_of(library)]}"
+    files = controlled(
+        {f"{where}/libcdb.so.1": (0o644, library)} | notes_of(package, when),
+        SHARED_CONTROL,
+        library,
+    )
+    # What a package that is built with it depends on, and that the loader's cache is made anew.
+    files["DEBIAN/shlibs"] = (0o644, f"libcdb 1 {package} | libcdb1\n".encode())
+    files["DEBIAN/triggers"] = (0o644, b"activate-noawait ldconfig\n")
     return files
+
+
+def building_files(library, archive, when):
+    """All files of the package that programs are built with."""
+    where = f"usr/lib/{TRIPLETS[architecture_of(library)]}"
+    described = described_library("/usr", f"/{where}")
+    files = {
+        "usr/include/cdb.h": (0o644, read("clib", "cdb.h")),
+        f"{where}/libcdb.a": (0o644, archive),
+        f"{where}/libcdb.so": (0o777, "libcdb.so.1"),
+        f"{where}/pkgconfig/libcdb.pc": (0o644, described.encode()),
+    }
+    notes = notes_of(f"{NAME}-libcdb-dev", when)
+    return controlled(files | notes | pages_of("cdb.3"), BUILDING_CONTROL, library)
+
+
+def described_library(prefix, folder):
+    """The library as pkg-config reads it."""
+    words = {"PREFIX": prefix, "LIBDIR": folder, "VERSION": interface()}
+    return re.sub(r"@(\w+)@", lambda word: words[word[1]], read("clib", "libcdb.pc.in").decode())
 
 
 def lay_out(folder, files, when):
@@ -151,23 +269,24 @@ def lay_out(folder, files, when):
     for name, (mode, data) in files.items():
         path = os.path.join(folder, name)
         os.makedirs(os.path.dirname(path), exist_ok=True)
+        if isinstance(data, str):
+            os.symlink(data, path)
+            continue
         with open(path, "wb") as file:
             file.write(data)
         os.chmod(path, mode)
     for path, _, names in os.walk(folder, topdown=False):
         os.chmod(path, 0o755)
         for it in [path, *(os.path.join(path, name) for name in names)]:
-            os.utime(it, (when.timestamp(), when.timestamp()))
+            os.utime(it, (when.timestamp(), when.timestamp()), follow_symlinks=False)
 
 
-def make_deb(path, folder):
-    """Makes the package of a program, and answers its name."""
-    with open(path, "rb") as file:
-        program = file.read()
+def make_package(package, files, architecture, folder):
+    """Makes a package of some files, and answers its name."""
     when = release_time()
-    made = os.path.join(folder, f"{NAME}_{version()}_{architecture_of(program)}.deb")
+    made = os.path.join(folder, f"{package}_{version()}_{architecture}.deb")
     with tempfile.TemporaryDirectory() as tree:
-        lay_out(tree, files_of(program, when), when)
+        lay_out(tree, files, when)
         subprocess.run(
             ["dpkg-deb", "--root-owner-group", "-Zgzip", "--build", tree, made],
             env={**os.environ, "SOURCE_DATE_EPOCH": str(int(when.timestamp()))},
@@ -175,6 +294,35 @@ def make_deb(path, folder):
             check=True,
         )
     return made
+
+
+def make_deb(path, folder):
+    """Makes the package of a program, and answers its name."""
+    with open(path, "rb") as file:
+        program = file.read()
+    files = files_of(program, release_time())
+    return [make_package(NAME, files, architecture_of(program), folder)]
+
+
+def stripped(path):
+    """A library without the symbols that no program needs."""
+    with tempfile.TemporaryDirectory() as folder:
+        copy = os.path.join(folder, "copy")
+        subprocess.run(["strip", "-D", "--strip-unneeded", "-o", copy, path], check=True)
+        with open(copy, "rb") as file:
+            return file.read()
+
+
+def make_clib(libraries, folder):
+    """Makes the packages of the libraries in a folder, and answers their names."""
+    library, archive = (stripped(os.path.join(libraries, it)) for it in ("libcdb.so.1", "libcdb.a"))
+    when, architecture = release_time(), architecture_of(library)
+    shared = shared_files(library, when)
+    building = building_files(library, archive, when)
+    return [
+        make_package(f"{NAME}-libcdb1", shared, architecture, folder),
+        make_package(f"{NAME}-libcdb-dev", building, architecture, folder),
+    ]
 
 
 def make_dist(folder):
@@ -185,20 +333,22 @@ def make_dist(folder):
     made = os.path.join(folder, f"{whole}.tar.gz")
     with open(made, "wb") as file:
         file.write(squeezed(tar))
-    return made
+    return [made]
 
 
 def main():
     kind, *words = sys.argv[1:] or [""]
-    if (kind, len(words)) not in (("dist", 1), ("deb", 2)):
+    makers = {("dist", 1): make_dist, ("deb", 2): make_deb, ("clib", 2): make_clib}
+    if (kind, len(words)) not in makers:
         sys.exit(__doc__)
     os.makedirs(words[-1], exist_ok=True)
     try:
-        made = make_dist(*words) if kind == "dist" else make_deb(*words)
+        names = makers[kind, len(words)](*words)
     except FileNotFoundError as fault:
         sys.exit(f"{fault.filename} is not there")
-    with open(made, "rb") as file:
-        print(f"{hashlib.sha256(file.read()).hexdigest()}  {made}")
+    for made in names:
+        with open(made, "rb") as file:
+            print(f"{hashlib.sha256(file.read()).hexdigest()}  {made}")
 
 
 if __name__ == "__main__":

@@ -7,7 +7,7 @@ MAKES is makes.c, built with the shared library, which FOLDER has; REFUSED is th
 library and refuse.c. Scripts are drawn by chance. Each request for memory and each call of the system
 of one script is refused in turn: every call must then answer that, or do as if nothing was refused,
 and a file that is not finished must not be read as a database. If FOLDER has `sanitized`, the scripts
-are made with it too, and if valgrind is installed, some are made under it.
+are made with it too, and if valgrind or qemu is installed, some are made under it.
 """
 
 import errno
@@ -111,6 +111,13 @@ def compare_watched(driver):
     driver.place(scripts)
     words = ["valgrind", "-q", "--leak-check=full", "--show-leak-kinds=all", "--error-exitcode=9"]
     return compare(driver, scripts, driver.run(words))
+
+
+def compare_on_old_processor(driver):
+    """Some of them on the oldest processor of this kind, which has no newer instructions."""
+    scripts = [drawn_script(2000 + seed, 100) for seed in range(WATCHED)]
+    driver.place(scripts)
+    return compare(driver, scripts, driver.run(["qemu-x86_64", "-cpu", "core2duo"]))
 
 
 def late_script():
@@ -245,6 +252,8 @@ def main(makes, refused, library):
     sanitized = os.path.join(library, "sanitized")
     if os.path.exists(sanitized):
         tests.append(("drawn scripts under the address sanitizer", compare_drawn, sanitized))
+    if shutil.which("qemu-x86_64") and os.uname().machine == "x86_64":
+        tests.append(("drawn scripts on a processor of 2006", compare_on_old_processor, makes))
     if shutil.which("valgrind"):
         tests.append(("drawn scripts under valgrind", compare_watched, makes))
     passed = failed = 0
