@@ -29,7 +29,7 @@ struct cdb {
 
 /* A search of all values of a key. Programs pass it, and leave its members alone. */
 struct cdb_find {
-  struct cdb *cdb_cdbp;              /* the database */
+  struct cdb *cdb_cdbp;              /* the database, or null if the search did not begin */
   unsigned cdb_hval;                 /* the hash of the key */
   const unsigned char *cdb_htp;      /* the next slot */
   const unsigned char *cdb_htab;     /* the first slot of the table */

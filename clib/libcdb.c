@@ -141,21 +141,21 @@ static void keep(struct cdb_find *s, const struct state *state)
 int cdb_findinit(struct cdb_find *s, struct cdb *c, const void *key, unsigned klen)
 {
   struct state state;
-  s->cdb_cdbp = c;
-  s->cdb_key = key;
-  s->cdb_klen = klen;
-  s->cdb_httodo = 0;
+  /* A search that did not begin has no database. */
+  *s = (struct cdb_find){ .cdb_key = key, .cdb_klen = klen };
   if (!is_open(c)) return damaged();
   int32_t said = cdb_c_begin(c->cdb_mem, c->cdb_fsize, bytes_of(key), klen, &state);
-  if (said <= 0) return said ? damaged() : 0;
-  keep(s, &state);
-  return 1;
+  if (said < 0) return damaged();
+  s->cdb_cdbp = c;
+  if (said) keep(s, &state);
+  return said;
 }
 
 int cdb_findnext(struct cdb_find *s)
 {
   struct cdb *c = s->cdb_cdbp;
   struct found value;
+  if (!c) return damaged();
   if (!s->cdb_httodo) return 0;
   if (!is_open(c)) return damaged();
   struct state state = {

@@ -4,7 +4,8 @@
  *
  * Each line of LIST names a script and a file. A line of a script is a call: `start`, `add KEY
  * VALUE`, `put MODE KEY VALUE`, `exists KEY`, `find MODE KEY`, `finish`; `read KEY` finds the first
- * value of a key in the finished file, and `walk` counts its records. `on pipe`, `on closed` and
+ * value of a key in the finished file, `search KEY` begins a search of it and goes on once, and `walk`
+ * counts the records. `on pipe`, `on closed` and
  * `on append` start on a descriptor of this kind, and then try to put and to finish. Keys and values are in
  * hexadecimal digits; `.` is an empty one. For each call it prints the answer and errno, which is
  * 999 before; for a script at last `end`.
@@ -68,6 +69,17 @@ static void read_key(int fd, struct bytes key)
   cdb_free(&db);
 }
 
+/* Begins a search, and goes on once. */
+static void search_key(int fd, struct bytes key)
+{
+  struct cdb db;
+  struct cdb_find search;
+  want(cdb_init(&db, fd) == 0, "a file can't be opened");
+  int begun = cdb_findinit(&search, &db, key.at, key.len);
+  printf("%d %d\n", begun, cdb_findnext(&search));
+  cdb_free(&db);
+}
+
 /* Counts the records. */
 static void walk(int fd)
 {
@@ -118,7 +130,7 @@ static void call(struct cdb_make *m, int fd, const char *file, char *line)
     else if (!strcmp(word, "put")) say(cdb_make_put(m, key.at, key.len, value.at, value.len, mode));
     else if (!strcmp(word, "exists")) say(cdb_make_exists(m, key.at, key.len));
     else if (!strcmp(word, "find")) say(cdb_make_find(m, key.at, key.len, mode));
-    else is_inside = 0, read_key(fd, key);
+    else is_inside = 0, (strcmp(word, "search") ? read_key : search_key)(fd, key);
   }
 }
 

@@ -18,7 +18,7 @@ import sys
 import tempfile
 
 from maker import NO_MAKER, Maker, drawn_script, file_of, text_of
-from model import HEAD, walk
+from model import HEAD, hash_of, walk
 
 SCRIPTS = 300
 CALLS = 400
@@ -146,6 +146,19 @@ def compare_starts(driver):
     return None if driver.file(0) == file_of([(b"a", b"1")]) else "another file"
 
 
+def compare_searches(driver):
+    """A search that could not begin fails at each later call; one of no key ends."""
+    file = file_of([(b"a", b"1")])
+    slot = 8 * (hash_of(b"a") % 256)
+    damaged = file[:slot] + b"\xff" * 4 + file[slot + 4:]
+    answers = []
+    for old in (damaged, file):
+        driver.place([[("start",), ("search", b"a"), ("search", b"none")]], old)
+        answers.append(split(driver.run().stdout)[0][1:])
+    wanted = [[(-1, -1), (0, 0)], [(1, 1), (0, 0)]]
+    return None if answers == wanted else f"other answers: {answers}"
+
+
 def is_database(file):
     """Whether a file is read as a whole database."""
     return len(file) >= HEAD and not walk(file)[1]
@@ -245,6 +258,7 @@ def main(makes, refused, library):
         ("short writes", compare_short, refused),
         ("calls after a finish", compare_late, makes),
         ("descriptors of other kinds", compare_starts, makes),
+        ("searches that could not begin", compare_searches, makes),
         ("memory that is refused", refuse_memory, refused),
         ("calls of the system that are refused", refuse_calls, refused),
         ("calls of the system that are interrupted", interrupt_writes, refused),
