@@ -1,16 +1,19 @@
-/* Times the reading calls of the libcdb that it is run with.
+/* Times the calls of the libcdb that it is run with.
  *
  *     clib JOB FILE RECORDS CALLS
  *
  * FILE has RECORDS records with keys "k000000000" and on. JOB is find, which makes CALLS look-ups
  * in an order of no pattern, all, which searches each key to its end, walk, which makes CALLS
- * walks, or keys, which makes the keys alone. It prints the processor time of all calls in nanoseconds, without opening.
+ * walks, or keys, which makes the keys alone. The jobs add and insert make FILE, by cdb_make_add and
+ * by cdb_make_put with CDB_PUT_INSERT. It prints the processor time of all calls in nanoseconds,
+ * without opening, and the peak of memory in KiB.
  */
 #include <cdb.h>
 #include <fcntl.h>
 #include <stdio.h>
 #include <stdlib.h>
 #include <string.h>
+#include <sys/resource.h>
 #include <time.h>
 
 #define KEY 10
@@ -27,10 +30,40 @@ static void want(int holds)
   if (!holds) abort();
 }
 
+static void say(double took)
+{
+  struct rusage used;
+  getrusage(RUSAGE_SELF, &used);
+  printf("%.0f %ld\n", took, used.ru_maxrss);
+}
+
+/* Makes a file of these records, whose keys come in order. */
+static void make(const char *file, unsigned records, int inserts)
+{
+  char value[61], *keys = malloc((size_t)records * KEY + 8);
+  struct cdb_make m;
+  want(keys != NULL);
+  for (unsigned n = 0; n < records; n++) sprintf(keys + (size_t)n * KEY, "k%09u", n);
+  sprintf(value, "%060u", 7u);
+  int fd = open(file, O_RDWR | O_CREAT | O_TRUNC, 0666);
+  double begin = now();
+  want(cdb_make_start(&m, fd) == 0);
+  for (unsigned n = 0; n < records; n++) {
+    const char *key = keys + (size_t)n * KEY;
+    want((inserts ? cdb_make_put(&m, key, KEY, value, 60, CDB_PUT_INSERT)
+                  : cdb_make_add(&m, key, KEY, value, 60)) == 0);
+  }
+  want(cdb_make_finish(&m) == 0);
+  say(now() - begin);
+}
+
 int main(int many, char **words)
 {
   want(many == 5);
   unsigned records = (unsigned)atoi(words[3]), calls = (unsigned)atoi(words[4]);
+  int inserts = !strcmp(words[1], "insert");
+  if (inserts || !strcmp(words[1], "add"))
+    return make(words[2], records, inserts), 0;
   struct cdb c;
   want(cdb_init(&c, open(words[2], O_RDONLY)) == 0);
   char *keys = malloc((size_t)calls * KEY + 8);
@@ -60,7 +93,7 @@ int main(int many, char **words)
       while (cdb_seqnext(&pos, &c) > 0) found++;
     }
   }
-  printf("%.0f\n", now() - begin);
+  say(now() - begin);
   want(found == wanted);
   return 0;
 }

@@ -1,10 +1,11 @@
 #!/usr/bin/env python3
-"""Times the C library beside tinycdb's libcdb, where that is installed.
+"""Times the C library beside tinycdb's libcdb.
 
-    bench/clib.py FOLDER
+    bench/clib.py FOLDER [THEIRS]
 
-FOLDER has our libcdb.so.1. Both run the same program in turns, by processor time; the figure of a
-job is the least of its rounds. With valgrind, the instructions of a call are counted too.
+FOLDER has our libcdb.so.1, THEIRS tinycdb's; without it, that which is installed is taken. Both run
+the same program in turns, by processor time; the figure of a job is the least of its rounds. With
+valgrind, the instructions of a call are counted too.
 """
 
 import glob
@@ -27,6 +28,13 @@ JOBS = [
     ("walk", 1_000_000, 1, "cdb_seqnext"),
 ]
 COUNTED = 10_000
+# A job that makes a file, its records, its rounds, what it calls, and its goal beside tinycdb.
+MAKING = [
+    ("add", 1_000_000, 15, "cdb_make_add", 0.8),
+    ("insert", 1_000_000, 3, "cdb_make_put with CDB_PUT_INSERT", 0.2),
+]
+# The greatest size of the stripped library, in bytes.
+GREATEST_SIZE = 120 * 1024
 
 
 def installed():
@@ -40,10 +48,9 @@ def run(words, library):
     return subprocess.run(words, env=environment, capture_output=True, check=True, timeout=900)
 
 
-def make(path, records):
+def make(program, path, records, library):
     """Makes a file, with keys of 10 bytes and values of 60."""
-    text = "".join(f"+10,60:k{n:09}->{n:060}\n" for n in range(records)) + "\n"
-    subprocess.run(["/usr/bin/cdb", "-c", path], input=text.encode(), check=True)
+    run([program, "add", path, str(records), "1"], library)
 
 
 def counted(program, job, path, calls, library):
@@ -71,9 +78,25 @@ def stripped_size(path, folder):
     return os.path.getsize(copy)
 
 
-def main(ours):
-    theirs = installed()
-    if not theirs or not os.path.exists("/usr/bin/cdb"):
+def time_making(program, folder, ours, theirs):
+    """Times the jobs that make a file, and shows their peaks of memory."""
+    for job, records, rounds, what, goal in MAKING:
+        words = [program, job, os.path.join(folder, "made"), str(records), "1"]
+        took = {ours: [], theirs: []}
+        for _ in range(rounds):
+            for library, figures in took.items():
+                figures.append(tuple(map(int, run(words, library).stdout.split())))
+        mine, other = (min(time for time, _ in took[it]) / 1e6 for it in (ours, theirs))
+        print(f"| {what} | {records:,} | {mine:.0f} ms | {other:.0f} ms "
+              f"| {mine / other:.2f}, goal {goal} |")
+        mine, other = (max(peak for _, peak in took[it]) / 1024 for it in (ours, theirs))
+        print(f"| {what}, peak of memory | {records:,} | {mine:.0f} MiB | {other:.0f} MiB "
+              f"| {mine / other:.2f} |")
+
+
+def main(ours, theirs=None):
+    theirs = os.path.abspath(theirs) if theirs else installed()
+    if not theirs:
         print("tinycdb's library is not installed: nothing was timed")
         return
     with tempfile.TemporaryDirectory() as folder:
@@ -82,17 +105,18 @@ def main(ours):
                         "-o", program, os.path.join(HERE, "clib.c"),
                         os.path.join(ours, "libcdb.so.1")], check=True)
         for records in sorted({job[1] for job in JOBS}):
-            make(os.path.join(folder, str(records)), records)
+            make(program, os.path.join(folder, str(records)), records, ours)
         print("| call | records | ours | libcdb | |\n|---|---|---|---|---|")
         for job, records, calls, what in JOBS:
             words = [program, job, os.path.join(folder, str(records)), str(records), str(calls)]
             times = {ours: [], theirs: []}
             for _ in range(ROUNDS):
                 for library, took in times.items():
-                    took.append(int(run(words, library).stdout))
+                    took.append(int(run(words, library).stdout.split()[0]))
             each = calls * records if job == "walk" else calls
             mine, other = (min(took) / each for took in times.values())
             print(f"| {what} | {records:,} | {mine:.1f} ns | {other:.1f} ns | {mine / other:.2f} |")
+        time_making(program, folder, ours, theirs)
         if shutil.which("valgrind"):
             path = os.path.join(folder, str(COUNTED))
             for job, what in {job: what for job, _, _, what in JOBS}.items():
@@ -100,10 +124,11 @@ def main(ours):
                 print(f"| {what}, instructions | {COUNTED:,} | {mine:.0f} | {other:.0f} "
                       f"| {mine / other:.2f} |")
         size = [stripped_size(os.path.join(where, "libcdb.so.1"), folder) for where in (ours, theirs)]
-        print(f"| stripped library, bytes | | {size[0]:,} | {size[1]:,} | {size[0] / size[1]:.2f} |")
+        print(f"| stripped library, bytes | | {size[0]:,} | {size[1]:,} "
+              f"| at most {GREATEST_SIZE:,} |")
 
 
 if __name__ == "__main__":
-    if len(sys.argv) != 2:
+    if len(sys.argv) not in (2, 3):
         sys.exit(__doc__)
-    main(os.path.abspath(sys.argv[1]))
+    main(os.path.abspath(sys.argv[1]), *sys.argv[2:])
