@@ -136,7 +136,7 @@ uninstall:
 interop: bin/cdb
 	$(PYTHON) tests/interop/run.py bin/cdb
 	@if command -v $(firstword $(CC)) > /dev/null; then \
-		$(MAKE) -s bin/answers && $(PYTHON) tests/clib/interop.py bin/answers bin; \
+		$(MAKE) -s bin/answers bin/makes && $(PYTHON) tests/clib/interop.py bin/answers bin; \
 	fi
 
 bench: bin/cdb

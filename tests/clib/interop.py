@@ -1,10 +1,12 @@
 #!/usr/bin/env python3
 """Runs installed programs on the C library, and compares it with tinycdb's where that is installed.
 
-    tests/clib/interop.py ANSWERS FOLDER
+    tests/clib/interop.py ANSWERS FOLDER [ROOT]
 
-ANSWERS is answers.c, built; FOLDER has libcdb.so.1. A test whose program is missing is passed over
-with a word. On damaged files the two libraries may differ: the test says on how many, and in what.
+ANSWERS is answers.c, built; FOLDER has libcdb.so.1 and makes.c, built. ROOT is a folder into which
+packages of tinycdb were unpacked; without it those that are installed are taken. A test whose program
+is missing is passed over with a word. On damaged files the two libraries may differ: the test says on
+how many, and in what.
 """
 
 import collections
@@ -16,30 +18,49 @@ import sys
 import tempfile
 
 from drawn import drawn_files, good_files
-from files import LARGE, LARGE_FILE, file_of
+from files import LARGE, LARGE_FILE, LARGE_TEXT, file_of
+from maker import Maker, drawn_script
+from making import Driver as Makes
+from making import split as split_calls
 from model import answers
 from run import Driver, compare_plain, split
 
+ROOT = os.path.abspath(sys.argv[3]) if len(sys.argv) == 4 else ""
 CALLS = ["walk", "cdb_findnext", "cdb_find", "cdb_seek", "cdb_hash"]
 ALIASES = [(b"postmaster", b"root"), (b"abuse", b"root"), (b"abuse", b"security")]
 
 
-def installed_library():
+def installed_library(root):
     """The folder of tinycdb's library."""
-    for pattern in ("/usr/lib/*/libcdb.so.1", "/usr/lib/libcdb.so.1"):
+    for pattern in (f"{root}/usr/lib/*/libcdb.so.1", f"{root}/usr/lib/libcdb.so.1"):
         for path in glob.glob(pattern):
             return os.path.dirname(path)
     return None
 
 
-def run(words, folder, library=None):
+def run(words, folder, library, data=b""):
     """The status and the output of a program, on a library."""
-    environment = dict(os.environ, MAIL_CONFIG=folder)
-    if library:
-        environment["LD_LIBRARY_PATH"] = library
-    done = subprocess.run(words, cwd=folder, env=environment, stdin=subprocess.DEVNULL,
-                          capture_output=True, timeout=60)
+    environment = dict(os.environ, MAIL_CONFIG=folder, LD_LIBRARY_PATH=library)
+    done = subprocess.run(words, cwd=folder, env=environment, input=data, capture_output=True,
+                          timeout=60)
     return done.returncode, done.stdout
+
+
+def tinycdb_makes(folder, library, cdb):
+    """Files that tinycdb's program makes, on its library and on ours. After a removal its library may
+    leave bytes behind the tables."""
+    text = LARGE_TEXT[:-1] + b"".join(b"+%d,1:%s->x\n" % (len(key), key) for key, _ in LARGE[::7])
+    for flags in (["-c"], ["-cw"], ["-cr"], ["-cu"], ["-ce"], ["-c", "-t", "-"]):
+        made = []
+        for where in (installed_library(ROOT), library):
+            said = run([cdb, *flags, "made"], folder, where, text + b"\n")
+            with open(os.path.join(folder, "made"), "rb") as file:
+                made.append((said, file.read()))
+            os.remove(os.path.join(folder, "made"))
+        (their_words, theirs), (our_words, ours) = made
+        if their_words != our_words or theirs[:len(ours)] != ours:
+            return f"cdb {' '.join(flags)} makes another file"
+    return None
 
 
 def tinycdb_runs(folder, library, cdb):
@@ -49,7 +70,7 @@ def tinycdb_runs(folder, library, cdb):
     lines += [["-q", "large", os.fsdecode(key)] for key in keys if key[:1] != b"-"]
     lines += [["-q", "small", key] for key in ("abuse", "postmaster", "none")]
     for words in lines:
-        theirs = run([cdb, *words], folder)
+        theirs = run([cdb, *words], folder, installed_library(ROOT))
         if theirs != run([cdb, *words], folder, library):
             return f"cdb {' '.join(words)} answers otherwise"
     return None
@@ -64,6 +85,32 @@ def postmap_runs(folder, library, postmap):
         if said != wanted:
             return f"postmap -q {key}: {said}"
     return None
+
+
+def same_makings(folder, library, makes):
+    """Drawn scripts by tinycdb's library: its answers, and its files byte for byte up to the end of
+    the tables."""
+    scripts = [drawn_script(seed, 400, zeros=False) for seed in range(300)]
+    driver = Makes(makes, library, folder)
+    driver.place(scripts, b"")
+    for n, said in enumerate(split_calls(driver.run().stdout)):
+        maker = Maker()
+        if [maker.answer(call) for call in scripts[n]] != said:
+            return f"script {n}: other answers"
+        if driver.file(n)[:len(maker.file)] != maker.file:
+            return f"script {n}: another file"
+    return None
+
+
+def postmap_makes(folder, library, postmap):
+    """A map that Postfix makes."""
+    with open(os.path.join(folder, "map"), "w") as text:
+        text.write("".join(f"{key.decode()} {value.decode()}\n" for key, value in ALIASES[:2]))
+    said = run([postmap, "-c", folder, f"cdb:{folder}/map"], folder, library)
+    if said != (0, b""):
+        return f"postmap: {said}"
+    said = run([postmap, "-c", folder, "-q", "abuse", f"cdb:{folder}/map"], folder, library)
+    return None if said == (0, b"root\n") else f"postmap -q: {said}"
 
 
 def same_on_good_files(folder, library, ours):
@@ -106,11 +153,16 @@ def differs_on_damaged_files(folder, library, _):
 
 
 def main(library):
-    theirs = installed_library()
-    cdb = "/usr/bin/cdb" if theirs and os.path.exists("/usr/bin/cdb") else None
+    theirs = installed_library(ROOT)
+    cdb = f"{ROOT}/usr/bin/cdb" if theirs and os.path.exists(f"{ROOT}/usr/bin/cdb") else None
+    makes = os.path.join(library, "makes")
     tests = [
+        ("tinycdb's cdb -c on our library", tinycdb_makes, library, cdb),
+        ("drawn scripts by tinycdb's library", same_makings, theirs, theirs and makes),
         ("tinycdb's cdb -q, -d, -l and -s on our library", tinycdb_runs, library, cdb),
         ("postmap -q on our library", postmap_runs, library,
+         shutil.which("postmap") if theirs else None),
+        ("postmap on our library", postmap_makes, library,
          shutil.which("postmap") if theirs else None),
         ("both libraries on good files", same_on_good_files, theirs, library),
         ("tinycdb's library on damaged files, which may differ as said above", differs_on_damaged_files, theirs, theirs),
@@ -134,6 +186,6 @@ def main(library):
 
 
 if __name__ == "__main__":
-    if len(sys.argv) != 3:
+    if len(sys.argv) not in (3, 4):
         sys.exit(__doc__)
     sys.exit(main(os.path.abspath(sys.argv[2])))

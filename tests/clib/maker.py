@@ -106,12 +106,17 @@ def drawn_call(chance, keys):
     return word, key
 
 
-def drawn_script(seed, calls):
+def fills_with_zeros(call):
+    """Whether a call would leave zeros in tinycdb's file."""
+    return call[0] in ("put", "find") and call[1] == REPLACE0
+
+
+def drawn_script(seed, calls, zeros=True):
     """A script of some calls, and of look-ups in the file that they make."""
     chance = random.Random(seed)
     keys = chance.choice([1, 3, 40, 400])
-    script = [("start",)]
-    script += [drawn_call(chance, keys) for _ in range(chance.randint(0, calls))]
+    drawn = [drawn_call(chance, keys) for _ in range(chance.randint(0, calls))]
+    script = [("start",)] + [it for it in drawn if zeros or not fills_with_zeros(it)]
     script += [("finish",), ("walk",)]
     return script + [("read", b"%d" % n) for n in range(min(keys, 40) + 1)] + [("read", b"")]
 
