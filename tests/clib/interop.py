@@ -46,6 +46,16 @@ def run(words, folder, library, data=b""):
     return done.returncode, done.stdout
 
 
+def taken(path):
+    """The bytes of a file, which is removed, or none if it is missing."""
+    if not os.path.exists(path):
+        return b""
+    with open(path, "rb") as file:
+        data = file.read()
+    os.remove(path)
+    return data
+
+
 def tinycdb_makes(folder, library, cdb):
     """Files that tinycdb's program makes, on its library and on ours. After a removal its library may
     leave bytes behind the tables."""
@@ -54,9 +64,7 @@ def tinycdb_makes(folder, library, cdb):
         made = []
         for where in (installed_library(ROOT), library):
             said = run([cdb, *flags, "made"], folder, where, text + b"\n")
-            with open(os.path.join(folder, "made"), "rb") as file:
-                made.append((said, file.read()))
-            os.remove(os.path.join(folder, "made"))
+            made.append((said, taken(os.path.join(folder, "made"))))
         (their_words, theirs), (our_words, ours) = made
         if their_words != our_words or theirs[:len(ours)] != ours:
             return f"cdb {' '.join(flags)} makes another file"
