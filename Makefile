@@ -146,6 +146,7 @@ bench: bin/cdb
 	$(PYTHON) bench/instructions.py --cdb bin/cdb
 	$(PYTHON) bench/stores.py
 	$(PYTHON) bench/makers.py
+	$(PYTHON) bench/readers.py
 	@if command -v $(firstword $(CC)) > /dev/null; then \
 		$(MAKE) -s clib && $(PYTHON) bench/clib.py bin; \
 	fi

@@ -17,12 +17,9 @@ import subprocess
 import sys
 import tempfile
 
-CRATES = ["cdb_store", "cdb_form", "cdb_make"]
-LISTED = """cdb_store:
-cdb_form: byteorder itoa memchr
-cdb_make: cdb_store cdb_form
-maker_bench: cdb_store cdb_form cdb_make anyhow
-"""
+from building import build
+
+LIBRARIES = ["cdb_store", "cdb_form", "cdb_make", "anyhow"]
 # A job, its number of records, and tinycdb's options for it.
 JOBS = [
     ("add", 1000000, []),
@@ -32,29 +29,6 @@ JOBS = [
     ("replace", 50000, ["-r"]),
     ("remove", 10000, None),
 ]
-
-
-def build(folder):
-    """Returns the built program."""
-    here = os.path.dirname(os.path.abspath(__file__))
-    source = os.path.join(folder, "crates", "maker_bench", "src")
-    os.makedirs(source)
-    for crate in CRATES:
-        shutil.copytree(
-            os.path.join(here, "..", "crates", crate),
-            os.path.join(folder, "crates", crate),
-            ignore=shutil.ignore_patterns("must-fail", "*.store", "sealed"),
-        )
-    shutil.copy(os.path.join(here, "makers.rattle"), os.path.join(source, "main.rt"))
-    for name, text in [("crates.txt", LISTED), ("HANDLES", "Handles allowed: none.\n")]:
-        with open(os.path.join(folder, name), "w") as file:
-            file.write(text)
-    words = ["rt", "run", "--", "memory", "add", "1"]
-    subprocess.run(words, cwd=os.path.dirname(source), stdout=subprocess.DEVNULL)
-    program = os.path.join(folder, "crates", "maker_bench", "out", "maker_bench")
-    if not os.path.isfile(program):
-        sys.exit("the program was not built")
-    return program
 
 
 def write_text(path, count, again):
@@ -82,7 +56,7 @@ def main():
     rounds = parser.parse_args().rounds
     tinycdb = shutil.which("cdb")
     with tempfile.TemporaryDirectory() as folder:
-        program = build(folder)
+        program, _ = build(folder, "makers.rattle", LIBRARIES, ["memory", "add", "1"])
         text = os.path.join(folder, "text")
         print("a maker's job, median processor time in seconds")
         for job, count, options in JOBS:

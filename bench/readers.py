@@ -13,45 +13,18 @@ reader also how often it asks its store.
 import argparse
 import os
 import resource
-import shutil
 import statistics
 import subprocess
 import sys
 import tempfile
 
-CRATES = ["cdb_store", "cdb_form", "cdb_make", "cdb_read"]
-LISTED = """cdb_store:
-cdb_form: byteorder itoa
-cdb_make: cdb_store cdb_form
-cdb_read: cdb_store cdb_form
-reader_bench: cdb_store cdb_form cdb_make cdb_read anyhow
-"""
+from building import build
+
+LIBRARIES = ["cdb_store", "cdb_form", "cdb_make", "cdb_read", "anyhow"]
 RECORDS = 1000000
 # A job, and how often it is done.
 JOBS = [("present", RECORDS), ("absent", RECORDS), ("walk", 10)]
 HERE = os.path.dirname(os.path.abspath(__file__))
-
-
-def build(folder):
-    """Returns the built program."""
-    source = os.path.join(folder, "crates", "reader_bench", "src")
-    os.makedirs(source)
-    for crate in CRATES:
-        shutil.copytree(
-            os.path.join(HERE, "..", "crates", crate),
-            os.path.join(folder, "crates", crate),
-            ignore=shutil.ignore_patterns("must-fail", "*.store", "sealed"),
-        )
-    shutil.copy(os.path.join(HERE, "readers.rattle"), os.path.join(source, "main.rt"))
-    for name, text in [("crates.txt", LISTED), ("HANDLES", "Handles allowed: none.\n")]:
-        with open(os.path.join(folder, name), "w") as file:
-            file.write(text)
-    words = ["rt", "run", "--", "memory", "walk", "1", "0"]
-    subprocess.run(words, cwd=os.path.dirname(source), stdout=subprocess.DEVNULL)
-    program = os.path.join(folder, "crates", "reader_bench", "out", "reader_bench")
-    if not os.path.isfile(program):
-        sys.exit("the program was not built")
-    return program
 
 
 def build_other(folder):
@@ -76,7 +49,8 @@ def main():
     parser.add_argument("--rounds", type=int, default=5)
     rounds = parser.parse_args().rounds
     with tempfile.TemporaryDirectory() as folder:
-        program, other = build(folder), build_other(folder)
+        program, _ = build(folder, "readers.rattle", LIBRARIES, ["memory", "walk", "1", "0"])
+        other = build_other(folder)
         processor_time([program, "make", "it", str(RECORDS), "1"], folder)
         print("a reader's job, median processor time in seconds, and asks of the store")
         for job, times in JOBS:

@@ -6,38 +6,23 @@ repository's cdb_store, so that the gate has no part in it. The times are from s
 round, the flush to the disk among them; the median of the rounds is told.
 """
 
-import os
 import re
-import shutil
 import statistics
-import subprocess
 import sys
 import tempfile
 
+from building import build
+
 
 def main():
-    here = os.path.dirname(os.path.abspath(__file__))
     with tempfile.TemporaryDirectory() as folder:
-        crates = os.path.join(folder, "crates")
-        source = os.path.join(crates, "store_bench", "src")
-        os.makedirs(source)
-        shutil.copytree(
-            os.path.join(here, "..", "crates", "cdb_store"),
-            os.path.join(crates, "cdb_store"),
-            ignore=shutil.ignore_patterns("must-fail", "*.store", "sealed"),
-        )
-        shutil.copy(os.path.join(here, "stores.rattle"), os.path.join(source, "main.rt"))
-        with open(os.path.join(folder, "crates.txt"), "w") as listed:
-            listed.write("cdb_store:\nstore_bench: cdb_store anyhow\n")
-        with open(os.path.join(folder, "HANDLES"), "w") as handles:
-            handles.write("Handles allowed: none.\n")
-        ran = subprocess.run(["rt", "run"], cwd=os.path.dirname(source), stdout=subprocess.PIPE, text=True)
+        _, printed = build(folder, "stores.rattle", ["cdb_store", "anyhow"], [])
     times = {}
-    for name, micros, is_ok in re.findall(r"^(\w+) (\d+) (true|false)$", ran.stdout, re.MULTILINE):
+    for name, micros, is_ok in re.findall(r"^(\w+) (\d+) (true|false)$", printed, re.MULTILINE):
         if is_ok == "false":
             sys.exit(f"{name}: a call failed")
         times.setdefault(name, []).append(int(micros) / 1000)
-    if ran.returncode != 0 or not times:
+    if not times:
         sys.exit("the program was not run")
     print("one million writes of 30 bytes and a flush, median milliseconds")
     for name, taken in times.items():
