@@ -27,6 +27,8 @@ SOURCES := $(shell find crates \( -name out -o -name tests -o -name tests.rt \) 
 # would wait for. The gate adds -Werror.
 CLIB_FLAGS := -std=c11 -O2 -Wall -Wextra -fPIC -fno-tree-slp-vectorize
 WERROR ?=
+CLIB_SOURCES := clib/libcdb.c clib/seeking.c clib/making.c
+CLIB_OBJECTS := $(CLIB_SOURCES:clib/%.c=bin/%.o)
 # The library runs on each processor of its architecture, as Debian wants it to.
 LIB_CPU := $(if $(filter x86_64,$(shell uname -m)),--cpu x86-64)
 # The version of tinycdb whose calls the library has, and what libraries of this name there are.
@@ -76,15 +78,15 @@ bin/%.o: clib/%.c clib/cdb.h
 	$(CC) $(CLIB_FLAGS) $(WERROR) $(CPPFLAGS) $(CFLAGS) -c -o $@ $<
 
 # All of it in one object, which keeps the names of cdb.h alone.
-bin/libcdb.a: bin/libcdb.o bin/making.o bin/libcdb_c.a
-	$(LD) -r -o bin/libcdb_whole.o bin/libcdb.o bin/making.o bin/libcdb_c.a $(HEAP)
+bin/libcdb.a: $(CLIB_OBJECTS) bin/libcdb_c.a
+	$(LD) -r -o bin/libcdb_whole.o $(CLIB_OBJECTS) bin/libcdb_c.a $(HEAP)
 	objcopy -w -G 'cdb_[!c]*' bin/libcdb_whole.o
 	rm -f $@
 	$(AR) rc $@ bin/libcdb_whole.o
 
-bin/libcdb.so.1: bin/libcdb.o bin/making.o bin/libcdb_c.a clib/libcdb.map
+bin/libcdb.so.1: $(CLIB_OBJECTS) bin/libcdb_c.a clib/libcdb.map
 	$(CC) -shared $(CFLAGS) $(LDFLAGS) -Wl,-soname,libcdb.so.1 -Wl,--version-script=clib/libcdb.map \
-		-Wl,--gc-sections -o $@ bin/libcdb.o bin/making.o bin/libcdb_c.a $(HEAP)
+		-Wl,--gc-sections -o $@ $(CLIB_OBJECTS) bin/libcdb_c.a $(HEAP)
 
 bin/answers bin/makes: bin/%: tests/clib/%.c clib/cdb.h bin/libcdb.so.1
 	$(CC) -O2 -Wall -Wextra $(WERROR) -Iclib -o $@ $< bin/libcdb.so.1
@@ -94,8 +96,8 @@ bin/refused: tests/clib/makes.c tests/clib/refuse.c clib/cdb.h bin/libcdb.a
 	$(CC) -O2 -Wall -Wextra $(WERROR) -Iclib -o $@ tests/clib/makes.c tests/clib/refuse.c bin/libcdb.a
 
 # The same by the address sanitizer, if the compiler has it.
-bin/sanitized: tests/clib/makes.c clib/libcdb.c clib/making.c clib/cdb.h bin/libcdb_c.a
-	-@$(CC) -g -fsanitize=address -Iclib -o $@ tests/clib/makes.c clib/libcdb.c clib/making.c \
+bin/sanitized: tests/clib/makes.c $(CLIB_SOURCES) clib/cdb.h bin/libcdb_c.a
+	-@$(CC) -g -fsanitize=address -Iclib -o $@ tests/clib/makes.c $(CLIB_SOURCES) \
 		bin/libcdb_c.a $(HEAP)
 
 dist:

@@ -3,8 +3,8 @@
  *     clib JOB FILE RECORDS CALLS
  *
  * FILE has RECORDS records with keys "k000000000" and on. JOB is find, which makes CALLS look-ups
- * in an order of no pattern, all, which searches each key to its end, walk, which makes CALLS
- * walks, or keys, which makes the keys alone. The jobs add and insert make FILE, by cdb_make_add and
+ * in an order of no pattern, seek, which makes them by cdb_seek, all, which searches each key to its
+ * end, walk, which makes CALLS walks, or keys, which makes the keys alone. The jobs add and insert make FILE, by cdb_make_add and
  * by cdb_make_put with CDB_PUT_INSERT. It prints the processor time of all calls in nanoseconds,
  * without opening, and the peak of memory in KiB.
  */
@@ -65,7 +65,8 @@ int main(int many, char **words)
   if (inserts || !strcmp(words[1], "add"))
     return make(words[2], records, inserts), 0;
   struct cdb c;
-  want(cdb_init(&c, open(words[2], O_RDONLY)) == 0);
+  int fd = open(words[2], O_RDONLY);
+  want(cdb_init(&c, fd) == 0);
   char *keys = malloc((size_t)calls * KEY + 8);
   want(keys != NULL);
   unsigned long long order = 1;
@@ -77,6 +78,9 @@ int main(int many, char **words)
   double begin = now();
   if (!strcmp(words[1], "find")) {
     for (unsigned n = 0; n < calls; n++) found += (unsigned)cdb_find(&c, keys + (size_t)n * KEY, KEY);
+  } else if (!strcmp(words[1], "seek")) {
+    unsigned len;
+    for (unsigned n = 0; n < calls; n++) found += (unsigned)cdb_seek(fd, keys + (size_t)n * KEY, KEY, &len);
   } else if (!strcmp(words[1], "all")) {
     for (unsigned n = 0; n < calls; n++) {
       struct cdb_find search;

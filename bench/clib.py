@@ -22,6 +22,8 @@ ROUNDS = 40
 JOBS = [
     ("find", 10_000, 200_000, "cdb_find"),
     ("find", 1_000_000, 200_000, "cdb_find"),
+    ("seek", 10_000, 200_000, "cdb_seek"),
+    ("seek", 1_000_000, 200_000, "cdb_seek"),
     ("all", 10_000, 200_000, "cdb_findinit, cdb_findnext to the end"),
     ("all", 1_000_000, 200_000, "cdb_findinit, cdb_findnext to the end"),
     ("walk", 10_000, 200, "cdb_seqnext"),
@@ -119,7 +121,7 @@ def main(ours, theirs=None):
         time_making(program, folder, ours, theirs)
         if shutil.which("valgrind"):
             path = os.path.join(folder, str(COUNTED))
-            for job, what in {job: what for job, _, _, what in JOBS}.items():
+            for job, what in {job: what for job, _, _, what in JOBS if job != "seek"}.items():
                 mine, other = (instructions(program, job, path, where) for where in (ours, theirs))
                 print(f"| {what}, instructions | {COUNTED:,} | {mine:.0f} | {other:.0f} "
                       f"| {mine / other:.2f} |")

@@ -98,7 +98,7 @@ void cdb_free(struct cdb *c)
 
 const void *cdb_get(const struct cdb *c, unsigned len, unsigned pos)
 {
-  if (pos > c->cdb_fsize || len > c->cdb_fsize - pos) return damaged(), NULL;
+  if (!is_open(c) || pos > c->cdb_fsize || len > c->cdb_fsize - pos) return damaged(), NULL;
   return c->cdb_mem + pos;
 }
 
@@ -184,31 +184,4 @@ int cdb_seqnext(unsigned *cptr, struct cdb *c)
   c->cdb_vpos = record.value_place;
   c->cdb_vlen = record.value_len;
   return 1;
-}
-
-/* Finds a value in a file, and moves the file's offset to it. */
-int cdb_seek(int fd, const void *key, unsigned klen, unsigned *dlenp)
-{
-  struct cdb c;
-  if (map_file(&c, fd) < 0) return -1;
-  int said = cdb_find(&c, key, klen);
-  cdb_free(&c);
-  if (said <= 0) return said;
-  if (lseek(fd, c.cdb_vpos, SEEK_SET) < 0) return -1;
-  *dlenp = c.cdb_vlen;
-  return 1;
-}
-
-int cdb_bread(int fd, void *buf, int len)
-{
-  char *to = buf;
-  while (len > 0) {
-    ssize_t some = read(fd, to, (size_t)len);
-    if (some < 0 && errno == EINTR) continue;
-    if (some < 0) return -1;
-    if (!some) return errno = EIO, -1;
-    to += some;
-    len -= (int)some;
-  }
-  return 0;
 }

@@ -4,11 +4,11 @@
  *
  * Each line of LIST names a script and a file. A line of a script is a call: `start`, `add KEY
  * VALUE`, `put MODE KEY VALUE`, `exists KEY`, `find MODE KEY`, `finish`; `read KEY` finds the first
- * value of a key in the finished file, `search KEY` begins a search of it and goes on once, and `walk`
- * counts the records. `on pipe`, `on closed` and
+ * value of a key in the finished file, `seek KEY` finds it without a struct, `search KEY` begins a
+ * search of it and goes on once, `walk` counts the records, and `closed` looks at a closed database. `on pipe`, `on closed` and
  * `on append` start on a descriptor of this kind, and then try to put and to finish. Keys and values are in
  * hexadecimal digits; `.` is an empty one. For each call it prints the answer and errno, which is
- * 999 before; for a script at last `end`.
+ * 999 before; for a value that was found its hash instead; for a script at last `end`.
  */
 #include <cdb.h>
 #include <errno.h>
@@ -69,6 +69,22 @@ static void read_key(int fd, struct bytes key)
   cdb_free(&db);
 }
 
+/* Finds the first value of a key by reads. */
+static void seek_key(int fd, struct bytes key)
+{
+  static char value[4096];
+  unsigned len = 0;
+  begin();
+  int found = cdb_seek(fd, key.at, key.len, &len), error = errno;
+  is_inside = 0;
+  if (found <= 0) {
+    printf("%d %d\n", found, found ? error : 0);
+    return;
+  }
+  want(len <= sizeof value && cdb_bread(fd, value, (int)len) == 0, "a value that was found is short");
+  printf("%d %u\n", found, cdb_hash(value, len));
+}
+
 /* Begins a search, and goes on once. */
 static void search_key(int fd, struct bytes key)
 {
@@ -78,6 +94,19 @@ static void search_key(int fd, struct bytes key)
   int begun = cdb_findinit(&search, &db, key.at, key.len);
   printf("%d %d\n", begun, cdb_findnext(&search));
   cdb_free(&db);
+}
+
+/* Says what a database answers after cdb_free: no byte of it, the first byte, and a look-up. */
+static void use_closed(int fd)
+{
+  struct cdb db;
+  struct cdb_find search;
+  want(cdb_init(&db, fd) == 0, "a file can't be opened");
+  cdb_free(&db);
+  begin(), say(cdb_get(&db, 0, 0) ? 0 : -1);
+  begin(), say(cdb_get(&db, 1, 0) ? 0 : -1);
+  begin(), say(cdb_find(&db, "a", 1));
+  begin(), say(cdb_findinit(&search, &db, "a", 1));
 }
 
 /* Counts the records. */
@@ -121,6 +150,7 @@ static void call(struct cdb_make *m, int fd, const char *file, char *line)
   if (!strcmp(word, "start")) begin(), say(cdb_make_start(m, fd));
   else if (!strcmp(word, "finish")) begin(), say(cdb_make_finish(m));
   else if (!strcmp(word, "walk")) walk(fd);
+  else if (!strcmp(word, "closed")) use_closed(fd);
   else if (!strcmp(word, "on")) call_on_kind(strtok(NULL, " "), file);
   else {
     struct bytes key = next_bytes(), value = { NULL, 0 };
@@ -130,6 +160,7 @@ static void call(struct cdb_make *m, int fd, const char *file, char *line)
     else if (!strcmp(word, "put")) say(cdb_make_put(m, key.at, key.len, value.at, value.len, mode));
     else if (!strcmp(word, "exists")) say(cdb_make_exists(m, key.at, key.len));
     else if (!strcmp(word, "find")) say(cdb_make_find(m, key.at, key.len, mode));
+    else if (!strcmp(word, "seek")) seek_key(fd, key);
     else is_inside = 0, (strcmp(word, "search") ? read_key : search_key)(fd, key);
   }
 }

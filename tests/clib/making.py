@@ -159,6 +159,52 @@ def compare_searches(driver):
     return None if answers == wanted else f"other answers: {answers}"
 
 
+def compare_closed(driver):
+    """Calls on a database after cdb_free: each of them says so."""
+    driver.place([[("start",), ("closed",)]], file_of([(b"a", b"1")]))
+    said = split(driver.run().stdout)[0][1:]
+    return None if said == [NO_MAKER] * 4 else f"other answers: {said}"
+
+
+LONG_KEY = b"k" * 300
+SEEKS = [b"a", LONG_KEY, b"none"]
+SOUGHT = [(1, hash_of(b"1")), (1, hash_of(b"long")), (0, 0)]
+# How many calls of the system a start makes, and which a seek: one that measures the file (m), those that
+# read (r) the pointer, the slots, and the record with up to 248 bytes of its key, and one that moves the
+# offset (m). The table of the last key is empty.
+STARTED = 2
+SOUGHT_BY = ["mrrrm", "mrrrrm", "mr"]
+
+
+def seek(driver, **refusing):
+    """What seeks in a file answer, and how many calls of the system they make with a start."""
+    file = file_of([(b"a", b"1"), (LONG_KEY, b"long")])
+    driver.place([[("start",)] + [("seek", key) for key in SEEKS]], file)
+    done = driver.run(calls=1, **refusing)
+    return split(done.stdout)[0][1:], int(done.stderr.split()[0])
+
+
+def refuse_seeks(driver):
+    """Seeks read what they need, and map nothing. A call that is refused is reported; a read that is
+    short or interrupted is made again."""
+    calls = "".join(SOUGHT_BY)
+    if seek(driver) != (SOUGHT, STARTED + len(calls)):
+        return f"other answers or calls: {seek(driver)}"
+    if seek(driver, short=3)[0] != SOUGHT:
+        return "a short read changes an answer"
+    owners = [n for n, made in enumerate(SOUGHT_BY) for _ in made]
+    for n, call in enumerate(calls):
+        number = STARTED + n + 1
+        for error in (errno.EIO, errno.EINTR):
+            wanted = list(SOUGHT)
+            if call != "r" or error != errno.EINTR:
+                wanted[owners[n]] = -1, error
+            said = seek(driver, first=number, last=number, errno=error)[0]
+            if said != wanted:
+                return f"call {number} of {call} by {errno.errorcode[error]}: {said}"
+    return None
+
+
 def is_database(file):
     """Whether a file is read as a whole database."""
     return len(file) >= HEAD and not walk(file)[1]
@@ -259,6 +305,8 @@ def main(makes, refused, library):
         ("calls after a finish", compare_late, makes),
         ("descriptors of other kinds", compare_starts, makes),
         ("searches that could not begin", compare_searches, makes),
+        ("a database that is closed", compare_closed, makes),
+        ("look-ups by reads", refuse_seeks, refused),
         ("memory that is refused", refuse_memory, refused),
         ("calls of the system that are refused", refuse_calls, refused),
         ("calls of the system that are interrupted", interrupt_writes, refused),

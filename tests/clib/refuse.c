@@ -2,8 +2,8 @@
  *
  * It counts the requests for memory, or the calls of the system if REFUSE_CALLS is in the
  * environment, while the program is inside a call of the library. It refuses those from REFUSE_FIRST
- * to REFUSE_LAST; a call then fails with the number REFUSE_ERRNO. If REFUSE_SHORT is set, a write
- * takes at most so many bytes. At its end the program writes to standard error how many it counted,
+ * to REFUSE_LAST; a call then fails with the number REFUSE_ERRNO. If REFUSE_SHORT is set, a read or a
+ * write takes at most so many bytes. At its end the program writes to standard error how many it counted,
  * and how many blocks of memory it did not free.
  */
 #define _GNU_SOURCE
@@ -12,6 +12,7 @@
 #include <stdarg.h>
 #include <stdio.h>
 #include <stdlib.h>
+#include <sys/mman.h>
 #include <sys/stat.h>
 #include <sys/syscall.h>
 #include <unistd.h>
@@ -75,6 +76,18 @@ ssize_t pwrite64(int fd, const void *bytes, size_t size, off_t place)
   if (is_refused(1)) return -1;
   if (most && size > (size_t)most) size = (size_t)most;
   return syscall(SYS_pwrite64, fd, bytes, size, place);
+}
+
+ssize_t pread64(int fd, void *into, size_t size, off_t place)
+{
+  if (is_refused(1)) return -1;
+  if (most && size > (size_t)most) size = (size_t)most;
+  return syscall(SYS_pread64, fd, into, size, place);
+}
+
+void *mmap64(void *where, size_t size, int may, int how, int fd, off_t place)
+{
+  return is_refused(1) ? MAP_FAILED : (void *)syscall(SYS_mmap, where, size, may, how, fd, place);
 }
 
 int ftruncate64(int fd, off_t size)

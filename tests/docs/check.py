@@ -23,7 +23,7 @@ BUILT = re.compile(r"(bin|out|dist|crates/NAME|crates/\*)/")
 FOREIGN = set(
     """
     cdbmake cdbdump freecdb tinycdb postmap tinydns Exim rsync chmod umask chgrp flock callgrind
-    valgrind sponge strace lintian apt dpkg mandoc libcdb1 x NAME
+    valgrind sponge strace lintian apt dpkg mandoc libcdb1 posix_fallocate x NAME
     """.split()
 )
 SOURCES = (".rt", ".antt", ".py", ".c", ".h", ".map", ".sh", ".edit", ".1", ".3", ".5", ".rattle")
