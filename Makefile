@@ -86,7 +86,7 @@ bin/libcdb.a: $(CLIB_OBJECTS) bin/libcdb_c.a
 
 bin/libcdb.so.1: $(CLIB_OBJECTS) bin/libcdb_c.a clib/libcdb.map
 	$(CC) -shared $(CFLAGS) $(LDFLAGS) -Wl,-soname,libcdb.so.1 -Wl,--version-script=clib/libcdb.map \
-		-Wl,--gc-sections -o $@ $(CLIB_OBJECTS) bin/libcdb_c.a $(HEAP)
+		-Wl,--gc-sections -Wl,-z,relro,-z,now -o $@ $(CLIB_OBJECTS) bin/libcdb_c.a $(HEAP)
 
 bin/answers bin/makes: bin/%: tests/clib/%.c clib/cdb.h bin/libcdb.so.1
 	$(CC) -O2 -Wall -Wextra $(WERROR) -Iclib -o $@ $< bin/libcdb.so.1

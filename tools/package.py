@@ -110,6 +110,8 @@ CHANGELOG = """\
 # The program is packed as it was proved and built: dpkg-deb is all that the package needs, so nothing
 # strips it.
 OVERRIDES = "{name}: unstripped-binary-or-object\n"
+# The library keeps the name by which programs load tinycdb's, and the package has one of its own.
+SHARED_OVERRIDES = "{name}-libcdb1: package-name-doesnt-match-sonames libcdb1\n"
 
 # The architectures of a program, by the machine in its head, as Debian names them.
 ARCHITECTURES = {3: "i386", 40: "armhf", 62: "amd64", 183: "arm64", 243: "riscv64"}
@@ -233,11 +235,12 @@ def shared_files(library, when):
     """All files of the shared library's package."""
     package = f"{NAME}-libcdb1"
     where = f"usr/lib/{TRIPLETS[architecture_of(library)]}"
-    files = controlled(
-        {f"{where}/libcdb.so.1": (0o644, library)} | notes_of(package, when),
-        SHARED_CONTROL,
-        library,
-    )
+    overrides = SHARED_OVERRIDES.format(**facts()).encode()
+    held = {
+        f"{where}/libcdb.so.1": (0o644, library),
+        f"usr/share/lintian/overrides/{package}": (0o644, overrides),
+    }
+    files = controlled(held | notes_of(package, when), SHARED_CONTROL, library)
     # What a package that is built with it depends on, and that the loader's cache is made anew.
     files["DEBIAN/shlibs"] = (0o644, f"libcdb 1 {package} | libcdb1\n".encode())
     files["DEBIAN/triggers"] = (0o644, b"activate-noawait ldconfig\n")
@@ -308,7 +311,8 @@ def stripped(path):
     """A library without the symbols that no program needs."""
     with tempfile.TemporaryDirectory() as folder:
         copy = os.path.join(folder, "copy")
-        subprocess.run(["strip", "-D", "--strip-unneeded", "-o", copy, path], check=True)
+        words = ["strip", "-D", "--strip-unneeded", "--remove-section=.comment", "-o", copy, path]
+        subprocess.run(words, check=True)
         with open(copy, "rb") as file:
             return file.read()
 
