@@ -4,8 +4,10 @@
     tests/clib/interop.py ANSWERS FOLDER [ROOT]
 
 ANSWERS is answers.c, built; FOLDER has libcdb.so.1 and makes.c, built. ROOT is a folder into which
-packages of tinycdb were unpacked; without it those that are installed are taken. A test whose program
-is missing is passed over with a word. On damaged files the two libraries may differ: the test says on
+packages of tinycdb were unpacked; without it those that are installed are taken. If the variable
+TINYCDB_SOURCES of the environment names a folder of tinycdb's sources, its command is built with our
+header and static library, and its own tests run on it; and its modules for the C library's name service
+are compiled. A test whose program is missing is passed over with a word. On damaged files the two libraries may differ: the test says on
 how many, and in what.
 """
 
@@ -13,9 +15,12 @@ import collections
 import glob
 import os
 import shutil
+import socket
+import struct
 import subprocess
 import sys
 import tempfile
+import time
 
 from drawn import drawn_files, good_files
 from files import LARGE, LARGE_FILE, LARGE_TEXT, file_of
@@ -84,10 +89,15 @@ def tinycdb_runs(folder, library, cdb):
     return None
 
 
-def postmap_runs(folder, library, postmap):
-    """Postfix's look-ups in a map, with a key that has no value."""
+def configure_postfix(folder):
+    """What Postfix needs to run its commands."""
     with open(os.path.join(folder, "main.cf"), "w") as config:
         config.write("compatibility_level = 3.6\n")
+
+
+def postmap_runs(folder, library, postmap):
+    """Postfix's look-ups in a map, with a key that has no value."""
+    configure_postfix(folder)
     for key, wanted in [("postmaster", (0, b"root\n")), ("none", (1, b""))]:
         said = run([postmap, "-c", folder, "-q", key, f"cdb:{folder}/small"], folder, library)
         if said != wanted:
@@ -112,6 +122,7 @@ def same_makings(folder, library, makes):
 
 def postmap_makes(folder, library, postmap):
     """A map that Postfix makes."""
+    configure_postfix(folder)
     with open(os.path.join(folder, "map"), "w") as text:
         text.write("".join(f"{key.decode()} {value.decode()}\n" for key, value in ALIASES[:2]))
     said = run([postmap, "-c", folder, f"cdb:{folder}/map"], folder, library)
@@ -119,6 +130,110 @@ def postmap_makes(folder, library, postmap):
         return f"postmap: {said}"
     said = run([postmap, "-c", folder, "-q", "abuse", f"cdb:{folder}/map"], folder, library)
     return None if said == (0, b"root\n") else f"postmap -q: {said}"
+
+
+# The line of tinycdb's tests in which a file is limited. Our library writes it in another call.
+LIMITED = (b"cdb_make_put: File too large", b"cdb_make_finish: File too large")
+NAME_SERVICE = ["nss_cdb.c", "nss_cdb-passwd.c", "nss_cdb-group.c", "nss_cdb-spwd.c"]
+
+
+def compile_there(folder, sources, name, words):
+    """Compiles a source of tinycdb's with our header, whatever header lies beside it."""
+    shutil.copy(os.path.join(sources, name), folder)
+    header = os.path.join(os.path.dirname(os.path.abspath(__file__)), "..", "..", "clib")
+    compiler = (os.environ.get("CC") or "cc").split()
+    return subprocess.run([*compiler, "-I", header, name, *words], cwd=folder, capture_output=True,
+                          check=False)
+
+
+def own_tests_run(folder, library, sources):
+    """tinycdb's own tests, on its command with our header and static library."""
+    built = compile_there(folder, sources, "cdb.c", ["-o", "cdb", os.path.join(library, "libcdb.a")])
+    if built.returncode:
+        return built.stderr.decode()[:500]
+    script = os.path.join(sources, "tests.sh")
+    said = run(["sh", "-c", f"sh {script} ./cdb 2>&1"], folder, library)[1]
+    with open(os.path.join(sources, "tests.ok"), "rb") as wanted:
+        return None if said == wanted.read().replace(*LIMITED) else f"they say {said[-300:]}"
+
+
+def own_modules_compile(folder, _, sources):
+    """tinycdb's modules for the name service, with our header."""
+    for name in ("nss_cdb.h", "cdb_int.h"):
+        shutil.copy(os.path.join(sources, name), folder)
+    for name in NAME_SERVICE:
+        done = compile_there(folder, sources, name, ["-c"])
+        if done.returncode:
+            return f"{name}: {done.stderr.decode()[:500]}"
+    return None
+
+
+def dnsdist_runs(folder, library, dnsdist):
+    """dnsdist's look-ups in a store of keys, by its script."""
+    with open(os.path.join(folder, "script"), "w") as script:
+        script.write(f'store = newCDBKVStore("{folder}/small", 0)\n')
+        for key in ("postmaster", "none"):
+            script.write(f'print("{key} " .. store:lookup("{key}"))\n')
+    status, said = run([dnsdist, "--check-config", "-C", "script"], folder, library)
+    lines = said.decode().splitlines()[:2]
+    return None if (status, lines) == (0, ["postmaster root", "none "]) else f"dnsdist: {said}"
+
+
+def name_of(text):
+    """A domain's name, as DNS has it."""
+    parts = [part.encode() for part in text.split(".")]
+    return b"".join(bytes([len(part)]) + part for part in parts) + bytes(1)
+
+
+def zone():
+    """The database of a zone, as tinydns has it."""
+    start = name_of("ns.zone.example") + name_of("host.zone.example") + struct.pack(">5I", 1, 2, 3, 4, 5)
+    rows = [("zone.example", 6, start), ("zone.example", 2, name_of("ns.zone.example")),
+            ("ns.zone.example", 1, bytes([127, 0, 0, 2])), ("www.zone.example", 1, WWW)]
+    return file_of([(name_of(name), struct.pack(">HcI8x", kind, b"=", 300) + data)
+                    for name, kind, data in rows])
+
+
+# The address of www.zone.example, and how often a server that starts is asked for it.
+WWW = bytes([127, 0, 0, 3])
+TRIES = 100
+
+
+def asked(port):
+    """What a name server answers to a query of www.zone.example, or nothing."""
+    query = struct.pack(">6H", 7, 0, 1, 0, 0, 0) + name_of("www.zone.example") + struct.pack(">2H", 1, 1)
+    with socket.socket(socket.AF_INET, socket.SOCK_DGRAM) as udp:
+        udp.settimeout(0.1)
+        for _ in range(TRIES):
+            try:
+                udp.sendto(query, ("127.0.0.1", port))
+                return udp.recv(512)
+            except OSError:
+                time.sleep(0.05)
+    return b""
+
+
+def pdns_runs(folder, library, pdns):
+    """A query of a zone in a database to PowerDNS."""
+    with open(os.path.join(folder, "zone"), "wb") as file:
+        file.write(zone())
+    with socket.socket(socket.AF_INET, socket.SOCK_DGRAM) as free:
+        free.bind(("127.0.0.1", 0))
+        port = free.getsockname()[1]
+    words = [pdns, f"--config-dir={folder}", "--launch=tinydns", f"--tinydns-dbfile={folder}/zone",
+             "--local-address=127.0.0.1", f"--local-port={port}", f"--socket-dir={folder}", "--daemon=no",
+             "--guardian=no", "--disable-syslog", "--loglevel=0"]
+    environment = dict(os.environ, LD_LIBRARY_PATH=library)
+    with subprocess.Popen(words, env=environment, stdout=subprocess.DEVNULL,
+                          stderr=subprocess.DEVNULL) as server:
+        answer = asked(port)
+        server.terminate()
+    return None if answer.endswith(WWW) else f"pdns: {answer}"
+
+
+def has_tinydns():
+    """Whether PowerDNS has what reads such a database."""
+    return bool(glob.glob("/usr/lib/*/pdns/libtinydnsbackend.so"))
 
 
 def same_on_good_files(folder, library, ours):
@@ -162,16 +277,23 @@ def differs_on_damaged_files(folder, library, _):
 
 def main(library):
     theirs = installed_library(ROOT)
+    sources = os.environ.get("TINYCDB_SOURCES")
+    sources = sources and os.path.abspath(sources)
     cdb = f"{ROOT}/usr/bin/cdb" if theirs and os.path.exists(f"{ROOT}/usr/bin/cdb") else None
     makes = os.path.join(library, "makes")
     tests = [
         ("tinycdb's cdb -c on our library", tinycdb_makes, library, cdb),
+        ("tinycdb's own tests on our library", own_tests_run, library, sources),
+        ("tinycdb's modules for the name service with our header", own_modules_compile, library, sources),
         ("drawn scripts by tinycdb's library", same_makings, theirs, theirs and makes),
         ("tinycdb's cdb -q, -d, -l and -s on our library", tinycdb_runs, library, cdb),
         ("postmap -q on our library", postmap_runs, library,
          shutil.which("postmap") if theirs else None),
         ("postmap on our library", postmap_makes, library,
          shutil.which("postmap") if theirs else None),
+        ("dnsdist on our library", dnsdist_runs, library, theirs and shutil.which("dnsdist")),
+        ("pdns on our library", pdns_runs, library,
+         theirs and has_tinydns() and shutil.which("pdns_server")),
         ("both libraries on good files", same_on_good_files, theirs, library),
         ("tinycdb's library on damaged files, which may differ as said above", differs_on_damaged_files, theirs, theirs),
     ]
