@@ -1,7 +1,7 @@
 -- What a header that was read says of the record at its place.
-use Rattle.std.proofs.Common.{◌≡◌, ◌≢◌, ℕ, ◌+◌, ◌*◌, ◌<◌, ◌≤◌, Bool, true, false, List, length, take, drop, refl, sym, ap, ◌∙◌, arith, Ok, Err, Some, None}
+use Rattle.std.proofs.Common.{◌≡◌, ◌≢◌, ℕ, ◌+◌, ◌*◌, ◌<◌, ◌≤◌, Bool, true, false, List, length, take, drop, refl, sym, ap, ◌∙◌, arith, rules, length-drop, ◌-◌, Ok, Err, Some, None}
 use Rattle.std.specs.Prelude.{bytes_eq}
-use Rattle.std.proofs.lemmas.List.{drop-drop}
+use Rattle.std.proofs.lemmas.List.{drop-drop, take-take, drop-take, take_all}
 use Rattle.std.proofs.lemmas.Slice.Eq.{bytes_eq-Decides}
 use Rattle.cdb_store.specs.Images.{part, AfterRead, AreSized}
 use Rattle.cdb_store.proofs.Parts.{length-part}
@@ -10,26 +10,42 @@ use Rattle.cdb_form.specs.Views.Pairs.{header_pair}
 use Rattle.cdb_form.specs.declared.header.Header.{Header}
 use Rattle.cdb_form.proofs.WordLemmas.{pair_at-take}
 use Rattle.cdb_make.specs.declared.looking.LookFault.TheVariants.{Foreign}
-use Rattle.cdb_make.specs.Looks.{key_at, size_at, NoNewImage, TellsSame, LooksAt}
-
--- in each image the record at a place has lengths k and v
-pub record HasLengths (w p k v : ℕ) (images : List ℕ → Type 0) : Type 0 where
-  pub size : (b : List ℕ) → images b → size_at w p b ≡ 2 * w + k + v
-  pub key : (b : List ℕ) → images b → key_at w p b ≡ part (p + 2 * w) k b
+use Rattle.cdb_make.specs.Looks.{key_at, size_at, NoNewImage, HasLengths, HoldAt, TellsSame, LooksAt}
 
 front_pair : (w n : ℕ) (xs : List ℕ) → n ≡ 2 * w → pair_at w (take n xs) ≡ pair_at w xs
 front_pair w n xs e =
     let m : n ≡ w + w = omega arith in
     ap (λ k. pair_at w (take k xs)) m ∙ pair_at-take w xs
 
-pub has_lengths : {w p : ℕ} {bytes : List ℕ} {old new : List ℕ → Type 0} (h : Header) → length bytes ≡ 2 * w → header_pair h ≡ pair_at w bytes → AfterRead p bytes old new → HasLengths w p h.klen h.vlen new
+-- the header is that of the bytes read, which may be more
+pub has_lengths : {w p : ℕ} {bytes : List ℕ} {old new : List ℕ → Type 0} (h : Header) → 2 * w ≤ length bytes → header_pair h ≡ pair_at w (take (2 * w) bytes) → AfterRead p bytes old new → HasLengths w p h.klen h.vlen new
 unfolding size_at key_at
 has_lengths {w = w} {p = p} {bytes = bytes} h l e r =
-    let same : (b : List ℕ) → _ → pair_at w (drop p b) ≡ header_pair h = λ b is. sym (front_pair w (length bytes) (drop p b) l) ∙ ap (pair_at w) (r.read b is) ∙ sym e in
+    let front : (b : List ℕ) → _ → take (2 * w) (drop p b) ≡ take (2 * w) bytes = λ b is. sym (take-take (2 * w) (length bytes) (drop p b) l) ∙ ap (take (2 * w)) (r.read b is) in
+    let same : (b : List ℕ) → _ → pair_at w (drop p b) ≡ header_pair h = λ b is. sym (front_pair w (2 * w) (drop p b) refl) ∙ ap (pair_at w) (front b is) ∙ sym e in
     record {
       size = λ b is. ap (λ q. 2 * w + q.first + q.second) (same b is);
       key = λ b is. ap (λ q. take q.first (drop (2 * w) (drop p b))) (same b is) ∙ ap (take h.klen) (drop-drop (2 * w) p b);
     }
+
+-- the bytes read after the header
+pub held_behind : (w : ℕ) {p : ℕ} {bytes : List ℕ} {old new : List ℕ → Type 0} → 2 * w ≤ length bytes → AfterRead p bytes old new → HoldAt (p + 2 * w) (drop (2 * w) bytes) new
+held_behind w {p = p} {bytes = bytes} l r = record {
+  each = λ b is.
+      let n : ℕ = length bytes - 2 * w in
+      let sum : 2 * w + n ≡ length bytes = omega arith in
+      let long : length (drop (2 * w) bytes) ≡ n = search (rules, length-drop) in
+      ap (λ k. part (p + 2 * w) k b) long
+      ∙ ap (take n) (sym (drop-drop (2 * w) p b))
+      ∙ sym (drop-take (2 * w) n (drop p b))
+      ∙ ap (λ k. drop (2 * w) (take k (drop p b))) sum
+      ∙ ap (drop (2 * w)) (r.read b is);
+}
+
+pub held_from : (w n p : ℕ) (bytes : List ℕ) {at : ℕ} {images : List ℕ → Type 0} → n ≡ 2 * w → at ≡ p + 2 * w → HoldAt (p + 2 * w) (drop (2 * w) bytes) images → HoldAt at (take (length bytes - n) (drop n bytes)) images
+held_from w n p bytes {at = at} same place h =
+    let all : take (length bytes - n) (drop n bytes) ≡ drop n bytes = take_all (length bytes - n) (drop n bytes) (omega (arith, length-drop n bytes)) in
+    record { each = λ b is. ap (λ v. part at (length v) b) all ∙ (ap (λ k. part at (length (drop k bytes)) b) same ∙ ap (λ k. part k (length (drop (2 * w) bytes)) b) place ∙ h.each b is ∙ ap (λ k. drop k bytes) (sym same)) ∙ sym all }
 
 pub fewer_lengths : {w p k v : ℕ} {old new : List ℕ → Type 0} → NoNewImage old new → HasLengths w p k v old → HasLengths w p k v new
 fewer_lengths few h = record { size = λ b is. h.size b (few.no_other b is); key = λ b is. h.key b (few.no_other b is) }

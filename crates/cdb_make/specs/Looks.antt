@@ -1,5 +1,5 @@
 -- What the bytes of an image say of a record that stands at a place, in words of w bytes.
-use Rattle.std.specs.Prelude.{◌≡◌, ℕ, ◌+◌, ◌==◌, ◌<◌, ◌≤◌, Bool, true, false, cond, List, []}
+use Rattle.std.specs.Prelude.{◌≡◌, ℕ, ◌+◌, ◌*◌, ◌==◌, ◌<◌, ◌≤◌, Bool, true, false, cond, List, []}
 use Rattle.std.specs.Prelude.{◌∷◌, length, drop, bytes_eq, Result, Ok, Err, Option, Some, None}
 use Rattle.std.specs.Bool.{Decides}
 use Rattle.cdb_store.specs.Images.{part}
@@ -33,6 +33,15 @@ picked w h key image (e ∷ es) =
 -- no image came
 pub record NoNewImage (old new : List ℕ → Type 0) : Type 0 where
   pub no_other : (b : List ℕ) → new b → old b
+
+-- every image has these bytes from a place on
+pub record HoldAt (place : ℕ) (bytes : List ℕ) (images : List ℕ → Type 0) : Type 0 where
+  pub each : (b : List ℕ) → images b → part place (length bytes) b ≡ bytes
+
+-- in each image the record at a place has a key of k bytes and a value of v
+pub record HasLengths (w p k v : ℕ) (images : List ℕ → Type 0) : Type 0 where
+  pub size : (b : List ℕ) → images b → size_at w p b ≡ 2 * w + k + v
+  pub key : (b : List ℕ) → images b → key_at w p b ≡ part (p + 2 * w) k b
 
 -- in each image the bytes from a place on are the key exactly where the answer is true
 pub record TellsSame (same : Bool) (place : ℕ) (key : List ℕ) (images : List ℕ → Type 0)
