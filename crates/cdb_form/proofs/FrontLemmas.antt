@@ -18,9 +18,6 @@ pub record FrontDigits (bytes : List ℕ) (place value : ℕ) : Type 0 where
   pub value_is : digits_value 10 (take place bytes) ≡ value
   pub within : place ≤ length bytes
 
-pub front_digits_none : (bytes : List ℕ) → FrontDigits bytes 0 0
-front_digits_none bytes = record { each = tt; value_is = refl; within = omega arith }
-
 pub front_digit : (bytes : List ℕ) (place value c : ℕ) → FrontDigits bytes place value → place < length bytes → get_or bytes place 0 ≡ c → digit_value c < 10 → FrontDigits bytes (place + 1) (value * 10 + digit_value c)
 front_digit bytes place value c so here is digit =
     let value_is : digits_value 10 (take place bytes) ≡ value = so.value_is in
@@ -28,16 +25,6 @@ front_digit bytes place value c so here is digit =
     record {
       each = subst (AllDigits 10) (sym more) (digits_push 10 (take place bytes) c so.each digit);
       value_is = ap (digits_value 10) more ∙ digits_value_push 10 (take place bytes) c ∙ ap (λ (v : ℕ). v * 10 + digit_value c) value_is;
-      within = omega arith;
-    }
-
-pub front_stop : (bytes : List ℕ) (place c stop : ℕ) (n : FrontNumeral) → FrontDigits bytes place n.value → place < length bytes → get_or bytes place 0 ≡ c → c ≡ stop → 0 < place → n.end ≡ place + 1 → BeginsWithNumeral stop bytes n
-front_stop bytes place c stop n so here is e some end =
-    let more : take (place + 1) bytes ≡ take place bytes ++ stop ∷ [] = take_more bytes place 0 here ∙ ap (λ b. take place bytes ++ b ∷ []) (is ∙ e) in
-    record {
-      digits = take place bytes;
-      is = record { some = omega (arith, length-take-le place bytes so.within); each = so.each; value = so.value_is };
-      front = ap (λ (k : ℕ). take k bytes) end ∙ more;
       within = omega arith;
     }
 
