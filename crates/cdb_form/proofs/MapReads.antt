@@ -1,5 +1,5 @@
 -- What the parser of a map text read, piece after piece.
-use Rattle.std.proofs.Common.{All, List, None, Option, Some, [], append_assoc, ap, arith, false, get_or, length-append, refl, subst, sym, true, ◌++◌, ◌+◌, ◌<◌, ◌∙◌, ◌∷◌, ◌≡◌, ◌≢◌, ◌≤◌, ℕ}
+use Rattle.std.proofs.Common.{All, List, None, Option, Some, [], append_assoc, ap, arith, false, get_or, is_some, length-append, refl, subst, sym, true, ◌++◌, ◌+◌, ◌<◌, ◌∙◌, ◌∷◌, ◌≡◌, ◌≢◌, ◌≤◌, ℕ}
 use Rattle.std.specs.List.{AllPass}
 use Rattle.std.specs.Prelude.{◌==◌}
 use Rattle.std.specs.Io.KnownBytes.{Consumes, IsAtEnd, Keeps}
@@ -9,8 +9,8 @@ use Rattle.std.proofs.lemmas.List.Concat.{flat_map-append}
 use Rattle.std.proofs.lemmas.List.Elements.{All-append, All-nil, All-push}
 use Rattle.cdb_form.specs.Format.Record.{KeyValue}
 use Rattle.cdb_form.specs.Text.Map.{IsIgnoredLine, IsLineOf, Lacks, behind_blanks, is_blank, is_newline, line_pair, with_newlines}
-use Rattle.cdb_form.specs.Views.MapParser.{ReadsLine, ReadsPair, ReadsRun, ReadsToEnding, ReadsValue, is_of}
-use Rattle.cdb_form.specs.Views.MapReader.{IsAmidLines}
+use Rattle.cdb_form.specs.Views.MapParser.{ReadsLine, ReadsPair, ReadsRun, ReadsToEnding, ReadsValue, is_of, line_end}
+use Rattle.cdb_form.specs.Views.MapReader.{IsAmidLines, ReadsLinesOf}
 use Rattle.cdb_form.specs.Views.AtHand.{MovesCounted, MovesLine}
 use Rattle.cdb_form.specs.Views.Source.{LeavesAmid, Takes, budget}
 use Rattle.cdb_form.specs.Views.TextFault.{IsOfText, IsReadFault, IsSpent}
@@ -177,21 +177,21 @@ run_to_newline kind remaining old new run c reads newline =
 pub in_line_stop : (c : ℕ) → is_of InLine c ≡ false → c ≡ 10
 in_line_stop c h = grind (arith, eqb-true)
 
-in_line_ending : {R : Type 0} (remaining : R → Option (List ℕ)) (old new : Source R) (run : List ℕ) (stop : Option ℕ) → ReadsRun InLine remaining old new run stop → (ending : List ℕ) × ReadsToEnding remaining old new run ending
-in_line_ending remaining old new run None reads = ([], run_to_end InLine remaining old new run reads)
-in_line_ending remaining old new run (Some c) reads = (10 ∷ [], run_to_newline InLine remaining old new run c reads (in_line_stop c reads.other))
+in_line_ending : {R : Type 0} (remaining : R → Option (List ℕ)) (old new : Source R) (run : List ℕ) (stop : Option ℕ) → ReadsRun InLine remaining old new run stop → ReadsToEnding remaining old new run (line_end (is_some stop))
+in_line_ending remaining old new run None reads = run_to_end InLine remaining old new run reads
+in_line_ending remaining old new run (Some c) reads = run_to_newline InLine remaining old new run c reads (in_line_stop c reads.other)
 
 -- and what is read to the end of its line behind other bytes
-pub to_ending_behind : {R : Type 0} (remaining : R → Option (List ℕ)) (old mid new : Source R) (first text all ending : List ℕ) → Takes remaining old mid first → budget old ≤ budget mid → ReadsToEnding remaining mid new text ending → all ≡ first ++ text → ReadsToEnding remaining old new all ending
-to_ending_behind remaining old mid new first text all ending takes spends reads e = record {
-  takes = subst (λ t. Takes remaining old new t) (sym (ap (λ t. t ++ ending) e ∙ append_assoc first text ending)) (takes_then remaining old mid new first (text ++ ending) takes reads.takes);
+pub to_ending_behind : {R : Type 0} (remaining : R → Option (List ℕ)) (old mid new : Source R) (first text all stop : List ℕ) → Takes remaining old mid first → budget old ≤ budget mid → ReadsToEnding remaining mid new text stop → all ≡ first ++ text → ReadsToEnding remaining old new all stop
+to_ending_behind remaining old mid new first text all stop takes spends reads e = record {
+  takes = subst (λ t. Takes remaining old new t) (sym (ap (λ t. t ++ stop) e ∙ append_assoc first text stop)) (takes_then remaining old mid new first (text ++ stop) takes reads.takes);
   ends = reads.ends;
   spends = omega (arith, spends, reads.spends);
 }
 
 -- behind the byte that a run stopped at
-behind_stop : {R : Type 0} (kind : Kind) (remaining : R → Option (List ℕ)) (old mid new : Source R) (run text ending : List ℕ) (c : ℕ) → ReadsRun kind remaining old mid run (Some c) → ReadsToEnding remaining mid new text ending → ReadsToEnding remaining old new (run ++ c ∷ text) ending
-behind_stop kind remaining old mid new run text ending c a b = to_ending_behind remaining old mid new (run ++ c ∷ []) text (run ++ c ∷ text) ending a.takes (omega (arith, a.spends)) b (sym (append_assoc run (c ∷ []) text))
+behind_stop : {R : Type 0} (kind : Kind) (remaining : R → Option (List ℕ)) (old mid new : Source R) (run text stop : List ℕ) (c : ℕ) → ReadsRun kind remaining old mid run (Some c) → ReadsToEnding remaining mid new text stop → ReadsToEnding remaining old new (run ++ c ∷ text) stop
+behind_stop kind remaining old mid new run text stop c a b = to_ending_behind remaining old mid new (run ++ c ∷ []) text (run ++ c ∷ text) stop a.takes (omega (arith, a.spends)) b (sym (append_assoc run (c ∷ []) text))
 
 lacks_behind : (run text : List ℕ) (c : ℕ) → Lacks is_newline run → is_newline c ≡ false → Lacks is_newline text → Lacks is_newline (run ++ c ∷ text)
 lacks_behind run text c a h b = lacks_append run (c ∷ text) a (lacks_append (c ∷ []) text (lacks_one c h) b)
@@ -201,17 +201,15 @@ other_than c d h = grind arith
 
 -- ---- a value
 
-pub value_some : {R : Type 0} (remaining : R → Option (List ℕ)) (old mid new : Source R) (blanks bytes value : List ℕ) (c : ℕ) (stop : Option ℕ) → ReadsRun Blank remaining old mid blanks (Some c) → c ≢ 10 → ReadsRun InLine remaining mid new bytes stop → value ≡ c ∷ bytes → ReadsValue remaining old new value
+pub value_some : {R : Type 0} (remaining : R → Option (List ℕ)) (old mid new : Source R) (blanks bytes value : List ℕ) (c : ℕ) (stop : Option ℕ) → ReadsRun Blank remaining old mid blanks (Some c) → c ≢ 10 → ReadsRun InLine remaining mid new bytes stop → value ≡ c ∷ bytes → ReadsValue remaining old new value (line_end (is_some stop))
 value_some remaining old mid new blanks bytes value c stop a h b e =
     let other : is_blank c ≡ false = a.other in
-    let line = in_line_ending remaining mid new bytes stop b in
-    subst (λ v. ReadsValue remaining old new v) (sym e) (record {
+    subst (λ v. ReadsValue remaining old new v (line_end (is_some stop))) (sym e) (record {
       blanks = blanks;
-      ending = line.0;
       each = a.each;
       begins = rw other refl;
       whole = lacks_append (c ∷ []) bytes (lacks_one c (other_than c 10 h)) (run_lacks InLine bytes b.each);
-      reads = behind_stop Blank remaining old mid new blanks bytes line.0 c a line.1;
+      reads = behind_stop Blank remaining old mid new blanks bytes (line_end (is_some stop)) c a (in_line_ending remaining mid new bytes stop b);
     })
 
 -- ---- a record behind its first byte
@@ -219,10 +217,9 @@ value_some remaining old mid new blanks bytes value c stop a h b e =
 first_lacks : (first : ℕ) (word : List ℕ) → is_of InWord first ≡ true → AllPass (is_of InWord) word → Lacks is_blank (first ∷ word)
 first_lacks first word h each = All-append (λ c. is_blank c ≡ false) (first ∷ []) word (All-push (λ c. is_blank c ≡ false) [] first (All-nil _) (word_no_blank first h)) (word_lacks word each)
 
-pub pair_none : {R : Type 0} (remaining : R → Option (List ℕ)) (old new : Source R) (word ending : List ℕ) (first : ℕ) → is_of InWord first ≡ true → AllPass (is_of InWord) word → ReadsToEnding remaining old new word ending → ReadsPair remaining old new first (record { key = first ∷ word; value = [] })
-pair_none remaining old new word ending first h each reads = record {
+pub pair_none : {R : Type 0} (remaining : R → Option (List ℕ)) (old new : Source R) (word stop : List ℕ) (first : ℕ) → is_of InWord first ≡ true → AllPass (is_of InWord) word → ReadsToEnding remaining old new word stop → ReadsPair remaining old new first (record { key = first ∷ word; value = [] }) stop
+pair_none remaining old new word stop first h each reads = record {
   tail = word;
-  ending = ending;
   whole = run_lacks InWord word each;
   pair = ap line_pair (sym (append-nil (first ∷ word))) ∙ line_pair-key (first ∷ word) [] (first_lacks first word h each) refl;
   reads = reads;
@@ -231,26 +228,25 @@ pair_none remaining old new word ending first h each reads = record {
 pub word_stop : (c : ℕ) → is_of InWord c ≡ false → (c == 10) ≡ false → is_blank c ≡ true
 word_stop c h other = grind arith
 
-pub pair_value : {R : Type 0} (remaining : R → Option (List ℕ)) (old mid new : Source R) (word value : List ℕ) (first c : ℕ) → is_of InWord first ≡ true → ReadsRun InWord remaining old mid word (Some c) → c ≢ 10 → ReadsValue remaining mid new value
-    → ReadsPair remaining old new first (record { key = first ∷ word; value = value })
-pair_value remaining old mid new word value first c h a other b =
+pub pair_value : {R : Type 0} (remaining : R → Option (List ℕ)) (old mid new : Source R) (word value stop : List ℕ) (first c : ℕ) → is_of InWord first ≡ true → ReadsRun InWord remaining old mid word (Some c) → c ≢ 10 → ReadsValue remaining mid new value stop
+    → ReadsPair remaining old new first (record { key = first ∷ word; value = value }) stop
+pair_value remaining old mid new word value stop first c h a other b =
     let no_newline = other_than c 10 other in
     let blank : is_blank c ≡ true = word_stop c a.other no_newline in
     let blanks : AllPass is_blank (c ∷ b.blanks) = All-append (λ c. is_blank c ≡ true) (c ∷ []) b.blanks (All-push (λ c. is_blank c ≡ true) [] c (All-nil _) blank) b.each in
     let v : behind_blanks (c ∷ (b.blanks ++ value)) ≡ value = behind_blanks-run (c ∷ b.blanks) value blanks b.begins in
     record {
       tail = word ++ c ∷ (b.blanks ++ value);
-      ending = b.ending;
       whole = lacks_behind word (b.blanks ++ value) c (run_lacks InWord word a.each) no_newline (lacks_append b.blanks value (run_lacks Blank b.blanks b.each) b.whole);
       pair = line_pair-key (first ∷ word) (c ∷ (b.blanks ++ value)) (first_lacks first word h a.each) (rw blank refl) ∙ ap (λ t. let p : KeyValue = record { key = first ∷ word; value = t } in p) v;
-      reads = behind_stop InWord remaining old mid new word (b.blanks ++ value) b.ending c a b.reads;
+      reads = behind_stop InWord remaining old mid new word (b.blanks ++ value) stop c a b.reads;
     }
 
 -- in the bytes of a record in memory
-pub pair_is : {R : Type 0} (remaining : R → Option (List ℕ)) (old new : Source R) (first : ℕ) (k v key value : List ℕ) → ReadsPair remaining old new first (record { key = k; value = v }) → key ≡ k → value ≡ v → ReadsPair remaining old new first (record { key = key; value = value })
-pair_is remaining old new first k v key value p ek ev =
-    let q = subst (λ t. ReadsPair remaining old new first (record { key = t; value = v })) (sym ek) p in
-    subst (λ t. ReadsPair remaining old new first (record { key = key; value = t })) (sym ev) q
+pub pair_is : {R : Type 0} (remaining : R → Option (List ℕ)) (old new : Source R) (first : ℕ) (k v key value stop : List ℕ) → ReadsPair remaining old new first (record { key = k; value = v }) stop → key ≡ k → value ≡ v → ReadsPair remaining old new first (record { key = key; value = value }) stop
+pair_is remaining old new first k v key value stop p ek ev =
+    let q = subst (λ t. ReadsPair remaining old new first (record { key = t; value = v }) stop) (sym ek) p in
+    subst (λ t. ReadsPair remaining old new first (record { key = key; value = t }) stop) (sym ev) q
 
 -- ---- a line
 
@@ -279,20 +275,20 @@ note_ignored remaining old mid new blanks bytes c d r a h b =
     let note = subst (λ b. ReadsRun Blank remaining old mid blanks (Some b)) h a in
     (blanks ++ 35 ∷ bytes, noted_ignored blanks bytes a.each b.each, behind_stop Blank remaining old mid new blanks bytes (10 ∷ []) 35 note (run_to_newline InLine remaining mid new bytes d b (in_line_stop d b.other)))
 
-pub line_of_pair : {R : Type 0} (remaining : R → Option (List ℕ)) (old mid new : Source R) (blanks : List ℕ) (c : ℕ) (r : KeyValue) → ReadsRun Blank remaining old mid blanks (Some c) → c ≢ 10 → c ≢ 35 → ReadsPair remaining mid new c r → ReadsLine remaining old new r Pair
-line_of_pair remaining old mid new blanks c r a no_newline no_note b =
+pub line_of_pair : {R : Type 0} (remaining : R → Option (List ℕ)) (old mid new : Source R) (blanks stop : List ℕ) (c : ℕ) (r : KeyValue) → ReadsRun Blank remaining old mid blanks (Some c) → c ≢ 10 → c ≢ 35 → ReadsPair remaining mid new c r stop
+    → (line : List ℕ) × IsLineOf r line × ReadsToEnding remaining old new line stop
+line_of_pair remaining old mid new blanks stop c r a no_newline no_note b =
     let other : is_blank c ≡ false = a.other in
     let is : IsLineOf r (blanks ++ c ∷ b.tail) = record {
       whole = lacks_behind blanks b.tail c (run_lacks Blank blanks a.each) (other_than c 10 no_newline) b.whole;
       holds = kept_line blanks (c ∷ b.tail) r a.each (rw other refl) (other_than c 35 no_note) b.pair;
     } in
-    (blanks ++ c ∷ b.tail, b.ending, is, behind_stop Blank remaining old mid new blanks b.tail b.ending c a b.reads)
+    (blanks ++ c ∷ b.tail, is, behind_stop Blank remaining old mid new blanks b.tail stop c a b.reads)
 
 -- a record's whole line, by one step
 pub line_at_hand : {R : Type 0} (remaining : R → Option (List ℕ)) (old new : Source R) (n : ℕ) (r : KeyValue) → MovesLine (remaining old.reader) (remaining new.reader) n r → new.taken ≡ old.taken + n → old.asks ≡ new.asks + n → ReadsLine remaining old new r Pair
 line_at_hand remaining old new n r m counted asked = (
   m.line,
-  10 ∷ [],
   m.is,
   record {
     takes = record { read = m.read; counted = omega (arith, counted, m.long, length-append m.line (10 ∷ [])) };
@@ -325,3 +321,13 @@ pub lines_fail : {R : Type 0} (remaining : R → Option (List ℕ)) (old mid new
 lines_fail remaining old mid new ignored f so l =
     leaves_behind (Lacks is_newline) IsAmidLines remaining old mid new (with_newlines ignored) f so.takes so.spends
     (λ bytes lacks. record { ignored = ignored; part = bytes; are_ignored = so.are; within = lacks; bytes_are = refl }) l
+
+-- and behind them the line of a record
+pub lines_found : {R : Type 0} (remaining : R → Option (List ℕ)) (old mid new : Source R) (ignored : List (List ℕ)) (line stop : List ℕ) (r : KeyValue) → LinesSoFar remaining old mid ignored → IsLineOf r line → ReadsToEnding remaining mid new line stop → ReadsLinesOf remaining old new r stop
+lines_found remaining old mid new ignored line stop r so is reads = record {
+  ignored = ignored;
+  line = line;
+  are_ignored = so.are;
+  is = is;
+  reads = to_ending_behind remaining old mid new (with_newlines ignored) line (with_newlines ignored ++ line) stop so.takes so.spends reads refl;
+}

@@ -2,7 +2,7 @@
 use Rattle.std.specs.Io.KnownBytes.{IsAtEnd}
 use Rattle.std.specs.List.{AllPass}
 use Rattle.std.specs.Prelude.{Bool, IfNone, IfSome, List, None, Option, Some, [], codes, false}
-use Rattle.std.specs.Prelude.{length, not, ◌*◌, ◌+◌, ◌++◌, ◌||◌, ◌∷◌, ◌≡◌, ◌≤◌, ℕ}
+use Rattle.std.specs.Prelude.{if◌then◌else◌, length, not, ◌*◌, ◌+◌, ◌++◌, ◌||◌, ◌∷◌, ◌≡◌, ◌≤◌, ℕ}
 use Rattle.cdb_form.specs.Format.Record.{KeyValue}
 use Rattle.cdb_form.specs.Text.Map.{BeginsOther, IsIgnoredLine, IsLineOf, Lacks, is_blank}
 use Rattle.cdb_form.specs.Text.Map.{is_newline, line_pair}
@@ -10,7 +10,8 @@ use Rattle.cdb_form.specs.Views.Source.{Takes, budget}
 use Rattle.cdb_form.specs.declared.text.kind.Kind.{Kind}
 use Rattle.cdb_form.specs.declared.text.kind.Kind.TheVariants.{Blank, InLine, InWord}
 use Rattle.cdb_form.specs.declared.text.map_parser.LineRead.{LineRead}
-use Rattle.cdb_form.specs.declared.text.map_parser.LineRead.TheVariants.{Ignored, Last, Pair}
+use Rattle.cdb_form.specs.declared.text.map_parser.LineRead.TheVariants.{Ignored, Last, LastPair}
+use Rattle.cdb_form.specs.declared.text.map_parser.LineRead.TheVariants.{Pair}
 use Rattle.cdb_form.specs.declared.text.source.Source.{Source}
 
 -- whether a byte is of a kind
@@ -33,6 +34,10 @@ pub record ReadsRun {R : Type 0} (kind : Kind) (remaining : R → Option (List �
   pub end : IfNone stop (IsAtEnd (remaining new.reader))
   pub spends : budget old + 1001 * length (stop_bytes stop) ≤ budget new + 1001
 
+-- what follows a line: a newline, or nothing
+abbrev pub line_end : Bool → List ℕ
+line_end newline = if newline then codes "\n" else []
+
 -- how a line ends: with a newline, or at the end of the input
 abbrev pub EndsLine : List ℕ → Option (List ℕ) → Type 0
 EndsLine [] unread = IsAtEnd unread
@@ -47,9 +52,8 @@ pub record ReadsToEnding {R : Type 0} (remaining : R → Option (List ℕ)) (old
 
 -- blanks were read, and then a value, up to the end of its line
 pub record ReadsValue {R : Type 0} (remaining : R → Option (List ℕ)) (old new : Source R)
-    (value : List ℕ) : Type 0 where
+    (value ending : List ℕ) : Type 0 where
   pub blanks : List ℕ
-  pub ending : List ℕ
   pub each : AllPass is_blank blanks
   pub begins : BeginsOther is_blank value
   pub whole : Lacks is_newline value
@@ -57,15 +61,13 @@ pub record ReadsValue {R : Type 0} (remaining : R → Option (List ℕ)) (old ne
 
 -- behind its first byte a record was read, up to the end of its line
 pub record ReadsPair {R : Type 0} (remaining : R → Option (List ℕ)) (old new : Source R)
-    (first : ℕ) (r : KeyValue) : Type 0 where
+    (first : ℕ) (r : KeyValue) (ending : List ℕ) : Type 0 where
   pub tail : List ℕ
-  pub ending : List ℕ
   pub whole : Lacks is_newline tail
   pub pair : line_pair (first ∷ tail) ≡ r
   pub reads : ReadsToEnding remaining old new tail ending
 
--- a line was read: an ignored one with its newline, an ignored one at the end of the input, or that
--- of a record
+-- a line was read, an ignored one or that of a record: with its newline, or to the end of the input
 abbrev pub ReadsLine : {R : Type 0} → (R → Option (List ℕ)) → Source R → Source R → KeyValue
     → LineRead → Type 0
 ReadsLine remaining old new r Ignored =
@@ -73,4 +75,6 @@ ReadsLine remaining old new r Ignored =
 ReadsLine remaining old new r Last =
     (line : List ℕ) × IsIgnoredLine line × ReadsToEnding remaining old new line []
 ReadsLine remaining old new r Pair =
-    (line ending : List ℕ) × IsLineOf r line × ReadsToEnding remaining old new line ending
+    (line : List ℕ) × IsLineOf r line × ReadsToEnding remaining old new line (codes "\n")
+ReadsLine remaining old new r LastPair =
+    (line : List ℕ) × IsLineOf r line × ReadsToEnding remaining old new line []

@@ -1,12 +1,14 @@
 -- What a clause reads of a reader of a map text.
-use Rattle.std.specs.Prelude.{All, List, Option, [], ◌++◌, ◌<◌, ◌≡◌, ℕ}
+use Rattle.std.specs.Prelude.{All, List, Option, [], codes, flat_map, ◌++◌, ◌<◌, ◌∷◌, ◌≡◌, ℕ}
 use Rattle.cdb_form.specs.Format.Record.{KeyValue}
-use Rattle.cdb_form.specs.Text.Map.{IsIgnoredLine, IsLineOf, Lacks, is_newline, map_lines}
+use Rattle.cdb_form.specs.Text.Map.{IsIgnoredLine, IsLineOf, Lacks, is_newline, line_records}
 use Rattle.cdb_form.specs.Text.Map.{with_newlines}
 use Rattle.cdb_form.specs.Views.MapParser.{ReadsToEnding}
 use Rattle.cdb_form.specs.Views.Source.{LeavesAmid}
 use Rattle.cdb_form.specs.declared.text.fault.TextFault.{TextFault}
 use Rattle.cdb_form.specs.declared.text.going.Going.TheVariants.{AtEnd, Failed, On}
+use Rattle.cdb_form.specs.declared.text.map_parser.Entry.{Entry}
+use Rattle.cdb_form.specs.declared.text.map_parser.Entry.TheVariants.{Closed, End, Last}
 use Rattle.cdb_form.specs.declared.text.map_reader.MapReader.{MapReader}
 use Rattle.cdb_form.specs.declared.text.source.Source.{Source}
 
@@ -22,11 +24,11 @@ taken_of t = t.source.taken
 abbrev pub asks_left : {R : Type 0} → MapReader R → ℕ
 asks_left t = t.source.asks
 
--- it has answered neither `None` nor a fault
+-- it has met neither the end of its input nor a fault
 abbrev pub IsGoing : {R : Type 0} → MapReader R → Type 0
 IsGoing t = t.going ≡ On
 
--- it has answered `None`
+-- it has met the end of its input: it answers `None`
 abbrev pub HasEnded : {R : Type 0} → MapReader R → Type 0
 HasEnded t = t.going ≡ AtEnd
 
@@ -34,12 +36,11 @@ HasEnded t = t.going ≡ AtEnd
 abbrev pub HasFailed : {R : Type 0} → MapReader R → TextFault → Type 0
 HasFailed t fault = t.going ≡ Failed fault
 
--- ignored lines were read, and then the line of a record
+-- ignored lines were read, and then the line of a record, which ends so
 pub record ReadsLinesOf {R : Type 0} (remaining : R → Option (List ℕ)) (old new : Source R)
-    (r : KeyValue) : Type 0 where
+    (r : KeyValue) (ending : List ℕ) : Type 0 where
   pub ignored : List (List ℕ)
   pub line : List ℕ
-  pub ending : List ℕ
   pub are_ignored : All IsIgnoredLine ignored
   pub is : IsLineOf r line
   pub reads : ReadsToEnding remaining old new (with_newlines ignored ++ line) ending
@@ -53,6 +54,13 @@ pub record ReadsIgnored {R : Type 0} (remaining : R → Option (List ℕ)) (old 
   pub is : IsIgnoredLine line
   pub reads : ReadsToEnding remaining old new (with_newlines ignored ++ line) []
 
+-- what was read up to the first record's line
+abbrev pub ReadsEntry : {R : Type 0} → (R → Option (List ℕ)) → Source R → Source R → KeyValue
+    → Entry → Type 0
+ReadsEntry remaining old new r End = ReadsIgnored remaining old new
+ReadsEntry remaining old new r Closed = ReadsLinesOf remaining old new r (codes "\n")
+ReadsEntry remaining old new r Last = ReadsLinesOf remaining old new r []
+
 -- ignored lines, and then a part of one more line: no record's line is whole there
 pub record IsAmidLines (bytes : List ℕ) : Type 0 where
   pub ignored : List (List ℕ)
@@ -61,19 +69,31 @@ pub record IsAmidLines (bytes : List ℕ) : Type 0 where
   pub within : Lacks is_newline part
   pub bytes_are : bytes ≡ with_newlines ignored ++ part
 
--- of a text lines were read that hold these records, and a part of one more line
+-- of a text whole lines were read, each with its newline, which hold these records
+pub record ReadLines (text rest : List ℕ) (rs : List KeyValue) : Type 0 where
+  pub lines : List (List ℕ)
+  pub whole : All (Lacks is_newline) lines
+  pub split : text ≡ with_newlines lines ++ rest
+  pub records : flat_map line_records lines ≡ rs
+
+-- of a text whole lines were read that hold these records, and a part of one more line
 pub record ReadAmid (text rest : List ℕ) (rs : List KeyValue) : Type 0 where
-  pub lines : List ℕ
   pub part : List ℕ
-  pub split : text ≡ (lines ++ part) ++ rest
-  pub records : map_lines lines ≡ rs
+  pub lines : ReadLines text (part ++ rest) rs
   pub within : Lacks is_newline part
+
+-- after a record's line it goes on, unless the line ended with the input
+abbrev pub GoesOn : {R : Type 0} → List ℕ → MapReader R → Type 0
+GoesOn [] t = HasEnded t
+GoesOn (c ∷ bytes) t = IsGoing t
 
 -- a call gave a record: its line was the first one unread that is not ignored
 pub record GivesRecord {R : Type 0} (remaining : R → Option (List ℕ)) (old new : MapReader R)
     (r : KeyValue) : Type 0 where
-  pub reads : ReadsLinesOf remaining old.source new.source r
-  pub going : IsGoing new
+  pub was : IsGoing old
+  pub ending : List ℕ
+  pub reads : ReadsLinesOf remaining old.source new.source r ending
+  pub going : GoesOn ending new
   pub fewer : asks_left new < asks_left old
 
 -- a call told the end: the first such call read ignored lines alone
@@ -85,5 +105,6 @@ pub record GivesEnd {R : Type 0} (remaining : R → Option (List ℕ)) (old new 
 -- a call answered a fault, as every later one will: what it read holds no record's whole line
 pub record Fails {R : Type 0} (remaining : R → Option (List ℕ)) (old new : MapReader R)
     (fault : TextFault) : Type 0 where
+  pub unended : HasEnded old → ⊥
   pub failed : HasFailed new fault
   pub meets : IsGoing old → LeavesAmid IsAmidLines remaining old.source new.source fault

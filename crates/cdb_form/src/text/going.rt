@@ -6,7 +6,7 @@ use crate::text::fault::TextFault;
 pub(crate) enum Going {
     /// It reads on.
     On,
-    /// It tells the end again.
+    /// Its input has ended: it tells the end.
     AtEnd,
     /// It tells this fault again.
     Failed(TextFault),

@@ -1,11 +1,12 @@
 // The parser of a map text: it takes line after line, a record's that is at hand by one step, and
 // else runs of bytes and single ones.
-ghost use Rattle.std.specs.Prelude.{◌≡◌, ◌<◌, true, ℕ, List, ◌∷◌, OnOk, IfOk, IfErr, MatchBool};
+ghost use Rattle.std.specs.Prelude.{◌≡◌, ◌<◌, true, ℕ, List, ◌∷◌, OnOk, IfOk, IfErr};
 ghost use Rattle.cdb_form.specs.Format.Record.{AreBytes};
 ghost use Rattle.cdb_form.specs.Text.Map.{Lacks, is_newline};
 ghost use Rattle.cdb_form.specs.Views.MapParser.{ReadsLine, ReadsPair, ReadsRun, ReadsValue, is_of};
+ghost use Rattle.cdb_form.specs.Views.MapParser.{line_end};
 ghost use Rattle.cdb_form.specs.Views.AtHand.{MovesCounted};
-ghost use Rattle.cdb_form.specs.Views.MapReader.{IsAmidLines, ReadsIgnored, ReadsLinesOf};
+ghost use Rattle.cdb_form.specs.Views.MapReader.{IsAmidLines, ReadsEntry};
 ghost use Rattle.cdb_form.specs.declared.text.fault.TextFault.TheVariants.{NoMemory};
 ghost use Rattle.cdb_form.specs.Views.Pairs.{key_value};
 ghost use Rattle.cdb_form.specs.Views.Source.{LeavesAmid};
@@ -25,8 +26,21 @@ pub(crate) enum LineRead {
     Ignored,
     /// No record, and the end of the input.
     Last,
-    /// A record.
+    /// A record, and a newline.
     Pair,
+    /// A record, and the end of the input.
+    LastPair,
+}
+
+/// What was found in the lines up to the first record's.
+#[derive(Clone, Copy)]
+pub(crate) enum Entry {
+    /// No record: they end with the input.
+    End,
+    /// A record, and a newline.
+    Closed,
+    /// A record, whose line ends with the input.
+    Last,
 }
 
 impl<R: Read> Source<R> {
@@ -97,9 +111,11 @@ impl<R: Read> Source<R> {
         }
     }
 
-    /// Takes the rest of a line behind the first blank behind a key: more blanks, and the value.
-    fn value<A: AtHand<R>>(&mut self, into: &mut Vec<u8>) -> Result<(), TextFault>
-        ensures reads { OnOk result (ReadsValue R.remaining self.old self.new into.new.items) }
+    /// Takes the rest of a line behind the first blank behind a key: more blanks, and the value. It
+    /// answers whether the line ends with a newline.
+    fn value<A: AtHand<R>>(&mut self, into: &mut Vec<u8>) -> Result<bool, TextFault>
+        ensures reads { IfOk result (λ newline. ReadsValue R.remaining self.old self.new
+            into.new.items (line_end newline)) }
         ensures are { AreBytes into.new.items }
         ensures fewer { OnOk result (self.new.asks < self.old.asks) }
         ensures leaves { IfErr result (LeavesAmid (Lacks is_newline)
@@ -107,30 +123,31 @@ impl<R: Read> Source<R> {
     {
         into.clear();
         let Some(first) = self.pass::<A>(Kind::Blank)? else {
-            return Ok(());
+            return Ok(false);
         };
         if first == b'\n' {
-            return Ok(());
+            return Ok(true);
         }
-        self.keep::<A>(first, Kind::InLine, into)?;
-        Ok(())
+        let stop = self.keep::<A>(first, Kind::InLine, into)?;
+        Ok(stop.is_some())
     }
 
-    /// Takes the rest of a record's line behind its first byte, which is one of its key.
-    fn pair<A: AtHand<R>>(&mut self, first: u8, into: &mut Record) -> Result<(), TextFault>
+    /// Takes the rest of a record's line behind its first byte, which is one of its key. It answers
+    /// whether the line ends with a newline.
+    fn pair<A: AtHand<R>>(&mut self, first: u8, into: &mut Record) -> Result<bool, TextFault>
         requires { is_of InWord first ≡ true }
-        ensures reads { OnOk result (ReadsPair R.remaining self.old self.new first
-            (key_value into.new)) }
+        ensures reads { IfOk result (λ newline. ReadsPair R.remaining self.old self.new first
+            (key_value into.new) (line_end newline)) }
         ensures fewer { OnOk result (self.new.asks < self.old.asks) }
         ensures leaves { IfErr result (LeavesAmid (Lacks is_newline)
             R.remaining self.old self.new) }
     {
         into.value.clear();
         let Some(stop) = self.keep::<A>(first, Kind::InWord, &mut into.key)? else {
-            return Ok(());
+            return Ok(false);
         };
         if stop == b'\n' {
-            return Ok(());
+            return Ok(true);
         }
         self.value::<A>(&mut into.value)
     }
@@ -152,8 +169,12 @@ impl<R: Read> Source<R> {
                 Some(_) => Ok(LineRead::Ignored),
             },
             Some(first) => {
-                self.pair::<A>(first, into)?;
-                Ok(LineRead::Pair)
+                let newline = self.pair::<A>(first, into)?;
+                if newline {
+                    Ok(LineRead::Pair)
+                } else {
+                    Ok(LineRead::LastPair)
+                }
             }
         }
     }
@@ -177,19 +198,19 @@ impl<R: Read> Source<R> {
         Ok(LineRead::Pair)
     }
 
-    /// Takes lines up to the first record's, and answers whether there is one.
-    pub(crate) fn map_entry<A: AtHand<R>>(&mut self, into: &mut Record) -> Result<bool, TextFault>
-        ensures reads { IfOk result (λ given. MatchBool given
-            (ReadsLinesOf R.remaining self.old self.new (key_value into.new))
-            (ReadsIgnored R.remaining self.old self.new)) }
+    /// Takes lines up to the first record's, and answers whether there is one, and how it ends.
+    pub(crate) fn map_entry<A: AtHand<R>>(&mut self, into: &mut Record) -> Result<Entry, TextFault>
+        ensures reads { IfOk result (ReadsEntry R.remaining self.old self.new
+            (key_value into.new)) }
         ensures fewer { OnOk result (self.new.asks < self.old.asks) }
         ensures leaves { IfErr result (LeavesAmid IsAmidLines R.remaining self.old self.new) }
     {
         loop {
             match self.line_by::<A>(into)? {
                 LineRead::Ignored => {}
-                LineRead::Last => return Ok(false),
-                LineRead::Pair => return Ok(true),
+                LineRead::Last => return Ok(Entry::End),
+                LineRead::Pair => return Ok(Entry::Closed),
+                LineRead::LastPair => return Ok(Entry::Last),
             }
         }
     }

@@ -6,6 +6,7 @@ use crate::record::Record;
 use crate::text::at_hand::{AtHand, NoneAtHand};
 use crate::text::fault::TextFault;
 use crate::text::going::Going;
+use crate::text::map_parser::Entry;
 use crate::text::source::Source;
 use std::alloc::Global;
 use std::io::Read;
@@ -13,7 +14,8 @@ use std::io::Read;
 /// Reads the records of a map text, one after the other.
 ///
 /// Every input is a map text, so `Input`, `Endless` and `NoMemory` are its only faults. Its reader
-/// is asked for one byte at once, and for none behind the newline of the record that it gives.
+/// is asked for one byte at once, and for none after the newline of the record that it gives, nor
+/// after the end of the input.
 #[derive(Drop)]
 pub struct MapReader<R> {
     alloc: Global,
@@ -52,9 +54,10 @@ impl<R: Read> MapReader<R> {
 
     /// The next record, or `None` at the end of the input.
     ///
-    /// After the end it answers `Ok(None)` for good, and after a fault that fault. `Input` comes
-    /// where the reader failed, or was interrupted more than 1000 times in a row; `Endless` where
-    /// no ask is left; `NoMemory` where a growth was refused.
+    /// After the end it answers `Ok(None)` for good, and after a fault that fault. If the last line
+    /// has no newline, its record comes with the end. `Input` comes if the reader failed, or was
+    /// interrupted more than 1000 times in a row; `Endless` if no ask is left; `NoMemory` if an
+    /// allocation failed.
     pub fn next(&mut self) -> Result<Option<Record>, TextFault>
         ensures gives { IfOk result (λ found. MatchOption found
             (GivesEnd R.remaining self.old self.new)
@@ -105,12 +108,20 @@ impl<R: Read> MapReader<R> {
             Going::AtEnd => return Ok(false),
             Going::Failed(fault) => return Err(fault),
         }
-        let answer = self.source.map_entry::<A>(into);
-        match answer {
-            Ok(true) => {}
-            Ok(false) => self.going = Going::AtEnd,
-            Err(fault) => self.going = Going::Failed(fault),
+        match self.source.map_entry::<A>(into) {
+            Ok(Entry::Closed) => Ok(true),
+            Ok(Entry::Last) => {
+                self.going = Going::AtEnd;
+                Ok(true)
+            }
+            Ok(Entry::End) => {
+                self.going = Going::AtEnd;
+                Ok(false)
+            }
+            Err(fault) => {
+                self.going = Going::Failed(fault);
+                Err(fault)
+            }
         }
-        answer
     }
 }

@@ -156,8 +156,8 @@ fn one_byte_is_asked_for_at_once(rt: HostRuntime) -> Result<(), Fail> {
     let mut reader = FakeReader::new(SIX_LINES, Behind::End);
     read_all(rt.alloc(), &mut reader, 1 << 48)?;
     assert!(rt; reader.greatest_ask == 1);
-    // The end is met by the last record's line and by the call behind it.
-    assert!(rt; reader.calls == SIX_LINES.len() as u64 + 2);
+    // The last record's line meets the end, and the call after it reads nothing.
+    assert!(rt; reader.calls == SIX_LINES.len() as u64 + 1);
     Ok(())
 }
 
@@ -251,13 +251,12 @@ fn interruptions_are_counted_in_a_row(rt: HostRuntime) -> Result<(), Fail> {
 
 #[test]
 fn as_many_asks_as_are_made_suffice(rt: HostRuntime) -> Result<(), Fail> {
-    let asks = SIX_LINES.len() as u64 + 2;
+    let asks = SIX_LINES.len() as u64 + 1;
     let two: &[u8] = b"<one|Hello><key|>";
     let three: &[u8] = b"<one|Hello><key|><two|Good bye>";
     let cases = [
         (asks, three, None),
-        (asks - 1, three, Some(TextFault::Endless)),
-        (asks - 2, two, Some(TextFault::Endless)),
+        (asks - 1, two, Some(TextFault::Endless)),
     ];
     for (bound, records, fault) in cases {
         let reader = FakeReader::new(SIX_LINES, Behind::End);

@@ -32,21 +32,21 @@ pub record HasFaultBehind {X : Type 0} (spelling : ℕ → List ℕ → X → Ty
   pub whole : WholeItems spelling greatest text xs rest
   pub has : HasFault spelling greatest 0 text fault
 
--- the reader of an input failed behind this part of it, or has no end: it took 2^48 asks, of 1001
--- at most for a byte or an end
-pub record StopsReading (Ends : List ℕ → Type 0) (ends : ℕ) (fault : TextFault)
-    (input : List ℕ) : Type 0 where
+-- the reader of an input failed after this part of it, or has no end: it took 2^48 asks, of 1001
+-- at most for a byte or the end
+pub record StopsReading (Ends : List ℕ → Type 0) (fault : TextFault) (input : List ℕ)
+    : Type 0 where
   pub part : List ℕ
   pub more : List ℕ
   pub split : input ≡ part ++ more
   pub amid : Ends part
-  pub asked : fault ≡ Endless → 2 ^ 48 ≤ 1001 * (length part + ends)
+  pub asked : fault ≡ Endless → 2 ^ 48 ≤ 1001 * (length part + 1)
 
 -- an input has this fault, of its text or of its reader
-pub record HasFaultOf (InText : Type 0) (Ends : List ℕ → Type 0) (ends : ℕ)
-    (fault : TextFault) (input : List ℕ) : Type 0 where
+pub record HasFaultOf (InText : Type 0) (Ends : List ℕ → Type 0) (fault : TextFault)
+    (input : List ℕ) : Type 0 where
   pub of_text : IsOfText fault → InText
-  pub of_reader : IsReadFault fault → StopsReading Ends ends fault input
+  pub of_reader : IsReadFault fault → StopsReading Ends fault input
 
 -- ---- inputs that only put
 
@@ -66,16 +66,11 @@ EndsAmid Native greatest records part =
     HasFaultBehind Spells greatest part records (Ended (length part))
 EndsAmid Map greatest records part = ReadAmid part [] records
 
--- how often at most the end of an input is met: a map text's last line may end there too
-abbrev pub ends_met : Style → ℕ
-ends_met Native = 1
-ends_met Map = 2
-
 -- an input has this fault behind these records
 abbrev pub HasInputFault : Style → ℕ → List KeyValue → TextFault → List ℕ → Type 0
 HasInputFault style greatest records fault input =
     HasFaultOf (HasFaultBehind Spells greatest input records fault)
-    (EndsAmid style greatest records) (ends_met style) fault input
+    (EndsAmid style greatest records) fault input
 
 -- ---- inputs of any form
 
@@ -101,7 +96,7 @@ HasItemFault (Puts style) greatest items fault input =
     ArePuts items (λ records. HasInputFault style greatest records fault input)
 HasItemFault Changes greatest items fault input =
     HasFaultOf (HasFaultBehind SpellsChange greatest input items fault)
-    (λ part. HasFaultBehind SpellsChange greatest part items (Ended (length part))) 1 fault input
+    (λ part. HasFaultBehind SpellsChange greatest part items (Ended (length part))) fault input
 
 -- the first inputs are texts of these items, and the others follow
 abbrev pub AreInputs : InputForm → ℕ → List (List Change) → List (Option (List ℕ))

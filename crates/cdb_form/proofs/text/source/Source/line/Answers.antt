@@ -1,4 +1,4 @@
-use Rattle.std.proofs.Common.{◌≡◌, ◌≢◌, arith}
+use Rattle.std.proofs.Common.{[], ◌∷◌, ◌≡◌, ◌≢◌, arith}
 use Rattle.std.proofs.lemmas.Result.{err_from_is_err_and}
 use Rattle.cdb_form.specs.Views.Pairs.{key_value}
 use Rattle.cdb_form.proofs.MapReads.{leaves_past, line_ignored, line_last, line_of_pair, note_ignored, note_last, other_than}
@@ -12,12 +12,12 @@ returns-in_err-pass-in-Some-eq35-clause-leaves g c =
     let other : c.in-Some-eq35.field-0 ≢ 10 = omega arith in
     rw (p.1, p.2) (leaves_past _ _ _ _ _ run.0 _ _ run.1 (other_than _ 10 other) c.in_err-pass-in-Some-eq35.ensures.leaves)
 
-pub returns-in_err-pair-in-Some-clause-leaves : goal.returns-in_err-pair-in-Some-clause-leaves
-returns-in_err-pair-in-Some-clause-leaves g c =
-    let p = err_from_is_err_and c.from_residual-in_err-pair-in-Some.result c.from_residual-in_err-pair-in-Some.ensures.1 in
+pub returns-in_err-newline-in-Some-clause-leaves : goal.returns-in_err-newline-in-Some-clause-leaves
+returns-in_err-newline-in-Some-clause-leaves g c =
+    let p = err_from_is_err_and c.from_residual-in_err-newline-in-Some.result c.from_residual-in_err-newline-in-Some.ensures.1 in
     let run = rw c.in-Some.is at c.in_ok-pass.ensures.run in
     let other : c.in-Some.first ≢ 10 = omega arith in
-    rw (p.1, p.2) (leaves_past _ _ _ _ _ run.0 _ _ run.1 (other_than _ 10 other) c.in_err-pair-in-Some.ensures.leaves)
+    rw (p.1, p.2) (leaves_past _ _ _ _ _ run.0 _ _ run.1 (other_than _ 10 other) c.in_err-newline-in-Some.ensures.leaves)
 
 pub returns-in-None-clause-reads : goal.returns-in-None-clause-reads
 returns-in-None-clause-reads g c =
@@ -44,9 +44,16 @@ returns-in-Some-2-clause-reads g c =
     let sign : c.in-Some-eq35.field-0 ≡ 35 = omega arith in
     note_ignored _ _ _ _ run.0 note.0 _ _ (key_value c.args.into.now) run.1 sign note.1
 
-pub returns-in_ok-pair-in-Some-clause-reads : goal.returns-in_ok-pair-in-Some-clause-reads
-returns-in_ok-pair-in-Some-clause-reads g c =
+pub returns-then-newline-clause-reads : goal.returns-then-newline-clause-reads
+returns-then-newline-clause-reads g c =
     let run = rw c.in-Some.is at c.in_ok-pass.ensures.run in
-    let newline : c.in-Some.first ≢ 10 = omega arith in
+    let other : c.in-Some.first ≢ 10 = omega arith in
     let note : c.in-Some.first ≢ 35 = omega arith in
-    line_of_pair _ _ _ _ run.0 _ _ run.1 newline note c.in_ok-pair-in-Some.ensures.reads
+    line_of_pair _ _ _ _ run.0 (10 ∷ []) _ _ run.1 other note (rw c.if-newline.true at c.in_ok-newline-in-Some.ensures.reads)
+
+pub returns-else-newline-clause-reads : goal.returns-else-newline-clause-reads
+returns-else-newline-clause-reads g c =
+    let run = rw c.in-Some.is at c.in_ok-pass.ensures.run in
+    let other : c.in-Some.first ≢ 10 = omega arith in
+    let note : c.in-Some.first ≢ 35 = omega arith in
+    line_of_pair _ _ _ _ run.0 [] _ _ run.1 other note (rw c.if-newline.false at c.in_ok-newline-in-Some.ensures.reads)

@@ -1,6 +1,6 @@
 use Rattle.std.proofs.Common.{[], ◌++◌, ◌∷◌, arith}
 use Rattle.std.proofs.lemmas.Result.{err_from_is_err_and}
-use Rattle.cdb_form.proofs.MapReads.{lines_fail, lines_more}
+use Rattle.cdb_form.proofs.MapReads.{lines_fail, lines_found, lines_more}
 use Rattle.std.proofs.lemmas.Grind.{common_steps}
 use Rattle.cdb_form.proofs.text.source.Source.map_entry.Goals as goal
 
@@ -17,7 +17,16 @@ loop-preserved g c =
     (so.0 ++ line.0 ∷ [], lines_more _ _ _ _ so.0 line.0 so.1 line.1 line.2 c.in_ok-line_by.ensures.fewer)
 
 pub returns-in-Pair-clause-reads : goal.returns-in-Pair-clause-reads
-returns-in-Pair-clause-reads g = grind (arith, common_steps)
+returns-in-Pair-clause-reads g c =
+    let so = c.loop.invariant in
+    let line = rw c.in-Pair.is at c.in_ok-line_by.ensures.reads in
+    lines_found _ _ _ _ so.0 line.0 _ _ so.1 line.1 line.2
+
+pub returns-in-LastPair-clause-reads : goal.returns-in-LastPair-clause-reads
+returns-in-LastPair-clause-reads g c =
+    let so = c.loop.invariant in
+    let line = rw c.in-LastPair.is at c.in_ok-line_by.ensures.reads in
+    lines_found _ _ _ _ so.0 line.0 _ _ so.1 line.1 line.2
 
 pub returns-in-Last-clause-reads : goal.returns-in-Last-clause-reads
 returns-in-Last-clause-reads g c = grind (arith, common_steps)
