@@ -249,6 +249,7 @@ CASES = {
     "a full device as the database": not_written(CREATE, TWO_TEXT, "/dev/full"),
     "a pipe that nobody reads as the database": not_written(CREATE, TWO_TEXT, UNREAD),
     "no standard output for the database": not_written(CREATE, TWO_TEXT, CLOSED),
+    "a full device as a database of a map": not_written(["-cm", "-"], b"a 1\n", "/dev/full"),
     "a full device as a large database": not_written(CREATE, LARGE_TEXT, "/dev/full"),
     "a pipe that nobody reads as a large database": not_written(CREATE, LARGE_TEXT, UNREAD),
     "a faulty text to a full device": refused(b"*", 0, NO_RECORD, "/dev/full"),
@@ -295,6 +296,13 @@ CASES = {
         ["-c", "x", "a", "-", "a"], of_a(b"1", b"2", b"1"), pairs(b"2"), inputs={"a": pairs(b"1")}
     ),
     "standard input twice": creates(["-c", "x", "-", "-"], of_a(b"1", b"2"), pairs(b"1") + pairs(b"2")),
+    "the rest of a file is not read as the next one": creates(
+        ["-c", "x", "a", "b"], of_a(b"1", b"3"),
+        inputs={"a": pairs(b"1") + pairs(b"2"), "b": pairs(b"3")},
+    ),
+    "the rest of a file is not read as standard input": creates(
+        ["-c", "x", "a", "-"], of_a(b"1", b"3"), pairs(b"3"), inputs={"a": pairs(b"1") + pairs(b"2")}
+    ),
     "standard input twice, with one text": keeps(
         ["-c", "x", "-", "-"], f"input 2: byte 0: {EARLY}", pairs(b"1")
     ),
@@ -385,6 +393,9 @@ CASES = {
         ["-cu", "-"], text_of([(b"a", b"1"), (b"a", b"2")]), file_of([(b"a", b"1")])
     ),
     "a base that is not there": keeps(["-c", "-b", "none", "x"], NO_FILE, b"\n", {"x": TWO_FILE}),
+    "a base that is not there, beside a pipe that nobody writes to": keeps(
+        ["-c", "-b", "none", "x", "p"], NO_FILE, files={"p": PIPE}
+    ),
     "in place, of a shorter database": creates(["-c", "-t-", "x"], EMPTY_FILE, b"\n"),
     "in place, a faulty text": case(
         ["-c", "-t", "-", "x"], b"*", b"", f"input 1: byte 0: {NO_RECORD}", 111,
@@ -484,6 +495,9 @@ CASES = {
     "a query of a wrong slot": asks(["x", "two"], b"", two_with(2086, b"\x11"), not_whole(2065), 111),
     "a query of a slot taken away": misses("x", "one", file=two_with(2106, bytes(8))),
     "a query of a value too long": asks(["x", "two"], b"Goodbye\x29", two_with(2068, b"\x08")),
+    "a query of a value before a damage": asks(
+        ["x", "a"], b"1", FOUR_FILE[:2140] + words(4096) + FOUR_FILE[2144:], not_whole(4096), 111
+    ),
     "a query to a full device": case(["-q", "x", "one"], b"", "/dev/full", NO_OUTPUT, 111, {"x": TWO_FILE}),
     "a query to a pipe that nobody reads": case(["-q", "x", "one"], b"", UNREAD, NO_OUTPUT, 111, {"x": TWO_FILE}),
     "a query to no standard output": case(["-q", "x", "one"], b"", CLOSED, NO_OUTPUT, 111, {"x": TWO_FILE}),
@@ -519,6 +533,9 @@ CASES = {
     "statistics of a folder": reads(["-s", "x"], FOLDER, b"", NO_DATABASE, 111),
     "statistics of a folder as standard input": case(["-s"], "/", b"", NO_DATABASE, 111),
     "statistics of a cut head": case(["-s"], TWO_FILE[:2047], b"", SHORT, 111),
+    "statistics of nothing, with a database as standard input": case(
+        ["-s", "/dev/null"], TWO_FILE, b"", SHORT, 111
+    ),
     "statistics of a table outside": case(["-s"], two_with(56, words(2114, 1)), b"", outside(7), 111),
     "statistics of a value too long": case(["-s"], two_with(2068, b"\x08"), b"", not_whole(2064), 111),
     "statistics of a wrong slot": case(["-s"], two_with(2086, b"\x11"), TWO_STATISTICS),
