@@ -4,9 +4,9 @@
     tests/run.py PROGRAM [--gate BEGAN]
 
 With --gate it also runs those that need what the proof of the whole repository leaves, its programs
-of tests, and says how long the gate took since BEGAN, a time in seconds. A part that this machine cannot run is left out and named at the end; in CI, which
-the variable CI of the environment says, that is a failure. The last line counts all that passed and
-failed.
+of tests, and says how long the gate took since BEGAN, a time in seconds. A part that this machine
+cannot run is left out and named at the end; in CI, which the variable CI of the environment says, that
+is a failure. The last line counts all that passed and failed.
 """
 
 import os
@@ -58,6 +58,7 @@ def parts_of(program, is_gate):
         Part("tests/faults/run.py", (program, REFUSE, "calls"), (c,), (REFUSE,)),
         Part("tests/faults/memory.py", (program, REFUSE), (c,), (REFUSE,)),
         Part("tests/faults/closed.py", (program, REFUSE), (c,), (REFUSE,)),
+        Part("tests/faults/syncs.py", (program, REFUSE), (c,), (REFUSE,)),
     ]
     if is_gate:
         parts.append(Part("tests/faults/calls.py", (REFUSE,), (c,), (REFUSE,)))

@@ -5,12 +5,15 @@
  * read, write, measure, cut, sync, rename or remove a file, where REFUSE_CALLS is set in the
  * environment. Refused are those from REFUSE_FIRST to REFUSE_LAST, where these are set there. The
  * count stands in the file that REFUSE_COUNT names, and after it how many bytes were asked for. The
- * file is mapped, so that both are there also after a crash.
+ * file is mapped, so that both are there also after a crash. To the file that REFUSE_TRACE names, if it
+ * is set, a line is added for each sync and each rename: which it was, the file's number in its file
+ * system, and what it answered.
  */
 #define _GNU_SOURCE
 #include <errno.h>
 #include <fcntl.h>
 #include <stdarg.h>
+#include <stdio.h>
 #include <stdlib.h>
 #include <sys/mman.h>
 #include <sys/stat.h>
@@ -25,7 +28,10 @@ extern void *__libc_memalign(size_t alignment, size_t size);
 
 static unsigned long early[2], *asks = early;
 static unsigned long first, last;
-static int are_calls;
+static int are_calls, trace = -1;
+
+/* A descriptor that the program does not get for a file of its own. */
+#define FAR 100
 
 static unsigned long number(const char *name)
 {
@@ -48,6 +54,23 @@ __attribute__((constructor)) static void begin(void)
 	last = number("REFUSE_LAST");
 	are_calls = getenv("REFUSE_CALLS") != NULL;
 	asks = counted;
+	path = getenv("REFUSE_TRACE");
+	if (path) {
+		file = syscall(SYS_openat, AT_FDCWD, path, O_WRONLY | O_APPEND);
+		trace = fcntl(file, F_DUPFD_CLOEXEC, FAR);
+		close(file);
+	}
+}
+
+/* Adds a call on a file to the trace, and gives back what it answered. */
+static long noted(const char *what, const struct stat *file, long answer)
+{
+	char line[64];
+	if (trace >= 0) {
+		int size = snprintf(line, sizeof line, "%s %lu %ld\n", what, (unsigned long)file->st_ino, answer);
+		syscall(SYS_write, trace, line, size);
+	}
+	return answer;
 }
 
 static int is_among(void)
@@ -118,12 +141,16 @@ int ftruncate(int file, off_t size)
 
 int fsync(int file)
 {
-	return answer(SYS_fsync, file, 0, 0, 0, 0);
+	struct stat found = { 0 };
+	syscall(SYS_newfstatat, file, "", &found, AT_EMPTY_PATH);
+	return noted("sync", &found, answer(SYS_fsync, file, 0, 0, 0, 0));
 }
 
 int rename(const char *from, const char *to)
 {
-	return answer(SYS_rename, (long)from, (long)to, 0, 0, 0);
+	struct stat found = { 0 };
+	syscall(SYS_newfstatat, AT_FDCWD, from, &found, AT_SYMLINK_NOFOLLOW);
+	return noted("rename", &found, answer(SYS_rename, (long)from, (long)to, 0, 0, 0));
 }
 
 int unlink(const char *path)
