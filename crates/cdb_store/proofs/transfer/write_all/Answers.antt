@@ -1,3 +1,4 @@
+use Rattle.std.proofs.lemmas.Grind.{common_steps}
 use Rattle.std.proofs.Common.{arith, ◌≡◌, ◌≤◌, ◌<◌, ◌-◌, ℕ, List, length, take, ◌∙◌, length-take}
 use Rattle.std.proofs.lemmas.List.{take_all, length-take-le}
 use borrow.Rule.Slice.PartMut.{mid_of}
@@ -74,3 +75,6 @@ returns-clause-still_known g c = c.loop-done.invariant.known
 
 pub returns-clause-ok_failures : goal.returns-clause-ok_failures
 returns-clause-ok_failures g c = c.loop-done.invariant.fine
+
+pub overflow_add-done : goal.overflow_add-done
+overflow_add-done g c = grind (arith, common_steps)

@@ -109,3 +109,48 @@ returns-then-bytes-self-clause-memory g c = grind (arith, common_steps)
 
 pub returns-clause-memory_size : goal.returns-clause-memory_size
 returns-clause-memory_size g c = grind (arith, common_steps)
+
+pub invariant_of-self-then-bytes-self : goal.invariant_of-self-then-bytes-self
+invariant_of-self-then-bytes-self g c = grind (arith, common_steps)
+
+pub returns-then-bytes-self-clause-room : goal.returns-then-bytes-self-clause-room
+returns-then-bytes-self-clause-room g c = grind (arith, common_steps)
+
+pub returns-then-bytes-self-clause-ok_failures : goal.returns-then-bytes-self-clause-ok_failures
+returns-then-bytes-self-clause-ok_failures g c = grind (arith, common_steps)
+
+pub write_at-requires-clause-end : goal.write_at-requires-clause-end
+write_at-requires-clause-end g c = grind (arith, common_steps)
+
+pub returns-clause-room : goal.returns-clause-room
+returns-clause-room g c = grind (arith, common_steps)
+
+pub returns-in_err-write_at-clause-room : goal.returns-in_err-write_at-clause-room
+returns-in_err-write_at-clause-room g c = grind (arith, common_steps)
+
+pub make_room-requires-clause-end : goal.make_room-requires-clause-end
+make_room-requires-clause-end g c = grind (arith, common_steps)
+
+pub returns-in_err-settle-clause-past_room : goal.returns-in_err-settle-clause-past_room
+returns-in_err-settle-clause-past_room g c = grind (arith, common_steps)
+
+pub returns-in_err-extend_from_slice-clause-past_room : goal.returns-in_err-extend_from_slice-clause-past_room
+returns-in_err-extend_from_slice-clause-past_room g c = grind (arith, common_steps)
+
+pub returns-in_err-settle-clause-more_written : goal.returns-in_err-settle-clause-more_written
+returns-in_err-settle-clause-more_written g c = grind (arith, common_steps)
+
+pub returns-in_err-settle-clause-room : goal.returns-in_err-settle-clause-room
+returns-in_err-settle-clause-room g c = grind (arith, common_steps)
+
+pub returns-in_err-settle-clause-longer : goal.returns-in_err-settle-clause-longer
+returns-in_err-settle-clause-longer g c = grind (arith, common_steps)
+
+pub returns-in_err-extend_from_slice-clause-more_written : goal.returns-in_err-extend_from_slice-clause-more_written
+returns-in_err-extend_from_slice-clause-more_written g c = grind (arith, common_steps)
+
+pub returns-in_err-make_room-clause-memory_room : goal.returns-in_err-make_room-clause-memory_room
+returns-in_err-make_room-clause-memory_room g c = grind (arith, common_steps)
+
+pub returns-in_err-make_room-clause-memory_written : goal.returns-in_err-make_room-clause-memory_written
+returns-in_err-make_room-clause-memory_written g c = grind (arith, common_steps)

@@ -16,3 +16,9 @@ returns-in-Err-clause-images g c = grind (arith, common_steps)
 
 pub returns-in_err-refuse_if_lost-clause-images : goal.returns-in_err-refuse_if_lost-clause-images
 returns-in_err-refuse_if_lost-clause-images g c = search rules
+
+pub returns-in-Ok-clause-ok_failures : goal.returns-in-Ok-clause-ok_failures
+returns-in-Ok-clause-ok_failures g c = grind (arith, common_steps)
+
+pub returns-in-Ok-clause-lost : goal.returns-in-Ok-clause-lost
+returns-in-Ok-clause-lost g c = grind (arith, common_steps)

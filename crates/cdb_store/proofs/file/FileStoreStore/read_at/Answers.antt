@@ -1,3 +1,4 @@
+use Rattle.std.proofs.lemmas.Grind.{common_steps}
 use Rattle.std.proofs.Common.{arith, sym, subst, ◌∙◌, ap, rules}
 use Rattle.cdb_store.specs.Images.{AfterRead}
 use Rattle.cdb_store.specs.Calls.{FileImage, lost}
@@ -26,3 +27,12 @@ returns-clause-ok g c =
 
 pub returns-in_err-refuse_if_lost-clause-err : goal.returns-in_err-refuse_if_lost-clause-err
 returns-in_err-refuse_if_lost-clause-err g c = search rules
+
+pub returns-clause-ok_failures : goal.returns-clause-ok_failures
+returns-clause-ok_failures g c = grind (arith, common_steps)
+
+pub read_all-requires-clause-known : goal.read_all-requires-clause-known
+read_all-requires-clause-known g c = grind (arith, common_steps)
+
+pub returns-in_err-read_all-clause-memory : goal.returns-in_err-read_all-clause-memory
+returns-in_err-read_all-clause-memory g c = grind (arith, common_steps)

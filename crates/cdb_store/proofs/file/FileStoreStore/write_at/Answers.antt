@@ -53,3 +53,15 @@ returns-in-None-clause-measured g c = search rules
 
 pub returns-in-Some-clause-measured : goal.returns-in-Some-clause-measured
 returns-in-Some-clause-measured g c = grind (arith, common_steps)
+
+pub returns-in-Some-clause-cause : goal.returns-in-Some-clause-cause
+returns-in-Some-clause-cause g c = grind (arith, common_steps)
+
+pub length_within-requires : goal.length_within-requires
+length_within-requires g c = grind (arith, common_steps)
+
+pub returns-in-Some-clause-ok : goal.returns-in-Some-clause-ok
+returns-in-Some-clause-ok g c = grind (arith, common_steps)
+
+pub returns-in-Some-clause-ok_failures : goal.returns-in-Some-clause-ok_failures
+returns-in-Some-clause-ok_failures g c = grind (arith, common_steps)

@@ -59,3 +59,57 @@ returns-in-Ok-clause-part_torn g c = λ last. torn_wider c.args.pos _ _ _ _ (ome
 
 pub returns-in_default-clause-part_torn : goal.returns-in_default-clause-part_torn
 returns-in_default-clause-part_torn g c = λ last. torn_wider c.args.pos _ _ _ _ (omega (arith, length-take {A = ℕ})) c.write_at.ensures.torn
+
+pub returns-in-Ok-clause-part_size : goal.returns-in-Ok-clause-part_size
+returns-in-Ok-clause-part_size g c = grind (arith, common_steps)
+
+pub returns-in_default-clause-part_size : goal.returns-in_default-clause-part_size
+returns-in_default-clause-part_size g c = grind (arith, common_steps)
+
+pub returns-clause-part_torn : goal.returns-clause-part_torn
+returns-clause-part_torn g c = grind (arith, common_steps)
+
+pub returns-in_default-clause-memory_room : goal.returns-in_default-clause-memory_room
+returns-in_default-clause-memory_room g c = grind (arith, common_steps)
+
+pub returns-in_default-clause-memory_failures : goal.returns-in_default-clause-memory_failures
+returns-in_default-clause-memory_failures g c = grind (arith, common_steps)
+
+pub returns-in_default-clause-cause : goal.returns-in_default-clause-cause
+returns-in_default-clause-cause g c = grind (arith, common_steps)
+
+pub returns-clause-at_most_written : goal.returns-clause-at_most_written
+returns-clause-at_most_written g c = grind (arith, common_steps)
+
+pub returns-in-Ok-clause-longer : goal.returns-in-Ok-clause-longer
+returns-in-Ok-clause-longer g c = grind (arith, common_steps)
+
+pub returns-in_default-clause-room : goal.returns-in_default-clause-room
+returns-in_default-clause-room g c = grind (arith, common_steps)
+
+pub returns-clause-fails : goal.returns-clause-fails
+returns-clause-fails g c = grind (arith, common_steps)
+
+pub returns-in_err-write_at-clause-not_past : goal.returns-in_err-write_at-clause-not_past
+returns-in_err-write_at-clause-not_past g c = grind (arith, common_steps)
+
+pub returns-in_default-clause-not_past : goal.returns-in_default-clause-not_past
+returns-in_default-clause-not_past g c = search rules
+
+pub returns-clause-part_written : goal.returns-clause-part_written
+returns-clause-part_written g c = search rules
+
+pub returns-in_default-clause-at_most_written : goal.returns-in_default-clause-at_most_written
+returns-in_default-clause-at_most_written g c = search rules
+
+pub returns-clause-ok_failures : goal.returns-clause-ok_failures
+returns-clause-ok_failures g c = search rules
+
+pub returns-clause-part_size : goal.returns-clause-part_size
+returns-clause-part_size g c = search rules
+
+pub returns-in_default-clause-count_err : goal.returns-in_default-clause-count_err
+returns-in_default-clause-count_err g c = search rules
+
+pub returns-in_default-clause-memory : goal.returns-in_default-clause-memory
+returns-in_default-clause-memory g c = search rules

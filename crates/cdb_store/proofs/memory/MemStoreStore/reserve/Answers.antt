@@ -1,5 +1,12 @@
-use Rattle.std.proofs.Common.{rules}
+use Rattle.std.proofs.lemmas.Grind.{common_steps}
+use Rattle.std.proofs.Common.{rules, arith}
 use Rattle.cdb_store.proofs.memory.MemStoreStore.reserve.Goals as goal
 
 pub returns-in_ok-reserve-clause-ok : goal.returns-in_ok-reserve-clause-ok
 returns-in_ok-reserve-clause-ok c = search rules
+
+pub returns-in_ok-reserve-clause-size : goal.returns-in_ok-reserve-clause-size
+returns-in_ok-reserve-clause-size c = grind (arith, common_steps)
+
+pub returns-in_ok-reserve-clause-room : goal.returns-in_ok-reserve-clause-room
+returns-in_ok-reserve-clause-room c = grind (arith, common_steps)

@@ -1,0 +1,6 @@
+use Rattle.std.proofs.lemmas.Grind.{common_steps}
+use Rattle.std.proofs.Common.{arith}
+use Rattle.cdb_store.proofs.buffered.BufferedStoreStore.reserve.Goals as goal
+
+pub returns-clause-images : goal.returns-clause-images
+returns-clause-images g c = grind (arith, common_steps)

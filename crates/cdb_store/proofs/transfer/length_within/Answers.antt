@@ -1,0 +1,6 @@
+use Rattle.std.proofs.lemmas.Grind.{common_steps}
+use Rattle.std.proofs.Common.{arith}
+use Rattle.cdb_store.proofs.transfer.length_within.Goals as goal
+
+pub returns-clause-lost : goal.returns-clause-lost
+returns-clause-lost g c = grind (arith, common_steps)
