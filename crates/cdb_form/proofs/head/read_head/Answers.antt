@@ -1,3 +1,4 @@
+use Rattle.std.proofs.lemmas.Grind.{common_steps}
 use Rattle.std.proofs.Common.{◌≡◌, ◌≢◌, ℕ, ◌<◌, ◌+◌, ◌-◌, ◌*◌, length, map, get_or, slice_set, arith, ◌∙◌, below_more, ap}
 use Rattle.std.proofs.lemmas.List.{get_or-map, length-map, get_or-set_same, get_or-set_other, length-set}
 use Rattle.std.proofs.lemmas.List.Elements.{All-from_get_or, All-map}
@@ -48,3 +49,9 @@ loop-n-preserved g c =
           (λ k h d. let other : k ≢ n = omega arith in rw get_or-set_other (c.loop-n.invariant.fits k d h))
           (λ d. rw get_or-set_same c.read_pointer.ensures.fits) k h d;
     }
+
+pub overflow_add-size : goal.overflow_add-size
+overflow_add-size g c = grind (arith, common_steps)
+
+pub read_pointer-requires : goal.read_pointer-requires
+read_pointer-requires g c = grind (arith, common_steps)

@@ -29,3 +29,18 @@ returns-in_err-n-clause-loses g c = grind (arith, common_steps)
 
 pub returns-clause-are : goal.returns-clause-are
 returns-clause-are g c = grind (arith, common_steps)
+
+pub returns-then-n-eq0-clause-memory : goal.returns-then-n-eq0-clause-memory
+returns-then-n-eq0-clause-memory g c = grind (arith, common_steps)
+
+pub returns-then-n-eq0-clause-loses : goal.returns-then-n-eq0-clause-loses
+returns-then-n-eq0-clause-loses g c = grind (arith, common_steps)
+
+pub returns-clause-bytes : goal.returns-clause-bytes
+returns-clause-bytes g c = grind (arith, common_steps)
+
+pub returns-in_err-n-clause-memory : goal.returns-in_err-n-clause-memory
+returns-in_err-n-clause-memory g c = grind (arith, common_steps)
+
+pub loop-done-smaller : goal.loop-done-smaller
+loop-done-smaller g c = omega arith

@@ -1,4 +1,4 @@
-use Rattle.std.proofs.Common.{◌≡◌, ◌++◌, length, take, arith, length-append, length-drop, ◌∙◌}
+use Rattle.std.proofs.Common.{◌≡◌, ◌++◌, length, take, arith, length-append, length-drop, ◌∙◌, rules}
 use Rattle.std.proofs.lemmas.List.{length-take-le}
 use Rattle.cdb_form.proofs.SourceLemmas.{consumes_then}
 use Rattle.std.proofs.lemmas.Grind.{common_steps}
@@ -23,3 +23,12 @@ loop-done-preserved g c =
 
 pub returns-in_err-n-clause-loses : goal.returns-in_err-n-clause-loses
 returns-in_err-n-clause-loses g c = grind (arith, common_steps)
+
+pub returns-clause-read : goal.returns-clause-read
+returns-clause-read g c = grind (arith, common_steps)
+
+pub returns-in_err-n-clause-memory : goal.returns-in_err-n-clause-memory
+returns-in_err-n-clause-memory g c = grind (arith, common_steps)
+
+pub returns-then-n-eq0-clause-memory : goal.returns-then-n-eq0-clause-memory
+returns-then-n-eq0-clause-memory g c = search rules

@@ -1,4 +1,4 @@
-use Rattle.std.proofs.Common.{◌≡◌, ◌+◌, ◌-◌, ◌≤◌, ◌++◌, length, length-drop, take, drop, arith, ap, ◌∙◌}
+use Rattle.std.proofs.Common.{◌≡◌, ◌+◌, ◌-◌, ◌≤◌, ◌++◌, length, length-drop, take, drop, arith, ap, ◌∙◌, rules}
 use Rattle.std.proofs.lemmas.List.{length-take, length-take-le}
 use Rattle.cdb_form.proofs.ByteLemmas.{AreBytes-take}
 use Rattle.cdb_form.proofs.AskingLemmas.{same_front, came_behind}
@@ -39,3 +39,21 @@ returns-in-Ok-clause-within g c = grind (arith, common_steps)
 
 pub returns-then-is_err-clause-holds : goal.returns-then-is_err-clause-holds
 returns-then-is_err-clause-holds g c = grind (arith, common_steps)
+
+pub some_bytes-requires : goal.some_bytes-requires
+some_bytes-requires g c = omega arith
+
+pub returns-in-Ok-clause-no_more : goal.returns-in-Ok-clause-no_more
+returns-in-Ok-clause-no_more g c = grind (arith, common_steps)
+
+pub returns-in-Ok-clause-spends : goal.returns-in-Ok-clause-spends
+returns-in-Ok-clause-spends g c = grind (arith, common_steps)
+
+pub slice_bounds-some_bytes-count : goal.slice_bounds-some_bytes-count
+slice_bounds-some_bytes-count g c = grind (arith, common_steps)
+
+pub returns-in-Err-clause-within : goal.returns-in-Err-clause-within
+returns-in-Err-clause-within g c = grind (arith, common_steps)
+
+pub returns-then-is_err-clause-spent : goal.returns-then-is_err-clause-spent
+returns-then-is_err-clause-spent g c = search rules

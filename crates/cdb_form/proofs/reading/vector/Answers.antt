@@ -1,3 +1,4 @@
+use Rattle.std.proofs.lemmas.Grind.{common_steps}
 use Rattle.std.proofs.Common.{◌≡◌, ◌+◌, ◌≤◌, ◌++◌, take, arith, subst, sym, rules}
 use Rattle.std.specs.Io.KnownBytes.{Consumes}
 use Rattle.cdb_form.specs.Format.Record.{AreBytes}
@@ -36,3 +37,15 @@ returns-in_err-done-clause-each g c = search rules
 
 pub returns-in_err-done-clause-loses : goal.returns-in_err-done-clause-loses
 returns-in_err-done-clause-loses g c = search rules
+
+pub returns-in_err-done-clause-loses_fewer : goal.returns-in_err-done-clause-loses_fewer
+returns-in_err-done-clause-loses_fewer g c = grind (arith, common_steps)
+
+pub returns-in_err-done-clause-are : goal.returns-in_err-done-clause-are
+returns-in_err-done-clause-are g c = grind (arith, common_steps)
+
+pub returns-in_err-done-clause-no_more : goal.returns-in_err-done-clause-no_more
+returns-in_err-done-clause-no_more g c = grind (arith, common_steps)
+
+pub some_behind-requires-clause-room : goal.some_behind-requires-clause-room
+some_behind-requires-clause-room g c = grind (arith, common_steps)

@@ -1,4 +1,5 @@
-use Rattle.std.proofs.Common.{get_or, subst, sym, arith, refl, ◌*◌, ◌+◌, ◌<◌, ◌≡◌, ℕ}
+use Rattle.std.proofs.lemmas.Grind.{common_steps}
+use Rattle.std.proofs.Common.{get_or, subst, sym, arith, refl, ◌*◌, ◌+◌, ◌<◌, ◌≡◌, ℕ, rules}
 use Rattle.std.specs.Char.{digit_value}
 use Rattle.std.proofs.lemmas.Str.{digit_value_digit}
 use Rattle.cdb_form.proofs.FrontLemmas.{FrontDigits, front_digit}
@@ -16,3 +17,18 @@ loop-place-preserved c =
       so_far = subst (λ (d : ℕ). FrontDigits c.args.bytes.now (place + 1) (c.loop-place.value * 10 + d)) (sym is) so;
       short = omega (arith, c.if-value-lt-LONG.true, low, is);
     }
+
+pub overflow_add-place : goal.overflow_add-place
+overflow_add-place c = grind (arith, common_steps)
+
+pub loop-place-smaller : goal.loop-place-smaller
+loop-place-smaller c = grind (arith, common_steps)
+
+pub returns-then-place-gt0-clause-short : goal.returns-then-place-gt0-clause-short
+returns-then-place-gt0-clause-short c = search rules
+
+pub overflow_add-value : goal.overflow_add-value
+overflow_add-value c = search rules
+
+pub bounds-bytes-place : goal.bounds-bytes-place
+bounds-bytes-place c = search rules

@@ -1,3 +1,4 @@
+use Rattle.std.proofs.lemmas.Grind.{common_steps}
 use Rattle.std.proofs.Common.{arith, drop, length, refl, take, ◌≡◌, ◌≢◌, ◌≤◌}
 use Rattle.std.specs.List.{prefix_len}
 use Rattle.cdb_form.specs.Text.Map.{is_blank}
@@ -28,3 +29,9 @@ returns c = λ _.
     let key : c.copy_over.new.into.items ≡ take klen line = rw words at c.in_ok-copy_over.ensures.holds in
     let value : c.copy_over-2.new.into.items ≡ take vlen (drop gap tail) = rw rest at (rw behind at (rw words at c.in_ok-copy_over-2.ensures.holds)) in
     line_front bytes start klen gap vlen _ c.blanks-start.ensures.is kis (omega arith) (rw words at c.if-words-eq35.false) gis newline key value
+
+pub overflow_add-result-3 : goal.overflow_add-result-3
+overflow_add-result-3 c = grind (arith, common_steps)
+
+pub overflow_add-result-2 : goal.overflow_add-result-2
+overflow_add-result-2 c = omega arith

@@ -4,3 +4,6 @@ use Rattle.cdb_form.proofs.text.native_writer.put_numeral.Goals as goal
 
 pub returns-clause-bytes : goal.returns-clause-bytes
 returns-clause-bytes c = grind (arith, common_steps)
+
+pub returns-clause-long : goal.returns-clause-long
+returns-clause-long c = grind (arith, common_steps)

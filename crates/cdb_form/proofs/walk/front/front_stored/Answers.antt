@@ -1,3 +1,4 @@
+use Rattle.std.proofs.lemmas.Grind.{common_steps}
 use Rattle.std.proofs.Common.{ℕ, ◌≡◌, ◌+◌, ◌-◌, ap, arith, drop, length, refl, sym, take, ◌∙◌}
 use Rattle.cdb_form.proofs.HeadLemmas.{rest_of}
 use Rattle.cdb_form.proofs.Stored.{stored_front}
@@ -22,3 +23,21 @@ returns-clause-whole g c = λ some.
       };
       within = grind arith;
     }
+
+pub invariant_of-into-2 : goal.invariant_of-into-2
+invariant_of-into-2 g c = grind (arith, common_steps)
+
+pub slice_bounds-keep_value-start : goal.slice_bounds-keep_value-start
+slice_bounds-keep_value-start g c = grind (arith, common_steps)
+
+pub slice_bounds-keep_value-count : goal.slice_bounds-keep_value-count
+slice_bounds-keep_value-count g c = grind (arith, common_steps)
+
+pub overflow_add-result-2 : goal.overflow_add-result-2
+overflow_add-result-2 g c = grind (arith, common_steps)
+
+pub slice_bounds-read_header-end : goal.slice_bounds-read_header-end
+slice_bounds-read_header-end g c = grind (arith, common_steps)
+
+pub returns-in_err-keep_value-clause-value : goal.returns-in_err-keep_value-clause-value
+returns-in_err-keep_value-clause-value g c = grind (arith, common_steps)

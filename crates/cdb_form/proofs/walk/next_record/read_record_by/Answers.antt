@@ -1,3 +1,4 @@
+use Rattle.std.proofs.lemmas.Grind.{common_steps}
 use Rattle.std.proofs.Common.{[], arith, inl, inr, sym, ◌∙◌}
 use Rattle.std.proofs.lemmas.Result.{IfOk-weaker, err_from_is_err_and}
 use Rattle.cdb_form.proofs.RecordReads.{none_header}
@@ -32,3 +33,15 @@ returns-clause-record g c =
       all.1,
       all.2,
     )
+
+pub returns-clause-loses : goal.returns-clause-loses
+returns-clause-loses g c = grind (arith, common_steps)
+
+pub returns-then-n-eq0-clause-end : goal.returns-then-n-eq0-clause-end
+returns-then-n-eq0-clause-end g c = grind (arith, common_steps)
+
+pub returns-then-n-eq0-clause-place : goal.returns-then-n-eq0-clause-place
+returns-then-n-eq0-clause-place g c = grind (arith, common_steps)
+
+pub returns-in_err-n-clause-value : goal.returns-in_err-n-clause-value
+returns-in_err-n-clause-value g c = grind (arith, common_steps)

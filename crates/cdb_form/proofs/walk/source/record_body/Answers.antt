@@ -1,3 +1,4 @@
+use Rattle.std.proofs.lemmas.Grind.{common_steps}
 use Rattle.std.proofs.Common.{refl, arith, ◌+◌}
 use Rattle.std.proofs.lemmas.Result.{on_ok_weaker, on_err_weaker}
 use Rattle.cdb_form.proofs.SourceLemmas.{consumes_then}
@@ -19,3 +20,6 @@ returns-clause-loses g c = loses_then _ _ _ c.bytes.new.into.items c.args.header
 pub returns-clause-loses_fewer : goal.returns-clause-loses_fewer
 returns-clause-loses_fewer g c =
     on_err_weaker c.record_value.result (λ l. fewer_then _ _ _ c.bytes.new.into.items c.args.header.vlen (c.args.header.klen + c.args.header.vlen) c.in_ok-bytes.ensures.read l (omega (arith, c.in_ok-bytes.ensures.long))) c.record_value.ensures.loses_fewer
+
+pub invariant_of-into : goal.invariant_of-into
+invariant_of-into g c = grind (arith, common_steps)

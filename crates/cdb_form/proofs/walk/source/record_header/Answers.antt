@@ -41,3 +41,6 @@ slice_bounds-read_header-end g c = grind (arith, common_steps)
 
 pub read_header-requires : goal.read_header-requires
 read_header-requires g c = grind (arith, common_steps)
+
+pub returns-in_err-fill-clause-loses_fewer : goal.returns-in_err-fill-clause-loses_fewer
+returns-in_err-fill-clause-loses_fewer g c = grind (arith, common_steps)

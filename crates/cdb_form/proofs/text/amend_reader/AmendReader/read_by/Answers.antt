@@ -1,4 +1,5 @@
-use Rattle.std.proofs.Common.{refl}
+use Rattle.std.proofs.lemmas.Grind.{common_steps}
+use Rattle.std.proofs.Common.{refl, arith}
 use Rattle.cdb_form.specs.Text.Amending.{SpellsChange}
 use Rattle.cdb_form.proofs.Stops.{met}
 use Rattle.cdb_form.proofs.text.amend_reader.AmendReader.read_by.Goals as goal
@@ -11,3 +12,21 @@ returns-in-Err-clause-fails g c =
       failed = refl;
       meets = λ going. record { exact = m.exact; no_record = m.no_record; part = m.part; took = e.leaves.took; last = e.leaves.last; spent = e.leaves.spent; spends = e.leaves.spends };
     }
+
+pub returns-in-Ok-Some-clause-gives : goal.returns-in-Ok-Some-clause-gives
+returns-in-Ok-Some-clause-gives g c = grind (arith, common_steps)
+
+pub returns-in-Ok-Some-clause-ended : goal.returns-in-Ok-Some-clause-ended
+returns-in-Ok-Some-clause-ended g c = grind (arith, common_steps)
+
+pub returns-in-Ok-None-clause-ended : goal.returns-in-Ok-None-clause-ended
+returns-in-Ok-None-clause-ended g c = grind (arith, common_steps)
+
+pub returns-in-Ok-Some-clause-failed : goal.returns-in-Ok-Some-clause-failed
+returns-in-Ok-Some-clause-failed g c = grind (arith, common_steps)
+
+pub returns-in-Failed-clause-failed : goal.returns-in-Failed-clause-failed
+returns-in-Failed-clause-failed g c = grind (arith, common_steps)
+
+pub returns-in-AtEnd-clause-ended : goal.returns-in-AtEnd-clause-ended
+returns-in-AtEnd-clause-ended g c = grind (arith, common_steps)

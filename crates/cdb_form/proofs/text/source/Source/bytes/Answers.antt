@@ -13,3 +13,6 @@ returns-in-Ok-clause-are g c = grind (arith, common_steps)
 
 pub returns-in-Err-clause-leaves : goal.returns-in-Err-clause-leaves
 returns-in-Err-clause-leaves g c = grind (arith, common_steps)
+
+pub returns-in-Err-clause-fewer : goal.returns-in-Err-clause-fewer
+returns-in-Err-clause-fewer g c = grind (arith, common_steps)

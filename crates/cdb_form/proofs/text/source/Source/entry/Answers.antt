@@ -1,4 +1,4 @@
-use Rattle.std.proofs.Common.{◌≡◌, ℕ, [], true, false, arith, sym, subst, ◌∙◌}
+use Rattle.std.proofs.Common.{◌≡◌, ℕ, [], true, false, arith, sym, subst, ◌∙◌, rules}
 use Rattle.std.proofs.lemmas.Result.{err_from_is_err_and}
 use Rattle.cdb_form.proofs.SourceLemmas.{kept_consumes, part_seen, seen_past, leaves_past}
 use Rattle.cdb_form.specs.Views.NativeParser.{FailsEntry}
@@ -64,3 +64,30 @@ returns-in-None-clause-leaves g c = grind (arith, common_steps)
 
 pub returns-in_ok-record-in-Some-eq43-clause-read : goal.returns-in_ok-record-in-Some-eq43-clause-read
 returns-in_ok-record-in-Some-eq43-clause-read g c = grind (arith, common_steps)
+
+pub returns-in_ok-removal-in-Some-eq45-clause-later : goal.returns-in_ok-removal-in-Some-eq45-clause-later
+returns-in_ok-removal-in-Some-eq45-clause-later g c = grind (arith, common_steps)
+
+pub returns-in-Some-eq10-clause-read : goal.returns-in-Some-eq10-clause-read
+returns-in-Some-eq10-clause-read g c = grind (arith, common_steps)
+
+pub returns-in-Some-eq10-clause-later : goal.returns-in-Some-eq10-clause-later
+returns-in-Some-eq10-clause-later g c = grind (arith, common_steps)
+
+pub returns-in_ok-removal-in-Some-eq45-clause-fails : goal.returns-in_ok-removal-in-Some-eq45-clause-fails
+returns-in_ok-removal-in-Some-eq45-clause-fails g c = grind (arith, common_steps)
+
+pub returns-in_ok-record-in-Some-eq43-clause-fails : goal.returns-in_ok-record-in-Some-eq43-clause-fails
+returns-in_ok-record-in-Some-eq43-clause-fails g c = grind (arith, common_steps)
+
+pub removal-requires-clause-most : goal.removal-requires-clause-most
+removal-requires-clause-most g c = grind (arith, common_steps)
+
+pub returns-in_ok-removal-in-Some-eq45-clause-puts : goal.returns-in_ok-removal-in-Some-eq45-clause-puts
+returns-in_ok-removal-in-Some-eq45-clause-puts g c = search rules
+
+pub returns-in_ok-record-in-Some-eq43-clause-leaves : goal.returns-in_ok-record-in-Some-eq43-clause-leaves
+returns-in_ok-record-in-Some-eq43-clause-leaves g c = omega arith
+
+pub record-requires-clause-most : goal.record-requires-clause-most
+record-requires-clause-most g c = omega arith

@@ -1,3 +1,4 @@
+use Rattle.std.proofs.lemmas.Grind.{common_steps}
 use Rattle.std.proofs.Common.{[], ◌++◌, ◌∷◌, ◌≡◌, ◌<◌, arith, false, subst, sym, true}
 use Rattle.std.proofs.lemmas.Result.{err_from_is_err_and}
 use Rattle.cdb_form.specs.Format.Record.{AreBytes}
@@ -76,3 +77,15 @@ returns-in_err-push-2-clause-are g c =
     let m = c.in_ok-keep_at_hand.ensures.moved in
     let same : c.push-in-loop-self.new.self.items ≡ c.keep_at_hand.new.into.items = grind arith in
     subst AreBytes (sym same) (subst AreBytes (sym m.moved) (AreBytes-append _ m.bytes so.are m.are))
+
+pub returns-then-not-has-clause-fewer : goal.returns-then-not-has-clause-fewer
+returns-then-not-has-clause-fewer g c = grind (arith, common_steps)
+
+pub loop-self-smaller : goal.loop-self-smaller
+loop-self-smaller g c = grind (arith, common_steps)
+
+pub returns-then-not-has-clause-leaves : goal.returns-then-not-has-clause-leaves
+returns-then-not-has-clause-leaves g c = grind (arith, common_steps)
+
+pub returns-in_err-push-clause-are : goal.returns-in_err-push-clause-are
+returns-in_err-push-clause-are g c = grind (arith, common_steps)

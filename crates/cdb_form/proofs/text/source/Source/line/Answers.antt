@@ -1,3 +1,4 @@
+use Rattle.std.proofs.lemmas.Grind.{common_steps}
 use Rattle.std.proofs.Common.{[], ◌∷◌, ◌≡◌, ◌≢◌, arith}
 use Rattle.std.proofs.lemmas.Result.{err_from_is_err_and}
 use Rattle.cdb_form.specs.Views.Pairs.{key_value}
@@ -57,3 +58,12 @@ returns-else-newline-clause-reads g c =
     let other : c.in-Some.first ≢ 10 = omega arith in
     let note : c.in-Some.first ≢ 35 = omega arith in
     line_of_pair _ _ _ _ run.0 [] _ _ run.1 other note (rw c.if-newline.false at c.in_ok-newline-in-Some.ensures.reads)
+
+pub returns-in-None-2-clause-fewer : goal.returns-in-None-2-clause-fewer
+returns-in-None-2-clause-fewer g c = grind (arith, common_steps)
+
+pub returns-in-Some-2-clause-leaves : goal.returns-in-Some-2-clause-leaves
+returns-in-Some-2-clause-leaves g c = grind (arith, common_steps)
+
+pub pair-requires : goal.pair-requires
+pair-requires g c = grind (arith, common_steps)

@@ -1,3 +1,4 @@
+use Rattle.std.proofs.lemmas.Grind.{common_steps}
 use Rattle.std.proofs.Common.{◌∷◌, ◌≡◌, ◌≢◌, [], arith, refl}
 use Rattle.std.proofs.lemmas.Result.{IfErr-weaker, IfOk-weaker}
 use Rattle.cdb_form.specs.Text.Map.{Lacks, is_newline}
@@ -33,3 +34,9 @@ returns-clause-leaves g c =
     let other : c.in-Some.stop ≢ 10 = omega arith in
     IfErr-weaker c.value.result (LeavesAmid (Lacks is_newline) g.R.Read.remaining c.keep.new.self c.value.new.self) (LeavesAmid (Lacks is_newline) g.R.Read.remaining c.args.self.now c.value.new.self)
     (λ f. leaves_past _ _ _ _ _ run.0 _ f run.2 (other_than _ 10 other)) c.value.ensures.leaves
+
+pub invariant_of-into-in_default : goal.invariant_of-into-in_default
+invariant_of-into-in_default g c = grind (arith, common_steps)
+
+pub invariant_of-into : goal.invariant_of-into
+invariant_of-into g c = grind (arith, common_steps)

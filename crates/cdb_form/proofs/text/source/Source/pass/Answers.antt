@@ -1,4 +1,4 @@
-use Rattle.std.proofs.Common.{[], ◌++◌, ◌∷◌, ◌≡◌, arith, true}
+use Rattle.std.proofs.Common.{[], ◌++◌, ◌∷◌, ◌≡◌, arith, true, rules}
 use Rattle.cdb_form.specs.Views.MapParser.{is_of}
 use Rattle.cdb_form.proofs.MapReads.{run_more}
 use Rattle.std.proofs.lemmas.Grind.{common_steps}
@@ -14,3 +14,12 @@ loop-byte-preserved g c =
 
 pub returns-then-not-has-clause-run : goal.returns-then-not-has-clause-run
 returns-then-not-has-clause-run g c = grind (arith, common_steps)
+
+pub loop-byte-smaller : goal.loop-byte-smaller
+loop-byte-smaller g c = grind (arith, common_steps)
+
+pub returns-then-not-has-clause-leaves : goal.returns-then-not-has-clause-leaves
+returns-then-not-has-clause-leaves g c = grind (arith, common_steps)
+
+pub returns-in_default-clause-leaves : goal.returns-in_default-clause-leaves
+returns-in_default-clause-leaves g c = search rules

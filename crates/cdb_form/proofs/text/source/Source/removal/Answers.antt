@@ -1,4 +1,5 @@
-use Rattle.std.proofs.Common.{arith}
+use Rattle.std.proofs.lemmas.Grind.{common_steps}
+use Rattle.std.proofs.Common.{arith, rules}
 use Rattle.std.proofs.lemmas.Result.{err_from_is_err_and}
 use Rattle.cdb_form.proofs.SourceLemmas.{removal_behind, seen_past, leaves_past}
 use Rattle.cdb_form.proofs.Stops.{removal_fails, lift_length, base_length, base_value}
@@ -31,3 +32,15 @@ returns-in_err-field-clause-leaves g c =
     let a = c.in_ok-klen.ensures.read in
     rw (p.1, p.2) (leaves_past g.R.Read.remaining c.args.self.now c.number.new.self c.field.new.self a.0 58 _ a.2 a.3 c.in_ok-klen.ensures.spends
     c.in_err-field.ensures.leaves)
+
+pub invariant_of-into : goal.invariant_of-into
+invariant_of-into g c = omega arith
+
+pub returns-clause-leaves : goal.returns-clause-leaves
+returns-clause-leaves g c = omega arith
+
+pub returns-clause-later : goal.returns-clause-later
+returns-clause-later g c = search rules
+
+pub returns-in_err-field-clause-later : goal.returns-in_err-field-clause-later
+returns-in_err-field-clause-later g c = grind (arith, common_steps)

@@ -1,3 +1,4 @@
+use Rattle.std.proofs.lemmas.Grind.{common_steps}
 use Rattle.std.proofs.Common.{◌≢◌, arith, rules}
 use Rattle.std.proofs.lemmas.Result.{err_from_is_err_and}
 use Rattle.cdb_form.proofs.MapReads.{leaves_past, other_than, value_some}
@@ -19,3 +20,9 @@ returns-clause-reads g c =
 
 pub returns-clause-are : goal.returns-clause-are
 returns-clause-are g c = search rules
+
+pub returns-clause-leaves : goal.returns-clause-leaves
+returns-clause-leaves g c = grind (arith, common_steps)
+
+pub returns-in_default-clause-fewer : goal.returns-in_default-clause-fewer
+returns-in_default-clause-fewer g c = grind (arith, common_steps)

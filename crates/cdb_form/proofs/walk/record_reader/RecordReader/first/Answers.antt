@@ -1,3 +1,4 @@
+use Rattle.std.proofs.lemmas.Grind.{common_steps}
 use Rattle.std.proofs.Common.{arith}
 use Rattle.std.specs.Prelude.{max}
 use Rattle.std.proofs.lemmas.Result.{err_from_is_err_and, on_err_weaker, IfErr-weaker, IfOk-weaker}
@@ -49,3 +50,18 @@ pub returns-clause-part : goal.returns-clause-part
 returns-clause-part g c =
     let area = c.in_ok-area.area in
     on_err_weaker c.record_at.result (λ h. none_behind_head g.L.Width.WORD area.place area.end _ _ _ c.in_ok-area.ensures.cut h) c.record_at.ensures.part
+
+pub returns-in_err-area-clause-header : goal.returns-in_err-area-clause-header
+returns-in_err-area-clause-header g c = grind (arith, common_steps)
+
+pub returns-clause-after_head : goal.returns-clause-after_head
+returns-clause-after_head g c = grind (arith, common_steps)
+
+pub returns-clause-end : goal.returns-clause-end
+returns-clause-end g c = grind (arith, common_steps)
+
+pub returns-in_err-area-clause-value : goal.returns-in_err-area-clause-value
+returns-in_err-area-clause-value g c = grind (arith, common_steps)
+
+pub returns-clause-value : goal.returns-clause-value
+returns-clause-value g c = grind (arith, common_steps)

@@ -7,3 +7,6 @@ returns-else-given-clause-failed g c = grind (arith, common_steps)
 
 pub returns-else-given-clause-ended : goal.returns-else-given-clause-ended
 returns-else-given-clause-ended g c = grind (arith, common_steps)
+
+pub returns-then-given-clause-ended : goal.returns-then-given-clause-ended
+returns-then-given-clause-ended g c = grind (arith, common_steps)

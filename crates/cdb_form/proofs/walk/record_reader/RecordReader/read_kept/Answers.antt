@@ -1,6 +1,7 @@
-use Rattle.std.proofs.Common.{refl, sym, ◌∙◌}
-use Rattle.cdb_form.proofs.walk.record_reader.RecordReader.read_kept.Goals as goal
+use Rattle.std.proofs.lemmas.Grind.{common_steps}
+use Rattle.std.proofs.Common.{refl, sym, ◌∙◌, arith}
 use Rattle.cdb_form.proofs.walk.record_reader.RecordReader.read_kept.Goals.{in-AtHead, in-At}
+use Rattle.cdb_form.proofs.walk.record_reader.RecordReader.read_kept.Goals as goal
 
 pub returns-in-Err-clause-fails : goal.returns-in-Err-clause-fails
 returns-in-Err-clause-fails g c = elim c.match-self.branch [
@@ -25,3 +26,18 @@ returns-in-Err-clause-fails g c = elim c.match-self.branch [
         no_further = λ going. rw (w.self-is, w.in-At.is) (rw is at e.header);
       }
 ]
+
+pub returns-in-Ok-true-clause-ended : goal.returns-in-Ok-true-clause-ended
+returns-in-Ok-true-clause-ended g c = grind (arith, common_steps)
+
+pub returns-in-Err-clause-failed : goal.returns-in-Err-clause-failed
+returns-in-Err-clause-failed g c = grind (arith, common_steps)
+
+pub returns-in-Failed-clause-ended : goal.returns-in-Failed-clause-ended
+returns-in-Failed-clause-ended g c = grind (arith, common_steps)
+
+pub returns-in-Ok-true-clause-failed : goal.returns-in-Ok-true-clause-failed
+returns-in-Ok-true-clause-failed g c = grind (arith, common_steps)
+
+pub returns-in-AtEnd-clause-gives : goal.returns-in-AtEnd-clause-gives
+returns-in-AtEnd-clause-gives g c = grind (arith, common_steps)

@@ -1,4 +1,4 @@
-use Rattle.std.proofs.Common.{◌-◌, arith, refl}
+use Rattle.std.proofs.Common.{◌-◌, arith, refl, rules}
 use Rattle.std.proofs.lemmas.Result.{err_from_is_err_and}
 use Rattle.cdb_form.proofs.StreamLemmas.{known_end, loses_still}
 use Rattle.std.proofs.lemmas.Grind.{common_steps}
@@ -15,3 +15,9 @@ returns-in_err-behind-clause-still_behind g c =
 
 pub returns-clause-record : goal.returns-clause-record
 returns-clause-record g c = grind (arith, common_steps)
+
+pub returns-clause-still_behind : goal.returns-clause-still_behind
+returns-clause-still_behind g c = omega arith
+
+pub returns-clause-value : goal.returns-clause-value
+returns-clause-value g c = search rules

@@ -1,0 +1,6 @@
+use Rattle.std.proofs.lemmas.Grind.{common_steps}
+use Rattle.std.proofs.Common.{arith}
+use Rattle.cdb_form.proofs.head.least_place.Goals as goal
+
+pub min-requires-clause-can : goal.min-requires-clause-can
+min-requires-clause-can c = grind (arith, common_steps)

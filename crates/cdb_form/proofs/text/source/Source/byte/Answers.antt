@@ -1,0 +1,6 @@
+use Rattle.std.proofs.lemmas.Grind.{common_steps}
+use Rattle.std.proofs.Common.{arith}
+use Rattle.cdb_form.proofs.text.source.Source.byte.Goals as goal
+
+pub returns-in-Err-clause-fails : goal.returns-in-Err-clause-fails
+returns-in-Err-clause-fails g c = grind (arith, common_steps)

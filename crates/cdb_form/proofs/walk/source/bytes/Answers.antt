@@ -1,0 +1,9 @@
+use Rattle.std.proofs.lemmas.Grind.{common_steps}
+use Rattle.std.proofs.Common.{arith}
+use Rattle.cdb_form.proofs.walk.source.bytes.Goals as goal
+
+pub returns-in-Ok-clause-are : goal.returns-in-Ok-clause-are
+returns-in-Ok-clause-are g c = omega arith
+
+pub returns-in-Ok-clause-long : goal.returns-in-Ok-clause-long
+returns-in-Ok-clause-long g c = grind (arith, common_steps)

@@ -1,0 +1,15 @@
+use Rattle.std.proofs.lemmas.Grind.{common_steps}
+use Rattle.std.proofs.Common.{arith, rules}
+use Rattle.cdb_form.proofs.writing.write_some.Goals as goal
+
+pub returns-then-ne-clause-count : goal.returns-then-ne-clause-count
+returns-then-ne-clause-count g c = omega arith
+
+pub returns-then-n-eq0-clause-err : goal.returns-then-n-eq0-clause-err
+returns-then-n-eq0-clause-err g c = search rules
+
+pub loop-preserved : goal.loop-preserved
+loop-preserved g c = search rules
+
+pub returns-then-n-eq0-clause-ok : goal.returns-then-n-eq0-clause-ok
+returns-then-n-eq0-clause-ok g c = grind (arith, common_steps)
