@@ -2,8 +2,9 @@
 ghost use Rattle.std.specs.Prelude.{◌≤◌, OnOk};
 ghost use Rattle.cdb_form.specs.Format.Pair.{head_size};
 
-use crate::files::{is_file_of, is_same_file, is_special, made_store, opened_store};
+use crate::files::{is_file_of, is_same_file, is_special, made_store};
 use crate::source::{InSource, STANDARD_INPUT, Source, sources_of};
+use crate::system::System;
 use cdb_files::{Builder, RealNames, ReplaceFault, replace_file};
 use cdb_form::{PIPE, Width, write_whole};
 use cdb_make::Mode;
@@ -64,9 +65,9 @@ impl Creation<'_> {
 
 /// What a database is made of, with its files opened. Its limit is one of its width.
 #[derive(Drop)]
-struct Contents<L: Width, I> {
-    base: Option<FileStore>,
-    sources: Vec<Source<I>>,
+struct Contents<L: Width, F, J, I> {
+    base: Option<F>,
+    sources: Vec<Source<J, I>>,
     options: MakeOptions,
     width: PhantomData<L>,
     ghost head: { head_size L.WORD ≤ options.limit },
@@ -74,8 +75,9 @@ struct Contents<L: Width, I> {
 }
 
 /// Makes a database. The base and then all inputs are opened before anything is made.
-pub(crate) fn create<L, R, I, O, E>(
+pub(crate) fn create<L, R, F, J, Y, I, O, E>(
     rt: &R,
+    system: &mut Y,
     creation: Creation<'_>,
     input: I,
     output: &mut O,
@@ -84,6 +86,9 @@ pub(crate) fn create<L, R, I, O, E>(
 where
     L: Width,
     R: Files<File = File> + AllocGlobal,
+    F: Store + Drop,
+    J: Read + Drop,
+    Y: System<F, J>,
     I: Read + Drop,
     O: Write,
     E: Write,
@@ -95,34 +100,45 @@ where
         let input = Input::new(alloc, input, PIPE)?;
         return make_bytes_by::<L, _, O, InWindow>(alloc, input, output);
     }
-    let base = base_of(rt, creation.base)?;
+    let base = base_of::<F, J, Y>(system, creation.base)?;
     let contents = Contents {
         base,
-        sources: sources_of(rt, alloc, creation.inputs, input)?,
+        sources: sources_of::<F, J, Y, I>(system, alloc, creation.inputs, input)?,
         options: creation.options,
         width: PhantomData,
     };
     if creation.name == NO_FILE {
-        return make_on_output::<L, I, O, E>(alloc, contents, output, errors);
+        return make_on_output::<L, F, J, I, O, E>(alloc, contents, output, errors);
     }
-    make_named::<L, R, I, E>(rt, creation, contents, errors)
+    make_named::<L, R, F, J, I, E>(rt, creation, contents, errors)
 }
 
 /// Opens the base, if there is one.
-fn base_of<R: Files<File = File>>(rt: &R, name: Option<&str>) -> Result<Option<FileStore>, Fault> {
+fn base_of<F: Store, J: Read, Y: System<F, J>>(
+    system: &mut Y,
+    name: Option<&str>,
+) -> Result<Option<F>, Fault> {
     match name {
-        Some(name) => Ok(Some(opened_store(rt, name)?)),
+        Some(name) => Ok(Some(system.open_store(name)?)),
         None => Ok(None),
     }
 }
 
 /// Makes it in memory and writes it.
-fn make_on_output<L: Width, I: Read + Drop, O: Write, E: Write>(
+fn make_on_output<L, F, J, I, O, E>(
     alloc: Global,
-    contents: Contents<L, I>,
+    contents: Contents<L, F, J, I>,
     output: &mut O,
     errors: &mut E,
-) -> Result<(), Fault> {
+) -> Result<(), Fault>
+where
+    L: Width,
+    F: Store + Drop,
+    J: Read + Drop,
+    I: Read + Drop,
+    O: Write,
+    E: Write,
+{
     let Contents {
         base,
         sources,
@@ -143,15 +159,17 @@ fn make_on_output<L: Width, I: Read + Drop, O: Write, E: Write>(
 ///
 /// `Open`: the name is empty or ends in a slash. `Rename`: it is that of a folder, a device, a socket
 /// or a pipe, which nothing replaces.
-fn make_named<L, R, I, E>(
+fn make_named<L, R, F, J, I, E>(
     rt: &R,
     creation: Creation<'_>,
-    contents: Contents<L, I>,
+    contents: Contents<L, F, J, I>,
     errors: &mut E,
 ) -> Result<(), Fault>
 where
     L: Width,
     R: Files<File = File> + AllocGlobal,
+    F: Store + Drop,
+    J: Read + Drop,
     I: Read + Drop,
     E: Write,
 {
@@ -161,12 +179,14 @@ where
     }
     match creation.temporary {
         Some(temporary) if temporary == NO_FILE || temporary == name => {
-            make_in_place::<L, R, I, E>(rt, creation, contents, errors)
+            make_in_place::<L, R, F, J, I, E>(rt, creation, contents, errors)
         }
-        Some(temporary) => make_apart::<L, R, I, E>(rt, temporary, creation, contents, errors),
+        Some(temporary) => make_apart::<L, R, F, J, I, E>(
+            rt, temporary, creation, contents, errors,
+        ),
         None => {
             let temporary = format!(in rt.alloc(); "{name}.tmp")?;
-            make_apart::<L, R, I, E>(rt, temporary.as_str(), creation, contents, errors)
+            make_apart::<L, R, F, J, I, E>(rt, temporary.as_str(), creation, contents, errors)
         }
     }
 }
@@ -174,15 +194,17 @@ where
 /// Makes it in the file of its name, which is emptied first.
 ///
 /// `Open`: the base or an input is that file, and would be lost; or the name is that of a link.
-fn make_in_place<L, R, I, E>(
+fn make_in_place<L, R, F, J, I, E>(
     rt: &R,
     creation: Creation<'_>,
-    contents: Contents<L, I>,
+    contents: Contents<L, F, J, I>,
     errors: &mut E,
 ) -> Result<(), Fault>
 where
     L: Width,
     R: Files<File = File> + AllocGlobal,
+    F: Store + Drop,
+    J: Read + Drop,
     I: Read + Drop,
     E: Write,
 {
@@ -191,23 +213,25 @@ where
         return Err(Fault::Open);
     }
     let store = made_store(rt, name)?;
-    make_in_file::<L, I, E>(rt.alloc(), store, contents, errors)
+    make_in_file::<L, F, J, I, E>(rt.alloc(), store, contents, errors)
 }
 
 /// Makes it in a temporary file, which is renamed once it is whole: `replace_file` says what holds
 /// of the names.
 ///
 /// If the temporary name refers to the base or to an input, nothing is removed and the call fails.
-fn make_apart<L, R, I, E>(
+fn make_apart<L, R, F, J, I, E>(
     rt: &R,
     temporary: &str,
     creation: Creation<'_>,
-    contents: Contents<L, I>,
+    contents: Contents<L, F, J, I>,
     errors: &mut E,
 ) -> Result<(), Fault>
 where
     L: Width,
     R: Files<File = File> + AllocGlobal,
+    F: Store + Drop,
+    J: Read + Drop,
     I: Read + Drop,
     E: Write,
 {
@@ -217,13 +241,13 @@ where
     if creation.reads(|file| is_file_of(rt, temporary, file)) {
         return Err(Fault::Open);
     }
-    let builder = Building::<L, I, E> {
+    let builder = Building::<L, F, J, I, E> {
         alloc: rt.alloc(),
         contents,
         errors,
     };
     let mut names = RealNames::new(rt);
-    match replace_file::<RealNames<R>, Building<L, I, E>>(
+    match replace_file::<RealNames<R>, Building<L, F, J, I, E>>(
         &mut names,
         creation.name,
         temporary,
@@ -239,13 +263,21 @@ where
 
 /// Builds a database in a file that is empty.
 #[derive(Drop)]
-struct Building<'a, L: Width, I, E> {
+struct Building<'a, L: Width, F, J, I, E> {
     alloc: Global,
-    contents: Contents<L, I>,
+    contents: Contents<L, F, J, I>,
     errors: &'a mut E,
 }
 
-impl<'a, S: Store + Drop, L: Width, I: Read + Drop, E: Write> Builder<S> for Building<'a, L, I, E> {
+impl<'a, S, L, F, J, I, E> Builder<S> for Building<'a, L, F, J, I, E>
+where
+    S: Store + Drop,
+    L: Width,
+    F: Store + Drop,
+    J: Read + Drop,
+    I: Read + Drop,
+    E: Write,
+{
     type Fault = Fault;
 
     ghost builds = { λ _ _. Unit {0} };
@@ -256,27 +288,34 @@ impl<'a, S: Store + Drop, L: Width, I: Read + Drop, E: Write> Builder<S> for Bui
             contents,
             errors,
         } = self;
-        make_in_store::<L, S, I, E>(alloc, store, contents, errors)
+        make_in_store::<L, S, F, J, I, E>(alloc, store, contents, errors)
     }
 }
 
 /// Makes it in a file, which is closed then.
-fn make_in_file<L: Width, I: Read + Drop, E: Write>(
+fn make_in_file<L: Width, F: Store + Drop, J: Read + Drop, I: Read + Drop, E: Write>(
     alloc: Global,
     file: FileStore,
-    contents: Contents<L, I>,
+    contents: Contents<L, F, J, I>,
     errors: &mut E,
 ) -> Result<(), Fault> {
-    make_in_store::<L, FileStore, I, E>(alloc, file, contents, errors).1
+    make_in_store::<L, FileStore, F, J, I, E>(alloc, file, contents, errors).1
 }
 
 /// Makes it in a store, which is handed back.
-fn make_in_store<L: Width, S: Store + Drop, I: Read + Drop, E: Write>(
+fn make_in_store<L, S, F, J, I, E>(
     alloc: Global,
     store: S,
-    contents: Contents<L, I>,
+    contents: Contents<L, F, J, I>,
     errors: &mut E,
 ) -> (S, Result<(), Fault>)
+where
+    L: Width,
+    S: Store + Drop,
+    F: Store + Drop,
+    J: Read + Drop,
+    I: Read + Drop,
+    E: Write,
     ensures { OnOk result.1 (S.settled result.0) }
 {
     let Contents {

@@ -3,13 +3,19 @@
 
 mod creating;
 mod files;
+mod open_trace;
+mod performing;
+mod reading;
+mod real_system;
 mod source;
 mod steps;
+mod system;
 
-use crate::files::LAST_STANDARD;
-use cdb_tool::Usage;
+use crate::real_system::{LAST_STANDARD, RealSystem};
+use cdb_form::PIPE;
+use cdb_tool::{Output, Usage};
 use std::fs::File;
-use std::io::ErrorKind;
+use std::io::{ErrorKind, Stdout};
 use std::os::fd::AsRawFd;
 use std::process::ExitCode;
 
@@ -19,11 +25,21 @@ const NULL: &str = "/dev/null";
 fn main(rt: HostRuntime) -> ExitCode {
     let _held = all_held(&rt);
     let mut errors = rt.stderr();
-    let status = match words_of(&rt) {
-        Ok(words) => steps::run(&rt, words, rt.stdin(), rt.stdout(), &mut errors),
+    let status = match begun(&rt) {
+        Ok((words, mut output)) => {
+            let mut system = RealSystem::new(&rt);
+            let input = rt.stdin();
+            steps::run(&rt, &mut system, words, input, &mut output, &mut errors)
+        }
         Err(usage) => steps::refuse(&usage, &mut errors),
     };
     ExitCode::from(status)
+}
+
+/// The words of the command line, and standard output with its buffer.
+fn begun(rt: &HostRuntime) -> Result<(Vec<String>, Output<Stdout>), Usage> {
+    let words = words_of(rt)?;
+    Ok((words, Output::new(rt.alloc(), rt.stdout(), PIPE)?))
 }
 
 /// What holds the places of the standard streams that are closed. If the first file that is opened

@@ -1,22 +1,21 @@
 // The inputs of a create, of which several may be standard input.
-use crate::files::opened;
+use crate::system::System;
 use cdb_form::{AtHand, Keeping, Kind, PIPE, Record, Width};
+use cdb_store::Store;
 use cdb_tool::{Fault, InWindow, Input};
 use std::alloc::{AllocError, Global};
 use std::cell::{RefCell, RefMut};
-use std::fs::File;
 use std::io::{self, Read};
 use std::rc::Rc;
-use std::rt::Files;
 
 /// The name of standard input.
 pub(crate) const STANDARD_INPUT: &str = "-";
 
 /// What is read through the window of all files: the file in hand, once there is one.
 #[derive(Drop)]
-pub(crate) struct InHand(Option<File>);
+pub(crate) struct InHand<J>(Option<J>);
 
-impl Read for InHand {
+impl<J: Read> Read for InHand<J> {
     #[inline(always)]
     fn read(&mut self, buf: &mut [u8]) -> io::Result<usize> {
         match &mut self.0 {
@@ -32,16 +31,16 @@ type Shared<R> = Rc<RefCell<Input<R>>>;
 /// A file, which is opened before the inputs are read. The inputs are read in turn, so their files
 /// have one window between them.
 #[derive(Drop)]
-pub(crate) struct Opened {
+pub(crate) struct Opened<J> {
     /// The file, until it is the one in hand.
-    file: Option<File>,
-    window: Shared<InHand>,
+    file: Option<J>,
+    window: Shared<InHand<J>>,
 }
 
-impl Opened {
+impl<J: Read + Drop> Opened<J> {
     /// The window, through which this file is read from then on.
     #[inline(always)]
-    fn in_hand(&mut self) -> Option<RefMut<'_, Input<InHand>>> {
+    fn in_hand(&mut self) -> Option<RefMut<'_, Input<InHand<J>>>> {
         let mut window = self.window.try_borrow_mut().ok()?;
         if let Some(file) = self.file.take() {
             window.restart(InHand(Some(file)));
@@ -52,15 +51,15 @@ impl Opened {
 
 /// An input of a create.
 #[derive(Drop)]
-pub(crate) enum Source<I> {
+pub(crate) enum Source<J, I> {
     /// A file.
-    File(Opened),
+    File(Opened<J>),
     /// Standard input. All inputs that are have one window, so the next goes on where the one
     /// before it stopped.
     Standard(Shared<I>),
 }
 
-impl<I: Read> Read for Source<I> {
+impl<J: Read + Drop, I: Read> Read for Source<J, I> {
     #[inline(always)]
     fn read(&mut self, buf: &mut [u8]) -> io::Result<usize> {
         match self {
@@ -79,10 +78,10 @@ impl<I: Read> Read for Source<I> {
 /// The bytes of an input's window are at hand.
 pub(crate) struct InSource;
 
-impl<I: Read> AtHand<Source<I>> for InSource {
+impl<J: Read + Drop, I: Read> AtHand<Source<J, I>> for InSource {
     #[inline(always)]
     fn take_run(
-        source: &mut Source<I>,
+        source: &mut Source<J, I>,
         kind: Kind,
         most: u64,
         into: &mut Vec<u8>,
@@ -100,7 +99,7 @@ impl<I: Read> AtHand<Source<I>> for InSource {
     }
 
     #[inline(always)]
-    fn take_byte(source: &mut Source<I>) -> Option<u8> {
+    fn take_byte(source: &mut Source<J, I>) -> Option<u8> {
         match source {
             Source::File(opened) => InWindow::take_byte(&mut *opened.in_hand()?),
             Source::Standard(shared) => match shared.try_borrow_mut() {
@@ -112,7 +111,7 @@ impl<I: Read> AtHand<Source<I>> for InSource {
 
     #[inline(always)]
     fn take_record(
-        source: &mut Source<I>,
+        source: &mut Source<J, I>,
         greatest: u64,
         most: u64,
         into: &mut Record,
@@ -130,7 +129,11 @@ impl<I: Read> AtHand<Source<I>> for InSource {
     }
 
     #[inline(always)]
-    fn take_line(source: &mut Source<I>, most: u64, into: &mut Record) -> Result<u64, AllocError> {
+    fn take_line(
+        source: &mut Source<J, I>,
+        most: u64,
+        into: &mut Record,
+    ) -> Result<u64, AllocError> {
         match source {
             Source::File(opened) => match opened.in_hand() {
                 Some(mut input) => InWindow::take_line(&mut *input, most, into),
@@ -146,7 +149,7 @@ impl<I: Read> AtHand<Source<I>> for InSource {
     /// An input is a text: no database is read from it.
     #[inline(always)]
     fn take_stored<L: Width>(
-        _: &mut Source<I>,
+        _: &mut Source<J, I>,
         _: Keeping,
         _: u64,
         _: &mut Record,
@@ -174,12 +177,12 @@ fn standard_of<I: Read + Drop>(
 }
 
 /// Opens the inputs of these names. No name is standard input, as `-` is.
-pub(crate) fn sources_of<R: Files<File = File>, I: Read + Drop>(
-    rt: &R,
+pub(crate) fn sources_of<F: Store, J: Read + Drop, Y: System<F, J>, I: Read + Drop>(
+    system: &mut Y,
     alloc: Global,
     names: &[String],
     input: I,
-) -> Result<Vec<Source<I>>, Fault> {
+) -> Result<Vec<Source<J, I>>, Fault> {
     let mut sources = Vec::new(alloc);
     if names.is_empty() {
         sources.push(Source::Standard(shared(alloc, input)?))?;
@@ -191,7 +194,7 @@ pub(crate) fn sources_of<R: Files<File = File>, I: Read + Drop>(
         let source = match &standard {
             Some(shared) if name.as_str() == STANDARD_INPUT => Source::Standard(Rc::clone(shared)?),
             _ => Source::File(Opened {
-                file: Some(opened(rt, name.as_str())?),
+                file: Some(system.open(name.as_str())?),
                 window: Rc::clone(&files)?,
             }),
         };

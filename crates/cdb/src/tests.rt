@@ -1,2 +1,3 @@
 // The program, over files in a folder of its own.
+mod opening;
 mod stepping;

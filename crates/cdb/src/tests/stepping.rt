@@ -2,10 +2,11 @@
 ghost use Rattle.std.specs.Prelude.{◌≤◌};
 
 use crate::creating::{Creation, create};
+use crate::real_system::RealSystem;
 use crate::steps::run;
-use cdb_form::Narrow;
+use cdb_form::{Narrow, PIPE};
 use cdb_make::{MakeFault, Mode};
-use cdb_tool::{Fault, MakeOptions, Style};
+use cdb_tool::{Fault, MakeOptions, Output, Style};
 use std::alloc::{AllocError, Global};
 use std::fs;
 use std::test::Fail;
@@ -106,7 +107,11 @@ fn meets(rt: &HostRuntime, row: Row) -> Result<bool, AllocError> {
     let alloc = rt.alloc();
     let words = words_of(alloc, row.line)?;
     let (mut output, mut errors) = (Vec::new(alloc), Vec::new(alloc));
-    let status = run(rt, words, row.input, &mut output, &mut errors);
+    let mut system = RealSystem::new(rt);
+    let mut buffered = Output::new(alloc, &mut output, PIPE)?;
+    let input = row.input;
+    let status = run(rt, &mut system, words, input, &mut buffered, &mut errors);
+    drop(buffered);
     Ok(
         status == row.status
             && output.as_slice() == row.output.as_bytes()
@@ -153,7 +158,15 @@ fn within(rt: &HostRuntime, limit: u64) -> Result<(), Fault>
     };
     let alloc = rt.alloc();
     let (mut output, mut errors) = (Vec::new(alloc), Vec::new(alloc));
-    create::<Narrow, _, _, _, _>(rt, creation, TWICE, &mut output, &mut errors)
+    let mut system = RealSystem::new(rt);
+    create::<Narrow, _, _, _, _, _, _, _>(
+        rt,
+        &mut system,
+        creation,
+        TWICE,
+        &mut output,
+        &mut errors,
+    )
 }
 
 #[test]

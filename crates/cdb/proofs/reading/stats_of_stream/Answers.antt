@@ -1,0 +1,10 @@
+use Rattle.std.proofs.Common.{inr}
+use Rattle.cdb.proofs.reading.stats_of_stream.Goals as goal
+
+pub returns : goal.returns
+returns g c = inr (record {
+  store = c.in_ok-store.store;
+  whole = c.in_ok-store.ensures.ok;
+  few = c.in_ok-store.ensures.few;
+  does = record { left = c.stats_run.result.0; tells = c.stats_run.ensures };
+})

@@ -1,0 +1,19 @@
+use Rattle.std.proofs.Common.{rules, inl, inr}
+use Rattle.cdb_tool.specs.Views.Output.{held_by}
+use Rattle.cdb.proofs.steps.handed_on.Goals as goal
+
+pub returns-in-Ok-Err : goal.returns-in-Ok-Err
+returns-in-Ok-Err g c = record {
+  held = held_by c.flush.new.self;
+  all = c.flush.ensures.bytes;
+  handed = search rules;
+  answered = inr (search rules);
+}
+
+pub returns-in-Ok-Ok : goal.returns-in-Ok-Ok
+returns-in-Ok-Ok g c = record {
+  held = held_by c.flush.new.self;
+  all = c.flush.ensures.bytes;
+  handed = search rules;
+  answered = inl (search rules);
+}

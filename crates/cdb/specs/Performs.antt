@@ -1,0 +1,240 @@
+-- What a command does: the calls on files, in their order, and what it writes on its output.
+use Rattle.std.specs.Prelude.{ℕ, ◌≡◌, ◌⊎◌, ◌≤◌, Bool, true, false, List, [], ◌∷◌, length}
+use Rattle.std.specs.Prelude.{Option, Some, None, Result, Ok, Err, OnOk, IfErr, IsOk, IfSome, ⊤}
+use Rattle.std.specs.Io.KnownBytes.{Keeps, Appends, append_known}
+use Rattle.cdb_command.specs.Asked.{Asked, asked_in, has_wide_words}
+use Rattle.cdb_command.specs.Asked as asked
+use Rattle.cdb_command.specs.Usage.{usage_text}
+use Rattle.cdb_command.specs.declared.command.Command.{Command}
+use Rattle.cdb_command.specs.declared.usage.Usage.{Usage}
+use Rattle.cdb_command.specs.declared.usage.Usage.TheVariants.{NoMemory}
+use Rattle.cdb_form.specs.Views.KnownBytes.{AppendsFront}
+use Rattle.cdb_store.specs.Contents.{contents}
+use Rattle.cdb_store.specs.Reads.{OnlyReads}
+use Rattle.cdb_store.specs.contracts.memory.MemStoreStore.TheImpl.{ghosts as in_memory}
+use Rattle.cdb_store.specs.declared.memory.MemStore.{MemStore}
+use Rattle.cdb_store.specs.declared.store.Store.{Ghosts}
+use Rattle.cdb_tool.specs.Runs.Check.{FindsSound, CheckingFails}
+use Rattle.cdb_tool.specs.Runs.Form.{Form, dump_form, list_form}
+use Rattle.cdb_tool.specs.Runs.Load.{IsNotLoaded}
+use Rattle.cdb_tool.specs.Runs.Query.{Query, Queries}
+use Rattle.cdb_tool.specs.Runs.Stats.{TellsStats}
+use Rattle.cdb_tool.specs.Runs.WalkText.{WritesWalk}
+use Rattle.cdb_tool.specs.Status.{exit_status}
+use Rattle.cdb_tool.specs.declared.fault.Fault.{Fault}
+use Rattle.cdb_tool.specs.declared.fault.Fault.TheVariants.{Output}
+use Rattle.cdb.specs.Opening.{IsUnopened}
+use Rattle.cdb.specs.declared.open_trace.OpenCall.TheVariants.{AtPlaces, InTurn, Stream}
+use Rattle.cdb.specs.declared.system.System.{Ghosts as Systems}
+
+-- the file was not opened, and nothing was written
+pub record Refuses (start end : Option (List ℕ)) (result : Result Unit Fault) : Type 0 where
+  pub fault : Fault
+  pub is : result ≡ Err fault
+  pub unopened : IsUnopened fault
+  pub kept : Keeps start end
+
+-- ---- query
+
+-- the values of a key of the file that came
+pub record QueriesFile {F I Y : Type 0} (w : ℕ) (s : Ghosts F) (y : Systems Y F I) (name : List ℕ)
+    (q : Query) (start end : Option (List ℕ)) (result : Result Unit Fault) : Type 0 where
+  pub file : F
+  pub left : F
+  pub came : y.gives name file
+  pub queries : Queries w s q file left start end result
+
+-- that file alone is opened
+abbrev pub PerformsQuery : {F I Y : Type 0} → ℕ → Ghosts F → Systems Y F I → (name : List ℕ)
+    → Query → (old new : Y) → (start end : Option (List ℕ)) → Result Unit Fault → Type 0
+PerformsQuery w s y name q old new start end result =
+    (y.calls new ≡ (AtPlaces, name) ∷ y.calls old)
+    × (Refuses start end result ⊎ QueriesFile w s y name q start end result)
+
+-- ---- dump and list
+
+-- the text of a reader of these bytes
+pub record WritesText (w : ℕ) (form : Form) (file start end : Option (List ℕ))
+    (result : Result Unit Fault) : Type 0 where
+  pub rest : Option (List ℕ)
+  pub walk : WritesWalk w form file rest start end result
+
+-- of the file that came
+pub record WritesFile {F I Y : Type 0} (w : ℕ) (remaining : I → Option (List ℕ)) (y : Systems Y F I)
+    (form : Form) (name : List ℕ) (start end : Option (List ℕ)) (result : Result Unit Fault)
+    : Type 0 where
+  pub file : I
+  pub came : y.reads name file
+  pub writes : WritesText w form (remaining file) start end result
+
+-- that file alone is opened, or none, if standard input is read; if memory for its window is
+-- refused, nothing is written
+abbrev pub PerformsText : {F I Y : Type 0} → ℕ → (I → Option (List ℕ)) → Systems Y F I → Form
+    → Option (List ℕ) → (input : Option (List ℕ)) → (old new : Y) → (start end : Option (List ℕ))
+    → Result Unit Fault → Type 0
+PerformsText w remaining y form (Some name) input old new start end result =
+    (y.calls new ≡ (InTurn, name) ∷ y.calls old)
+    × (Refuses start end result ⊎ WritesFile w remaining y form name start end result)
+PerformsText w remaining y form None input old new start end result =
+    (new ≡ old) × (Refuses start end result ⊎ WritesText w form input start end result)
+
+-- ---- statistics and check
+
+-- its statistics are written
+pub record TellsStore {S : Type 0} (w : ℕ) (start end : Option (List ℕ)) (result : Result Unit Fault)
+    (s : Ghosts S) (store : S) : Type 0 where
+  pub left : S
+  pub tells : TellsStats w s store left start end result
+
+-- it is checked, and nothing is written
+pub record ChecksStore {S : Type 0} (w : ℕ) (start end : Option (List ℕ))
+    (result : Result Unit Fault) (s : Ghosts S) (store : S) : Type 0 where
+  pub left : S
+  pub kept : Keeps start end
+  pub reads : OnlyReads s store left
+  pub sound : OnOk result (FindsSound w s left)
+  pub fails : IfErr result (CheckingFails w s store left)
+
+-- these bytes are not taken into memory, and nothing is written
+pub record IsNotTaken (most : ℕ) (file start end : Option (List ℕ)) (result : Result Unit Fault)
+    : Type 0 where
+  pub fault : Fault
+  pub is : result ≡ Err fault
+  pub why : IsNotLoaded most file fault
+  pub kept : Keeps start end
+
+-- they are, and this is done with them
+pub record IsTaken (most : ℕ) (file : Option (List ℕ)) (done : MemStore → Type 0) : Type 0 where
+  pub store : MemStore
+  pub whole : IfSome file (λ f. contents store ≡ f)
+  pub few : length (contents store) ≤ most
+  pub does : done store
+
+abbrev pub Takes : ℕ → (file start end : Option (List ℕ)) → Result Unit Fault → (MemStore → Type 0)
+    → Type 0
+Takes most file start end result done =
+    IsNotTaken most file start end result ⊎ IsTaken most file done
+
+-- the file that came is read at places
+pub record OfFile {F I Y : Type 0} (y : Systems Y F I) (name : List ℕ) (done : F → Type 0) : Type 0
+  where
+    pub file : F
+    pub came : y.gives name file
+    pub does : done file
+
+-- it is taken into memory
+pub record OfStream {F I Y : Type 0} (remaining : I → Option (List ℕ)) (y : Systems Y F I)
+    (name : List ℕ) (most : ℕ) (start end : Option (List ℕ)) (result : Result Unit Fault)
+    (done : MemStore → Type 0) : Type 0 where
+  pub file : I
+  pub came : y.reads name file
+  pub takes : Takes most (remaining file) start end result done
+
+-- that file alone is opened, once it was seen whether it is a stream; or none, if standard input is
+-- read
+abbrev pub PerformsOn : {F I Y : Type 0} → Ghosts F → (I → Option (List ℕ)) → Systems Y F I
+    → (most : ℕ) → (name : Option (List ℕ)) → (input : Option (List ℕ)) → (old new : Y)
+    → (start end : Option (List ℕ)) → Result Unit Fault → (F → Type 0) → (MemStore → Type 0) → Type 0
+PerformsOn s remaining y most (Some name) input old new start end result file taken =
+    ((y.calls new ≡ (AtPlaces, name) ∷ (Stream false, name) ∷ y.calls old)
+    × (Refuses start end result ⊎ OfFile y name file))
+    ⊎ ((y.calls new ≡ (InTurn, name) ∷ (Stream true, name) ∷ y.calls old)
+    × (Refuses start end result ⊎ OfStream remaining y name most start end result taken))
+PerformsOn s remaining y most None input old new start end result file taken =
+    (new ≡ old) × Takes most input start end result taken
+
+-- ---- help
+
+-- the usage text is written
+pub record WritesUsage (start end : Option (List ℕ)) (result : Result Unit Fault) : Type 0 where
+  pub ok : OnOk result (Appends start end usage_text)
+  pub err : IfErr result (λ fault. (fault ≡ Output) × AppendsFront start end usage_text)
+
+-- ---- each command, in words of w bytes of files of at most so many; nothing is claimed of a create
+abbrev pub Performs : {F I Y : Type 0} → (w most : ℕ) → Ghosts F → (I → Option (List ℕ))
+    → Systems Y F I → Asked → (input : Option (List ℕ)) → (old new : Y)
+    → (start end : Option (List ℕ)) → Result Unit Fault → Type 0
+Performs w most s remaining y (asked.Query name key number lines wide) input old new start end result =
+    PerformsQuery w s y name (record { key = key; number = number; lines = lines }) old new start end
+    result
+Performs w most s remaining y (asked.Dump name style wide) input old new start end result =
+    PerformsText w remaining y (dump_form style) name input old new start end result
+Performs w most s remaining y (asked.Listing name style wide) input old new start end result =
+    PerformsText w remaining y (list_form style) name input old new start end result
+Performs w most s remaining y (asked.Stats name wide) input old new start end result =
+    PerformsOn s remaining y most name input old new start end result
+    (TellsStore w start end result s) (TellsStore w start end result in_memory)
+Performs w most s remaining y (asked.Check name wide) input old new start end result =
+    PerformsOn s remaining y most name input old new start end result
+    (ChecksStore w start end result s) (ChecksStore w start end result in_memory)
+Performs w most s remaining y (asked.Create name base inputs temporary options wide) input old new
+    start end result = ⊤
+Performs w most s remaining y asked.Help input old new start end result =
+    (new ≡ old) × WritesUsage start end result
+
+-- in words of 8 bytes or of 4
+abbrev pub PerformsIn : {F I Y : Type 0} → (wide : Bool) → Ghosts F → (I → Option (List ℕ))
+    → Systems Y F I → Asked → (input : Option (List ℕ)) → (old new : Y)
+    → (start end : Option (List ℕ)) → Result Unit Fault → Type 0
+PerformsIn true s remaining y command input old new start end result =
+    Performs 8 9223372036854775807 s remaining y command input old new start end result
+PerformsIn false s remaining y command input old new start end result =
+    Performs 4 4294967295 s remaining y command input old new start end result
+
+-- ---- the end of a command
+
+-- what is written reaches the output, all of it if the command succeeds; a flush that fails is a
+-- fault if no other came
+pub record HandsOn (end final : Option (List ℕ)) (answer result : Result Unit Fault) : Type 0 where
+  pub held : List ℕ
+  pub all : Keeps end (append_known final held)
+  pub handed : OnOk result (held ≡ [])
+  pub answered : (result ≡ answer) ⊎ (IsOk answer × (result ≡ Err Output))
+
+-- the command was performed, and what it wrote was handed on
+pub record Does {F I Y : Type 0} (s : Ghosts F) (remaining : I → Option (List ℕ)) (y : Systems Y F I)
+    (command : Asked) (input : Option (List ℕ)) (old new : Y) (start final : Option (List ℕ))
+    (result : Result Unit Fault) : Type 0 where
+  pub end : Option (List ℕ)
+  pub answer : Result Unit Fault
+  pub performs : PerformsIn (has_wide_words command) s remaining y command input old new start end
+      answer
+  pub hands : HandsOn end final answer result
+
+-- ---- the program
+
+-- the exit status, if the words ask for nothing, and that of a command
+abbrev pub usage_status : Usage → ℕ
+usage_status NoMemory = 111
+usage_status usage = 2
+
+abbrev pub status_of : Command → Result Unit Fault → ℕ
+status_of command (Ok done) = 0
+status_of command (Err fault) = exit_status command fault
+
+-- the words ask for nothing, or memory for them was refused
+pub record AsksNothing {Y : Type 0} (planned : Result Asked Usage) (old new : Y)
+    (start end : Option (List ℕ)) (status : ℕ) : Type 0 where
+  pub usage : Usage
+  pub why : (usage ≡ NoMemory) ⊎ (planned ≡ Err usage)
+  pub untouched : new ≡ old
+  pub kept : Keeps start end
+  pub is_status : status ≡ usage_status usage
+
+-- the command that they ask for was performed
+pub record AsksFor {F I Y : Type 0} (s : Ghosts F) (remaining : I → Option (List ℕ))
+    (y : Systems Y F I) (planned : Result Asked Usage) (input : Option (List ℕ)) (old new : Y)
+    (start final : Option (List ℕ)) (status : ℕ) : Type 0 where
+  pub command : Command
+  pub asks : planned ≡ Ok (asked_in command)
+  pub result : Result Unit Fault
+  pub does : Does s remaining y (asked_in command) input old new start final result
+  pub is_status : status ≡ status_of command result
+
+-- from its words to its exit status: what was written, and what standard output has of it
+abbrev pub Runs : {F I Y : Type 0} → Ghosts F → (I → Option (List ℕ)) → Systems Y F I
+    → (planned : Result Asked Usage) → (input : Option (List ℕ)) → (old new : Y)
+    → (start end final : Option (List ℕ)) → (status : ℕ) → Type 0
+Runs s remaining y planned input old new start end final status =
+    AsksNothing planned old new start end status
+    ⊎ AsksFor s remaining y planned input old new start final status

@@ -1,0 +1,45 @@
+// The calls on files and what they answered, which only clauses read.
+ghost use Rattle.std.specs.Prelude.{◌≡◌, List, ℕ, [], ◌∷◌};
+ghost use Rattle.std.specs.Borrow.{ftrue};
+ghost use Rattle.cdb.specs.declared.open_trace.OpenCall.{OpenCall};
+
+use std::marker::{Model, PhantomData};
+
+/// A call on the file of a name.
+#[derive(Clone, Copy)]
+pub(crate) enum OpenCall {
+    /// It was opened, to be read at places.
+    AtPlaces,
+    /// It was opened, to be read from its start on.
+    InTurn,
+    /// It is a stream, a pipe or a device, or it is not.
+    Stream(bool),
+}
+
+/// A list of calls, the newest first, each with its name. It takes no memory, and its methods do
+/// nothing at run time.
+#[derive(Drop)]
+pub(crate) struct OpenTrace {
+    marker: PhantomData<u8>,
+    pub ghost events: { List (OpenCall × List ℕ) },
+}
+
+impl Model for OpenTrace {
+    ghost also_owns = { λ _. ftrue };
+}
+
+impl OpenTrace {
+    /// No calls.
+    pub(crate) fn new() -> OpenTrace
+        ensures { result.events ≡ [] }
+    {
+        OpenTrace {
+            marker: PhantomData,
+        }
+    }
+
+    /// Adds a call.
+    pub(crate) fn note(&mut self, _call: &OpenCall, _name: &[u8])
+        ensures { self.new.events ≡ (_call.now, _name.now) ∷ self.old.events }
+    {}
+}

@@ -1,0 +1,189 @@
+// The commands that read one file: its values, its text, its statistics, and whether it is sound.
+ghost use Rattle.std.specs.Prelude.{◌≡◌, ◌≤◌, ◌⊎◌, IfSome, IfOk, IfErr, length, option_map};
+ghost use Rattle.std.specs.Prelude.{string_bytes, List, ℕ, Option};
+ghost use Rattle.cdb_store.specs.contracts.memory.MemStoreStore.TheImpl.{ghosts as in_memory};
+ghost use Rattle.cdb_store.specs.Contents.{contents};
+ghost use Rattle.cdb_tool.specs.Runs.Form.{form_of};
+ghost use Rattle.cdb_tool.specs.Runs.Load.{IsNotLoaded};
+ghost use Rattle.cdb.specs.Performs.{PerformsQuery, PerformsText, PerformsOn, Refuses, WritesText};
+ghost use Rattle.cdb.specs.Performs.{Takes, TellsStore, ChecksStore};
+
+use crate::system::System;
+use cdb_form::{PIPE, Width};
+use cdb_store::{MemStore, Store};
+use cdb_tool::{
+    Content, Fault, InWindow, Input, Style, check_run, dump_run_by, list_run_by, load, query_run,
+    stats_run,
+};
+use std::alloc::Global;
+use std::io::{Read, Write};
+
+/// Writes the values of a key, which are counted from 1.
+pub(crate) fn query<L, F, J, Y, O>(
+    system: &mut Y,
+    name: &str,
+    key: &str,
+    number: Option<u64>,
+    lines: bool,
+    output: &mut O,
+) -> Result<(), Fault>
+where
+    L: Width,
+    F: Store + Drop,
+    J: Read + Drop,
+    Y: System<F, J>,
+    O: Write,
+    requires { IfSome number (λ n. 1 ≤ n) }
+    ensures { PerformsQuery L.WORD F.Store Y.System name.now
+        (record { key = key.now; number = number; lines = lines })
+        system.old system.new (O.contents output.old) (O.contents output.new) result }
+{
+    let store = system.open_store(name)?;
+    query_run::<L, F, O>(store, key.as_bytes(), number, lines, output).1
+}
+
+/// Writes the records of a database that is read in one pass, or their keys.
+fn write_text<L: Width, I: Read + Drop, O: Write>(
+    alloc: Global,
+    content: Content,
+    style: Style,
+    input: I,
+    output: &mut O,
+) -> Result<(), Fault>
+    ensures { Refuses (O.contents output.old) (O.contents output.new) result
+        ⊎ WritesText L.WORD (form_of content style) (I.remaining input)
+        (O.contents output.old) (O.contents output.new) result }
+{
+    let input = Input::new(alloc, input, PIPE)?;
+    match content {
+        Content::Records => dump_run_by::<L, _, O, InWindow>(alloc, input, style, output),
+        Content::Keys => list_run_by::<L, _, O, InWindow>(alloc, input, style, output),
+    }
+}
+
+/// Writes the text of a file, or of standard input.
+pub(crate) fn text<L, F, J, Y, I, O>(
+    alloc: Global,
+    system: &mut Y,
+    content: Content,
+    name: &Option<String>,
+    style: Style,
+    input: I,
+    output: &mut O,
+) -> Result<(), Fault>
+where
+    L: Width,
+    F: Store + Drop,
+    J: Read + Drop,
+    Y: System<F, J>,
+    I: Read + Drop,
+    O: Write,
+    ensures { PerformsText L.WORD J.remaining Y.System (form_of content style)
+        (option_map string_bytes name.now) (I.remaining input) system.old system.new
+        (O.contents output.old) (O.contents output.new) result }
+{
+    match name {
+        Some(name) => {
+            let file = system.open(name.as_str())?;
+            write_text::<L, J, O>(alloc, content, style, file, output)
+        }
+        None => write_text::<L, I, O>(alloc, content, style, input, output),
+    }
+}
+
+/// A stream, taken into memory.
+fn taken<L: Width, I: Read + Drop>(alloc: Global, input: I) -> Result<MemStore, Fault>
+    ensures ok { IfOk result (λ store. IfSome (I.remaining input) (λ file. contents store ≡ file)) }
+    ensures few { IfOk result (λ store. length (contents store) ≤ L.GREATEST) }
+    ensures fails { IfErr result (IsNotLoaded L.GREATEST (I.remaining input)) }
+{
+    load(alloc, Input::new(alloc, input, PIPE)?, L::GREATEST)
+}
+
+/// Writes the statistics of a stream.
+fn stats_of_stream<L: Width, I: Read + Drop, O: Write>(
+    alloc: Global,
+    input: I,
+    output: &mut O,
+) -> Result<(), Fault>
+    ensures { Takes L.GREATEST (I.remaining input) (O.contents output.old) (O.contents output.new)
+        result
+        (TellsStore L.WORD (O.contents output.old) (O.contents output.new) result in_memory) }
+{
+    let store = taken::<L, I>(alloc, input)?;
+    stats_run::<L, MemStore, O>(store, output).1
+}
+
+/// Writes the statistics of a file, or of a stream: standard input, a pipe or a device.
+pub(crate) fn stats<L, F, J, Y, I, O>(
+    alloc: Global,
+    system: &mut Y,
+    name: &Option<String>,
+    input: I,
+    output: &mut O,
+) -> Result<(), Fault>
+where
+    L: Width,
+    F: Store + Drop,
+    J: Read + Drop,
+    Y: System<F, J>,
+    I: Read + Drop,
+    O: Write,
+    ensures { PerformsOn F.Store J.remaining Y.System L.GREATEST
+        (option_map string_bytes name.now) (I.remaining input) system.old system.new
+        (O.contents output.old) (O.contents output.new) result
+        (TellsStore L.WORD (O.contents output.old) (O.contents output.new) result F.Store)
+        (TellsStore L.WORD (O.contents output.old) (O.contents output.new) result in_memory) }
+{
+    match name {
+        Some(name) if system.is_stream(name.as_str()) => {
+            let file = system.open(name.as_str())?;
+            stats_of_stream::<L, J, O>(alloc, file, output)
+        }
+        Some(name) => {
+            let store = system.open_store(name.as_str())?;
+            stats_run::<L, F, O>(store, output).1
+        }
+        None => stats_of_stream::<L, I, O>(alloc, input, output),
+    }
+}
+
+/// Checks a stream.
+fn check_of_stream<L: Width, I: Read + Drop>(alloc: Global, input: I) -> Result<(), Fault>
+    ensures { (known : Option (List ℕ)) → Takes L.GREATEST (I.remaining input) known known result
+        (ChecksStore L.WORD known known result in_memory) }
+{
+    let store = taken::<L, I>(alloc, input)?;
+    check_run::<L, MemStore>(alloc, store).1
+}
+
+/// Checks a file, or a stream: standard input, a pipe or a device. Nothing is written.
+pub(crate) fn check<L, F, J, Y, I>(
+    alloc: Global,
+    system: &mut Y,
+    name: &Option<String>,
+    input: I,
+) -> Result<(), Fault>
+where
+    L: Width,
+    F: Store + Drop,
+    J: Read + Drop,
+    Y: System<F, J>,
+    I: Read + Drop,
+    ensures { (known : Option (List ℕ)) → PerformsOn F.Store J.remaining Y.System L.GREATEST
+        (option_map string_bytes name.now) (I.remaining input) system.old system.new known known
+        result (ChecksStore L.WORD known known result F.Store)
+        (ChecksStore L.WORD known known result in_memory) }
+{
+    match name {
+        Some(name) if system.is_stream(name.as_str()) => {
+            let file = system.open(name.as_str())?;
+            check_of_stream::<L, J>(alloc, file)
+        }
+        Some(name) => {
+            let store = system.open_store(name.as_str())?;
+            check_run::<L, F>(alloc, store).1
+        }
+        None => check_of_stream::<L, I>(alloc, input),
+    }
+}

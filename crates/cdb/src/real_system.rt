@@ -1,0 +1,85 @@
+// The system's files: the lines that open them, and note it.
+ghost use Rattle.std.specs.Prelude.{◌≡◌, ◌∷◌, []};
+
+use crate::open_trace::{OpenCall, OpenTrace};
+use crate::system::System;
+use cdb_store::{FileStore, StoreFault};
+use cdb_tool::Fault;
+use std::fs::{self, File};
+use std::io::{self, ErrorKind};
+use std::os::fd::AsRawFd;
+use std::rt::Files;
+
+/// The greatest number of a standard stream.
+pub(crate) const LAST_STANDARD: i32 = 2;
+
+/// The files of the system, by their names.
+#[derive(Drop)]
+pub(crate) struct RealSystem<'a, R> {
+    rt: &'a R,
+    trace: OpenTrace,
+}
+
+impl<'a, R: Files<File = File>> RealSystem<'a, R> {
+    /// Files on which no call was made yet.
+    pub(crate) fn new(rt: &'a R) -> RealSystem<'a, R>
+        ensures { result.trace.events ≡ [] }
+    {
+        RealSystem {
+            rt,
+            trace: OpenTrace::new(),
+        }
+    }
+}
+
+/// Why a file was not opened.
+fn open_fault(error: &io::Error) -> Fault {
+    if error.kind() == ErrorKind::OutOfMemory {
+        return Fault::NoMemory;
+    }
+    Fault::Open
+}
+
+impl<'a, R: Files<File = File>> System<FileStore, File> for RealSystem<'a, R> {
+    ghost calls = { λ s. s.trace.events };
+
+    ghost gives = { λ _ _. Unit {0} };
+
+    ghost reads = { λ _ _. Unit {0} };
+
+    fn open_store(&mut self, name: &str) -> Result<FileStore, Fault> {
+        self.trace.note(&OpenCall::AtPlaces, name.as_bytes());
+        if is_stream(self.rt, name) {
+            return Err(Fault::Open);
+        }
+        match FileStore::open(self.rt, name) {
+            Ok(store) => Ok(store),
+            Err(StoreFault::Device) => Err(Fault::Open),
+            Err(StoreFault::NoMemory) => Err(Fault::NoMemory),
+        }
+    }
+
+    /// The file is given up if it got the number of a standard stream that is closed.
+    fn open(&mut self, name: &str) -> Result<File, Fault> {
+        self.trace.note(&OpenCall::InTurn, name.as_bytes());
+        match File::open(self.rt, name) {
+            Ok(file) if file.as_raw_fd() <= LAST_STANDARD => Err(Fault::Open),
+            Ok(file) => Ok(file),
+            Err(error) => Err(open_fault(&error)),
+        }
+    }
+
+    fn is_stream(&mut self, name: &str) -> bool {
+        let is = is_stream(self.rt, name);
+        self.trace.note(&OpenCall::Stream(is), name.as_bytes());
+        is
+    }
+}
+
+/// Whether a name is that of a pipe or a device, which is read from its start to its end alone.
+fn is_stream<R: Files<File = File>>(rt: &R, name: &str) -> bool {
+    match fs::metadata(rt, name) {
+        Ok(found) => !found.is_file() && !found.is_dir(),
+        Err(_) => false,
+    }
+}
