@@ -1,7 +1,7 @@
 #!/usr/bin/env python3
 """Lists the goals that a check of a crate took longest to prove.
 
-    tools/dear.py CRATE [COUNT]
+    tools/slow_goals.py CRATE [COUNT]
 
 CRATE is a crate's folder in which `rt check` has run, as crates/cdb_form, and COUNT how many goals
 to list, 20 if left out. Each line has the steps of the search and of the proof's own check, the
@@ -48,7 +48,7 @@ def goals_of(crate):
 
 
 def main(words):
-    """Lists the goals of a crate by their steps, the dearest first."""
+    """Lists the goals of a crate by their steps, the most first."""
     if not 2 <= len(words) <= 3:
         print(__doc__)
         return 2
