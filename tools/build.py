@@ -4,13 +4,14 @@
     tools/build.py CRATE TARGET
 
 Each library is proved and built as soon as those below it are: two at once if the machine has the
-processors and the memory for it. The program comes last. As it goes, the command says how many functions are proved: on a terminal in one
-line that it rewrites, else in a line a minute. All that the checker says goes to the file build.log
-beside the target; if a step fails, the end of it is shown. The checker is the command in the
-environment's RT, else `rt`.
+processors and the memory for it. The program comes last; on a PC it is built for each processor of
+x86-64. As it goes, the command says how many functions are proved: on a terminal in one line that it
+rewrites, else in a line a minute. All that the checker says goes to the file build.log beside the target;
+if a step fails, the end of it is shown. The checker is the command in the environment's RT, else `rt`.
 """
 
 import os
+import platform
 import re
 import shutil
 import subprocess
@@ -18,8 +19,10 @@ import sys
 import threading
 import time
 
-# The checker proves a program, builds it and then runs it, with these words.
-WORDS = ["--", "-h"]
+# The checker proves a program, builds it and then runs it, with these words. By itself it would build
+# for the processors of 2009 and later.
+CPU = ["--cpu", "x86-64"] if platform.machine() == "x86_64" else []
+WORDS = [*CPU, "--", "-h"]
 SHOWN_LINES = 40
 
 # What the checker says of each function that it proves, and of a crate.

@@ -5,7 +5,8 @@
 
 Each comparison needs some programs, and is passed over with a word where one of them is missing. The
 others are tinycdb's cdb, freecdb's cdbmake, cdbdump, cdbget and cdbstats, postmap with its cdb
-maps, tinydns-data, and Perl's CDB_File.
+maps, tinydns-data, and Perl's CDB_File. With qemu the program also runs on the oldest processor of a PC
+that it is built for.
 """
 
 import os
@@ -184,6 +185,25 @@ def perl_reads_ours(folder, perl):
     return None if folder.run(perl, "-e", PERL_READ, "ours") == wanted else "other values"
 
 
+def an_old_processor_does_the_same(folder, qemu):
+    """Each command on a processor of 2006."""
+    old = (qemu, "-cpu", "core2duo", folder.program)
+    folder.write("text", LARGE_TEXT)
+    folder.run(*old, "-c", "ours", "text")
+    if folder.read("ours") != LARGE_FILE:
+        return "another file"
+    key = next(key for key, _ in LARGE if key and key.isalnum())
+    for words in (["-d", "ours"], ["-l", "ours"], ["-s", "ours"], ["-k", "ours"], ["-q", "ours", key]):
+        if folder.run(*old, *words) != folder.ours(*words):
+            return f"cdb {words[0]} wrote otherwise"
+    return None
+
+
+def emulator():
+    """An emulator of this machine's kind."""
+    return found("qemu-x86_64") if os.uname().machine == "x86_64" else None
+
+
 def perl_with_cdb():
     """Perl, where it has CDB_File."""
     perl = shutil.which("perl")
@@ -216,6 +236,7 @@ COMPARISONS = [
     ("postmap", postmap_with_cdb, [postmap_finds_in_ours, postmap_maps_are_read]),
     ("tinydns-data", lambda: found("tinydns-data"), [tinydns_data_is_read]),
     ("Perl's CDB_File", perl_with_cdb, [perl_makes_the_same, perl_reads_ours]),
+    ("a processor of 2006", emulator, [an_old_processor_does_the_same]),
 ]
 
 
