@@ -1,10 +1,10 @@
 -- What a command does: the calls on files, in their order, and what it writes on its output.
-use Rattle.std.specs.Prelude.{ℕ, ◌≡◌, ◌⊎◌, ◌≤◌, Bool, true, false, List, [], ◌∷◌, length}
-use Rattle.std.specs.Prelude.{Option, Some, None, Result, Ok, Err, OnOk, IfErr, IsOk, IfSome, ⊤}
+use Rattle.std.specs.Prelude.{ℕ, ◌≡◌, ◌⊎◌, ◌≤◌, Bool, true, false, List, [], ◌∷◌, ◌++◌, length}
+use Rattle.std.specs.Prelude.{Option, Some, None, Result, Ok, Err, OnOk, IfErr, IsOk, IfSome, ⊤, codes}
 use Rattle.std.specs.Io.KnownBytes.{Keeps, Appends, append_known}
 use Rattle.cdb_command.specs.Asked.{Asked, asked_in, has_wide_words}
 use Rattle.cdb_command.specs.Asked as asked
-use Rattle.cdb_command.specs.Usage.{usage_text}
+use Rattle.cdb_command.specs.Usage.{usage_message, usage_text}
 use Rattle.cdb_command.specs.declared.command.Command.{Command}
 use Rattle.cdb_command.specs.declared.usage.Usage.{Usage}
 use Rattle.cdb_command.specs.declared.usage.Usage.TheVariants.{NoMemory}
@@ -20,6 +20,7 @@ use Rattle.cdb_tool.specs.Runs.Load.{IsNotLoaded}
 use Rattle.cdb_tool.specs.Runs.Query.{Query, Queries}
 use Rattle.cdb_tool.specs.Runs.Stats.{TellsStats}
 use Rattle.cdb_tool.specs.Runs.WalkText.{WritesWalk}
+use Rattle.cdb_tool.specs.Message.{fault_line}
 use Rattle.cdb_tool.specs.Status.{exit_status}
 use Rattle.cdb_tool.specs.declared.fault.Fault.{Fault}
 use Rattle.cdb_tool.specs.declared.fault.Fault.TheVariants.{Output}
@@ -201,6 +202,24 @@ pub record Does {F I Y : Type 0} (s : Ghosts F) (remaining : I → Option (List 
       answer
   pub hands : HandsOn end final answer result
 
+-- ---- what is said on standard error
+
+-- only a create says anything before it ends: its duplicates
+abbrev pub IsSilent : {E : Type 0} → Asked → (old new : E) → Type 0
+IsSilent (asked.Create name base inputs temporary options wide) old new = ⊤
+IsSilent command old new = new ≡ old
+
+-- the line of words that ask for nothing
+abbrev pub usage_line : Usage → List ℕ
+usage_line usage = codes "cdb: " ++ (usage_message usage ++ codes "\n")
+
+-- the line of a fault is said, as far as standard error takes it, and nothing of a success; of a
+-- create nothing is claimed
+abbrev pub Says : Asked → Result Unit Fault → (told said : Option (List ℕ)) → Type 0
+Says (asked.Create name base inputs temporary options wide) result told said = ⊤
+Says command (Ok done) told said = Keeps told said
+Says command (Err fault) told said = AppendsFront told said (fault_line fault)
+
 -- ---- the program
 
 -- the exit status, if the words ask for nothing, and that of a command
@@ -214,9 +233,10 @@ status_of command (Err fault) = exit_status command fault
 
 -- the words ask for nothing, or memory for them was refused
 pub record AsksNothing {Y : Type 0} (planned : Result Asked Usage) (old new : Y)
-    (start end : Option (List ℕ)) (status : ℕ) : Type 0 where
+    (start end told said : Option (List ℕ)) (status : ℕ) : Type 0 where
   pub usage : Usage
   pub why : (usage ≡ NoMemory) ⊎ (planned ≡ Err usage)
+  pub line : AppendsFront told said (usage_line usage)
   pub untouched : new ≡ old
   pub kept : Keeps start end
   pub is_status : status ≡ usage_status usage
@@ -224,17 +244,19 @@ pub record AsksNothing {Y : Type 0} (planned : Result Asked Usage) (old new : Y)
 -- the command that they ask for was performed
 pub record AsksFor {F I Y : Type 0} (s : Ghosts F) (remaining : I → Option (List ℕ))
     (y : Systems Y F I) (planned : Result Asked Usage) (input : Option (List ℕ)) (old new : Y)
-    (start final : Option (List ℕ)) (status : ℕ) : Type 0 where
+    (start final told said : Option (List ℕ)) (status : ℕ) : Type 0 where
   pub command : Command
   pub asks : planned ≡ Ok (asked_in command)
   pub result : Result Unit Fault
+  pub says : Says (asked_in command) result told said
   pub does : Does s remaining y (asked_in command) input old new start final result
   pub is_status : status ≡ status_of command result
 
--- from its words to its exit status: what was written, and what standard output has of it
+-- from its words to its exit status: what was written, what standard output has of it, and what is
+-- said on standard error
 abbrev pub Runs : {F I Y : Type 0} → Ghosts F → (I → Option (List ℕ)) → Systems Y F I
     → (planned : Result Asked Usage) → (input : Option (List ℕ)) → (old new : Y)
-    → (start end final : Option (List ℕ)) → (status : ℕ) → Type 0
-Runs s remaining y planned input old new start end final status =
-    AsksNothing planned old new start end status
-    ⊎ AsksFor s remaining y planned input old new start final status
+    → (start end final : Option (List ℕ)) → (told said : Option (List ℕ)) → (status : ℕ) → Type 0
+Runs s remaining y planned input old new start end final told said status =
+    AsksNothing planned old new start end told said status
+    ⊎ AsksFor s remaining y planned input old new start final told said status

@@ -10,6 +10,7 @@ mod real_system;
 mod source;
 mod steps;
 mod system;
+mod telling;
 
 use crate::real_system::{LAST_STANDARD, RealSystem};
 use cdb_form::PIPE;
@@ -31,7 +32,7 @@ fn main(rt: HostRuntime) -> ExitCode {
             let input = rt.stdin();
             steps::run(&rt, &mut system, words, input, &mut output, &mut errors)
         }
-        Err(usage) => steps::refuse(&usage, &mut errors),
+        Err(usage) => telling::refuse(&usage, &mut errors),
     };
     ExitCode::from(status)
 }

@@ -1,7 +1,7 @@
 // Each command, with words of one width.
 ghost use Rattle.cdb_tool.specs.Command.{asked_in, FitsIn};
 ghost use Rattle.cdb_form.specs.Format.Pair.{head_size};
-ghost use Rattle.cdb.specs.Performs.{Performs, WritesUsage};
+ghost use Rattle.cdb.specs.Performs.{IsSilent, Performs, WritesUsage};
 
 use crate::creating::{Creation, create};
 use crate::reading::{check, query, stats, text};
@@ -40,9 +40,10 @@ where
     O: Write,
     E: Write,
     requires { FitsIn (head_size L.WORD) L.GREATEST (asked_in command.now) }
-    ensures { Performs L.WORD L.GREATEST F.Store J.remaining Y.System (asked_in command.now)
+    ensures performs { Performs L.WORD L.GREATEST F.Store J.remaining Y.System (asked_in command.now)
         (I.remaining input) system.old system.new
         (O.contents output.old) (O.contents output.new) result }
+    ensures silent { IsSilent (asked_in command.now) errors.old errors.new }
 {
     let alloc = rt.alloc();
     match command {
