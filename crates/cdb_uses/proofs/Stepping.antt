@@ -1,44 +1,56 @@
 -- A maker goes on by steps, of which some are refused.
-use Rattle.std.proofs.Common.{◌≡◌, ◌+◌, ◌*◌, ◌<◌, ◌≤◌, true, false, if◌then◌else◌, ℕ, Bool, inl, inr, List, [], ◌∷◌, ◌++◌, length, get_or, fold, refl, sym, ap, subst, ◌∙◌, append_assoc, arith, Option, Some, Result, Ok, Err}
-use Rattle.std.specs.Prelude.{All, IfOk, IfErr}
+use Rattle.std.proofs.Common.{◌≡◌, ◌+◌, ◌*◌, ◌<◌, ◌≤◌, true, false, if◌then◌else◌, ℕ, Bool, inl, inr, List, [], ◌∷◌, ◌++◌, length, length-append, not, fold, refl, sym, ap, subst, ◌∙◌, append_assoc, arith, Option, Some, None, Result, Ok, Err}
+use Rattle.std.specs.Prelude.{filter, IfOk, IfErr}
+use Rattle.std.specs.List.{list_any}
 use Rattle.std.specs.Result.{result_err}
 use Rattle.std.proofs.lemmas.Bool.{le-leb, lt-leb}
 use Rattle.std.proofs.lemmas.List.{append-nil}
+use Rattle.std.proofs.lemmas.List.Filters.{length-filter_both}
 use Rattle.std.proofs.lemmas.List.Sums.{fold-append}
+use Rattle.std.proofs.lemmas.Map.Views.{any-filter_same}
 use Rattle.cdb_store.specs.declared.store.Store.{Ghosts}
+use Rattle.cdb_form.specs.declared.mode.Mode.{Mode}
+use Rattle.cdb_form.specs.declared.mode.Mode.TheVariants.{Add, Warn, Insert, Replace}
 use Rattle.cdb_form.specs.declared.width.Width.{Ghosts as Widths}
 use Rattle.cdb_form.specs.Format.File.{file_size}
-use Rattle.cdb_form.specs.Format.Record.{KeyValue, IsRecord}
-use Rattle.cdb_make.specs.Survivors.{answered_step, survivors, put_list, fits}
+use Rattle.cdb_form.specs.Format.Record.{KeyValue}
+use Rattle.cdb_make.specs.Survivors.{answered_step, survivors, put_list, fits, is_there, has_key, without}
 use Rattle.cdb_make.specs.Survivors.Call.{Putting, Removing}
-use Rattle.cdb_make.specs.Views.Maker.{Holds, HoldsIn, ComesFrom, WhereHonest, Puts, FailsPutting, Removes, FailsRemoving, FailsFinishing}
+use Rattle.cdb_make.specs.Views.Maker.{Follows, IsBroken, Holds, HoldsIn, ComesFrom, WhereHonest, Puts, FailsPutting, Removes, FailsRemoving, FailsFinishing}
 use Rattle.cdb_make.specs.declared.fault.MakeFault.{MakeFault}
 use Rattle.cdb_make.specs.declared.fault.MakeFault.TheVariants.{Broken, Lookup, TooBig, NoMemory, Writing}
 use Rattle.cdb_make.specs.declared.maker.Maker.{Maker}
-use Rattle.cdb_form.specs.declared.mode.Mode.{Mode}
 use Rattle.cdb_make.specs.declared.put.Put.{Put}
 use Rattle.cdb_make.proofs.Makers.{held_size}
-use Rattle.cdb_uses.proofs.Asking.{held_within}
-use Rattle.cdb_uses.specs.Steps.{answer_of, answers_of, answered, left_by, HoldsWhole}
-use Rattle.cdb_uses.specs.Changes.{call_of}
-use Rattle.cdb_uses.specs.declared.changes.Change.{Change}
+use Rattle.cdb_uses.specs.Steps.{HoldsWhole, Meets, MeetsStep, Runs, Stage, Tries, TriesCall, TriesStep, after, answers_of, answered, left_by, stage_of, takes_out, whole}
 use Rattle.cdb_uses.specs.declared.steps.Step.{Step}
 use Rattle.cdb_uses.specs.declared.steps.Step.TheVariants as kind
+
+-- ---- what a call leaves of a maker
 
 -- a broken maker isn't whole
 not_broken : {b : Bool} → b ≡ true → b ≡ false → ⊥
 not_broken broken whole = let k : true ≡ false = sym broken ∙ whole in cc
 
+-- a whole maker
+pub stage_whole : {S L : Type 0} {s : Ghosts S} {l : Widths L} (m : Maker S L s l) (n : ℕ) → m.broken ≡ false → s.failures m.store ≡ n → stage_of m ≡ whole n
+stage_whole {s = s} m n is same = ap (λ b. let x : Stage = record { broken = b; failures = s.failures m.store } in x) is ∙ ap whole same
+
+-- of a maker that is whole only its answer is owed
+meets_whole : {answers : ℕ → Stage → Type 0} {fault : Option MakeFault} {old new : Stage} → old.broken ≡ false → answers old.failures new → Meets answers fault old new
+meets_whole whole answers = record { of_broken = λ broken. absurd (not_broken broken whole); of_whole = λ _. answers }
+
 -- a put that was taken is within the limit, and one that is too big isn't
+put_fits : {S L : Type 0} {s : Ghosts S} {l : Widths L} (new : Maker S L s l) (limit : ℕ) (mode : Mode) (r : KeyValue) (rs : List KeyValue) (b : List ℕ) → new.limit ≡ limit → Holds new (put_list mode r rs) → s.image new.store b → fits l.WORD limit mode r rs ≡ true
+put_fits {l = l} new limit mode r rs b same holds is =
+    let size : new.end + 4 * l.WORD * new.count ≡ file_size l.WORD (put_list mode r rs) = (held_size new (put_list mode r rs) _ refl holds).each b is in
+    le-leb (file_size l.WORD (put_list mode r rs)) limit (omega (arith, size, same, new.within))
+
 put_done : {S L : Type 0} {s : Ghosts S} {l : Widths L} (new : Maker S L s l) (limit : ℕ) (mode : Mode) (r : KeyValue) (rs : List KeyValue) → new.limit ≡ limit → new.broken ≡ false → Holds new (put_list mode r rs)
     → Holds new (if fits l.WORD limit mode r rs then put_list mode r rs else rs)
-put_done {l = l} new limit mode r rs same whole holds = record {
+put_done new limit mode r rs same whole holds = record {
   whole = whole;
-  each = λ b is.
-      let all = put_list mode r rs in
-      let size : new.end + 4 * l.WORD * new.count ≡ file_size l.WORD all = (held_size new all _ refl holds).each b is in
-      let fit : fits l.WORD limit mode r rs ≡ true = le-leb (file_size l.WORD all) limit (omega (arith, size, same, new.within)) in
-      subst (λ (x : Bool). HoldsIn new (if x then all else rs) b) (sym fit) (holds.each b is);
+  each = λ b is. subst (λ (x : Bool). HoldsIn new (if x then put_list mode r rs else rs) b) (sym (put_fits new limit mode r rs b same holds is)) (holds.each b is);
 }
 
 put_too_big : {S L : Type 0} {s : Ghosts S} {l : Widths L} (new : Maker S L s l) (limit : ℕ) (mode : Mode) (r : KeyValue) (rs : List KeyValue) → new.broken ≡ false → WhereHonest (s.image new.store) (limit < file_size l.WORD (put_list mode r rs)) → Holds new rs
@@ -46,99 +58,183 @@ put_too_big : {S L : Type 0} {s : Ghosts S} {l : Widths L} (new : Maker S L s l)
 put_too_big {l = l} new limit mode r rs whole past holds = record {
   whole = whole;
   each = λ b is.
-      let all = put_list mode r rs in
-      let fit : fits l.WORD limit mode r rs ≡ false = lt-leb (file_size l.WORD all) limit (past.each b is) in
-      subst (λ (x : Bool). HoldsIn new (if x then all else rs) b) (sym fit) (holds.each b is);
+      let fit : fits l.WORD limit mode r rs ≡ false = lt-leb (file_size l.WORD (put_list mode r rs)) limit (past.each b is) in
+      subst (λ (x : Bool). HoldsIn new (if x then put_list mode r rs else rs) b) (sym fit) (holds.each b is);
 }
 
+-- a put that is to add its record and nothing else takes none out
+none_any : (test : KeyValue → Bool) (rs : List KeyValue) → length rs ≡ 0 → list_any test rs ≡ false
+none_any test [] none = refl
+none_any test (r ∷ rs) none = absurd (omega (arith, none))
+
+twice_not : (b : Bool) → b ≡ not (not b)
+twice_not true = refl
+twice_not false = refl
+
+all_kept : (k : List ℕ) (rs : List KeyValue) → length (without k rs) ≡ length rs → is_there k rs ≡ false
+all_kept k rs same =
+    let both : length (without k rs) + length (filter (has_key k) rs) ≡ length rs = length-filter_both (λ r. not (has_key k r)) (has_key k) (λ r. twice_not (has_key k r)) rs in
+    sym (any-filter_same (has_key k) (has_key k) true (λ r has. has) rs) ∙ none_any (has_key k) (filter (has_key k) rs) (omega (arith, both, same))
+
+adds_only : (mode : Mode) (r : KeyValue) (rs : List KeyValue) → put_list mode r rs ≡ rs ++ r ∷ [] → takes_out rs (Putting mode r) ≡ false
+adds_only Add r rs e = refl
+adds_only Warn r rs e = refl
+adds_only Insert r rs e = refl
+adds_only Replace r rs e =
+    let long : length (without r.key rs ++ r ∷ []) ≡ length (rs ++ r ∷ []) = ap length e in
+    all_kept r.key rs (omega (arith, long, length-append (without r.key rs) (r ∷ []), length-append rs (r ∷ [])))
+
+takes_there : (mode : Mode) (r : KeyValue) (rs : List KeyValue) → mode ≡ Replace → is_there r.key rs ≡ true → takes_out rs (Putting mode r) ≡ true
+takes_there Replace r rs is there = there
+takes_there Add r rs is there = absurd (let no : ⊥ = cc in no)
+takes_there Warn r rs is there = absurd (let no : ⊥ = cc in no)
+takes_there Insert r rs is there = absurd (let no : ⊥ = cc in no)
+
+-- what was tried of a maker
+tried : {S L : Type 0} {s : Ghosts S} {l : Widths L} (old new : Maker S L s l) (answers : ℕ → Stage → Type 0) (fault : Option MakeFault) (left : List KeyValue) → Follows old new → WhereHonest (s.image new.store) (Meets answers fault (stage_of old) (stage_of new)) → HoldsWhole new left
+    → Tries old new answers fault left
+tried old new answers fault left follows meets holds = record { meets = meets; holds = holds; limit = follows.limit; comes = follows.comes; failures = follows.failures }
+
+-- a call that answered that the maker is broken
+tried_broken : {S L : Type 0} {s : Ghosts S} {l : Widths L} (old new : Maker S L s l) (answers : ℕ → Stage → Type 0) (rs left : List KeyValue) → Follows old new → IsBroken old new → HoldsWhole old rs → Tries old new answers (Some Broken) left
+tried_broken {S = S} {L = L} {s = s} {l = l} old new answers rs left follows broken h = tried old new answers (Some Broken) left follows
+    (record { each = λ b is. record { of_broken = λ e. (refl, ap (λ (m : Maker S L s l). stage_of m) (broken.same e)); of_whole = λ e. absurd (broken.cause rs (h e) b is) } })
+    (λ whole. absurd (not_broken broken.broken whole))
+
 -- a put, whatever it answers
-pub put_kept : {S L : Type 0} {s : Ghosts S} {l : Widths L} (old new : Maker S L s l) (mode : Mode) (r : KeyValue) (result : Result Put MakeFault) (rs : List KeyValue) → IfOk result (Puts old new mode r) → IfErr result (FailsPutting old new mode r) → new.limit ≡ old.limit
-    → HoldsWhole old rs → HoldsWhole new (answered_step l.WORD old.limit rs (answer_of (Putting mode r) (result_err result)))
-put_kept old new mode r (Ok answer) rs puts fails limit h = λ whole. put_done new old.limit mode r rs limit whole (puts.holds rs (h puts.was))
-put_kept old new mode r (Err Broken) rs puts fails limit h = λ whole. absurd (not_broken fails.broken whole)
-put_kept old new mode r (Err Lookup) rs puts fails limit h = λ whole. fails.0.stays.holds rs (h fails.0.stays.was)
-put_kept old new mode r (Err TooBig) rs puts fails limit h =
-    λ whole. let held : Holds old rs = h fails.0.stays.was in put_too_big new old.limit mode r rs whole (fails.1 rs held) (fails.0.stays.holds rs held)
-put_kept old new mode r (Err NoMemory) rs puts fails limit h = λ whole. fails.0.stays.holds rs (h fails.0.stays.was)
-put_kept old new mode r (Err Writing) rs puts (inl x, would) limit h = λ whole. x.0.holds rs (h x.0.was)
-put_kept old new mode r (Err Writing) rs puts (inr x, would) limit h = λ whole. absurd (not_broken x.0.broken whole)
+pub put_tried : {S L : Type 0} {s : Ghosts S} {l : Widths L} (old new : Maker S L s l) (mode : Mode) (r : KeyValue) (result : Result Put MakeFault) (rs : List KeyValue) → IfOk result (Puts old new mode r) → IfErr result (FailsPutting old new mode r) → Follows old new → HoldsWhole old rs
+    → TriesCall old new rs (Putting mode r) (result_err result)
+put_tried old new mode r (Ok answer) rs puts fails follows h =
+    let holds : Holds new (put_list mode r rs) = puts.holds rs (h puts.was) in
+    tried old new _ None _ follows (record { each = λ b is. meets_whole puts.was (put_fits new old.limit mode r rs b follows.limit holds is, follows.failures, puts.whole) })
+    (λ whole. put_done new old.limit mode r rs follows.limit whole holds)
+put_tried old new mode r (Err Broken) rs puts fails follows h = tried_broken old new _ rs _ follows fails h
+put_tried old new mode r (Err Lookup) rs puts fails follows h =
+    let stays = fails.0.stays in
+    tried old new _ (Some Lookup) _ follows (record { each = λ b is. meets_whole stays.was (fails.2, fails.1, stays.whole) }) (λ whole. stays.holds rs (h stays.was))
+put_tried {s = s} {l = l} old new mode r (Err TooBig) rs puts fails follows h =
+    let stays = fails.0.stays in
+    let held = h stays.was in
+    tried old new _ (Some TooBig) _ follows
+    (record { each = λ b is. meets_whole stays.was (lt-leb (file_size l.WORD (put_list mode r rs)) old.limit ((fails.1 rs held).each b is), stage_whole new (s.failures old.store) stays.whole fails.2) })
+    (λ whole. put_too_big new old.limit mode r rs whole (fails.1 rs held) (stays.holds rs held))
+put_tried {s = s} {l = l} old new mode r (Err NoMemory) rs puts fails follows h =
+    let stays = fails.0.stays in
+    tried old new _ (Some NoMemory) _ follows
+    (record {
+      each = λ b is.
+          let would = (fails.2 rs (h stays.was)).each b is in
+          meets_whole stays.was (would.0, le-leb (file_size l.WORD (put_list mode r rs)) old.limit would.1, stage_whole new (s.failures old.store) stays.whole fails.3);
+    })
+    (λ whole. stays.holds rs (h stays.was))
+put_tried {l = l} old new mode r (Err Writing) rs puts (inl x, would) follows h =
+    tried old new _ (Some Writing) _ follows
+    (record {
+      each = λ b is.
+          let put = (would rs (h x.0.was)).each b is in
+          meets_whole x.0.was (put.0, le-leb (file_size l.WORD (put_list mode r rs)) old.limit put.1, x.1, x.0.whole ∙ sym (adds_only mode r rs ((x.2 rs (h x.0.was)).each b is)));
+    })
+    (λ whole. x.0.holds rs (h x.0.was))
+put_tried {l = l} old new mode r (Err Writing) rs puts (inr x, would) follows h =
+    tried old new _ (Some Writing) _ follows
+    (record {
+      each = λ b is.
+          let put = (would rs (h x.0.was)).each b is in
+          meets_whole x.0.was (put.0, le-leb (file_size l.WORD (put_list mode r rs)) old.limit put.1, x.0.failed, x.0.broken ∙ sym (takes_there mode r rs x.1 ((x.0.found rs (h x.0.was)).each b is)));
+    })
+    (λ whole. absurd (not_broken x.0.broken whole))
 
 -- a removal
-pub removal_kept : {S L : Type 0} {s : Ghosts S} {l : Widths L} (old new : Maker S L s l) (key : List ℕ) (result : Result ℕ MakeFault) (rs : List KeyValue) → IfOk result (Removes old new key) → IfErr result (FailsRemoving old new key)
-    → HoldsWhole old rs → HoldsWhole new (answered_step l.WORD old.limit rs (answer_of (Removing key) (result_err result)))
-removal_kept old new key (Ok count) rs removes fails h = λ whole. removes.holds rs (h removes.was)
-removal_kept old new key (Err Broken) rs removes fails h = λ whole. absurd (not_broken fails.broken whole)
-removal_kept old new key (Err Lookup) rs removes fails h = λ whole. fails.0.stays.holds rs (h fails.0.stays.was)
-removal_kept old new key (Err TooBig) rs removes fails h = absurd fails
-removal_kept old new key (Err NoMemory) rs removes fails h = absurd fails
-removal_kept old new key (Err Writing) rs removes fails h = λ whole. absurd (not_broken fails.broken whole)
+pub removal_tried : {S L : Type 0} {s : Ghosts S} {l : Widths L} (old new : Maker S L s l) (key : List ℕ) (result : Result ℕ MakeFault) (rs : List KeyValue) → IfOk result (Removes old new key) → IfErr result (FailsRemoving old new key) → Follows old new → HoldsWhole old rs
+    → TriesCall old new rs (Removing key) (result_err result)
+removal_tried old new key (Ok count) rs removes fails follows h =
+    tried old new _ None _ follows (record { each = λ b is. meets_whole removes.was (refl, follows.failures, removes.whole) }) (λ whole. removes.holds rs (h removes.was))
+removal_tried old new key (Err Broken) rs removes fails follows h = tried_broken old new _ rs _ follows fails h
+removal_tried old new key (Err Lookup) rs removes fails follows h =
+    let stays = fails.0.stays in
+    tried old new _ (Some Lookup) _ follows (record { each = λ b is. meets_whole stays.was (tt, fails.1, stays.whole) }) (λ whole. stays.holds rs (h stays.was))
+removal_tried old new key (Err TooBig) rs removes fails follows h = absurd fails
+removal_tried old new key (Err NoMemory) rs removes fails follows h = absurd fails
+removal_tried old new key (Err Writing) rs removes fails follows h =
+    tried old new _ (Some Writing) _ follows
+    (record {
+      each = λ b is.
+          let there = (fails.found rs (h fails.was)).each b is in
+          meets_whole fails.was (there, refl, fails.failed, fails.broken ∙ sym there);
+    })
+    (λ whole. absurd (not_broken fails.broken whole))
 
--- a finish that was refused
-pub refused_kept : {S L : Type 0} {s : Ghosts S} {l : Widths L} (old new : Maker S L s l) (f : MakeFault) (rs : List KeyValue) → FailsFinishing old new f → HoldsWhole old rs → HoldsWhole new rs
-refused_kept old new Broken rs fails h = λ whole. absurd (not_broken fails.0 (sym (ap (λ m. m.broken) fails.1) ∙ whole))
-refused_kept old new Lookup rs fails h = absurd fails
-refused_kept old new TooBig rs fails h = absurd fails
-refused_kept old new NoMemory rs fails h = λ whole. fails.0.stays.holds rs (h fails.0.stays.was)
-refused_kept old new Writing rs fails h = λ whole. fails.0.holds rs (h fails.0.was)
+-- ---- a finish
 
-pub refused_limit : {S L : Type 0} {s : Ghosts S} {l : Widths L} (old new : Maker S L s l) (f : MakeFault) → FailsFinishing old new f → new.limit ≡ old.limit
-refused_limit old new Broken fails = ap (λ m. m.limit) fails.1
-refused_limit old new Lookup fails = absurd fails
-refused_limit old new TooBig fails = absurd fails
-refused_limit old new NoMemory fails = fails.1.limit
-refused_limit old new Writing fails = fails.1.limit
+-- one that was refused
+pub finish_tried : {S L : Type 0} {s : Ghosts S} {l : Widths L} (old new : Maker S L s l) (f : MakeFault) (rs : List KeyValue) → FailsFinishing old new f → ComesFrom (s.image old.store) (s.image new.store) → s.failures old.store ≤ s.failures new.store → HoldsWhole old rs
+    → TriesStep old new rs kind.Finish (Some f)
+finish_tried {S = S} {L = L} {s = s} {l = l} old new Broken rs fails comes rises h = record {
+  meets = record { each = λ b is. record { of_broken = λ e. (refl, ap (λ (m : Maker S L s l). stage_of m) fails.1); of_whole = λ e. absurd (not_broken fails.0 e) } };
+  holds = λ whole. absurd (not_broken fails.0 (sym (ap (λ m. m.broken) fails.1) ∙ whole));
+  limit = ap (λ m. m.limit) fails.1;
+  comes = comes;
+  failures = rises;
+}
+finish_tried old new Lookup rs fails comes rises h = absurd fails
+finish_tried old new TooBig rs fails comes rises h = absurd fails
+finish_tried old new NoMemory rs fails comes rises h = record {
+  meets = record { each = λ b is. meets_whole fails.0.stays.was (rises, fails.0.stays.whole) };
+  holds = λ whole. fails.0.stays.holds rs (h fails.0.stays.was);
+  limit = fails.1.limit;
+  comes = comes;
+  failures = rises;
+}
+finish_tried old new Writing rs fails comes rises h = record {
+  meets = record { each = λ b is. meets_whole fails.0.was (fails.2, fails.0.whole) };
+  holds = λ whole. fails.0.holds rs (h fails.0.was);
+  limit = fails.1.limit;
+  comes = comes;
+  failures = rises;
+}
+
+-- ---- steps in turn
 
 -- no step was made
 answered_none : (steps : List Step) → answered steps [] ≡ []
 answered_none [] = refl
-answered_none (s ∷ steps) = refl
+answered_none (step ∷ steps) = refl
 
 -- a step more
-answered_more : (steps : List Step) (faults : List (Option MakeFault)) (step : Step) (fault : Option MakeFault) → length faults < length steps → step ≡ get_or steps (length faults) step
-    → answered steps (faults ++ fault ∷ []) ≡ answered steps faults ++ answers_of step fault
-answered_more [] faults step fault inside at = absurd (omega arith)
-answered_more (s ∷ steps) [] step fault inside at =
-    ap (λ x. answers_of s fault ++ x) (answered_none steps) ∙ append-nil (answers_of s fault) ∙ ap (λ x. answers_of x fault) (sym at)
-answered_more (s ∷ steps) (f ∷ faults) step fault inside at =
-    ap (λ x. answers_of s f ++ x) (answered_more steps faults step fault (omega arith) at) ∙ sym (append_assoc (answers_of s f) (answered steps faults) (answers_of step fault))
+answered_more : (steps : List Step) (faults : List (Option MakeFault)) (step : Step) (fault : Option MakeFault) → length faults ≡ length steps → answered (steps ++ step ∷ []) (faults ++ fault ∷ []) ≡ answered steps faults ++ answers_of step fault
+answered_more [] [] step fault same = append-nil (answers_of step fault)
+answered_more [] (f ∷ faults) step fault same = absurd (omega (arith, same))
+answered_more (s ∷ steps) [] step fault same = absurd (omega (arith, same))
+answered_more (s ∷ steps) (f ∷ faults) step fault same =
+    ap (λ x. answers_of s f ++ x) (answered_more steps faults step fault (omega (arith, same))) ∙ sym (append_assoc (answers_of s f) (answered steps faults) (answers_of step fault))
 
--- and the records that it leaves
-pub left_more : (w limit : ℕ) (steps : List Step) (faults : List (Option MakeFault)) (step : Step) (fault : Option MakeFault) → length faults < length steps → step ≡ get_or steps (length faults) step
-    → left_by w limit steps (faults ++ fault ∷ []) ≡ fold (answered_step w limit) (left_by w limit steps faults) (answers_of step fault)
-left_more w limit steps faults step fault inside at =
-    ap (survivors w limit) (answered_more steps faults step fault inside at) ∙ fold-append (answered_step w limit) [] (answered steps faults) (answers_of step fault)
+-- and those behind them count for nothing
+answered_first : (steps rest : List Step) (faults : List (Option MakeFault)) → length faults ≡ length steps → answered (steps ++ rest) faults ≡ answered steps faults
+answered_first [] rest [] same = answered_none rest
+answered_first [] rest (f ∷ faults) same = absurd (omega (arith, same))
+answered_first (s ∷ steps) rest [] same = absurd (omega (arith, same))
+answered_first (s ∷ steps) rest (f ∷ faults) same = ap (λ x. answers_of s f ++ x) (answered_first steps rest faults (omega (arith, same)))
 
--- no step leaves no record
-pub begun_whole : {S L : Type 0} {s : Ghosts S} {l : Widths L} (m : Maker S L s l) (limit : ℕ) (steps : List Step) (faults : List (Option MakeFault)) → faults ≡ [] → Holds m [] → HoldsWhole m (left_by l.WORD limit steps faults)
-begun_whole {l = l} m limit steps faults none held =
-    let e : left_by l.WORD limit steps faults ≡ [] = ap (left_by l.WORD limit steps) none ∙ ap (survivors l.WORD limit) (answered_none steps) in
-    λ whole. subst (λ (v : List KeyValue). Holds m v) (sym e) held
+pub left_more : (w limit : ℕ) (steps : List Step) (faults : List (Option MakeFault)) (step : Step) (fault : Option MakeFault) → length faults ≡ length steps → left_by w limit (steps ++ step ∷ []) (faults ++ fault ∷ []) ≡ after w limit (left_by w limit steps faults) step fault
+left_more w limit steps faults step fault same = ap (survivors w limit) (answered_more steps faults step fault same) ∙ fold-append (answered_step w limit) [] (answered steps faults) (answers_of step fault)
 
--- a change more
-pub change_stepped : {S L : Type 0} {s : Ghosts S} {l : Widths L} (old new : Maker S L s l) (limit i : ℕ) (steps : List Step) (faults more : List (Option MakeFault)) (step : Step) (change : Change) (fault : Option MakeFault) → old.limit ≡ limit → length faults ≡ i
-    → i < length steps → step ≡ get_or steps i step → step ≡ kind.Change change → more ≡ faults ++ fault ∷ [] → HoldsWhole old (left_by l.WORD limit steps faults)
-    → ((rs : List KeyValue) → HoldsWhole old rs → HoldsWhole new (answered_step l.WORD old.limit rs (answer_of (call_of change) fault))) → HoldsWhole new (left_by l.WORD limit steps more)
-change_stepped {l = l} old new limit i steps faults more step change fault same long inside at is pushed held makes =
-    let w : ℕ = l.WORD in
-    let left : List KeyValue = left_by w limit steps faults in
-    let here : step ≡ get_or steps (length faults) step = at ∙ ap (λ n. get_or steps n step) (sym long) in
-    let e : left_by w limit steps more ≡ answered_step w limit left (answer_of (call_of change) fault) =
-    ap (left_by w limit steps) pushed ∙ left_more w limit steps faults step fault (omega arith) here ∙ ap (λ x. fold (answered_step w limit) left (answers_of x fault)) is in
-    let h : HoldsWhole new (answered_step w old.limit left (answer_of (call_of change) fault)) = makes left held in
-    subst (λ (v : List KeyValue). HoldsWhole new v) (sym e) (subst (λ (n : ℕ). HoldsWhole new (answered_step w n left (answer_of (call_of change) fault))) same h)
+pub left_first : (w limit : ℕ) (steps rest : List Step) (faults : List (Option MakeFault)) → length faults ≡ length steps → left_by w limit (steps ++ rest) faults ≡ left_by w limit steps faults
+left_first w limit steps rest faults same = ap (survivors w limit) (answered_first steps rest faults same)
 
--- a finish that was refused changes nothing
-pub refused_stepped : {S L : Type 0} {s : Ghosts S} {l : Widths L} (old new : Maker S L s l) (limit i : ℕ) (steps : List Step) (faults more : List (Option MakeFault)) (step : Step) (fault : MakeFault) → length faults ≡ i → i < length steps → step ≡ get_or steps i step
-    → step ≡ kind.Finish → more ≡ faults ++ Some fault ∷ [] → HoldsWhole old (left_by l.WORD limit steps faults) → FailsFinishing old new fault → HoldsWhole new (left_by l.WORD limit steps more)
-refused_stepped {l = l} old new limit i steps faults more step fault long inside at is pushed held fails =
-    let w : ℕ = l.WORD in
-    let left : List KeyValue = left_by w limit steps faults in
-    let here : step ≡ get_or steps (length faults) step = at ∙ ap (λ n. get_or steps n step) (sym long) in
-    let e : left_by w limit steps more ≡ left =
-    ap (left_by w limit steps) pushed ∙ left_more w limit steps faults step (Some fault) (omega arith) here ∙ ap (λ x. fold (answered_step w limit) left (answers_of x (Some fault))) is in
-    subst (λ (v : List KeyValue). HoldsWhole new v) (sym e) (refused_kept old new fault left fails held)
+-- a run, and a step more
+pub runs_more : (w limit : ℕ) (rs : List KeyValue) (steps : List Step) (faults : List (Option MakeFault)) (old mid new : Stage) (step : Step) (fault : Option MakeFault) → length faults ≡ length steps → Runs w limit rs steps faults old mid
+    → MeetsStep w limit (fold (answered_step w limit) rs (answered steps faults)) step fault mid new → Runs w limit rs (steps ++ step ∷ []) (faults ++ fault ∷ []) old new
+runs_more w limit rs [] [] old mid new step fault same run meets = (new, subst (λ x. MeetsStep w limit rs step fault x new) run meets, refl)
+runs_more w limit rs [] (f ∷ faults) old mid new step fault same run meets = absurd run
+runs_more w limit rs (s ∷ steps) [] old mid new step fault same run meets = absurd (omega (arith, same))
+runs_more w limit rs (s ∷ steps) (f ∷ faults) old mid new step fault same run meets =
+    let here : MeetsStep w limit (fold (answered_step w limit) (after w limit rs s f) (answered steps faults)) step fault mid new =
+    subst (λ x. MeetsStep w limit x step fault mid new) (fold-append (answered_step w limit) rs (answers_of s f) (answered steps faults)) meets in
+    (run.0, run.1, runs_more w limit (after w limit rs s f) steps faults run.0 mid new step fault (omega (arith, same)) run.2 here)
 
--- what a finished maker held are records, which make a file within the greatest size
-pub built_fits : {S L : Type 0} {s : Ghosts S} {l : Widths L} (m : Maker S L s l) (rs : List KeyValue) {new : List ℕ → Type 0} → m.broken ≡ false → HoldsWhole m rs → ComesFrom (s.image m.store) new
-    → WhereHonest new (All IsRecord rs × (file_size l.WORD rs ≤ l.GREATEST))
-built_fits m rs whole h comes = record { each = λ b is. let a = comes.each b is in held_within m rs a.0 a.1 (h whole) }
+-- or a finish that was taken
+pub runs_taken : (w limit : ℕ) (rs : List KeyValue) (steps rest : List Step) (faults : List (Option MakeFault)) (old new : Stage) → length faults ≡ length steps → Runs w limit rs steps faults old new → Runs w limit rs (steps ++ kind.Finish ∷ rest) faults old new
+runs_taken w limit rs [] rest [] old new same run = (refl, run)
+runs_taken w limit rs [] rest (f ∷ faults) old new same run = absurd run
+runs_taken w limit rs (s ∷ steps) rest [] old new same run = absurd (omega (arith, same))
+runs_taken w limit rs (s ∷ steps) rest (f ∷ faults) old new same run = (run.0, run.1, runs_taken w limit (after w limit rs s f) steps rest faults run.0 new (omega (arith, same)) run.2)

@@ -1,86 +1,53 @@
--- Changes of a database in turn, of which some are refused.
-use Rattle.std.specs.Prelude.{ℕ, ◌≡◌, ◌≢◌, true, false, List, [], ◌∷◌, map, Option, Some, None}
+-- What changes of a database in turn leave, of which some are refused.
+use Rattle.std.specs.Prelude.{ℕ, ◌≡◌, List, [], map, Option}
 use Rattle.std.specs.List.{concat}
 use Rattle.std.specs.Io.KnownBytes.{Appends}
-use Rattle.cdb_store.specs.declared.store.Store.{Ghosts}
 use Rattle.cdb_form.specs.declared.width.Width.{Ghosts as Widths}
 use Rattle.cdb_form.specs.Format.File.{file_bytes}
-use Rattle.cdb_form.specs.Format.Record.{KeyValue}
-use Rattle.cdb_form.specs.Views.Pairs.{key_value}
 use Rattle.cdb_form.specs.Views.KnownBytes.{AppendsFront}
-use Rattle.cdb_make.specs.Survivors.{Call, step, put_answer, fits}
-use Rattle.cdb_make.specs.Survivors.Call.{Putting, Removing}
 use Rattle.cdb_make.specs.Views.Maker.{Holds}
 use Rattle.cdb_make.specs.declared.fault.MakeFault.{MakeFault}
-use Rattle.cdb_make.specs.declared.fault.MakeFault.TheVariants.{TooBig, NoMemory}
-use Rattle.cdb_make.specs.declared.maker.Maker.{Maker}
-use Rattle.cdb_make.specs.declared.put.Put.TheVariants.{Present}
+use Rattle.cdb_make.specs.declared.fault.MakeFault.TheVariants.{NoMemory}
 use Rattle.cdb_read.specs.Values.{values_of}
 use Rattle.cdb_read.specs.declared.fault.ReadFault.TheVariants.{Output}
+use Rattle.cdb_uses.specs.Steps.{Runs, left_by, whole}
 use Rattle.cdb_uses.specs.declared.ask.AskFault.{AskFault}
 use Rattle.cdb_uses.specs.declared.ask.AskFault.TheVariants.{Make, Read}
 use Rattle.cdb_uses.specs.declared.changes.Change.{Change}
-use Rattle.cdb_uses.specs.declared.changes.Change.TheVariants.{Put, Remove}
 use Rattle.cdb_uses.specs.declared.changes.Changed.{Changed}
 use Rattle.cdb_uses.specs.declared.changes.ChangedFile.{ChangedFile}
+use Rattle.cdb_uses.specs.declared.steps.Step.{Step}
+use Rattle.cdb_uses.specs.declared.steps.Step.TheVariants as kind
 
--- the call of a maker that makes a change
-abbrev pub call_of : Change → Call
-call_of (Put mode r) = Putting mode (key_value r)
-call_of (Remove key) = Removing key.items
+-- changes are steps; in memory no store fails, so no maker breaks
+abbrev pub steps_of : List Change → List Step
+steps_of changes = map kind.Change changes
 
--- what a call may meet: a put is refused as too big where the file would pass the limit, and there
--- alone; one that would have been taken may be refused memory; a removal is never refused
-abbrev pub Meets : ℕ → ℕ → List KeyValue → Call → Option MakeFault → Type 0
-Meets w limit rs (Putting mode r) None = fits w limit mode r rs ≡ true
-Meets w limit rs (Putting mode r) (Some TooBig) = fits w limit mode r rs ≡ false
-Meets w limit rs (Putting mode r) (Some NoMemory) =
-    (put_answer mode r rs ≢ Present) × (fits w limit mode r rs ≡ true)
-Meets w limit rs (Putting mode r) (Some fault) = ⊥
-Meets w limit rs (Removing key) fault = fault ≡ None
-
--- the records after a call: one that is refused leaves them
-abbrev pub after : ℕ → ℕ → List KeyValue → Call → Option MakeFault → List KeyValue
-after w limit rs call None = step w limit rs call
-after w limit rs call (Some fault) = rs
-
--- calls in turn, with the fault of each, lead from some records to those that are left
-abbrev pub Runs : ℕ → ℕ → List KeyValue → List Call → List (Option MakeFault) → List KeyValue
-    → Type 0
-Runs w limit rs [] [] left = left ≡ rs
-Runs w limit rs (call ∷ calls) (fault ∷ faults) left = Meets w limit rs call fault
-    × Runs w limit (after w limit rs call fault) calls faults left
-Runs w limit rs calls faults left = ⊥
-
--- a maker was told to make a call, and made it or met a fault
-pub record Tries {S L : Type 0} {s : Ghosts S} {l : Widths L} (old new : Maker S L s l)
-    (rs : List KeyValue) (call : Call) (fault : Option MakeFault) : Type 0 where
-  pub meets : Meets l.WORD old.limit rs call fault
-  pub holds : Holds new (after l.WORD old.limit rs call fault)
+abbrev pub RunsInMemory : ℕ → ℕ → List Change → List (Option MakeFault) → Type 0
+RunsInMemory w limit changes faults = Runs w limit [] (steps_of changes) faults (whole 0) (whole 0)
 
 -- a maker holds the records that some changes leave, from none on
 pub record HoldsChanged {L : Type 0} {l : Widths L} (limit : ℕ) (changes : List Change)
     (c : Changed L l) : Type 0 where
-  pub left : List KeyValue
-  pub runs : Runs l.WORD limit [] (map call_of changes) c.faults.items left
-  pub holds : Holds c.maker left
+  pub runs : RunsInMemory l.WORD limit changes c.faults.items
+  pub holds : Holds c.maker (left_by l.WORD limit (steps_of changes) c.faults.items)
 
 -- the file is the one made from scratch of the records that some changes leave, from none on, and
 -- the values that a key has among these were written
 pub record LeavesFile (w limit : ℕ) (changes : List Change) (key : List ℕ)
     (old new : Option (List ℕ)) (c : ChangedFile) : Type 0 where
-  pub left : List KeyValue
-  pub runs : Runs w limit [] (map call_of changes) c.faults.items left
-  pub file : c.file.items ≡ file_bytes w left
-  pub values : Appends old new (concat (values_of key left))
+  pub runs : RunsInMemory w limit changes c.faults.items
+  pub file : c.file.items ≡ file_bytes w (left_by w limit (steps_of changes) c.faults.items)
+  pub values : Appends old new
+      (concat (values_of key (left_by w limit (steps_of changes) c.faults.items)))
 
--- or the writer failed, and holds a front of the values
+-- or the writer failed, and holds a prefix of the values
 pub record LeavesFront (w limit : ℕ) (changes : List Change) (key : List ℕ)
     (old new : Option (List ℕ)) : Type 0 where
   pub faults : List (Option MakeFault)
-  pub left : List KeyValue
-  pub runs : Runs w limit [] (map call_of changes) faults left
-  pub front : AppendsFront old new (concat (values_of key left))
+  pub runs : RunsInMemory w limit changes faults
+  pub front : AppendsFront old new
+      (concat (values_of key (left_by w limit (steps_of changes) faults)))
 
 -- or memory was refused, and nothing was written
 abbrev pub LeavesNone : ℕ → ℕ → List Change → List ℕ → (old new : Option (List ℕ)) → AskFault

@@ -2,14 +2,14 @@
 ghost use Rattle.std.specs.Prelude.{◌≡◌, ℕ, ◌≤◌, List, IfOk, IfErr};
 ghost use Rattle.cdb_form.specs.Format.Pair.{head_size};
 ghost use Rattle.cdb_form.specs.Format.Record.{KeyValue};
-ghost use Rattle.cdb_make.specs.Views.Maker.{Holds, limit_of};
 ghost use Rattle.cdb_make.specs.declared.fault.MakeFault.TheVariants.{NoMemory};
-ghost use Rattle.cdb_uses.specs.Changes.{call_of, Tries, HoldsChanged, LeavesFile, LeavesNone};
+ghost use Rattle.cdb_uses.specs.Changes.{HoldsChanged, LeavesFile, LeavesNone};
+ghost use Rattle.cdb_uses.specs.Steps.{HoldsWhole, TriesCall, call_of};
 
 use crate::ask::{AskFault, write_finished};
 use cdb_form::{Record, Width};
 use cdb_make::{MakeFault, Maker, Mode};
-use cdb_store::MemStore;
+use cdb_store::{MemStore, Store};
 use std::alloc::Global;
 use std::io::Write;
 
@@ -42,10 +42,12 @@ pub struct ChangedFile {
 }
 
 /// Makes a change, and answers why it was refused, if it was.
-fn try_change<L: Width>(maker: &mut Maker<MemStore, L>, change: &Change) -> Option<MakeFault>
-    ensures tries { (rs : List KeyValue) → Holds maker.old rs
-        → Tries maker.old maker.new rs (call_of change.now) result }
-    ensures limit { limit_of maker.new ≡ limit_of maker.old }
+pub(crate) fn make_change<S: Store, L: Width>(
+    maker: &mut Maker<S, L>,
+    change: &Change,
+) -> Option<MakeFault>
+    ensures { (rs : List KeyValue) → HoldsWhole maker.old rs
+        → TriesCall maker.old maker.new rs (call_of change.now) result }
 {
     match change {
         Change::Put(mode, pair) => maker.put(*mode, &pair.key, &pair.value).err(),
@@ -71,7 +73,7 @@ fn try_changes<L: Width>(
         Err(refused) => return Err(refused.fault),
     };
     for change in changes {
-        faults.push(try_change(&mut maker, change))?;
+        faults.push(make_change(&mut maker, change))?;
     }
     Ok(Changed { maker, faults })
 }

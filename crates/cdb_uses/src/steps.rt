@@ -3,17 +3,17 @@ ghost use Rattle.std.specs.Prelude.{◌≡◌, ℕ, ◌≤◌, List, All, IfOk, 
 ghost use Rattle.cdb_form.specs.Format.File.{file_size};
 ghost use Rattle.cdb_form.specs.Format.Pair.{head_size};
 ghost use Rattle.cdb_form.specs.Format.Record.{KeyValue, IsRecord};
-ghost use Rattle.cdb_make.specs.Survivors.{answered_step};
-ghost use Rattle.cdb_make.specs.Views.Maker.{IsFile, WhereHonest, limit_of};
-ghost use Rattle.cdb_uses.specs.Steps.{answer_of, left_by, HoldsWhole, Finds, BuildingFails};
-ghost use Rattle.cdb_uses.specs.Changes.{call_of};
+ghost use Rattle.cdb_make.specs.Views.Maker.{IsFile, WhereHonest};
+ghost use Rattle.cdb_uses.specs.Building.{Builds, BuildingFails, Finds, IsUnbuilt, LeavesOf};
+ghost use Rattle.cdb_uses.specs.Steps.{HoldsWhole, left_by};
+ghost use Rattle.cdb_uses.specs.declared.ask.AskFault.TheVariants.{Make};
 
 use crate::ask::AskFault;
-use crate::changes::Change;
+use crate::changes::{Change, make_change};
 use crate::read::write_values;
 use cdb_form::Width;
-use cdb_make::{MakeFault, Maker, Unfinished};
-use cdb_read::Reader;
+use cdb_make::{MakeFault, Maker};
+use cdb_read::{Reader, Unread};
 use cdb_store::Store;
 use std::alloc::Global;
 use std::io::Write;
@@ -36,57 +36,104 @@ pub struct Built<S> {
     pub faults: Vec<Option<MakeFault>>,
 }
 
-/// Makes a change, and answers why it was refused, if it was.
-fn make_change<S: Store, L: Width>(maker: &mut Maker<S, L>, change: &Change) -> Option<MakeFault>
-    ensures holds { (rs : List KeyValue) → HoldsWhole maker.old rs → HoldsWhole maker.new
-        (answered_step L.WORD (limit_of maker.old) rs (answer_of (call_of change.now) result)) }
-    ensures limit { limit_of maker.new ≡ limit_of maker.old }
+/// A database that was not built, or not asked for a key.
+#[derive(Drop)]
+pub struct Unbuilt<S> {
+    /// What holds what there is of it.
+    pub store: S,
+    /// Why each step that was made was refused, if it was. The last one may be left out if memory
+    /// was refused.
+    pub faults: Vec<Option<MakeFault>>,
+    /// Why.
+    pub fault: AskFault,
+}
+
+/// What a step leaves of a maker.
+#[derive(Drop)]
+enum Stepped<S: Store, L: Width> {
+    /// It goes on. The step was refused so, if it was.
+    GoesOn(Maker<S, L>, Option<MakeFault>),
+    /// Its finished store.
+    Finished(S),
+}
+
+/// Makes a step.
+fn make_step<S: Store, L: Width>(maker: Maker<S, L>, step: &Step) -> Stepped<S, L>
+    ensures { (rs : List KeyValue) → HoldsWhole maker rs → LeavesOf maker rs step.now result }
 {
-    match change {
-        Change::Put(mode, pair) => maker.put(*mode, &pair.key, &pair.value).err(),
-        Change::Remove(key) => maker.remove(key).err(),
+    let mut maker = maker;
+    match step {
+        Step::Change(change) => {
+            let fault = make_change(&mut maker, change);
+            Stepped::GoesOn(maker, fault)
+        }
+        Step::Finish => match maker.finish() {
+            Ok(store) => Stepped::Finished(store),
+            Err(unfinished) => Stepped::GoesOn(unfinished.maker, Some(unfinished.fault)),
+        },
+    }
+}
+
+/// A database that the fault of a maker left.
+fn left_unbuilt<S>(store: S, faults: Vec<Option<MakeFault>>, fault: MakeFault) -> Unbuilt<S>
+    ensures { result ≡ record { store = store; faults = faults; fault = Make fault } }
+{
+    Unbuilt {
+        store,
+        faults,
+        fault: AskFault::Make(fault),
     }
 }
 
 /// Builds a database of at most `limit` bytes in a store by some steps in turn, and then finishes
 /// it, unless one of them did. After a step that is refused the others are made all the same.
 ///
-/// It fails if there is no maker to begin with, if memory is refused for the list of faults,
-/// and if the last finish is refused.
+/// Each step that is made has one answer, which is noted. It fails by `Make`: with `NoMemory` if an
+/// allocation failed; with `Writing` if the store did before the first step or in the last finish;
+/// with `Broken` if a step broke the maker.
 pub fn build<S: Store + Drop, L: Width>(
     alloc: Global,
     store: S,
     limit: u64,
     steps: &[Step],
-) -> Result<Built<S>, MakeFault>
+) -> Result<Built<S>, Unbuilt<S>>
     requires head { head_size L.WORD ≤ limit }
     requires words { limit ≤ L.GREATEST }
+    ensures builds { IfOk result (λ m. WhereHonest (S.image m.store) (Builds L.WORD limit steps.now
+        m.faults.items (S.failures store) (S.failures m.store))) }
     ensures file { IfOk result (λ m.
         IsFile L.WORD (left_by L.WORD limit steps.now m.faults.items) (S.image m.store)) }
     ensures fits { IfOk result (λ m. WhereHonest (S.image m.store)
         (All IsRecord (left_by L.WORD limit steps.now m.faults.items)
         × (file_size L.WORD (left_by L.WORD limit steps.now m.faults.items) ≤ L.GREATEST))) }
+    ensures size { IfOk result (λ m. head_size L.WORD ≤ S.size m.store) }
+    ensures fails { IfErr result (IsUnbuilt S.Store L.WORD limit store steps.now) }
 {
-    let mut faults = Vec::with_capacity(alloc, steps.len())?;
+    let mut faults = match Vec::with_capacity(alloc, steps.len()) {
+        Ok(faults) => faults,
+        Err(_) => return Err(left_unbuilt(store, Vec::new(alloc), MakeFault::NoMemory)),
+    };
     let mut maker = match Maker::<S, L>::new(alloc, store, limit) {
         Ok(maker) => maker,
-        Err(refused) => return Err(refused.fault),
+        Err(refused) => return Err(left_unbuilt(refused.store, faults, refused.fault)),
     };
     for step in steps {
-        match step {
-            Step::Change(change) => faults.push(make_change(&mut maker, change))?,
-            Step::Finish => match maker.finish() {
-                Ok(store) => return Ok(Built { store, faults }),
-                Err(Unfinished { maker: kept, fault }) => {
-                    maker = kept;
-                    faults.push(Some(fault))?;
-                }
-            },
+        match make_step(maker, step) {
+            Stepped::Finished(store) => return Ok(Built { store, faults }),
+            Stepped::GoesOn(kept, fault) => {
+                maker = kept;
+                let Ok(()) = faults.push(fault) else {
+                    return Err(left_unbuilt(maker.into_store(), faults, MakeFault::NoMemory));
+                };
+            }
         }
     }
     match maker.finish() {
         Ok(store) => Ok(Built { store, faults }),
-        Err(unfinished) => Err(unfinished.fault),
+        Err(unfinished) => {
+            let fault = unfinished.fault;
+            Err(left_unbuilt(unfinished.maker.into_store(), faults, fault))
+        }
     }
 }
 
@@ -94,10 +141,11 @@ pub fn build<S: Store + Drop, L: Width>(
 ///
 /// Whichever steps are refused, and whatever fails in between: the store then holds, in each of its
 /// images, the file made from scratch of the records that are left, and the values are exactly
-/// those that the key has among them, in their order.
+/// those that the key has among them, in their order. Each step has one answer, and each answer its
+/// cause.
 ///
 /// By `Make` it fails as `build` does, and nothing was written. By `Read` it fails if the store
-/// or the writer failed.
+/// failed while it was read, or the writer did; then a prefix of the values was written.
 pub fn build_and_ask<S: Store + Drop, L: Width, W: Write>(
     alloc: Global,
     store: S,
@@ -105,25 +153,41 @@ pub fn build_and_ask<S: Store + Drop, L: Width, W: Write>(
     steps: &[Step],
     key: &[u8],
     w: &mut W,
-) -> Result<Built<S>, AskFault>
+) -> Result<Built<S>, Unbuilt<S>>
     requires head { head_size L.WORD ≤ limit }
     requires words { limit ≤ L.GREATEST }
+    ensures builds { IfOk result (λ m. WhereHonest (S.image m.store) (Builds L.WORD limit steps.now
+        m.faults.items (S.failures store) (S.failures m.store))) }
     ensures file { IfOk result (λ m.
         IsFile L.WORD (left_by L.WORD limit steps.now m.faults.items) (S.image m.store)) }
     ensures values { IfOk result (λ m. WhereHonest (S.image m.store) (Finds key.now
         (left_by L.WORD limit steps.now m.faults.items) (W.contents w.old) (W.contents w.new))) }
-    ensures fails { IfErr result (BuildingFails (W.contents w.old) (W.contents w.new)) }
+    ensures fails { IfErr result (BuildingFails S.Store L.WORD limit store steps.now key.now
+        (W.contents w.old) (W.contents w.new)) }
 {
     let Built { store, faults } = build::<S, L>(alloc, store, limit, steps)?;
     let mut reader = match Reader::<S, L>::open(store) {
         Ok(reader) => reader,
-        Err(unread) => return Err(AskFault::Read(unread.fault)),
+        Err(Unread { store, fault }) => {
+            let fault = AskFault::Read(fault);
+            return Err(Unbuilt {
+                store,
+                faults,
+                fault,
+            });
+        }
     };
-    match write_values(&mut reader, key, w) {
-        Ok(()) => Ok(Built {
-            store: reader.into_store(),
-            faults,
-        }),
-        Err(fault) => Err(AskFault::Read(fault)),
+    let written = write_values(&mut reader, key, w);
+    let store = reader.into_store();
+    match written {
+        Ok(()) => Ok(Built { store, faults }),
+        Err(fault) => {
+            let fault = AskFault::Read(fault);
+            Err(Unbuilt {
+                store,
+                faults,
+                fault,
+            })
+        }
     }
 }
