@@ -41,7 +41,7 @@ loop-preserved g c =
     subst (Gave g.R.Read.remaining (g.R.Read.remaining c.args.maps.now.source.reader) c.next.new.self) (sym items) (gave_more g.R.Read.remaining _ _ _ _ _ inv one)
 
 pub returns-clause-some : goal.returns-clause-some
-returns-clause-some g c = λ going. gave_rest g.R.Read.remaining _ _ _ c.loop.invariant going
+returns-clause-some g c = λ going. gave_rest g.R.Read.remaining _ c.loop.maps _ c.loop.invariant going
 
 pub returns-clause-all : goal.returns-clause-all
-returns-clause-all g c = λ ended. gave_ended g.R.Read.remaining _ _ _ c.loop.invariant ended
+returns-clause-all g c = λ ended. gave_ended g.R.Read.remaining _ c.loop.maps _ c.loop.invariant ended
