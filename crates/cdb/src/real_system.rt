@@ -1,5 +1,6 @@
 // The system's files: the lines that open them, and note it.
-ghost use Rattle.std.specs.Prelude.{◌≡◌, ◌∷◌, []};
+ghost use Rattle.std.specs.Prelude.{◌≡◌, []};
+ghost use Rattle.cdb.specs.Opening.{IsUnopened};
 
 use crate::open_trace::{OpenCall, OpenTrace};
 use crate::system::System;
@@ -33,7 +34,9 @@ impl<'a, R: Files<File = File>> RealSystem<'a, R> {
 }
 
 /// Why a file was not opened.
-fn open_fault(error: &io::Error) -> Fault {
+fn open_fault(error: &io::Error) -> Fault
+    ensures { IsUnopened result }
+{
     if error.kind() == ErrorKind::OutOfMemory {
         return Fault::NoMemory;
     }
