@@ -96,15 +96,15 @@ fn the_lines_are_those_of_the_records_that_were_put(rt: HostRuntime) -> Result<(
         held(rt.alloc(), 8)?,
         held(rt.alloc(), u64::MAX)?,
     ];
-    // A record whose key is there is found by a header and a key.
+    // A record whose key is there is found by one read of its header and its key.
     let want = [
         Some(0),
         Some(1),
         Some(2),
         Some(2),
-        Some(2),
         Some(3),
         Some(3),
+        Some(4),
         Some(4),
     ];
     assert!(rt; held == want, "{held:?}");
