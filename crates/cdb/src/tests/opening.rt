@@ -1,4 +1,6 @@
 // The commands that read one file, over a file in memory of which each call fails in turn.
+ghost use Rattle.std.specs.Prelude.{◌≡◌};
+
 use crate::open_trace::{OpenCall, OpenTrace};
 use crate::steps::run;
 use crate::system::System;
@@ -23,7 +25,9 @@ struct OneFile<'a> {
 
 impl OneFile<'_> {
     /// Whether this call fails.
-    fn fails(&mut self) -> bool {
+    fn fails(&mut self) -> bool
+        ensures { self.new.trace ≡ self.old.trace }
+    {
         let fails = self.left == 0;
         self.left = self.left.saturating_sub(1);
         fails
