@@ -3,3 +3,4 @@ mod fake_file;
 mod fake_names;
 mod faults;
 mod files;
+mod real;
