@@ -1,3 +1,2 @@
 mod Replacing
-mod Failing
 mod Locking

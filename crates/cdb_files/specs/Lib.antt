@@ -2,5 +2,3 @@ pub mod Folder
 pub mod Replacing
 pub mod FileFault
 pub mod Made
-pub mod Names
-pub mod Opening

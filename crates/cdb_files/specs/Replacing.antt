@@ -2,10 +2,6 @@
 use Rattle.std.specs.Prelude.{◌≡◌, ℕ, ◌+◌, ◌⊎◌, true, List, [], ◌∷◌, ◌++◌, Option, None, Some}
 use Rattle.std.specs.List.{AllByRecursion}
 use Rattle.cdb_store.specs.Calls.{Calls, IsSynced, FileImage}
-use Rattle.cdb_store.specs.FileStore.{calls_of}
-use Rattle.cdb_store.specs.declared.file.FileStore.{FileStore}
-use Rattle.cdb_store.specs.declared.raw.RawFile.{Ghosts as Raw}
-use Rattle.cdb_store.specs.declared.trace.Call.TheVariants as file_call
 use Rattle.cdb_files.specs.declared.name_trace.NameCall.{NameCall}
 use Rattle.cdb_files.specs.declared.name_fault.NameFault.{NameFault}
 use Rattle.cdb_files.specs.declared.name_fault.NameFault.TheVariants as name_fault
@@ -124,16 +120,3 @@ LeavesOldOrNew name whole old now = (first held : Option (List ℕ)) → MayHave
 abbrev pub LeavesNew : (name : List ℕ) (whole : List ℕ → Type 0) (now : NameCalls) → Type 0
 LeavesNew name whole now = (before : NameCalls) → now ≡ (Synced, name, [], []) ∷ before
     → (first held : Option (List ℕ)) → MayHave name first now held → IsNew whole held
-
--- a builder failed so in a file that was just made
-pub record FailsToBuild {F : Type 0} {file : Raw F} {E : Type 0}
-    (fails : FileStore F file → FileStore F file → E → Type 0) (fault : E) : Type 0 where
-  pub empty : FileStore F file
-  pub left : FileStore F file
-  pub made : calls_of empty ≡ (file_call.Made, []) ∷ []
-  pub why : fails empty left fault
-
--- the fault of a replacement is that of its builder
-abbrev pub IsOfBuilder : {E : Type 0} → (E → Type 0) → ReplaceFault E → Type 0
-IsOfBuilder P (Build fault) = P fault
-IsOfBuilder P fault = Unit {0}

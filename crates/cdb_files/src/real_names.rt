@@ -1,7 +1,5 @@
 // The names of the system: the lines that call the system and note what it answered.
 ghost use Rattle.std.specs.Prelude.{◌≡◌, ◌⊎◌, [], ◌∷◌, IfErr, OnOk};
-ghost use Rattle.std.specs.Path.{path_parent};
-ghost use Rattle.cdb_files.specs.Names.{folder_from};
 ghost use Rattle.cdb_files.specs.declared.name_trace.NameCall.TheVariants.{Renamed, NotRenamed};
 ghost use Rattle.cdb_files.specs.Folder.{IsRemoval, IsCleared};
 
@@ -127,9 +125,7 @@ fn renamed<R: Files<File = File>>(rt: &R, name: &str, other: &str) -> Result<(),
 }
 
 /// The folder of a name.
-fn folder_of(name: &str) -> &str
-    ensures { result.now ≡ folder_from (path_parent name.now) }
-{
+fn folder_of(name: &str) -> &str {
     match Path::new(name).parent() {
         Some(folder) if !folder.as_str().is_empty() => folder.as_str(),
         _ => ".",

@@ -3,4 +3,3 @@ mod fake_file;
 mod fake_names;
 mod faults;
 mod files;
-mod real;

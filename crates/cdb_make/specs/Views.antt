@@ -3,7 +3,5 @@ pub mod MakeFault
 pub mod Index
 pub mod EntryList
 pub mod Maker
-pub mod Carrying
-pub mod Batch
 pub mod Adding
 pub mod Making

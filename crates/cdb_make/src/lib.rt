@@ -4,9 +4,6 @@
 
 mod adding;
 mod append;
-mod batch;
-mod batch_putting;
-mod batch_removing;
 mod closing;
 mod entries;
 mod fault;
@@ -20,7 +17,6 @@ mod lists;
 mod looking;
 mod maker;
 mod making;
-mod marking;
 mod moving;
 mod pointers;
 mod put;
@@ -28,15 +24,12 @@ mod putting;
 mod removing;
 mod repair;
 mod scan;
-mod settling;
 mod table;
 mod tables;
 mod taking_out;
 
-pub use batch::Batch;
 pub use cdb_form::Mode;
 pub use fault::MakeFault;
 pub use maker::Maker;
 pub use making::{Refused, Unfinished};
 pub use put::Put;
-pub use settling::Unsettled;

@@ -1,8 +1,5 @@
 // The maker, over stores in memory and files, with faults of the store and want of memory.
 mod again;
-mod batches;
-mod batches_drawn;
-mod batches_faults;
 mod drawn;
 mod faults;
 mod files;

@@ -181,7 +181,7 @@ impl RawFile for RealFile {
                 Ok(())
             }
             Err(_) => {
-                self.trace.note(&Call::NotSynced, &[]);
+                self.trace.note(&Call::Failed, &[]);
                 Err(RawFault::Failed)
             }
         }
@@ -193,10 +193,6 @@ impl RawFile for RealFile {
 
     fn refuse(&mut self) {
         self.trace.note(&Call::Refused, &[]);
-    }
-
-    fn refuse_sync(&mut self) {
-        self.trace.note(&Call::NotSynced, &[]);
     }
 
     fn give_up(&mut self, pos: u64, n: u64) {

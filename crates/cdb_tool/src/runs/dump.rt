@@ -35,13 +35,11 @@ pub fn dump_from<L: Width, R: Read, W: Write>(
 /// The faults:
 /// - `Walk(Short)`, `Walk(Table(n))`, `Walk(Record(place))`: the file is damaged; the texts of all
 ///   whole records before the damage were written, and no closing newline;
-/// - `Walk(Input)`: the reader failed; the texts of some first records were written;
-/// - `NoMemory`: an allocation failed; the texts of some first records were written;
+/// - `Walk(Input)`: the reader failed; the texts of all records that were read were written;
+/// - `NoMemory`: a growth was refused; the texts of all records that were read were written;
 /// - `Output`: the writer failed, and holds a prefix of the text.
 ///
-/// The writer is flushed last, after a fault too. Which first records these are this contract cannot
-/// say, since the reader is gone: that of `dump_from`, which leaves its reader, says that they are
-/// all whole records of what was read.
+/// The writer is flushed last, after a fault too.
 pub fn dump_run<L: Width, R: Read + Drop, W: Write>(
     alloc: Global,
     reader: R,

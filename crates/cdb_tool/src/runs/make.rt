@@ -135,10 +135,6 @@ fn make_unflushed<L: Width, S: Store, B: Store, R: Read + Drop, E: Write, A: AtH
 /// the answer; the base was only read. At Ok the store holds the file of the records that survive,
 /// and nothing else, and has handed it on to what holds its bytes; after a fault it may hold
 /// anything. `errors` is flushed last, after a fault too.
-///
-/// At `NoMemory`, `Make(Lookup)` and `Make(Writing)` the lines are those of some first records.
-/// Which these are this contract cannot say, since the maker is gone: that of `put_inputs`, which
-/// leaves its maker, says that they are those of the records that it holds.
 pub fn make_run<L: Width, S: Store, B: Store, R: Read + Drop, E: Write>(
     alloc: Global,
     store: S,

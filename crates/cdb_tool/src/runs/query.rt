@@ -144,9 +144,7 @@ fn query_unflushed<L: Width, S: Store, W: Write>(
 /// - `Output`: the writer failed, and holds a prefix of the text.
 ///
 /// The store is handed back whatever the answer, and was only read. The writer is flushed last,
-/// after a fault too. Which prefix was written this contract cannot say, since the finder is gone:
-/// that of `query_from`, which leaves its finder, says that the values before the one in hand were
-/// written whole.
+/// after a fault too.
 pub fn query_run<L: Width, S: Store, W: Write>(
     store: S,
     key: &[u8],

@@ -78,7 +78,7 @@ impl RawFile for BadFile<'_> {
     }
 
     fn sync(&mut self) -> Result<(), RawFault> {
-        self.trace.note(&Call::NotSynced, &[]);
+        self.trace.note(&Call::Failed, &[]);
         Err(RawFault::Failed)
     }
 
@@ -88,10 +88,6 @@ impl RawFile for BadFile<'_> {
 
     fn refuse(&mut self) {
         self.trace.note(&Call::Refused, &[]);
-    }
-
-    fn refuse_sync(&mut self) {
-        self.trace.note(&Call::NotSynced, &[]);
     }
 
     fn give_up(&mut self, pos: u64, n: u64) {
