@@ -56,6 +56,13 @@ impl<R: Read, L: Width> AmendReader<R, L> {
         }
     }
 
+    /// Its reader, which goes on behind what was read of it.
+    pub fn into_reader(self) -> R
+        ensures { R.remaining result ≡ unread R.remaining self }
+    {
+        self.source.reader
+    }
+
     /// The next item, or `None` at the newline that ends the text.
     ///
     /// After the end it answers `Ok(None)` for good, and after a fault that fault. The faults are

@@ -52,6 +52,13 @@ impl<R: Read> MapReader<R> {
         }
     }
 
+    /// Its reader, which goes on behind what was read of it.
+    pub fn into_reader(self) -> R
+        ensures { R.remaining result ≡ unread R.remaining self }
+    {
+        self.source.reader
+    }
+
     /// The next record, or `None` at the end of the input.
     ///
     /// After the end it answers `Ok(None)` for good, and after a fault that fault. If the last line

@@ -54,6 +54,13 @@ impl<R: Read, L: Width> TextReader<R, L> {
         }
     }
 
+    /// Its reader, which goes on behind what was read of it.
+    pub fn into_reader(self) -> R
+        ensures { R.remaining result ≡ unread R.remaining self }
+    {
+        self.source.reader
+    }
+
     /// The next record, or `None` at the newline that ends the text.
     ///
     /// After the end it answers `Ok(None)` for good, and after a fault that fault. `Syntax`,
