@@ -96,11 +96,13 @@ pub record GivesRecord {R : Type 0} (remaining : R → Option (List ℕ)) (old n
   pub going : GoesOn ending new
   pub fewer : asks_left new < asks_left old
 
--- a call told the end: the first such call read ignored lines alone
+-- a call told the end: the first such call read ignored lines alone, unless the last record came
+-- with the end; then nothing is read
 pub record GivesEnd {R : Type 0} (remaining : R → Option (List ℕ)) (old new : MapReader R) :
     Type 0 where
   pub ended : HasEnded new
   pub reads : IsGoing old → ReadsIgnored remaining old.source new.source
+  pub stays : HasEnded old → new ≡ old
 
 -- a call answered a fault, as every later one will: what it read holds no record's whole line
 pub record Fails {R : Type 0} (remaining : R → Option (List ℕ)) (old new : MapReader R)
