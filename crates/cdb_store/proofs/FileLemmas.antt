@@ -23,7 +23,7 @@ gave_long len pos bytes u e long = rw e (record { each = λ b is. long.each b (u
 
 -- the store refused a call without asking the file
 pub refused : {c d : Calls} → d ≡ (Refused, []) ∷ c → Untouched c d
-refused {c = c} e = rw e (record { same = record { no_other = λ b is. is; none_lost = λ b is. is }; written = refl; later = omega arith; known = refl })
+refused {c = c} e = rw e (record { same = record { no_other = λ b is. is; none_lost = λ b is. is }; syncs = refl; written = refl; later = omega arith; known = refl })
 
 part_front : (pos n len : ℕ) (a : List ℕ) → pos + n ≤ len → part pos n (take len a) ≡ part pos n a
 part_front pos n len a inside = part_from_take pos n (pos + n) a (take len a) refl (take-take (pos + n) len a inside)

@@ -5,7 +5,7 @@ use Rattle.std.proofs.Math.Seq.{take-add, take-append-add}
 use borrow.Rule.Slice.PartMut.{put_mid, mid_of, post_of}
 use Rattle.cdb_store.specs.declared.trace.Call.TheVariants.{Wrote, NotWritten}
 use Rattle.cdb_store.specs.Images.{overwrite, Torn}
-use Rattle.cdb_store.specs.Calls.{Calls, Agrees, failure_count, written_count, lost, interrupted, Asked, AskedInVain, AfterPut, AfterTornPut, AreAtLeast}
+use Rattle.cdb_store.specs.Calls.{Calls, Agrees, failed_syncs, failure_count, written_count, lost, interrupted, Asked, AskedInVain, AfterPut, AfterTornPut, AreAtLeast}
 use Rattle.cdb_store.specs.Lengths.{length-overwrite}
 use Rattle.cdb_store.proofs.Parts.{take-overwrite, drop-overwrite, overwrite-overwrite, overwrite_nothing}
 use Rattle.cdb_store.proofs.RawCalls.{untouched_interrupted, failures_interrupted}
@@ -98,16 +98,16 @@ torn_behind_put {pos = pos} {next = next} {n = n} {m = m} {xs = xs} here sum v w
     }
 
 pub written_asked : {pos : ℕ} {bytes : List ℕ} {old new : Calls} → Asked (Wrote pos, bytes) old new
-    → (written_count new ≡ written_count old + length bytes) × (failure_count new ≡ failure_count old) × (lost new ≡ lost old)
+    → (written_count new ≡ written_count old + length bytes) × (failure_count new ≡ failure_count old) × (lost new ≡ lost old) × (failed_syncs new ≡ failed_syncs old)
 written_asked {bytes = bytes} {old = old} a = let u = untouched_interrupted a.times old in
-    rw (a.calls) (omega (arith, u.written), failures_interrupted a.times old, u.known)
+    rw (a.calls) (omega (arith, u.written), failures_interrupted a.times old, u.known, u.syncs)
 
 not_written_counts : (pos n k : ℕ) (old new : Calls) → new ≡ (NotWritten pos n, []) ∷ interrupted k old
-    → (written_count new ≡ written_count old) × (failure_count old < failure_count new) × (lost new ≡ lost old)
-not_written_counts pos n k old new e = let u = untouched_interrupted k old in rw e (u.written, omega (arith, u.later), u.known)
+    → (written_count new ≡ written_count old) × (failure_count old < failure_count new) × (lost new ≡ lost old) × (failed_syncs new ≡ failed_syncs old)
+not_written_counts pos n k old new e = let u = untouched_interrupted k old in rw e (u.written, omega (arith, u.later), u.known, u.syncs)
 
 pub written_vain : {pos n : ℕ} {old new : Calls} → AskedInVain (NotWritten pos n) (NotWritten pos n) old new
-    → (written_count new ≡ written_count old) × (failure_count old < failure_count new) × (lost new ≡ lost old)
+    → (written_count new ≡ written_count old) × (failure_count old < failure_count new) × (lost new ≡ lost old) × (failed_syncs new ≡ failed_syncs old)
 written_vain {pos = pos} {n = n} {old = old} {new = new} v = elim v [
   | inl a ↦ not_written_counts pos n a.times old new a.calls
   | inr e ↦ not_written_counts pos n 1001 old new e

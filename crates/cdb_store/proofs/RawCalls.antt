@@ -1,8 +1,8 @@
 -- What raw calls that were interrupted, that failed or that did a part leave.
 use Rattle.std.proofs.Common.{◌≡◌, ℕ, ◌+◌, ◌<◌, ◌≤◌, inl, inr, suc, zero, List, [], ◌∷◌, ◌++◌, length, refl, sym, ap, ◌∙◌, arith, add-one}
 use Rattle.cdb_store.specs.declared.trace.Call.{Call}
-use Rattle.cdb_store.specs.declared.trace.Call.TheVariants.{Made, Read, Gave, Wrote, NotWritten, Length, Cut, NotCut, Synced, Interrupted, Failed, Refused, Lost}
-use Rattle.cdb_store.specs.Calls.{Calls, Agrees, failure_count, written_count, lost, interrupted, Asked, AskedInVain, Came, Untouched}
+use Rattle.cdb_store.specs.declared.trace.Call.TheVariants.{Made, Read, Gave, Wrote, NotWritten, Length, Cut, NotCut, Synced, NotSynced, Interrupted, Failed, Refused, Lost}
+use Rattle.cdb_store.specs.Calls.{Calls, Agrees, failure_count, written_count, failed_syncs, lost, interrupted, Asked, AskedInVain, Came, Untouched}
 
 pub interrupted_none : (calls : Calls) → calls ≡ interrupted 0 calls
 unfolding interrupted
@@ -30,6 +30,11 @@ unfolding interrupted
 failures_interrupted zero calls = refl
 failures_interrupted (suc k) calls = failures_interrupted k calls
 
+pub syncs_interrupted : (k : ℕ) (calls : Calls) → failed_syncs (interrupted k calls) ≡ failed_syncs calls
+unfolding interrupted
+syncs_interrupted zero calls = refl
+syncs_interrupted (suc k) calls = syncs_interrupted k calls
+
 written_interrupted : (k : ℕ) (calls : Calls) → written_count (interrupted k calls) ≡ written_count calls
 unfolding interrupted
 written_interrupted zero calls = refl
@@ -51,11 +56,12 @@ interrupted_agrees zero calls b is = is
 interrupted_agrees (suc k) calls b is = interrupted_agrees k calls b is
 
 pub untouched_refl : (calls : Calls) → Untouched calls calls
-untouched_refl calls = record { same = record { no_other = λ b is. is; none_lost = λ b is. is }; written = refl; later = omega arith; known = refl }
+untouched_refl calls = record { same = record { no_other = λ b is. is; none_lost = λ b is. is }; syncs = refl; written = refl; later = omega arith; known = refl }
 
 pub untouched_trans : {a b c : Calls} → Untouched a b → Untouched b c → Untouched a c
 untouched_trans p q = record {
   same = record { no_other = λ x is. p.same.no_other x (q.same.no_other x is); none_lost = λ x is. q.same.none_lost x (p.same.none_lost x is) };
+  syncs = q.syncs ∙ p.syncs;
   written = q.written ∙ p.written;
   later = omega (arith, p.later, q.later);
   known = q.known ∙ p.known;
@@ -64,6 +70,7 @@ untouched_trans p q = record {
 pub untouched_interrupted : (k : ℕ) (calls : Calls) → Untouched calls (interrupted k calls)
 untouched_interrupted k calls = record {
   same = record { no_other = agrees_interrupted k calls; none_lost = interrupted_agrees k calls };
+  syncs = syncs_interrupted k calls;
   written = written_interrupted k calls;
   later = omega (arith, failures_interrupted k calls);
   known = lost_interrupted k calls;
@@ -71,7 +78,7 @@ untouched_interrupted k calls = record {
 
 -- a piece came
 pub read_untouched : {pos : ℕ} {piece : List ℕ} {old new : Calls} → Asked (Read pos, piece) old new → Untouched old new
-read_untouched {pos = pos} {piece = piece} {old = old} a = let u = untouched_interrupted a.times old in rw (a.calls) (record { same = u.same; written = u.written; later = u.later; known = u.known })
+read_untouched {pos = pos} {piece = piece} {old = old} a = let u = untouched_interrupted a.times old in rw (a.calls) (record { same = u.same; syncs = u.syncs; written = u.written; later = u.later; known = u.known })
 
 pub read_fine : {pos : ℕ} {piece : List ℕ} {old new : Calls} → Asked (Read pos, piece) old new → failure_count new ≡ failure_count old
 read_fine {old = old} a = rw (a.calls) (failures_interrupted a.times old)
@@ -79,8 +86,8 @@ read_fine {old = old} a = rw (a.calls) (failures_interrupted a.times old)
 -- no piece came
 pub vain_untouched : {old new : Calls} → AskedInVain Failed Refused old new → Untouched old new
 vain_untouched {old = old} {new = new} v = elim v [
-  | inl a ↦ let u = untouched_interrupted a.times old in rw (a.calls) (record { same = u.same; written = u.written; later = omega (arith, u.later); known = u.known })
-  | inr e ↦ let u = untouched_interrupted 1001 old in rw e (record { same = u.same; written = u.written; later = omega (arith, u.later); known = u.known })
+  | inl a ↦ let u = untouched_interrupted a.times old in rw (a.calls) (record { same = u.same; syncs = u.syncs; written = u.written; later = omega (arith, u.later); known = u.known })
+  | inr e ↦ let u = untouched_interrupted 1001 old in rw e (record { same = u.same; syncs = u.syncs; written = u.written; later = omega (arith, u.later); known = u.known })
 ]
 
 pub vain_failed : {old new : Calls} → AskedInVain Failed Refused old new → failure_count old < failure_count new
@@ -105,6 +112,7 @@ came_none pos ((Length _, _) ∷ calls) = refl
 came_none pos ((Cut _, _) ∷ calls) = refl
 came_none pos ((NotCut _, _) ∷ calls) = refl
 came_none pos ((Synced, _) ∷ calls) = refl
+came_none pos ((NotSynced, _) ∷ calls) = refl
 came_none pos ((Failed, _) ∷ calls) = refl
 came_none pos ((Refused, _) ∷ calls) = refl
 came_none pos ((Lost, _) ∷ calls) = refl

@@ -3,7 +3,7 @@ use Rattle.std.specs.Prelude.{◌≡◌, ℕ, ◌+◌, ◌≤◌, ◌<◌, ◌�
 use Rattle.std.specs.Prelude.{length, take, ◌++◌, zero, suc}
 use Rattle.cdb_store.specs.declared.trace.Call.{Call}
 use Rattle.cdb_store.specs.declared.trace.Call.TheVariants.{Made, Read, Gave, Wrote, NotWritten}
-use Rattle.cdb_store.specs.declared.trace.Call.TheVariants.{Length, Cut, NotCut, Synced}
+use Rattle.cdb_store.specs.declared.trace.Call.TheVariants.{Length, Cut, NotCut, Synced, NotSynced}
 use Rattle.cdb_store.specs.declared.trace.Call.TheVariants.{Interrupted, Failed, Refused, Lost}
 use Rattle.cdb_store.specs.declared.raw.RawFault.{RawFault}
 use Rattle.cdb_store.specs.declared.raw.RawFault.TheVariants.{Interrupted as WasInterrupted}
@@ -31,6 +31,7 @@ Agrees ((Lost, bytes) ∷ []) b = Unit {0}
 Agrees ((Lost, bytes) ∷ (untold ∷ calls)) b = Agrees calls b
 Agrees ((Read pos, bytes) ∷ calls) b = Agrees calls b
 Agrees ((Synced, bytes) ∷ calls) b = Agrees calls b
+Agrees ((NotSynced, bytes) ∷ calls) b = Agrees calls b
 Agrees ((Interrupted, bytes) ∷ calls) b = Agrees calls b
 Agrees ((Failed, bytes) ∷ calls) b = Agrees calls b
 Agrees ((Refused, bytes) ∷ calls) b = Agrees calls b
@@ -40,14 +41,22 @@ abbrev pub failure_count : Calls → ℕ
 failure_count [] = 0
 failure_count ((NotWritten pos n, bytes) ∷ calls) = failure_count calls + 1
 failure_count ((NotCut n, bytes) ∷ calls) = failure_count calls + 1
+failure_count ((NotSynced, bytes) ∷ calls) = failure_count calls + 1
 failure_count ((Failed, bytes) ∷ calls) = failure_count calls + 1
 failure_count ((Refused, bytes) ∷ calls) = failure_count calls + 1
 failure_count ((_, bytes) ∷ calls) = failure_count calls
 
--- nothing was made, written or cut since the file was opened or synced, and no call failed
+-- how often syncing it failed; what was to be synced may be gone then
+abbrev pub failed_syncs : Calls → ℕ
+failed_syncs [] = 0
+failed_syncs ((NotSynced, bytes) ∷ calls) = failed_syncs calls + 1
+failed_syncs ((_, bytes) ∷ calls) = failed_syncs calls
+
+-- nothing was made, written or cut since the file was opened or synced, and no call failed; and no
+-- sync of it ever failed
 abbrev pub IsSynced : Calls → Type 0
 IsSynced [] = Unit {0}
-IsSynced ((Synced, bytes) ∷ calls) = Unit {0}
+IsSynced ((Synced, bytes) ∷ calls) = failed_syncs calls ≡ 0
 IsSynced ((Read pos, bytes) ∷ calls) = IsSynced calls
 IsSynced ((Gave pos, bytes) ∷ calls) = IsSynced calls
 IsSynced ((Length n, bytes) ∷ calls) = IsSynced calls
@@ -131,9 +140,10 @@ pub record AfterTornPut (pos n : ℕ) (old new : Calls) : Type 0 where
   pub none_lost : (a : List ℕ) → Agrees old a → pos ≤ length a
       → (b : List ℕ) × Agrees new b × (max (length a) (pos + n) ≤ length b) × Torn pos n a b
 
--- the same byte lists agree, and no byte was written
+-- the same byte lists agree, no byte was written, and no sync failed
 pub record Untouched (old new : Calls) : Type 0 where
   pub same : SameImages (Agrees old) (Agrees new)
+  pub syncs : failed_syncs new ≡ failed_syncs old
   pub written : written_count new ≡ written_count old
   pub later : failure_count old ≤ failure_count new
   pub known : lost new ≡ lost old

@@ -6,7 +6,7 @@ ghost use Rattle.cdb_store.specs.declared.trace.Call.TheVariants.{Made, Length, 
 ghost use Rattle.cdb_store.specs.declared.store.StoreFault.TheVariants.{Device, NoMemory};
 ghost use Rattle.cdb_store.specs.Images.{SameImages, AfterRead, AfterWrite, AfterTornWrite};
 ghost use Rattle.cdb_store.specs.Images.{AfterCut, HasCause};
-ghost use Rattle.cdb_store.specs.Calls.{lost, IsSynced, AreAtLeast, IsMeasured};
+ghost use Rattle.cdb_store.specs.Calls.{lost, IsSynced, AreAtLeast, IsMeasured, failed_syncs};
 ghost use Rattle.cdb_store.specs.Lengths.{file_size};
 
 use crate::raw::RawFile;
@@ -24,14 +24,21 @@ const GREATEST_LENGTH: u64 = (1 << 63) - 1;
 /// It takes no memory. After a write or a cut that failed it requests the file's length. If
 /// that fails too, or the length is none that the call can have left, `len` keeps its value and
 /// every later call but `len` and `reserve` answers `Device`, without asking the file.
+///
+/// After a flush that failed every later one answers `Device`, without asking the file: the system
+/// may have dropped what it could not write.
 #[derive(Drop)]
 pub struct FileStore<F: RawFile = RealFile> {
     file: F,
     len: u64,
     /// Whether a failed write or cut has left a length that couldn't be measured.
     is_lost: bool,
+    /// Whether a flush has failed.
+    is_unsynced: bool,
     ghost bounded: { len < 2 ^ 63 },
     ghost known: { is_lost ≡ lost (F.calls file) },
+    ghost sure: { is_unsynced ≡ false → failed_syncs (F.calls file) ≡ 0 },
+    ghost unsure: { is_unsynced ≡ true → 0 < failed_syncs (F.calls file) },
     ghost long: { is_lost ≡ false → AreAtLeast len (F.calls file) },
 }
 
@@ -112,7 +119,8 @@ impl FileStore {
 impl<F: RawFile> FileStore<F> {
     /// A file that was just made or emptied.
     fn empty(file: F) -> FileStore<F>
-        requires { lost (F.calls file) ≡ false }
+        requires known { lost (F.calls file) ≡ false }
+        requires sure { failed_syncs (F.calls file) ≡ 0 }
         ensures size { result.len ≡ 0 }
         ensures file { result.file ≡ file }
     {
@@ -120,6 +128,7 @@ impl<F: RawFile> FileStore<F> {
             file,
             len: 0,
             is_lost: false,
+            is_unsynced: false,
         }
     }
 }
@@ -149,6 +158,7 @@ impl<F: RawFile> FileStore<F> {
             file,
             len: _,
             is_lost: _,
+            is_unsynced: _,
         } = self;
         file
     }
@@ -164,6 +174,7 @@ impl<F: RawFile> FileStore<F> {
         ensures err { OnErr result (lost (calls_of self.old) ≡ true) }
         ensures refused { OnErr result (calls_of self.new ≡ (Refused, []) ∷ calls_of self.old) }
         ensures len { self.new.len ≡ self.old.len }
+        ensures syncs { failed_syncs (calls_of self.new) ≡ failed_syncs (calls_of self.old) }
         ensures memory { IsErrOf result NoMemory → ⊥ }
     {
         if self.is_lost {
@@ -191,6 +202,7 @@ impl<F: RawFile + Drop> FileStore<F> {
                 file,
                 len,
                 is_lost: false,
+                is_unsynced: false,
             }),
             None => Err(StoreFault::Device),
         }
@@ -232,6 +244,7 @@ impl<F: RawFile> Store for FileStore<F> {
         ensures memory { IsErrOf result NoMemory → ⊥ }
         ensures lost { lost (calls_of self.old) ≡ true → IsErrOf result Device }
         ensures still_known { lost (calls_of self.new) ≡ lost (calls_of self.old) }
+        ensures syncs { failed_syncs (calls_of self.new) ≡ failed_syncs (calls_of self.old) }
     {
         self.refuse_if_lost()?;
         read_all(&mut self.file, pos, into)?;
@@ -260,6 +273,7 @@ impl<F: RawFile> Store for FileStore<F> {
         ensures measured { OnErr result
             (IsMeasured self.old.len (max self.old.len (pos + length bytes.now)) self.old.len
             self.new.len (calls_of self.old) (calls_of self.new)) }
+        ensures syncs { failed_syncs (calls_of self.new) ≡ failed_syncs (calls_of self.old) }
     {
         self.refuse_if_lost()?;
         let most = self.len.max(pos + bytes.len() as u64);
@@ -296,6 +310,7 @@ impl<F: RawFile> Store for FileStore<F> {
         ensures measured { OnErr result
             (IsMeasured len self.old.len self.old.len self.new.len (calls_of self.old)
             (calls_of self.new)) }
+        ensures syncs { failed_syncs (calls_of self.new) ≡ failed_syncs (calls_of self.old) }
     {
         self.refuse_if_lost()?;
         match self.file.set_length(len) {
@@ -313,7 +328,8 @@ impl<F: RawFile> Store for FileStore<F> {
         }
     }
 
-    /// Has the file synced, so that a loss of power does not take its bytes.
+    /// Has the file synced, so that a loss of power does not take its bytes. After a flush that
+    /// failed it answers `Device`, without asking the file.
     fn flush(&mut self) -> Result<(), StoreFault>
         ensures images { SameImages (images_of self.old) (images_of self.new) }
         ensures size { self.new.len ≡ self.old.len }
@@ -325,11 +341,19 @@ impl<F: RawFile> Store for FileStore<F> {
         ensures still_known { lost (calls_of self.new) ≡ lost (calls_of self.old) }
         ensures ok { OnOk result (IsSynced (calls_of self.new)) }
         ensures synced { OnOk result (calls_of self.new ≡ (Synced, []) ∷ calls_of self.old) }
+        ensures unsynced { 0 < failed_syncs (calls_of self.old) → IsErrOf result Device }
     {
         self.refuse_if_lost()?;
+        if self.is_unsynced {
+            self.file.refuse_sync();
+            return Err(StoreFault::Device);
+        }
         match self.file.sync() {
             Ok(()) => Ok(()),
-            Err(_) => Err(StoreFault::Device),
+            Err(_) => {
+                self.is_unsynced = true;
+                Err(StoreFault::Device)
+            }
         }
     }
 }

@@ -5,8 +5,9 @@ ghost use Rattle.std.specs.Result.{ForOk};
 ghost use Rattle.cdb_store.specs.declared.trace.Call.{Call};
 ghost use Rattle.cdb_store.specs.declared.trace.Call.TheVariants.{Read, Gave, Wrote, NotWritten};
 ghost use Rattle.cdb_store.specs.declared.trace.Call.TheVariants.{Length, Cut, NotCut, Synced};
+ghost use Rattle.cdb_store.specs.declared.trace.Call.TheVariants.{NotSynced};
 ghost use Rattle.cdb_store.specs.declared.trace.Call.TheVariants.{Failed, Refused, Lost};
-ghost use Rattle.cdb_store.specs.Calls.{lost, ended, GivenUp, Came, IsUntold};
+ghost use Rattle.cdb_store.specs.Calls.{lost, ended, failed_syncs, GivenUp, Came, IsUntold};
 
 use crate::trace::{Call, Trace};
 
@@ -22,8 +23,9 @@ pub enum RawFault {
 /// A file by its raw calls, each of which notes what it answered in proof-only data.
 ///
 /// A call makes one request of the file, which may do less. After the file's length is
-/// lost no call reaches it. `give`, `refuse`, `give_up` and `lose` do nothing at run time: a
-/// store notes by them what it makes of the answers, and each requires the answers that allow it.
+/// lost no call reaches it, and after a sync that failed no other sync does. `give`, `refuse`,
+/// `refuse_sync`, `give_up` and `lose` do nothing at run time: a store notes by them what it makes
+/// of the answers, and each requires the answers that allow it.
 pub trait RawFile {
     /// The calls, the newest first.
     ghost calls: { Self → List (Call × List ℕ) };
@@ -61,10 +63,14 @@ pub trait RawFile {
         ensures err { OnErr result (calls self.new ≡ (NotCut len, []) ∷ calls self.old) };
 
     /// Syncs its bytes, so that they survive a loss of power.
+    ///
+    /// After a sync that failed none may follow: the system may have dropped the bytes that it
+    /// could not write, and then a later sync succeeds without them.
     fn sync(&mut self) -> Result<(), RawFault>
-        requires { lost (calls self.old) ≡ false }
+        requires known { lost (calls self.old) ≡ false }
+        requires sure { failed_syncs (calls self.old) ≡ 0 }
         ensures ok { OnOk result (calls self.new ≡ (Synced, []) ∷ calls self.old) }
-        ensures err { OnErr result (calls self.new ≡ (Failed, []) ∷ calls self.old) };
+        ensures err { OnErr result (calls self.new ≡ (NotSynced, []) ∷ calls self.old) };
 
     /// Notes that bytes which came are given back to the caller.
     fn give(&mut self, pos: u64, bytes: &[u8])
@@ -76,6 +82,11 @@ pub trait RawFile {
     fn refuse(&mut self)
         requires { (lost (calls self.old) ≡ true) ⊎ GivenUp (calls self.old) }
         ensures { calls self.new ≡ (Refused, []) ∷ calls self.old };
+
+    /// Notes that the store refuses a sync, since one has failed.
+    fn refuse_sync(&mut self)
+        requires { 0 < failed_syncs (calls self.old) }
+        ensures { calls self.new ≡ (NotSynced, []) ∷ calls self.old };
 
     /// Notes that a write of `n` bytes was given up, each of 1001 calls being interrupted.
     fn give_up(&mut self, pos: u64, n: u64)

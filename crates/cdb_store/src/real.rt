@@ -181,7 +181,7 @@ impl RawFile for RealFile {
                 Ok(())
             }
             Err(_) => {
-                self.trace.note(&Call::Failed, &[]);
+                self.trace.note(&Call::NotSynced, &[]);
                 Err(RawFault::Failed)
             }
         }
@@ -193,6 +193,10 @@ impl RawFile for RealFile {
 
     fn refuse(&mut self) {
         self.trace.note(&Call::Refused, &[]);
+    }
+
+    fn refuse_sync(&mut self) {
+        self.trace.note(&Call::NotSynced, &[]);
     }
 
     fn give_up(&mut self, pos: u64, n: u64) {

@@ -26,6 +26,8 @@ pub enum Call {
     NotCut(u64),
     /// It was synced.
     Synced,
+    /// Syncing it failed, or was refused since it had failed before.
+    NotSynced,
     /// A signal interrupted a call, which did nothing.
     Interrupted,
     /// A call that changes no byte failed.

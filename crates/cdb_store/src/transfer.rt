@@ -7,7 +7,7 @@ ghost use Rattle.cdb_store.specs.declared.store.StoreFault.TheVariants.{NoMemory
 ghost use Rattle.cdb_store.specs.Images.{SameImages};
 ghost use Rattle.cdb_store.specs.Calls.{Agrees, lost, failure_count, written_count, Asked};
 ghost use Rattle.cdb_store.specs.Calls.{AskedInVain, Came, AfterPut, AfterTornPut, Untouched};
-ghost use Rattle.cdb_store.specs.Calls.{IsLost, AreAtLeast};
+ghost use Rattle.cdb_store.specs.Calls.{IsLost, AreAtLeast, failed_syncs};
 
 use crate::StoreFault;
 use crate::raw::{RawFault, RawFile};
@@ -101,6 +101,7 @@ pub(crate) fn write_all<F: RawFile>(file: &mut F, pos: u64, bytes: &[u8]) -> Res
         ≤ written_count (F.calls file.old) + length bytes.now }
     ensures later { failure_count (F.calls file.old) ≤ failure_count (F.calls file.new) }
     ensures still_known { lost (F.calls file.new) ≡ false }
+    ensures syncs { failed_syncs (F.calls file.new) ≡ failed_syncs (F.calls file.old) }
     ensures memory { IsErrOf result NoMemory → ⊥ }
 {
     let mut done = 0;
@@ -116,6 +117,7 @@ pub(crate) fn length_within<F: RawFile>(file: &mut F, least: u64, most: u64) -> 
     ensures range { IfSome result (λ n. (least ≤ n) × (n ≤ most)) }
     ensures told { IfSome result (λ n. F.calls file.new ≡ (Length n, []) ∷ F.calls file.old) }
     ensures lost { IfNone result (IsLost least most (F.calls file.old) (F.calls file.new)) }
+    ensures syncs { failed_syncs (F.calls file.new) ≡ failed_syncs (F.calls file.old) }
 {
     if let Ok(len) = file.length() {
         if least <= len && len <= most {

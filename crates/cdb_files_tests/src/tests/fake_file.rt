@@ -128,7 +128,7 @@ impl RawFile for FakeFile {
 
     fn sync(&mut self) -> Result<(), RawFault> {
         if self.fails() {
-            self.trace.note(&Call::Failed, &[]);
+            self.trace.note(&Call::NotSynced, &[]);
             return Err(RawFault::Failed);
         }
         self.is_sure = true;
@@ -142,6 +142,10 @@ impl RawFile for FakeFile {
 
     fn refuse(&mut self) {
         self.trace.note(&Call::Refused, &[]);
+    }
+
+    fn refuse_sync(&mut self) {
+        self.trace.note(&Call::NotSynced, &[]);
     }
 
     fn give_up(&mut self, pos: u64, n: u64) {

@@ -58,7 +58,7 @@ fn other_calls_fail_and_do_nothing(rt: HostRuntime) -> Result<(), Fail> {
 fn faults_below(alloc: Global, capacity: usize, limit: u64) -> Result<Option<u64>, Fail> {
     let inner = FuseStore::new(MemStore::new(alloc), limit, 1);
     let mut store = buffered(alloc, inner, capacity)?;
-    let outcome = script(&mut store);
+    let outcome = script(&mut store, true);
     let (inner, answer) = store.into_inner();
     let bytes = inner.into_inner().into_vec();
     let is_right = outcome.is_right

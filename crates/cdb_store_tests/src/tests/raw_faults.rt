@@ -18,7 +18,7 @@ fn parts_and_interrupts_change_nothing(rt: HostRuntime) -> Result<(), Fail> {
         ] {
             let file = FakeFile::new(Vec::new(rt.alloc()), first, count, trouble);
             let mut store = FileStore::over(file)?;
-            let outcome = script(&mut store);
+            let outcome = script(&mut store, false);
             // a cut and a sync aren't asked again: std does so by itself
             let is_once = (first == 7 || first == 8) && matches!(trouble, Trouble::Interrupted);
             assert!(rt;
@@ -36,7 +36,7 @@ fn reads_and_writes_are_asked_1001_times(rt: HostRuntime) -> Result<(), Fail> {
         for (count, failed) in [(1000, 0), (1001, 1)] {
             let file = FakeFile::new(Vec::new(rt.alloc()), first, count, Trouble::Interrupted);
             let mut store = FileStore::over(file)?;
-            let outcome = script(&mut store);
+            let outcome = script(&mut store, false);
             assert!(rt;
                 outcome.is_right && outcome.failed == failed,
                 "{first} {count}"
@@ -71,7 +71,7 @@ fn each_raw_call_fails_in_turn(rt: HostRuntime) -> Result<(), Fail> {
     for first in 1..=LAST + 1 {
         let file = FakeFile::new(Vec::new(rt.alloc()), first, 1, Trouble::Fails);
         let mut store = FileStore::over(file)?;
-        let outcome = script(&mut store);
+        let outcome = script(&mut store, false);
         assert!(rt;
             outcome.is_right && outcome.failed == (first <= LAST) as u64,
             "{first}"

@@ -78,7 +78,7 @@ impl RawFile for BadFile<'_> {
     }
 
     fn sync(&mut self) -> Result<(), RawFault> {
-        self.trace.note(&Call::Failed, &[]);
+        self.trace.note(&Call::NotSynced, &[]);
         Err(RawFault::Failed)
     }
 
@@ -88,6 +88,10 @@ impl RawFile for BadFile<'_> {
 
     fn refuse(&mut self) {
         self.trace.note(&Call::Refused, &[]);
+    }
+
+    fn refuse_sync(&mut self) {
+        self.trace.note(&Call::NotSynced, &[]);
     }
 
     fn give_up(&mut self, pos: u64, n: u64) {

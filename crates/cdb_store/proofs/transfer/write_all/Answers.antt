@@ -8,7 +8,7 @@ use Rattle.cdb_store.proofs.Answered.{held_on_err}
 use Rattle.cdb_store.proofs.transfer.write_all.Goals as goal
 
 pub loop-done-init : goal.loop-done-init
-loop-done-init g c = record { inside = omega arith; put = put_none _ _ c.requires.inside; written = omega arith; fine = omega arith; known = c.requires.known }
+loop-done-init g c = record { inside = omega arith; put = put_none _ _ c.requires.inside; written = omega arith; fine = omega arith; known = c.requires.known; syncs = omega arith }
 
 pub write_some-requires-clause-known : goal.write_some-requires-clause-known
 write_some-requires-clause-known g c = c.loop-done.invariant.known
@@ -53,6 +53,7 @@ loop-done-preserved g c =
       written = omega (arith, w.0, p, c.loop-done.invariant.written);
       fine = w.1 ∙ c.loop-done.invariant.fine;
       known = w.2 ∙ c.loop-done.invariant.known;
+      syncs = w.3 ∙ c.loop-done.invariant.syncs;
     }
 
 pub returns-clause-ok : goal.returns-clause-ok
@@ -72,6 +73,12 @@ returns-clause-later g c = omega (arith, c.loop-done.invariant.fine)
 
 pub returns-clause-still_known : goal.returns-clause-still_known
 returns-clause-still_known g c = c.loop-done.invariant.known
+
+pub returns-in_err-done-clause-syncs : goal.returns-in_err-done-clause-syncs
+returns-in_err-done-clause-syncs g c = let w = written_vain c.in_err-done.ensures.err in w.3 ∙ c.loop-done.invariant.syncs
+
+pub returns-clause-syncs : goal.returns-clause-syncs
+returns-clause-syncs g c = c.loop-done.invariant.syncs
 
 pub returns-clause-ok_failures : goal.returns-clause-ok_failures
 returns-clause-ok_failures g c = c.loop-done.invariant.fine

@@ -6,7 +6,8 @@ use cdb_store::{Store, StoreFault};
 pub struct Outcome {
     /// How many calls failed.
     pub failed: u64,
-    /// Whether each call that was called again answered Ok, and each read gave the right bytes.
+    /// Whether each call that was called again answered Ok, or a flush as it should, and each read
+    /// gave the right bytes.
     pub is_right: bool,
 }
 
@@ -55,15 +56,16 @@ fn cut<S: Store>(store: &mut S, len: u64, outcome: &mut Outcome) {
     outcome.note(first, is_right && store.len() == len);
 }
 
-/// Flushes, and again where that fails.
-fn flush<S: Store>(store: &mut S, outcome: &mut Outcome) {
+/// Flushes, and again where that fails: then a flush succeeds if a failed one can be made good.
+fn flush<S: Store>(store: &mut S, heals: bool, outcome: &mut Outcome) {
     let first = store.flush();
-    let is_right = first.is_ok() || store.flush().is_ok();
+    let is_right = first.is_ok() || store.flush().is_ok() == heals;
     outcome.note(first, is_right);
 }
 
-/// Writes over what was written and past it, cuts, flushes and reads. It leaves `abXYZfghij`.
-pub fn script<S: Store>(store: &mut S) -> Outcome {
+/// Writes over what was written and past it, cuts, flushes and reads. It leaves `abXYZfghij`. A flush
+/// after a failed one succeeds if the store `heals`.
+pub fn script<S: Store>(store: &mut S, heals: bool) -> Outcome {
     let mut outcome = Outcome {
         failed: 0,
         is_right: true,
@@ -75,7 +77,7 @@ pub fn script<S: Store>(store: &mut S) -> Outcome {
     write(store, 4, b"Z", &mut outcome);
     read(store, b"abXYZfghijklmn", &mut outcome);
     cut(store, 10, &mut outcome);
-    flush(store, &mut outcome);
+    flush(store, heals, &mut outcome);
     read(store, b"abXYZfghij", &mut outcome);
     outcome
 }

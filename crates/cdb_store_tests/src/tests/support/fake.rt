@@ -167,7 +167,7 @@ impl RawFile for FakeFile {
                 Ok(())
             }
             Err(_) => {
-                self.trace.note(&Call::Failed, &[]);
+                self.trace.note(&Call::NotSynced, &[]);
                 Err(RawFault::Failed)
             }
         }
@@ -179,6 +179,10 @@ impl RawFile for FakeFile {
 
     fn refuse(&mut self) {
         self.trace.note(&Call::Refused, &[]);
+    }
+
+    fn refuse_sync(&mut self) {
+        self.trace.note(&Call::NotSynced, &[]);
     }
 
     fn give_up(&mut self, pos: u64, n: u64) {

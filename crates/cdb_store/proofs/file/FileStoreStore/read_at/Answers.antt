@@ -1,7 +1,7 @@
 use Rattle.std.proofs.lemmas.Grind.{common_steps}
 use Rattle.std.proofs.Common.{arith, sym, subst, ◌∙◌, ap, rules}
 use Rattle.cdb_store.specs.Images.{AfterRead}
-use Rattle.cdb_store.specs.Calls.{FileImage, lost}
+use Rattle.cdb_store.specs.Calls.{FileImage, failed_syncs, lost}
 use Rattle.cdb_store.proofs.FileLemmas.{file_gave, long_same, gave_long}
 use Rattle.cdb_store.proofs.file.FileStoreStore.read_at.Goals as goal
 
@@ -9,6 +9,8 @@ pub invariant_of-self : goal.invariant_of-self
 invariant_of-self g c = let s = c.refuse_if_lost.new.self in record {
   bounded = s.bounded;
   known = s.known ∙ sym c.read_all.ensures.untouched.known;
+  sure = λ h. c.read_all.ensures.untouched.syncs ∙ s.sure h;
+  unsure = λ h. omega (arith, c.read_all.ensures.untouched.syncs, s.unsure h);
   long = λ h. long_same s.len c.read_all.ensures.untouched (s.long h);
 }
 
@@ -16,6 +18,8 @@ pub invariant_of-self-2 : goal.invariant_of-self-2
 invariant_of-self-2 g c = let s = c.refuse_if_lost.new.self in record {
   bounded = s.bounded;
   known = s.known ∙ sym c.read_all.ensures.untouched.known ∙ sym (ap lost c.give.ensures);
+  sure = λ h. ap failed_syncs c.give.ensures ∙ c.read_all.ensures.untouched.syncs ∙ s.sure h;
+  unsure = λ h. omega (arith, ap failed_syncs c.give.ensures, c.read_all.ensures.untouched.syncs, s.unsure h);
   long = λ h. gave_long s.len c.args.pos c.read_all.new.into c.read_all.ensures.untouched c.give.ensures (s.long h);
 }
 

@@ -17,6 +17,8 @@ invariant_of-self g c =
     record {
       bounded = omega (arith, c.refuse_if_lost.ensures.len);
       known = c.in_ok-refuse_if_lost.ensures.ok ∙ sym c.write_all.ensures.still_known;
+      sure = λ h. c.write_all.ensures.syncs ∙ s.sure h;
+      unsure = λ h. omega (arith, c.write_all.ensures.syncs, s.unsure h);
       long = λ h. rw (c.max-most.ensures) (put_long c.args.pos s.len c.args.bytes.now (omega (arith, c.refuse_if_lost.ensures.len)) (s.long h) c.in-Ok.ensures.ok);
     }
 
