@@ -1,6 +1,7 @@
 -- One record more stands on a store.
-use Rattle.std.proofs.Common.{◌≡◌, ℕ, ◌+◌, ◌<◌, ◌≤◌, List, [], ◌∷◌, ◌++◌, length, flat_map, get_or, take, length-append, sym, ap, subst, ◌∙◌, arith}
+use Rattle.std.proofs.Common.{◌≡◌, ℕ, ◌+◌, ◌<◌, ◌≤◌, Bool, List, [], ◌∷◌, ◌++◌, length, flat_map, get_or, take, length-append, sym, ap, subst, ◌∙◌, arith}
 use Rattle.std.specs.Prelude.{sum_by, All}
+use Rattle.std.specs.List.{filter}
 use Rattle.std.proofs.lemmas.List.{append-nil}
 use Rattle.std.proofs.lemmas.List.Concat.{flat_map-append}
 use Rattle.std.proofs.lemmas.List.Sums.{sum_by_push}
@@ -11,10 +12,13 @@ use Rattle.cdb_form.specs.Format.Hash.{key_hash, table_number}
 use Rattle.cdb_form.specs.Format.Pair.{WordPair, head_size}
 use Rattle.cdb_form.specs.Format.Record.{KeyValue, record_size, record_bytes}
 use Rattle.cdb_form.proofs.Sizes.{length-record_bytes}
-use Rattle.cdb_make.specs.Stands.{Tells, Stands}
+use Rattle.cdb_form.specs.Format.Record.{records_end}
+use Rattle.cdb_form.specs.Format.Table.{in_table}
+use Rattle.cdb_make.specs.Marks.{TellsMarked, StandMarked, marked_entries}
 use Rattle.cdb_make.specs.Views.EntryList.{AreWithin, HasSpareGaps}
 use Rattle.cdb_make.specs.Views.EntryList.{with_entry}
-use Rattle.cdb_make.proofs.EntryLists.{lists_more}
+use Rattle.cdb_make.proofs.EntryLists.{lists_push}
+use Rattle.cdb_make.proofs.Marks.{entries_marked_push}
 
 -- what an image holds from a place on, and what was written behind that
 held_more : (at n end : ℕ) (a b xs ys : List ℕ) → end ≡ at + n → end ≤ length a → b ≡ overwrite a end ys → part at n a ≡ xs → part at (n + length ys) b ≡ xs ++ ys
@@ -25,14 +29,14 @@ held_more at n end a b xs ys e inside is held =
     ∙ ap (λ v. v ++ part (at + n) (length ys) b) (part_from_take at n end a b (sym e) below ∙ held)
     ∙ ap (λ v. xs ++ v) here
 
-pub stands_more : {w end : ℕ} {ls ls₁ : List (List WordPair)} {rs : List KeyValue} {old new : List ℕ → Type 0} (size last h : ℕ) (r : KeyValue) (ys : List ℕ)
+pub marked_stand_more : {w end : ℕ} {ls ls₁ : List (List WordPair)} {ms : List Bool} {rs : List KeyValue} {old new : List ℕ → Type 0} (size last h : ℕ) (r : KeyValue) (ys : List ℕ)
     → AreSized size old → end ≤ size → h ≡ key_hash r.key → ys ≡ record_bytes w r → last ≡ end + record_size w r → ls₁ ≡ with_entry ls (record { first = h; second = end })
-    → AfterWrite end ys old new → Stands w end ls rs old → Stands w last ls₁ (rs ++ r ∷ []) new
-stands_more {w = w} {end = end} {ls = ls} {ls₁ = ls₁} {rs = rs} size last h r ys sized inside hashed bytes behind added written stands = record {
+    → length ms ≤ length rs → AfterWrite end ys old new → StandMarked w end ls ms rs old → StandMarked w last ls₁ ms (rs ++ r ∷ []) new
+marked_stand_more {w = w} {end = end} {ls = ls} {ls₁ = ls₁} {ms = ms} {rs = rs} size last h r ys sized inside hashed bytes behind added few written stands = record {
   each = λ b is.
       let o = written.no_other b is in
       let a : List ℕ = o.0 in
-      let t : Tells w end ls rs a = stands.each a o.1 in
+      let t : TellsMarked w end ls ms rs a = stands.each a o.1 in
       let l : length a ≡ size = sized.each a o.1 in
       let n : ℕ = sum_by (record_size w) rs in
       let long : length ys ≡ record_size w r = ap length bytes ∙ length-record_bytes w r in
@@ -43,7 +47,11 @@ stands_more {w = w} {end = end} {ls = ls} {ls₁ = ls₁} {rs = rs} size last h 
       record {
         held = ap (λ (k : ℕ). part (head_size w) k b) sum ∙ held_more (head_size w) n end a b (flat_map (record_bytes w) rs) ys here (omega arith) o.2 t.held ∙ sym whole;
         ends = omega (arith, sum_by_push (record_size w) rs r);
-        entries = lists_more w rs r h end ls ls₁ hashed t.ends t.entries added;
+        entries = added ∙ lists_push (marked_entries w ms rs) (marked_entries w ms (rs ++ r ∷ [])) h end ls
+            (λ k.
+            entries_marked_push w k r ms rs few
+            ∙ ap (λ (v : ℕ). marked_entries w ms rs k ++ filter (in_table k) (record { first = v; second = records_end w rs } ∷ [])) (sym hashed)
+            ∙ ap (λ (v : ℕ). marked_entries w ms rs k ++ filter (in_table k) (record { first = h; second = v } ∷ [])) (sym t.ends)) t.entries;
       };
 }
 

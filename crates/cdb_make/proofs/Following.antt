@@ -1,11 +1,12 @@
 -- One maker that comes of another.
-use Rattle.std.proofs.Common.{◌≡◌, ◌≤◌, ◌-◌, ℕ, List, refl, ◌∙◌, arith}
+use Rattle.std.proofs.Common.{◌≡◌, ◌≤◌, ◌-◌, ℕ, List, refl, ap, subst, ◌∙◌, arith}
 use Rattle.cdb_store.specs.Images.{TornWithin}
 use Rattle.cdb_store.specs.Reads.{OnlyReads}
 use Rattle.cdb_store.specs.declared.store.Store.{Ghosts}
 use Rattle.cdb_form.specs.declared.width.Width.{Ghosts as Widths}
 use Rattle.cdb_form.specs.Format.Pair.{head_size}
 use Rattle.cdb_make.specs.Gaps.{AreApart, first_place}
+use Rattle.cdb_make.specs.declared.gap.Gap.{Gap}
 use Rattle.cdb_make.specs.declared.maker.Maker.{Maker}
 use Rattle.cdb_make.specs.Views.Maker.{Follows, SameCounts}
 use Rattle.cdb_make.proofs.FinishedFile.{kept_then}
@@ -40,13 +41,23 @@ pub follows_looked : {S L : Type 0} {s : Ghosts S} {l : Widths L} (old new : Mak
 follows_looked old new reads counts = follows_read old new reads.images counts.limit reads.room reads.failures
 
 -- whose gaps were closed, or were to be
-pub follows_moved : {S L : Type 0} {s : Ghosts S} {l : Widths L} (old new : Maker S L s l) → AreApart (head_size l.WORD) old.gaps.items old.end
-    → TornWithin (first_place old.gaps.items old.end) (old.end - first_place old.gaps.items old.end) (s.image old.store) (s.image new.store)
-    → SameCounts {s = s} {l = l} old new → s.room old.store ≤ s.room new.store → s.failures old.store ≤ s.failures new.store → Follows {s = s} {l = l} old new
-follows_moved {l = l} old new apart torn counts room failures = record {
+pub follows_closed : {S L : Type 0} {s : Ghosts S} {l : Widths L} (old new : Maker S L s l) (gaps : List Gap) → AreApart (head_size l.WORD) gaps old.end
+    → TornWithin (first_place gaps old.end) (old.end - first_place gaps old.end) (s.image old.store) (s.image new.store)
+    → new.limit ≡ old.limit → s.room old.store ≤ s.room new.store → s.failures old.store ≤ s.failures new.store → Follows {s = s} {l = l} old new
+follows_closed {l = l} old new gaps apart torn limit room failures = record {
   comes = comes_torn torn;
-  head = head_moved l.WORD _ _ old.gaps.items apart torn;
-  limit = counts.limit;
+  head = head_moved l.WORD _ _ gaps apart torn;
+  limit = limit;
   room = room;
   failures = failures;
 }
+
+-- those that it noted
+pub follows_moved : {S L : Type 0} {s : Ghosts S} {l : Widths L} (old new : Maker S L s l) → AreApart (head_size l.WORD) old.gaps.items old.end
+    → TornWithin (first_place old.gaps.items old.end) (old.end - first_place old.gaps.items old.end) (s.image old.store) (s.image new.store)
+    → SameCounts {s = s} {l = l} old new → s.room old.store ≤ s.room new.store → s.failures old.store ≤ s.failures new.store → Follows {s = s} {l = l} old new
+follows_moved old new apart torn counts room failures = follows_closed old new old.gaps.items apart torn counts.limit room failures
+
+-- whose store is the same
+pub follows_still : {S L : Type 0} {s : Ghosts S} {l : Widths L} (old new : Maker S L s l) → new.store ≡ old.store → SameCounts {s = s} {l = l} old new → Follows {s = s} {l = l} old new
+follows_still {s = s} old new same counts = follows_read old new (λ b is. subst (λ (v : _). s.image v b) same is) counts.limit (omega (arith, ap s.room same)) (omega (arith, ap s.failures same))

@@ -45,24 +45,14 @@ yes_same n = grind (arith, nat_tests)
 abbrev pub entries_in : ℕ → ℕ → ℕ → List KeyValue → List WordPair
 entries_in n w at rs = filter (in_table n) (entries_from w at rs)
 
--- the entries of the key's table give the gaps of its records
-pub picked_is : (w top at h : ℕ) (k b : List ℕ) (rs : List KeyValue) → top + 1 ≡ 256 ^ w → h ≡ key_hash k → sum_by (record_size w) rs ≤ top → part at (sum_by (record_size w) rs) b ≡ flat_map (record_bytes w) rs
-    → picked w h k b (entries_in (table_number h) w at rs) ≡ gaps_by (has_key k) w at rs
-unfolding entries_from
-picked_is w top at h k b [] words hashed fits e = refl
-picked_is w top at h k b (r ∷ rs) words hashed fits e =
+-- one record before some others
+pub picked_step : (w h at : ℕ) (k b : List ℕ) (r : KeyValue) (es : List WordPair) (gs : List Gap) → h ≡ key_hash k → ReadsAs w at b r → picked w h k b es ≡ gs
+    → picked w h k b (cond (in_table (table_number h) (record { first = key_hash r.key; second = at })) (record { first = key_hash r.key; second = at } ∷ es) es)
+    ≡ cond (has_key k r) (record { place = at; size = record_size w r } ∷ gs) gs
+picked_step w h at k b r es gs hashed reads ih =
     let n : ℕ = record_size w r in
-    let m : ℕ = sum_by (record_size w) rs in
-    let sum : sum_by (record_size w) (r ∷ rs) ≡ n + m = sum_by-cons (record_size w) r rs in
-    let whole : part at (n + m) b ≡ record_bytes w r ++ flat_map (record_bytes w) rs = ap (λ v. part at v b) (sym sum) ∙ e in
-    let here : part at n b ≡ record_bytes w r = part_first at n m b (record_bytes w r) (flat_map (record_bytes w) rs) (length-record_bytes w r) whole in
-    let more : part (at + n) m b ≡ flat_map (record_bytes w) rs = part_second at n m b (record_bytes w r) (flat_map (record_bytes w) rs) (length-record_bytes w r) whole in
-    let reads : ReadsAs w at b r = reads_as w top at b r words (record { first = omega arith; second = omega arith }) here in
     let x : WordPair = record { first = key_hash r.key; second = at } in
-    let es : List WordPair = entries_in (table_number h) w (at + n) rs in
-    let ih : picked w h k b es ≡ gaps_by (has_key k) w (at + n) rs = picked_is w top (at + n) h k b rs words hashed (omega arith) more in
     let g : Gap = record { place = at; size = n } in
-    let gs : List Gap = gaps_by (has_key k) w (at + n) rs in
     let decides = bytes_eq-Decides r.key k in
     elim (has_key k r) as (λ s. has_key k r ≡ s → picked w h k b (cond (in_table (table_number h) x) (x ∷ es) es) ≡ cond s (g ∷ gs) gs) [
       | true ↦ λ q.
@@ -78,6 +68,37 @@ picked_is w top at h k b (r ∷ rs) words hashed fits e =
           ]
     ] refl
 
+-- a record before some others is read, and so are they
+pub record HeldFirst (w at : ℕ) (b : List ℕ) (r : KeyValue) (rs : List KeyValue) : Type 0 where
+  pub reads : ReadsAs w at b r
+  pub more : part (at + record_size w r) (sum_by (record_size w) rs) b ≡ flat_map (record_bytes w) rs
+  pub sum : sum_by (record_size w) (r ∷ rs) ≡ record_size w r + sum_by (record_size w) rs
+
+pub held_first : (w top at : ℕ) (b : List ℕ) (r : KeyValue) (rs : List KeyValue) → top + 1 ≡ 256 ^ w → sum_by (record_size w) (r ∷ rs) ≤ top
+    → part at (sum_by (record_size w) (r ∷ rs)) b ≡ flat_map (record_bytes w) (r ∷ rs) → HeldFirst w at b r rs
+held_first w top at b r rs words fits e =
+    let n : ℕ = record_size w r in
+    let m : ℕ = sum_by (record_size w) rs in
+    let sum : sum_by (record_size w) (r ∷ rs) ≡ n + m = sum_by-cons (record_size w) r rs in
+    let whole : part at (n + m) b ≡ record_bytes w r ++ flat_map (record_bytes w) rs = ap (λ v. part at v b) (sym sum) ∙ e in
+    let here : part at n b ≡ record_bytes w r = part_first at n m b (record_bytes w r) (flat_map (record_bytes w) rs) (length-record_bytes w r) whole in
+    record {
+      reads = reads_as w top at b r words (record { first = omega arith; second = omega arith }) here;
+      more = part_second at n m b (record_bytes w r) (flat_map (record_bytes w) rs) (length-record_bytes w r) whole;
+      sum = sum;
+    }
+
+-- the entries of the key's table give the gaps of its records
+pub picked_is : (w top at h : ℕ) (k b : List ℕ) (rs : List KeyValue) → top + 1 ≡ 256 ^ w → h ≡ key_hash k → sum_by (record_size w) rs ≤ top → part at (sum_by (record_size w) rs) b ≡ flat_map (record_bytes w) rs
+    → picked w h k b (entries_in (table_number h) w at rs) ≡ gaps_by (has_key k) w at rs
+unfolding entries_from
+picked_is w top at h k b [] words hashed fits e = refl
+picked_is w top at h k b (r ∷ rs) words hashed fits e =
+    let n : ℕ = record_size w r in
+    let held : HeldFirst w at b r rs = held_first w top at b r rs words fits e in
+    let total : sum_by (record_size w) (r ∷ rs) ≡ n + sum_by (record_size w) rs = held.sum in
+    picked_step w h at k b r (entries_in (table_number h) w (at + n) rs) (gaps_by (has_key k) w (at + n) rs) hashed held.reads (picked_is w top (at + n) h k b rs words hashed (omega arith) held.more)
+
 -- the entries of any table are chained
 pub chained_is : (w top n from at end : ℕ) (b : List ℕ) (rs : List KeyValue) → top + 1 ≡ 256 ^ w → from ≤ at → end ≡ at + sum_by (record_size w) rs → sum_by (record_size w) rs ≤ top → part at (sum_by (record_size w) rs) b ≡ flat_map (record_bytes w) rs
     → AreChained w from b (entries_in n w at rs) end
@@ -85,17 +106,13 @@ unfolding entries_from
 chained_is w top n from at end b [] words le sum fits e = omega arith
 chained_is w top n from at end b (r ∷ rs) words le sum fits e =
     let m : ℕ = record_size w r in
-    let rest : ℕ = sum_by (record_size w) rs in
-    let s : sum_by (record_size w) (r ∷ rs) ≡ m + rest = sum_by-cons (record_size w) r rs in
-    let whole : part at (m + rest) b ≡ record_bytes w r ++ flat_map (record_bytes w) rs = ap (λ v. part at v b) (sym s) ∙ e in
-    let here : part at m b ≡ record_bytes w r = part_first at m rest b (record_bytes w r) (flat_map (record_bytes w) rs) (length-record_bytes w r) whole in
-    let more : part (at + m) rest b ≡ flat_map (record_bytes w) rs = part_second at m rest b (record_bytes w r) (flat_map (record_bytes w) rs) (length-record_bytes w r) whole in
-    let reads : ReadsAs w at b r = reads_as w top at b r words (record { first = omega arith; second = omega arith }) here in
+    let held : HeldFirst w at b r rs = held_first w top at b r rs words fits e in
+    let total : sum_by (record_size w) (r ∷ rs) ≡ m + sum_by (record_size w) rs = held.sum in
     let x : WordPair = record { first = key_hash r.key; second = at } in
     let es : List WordPair = entries_in n w (at + m) rs in
     elim (in_table n x) as (λ t. AreChained w from b (cond t (x ∷ es) es) end) [
-      | true ↦ (le, subst (λ (v : ℕ). AreChained w (at + v) b es end) (sym reads.size) (chained_is w top n (at + m) (at + m) end b rs words (omega arith) (omega arith) (omega arith) more))
-      | false ↦ chained_is w top n from (at + m) end b rs words (omega arith) (omega arith) (omega arith) more
+      | true ↦ (le, subst (λ (v : ℕ). AreChained w (at + v) b es end) (sym held.reads.size) (chained_is w top n (at + m) (at + m) end b rs words (omega arith) (omega arith) (omega arith) held.more))
+      | false ↦ chained_is w top n from (at + m) end b rs words (omega arith) (omega arith) (omega arith) held.more
     ]
 
 -- as many gaps as records that a test picks

@@ -82,7 +82,7 @@ rising_drop zero es h = h
 rising_drop (suc k) [] h = tt
 rising_drop (suc k) (e ∷ es) h = rising_drop k es (rising_lower 0 (e.second + 1) es (omega arith) h.1)
 
-rising_least : (p j d : ℕ) (hs ps : List ℕ) → length hs ≡ length ps → IsRising p (entries_of hs ps) → j < length ps → p ≤ get_or ps j d
+pub rising_least : (p j d : ℕ) (hs ps : List ℕ) → length hs ≡ length ps → IsRising p (entries_of hs ps) → j < length ps → p ≤ get_or ps j d
 rising_least p j d [] [] e h lt = absurd (omega arith)
 rising_least p j d [] (q ∷ ps) e h lt = absurd (omega arith)
 rising_least p j d (h ∷ hs) [] e r lt = absurd (omega arith)

@@ -30,7 +30,7 @@ closed_filter n s gs (e ∷ es) =
 pub size_above : (w : ℕ) (r : KeyValue) → 0 < w → 0 < record_size w r
 size_above w r h = omega arith
 
-gap_here : (g : Gap) (gs : List Gap) (q : ℕ) → g.place ≡ q → is_gap (g ∷ gs) q ≡ true
+pub gap_here : (g : Gap) (gs : List Gap) (q : ℕ) → g.place ≡ q → is_gap (g ∷ gs) q ≡ true
 gap_here g gs q h = grind (arith, nat_tests)
 
 pub gap_other : (g : Gap) (gs : List Gap) (q : ℕ) → (g.place ≡ q → ⊥) → is_gap (g ∷ gs) q ≡ is_gap gs q
@@ -53,6 +53,16 @@ rising_entries w p h (r ∷ rs) = (
   (omega arith),
   (let a : 0 < record_size w r = size_above w r h in rising_lower (p + 1) (p + record_size w r) (entries_from w (p + record_size w r) rs) (omega arith) (rising_entries w (p + record_size w r) h rs)),
 )
+
+pub rising_filter : (n p : ℕ) (es : List WordPair) → IsRising p es → IsRising p (filter (in_table n) es)
+rising_filter n p [] h = tt
+rising_filter n p (e ∷ es) h =
+    let k : p ≤ e.second = h.0 in
+    let t : IsRising (e.second + 1) (filter (in_table n) es) = rising_filter n (e.second + 1) es h.1 in
+    elim (in_table n e) as (λ v. IsRising p (cond v (e ∷ filter (in_table n) es) (filter (in_table n) es))) [
+      | true ↦ (k, t)
+      | false ↦ rising_lower p (e.second + 1) (filter (in_table n) es) (omega arith) t
+    ]
 
 -- the first gap stands before all entries
 pub closed_past : (s t : ℕ) (g : Gap) (gs : List Gap) (es : List WordPair) (p : ℕ) → t ≡ s + g.size → g.place < p → IsRising p es → closed_by s (g ∷ gs) es ≡ closed_by t gs es
@@ -143,8 +153,3 @@ unfolding table_entries
 table_closed n w ms rs pos =
     ap (filter (in_table n)) (sym (entries_closed w 0 (head_size w) (head_size w) pos (omega arith) ms rs))
     ∙ sym (closed_filter n 0 (marked_gaps w (head_size w) ms rs) (entries_from w (head_size w) rs))
-
--- and once those that a test picks are
-pub table_closed_by : (goes : KeyValue → Bool) (n w : ℕ) (rs : List KeyValue) → 0 < w
-    → table_entries w (filter (λ r. not (goes r)) rs) n ≡ closed_by 0 (gaps_by goes w (head_size w) rs) (table_entries w rs n)
-table_closed_by goes n w rs pos = ap (λ v. table_entries w v n) (sym (unmarked_by goes rs)) ∙ table_closed n w (map goes rs) rs pos

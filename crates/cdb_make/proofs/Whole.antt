@@ -16,70 +16,93 @@ use Rattle.cdb_form.specs.Format.Table.{entries_from, in_table, table_entries}
 use Rattle.cdb_form.proofs.Sizes.{length-records}
 use Rattle.cdb_make.specs.declared.gap.Gap.{Gap}
 use Rattle.cdb_make.specs.declared.list.EntryList.{EntryList}
-use Rattle.cdb_make.specs.Gaps.{AreApart, IsRising, Closed, closed_by, gaps_by, first_place, kept_len}
+use Rattle.cdb_make.specs.Gaps.{AreApart, IsRising, Closed, closed_by, gaps_by, marked_gaps, unmarked, first_place, kept_len}
 use Rattle.cdb_make.specs.Looks.{picked, Picks, TellsThere, NoNewImage, AreChained, NoneChained}
+use Rattle.cdb_make.specs.Marks.{TellsMarked, StandMarked, AreMarked, WritesPass, marked_entry, marked_from, marked_entries, fresh, behind_mark}
 use Rattle.cdb_make.specs.Stands.{Tells, Stands, gaps_of, AreGapsOf, IsCount, IsThere, WritesSurvivors}
 use Rattle.cdb_make.specs.Survivors.{has_key, is_there, without, behind_first}
 use Rattle.cdb_make.specs.Views.EntryList.{list_entries, lists_entries, AreClosed}
-use Rattle.cdb_make.proofs.Found.{picked_is, chained_is, length-gaps_by, some_gap}
-use Rattle.cdb_make.proofs.Places.{table_closed_by, rising_entries, rising_lower}
-use Rattle.cdb_make.proofs.Survive.{survivors_held, behind_count}
+use Rattle.cdb_make.proofs.Found.{length-gaps_by}
+use Rattle.cdb_make.proofs.MarkedLooks.{picked_marked, chained_marked}
+use Rattle.cdb_make.proofs.Marks.{marked_none, marked_rising, marked_closed, fresh_there, unmarked_sizes}
+use Rattle.cdb_make.proofs.Places.{table_closed, unmarked_by}
+use Rattle.cdb_make.proofs.Survive.{survivors_held, behind_count, behind_by}
+
+map_same : {A B : Type 0} (f g : A → B) → ((a : A) → f a ≡ g a) → (xs : List A) → map f xs ≡ map g xs
+map_same f g same [] = refl
+map_same f g same (x ∷ xs) = ap (λ v. v ∷ map f xs) (same x) ∙ ap (λ v. g x ∷ v) (map_same f g same xs)
 
 -- the list of a table has its entries
-pub list_of_table : (w n : ℕ) (ls : List EntryList) (d : EntryList) (rs : List KeyValue) → length ls ≡ 256 → n < 256 → lists_entries ls ≡ map (table_entries w rs) (range_with_len 0 256)
-    → list_entries (get_or ls n d) ≡ table_entries w rs n
-list_of_table w n ls d rs long lt e =
-    sym (get_or-map list_entries ls n d [] (omega arith)) ∙ ap (λ v. get_or v n []) e ∙ get_or-map-range_with_len (table_entries w rs) 0 256 n n [] lt (omega arith)
+pub list_of_table : (f : ℕ → List WordPair) (n : ℕ) (ls : List EntryList) (d : EntryList) → length ls ≡ 256 → n < 256 → lists_entries ls ≡ map f (range_with_len 0 256)
+    → list_entries (get_or ls n d) ≡ f n
+list_of_table f n ls d long lt e =
+    sym (get_or-map list_entries ls n d [] (omega arith)) ∙ ap (λ v. get_or v n []) e ∙ get_or-map-range_with_len f 0 256 n n [] lt (omega arith)
+
+-- records that stand do so without marks
+pub stand_marked : {w end : ℕ} {ls : List (List WordPair)} {rs : List KeyValue} {images : List ℕ → Type 0} → Stands w end ls rs images → StandMarked w end ls [] rs images
+stand_marked {w = w} {rs = rs} stands = record {
+  each = λ b is.
+      let t = stands.each b is in
+      record { held = t.held; ends = t.ends; entries = t.entries ∙ sym (ap (λ f. map f (range_with_len 0 256)) (marked_none w rs)) };
+}
+
+pub marked_stand : {w end : ℕ} {ls : List (List WordPair)} {rs : List KeyValue} {images : List ℕ → Type 0} → StandMarked w end ls [] rs images → Stands w end ls rs images
+marked_stand {w = w} {rs = rs} stands = record {
+  each = λ b is.
+      let t = stands.each b is in
+      record { held = t.held; ends = t.ends; entries = t.entries ∙ ap (λ f. map f (range_with_len 0 256)) (marked_none w rs) };
+}
 
 record_bytes_fit : (w top end : ℕ) (rs : List KeyValue) → end ≡ records_end w rs → end ≤ top → sum_by (record_size w) rs ≤ top
 record_bytes_fit w top end rs e le = let k : end ≡ head_size w + sum_by (record_size w) rs = e in omega arith
 
--- the gaps that were found are those of the key's records
-pub gaps_found : {w h : ℕ} {k : List ℕ} {gs : List Gap} {es : List WordPair} {old new : List ℕ → Type 0} (top end : ℕ) (ls : List EntryList) (d : EntryList) (rs : List KeyValue)
+-- the gaps that were found are those of the key's records that have no mark
+pub gaps_found : {w h : ℕ} {k : List ℕ} {gs : List Gap} {es : List WordPair} {old new : List ℕ → Type 0} (top end : ℕ) (ls : List EntryList) (d : EntryList) (ms : List Bool) (rs : List KeyValue)
     → top + 1 ≡ 256 ^ w → end ≤ top → length ls ≡ 256 → h ≡ key_hash k → es ≡ list_entries (get_or ls (table_number h) d)
-    → NoNewImage old new → Stands w end (lists_entries ls) rs old → Picks w h k gs es new → AreGapsOf w k gs rs new
-unfolding table_entries
-gaps_found {w = w} {h = h} {k = k} {gs = gs} {es = es} top end ls d rs words fits long hashed here few stands picks = record {
+    → NoNewImage old new → StandMarked w end (lists_entries ls) ms rs old → Picks w h k gs es new → AreMarked w gs (fresh k ms rs) rs new
+gaps_found {w = w} {h = h} {k = k} {gs = gs} {es = es} top end ls d ms rs words fits long hashed here few stands picks = record {
   each = λ b is.
-      let t : Tells w end (lists_entries ls) rs b = stands.each b (few.no_other b is) in
+      let t : TellsMarked w end (lists_entries ls) ms rs b = stands.each b (few.no_other b is) in
       let small : table_number h < 256 = omega arith in
-      let whole : es ≡ table_entries w rs (table_number h) = here ∙ list_of_table w (table_number h) ls d rs long small t.entries in
+      let whole : es ≡ marked_entries w ms rs (table_number h) = here ∙ list_of_table (marked_entries w ms rs) (table_number h) ls d long small t.entries in
       picks.each b is
       ∙ ap (λ (v : List WordPair). picked w h k b v) whole
-      ∙ picked_is w top (head_size w) h k b rs words hashed (record_bytes_fit w top end rs t.ends fits) t.held;
+      ∙ picked_marked w top (head_size w) h k b ms rs words hashed (record_bytes_fit w top end rs t.ends fits) t.held;
 }
+
+-- where none is marked they are those of the key
+pub gaps_of_key : {w : ℕ} {k : List ℕ} {gs : List Gap} {rs : List KeyValue} {images : List ℕ → Type 0} → AreMarked w gs (fresh k [] rs) rs images → AreGapsOf w k gs rs images
+gaps_of_key found = record { each = λ b is. found.each b is }
 
 pub count_found : {w : ℕ} {k : List ℕ} {gs : List Gap} {rs : List KeyValue} {images : List ℕ → Type 0} → AreGapsOf w k gs rs images → IsCount (length gs) k rs images
 count_found {w = w} {k = k} {rs = rs} found = record { each = λ b is. ap length (found.each b is) ∙ length-gaps_by (has_key k) w (head_size w) rs }
 
 -- whether one was found
-pub there_found : {w h : ℕ} {k : List ℕ} {es : List WordPair} {old new : List ℕ → Type 0} (there : Bool) (top end : ℕ) (ls : List EntryList) (d : EntryList) (rs : List KeyValue)
+pub there_found : {w h : ℕ} {k : List ℕ} {es : List WordPair} {old new : List ℕ → Type 0} (there : Bool) (top end : ℕ) (ls : List EntryList) (d : EntryList) (ms : List Bool) (rs : List KeyValue)
     → top + 1 ≡ 256 ^ w → end ≤ top → length ls ≡ 256 → h ≡ key_hash k → es ≡ list_entries (get_or ls (table_number h) d)
-    → NoNewImage old new → Stands w end (lists_entries ls) rs old → TellsThere w h k there es new → IsThere there k rs new
-unfolding table_entries
-there_found {w = w} {h = h} {k = k} {es = es} there top end ls d rs words fits long hashed here few stands tells = record {
+    → NoNewImage old new → StandMarked w end (lists_entries ls) ms rs old → TellsThere w h k there es new → IsThere there k (unmarked ms rs) new
+there_found {w = w} {h = h} {k = k} {es = es} there top end ls d ms rs words fits long hashed here few stands tells = record {
   each = λ b is.
-      let t : Tells w end (lists_entries ls) rs b = stands.each b (few.no_other b is) in
+      let t : TellsMarked w end (lists_entries ls) ms rs b = stands.each b (few.no_other b is) in
       let small : table_number h < 256 = omega arith in
-      let whole : es ≡ table_entries w rs (table_number h) = here ∙ list_of_table w (table_number h) ls d rs long small t.entries in
-      let same : picked w h k b es ≡ gaps_of w k rs =
+      let whole : es ≡ marked_entries w ms rs (table_number h) = here ∙ list_of_table (marked_entries w ms rs) (table_number h) ls d long small t.entries in
+      let same : picked w h k b es ≡ marked_gaps w (head_size w) (fresh k ms rs) rs =
       ap (λ (v : List WordPair). picked w h k b v) whole
-      ∙ picked_is w top (head_size w) h k b rs words hashed (record_bytes_fit w top end rs t.ends fits) t.held in
-      same_from_decides there (is_there k rs) (subst (λ (v : List Gap). Decides there (0 < length v)) same (tells.each b is)) (some_gap (has_key k) w (head_size w) rs);
+      ∙ picked_marked w top (head_size w) h k b ms rs words hashed (record_bytes_fit w top end rs t.ends fits) t.held in
+      same_from_decides there (is_there k (unmarked ms rs)) (subst (λ (v : List Gap). Decides there (0 < length v)) same (tells.each b is)) (fresh_there k w (head_size w) ms rs);
 }
 
 -- where they aren't chained, they didn't stand
-pub none_stands : {w start : ℕ} {es : List WordPair} {old new : List ℕ → Type 0} (h top end : ℕ) (ls : List EntryList) (d : EntryList) (rs : List KeyValue)
+pub none_stands : {w start : ℕ} {es : List WordPair} {old new : List ℕ → Type 0} (h top end : ℕ) (ls : List EntryList) (d : EntryList) (ms : List Bool) (rs : List KeyValue)
     → top + 1 ≡ 256 ^ w → end ≤ top → length ls ≡ 256 → start ≤ head_size w → es ≡ list_entries (get_or ls (table_number h) d)
-    → NoNewImage old new → Stands w end (lists_entries ls) rs old → NoneChained w start es end new → HasNoImage new
-unfolding table_entries
-none_stands {w = w} {start = start} {es = es} h top end ls d rs words fits long low here few stands none b is =
-    let t : Tells w end (lists_entries ls) rs b = stands.each b (few.no_other b is) in
+    → NoNewImage old new → StandMarked w end (lists_entries ls) ms rs old → NoneChained w start es end new → HasNoImage new
+none_stands {w = w} {start = start} {es = es} h top end ls d ms rs words fits long low here few stands none b is =
+    let t : TellsMarked w end (lists_entries ls) ms rs b = stands.each b (few.no_other b is) in
     let small : table_number h < 256 = omega arith in
-    let whole : es ≡ table_entries w rs (table_number h) = here ∙ list_of_table w (table_number h) ls d rs long small t.entries in
+    let whole : es ≡ marked_entries w ms rs (table_number h) = here ∙ list_of_table (marked_entries w ms rs) (table_number h) ls d long small t.entries in
     none.each b is
     (subst (λ (v : List WordPair). AreChained w start b v end) (sym whole)
-    (chained_is w top (table_number h) start (head_size w) end b rs words low t.ends (record_bytes_fit w top end rs t.ends fits) t.held))
+    (chained_marked w top (table_number h) start (head_size w) end b ms rs words low t.ends (record_bytes_fit w top end rs t.ends fits) t.held))
 
 -- the gaps are no more than what lies between
 pub apart_sizes : (from : ℕ) (gs : List Gap) (end : ℕ) → AreApart from gs end → from + sum_by (λ g. g.size) gs ≤ end
@@ -91,77 +114,76 @@ apart_sizes from (g ∷ gs) end h =
     let k : from ≤ g.place = h.0 in
     omega arith
 
-rising_filter : (n p : ℕ) (es : List WordPair) → IsRising p es → IsRising p (filter (in_table n) es)
-rising_filter n p [] h = tt
-rising_filter n p (e ∷ es) h =
-    let k : p ≤ e.second = h.0 in
-    let t : IsRising (e.second + 1) (filter (in_table n) es) = rising_filter n (e.second + 1) es h.1 in
-    elim (in_table n e) as (λ v. IsRising p (cond v (e ∷ filter (in_table n) es) (filter (in_table n) es))) [
-      | true ↦ (k, t)
-      | false ↦ rising_lower p (e.second + 1) (filter (in_table n) es) (omega arith) t
-    ]
-
-rising_table : (w n : ℕ) (rs : List KeyValue) → 0 < w → IsRising 0 (table_entries w rs n)
-unfolding table_entries
-rising_table w n rs pos = rising_filter n 0 (entries_from w (head_size w) rs) (rising_lower 0 (head_size w) (entries_from w (head_size w) rs) (omega arith) (rising_entries w (head_size w) pos rs))
-
 -- the sizes of the gaps, and of the records that stay
 pub gaps_sum : (goes : KeyValue → Bool) (w at : ℕ) (rs : List KeyValue) → sum_by (λ g. g.size) (gaps_by goes w at rs) + sum_by (record_size w) (filter (λ r. not (goes r)) rs) ≡ sum_by (record_size w) rs
-gaps_sum goes w at [] = refl
-gaps_sum goes w at (r ∷ rs) =
-    let n : ℕ = record_size w r in
-    let g : Gap = record { place = at; size = n } in
-    let gs : List Gap = gaps_by goes w (at + n) rs in
-    let fs : List KeyValue = filter (λ r. not (goes r)) rs in
-    let f : Gap → ℕ = λ g. g.size in
-    let t : sum_by f gs + sum_by (record_size w) fs ≡ sum_by (record_size w) rs = gaps_sum goes w (at + n) rs in
-    let s : sum_by (record_size w) (r ∷ rs) ≡ n + sum_by (record_size w) rs = sum_by-cons (record_size w) r rs in
-    let a : sum_by f (g ∷ gs) ≡ n + sum_by f gs = sum_by-cons f g gs in
-    let b : sum_by (record_size w) (r ∷ fs) ≡ n + sum_by (record_size w) fs = sum_by-cons (record_size w) r fs in
-    elim (goes r) as (λ v. sum_by f (cond v (g ∷ gs) gs) + sum_by (record_size w) (cond (not v) (r ∷ fs) fs) ≡ sum_by (record_size w) (r ∷ rs)) [ true ↦ omega arith | false ↦ omega arith ]
+gaps_sum goes w at rs = ap (λ v. sum_by (λ g. g.size) (gaps_by goes w at rs) + sum_by (record_size w) v) (sym (unmarked_by goes rs)) ∙ unmarked_sizes w at (map goes rs) rs
 
 first_list : (ls : List EntryList) → 0 < length ls → EntryList
 first_list [] h = absurd (omega arith)
 first_list (l ∷ ls) h = l
 
 -- the lists of what stays
-lists_closed : (w : ℕ) (goes : KeyValue → Bool) (gs : List Gap) (ls ls₁ : List EntryList) (rs : List KeyValue) → 0 < w → length ls ≡ 256 → gs ≡ gaps_by goes w (head_size w) rs → AreClosed gs ls ls₁
-    → lists_entries ls ≡ map (table_entries w rs) (range_with_len 0 256) → lists_entries ls₁ ≡ map (table_entries w (filter (λ r. not (goes r)) rs)) (range_with_len 0 256)
-lists_closed w goes gs ls ls₁ rs pos long same closed e =
+lists_closed : (w : ℕ) (ns ms : List Bool) (gs : List Gap) (ls ls₁ : List EntryList) (rs : List KeyValue) → 0 < w → length ls ≡ 256 → gs ≡ marked_gaps w (head_size w) ns rs → AreClosed gs ls ls₁
+    → ((n : ℕ) → closed_by 0 (marked_gaps w (head_size w) ns rs) (marked_entries w ms rs n) ≡ table_entries w (unmarked ns rs) n)
+    → lists_entries ls ≡ map (marked_entries w ms rs) (range_with_len 0 256) → lists_entries ls₁ ≡ map (table_entries w (unmarked ns rs)) (range_with_len 0 256)
+lists_closed w ns ms gs ls ls₁ rs pos long same closed goes e =
     let d : EntryList = first_list ls (omega arith) in
-    let fs : List KeyValue = filter (λ r. not (goes r)) rs in
-    fill_by_all (table_entries w fs) (lists_entries ls₁) 256 [] (length-map ls₁ list_entries ∙ closed.long ∙ long) (λ n lt.
-    let o : list_entries (get_or ls n d) ≡ table_entries w rs n = list_of_table w n ls d rs long lt e in
-    let rise : IsRising 0 (list_entries (get_or ls n d)) = subst (λ (v : List WordPair). IsRising 0 v) (sym o) (rising_table w n rs pos) in
+    fill_by_all (table_entries w (unmarked ns rs)) (lists_entries ls₁) 256 [] (length-map ls₁ list_entries ∙ closed.long ∙ long) (λ n lt.
+    let o : list_entries (get_or ls n d) ≡ marked_entries w ms rs n = list_of_table (marked_entries w ms rs) n ls d long lt e in
+    let rise : IsRising 0 (list_entries (get_or ls n d)) = subst (λ (v : List WordPair). IsRising 0 v) (sym o) (marked_rising n w 0 (head_size w) pos (omega arith) ms rs) in
     get_or-map list_entries ls₁ n d [] (omega (arith, closed.long))
     ∙ (closed.each n d (omega arith)).entries rise
     ∙ ap (λ (v : List Gap). closed_by 0 v (list_entries (get_or ls n d))) same
-    ∙ ap (closed_by 0 (gaps_by goes w (head_size w) rs)) o
-    ∙ sym (table_closed_by goes n w rs pos))
+    ∙ ap (closed_by 0 (marked_gaps w (head_size w) ns rs)) o
+    ∙ goes n)
 
-pub stands_after : {w end : ℕ} {k : List ℕ} {gs : List Gap} {ls ls₁ : List EntryList} {rs : List KeyValue} {old new : List ℕ → Type 0} (size last : ℕ)
-    → 0 < w → end ≤ size → length ls ≡ 256 → AreSized size old → last ≡ end - sum_by (λ g. g.size) gs → AreGapsOf w k gs rs old
-    → Stands w end (lists_entries ls) rs old → Closed (first_place gs end) gs end old new → AreClosed gs ls ls₁
-    → Stands w last (lists_entries ls₁) (without k rs) new
-stands_after {w = w} {end = end} {k = k} {gs = gs} {ls = ls} {ls₁ = ls₁} {rs = rs} {old = old} {new = new} size last pos inside long sized sum found stands closed lowered = record {
+-- once the gaps of some records are closed, where their entries went
+pub stands_closed : {w end : ℕ} {gs : List Gap} {ls ls₁ : List EntryList} {rs : List KeyValue} {old new : List ℕ → Type 0} (ns ms : List Bool) (size last : ℕ)
+    → 0 < w → end ≤ size → length ls ≡ 256 → AreSized size old → last ≡ end - sum_by (λ g. g.size) gs
+    → ((n : ℕ) → closed_by 0 (marked_gaps w (head_size w) ns rs) (marked_entries w ms rs n) ≡ table_entries w (unmarked ns rs) n) → AreMarked w gs ns rs old
+    → StandMarked w end (lists_entries ls) ms rs old → Closed (first_place gs end) gs end old new → AreClosed gs ls ls₁
+    → Stands w last (lists_entries ls₁) (unmarked ns rs) new
+stands_closed {w = w} {end = end} {gs = gs} {ls = ls} {ls₁ = ls₁} {rs = rs} {old = old} {new = new} ns ms size last pos inside long sized sum goes found stands closed lowered = record {
   each = λ b is.
       let a : List ℕ = (closed.each b is).0 in
       let was : old a = (closed.each b is).1 in
       let at : ℕ = head_size w in
-      let t : Tells w end (lists_entries ls) rs a = stands.each a was in
-      let e : gs ≡ gaps_of w k rs = found.each a was in
+      let t : TellsMarked w end (lists_entries ls) ms rs a = stands.each a was in
+      let own : List Gap = marked_gaps w at ns rs in
+      let left : List KeyValue = unmarked ns rs in
+      let e : gs ≡ own = found.each a was in
       let held : Holds at (flat_map (record_bytes w) rs) old =
       record { each = λ x xs. ap (λ v. part at v x) (length-records w rs) ∙ (stands.each x xs).held } in
-      let c : Closed (first_place (gaps_of w k rs) end) (gaps_of w k rs) end old new = subst (λ (v : List Gap). Closed (first_place v end) v end old new) e closed in
-      let h : Holds at (flat_map (record_bytes w) (without k rs)) new = survivors_held (has_key k) w at end size rs t.ends inside sized held c in
-      let s = gaps_sum (has_key k) w at rs in
-      let g : sum_by (λ g. g.size) gs ≡ sum_by (λ g. g.size) (gaps_of w k rs) = ap (sum_by (λ g. g.size)) e in
+      let c : Closed (first_place own end) own end old new = subst (λ (v : List Gap). Closed (first_place v end) v end old new) e closed in
+      let h : Holds at (flat_map (record_bytes w) left) new = survivors_held ns w at end size rs t.ends inside sized held c in
+      let s = unmarked_sizes w at ns rs in
+      let g : sum_by (λ g. g.size) gs ≡ sum_by (λ g. g.size) own = ap (sum_by (λ g. g.size)) e in
       record {
-        held = ap (λ v. part at v b) (sym (length-records w (without k rs))) ∙ h.each b is;
+        held = ap (λ v. part at v b) (sym (length-records w left)) ∙ h.each b is;
         ends = (let k : end ≡ at + sum_by (record_size w) rs = t.ends in omega arith);
-        entries = lists_closed w (has_key k) gs ls ls₁ rs pos long e lowered t.entries;
+        entries = lists_closed w ns ms gs ls ls₁ rs pos long e lowered goes t.entries;
       };
 }
+
+-- the records of a key, of which none is marked
+pub stands_after : {w end : ℕ} {k : List ℕ} {gs : List Gap} {ls ls₁ : List EntryList} {rs : List KeyValue} {old new : List ℕ → Type 0} (size last : ℕ)
+    → 0 < w → end ≤ size → length ls ≡ 256 → AreSized size old → last ≡ end - sum_by (λ g. g.size) gs → AreGapsOf w k gs rs old
+    → Stands w end (lists_entries ls) rs old → Closed (first_place gs end) gs end old new → AreClosed gs ls ls₁
+    → Stands w last (lists_entries ls₁) (without k rs) new
+stands_after {w = w} {end = end} {k = k} {gs = gs} {ls = ls} {ls₁ = ls₁} {rs = rs} {old = old} {new = new} size last pos inside long sized sum found stands closed lowered =
+    let ns : List Bool = map (has_key k) rs in
+    subst (λ (v : List KeyValue). Stands w last (lists_entries ls₁) v new) (unmarked_by (has_key k) rs)
+    (stands_closed ns [] size last pos inside long sized sum
+    (λ n. ap (λ (f : ℕ → List WordPair). closed_by 0 (marked_gaps w (head_size w) ns rs) (f n)) (marked_none w rs) ∙ sym (table_closed n w ns rs pos))
+    (record { each = λ b is. found.each b is }) (stand_marked stands) closed lowered)
+
+-- those that are marked
+pub stands_settled : {w end : ℕ} {gs : List Gap} {ls ls₁ : List EntryList} {old new : List ℕ → Type 0} (ms : List Bool) (rs : List KeyValue) (size last : ℕ)
+    → 0 < w → end ≤ size → length ls ≡ 256 → AreSized size old → last ≡ end - sum_by (λ g. g.size) gs → AreMarked w gs ms rs old
+    → StandMarked w end (lists_entries ls) ms rs old → Closed (first_place gs end) gs end old new → AreClosed gs ls ls₁
+    → Stands w last (lists_entries ls₁) (unmarked ms rs) new
+stands_settled {w = w} ms rs size last pos inside long sized sum found stands closed lowered =
+    stands_closed ms ms size last pos inside long sized sum (λ n. marked_closed n w ms rs pos) found stands closed lowered
 
 -- where there is no gap, nothing goes
 closed_none : (es : List WordPair) → closed_by 0 [] es ≡ es
@@ -217,14 +239,74 @@ writes_none {w = w} {k = k} {rs = rs} n e found = record {
       omega arith;
 }
 
+-- of marked records too
+none_unmarked : (w at : ℕ) (ms : List Bool) (rs : List KeyValue) → marked_gaps w at ms rs ≡ [] → unmarked ms rs ≡ rs
+none_unmarked w at [] rs e = refl
+none_unmarked w at (m ∷ ms) [] e = refl
+none_unmarked w at (m ∷ ms) (r ∷ rs) e =
+    let g : Gap = record { place = at; size = record_size w r } in
+    let gs : List Gap = marked_gaps w (at + record_size w r) ms rs in
+    let us : List KeyValue = unmarked ms rs in
+    elim m as (λ m. cond m (g ∷ gs) gs ≡ [] → cond m us (r ∷ us) ≡ r ∷ rs) [ true ↦ λ h. absurd (omega (arith, ap length h)) | false ↦ λ h. ap (λ v. r ∷ v) (none_unmarked w (at + record_size w r) ms rs h) ] e
+
+none_moved : (w at : ℕ) (ms : List Bool) (rs : List KeyValue) → marked_gaps w at ms rs ≡ [] → behind_mark ms rs ≡ []
+none_moved w at [] rs e = refl
+none_moved w at (m ∷ ms) [] e = refl
+none_moved w at (m ∷ ms) (r ∷ rs) e =
+    let g : Gap = record { place = at; size = record_size w r } in
+    let gs : List Gap = marked_gaps w (at + record_size w r) ms rs in
+    elim m as (λ m. cond m (g ∷ gs) gs ≡ [] → cond m (unmarked ms rs) (behind_mark ms rs) ≡ []) [ true ↦ λ h. absurd (omega (arith, ap length h)) | false ↦ none_moved w (at + record_size w r) ms rs ] e
+
+none_marked : (n w at : ℕ) (ms : List Bool) (rs : List KeyValue) → marked_gaps w at ms rs ≡ [] → marked_from n w at ms rs ≡ filter (in_table n) (entries_from w at rs)
+unfolding entries_from
+none_marked n w at [] rs e = refl
+none_marked n w at (m ∷ ms) [] e = refl
+none_marked n w at (m ∷ ms) (r ∷ rs) e =
+    let g : Gap = record { place = at; size = record_size w r } in
+    let x : WordPair = record { first = key_hash r.key; second = at } in
+    let gs : List Gap = marked_gaps w (at + record_size w r) ms rs in
+    let es : List WordPair = marked_from n w (at + record_size w r) ms rs in
+    let fs : List WordPair = filter (in_table n) (entries_from w (at + record_size w r) rs) in
+    elim m as (λ m. cond m (g ∷ gs) gs ≡ [] → cond (in_table n x) (marked_entry m x ∷ es) es ≡ cond (in_table n x) (x ∷ fs) fs) [
+      | true ↦ λ h. absurd (omega (arith, ap length h))
+      | false ↦ λ h. ap (λ v. cond (in_table n x) (x ∷ v) v) (none_marked n w (at + record_size w r) ms rs h)
+    ] e
+
+tables_unmarked : (w : ℕ) (ms : List Bool) (rs : List KeyValue) → marked_gaps w (head_size w) ms rs ≡ [] → map (marked_entries w ms rs) (range_with_len 0 256) ≡ map (table_entries w rs) (range_with_len 0 256)
+unfolding table_entries
+tables_unmarked w ms rs e = map_same (marked_entries w ms rs) (table_entries w rs) (λ n. none_marked n w (head_size w) ms rs e) (range_with_len 0 256)
+
+pub marked_still : {w end : ℕ} {gs : List Gap} {ls : List (List WordPair)} {ms : List Bool} {rs : List KeyValue} {images : List ℕ → Type 0} → gs ≡ [] → AreMarked w gs ms rs images
+    → StandMarked w end ls ms rs images → Stands w end ls (unmarked ms rs) images
+marked_still {w = w} {end = end} {ls = ls} {ms = ms} {rs = rs} e found stands = record {
+  each = λ b is.
+      let t : TellsMarked w end ls ms rs b = stands.each b is in
+      let none : marked_gaps w (head_size w) ms rs ≡ [] = sym (found.each b is) ∙ e in
+      subst (λ (v : List KeyValue). Tells w end ls v b) (sym (none_unmarked w (head_size w) ms rs none)) (record { held = t.held; ends = t.ends; entries = t.entries ∙ tables_unmarked w ms rs none });
+}
+
+pub marked_none_written : {w : ℕ} {gs : List Gap} {ms : List Bool} {rs : List KeyValue} {images : List ℕ → Type 0} (n : ℕ) → gs ≡ [] → AreMarked w gs ms rs images → WritesPass w ms rs images n n
+marked_none_written {w = w} {ms = ms} {rs = rs} n e found = record {
+  each = λ b is.
+      let none : sum_by (record_size w) (behind_mark ms rs) ≡ 0 = ap (sum_by (record_size w)) (none_moved w (head_size w) ms rs (sym (found.each b is) ∙ e)) in
+      omega arith;
+}
+
 -- what closing the gaps writes
+pub writes_marked : {w end : ℕ} {gs : List Gap} {ls : List (List WordPair)} {old new : List ℕ → Type 0} (ns ms : List Bool) (rs : List KeyValue) (before now : ℕ)
+    → now ≡ before + kept_len (first_place gs end) gs end → AreMarked w gs ns rs old → StandMarked w end ls ms rs old → Closed (first_place gs end) gs end old new
+    → (b : List ℕ) → new b → now ≡ before + sum_by (record_size w) (behind_mark ns rs)
+writes_marked {w = w} {end = end} ns ms rs before now sum found stands closed b is =
+    let h = closed.each b is in
+    let t = stands.each h.0 h.1 in
+    sum ∙ ap (λ (v : List Gap). before + kept_len (first_place v end) v end) (found.each h.0 h.1) ∙ ap (λ v. before + v) (behind_count w (head_size w) end ns rs t.ends)
+
 pub writes_behind : {w end : ℕ} {k : List ℕ} {gs : List Gap} {ls : List (List WordPair)} {rs : List KeyValue} {old new : List ℕ → Type 0} (before now : ℕ)
     → now ≡ before + kept_len (first_place gs end) gs end → AreGapsOf w k gs rs old → Stands w end ls rs old → Closed (first_place gs end) gs end old new → WritesSurvivors w k rs new before now
-writes_behind {w = w} {end = end} {k = k} before now sum found stands closed = record {
+writes_behind {w = w} {k = k} {rs = rs} before now sum found stands closed = record {
   each = λ b is.
-      let h = closed.each b is in
-      let t = stands.each h.0 h.1 in
-      sum ∙ ap (λ (v : List Gap). before + kept_len (first_place v end) v end) (found.each h.0 h.1) ∙ ap (λ v. before + v) (behind_count (has_key k) w (head_size w) end _ t.ends);
+      writes_marked (map (has_key k) rs) [] rs before now sum (record { each = λ b is. found.each b is }) (stand_marked stands) closed b is
+      ∙ ap (λ v. before + sum_by (record_size w) v) (behind_by (has_key k) rs);
 }
 
 pub no_gaps : (gs : List Gap) → length gs ≡ 0 → gs ≡ []

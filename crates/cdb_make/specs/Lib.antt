@@ -7,6 +7,7 @@ pub mod Survivors
 pub mod Rings
 pub mod Looks
 pub mod Stands
+pub mod Marks
 pub mod Finished
 pub mod Unfinished
 pub mod Laws

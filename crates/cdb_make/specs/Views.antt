@@ -3,5 +3,7 @@ pub mod MakeFault
 pub mod Index
 pub mod EntryList
 pub mod Maker
+pub mod Carrying
+pub mod Batch
 pub mod Adding
 pub mod Making

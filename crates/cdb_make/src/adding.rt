@@ -1,10 +1,11 @@
 // A record is written behind the others, and its entry noted.
-ghost use Rattle.std.specs.Prelude.{◌≡◌, ℕ, ◌+◌, ◌-◌, ◌<◌, ◌≤◌, ◌⊎◌, ◌++◌, ◌∷◌, [], List};
+ghost use Rattle.std.specs.Prelude.{◌≡◌, ℕ, ◌+◌, ◌-◌, ◌<◌, ◌≤◌, ◌⊎◌, ◌++◌, ◌∷◌, [], List, Bool};
 ghost use Rattle.std.specs.Prelude.{length, sum_by, vec_capacity, IfOk, IfErr, OnOk, OnErr};
 ghost use Rattle.cdb_store.specs.Images.{KeepsPart};
 ghost use Rattle.cdb_form.specs.Format.Hash.{key_hash};
 ghost use Rattle.cdb_form.specs.Format.Pair.{head_size};
 ghost use Rattle.cdb_form.specs.Format.Record.{KeyValue, record_size};
+ghost use Rattle.cdb_make.specs.Marks.{StandMarked};
 ghost use Rattle.cdb_make.specs.Stands.{Stands};
 ghost use Rattle.cdb_make.specs.Unfinished.{KeepsHead};
 ghost use Rattle.cdb_make.specs.Views.EntryList.{lists_entries, entry_count, entry_room};
@@ -42,6 +43,10 @@ pub(crate) fn add<S: Store, L: Width>(
     ensures stands { (rs : List KeyValue)
         → Stands L.WORD end (lists_entries lists.old.items) rs (S.image store.old)
         → IfOk result (λ last. Stands L.WORD last (lists_entries lists.new.items)
+        (rs ++ record { key = key.now; value = value.now } ∷ []) (S.image store.new)) }
+    ensures marked { (marks : List Bool) (rs : List KeyValue) → length marks ≤ length rs
+        → StandMarked L.WORD end (lists_entries lists.old.items) marks rs (S.image store.old)
+        → IfOk result (λ last. StandMarked L.WORD last (lists_entries lists.new.items) marks
         (rs ++ record { key = key.now; value = value.now } ∷ []) (S.image store.new)) }
     ensures end { IfOk result (λ last.
         last ≡ end + record_size L.WORD (record { key = key.now; value = value.now })) }

@@ -50,6 +50,7 @@ pub(crate) fn reserve_entry(
 pub(crate) fn catch_up(lists: &mut Vec<EntryList>, hash: u32)
     requires { length lists.old.items ≡ 256 }
     ensures all { length lists.new.items ≡ 256 }
+    ensures room { entry_room lists.old.items hash ≤ entry_room lists.new.items hash }
     ensures entries { lists_entries lists.new.items ≡ lists_entries lists.old.items }
     ensures tops { list_tops lists.new.items ≡ list_tops lists.old.items }
 {

@@ -4,6 +4,9 @@
 
 mod adding;
 mod append;
+mod batch;
+mod batch_putting;
+mod batch_removing;
 mod closing;
 mod entries;
 mod fault;
@@ -17,19 +20,24 @@ mod lists;
 mod looking;
 mod maker;
 mod making;
+mod marking;
 mod moving;
+mod pace;
 mod pointers;
 mod put;
 mod putting;
 mod removing;
 mod repair;
 mod scan;
+mod settling;
 mod table;
 mod tables;
 mod taking_out;
 
+pub use batch::Batch;
 pub use cdb_form::Mode;
 pub use fault::MakeFault;
 pub use maker::Maker;
 pub use making::{Refused, Unfinished};
 pub use put::Put;
+pub use settling::Unsettled;

@@ -1,6 +1,7 @@
 // The entries of one table, as a maker keeps them.
 ghost use Rattle.std.specs.Prelude.{◌≡◌, ℕ, ◌<◌, ◌≤◌, ◌^◌, ◌+◌, ◌-◌, [], ◌∷◌, ◌++◌, length, get_or, All};
 ghost use Rattle.std.specs.Prelude.{true, OnOk, OnErr, max, slice_index, vec_capacity};
+ghost use Rattle.cdb_make.specs.Marks.{turned};
 ghost use Rattle.cdb_make.specs.Rings.{AreLinked};
 ghost use Rattle.cdb_make.specs.Views.Index.{index_room};
 
@@ -9,6 +10,13 @@ use crate::index::Index;
 use crate::repair::{below, close_entries, entry_at};
 use cdb_form::Slot;
 use std::alloc::{AllocError, Global};
+
+/// A hash with its lowest bit turned, which no key of the same table has.
+fn turned(hash: u32) -> u32
+    ensures { result ≡ turned hash }
+{
+    if hash % 2 == 0 { hash + 1 } else { hash - 1 }
+}
 
 /// The entries of one table, in the order of their places: 20 to 24 bytes each.
 #[derive(Drop)]
@@ -31,6 +39,7 @@ pub(crate) struct EntryList {
 impl EntryList {
     ghost use Rattle.cdb_form.specs.Views.Pairs.{slot_pair};
     ghost use Rattle.cdb_make.specs.Gaps.{AreApart, IsRising, closed_by, first_place};
+    ghost use Rattle.cdb_make.specs.Marks.{turn_at};
     ghost use Rattle.cdb_make.specs.Views.EntryList.{list_entries, list_room, IsNowhereIn};
 
     /// No entries.
@@ -138,6 +147,21 @@ impl EntryList {
         ensures top { self.new.top ≡ self.old.top }
     {
         self.index.catch_up(&self.hashes);
+    }
+
+    /// Turns the hash of the entry at a place, so that no look for a key of its table finds it. It
+    /// takes no memory.
+    pub(crate) fn mark(&mut self, place: u64)
+        ensures entries { IsRising 0 (list_entries self.old)
+            → list_entries self.new ≡ turn_at place (list_entries self.old) }
+        ensures places { self.new.places.items ≡ self.old.places.items }
+        ensures top { self.new.top ≡ self.old.top }
+        ensures room { list_room self.new ≡ list_room self.old }
+    {
+        let n = below(&self.places, place);
+        if n < self.places.len() && self.places[n] == place {
+            self.hashes[n] = turned(self.hashes[n]);
+        }
     }
 
     /// Whether each entry lies below a place.

@@ -1,9 +1,11 @@
 // A maker of a database: records put and taken out in place.
-ghost use Rattle.std.specs.Prelude.{◌≡◌, ℕ, ◌+◌, ◌-◌, ◌*◌, ◌≤◌, ◌<◌, true, false, [], List, length};
+ghost use Rattle.std.specs.Prelude.{◌≡◌, ℕ, ◌+◌, ◌-◌, ◌*◌, ◌≤◌, ◌<◌, true, false, [], List, Bool, length};
 ghost use Rattle.std.specs.Prelude.{sum_by, vec_capacity, All, IfOk, IfErr, OnOk, OnErr};
 ghost use Rattle.cdb_form.specs.Format.Pair.{head_size};
 ghost use Rattle.cdb_form.specs.Format.Record.{KeyValue};
 ghost use Rattle.cdb_form.specs.Format.File.{file_size};
+ghost use Rattle.cdb_store.specs.Laws.{HasNoImage};
+ghost use Rattle.cdb_make.specs.Gaps.{unmarked};
 ghost use Rattle.cdb_make.specs.Looks.{NoNewImage};
 ghost use Rattle.cdb_make.specs.Stands.{IsThere};
 ghost use Rattle.cdb_make.specs.Views.EntryList.{lists_entries, AreWithin, HasSpareGaps, list_tops};
@@ -58,6 +60,7 @@ impl<S: Store, L: Width> Maker<S, L> {
     ghost use Rattle.cdb_make.specs.Views.Maker.{Holds, WhereHonest, made_size, StaysWhole};
     ghost use Rattle.cdb_make.specs.Views.Maker.{FailsLooking, SameCounts, WritesNothing};
     ghost use Rattle.cdb_make.specs.Views.Maker.{look_fault, is_foreign, HasNotFailed};
+    ghost use Rattle.cdb_make.specs.Views.Carrying.{Carries, KeepsCarrying, WantsMemory};
 
     /// How many records it holds.
     ///
@@ -151,6 +154,31 @@ impl<S: Store, L: Width> Maker<S, L> {
         ensures room { S.room self.old.store ≤ S.room self.new.store }
         ensures failures { S.failures self.old.store ≤ S.failures self.new.store }
         ensures ok_failures { OnOk result (HasNotFailed self.old self.new) }
+    {
+        self.look(key)
+    }
+
+    /// Whether some record has a key that is not marked, as `exists` says it.
+    pub(crate) fn look(&mut self, key: &[u8]) -> Result<bool, MakeFault>
+        ensures there { (rs : List KeyValue) → Holds self.old rs
+            → IfOk result (λ there. IsThere there key.now rs (S.image self.new.store)) }
+        ensures ok { OnOk result (WritesNothing self.old self.new) }
+        ensures fails { IfErr result (FailsLooking self.old self.new) }
+        ensures counts { SameCounts self.old self.new }
+        ensures images { NoNewImage (S.image self.old.store) (S.image self.new.store) }
+        ensures room { S.room self.old.store ≤ S.room self.new.store }
+        ensures failures { S.failures self.old.store ≤ S.failures self.new.store }
+        ensures ok_failures { OnOk result (HasNotFailed self.old self.new) }
+        ensures one { (all : List KeyValue) (marks : List Bool) → Carries self.old all marks
+            → IfOk result (λ there. IsThere there key.now (unmarked marks all)
+            (S.image self.new.store)) }
+        ensures keeps { self.new.broken ≡ false → KeepsCarrying self.old self.new }
+        ensures none { self.old.broken ≡ false → self.new.broken ≡ true
+            → (all : List KeyValue) (marks : List Bool) → Carries self.old all marks
+            → HasNoImage (S.image self.new.store) }
+        ensures wants { OnOk result ((value : List ℕ)
+            → WantsMemory self.new (record { key = key.now; value = value })
+            → WantsMemory self.old (record { key = key.now; value = value })) }
     {
         if self.broken {
             return Err(MakeFault::Broken);

@@ -32,6 +32,7 @@ fn move_pieces<S: Store>(
     ensures room { S.room store.old ≤ S.room store.new }
     ensures memory { IsErrOf result NoMemory → ⊥ }
     ensures cause { HasCause (S.failures store.old) (S.failures store.new) result }
+    ensures ok_failures { OnOk result (S.failures store.new ≡ S.failures store.old) }
 {
     let mut done = 0;
     while done < len {
@@ -68,6 +69,7 @@ pub(crate) fn move_down<S: Store>(
     ensures room { S.room store.old ≤ S.room store.new }
     ensures memory { IsErrOf result NoMemory → ⊥ }
     ensures cause { HasCause (S.failures store.old) (S.failures store.new) result }
+    ensures ok_failures { OnOk result (S.failures store.new ≡ S.failures store.old) }
 {
     if len == 0 {
         Ok(())

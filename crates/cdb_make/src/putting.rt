@@ -1,11 +1,12 @@
 // A record, put by a maker.
-ghost use Rattle.std.specs.Prelude.{◌≡◌, ℕ, ◌+◌, ◌*◌, ◌<◌, ◌≤◌, true, false, List, length};
+ghost use Rattle.std.specs.Prelude.{◌≡◌, ℕ, ◌+◌, ◌*◌, ◌<◌, ◌≤◌, ◌++◌, ◌∷◌, [], true, false, List, Bool, length};
 ghost use Rattle.std.specs.Prelude.{sum_by, IfOk, IfErr, OnOk, OnErr};
 ghost use Rattle.cdb_form.specs.Format.Pair.{head_size};
 ghost use Rattle.cdb_form.specs.Format.File.{whole_size};
 ghost use Rattle.cdb_form.specs.Format.Record.{KeyValue, record_size};
 ghost use Rattle.cdb_form.specs.declared.mode.Mode.TheVariants.{Replace};
 ghost use Rattle.cdb_make.specs.Gaps.{AreApart};
+ghost use Rattle.cdb_make.specs.declared.fault.MakeFault.TheVariants.{NoMemory};
 
 use crate::adding::add;
 use crate::fault::MakeFault;
@@ -18,6 +19,8 @@ use cdb_store::Store;
 impl<S: Store, L: Width> Maker<S, L> {
     ghost use Rattle.cdb_make.specs.Views.Maker.{SameCounts, Adds, FailsAdding, Puts, FailsPutting};
     ghost use Rattle.cdb_make.specs.Views.Maker.{made_size, Exchanges, FailsClosing, Follows};
+    ghost use Rattle.cdb_make.specs.Views.Maker.{HasRoom};
+    ghost use Rattle.cdb_make.specs.Views.Carrying.{Carries, KeepsCarrying, WantsMemory};
 
     /// Whether a file of so many bytes, within the limit, has room for a record more.
     fn has_room(&self, size: u64, key: &[u8], value: &[u8]) -> bool
@@ -36,13 +39,22 @@ impl<S: Store, L: Width> Maker<S, L> {
     }
 
     /// One more record, after the others.
-    fn add(&mut self, key: &[u8], value: &[u8]) -> Result<(), MakeFault>
+    pub(crate) fn add(&mut self, key: &[u8], value: &[u8]) -> Result<(), MakeFault>
         ensures ok { OnOk result
             (Adds self.old self.new (record { key = key.now; value = value.now })) }
         ensures fails { IfErr result
             (FailsAdding self.old self.new (record { key = key.now; value = value.now })) }
         ensures follows { Follows self.old self.new }
         ensures counts { OnErr result (SameCounts self.old self.new) }
+        ensures more { OnOk result (self.new.count ≡ self.old.count + 1) }
+        ensures carries { (all : List KeyValue) (marks : List Bool) → Carries self.old all marks
+            → OnOk result (Carries self.new
+            (all ++ record { key = key.now; value = value.now } ∷ []) marks) }
+        ensures fits { OnOk result
+            (HasRoom self.old (record { key = key.now; value = value.now })) }
+        ensures keeps { OnErr result (KeepsCarrying self.old self.new) }
+        ensures wants { result ≡ Err NoMemory
+            → WantsMemory self.old (record { key = key.now; value = value.now }) }
     {
         if self.broken {
             return Err(MakeFault::Broken);

@@ -1,11 +1,13 @@
 // The records of a key, taken out by a maker.
-ghost use Rattle.std.specs.Prelude.{◌≡◌, ℕ, ◌+◌, ◌<◌, ◌≤◌, true, false, List, length, sum_by, ◌-◌};
+ghost use Rattle.std.specs.Prelude.{◌≡◌, ℕ, ◌+◌, ◌<◌, ◌≤◌, true, false, List, Bool, length, sum_by, ◌-◌};
 ghost use Rattle.std.specs.Prelude.{IfOk, IfErr, OnOk, OnErr, vec_capacity};
 ghost use Rattle.cdb_store.specs.Images.{TornWithin};
+ghost use Rattle.cdb_store.specs.Laws.{HasNoImage};
 ghost use Rattle.cdb_store.specs.Reads.{OnlyReads};
 ghost use Rattle.cdb_form.specs.Format.Pair.{head_size};
 ghost use Rattle.cdb_form.specs.Format.Record.{KeyValue};
 ghost use Rattle.cdb_make.specs.Gaps.{AreApart, first_place};
+ghost use Rattle.cdb_make.specs.Marks.{AreMarked, fresh};
 ghost use Rattle.cdb_make.specs.Stands.{Stands, AreGapsOf, AreTakenOut, WritesSurvivors};
 ghost use Rattle.cdb_make.specs.Views.EntryList.{lists_entries, AreClosed};
 
@@ -21,6 +23,7 @@ impl<S: Store, L: Width> Maker<S, L> {
     ghost use Rattle.cdb_make.specs.Views.Maker.{Holds, Removes, FailsRemoving, FailsLooking};
     ghost use Rattle.cdb_make.specs.Views.Maker.{SameCounts, WritesNothing, FailsClosing};
     ghost use Rattle.cdb_make.specs.Views.Maker.{Follows, HasNotFailed};
+    ghost use Rattle.cdb_make.specs.Views.Carrying.{Carries, KeepsCarrying, WantsMemory};
 
     /// How many records have a key, whose gaps are noted.
     pub(crate) fn find(&mut self, key: &[u8]) -> Result<u64, MakeFault>
@@ -38,6 +41,16 @@ impl<S: Store, L: Width> Maker<S, L> {
             ≡ lists_entries self.old.lists.items }
         ensures reads { OnlyReads S.Store self.old.store self.new.store }
         ensures ok_failures { OnOk result (HasNotFailed self.old self.new) }
+        ensures fresh { (all : List KeyValue) (marks : List Bool) → Carries self.old all marks
+            → OnOk result (AreMarked L.WORD self.new.gaps.items (fresh key.now marks all) all
+            (S.image self.new.store)) }
+        ensures keeps { self.new.broken ≡ false → KeepsCarrying self.old self.new }
+        ensures none { self.old.broken ≡ false → self.new.broken ≡ true
+            → (all : List KeyValue) (marks : List Bool) → Carries self.old all marks
+            → HasNoImage (S.image self.new.store) }
+        ensures wants { OnOk result ((value : List ℕ)
+            → WantsMemory self.new (record { key = key.now; value = value })
+            → WantsMemory self.old (record { key = key.now; value = value })) }
     {
         if self.broken {
             return Err(MakeFault::Broken);

@@ -11,6 +11,8 @@ pub(crate) fn below(places: &[u64], end: u64) -> usize
     ensures within { result ≤ length places.now }
     ensures below { IsNonDecreasing places.now → (k : ℕ) → k < result
         → slice_index places.now k < end }
+    ensures above { IsNonDecreasing places.now → (k : ℕ) → result ≤ k → k < length places.now
+        → end ≤ slice_index places.now k }
 {
     places.partition_point(|place| *place < end)
 }

@@ -1,5 +1,5 @@
 // All records of a key, taken out of a store and of the lists: found first, and then closed over.
-ghost use Rattle.std.specs.Prelude.{◌≡◌, ℕ, [], List, ◌+◌, ◌-◌, ◌^◌, ◌<◌, ◌≤◌, length};
+ghost use Rattle.std.specs.Prelude.{◌≡◌, ℕ, Bool, [], List, ◌+◌, ◌-◌, ◌^◌, ◌<◌, ◌≤◌, length};
 ghost use Rattle.std.specs.Prelude.{IfOk, OnOk, OnErr, IsErrOf, sum_by, vec_capacity};
 ghost use Rattle.cdb_store.specs.declared.store.StoreFault.TheVariants.{NoMemory};
 ghost use Rattle.cdb_store.specs.Images.{TornWithin, HasCause};
@@ -9,7 +9,8 @@ ghost use Rattle.cdb_form.specs.Format.Hash.{key_hash};
 ghost use Rattle.cdb_form.specs.Format.Pair.{head_size};
 ghost use Rattle.cdb_form.specs.Format.Record.{KeyValue};
 ghost use Rattle.cdb_make.specs.declared.looking.LookFault.TheVariants.{Failed, Foreign};
-ghost use Rattle.cdb_make.specs.Gaps.{AreApart, first_place, kept_len};
+ghost use Rattle.cdb_make.specs.Gaps.{AreApart, first_place, kept_len, unmarked};
+ghost use Rattle.cdb_make.specs.Marks.{StandMarked, AreMarked, WritesPass, fresh};
 ghost use Rattle.cdb_make.specs.Stands.{Stands, AreGapsOf, IsCount, IsThere, AreTakenOut};
 ghost use Rattle.cdb_make.specs.Stands.{WritesSurvivors};
 ghost use Rattle.cdb_make.specs.Views.EntryList.{lists_entries, entry_count, AreClosed, list_tops};
@@ -49,6 +50,10 @@ pub(crate) fn find<S: Store, L: Width>(
     ensures count { (rs : List KeyValue)
         → Stands L.WORD end (lists_entries lists.now) rs (S.image store.old)
         → OnOk result (IsCount (length gaps.new.items) key.now rs (S.image store.new)) }
+    ensures fresh { (marks : List Bool) (rs : List KeyValue)
+        → StandMarked L.WORD end (lists_entries lists.now) marks rs (S.image store.old)
+        → OnOk result (AreMarked L.WORD gaps.new.items (fresh key.now marks rs) rs
+        (S.image store.new)) }
     ensures apart { OnOk result (AreApart (head_size L.WORD) gaps.new.items end) }
     ensures few { OnOk result (length gaps.new.items ≤ entry_count lists.now hash) }
     ensures stands { (rs : List KeyValue)
@@ -56,6 +61,9 @@ pub(crate) fn find<S: Store, L: Width>(
         → Stands L.WORD end (lists_entries lists.now) rs (S.image store.new) }
     ensures foreign { result ≡ Err Foreign → (rs : List KeyValue)
         → Stands L.WORD end (lists_entries lists.now) rs (S.image store.old)
+        → HasNoImage (S.image store.new) }
+    ensures none { result ≡ Err Foreign → (marks : List Bool) (rs : List KeyValue)
+        → StandMarked L.WORD end (lists_entries lists.now) marks rs (S.image store.old)
         → HasNoImage (S.image store.new) }
     ensures ok_failures { OnOk result (S.failures store.new ≡ S.failures store.old) }
     ensures failed { result ≡ Err Failed → S.failures store.old < S.failures store.new }
@@ -84,11 +92,17 @@ pub(crate) fn exists<S: Store, L: Width>(
     ensures there { (rs : List KeyValue)
         → Stands L.WORD end (lists_entries lists.now) rs (S.image store.old)
         → IfOk result (λ there. IsThere there key.now rs (S.image store.new)) }
+    ensures one { (marks : List Bool) (rs : List KeyValue)
+        → StandMarked L.WORD end (lists_entries lists.now) marks rs (S.image store.old)
+        → IfOk result (λ there. IsThere there key.now (unmarked marks rs) (S.image store.new)) }
     ensures stands { (rs : List KeyValue)
         → Stands L.WORD end (lists_entries lists.now) rs (S.image store.old)
         → Stands L.WORD end (lists_entries lists.now) rs (S.image store.new) }
     ensures foreign { result ≡ Err Foreign → (rs : List KeyValue)
         → Stands L.WORD end (lists_entries lists.now) rs (S.image store.old)
+        → HasNoImage (S.image store.new) }
+    ensures none { result ≡ Err Foreign → (marks : List Bool) (rs : List KeyValue)
+        → StandMarked L.WORD end (lists_entries lists.now) marks rs (S.image store.old)
         → HasNoImage (S.image store.new) }
     ensures ok_failures { OnOk result (S.failures store.new ≡ S.failures store.old) }
     ensures failed { result ≡ Err Failed → S.failures store.old < S.failures store.new }
@@ -129,6 +143,16 @@ pub(crate) fn close<S: Store, L: Width>(
         → AreGapsOf L.WORD key gaps.now rs (S.image store.old)
         → IfOk result (λ left. AreTakenOut L.WORD left.end (lists_entries lists.new) key rs
         (S.image store.new)) }
+    ensures settles { (marks : List Bool) (rs : List KeyValue)
+        → StandMarked L.WORD end (lists_entries lists.old) marks rs (S.image store.old)
+        → AreMarked L.WORD gaps.now marks rs (S.image store.old)
+        → IfOk result (λ left. Stands L.WORD left.end (lists_entries lists.new)
+        (unmarked marks rs) (S.image store.new)) }
+    ensures moves { (marks : List Bool) (rs : List KeyValue)
+        → StandMarked L.WORD end (lists_entries lists.old) marks rs (S.image store.old)
+        → AreMarked L.WORD gaps.now marks rs (S.image store.old)
+        → OnOk result (WritesPass L.WORD marks rs (S.image store.new)
+        (S.written store.old) (S.written store.new)) }
     ensures written { (rs : List KeyValue) (key : List ℕ)
         → Stands L.WORD end (lists_entries lists.old) rs (S.image store.old)
         → AreGapsOf L.WORD key gaps.now rs (S.image store.old)
@@ -155,6 +179,7 @@ pub(crate) fn close<S: Store, L: Width>(
     ensures memory { IsErrOf result NoMemory → ⊥ }
     ensures cause { S.failures store.old ≤ S.failures store.new }
     ensures failed { OnErr result (S.failures store.old < S.failures store.new) }
+    ensures ok_failures { OnOk result (S.failures store.new ≡ S.failures store.old) }
 {
     if gaps.is_empty() {
         return Ok(Left { end, gone: 0 });

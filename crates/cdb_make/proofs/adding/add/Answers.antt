@@ -1,4 +1,4 @@
-use Rattle.std.proofs.Common.{arith, ap, refl, inl, ◌∙◌, ◌≡◌, ◌-◌, ℕ, List, length}
+use Rattle.std.proofs.Common.{arith, ap, refl, inl, ◌∙◌, ◌≡◌, ◌-◌, ℕ, List, [], length}
 use Rattle.cdb_store.specs.Images.{AreSized}
 use Rattle.cdb_store.proofs.Moves.{kept_torn}
 use Rattle.cdb_form.specs.Format.Pair.{WordPair, head_size, pair_bytes}
@@ -6,7 +6,8 @@ use Rattle.cdb_form.specs.Format.Record.{KeyValue}
 use Rattle.cdb_form.proofs.HeadLemmas.{length-pair_bytes}
 use Rattle.std.proofs.lemmas.List.{length-map}
 use Rattle.cdb_make.specs.Views.EntryList.{list_entries, lists_entries, with_entry}
-use Rattle.cdb_make.proofs.Added.{stands_more, within_more, spare_more}
+use Rattle.cdb_make.proofs.Whole.{stand_marked, marked_stand}
+use Rattle.cdb_make.proofs.Added.{marked_stand_more, within_more, spare_more}
 use Rattle.cdb_make.proofs.Written.{on_any_err, written_front, pieces_are}
 use Rattle.cdb_make.proofs.Puts.{comes_write}
 use Rattle.std.proofs.lemmas.Grind.{common_steps}
@@ -18,8 +19,8 @@ returns-in_err-append_record-clause-kept g c =
     on_any_err c.from_residual-in_err-append_record.result
     (kept_torn at (c.args.end - at) (inl (omega (arith, c.requires.start))) c.append_record.ensures.torn)
 
-pub returns-clause-stands : goal.returns-clause-stands
-returns-clause-stands g c = λ rs stands.
+pub returns-clause-marked : goal.returns-clause-marked
+returns-clause-marked g c = λ ms rs few stands.
     let w : ℕ = g.L.Width.WORD in
     let key : List ℕ = c.args.key.now in
     let value : List ℕ = c.args.value.now in
@@ -31,8 +32,11 @@ returns-clause-stands g c = λ rs stands.
     let header = written_front c.pair_size-len.result c.write_header.new.into (pair_bytes w p) _ c.write_header.ensures.written long in
     let added : lists_entries c.push_entry.new.lists.items ≡ with_entry (lists_entries c.args.lists.now.items) e =
     c.push_entry.ensures.entries ∙ ap (λ (v : List (List WordPair)). with_entry v e) c.reserve_entry.ensures.entries in
-    stands_more (g.S.Store.size c.args.store.now) _ c.args.hash r _ sized c.requires.inside c.requires.hash (pieces_are w r (length key) (length value) _ refl refl header)
-    (omega (arith, c.pair_size-len.ensures)) added c.in_ok-append_record.ensures.ok stands
+    marked_stand_more (g.S.Store.size c.args.store.now) _ c.args.hash r _ sized c.requires.inside c.requires.hash (pieces_are w r (length key) (length value) _ refl refl header)
+    (omega (arith, c.pair_size-len.ensures)) added few c.in_ok-append_record.ensures.ok stands
+
+pub returns-clause-stands : goal.returns-clause-stands
+returns-clause-stands g c = λ rs stands. marked_stand (returns-clause-marked g c [] rs (omega arith) (stand_marked stands))
 
 pub returns-clause-placed : goal.returns-clause-placed
 returns-clause-placed g c = λ most below all.

@@ -86,7 +86,7 @@ loop-gap-preserved g c =
       written = omega (arith, c.in_ok-move_down.ensures.written);
       more_written = omega (arith, c.move_down.ensures.more_written);
       room = omega (arith, c.move_down.ensures.room);
-      failures = omega (arith, c.move_down.ensures.cause.later);
+      failures = omega (arith, c.in_ok-move_down.ensures.ok_failures);
     }
 
 pub returns-clause-at_most_written : goal.returns-clause-at_most_written

@@ -15,5 +15,5 @@ invariant-loop-gap g l = record {
   written : g.S.Store.written l.store + kept_len l.from (drop l.gap-index l.gaps) l.end ≡ g.S.Store.written l.fn.store + kept_len l.start l.gaps l.end;
   more_written : g.S.Store.written l.fn.store ≤ g.S.Store.written l.store;
   room : g.S.Store.room l.fn.store ≤ g.S.Store.room l.store;
-  failures : g.S.Store.failures l.fn.store ≤ g.S.Store.failures l.store;
+  failures : g.S.Store.failures l.store ≡ g.S.Store.failures l.fn.store;
 }

@@ -11,7 +11,7 @@ loop-done-init g c = record {
   torn = within_none _ _ _;
   size = refl;
   written = omega arith;
-  failures = omega arith;
+  failures = refl;
   room = omega arith;
 }
 
@@ -30,7 +30,7 @@ loop-done-preserved g c =
       torn = within_more (omega arith) (omega arith) c.loop-done.invariant.torn c.in_ok-read_at.ensures.ok c.write_at.ensures.torn;
       size = omega (arith, c.in_ok-write_at.ensures.longer, c.in_ok-write_at.ensures.not_past);
       written = omega (arith, c.in_ok-write_at.ensures.ok_written);
-      failures = omega (arith, c.in_ok-write_at.ensures.cause.later);
+      failures = omega (arith, c.in_ok-write_at.ensures.ok_failures, c.in_ok-read_at.ensures.ok_failures);
       room = omega arith;
     }
 

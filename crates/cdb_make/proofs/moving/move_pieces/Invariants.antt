@@ -9,7 +9,7 @@ invariant-loop-done g l = record {
   torn : TornWithin l.to l.len (g.S.Store.image l.fn.store) (g.S.Store.image l.store);
   size : g.S.Store.size l.store ≡ g.S.Store.size l.fn.store;
   written : g.S.Store.written l.store ≡ g.S.Store.written l.fn.store + l.done;
-  failures : g.S.Store.failures l.fn.store ≤ g.S.Store.failures l.store;
+  failures : g.S.Store.failures l.store ≡ g.S.Store.failures l.fn.store;
   room : g.S.Store.room l.fn.store ≤ g.S.Store.room l.store;
 }
 

@@ -2,7 +2,9 @@ use Rattle.std.proofs.Common.{arith, refl, rules}
 use Rattle.std.proofs.lemmas.Result.{err_from_is_err_and}
 use Rattle.cdb_form.specs.Format.Record.{KeyValue}
 use Rattle.cdb_make.specs.Views.Maker.{HasRoom}
+use Rattle.cdb_make.proofs.Carrying.{carried_stand, carries_kept, carries_more}
 use Rattle.cdb_make.proofs.Puts.{adds_more, adds_none}
+use Rattle.cdb_make.proofs.Written.{on_any_err}
 use Rattle.std.proofs.lemmas.Grind.{common_steps}
 use Rattle.cdb_make.proofs.maker.Maker.add.Goals as goal
 
@@ -27,3 +29,15 @@ returns-then-not-has_room-clause-fails g c = search rules
 
 pub invariant_of-self-2 : goal.invariant_of-self-2
 invariant_of-self-2 g c = search rules
+
+pub returns-in_err-self-clause-keeps : goal.returns-in_err-self-clause-keeps
+returns-in_err-self-clause-keeps g c =
+    let e = c.in_err-self.ensures in
+    on_any_err c.from_residual.result (carries_kept {s = g.S.Store} {l = g.L.Width} c.args.self.now _ c.if-self.false refl e.entries e.kept)
+
+pub returns-clause-carries : goal.returns-clause-carries
+returns-clause-carries g c = λ all marks h.
+    let e = c.in_ok-self.ensures in
+    let r : KeyValue = record { key = c.args.key.now; value = c.args.value.now } in
+    carries_more {s = g.S.Store} {l = g.L.Width} c.args.self.now _ r all marks (record { key = λ k. omega (arith, c.type_inv.key k); value = λ k. omega (arith, c.type_inv.value k) }) c.if-self.false h
+    (e.marked marks all h.few (carried_stand {s = g.S.Store} {l = g.L.Width} c.args.self.now all marks h)) c.add.ensures.comes

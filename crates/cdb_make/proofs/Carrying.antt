@@ -1,0 +1,135 @@
+-- What a maker carries, from one call to the next.
+use Rattle.std.proofs.Common.{◌≡◌, ℕ, ◌+◌, ◌-◌, ◌<◌, ◌≤◌, ◌⊎◌, inl, inr, Bool, true, false, List, [], ◌∷◌, ◌++◌, length, get_or, vec_capacity, refl, sym, ap, subst, ◌∙◌, arith, length-append}
+use Rattle.std.specs.Prelude.{sum_by, All, cond}
+use Rattle.std.proofs.lemmas.List.Elements.{All-append, All-cons, All-nil, All-head, All-tail}
+use Rattle.cdb_store.specs.declared.store.Store.{Ghosts}
+use Rattle.cdb_store.specs.Images.{KeepsPart, part}
+use Rattle.cdb_store.specs.Laws.{HasNoImage}
+use Rattle.cdb_form.specs.declared.width.Width.{Ghosts as Widths}
+use Rattle.cdb_form.specs.Format.Hash.{key_hash, table_number}
+use Rattle.cdb_form.specs.Format.Pair.{WordPair, head_size}
+use Rattle.cdb_form.specs.Format.Record.{KeyValue, IsRecord, record_size}
+use Rattle.cdb_make.specs.declared.list.EntryList.{EntryList}
+use Rattle.cdb_make.specs.declared.looking.LookFault.{LookFault}
+use Rattle.cdb_make.specs.declared.looking.LookFault.TheVariants.{Failed, Foreign}
+use Rattle.cdb_make.specs.declared.maker.Maker.{Maker}
+use Rattle.cdb_make.specs.Looks.{NoNewImage}
+use Rattle.cdb_form.proofs.Sizes.{sum_by-table_entries}
+use Rattle.cdb_make.specs.declared.gap.Gap.{Gap}
+use Rattle.cdb_make.specs.Gaps.{marked_gaps, unmarked}
+use Rattle.cdb_make.specs.Stands.{Stands}
+use Rattle.cdb_make.specs.Marks.{StandMarked, TellsMarked, AreMarked}
+use Rattle.cdb_make.specs.Views.Carrying.{Carries, CarriesIn, KeepsCarrying, WantsMemory}
+use Rattle.cdb_make.specs.Views.EntryList.{lists_entries, entry_count, entry_room}
+use Rattle.cdb_make.specs.Views.Maker.{Holds, ComesFrom, is_foreign}
+use Rattle.cdb_make.proofs.Makers.{held_stand}
+use Rattle.cdb_make.proofs.Marks.{sum_marked, unmarked_count}
+use Rattle.cdb_make.proofs.Whole.{stand_marked, marked_stand}
+
+-- what it carries stands on its store
+pub carried_stand : {S L : Type 0} {s : Ghosts S} {l : Widths L} (m : Maker S L s l) (all : List KeyValue) (marks : List Bool) → Carries m all marks → StandMarked l.WORD m.end (lists_entries m.lists.items) marks all (s.image m.store)
+carried_stand m all marks h = record { each = λ b is. (h.each b is).stand }
+
+-- what it holds it carries, without marks
+pub held_carried : {S L : Type 0} {s : Ghosts S} {l : Widths L} (m : Maker S L s l) (rs : List KeyValue) → Holds m rs → Carries m rs []
+held_carried m rs h = record {
+  whole = h.whole;
+  few = omega arith;
+  each = λ b is. record { are = (h.each b is).are; stand = (stand_marked (held_stand m rs h)).each b is };
+}
+
+-- a look leaves it all
+pub carries_looked : {S L : Type 0} {s : Ghosts S} {l : Widths L} (old new : Maker S L s l) → new.broken ≡ false → new.end ≡ old.end → lists_entries new.lists.items ≡ lists_entries old.lists.items
+    → NoNewImage (s.image old.store) (s.image new.store) → KeepsCarrying old new
+carries_looked old new whole end lists few = λ all marks h. record {
+  whole = whole;
+  few = h.few;
+  each = λ b is.
+      let o : CarriesIn old all marks b = h.each b (few.no_other b is) in
+      record { are = o.are; stand = record { held = o.stand.held; ends = end ∙ o.stand.ends; entries = lists ∙ o.stand.entries } };
+}
+
+-- and bytes of the records that stay
+pub carries_kept : {S L : Type 0} {s : Ghosts S} {l : Widths L} (old new : Maker S L s l) → new.broken ≡ false → new.end ≡ old.end → lists_entries new.lists.items ≡ lists_entries old.lists.items
+    → KeepsPart (head_size l.WORD) (old.end - head_size l.WORD) (s.image old.store) (s.image new.store) → KeepsCarrying old new
+carries_kept {l = l} old new whole end lists keeps = λ all marks h. record {
+  whole = whole;
+  few = h.few;
+  each = λ b is.
+      let k = keeps.each b is in
+      let o : CarriesIn old all marks k.0 = h.each k.0 k.1 in
+      let n : old.end - head_size l.WORD ≡ sum_by (record_size l.WORD) all = (let e : old.end ≡ head_size l.WORD + sum_by (record_size l.WORD) all = o.stand.ends in omega arith) in
+      record {
+        are = o.are;
+        stand = record {
+          held = ap (λ (j : ℕ). part (head_size l.WORD) j b) (sym n) ∙ k.2 ∙ ap (λ (j : ℕ). part (head_size l.WORD) j k.0) n ∙ o.stand.held;
+          ends = end ∙ o.stand.ends;
+          entries = lists ∙ o.stand.entries;
+        };
+      };
+}
+
+-- one record more
+pub carries_more : {S L : Type 0} {s : Ghosts S} {l : Widths L} (old new : Maker S L s l) (r : KeyValue) (all : List KeyValue) (marks : List Bool) → IsRecord r → new.broken ≡ false → Carries old all marks
+    → StandMarked l.WORD new.end (lists_entries new.lists.items) marks (all ++ r ∷ []) (s.image new.store) → ComesFrom (s.image old.store) (s.image new.store) → Carries new (all ++ r ∷ []) marks
+carries_more old new r all marks is_record whole h stands comes = record {
+  whole = whole;
+  few = (let f : length marks ≤ length all = h.few in omega (arith, length-append all (r ∷ [])));
+  each = λ b is.
+      let a = comes.each b is in
+      record {
+        are = All-append IsRecord all (r ∷ []) (h.each a.0 a.1).are (All-cons IsRecord r [] is_record (All-nil IsRecord));
+        stand = stands.each b is;
+      };
+}
+
+-- where the store gave back other bytes
+pub none_carried : {S L : Type 0} {s : Ghosts S} {l : Widths L} (old new : Maker S L s l) (t : S) (ls : List EntryList) (look : LookFault) → lists_entries ls ≡ lists_entries old.lists.items → new.broken ≡ is_foreign look → new.store ≡ t
+    → (look ≡ Foreign → (marks : List Bool) (all : List KeyValue) → StandMarked l.WORD old.end (lists_entries ls) marks all (s.image old.store) → HasNoImage (s.image t))
+    → new.broken ≡ true → (all : List KeyValue) (marks : List Bool) → Carries old all marks → HasNoImage (s.image new.store)
+none_carried old new t ls Failed own is same foreign broken all marks h = absurd (let k : true ≡ false = sym broken ∙ is in cc)
+none_carried {s = s} {l = l} old new t ls Foreign own is same foreign broken all marks h =
+    subst (λ (v : _). HasNoImage (s.image v)) (sym same)
+    (foreign refl marks all (subst (λ (v : List (List WordPair)). StandMarked l.WORD old.end v marks all (s.image old.store)) (sym own) (carried_stand old all marks h)))
+
+-- memory that is wanted after a look was wanted before it
+pub wants_looked : {S L : Type 0} {s : Ghosts S} {l : Widths L} (old new : Maker S L s l) (h : ℕ) (r : KeyValue) → h ≡ key_hash r.key → lists_entries new.lists.items ≡ lists_entries old.lists.items
+    → entry_room old.lists.items h ≤ entry_room new.lists.items h → vec_capacity old.gaps ≤ vec_capacity new.gaps → s.room old.store ≤ s.room new.store → new.end ≡ old.end
+    → WantsMemory new r → WantsMemory old r
+wants_looked old new h r hashed lists rooms gaps room end wants =
+    let count : entry_count new.lists.items (key_hash r.key) ≡ entry_count old.lists.items (key_hash r.key) = ap (λ v. length (get_or v (table_number (key_hash r.key)) [])) lists in
+    let more : entry_room old.lists.items (key_hash r.key) ≤ entry_room new.lists.items (key_hash r.key) = subst (λ (v : ℕ). entry_room old.lists.items v ≤ entry_room new.lists.items v) hashed rooms in
+    elim wants [
+      | inl full ↦ inl (elim full [ inl f ↦ inl (omega arith) | inr f ↦ inr (omega arith) ])
+      | inr past ↦ inr (omega arith)
+    ]
+
+-- once the gaps of marked records are closed it holds the others
+pub all_unmarked : (P : KeyValue → Type 0) (ms : List Bool) (rs : List KeyValue) → All P rs → All P (unmarked ms rs)
+all_unmarked P [] rs all = all
+all_unmarked P (m ∷ ms) [] all = All-nil P
+all_unmarked P (m ∷ ms) (r ∷ rs) all =
+    let t : All P (unmarked ms rs) = all_unmarked P ms rs (All-tail P r rs all) in
+    elim m as (λ b. All P (cond b (unmarked ms rs) (r ∷ unmarked ms rs))) [ true ↦ t | false ↦ All-cons P r (unmarked ms rs) (All-head P r rs all) t ]
+
+pub settled_holds : {S L : Type 0} {s : Ghosts S} {l : Widths L} (old new : Maker S L s l) (all : List KeyValue) (marks : List Bool) → new.broken ≡ false → Carries old all marks
+    → Stands l.WORD new.end (lists_entries new.lists.items) (unmarked marks all) (s.image new.store) → ComesFrom (s.image old.store) (s.image new.store) → Holds new (unmarked marks all)
+settled_holds old new all marks whole h stands comes = record {
+  whole = whole;
+  each = λ b is.
+      let a = comes.each b is in
+      record { are = all_unmarked IsRecord marks all (h.each a.0 a.1).are; stand = stands.each b is };
+}
+
+-- as many entries went as there are gaps
+pub pass_counted : {S L : Type 0} {s : Ghosts S} {l : Widths L} (m : Maker S L s l) (gaps : List Gap) (all : List KeyValue) (marks : List Bool) (last : ℕ) (ls : List EntryList) {new : List ℕ → Type 0} → Carries m all marks
+    → AreMarked l.WORD gaps marks all (s.image m.store) → Stands l.WORD last (lists_entries ls) (unmarked marks all) new → ComesFrom (s.image m.store) new
+    → (b : List ℕ) → new b → sum_by length (lists_entries ls) + length gaps ≡ m.count
+pass_counted {l = l} m gaps all marks last ls h found stands comes b is =
+    let w : ℕ = l.WORD in
+    let a = comes.each b is in
+    let left : sum_by length (lists_entries ls) ≡ length (unmarked marks all) = ap (sum_by length) (stands.each b is).entries ∙ sum_by-table_entries w (unmarked marks all) in
+    let count : m.count ≡ length all = sym (m.counted h.whole) ∙ ap (sum_by length) (h.each a.0 a.1).stand.entries ∙ sum_marked w marks all in
+    let gone : length gaps ≡ length (marked_gaps w (head_size w) marks all) = ap length (found.each a.0 a.1) in
+    let both = unmarked_count w (head_size w) marks all in
+    omega arith

@@ -1,0 +1,187 @@
+// A maker that closes its gaps later, all in one pass.
+ghost use Rattle.std.specs.Prelude.{◌≡◌, ℕ, ◌+◌, ◌-◌, ◌<◌, ◌≤◌, true, false, [], List, length};
+ghost use Rattle.std.specs.Prelude.{vec_capacity, IfOk, IfErr, OnOk};
+ghost use Rattle.cdb_form.specs.Format.Pair.{head_size};
+ghost use Rattle.cdb_form.specs.Format.Record.{KeyValue};
+ghost use Rattle.cdb_make.specs.Stands.{IsThere};
+ghost use Rattle.cdb_make.specs.Unfinished.{IsUnfinished};
+ghost use Rattle.cdb_make.specs.Views.Making.{MakingFault};
+
+use crate::fault::MakeFault;
+use crate::gap::Gap;
+use crate::maker::Maker;
+use crate::making::Refused;
+use crate::pace::Pace;
+use cdb_form::{Width, hash};
+use cdb_store::Store;
+use std::alloc::Global;
+
+/// It notes the gaps of an eighth of its records at the most, and of so many more.
+const SPARE: usize = 64;
+
+/// Room to note some gaps, if memory is given for it.
+fn some_room(alloc: Global) -> Vec<Gap>
+    ensures { result.items ≡ [] }
+{
+    let mut gone = Vec::new(alloc);
+    let _ = gone.reserve(SPARE);
+    gone
+}
+
+/// Makes a database in a store as a `Maker` does, but takes records out later.
+///
+/// A record that is replaced or removed is marked: no look finds it, and its bytes stay on the
+/// store until `settle` closes all gaps in one pass. `finish` settles first. So however many records
+/// go, the others move a few times at most. Of each marked record it notes 16 bytes more.
+#[derive(Drop)]
+pub struct Batch<S: Store, L: Width> {
+    /// The maker of all records on the store, marked ones too.
+    pub(crate) maker: Maker<S, L>,
+    /// The bytes of each marked record, in the order of marking.
+    pub(crate) gone: Vec<Gap>,
+    /// So many it notes before it makes a pass.
+    pub(crate) most: usize,
+    /// How often it makes one.
+    pub(crate) pace: Pace,
+    ghost spare: { length gone.items ≤ most },
+    ghost within: { most ≤ vec_capacity gone },
+}
+
+impl<S: Store, L: Width> Batch<S, L> {
+    ghost use Rattle.cdb_make.specs.Views.Batch.{Holds, count_in, limit_of, SameCounts};
+    ghost use Rattle.cdb_make.specs.Views.Batch.{WritesNothing, FailsLooking, IsFull};
+    ghost use Rattle.cdb_make.specs.Views.Maker.{WhereHonest, Follows, HasNotFailed};
+
+    /// A batch of a file of at most `limit` bytes in a store, which is emptied.
+    ///
+    /// It has the head of a file that is not finished, as a new `Maker` has, and the faults are the
+    /// same.
+    pub fn new(alloc: Global, store: S, limit: u64) -> Result<Batch<S, L>, Refused<S>>
+        requires head { head_size L.WORD ≤ limit }
+        requires words { limit ≤ L.GREATEST }
+        ensures holds { IfOk result (λ m. Holds m []) }
+        ensures limit { IfOk result (λ m. limit_of m ≡ limit) }
+        ensures head { IfOk result (λ m. IsUnfinished L.WORD (S.image m.maker.store)) }
+        ensures size { IfOk result (λ m. S.size m.maker.store ≡ head_size L.WORD) }
+        ensures written { IfOk result (λ m.
+            S.written m.maker.store ≡ S.written store + head_size L.WORD) }
+        ensures room { IfOk result (λ m. S.room store ≤ S.room m.maker.store) }
+        ensures failures { IfOk result (λ m. S.failures store ≤ S.failures m.maker.store) }
+        ensures fails { IfErr result (λ r.
+            MakingFault S.image S.size S.written S.failures store r.store r.fault) }
+    {
+        match Maker::new(alloc, store, limit) {
+            Ok(maker) => {
+                let gone = some_room(alloc);
+                let most = gone.capacity();
+                Ok(Batch {
+                    maker,
+                    gone,
+                    most,
+                    pace: Pace::new(),
+                })
+            }
+            Err(refused) => Err(refused),
+        }
+    }
+
+    /// How many records it holds, without the marked ones.
+    ///
+    /// In a broken batch it is what it was before the call that broke it.
+    pub fn count(&self) -> u64
+        ensures holds { (rs : List KeyValue) → Holds self.now rs
+            → WhereHonest (S.image self.now.maker.store) (result ≡ length rs) }
+        ensures is { result ≡ count_in self.now }
+    {
+        self.maker.count.saturating_sub(self.gone.len() as u64)
+    }
+
+    /// Whether an earlier call broke it, or found that its store gave back other bytes than were
+    /// written. Then every call that can fail answers `Broken`.
+    pub fn is_broken(&self) -> bool
+        ensures { result ≡ self.now.maker.broken }
+    {
+        self.maker.is_broken()
+    }
+
+    /// Its store, to ask how long it is or how much was written.
+    pub fn store(&self) -> &S
+        ensures { result.now ≡ self.now.maker.store }
+    {
+        self.maker.store()
+    }
+
+    /// Its store, as it is.
+    pub fn into_store(self) -> S
+        ensures { result ≡ self.maker.store }
+    {
+        let Batch {
+            maker,
+            gone,
+            most: _,
+            pace: _,
+        } = self;
+        drop(gone);
+        maker.into_store()
+    }
+
+    /// Whether it may note so many gaps more before it makes a pass.
+    pub(crate) fn has_room(&self, count: u64) -> bool
+        ensures room { result ≡ true → length self.now.gone.items + count ≤ self.now.most }
+        ensures full { result ≡ false → IsFull self.now count }
+    {
+        count <= (self.most - self.gone.len()) as u64
+    }
+
+    /// After so many records of a key were taken out: asks for memory to note more gaps, as many as
+    /// there are and some. Without it, or if a pass is due, one is made before the next gap is noted.
+    pub(crate) fn make_room(&mut self, key: &[u8], taken: u64)
+        ensures maker { self.new.maker ≡ self.old.maker }
+        ensures gone { self.new.gone.items ≡ self.old.gone.items }
+    {
+        if taken == 0 {
+            return;
+        }
+        let len = self.gone.len();
+        let most = (self.maker.count / 8) as usize + SPARE;
+        if self.gone.capacity() < most && self.gone.capacity() <= len + SPARE / 2 {
+            let _ = self.gone.reserve(len + SPARE);
+        }
+        self.most = if self.is_due(hash(key), taken) {
+            len
+        } else {
+            self.gone.capacity().min(most.max(len))
+        };
+    }
+
+    /// Whether a pass is due, after so many records of a hash were taken out.
+    fn is_due(&mut self, hash: u32, taken: u64) -> bool
+        ensures maker { self.new.maker ≡ self.old.maker }
+        ensures gone { self.new.gone ≡ self.old.gone }
+    {
+        let marked = self.gone.len() as u64;
+        if marked <= taken {
+            self.pace.begin(hash, self.maker.end);
+            return false;
+        }
+        self.pace
+            .is_due(hash, marked, self.maker.count, self.maker.end)
+    }
+
+    /// Whether some record has a key that is not marked.
+    ///
+    /// It writes nothing and takes no memory. `Lookup`: the store failed while it was read.
+    /// `Broken`: an earlier call broke the batch, or the store gave back other bytes than were
+    /// written.
+    pub fn exists(&mut self, key: &[u8]) -> Result<bool, MakeFault>
+        ensures there { (rs : List KeyValue) → Holds self.old rs
+            → IfOk result (λ there. IsThere there key.now rs (S.image self.new.maker.store)) }
+        ensures ok { OnOk result (WritesNothing self.old self.new) }
+        ensures fails { IfErr result (FailsLooking self.old self.new) }
+        ensures counts { SameCounts self.old self.new }
+        ensures follows { Follows self.old.maker self.new.maker }
+        ensures ok_failures { OnOk result (HasNotFailed self.old.maker self.new.maker) }
+    {
+        self.maker.look(key)
+    }
+}
