@@ -1,4 +1,4 @@
-// What stands on a command line.
+// What a command line says.
 
 /// Which letters without a value are on a line, each once or often.
 #[derive(Clone, Copy)]

@@ -1,6 +1,6 @@
 // What is wrong with a database file.
 
-/// What is wrong with a database file, which the definitions of the format tell. A place is counted
+/// What is wrong with a database file, by the definitions of the format. A place is counted
 /// in bytes from the file's start.
 #[derive(Clone, Copy, Debug, PartialEq, Eq)]
 pub enum Damage {

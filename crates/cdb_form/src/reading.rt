@@ -14,7 +14,7 @@ use std::io::{ErrorKind, Read};
 /// As many bytes as a pipe holds. So many are read or written at once, and make a window.
 pub const PIPE: usize = 65536;
 
-/// How often in a row a reader or a writer is asked again where a signal interrupts it.
+/// How often in a row a reader or a writer is asked again if a signal interrupts it.
 pub(crate) const RETRIES: u32 = 1000;
 
 /// Why a reader did not give what it was asked for.
@@ -119,7 +119,7 @@ fn lengthen(into: &mut Vec<u8>, len: usize) -> Result<(), AllocError>
     Ok(())
 }
 
-/// Takes some of the next bytes into a vector, behind its first `held` and over what it holds
+/// Takes some of the next bytes into a vector, after its first `held` and over what it holds
 /// there: one at least and `most` at most.
 ///
 /// After a fault the vector holds its first `held` bytes alone.

@@ -1,4 +1,4 @@
-// How far the used slots of tables stand from where their searches begin.
+// How far the used slots of tables are from where their searches begin.
 ghost use Rattle.std.specs.Prelude.{ℕ, ◌≡◌, ◌++◌, [], ◌∷◌, List};
 
 /// How many distances are counted apart: 0 to 9, and 10 or more.

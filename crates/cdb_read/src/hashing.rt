@@ -1,4 +1,4 @@
-// The hash of a key that stands in a store.
+// The hash of a key that is in a store.
 ghost use Rattle.std.specs.Prelude.{◌≡◌, ℕ, ◌+◌, ◌<◌, ◌≤◌, ◌^◌, List, IfOk, IfErr};
 ghost use Rattle.cdb_form.specs.Format.Hash.{key_hash};
 ghost use Rattle.cdb_read.specs.Lookup.{bytes_of};

@@ -1,4 +1,4 @@
-// Runs of used slots, one behind the other.
+// Runs of used slots, one after the other.
 ghost use Rattle.std.specs.Prelude.{◌≡◌, ℕ, ◌+◌, ◌*◌, ◌<◌, ◌≤◌, ◌^◌, ◌∷◌, [], ◌++◌, List};
 ghost use Rattle.std.specs.Prelude.{IfOk, IfErr};
 ghost use Rattle.cdb_form.specs.Format.Pair.{WordPair};

@@ -1,4 +1,4 @@
-// Where a search stands.
+// How far a search is.
 ghost use Rattle.std.specs.Prelude.{◌≡◌, ◌<◌};
 ghost use Rattle.cdb_read.specs.Views.Turning.{next_turn};
 

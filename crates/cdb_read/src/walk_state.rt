@@ -1,4 +1,4 @@
-// Where a walk stands.
+// How far a walk is.
 ghost use Rattle.std.specs.Prelude.{◌≤◌};
 
 /// Where the records lie that a walk has left: from the next place to the record end.

@@ -56,7 +56,7 @@ impl<R: Read, L: Width> AmendReader<R, L> {
         }
     }
 
-    /// Its reader, which goes on behind what was read of it.
+    /// Its reader, which goes on after what was read of it.
     pub fn into_reader(self) -> R
         ensures { R.remaining result ≡ unread R.remaining self }
     {

@@ -7,7 +7,7 @@ use itoa::Buffer;
 use std::io::Write;
 
 /// Writes a removal of an amending text, with the shortest numeral. After an `OutFault` the writer
-/// holds a front of it.
+/// holds a prefix of it.
 pub fn write_removal<W: Write>(w: &mut W, key: &[u8]) -> Result<(), OutFault>
     ensures { Writes result (W.contents w.old) (W.contents w.new) (removal_line key.now) }
 {

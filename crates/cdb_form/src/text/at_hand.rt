@@ -14,7 +14,7 @@ use std::io::Read;
 
 /// How the bytes are taken that a reader has at hand: its next ones, for which nothing is asked.
 pub trait AtHand<R: Read> {
-    /// Moves bytes of a kind that are at hand, `most` at most, behind what a vector holds, and
+    /// Moves bytes of a kind that are at hand, `most` at most, after what a vector holds, and
     /// answers how many. Where memory is refused none are taken.
     fn take_run(
         reader: &mut R,

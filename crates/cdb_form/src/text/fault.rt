@@ -52,7 +52,7 @@ impl TextFault {
         }
     }
 
-    /// What the fault is, in words that stand behind the place where it has one.
+    /// What the fault is, in words that follow the place if it has one.
     pub fn message(&self) -> &'static str
         ensures { result.now ≡ text_message self.now }
     {
@@ -66,7 +66,7 @@ impl TextFault {
         }
     }
 
-    /// The place of the fault, in bytes from the reader's first one, where it has one.
+    /// The place of the fault, in bytes from the reader's first one, if it has one.
     pub fn place(&self) -> Option<u64>
         ensures { result ≡ text_place self.now }
     {

@@ -11,15 +11,15 @@ use std::alloc::AllocError;
 /// A numeral from here on takes no further digit: so much is never at hand.
 const LONG: u64 = 100_000_000;
 
-/// A numeral at the front of some bytes.
+/// A numeral that some bytes begin with.
 #[derive(Clone, Copy)]
 pub(crate) struct FrontNumeral {
     pub(crate) value: u64,
-    /// The place behind the byte that ends it.
+    /// The place after the byte that ends it.
     pub(crate) end: usize,
 }
 
-/// The lengths of a record at the front of some bytes.
+/// The lengths of a record that some bytes begin with.
 #[derive(Clone, Copy)]
 pub(crate) struct FrontLengths {
     pub(crate) klen: usize,
@@ -28,7 +28,7 @@ pub(crate) struct FrontLengths {
     pub(crate) end: usize,
 }
 
-/// The short numeral that some bytes begin with, with `stop` behind it.
+/// The short numeral that some bytes begin with, with `stop` after it.
 #[inline(always)]
 fn front_numeral(bytes: &[u8], stop: u8) -> Option<FrontNumeral>
     ensures begins { IfSome result (BeginsWithNumeral stop bytes.now) }
@@ -76,7 +76,7 @@ fn front_lengths(bytes: &[u8], greatest: u64) -> Option<FrontLengths>
     })
 }
 
-/// Whether a key and a value of these lengths stand at the front of some bytes, with their marks.
+/// Whether some bytes begin with a key and a value of these lengths, with their marks.
 #[inline(always)]
 fn has_body(bytes: &[u8], klen: usize, vlen: usize) -> bool
     requires { klen + vlen < 2000000000 }
@@ -92,7 +92,7 @@ fn has_body(bytes: &[u8], klen: usize, vlen: usize) -> bool
 }
 
 /// Copies the record that some bytes begin with over another one, and answers how many bytes spell
-/// it. There are none where no whole record is found, and then the record holds anything.
+/// it. There are none if no whole record is found, and then the record holds anything.
 #[inline(always)]
 pub fn front_record(bytes: &[u8], greatest: u64, into: &mut Record) -> Result<usize, AllocError>
     ensures { IfOk result (λ n. 0 < n →

@@ -6,8 +6,8 @@ use crate::text::fault::TextFault;
 pub(crate) enum Going {
     /// It reads on.
     On,
-    /// Its input has ended: it tells the end.
+    /// Its input has ended: it reports the end.
     AtEnd,
-    /// It tells this fault again.
+    /// It reports this fault again.
     Failed(TextFault),
 }

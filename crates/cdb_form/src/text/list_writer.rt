@@ -7,7 +7,7 @@ use itoa::Buffer;
 use std::io::Write;
 
 /// Writes a key of a list text, with its length in the shortest decimal. After an `OutFault` the
-/// writer holds a front of it.
+/// writer holds a prefix of it.
 pub fn write_list_record<W: Write>(w: &mut W, key: &[u8]) -> Result<(), OutFault>
     ensures { Writes result (W.contents w.old) (W.contents w.new) (list_line key.now) }
 {
@@ -16,7 +16,7 @@ pub fn write_list_record<W: Write>(w: &mut W, key: &[u8]) -> Result<(), OutFault
     write_pieces(w, &[b"+", klen, b":", key, b"\n"])
 }
 
-/// Writes a key and a newline. After an `OutFault` the writer holds a front of them.
+/// Writes a key and a newline. After an `OutFault` the writer holds a prefix of them.
 pub fn write_map_key<W: Write>(w: &mut W, key: &[u8]) -> Result<(), OutFault>
     ensures { Writes result (W.contents w.old) (W.contents w.new) (key_line key.now) }
 {

@@ -44,7 +44,7 @@ pub(crate) enum Entry {
 }
 
 impl<R: Read> Source<R> {
-    /// Passes over bytes of a kind, and takes the byte behind them: `None` is the end.
+    /// Passes over bytes of a kind, and takes the byte after them: `None` is the end.
     fn pass<A: AtHand<R>>(&mut self, kind: Kind) -> Result<Option<u8>, TextFault>
         ensures run { IfOk result (λ stop. (bytes : List ℕ)
             × ReadsRun kind R.remaining self.old self.new bytes stop) }
@@ -62,7 +62,7 @@ impl<R: Read> Source<R> {
         }
     }
 
-    /// Puts bytes of a kind that are at hand behind what `into` holds. Each counts as an ask, as if
+    /// Puts bytes of a kind that are at hand after what `into` holds. Each counts as an ask, as if
     /// it had been asked for.
     #[inline(always)]
     fn keep_at_hand<A: AtHand<R>>(
@@ -82,8 +82,8 @@ impl<R: Read> Source<R> {
         Ok(())
     }
 
-    /// Puts `first` and the bytes of a kind behind it over what `into` holds, and takes the byte
-    /// behind them: `None` is the end.
+    /// Puts `first` and the bytes of a kind after it over what `into` holds, and takes the byte
+    /// after them: `None` is the end.
     fn keep<A: AtHand<R>>(
         &mut self,
         first: u8,
@@ -111,7 +111,7 @@ impl<R: Read> Source<R> {
         }
     }
 
-    /// Takes the rest of a line behind the first blank behind a key: more blanks, and the value. It
+    /// Takes the rest of a line after the first blank after a key: more blanks, and the value. It
     /// answers whether the line ends with a newline.
     fn value<A: AtHand<R>>(&mut self, into: &mut Vec<u8>) -> Result<bool, TextFault>
         ensures reads { IfOk result (λ newline. ReadsValue R.remaining self.old self.new
@@ -132,7 +132,7 @@ impl<R: Read> Source<R> {
         Ok(stop.is_some())
     }
 
-    /// Takes the rest of a record's line behind its first byte, which is one of its key. It answers
+    /// Takes the rest of a record's line after its first byte, which is one of its key. It answers
     /// whether the line ends with a newline.
     fn pair<A: AtHand<R>>(&mut self, first: u8, into: &mut Record) -> Result<bool, TextFault>
         requires { is_of InWord first ≡ true }

@@ -52,7 +52,7 @@ impl<R: Read> MapReader<R> {
         }
     }
 
-    /// Its reader, which goes on behind what was read of it.
+    /// Its reader, which goes on after what was read of it.
     pub fn into_reader(self) -> R
         ensures { R.remaining result ≡ unread R.remaining self }
     {

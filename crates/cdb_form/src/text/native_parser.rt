@@ -21,7 +21,7 @@ use crate::text::fault::TextFault;
 use crate::text::source::Source;
 use std::io::Read;
 
-/// The number with one more digit, where it isn't above `greatest`.
+/// The number with one more digit, if it isn't above `greatest`.
 #[inline(always)]
 fn with_digit(value: u64, digit: u32, greatest: u64) -> Option<u64>
     requires digit { digit < 10 }
@@ -36,7 +36,7 @@ fn with_digit(value: u64, digit: u32, greatest: u64) -> Option<u64>
 }
 
 impl<R: Read> Source<R> {
-    /// A numeral of at most `greatest` with `stop` behind it.
+    /// A numeral of at most `greatest` with `stop` after it.
     #[inline(always)]
     fn number(&mut self, greatest: u64, stop: u8) -> Result<u64, TextFault>
         requires { 9 ≤ greatest }
@@ -95,7 +95,7 @@ impl<R: Read> Source<R> {
         }
     }
 
-    /// Takes the next `len` bytes, and `stop` behind them: the text goes on with `len + 1` bytes of
+    /// Takes the next `len` bytes, and `stop` after them: the text goes on with `len + 1` bytes of
     /// any kind or ends early, so they are asked for together.
     #[inline(always)]
     fn field(&mut self, into: &mut Vec<u8>, len: u64, stop: u8) -> Result<(), TextFault>
@@ -120,7 +120,7 @@ impl<R: Read> Source<R> {
         }
     }
 
-    /// Takes the record behind a plus.
+    /// Takes the record after a plus.
     fn record(&mut self, into: &mut Record, greatest: u64) -> Result<(), TextFault>
         requires least { 9 ≤ greatest }
         requires most { greatest < 2 ^ 63 }
@@ -143,7 +143,7 @@ impl<R: Read> Source<R> {
         Ok(())
     }
 
-    /// Takes the removal behind a minus, and keeps its key.
+    /// Takes the removal after a minus, and keeps its key.
     fn removal(&mut self, into: &mut Record, greatest: u64) -> Result<(), TextFault>
         requires least { 9 ≤ greatest }
         requires most { greatest < 2 ^ 63 }

@@ -15,7 +15,7 @@ use std::marker::PhantomData;
 /// Reads the records of a native text, one after the other.
 ///
 /// Its reader is asked for no byte past those that the answer needs, and for at most 4096 at once.
-/// What stands behind the newline that ends the text stays unread.
+/// What follows the newline that ends the text stays unread.
 #[derive(Drop)]
 pub struct TextReader<R, L> {
     alloc: Global,
@@ -54,7 +54,7 @@ impl<R: Read, L: Width> TextReader<R, L> {
         }
     }
 
-    /// Its reader, which goes on behind what was read of it.
+    /// Its reader, which goes on after what was read of it.
     pub fn into_reader(self) -> R
         ensures { R.remaining result ≡ unread R.remaining self }
     {
@@ -65,8 +65,8 @@ impl<R: Read, L: Width> TextReader<R, L> {
     ///
     /// After the end it answers `Ok(None)` for good, and after a fault that fault. `Syntax`,
     /// `Ended` and `Large` are the fault of the text, with its place in bytes from the reader's
-    /// first one; `Input` comes where the reader failed, or was interrupted more than 1000 times
-    /// in a row; `Endless` where no ask is left; `NoMemory` where a growth was refused.
+    /// first one; `Input` comes if the reader failed, or was interrupted more than 1000 times
+    /// in a row; `Endless` if no ask is left; `NoMemory` if an allocation failed.
     pub fn next(&mut self) -> Result<Option<Record>, TextFault>
         ensures gives { IfOk result (λ found. MatchOption found
             (GivesEnd R.remaining self.old self.new)

@@ -11,7 +11,7 @@ use std::io::Write;
 /// How many bytes a line has at most before its key: two numerals of 20 digits, and three marks.
 const LONGEST: usize = 43;
 
-/// Puts a mark into a line at a place, and answers the place behind it.
+/// Puts a mark into a line at a place, and answers the place after it.
 #[inline(always)]
 fn put_mark(line: &mut [u8], place: usize, mark: u8) -> usize
     requires { place < length line.old }
@@ -23,7 +23,7 @@ fn put_mark(line: &mut [u8], place: usize, mark: u8) -> usize
     place + 1
 }
 
-/// Puts a numeral into a line at a place, and answers the place behind it.
+/// Puts a numeral into a line at a place, and answers the place after it.
 #[inline(always)]
 fn put_numeral(line: &mut [u8], place: usize, numeral: &[u8]) -> usize
     requires { place + length numeral.now ≤ length line.old }
@@ -36,7 +36,7 @@ fn put_numeral(line: &mut [u8], place: usize, numeral: &[u8]) -> usize
     end
 }
 
-/// Puts what stands before the key into a line, and answers the place behind it.
+/// Puts what comes before the key into a line, and answers the place after it.
 fn put_lengths(line: &mut [u8], klen: usize, vlen: usize) -> usize
     requires { 43 ≤ length line.old }
     ensures within { result ≤ length line.new }
@@ -52,7 +52,7 @@ fn put_lengths(line: &mut [u8], klen: usize, vlen: usize) -> usize
 }
 
 /// Writes a record of a native text, with the shortest numerals. After an `OutFault` the writer
-/// holds a front of it.
+/// holds a prefix of it.
 pub fn write_record<W: Write>(w: &mut W, key: &[u8], value: &[u8]) -> Result<(), OutFault>
     ensures { Writes result (W.contents w.old) (W.contents w.new) (spelling_of (record { key = key.now; value = value.now })) }
 {
@@ -62,7 +62,7 @@ pub fn write_record<W: Write>(w: &mut W, key: &[u8], value: &[u8]) -> Result<(),
     write_pieces(w, &[&line[..lengths], key, b"->", value, b"\n"])
 }
 
-/// Writes the newline that ends a native text. After an `OutFault` the writer holds a front of it.
+/// Writes the newline that ends a native text. After an `OutFault` the writer holds a prefix of it.
 pub fn write_end<W: Write>(w: &mut W) -> Result<(), OutFault>
     ensures { Writes result (W.contents w.old) (W.contents w.new) (codes "\n") }
 {

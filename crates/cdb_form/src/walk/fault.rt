@@ -37,7 +37,7 @@ impl WalkFault {
         }
     }
 
-    /// The fault of a walk whose reader did not give what it was asked for, where it is `early`
+    /// The fault of a walk whose reader did not give what it was asked for, if it is `early`
     /// that it had no more.
     pub(crate) fn of_reader(unread: Unread, early: WalkFault) -> WalkFault
         ensures { result ≡ unread_walk early unread }

@@ -1,4 +1,4 @@
-// Where the records of a database file stand, as its head tells.
+// Where the records of a database file are, by its head.
 ghost use Rattle.std.specs.Prelude.{◌≡◌, ◌≤◌, drop};
 ghost use Rattle.std.specs.Prelude.{OnErr, IfOk, IfErr, IfSome};
 ghost use Rattle.cdb_form.specs.Views.KnownBytes.{LosesAtMost, FromTo};

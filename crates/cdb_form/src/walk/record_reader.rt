@@ -68,7 +68,7 @@ impl<R: Read, L: Width> RecordReader<R, L> {
     /// After the end it answers `Ok(None)` for good, and after a fault that fault. `Short`, `Table`
     /// and `Record` are the damage of the file, after all whole records before it; `Input` comes
     /// if the reader failed, or was interrupted more than 1000 times in a row; `NoMemory` if
-    /// a growth was refused.
+    /// an allocation failed.
     pub fn next(&mut self) -> Result<Option<Record>, WalkFault>
         ensures gives { IfOk result (λ found. MatchOption found
             (GivesEnd L.WORD R.remaining self.old self.new)

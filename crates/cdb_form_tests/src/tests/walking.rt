@@ -262,6 +262,29 @@ fn wide_files(rt: HostRuntime) -> Result<(), Fail> {
     Ok(())
 }
 
+/// A wide file whose tables lie far behind it: a header of these lengths, and ten bytes.
+fn far_file(alloc: Global, klen: u64, vlen: u64) -> Result<Vec<u8>, AllocError> {
+    let mut file = Vec::new(alloc);
+    for _ in 0..256usize {
+        push_words(&mut file, 1 << 62, 1, 8)?;
+    }
+    push_words(&mut file, klen, vlen, 8)?;
+    file.extend_from_slice(b"0123456789")?;
+    Ok(file)
+}
+
+#[test]
+fn a_length_that_nothing_follows_takes_no_memory(rt: HostRuntime) -> Result<(), Fail> {
+    for (klen, vlen) in [(1 << 60, 0), (4, 1 << 60), (1 << 60, 1 << 60)] {
+        let file = far_file(rt.alloc(), klen, vlen)?;
+        let reader = FakeReader::new(&file, Behind::End);
+        let fault = Some(WalkFault::Record(4096));
+        let is_walked = walks::<Wide, FakeReader<'_>>(rt.alloc(), reader, 0, fault)?;
+        assert!(rt; is_walked, "{klen}, {vlen}");
+    }
+    Ok(())
+}
+
 #[test]
 fn interruptions_and_small_pieces(rt: HostRuntime) -> Result<(), Fail> {
     let file = two_file(rt.alloc())?;

@@ -1,5 +1,5 @@
 -- Why reading a store ends.
-use Rattle.std.specs.Prelude.{ℕ, ◌≡◌, ◌<◌, ◌≤◌, List}
+use Rattle.std.specs.Prelude.{ℕ, ◌≡◌, ◌<◌}
 use Rattle.cdb_store.specs.declared.store.Store.{Ghosts}
 pub use Rattle.cdb_store.specs.Reads.{OnlyReads}
 use Rattle.cdb_form.specs.Format.Pair.{head_size}
