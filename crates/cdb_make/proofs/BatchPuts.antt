@@ -52,9 +52,6 @@ rests_holds old mid rs rests h = record {
 lies_held : {S L : Type 0} {s : Ghosts S} {l : Widths L} (m : Batch S L s l) (all : List KeyValue) (marks : List Bool) → Lies m all marks → Holds m (unmarked marks all)
 lies_held m all marks h = record { whole = h.carries.whole; held = record { each = λ b is. record { all = all; marks = marks; lies = h; left = refl } } }
 
-pub rests_stay : {S L : Type 0} {s : Ghosts S} {l : Widths L} (old mid : Batch S L s l) → Rests old mid → StaysWhole old mid
-rests_stay old mid rests = record { was = rests.nothing.was; whole = rests.nothing.whole; holds = λ rs h. rests_holds old mid rs rests h }
-
 pub rests_same : {S L : Type 0} {s : Ghosts S} {l : Widths L} (m : Batch S L s l) → m.maker.broken ≡ false → Rests m m
 rests_same m whole = record {
   nothing = record { was = whole; whole = whole; lies = λ all marks h. h; written = refl };
@@ -136,6 +133,17 @@ size_less w ms rs wide =
     let count = unmarked_count w (head_size w) ms rs in
     let bytes : 4 * w * length (unmarked ms rs) ≤ 4 * w * length rs = fewer_bytes w (length (unmarked ms rs)) (length rs) wide (omega arith) in
     omega (arith, size_split w rs, size_split w (unmarked ms rs))
+
+-- the file of the records that it holds keeps the limit, as that of all does
+pub holds_fits : {S L : Type 0} {s : Ghosts S} {l : Widths L} (m : Batch S L s l) (rs : List KeyValue) → (l.WORD ≡ 4) ⊎ (l.WORD ≡ 8) → Holds m rs → WhereHonest (s.image m.maker.store) (file_size l.WORD rs ≤ limit_of m)
+holds_fits {l = l} m rs wide h = record {
+  each = λ b is.
+      let k = h.held.each b is in
+      let made = made_all m k.all k.marks k.lies b is in
+      let less = size_less l.WORD k.marks k.all wide in
+      let own : file_size l.WORD rs ≡ file_size l.WORD (unmarked k.marks k.all) = ap (file_size l.WORD) k.left in
+      omega (arith, made, less, own, m.maker.within);
+}
 
 -- where all have room with a record more, the others have
 fits_more : {S L : Type 0} {s : Ghosts S} {l : Widths L} (m : Batch S L s l) (r : KeyValue) (rs : List KeyValue) → (l.WORD ≡ 4) ⊎ (l.WORD ≡ 8) → HasRoom m.maker r → Holds m rs → WhereHonest (s.image m.maker.store) (file_size l.WORD (rs ++ r ∷ []) ≤ limit_of m)

@@ -92,18 +92,6 @@ none_carried {s = s} {l = l} old new t ls Foreign own is same foreign broken all
     subst (λ (v : _). HasNoImage (s.image v)) (sym same)
     (foreign refl marks all (subst (λ (v : List (List WordPair)). StandMarked l.WORD old.end v marks all (s.image old.store)) (sym own) (carried_stand old all marks h)))
 
--- memory that is wanted after a look was wanted before it
-pub wants_looked : {S L : Type 0} {s : Ghosts S} {l : Widths L} (old new : Maker S L s l) (h : ℕ) (r : KeyValue) → h ≡ key_hash r.key → lists_entries new.lists.items ≡ lists_entries old.lists.items
-    → entry_room old.lists.items h ≤ entry_room new.lists.items h → vec_capacity old.gaps ≤ vec_capacity new.gaps → s.room old.store ≤ s.room new.store → new.end ≡ old.end
-    → WantsMemory new r → WantsMemory old r
-wants_looked old new h r hashed lists rooms gaps room end wants =
-    let count : entry_count new.lists.items (key_hash r.key) ≡ entry_count old.lists.items (key_hash r.key) = ap (λ v. length (get_or v (table_number (key_hash r.key)) [])) lists in
-    let more : entry_room old.lists.items (key_hash r.key) ≤ entry_room new.lists.items (key_hash r.key) = subst (λ (v : ℕ). entry_room old.lists.items v ≤ entry_room new.lists.items v) hashed rooms in
-    elim wants [
-      | inl full ↦ inl (elim full [ inl f ↦ inl (omega arith) | inr f ↦ inr (omega arith) ])
-      | inr past ↦ inr (omega arith)
-    ]
-
 -- once the gaps of marked records are closed it holds the others
 pub all_unmarked : (P : KeyValue → Type 0) (ms : List Bool) (rs : List KeyValue) → All P rs → All P (unmarked ms rs)
 all_unmarked P [] rs all = all

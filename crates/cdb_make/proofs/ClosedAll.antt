@@ -41,15 +41,6 @@ sum_fewer (x ∷ xs) (y ∷ ys) e h =
     let first : length x ≤ length y = h 0 [] (omega arith) in
     omega (arith, sum_by-cons length x xs, sum_by-cons length y ys)
 
-pub sum_closed : {gs : List Gap} {ls ls₁ : List EntryList} → AreClosed gs ls ls₁ → sum_by length (lists_entries ls₁) ≤ sum_by length (lists_entries ls)
-sum_closed {ls = ls} {ls₁ = ls₁} closed =
-    sum_fewer (lists_entries ls₁) (lists_entries ls) (length-map ls₁ list_entries ∙ closed.long ∙ sym (length-map ls list_entries)) (λ k d lt.
-    let n : k < length ls = omega (arith, length-map ls list_entries) in
-    let e : EntryList = list_here ls (omega arith) in
-    let was : length (get_or (lists_entries ls) k d) ≡ length (list_entries (get_or ls k e)) = ap length (get_or-map list_entries ls k e d n) in
-    let now : length (get_or (lists_entries ls₁) k d) ≡ length (list_entries (get_or ls₁ k e)) = ap length (get_or-map list_entries ls₁ k e d (omega (arith, closed.long))) in
-    omega (arith, (closed.each k e n).fewer))
-
 -- there are no more records than bytes
 pub count_small : (w count end limit : ℕ) → (w ≡ 4) ⊎ (w ≡ 8) → end + 4 * w * count ≤ limit → count ≤ limit
 count_small w count end limit (inl e) h = let k : 4 * w * count ≡ 16 * count = ap (λ (v : ℕ). 4 * v * count) e in omega arith

@@ -25,9 +25,6 @@ follows_read {l = l} old new fewer limit room failures = record {
   failures = failures;
 }
 
-pub follows_same : {S L : Type 0} {s : Ghosts S} {l : Widths L} (m : Maker S L s l) → Follows {s = s} {l = l} m m
-follows_same m = follows_read m m (λ b is. is) refl (omega arith) (omega arith)
-
 pub follows_then : {S L : Type 0} {s : Ghosts S} {l : Widths L} {a b c : Maker S L s l} → Follows {s = s} {l = l} a b → Follows {s = s} {l = l} b c → Follows {s = s} {l = l} a c
 follows_then f g = record {
   comes = comes_then f.comes g.comes;

@@ -241,13 +241,6 @@ lowest_some ends next hs b end linked in_ends is some =
 pub nowhere_free : (count hash : ℕ) (hs : List ℕ) (from low end : ℕ) → low ≤ from → IsFree count (bucket_of count hash) hs low end → IsNowhereIn hash hs from end
 nowhere_free count hash hs from low end le free k above below = λ same. free k (omega arith) below (ap (bucket_of count) same)
 
--- the room of an index, of which the most entries are these
-pub room_least : (r n : ℕ) → n ≤ cond (nat_lt r (2 ^ 32 - 1)) r (2 ^ 64) → min n (2 ^ 32 - 1) ≤ r
-room_least r n le = grind (arith, nat_tests)
-
-pub room_enough : (r n : ℕ) → min n (2 ^ 32 - 1) ≤ r → n < 2 ^ 64 → n ≤ cond (nat_lt r (2 ^ 32 - 1)) r (2 ^ 64)
-room_enough r n le lt = grind (arith, nat_tests)
-
 -- the rings stay where other hashes begin with those that they are of
 ring_kept : (count b : ℕ) (hs new next : List ℕ) (long end : ℕ) → ((k : ℕ) → k < long → slice_index new k ≡ slice_index hs k) → IsRing count b hs next long end → IsRing count b new next long end
 ring_kept count b hs new next long end kept ring =
@@ -395,36 +388,12 @@ ring_cut count b hs next new from long end kept reach le last none turned same_n
           ];
     }
 
--- no ring is cut yet
-pub cut_none : (ends next hs : List ℕ) (from : ℕ) → from ≤ length next → AreLinked ends next hs → AreCut ends next hs from from
-cut_none ends next hs from le linked = record {
-  within = linked.within;
-  reach = le;
-  rings = λ b lt. inr (linked.rings b lt, λ k low high. absurd (omega arith));
-}
-
 -- a ring that is cut, or that reaches behind `from`
 pub cut_ring_at : (ends next hs : List ℕ) (from entry b end : ℕ) → AreCut ends next hs from entry → b < length ends → slice_index ends b ≡ end → from < end → IsRing (length ends) b hs next (length next) end
 cut_ring_at ends next hs from entry b end cut lt is reach = elim (cut.rings b lt) [
   | inl ring ↦ absurd (omega (arith, ring.within))
   | inr whole ↦ subst (IsRing (length ends) b hs next (length next)) is whole.0
 ]
-
--- the ring of an entry does not reach there
-pub cut_passed : (ends next hs : List ℕ) (from entry b : ℕ) → AreCut ends next hs from entry → b ≡ bucket_of (length ends) (slice_index hs entry) → slice_index ends b ≤ from → AreCut ends next hs from (entry + 1)
-cut_passed ends next hs from entry b cut here low = record {
-  within = cut.within;
-  reach = cut.reach;
-  rings = λ a lt. elim (cut.rings a lt) [
-    | inl ring ↦ inl ring
-    | inr whole ↦ elim (cases_eq a b) [
-      | inl is ↦
-          let short : slice_index ends a ≤ from = subst (λ (n : ℕ). slice_index ends n ≤ from) (sym is) low in
-          inl (ring_narrow (length ends) a hs next from (length next) (slice_index ends a) cut.reach (λ k least most. whole.0.free k (omega arith) most) whole.0)
-      | inr apart ↦ inr (whole.0, free_next (length ends) a hs from entry (λ at. apart (sym at ∙ sym here)) whole.1)
-    ]
-  ];
-}
 
 -- and where it is cut
 cut_more : (ends next new hs : List ℕ) (from entry b kept : ℕ) → b < length ends → length new ≡ length next → b ≡ bucket_of (length ends) (slice_index hs entry)

@@ -14,10 +14,6 @@ use Rattle.cdb_form.specs.Views.Pairs.{slot_pair, PairFits}
 use Rattle.cdb_form.proofs.WritingLemmas.{front_then}
 use Rattle.cdb_form.specs.declared.slot.Slot.{Slot}
 
-pub on_err : {T E : Type 0} {P Q : Type 0} (r : Result T E) → (P → Q) → OnErr r P → OnErr r Q
-on_err (Ok x) f h = tt
-on_err (Err e) f h = f h
-
 pub on_any_ok : {T E : Type 0} {P : Type 0} (r : Result T E) → P → OnOk r P
 on_any_ok (Ok x) h = h
 on_any_ok (Err e) h = tt

@@ -51,6 +51,7 @@ impl<S: Store, L: Width> Batch<S, L> {
     ghost use Rattle.cdb_make.specs.Views.Batch.{Holds, count_in, limit_of, SameCounts};
     ghost use Rattle.cdb_make.specs.Views.Batch.{WritesNothing, FailsLooking, IsFull};
     ghost use Rattle.cdb_make.specs.Views.Maker.{WhereHonest, Follows, HasNotFailed};
+    ghost use Rattle.cdb_make.specs.Views.Maker.{Holds as Has};
 
     /// A batch of a file of at most `limit` bytes in a store, which is emptied.
     ///
@@ -71,17 +72,24 @@ impl<S: Store, L: Width> Batch<S, L> {
             MakingFault S.image S.size S.written S.failures store r.store r.fault) }
     {
         match Maker::new(alloc, store, limit) {
-            Ok(maker) => {
-                let gone = some_room(alloc);
-                let most = gone.capacity();
-                Ok(Batch {
-                    maker,
-                    gone,
-                    most,
-                    pace: Pace::new(),
-                })
-            }
+            Ok(maker) => Ok(Batch::over(alloc, maker)),
             Err(refused) => Err(refused),
+        }
+    }
+
+    /// A batch of the records that a maker holds, none of them marked.
+    pub fn over(alloc: Global, maker: Maker<S, L>) -> Batch<S, L>
+        ensures holds { (rs : List KeyValue) → Has maker rs → Holds result rs }
+        ensures maker { result.maker ≡ maker }
+        ensures limit { limit_of result ≡ maker.limit }
+    {
+        let gone = some_room(alloc);
+        let most = gone.capacity();
+        Batch {
+            maker,
+            gone,
+            most,
+            pace: Pace::new(),
         }
     }
 

@@ -1,5 +1,11 @@
-// The maker, over stores in memory and files, with faults of the store and want of memory.
+// The maker and the batch, over stores in memory and files, with faults of the store and want of memory.
 mod again;
+mod batches;
+mod batches_drawn;
+mod batches_faults;
+mod batches_limited;
+mod batches_paced;
+mod batches_scarce;
 mod drawn;
 mod faults;
 mod files;

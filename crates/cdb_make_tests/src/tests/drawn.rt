@@ -7,7 +7,16 @@ use std::prelude::*;
 use std::test::Fail;
 
 /// Some keys, of which several share a table and two a hash.
-const KEYS: [&[u8]; 6] = [b"", b"a", b"bc", b"cB", b"one", b"two"];
+pub(super) const KEYS: [&[u8]; 6] = [b"", b"a", b"bc", b"cB", b"one", b"two"];
+
+/// What the draws begin from.
+const SEED: u64 = 0x9e3779b97f4a7c15;
+
+/// How many short scripts are drawn.
+const SCRIPTS: u32 = 2676;
+
+/// How many of them differ. Those of no call are one.
+const DIFFERENT: usize = 2500;
 
 /// What values are parts of.
 const VALUES: &[u8] = b"0123456789abcdefghijklmnopqrstuvwxyz";
@@ -41,7 +50,7 @@ fn drawn_call<'a>(state: &mut u64, keys: &[&'a [u8]]) -> Call<'a> {
 }
 
 /// Calls that are drawn, with one of some keys each. The first of them, so many, only add.
-fn drawn_calls<'a>(
+pub(super) fn drawn_calls<'a>(
     alloc: Global,
     state: &mut u64,
     keys: &[&'a [u8]],
@@ -68,7 +77,7 @@ fn all_come_to(
     adds: u32,
     len: u32,
 ) -> Result<(), Fail> {
-    let mut state = 0x9e3779b97f4a7c15;
+    let mut state = SEED;
     for _ in 0..scripts {
         let calls = drawn_calls(alloc, &mut state, keys, adds, len)?;
         comes_to::<Narrow>(alloc, &calls)?;
@@ -77,7 +86,7 @@ fn all_come_to(
 }
 
 /// The decimal digits of a number.
-fn digits(number: u32) -> [u8; 6] {
+pub(super) fn digits(number: u32) -> [u8; 6] {
     let mut digits = [b'0'; 6];
     let mut left = number;
     for digit in digits.iter_mut() {
@@ -88,7 +97,7 @@ fn digits(number: u32) -> [u8; 6] {
 }
 
 /// Six pairs of bytes, each one of two as a bit of the number says. All such keys have one hash.
-fn colliding(number: u32) -> [u8; 12] {
+pub(super) fn colliding(number: u32) -> [u8; 12] {
     let mut key = *b"bCbCbCbCbCbC";
     let mut left = number;
     for pair in key.chunks_exact_mut(2) {
@@ -101,7 +110,10 @@ fn colliding(number: u32) -> [u8; 12] {
 }
 
 /// Slices of some keys.
-fn slices_of<const N: usize>(alloc: Global, keys: &[[u8; N]]) -> Result<Vec<&[u8]>, Fail> {
+pub(super) fn slices_of<const N: usize>(
+    alloc: Global,
+    keys: &[[u8; N]],
+) -> Result<Vec<&[u8]>, Fail> {
     let mut slices = Vec::new(alloc);
     for key in keys {
         slices.push(key.as_slice())?;
@@ -109,12 +121,52 @@ fn slices_of<const N: usize>(alloc: Global, keys: &[[u8; N]]) -> Result<Vec<&[u8
     Ok(slices)
 }
 
+/// The number of a step.
+fn number_of(step: Step) -> u64 {
+    match step {
+        Step::Put(Mode::Add) => 0,
+        Step::Put(Mode::Warn) => 1,
+        Step::Put(Mode::Insert) => 2,
+        Step::Put(Mode::Replace) => 3,
+        Step::Remove => 4,
+        Step::Exists => 5,
+    }
+}
+
+/// A number for a script, by which two of `KEYS` that differ are told apart: its steps, the first
+/// bytes of its keys, and the lengths of its values.
+fn mark_of(calls: &[Call<'_>]) -> u64 {
+    let mut mark = SEED;
+    for call in calls {
+        let first = call.key.first().copied().unwrap_or(0);
+        let own = number_of(call.step)
+            ^ (u64::from(first) << 8)
+            ^ ((call.value.len() as u64) << 16);
+        mark = (mark ^ own).wrapping_mul(0x100000001b3);
+        mark ^= mark >> 29;
+    }
+    mark
+}
+
+/// Runs scripts of up to 15 calls, and answers a mark of each. Each draw goes on from the one before.
+fn short_scripts(alloc: Global) -> Result<Vec<u64>, Fail> {
+    let mut state = SEED;
+    let mut marks = Vec::new(alloc);
+    for _ in 0..SCRIPTS {
+        let len = (draw(&mut state) % 16) as u32;
+        let calls = drawn_calls(alloc, &mut state, &KEYS, 0, len)?;
+        comes_to::<Narrow>(alloc, &calls)?;
+        marks.push(mark_of(&calls))?;
+    }
+    Ok(marks)
+}
+
 #[test]
 fn drawn_calls_come_to_what_a_list_of_records_does(rt: HostRuntime) -> Result<(), Fail> {
-    let mut state = 0x9e3779b97f4a7c15;
-    for _ in 0..5000u32 {
-        all_come_to(rt.alloc(), &KEYS, 1, 0, (draw(&mut state) % 16) as u32)?;
-    }
+    let mut marks = short_scripts(rt.alloc())?;
+    marks.sort_unstable();
+    marks.dedup();
+    assert!(rt; marks.len() == DIFFERENT, "{} scripts differ", marks.len());
     Ok(())
 }
 

@@ -2,12 +2,13 @@
 // It reads what a test prints: whether the refusal came to a call of the script, to what its file
 // is compared with, or to neither.
 use super::again::{Cause, play};
+use super::batches::{act_on, batch_in, file_of};
 use super::makers::{finished, maker_in};
 use super::scripts::{
     ADDED, Answer, Call, act, add, exists, expected, long, remove, replace, replaced,
 };
 use cdb_form::Narrow;
-use cdb_make::{MakeFault, Maker, Mode, Put};
+use cdb_make::{Batch, MakeFault, Maker, Mode, Put};
 use cdb_store::{FuseStore, MemStore, Store};
 use std::alloc::Global;
 use std::prelude::*;
@@ -266,4 +267,69 @@ fn asks_before_a_long_record(rt: HostRuntime) -> Result<(), Fail> {
 #[test]
 fn asks_with_a_long_record(rt: HostRuntime) -> Result<(), Fail> {
     tell(&rt, make(rt.alloc(), 32768, &anew(&[b'x'; 10000]))?)
+}
+
+/// Makes a call on a batch, and makes it again if memory was refused to it. Answers whether it was.
+fn act_again(
+    batch: &mut Batch<MemStore, Narrow>,
+    call: &Call,
+    wanted: Answer,
+) -> Result<bool, Fail> {
+    let first = act_on(batch, call);
+    let met = first == Err(MakeFault::NoMemory);
+    let last = if met { act_on(batch, call) } else { first };
+    if last == Ok(wanted) {
+        Ok(met)
+    } else {
+        Err(Fail::new("another answer of a batch"))
+    }
+}
+
+/// The file of a batch, whose finish is made again if memory was refused to it, and whether it was.
+fn file_again(batch: Batch<MemStore, Narrow>) -> Result<(Vec<u8>, bool), Fail> {
+    match batch.finish() {
+        Ok(store) => Ok((store.into_vec(), false)),
+        Err(unsettled) => {
+            if unsettled.fault != MakeFault::NoMemory {
+                return Err(Fail::new("another fault of the finish"));
+            }
+            Ok((file_of(unsettled.batch)?.into_vec(), true))
+        }
+    }
+}
+
+/// What came of a script on a batch.
+fn came_of_batch(alloc: Global, script: &[Call]) -> Result<Came, Fail> {
+    let wanted = expected::<Narrow>(alloc, script);
+    let made = batch_in::<MemStore, Narrow>(alloc, MemStore::new(alloc));
+    let (Ok(wanted), Ok(mut batch)) = (wanted, made) else {
+        return Ok(Came::NoInputs);
+    };
+    let mut met = false;
+    for (call, answer) in script.iter().zip(wanted.answers.iter()) {
+        met = act_again(&mut batch, call, *answer)? || met;
+    }
+    let (file, late) = file_again(batch)?;
+    if file != wanted.file {
+        return Err(Fail::new("another file of a batch"));
+    }
+    Ok(if met || late {
+        Came::NoMemory
+    } else {
+        Came::Whole
+    })
+}
+
+#[test]
+fn a_batch_tells_refused_memory(rt: HostRuntime) -> Result<(), Fail> {
+    let script = [
+        add(b"a", b"1"),
+        add(b"one", b"Hello"),
+        add(b"a", b"2"),
+        replace(b"one", b"a longer value"),
+        remove(b"a"),
+        add(b"two", b"Goodbye"),
+        replace(b"two", b"a longer value"),
+    ];
+    tell(&rt, came_of_batch(rt.alloc(), &script)?)
 }

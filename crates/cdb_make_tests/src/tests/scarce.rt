@@ -12,8 +12,9 @@ use std::test::Fail;
 
 /// A store that refuses memory so often, once it is so long.
 #[derive(Drop)]
-struct ScarceStore<S: Store> {
-    inner: S,
+pub(super) struct ScarceStore<S: Store> {
+    /// The store.
+    pub(super) inner: S,
     /// What a write needs no memory below.
     room: u64,
     /// How long it is before memory is refused.
@@ -26,7 +27,7 @@ struct ScarceStore<S: Store> {
 
 impl<S: Store> ScarceStore<S> {
     /// A store that has no room yet.
-    fn new(inner: S, from: u64, refusals: u64) -> ScarceStore<S> {
+    pub(super) fn new(inner: S, from: u64, refusals: u64) -> ScarceStore<S> {
         let room = inner.len();
         ScarceStore {
             inner,
