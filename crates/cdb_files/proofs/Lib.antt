@@ -1,2 +1,3 @@
 mod Replacing
+mod Failing
 mod Locking

@@ -1,13 +1,13 @@
 -- The calls of a replacement, one after the other, and what a crash between them leaves.
-use Rattle.std.proofs.Common.{◌≡◌, ◌≢◌, ℕ, ◌⊎◌, inl, inr, List, [], ◌∷◌, ◌++◌, Option, None, Some, Bool, true, false, cond, refl, sym, ◌∙◌, ap, subst, append_assoc}
+use Rattle.std.proofs.Common.{◌≡◌, ℕ, ◌⊎◌, inl, inr, List, [], ◌∷◌, ◌++◌, Option, None, Some, Bool, true, false, cond, refl, sym, ◌∙◌, ap, subst, append_assoc}
 use Rattle.std.specs.List.{AllByRecursion}
 use Rattle.std.proofs.lemmas.Bool.{false≢true}
 use Rattle.cdb_store.specs.Calls.{Calls, IsSynced, FileImage}
 use Rattle.cdb_files.specs.declared.name_trace.NameCall.{NameCall}
 use Rattle.cdb_files.specs.declared.name_trace.NameCall.TheVariants.{Special, One, Apart, Free, Held, Made, NotMade, Allowed, NotAllowed}
 use Rattle.cdb_files.specs.declared.name_trace.NameCall.TheVariants.{Removed, NotRemoved, Renamed, NotRenamed, Synced, NotSynced}
-use Rattle.cdb_files.specs.Folder.{NameCalls, IsRemoval, IsCleared, MayHave, Has, LeavesFile}
-use Rattle.cdb_files.specs.Replacing.{IsReady, IsOfReplacing, AreOfReplacing, AtEach, AtEachMoment, IsNew, LeavesOldOrNew, LeavesNew}
+use Rattle.cdb_files.specs.Folder.{NameCalls, IsRemoval, IsCleared, MayHave, Has, LeavesFile, AreApart}
+use Rattle.cdb_files.specs.Replacing.{IsReady, IsOfReplacing, AreOfReplacing, AtEach, AtEachMoment, IsNew, IsTrueOf, LeavesOldOrNew, LeavesNew}
 
 -- one call
 abbrev pub NameEvent : Type 0
@@ -79,62 +79,73 @@ new_file : {t n : List ℕ} {whole : List ℕ → Type 0} {len : ℕ} {from to :
 new_file None ready leaves = leaves
 new_file (Some b) ready leaves = ready.is_whole b (leaves ready.synced)
 
+-- a crash leaves the old or the new, unless the temporary name leads to the place too
+abbrev Keeps : (place : List ℕ → Bool) (t : List ℕ) (whole : List ℕ → Type 0) (old now : NameCalls) → Type 0
+Keeps place t whole old now = (first held : Option (List ℕ)) → MayHave place first now held
+    → MayHave place first old held ⊎ IsNew whole held ⊎ (place t ≡ true)
+
 -- a call that a replacement may make keeps what a crash leaves
-keeps : {t n : List ℕ} {whole : List ℕ → Type 0} (old now : NameCalls) → t ≢ n → (call : NameEvent)
-    → IsOfReplacing t n whole call → LeavesOldOrNew n whole old now
-    → LeavesOldOrNew n whole old (call ∷ now)
-keeps old now apart (Made, one, other, file) may before first held (inl is) = absurd (apart (sym may ∙ is.0))
-keeps old now apart (Made, one, other, file) may before first held (inr was) = before first held was
-keeps old now apart (Removed, one, other, file) may before first held (inl is) = absurd (apart (sym may ∙ is.0))
-keeps old now apart (Removed, one, other, file) may before first held (inr was) = before first held was
-keeps old now apart (NotRemoved, one, other, file) may before first held (inl is) = absurd (apart (sym may ∙ is.0))
-keeps old now apart (NotRemoved, one, other, file) may before first held (inr was) = before first held was
-keeps old now apart (Renamed len, from, to, file) may before first held (inl is) = inr (new_file held may is.1)
-keeps old now apart (Renamed len, from, to, file) may before first held (inr (inl is)) = absurd (apart (sym may.from_is ∙ is.0))
-keeps old now apart (Renamed len, from, to, file) may before first held (inr (inr was)) = before first held was
-keeps old now apart (NotRenamed len fault, from, to, file) may before first held (inl is) = inr (new_file held may is.1)
-keeps old now apart (NotRenamed len fault, from, to, file) may before first held (inr (inl is)) = absurd (apart (sym may.from_is ∙ is.0))
-keeps old now apart (NotRenamed len fault, from, to, file) may before first held (inr (inr was)) = before first held was
-keeps old now apart (Synced, one, other, file) may before first held is = before first held is.0
-keeps old now apart (Special is, one, other, file) may before first held was = before first held was
-keeps old now apart (Free, one, other, file) may before first held was = before first held was
-keeps old now apart (Held, one, other, file) may before first held was = before first held was
-keeps old now apart (Allowed, one, other, file) may before first held was = before first held was
-keeps old now apart (NotAllowed, one, other, file) may before first held was = before first held was
-keeps old now apart (One, one, other, file) may before first held was = before first held was
-keeps old now apart (Apart, one, other, file) may before first held was = before first held was
-keeps old now apart (NotMade fault, one, other, file) may before first held was = before first held was
-keeps old now apart (NotSynced, one, other, file) may before first held was = before first held was
+keeps : {t : List ℕ} {whole : List ℕ → Type 0} (n : List ℕ) (place : List ℕ → Bool) (old now : NameCalls) (call : NameEvent)
+    → IsOfReplacing t n whole call → Keeps place t whole old now → Keeps place t whole old (call ∷ now)
+keeps n place old now (Made, one, other, file) may before first held (inl is) = inr (inr (subst (λ name. place name ≡ true) may is.0))
+keeps n place old now (Made, one, other, file) may before first held (inr was) = before first held was
+keeps n place old now (Removed, one, other, file) may before first held (inl is) = inr (inr (subst (λ name. place name ≡ true) may is.0))
+keeps n place old now (Removed, one, other, file) may before first held (inr was) = before first held was
+keeps n place old now (NotRemoved, one, other, file) may before first held (inl is) = inr (inr (subst (λ name. place name ≡ true) may is.0))
+keeps n place old now (NotRemoved, one, other, file) may before first held (inr was) = before first held was
+keeps n place old now (Renamed len, from, to, file) may before first held (inl is) = inr (inl (new_file held may is.1))
+keeps n place old now (Renamed len, from, to, file) may before first held (inr (inl is)) = inr (inr (subst (λ name. place name ≡ true) may.from_is is.0))
+keeps n place old now (Renamed len, from, to, file) may before first held (inr (inr was)) = before first held was
+keeps n place old now (NotRenamed len fault, from, to, file) may before first held (inl is) = inr (inl (new_file held may is.1))
+keeps n place old now (NotRenamed len fault, from, to, file) may before first held (inr (inl is)) = inr (inr (subst (λ name. place name ≡ true) may.from_is is.0))
+keeps n place old now (NotRenamed len fault, from, to, file) may before first held (inr (inr was)) = before first held was
+keeps n place old now (Synced, one, other, file) may before first held is = before first held is.0
+keeps n place old now (Special is, one, other, file) may before first held was = before first held was
+keeps n place old now (Free, one, other, file) may before first held was = before first held was
+keeps n place old now (Held, one, other, file) may before first held was = before first held was
+keeps n place old now (Allowed, one, other, file) may before first held was = before first held was
+keeps n place old now (NotAllowed, one, other, file) may before first held was = before first held was
+keeps n place old now (One, one, other, file) may before first held was = before first held was
+keeps n place old now (Apart, one, other, file) may before first held was = before first held was
+keeps n place old now (NotMade fault, one, other, file) may before first held was = before first held was
+keeps n place old now (NotSynced, one, other, file) may before first held was = before first held was
 
-newest : (P : NameCalls → Type 0) (since old : NameCalls) → AtEach P since old → P (since ++ old)
-newest P [] old at = at
-newest P (call ∷ since) old at = at.0
+all_keep : (t n : List ℕ) (whole : List ℕ → Type 0) (place : List ℕ → Bool) (old since : NameCalls)
+    → AllByRecursion (IsOfReplacing t n whole) since → Keeps place t whole old (since ++ old)
+all_keep t n whole place old [] all = λ first held was. inl was
+all_keep t n whole place old (call ∷ since) all =
+    keeps n place old (since ++ old) call all.0 (all_keep t n whole place old since all.1)
 
-each_of : (t n : List ℕ) (whole : List ℕ → Type 0) (old : NameCalls) → t ≢ n → (since : NameCalls)
-    → AllByRecursion (IsOfReplacing t n whole) since → AtEach (LeavesOldOrNew n whole old) since old
-each_of t n whole old apart [] all = λ first held was. inl was
-each_of t n whole old apart (call ∷ since) all =
-    let at = each_of t n whole old apart since all.1 in
-    (keeps old (since ++ old) apart call all.0 (newest (LeavesOldOrNew n whole old) since old at), at)
+unseen : (t n : List ℕ) (whole : List ℕ → Type 0) (place : List ℕ → Bool) (old now : NameCalls) (first held : Option (List ℕ))
+    → IsTrueOf place t n now → MayHave place first old held ⊎ IsNew whole held ⊎ (place t ≡ true)
+    → MayHave place first old held ⊎ IsNew whole held ⊎ ((place t ≡ true) × (AreApart t n now → ⊥))
+unseen t n whole place old now first held is_true (inl was) = inl was
+unseen t n whole place old now first held is_true (inr (inl new)) = inr (inl new)
+unseen t n whole place old now first held is_true (inr (inr leads)) = inr (inr (leads, λ seen. false≢true (sym (is_true seen) ∙ leads)))
+
+leaves : (t n : List ℕ) (whole : List ℕ → Type 0) (old now : NameCalls)
+    → ((place : List ℕ → Bool) → Keeps place t whole old now) → LeavesOldOrNew t n whole old now
+leaves t n whole old now all place leads is_true first held may =
+    unseen t n whole place old now first held is_true (all place first held may)
+
+each_of : (t n : List ℕ) (whole : List ℕ → Type 0) (old since : NameCalls)
+    → AllByRecursion (IsOfReplacing t n whole) since → AtEach (LeavesOldOrNew t n whole old) since old
+each_of t n whole old [] all = λ place leads is_true first held was. inl was
+each_of t n whole old (call ∷ since) all =
+    (leaves t n whole old (call ∷ (since ++ old)) (λ place. all_keep t n whole place old (call ∷ since) all), each_of t n whole old since all.1)
 
 -- a crash at any moment leaves the old file or the new one
-pub at_each_moment : {t n : List ℕ} {whole : List ℕ → Type 0} {old new : NameCalls} → t ≢ n
-    → AreOfReplacing t n whole old new → AtEachMoment (LeavesOldOrNew n whole old) old new
-at_each_moment {t = t} {n = n} {whole = whole} {old = old} apart are =
-    record { since = are.since; calls = are.calls; each = each_of t n whole old apart are.since are.each }
-
--- the same where nothing was done at one name
-pub at_each_or_none : {t n : List ℕ} {whole : List ℕ → Type 0} {old new : NameCalls} → ((t ≢ n) ⊎ (new ≡ old))
-    → AreOfReplacing t n whole old new → AtEachMoment (LeavesOldOrNew n whole old) old new
-at_each_or_none (inl apart) are = at_each_moment apart are
-at_each_or_none (inr same) are = record { since = []; calls = same; each = λ first held was. inl was }
+pub at_each_moment : {t n : List ℕ} {whole : List ℕ → Type 0} {old new : NameCalls}
+    → AreOfReplacing t n whole old new → AtEachMoment (LeavesOldOrNew t n whole old) old new
+at_each_moment {t = t} {n = n} {whole = whole} {old = old} are =
+    record { since = are.since; calls = are.calls; each = each_of t n whole old are.since are.each }
 
 -- the sync of the folder leaves what the name has
-has_new : {t n : List ℕ} {whole : List ℕ → Type 0} (len : ℕ) (file : Calls) (mid : NameCalls)
-    → IsReady t n whole len t n file → (first held : Option (List ℕ))
-    → Has n first ((Renamed len, t, n, file) ∷ mid) held → IsNew whole held
-has_new len file mid ready first held (inl is) = new_file held ready is.1
-has_new len file mid ready first held (inr not) = absurd (not.0 refl)
+has_new : {t n : List ℕ} {whole : List ℕ → Type 0} (place : List ℕ → Bool) → place n ≡ true → (len : ℕ) (file : Calls)
+    (mid : NameCalls) → IsReady t n whole len t n file → (first held : Option (List ℕ))
+    → Has place first ((Renamed len, t, n, file) ∷ mid) held → IsNew whole held
+has_new place leads len file mid ready first held (inl is) = new_file held ready is.1
+has_new place leads len file mid ready first held (inr not) = absurd (false≢true (sym not.0 ∙ leads))
 
 -- the newest call is that the folder was synced
 is_synced : NameCalls → Bool
@@ -149,10 +160,10 @@ pub sure : {n : List ℕ} {whole : List ℕ → Type 0} (t : List ℕ) (len : �
     → IsReady t n whole len t n file → named ≡ (Renamed len, t, n, file) ∷ mid
     → now ≡ (cond r Synced NotSynced, n, [], []) ∷ named → LeavesNew n whole now
 unfolding is_synced
-sure {n = n} t len file mid named now true all is after_is before newest_is first held may =
-    let after = subst (λ (cs : NameCalls). MayHave n first cs held) after_is may in
-    has_new len file mid all first held (subst (λ (cs : NameCalls). Has n first cs held) is (after.1 refl))
-sure {n = n} t len file mid named now false all is after_is before newest_is first held may =
+sure {n = n} t len file mid named now true all is after_is place leads before newest_is first held may =
+    let after = subst (λ (cs : NameCalls). MayHave place first cs held) after_is may in
+    has_new place leads len file mid all first held (subst (λ (cs : NameCalls). Has place first cs held) is (after.1 leads))
+sure {n = n} t len file mid named now false all is after_is place leads before newest_is first held may =
     absurd (false≢true (ap is_synced (sym after_is ∙ newest_is)))
 
 weaker_new : {P Q : List ℕ → Type 0} → ((b : List ℕ) → P b → Q b) → (held : Option (List ℕ)) → IsNew P held → IsNew Q held
@@ -161,7 +172,7 @@ weaker_new f (Some b) new = f b new
 
 pub weaker_sure : (n : List ℕ) {P Q : List ℕ → Type 0} (now : NameCalls) → ((b : List ℕ) → P b → Q b) → LeavesNew n P now
     → LeavesNew n Q now
-weaker_sure n now f leaves before is first held may = weaker_new f held (leaves before is first held may)
+weaker_sure n now f leaves place leads before is first held may = weaker_new f held (leaves place leads before is first held may)
 
 removal : (t n : List ℕ) (whole : List ℕ → Type 0) (call : NameCall) → IsRemoval call
     → IsOfReplacing t n whole (call, t, [], [])

@@ -1,5 +1,6 @@
 -- What the calls on names answered, and what that says of a name. The newest call comes first.
 use Rattle.std.specs.Prelude.{◌≡◌, ◌≢◌, ℕ, ◌⊎◌, List, [], ◌∷◌, ◌++◌, Option, None, Some}
+use Rattle.std.specs.Prelude.{Bool, true, false}
 use Rattle.cdb_store.specs.Calls.{Calls, IsSynced, FileImage}
 use Rattle.cdb_files.specs.declared.name_trace.NameCall.{NameCall}
 use Rattle.cdb_files.specs.declared.name_trace.NameCall.TheVariants.{One, Apart, Made, Free, Held}
@@ -30,44 +31,46 @@ abbrev pub IsThere : Option (List ℕ) → Type 0
 IsThere None = ⊥
 IsThere (Some b) = Unit {0}
 
--- what a name has if no crash comes, but for bytes that are not sure: nothing, or a file with these
--- bytes
-abbrev pub Has : (name : List ℕ) (first : Option (List ℕ)) → NameCalls → Option (List ℕ) → Type 0
-Has name first [] held = held ≡ first
-Has name first ((Made, made, other, file) ∷ calls) held =
-    ((made ≡ name) × IsThere held) ⊎ ((made ≢ name) × Has name first calls held)
-Has name first ((Removed, gone, other, file) ∷ calls) held =
-    ((gone ≡ name) × (held ≡ None)) ⊎ ((gone ≢ name) × Has name first calls held)
-Has name first ((NotRemoved, gone, other, file) ∷ calls) held =
-    ((gone ≡ name) × (held ≡ None)) ⊎ Has name first calls held
-Has name first ((Renamed len, from, to, file) ∷ calls) held =
-    ((to ≡ name) × LeavesFile len file held)
-    ⊎ ((to ≢ name) × (((from ≡ name) × (held ≡ None)) ⊎ ((from ≢ name) × Has name first calls held)))
-Has name first ((NotRenamed len fault, from, to, file) ∷ calls) held =
-    ((to ≡ name) × LeavesFile len file held) ⊎ ((from ≡ name) × (held ≡ None))
-    ⊎ Has name first calls held
-Has name first ((_, one, other, file) ∷ calls) held = Has name first calls held
+-- what a place has if no crash comes, but for bytes that are not sure: nothing, or a file with these
+-- bytes. A place is given by which names lead to it
+abbrev pub Has : (place : List ℕ → Bool) (first : Option (List ℕ)) → NameCalls
+    → Option (List ℕ) → Type 0
+Has place first [] held = held ≡ first
+Has place first ((Made, made, other, file) ∷ calls) held =
+    ((place made ≡ true) × IsThere held) ⊎ ((place made ≡ false) × Has place first calls held)
+Has place first ((Removed, gone, other, file) ∷ calls) held =
+    ((place gone ≡ true) × (held ≡ None)) ⊎ ((place gone ≡ false) × Has place first calls held)
+Has place first ((NotRemoved, gone, other, file) ∷ calls) held =
+    ((place gone ≡ true) × (held ≡ None)) ⊎ Has place first calls held
+Has place first ((Renamed len, from, to, file) ∷ calls) held =
+    ((place to ≡ true) × LeavesFile len file held)
+    ⊎ ((place to ≡ false) × (((place from ≡ true) × (held ≡ None))
+    ⊎ ((place from ≡ false) × Has place first calls held)))
+Has place first ((NotRenamed len fault, from, to, file) ∷ calls) held =
+    ((place to ≡ true) × LeavesFile len file held) ⊎ ((place from ≡ true) × (held ≡ None))
+    ⊎ Has place first calls held
+Has place first ((_, one, other, file) ∷ calls) held = Has place first calls held
 
--- what a crash after the calls may leave under a name: of each change that was not synced with its
+-- what a crash after the calls may leave in a place: of each change that was not synced with its
 -- folder, the old or the new
-abbrev pub MayHave : (name : List ℕ) (first : Option (List ℕ)) → NameCalls → Option (List ℕ)
-    → Type 0
-MayHave name first [] held = held ≡ first
-MayHave name first ((Made, made, other, file) ∷ calls) held =
-    ((made ≡ name) × IsThere held) ⊎ MayHave name first calls held
-MayHave name first ((Removed, gone, other, file) ∷ calls) held =
-    ((gone ≡ name) × (held ≡ None)) ⊎ MayHave name first calls held
-MayHave name first ((NotRemoved, gone, other, file) ∷ calls) held =
-    ((gone ≡ name) × (held ≡ None)) ⊎ MayHave name first calls held
-MayHave name first ((Renamed len, from, to, file) ∷ calls) held =
-    ((to ≡ name) × LeavesFile len file held) ⊎ ((from ≡ name) × (held ≡ None))
-    ⊎ MayHave name first calls held
-MayHave name first ((NotRenamed len fault, from, to, file) ∷ calls) held =
-    ((to ≡ name) × LeavesFile len file held) ⊎ ((from ≡ name) × (held ≡ None))
-    ⊎ MayHave name first calls held
-MayHave name first ((Synced, synced, other, file) ∷ calls) held =
-    MayHave name first calls held × (synced ≡ name → Has name first calls held)
-MayHave name first ((_, one, other, file) ∷ calls) held = MayHave name first calls held
+abbrev pub MayHave : (place : List ℕ → Bool) (first : Option (List ℕ)) → NameCalls
+    → Option (List ℕ) → Type 0
+MayHave place first [] held = held ≡ first
+MayHave place first ((Made, made, other, file) ∷ calls) held =
+    ((place made ≡ true) × IsThere held) ⊎ MayHave place first calls held
+MayHave place first ((Removed, gone, other, file) ∷ calls) held =
+    ((place gone ≡ true) × (held ≡ None)) ⊎ MayHave place first calls held
+MayHave place first ((NotRemoved, gone, other, file) ∷ calls) held =
+    ((place gone ≡ true) × (held ≡ None)) ⊎ MayHave place first calls held
+MayHave place first ((Renamed len, from, to, file) ∷ calls) held =
+    ((place to ≡ true) × LeavesFile len file held) ⊎ ((place from ≡ true) × (held ≡ None))
+    ⊎ MayHave place first calls held
+MayHave place first ((NotRenamed len fault, from, to, file) ∷ calls) held =
+    ((place to ≡ true) × LeavesFile len file held) ⊎ ((place from ≡ true) × (held ≡ None))
+    ⊎ MayHave place first calls held
+MayHave place first ((Synced, synced, other, file) ∷ calls) held =
+    MayHave place first calls held × (place synced ≡ true → Has place first calls held)
+MayHave place first ((_, one, other, file) ∷ calls) held = MayHave place first calls held
 
 -- no other create holds the file that a name has: the newest call that says so took its lock
 abbrev pub HasLock : (name : List ℕ) → NameCalls → Type 0

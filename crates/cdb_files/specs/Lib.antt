@@ -2,3 +2,5 @@ pub mod Folder
 pub mod Replacing
 pub mod FileFault
 pub mod Made
+pub mod Names
+pub mod Opening

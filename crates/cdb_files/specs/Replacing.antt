@@ -1,7 +1,12 @@
 -- What a replacement of a file does to its name.
-use Rattle.std.specs.Prelude.{◌≡◌, ℕ, ◌+◌, ◌⊎◌, true, List, [], ◌∷◌, ◌++◌, Option, None, Some}
+use Rattle.std.specs.Prelude.{◌≡◌, ℕ, ◌+◌, ◌⊎◌, Bool, true, false, List, [], ◌∷◌, ◌++◌, Option}
+use Rattle.std.specs.Prelude.{None, Some}
 use Rattle.std.specs.List.{AllByRecursion}
 use Rattle.cdb_store.specs.Calls.{Calls, IsSynced, FileImage}
+use Rattle.cdb_store.specs.FileStore.{calls_of}
+use Rattle.cdb_store.specs.declared.file.FileStore.{FileStore}
+use Rattle.cdb_store.specs.declared.raw.RawFile.{Ghosts as Raw}
+use Rattle.cdb_store.specs.declared.trace.Call.TheVariants as file_call
 use Rattle.cdb_files.specs.declared.name_trace.NameCall.{NameCall}
 use Rattle.cdb_files.specs.declared.name_fault.NameFault.{NameFault}
 use Rattle.cdb_files.specs.declared.name_fault.NameFault.TheVariants as name_fault
@@ -11,7 +16,7 @@ use Rattle.cdb_files.specs.declared.name_trace.NameCall.TheVariants.{Removed, No
 use Rattle.cdb_files.specs.declared.name_trace.NameCall.TheVariants.{NotRenamed, Synced, NotSynced}
 use Rattle.cdb_files.specs.declared.replace.ReplaceFault.{ReplaceFault}
 use Rattle.cdb_files.specs.declared.replace.ReplaceFault.TheVariants.{Open, NoMemory, Rename, Build}
-use Rattle.cdb_files.specs.Folder.{NameCalls, IsCleared, MayHave}
+use Rattle.cdb_files.specs.Folder.{NameCalls, IsCleared, MayHave, AreApart}
 
 -- the file of the temporary name is to get the name: it was synced after its last change, and is
 -- whole
@@ -110,13 +115,34 @@ abbrev pub IsNew : (List ℕ → Type 0) → Option (List ℕ) → Type 0
 IsNew whole None = ⊥
 IsNew whole (Some b) = whole b
 
--- a crash now leaves under the name what one before would have left, or a whole new file
-abbrev pub LeavesOldOrNew : (name : List ℕ) (whole : List ℕ → Type 0) (old now : NameCalls)
-    → Type 0
-LeavesOldOrNew name whole old now = (first held : Option (List ℕ)) → MayHave name first now held
-    → MayHave name first old held ⊎ IsNew whole held
+-- no more than one of both names leads to a place, if they were seen to be of two files
+abbrev pub IsTrueOf : (place : List ℕ → Bool) (temporary name : List ℕ) → NameCalls → Type 0
+IsTrueOf place temporary name calls = AreApart temporary name calls → place temporary ≡ false
 
--- a crash now leaves a whole new file under the name, if the folder's sync has answered
+-- a crash now leaves in the place of the name what one before would have left, or a whole new file;
+-- or the temporary name leads there too, and the two were not seen to be of two files
+abbrev pub LeavesOldOrNew : (temporary name : List ℕ) (whole : List ℕ → Type 0)
+    (old now : NameCalls) → Type 0
+LeavesOldOrNew temporary name whole old now = (place : List ℕ → Bool) → place name ≡ true
+    → IsTrueOf place temporary name now → (first held : Option (List ℕ))
+    → MayHave place first now held → MayHave place first old held ⊎ IsNew whole held
+    ⊎ ((place temporary ≡ true) × (AreApart temporary name now → ⊥))
+
+-- a crash now leaves a whole new file in the place of the name, if the folder's sync has answered
 abbrev pub LeavesNew : (name : List ℕ) (whole : List ℕ → Type 0) (now : NameCalls) → Type 0
-LeavesNew name whole now = (before : NameCalls) → now ≡ (Synced, name, [], []) ∷ before
-    → (first held : Option (List ℕ)) → MayHave name first now held → IsNew whole held
+LeavesNew name whole now = (place : List ℕ → Bool) → place name ≡ true
+    → (before : NameCalls) → now ≡ (Synced, name, [], []) ∷ before
+    → (first held : Option (List ℕ)) → MayHave place first now held → IsNew whole held
+
+-- a builder failed so in a file that was just made
+pub record FailsToBuild {F : Type 0} {file : Raw F} {E : Type 0}
+    (fails : FileStore F file → FileStore F file → E → Type 0) (fault : E) : Type 0 where
+  pub empty : FileStore F file
+  pub left : FileStore F file
+  pub made : calls_of empty ≡ (file_call.Made, []) ∷ []
+  pub why : fails empty left fault
+
+-- the fault of a replacement is that of its builder
+abbrev pub IsOfBuilder : {E : Type 0} → (E → Type 0) → ReplaceFault E → Type 0
+IsOfBuilder P (Build fault) = P fault
+IsOfBuilder P fault = Unit {0}

@@ -1,9 +1,16 @@
 // A database of some records, under its name.
-ghost use Rattle.std.specs.Prelude.{◌≡◌, [], IfErr, OnOk, OnErr};
+ghost use Rattle.std.specs.Prelude.{◌≡◌, ◌≤◌, ◌++◌, [], codes, IfErr, OnOk, OnErr};
 ghost use Rattle.cdb_form.specs.Views.Pairs.{key_values};
-ghost use Rattle.cdb_make.specs.Views.Maker.{Holds, IsFile};
+ghost use Rattle.cdb_make.specs.Views.Maker.{Holds, IsFile, limit_of};
 ghost use Rattle.cdb_files.specs.Folder.{AreGuarded};
-ghost use Rattle.cdb_files.specs.Made.{IsFileOf, FailsMaking};
+ghost use Rattle.cdb_files.specs.Made.{
+  FailsBeside,
+  FailsBuilding,
+  FailsMaking,
+  FailsToMake,
+  IsFileOf,
+  IsOfBuilding,
+};
 ghost use Rattle.cdb_files.specs.Replacing.{
   AreOfReplacing,
   AtEachMoment,
@@ -52,7 +59,10 @@ fn put_records<S: Store, L: Width>(
     records: &[Record],
 ) -> Result<(), MakeFault>
     requires { Holds maker.old [] }
-    ensures { OnOk result (Holds maker.new (key_values records.now)) }
+    ensures ok { OnOk result (Holds maker.new (key_values records.now)) }
+    ensures failures { S.failures maker.old.store ≤ S.failures maker.new.store }
+    ensures fails { IfErr result (FailsBuilding L.WORD (limit_of maker.old) records.now
+        (S.failures maker.old.store) (S.failures maker.new.store) (S.image maker.new.store)) }
 {
     for record in records {
         maker.put(Mode::Add, &record.key, &record.value)?;
@@ -68,6 +78,8 @@ fn put_all<S: Store, L: Width>(
 ) -> (S, Result<(), MakeFault>)
     ensures settled { OnOk result.1 (S.settled result.0) }
     ensures file { OnOk result.1 (IsFile L.WORD (key_values records.now) (S.image result.0)) }
+    ensures fails { IfErr result.1 (FailsBuilding L.WORD L.GREATEST records.now
+        (S.failures store) (S.failures result.0) (S.image result.0)) }
 {
     let mut maker = match Maker::<S, L>::new(alloc, store, L::GREATEST) {
         Ok(maker) => maker,
@@ -88,6 +100,9 @@ impl<'a, S: Store, L: Width> Builder<S> for Records<'a, L> {
 
     ghost builds = { λ r. IsFileOf L.WORD r.records.now };
 
+    ghost fails = { λ r old new. FailsBuilding L.WORD L.GREATEST r.records.now
+        (S.failures old) (S.failures new) (S.image new) };
+
     fn build(self, store: S) -> (S, Result<(), MakeFault>) {
         let Records {
             alloc,
@@ -107,7 +122,8 @@ impl<'a, S: Store, L: Width> Builder<S> for Records<'a, L> {
 /// Makes the database of some records under a name, by way of a temporary name, in place of what
 /// has the name. Several records may have one key.
 ///
-/// What had the name keeps it until the new file is whole and flushed, and after a fault.
+/// What had the name keeps it until the new file is whole and flushed, and after a fault, unless a
+/// rename that answered a fault happened all the same.
 pub fn make_file_in<L: Width, N: Names>(
     names: &mut N,
     alloc: Global,
@@ -124,8 +140,12 @@ pub fn make_file_in<L: Width, N: Names>(
     ensures kept { OnErr result (renames (N.calls names.new) ≡ renames (N.calls names.old)) }
     ensures err { IfErr result
         (FailsMaking temporary.now name.now (N.calls names.old) (N.calls names.new)) }
-    // A crash at any moment leaves the old file or the database of the records.
-    ensures any_moment { AtEachMoment (LeavesOldOrNew name.now (IsFileOf L.WORD records.now)
+    // The fault of the maker is the one that it answered.
+    ensures build { IfErr result
+        (IsOfBuilding (FailsToMake N.File.RawFile L.WORD L.GREATEST records.now)) }
+    // A crash at any moment leaves the old file or the database of the records, if the names are of
+    // two files. A rename comes only after the system answered so.
+    ensures any_moment { AtEachMoment (LeavesOldOrNew temporary.now name.now (IsFileOf L.WORD records.now)
         (N.calls names.old)) (N.calls names.old) (N.calls names.new) }
     // Once the folder was synced, a crash leaves the database of the records.
     ensures sure { OnOk result
@@ -139,20 +159,38 @@ pub fn make_file_in<L: Width, N: Names>(
 }
 
 /// Makes the database of some records under a name, by way of the name with `.tmp` after it.
+fn make_beside<L: Width, N: Names>(
+    names: &mut N,
+    alloc: Global,
+    name: &str,
+    records: &[Record],
+) -> Result<(), FileFault>
+    ensures ok { OnOk result
+        (IsRenamed (name.now ++ codes ".tmp") name.now (N.calls names.new)) }
+    ensures calls { AreOfReplacing (name.now ++ codes ".tmp") name.now
+        (IsFileOf L.WORD records.now) (N.calls names.old) (N.calls names.new) }
+    ensures err { IfErr result (FailsBeside (name.now ++ codes ".tmp") name.now
+        (N.calls names.old) (N.calls names.new)) }
+{
+    let Ok(temporary) = format!(in alloc; "{name}.tmp") else {
+        return Err(FileFault::NoMemory);
+    };
+    make_file_in::<L, N>(names, alloc, name, temporary.as_str(), records)
+}
+
+/// Makes the database of some records under a name, by way of the name with `.tmp` after it.
 ///
 /// `Open`: the name is empty or ends in a slash, or no file can be made of that temporary name.
 /// `Rename`: the file cannot be given the name, which may be that of a folder. `NoMemory`: there
-/// was none for the temporary name. `Make`: the database was not made, and what had the name has
-/// it still, as after each fault.
+/// was none for the temporary name. `Make`: the database was not made.
+///
+/// What had the name has it still after each fault, unless a rename that answered a fault happened
+/// all the same.
 pub fn make_file<L: Width, R: Files<File = File> + AllocGlobal>(
     rt: &R,
     name: &str,
     records: &[Record],
 ) -> Result<(), FileFault> {
-    let alloc = rt.alloc();
-    let Ok(temporary) = format!(in alloc; "{name}.tmp") else {
-        return Err(FileFault::NoMemory);
-    };
     let mut names = RealNames::new(rt);
-    make_file_in::<L, RealNames<R>>(&mut names, alloc, name, temporary.as_str(), records)
+    make_beside::<L, RealNames<R>>(&mut names, rt.alloc(), name, records)
 }

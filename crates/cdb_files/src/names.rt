@@ -45,8 +45,9 @@ pub trait Names {
     fn is_special(&mut self, name: &str) -> bool
         ensures { calls self.new ≡ (Special result, name.now, [], []) ∷ calls self.old };
 
-    /// Whether the file of a name, which is not followed as a link, is that of the other too, which
-    /// is. So a file is known by another spelling of its name, and by a link to it.
+    /// Whether what has a name, be it a file or a link, has the other name too, or is the file that
+    /// the other leads to as a link. So a file is known by another spelling of its name and by a
+    /// link to it, and a link by another spelling.
     fn is_file_of(&mut self, name: &str, other: &str) -> bool
         ensures { calls self.new
             ≡ (cond result One Apart, name.now, other.now, []) ∷ calls self.old };

@@ -1,5 +1,7 @@
 // The names of the system: the lines that call the system and note what it answered.
 ghost use Rattle.std.specs.Prelude.{◌≡◌, ◌⊎◌, [], ◌∷◌, IfErr, OnOk};
+ghost use Rattle.std.specs.Path.{path_parent};
+ghost use Rattle.cdb_files.specs.Names.{folder_from};
 ghost use Rattle.cdb_files.specs.declared.name_trace.NameCall.TheVariants.{Renamed, NotRenamed};
 ghost use Rattle.cdb_files.specs.Folder.{IsRemoval, IsCleared};
 
@@ -125,7 +127,9 @@ fn renamed<R: Files<File = File>>(rt: &R, name: &str, other: &str) -> Result<(),
 }
 
 /// The folder of a name.
-fn folder_of(name: &str) -> &str {
+fn folder_of(name: &str) -> &str
+    ensures { result.now ≡ folder_from (path_parent name.now) }
+{
     match Path::new(name).parent() {
         Some(folder) if !folder.as_str().is_empty() => folder.as_str(),
         _ => ".",
@@ -147,10 +151,9 @@ impl<'a, R: Files<File = File>> Names for RealNames<'a, R> {
     }
 
     fn is_file_of(&mut self, name: &str, other: &str) -> bool {
-        let is = is_one(
-            &fs::symlink_metadata(self.rt, name),
-            &fs::metadata(self.rt, other),
-        );
+        let own = fs::symlink_metadata(self.rt, name);
+        let is = is_one(&own, &fs::metadata(self.rt, other))
+            || is_one(&own, &fs::symlink_metadata(self.rt, other));
         self.note(
             &if is { NameCall::One } else { NameCall::Apart },
             name,

@@ -1,8 +1,9 @@
 // A file is replaced under its name: at once, or not at all.
-ghost use Rattle.std.specs.Prelude.{◌≡◌, ◌≢◌, ℕ, ◌+◌, ◌↔◌, ◌⊎◌, List, [], ◌∷◌, IsTrue};
+ghost use Rattle.std.specs.Prelude.{◌≡◌, ◌≢◌, ℕ, ◌+◌, ◌↔◌, ◌⊎◌, ⊤, List, [], ◌∷◌, IsTrue};
 ghost use Rattle.std.specs.Prelude.{IfOk, IfErr, OnOk, OnErr};
 ghost use Rattle.cdb_store.specs.Calls.{IsSynced, FileImage};
 ghost use Rattle.cdb_store.specs.FileStore.{calls_of};
+ghost use Rattle.cdb_store.specs.declared.trace.Call.TheVariants.{Made as FileMade};
 ghost use Rattle.cdb_files.specs.Folder.{AreApart, AreGuarded, HasLock, NameCalls};
 ghost use Rattle.cdb_files.specs.declared.name_fault.NameFault.{NameFault};
 ghost use Rattle.cdb_files.specs.declared.name_trace.NameCall.TheVariants.{NotMade};
@@ -12,7 +13,9 @@ ghost use Rattle.cdb_files.specs.Replacing.{
   AtEachMoment,
   EndsIn,
   FailsRename,
+  FailsToBuild,
   IsNoName,
+  IsOfBuilder,
   IsRenamed,
   LeavesNew,
   LeavesOldOrNew,
@@ -33,11 +36,16 @@ pub trait Builder<S: Store> {
     /// The files that it may build.
     ghost builds: { Self → List ℕ → Type 0 };
 
+    /// Why it may not have built one in a store, as that was and as it is then. A builder that does
+    /// not say may fail for any reason.
+    ghost fails: { Self → S → S → Self.Fault → Type 0 } = { λ _ _ _ _. ⊤ };
+
     /// Builds the file, and flushes the store after its last change. It hands the store back. After
     /// a fault that may hold anything.
     fn build(self, store: S) -> (S, Result<(), Self::Fault>)
         ensures settled { OnOk result.1 (S.settled result.0) }
-        ensures built { OnOk result.1 ((b : List ℕ) → S.image result.0 b → builds self b) };
+        ensures built { OnOk result.1 ((b : List ℕ) → S.image result.0 b → builds self b) }
+        ensures fails { IfErr result.1 (fails self store result.0) };
 }
 
 /// Why a file was not replaced.
@@ -80,6 +88,7 @@ fn clear<N: Names, E: Drop>(
     ensures renames { renames (N.calls names.new) ≡ renames (N.calls names.old) }
     ensures err { IfErr result
         (EndsIn temporary.now name.now (N.calls names.old) (N.calls names.new)) }
+    ensures not_built { IfErr result (IsOfBuilder (λ _. ⊥)) }
 {
     if is_no_name(name) {
         return Err(ReplaceFault::Open);
@@ -117,6 +126,7 @@ fn make_own<N: Names, E: Drop>(
         (e ≡ Open) × StopsMaking temporary.now name.now (N.calls names.new)
         ⊎ (e ≡ NoMemory) × ((before : NameCalls) × (N.calls names.new
         ≡ (NotMade NameFault.NoMemory, temporary.now, [], []) ∷ before))) }
+    ensures empty { IfOk result (λ s. calls_of s ≡ (FileMade, []) ∷ []) }
 {
     let file = match names.make_new(temporary, name) {
         Ok(file) => file,
@@ -152,6 +162,8 @@ fn make_apart<N: Names, E: Drop>(
     ensures renames { renames (N.calls names.new) ≡ renames (N.calls names.old) }
     ensures err { IfErr result
         (EndsIn temporary.now name.now (N.calls names.old) (N.calls names.new)) }
+    ensures empty { IfOk result (λ s. calls_of s ≡ (FileMade, []) ∷ []) }
+    ensures not_built { IfErr result (IsOfBuilder (λ _. ⊥)) }
 {
     clear(names, name, temporary)?;
     make_own(names, name, temporary)
@@ -228,8 +240,13 @@ pub fn replace_file<N: Names, B: Builder<FileStore<N::File>> + Drop>(
     ensures renames_err { OnErr result (renames (N.calls names.new) ≡ renames (N.calls names.old)) }
     ensures err { IfErr result
         (EndsIn temporary.now name.now (N.calls names.old) (N.calls names.new)) }
-    // A crash at any moment leaves the old file or the new one, whole.
-    ensures any_moment { AtEachMoment (LeavesOldOrNew name.now (B.builds builder)
+    // The fault of the builder is the one that it answered.
+    ensures build { IfErr result (IsOfBuilder (FailsToBuild (B.fails builder))) }
+    // With one text for both names nothing is done.
+    ensures one_name { (temporary.now ≢ name.now) ⊎ (N.calls names.new ≡ N.calls names.old) }
+    // A crash at any moment leaves the old file or the new one, whole, if the names are of two files.
+    // A rename comes only after the system answered so.
+    ensures any_moment { AtEachMoment (LeavesOldOrNew temporary.now name.now (B.builds builder)
         (N.calls names.old)) (N.calls names.old) (N.calls names.new) }
     // Once the folder was synced, a crash leaves the new one.
     ensures sure { OnOk result (LeavesNew name.now (B.builds builder) (N.calls names.new)) }

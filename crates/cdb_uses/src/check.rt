@@ -1,4 +1,4 @@
-// A caller of cdb_read: a file of any program, opened where it is sound.
+// A caller of cdb_read: a file of any program, opened if it is sound.
 ghost use Rattle.std.specs.Prelude.{◌≡◌, IfOk, OnOk, IfErr};
 ghost use Rattle.cdb_read.specs.Laws.{FindsWalked};
 ghost use Rattle.cdb_uses.specs.Checks.{IsUnsound};

@@ -1,8 +1,9 @@
 // Files of the system: made, opened and asked.
 use super::faults::two_records;
-use cdb_files::{FileFault, make_file, open_file};
+use cdb_files::{FileFault, RealNames, make_file, make_file_in, open_file};
 use cdb_form::{Narrow, Wide};
 use std::fs;
+use std::os::unix::fs::symlink;
 use std::test::Fail;
 
 #[test]
@@ -52,11 +53,43 @@ fn a_file_that_is_not_there_is_not_opened(rt: HostRuntime) -> Result<(), Fail> {
 #[test]
 fn a_link_of_the_temporary_name_is_not_followed(rt: HostRuntime) -> Result<(), Fail> {
     fs::write(&rt, "other", "kept")?;
-    std::os::unix::fs::symlink(&rt, "other", "link.cdb.tmp")?;
+    symlink(&rt, "other", "link.cdb.tmp")?;
     let records = two_records(rt.alloc())?;
     make_file::<Narrow, _>(&rt, "link.cdb", &records)?;
     assert!(rt; fs::metadata(&rt, "other")?.len() == 4, "other");
     fs::remove_file(&rt, "other")?;
     fs::remove_file(&rt, "link.cdb")?;
+    Ok(())
+}
+
+/// The answer of a make by way of another spelling of the database's name.
+fn made_by_another_spelling(rt: &HostRuntime) -> Result<Option<FileFault>, Fail> {
+    let records = two_records(rt.alloc())?;
+    let made = make_file_in::<Narrow, _>(
+        &mut RealNames::new(rt),
+        rt.alloc(),
+        "named.cdb",
+        "./named.cdb",
+        &records,
+    );
+    Ok(made.err())
+}
+
+#[test]
+fn a_database_is_not_its_own_temporary_file(rt: HostRuntime) -> Result<(), Fail> {
+    assert!(rt; made_by_another_spelling(&rt)? == Some(FileFault::Open));
+    assert!(rt; !fs::exists(&rt, "named.cdb")?, "none was there");
+    fs::write(&rt, "named.cdb", "kept")?;
+    assert!(rt; made_by_another_spelling(&rt)? == Some(FileFault::Open));
+    assert!(rt; fs::metadata(&rt, "named.cdb")?.len() == 4, "a file");
+    fs::rename(&rt, "named.cdb", "target")?;
+    symlink(&rt, "target", "named.cdb")?;
+    assert!(rt; made_by_another_spelling(&rt)? == Some(FileFault::Open));
+    assert!(rt;
+        fs::symlink_metadata(&rt, "named.cdb")?.is_symlink(),
+        "a link"
+    );
+    fs::remove_file(&rt, "named.cdb")?;
+    fs::remove_file(&rt, "target")?;
     Ok(())
 }

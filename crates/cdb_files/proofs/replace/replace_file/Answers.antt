@@ -5,7 +5,7 @@ use Rattle.cdb_files.specs.declared.name_fault.NameFault.TheVariants.{Failed, No
 use Rattle.cdb_files.proofs.Locking.{lock_on, lock_cleared}
 use Rattle.cdb_files.specs.Folder.{NameCalls}
 use Rattle.cdb_files.specs.declared.replace.ReplaceFault.{ReplaceFault}
-use Rattle.cdb_files.proofs.Replacing.{weaker, go_on, cleared, at_each_moment, at_each_or_none, weaker_sure, of_file}
+use Rattle.cdb_files.proofs.Replacing.{weaker, go_on, cleared, at_each_moment, weaker_sure, of_file}
 use Rattle.std.proofs.lemmas.Result.{on_ok_weaker, IfErr-weaker}
 use Rattle.cdb_files.proofs.replace.replace_file.Goals as goal
 
@@ -27,11 +27,11 @@ returns-in-Err-clause-calls g c =
 
 pub returns-in-Ok-clause-any_moment : goal.returns-in-Ok-clause-any_moment
 returns-in-Ok-clause-any_moment g c =
-    at_each_moment c.in_ok-empty.ensures.apart (go_on (of_file _ _ _ _ c.len-len.ensures (ap g.N.File.RawFile.calls c.into_file.ensures) (rw c.in-Ok.is at c.build-store.ensures.built)) (weaker (λ b none. absurd none) c.make_apart.ensures.calls) c.publish.ensures.calls)
+    at_each_moment (go_on (of_file _ _ _ _ c.len-len.ensures (ap g.N.File.RawFile.calls c.into_file.ensures) (rw c.in-Ok.is at c.build-store.ensures.built)) (weaker (λ b none. absurd none) c.make_apart.ensures.calls) c.publish.ensures.calls)
 
 pub returns-in-Err-clause-any_moment : goal.returns-in-Err-clause-any_moment
 returns-in-Err-clause-any_moment g c =
-    at_each_moment c.in_ok-empty.ensures.apart (cleared _ (weaker (λ b none. absurd none) c.make_apart.ensures.calls) c.remove_own.ensures)
+    at_each_moment (cleared _ (weaker (λ b none. absurd none) c.make_apart.ensures.calls) c.remove_own.ensures)
 
 pub returns-in-Ok-clause-sure : goal.returns-in-Ok-clause-sure
 returns-in-Ok-clause-sure g c =
@@ -43,7 +43,7 @@ returns-in-Ok-clause-err g c =
 
 pub returns-in_err-empty-clause-any_moment : goal.returns-in_err-empty-clause-any_moment
 returns-in_err-empty-clause-any_moment g c =
-    at_each_or_none c.make_apart.ensures.one_name (weaker (λ b none. absurd none) c.make_apart.ensures.calls)
+    at_each_moment (weaker (λ b none. absurd none) c.make_apart.ensures.calls)
 
 pub returns-in-Ok-clause-guarded : goal.returns-in-Ok-clause-guarded
 returns-in-Ok-clause-guarded g c = lock_on c.make_apart.ensures.guarded c.publish.ensures.guarded
@@ -51,3 +51,7 @@ returns-in-Ok-clause-guarded g c = lock_on c.make_apart.ensures.guarded c.publis
 pub returns-in-Err-clause-guarded : goal.returns-in-Err-clause-guarded
 returns-in-Err-clause-guarded g c =
     lock_cleared _ c.make_apart.ensures.guarded c.in_ok-empty.ensures.lock c.remove_own.ensures
+
+pub returns-in-Err-clause-build : goal.returns-in-Err-clause-build
+returns-in-Err-clause-build g c =
+    record { empty = c.in_ok-empty.empty; left = c.build-store.result.0; made = c.in_ok-empty.ensures.empty; why = rw c.in-Err.is at c.build-store.ensures.fails }

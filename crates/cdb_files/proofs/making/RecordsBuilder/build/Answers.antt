@@ -1,5 +1,7 @@
-use Rattle.std.proofs.Common.{subst, OnOk, Ok, Err, Result}
+use Rattle.std.proofs.Common.{arith, subst, OnOk, Ok, Err, Result}
+use Rattle.std.proofs.lemmas.Result.{IfErr-weaker}
 use Rattle.cdb_store.proofs.OverLemmas.{over_emptied}
+use Rattle.cdb_files.proofs.Failing.{building_below, building_later}
 use Rattle.cdb_files.proofs.making.RecordsBuilder.build.Goals as goal
 
 -- what both clauses give where the call answered Ok
@@ -13,3 +15,14 @@ returns-in-Ok-clause-built g c =
     both c.put_all-buffered.result.1 (λ settled file b is.
     file.each b ((over_emptied buffered.pos buffered.buffer.items (g.S.Store.image buffered.inner) settled.0).no_other b (subst (λ s. g.S.Store.image s b) c.discard.ensures is)))
     c.put_all-buffered.ensures.settled c.put_all-buffered.ensures.file
+
+pub returns-in-Ok-clause-fails : goal.returns-in-Ok-clause-fails
+returns-in-Ok-clause-fails g c =
+    let w = g.L.Width.WORD in
+    let greatest = g.L.Width.GREATEST in
+    let records = c.args.self.records.now in
+    let buffered = c.put_all-buffered.result.0 in
+    rw (c.discard.ensures) (IfErr-weaker c.put_all-buffered.result.1 _ _ (λ f fails.
+    building_later w greatest records (g.S.Store.failures c.args.store) (g.S.Store.failures c.in-Ok.buffered.inner) (g.S.Store.failures buffered.inner) (g.S.Store.image buffered.inner) f (omega (arith, c.in-Ok.ensures.failures))
+    (building_below w greatest records (g.S.Store.failures c.in-Ok.buffered.inner) (g.S.Store.failures buffered.inner) buffered.pos buffered.buffer.items (g.S.Store.image buffered.inner) f fails))
+    c.put_all-buffered.ensures.fails)
