@@ -1,5 +1,5 @@
 -- A run, item after item.
-use Rattle.std.proofs.Common.{◌≡◌, ◌+◌, ◌*◌, ◌<◌, ◌≤◌, true, false, ℕ, inl, inr, List, [], ◌∷◌, ◌++◌, length, refl, sym, ap, subst, ◌∙◌, arith, append_assoc, Option, Some, None, Result, Ok, Err, if◌then◌else◌}
+use Rattle.std.proofs.Common.{◌≡◌, ◌+◌, ◌*◌, ◌<◌, ◌≤◌, ◌⊎◌, true, false, ℕ, inl, inr, List, [], ◌∷◌, ◌++◌, length, refl, sym, ap, subst, ◌∙◌, arith, append_assoc, Option, Some, None, Result, Ok, Err, if◌then◌else◌}
 use Rattle.std.specs.Prelude.{OnOk, IfErr}
 use Rattle.std.proofs.lemmas.Bool.{le-leb, lt-leb}
 use Rattle.std.proofs.lemmas.List.{append-nil}
@@ -13,14 +13,16 @@ use Rattle.cdb_form.specs.Text.Amending.{Change, Putting, Removing}
 use Rattle.cdb_form.specs.Views.KnownBytes.{AppendsFront}
 use Rattle.cdb_form.proofs.WritingLemmas.{appends_then, front_then}
 use Rattle.cdb_make.specs.Survivors.{put_list, put_answer, fits}
-use Rattle.cdb_make.specs.Views.Maker.{Holds, HoldsIn, WhereHonest, ComesFrom, StaysWhole, Puts, WouldPut, FailsPutting, Removes, FailsRemoving, limit_of, count_in, IsUsable}
+use Rattle.cdb_make.specs.Views.Batch.{Holds, Held, StaysWhole, Puts, WouldPut, FailsPutting, Removes, FailsRemoving, limit_of, count_in, IsUsable}
+use Rattle.cdb_make.specs.Views.Maker.{WhereHonest, ComesFrom}
 use Rattle.cdb_make.specs.declared.fault.MakeFault.{MakeFault}
 use Rattle.cdb_make.specs.declared.fault.MakeFault.TheVariants as make
-use Rattle.cdb_make.specs.declared.maker.Maker.{Maker}
+use Rattle.cdb_make.specs.declared.batch.Batch.{Batch}
 use Rattle.cdb_form.specs.declared.mode.Mode.{Mode}
 use Rattle.cdb_make.specs.declared.put.Put.{Put}
 use Rattle.cdb_make.specs.declared.put.Put.TheVariants.{Added, AddedAgain, Present, Replaced}
-use Rattle.cdb_make.proofs.Makers.{held_count, held_size}
+use Rattle.cdb_make.proofs.Batches.{holds_count}
+use Rattle.cdb_make.proofs.BatchPuts.{holds_fits}
 use Rattle.cdb_tool.specs.Views.Fault.{make_fault}
 use Rattle.cdb_tool.specs.Runs.Course.{Task, Incoming, Course, from_input, from_inputs, mode_of, said, ends, is_going, with_put, with_change, with_next, at_start, course_of, TellFails, Goes, StopsSo}
 use Rattle.cdb_tool.specs.Runs.Make.{InCourse, PutStops, IsOfStore, StandsAt, IsHalt, TakesNext}
@@ -60,40 +62,40 @@ put_full w o s i n r full =
 
 -- ---- a put
 
-record IsPut {S L : Type 0} {s : Ghosts S} {l : Widths L} (t : Task) (cs : List Incoming) (i n : ℕ) (r : KeyValue) (start mid : Option (List ℕ)) (m : Maker S L s l) (put : Put) (b : List ℕ) : Type 0 where
+record IsPut {S L : Type 0} {s : Ghosts S} {l : Widths L} (t : Task) (cs : List Incoming) (i n : ℕ) (r : KeyValue) (start mid : Option (List ℕ)) (m : Batch S L s l) (put : Put) (b : List ℕ) : Type 0 where
   goes : Goes l.WORD t cs start mid
   is : course_of l.WORD t (cs ++ putting i n r ∷ []) ≡ course_put l.WORD t cs i n r put
-  held : HoldsIn m (put_list (mode_of t.options) r (course_of l.WORD t cs).records) b
+  held : Held m (put_list (mode_of t.options) r (course_of l.WORD t cs).records)
 
-is_put : {S L : Type 0} {s : Ghosts S} {l : Widths L} (t : Task) (cs : List Incoming) (i n : ℕ) (r : KeyValue) (start mid : Option (List ℕ)) (old new : Maker S L s l) (put : Put) → InCourse t cs start mid old → Puts old new (mode_of t.options) r put
-    → ComesFrom (s.image old.store) (s.image new.store) → limit_of new ≡ limit_of old → (b : List ℕ) → s.image new.store b → IsPut t cs i n r start mid new put b
-is_put {l = l} t cs i n r start mid old new put h puts comes limit b is =
+is_put : {S L : Type 0} {s : Ghosts S} {l : Widths L} (t : Task) (cs : List Incoming) (i n : ℕ) (r : KeyValue) (start mid : Option (List ℕ)) (old new : Batch S L s l) (put : Put) → InCourse t cs start mid old → (l.WORD ≡ 4) ⊎ (l.WORD ≡ 8) → Puts old new (mode_of t.options) r put
+    → ComesFrom (s.image old.maker.store) (s.image new.maker.store) → limit_of new ≡ limit_of old → (b : List ℕ) → s.image new.maker.store b → IsPut t cs i n r start mid new put b
+is_put {l = l} t cs i n r start mid old new put h wide puts comes limit b is =
     let rs = (course_of l.WORD t cs).records in
     let all = put_list (mode_of t.options) r rs in
     let a = comes.each b is in
     let goes = h.goes.each a.0 a.1 in
     let holds = puts.holds rs h.holds in
-    let size : new.end + 4 * l.WORD * new.count ≡ file_size l.WORD all = (held_size new all _ refl holds).each b is in
-    let same : new.limit ≡ t.options.limit = limit ∙ h.limit in
-    let fit : fits l.WORD t.options.limit (mode_of t.options) r rs ≡ true = le-leb (file_size l.WORD all) t.options.limit (omega (arith, size, same, new.within)) in
+    let small : file_size l.WORD all ≤ limit_of new = (holds_fits new all wide holds).each b is in
+    let same : limit_of new ≡ t.options.limit = limit ∙ h.limit in
+    let fit : fits l.WORD t.options.limit (mode_of t.options) r rs ≡ true = le-leb (file_size l.WORD all) t.options.limit (omega (arith, small, same)) in
     record {
       goes = goes;
       is = course_next l.WORD t cs (putting i n r) goes.going ∙ put_fits l.WORD t.options (course_of l.WORD t cs) i n r put fit ((puts.answers rs h.holds).each b is);
-      held = holds.each b is;
+      held = holds.held.each b is;
     }
 
 -- the run goes on
-put_goes : {S L : Type 0} {s : Ghosts S} {l : Widths L} (t : Task) (cs : List Incoming) (i n : ℕ) (r : KeyValue) (start mid end : Option (List ℕ)) (old new : Maker S L s l) (put : Put) → InCourse t cs start mid old → Puts old new (mode_of t.options) r put
-    → ComesFrom (s.image old.store) (s.image new.store) → limit_of new ≡ limit_of old → Appends mid end (said t.options i n (Ok put)) → ends t.options (Ok put) ≡ None → InCourse t (cs ++ putting i n r ∷ []) start end new
-put_goes {l = l} t cs i n r start mid end old new put h puts comes limit told going = record {
+put_goes : {S L : Type 0} {s : Ghosts S} {l : Widths L} (t : Task) (cs : List Incoming) (i n : ℕ) (r : KeyValue) (start mid end : Option (List ℕ)) (old new : Batch S L s l) (put : Put) → InCourse t cs start mid old → (l.WORD ≡ 4) ⊎ (l.WORD ≡ 8) → Puts old new (mode_of t.options) r put
+    → ComesFrom (s.image old.maker.store) (s.image new.maker.store) → limit_of new ≡ limit_of old → Appends mid end (said t.options i n (Ok put)) → ends t.options (Ok put) ≡ None → InCourse t (cs ++ putting i n r ∷ []) start end new
+put_goes {l = l} t cs i n r start mid end old new put h wide puts comes limit told going = record {
   holds = record {
     whole = puts.whole;
-    each = λ b is. let p = is_put t cs i n r start mid old new put h puts comes limit b is in subst (λ s. HoldsIn new s.records b) (sym p.is) p.held;
+    held = record { each = λ b is. let p = is_put t cs i n r start mid old new put h wide puts comes limit b is in subst (λ s. Held new s.records) (sym p.is) p.held };
   };
   limit = limit ∙ h.limit;
   goes = record {
     each = λ b is.
-        let p = is_put t cs i n r start mid old new put h puts comes limit b is in
+        let p = is_put t cs i n r start mid old new put h wide puts comes limit b is in
         record {
           going = ap (λ s. s.ended) p.is ∙ going;
           lines = subst (λ s. Appends start end s.lines) (sym p.is) (appends_then start mid end _ _ p.goes.lines told);
@@ -102,7 +104,7 @@ put_goes {l = l} t cs i n r start mid end old new put h puts comes limit told go
 }
 
 -- or stops where it was told
-told_so : {S L : Type 0} {s : Ghosts S} {l : Widths L} (t : Task) (cs : List Incoming) (i n : ℕ) (r : KeyValue) (start mid end : Option (List ℕ)) (m : Maker S L s l) (put : Put) (f : Fault) (b : List ℕ) → IsPut t cs i n r start mid m put b → TellFails t.options i n put mid end f
+told_so : {S L : Type 0} {s : Ghosts S} {l : Widths L} (t : Task) (cs : List Incoming) (i n : ℕ) (r : KeyValue) (start mid end : Option (List ℕ)) (m : Batch S L s l) (put : Put) (f : Fault) (b : List ℕ) → IsPut t cs i n r start mid m put b → TellFails t.options i n put mid end f
     → StopsSo l.WORD t (cs ++ putting i n r ∷ []) start end f
 told_so t cs i n r start mid end m put (Text j f) b p x = absurd x
 told_so t cs i n r start mid end m put (Make f) b p x = absurd x
@@ -124,9 +126,9 @@ told_so t cs i n r start mid end m put Duplicate b p x = record {
   lines = subst (λ s. Appends start end s.lines) (sym p.is) (appends_then start mid end _ _ p.goes.lines x.0);
 }
 
-put_told : {S L : Type 0} {s : Ghosts S} {l : Widths L} (t : Task) (cs : List Incoming) (i n : ℕ) (r : KeyValue) (start mid end : Option (List ℕ)) (old new : Maker S L s l) (put : Put) (f : Fault) → InCourse t cs start mid old → Puts old new (mode_of t.options) r put
-    → ComesFrom (s.image old.store) (s.image new.store) → limit_of new ≡ limit_of old → TellFails t.options i n put mid end f → WhereHonest (s.image new.store) (PutStops l.WORD t cs (putting i n r) start end f)
-put_told t cs i n r start mid end old new put f h puts comes limit x = record { each = λ b is. inr (told_so t cs i n r start mid end new put f b (is_put t cs i n r start mid old new put h puts comes limit b is) x) }
+put_told : {S L : Type 0} {s : Ghosts S} {l : Widths L} (t : Task) (cs : List Incoming) (i n : ℕ) (r : KeyValue) (start mid end : Option (List ℕ)) (old new : Batch S L s l) (put : Put) (f : Fault) → InCourse t cs start mid old → (l.WORD ≡ 4) ⊎ (l.WORD ≡ 8) → Puts old new (mode_of t.options) r put
+    → ComesFrom (s.image old.maker.store) (s.image new.maker.store) → limit_of new ≡ limit_of old → TellFails t.options i n put mid end f → WhereHonest (s.image new.maker.store) (PutStops l.WORD t cs (putting i n r) start end f)
+put_told t cs i n r start mid end old new put f h wide puts comes limit x = record { each = λ b is. inr (told_so t cs i n r start mid end new put f b (is_put t cs i n r start mid old new put h wide puts comes limit b is) x) }
 
 -- what a teller answers is no fault of the store
 pub told_store : (o : MakeOptions) (i j : ℕ) (put : Put) (old new : Option (List ℕ)) (f : Fault) → TellFails o i j put old new f → IsOfStore f → ⊥
@@ -144,7 +146,7 @@ told_store o i j put old new Duplicate x is = absurd is
 
 -- ---- a put that was refused
 
-full_so : {S L : Type 0} {s : Ghosts S} {l : Widths L} (t : Task) (cs : List Incoming) (i n : ℕ) (r : KeyValue) (start mid : Option (List ℕ)) (old : Maker S L s l) → Goes l.WORD t cs start mid → limit_of old ≡ t.options.limit
+full_so : {S L : Type 0} {s : Ghosts S} {l : Widths L} (t : Task) (cs : List Incoming) (i n : ℕ) (r : KeyValue) (start mid : Option (List ℕ)) (old : Batch S L s l) → Goes l.WORD t cs start mid → limit_of old ≡ t.options.limit
     → limit_of old < file_size l.WORD (put_list (mode_of t.options) r (course_of l.WORD t cs).records) → StopsSo l.WORD t (cs ++ putting i n r ∷ []) start mid (Make make.TooBig)
 full_so {l = l} t cs i n r start mid old goes limit large =
     let s = course_of l.WORD t cs in
@@ -160,68 +162,68 @@ full_so {l = l} t cs i n r start mid old goes limit large =
       lines = subst (λ v. Appends start mid v.lines) (sym is) (subst (Appends start mid) (sym (append-nil s.lines)) goes.lines);
     }
 
-refused_so : {S L : Type 0} {s : Ghosts S} {l : Widths L} (t : Task) (cs : List Incoming) (i n : ℕ) (r : KeyValue) (start mid : Option (List ℕ)) (old new : Maker S L s l) (f : MakeFault) → InCourse t cs start mid old → FailsPutting old new (mode_of t.options) r f
-    → ComesFrom (s.image old.store) (s.image new.store) → (b : List ℕ) → s.image new.store b → PutStops l.WORD t cs (putting i n r) start mid (make_fault f)
+refused_so : {S L : Type 0} {s : Ghosts S} {l : Widths L} (t : Task) (cs : List Incoming) (i n : ℕ) (r : KeyValue) (start mid : Option (List ℕ)) (old new : Batch S L s l) (f : MakeFault) → InCourse t cs start mid old → FailsPutting old new (mode_of t.options) r f
+    → ComesFrom (s.image old.maker.store) (s.image new.maker.store) → (b : List ℕ) → s.image new.maker.store b → PutStops l.WORD t cs (putting i n r) start mid (make_fault f)
 refused_so {l = l} t cs i n r start mid old new make.Broken h x comes b is = absurd (x.cause (course_of l.WORD t cs).records h.holds b is)
 refused_so t cs i n r start mid old new make.Lookup h x comes b is = let a = comes.each b is in inl (h.goes.each a.0 a.1)
 refused_so {l = l} t cs i n r start mid old new make.TooBig h x comes b is =
     let a = comes.each b is in
-    inr (full_so t cs i n r start mid old (h.goes.each a.0 a.1) h.limit ((x.1 (course_of l.WORD t cs).records h.holds).each b is))
+    inr (full_so t cs i n r start mid old (h.goes.each a.0 a.1) h.limit ((x.2 (course_of l.WORD t cs).records h.holds).each b is))
 refused_so t cs i n r start mid old new make.NoMemory h x comes b is = let a = comes.each b is in inl (h.goes.each a.0 a.1)
 refused_so t cs i n r start mid old new make.Writing h x comes b is = let a = comes.each b is in inl (h.goes.each a.0 a.1)
 
-put_refused : {S L : Type 0} {s : Ghosts S} {l : Widths L} (t : Task) (cs : List Incoming) (i n : ℕ) (r : KeyValue) (start mid : Option (List ℕ)) (old new : Maker S L s l) (f : MakeFault) → InCourse t cs start mid old → FailsPutting old new (mode_of t.options) r f
-    → ComesFrom (s.image old.store) (s.image new.store) → WhereHonest (s.image new.store) (PutStops l.WORD t cs (putting i n r) start mid (make_fault f))
+put_refused : {S L : Type 0} {s : Ghosts S} {l : Widths L} (t : Task) (cs : List Incoming) (i n : ℕ) (r : KeyValue) (start mid : Option (List ℕ)) (old new : Batch S L s l) (f : MakeFault) → InCourse t cs start mid old → FailsPutting old new (mode_of t.options) r f
+    → ComesFrom (s.image old.maker.store) (s.image new.maker.store) → WhereHonest (s.image new.maker.store) (PutStops l.WORD t cs (putting i n r) start mid (make_fault f))
 put_refused t cs i n r start mid old new f h x comes = record { each = λ b is. refused_so t cs i n r start mid old new f h x comes b is }
 
 -- a fault of the store comes where it failed
-pub refused_store : {S L : Type 0} {s : Ghosts S} {l : Widths L} (old new : Maker S L s l) (mode : Mode) (r : KeyValue) (f : MakeFault) → FailsPutting old new mode r f → IsOfStore (make_fault f) → s.failures old.store < s.failures new.store
+pub refused_store : {S L : Type 0} {s : Ghosts S} {l : Widths L} (old new : Batch S L s l) (mode : Mode) (r : KeyValue) (f : MakeFault) → FailsPutting old new mode r f → IsOfStore (make_fault f) → s.failures old.maker.store < s.failures new.maker.store
 refused_store old new mode r make.Broken x is = absurd is
-refused_store old new mode r make.Lookup x is = x.1
+refused_store old new mode r make.Lookup x is = x.2
 refused_store old new mode r make.TooBig x is = absurd is
 refused_store old new mode r make.NoMemory x is = absurd is
-refused_store old new mode r make.Writing x is = elim x.0 [ inl stays ↦ stays.1 | inr torn ↦ torn.0.failed ]
+refused_store old new mode r make.Writing x is = elim x [ inl stays ↦ stays.1 | inr torn ↦ torn.failed ]
 
 -- ---- where a run came to that was halted
 
-stands_so : {S L : Type 0} {s : Ghosts S} {l : Widths L} (t : Task) (cs : List Incoming) (start mid : Option (List ℕ)) (old new : Maker S L s l) → InCourse t cs start mid old → ComesFrom (s.image old.store) (s.image new.store) → count_in new ≡ count_in old
+stands_so : {S L : Type 0} {s : Ghosts S} {l : Widths L} (t : Task) (cs : List Incoming) (start mid : Option (List ℕ)) (old new : Batch S L s l) → InCourse t cs start mid old → ComesFrom (s.image old.maker.store) (s.image new.maker.store) → count_in new ≡ count_in old
     → (IsUsable new → Holds new (course_of l.WORD t cs).records) → StandsAt t cs start mid new
 stands_so {l = l} t cs start mid old new h comes count holds = record {
   holds = holds;
-  count = record { each = λ b is. let a = comes.each b is in count ∙ (held_count old (course_of l.WORD t cs).records h.holds).each a.0 a.1 };
+  count = record { each = λ b is. let a = comes.each b is in count ∙ (holds_count old (course_of l.WORD t cs).records h.holds).each a.0 a.1 };
   goes = record { each = λ b is. let a = comes.each b is in h.goes.each a.0 a.1 };
 }
 
-stands_whole : {S L : Type 0} {s : Ghosts S} {l : Widths L} (t : Task) (cs : List Incoming) (start mid : Option (List ℕ)) (old new : Maker S L s l) → InCourse t cs start mid old → ComesFrom (s.image old.store) (s.image new.store) → count_in new ≡ count_in old → StaysWhole old new
+stands_whole : {S L : Type 0} {s : Ghosts S} {l : Widths L} (t : Task) (cs : List Incoming) (start mid : Option (List ℕ)) (old new : Batch S L s l) → InCourse t cs start mid old → ComesFrom (s.image old.maker.store) (s.image new.maker.store) → count_in new ≡ count_in old → StaysWhole old new
     → StandsAt t cs start mid new
 stands_whole {l = l} t cs start mid old new h comes count stays = stands_so t cs start mid old new h comes count (λ usable. stays.holds (course_of l.WORD t cs).records h.holds)
 
-stands_broken : {S L : Type 0} {s : Ghosts S} {l : Widths L} (t : Task) (cs : List Incoming) (start mid : Option (List ℕ)) (old new : Maker S L s l) → InCourse t cs start mid old → ComesFrom (s.image old.store) (s.image new.store) → count_in new ≡ count_in old → new.broken ≡ true
+stands_broken : {S L : Type 0} {s : Ghosts S} {l : Widths L} (t : Task) (cs : List Incoming) (start mid : Option (List ℕ)) (old new : Batch S L s l) → InCourse t cs start mid old → ComesFrom (s.image old.maker.store) (s.image new.maker.store) → count_in new ≡ count_in old → new.maker.broken ≡ true
     → StandsAt t cs start mid new
 stands_broken t cs start mid old new h comes count broken = stands_so t cs start mid old new h comes count (λ usable. absurd (let k : true ≡ false = sym broken ∙ usable in cc))
 
-pub course_stands : {S L : Type 0} {s : Ghosts S} {l : Widths L} (t : Task) (cs : List Incoming) (start now : Option (List ℕ)) (m : Maker S L s l) → InCourse t cs start now m → StandsAt t cs start now m
+pub course_stands : {S L : Type 0} {s : Ghosts S} {l : Widths L} (t : Task) (cs : List Incoming) (start now : Option (List ℕ)) (m : Batch S L s l) → InCourse t cs start now m → StandsAt t cs start now m
 course_stands t cs start now m h = stands_so t cs start now m m h (record { each = λ b is. (b, is) }) refl (λ usable. h.holds)
 
-put_halted : {S L : Type 0} {s : Ghosts S} {l : Widths L} (t : Task) (cs : List Incoming) (r : KeyValue) (start mid : Option (List ℕ)) (old new : Maker S L s l) (f : MakeFault) → InCourse t cs start mid old → FailsPutting old new (mode_of t.options) r f
-    → ComesFrom (s.image old.store) (s.image new.store) → count_in new ≡ count_in old → IsHalt (make_fault f) → StandsAt t cs start mid new
+put_halted : {S L : Type 0} {s : Ghosts S} {l : Widths L} (t : Task) (cs : List Incoming) (r : KeyValue) (start mid : Option (List ℕ)) (old new : Batch S L s l) (f : MakeFault) → InCourse t cs start mid old → FailsPutting old new (mode_of t.options) r f
+    → ComesFrom (s.image old.maker.store) (s.image new.maker.store) → count_in new ≡ count_in old → IsHalt (make_fault f) → StandsAt t cs start mid new
 put_halted t cs r start mid old new make.Broken h x comes count is = absurd is
-put_halted t cs r start mid old new make.Lookup h x comes count is = stands_whole t cs start mid old new h comes count x.0.stays
+put_halted t cs r start mid old new make.Lookup h x comes count is = stands_whole t cs start mid old new h comes count x.0
 put_halted t cs r start mid old new make.TooBig h x comes count is = absurd is
-put_halted t cs r start mid old new make.NoMemory h x comes count is = stands_whole t cs start mid old new h comes count x.0.stays
-put_halted t cs r start mid old new make.Writing h x comes count is = elim x.0 [
+put_halted t cs r start mid old new make.NoMemory h x comes count is = stands_whole t cs start mid old new h comes count x.0
+put_halted t cs r start mid old new make.Writing h x comes count is = elim x [
   | inl stays ↦ stands_whole t cs start mid old new h comes count stays.0
-  | inr torn ↦ stands_broken t cs start mid old new h comes count torn.0.broken
+  | inr torn ↦ stands_broken t cs start mid old new h comes count torn.broken
 ]
 
-pub put_halted_so : {S L : Type 0} {s : Ghosts S} {l : Widths L} (t : Task) (o : MakeOptions) (cs : List Incoming) (r : KeyValue) (start mid : Option (List ℕ)) (old new : Maker S L s l) (f : MakeFault) → t.options ≡ o → InCourse t cs start mid old → FailsPutting old new (mode_of o) r f
-    → ComesFrom (s.image old.store) (s.image new.store) → count_in new ≡ count_in old → IsHalt (make_fault f) → StandsAt t cs start mid new
+pub put_halted_so : {S L : Type 0} {s : Ghosts S} {l : Widths L} (t : Task) (o : MakeOptions) (cs : List Incoming) (r : KeyValue) (start mid : Option (List ℕ)) (old new : Batch S L s l) (f : MakeFault) → t.options ≡ o → InCourse t cs start mid old → FailsPutting old new (mode_of o) r f
+    → ComesFrom (s.image old.maker.store) (s.image new.maker.store) → count_in new ≡ count_in old → IsHalt (make_fault f) → StandsAt t cs start mid new
 put_halted_so t o cs r start mid old new f same h x comes count is = put_halted t cs r start mid old new f h (subst (λ v. FailsPutting old new (mode_of v) r f) (sym same) x) comes count is
 
-pub removal_halted : {S L : Type 0} {s : Ghosts S} {l : Widths L} (t : Task) (cs : List Incoming) (key : List ℕ) (start now : Option (List ℕ)) (old new : Maker S L s l) (f : MakeFault) → InCourse t cs start now old → FailsRemoving old new key f
-    → ComesFrom (s.image old.store) (s.image new.store) → count_in new ≡ count_in old → IsHalt (make_fault f) → StandsAt t cs start now new
+pub removal_halted : {S L : Type 0} {s : Ghosts S} {l : Widths L} (t : Task) (cs : List Incoming) (key : List ℕ) (start now : Option (List ℕ)) (old new : Batch S L s l) (f : MakeFault) → InCourse t cs start now old → FailsRemoving old new key f
+    → ComesFrom (s.image old.maker.store) (s.image new.maker.store) → count_in new ≡ count_in old → IsHalt (make_fault f) → StandsAt t cs start now new
 removal_halted t cs key start now old new make.Broken h x comes count is = absurd is
-removal_halted t cs key start now old new make.Lookup h x comes count is = stands_whole t cs start now old new h comes count x.0.stays
+removal_halted t cs key start now old new make.Lookup h x comes count is = stands_whole t cs start now old new h comes count x.0
 removal_halted t cs key start now old new make.TooBig h x comes count is = absurd is
 removal_halted t cs key start now old new make.NoMemory h x comes count is = absurd x
 removal_halted t cs key start now old new make.Writing h x comes count is = stands_broken t cs start now old new h comes count x.broken
@@ -248,8 +250,8 @@ goes_on o AddedAgain h = refl
 goes_on o Present h = absurd (h refl)
 goes_on o (Replaced n) h = refl
 
-would_take : {S L : Type 0} {s : Ghosts S} {l : Widths L} (t : Task) (cs : List Incoming) (i n : ℕ) (r : KeyValue) (start mid : Option (List ℕ)) (old new : Maker S L s l) → InCourse t cs start mid old → WouldPut old new (mode_of t.options) r
-    → ComesFrom (s.image old.store) (s.image new.store) → WhereHonest (s.image new.store) (TakesNext l.WORD t cs (putting i n r))
+would_take : {S L : Type 0} {s : Ghosts S} {l : Widths L} (t : Task) (cs : List Incoming) (i n : ℕ) (r : KeyValue) (start mid : Option (List ℕ)) (old new : Batch S L s l) → InCourse t cs start mid old → WouldPut old new (mode_of t.options) r
+    → ComesFrom (s.image old.maker.store) (s.image new.maker.store) → WhereHonest (s.image new.maker.store) (TakesNext l.WORD t cs (putting i n r))
 would_take {l = l} t cs i n r start mid old new h would comes = record {
   each = λ b is.
       let s = course_of l.WORD t cs in
@@ -262,16 +264,16 @@ would_take {l = l} t cs i n r start mid old new h would comes = record {
       ap (λ v. v.ended) (course_next l.WORD t cs (putting i n r) goes.going ∙ put_fits l.WORD o s i n r (put_answer (mode_of o) r s.records) fit refl) ∙ goes_on o (put_answer (mode_of o) r s.records) w.0;
 }
 
-memory_taken : {S L : Type 0} {s : Ghosts S} {l : Widths L} (t : Task) (cs : List Incoming) (i n : ℕ) (r : KeyValue) (start mid : Option (List ℕ)) (old new : Maker S L s l) (f : MakeFault) → InCourse t cs start mid old → FailsPutting old new (mode_of t.options) r f
-    → ComesFrom (s.image old.store) (s.image new.store) → make_fault f ≡ NoMemory → WhereHonest (s.image new.store) (TakesNext l.WORD t cs (putting i n r))
-memory_taken t cs i n r start mid old new make.NoMemory h x comes e = would_take t cs i n r start mid old new h x.2 comes
+memory_taken : {S L : Type 0} {s : Ghosts S} {l : Widths L} (t : Task) (cs : List Incoming) (i n : ℕ) (r : KeyValue) (start mid : Option (List ℕ)) (old new : Batch S L s l) (f : MakeFault) → InCourse t cs start mid old → FailsPutting old new (mode_of t.options) r f
+    → ComesFrom (s.image old.maker.store) (s.image new.maker.store) → make_fault f ≡ NoMemory → WhereHonest (s.image new.maker.store) (TakesNext l.WORD t cs (putting i n r))
+memory_taken t cs i n r start mid old new make.NoMemory h x comes e = would_take t cs i n r start mid old new h x.3 comes
 memory_taken t cs i n r start mid old new make.Broken h x comes e = absurd (let k : Make make.Broken ≡ NoMemory = e in cc)
 memory_taken t cs i n r start mid old new make.Lookup h x comes e = absurd (let k : Make make.Lookup ≡ NoMemory = e in cc)
 memory_taken t cs i n r start mid old new make.TooBig h x comes e = absurd (let k : Make make.TooBig ≡ NoMemory = e in cc)
 memory_taken t cs i n r start mid old new make.Writing h x comes e = absurd (let k : Make make.Writing ≡ NoMemory = e in cc)
 
-pub memory_taken_so : {S L : Type 0} {s : Ghosts S} {l : Widths L} (t : Task) (o : MakeOptions) (cs : List Incoming) (i n : ℕ) (r : KeyValue) (start mid : Option (List ℕ)) (old new : Maker S L s l) (f : MakeFault) → t.options ≡ o → InCourse t cs start mid old → FailsPutting old new (mode_of o) r f
-    → ComesFrom (s.image old.store) (s.image new.store) → make_fault f ≡ NoMemory → WhereHonest (s.image new.store) (TakesNext l.WORD t cs (putting i n r))
+pub memory_taken_so : {S L : Type 0} {s : Ghosts S} {l : Widths L} (t : Task) (o : MakeOptions) (cs : List Incoming) (i n : ℕ) (r : KeyValue) (start mid : Option (List ℕ)) (old new : Batch S L s l) (f : MakeFault) → t.options ≡ o → InCourse t cs start mid old → FailsPutting old new (mode_of o) r f
+    → ComesFrom (s.image old.maker.store) (s.image new.maker.store) → make_fault f ≡ NoMemory → WhereHonest (s.image new.maker.store) (TakesNext l.WORD t cs (putting i n r))
 memory_taken_so t o cs i n r start mid old new f same h x comes e = memory_taken t cs i n r start mid old new f h (subst (λ v. FailsPutting old new (mode_of v) r f) (sym same) x) comes e
 
 pub told_memory : (o : MakeOptions) (i j : ℕ) (put : Put) (old new : Option (List ℕ)) (f : Fault) → TellFails o i j put old new f → f ≡ NoMemory → ⊥
@@ -279,19 +281,19 @@ told_memory o i j put old new f x e = told_halts o i j put old new f x (subst Is
 
 -- ---- the same of a run that has these options
 
-pub put_goes_so : {S L : Type 0} {s : Ghosts S} {l : Widths L} (t : Task) (o : MakeOptions) (cs : List Incoming) (i n : ℕ) (r : KeyValue) (start mid end : Option (List ℕ)) (old new : Maker S L s l) (put : Put) → t.options ≡ o → InCourse t cs start mid old → Puts old new (mode_of o) r put
-    → ComesFrom (s.image old.store) (s.image new.store) → limit_of new ≡ limit_of old → Appends mid end (said o i n (Ok put)) → ends o (Ok put) ≡ None → InCourse t (cs ++ putting i n r ∷ []) start end new
-put_goes_so t o cs i n r start mid end old new put same h puts comes limit told going =
-    put_goes t cs i n r start mid end old new put h (subst (λ v. Puts old new (mode_of v) r put) (sym same) puts) comes limit
+pub put_goes_so : {S L : Type 0} {s : Ghosts S} {l : Widths L} (t : Task) (o : MakeOptions) (cs : List Incoming) (i n : ℕ) (r : KeyValue) (start mid end : Option (List ℕ)) (old new : Batch S L s l) (put : Put) → t.options ≡ o → InCourse t cs start mid old → (l.WORD ≡ 4) ⊎ (l.WORD ≡ 8) → Puts old new (mode_of o) r put
+    → ComesFrom (s.image old.maker.store) (s.image new.maker.store) → limit_of new ≡ limit_of old → Appends mid end (said o i n (Ok put)) → ends o (Ok put) ≡ None → InCourse t (cs ++ putting i n r ∷ []) start end new
+put_goes_so t o cs i n r start mid end old new put same h wide puts comes limit told going =
+    put_goes t cs i n r start mid end old new put h wide (subst (λ v. Puts old new (mode_of v) r put) (sym same) puts) comes limit
     (subst (λ v. Appends mid end (said v i n (Ok put))) (sym same) told) (subst (λ v. ends v (Ok put) ≡ None) (sym same) going)
 
-pub put_told_so : {S L : Type 0} {s : Ghosts S} {l : Widths L} (t : Task) (o : MakeOptions) (cs : List Incoming) (i n : ℕ) (r : KeyValue) (start mid end : Option (List ℕ)) (old new : Maker S L s l) (put : Put) (f : Fault) → t.options ≡ o → InCourse t cs start mid old → Puts old new (mode_of o) r put
-    → ComesFrom (s.image old.store) (s.image new.store) → limit_of new ≡ limit_of old → TellFails o i n put mid end f → WhereHonest (s.image new.store) (PutStops l.WORD t cs (putting i n r) start end f)
-put_told_so t o cs i n r start mid end old new put f same h puts comes limit x =
-    put_told t cs i n r start mid end old new put f h (subst (λ v. Puts old new (mode_of v) r put) (sym same) puts) comes limit (subst (λ v. TellFails v i n put mid end f) (sym same) x)
+pub put_told_so : {S L : Type 0} {s : Ghosts S} {l : Widths L} (t : Task) (o : MakeOptions) (cs : List Incoming) (i n : ℕ) (r : KeyValue) (start mid end : Option (List ℕ)) (old new : Batch S L s l) (put : Put) (f : Fault) → t.options ≡ o → InCourse t cs start mid old → (l.WORD ≡ 4) ⊎ (l.WORD ≡ 8) → Puts old new (mode_of o) r put
+    → ComesFrom (s.image old.maker.store) (s.image new.maker.store) → limit_of new ≡ limit_of old → TellFails o i n put mid end f → WhereHonest (s.image new.maker.store) (PutStops l.WORD t cs (putting i n r) start end f)
+put_told_so t o cs i n r start mid end old new put f same h wide puts comes limit x =
+    put_told t cs i n r start mid end old new put f h wide (subst (λ v. Puts old new (mode_of v) r put) (sym same) puts) comes limit (subst (λ v. TellFails v i n put mid end f) (sym same) x)
 
-pub put_refused_so : {S L : Type 0} {s : Ghosts S} {l : Widths L} (t : Task) (o : MakeOptions) (cs : List Incoming) (i n : ℕ) (r : KeyValue) (start mid : Option (List ℕ)) (old new : Maker S L s l) (f : MakeFault) → t.options ≡ o → InCourse t cs start mid old → FailsPutting old new (mode_of o) r f
-    → ComesFrom (s.image old.store) (s.image new.store) → WhereHonest (s.image new.store) (PutStops l.WORD t cs (putting i n r) start mid (make_fault f))
+pub put_refused_so : {S L : Type 0} {s : Ghosts S} {l : Widths L} (t : Task) (o : MakeOptions) (cs : List Incoming) (i n : ℕ) (r : KeyValue) (start mid : Option (List ℕ)) (old new : Batch S L s l) (f : MakeFault) → t.options ≡ o → InCourse t cs start mid old → FailsPutting old new (mode_of o) r f
+    → ComesFrom (s.image old.maker.store) (s.image new.maker.store) → WhereHonest (s.image new.maker.store) (PutStops l.WORD t cs (putting i n r) start mid (make_fault f))
 put_refused_so t o cs i n r start mid old new f same h x comes = put_refused t cs i n r start mid old new f h (subst (λ v. FailsPutting old new (mode_of v) r f) (sym same) x) comes
 
 -- ---- a removal
@@ -300,17 +302,19 @@ put_refused_so t o cs i n r start mid old new f same h x comes = put_refused t c
 abbrev pub removing : ℕ → ℕ → List ℕ → Incoming
 removing i n key = record { input = i; number = n; it = Removing key }
 
-pub removed_goes : {S L : Type 0} {s : Ghosts S} {l : Widths L} (t : Task) (cs : List Incoming) (i n : ℕ) (key : List ℕ) (count : ℕ) (start now : Option (List ℕ)) (old new : Maker S L s l) → InCourse t cs start now old → Removes old new key count
-    → ComesFrom (s.image old.store) (s.image new.store) → limit_of new ≡ limit_of old → InCourse t (cs ++ removing i n key ∷ []) start now new
+pub removed_goes : {S L : Type 0} {s : Ghosts S} {l : Widths L} (t : Task) (cs : List Incoming) (i n : ℕ) (key : List ℕ) (count : ℕ) (start now : Option (List ℕ)) (old new : Batch S L s l) → InCourse t cs start now old → Removes old new key count
+    → ComesFrom (s.image old.maker.store) (s.image new.maker.store) → limit_of new ≡ limit_of old → InCourse t (cs ++ removing i n key ∷ []) start now new
 removed_goes {l = l} t cs i n key count start now old new h removes comes limit =
     let rs = (course_of l.WORD t cs).records in
     let held = removes.holds rs h.holds in
     record {
       holds = record {
         whole = removes.whole;
-        each = λ b is.
-            let a = comes.each b is in
-            subst (λ s. HoldsIn new s.records b) (sym (course_next l.WORD t cs (removing i n key) (h.goes.each a.0 a.1).going)) (held.each b is);
+        held = record {
+          each = λ b is.
+              let a = comes.each b is in
+              subst (λ s. Held new s.records) (sym (course_next l.WORD t cs (removing i n key) (h.goes.each a.0 a.1).going)) (held.held.each b is);
+        };
       };
       limit = limit ∙ h.limit;
       goes = record {
@@ -325,21 +329,21 @@ removed_goes {l = l} t cs i n key count start now old new h removes comes limit 
       };
     }
 
-unremoved_so : {S L : Type 0} {s : Ghosts S} {l : Widths L} (t : Task) (cs : List Incoming) (key : List ℕ) (start now : Option (List ℕ)) (old new : Maker S L s l) (f : MakeFault) → InCourse t cs start now old → FailsRemoving old new key f
-    → ComesFrom (s.image old.store) (s.image new.store) → (b : List ℕ) → s.image new.store b → StopsSo l.WORD t cs start now (make_fault f)
+unremoved_so : {S L : Type 0} {s : Ghosts S} {l : Widths L} (t : Task) (cs : List Incoming) (key : List ℕ) (start now : Option (List ℕ)) (old new : Batch S L s l) (f : MakeFault) → InCourse t cs start now old → FailsRemoving old new key f
+    → ComesFrom (s.image old.maker.store) (s.image new.maker.store) → (b : List ℕ) → s.image new.maker.store b → StopsSo l.WORD t cs start now (make_fault f)
 unremoved_so {l = l} t cs key start now old new make.Broken h x comes b is = absurd (x.cause (course_of l.WORD t cs).records h.holds b is)
 unremoved_so t cs key start now old new make.Lookup h x comes b is = let a = comes.each b is in h.goes.each a.0 a.1
 unremoved_so t cs key start now old new make.Writing h x comes b is = let a = comes.each b is in h.goes.each a.0 a.1
 unremoved_so t cs key start now old new make.TooBig h x comes b is = absurd x
 unremoved_so t cs key start now old new make.NoMemory h x comes b is = absurd x
 
-pub unremoved : {S L : Type 0} {s : Ghosts S} {l : Widths L} (t : Task) (cs : List Incoming) (key : List ℕ) (start now : Option (List ℕ)) (old new : Maker S L s l) (f : MakeFault) → InCourse t cs start now old → FailsRemoving old new key f
-    → ComesFrom (s.image old.store) (s.image new.store) → WhereHonest (s.image new.store) (StopsSo l.WORD t cs start now (make_fault f))
+pub unremoved : {S L : Type 0} {s : Ghosts S} {l : Widths L} (t : Task) (cs : List Incoming) (key : List ℕ) (start now : Option (List ℕ)) (old new : Batch S L s l) (f : MakeFault) → InCourse t cs start now old → FailsRemoving old new key f
+    → ComesFrom (s.image old.maker.store) (s.image new.maker.store) → WhereHonest (s.image new.maker.store) (StopsSo l.WORD t cs start now (make_fault f))
 unremoved t cs key start now old new f h x comes = record { each = λ b is. unremoved_so t cs key start now old new f h x comes b is }
 
-pub unremoved_store : {S L : Type 0} {s : Ghosts S} {l : Widths L} (old new : Maker S L s l) (key : List ℕ) (f : MakeFault) → FailsRemoving old new key f → IsOfStore (make_fault f) → s.failures old.store < s.failures new.store
+pub unremoved_store : {S L : Type 0} {s : Ghosts S} {l : Widths L} (old new : Batch S L s l) (key : List ℕ) (f : MakeFault) → FailsRemoving old new key f → IsOfStore (make_fault f) → s.failures old.maker.store < s.failures new.maker.store
 unremoved_store old new key make.Broken x is = absurd is
-unremoved_store old new key make.Lookup x is = x.1
+unremoved_store old new key make.Lookup x is = x.2
 unremoved_store old new key make.Writing x is = x.failed
 unremoved_store old new key make.TooBig x is = absurd is
 unremoved_store old new key make.NoMemory x is = absurd is
@@ -350,7 +354,7 @@ pub appends_none : (o : Option (List ℕ)) → Appends o o []
 appends_none None = tt
 appends_none (Some xs) = sym (append-nil xs)
 
-pub course_starts : {S L : Type 0} {s : Ghosts S} {l : Widths L} (t : Task) (start : Option (List ℕ)) (m : Maker S L s l) → Holds m (at_start t).records → limit_of m ≡ t.options.limit → InCourse t [] start start m
+pub course_starts : {S L : Type 0} {s : Ghosts S} {l : Widths L} (t : Task) (start : Option (List ℕ)) (m : Batch S L s l) → Holds m (at_start t).records → limit_of m ≡ t.options.limit → InCourse t [] start start m
 course_starts t start m h limit = record { holds = h; limit = limit; goes = record { each = λ b is. record { going = refl; lines = appends_none start } } }
 
 -- ---- the items of inputs, one more

@@ -1,28 +1,38 @@
 -- A run over the items of one input.
-use Rattle.std.proofs.Common.{◌≤◌, ◌≡◌, ◌≢◌, ℕ, ◌+◌, inl, inr, List, [], ◌∷◌, ◌++◌, length, refl, sym, ap, subst, ◌∙◌, Option, IfSome, is_some, Bool, map, arith, length-append}
+use Rattle.std.proofs.Common.{◌≤◌, ◌≡◌, ◌≢◌, ℕ, ◌+◌, inl, inr, List, [], ◌∷◌, ◌++◌, length, refl, sym, ap, subst, ◌∙◌, Option, Some, None, IfSome, is_some, Bool, map, arith, length-append, append_assoc}
+use Rattle.std.proofs.lemmas.List.{map-append}
 use Rattle.cdb_store.specs.declared.store.Store.{Ghosts}
 use Rattle.cdb_form.specs.declared.width.Width.{Ghosts as Widths}
 use Rattle.cdb_form.specs.Text.Amending.{Change}
 use Rattle.cdb_form.specs.declared.text.fault.TextFault.{TextFault}
 use Rattle.cdb_form.specs.declared.text.fault.TextFault.TheVariants as fault
 use Rattle.cdb_make.specs.Views.Maker.{WhereHonest, ComesFrom}
-use Rattle.cdb_make.specs.declared.maker.Maker.{Maker}
+use Rattle.cdb_make.specs.declared.batch.Batch.{Batch}
 use Rattle.cdb_make.proofs.Puts.{comes_then}
 use Rattle.cdb_tool.specs.Views.Fault.{text_fault}
 use Rattle.cdb_tool.specs.Views.ItemReader.{form_of, Fails}
 use Rattle.cdb_tool.specs.Runs.Course.{Task, Incoming, from_inputs, Goes, StopsSo}
-use Rattle.cdb_tool.specs.Runs.Inputs.{InputForm, input_form, IsInputOf, BeginsWithItems, HasItemFault, AreInputs}
-use Rattle.cdb_tool.specs.Runs.Make.{InCourse, PutStops, InputFails, StopsIn, Stops, InputsFail, came, IsOfStore, StandsAt, StandsIn, Stands}
+use Rattle.cdb_tool.specs.Runs.Inputs.{InputForm, input_form, BeginsWithItems, HasItemFault, InputsLeft, OneInput, ReadsOne, ReadsFirst, AreInputs, OneBegins, FirstBegins, FirstHas, bytes_of}
+use Rattle.cdb_tool.specs.Runs.Inputs as form
+use Rattle.cdb_tool.specs.Runs.Make.{InCourse, PutStops, InputFails, StopsIn, Stops, InputsFail, came, IsOfStore, StandsAt, StandsIn, Stands, PutsItems}
 use Rattle.cdb_tool.specs.Runs.Make.{form_of as task_form}
 use Rattle.cdb_tool.specs.declared.fault.Fault.{Fault}
 use Rattle.cdb_tool.specs.declared.fault.Fault.TheVariants.{Text, Make, Duplicate, Missing, Read, Walk, Output, Long, Open, Rename, NoMemory}
+use Rattle.cdb_tool.specs.Views.Inputs.{one_of, shared_bytes, inputs_left}
+use Rattle.cdb_tool.specs.declared.inputs.Inputs.{Inputs}
+use Rattle.cdb_tool.specs.declared.inputs.SharedInput.{SharedInput}
+use Rattle.cdb_tool.specs.declared.inputs.SharedInput.TheVariants.{Unread}
+use Rattle.cdb_tool.specs.declared.inputs.Turn.{Turn}
+use Rattle.cdb_tool.specs.declared.inputs.Turn.TheVariants as turn
 use Rattle.cdb_tool.specs.declared.runs.item_reader.ItemReader.{ItemReader}
 use Rattle.cdb_command.specs.declared.options.MakeOptions.{MakeOptions}
-use Rattle.cdb_tool.proofs.Courses.{came_more, came_none}
+use Rattle.cdb_command.specs.declared.style.Style.TheVariants as style
+use Rattle.cdb_form.specs.Text.Map.{map_lines}
+use Rattle.cdb_tool.proofs.Courses.{came_more, came_none, course_stands}
 use Rattle.cdb_tool.proofs.ItemTexts.{GaveItems, items_first, items_fault, items_native}
 
 -- nothing was put of an input that begins
-pub none_put : {S L : Type 0} {s : Ghosts S} {l : Widths L} (o : Task) (read : List (List Change)) (start now : Option (List ℕ)) (m : Maker S L s l) → InCourse o (from_inputs 1 read) start now m → InCourse o (came read []) start now m
+pub none_put : {S L : Type 0} {s : Ghosts S} {l : Widths L} (o : Task) (read : List (List Change)) (start now : Option (List ℕ)) (m : Batch S L s l) → InCourse o (from_inputs 1 read) start now m → InCourse o (came read []) start now m
 none_put o read start now m h = subst (λ cs. InCourse o cs start now m) (sym (came_none read)) h
 
 -- ---- an input that stops
@@ -73,9 +83,9 @@ input_failed w g o remaining read input number t u last start now (fault.Large a
 input_failed w g o remaining read input number t u last start now fault.Input same h m n goes = text_failed w g o remaining read input number t u last start now fault.Input same h m (λ e. let i : fault.Input ≡ fault.NoMemory = e in cc) n goes
 input_failed w g o remaining read input number t u last start now fault.Endless same h m n goes = text_failed w g o remaining read input number t u last start now fault.Endless same h m (λ e. let i : fault.Endless ≡ fault.NoMemory = e in cc) n goes
 
-pub input_fails : {R L S K : Type 0} {s : Ghosts S} {k : Widths K} (g : ℕ) (o : Task) (remaining : R → Option (List ℕ)) (read : List (List Change)) (input : Option (List ℕ)) (number : ℕ) (t u : ItemReader R L) (last : List Change) (start now : Option (List ℕ)) (m : Maker S K s k) (f : TextFault)
+pub input_fails : {R L S K : Type 0} {s : Ghosts S} {k : Widths K} (g : ℕ) (o : Task) (remaining : R → Option (List ℕ)) (read : List (List Change)) (input : Option (List ℕ)) (number : ℕ) (t u : ItemReader R L) (last : List Change) (start now : Option (List ℕ)) (m : Batch S K s k) (f : TextFault)
     → form_of t ≡ task_form o → GaveItems g remaining input t last → Fails g remaining t u f → number ≡ length read + 1 → InCourse o (came read last) start now m
-    → WhereHonest (s.image m.store) (InputFails k.WORD g o read input start now (text_fault number f))
+    → WhereHonest (s.image m.maker.store) (InputFails k.WORD g o read input start now (text_fault number f))
 input_fails {k = k} g o remaining read input number t u last start now m f same h fails n course = record { each = λ b is. input_failed k.WORD g o remaining read input number t u last start now f same h fails n (course.goes.each b is) }
 
 -- a fault of a text is none of the store
@@ -88,72 +98,85 @@ text_store n fault.Input is = is
 text_store n fault.Endless is = is
 
 -- a run that was halted in an input, or behind its items
-pub halted_here : {S K : Type 0} {s : Ghosts S} {k : Widths K} (form is : InputForm) (g : ℕ) (o : Task) (read : List (List Change)) (input : Option (List ℕ)) (last : List Change) (start now : Option (List ℕ)) (m : Maker S K s k) → is ≡ form → IfSome input (BeginsWithItems is g last)
+pub halted_here : {S K : Type 0} {s : Ghosts S} {k : Widths K} (form is : InputForm) (g : ℕ) (o : Task) (read : List (List Change)) (input : Option (List ℕ)) (last : List Change) (start now : Option (List ℕ)) (m : Batch S K s k) → is ≡ form → IfSome input (BeginsWithItems is g last)
     → StandsAt o (came read last) start now m → StandsIn form g o read input start now m
 halted_here form is g o read input last start now m same b h = record { last = last; begins = subst (λ v. IfSome input (BeginsWithItems v g last)) same b; stands = h }
 
 -- ---- one input more
 
-pub inputs_next : (st : InputForm) (g : ℕ) (read : List (List Change)) (last : List Change) (x : Option (List ℕ)) (inputs rest : List (Option (List ℕ))) → AreInputs st g read inputs (x ∷ rest) → IfSome x (IsInputOf st g last) → AreInputs st g (read ++ last ∷ []) inputs rest
-inputs_next st g [] last x inputs rest e is = subst (λ v. AreInputs st g (last ∷ []) v rest) (sym e) (is, refl)
-inputs_next st g (q ∷ read) last x [] rest e is = absurd e
-inputs_next st g (q ∷ read) last x (i ∷ inputs) rest e is = (e.0, inputs_next st g read last x inputs rest e.1 is)
+pub inputs_next : (st : InputForm) (g : ℕ) (read : List (List Change)) (last : List Change) (inputs mid rest : InputsLeft) → AreInputs st g read inputs mid → ReadsFirst st g last mid rest → AreInputs st g (read ++ last ∷ []) inputs rest
+inputs_next st g [] last inputs mid rest e is = (rest, subst (λ v. ReadsFirst st g last v rest) (sym e) is, refl)
+inputs_next st g (q ∷ read) last inputs mid rest e is = (e.0, e.1, inputs_next st g read last e.0 mid rest e.2 is)
 
-stopped : (w g : ℕ) (o : Task) (read : List (List Change)) (x : Option (List ℕ)) (inputs rest : List (Option (List ℕ))) (start now : Option (List ℕ)) (f : Fault) → AreInputs (task_form o) g read inputs (x ∷ rest) → StopsIn w g o read x start now f
-    → Stops w g o inputs start now f
-stopped w g o read x inputs rest start now f are s = record { read = read; last = s.last; rest = x ∷ rest; are = are; begins = s.begins; stops = s.stops }
+-- an input with these bytes that begins with items is the first one
+one_begins : (st : InputForm) (g : ℕ) (last : List Change) (each more : List OneInput) (shared : Option (List ℕ)) (one : OneInput) → each ≡ one ∷ more → IfSome (bytes_of one shared) (BeginsWithItems st g last) → OneBegins st g last each shared
+one_begins st g last each more shared one e b = subst (λ v. OneBegins st g last v shared) (sym e) b
+
+first_begins : (st : InputForm) (g : ℕ) (last : List Change) (rest : InputsLeft) (x : Option (List ℕ)) → FirstHas rest x → IfSome x (BeginsWithItems st g last) → FirstBegins st g last rest
+first_begins st g last rest x h b = one_begins st g last rest.each h.more rest.shared h.one h.first (subst (λ v. IfSome v (BeginsWithItems st g last)) h.has b)
+
+stopped : (w g : ℕ) (o : Task) (read : List (List Change)) (x : Option (List ℕ)) (inputs rest : InputsLeft) (start now : Option (List ℕ)) (f : Fault) → AreInputs (task_form o) g read inputs rest → FirstHas rest x → StopsIn w g o read x start now f → Stops w g o inputs start now f
+stopped w g o read x inputs rest start now f are first s = record { read = read; last = s.last; rest = rest; are = are; begins = first_begins (task_form o) g s.last rest x first s.begins; stops = s.stops }
 
 -- the run stopped in one of the inputs
-run_failed : (w g : ℕ) (o : Task) (read : List (List Change)) (x : Option (List ℕ)) (inputs rest : List (Option (List ℕ))) (start now : Option (List ℕ)) (f : Fault) → AreInputs (task_form o) g read inputs (x ∷ rest) → InputFails w g o read x start now f
+run_failed : (w g : ℕ) (o : Task) (read : List (List Change)) (x : Option (List ℕ)) (inputs rest : InputsLeft) (start now : Option (List ℕ)) (f : Fault) → AreInputs (task_form o) g read inputs rest → FirstHas rest x → InputFails w g o read x start now f
     → InputsFail w g o inputs start now f
-run_failed w g o read x inputs rest start now (Text n f) are h =
-    record { read = read; last = h.last; input = x; rest = rest; are = are; numbered = h.numbered; memory = h.memory; native = h.native; has = h.has; goes = h.goes }
-run_failed w g o read x inputs rest start now (Make f) are h = stopped w g o read x inputs rest start now (Make f) are h
-run_failed w g o read x inputs rest start now Duplicate are h = stopped w g o read x inputs rest start now Duplicate are h
-run_failed w g o read x inputs rest start now (Walk f) are h = stopped w g o read x inputs rest start now (Walk f) are h
-run_failed w g o read x inputs rest start now Output are h = stopped w g o read x inputs rest start now Output are h
-run_failed w g o read x inputs rest start now Missing are h = stopped w g o read x inputs rest start now Missing are h
-run_failed w g o read x inputs rest start now (Read f) are h = stopped w g o read x inputs rest start now (Read f) are h
-run_failed w g o read x inputs rest start now Long are h = stopped w g o read x inputs rest start now Long are h
-run_failed w g o read x inputs rest start now Open are h = stopped w g o read x inputs rest start now Open are h
-run_failed w g o read x inputs rest start now Rename are h = stopped w g o read x inputs rest start now Rename are h
-run_failed w g o read x inputs rest start now NoMemory are h = stopped w g o read x inputs rest start now NoMemory are h
+run_failed w g o read x inputs rest start now (Text n f) are first h =
+    record { read = read; last = h.last; input = x; rest = rest; are = are; first = first; numbered = h.numbered; memory = h.memory; native = h.native; has = h.has; goes = h.goes }
+run_failed w g o read x inputs rest start now (Make f) are first h = stopped w g o read x inputs rest start now (Make f) are first h
+run_failed w g o read x inputs rest start now Duplicate are first h = stopped w g o read x inputs rest start now Duplicate are first h
+run_failed w g o read x inputs rest start now (Walk f) are first h = stopped w g o read x inputs rest start now (Walk f) are first h
+run_failed w g o read x inputs rest start now Output are first h = stopped w g o read x inputs rest start now Output are first h
+run_failed w g o read x inputs rest start now Missing are first h = stopped w g o read x inputs rest start now Missing are first h
+run_failed w g o read x inputs rest start now (Read f) are first h = stopped w g o read x inputs rest start now (Read f) are first h
+run_failed w g o read x inputs rest start now Long are first h = stopped w g o read x inputs rest start now Long are first h
+run_failed w g o read x inputs rest start now Open are first h = stopped w g o read x inputs rest start now Open are first h
+run_failed w g o read x inputs rest start now Rename are first h = stopped w g o read x inputs rest start now Rename are first h
+run_failed w g o read x inputs rest start now NoMemory are first h = stopped w g o read x inputs rest start now NoMemory are first h
 
-pub run_fails : (w g : ℕ) (o : Task) (read : List (List Change)) (x : Option (List ℕ)) (inputs rest : List (Option (List ℕ))) (start now : Option (List ℕ)) (images : List ℕ → Type 0) (f : Fault) → AreInputs (task_form o) g read inputs (x ∷ rest)
-    → WhereHonest images (InputFails w g o read x start now f) → WhereHonest images (InputsFail w g o inputs start now f)
-run_fails w g o read x inputs rest start now images f are h = record { each = λ b is. run_failed w g o read x inputs rest start now f are (h.each b is) }
+-- readers that are inputs of their own
+abbrev pub own_of : {J : Type 0} → (J → Option (List ℕ)) → J → OneInput
+own_of remaining reader = form.Own (remaining reader)
 
--- an input was taken of those that are left
-pub inputs_taken : {R : Type 0} (remaining : R → Option (List ℕ)) (st : InputForm) (g : ℕ) (read : List (List Change)) (inputs : List (Option (List ℕ))) (left rest : List R) (r : R) (x : Option (List ℕ)) → left ≡ r ∷ rest → x ≡ remaining r → AreInputs st g read inputs (map remaining left)
-    → AreInputs st g read inputs (x ∷ map remaining rest)
-inputs_taken remaining st g read inputs left rest r x e same are =
-    subst (λ v. AreInputs st g read inputs (v ∷ map remaining rest)) (sym same) (subst (λ v. AreInputs st g read inputs (map remaining v)) e are)
+pub own_bytes : {J : Type 0} (remaining : J → Option (List ℕ)) (readers : List J) → map (own_of remaining) readers ≡ map form.Own (map remaining readers)
+own_bytes remaining [] = refl
+own_bytes remaining (reader ∷ readers) = ap (λ v. form.Own (remaining reader) ∷ v) (own_bytes remaining readers)
 
-pub halted : {R S K : Type 0} {s : Ghosts S} {k : Widths K} (g : ℕ) (remaining : R → Option (List ℕ)) (form is : InputForm) (o : Task) (read : List (List Change)) (inputs left rest : List R) (r : R) (x : Option (List ℕ)) (start now : Option (List ℕ)) (m : Maker S K s k)
-    → is ≡ form → AreInputs form g read (map remaining inputs) (map remaining left) → left ≡ r ∷ rest → x ≡ remaining r → StandsIn is g o read x start now m → Stands form g o (map remaining inputs) start now m
-halted g remaining form is o read inputs left rest r x start now m same are e one h = record {
-  read = read;
-  last = h.last;
-  rest = x ∷ map remaining rest;
-  are = inputs_taken remaining form g read _ left rest r x e one are;
-  begins = subst (λ v. IfSome x (BeginsWithItems v g h.last)) same h.begins;
-  stands = h.stands;
-}
+pub own_next : {J : Type 0} (remaining : J → Option (List ℕ)) (turns : List (Turn J)) (left rest : List J) (reader : J) (all : List OneInput) → left ≡ reader ∷ rest → map (one_of remaining) turns ++ map (own_of remaining) left ≡ all
+    → map (one_of remaining) (turns ++ turn.Own reader ∷ []) ++ map (own_of remaining) rest ≡ all
+own_next remaining turns left rest reader all e h =
+    ap (λ v. v ++ map (own_of remaining) rest) (map-append (one_of remaining) turns (turn.Own reader ∷ []))
+    ∙ append_assoc (map (one_of remaining) turns) (own_of remaining reader ∷ []) (map (own_of remaining) rest)
+    ∙ ap (λ v. map (one_of remaining) turns ++ map (own_of remaining) v) (sym e) ∙ h
+
+-- the inputs that are left, while they are read
+abbrev pub left_now : {J I : Type 0} → (J → Option (List ℕ)) → (I → Option (List ℕ)) → List (Turn J) → SharedInput I → InputsLeft
+left_now own shared turns reader = record { each = map (one_of own) turns; shared = shared_bytes shared reader }
+
+-- the next one
+pub next_has : {J I : Type 0} (own : J → Option (List ℕ)) (shared : I → Option (List ℕ)) (left rest : List (Turn J)) (turn : Turn J) (reader : SharedInput I) → left ≡ turn ∷ rest → FirstHas (left_now own shared left reader) (bytes_of (one_of own turn) (shared_bytes shared reader))
+next_has own shared left rest turn reader e = record { one = one_of own turn; more = map (one_of own) rest; first = ap (map (one_of own)) e; has = refl }
+
+pub halted : {S K : Type 0} {s : Ghosts S} {k : Widths K} (g : ℕ) (form : InputForm) (o : Task) (read : List (List Change)) (inputs rest : InputsLeft) (x start now : Option (List ℕ)) (m : Batch S K s k) → AreInputs form g read inputs rest → FirstHas rest x → StandsIn form g o read x start now m
+    → Stands form g o inputs start now m
+halted g form o read inputs rest x start now m are first h = record { read = read; last = h.last; rest = rest; are = are; begins = first_begins form g h.last rest x first h.begins; stands = h.stands }
 
 -- and its items were done: so many inputs were, and so many are left
-pub record PutSoFar {R S L : Type 0} {s : Ghosts S} {l : Widths L} (g : ℕ) (remaining : R → Option (List ℕ)) (o : MakeOptions) (form : InputForm) (inputs left : List R) (done : ℕ) (before now : Option (List ℕ)) (old new : Maker S L s l) : Type 0 where
-  pub read : List (List Change)
-  pub are : AreInputs form g read (map remaining inputs) (map remaining left)
-  pub number : done ≡ length read
-  pub all : done + length left ≡ length inputs
-  pub course : (t : Task) (start : Option (List ℕ)) → t.options ≡ o → InCourse t [] start before old → InCourse t (from_inputs 1 read) start now new
-  pub comes : ComesFrom (s.image old.store) (s.image new.store)
-  pub failures : s.failures old.store ≤ s.failures new.store
+pub record PutSoFar {J I S L : Type 0} {s : Ghosts S} {l : Widths L} (g : ℕ) (own : J → Option (List ℕ)) (shared : I → Option (List ℕ)) (o : MakeOptions) (form : InputForm) (inputs : Inputs J I) (left : List (Turn J)) (reader : SharedInput I) (done : ℕ) (before now : Option (List ℕ)) (old new : Batch S L s l) : Type 0
+  where
+    pub read : List (List Change)
+    pub are : AreInputs form g read (inputs_left own shared inputs) (left_now own shared left reader)
+    pub number : done ≡ length read
+    pub all : done + length left ≡ length inputs.turns.items
+    pub course : (t : Task) (start : Option (List ℕ)) → t.options ≡ o → InCourse t [] start before old → InCourse t (from_inputs 1 read) start now new
+    pub comes : ComesFrom (s.image old.maker.store) (s.image new.maker.store)
+    pub failures : s.failures old.maker.store ≤ s.failures new.maker.store
 
-pub put_none : {R S L : Type 0} {s : Ghosts S} {l : Widths L} (g : ℕ) (remaining : R → Option (List ℕ)) (o : MakeOptions) (form : InputForm) (inputs left : List R) (now : Option (List ℕ)) (m : Maker S L s l) → left ≡ inputs → PutSoFar g remaining o form inputs left 0 now now m m
-put_none g remaining o form inputs left now m e = record {
+pub put_none : {J I S L : Type 0} {s : Ghosts S} {l : Widths L} (g : ℕ) (own : J → Option (List ℕ)) (shared : I → Option (List ℕ)) (o : MakeOptions) (form : InputForm) (inputs : Inputs J I) (left : List (Turn J)) (now : Option (List ℕ)) (m : Batch S L s l) → left ≡ inputs.turns.items
+    → PutSoFar g own shared o form inputs left (Unread inputs.shared) 0 now now m m
+put_none g own shared o form inputs left now m e = record {
   read = [];
-  are = ap (map remaining) (sym e);
+  are = ap (λ v. left_now own shared v (Unread inputs.shared)) (sym e);
   number = refl;
   all = omega (arith, ap length e);
   course = λ t start same h. h;
@@ -162,19 +185,16 @@ put_none g remaining o form inputs left now m e = record {
 }
 
 -- what the items of an input come to, whatever was done before
-abbrev pub PutsInput : {S L : Type 0} {s : Ghosts S} {l : Widths L} → ℕ → MakeOptions → InputForm → ℕ → Option (List ℕ) → Option (List ℕ) → Option (List ℕ) → Maker S L s l → Maker S L s l → Type 0
-PutsInput g o form number x before now old new = (last : List Change) × IfSome x (IsInputOf form g last)
-    × ((t : Task) (read : List (List Change)) (start : Option (List ℕ)) → t.options ≡ o → number ≡ length read + 1 → InCourse t (from_inputs 1 read) start before old → InCourse t (from_inputs 1 (read ++ last ∷ [])) start now new)
+abbrev pub PutsInput : {S L : Type 0} {s : Ghosts S} {l : Widths L} → ℕ → MakeOptions → InputForm → ℕ → OneInput → (was left before now : Option (List ℕ)) → Batch S L s l → Batch S L s l → Type 0
+PutsInput g o form number one was left before now old new = (last : List Change) × ReadsOne form g last one was left × PutsItems o number last before now old new
 
-pub puts_in_form : {S L : Type 0} {s : Ghosts S} {l : Widths L} (g : ℕ) (o : MakeOptions) (form is : InputForm) (number : ℕ) (x before now : Option (List ℕ)) (old new : Maker S L s l) → form ≡ is → PutsInput g o form number x before now old new → PutsInput g o is number x before now old new
-puts_in_form g o form is number x before now old new e h = subst (λ v. PutsInput g o v number x before now old new) e h
-
-pub put_next : {R S L : Type 0} {s : Ghosts S} {l : Widths L} (g : ℕ) (remaining : R → Option (List ℕ)) (o : MakeOptions) (form : InputForm) (inputs left rest : List R) (done : ℕ) (before mid now : Option (List ℕ)) (old between new : Maker S L s l) (r : R) (x : Option (List ℕ))
-    → PutSoFar g remaining o form inputs left done before mid old between → left ≡ r ∷ rest → x ≡ remaining r → PutsInput g o form (done + 1) x mid now between new
-    → ComesFrom (s.image between.store) (s.image new.store) → s.failures between.store ≤ s.failures new.store → PutSoFar g remaining o form inputs rest (done + 1) before now old new
-put_next g remaining o form inputs left rest done before mid now old between new r x h e same one comes failures = record {
+pub put_next : {J I S L : Type 0} {s : Ghosts S} {l : Widths L} (g : ℕ) (own : J → Option (List ℕ)) (shared : I → Option (List ℕ)) (o : MakeOptions) (form : InputForm) (inputs : Inputs J I) (left rest : List (Turn J)) (turn : Turn J) (reader further : SharedInput I) (done : ℕ)
+    (before mid now : Option (List ℕ)) (old between new : Batch S L s l) → PutSoFar g own shared o form inputs left reader done before mid old between → left ≡ turn ∷ rest
+    → PutsInput g o form (done + 1) (one_of own turn) (shared_bytes shared reader) (shared_bytes shared further) mid now between new
+    → ComesFrom (s.image between.maker.store) (s.image new.maker.store) → s.failures between.maker.store ≤ s.failures new.maker.store → PutSoFar g own shared o form inputs rest further (done + 1) before now old new
+put_next g own shared o form inputs left rest turn reader further done before mid now old between new h e one comes failures = record {
   read = h.read ++ one.0 ∷ [];
-  are = inputs_next form g h.read one.0 x (map remaining inputs) (map remaining rest) (inputs_taken remaining form g h.read _ left rest r x e same h.are) one.1;
+  are = inputs_next form g h.read one.0 (inputs_left own shared inputs) (left_now own shared left reader) (left_now own shared rest further) h.are (record { one = one_of own turn; first = ap (map (one_of own)) e; reads = one.1 });
   number = sym (length-append h.read (one.0 ∷ []) ∙ ap (λ (n : ℕ). n + 1) (sym h.number));
   all = omega (arith, h.all, ap length e);
   course = λ t start with c. one.2 t h.read start with (ap (λ (n : ℕ). n + 1) h.number) (h.course t start with c);
@@ -187,9 +207,23 @@ pub form_is : (t : Task) (o : MakeOptions) (amends : Bool) → t.options ≡ o �
 form_is t o amends same based = ap (λ v. input_form v.style (is_some t.base)) same ∙ ap (input_form o.style) based
 
 -- the run stopped in one of the inputs
-pub inputs_fail : {R : Type 0} (w g : ℕ) (remaining : R → Option (List ℕ)) (t : Task) (o : MakeOptions) (amends : Bool) (form : InputForm) (read : List (List Change)) (inputs left rest : List R) (r : R) (x : Option (List ℕ)) (start now : Option (List ℕ)) (images : List ℕ → Type 0) (f : Fault)
-    → t.options ≡ o → is_some t.base ≡ amends → form ≡ input_form o.style amends → AreInputs form g read (map remaining inputs) (map remaining left) → left ≡ r ∷ rest → x ≡ remaining r
-    → WhereHonest images (InputFails w g t read x start now f) → WhereHonest images (InputsFail w g t (map remaining inputs) start now f)
-inputs_fail w g remaining t o amends form read inputs left rest r x start now images f same based is are e one h =
-    run_fails w g t read x (map remaining inputs) (map remaining rest) start now images f
-    (subst (λ v. AreInputs v g read (map remaining inputs) (x ∷ map remaining rest)) (is ∙ sym (form_is t o amends same based)) (inputs_taken remaining form g read _ left rest r x e one are)) h
+pub inputs_fail : (w g : ℕ) (t : Task) (o : MakeOptions) (amends : Bool) (read : List (List Change)) (inputs rest : InputsLeft) (x start now : Option (List ℕ)) (images : List ℕ → Type 0) (f : Fault) → t.options ≡ o → is_some t.base ≡ amends → AreInputs (input_form o.style amends) g read inputs rest
+    → FirstHas rest x → WhereHonest images (InputFails w g t read x start now f) → WhereHonest images (InputsFail w g t inputs start now f)
+inputs_fail w g t o amends read inputs rest x start now images f same based are first h =
+    let in_form = subst (λ v. AreInputs v g read inputs rest) (sym (form_is t o amends same based)) are in
+    record { each = λ b is. run_failed w g t read x inputs rest start now f in_form first (h.each b is) }
+
+-- memory for its window was refused before anything was read of it
+pub begins_none : (st : InputForm) (g : ℕ) (input : Option (List ℕ)) → IfSome input (BeginsWithItems st g [])
+begins_none st g None = tt
+begins_none (form.Puts style.Native) g (Some text) = ([], refl, (text, refl))
+begins_none (form.Puts style.Map) g (Some text) = ([], refl, (map_lines text, refl))
+begins_none form.Changes g (Some text) = (text, refl)
+
+pub no_window : {S K : Type 0} {s : Ghosts S} {k : Widths K} (g : ℕ) (t : Task) (read : List (List Change)) (x start now : Option (List ℕ)) (m : Batch S K s k) → InCourse t (from_inputs 1 read) start now m → WhereHonest (s.image m.maker.store) (InputFails k.WORD g t read x start now NoMemory)
+no_window {k = k} g t read x start now m h = record {
+  each = λ b is. record { last = []; begins = begins_none (task_form t) g x; stops = subst (λ cs. Goes k.WORD t cs start now) (sym (came_none read)) (h.goes.each b is) };
+}
+
+pub no_window_stands : {S K : Type 0} {s : Ghosts S} {k : Widths K} (st : InputForm) (g : ℕ) (t : Task) (read : List (List Change)) (x start now : Option (List ℕ)) (m : Batch S K s k) → InCourse t (from_inputs 1 read) start now m → StandsIn st g t read x start now m
+no_window_stands {s = s} {k = k} st g t read x start now m h = record { last = []; begins = begins_none st g x; stands = course_stands {s = s} {l = k} t (came read []) start now m (none_put t read start now m h) }

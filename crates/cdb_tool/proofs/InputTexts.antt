@@ -2,7 +2,7 @@
 use Rattle.std.proofs.Common.{◌≡◌, ◌≢◌, ℕ, ◌+◌, ◌*◌, ◌^◌, ◌<◌, ◌≤◌, inl, inr, ◌⊎◌, List, [], ◌∷◌, ◌++◌, refl, append_assoc, Option, Some, None, IfSome, sym, ap, subst, ◌∙◌, length, length-append, take, drop, arith}
 use Rattle.std.proofs.lemmas.List.{append-nil, take-append-drop, length-take-le}
 use Rattle.std.specs.Prelude.{codes}
-use Rattle.std.specs.Io.KnownBytes.{Consumes}
+use Rattle.std.specs.Io.KnownBytes.{Consumes, IsAtEnd}
 use Rattle.cdb_form.specs.Format.Record.{KeyValue}
 use Rattle.cdb_form.specs.Text.Map.{map_lines, with_newlines}
 use Rattle.cdb_form.specs.Text.Native.{Spells, Spelled, Reads}
@@ -38,10 +38,14 @@ pub record Spent (asks taken : ℕ) (text rest : List ℕ) : Type 0 where
 abbrev pub HasSpent : {R : Type 0} → (R → Option (List ℕ)) → Option (List ℕ) → MapReader R → Type 0
 HasSpent remaining input t = FromTo input (maps.unread remaining t) (Spent (maps.asks_left t) (maps.taken_of t))
 
+-- nothing is left of the input
+abbrev pub HasNoMore : Option (List ℕ) → Option (List ℕ) → Type 0
+HasNoMore input now = FromTo input now (λ text rest. rest ≡ [])
+
 -- it gave these records so far
 abbrev pub Gave : {R L : Type 0} → ℕ → (R → Option (List ℕ)) → Option (List ℕ) → InputReader R L → List KeyValue → Type 0
 Gave g remaining input (Native t) rs = texts.IsGoing t × SoFar g input (texts.unread remaining t) (texts.taken_of t) rs × (2 ^ 48 ≤ texts.budget t)
-Gave g remaining input (Map t) rs = GaveLines remaining input t rs × (maps.IsGoing t → HasSpent remaining input t)
+Gave g remaining input (Map t) rs = GaveLines remaining input t rs × (maps.IsGoing t → HasSpent remaining input t) × (maps.HasEnded t → HasNoMore input (maps.unread remaining t))
 
 spent_none : (asks taken : ℕ) (o n : Option (List ℕ)) → n ≡ o → taken ≡ 0 → asks ≡ 2 ^ 48 → FromTo o n (Spent asks taken)
 spent_none asks taken None n e t a = tt
@@ -53,7 +57,7 @@ none_native g remaining input t e taken asks = (subst (λ n. SoFar g input (text
 
 pub gave_none : {R L : Type 0} (g : ℕ) (remaining : R → Option (List ℕ)) (input : Option (List ℕ)) (t : InputReader R L) → IsNew t → unread remaining t ≡ input → Gave g remaining input t []
 gave_none g remaining input (Native t) new e = let n = none_native g remaining input t e new.taken new.asks in (new.going, n.0, n.1)
-gave_none g remaining input (Map t) new e = (inl (new.going, gave_so_far_none input _ e), λ going. spent_none _ _ input _ e new.taken new.asks)
+gave_none g remaining input (Map t) new e = (inl (new.going, gave_so_far_none input _ e), λ going. spent_none _ _ input _ e new.taken new.asks, λ ended. absurd (going_on t new.going ended))
 
 -- ---- one record more
 
@@ -77,9 +81,22 @@ spent_line remaining input t u r (c ∷ bytes) s was m goes going =
     let one : length (c ∷ bytes) ≡ 1 = ap length newline in
     spent_more remaining input t.source u.source ((with_newlines m.ignored ++ m.line) ++ c ∷ bytes) (s was) m.reads.takes (omega (arith, one, m.reads.spends)) _ _ refl refl
 
+known_end : (P : List ℕ → List ℕ → Type 0) (o m n : Option (List ℕ)) (bytes : List ℕ) → FromTo o m P → Consumes m n bytes → IsAtEnd n → HasNoMore o n
+known_end P None m n bytes a read end = tt
+known_end P (Some t) None n bytes a read end = absurd a
+known_end P (Some t) (Some m) None bytes a read end = absurd read
+known_end P (Some t) (Some m) (Some n) bytes a read end = end
+
+-- nothing is left behind a line that ended with the input
+ended_line : {R : Type 0} (remaining : R → Option (List ℕ)) (input : Option (List ℕ)) (t u : MapReader R) (r : KeyValue) (ending : List ℕ) → HasSpent remaining input t → ReadsLinesOf remaining t.source u.source r ending → maps.GoesOn ending u → maps.HasEnded u
+    → HasNoMore input (maps.unread remaining u)
+ended_line remaining input t u r [] s m goes ended = known_end (Spent (maps.asks_left t) (maps.taken_of t)) input (maps.unread remaining t) (maps.unread remaining u) ((with_newlines m.ignored ++ m.line) ++ []) s m.reads.takes.read m.reads.ends
+ended_line remaining input t u r (c ∷ bytes) s m goes ended = absurd (going_on u goes ended)
+
 pub gave_more : {R L : Type 0} (g : ℕ) (remaining : R → Option (List ℕ)) (input : Option (List ℕ)) (t u : InputReader R L) (rs : List KeyValue) (r : KeyValue) → Gave g remaining input t rs → GivesRecord g remaining t u r → Gave g remaining input u (rs ++ r ∷ [])
 gave_more g remaining input (Native t) (Native u) rs r h m = (m.going, so_far_more g input _ _ _ _ rs r h.1 m.reads, omega (arith, h.2, m.spends))
-gave_more g remaining input (Map t) (Map u) rs r h m = (gave_lines_more remaining input t u rs r h.0 m, spent_line remaining input t u r m.ending h.1 m.was m.reads m.going)
+gave_more g remaining input (Map t) (Map u) rs r h m =
+    (gave_lines_more remaining input t u rs r h.0 m, spent_line remaining input t u r m.ending h.1 m.was m.reads m.going, ended_line remaining input t u r m.ending (h.1 m.was) m.reads m.going)
 gave_more g remaining input (Native t) (Map u) rs r h m = absurd m
 gave_more g remaining input (Map t) (Native u) rs r h m = absurd m
 
@@ -97,15 +114,27 @@ same_style g remaining (Map t) (Native u) r m = absurd m
 
 -- ---- the end, and how far it is
 
-all_native : (g : ℕ) (o m n : Option (List ℕ)) (taken : ℕ) (rs : List KeyValue) → SoFar g o m taken rs → Consumes m n (codes "\n") → IfSome o (λ t. (rest : List ℕ) × Reads g rs t rest)
+all_native : (g : ℕ) (o m n : Option (List ℕ)) (taken : ℕ) (rs : List KeyValue) → SoFar g o m taken rs → Consumes m n (codes "\n") → FromTo o n (Reads g rs)
 all_native g None m n taken rs a b = tt
 all_native g (Some t) None n taken rs a b = absurd a
 all_native g (Some t) (Some m) None taken rs a b = absurd b
-all_native g (Some t) (Some m) (Some n) taken rs a b = (n, subst (Spelled g rs t) b a.0)
+all_native g (Some t) (Some m) (Some n) taken rs a b = subst (Spelled g rs t) b a.0
 
-pub gave_all : {R L : Type 0} (g : ℕ) (remaining : R → Option (List ℕ)) (input : Option (List ℕ)) (t u : InputReader R L) (rs : List KeyValue) → Gave g remaining input t rs → GivesEnd remaining t u → IfSome input (IsInput (style_of t) g rs)
+both_known : (P : List ℕ → Type 0) (Q : List ℕ → List ℕ → Type 0) (o n : Option (List ℕ)) → IfSome o P → FromTo o n Q → FromTo o n (λ text rest. P text × Q text rest)
+both_known P Q None n p q = tt
+both_known P Q (Some t) None p q = absurd q
+both_known P Q (Some t) (Some n) p q = (p, q)
+
+all_map : {R : Type 0} (remaining : R → Option (List ℕ)) (input : Option (List ℕ)) (t u : MapReader R) (rs : List KeyValue) → GaveLines remaining input t rs → (maps.IsGoing t → HasSpent remaining input t) → (maps.HasEnded t → HasNoMore input (maps.unread remaining t)) → maps.GivesEnd remaining t u
+    → HasNoMore input (maps.unread remaining u)
+all_map remaining input t u rs gave spent none m = elim gave as (λ _. HasNoMore input (maps.unread remaining u)) [
+  | inl so ↦ (let end = m.reads so.0 in known_end (Spent (maps.asks_left t) (maps.taken_of t)) input (maps.unread remaining t) (maps.unread remaining u) _ (spent so.0) end.reads.takes.read end.reads.ends)
+  | inr ended ↦ subst (λ v. HasNoMore input (maps.unread remaining v)) (sym (m.stays ended.0)) (none ended.0)
+]
+
+pub gave_all : {R L : Type 0} (g : ℕ) (remaining : R → Option (List ℕ)) (input : Option (List ℕ)) (t u : InputReader R L) (rs : List KeyValue) → Gave g remaining input t rs → GivesEnd remaining t u → FromTo input (unread remaining u) (IsInput (style_of t) g rs)
 gave_all g remaining input (Native t) (Native u) rs h m = all_native g input _ _ _ rs h.1 (m.newline h.0)
-gave_all g remaining input (Map t) (Map u) rs h m = gave_lines_all remaining input t u rs h.0 m
+gave_all g remaining input (Map t) (Map u) rs h m = both_known _ _ input (maps.unread remaining u) (gave_lines_all remaining input t u rs h.0 m) (all_map remaining input t u rs h.0 h.1 h.2 m)
 gave_all g remaining input (Native t) (Map u) rs h m = absurd m
 gave_all g remaining input (Map t) (Native u) rs h m = absurd m
 

@@ -6,6 +6,7 @@ use Rattle.std.specs.Io.KnownBytes.{Consumes}
 use Rattle.cdb_form.specs.Format.Record.{KeyValue}
 use Rattle.cdb_form.specs.Text.Amending.{Change, Putting, SpellsChange, SpelledChanges, ReadsChanges}
 use Rattle.cdb_form.specs.Views.AmendReader as changes
+use Rattle.cdb_form.specs.Views.KnownBytes.{FromTo}
 use Rattle.cdb_form.specs.Views.TextFault.{IsOfText}
 use Rattle.cdb_form.specs.declared.text.amend_reader.AmendReader.{AmendReader}
 use Rattle.cdb_form.specs.declared.text.fault.TextFault.{TextFault}
@@ -66,14 +67,19 @@ same_form g remaining (Changes t) (Puts u) c m = absurd m
 
 -- ---- the end, and how far it is
 
-all_changes : (g : ℕ) (o m n : Option (List ℕ)) (taken : ℕ) (items : List Change) → SoFar g o m taken items → Consumes m n (codes "\n") → IfSome o (λ t. (rest : List ℕ) × ReadsChanges g items t rest)
+all_changes : (g : ℕ) (o m n : Option (List ℕ)) (taken : ℕ) (items : List Change) → SoFar g o m taken items → Consumes m n (codes "\n") → FromTo o n (ReadsChanges g items)
 all_changes g None m n taken items a b = tt
 all_changes g (Some t) None n taken items a b = absurd a
 all_changes g (Some t) (Some m) None taken items a b = absurd b
-all_changes g (Some t) (Some m) (Some n) taken items a b = (n, subst (SpelledChanges g items t) b a.0)
+all_changes g (Some t) (Some m) (Some n) taken items a b = subst (SpelledChanges g items t) b a.0
 
-pub items_all : {R L : Type 0} (g : ℕ) (remaining : R → Option (List ℕ)) (input : Option (List ℕ)) (t u : ItemReader R L) (items : List Change) → GaveItems g remaining input t items → GivesEnd remaining t u → IfSome input (IsInputOf (form_of t) g items)
-items_all g remaining input (Puts t) (Puts u) items h m = some_weaker input (λ x is. (h.0, h.1, is)) (gave_all g remaining input t u h.0 h.2 m)
+known_weaker : (P Q : List ℕ → List ℕ → Type 0) (o n : Option (List ℕ)) → ((text rest : List ℕ) → P text rest → Q text rest) → FromTo o n P → FromTo o n Q
+known_weaker P Q None n f p = tt
+known_weaker P Q (Some text) None f p = absurd p
+known_weaker P Q (Some text) (Some rest) f p = f text rest p
+
+pub items_all : {R L : Type 0} (g : ℕ) (remaining : R → Option (List ℕ)) (input : Option (List ℕ)) (t u : ItemReader R L) (items : List Change) → GaveItems g remaining input t items → GivesEnd remaining t u → FromTo input (unread remaining u) (IsInputOf (form_of t) g items)
+items_all g remaining input (Puts t) (Puts u) items h m = known_weaker _ _ input _ (λ x y is. (h.0, h.1, is)) (gave_all g remaining input t u h.0 h.2 m)
 items_all g remaining input (Changes t) (Changes u) items h m = all_changes g input _ _ _ items h.1 (m.newline h.0)
 items_all g remaining input (Puts t) (Changes u) items h m = absurd m
 items_all g remaining input (Changes t) (Puts u) items h m = absurd m

@@ -12,16 +12,18 @@ use Rattle.cdb_form.specs.Text.Amending.{Change}
 use Rattle.cdb_form.specs.Text.Map.{map_lines}
 use Rattle.cdb_form.specs.Views.KnownBytes.{AppendsFront}
 use Rattle.cdb_form.proofs.WritingLemmas.{appends_kept}
-use Rattle.cdb_make.specs.Views.Maker.{Holds, WhereHonest, ComesFrom, IsFile, FailsFinishing, limit_of}
+use Rattle.cdb_make.specs.Views.Batch as batch
+use Rattle.cdb_make.specs.Views.Maker.{Holds, WhereHonest, ComesFrom, IsFile, limit_of}
 use Rattle.cdb_make.specs.Views.Making.{MakingFault}
 use Rattle.cdb_make.specs.declared.fault.MakeFault.{MakeFault}
 use Rattle.cdb_make.specs.declared.fault.MakeFault.TheVariants as make
+use Rattle.cdb_make.specs.declared.batch.Batch.{Batch}
 use Rattle.cdb_make.specs.declared.maker.Maker.{Maker}
 use Rattle.cdb_make.proofs.Makers.{held_size}
 use Rattle.cdb_tool.specs.Views.Fault.{make_fault}
 use Rattle.cdb_tool.specs.Runs.Flushed.{Flushed}
 use Rattle.cdb_tool.specs.Runs.Course.{Task, task_of, Incoming, from_inputs, course_of, Goes, EndsSo, StopsSo}
-use Rattle.cdb_tool.specs.Runs.Inputs.{InputForm, BeginsWithItems, AreInputs, FirstBegins}
+use Rattle.cdb_tool.specs.Runs.Inputs.{InputForm, InputsLeft, OneInput, AreAllInputs, OneBegins, FirstBegins, bytes_of}
 use Rattle.cdb_tool.specs.Runs.Inputs as form
 use Rattle.cdb_tool.specs.Runs.Make.{InCourse, Stops, InputsFail, RunFails, Runs, came, form_of, records_of, OfBase, HoldsBase, BaseStopped, HandsBack, IsBase, IsSomeBase, BaseFails}
 use Rattle.cdb_tool.specs.declared.fault.Fault.{Fault}
@@ -29,28 +31,26 @@ use Rattle.cdb_tool.specs.declared.fault.Fault.TheVariants.{Text, Make, Duplicat
 use Rattle.cdb_command.specs.declared.options.MakeOptions.{MakeOptions}
 use Rattle.cdb_command.specs.declared.style.Style.TheVariants as style
 use Rattle.cdb_tool.proofs.WholeRuns.{front_kept, whole_front, not_ok}
+use Rattle.cdb_tool.proofs.InputRuns.{begins_none}
 use Rattle.cdb_tool.proofs.Courses.{came_none, appends_none, course_starts}
 
 -- ---- no maker was made
 
-begins_none : (st : InputForm) (g : ℕ) (input : Option (List ℕ)) → IfSome input (BeginsWithItems st g [])
-begins_none st g None = tt
-begins_none (form.Puts style.Native) g (Some text) = ([], refl, (text, refl))
-begins_none (form.Puts style.Map) g (Some text) = ([], refl, (map_lines text, refl))
-begins_none form.Changes g (Some text) = (text, refl)
+one_none : (st : InputForm) (g : ℕ) (each : List OneInput) (shared : Option (List ℕ)) → OneBegins st g [] each shared
+one_none st g [] shared = refl
+one_none st g (one ∷ each) shared = begins_none st g (bytes_of one shared)
 
-first_none : (st : InputForm) (g : ℕ) (inputs : List (Option (List ℕ))) → FirstBegins st g [] inputs
-first_none st g [] = refl
-first_none st g (input ∷ inputs) = begins_none st g input
+first_none : (st : InputForm) (g : ℕ) (inputs : InputsLeft) → FirstBegins st g [] inputs
+first_none st g inputs = one_none st g inputs.each inputs.shared
 
 -- nothing was read
-stops_none : (w g : ℕ) (t : Task) (inputs : List (Option (List ℕ))) (start : Option (List ℕ)) (f : Fault) → StopsSo w t [] start start f → Stops w g t inputs start start f
+stops_none : (w g : ℕ) (t : Task) (inputs : InputsLeft) (start : Option (List ℕ)) (f : Fault) → StopsSo w t [] start start f → Stops w g t inputs start start f
 stops_none w g t inputs start f h = record { read = []; last = []; rest = inputs; are = refl; begins = first_none (form_of t) g inputs; stops = h }
 
 goes_none : (w : ℕ) (t : Task) (start : Option (List ℕ)) → Goes w t [] start start
 goes_none w t start = record { going = refl; lines = appends_none start }
 
-not_made : {S : Type 0} (image : S → List ℕ → Type 0) (size written failures : S → ℕ) (w g : ℕ) (o : MakeOptions) (x : Option (List ℕ)) (inputs : List (Option (List ℕ))) (start : Option (List ℕ)) (old new : S) (f : MakeFault) → MakingFault image size written failures old new f
+not_made : {S : Type 0} (image : S → List ℕ → Type 0) (size written failures : S → ℕ) (w g : ℕ) (o : MakeOptions) (x : Option (List ℕ)) (inputs : InputsLeft) (start : Option (List ℕ)) (old new : S) (f : MakeFault) → MakingFault image size written failures old new f
     → RunFails w g o x inputs start start (make_fault f)
 not_made image size written failures w g o None inputs start old new make.NoMemory h = inr (record { based = tt; fails = stops_none w g (task_of o None) inputs start NoMemory (goes_none w (task_of o None) start) })
 not_made image size written failures w g o None inputs start old new make.Writing h = inr (record { based = tt; fails = stops_none w g (task_of o None) inputs start (Make make.Writing) (goes_none w (task_of o None) start) })
@@ -65,10 +65,18 @@ each_base : {B : Type 0} (s : Ghosts B) (base : Option B) (P : Option (List ℕ)
 each_base s None P f = f None
 each_base s (Some base) P f = λ b is. f (Some b)
 
-pub runs_not : {S B : Type 0} (image : S → List ℕ → Type 0) (size written failures : S → ℕ) (s : Ghosts B) (base : Option B) (w g : ℕ) (o : MakeOptions) (inputs : List (Option (List ℕ))) (start : Option (List ℕ)) (old new : S) (images : List ℕ → Type 0) (f : MakeFault)
+pub runs_not : {S B : Type 0} (image : S → List ℕ → Type 0) (size written failures : S → ℕ) (s : Ghosts B) (base : Option B) (w g : ℕ) (o : MakeOptions) (inputs : InputsLeft) (start : Option (List ℕ)) (old new : S) (images : List ℕ → Type 0) (f : MakeFault)
     → MakingFault image size written failures old new f → WhereHonest images (OfBase s base (λ x. Runs w g o x inputs images start start (Err (make_fault f))))
 runs_not image size written failures s base w g o inputs start old new images f h =
     record { each = λ a j. each_base s base _ (λ x. record { ok = tt; err = not_made image size written failures w g o x inputs start old new f h }) }
+
+-- nothing was begun, since an allocation failed
+unbegun : (w g : ℕ) (o : MakeOptions) (x : Option (List ℕ)) (inputs : InputsLeft) (start : Option (List ℕ)) → RunFails w g o x inputs start start NoMemory
+unbegun w g o None inputs start = inr (record { based = tt; fails = stops_none w g (task_of o None) inputs start NoMemory (goes_none w (task_of o None) start) })
+unbegun w g o (Some b) inputs start = inl (record { fails = tt; lines = appends_none start })
+
+pub runs_unbegun : {B : Type 0} (s : Ghosts B) (base : Option B) (w g : ℕ) (o : MakeOptions) (inputs : InputsLeft) (start : Option (List ℕ)) (images : List ℕ → Type 0) → WhereHonest images (OfBase s base (λ x. Runs w g o x inputs images start start (Err NoMemory)))
+runs_unbegun s base w g o inputs start images = record { each = λ a j. each_base s base _ (λ x. record { ok = tt; err = unbegun w g o x inputs start }) }
 
 -- ---- its base stopped it
 
@@ -82,7 +90,7 @@ pub hands_same : {B : Type 0} (s : Ghosts B) (base : Option B) → HandsBack s b
 hands_same s None = tt
 hands_same s (Some base) = record { images = λ b is. is; size = refl; written = refl; room = omega arith; failures = omega arith }
 
-pub runs_unbased : {B : Type 0} (s : Ghosts B) (base : Option B) (w g : ℕ) (o : MakeOptions) (limit : ℕ) (inputs : List (Option (List ℕ))) (start : Option (List ℕ)) (images : List ℕ → Type 0) (f : Fault) → limit ≡ o.limit → BaseStopped w limit s base images f
+pub runs_unbased : {B : Type 0} (s : Ghosts B) (base : Option B) (w g : ℕ) (o : MakeOptions) (limit : ℕ) (inputs : InputsLeft) (start : Option (List ℕ)) (images : List ℕ → Type 0) (f : Fault) → limit ≡ o.limit → BaseStopped w limit s base images f
     → WhereHonest images (OfBase s base (λ x. Runs w g o x inputs images start start (Err f)))
 runs_unbased s None w g o limit inputs start images f same h = absurd h
 runs_unbased s (Some base) w g o limit inputs start images f same h = record {
@@ -101,80 +109,88 @@ is_base {l = l} o b rs m is holds limit a j =
     let same : file_size l.WORD (walk_of l.WORD b).records ≡ file_size l.WORD rs = ap (λ v. file_size l.WORD v.records) is in
     record { whole = ap (λ v. v.damage) is; fits = omega (arith, size, same, m.within, limit) }
 
+-- a batch of the records of the maker of the base, none of them marked
+pub record IsOver {S L : Type 0} {s : Ghosts S} {l : Widths L} (first : Maker S L s l) (m : Batch S L s l) : Type 0 where
+  pub same : m.maker ≡ first
+  pub holds : (rs : List KeyValue) → Holds first rs → batch.Holds m rs
+  pub limit : batch.limit_of m ≡ first.limit
+
 -- and the run begins with its records
-begins_based : {S L : Type 0} {s : Ghosts S} {l : Widths L} (o : MakeOptions) (b : List ℕ) (rs : List KeyValue) (start : Option (List ℕ)) (m : Maker S L s l) → walk_of l.WORD b ≡ record { records = rs; damage = None } → Holds m rs → limit_of m ≡ o.limit
+begins_based : {S L : Type 0} {s : Ghosts S} {l : Widths L} (o : MakeOptions) (b : List ℕ) (rs : List KeyValue) (start : Option (List ℕ)) (first : Maker S L s l) (m : Batch S L s l) → walk_of l.WORD b ≡ record { records = rs; damage = None } → Holds first rs → limit_of first ≡ o.limit → IsOver first m
     → InCourse (task_of o (records_of l.WORD (Some b))) [] start start m
-begins_based {l = l} o b rs start m is holds limit =
-    course_starts (task_of o (records_of l.WORD (Some b))) start m (subst (Holds m) (sym (ap (λ v. v.records) is)) holds) limit
+begins_based {l = l} o b rs start first m is holds limit over =
+    course_starts (task_of o (records_of l.WORD (Some b))) start m (over.holds _ (subst (Holds first) (sym (ap (λ v. v.records) is)) holds)) (over.limit ∙ limit)
 
 -- what is so for each run that begins with such records, is so of the base
-of_held : {S L B : Type 0} {s : Ghosts S} {l : Widths L} (t : Ghosts B) (base : Option B) (o : MakeOptions) (start : Option (List ℕ)) (m : Maker S L s l) (P : Option (List ℕ) → Type 0) → HoldsBase l.WORD t base m → limit_of m ≡ o.limit → (a : List ℕ) → s.image m.store a
-    → ((x : Option (List ℕ)) → is_some (records_of l.WORD x) ≡ is_some base → IsSomeBase l.WORD o.limit x → InCourse (task_of o (records_of l.WORD x)) [] start start m → P x) → OfBase t base P
-of_held t None o start m P h limit a j f = f None refl tt (course_starts (task_of o None) start m h limit)
-of_held t (Some base) o start m P h limit a j f = λ b is.
-    f (Some b) refl (is_base o b h.records m (h.each b is) h.holds limit a j) (begins_based o b h.records start m (h.each b is) h.holds limit)
+of_held : {S L B : Type 0} {s : Ghosts S} {l : Widths L} (t : Ghosts B) (base : Option B) (o : MakeOptions) (start : Option (List ℕ)) (first : Maker S L s l) (m : Batch S L s l) (P : Option (List ℕ) → Type 0) → HoldsBase l.WORD t base first → limit_of first ≡ o.limit → IsOver first m
+    → (a : List ℕ) → s.image m.maker.store a → ((x : Option (List ℕ)) → is_some (records_of l.WORD x) ≡ is_some base → IsSomeBase l.WORD o.limit x → InCourse (task_of o (records_of l.WORD x)) [] start start m → P x) → OfBase t base P
+of_held t None o start first m P h limit over a j f = f None refl tt (course_starts (task_of o None) start m (over.holds [] h) (over.limit ∙ limit))
+of_held {s = s} t (Some base) o start first m P h limit over a j f = λ b is.
+    let at : s.image first.store a = subst (λ v. s.image v.store a) over.same j in
+    f (Some b) refl (is_base o b h.records first (h.each b is) h.holds limit a at) (begins_based o b h.records start first m (h.each b is) h.holds limit over)
 
-pub runs_stopped : {S L B : Type 0} {s : Ghosts S} {l : Widths L} (t : Ghosts B) (base : Option B) (g : ℕ) (o : MakeOptions) (amends : Bool) (inputs : List (Option (List ℕ))) (start now : Option (List ℕ)) (m : Maker S L s l) (images : List ℕ → Type 0) (f : Fault)
-    → HoldsBase l.WORD t base m → limit_of m ≡ o.limit → is_some base ≡ amends → ComesFrom (s.image m.store) images
+pub runs_stopped : {S L B : Type 0} {s : Ghosts S} {l : Widths L} (t : Ghosts B) (base : Option B) (g : ℕ) (o : MakeOptions) (amends : Bool) (inputs : InputsLeft) (start now : Option (List ℕ)) (first : Maker S L s l) (m : Batch S L s l) (images : List ℕ → Type 0) (f : Fault)
+    → HoldsBase l.WORD t base first → limit_of first ≡ o.limit → IsOver first m → is_some base ≡ amends → ComesFrom (s.image m.maker.store) images
     → ((k : Task) → k.options ≡ o → is_some k.base ≡ amends → InCourse k [] start start m → WhereHonest images (InputsFail l.WORD g k inputs start now f))
     → WhereHonest images (OfBase t base (λ x. Runs l.WORD g o x inputs images start now (Err f)))
-runs_stopped {l = l} t base g o amends inputs start now m images f h limit some comes fails = record {
+runs_stopped {l = l} t base g o amends inputs start now first m images f h limit over some comes fails = record {
   each = λ b is.
       let a = comes.each b is in
-      of_held t base o start m _ h limit a.0 a.1
+      of_held t base o start first m _ h limit over a.0 a.1
       (λ x same based begins. record { ok = tt; err = inr (record { based = based; fails = (fails (task_of o (records_of l.WORD x)) refl (same ∙ some) begins).each b is }) });
 }
 
 -- ---- all inputs were put
 
-pub runs_whole : {S L B : Type 0} {s : Ghosts S} {l : Widths L} (t : Ghosts B) (base : Option B) (g : ℕ) (o : MakeOptions) (inputs : List (Option (List ℕ))) (read : List (List Change)) (start now : Option (List ℕ)) (first m : Maker S L s l) (images : List ℕ → Type 0)
-    → HoldsBase l.WORD t base first → limit_of first ≡ o.limit → AreInputs (form.input_form o.style (is_some base)) g read inputs []
-    → ((k : Task) → k.options ≡ o → InCourse k [] start start first → InCourse k (from_inputs 1 read) start now m)
-    → ComesFrom (s.image first.store) (s.image m.store) → ComesFrom (s.image m.store) images → ((rs : List KeyValue) → Holds m rs → IsFile l.WORD rs images) → WhereHonest images (OfBase t base (λ x. Runs l.WORD g o x inputs images start now (Ok tt)))
-runs_whole {l = l} t base g o inputs read start now first m images h limit are course before comes file = record {
+pub runs_whole : {S L B : Type 0} {s : Ghosts S} {l : Widths L} (t : Ghosts B) (base : Option B) (g : ℕ) (o : MakeOptions) (inputs : InputsLeft) (read : List (List Change)) (start now : Option (List ℕ)) (first : Maker S L s l) (begun m : Batch S L s l) (images : List ℕ → Type 0)
+    → HoldsBase l.WORD t base first → limit_of first ≡ o.limit → IsOver first begun → AreAllInputs (form.input_form o.style (is_some base)) g read inputs
+    → ((k : Task) → k.options ≡ o → InCourse k [] start start begun → InCourse k (from_inputs 1 read) start now m)
+    → ComesFrom (s.image begun.maker.store) (s.image m.maker.store) → ComesFrom (s.image m.maker.store) images → ((rs : List KeyValue) → batch.Holds m rs → IsFile l.WORD rs images)
+    → WhereHonest images (OfBase t base (λ x. Runs l.WORD g o x inputs images start now (Ok tt)))
+runs_whole {l = l} t base g o inputs read start now first begun m images h limit over are course before comes file = record {
   each = λ b is.
       let a = comes.each b is in
       let c = before.each a.0 a.1 in
-      of_held t base o start first _ h limit c.0 c.1
+      of_held t base o start first begun _ h limit over c.0 c.1
       (λ x same based begins.
       let k : Task = task_of o (records_of l.WORD x) in
       let put = course k refl begins in
       record {
         ok = record {
           based = based;
-          made = record { read = read; are = subst (λ (v : Bool). AreInputs (form.input_form o.style v) g read inputs []) (sym same) are; goes = put.goes.each a.0 a.1; file = file _ put.holds };
+          made = record { read = read; are = subst (λ (v : Bool). AreAllInputs (form.input_form o.style v) g read inputs) (sym same) are; goes = put.goes.each a.0 a.1; file = file _ put.holds };
         };
         err = tt;
       });
 }
 
 -- the file was not finished
-stops_whole : (w g : ℕ) (t : Task) (inputs : List (Option (List ℕ))) (read : List (List Change)) (start now : Option (List ℕ)) (f : Fault) → AreInputs (form_of t) g read inputs [] → StopsSo w t (from_inputs 1 read) start now f → Stops w g t inputs start now f
-stops_whole w g t inputs read start now f are h = record { read = read; last = []; rest = []; are = are; begins = refl; stops = subst (λ cs. StopsSo w t cs start now f) (sym (came_none read)) h }
+stops_whole : (w g : ℕ) (t : Task) (inputs : InputsLeft) (read : List (List Change)) (start now : Option (List ℕ)) (f : Fault) → AreAllInputs (form_of t) g read inputs → StopsSo w t (from_inputs 1 read) start now f → Stops w g t inputs start now f
+stops_whole w g t inputs read start now f are h = record { read = read; last = []; rest = are.rest; are = are.are; begins = first_none (form_of t) g are.rest; stops = subst (λ cs. StopsSo w t cs start now f) (sym (came_none read)) h }
 
-not_finished : {S L : Type 0} {s : Ghosts S} {l : Widths L} (g : ℕ) (t : Task) (inputs : List (Option (List ℕ))) (read : List (List Change)) (start now : Option (List ℕ)) (old new : Maker S L s l) (f : MakeFault) → AreInputs (form_of t) g read inputs []
-    → old.broken ≡ false → Goes l.WORD t (from_inputs 1 read) start now → FailsFinishing old new f → InputsFail l.WORD g t inputs start now (make_fault f)
-not_finished g t inputs read start now old new make.Broken are whole goes h = absurd (let k : true ≡ false = sym h.0 ∙ whole in cc)
-not_finished {l = l} g t inputs read start now old new make.NoMemory are whole goes h = stops_whole l.WORD g t inputs read start now NoMemory are goes
-not_finished {l = l} g t inputs read start now old new make.Writing are whole goes h = stops_whole l.WORD g t inputs read start now (Make make.Writing) are goes
-not_finished g t inputs read start now old new make.Lookup are whole goes h = absurd h
-not_finished g t inputs read start now old new make.TooBig are whole goes h = absurd h
+not_finished : {S L : Type 0} {s : Ghosts S} {l : Widths L} (g : ℕ) (t : Task) (inputs : InputsLeft) (read : List (List Change)) (start now : Option (List ℕ)) (old new : Batch S L s l) (rs : List KeyValue) (b : List ℕ) (f : MakeFault) → AreAllInputs (form_of t) g read inputs
+    → batch.Holds old rs → s.image new.maker.store b → Goes l.WORD t (from_inputs 1 read) start now → batch.FailsFinishing old new f → InputsFail l.WORD g t inputs start now (make_fault f)
+not_finished g t inputs read start now old new rs b make.Broken are holds is goes h = absurd (h.cause rs holds b is)
+not_finished {l = l} g t inputs read start now old new rs b make.NoMemory are holds is goes h = stops_whole l.WORD g t inputs read start now NoMemory are goes
+not_finished {l = l} g t inputs read start now old new rs b make.Writing are holds is goes h = stops_whole l.WORD g t inputs read start now (Make make.Writing) are goes
+not_finished g t inputs read start now old new rs b make.Lookup are holds is goes h = absurd h
+not_finished g t inputs read start now old new rs b make.TooBig are holds is goes h = absurd h
 
-pub runs_unfinished : {S L B : Type 0} {s : Ghosts S} {l : Widths L} (t : Ghosts B) (base : Option B) (g : ℕ) (o : MakeOptions) (inputs : List (Option (List ℕ))) (read : List (List Change)) (start now : Option (List ℕ)) (first old new : Maker S L s l) (images : List ℕ → Type 0) (f : MakeFault)
-    → HoldsBase l.WORD t base first → limit_of first ≡ o.limit → AreInputs (form.input_form o.style (is_some base)) g read inputs []
-    → ((k : Task) → k.options ≡ o → InCourse k [] start start first → InCourse k (from_inputs 1 read) start now old)
-    → ComesFrom (s.image first.store) (s.image old.store) → ComesFrom (s.image old.store) images → FailsFinishing old new f → WhereHonest images (OfBase t base (λ x. Runs l.WORD g o x inputs images start now (Err (make_fault f))))
-runs_unfinished {l = l} t base g o inputs read start now first old new images f h limit are course before comes fails = record {
+pub runs_unfinished : {S L B : Type 0} {s : Ghosts S} {l : Widths L} (t : Ghosts B) (base : Option B) (g : ℕ) (o : MakeOptions) (inputs : InputsLeft) (read : List (List Change)) (start now : Option (List ℕ)) (first : Maker S L s l) (begun old new : Batch S L s l) (f : MakeFault)
+    → HoldsBase l.WORD t base first → limit_of first ≡ o.limit → IsOver first begun → AreAllInputs (form.input_form o.style (is_some base)) g read inputs
+    → ((k : Task) → k.options ≡ o → InCourse k [] start start begun → InCourse k (from_inputs 1 read) start now old) → ComesFrom (s.image begun.maker.store) (s.image old.maker.store) → ComesFrom (s.image old.maker.store) (s.image new.maker.store)
+    → batch.FailsFinishing old new f → WhereHonest (s.image new.maker.store) (OfBase t base (λ x. Runs l.WORD g o x inputs (s.image new.maker.store) start now (Err (make_fault f))))
+runs_unfinished {l = l} t base g o inputs read start now first begun old new f h limit over are course before comes fails = record {
   each = λ b is.
       let a = comes.each b is in
       let c = before.each a.0 a.1 in
-      of_held t base o start first _ h limit c.0 c.1
+      of_held t base o start first begun _ h limit over c.0 c.1
       (λ x same based begins.
       let k : Task = task_of o (records_of l.WORD x) in
       let put = course k refl begins in
       record {
         ok = tt;
-        err = inr (record { based = based; fails = not_finished g k inputs read start now old new f (subst (λ (v : Bool). AreInputs (form.input_form o.style v) g read inputs []) (sym same) are) put.holds.whole (put.goes.each a.0 a.1) fails });
+        err = inr (record { based = based; fails = not_finished g k inputs read start now old new _ b f (subst (λ (v : Bool). AreAllInputs (form.input_form o.style v) g read inputs) (sym same) are) put.holds is (put.goes.each a.0 a.1) fails });
       });
 }
 
@@ -203,12 +219,12 @@ stops_kept w o cs old mid new Long h k = absurd h
 stops_kept w o cs old mid new Open h k = absurd h
 stops_kept w o cs old mid new Rename h k = absurd h
 
-stop_kept : (w g : ℕ) (o : Task) (inputs : List (Option (List ℕ))) (old mid new : Option (List ℕ)) (f : Fault) → Stops w g o inputs old mid f → Keeps mid new → Stops w g o inputs old new f
+stop_kept : (w g : ℕ) (o : Task) (inputs : InputsLeft) (old mid new : Option (List ℕ)) (f : Fault) → Stops w g o inputs old mid f → Keeps mid new → Stops w g o inputs old new f
 stop_kept w g o inputs old mid new f h k = record { read = h.read; last = h.last; rest = h.rest; are = h.are; begins = h.begins; stops = stops_kept w o (came h.read h.last) old mid new f h.stops k }
 
-fails_kept : (w g : ℕ) (o : Task) (inputs : List (Option (List ℕ))) (old mid new : Option (List ℕ)) (f : Fault) → InputsFail w g o inputs old mid f → Keeps mid new → InputsFail w g o inputs old new f
+fails_kept : (w g : ℕ) (o : Task) (inputs : InputsLeft) (old mid new : Option (List ℕ)) (f : Fault) → InputsFail w g o inputs old mid f → Keeps mid new → InputsFail w g o inputs old new f
 fails_kept w g o inputs old mid new (Text n f) h k =
-    record { read = h.read; last = h.last; input = h.input; rest = h.rest; are = h.are; numbered = h.numbered; memory = h.memory; native = h.native; has = h.has; goes = goes_kept w o (came h.read h.last) old mid new h.goes k }
+    record { read = h.read; last = h.last; input = h.input; rest = h.rest; are = h.are; first = h.first; numbered = h.numbered; memory = h.memory; native = h.native; has = h.has; goes = goes_kept w o (came h.read h.last) old mid new h.goes k }
 fails_kept w g o inputs old mid new (Make f) h k = stop_kept w g o inputs old mid new (Make f) h k
 fails_kept w g o inputs old mid new Duplicate h k = stop_kept w g o inputs old mid new Duplicate h k
 fails_kept w g o inputs old mid new (Walk f) h k = stop_kept w g o inputs old mid new (Walk f) h k
@@ -220,13 +236,13 @@ fails_kept w g o inputs old mid new Open h k = stop_kept w g o inputs old mid ne
 fails_kept w g o inputs old mid new Rename h k = stop_kept w g o inputs old mid new Rename h k
 fails_kept w g o inputs old mid new NoMemory h k = stop_kept w g o inputs old mid new NoMemory h k
 
-run_kept : (w g : ℕ) (o : MakeOptions) (x : Option (List ℕ)) (inputs : List (Option (List ℕ))) (old mid new : Option (List ℕ)) (f : Fault) → RunFails w g o x inputs old mid f → Keeps mid new → RunFails w g o x inputs old new f
+run_kept : (w g : ℕ) (o : MakeOptions) (x : Option (List ℕ)) (inputs : InputsLeft) (old mid new : Option (List ℕ)) (f : Fault) → RunFails w g o x inputs old mid f → Keeps mid new → RunFails w g o x inputs old new f
 run_kept w g o x inputs old mid new f h k = elim h as (λ _. RunFails w g o x inputs old new f) [
   | inl base ↦ inl (record { fails = base.fails; lines = appends_kept old mid new [] base.lines k })
   | inr stop ↦ inr (record { based = stop.based; fails = fails_kept w g (task_of o (records_of w x)) inputs old mid new f stop.fails k })
 ]
 
-runs_kept : (w g : ℕ) (o : MakeOptions) (x : Option (List ℕ)) (inputs : List (Option (List ℕ))) (images : List ℕ → Type 0) (old mid new : Option (List ℕ)) (r : Result Unit Fault) → Runs w g o x inputs images old mid r → Keeps mid new → Runs w g o x inputs images old new r
+runs_kept : (w g : ℕ) (o : MakeOptions) (x : Option (List ℕ)) (inputs : InputsLeft) (images : List ℕ → Type 0) (old mid new : Option (List ℕ)) (r : Result Unit Fault) → Runs w g o x inputs images old mid r → Keeps mid new → Runs w g o x inputs images old new r
 runs_kept w g o x inputs images old mid new (Ok u) h k =
     let made = h.ok.made in
     record {
@@ -238,7 +254,7 @@ runs_kept w g o x inputs images old mid new (Ok u) h k =
     }
 runs_kept w g o x inputs images old mid new (Err f) h k = record { ok = tt; err = run_kept w g o x inputs old mid new f h.err k }
 
-flush_fails : (w g : ℕ) (o : MakeOptions) (x : Option (List ℕ)) (inputs : List (Option (List ℕ))) (images : List ℕ → Type 0) (old mid new : Option (List ℕ)) (r : Result Unit Fault) → Runs w g o x inputs images old mid r → Keeps mid new → IsOk r → Runs w g o x inputs images old new (Err Output)
+flush_fails : (w g : ℕ) (o : MakeOptions) (x : Option (List ℕ)) (inputs : InputsLeft) (images : List ℕ → Type 0) (old mid new : Option (List ℕ)) (r : Result Unit Fault) → Runs w g o x inputs images old mid r → Keeps mid new → IsOk r → Runs w g o x inputs images old new (Err Output)
 flush_fails w g o x inputs images old mid new (Ok u) h k is =
     let t : Task = task_of o (records_of w x) in
     let made = h.ok.made in
@@ -247,12 +263,12 @@ flush_fails w g o x inputs images old mid new (Ok u) h k is =
       ok = tt;
       err = inr (record {
         based = h.ok.based;
-        fails = record { read = made.read; last = []; rest = []; are = made.are; begins = refl; stops = subst (λ cs. AppendsFront old new (course_of w t cs).lines) (sym (came_none made.read)) (whole_front old new _ lines) };
+        fails = record { read = made.read; last = []; rest = made.are.rest; are = made.are.are; begins = first_none (form_of t) g made.are.rest; stops = subst (λ cs. AppendsFront old new (course_of w t cs).lines) (sym (came_none made.read)) (whole_front old new _ lines) };
       });
     }
 flush_fails w g o x inputs images old mid new (Err f) h k is = absurd (not_ok is)
 
-flush_each : (w g : ℕ) (o : MakeOptions) (x : Option (List ℕ)) (inputs : List (Option (List ℕ))) (images : List ℕ → Type 0) (old mid new : Option (List ℕ)) (answer result : Result Unit Fault) → Flushed mid new answer result → Runs w g o x inputs images old mid answer → Runs w g o x inputs images old new result
+flush_each : (w g : ℕ) (o : MakeOptions) (x : Option (List ℕ)) (inputs : InputsLeft) (images : List ℕ → Type 0) (old mid new : Option (List ℕ)) (answer result : Result Unit Fault) → Flushed mid new answer result → Runs w g o x inputs images old mid answer → Runs w g o x inputs images old new result
 flush_each w g o x inputs images old mid new answer result f h = elim f.answered as (λ _. Runs w g o x inputs images old new result) [
   | inl e ↦ subst (Runs w g o x inputs images old new) (sym e) (runs_kept w g o x inputs images old mid new answer h f.kept)
   | inr e ↦ subst (Runs w g o x inputs images old new) (sym e.1) (flush_fails w g o x inputs images old mid new answer h f.kept e.0)
@@ -262,7 +278,7 @@ base_weaker : {B : Type 0} (s : Ghosts B) (base : Option B) (P Q : Option (List 
 base_weaker s None P Q f h = f None h
 base_weaker s (Some base) P Q f h = λ b is. f (Some b) (h b is)
 
-pub runs_flushed : {B : Type 0} (s : Ghosts B) (base : Option B) (w g : ℕ) (o : MakeOptions) (inputs : List (Option (List ℕ))) (images : List ℕ → Type 0) (old mid new : Option (List ℕ)) (answer result : Result Unit Fault)
+pub runs_flushed : {B : Type 0} (s : Ghosts B) (base : Option B) (w g : ℕ) (o : MakeOptions) (inputs : InputsLeft) (images : List ℕ → Type 0) (old mid new : Option (List ℕ)) (answer result : Result Unit Fault)
     → WhereHonest images (OfBase s base (λ x. Runs w g o x inputs images old mid answer)) → Flushed mid new answer result
     → WhereHonest images (OfBase s base (λ x. Runs w g o x inputs images old new result))
 runs_flushed s base w g o inputs images old mid new answer result h f = record {

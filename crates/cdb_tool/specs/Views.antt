@@ -1,6 +1,7 @@
 -- What clauses read of the types of this crate.
 pub mod Fault
 pub mod Input
+pub mod Inputs
 pub mod Output
 pub mod InputReader
 pub mod ItemReader

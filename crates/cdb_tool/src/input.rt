@@ -45,19 +45,6 @@ impl<R: Read> Input<R> {
         })
     }
 
-    /// Goes on with another reader, through the same window. What the window has of the one before is
-    /// let go.
-    pub fn restart(&mut self, reader: R)
-    where
-        R: Drop,
-        ensures bytes { input_bytes R.remaining self.new ≡ R.remaining reader }
-        ensures empty { window_of self.new ≡ [] }
-    {
-        self.reader = reader;
-        self.start = 0;
-        self.end = 0;
-    }
-
     /// Fills the empty window, by one ask of the reader.
     #[cold]
     #[inline(never)]
@@ -110,7 +97,7 @@ impl<R: Read> Input<R> {
         n
     }
 
-    /// Moves bytes of a kind out of the window, `most` at most, behind what a vector holds, and
+    /// Moves bytes of a kind out of the window, `most` at most, after what a vector holds, and
     /// answers how many. Where memory is refused none are moved.
     #[inline(always)]
     fn give_run(&mut self, kind: Kind, most: u64, into: &mut Vec<u8>) -> Result<u64, AllocError>
@@ -145,7 +132,7 @@ impl<R: Read> Input<R> {
     }
 
     /// Moves the record that the window begins with over another record, if at most `most` bytes
-    /// spell it, and answers how many. There are none where the window has no whole one, and where
+    /// spell it, and answers how many. There are none if the window has no whole one, and where
     /// memory is refused none are moved.
     #[inline(always)]
     fn give_record(
@@ -171,8 +158,8 @@ impl<R: Read> Input<R> {
     }
 
     /// Moves the record whose line the window begins with over another record, if the line has at
-    /// most `most` bytes, and answers how many. There are none where the window has no record's
-    /// whole line, and where memory is refused none are moved.
+    /// most `most` bytes, and answers how many. There are none if the window has no record's
+    /// whole line, and if memory is refused none are moved.
     #[inline(always)]
     fn give_line(&mut self, most: u64, into: &mut Record) -> Result<u64, AllocError>
         ensures moved { IfOk result (λ n. 0 < n → MovesLine (input_bytes R.remaining self.old)

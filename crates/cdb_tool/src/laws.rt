@@ -6,7 +6,7 @@ ghost use Rattle.cdb_tool.specs.Laws.{Restores};
 
 use cdb_form::{Record, Width};
 
-/// A dump made again is the same file: what `dump_run` writes of the file of some records, where
+/// A dump made again is the same file: what `dump_run` writes of the file of some records, if
 /// its size fits, is a text that `make_bytes` reads as these records and no others.
 pub fn dump_and_make_restore<L: Width>(_records: &[Record])
     ensures { file_size L.WORD (key_values _records.now) ≤ L.GREATEST

@@ -4,6 +4,7 @@
 
 mod fault;
 mod input;
+mod inputs;
 pub mod laws;
 mod message;
 mod output;
@@ -13,6 +14,7 @@ mod status;
 pub use cdb_command::{Command, MakeOptions, Style, Usage, plan, write_usage};
 pub use fault::Fault;
 pub use input::{InWindow, Input};
+pub use inputs::{Inputs, Turn};
 pub use message::write_fault;
 pub use output::Output;
 pub use runs::check::check_run;
@@ -21,7 +23,7 @@ pub use runs::dump::{dump_from, dump_run, dump_run_by};
 pub use runs::flushed::flushed;
 pub use runs::list::{list_from, list_run, list_run_by};
 pub use runs::load::{load, load_from};
-pub use runs::make::{make_run, make_run_by, put_inputs};
+pub use runs::make::{make_run, make_run_from, put_inputs};
 pub use runs::make_bytes::{make_bytes, make_bytes_by, make_from};
 pub use runs::query::{query_from, query_run};
 pub use runs::stats::stats_run;

@@ -103,7 +103,7 @@ impl<W: Write> Write for Output<W> {
         ensures bound { WritesAtMost result buf.now }
         ensures bytes { WriteAppends (output_bytes W.contents self.old)
             (output_bytes W.contents self.new) result buf.now }
-        // Some bytes are taken where there are any.
+        // Some bytes are taken if there are any.
         ensures some { IfOk result (λ n. 0 < length buf.now → 0 < n) }
     {
         // More than the buffer has room for isn't copied.

@@ -1,12 +1,13 @@
 -- The items of the inputs of a run, by the form of its inputs. An input is the bytes of its reader,
 -- where they are known.
 use Rattle.std.specs.Prelude.{ℕ, ◌≡◌, ◌+◌, ◌*◌, ◌^◌, ◌≤◌, Bool, true, false, List, [], ◌∷◌, ◌++◌}
-use Rattle.std.specs.Prelude.{length, map, Option, IfSome}
+use Rattle.std.specs.Prelude.{length, map, Option, Some, IfSome}
 use Rattle.cdb_form.specs.Format.Record.{KeyValue}
 use Rattle.cdb_form.specs.Text.Amending.{Change, Putting, SpellsChange, SpelledChanges, ReadsChanges}
 use Rattle.cdb_form.specs.Text.Form.{WholeItems, HasFault}
 use Rattle.cdb_form.specs.Text.Map.{map_lines}
 use Rattle.cdb_form.specs.Text.Native.{Spells, Spelled, Reads}
+use Rattle.cdb_form.specs.Views.KnownBytes.{FromTo}
 use Rattle.cdb_form.specs.Views.MapReader.{ReadAmid}
 use Rattle.cdb_form.specs.Views.TextFault.{IsOfText, IsReadFault}
 use Rattle.cdb_form.specs.declared.text.fault.TextFault.{TextFault}
@@ -50,10 +51,10 @@ pub record HasFaultOf (InText : Type 0) (Ends : List ℕ → Type 0) (fault : Te
 
 -- ---- inputs that only put
 
--- an input is a text of these records, and begins with these
-abbrev pub IsInput : Style → ℕ → List KeyValue → List ℕ → Type 0
-IsInput Native greatest records input = (rest : List ℕ) × Reads greatest records input rest
-IsInput Map greatest records input = map_lines input ≡ records
+-- an input is a text of these records, and this is left of it; and it begins with these
+abbrev pub IsInput : Style → ℕ → List KeyValue → (input rest : List ℕ) → Type 0
+IsInput Native greatest records input rest = Reads greatest records input rest
+IsInput Map greatest records input rest = (map_lines input ≡ records) × (rest ≡ [])
 
 abbrev pub BeginsWith : Style → ℕ → List KeyValue → List ℕ → Type 0
 BeginsWith Native greatest records input = (rest : List ℕ) × Spelled greatest records input rest
@@ -78,11 +79,11 @@ HasInputFault style greatest records fault input =
 abbrev pub ArePuts : List Change → (List KeyValue → Type 0) → Type 0
 ArePuts items P = (records : List KeyValue) × (items ≡ map Putting records) × P records
 
--- an input is a text of these items, and begins with these
-abbrev pub IsInputOf : InputForm → ℕ → List Change → List ℕ → Type 0
-IsInputOf (Puts style) greatest items input =
-    ArePuts items (λ records. IsInput style greatest records input)
-IsInputOf Changes greatest items input = (rest : List ℕ) × ReadsChanges greatest items input rest
+-- an input is a text of these items, and this is left of it; and it begins with these
+abbrev pub IsInputOf : InputForm → ℕ → List Change → (input rest : List ℕ) → Type 0
+IsInputOf (Puts style) greatest items input rest =
+    ArePuts items (λ records. IsInput style greatest records input rest)
+IsInputOf Changes greatest items input rest = ReadsChanges greatest items input rest
 
 abbrev pub BeginsWithItems : InputForm → ℕ → List Change → List ℕ → Type 0
 BeginsWithItems (Puts style) greatest items input =
@@ -98,16 +99,68 @@ HasItemFault Changes greatest items fault input =
     HasFaultOf (HasFaultBehind SpellsChange greatest input items fault)
     (λ part. HasFaultBehind SpellsChange greatest part items (Ended (length part))) fault input
 
+-- ---- the inputs, one after the other
+
+-- an input has these bytes of its own, or those that the reader has left which several share
+pub data OneInput : Type 0 where
+  Own : Option (List ℕ) → OneInput
+  Shared : OneInput
+
+-- the inputs that are left, and what the shared reader has left
+pub record InputsLeft : Type 0 where
+  pub each : List OneInput
+  pub shared : Option (List ℕ)
+
+-- inputs that each have bytes of their own
+abbrev pub own_inputs : List (Option (List ℕ)) → InputsLeft
+own_inputs inputs = record { each = map Own inputs; shared = Some [] }
+
+-- the bytes of an input
+abbrev pub bytes_of : OneInput → (shared : Option (List ℕ)) → Option (List ℕ)
+bytes_of (Own input) shared = input
+bytes_of Shared shared = shared
+
+-- an input was read, a text of these items: what is left of its own bytes is let go, and what is
+-- left of the shared ones is what the next such input begins with
+abbrev pub ReadsOne : InputForm → ℕ → List Change → OneInput → (old new : Option (List ℕ))
+    → Type 0
+ReadsOne form greatest items (Own input) old new =
+    IfSome input (λ i. (rest : List ℕ) × IsInputOf form greatest items i rest) × (new ≡ old)
+ReadsOne form greatest items Shared old new = FromTo old new (IsInputOf form greatest items)
+
+-- the first one was
+pub record ReadsFirst (form : InputForm) (greatest : ℕ) (items : List Change)
+    (old new : InputsLeft) : Type 0 where
+  pub one : OneInput
+  pub first : old.each ≡ one ∷ new.each
+  pub reads : ReadsOne form greatest items one old.shared new.shared
+
 -- the first inputs are texts of these items, and the others follow
-abbrev pub AreInputs : InputForm → ℕ → List (List Change) → List (Option (List ℕ))
-    → List (Option (List ℕ)) → Type 0
+abbrev pub AreInputs : InputForm → ℕ → List (List Change) → (inputs rest : InputsLeft) → Type 0
 AreInputs form greatest [] inputs rest = inputs ≡ rest
-AreInputs form greatest (items ∷ read) [] rest = ⊥
-AreInputs form greatest (items ∷ read) (input ∷ inputs) rest =
-    IfSome input (IsInputOf form greatest items) × AreInputs form greatest read inputs rest
+AreInputs form greatest (items ∷ read) inputs rest = (next : InputsLeft)
+    × ReadsFirst form greatest items inputs next × AreInputs form greatest read next rest
+
+-- all inputs are texts of these items
+pub record AreAllInputs (form : InputForm) (greatest : ℕ) (read : List (List Change))
+    (inputs : InputsLeft) : Type 0 where
+  pub rest : InputsLeft
+  pub are : AreInputs form greatest read inputs rest
+  pub none : rest.each ≡ []
 
 -- the first of these inputs begins with these items
-abbrev pub FirstBegins : InputForm → ℕ → List Change → List (Option (List ℕ)) → Type 0
-FirstBegins form greatest items [] = items ≡ []
-FirstBegins form greatest items (input ∷ inputs) =
-    IfSome input (BeginsWithItems form greatest items)
+abbrev pub OneBegins : InputForm → ℕ → List Change → List OneInput → (shared : Option (List ℕ))
+    → Type 0
+OneBegins form greatest items [] shared = items ≡ []
+OneBegins form greatest items (one ∷ inputs) shared =
+    IfSome (bytes_of one shared) (BeginsWithItems form greatest items)
+
+abbrev pub FirstBegins : InputForm → ℕ → List Change → InputsLeft → Type 0
+FirstBegins form greatest items inputs = OneBegins form greatest items inputs.each inputs.shared
+
+-- the first of these inputs has these bytes
+pub record FirstHas (inputs : InputsLeft) (input : Option (List ℕ)) : Type 0 where
+  pub one : OneInput
+  pub more : List OneInput
+  pub first : inputs.each ≡ one ∷ more
+  pub has : input ≡ bytes_of one inputs.shared

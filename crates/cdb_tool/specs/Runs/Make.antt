@@ -14,15 +14,18 @@ use Rattle.cdb_form.specs.Views.TextFault.{IsOfText}
 use Rattle.cdb_form.specs.declared.damage.Damage.{Damage}
 use Rattle.cdb_form.specs.declared.text.fault.TextFault.{TextFault}
 use Rattle.cdb_form.specs.declared.text.fault.TextFault.TheVariants as text_fault
-use Rattle.cdb_make.specs.Views.Maker.{Holds, WhereHonest, IsFile, limit_of, count_in, IsUsable}
+use Rattle.cdb_make.specs.Views.Batch.{Holds, limit_of, count_in, IsUsable}
+use Rattle.cdb_make.specs.Views.Maker.{WhereHonest, IsFile}
+use Rattle.cdb_make.specs.Views.Maker as maker
+use Rattle.cdb_make.specs.declared.batch.Batch.{Batch}
 use Rattle.cdb_make.specs.declared.fault.MakeFault.TheVariants.{Lookup, TooBig, Writing}
 use Rattle.cdb_make.specs.declared.maker.Maker.{Maker}
 use Rattle.cdb_read.specs.Views.ReadFault.{damage_fault}
 use Rattle.cdb_read.specs.declared.fault.ReadFault.TheVariants as read
 use Rattle.cdb_tool.specs.Runs.Course.{Task, task_of, Incoming, from_inputs, course_of, Goes}
 use Rattle.cdb_tool.specs.Runs.Course.{StopsSo}
-use Rattle.cdb_tool.specs.Runs.Inputs.{InputForm, input_form, HasItemFault, AreInputs}
-use Rattle.cdb_tool.specs.Runs.Inputs.{FirstBegins, BeginsWithItems}
+use Rattle.cdb_tool.specs.Runs.Inputs.{InputForm, input_form, HasItemFault, BeginsWithItems}
+use Rattle.cdb_tool.specs.Runs.Inputs.{InputsLeft, AreInputs, AreAllInputs, FirstBegins, FirstHas}
 use Rattle.cdb_tool.specs.declared.fault.Fault.{Fault}
 use Rattle.cdb_tool.specs.declared.fault.Fault.TheVariants.{Text, Make, Read, NoMemory}
 use Rattle.cdb_command.specs.declared.options.MakeOptions.{MakeOptions}
@@ -87,21 +90,22 @@ abbrev pub came : List (List Change) → List Change → List Incoming
 came read last = from_inputs 1 (read ++ last ∷ [])
 
 -- all inputs were read, and each image is the file of the records that the run came to
-pub record MakesDatabase (w greatest : ℕ) (t : Task) (inputs : List (Option (List ℕ)))
+pub record MakesDatabase (w greatest : ℕ) (t : Task) (inputs : InputsLeft)
     (images : List ℕ → Type 0) (old new : Option (List ℕ)) : Type 0 where
   pub read : List (List Change)
-  pub are : AreInputs (form_of t) greatest read inputs []
+  pub are : AreAllInputs (form_of t) greatest read inputs
   pub goes : Goes w t (from_inputs 1 read) old new
   pub file : IsFile w (course_of w t (from_inputs 1 read)).records images
 
 -- inputs were read up to one with this fault
-pub record MeetsInput (w greatest : ℕ) (t : Task) (inputs : List (Option (List ℕ)))
+pub record MeetsInput (w greatest : ℕ) (t : Task) (inputs : InputsLeft)
     (old new : Option (List ℕ)) (number : ℕ) (fault : TextFault) : Type 0 where
   pub read : List (List Change)
   pub last : List Change
   pub input : Option (List ℕ)
-  pub rest : List (Option (List ℕ))
-  pub are : AreInputs (form_of t) greatest read inputs (input ∷ rest)
+  pub rest : InputsLeft
+  pub are : AreInputs (form_of t) greatest read inputs rest
+  pub first : FirstHas rest input
   pub numbered : number ≡ length read + 1
   pub memory : fault ≢ text_fault.NoMemory
   pub native : IsOfText fault → t.options.style ≡ Native
@@ -109,18 +113,18 @@ pub record MeetsInput (w greatest : ℕ) (t : Task) (inputs : List (Option (List
   pub goes : Goes w t (came read last) old new
 
 -- inputs were read, of the last one these items, and then the run stopped
-pub record Stops (w greatest : ℕ) (t : Task) (inputs : List (Option (List ℕ)))
+pub record Stops (w greatest : ℕ) (t : Task) (inputs : InputsLeft)
     (old new : Option (List ℕ)) (fault : Fault) : Type 0 where
   pub read : List (List Change)
   pub last : List Change
-  pub rest : List (Option (List ℕ))
+  pub rest : InputsLeft
   pub are : AreInputs (form_of t) greatest read inputs rest
   pub begins : FirstBegins (form_of t) greatest last rest
   pub stops : StopsSo w t (came read last) old new fault
 
 -- what a fault of the inputs, of the store or of the lines leaves
-abbrev pub InputsFail : ℕ → ℕ → Task → List (Option (List ℕ)) → Option (List ℕ)
-    → Option (List ℕ) → Fault → Type 0
+abbrev pub InputsFail : ℕ → ℕ → Task → InputsLeft → Option (List ℕ) → Option (List ℕ) → Fault
+    → Type 0
 InputsFail w greatest t inputs old new (Text number fault) =
     MeetsInput w greatest t inputs old new number fault
 InputsFail w greatest t inputs old new fault = Stops w greatest t inputs old new fault
@@ -129,7 +133,7 @@ InputsFail w greatest t inputs old new fault = Stops w greatest t inputs old new
 
 -- it made the database of its base and its inputs
 pub record Makes (w greatest : ℕ) (o : MakeOptions) (base : Option (List ℕ))
-    (inputs : List (Option (List ℕ))) (images : List ℕ → Type 0) (old new : Option (List ℕ))
+    (inputs : InputsLeft) (images : List ℕ → Type 0) (old new : Option (List ℕ))
     : Type 0 where
   pub based : IsSomeBase w o.limit base
   pub made : MakesDatabase w greatest (task_of o (records_of w base)) inputs images old new
@@ -141,18 +145,18 @@ pub record BaseStops (w limit : ℕ) (base : Option (List ℕ)) (old new : Optio
   pub lines : Appends old new []
 
 pub record InputsStop (w greatest : ℕ) (o : MakeOptions) (base : Option (List ℕ))
-    (inputs : List (Option (List ℕ))) (old new : Option (List ℕ)) (fault : Fault) : Type 0 where
+    (inputs : InputsLeft) (old new : Option (List ℕ)) (fault : Fault) : Type 0 where
   pub based : IsSomeBase w o.limit base
   pub fails : InputsFail w greatest (task_of o (records_of w base)) inputs old new fault
 
-abbrev pub RunFails : ℕ → ℕ → MakeOptions → Option (List ℕ) → List (Option (List ℕ))
+abbrev pub RunFails : ℕ → ℕ → MakeOptions → Option (List ℕ) → InputsLeft
     → Option (List ℕ) → Option (List ℕ) → Fault → Type 0
 RunFails w greatest o base inputs old new fault =
     BaseStops w o.limit base old new fault ⊎ InputsStop w greatest o base inputs old new fault
 
 -- what a run leaves, where its store has an image
 pub record Runs (w greatest : ℕ) (o : MakeOptions) (base : Option (List ℕ))
-    (inputs : List (Option (List ℕ))) (images : List ℕ → Type 0) (old new : Option (List ℕ))
+    (inputs : InputsLeft) (images : List ℕ → Type 0) (old new : Option (List ℕ))
     (result : Result Unit Fault) : Type 0 where
   pub ok : OnOk result (Makes w greatest o base inputs images old new)
   pub err : IfErr result (RunFails w greatest o base inputs old new)
@@ -167,23 +171,31 @@ IsOfStore fault = ⊥
 
 -- a maker holds the records that a run came to so far
 pub record InCourse {S L : Type 0} {s : Ghosts S} {l : Widths L} (t : Task)
-    (cs : List Incoming) (old new : Option (List ℕ)) (m : Maker S L s l) : Type 0 where
+    (cs : List Incoming) (old new : Option (List ℕ)) (m : Batch S L s l) : Type 0 where
   pub holds : Holds m (course_of l.WORD t cs).records
   pub limit : limit_of m ≡ t.options.limit
-  pub goes : WhereHonest (s.image m.store) (Goes l.WORD t cs old new)
+  pub goes : WhereHonest (s.image m.maker.store) (Goes l.WORD t cs old new)
+
+-- the items of an input of this number were done, behind those of the inputs that were read
+abbrev pub PutsItems : {S L : Type 0} {s : Ghosts S} {l : Widths L} → MakeOptions → (number : ℕ)
+    → List Change → (before now : Option (List ℕ)) → (old new : Batch S L s l) → Type 0
+PutsItems o number last before now old new =
+    (t : Task) (read : List (List Change)) (start : Option (List ℕ)) → t.options ≡ o
+    → number ≡ length read + 1 → InCourse t (from_inputs 1 read) start before old
+    → InCourse t (from_inputs 1 (read ++ last ∷ [])) start now new
 
 -- a maker is where a run came to: it counts its records and, unless it is broken, holds them; and
 -- the lines are those of the same items
 pub record StandsAt {S L : Type 0} {s : Ghosts S} {l : Widths L} (t : Task) (cs : List Incoming)
-    (old new : Option (List ℕ)) (m : Maker S L s l) : Type 0 where
+    (old new : Option (List ℕ)) (m : Batch S L s l) : Type 0 where
   pub holds : IsUsable m → Holds m (course_of l.WORD t cs).records
-  pub count : WhereHonest (s.image m.store)
+  pub count : WhereHonest (s.image m.maker.store)
       (count_in m ≡ length (course_of l.WORD t cs).records)
-  pub goes : WhereHonest (s.image m.store) (Goes l.WORD t cs old new)
+  pub goes : WhereHonest (s.image m.maker.store) (Goes l.WORD t cs old new)
 
 -- the same behind these items of an input, which comes after those that were read
 pub record StandsIn {S L : Type 0} {s : Ghosts S} {l : Widths L} (form : InputForm) (greatest : ℕ)
-    (t : Task) (read : List (List Change)) (input old new : Option (List ℕ)) (m : Maker S L s l)
+    (t : Task) (read : List (List Change)) (input old new : Option (List ℕ)) (m : Batch S L s l)
     : Type 0 where
   pub last : List Change
   pub begins : IfSome input (BeginsWithItems form greatest last)
@@ -191,11 +203,11 @@ pub record StandsIn {S L : Type 0} {s : Ghosts S} {l : Widths L} (form : InputFo
 
 -- and behind the items of some inputs, and these of the next one
 pub record Stands {S L : Type 0} {s : Ghosts S} {l : Widths L} (form : InputForm) (greatest : ℕ)
-    (t : Task) (inputs : List (Option (List ℕ))) (old new : Option (List ℕ)) (m : Maker S L s l)
+    (t : Task) (inputs : InputsLeft) (old new : Option (List ℕ)) (m : Batch S L s l)
     : Type 0 where
   pub read : List (List Change)
   pub last : List Change
-  pub rest : List (Option (List ℕ))
+  pub rest : InputsLeft
   pub are : AreInputs form greatest read inputs rest
   pub begins : FirstBegins form greatest last rest
   pub stands : StandsAt t (came read last) old new m
@@ -250,13 +262,13 @@ IsOfBase fault = ⊥
 pub record AddsBase {S L : Type 0} {s : Ghosts S} {l : Widths L} (w : ℕ) (images : List ℕ → Type 0)
     (m : Maker S L s l) : Type 0 where
   pub records : List KeyValue
-  pub holds : Holds m records
+  pub holds : maker.Holds m records
   pub each : (b : List ℕ) → images b → walk_of w b ≡ record { records = records; damage = None }
 
 -- it holds those of a base, or none where there is no base
 abbrev pub HoldsBase : {S L B : Type 0} {s : Ghosts S} {l : Widths L} → ℕ → Ghosts B → Option B
     → Maker S L s l → Type 0
-HoldsBase w s None m = Holds m []
+HoldsBase w s None m = maker.Holds m []
 HoldsBase w s (Some base) m = AddsBase w (s.image base) m
 
 -- the base stopped the run

@@ -1,4 +1,4 @@
-// What a text tells of each record of a file.
+// What a text has of each record of a file.
 /// What a text has of each record.
 #[derive(Clone, Copy, Debug, PartialEq, Eq)]
 pub enum Content {

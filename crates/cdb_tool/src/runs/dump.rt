@@ -36,10 +36,14 @@ pub fn dump_from<L: Width, R: Read, W: Write>(
 /// - `Walk(Short)`, `Walk(Table(n))`, `Walk(Record(place))`: the file is damaged; the texts of all
 ///   whole records before the damage were written, and no closing newline;
 /// - `Walk(Input)`: the reader failed; the texts of all records that were read were written;
-/// - `NoMemory`: a growth was refused; the texts of all records that were read were written;
+/// - `NoMemory`: an allocation failed; the texts of all records that were read were written;
 /// - `Output`: the writer failed, and holds a prefix of the text.
 ///
 /// The writer is flushed last, after a fault too.
+///
+/// The reader is dropped, and what it gave is not seen then. So of `Walk(Input)` and `NoMemory` the
+/// contract says that the texts of some first records of the file were written. `dump_from`, whose
+/// caller keeps the reader, says that they are all those that it gave.
 pub fn dump_run<L: Width, R: Read + Drop, W: Write>(
     alloc: Global,
     reader: R,

@@ -43,4 +43,13 @@ impl<R: Read, L: Width> InputReader<R, L> {
             InputReader::Map(text) => text.read_by::<A>(into),
         }
     }
+    /// Its reader, which goes on after what was read of it.
+    pub(crate) fn into_reader(self) -> R
+        ensures { R.remaining result ≡ unread R.remaining self }
+    {
+        match self {
+            InputReader::Native(text) => text.into_reader(),
+            InputReader::Map(text) => text.into_reader(),
+        }
+    }
 }

@@ -62,4 +62,13 @@ impl<R: Read, L: Width> ItemReader<R, L> {
             ItemReader::Changes(items) => items.read_by::<A>(into),
         }
     }
+    /// Its reader, which goes on after what was read of it.
+    pub(crate) fn into_reader(self) -> R
+        ensures { R.remaining result ≡ unread R.remaining self }
+    {
+        match self {
+            ItemReader::Puts(records) => records.into_reader(),
+            ItemReader::Changes(items) => items.into_reader(),
+        }
+    }
 }

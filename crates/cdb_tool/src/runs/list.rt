@@ -37,10 +37,14 @@ pub fn list_from<L: Width, R: Read, W: Write>(
 /// - `Walk(Short)`, `Walk(Table(n))`, `Walk(Record(place))`: the file is damaged; the keys of all
 ///   whole records before the damage were written, and no closing newline;
 /// - `Walk(Input)`: the reader failed; the texts of all keys that were read were written;
-/// - `NoMemory`: a growth was refused; the texts of all keys that were read were written;
+/// - `NoMemory`: an allocation failed; the texts of all keys that were read were written;
 /// - `Output`: the writer failed, and holds a prefix of the text.
 ///
 /// The writer is flushed last, after a fault too.
+///
+/// The reader is dropped, and what it gave is not seen then. So of `Walk(Input)` and `NoMemory` the
+/// contract says that the texts of some first keys of the file were written. `list_from`, whose
+/// caller keeps the reader, says that they are all those that it gave.
 pub fn list_run<L: Width, R: Read + Drop, W: Write>(
     alloc: Global,
     reader: R,

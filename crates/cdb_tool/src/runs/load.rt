@@ -34,7 +34,7 @@ pub fn load_from<R: Read>(alloc: Global, reader: &mut R, most: u64) -> Result<Me
 /// Memory is requested only as bytes come. The faults:
 /// - `Long`: the file has more bytes;
 /// - `Walk(Input)`: the reader failed;
-/// - `NoMemory`: a growth was refused.
+/// - `NoMemory`: an allocation failed.
 pub fn load<R: Read + Drop>(alloc: Global, mut reader: R, most: u64) -> Result<MemStore, Fault>
     ensures whole { IfOk result (λ store.
         IfSome (R.remaining reader) (λ file. contents store ≡ file)) }

@@ -1,25 +1,83 @@
 // A database made of the records of a base, if there is one, and of what some inputs say.
-ghost use Rattle.std.specs.Prelude.{◌≡◌, ◌+◌, ◌<◌, ◌≤◌, ℕ, List, [], map, Option, is_some, OnOk};
-ghost use Rattle.std.specs.Prelude.{IfErr};
+ghost use Rattle.std.specs.Prelude.{◌≡◌, ◌+◌, ◌<◌, ◌≤◌, ℕ, List, [], ◌∷◌, ◌++◌, map, Option, is_some};
+ghost use Rattle.std.specs.Prelude.{length, IfOk, IfErr, OnOk};
 ghost use Rattle.cdb_form.specs.Format.Pair.{head_size};
 ghost use Rattle.cdb_form.specs.Text.Amending.{Change};
 ghost use Rattle.cdb_make.specs.Views.Maker.{WhereHonest, ComesFrom};
 ghost use Rattle.cdb_tool.specs.Runs.Course.{Task, from_inputs};
-ghost use Rattle.cdb_tool.specs.Runs.Inputs.{AreInputs, input_form};
-ghost use Rattle.cdb_tool.specs.Runs.Make.{InCourse, Runs, InputsFail, IsOfStore, IsOfBase};
-ghost use Rattle.cdb_tool.specs.Runs.Make.{OfBase, HandsBack, HasFailed, Stands, IsHalt};
+ghost use Rattle.cdb_tool.specs.Runs.Inputs.{AreAllInputs, ReadsOne, bytes_of, input_form, own_inputs};
+ghost use Rattle.cdb_tool.specs.Runs.Make.{InCourse, Runs, InputFails, InputsFail, IsOfStore, IsOfBase};
+ghost use Rattle.cdb_tool.specs.Runs.Make.{OfBase, HandsBack, HasFailed, Stands, StandsIn, IsHalt};
+ghost use Rattle.cdb_tool.specs.Runs.Make.{PutsItems};
+ghost use Rattle.cdb_tool.specs.Views.Inputs.{inputs_left, one_of, shared_bytes};
 
 use crate::fault::Fault;
+use crate::input::{InWindow, Input};
+use crate::inputs::{Inputs, SharedInput, Turn};
 use crate::runs::flushed::flushed;
 use crate::runs::item_reader::ItemReader;
 use crate::runs::make_base::add_base;
 use crate::runs::make_input::put_input;
 use cdb_command::MakeOptions;
-use cdb_form::{AtHand, NoneAtHand, Width};
-use cdb_make::Maker;
+use cdb_form::{PIPE, Width};
+use cdb_make::{Batch, Maker};
 use cdb_store::Store;
 use std::alloc::Global;
 use std::io::{Read, Write};
+
+/// Does what an input says, whose number is counted from 1, and answers what the inputs share.
+fn put_turn<L: Width, S: Store, J: Read + Drop, I: Read + Drop, E: Write>(
+    alloc: Global,
+    maker: &mut Batch<S, L>,
+    options: &MakeOptions,
+    amends: bool,
+    number: u64,
+    turn: Turn<J>,
+    shared: SharedInput<I>,
+    errors: &mut E,
+) -> Result<SharedInput<I>, Fault>
+    ensures ok { IfOk result (λ left. (last : List Change)
+        × ReadsOne (input_form options.now.style amends) L.GREATEST last
+        (one_of J.remaining turn) (shared_bytes I.remaining shared) (shared_bytes I.remaining left)
+        × PutsItems options.now number last (E.contents errors.old) (E.contents errors.new)
+        maker.old maker.new) }
+    ensures fails { (t : Task) (read : List (List Change)) (start : Option (List ℕ))
+        → t.options ≡ options.now → is_some t.base ≡ amends → number ≡ length read + 1
+        → InCourse t (from_inputs 1 read) start (E.contents errors.old) maker.old
+        → IfErr result (λ f. WhereHonest (S.image maker.new.maker.store)
+        (InputFails L.WORD L.GREATEST t read
+        (bytes_of (one_of J.remaining turn) (shared_bytes I.remaining shared))
+        start (E.contents errors.new) f)) }
+    ensures stands { (t : Task) (read : List (List Change)) (start : Option (List ℕ))
+        → t.options ≡ options.now → number ≡ length read + 1
+        → InCourse t (from_inputs 1 read) start (E.contents errors.old) maker.old
+        → IfErr result (λ f. IsHalt f
+        → StandsIn (input_form options.now.style amends) L.GREATEST t read
+        (bytes_of (one_of J.remaining turn) (shared_bytes I.remaining shared))
+        start (E.contents errors.new) maker.new) }
+    ensures comes { ComesFrom (S.image maker.old.maker.store) (S.image maker.new.maker.store) }
+    ensures failures { S.failures maker.old.maker.store ≤ S.failures maker.new.maker.store }
+    ensures failed { IfErr result
+        (λ f. IsOfStore f → S.failures maker.old.maker.store < S.failures maker.new.maker.store) }
+    ensures own { IfErr result (λ f. IsOfBase f → ⊥) }
+{
+    match turn {
+        Turn::Own(reader) => {
+            let input = Input::new(alloc, reader, PIPE)?;
+            let items = ItemReader::new(alloc, options.style, amends, input);
+            put_input::<L, S, _, E, InWindow>(alloc, maker, options, number, items, errors)?;
+            Ok(shared)
+        }
+        Turn::Shared => {
+            let input = shared.in_hand(alloc)?;
+            let items = ItemReader::new(alloc, options.style, amends, input);
+            let left = put_input::<L, S, _, E, InWindow>(
+                alloc, maker, options, number, items, errors,
+            )?;
+            Ok(SharedInput::InHand(left))
+        }
+    }
+}
 
 /// Does what some inputs say, one after the other, to a maker that its caller keeps: what `make_run`
 /// does between the base and the finish. With `amends`, native inputs may remove keys.
@@ -27,58 +85,61 @@ use std::io::{Read, Write};
 /// The faults are those of `make_run` that an input, the maker or `errors` brings. After `NoMemory`,
 /// `Make(Lookup)` and `Make(Writing)` the maker holds the records of the items that were done,
 /// unless it is broken, and the lines are those of these items. `errors` is not flushed.
-pub fn put_inputs<L: Width, S: Store, R: Read + Drop, E: Write, A: AtHand<R>>(
+pub fn put_inputs<L: Width, S: Store, J: Read + Drop, I: Read + Drop, E: Write>(
     alloc: Global,
-    maker: &mut Maker<S, L>,
+    maker: &mut Batch<S, L>,
     options: &MakeOptions,
     amends: bool,
-    inputs: Vec<R>,
+    inputs: Inputs<J, I>,
     errors: &mut E,
 ) -> Result<(), Fault>
     ensures ok { OnOk result ((read : List (List Change))
-        × AreInputs (input_form options.now.style amends) L.GREATEST read
-        (map R.remaining inputs.items) []
+        × AreAllInputs (input_form options.now.style amends) L.GREATEST read
+        (inputs_left J.remaining I.remaining inputs)
         × ((t : Task) (start : Option (List ℕ)) → t.options ≡ options.now
         → InCourse t [] start (E.contents errors.old) maker.old
         → InCourse t (from_inputs 1 read) start (E.contents errors.new) maker.new)) }
     ensures fails { (t : Task) (start : Option (List ℕ)) → t.options ≡ options.now
         → is_some t.base ≡ amends
         → InCourse t [] start (E.contents errors.old) maker.old
-        → IfErr result (λ f. WhereHonest (S.image maker.new.store)
-        (InputsFail L.WORD L.GREATEST t (map R.remaining inputs.items)
+        → IfErr result (λ f. WhereHonest (S.image maker.new.maker.store)
+        (InputsFail L.WORD L.GREATEST t (inputs_left J.remaining I.remaining inputs)
         start (E.contents errors.new) f)) }
     ensures stands { (t : Task) (start : Option (List ℕ)) → t.options ≡ options.now
         → InCourse t [] start (E.contents errors.old) maker.old
         → IfErr result (λ f. IsHalt f → Stands (input_form options.now.style amends) L.GREATEST t
-        (map R.remaining inputs.items) start (E.contents errors.new) maker.new) }
-    ensures comes { ComesFrom (S.image maker.old.store) (S.image maker.new.store) }
-    ensures failures { S.failures maker.old.store ≤ S.failures maker.new.store }
+        (inputs_left J.remaining I.remaining inputs) start (E.contents errors.new) maker.new) }
+    ensures comes { ComesFrom (S.image maker.old.maker.store) (S.image maker.new.maker.store) }
+    ensures failures { S.failures maker.old.maker.store ≤ S.failures maker.new.maker.store }
     ensures failed { IfErr result
-        (λ f. IsOfStore f → S.failures maker.old.store < S.failures maker.new.store) }
+        (λ f. IsOfStore f → S.failures maker.old.maker.store < S.failures maker.new.maker.store) }
     ensures own { IfErr result (λ f. IsOfBase f → ⊥) }
 {
+    let Inputs { turns, shared } = inputs;
+    let mut shared = SharedInput::Unread(shared);
     let mut number = 0;
-    for input in inputs {
+    for turn in turns {
         number += 1;
-        let mut items = ItemReader::new(alloc, options.style, amends, input);
-        put_input::<L, S, R, E, A>(alloc, maker, options, number, &mut items, errors)?;
+        shared = put_turn::<L, S, J, I, E>(
+            alloc, maker, options, amends, number, turn, shared, errors,
+        )?;
     }
     Ok(())
 }
 
 /// Makes the database, whose lines the writer may keep in a buffer.
-fn make_unflushed<L: Width, S: Store, B: Store, R: Read + Drop, E: Write, A: AtHand<R>>(
+fn make_unflushed<L: Width, S: Store, B: Store, J: Read + Drop, I: Read + Drop, E: Write>(
     alloc: Global,
     store: S,
     base: Option<B>,
-    inputs: Vec<R>,
+    inputs: Inputs<J, I>,
     options: &MakeOptions,
     errors: &mut E,
 ) -> (S, Option<B>, Result<(), Fault>)
     requires head { head_size L.WORD ≤ options.now.limit }
     requires words { options.now.limit ≤ L.GREATEST }
     ensures runs { WhereHonest (S.image result.0) (OfBase B.Store result.1 (λ base.
-        Runs L.WORD L.GREATEST options.now base (map R.remaining inputs.items)
+        Runs L.WORD L.GREATEST options.now base (inputs_left J.remaining I.remaining inputs)
         (S.image result.0) (E.contents errors.old) (E.contents errors.new) result.2)) }
     ensures hands { HandsBack B.Store base result.1 }
     ensures settled { OnOk result.2 (S.settled result.0) }
@@ -95,14 +156,15 @@ fn make_unflushed<L: Width, S: Store, B: Store, R: Read + Drop, E: Write, A: AtH
     if let Err(fault) = added {
         return (maker.into_store(), base, Err(fault));
     }
-    let put = put_inputs::<L, S, R, E, A>(alloc, &mut maker, options, amends, inputs, errors);
+    let mut batch = Batch::over(alloc, maker);
+    let put = put_inputs::<L, S, J, I, E>(alloc, &mut batch, options, amends, inputs, errors);
     if let Err(fault) = put {
-        return (maker.into_store(), base, Err(fault));
+        return (batch.into_store(), base, Err(fault));
     }
-    match maker.finish() {
+    match batch.finish() {
         Ok(store) => (store, base, Ok(())),
         Err(unfinished) => (
-            unfinished.maker.into_store(),
+            unfinished.batch.into_store(),
             base,
             Err(Fault::from(unfinished.fault)),
         ),
@@ -123,13 +185,16 @@ fn make_unflushed<L: Width, S: Store, B: Store, R: Read + Drop, E: Write, A: AtH
 ///   or with one of an input;
 /// - `Read(Short)`, `Read(Table(n))`, `Read(Record(place))`: the walk of the base has this damage;
 /// - `Read(Device)`: the base's store failed;
-/// - `Duplicate`: a record met its key, and the run was to stop there. Its line stands before;
+/// - `Duplicate`: a record met its key, and the run was to stop there. Its line comes before;
 /// - `Text(input, fault)`: an input, counted from 1, has this fault, its place in bytes from the
 ///   input's first one, or its reader failed or has no end;
-/// - `NoMemory`: a growth was refused;
+/// - `NoMemory`: an allocation failed;
 /// - `Make(Lookup)`, `Make(Writing)`: the store failed;
 /// - `Make(Broken)`: the store gave back other bytes than were written;
-/// - `Output`: `errors` failed, and holds a front of the lines.
+/// - `Output`: `errors` failed, and holds a prefix of the lines.
+///
+/// If an allocation or the store failed, the lines are those of some first records: `put_inputs` says
+/// which.
 ///
 /// The base is read before any input, one record at a time. Store and base are handed back whatever
 /// the answer; the base was only read. At Ok the store holds the file of the records that survive,
@@ -146,7 +211,7 @@ pub fn make_run<L: Width, S: Store, B: Store, R: Read + Drop, E: Write>(
     requires head { head_size L.WORD ≤ options.limit }
     requires words { options.limit ≤ L.GREATEST }
     ensures runs { WhereHonest (S.image result.0) (OfBase B.Store result.1 (λ base.
-        Runs L.WORD L.GREATEST options base (map R.remaining inputs.items)
+        Runs L.WORD L.GREATEST options base (own_inputs (map R.remaining inputs.items))
         (S.image result.0) (E.contents errors.old) (E.contents errors.new) result.2)) }
     ensures hands { HandsBack B.Store base result.1 }
     ensures settled { OnOk result.2 (S.settled result.0) }
@@ -154,22 +219,32 @@ pub fn make_run<L: Width, S: Store, B: Store, R: Read + Drop, E: Write>(
         (λ f. IsOfStore f → S.failures store < S.failures result.0) }
     ensures base_failed { IfErr result.2 (λ f. IsOfBase f → HasFailed B.Store base result.1) }
 {
-    make_run_by::<L, S, B, R, E, NoneAtHand>(alloc, store, base, inputs, options, errors)
+    let none: &[u8] = &[];
+    match Inputs::each_own(alloc, inputs, none) {
+        Ok(inputs) => make_run_from::<L, S, B, R, _, E>(
+            alloc, store, base, inputs, options, errors,
+        ),
+        Err(_) => {
+            let answer = flushed(errors, Err(Fault::NoMemory));
+            (store, base, answer)
+        }
+    }
 }
 
-/// Does what `make_run` does, and takes bytes that an input has at hand without an ask.
-pub fn make_run_by<L: Width, S: Store, B: Store, R: Read + Drop, E: Write, A: AtHand<R>>(
+/// Does what `make_run` does, of inputs of which several may share a reader: each of these begins
+/// where the text of the one before it ended. A map text leaves nothing.
+pub fn make_run_from<L: Width, S: Store, B: Store, J: Read + Drop, I: Read + Drop, E: Write>(
     alloc: Global,
     store: S,
     base: Option<B>,
-    inputs: Vec<R>,
+    inputs: Inputs<J, I>,
     options: MakeOptions,
     errors: &mut E,
 ) -> (S, Option<B>, Result<(), Fault>)
     requires head { head_size L.WORD ≤ options.limit }
     requires words { options.limit ≤ L.GREATEST }
     ensures runs { WhereHonest (S.image result.0) (OfBase B.Store result.1 (λ base.
-        Runs L.WORD L.GREATEST options base (map R.remaining inputs.items)
+        Runs L.WORD L.GREATEST options base (inputs_left J.remaining I.remaining inputs)
         (S.image result.0) (E.contents errors.old) (E.contents errors.new) result.2)) }
     ensures hands { HandsBack B.Store base result.1 }
     ensures settled { OnOk result.2 (S.settled result.0) }
@@ -177,7 +252,7 @@ pub fn make_run_by<L: Width, S: Store, B: Store, R: Read + Drop, E: Write, A: At
         (λ f. IsOfStore f → S.failures store < S.failures result.0) }
     ensures base_failed { IfErr result.2 (λ f. IsOfBase f → HasFailed B.Store base result.1) }
 {
-    let (store, base, made) = make_unflushed::<L, S, B, R, E, A>(
+    let (store, base, made) = make_unflushed::<L, S, B, J, I, E>(
         alloc, store, base, inputs, &options, errors,
     );
     let answer = flushed(errors, made);

@@ -18,7 +18,7 @@ use std::io::{Read, Write};
 /// The number of the one input.
 const INPUT: u64 = 1;
 
-/// A maker of a file in memory. It fails only where memory runs out.
+/// A maker of a file in memory. It fails only if an allocation failed.
 fn maker_in_memory<L: Width>(alloc: Global) -> Result<Maker<MemStore, L>, Fault>
     ensures holds { IfOk result (λ m. Holds m []) }
     ensures limit { IfOk result (λ m. limit_of m ≡ L.GREATEST) }
@@ -30,7 +30,7 @@ fn maker_in_memory<L: Width>(alloc: Global) -> Result<Maker<MemStore, L>, Fault>
     }
 }
 
-/// The records of a text, up to its end, where their file isn't too large.
+/// The records of a text, up to its end, if their file isn't too large.
 fn fitting_records<L: Width, R: Read, A: AtHand<R>>(
     alloc: Global,
     text: &mut TextReader<R, L>,
@@ -57,7 +57,7 @@ fn fitting_records<L: Width, R: Read, A: AtHand<R>>(
     }
 }
 
-/// The file that a maker finishes in memory. It fails only where memory runs out.
+/// The file that a maker finishes in memory. It fails only if an allocation failed.
 fn file_in_memory<L: Width>(maker: Maker<MemStore, L>) -> Result<Vec<u8>, Fault>
     ensures ok { (records : List KeyValue) → Holds maker records
         → IfOk result (λ v. v.items ≡ file_bytes L.WORD records) }
@@ -124,8 +124,8 @@ pub fn make_from<L: Width, R: Read, W: Write>(
 /// - `Make(TooBig)`: the file of the whole records so far would be longer than `L::GREATEST` bytes;
 /// - `Text(1, fault)`: the text has this fault, its place in bytes from the reader's first one,
 ///   or the reader failed or has no end;
-/// - `NoMemory`: a growth was refused;
-/// - `Output`: the writer failed, and holds a front of the file.
+/// - `NoMemory`: an allocation failed;
+/// - `Output`: the writer failed, and holds a prefix of the file.
 ///
 /// After any other fault than `Output` nothing was written. The writer is flushed last, after a
 /// fault too.

@@ -1,9 +1,10 @@
 // The items of an input, one after the other: records are put, and keys removed.
 ghost use Rattle.std.specs.Prelude.{◌≡◌, ◌+◌, ◌<◌, ◌≤◌, ℕ, List, [], ◌∷◌, ◌++◌, length, Option};
-ghost use Rattle.std.specs.Prelude.{◌||◌, None, IfSome, OnOk, IfErr};
+ghost use Rattle.std.specs.Prelude.{◌||◌, None, OnOk, IfOk, IfErr};
 ghost use Rattle.std.specs.Io.KnownBytes.{Appends};
 ghost use Rattle.cdb_form.specs.Format.Record.{KeyValue};
 ghost use Rattle.cdb_form.specs.Text.Amending.{Change, Putting, Removing};
+ghost use Rattle.cdb_form.specs.Views.KnownBytes.{FromTo};
 ghost use Rattle.cdb_form.specs.Views.Pairs.{key_value, change_in};
 ghost use Rattle.cdb_make.specs.Views.Maker.{WhereHonest, ComesFrom};
 ghost use Rattle.cdb_tool.specs.Views.ItemReader.{form_of, unread, IsNew};
@@ -11,7 +12,7 @@ ghost use Rattle.cdb_tool.specs.Runs.Course.{Incoming, from_inputs, mode_of, mee
 ghost use Rattle.cdb_tool.specs.Runs.Course.{Task, ends, TellFails};
 ghost use Rattle.cdb_tool.specs.Runs.Inputs.{IsInputOf};
 ghost use Rattle.cdb_tool.specs.Runs.Make.{InCourse, PutStops, InputFails, IsOfStore, IsOfBase};
-ghost use Rattle.cdb_tool.specs.Runs.Make.{StandsAt, StandsIn, IsHalt, TakesNext};
+ghost use Rattle.cdb_tool.specs.Runs.Make.{StandsAt, StandsIn, IsHalt, TakesNext, PutsItems};
 ghost use Rattle.cdb_tool.specs.Runs.Course.{StopsSo};
 ghost use Rattle.cdb_tool.specs.declared.fault.Fault.TheVariants.{NoMemory};
 ghost use Rattle.cdb_tool.specs.Runs.Make.{form_of as task_form};
@@ -21,7 +22,7 @@ use crate::message::write_duplicate;
 use crate::runs::item_reader::ItemReader;
 use cdb_command::MakeOptions;
 use cdb_form::{AtHand, ItemKind, Record, Width};
-use cdb_make::{Maker, Mode, Put};
+use cdb_make::{Batch, Mode, Put};
 use cdb_store::Store;
 use std::alloc::Global;
 use std::io::{Read, Write};
@@ -54,7 +55,7 @@ fn meets_key(put: Put) -> bool
     }
 }
 
-/// Tells a put that met its key, where the options say so, and stops the run where they do.
+/// Reports a put that met its key, if the options say so, and stops the run if they do.
 #[inline(always)]
 fn tell_put<E: Write>(
     options: &MakeOptions,
@@ -78,10 +79,10 @@ fn tell_put<E: Write>(
     Ok(())
 }
 
-/// Puts a record of an input, both counted from 1, and then tells it.
+/// Puts a record of an input, both counted from 1, and then reports it.
 #[inline(always)]
 fn put_record<L: Width, S: Store, E: Write>(
-    maker: &mut Maker<S, L>,
+    maker: &mut Batch<S, L>,
     options: &MakeOptions,
     input: u64,
     number: u64,
@@ -97,7 +98,7 @@ fn put_record<L: Width, S: Store, E: Write>(
     ensures fails { (t : Task) (cs : List Incoming) (start : Option (List ℕ))
         → t.options ≡ options.now
         → InCourse t cs start (E.contents errors.old) maker.old
-        → IfErr result (λ f. WhereHonest (S.image maker.new.store) (PutStops L.WORD t cs
+        → IfErr result (λ f. WhereHonest (S.image maker.new.maker.store) (PutStops L.WORD t cs
         (record { input = input; number = number; it = Putting (key_value from.now) })
         start (E.contents errors.new) f)) }
     ensures stands { (t : Task) (cs : List Incoming) (start : Option (List ℕ))
@@ -108,13 +109,13 @@ fn put_record<L: Width, S: Store, E: Write>(
     ensures takes { (t : Task) (cs : List Incoming) (start : Option (List ℕ))
         → t.options ≡ options.now
         → InCourse t cs start (E.contents errors.old) maker.old
-        → IfErr result (λ f. f ≡ NoMemory → WhereHonest (S.image maker.new.store)
+        → IfErr result (λ f. f ≡ NoMemory → WhereHonest (S.image maker.new.maker.store)
         (TakesNext L.WORD t cs
         (record { input = input; number = number; it = Putting (key_value from.now) }))) }
-    ensures comes { ComesFrom (S.image maker.old.store) (S.image maker.new.store) }
-    ensures failures { S.failures maker.old.store ≤ S.failures maker.new.store }
+    ensures comes { ComesFrom (S.image maker.old.maker.store) (S.image maker.new.maker.store) }
+    ensures failures { S.failures maker.old.maker.store ≤ S.failures maker.new.maker.store }
     ensures failed { IfErr result
-        (λ f. IsOfStore f → S.failures maker.old.store < S.failures maker.new.store) }
+        (λ f. IsOfStore f → S.failures maker.old.maker.store < S.failures maker.new.maker.store) }
     ensures own { IfErr result (λ f. IsOfBase f → ⊥) }
 {
     let put = maker.put(put_mode(options), &from.key, &from.value)?;
@@ -122,7 +123,7 @@ fn put_record<L: Width, S: Store, E: Write>(
 }
 
 /// Removes the records of a key. Nothing is told of it.
-fn remove_key<L: Width, S: Store>(maker: &mut Maker<S, L>, key: &[u8]) -> Result<(), Fault>
+fn remove_key<L: Width, S: Store>(maker: &mut Batch<S, L>, key: &[u8]) -> Result<(), Fault>
     ensures ok { (t : Task) (cs : List Incoming) (start now : Option (List ℕ))
         (input number : ℕ) → InCourse t cs start now maker.old
         → OnOk result (InCourse t
@@ -130,15 +131,15 @@ fn remove_key<L: Width, S: Store>(maker: &mut Maker<S, L>, key: &[u8]) -> Result
         start now maker.new) }
     ensures fails { (t : Task) (cs : List Incoming) (start now : Option (List ℕ))
         → InCourse t cs start now maker.old
-        → IfErr result (λ f. WhereHonest (S.image maker.new.store)
+        → IfErr result (λ f. WhereHonest (S.image maker.new.maker.store)
         (StopsSo L.WORD t cs start now f)) }
     ensures stands { (t : Task) (cs : List Incoming) (start now : Option (List ℕ))
         → InCourse t cs start now maker.old
         → IfErr result (λ f. IsHalt f → StandsAt t cs start now maker.new) }
-    ensures comes { ComesFrom (S.image maker.old.store) (S.image maker.new.store) }
-    ensures failures { S.failures maker.old.store ≤ S.failures maker.new.store }
+    ensures comes { ComesFrom (S.image maker.old.maker.store) (S.image maker.new.maker.store) }
+    ensures failures { S.failures maker.old.maker.store ≤ S.failures maker.new.maker.store }
     ensures failed { IfErr result
-        (λ f. IsOfStore f → S.failures maker.old.store < S.failures maker.new.store) }
+        (λ f. IsOfStore f → S.failures maker.old.maker.store < S.failures maker.new.maker.store) }
     ensures own { IfErr result (λ f. IsOfBase f → ⊥) }
 {
     maker.remove(key)?;
@@ -148,7 +149,7 @@ fn remove_key<L: Width, S: Store>(maker: &mut Maker<S, L>, key: &[u8]) -> Result
 /// Does what an item of an input says, both counted from 1.
 #[inline(always)]
 fn do_item<L: Width, S: Store, E: Write>(
-    maker: &mut Maker<S, L>,
+    maker: &mut Batch<S, L>,
     options: &MakeOptions,
     input: u64,
     number: u64,
@@ -165,7 +166,7 @@ fn do_item<L: Width, S: Store, E: Write>(
     ensures fails { (t : Task) (cs : List Incoming) (start : Option (List ℕ))
         → t.options ≡ options.now
         → InCourse t cs start (E.contents errors.old) maker.old
-        → IfErr result (λ f. WhereHonest (S.image maker.new.store) (PutStops L.WORD t cs
+        → IfErr result (λ f. WhereHonest (S.image maker.new.maker.store) (PutStops L.WORD t cs
         (record { input = input; number = number; it = change_in kind item.now })
         start (E.contents errors.new) f)) }
     ensures stands { (t : Task) (cs : List Incoming) (start : Option (List ℕ))
@@ -173,10 +174,10 @@ fn do_item<L: Width, S: Store, E: Write>(
         → InCourse t cs start (E.contents errors.old) maker.old
         → IfErr result (λ f. IsHalt f
         → StandsAt t cs start (E.contents errors.new) maker.new) }
-    ensures comes { ComesFrom (S.image maker.old.store) (S.image maker.new.store) }
-    ensures failures { S.failures maker.old.store ≤ S.failures maker.new.store }
+    ensures comes { ComesFrom (S.image maker.old.maker.store) (S.image maker.new.maker.store) }
+    ensures failures { S.failures maker.old.maker.store ≤ S.failures maker.new.maker.store }
     ensures failed { IfErr result
-        (λ f. IsOfStore f → S.failures maker.old.store < S.failures maker.new.store) }
+        (λ f. IsOfStore f → S.failures maker.old.maker.store < S.failures maker.new.maker.store) }
     ensures own { IfErr result (λ f. IsOfBase f → ⊥) }
 {
     match kind {
@@ -185,40 +186,38 @@ fn do_item<L: Width, S: Store, E: Write>(
     }
 }
 
-/// Does what the items of an input say, whose number is counted from 1, up to its end.
-pub(crate) fn put_input<L: Width, S: Store, R: Read, E: Write, A: AtHand<R>>(
+/// Does what the items of an input say, whose number is counted from 1, up to its end, and answers
+/// its reader, which goes on after its text.
+pub(crate) fn put_input<L: Width, S: Store, R: Read + Drop, E: Write, A: AtHand<R>>(
     alloc: Global,
-    maker: &mut Maker<S, L>,
+    maker: &mut Batch<S, L>,
     options: &MakeOptions,
     input: u64,
-    items: &mut ItemReader<R, L>,
+    mut items: ItemReader<R, L>,
     errors: &mut E,
-) -> Result<(), Fault>
-    requires fresh { IsNew items.old }
-    ensures ok { OnOk result ((last : List Change)
-        × IfSome (unread R.remaining items.old)
-        (IsInputOf (form_of items.old) L.GREATEST last)
-        × ((t : Task) (read : List (List Change)) (start : Option (List ℕ))
-        → t.options ≡ options.now → input ≡ length read + 1
-        → InCourse t (from_inputs 1 read) start (E.contents errors.old) maker.old
-        → InCourse t (from_inputs 1 (read ++ last ∷ [])) start (E.contents errors.new)
-        maker.new)) }
+) -> Result<R, Fault>
+    requires fresh { IsNew items }
+    ensures ok { IfOk result (λ left. (last : List Change)
+        × FromTo (unread R.remaining items) (R.remaining left)
+        (IsInputOf (form_of items) L.GREATEST last)
+        × PutsItems options.now input last (E.contents errors.old) (E.contents errors.new)
+        maker.old maker.new) }
     ensures fails { (t : Task) (read : List (List Change)) (start : Option (List ℕ))
-        → t.options ≡ options.now → task_form t ≡ form_of items.old
+        → t.options ≡ options.now → task_form t ≡ form_of items
         → input ≡ length read + 1
         → InCourse t (from_inputs 1 read) start (E.contents errors.old) maker.old
-        → IfErr result (λ f. WhereHonest (S.image maker.new.store)
-        (InputFails L.WORD L.GREATEST t read (unread R.remaining items.old)
+        → IfErr result (λ f. WhereHonest (S.image maker.new.maker.store)
+        (InputFails L.WORD L.GREATEST t read (unread R.remaining items)
         start (E.contents errors.new) f)) }
     ensures stands { (t : Task) (read : List (List Change)) (start : Option (List ℕ))
         → t.options ≡ options.now → input ≡ length read + 1
         → InCourse t (from_inputs 1 read) start (E.contents errors.old) maker.old
-        → IfErr result (λ f. IsHalt f → StandsIn (form_of items.old) L.GREATEST t read
-        (unread R.remaining items.old) start (E.contents errors.new) maker.new) }
-    ensures comes { ComesFrom (S.image maker.old.store) (S.image maker.new.store) }
-    ensures failures { S.failures maker.old.store ≤ S.failures maker.new.store }
+        → IfErr result (λ f. IsHalt f → StandsIn (form_of items) L.GREATEST t read
+        (unread R.remaining items) start (E.contents errors.new) maker.new) }
+    ensures comes { ComesFrom (S.image maker.old.maker.store) (S.image maker.new.maker.store) }
+    ensures failures { S.failures maker.old.maker.store ≤ S.failures maker.new.maker.store }
     ensures failed { IfErr result
-        (λ f. IsOfStore f → S.failures maker.old.store < S.failures maker.new.store) }
+        (λ f. IsOfStore f → S.failures maker.old.maker.store < S.failures maker.new.maker.store) }
     ensures own { IfErr result (λ f. IsOfBase f → ⊥) }
 {
     let mut item = Record {
@@ -229,7 +228,7 @@ pub(crate) fn put_input<L: Width, S: Store, R: Read, E: Write, A: AtHand<R>>(
     loop {
         let kind = match items.read_into::<A>(&mut item) {
             Err(fault) => return Err(Fault::of_text(input, fault)),
-            Ok(None) => return Ok(()),
+            Ok(None) => return Ok(items.into_reader()),
             Ok(Some(kind)) => kind,
         };
         number += 1;

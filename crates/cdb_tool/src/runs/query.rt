@@ -145,6 +145,10 @@ fn query_unflushed<L: Width, S: Store, W: Write>(
 ///
 /// The store is handed back whatever the answer, and was only read. The writer is flushed last,
 /// after a fault too.
+///
+/// Which reads of a store succeeded is not seen. So of `Read(Device)` and `Output` the contract
+/// says that a prefix of the text was written. `query_from`, whose caller keeps the finder, says
+/// that the values that it gave before were written whole.
 pub fn query_run<L: Width, S: Store, W: Write>(
     store: S,
     key: &[u8],

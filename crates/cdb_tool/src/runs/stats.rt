@@ -38,7 +38,7 @@ fn stats_unflushed<L: Width, S: Store, W: Write>(store: S, w: &mut W) -> (S, Res
 
 /// Writes the statistics of the database in a store: how many records it has, how long their keys
 /// and values are, how many tables have slots and how many of these are used, and how far those
-/// stand from where searches begin.
+/// are from where searches begin.
 ///
 /// All is counted before anything is written, and no memory is taken. The faults:
 /// - `Read(Short)`: the store is shorter than a head, and was not read;

@@ -39,7 +39,7 @@ fn read_item<L: Width, R: Read, A: AtHand<R>>(
     }
 }
 
-/// Writes what the text has of a record. After an `OutFault` the writer holds a front of it.
+/// Writes what the text has of a record. After an `OutFault` the writer holds a prefix of it.
 fn write_item<W: Write>(
     w: &mut W,
     content: Content,
@@ -57,7 +57,7 @@ fn write_item<W: Write>(
     }
 }
 
-/// Writes what ends the text. After an `OutFault` the writer holds a front of it.
+/// Writes what ends the text. After an `OutFault` the writer holds a prefix of it.
 fn write_last<W: Write>(w: &mut W, style: Style) -> Result<(), OutFault>
     ensures { Writes result (W.contents w.old) (W.contents w.new) (end_of style) }
 {

@@ -13,7 +13,7 @@ use std::prelude::*;
 use std::test::Fail;
 
 /// The file of `two` with `Goodbye` alone.
-const LAST_ALONE: [Run; 6] = [
+pub(super) const LAST_ALONE: [Run; 6] = [
     (41, b"\x12\x08\0\0\0\0\0\0"),
     (1, b"\x12\x08\0\0\x02\0\0\0"),
     (214, b"\x22\x08\0\0\0\0\0\0"),
@@ -23,7 +23,7 @@ const LAST_ALONE: [Run; 6] = [
 ];
 
 /// The file of `two` with `Goodbye` and then `one` with `Again`.
-const ONE_AGAIN: [Run; 10] = [
+pub(super) const ONE_AGAIN: [Run; 10] = [
     (41, b"\x22\x08\0\0\0\0\0\0"),
     (1, b"\x22\x08\0\0\x02\0\0\0"),
     (87, b"\x32\x08\0\0\0\0\0\0"),
@@ -38,16 +38,16 @@ const ONE_AGAIN: [Run; 10] = [
 
 /// What came of amending a base in memory.
 #[derive(Drop)]
-struct Amended {
-    answer: Result<(), Fault>,
+pub(super) struct Amended {
+    pub(super) answer: Result<(), Fault>,
     file: Vec<u8>,
     lines: Vec<u8>,
-    base: Vec<u8>,
+    pub(super) base: Vec<u8>,
 }
 
 impl Amended {
     /// Whether the file and the lines are these, and the base is what it was.
-    fn made(&self, file: &[u8], lines: &[u8], base: &[u8]) -> bool {
+    pub(super) fn made(&self, file: &[u8], lines: &[u8], base: &[u8]) -> bool {
         self.answer == Ok(())
             && self.file.as_slice() == file
             && self.lines.as_slice() == lines
@@ -99,7 +99,7 @@ fn amend(
 }
 
 /// The two-record file amended.
-fn amend_two(
+pub(super) fn amend_two(
     alloc: Global,
     input: &'static [u8],
     mode: Mode,
@@ -255,14 +255,15 @@ fn a_damaged_base_is_told_behind_its_limit(rt: HostRuntime) -> Result<(), Fail> 
     Ok(())
 }
 
-/// The answer over a base of which a call fails, its bytes then, and the file.
+/// The answer over a base, cut to so many bytes, of which a call fails, its bytes then, and the file.
 fn over_fuse(
     alloc: Global,
+    many: usize,
     calls: u64,
 ) -> Result<(Result<(), Fault>, Vec<u8>, Vec<u8>), AllocError> {
     let texts = texts(alloc, &[b"-3:one\n\n"])?;
     let mut lines = Vec::new(alloc);
-    let base = FuseStore::new(MemStore::from_vec(File::Two.bytes(alloc)?), calls, 1);
+    let base = FuseStore::new(MemStore::from_vec(first_bytes(alloc, many)?), calls, 1);
     let added = options(Mode::Add, Duplicates::Silent, Style::Native, 4294967295);
     let store = MemStore::new(alloc);
     let (store, base, answer) = make_run::<Narrow, MemStore, FuseStore<MemStore>, &[u8], Vec<u8>>(
@@ -285,7 +286,7 @@ fn a_base_that_fails_is_handed_back(rt: HostRuntime) -> Result<(), Fail> {
     let two = File::Two.bytes(rt.alloc())?;
     let alone = bytes_of(rt.alloc(), &LAST_ALONE)?;
     for calls in 0..64u64 {
-        let (answer, base, file) = over_fuse(rt.alloc(), calls)?;
+        let (answer, base, file) = over_fuse(rt.alloc(), two.len(), calls)?;
         assert!(rt; base.as_slice() == two.as_slice(), "{calls}");
         if answer == Ok(()) {
             assert!(rt; calls > 0 && file.as_slice() == alone.as_slice());
@@ -294,6 +295,21 @@ fn a_base_that_fails_is_handed_back(rt: HostRuntime) -> Result<(), Fail> {
         assert!(rt; answer == Err(Fault::Read(ReadFault::Device)), "{calls}");
     }
     Err(Fail::new("no run met no fault"))
+}
+
+#[test]
+fn a_damaged_base_that_fails_is_handed_back(rt: HostRuntime) -> Result<(), Fail> {
+    let cut = first_bytes(rt.alloc(), 2070)?;
+    for calls in 0..64u64 {
+        let (answer, base, _) = over_fuse(rt.alloc(), 2070, calls)?;
+        assert!(rt; base.as_slice() == cut.as_slice(), "{calls}");
+        if answer == Err(Fault::Read(ReadFault::Record(2064))) {
+            assert!(rt; calls > 0);
+            return Ok(());
+        }
+        assert!(rt; answer == Err(Fault::Read(ReadFault::Device)), "{calls}");
+    }
+    Err(Fail::new("no run met the damage"))
 }
 
 /// A wide base of one record, which is removed.

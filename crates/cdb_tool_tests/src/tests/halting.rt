@@ -1,9 +1,9 @@
 // put_inputs: the records that are held and the lines that were written, where a put fails.
 use super::running::{Duplicates, options, texts};
-use cdb_form::{Narrow, NoneAtHand};
-use cdb_make::{MakeFault, Maker, Mode};
+use cdb_form::Narrow;
+use cdb_make::{Batch, MakeFault, Mode};
 use cdb_store::{FuseStore, MemStore};
-use cdb_tool::{Fault, Style, put_inputs};
+use cdb_tool::{Fault, Inputs, Style, put_inputs};
 use std::alloc::{AllocError, Global};
 use std::prelude::*;
 use std::test::Fail;
@@ -21,7 +21,7 @@ const LINES: [&[u8]; 5] = [
 ];
 
 /// A maker over a store that fails its call of a number.
-type Fused = Maker<FuseStore<MemStore>, Narrow>;
+type Fused = Batch<FuseStore<MemStore>, Narrow>;
 
 /// Puts the inputs, and leaves their lines.
 fn put(
@@ -31,9 +31,9 @@ fn put(
     lines: &mut Vec<u8>,
 ) -> Result<(), Fault> {
     let options = options(Mode::Warn, Duplicates::Told, Style::Native, 4294967295);
-    put_inputs::<Narrow, _, &[u8], Vec<u8>, NoneAtHand>(
-        alloc, maker, &options, false, inputs, lines,
-    )
+    let none: &[u8] = &[];
+    let inputs = Inputs::each_own(alloc, inputs, none)?;
+    put_inputs::<Narrow, _, &[u8], &[u8], Vec<u8>>(alloc, maker, &options, false, inputs, lines)
 }
 
 /// The lines of as many of the records as a maker holds.

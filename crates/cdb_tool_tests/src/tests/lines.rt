@@ -8,7 +8,7 @@ use std::prelude::*;
 use std::test::Fail;
 
 /// Faults, their numbers and their lines.
-const SAID: [(Fault, u8, &str); 28] = [
+const SAID: [(Fault, u8, &str); 31] = [
     (
         Fault::Text(1, TextFault::Syntax(7)),
         1,
@@ -55,6 +55,7 @@ const SAID: [(Fault, u8, &str); 28] = [
         2,
         "cdb: database cannot be read or written\n",
     ),
+    (Fault::Make(MakeFault::NoMemory), 2, "cdb: no memory\n"),
     (Fault::Duplicate, 3, "cdb: stopped at a duplicate key\n"),
     (
         Fault::Read(ReadFault::Short),
@@ -120,6 +121,8 @@ const SAID: [(Fault, u8, &str); 28] = [
     (Fault::Walk(WalkFault::NoMemory), 6, "cdb: no memory\n"),
     (Fault::Output, 7, "cdb: output cannot be written\n"),
     (Fault::Long, 8, "cdb: database too large\n"),
+    (Fault::Open, 9, "cdb: file cannot be opened\n"),
+    (Fault::Rename, 10, "cdb: database cannot be renamed\n"),
     (Fault::NoMemory, 11, "cdb: no memory\n"),
 ];
 

@@ -1,9 +1,12 @@
 // Runs whose asks for memory `tests/faults/calls.py` refuses, each in turn. It reads what a test
 // prints: whether the refusal came to the run, to what the run is made on, or to neither.
+use super::amending::{LAST_ALONE, ONE_AGAIN, amend_two};
 use super::halting::put_in_memory;
-use super::worked::{Run, bytes_of};
+use super::running::{Duplicates, TWICE, run};
+use super::worked::{File, Run, TWO_TEXT, bytes_of};
 use cdb_form::Narrow;
-use cdb_tool::{Fault, Style, list_run, load};
+use cdb_make::Mode;
+use cdb_tool::{Fault, Style, dump_run, list_run, load};
 use std::alloc::{AllocError, Global};
 use std::prelude::*;
 use std::test::Fail;
@@ -88,6 +91,120 @@ fn a_list_of_a_map_tells_refused_memory(rt: HostRuntime) -> Result<(), Fail> {
     ];
     let came = list(rt.alloc(), Style::Map, texts);
     tell(&rt, came)
+}
+
+/// What came of a dump of the two-record file. If memory is refused, it has written the text of no
+/// record, of one or of both, and no closing newline.
+fn dump(alloc: Global) -> Came {
+    let Ok(file) = File::Two.bytes(alloc) else {
+        return Came::NoInputs;
+    };
+    let Ok(mut out) = Vec::with_capacity(alloc, 128) else {
+        return Came::NoInputs;
+    };
+    let first = dump_run::<Narrow, &[u8], Vec<u8>>(alloc, &file, Style::Native, &mut out);
+    match first {
+        Ok(()) if out.as_slice() == TWO_TEXT => return Came::Whole,
+        Err(Fault::NoMemory)
+            if [0, 16, 34]
+                .iter()
+                .any(|n| Some(&*out) == TWO_TEXT.get(..*n)) => {}
+        _ => return Came::Wrong,
+    }
+    out.clear();
+    match dump_run::<Narrow, &[u8], Vec<u8>>(alloc, &file, Style::Native, &mut out) {
+        Ok(()) if out.as_slice() == TWO_TEXT => Came::NoMemory,
+        _ => Came::Wrong,
+    }
+}
+
+#[test]
+fn a_dump_tells_refused_memory(rt: HostRuntime) -> Result<(), Fail> {
+    tell(&rt, dump(rt.alloc()))
+}
+
+/// What came of a run of two values of a key in a mode, which makes this file.
+fn put_twice(alloc: Global, mode: Mode, file: File) -> Came {
+    let Ok(wanted) = file.bytes(alloc) else {
+        return Came::NoInputs;
+    };
+    let Ok(made) = run(alloc, &[TWICE], mode, Duplicates::Silent) else {
+        return Came::NoInputs;
+    };
+    if made.is(Ok(()), &wanted, b"") {
+        return Came::Whole;
+    }
+    let is_made = match run(alloc, &[TWICE], mode, Duplicates::Silent) {
+        Ok(again) => again.is(Ok(()), &wanted, b""),
+        Err(_) => false,
+    };
+    if made.answer == Err(Fault::NoMemory) && is_made {
+        Came::NoMemory
+    } else {
+        Came::Wrong
+    }
+}
+
+#[test]
+fn an_adding_run_tells_refused_memory(rt: HostRuntime) -> Result<(), Fail> {
+    tell(&rt, put_twice(rt.alloc(), Mode::Add, File::BothValues))
+}
+
+#[test]
+fn a_warning_run_tells_refused_memory(rt: HostRuntime) -> Result<(), Fail> {
+    tell(&rt, put_twice(rt.alloc(), Mode::Warn, File::BothValues))
+}
+
+#[test]
+fn an_inserting_run_tells_refused_memory(rt: HostRuntime) -> Result<(), Fail> {
+    tell(&rt, put_twice(rt.alloc(), Mode::Insert, File::FirstValue))
+}
+
+#[test]
+fn a_replacing_run_tells_refused_memory(rt: HostRuntime) -> Result<(), Fail> {
+    tell(&rt, put_twice(rt.alloc(), Mode::Replace, File::SecondValue))
+}
+
+/// Whether the two-record file is amended so by a text, and what was answered. `None`: there was no
+/// memory for base and text. The base is to be handed back as it was.
+fn amended(alloc: Global, text: &'static [u8], two: &[u8], file: &[u8]) -> Option<(bool, bool)> {
+    match amend_two(alloc, text, Mode::Warn, Duplicates::Told) {
+        Ok(amended) => {
+            let is_refused = amended.answer == Err(Fault::NoMemory)
+                && amended.base.as_slice() == two;
+            Some((amended.made(file, b"", two), is_refused))
+        }
+        Err(_) => None,
+    }
+}
+
+/// What came of amending the two-record file by a text, which makes this file.
+fn amend(alloc: Global, text: &'static [u8], runs: &[Run]) -> Came {
+    let Ok(two) = File::Two.bytes(alloc) else {
+        return Came::NoInputs;
+    };
+    let Ok(file) = bytes_of(alloc, runs) else {
+        return Came::NoInputs;
+    };
+    match amended(alloc, text, &two, &file) {
+        None => Came::NoInputs,
+        Some((true, _)) => Came::Whole,
+        Some((false, true)) if amended(alloc, text, &two, &file) == Some((true, false)) => {
+            Came::NoMemory
+        }
+        Some(_) => Came::Wrong,
+    }
+}
+
+#[test]
+fn a_removal_from_a_base_tells_refused_memory(rt: HostRuntime) -> Result<(), Fail> {
+    tell(&rt, amend(rt.alloc(), b"-3:one\n\n", &LAST_ALONE))
+}
+
+#[test]
+fn an_amended_base_tells_refused_memory(rt: HostRuntime) -> Result<(), Fail> {
+    let text: &[u8] = b"-3:one\n+3,5:one->Again\n\n";
+    tell(&rt, amend(rt.alloc(), text, &ONE_AGAIN))
 }
 
 /// Whether the file is loaded whole.

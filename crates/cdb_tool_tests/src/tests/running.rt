@@ -12,7 +12,7 @@ use std::prelude::*;
 use std::test::Fail;
 
 /// Two values of one key.
-const TWICE: &[u8] = b"+1,1:a->1\n+1,1:a->2\n\n";
+pub(super) const TWICE: &[u8] = b"+1,1:a->1\n+1,1:a->2\n\n";
 
 /// The first and the second alone.
 const FIRST: &[u8] = b"+1,1:a->1\n\n";
@@ -47,15 +47,15 @@ pub(super) fn options(mode: Mode, duplicates: Duplicates, style: Style, limit: u
 
 /// What came of a run in memory.
 #[derive(Drop)]
-struct Made {
-    answer: Result<(), Fault>,
+pub(super) struct Made {
+    pub(super) answer: Result<(), Fault>,
     file: Vec<u8>,
     lines: Vec<u8>,
 }
 
 impl Made {
     /// Whether it answered so, with this file and these lines.
-    fn is(&self, answer: Result<(), Fault>, file: &[u8], lines: &[u8]) -> bool {
+    pub(super) fn is(&self, answer: Result<(), Fault>, file: &[u8], lines: &[u8]) -> bool {
         self.answer == answer && self.file.as_slice() == file && self.lines.as_slice() == lines
     }
 
@@ -107,7 +107,7 @@ fn run_style(
 }
 
 /// A run in memory, over native texts.
-fn run(
+pub(super) fn run(
     alloc: Global,
     inputs: &[&'static [u8]],
     mode: Mode,

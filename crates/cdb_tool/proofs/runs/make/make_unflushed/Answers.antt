@@ -1,8 +1,9 @@
 use Rattle.std.proofs.lemmas.Grind.{common_steps}
-use Rattle.cdb_tool.proofs.RunEnds.{runs_not, runs_unbased, runs_stopped, runs_whole, runs_unfinished, hands_same, hands_some}
+use Rattle.cdb_tool.proofs.RunEnds.{IsOver, runs_not, runs_unbased, runs_stopped, runs_whole, runs_unfinished, hands_same, hands_some}
 use Rattle.std.proofs.Common.{sym, subst, ◌∙◌, map, [], Bool, arith}
 use Rattle.cdb_tool.proofs.BaseRecords.{make_no_base}
-use Rattle.cdb_tool.specs.Runs.Inputs.{input_form, AreInputs}
+use Rattle.cdb_tool.specs.Runs.Inputs.{input_form, AreAllInputs}
+use Rattle.cdb_tool.specs.Views.Inputs.{inputs_left}
 use Rattle.cdb_tool.proofs.runs.make.make_unflushed.Goals as goal
 
 pub returns-in-Err-clause-runs : goal.returns-in-Err-clause-runs
@@ -19,9 +20,10 @@ returns-in-Err-put-clause-runs g c =
     let base = c.add_base-base.result.0 in
     let holds = (rw c.in_default.is at add.ok) c.in-Ok.ensures.holds in
     let some = hands_some g.B.Store c.args.base base add.hands ∙ sym c.is_some-amends.ensures in
+    let over : IsOver {s = g.S.Store} {l = g.L.Width} c.add_base-base.new.maker c.over-batch.result = record { same = c.over-batch.ensures.maker; holds = c.over-batch.ensures.holds; limit = c.over-batch.ensures.limit } in
     rw c.into_store-in-Err-put.ensures
-    (runs_stopped {s = g.S.Store} {l = g.L.Width} g.B.Store base g.L.Width.GREATEST c.args.options.now c.is_some-amends.result _ (g.E.Write.contents c.args.errors.now) _ c.add_base-base.new.maker _ c.in-Err-put.fault
-    holds (add.limit ∙ c.in-Ok.ensures.limit) some c.put_inputs-put.ensures.comes
+    (runs_stopped {s = g.S.Store} {l = g.L.Width} g.B.Store base g.L.Width.GREATEST c.args.options.now c.is_some-amends.result _ (g.E.Write.contents c.args.errors.now) _ c.add_base-base.new.maker c.over-batch.result _ c.in-Err-put.fault
+    holds (add.limit ∙ c.in-Ok.ensures.limit) over some c.put_inputs-put.ensures.comes
     (λ k same based begins. c.in-Err-put.ensures.fails k _ same based begins))
 
 pub returns-in-Ok-finish-clause-runs : goal.returns-in-Ok-finish-clause-runs
@@ -31,9 +33,10 @@ returns-in-Ok-finish-clause-runs g c =
     let holds = (rw c.in_default.is at add.ok) c.in-Ok.ensures.holds in
     let some = hands_some g.B.Store c.args.base base add.hands ∙ sym c.is_some-amends.ensures in
     let put = c.in_default-put.ensures.ok in
-    let are = subst (λ (v : Bool). AreInputs (input_form c.args.options.now.style v) g.L.Width.GREATEST put.0 (map g.R.Read.remaining c.args.inputs.items) []) (sym some) put.1 in
-    runs_whole {s = g.S.Store} {l = g.L.Width} g.B.Store base g.L.Width.GREATEST c.args.options.now _ put.0 (g.E.Write.contents c.args.errors.now) _ c.add_base-base.new.maker c.put_inputs-put.new.maker _
-    holds (add.limit ∙ c.in-Ok.ensures.limit) are (λ k same begins. put.2 k _ same begins) c.put_inputs-put.ensures.comes c.in-Ok-finish.ensures.comes c.in-Ok-finish.ensures.file
+    let are = subst (λ (v : Bool). AreAllInputs (input_form c.args.options.now.style v) g.L.Width.GREATEST put.0 (inputs_left g.J.Read.remaining g.I.Read.remaining c.args.inputs)) (sym some) put.1 in
+    let over : IsOver {s = g.S.Store} {l = g.L.Width} c.add_base-base.new.maker c.over-batch.result = record { same = c.over-batch.ensures.maker; holds = c.over-batch.ensures.holds; limit = c.over-batch.ensures.limit } in
+    runs_whole {s = g.S.Store} {l = g.L.Width} g.B.Store base g.L.Width.GREATEST c.args.options.now _ put.0 (g.E.Write.contents c.args.errors.now) _ c.add_base-base.new.maker c.over-batch.result c.put_inputs-put.new.maker _
+    holds (add.limit ∙ c.in-Ok.ensures.limit) over are (λ k same begins. put.2 k _ same begins) c.put_inputs-put.ensures.comes c.in-Ok-finish.ensures.comes c.in-Ok-finish.ensures.file
 
 pub returns-in-Err-finish-clause-runs : goal.returns-in-Err-finish-clause-runs
 returns-in-Err-finish-clause-runs g c =
@@ -43,10 +46,11 @@ returns-in-Err-finish-clause-runs g c =
     let some = hands_some g.B.Store c.args.base base add.hands ∙ sym c.is_some-amends.ensures in
     let put = c.in_default-put.ensures.ok in
     let e = c.in-Err-finish.ensures in
-    let are = subst (λ (v : Bool). AreInputs (input_form c.args.options.now.style v) g.L.Width.GREATEST put.0 (map g.R.Read.remaining c.args.inputs.items) []) (sym some) put.1 in
+    let are = subst (λ (v : Bool). AreAllInputs (input_form c.args.options.now.style v) g.L.Width.GREATEST put.0 (inputs_left g.J.Read.remaining g.I.Read.remaining c.args.inputs)) (sym some) put.1 in
+    let over : IsOver {s = g.S.Store} {l = g.L.Width} c.add_base-base.new.maker c.over-batch.result = record { same = c.over-batch.ensures.maker; holds = c.over-batch.ensures.holds; limit = c.over-batch.ensures.limit } in
     rw (c.from-in-Err-finish.ensures, c.into_store-in-Err-finish.ensures)
-    (runs_unfinished {s = g.S.Store} {l = g.L.Width} g.B.Store base g.L.Width.GREATEST c.args.options.now _ put.0 (g.E.Write.contents c.args.errors.now) _ c.add_base-base.new.maker c.put_inputs-put.new.maker c.in-Err-finish.unfinished.maker _ c.in-Err-finish.unfinished.fault
-    holds (add.limit ∙ c.in-Ok.ensures.limit) are (λ k same begins. put.2 k _ same begins) c.put_inputs-put.ensures.comes e.fails_comes e.fails)
+    (runs_unfinished {s = g.S.Store} {l = g.L.Width} g.B.Store base g.L.Width.GREATEST c.args.options.now _ put.0 (g.E.Write.contents c.args.errors.now) _ c.add_base-base.new.maker c.over-batch.result c.put_inputs-put.new.maker c.in-Err-finish.unfinished.batch c.in-Err-finish.unfinished.fault
+    holds (add.limit ∙ c.in-Ok.ensures.limit) over are (λ k same begins. put.2 k _ same begins) c.put_inputs-put.ensures.comes e.fails_comes e.fails)
 
 pub returns-in-Err-finish-clause-base_failed : goal.returns-in-Err-finish-clause-base_failed
 returns-in-Err-finish-clause-base_failed g c = rw c.from-in-Err-finish.ensures (λ is. absurd (make_no_base c.in-Err-finish.unfinished.fault is))

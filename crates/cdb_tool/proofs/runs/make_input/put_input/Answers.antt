@@ -2,11 +2,12 @@ use Rattle.std.proofs.lemmas.Grind.{common_steps}
 use Rattle.std.proofs.Common.{refl, arith, sym, subst, ap, ◌∙◌, ◌+◌, ◌∷◌, ◌++◌, [], ℕ, IfSome, length-append}
 use Rattle.std.proofs.lemmas.Result.{err_from_is_err_and}
 use Rattle.cdb_form.specs.Text.Amending.{Change}
+use Rattle.cdb_form.specs.Views.KnownBytes.{FromTo}
 use Rattle.cdb_form.specs.Views.Pairs.{change_in}
 use Rattle.cdb_make.proofs.Puts.{comes_then}
 use Rattle.cdb_tool.specs.Runs.Inputs.{IsInputOf, BeginsWithItems}
 use Rattle.cdb_tool.specs.Runs.Make.{InCourse, form_of as task_form}
-use Rattle.cdb_tool.specs.Views.ItemReader.{unread}
+use Rattle.cdb_tool.specs.Views.ItemReader.{form_of, unread}
 use Rattle.cdb_tool.proofs.BaseRecords.{text_no_base}
 use Rattle.cdb_tool.proofs.Courses.{came_more, course_stands}
 use Rattle.cdb_tool.proofs.ItemTexts.{items_none, items_more, items_all, items_first, items_fewer, same_form}
@@ -16,7 +17,7 @@ use Rattle.cdb_tool.proofs.runs.make_input.put_input.Goals as goal
 pub loop-fault-init : goal.loop-fault-init
 loop-fault-init g c = record {
   last = [];
-  gave = items_none g.L.Width.GREATEST g.R.Read.remaining _ c.args.items.now c.requires.fresh refl;
+  gave = items_none g.L.Width.GREATEST g.R.Read.remaining _ c.args.items c.requires.fresh refl;
   form = refl;
   number = refl;
   asks = omega (arith, c.requires.fresh.asks);
@@ -36,8 +37,13 @@ pub returns-in-Ok-None-clause-ok : goal.returns-in-Ok-None-clause-ok
 returns-in-Ok-None-clause-ok g c =
     let inv = c.loop-fault.invariant in
     let end = rw c.in-Ok-None.field-0-is at c.in-Ok-None.ensures.gives in
-    let all = items_all g.L.Width.GREATEST g.R.Read.remaining (unread g.R.Read.remaining c.args.items.now) c.loop-fault.items c.read_into.new.self inv.last inv.gave end in
-    (inv.last, subst (λ v. IfSome (unread g.R.Read.remaining c.args.items.now) (IsInputOf v g.L.Width.GREATEST inv.last)) inv.form all, inv.course)
+    let greatest = g.L.Width.GREATEST in
+    let remaining = g.R.Read.remaining in
+    let input = unread remaining c.args.items in
+    let new = c.read_into.new.self in
+    let all = items_all greatest remaining input c.loop-fault.items new inv.last inv.gave end in
+    let in_form = subst (λ v. FromTo input (unread remaining new) (IsInputOf v greatest inv.last)) inv.form all in
+    (inv.last, subst (λ v. FromTo input v (IsInputOf (form_of c.args.items) greatest inv.last)) (sym c.into_reader.ensures) in_form, inv.course)
 
 pub loop-fault-preserved : goal.loop-fault-preserved
 loop-fault-preserved g c =
@@ -70,7 +76,7 @@ returns-in_err-do_item-clause-fails g c = λ t read start o f n h.
     let one = rw c.in-Ok-Some.field-0-is at c.in-Ok-Some.ensures.gives in
     let greatest = g.L.Width.GREATEST in
     let remaining = g.R.Read.remaining in
-    let input = unread remaining c.args.items.now in
+    let input = unread remaining c.args.items in
     let old = c.loop-fault.items in
     let new = c.read_into.new.self in
     let before : IfSome input (BeginsWithItems (task_form t) greatest inv.last) = subst (λ v. IfSome input (BeginsWithItems v greatest inv.last)) (inv.form ∙ sym f) (items_first greatest remaining input old inv.last inv.gave) in
@@ -94,7 +100,7 @@ returns-in-Err-clause-stands g c = λ t read start o n h.
     let inv = c.loop-fault.invariant in
     let greatest = g.L.Width.GREATEST in
     let remaining = g.R.Read.remaining in
-    let input = unread remaining c.args.items.now in
+    let input = unread remaining c.args.items in
     rw c.of_text.ensures
     (λ halt. halted_here {s = g.S.Store} {k = g.L.Width} _ _ greatest t read input inv.last start _ c.loop-fault.maker inv.form (items_first greatest remaining input c.loop-fault.items inv.last inv.gave)
     (course_stands {s = g.S.Store} {l = g.L.Width} t _ start _ c.loop-fault.maker (inv.course t read start o n h)))
@@ -105,7 +111,7 @@ returns-in_err-do_item-clause-stands g c = λ t read start o n h.
     let inv = c.loop-fault.invariant in
     let greatest = g.L.Width.GREATEST in
     let remaining = g.R.Read.remaining in
-    let input = unread remaining c.args.items.now in
+    let input = unread remaining c.args.items in
     let stands = c.in_err-do_item.ensures.stands t _ start o (inv.course t read start o n h) in
     rw (p.1, p.2)
     (λ halt. halted_here {s = g.S.Store} {k = g.L.Width} _ _ greatest t read input inv.last start _ c.do_item.new.maker inv.form (items_first greatest remaining input c.loop-fault.items inv.last inv.gave) (stands halt))

@@ -19,8 +19,8 @@ invariant-loop-fault g l =
       course : (t : Task) (read : List (List Change)) (start : Option (List ℕ)) → t.options ≡ l.fn.options → l.fn.input ≡ length read + 1
           → InCourse {s = g.S.Store} {l = g.L.Width} t (from_inputs 1 read) start (g.E.Write.contents l.fn.errors) l.fn.maker
           → InCourse {s = g.S.Store} {l = g.L.Width} t (came read last) start (g.E.Write.contents l.errors) l.maker;
-      comes : ComesFrom (g.S.Store.image l.fn.maker.store) (g.S.Store.image l.maker.store);
-      failures : g.S.Store.failures l.fn.maker.store ≤ g.S.Store.failures l.maker.store;
+      comes : ComesFrom (g.S.Store.image l.fn.maker.maker.store) (g.S.Store.image l.maker.maker.store);
+      failures : g.S.Store.failures l.fn.maker.maker.store ≤ g.S.Store.failures l.maker.maker.store;
     }
 
 abbrev pub decreases-loop-fault : goal.decreases-loop-fault

@@ -1,6 +1,6 @@
 use Rattle.std.proofs.lemmas.Result.{err_from_is_err_and}
 use Rattle.cdb_form.specs.Views.Pairs.{key_value}
-use Rattle.cdb_make.specs.Views.Maker.{Puts, FailsPutting}
+use Rattle.cdb_make.specs.Views.Batch.{Puts, FailsPutting}
 use Rattle.cdb_tool.proofs.BaseRecords.{make_no_base, told_no_base}
 use Rattle.cdb_tool.proofs.Courses.{put_goes_so, put_told_so, told_store, put_refused_so, put_halted_so, memory_taken_so, told_halts, told_memory, refused_store, as_told, ok_both, err_each}
 use Rattle.cdb_tool.proofs.runs.make_input.put_record.Goals as goal
@@ -23,14 +23,14 @@ pub returns-clause-ok : goal.returns-clause-ok
 returns-clause-ok g c = λ t cs start same h.
     let puts = as_told (λ m r. Puts {s = g.S.Store} {l = g.L.Width} c.args.maker.now c.put.new.self m r c.in_ok-put.put) _ _ _ _ (key_value c.args.from.now) c.put_mode.ensures c.deref.ensures.value c.deref-2.ensures.value c.in_ok-put.ensures.puts in
     ok_both c.tell_put.result
-    (λ told going. put_goes_so {s = g.S.Store} {l = g.L.Width} t _ cs c.args.input c.args.number _ start _ _ c.args.maker.now c.put.new.self c.in_ok-put.put same h puts c.put.ensures.follows.comes c.put.ensures.follows.limit told going)
+    (λ told going. put_goes_so {s = g.S.Store} {l = g.L.Width} t _ cs c.args.input c.args.number _ start _ _ c.args.maker.now c.put.new.self c.in_ok-put.put same h g.met.L.Width.four_or_eight puts c.put.ensures.follows.comes c.put.ensures.follows.limit told going)
     c.tell_put.ensures.ok c.tell_put.ensures.goes
 
 pub returns-clause-fails : goal.returns-clause-fails
 returns-clause-fails g c = λ t cs start same h.
     let puts = as_told (λ m r. Puts {s = g.S.Store} {l = g.L.Width} c.args.maker.now c.put.new.self m r c.in_ok-put.put) _ _ _ _ (key_value c.args.from.now) c.put_mode.ensures c.deref.ensures.value c.deref-2.ensures.value c.in_ok-put.ensures.puts in
     err_each c.tell_put.result
-    (λ f told. put_told_so {s = g.S.Store} {l = g.L.Width} t _ cs c.args.input c.args.number _ start _ _ c.args.maker.now c.put.new.self c.in_ok-put.put f same h puts c.put.ensures.follows.comes c.put.ensures.follows.limit told)
+    (λ f told. put_told_so {s = g.S.Store} {l = g.L.Width} t _ cs c.args.input c.args.number _ start _ _ c.args.maker.now c.put.new.self c.in_ok-put.put f same h g.met.L.Width.four_or_eight puts c.put.ensures.follows.comes c.put.ensures.follows.limit told)
     c.tell_put.ensures.fails
 
 pub returns-clause-failed : goal.returns-clause-failed

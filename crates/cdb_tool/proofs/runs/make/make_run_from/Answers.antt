@@ -1,7 +1,7 @@
 use Rattle.std.proofs.lemmas.Grind.{common_steps}
 use Rattle.std.proofs.Common.{arith}
 use Rattle.cdb_tool.proofs.RunEnds.{runs_flushed}
-use Rattle.cdb_tool.proofs.runs.make.make_run_by.Goals as goal
+use Rattle.cdb_tool.proofs.runs.make.make_run_from.Goals as goal
 
 pub returns-clause-runs : goal.returns-clause-runs
 returns-clause-runs g c = runs_flushed g.B.Store _ _ _ _ _ _ _ _ _ _ _ c.make_unflushed-store.ensures.runs c.flushed-answer.ensures

@@ -1,0 +1,23 @@
+use Rattle.std.proofs.lemmas.Result.{err_from_is_err_and}
+use Rattle.cdb_tool.proofs.InputRuns.{no_window, no_window_stands}
+use Rattle.cdb_tool.proofs.runs.make.put_turn.Goals as goal
+
+pub returns-in_err-input-in-Own-clause-fails : goal.returns-in_err-input-in-Own-clause-fails
+returns-in_err-input-in-Own-clause-fails g c = λ t read start same based n h.
+    let p = err_from_is_err_and c.from_residual.result c.from_residual.ensures.1 in
+    rw (p.1, p.2) (no_window {s = g.S.Store} {k = g.L.Width} _ t read _ start _ c.args.maker.now h)
+
+pub returns-in_err-input-in-Own-clause-stands : goal.returns-in_err-input-in-Own-clause-stands
+returns-in_err-input-in-Own-clause-stands g c = λ t read start same n h.
+    let p = err_from_is_err_and c.from_residual.result c.from_residual.ensures.1 in
+    rw (p.1, p.2) (λ halt. no_window_stands {s = g.S.Store} {k = g.L.Width} _ _ t read _ start _ c.args.maker.now h)
+
+pub returns-in_err-input-in-Shared-clause-fails : goal.returns-in_err-input-in-Shared-clause-fails
+returns-in_err-input-in-Shared-clause-fails g c = λ t read start same based n h.
+    let p = err_from_is_err_and c.from_residual-in_err-input-in-Shared.result c.from_residual-in_err-input-in-Shared.ensures.1 in
+    rw (p.1, p.2) (no_window {s = g.S.Store} {k = g.L.Width} _ t read _ start _ c.args.maker.now h)
+
+pub returns-in_err-input-in-Shared-clause-stands : goal.returns-in_err-input-in-Shared-clause-stands
+returns-in_err-input-in-Shared-clause-stands g c = λ t read start same n h.
+    let p = err_from_is_err_and c.from_residual-in_err-input-in-Shared.result c.from_residual-in_err-input-in-Shared.ensures.1 in
+    rw (p.1, p.2) (λ halt. no_window_stands {s = g.S.Store} {k = g.L.Width} _ _ t read _ start _ c.args.maker.now h)
