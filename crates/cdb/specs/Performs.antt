@@ -24,6 +24,7 @@ use Rattle.cdb_tool.specs.Message.{fault_line}
 use Rattle.cdb_tool.specs.Status.{exit_status}
 use Rattle.cdb_tool.specs.declared.fault.Fault.{Fault}
 use Rattle.cdb_tool.specs.declared.fault.Fault.TheVariants.{Output}
+use Rattle.cdb_files.specs.Folder.{NameCalls}
 use Rattle.cdb.specs.Opening.{IsUnopened}
 use Rattle.cdb.specs.declared.open_trace.OpenCall.TheVariants.{AtPlaces, InTurn, Stream}
 use Rattle.cdb.specs.declared.system.System.{Ghosts as Systems}
@@ -38,7 +39,7 @@ pub record Refuses (start end : Option (List ℕ)) (result : Result Unit Fault) 
 -- ---- query
 
 -- the values of a key of the file that came
-pub record QueriesFile {F I Y : Type 0} (w : ℕ) (s : Ghosts F) (y : Systems Y F I) (name : List ℕ)
+pub record QueriesFile {F I M Y : Type 0} (w : ℕ) (s : Ghosts F) (y : Systems Y F I M) (name : List ℕ)
     (q : Query) (start end : Option (List ℕ)) (result : Result Unit Fault) : Type 0 where
   pub file : F
   pub left : F
@@ -46,10 +47,10 @@ pub record QueriesFile {F I Y : Type 0} (w : ℕ) (s : Ghosts F) (y : Systems Y 
   pub queries : Queries w s q file left start end result
 
 -- that file alone is opened
-abbrev pub PerformsQuery : {F I Y : Type 0} → ℕ → Ghosts F → Systems Y F I → (name : List ℕ)
+abbrev pub PerformsQuery : {F I M Y : Type 0} → ℕ → Ghosts F → Systems Y F I M → (name : List ℕ)
     → Query → (old new : Y) → (start end : Option (List ℕ)) → Result Unit Fault → Type 0
 PerformsQuery w s y name q old new start end result =
-    (y.calls new ≡ (AtPlaces, name) ∷ y.calls old)
+    (y.calls new ≡ (AtPlaces, name, []) ∷ y.calls old)
     × (Refuses start end result ⊎ QueriesFile w s y name q start end result)
 
 -- ---- dump and list
@@ -61,7 +62,7 @@ pub record WritesText (w : ℕ) (form : Form) (file start end : Option (List ℕ
   pub walk : WritesWalk w form file rest start end result
 
 -- of the file that came
-pub record WritesFile {F I Y : Type 0} (w : ℕ) (remaining : I → Option (List ℕ)) (y : Systems Y F I)
+pub record WritesFile {F I M Y : Type 0} (w : ℕ) (remaining : I → Option (List ℕ)) (y : Systems Y F I M)
     (form : Form) (name : List ℕ) (start end : Option (List ℕ)) (result : Result Unit Fault)
     : Type 0 where
   pub file : I
@@ -70,11 +71,11 @@ pub record WritesFile {F I Y : Type 0} (w : ℕ) (remaining : I → Option (List
 
 -- that file alone is opened, or none, if standard input is read; if memory for its window is
 -- refused, nothing is written
-abbrev pub PerformsText : {F I Y : Type 0} → ℕ → (I → Option (List ℕ)) → Systems Y F I → Form
+abbrev pub PerformsText : {F I M Y : Type 0} → ℕ → (I → Option (List ℕ)) → Systems Y F I M → Form
     → Option (List ℕ) → (input : Option (List ℕ)) → (old new : Y) → (start end : Option (List ℕ))
     → Result Unit Fault → Type 0
 PerformsText w remaining y form (Some name) input old new start end result =
-    (y.calls new ≡ (InTurn, name) ∷ y.calls old)
+    (y.calls new ≡ (InTurn, name, []) ∷ y.calls old)
     × (Refuses start end result ⊎ WritesFile w remaining y form name start end result)
 PerformsText w remaining y form None input old new start end result =
     (new ≡ old) × (Refuses start end result ⊎ WritesText w form input start end result)
@@ -117,14 +118,14 @@ Takes most file start end result done =
     IsNotTaken most file start end result ⊎ IsTaken most file done
 
 -- the file that came is read at places
-pub record OfFile {F I Y : Type 0} (y : Systems Y F I) (name : List ℕ) (done : F → Type 0) : Type 0
+pub record OfFile {F I M Y : Type 0} (y : Systems Y F I M) (name : List ℕ) (done : F → Type 0) : Type 0
   where
     pub file : F
     pub came : y.gives name file
     pub does : done file
 
 -- it is taken into memory
-pub record OfStream {F I Y : Type 0} (remaining : I → Option (List ℕ)) (y : Systems Y F I)
+pub record OfStream {F I M Y : Type 0} (remaining : I → Option (List ℕ)) (y : Systems Y F I M)
     (name : List ℕ) (most : ℕ) (start end : Option (List ℕ)) (result : Result Unit Fault)
     (done : MemStore → Type 0) : Type 0 where
   pub file : I
@@ -133,13 +134,13 @@ pub record OfStream {F I Y : Type 0} (remaining : I → Option (List ℕ)) (y : 
 
 -- that file alone is opened, once it was seen whether it is a stream; or none, if standard input is
 -- read
-abbrev pub PerformsOn : {F I Y : Type 0} → Ghosts F → (I → Option (List ℕ)) → Systems Y F I
+abbrev pub PerformsOn : {F I M Y : Type 0} → Ghosts F → (I → Option (List ℕ)) → Systems Y F I M
     → (most : ℕ) → (name : Option (List ℕ)) → (input : Option (List ℕ)) → (old new : Y)
     → (start end : Option (List ℕ)) → Result Unit Fault → (F → Type 0) → (MemStore → Type 0) → Type 0
 PerformsOn s remaining y most (Some name) input old new start end result file taken =
-    ((y.calls new ≡ (AtPlaces, name) ∷ (Stream false, name) ∷ y.calls old)
+    ((y.calls new ≡ (AtPlaces, name, []) ∷ (Stream false, name, []) ∷ y.calls old)
     × (Refuses start end result ⊎ OfFile y name file))
-    ⊎ ((y.calls new ≡ (InTurn, name) ∷ (Stream true, name) ∷ y.calls old)
+    ⊎ ((y.calls new ≡ (InTurn, name, []) ∷ (Stream true, name, []) ∷ y.calls old)
     × (Refuses start end result ⊎ OfStream remaining y name most start end result taken))
 PerformsOn s remaining y most None input old new start end result file taken =
     (new ≡ old) × Takes most input start end result taken
@@ -151,36 +152,42 @@ pub record WritesUsage (start end : Option (List ℕ)) (result : Result Unit Fau
   pub ok : OnOk result (Appends start end usage_text)
   pub err : IfErr result (λ fault. (fault ≡ Output) × AppendsFront start end usage_text)
 
--- ---- each command, in words of w bytes of files of at most so many; nothing is claimed of a create
-abbrev pub Performs : {F I Y : Type 0} → (w most : ℕ) → Ghosts F → (I → Option (List ℕ))
-    → Systems Y F I → Asked → (input : Option (List ℕ)) → (old new : Y)
-    → (start end : Option (List ℕ)) → Result Unit Fault → Type 0
-Performs w most s remaining y (asked.Query name key number lines wide) input old new start end result =
+-- ---- each command, in words of w bytes of files of at most so many; of a create its parts have their
+-- contracts, and nothing is claimed of the whole
+abbrev pub Performs : {F I M Y : Type 0} → (w most : ℕ) → Ghosts F → Ghosts M
+    → (I → Option (List ℕ)) → Systems Y F I M → Asked → (input : Option (List ℕ)) → (old new : Y)
+    → (was now : NameCalls) → (start end told said : Option (List ℕ)) → Result Unit Fault → Type 0
+Performs w most s m remaining y (asked.Query name key number lines wide) input old new was now start end
+    told said result =
     PerformsQuery w s y name (record { key = key; number = number; lines = lines }) old new start end
     result
-Performs w most s remaining y (asked.Dump name style wide) input old new start end result =
+Performs w most s m remaining y (asked.Dump name style wide) input old new was now start end told said
+    result =
     PerformsText w remaining y (dump_form style) name input old new start end result
-Performs w most s remaining y (asked.Listing name style wide) input old new start end result =
+Performs w most s m remaining y (asked.Listing name style wide) input old new was now start end told said
+    result =
     PerformsText w remaining y (list_form style) name input old new start end result
-Performs w most s remaining y (asked.Stats name wide) input old new start end result =
+Performs w most s m remaining y (asked.Stats name wide) input old new was now start end told said result =
     PerformsOn s remaining y most name input old new start end result
     (TellsStore w start end result s) (TellsStore w start end result in_memory)
-Performs w most s remaining y (asked.Check name wide) input old new start end result =
+Performs w most s m remaining y (asked.Check name wide) input old new was now start end told said result =
     PerformsOn s remaining y most name input old new start end result
     (ChecksStore w start end result s) (ChecksStore w start end result in_memory)
-Performs w most s remaining y (asked.Create name base inputs temporary options wide) input old new
-    start end result = ⊤
-Performs w most s remaining y asked.Help input old new start end result =
+Performs w most s m remaining y (asked.Create name base inputs temporary options wide) input old new was
+    now start end told said result =
+    ⊤
+Performs w most s m remaining y asked.Help input old new was now start end told said result =
     (new ≡ old) × WritesUsage start end result
 
 -- in words of 8 bytes or of 4
-abbrev pub PerformsIn : {F I Y : Type 0} → (wide : Bool) → Ghosts F → (I → Option (List ℕ))
-    → Systems Y F I → Asked → (input : Option (List ℕ)) → (old new : Y)
-    → (start end : Option (List ℕ)) → Result Unit Fault → Type 0
-PerformsIn true s remaining y command input old new start end result =
-    Performs 8 9223372036854775807 s remaining y command input old new start end result
-PerformsIn false s remaining y command input old new start end result =
-    Performs 4 4294967295 s remaining y command input old new start end result
+abbrev pub PerformsIn : {F I M Y : Type 0} → (wide : Bool) → Ghosts F → Ghosts M
+    → (I → Option (List ℕ)) → Systems Y F I M → Asked → (input : Option (List ℕ)) → (old new : Y)
+    → (was now : NameCalls) → (start end told said : Option (List ℕ)) → Result Unit Fault → Type 0
+PerformsIn true s m remaining y command input old new was now start end told said result =
+    Performs 8 9223372036854775807 s m remaining y command input old new was now start end told said
+    result
+PerformsIn false s m remaining y command input old new was now start end told said result =
+    Performs 4 4294967295 s m remaining y command input old new was now start end told said result
 
 -- ---- the end of a command
 
@@ -193,32 +200,31 @@ pub record HandsOn (end final : Option (List ℕ)) (answer result : Result Unit 
   pub answered : (result ≡ answer) ⊎ (IsOk answer × (result ≡ Err Output))
 
 -- the command was performed, and what it wrote was handed on
-pub record Does {F I Y : Type 0} (s : Ghosts F) (remaining : I → Option (List ℕ)) (y : Systems Y F I)
-    (command : Asked) (input : Option (List ℕ)) (old new : Y) (start final : Option (List ℕ))
-    (result : Result Unit Fault) : Type 0 where
+pub record Does {F I M Y : Type 0} (s : Ghosts F) (m : Ghosts M) (remaining : I → Option (List ℕ))
+    (y : Systems Y F I M) (command : Asked) (input : Option (List ℕ)) (old new : Y)
+    (was now : NameCalls) (start final told said : Option (List ℕ)) (result : Result Unit Fault)
+    : Type 0 where
   pub end : Option (List ℕ)
   pub answer : Result Unit Fault
-  pub performs : PerformsIn (has_wide_words command) s remaining y command input old new start end
-      answer
+  pub performs : PerformsIn (has_wide_words command) s m remaining y command input old new was now
+      start end told said answer
   pub hands : HandsOn end final answer result
 
--- ---- what is said on standard error
+-- ---- only a create calls anything on names, and says anything before it ends: its duplicates
+abbrev pub IsUntouched : {T : Type 0} → Asked → (old new : T) → Type 0
+IsUntouched (asked.Create name base inputs temporary options wide) old new = ⊤
+IsUntouched command old new = new ≡ old
 
--- only a create says anything before it ends: its duplicates
-abbrev pub IsSilent : {E : Type 0} → Asked → (old new : E) → Type 0
-IsSilent (asked.Create name base inputs temporary options wide) old new = ⊤
-IsSilent command old new = new ≡ old
+-- ---- what is said on standard error
 
 -- the line of words that ask for nothing
 abbrev pub usage_line : Usage → List ℕ
 usage_line usage = codes "cdb: " ++ (usage_message usage ++ codes "\n")
 
--- the line of a fault is said, as far as standard error takes it, and nothing of a success; of a
--- create nothing is claimed
-abbrev pub Says : Asked → Result Unit Fault → (told said : Option (List ℕ)) → Type 0
-Says (asked.Create name base inputs temporary options wide) result told said = ⊤
-Says command (Ok done) told said = Keeps told said
-Says command (Err fault) told said = AppendsFront told said (fault_line fault)
+-- the line of a fault is said, as far as standard error takes it, and nothing of a success
+abbrev pub Says : Result Unit Fault → (told said : Option (List ℕ)) → Type 0
+Says (Ok done) told said = Keeps told said
+Says (Err fault) told said = AppendsFront told said (fault_line fault)
 
 -- ---- the program
 
@@ -233,30 +239,35 @@ status_of command (Err fault) = exit_status command fault
 
 -- the words ask for nothing, or memory for them was refused
 pub record AsksNothing {Y : Type 0} (planned : Result Asked Usage) (old new : Y)
-    (start end told said : Option (List ℕ)) (status : ℕ) : Type 0 where
+    (was now : NameCalls) (start end told said : Option (List ℕ)) (status : ℕ) : Type 0 where
   pub usage : Usage
   pub why : (usage ≡ NoMemory) ⊎ (planned ≡ Err usage)
   pub line : AppendsFront told said (usage_line usage)
   pub untouched : new ≡ old
+  pub same : now ≡ was
   pub kept : Keeps start end
   pub is_status : status ≡ usage_status usage
 
--- the command that they ask for was performed
-pub record AsksFor {F I Y : Type 0} (s : Ghosts F) (remaining : I → Option (List ℕ))
-    (y : Systems Y F I) (planned : Result Asked Usage) (input : Option (List ℕ)) (old new : Y)
-    (start final told said : Option (List ℕ)) (status : ℕ) : Type 0 where
+-- the command that they ask for was performed, and then its fault was said
+pub record AsksFor {F I M Y : Type 0} (s : Ghosts F) (m : Ghosts M) (remaining : I → Option (List ℕ))
+    (y : Systems Y F I M) (planned : Result Asked Usage) (input : Option (List ℕ)) (old new : Y)
+    (was now : NameCalls) (start final told said : Option (List ℕ)) (status : ℕ) : Type 0 where
   pub command : Command
   pub asks : planned ≡ Ok (asked_in command)
   pub result : Result Unit Fault
-  pub says : Says (asked_in command) result told said
-  pub does : Does s remaining y (asked_in command) input old new start final result
+  pub before : Option (List ℕ)
+  pub does : Does s m remaining y (asked_in command) input old new was now start final told before
+      result
+  pub silent : IsUntouched (asked_in command) told before
+  pub same : IsUntouched (asked_in command) was now
+  pub says : Says result before said
   pub is_status : status ≡ status_of command result
 
 -- from its words to its exit status: what was written, what standard output has of it, and what is
 -- said on standard error
-abbrev pub Runs : {F I Y : Type 0} → Ghosts F → (I → Option (List ℕ)) → Systems Y F I
+abbrev pub Runs : {F I M Y : Type 0} → Ghosts F → Ghosts M → (I → Option (List ℕ)) → Systems Y F I M
     → (planned : Result Asked Usage) → (input : Option (List ℕ)) → (old new : Y)
-    → (start end final : Option (List ℕ)) → (told said : Option (List ℕ)) → (status : ℕ) → Type 0
-Runs s remaining y planned input old new start end final told said status =
-    AsksNothing planned old new start end told said status
-    ⊎ AsksFor s remaining y planned input old new start final told said status
+    → (was now : NameCalls) → (start end final told said : Option (List ℕ)) → (status : ℕ) → Type 0
+Runs s m remaining y planned input old new was now start end final told said status =
+    AsksNothing planned old new was now start end told said status
+    ⊎ AsksFor s m remaining y planned input old new was now start final told said status

@@ -1,46 +1,79 @@
 //! The program `cdb`: makes constant databases.
 #![tactic(auto)]
 
+mod contents;
 mod creating;
-mod files;
+mod inputs;
+mod making;
 mod open_trace;
 mod performing;
+mod placing;
 mod reading;
 mod real_system;
-mod source;
 mod steps;
 mod system;
 mod telling;
 
 use crate::real_system::{LAST_STANDARD, RealSystem};
+use cdb_files::RealNames;
 use cdb_form::PIPE;
 use cdb_tool::{Output, Usage};
 use std::fs::File;
-use std::io::{ErrorKind, Stdout};
+use std::io::{ErrorKind, Stderr, Stdout};
 use std::os::fd::AsRawFd;
 use std::process::ExitCode;
+
+/// How many bytes of lines on standard error are held before they are written.
+const LINES: usize = 4096;
 
 /// The device that takes all and gives nothing.
 const NULL: &str = "/dev/null";
 
 fn main(rt: HostRuntime) -> ExitCode {
     let _held = all_held(&rt);
-    let mut errors = rt.stderr();
     let status = match begun(&rt) {
-        Ok((words, mut output)) => {
+        Ok(beginning) => {
+            let Beginning {
+                words,
+                mut output,
+                mut errors,
+            } = beginning;
             let mut system = RealSystem::new(&rt);
-            let input = rt.stdin();
-            steps::run(&rt, &mut system, words, input, &mut output, &mut errors)
+            let mut names = RealNames::new(&rt);
+            let (alloc, input) = (rt.alloc(), rt.stdin());
+            steps::run(
+                alloc,
+                &mut system,
+                &mut names,
+                words,
+                input,
+                &mut output,
+                &mut errors,
+            )
         }
-        Err(usage) => telling::refuse(&usage, &mut errors),
+        Err(usage) => telling::refuse(&usage, &mut rt.stderr()),
     };
     ExitCode::from(status)
 }
 
-/// The words of the command line, and standard output with its buffer.
-fn begun(rt: &HostRuntime) -> Result<(Vec<String>, Output<Stdout>), Usage> {
-    let words = words_of(rt)?;
-    Ok((words, Output::new(rt.alloc(), rt.stdout(), PIPE)?))
+/// What a command begins with.
+struct Beginning {
+    /// The words of the command line.
+    words: Vec<String>,
+    /// Standard output with its buffer.
+    output: Output<Stdout>,
+    /// Standard error with its buffer, for the lines of duplicates.
+    errors: Output<Stderr>,
+}
+
+/// The words of the command line, and the standard streams that are written, with their buffers.
+fn begun(rt: &HostRuntime) -> Result<Beginning, Usage> {
+    let alloc = rt.alloc();
+    Ok(Beginning {
+        words: words_of(rt)?,
+        output: Output::new(alloc, rt.stdout(), PIPE)?,
+        errors: Output::new(alloc, rt.stderr(), LINES)?,
+    })
 }
 
 /// What holds the places of the standard streams that are closed. If the first file that is opened

@@ -1,17 +1,17 @@
 // Each command, with words of one width.
 ghost use Rattle.cdb_tool.specs.Command.{asked_in, FitsIn};
 ghost use Rattle.cdb_form.specs.Format.Pair.{head_size};
-ghost use Rattle.cdb.specs.Performs.{IsSilent, Performs, WritesUsage};
+ghost use Rattle.cdb.specs.Performs.{IsUntouched, Performs, WritesUsage};
 
 use crate::creating::{Creation, create};
 use crate::reading::{check, query, stats, text};
 use crate::system::System;
+use cdb_files::Names;
 use cdb_form::Width;
 use cdb_store::Store;
 use cdb_tool::{Command, Content, Fault, flushed, write_usage};
-use std::fs::File;
+use std::alloc::Global;
 use std::io::{Read, Write};
-use std::rt::Files;
 
 /// Writes how the program is called.
 fn help<O: Write>(output: &mut O) -> Result<(), Fault>
@@ -22,9 +22,10 @@ fn help<O: Write>(output: &mut O) -> Result<(), Fault>
 }
 
 /// Performs a command, with words as wide as `L` says.
-pub(crate) fn perform_in<L, R, F, J, Y, I, O, E>(
-    rt: &R,
+pub(crate) fn perform_in<L, F, J, M, Y, N, I, O, E>(
+    alloc: Global,
     system: &mut Y,
+    names: &mut N,
     command: &Command,
     input: I,
     output: &mut O,
@@ -32,20 +33,23 @@ pub(crate) fn perform_in<L, R, F, J, Y, I, O, E>(
 ) -> Result<(), Fault>
 where
     L: Width,
-    R: Files<File = File> + AllocGlobal,
     F: Store + Drop,
     J: Read + Drop,
-    Y: System<F, J>,
+    M: Store + Drop,
+    Y: System<F, J, M>,
+    N: Names,
     I: Read + Drop,
     O: Write,
     E: Write,
     requires { FitsIn (head_size L.WORD) L.GREATEST (asked_in command.now) }
-    ensures performs { Performs L.WORD L.GREATEST F.Store J.remaining Y.System (asked_in command.now)
-        (I.remaining input) system.old system.new
-        (O.contents output.old) (O.contents output.new) result }
-    ensures silent { IsSilent (asked_in command.now) errors.old errors.new }
+    ensures performs { Performs L.WORD L.GREATEST F.Store M.Store J.remaining Y.System
+        (asked_in command.now) (I.remaining input) system.old system.new
+        (N.calls names.old) (N.calls names.new) (O.contents output.old) (O.contents output.new)
+        (E.contents errors.old) (E.contents errors.new) result }
+    ensures silent { IsUntouched (asked_in command.now)
+        (E.contents errors.old) (E.contents errors.new) }
+    ensures same { IsUntouched (asked_in command.now) (N.calls names.old) (N.calls names.new) }
 {
-    let alloc = rt.alloc();
     match command {
         Command::Query {
             name,
@@ -53,17 +57,32 @@ where
             number,
             lines,
             ..
-        } => query::<L, F, J, Y, O>(system, name.as_str(), key.as_str(), *number, *lines, output),
+        } => query::<L, F, J, M, Y, O>(
+            system,
+            name.as_str(),
+            key.as_str(),
+            *number,
+            *lines,
+            output,
+        ),
         Command::Dump { name, style, .. } => {
-            text::<L, F, J, Y, I, O>(alloc, system, Content::Records, name, *style, input, output)
+            text::<L, F, J, M, Y, I, O>(
+                alloc,
+                system,
+                Content::Records,
+                name,
+                *style,
+                input,
+                output,
+            )
         }
         Command::List { name, style, .. } => {
-            text::<L, F, J, Y, I, O>(alloc, system, Content::Keys, name, *style, input, output)
+            text::<L, F, J, M, Y, I, O>(alloc, system, Content::Keys, name, *style, input, output)
         }
         Command::Stats { name, .. } => {
-            stats::<L, F, J, Y, I, O>(alloc, system, name, input, output)
+            stats::<L, F, J, M, Y, I, O>(alloc, system, name, input, output)
         }
-        Command::Check { name, .. } => check::<L, F, J, Y, I>(alloc, system, name, input),
+        Command::Check { name, .. } => check::<L, F, J, M, Y, I>(alloc, system, name, input),
         Command::Create {
             name,
             base,
@@ -74,12 +93,14 @@ where
         } => {
             let creation = Creation {
                 name: name.as_str(),
-                base: base.as_deref(),
+                base,
                 inputs: inputs.as_slice(),
-                temporary: temporary.as_deref(),
+                temporary,
                 options: *options,
             };
-            create::<L, R, F, J, Y, I, O, E>(rt, system, creation, input, output, errors)
+            create::<L, F, J, M, Y, N, I, O, E>(
+                alloc, system, names, creation, input, output, errors,
+            )
         }
         Command::Help => help(output),
     }

@@ -19,7 +19,7 @@ use std::alloc::Global;
 use std::io::{Read, Write};
 
 /// Writes the values of a key, which are counted from 1.
-pub(crate) fn query<L, F, J, Y, O>(
+pub(crate) fn query<L, F, J, M, Y, O>(
     system: &mut Y,
     name: &str,
     key: &str,
@@ -31,7 +31,8 @@ where
     L: Width,
     F: Store + Drop,
     J: Read + Drop,
-    Y: System<F, J>,
+    M: Store + Drop,
+    Y: System<F, J, M>,
     O: Write,
     requires { IfSome number (λ n. 1 ≤ n) }
     ensures { PerformsQuery L.WORD F.Store Y.System name.now
@@ -62,7 +63,7 @@ fn write_text<L: Width, I: Read + Drop, O: Write>(
 }
 
 /// Writes the text of a file, or of standard input.
-pub(crate) fn text<L, F, J, Y, I, O>(
+pub(crate) fn text<L, F, J, M, Y, I, O>(
     alloc: Global,
     system: &mut Y,
     content: Content,
@@ -75,7 +76,8 @@ where
     L: Width,
     F: Store + Drop,
     J: Read + Drop,
-    Y: System<F, J>,
+    M: Store + Drop,
+    Y: System<F, J, M>,
     I: Read + Drop,
     O: Write,
     ensures { PerformsText L.WORD J.remaining Y.System (form_of content style)
@@ -115,7 +117,7 @@ fn stats_of_stream<L: Width, I: Read + Drop, O: Write>(
 }
 
 /// Writes the statistics of a file, or of a stream: standard input, a pipe or a device.
-pub(crate) fn stats<L, F, J, Y, I, O>(
+pub(crate) fn stats<L, F, J, M, Y, I, O>(
     alloc: Global,
     system: &mut Y,
     name: &Option<String>,
@@ -126,7 +128,8 @@ where
     L: Width,
     F: Store + Drop,
     J: Read + Drop,
-    Y: System<F, J>,
+    M: Store + Drop,
+    Y: System<F, J, M>,
     I: Read + Drop,
     O: Write,
     ensures { PerformsOn F.Store J.remaining Y.System L.GREATEST
@@ -158,7 +161,7 @@ fn check_of_stream<L: Width, I: Read + Drop>(alloc: Global, input: I) -> Result<
 }
 
 /// Checks a file, or a stream: standard input, a pipe or a device. Nothing is written.
-pub(crate) fn check<L, F, J, Y, I>(
+pub(crate) fn check<L, F, J, M, Y, I>(
     alloc: Global,
     system: &mut Y,
     name: &Option<String>,
@@ -168,7 +171,8 @@ where
     L: Width,
     F: Store + Drop,
     J: Read + Drop,
-    Y: System<F, J>,
+    M: Store + Drop,
+    Y: System<F, J, M>,
     I: Read + Drop,
     ensures { (known : Option (List ℕ)) → PerformsOn F.Store J.remaining Y.System L.GREATEST
         (option_map string_bytes name.now) (I.remaining input) system.old system.new known known

@@ -6,9 +6,10 @@ use crate::open_trace::{OpenCall, OpenTrace};
 use crate::system::System;
 use cdb_store::{FileStore, StoreFault};
 use cdb_tool::Fault;
-use std::fs::{self, File};
+use std::fs::{self, File, Metadata};
 use std::io::{self, ErrorKind};
 use std::os::fd::AsRawFd;
+use std::os::unix::fs::MetadataExt;
 use std::rt::Files;
 
 /// The greatest number of a standard stream.
@@ -43,28 +44,26 @@ fn open_fault(error: &io::Error) -> Fault
     Fault::Open
 }
 
-impl<'a, R: Files<File = File>> System<FileStore, File> for RealSystem<'a, R> {
+impl<'a, R: Files<File = File>> System<FileStore, File, FileStore> for RealSystem<'a, R> {
     ghost calls = { λ s. s.trace.events };
 
     ghost gives = { λ _ _. Unit {0} };
 
     ghost reads = { λ _ _. Unit {0} };
 
+    ghost makes = { λ _ _. Unit {0} };
+
     fn open_store(&mut self, name: &str) -> Result<FileStore, Fault> {
-        self.trace.note(&OpenCall::AtPlaces, name.as_bytes());
+        self.trace.note(&OpenCall::AtPlaces, name.as_bytes(), b"");
         if is_stream(self.rt, name) {
             return Err(Fault::Open);
         }
-        match FileStore::open(self.rt, name) {
-            Ok(store) => Ok(store),
-            Err(StoreFault::Device) => Err(Fault::Open),
-            Err(StoreFault::NoMemory) => Err(Fault::NoMemory),
-        }
+        FileStore::open(self.rt, name).map_err(store_fault)
     }
 
     /// The file is given up if it got the number of a standard stream that is closed.
     fn open(&mut self, name: &str) -> Result<File, Fault> {
-        self.trace.note(&OpenCall::InTurn, name.as_bytes());
+        self.trace.note(&OpenCall::InTurn, name.as_bytes(), b"");
         match File::open(self.rt, name) {
             Ok(file) if file.as_raw_fd() <= LAST_STANDARD => Err(Fault::Open),
             Ok(file) => Ok(file),
@@ -74,8 +73,38 @@ impl<'a, R: Files<File = File>> System<FileStore, File> for RealSystem<'a, R> {
 
     fn is_stream(&mut self, name: &str) -> bool {
         let is = is_stream(self.rt, name);
-        self.trace.note(&OpenCall::Stream(is), name.as_bytes());
+        self.trace.note(&OpenCall::Stream(is), name.as_bytes(), b"");
         is
+    }
+
+    fn is_same_file(&mut self, name: &str, other: &str) -> bool {
+        let is = is_one_file(fs::metadata(self.rt, name), fs::metadata(self.rt, other));
+        self.trace
+            .note(&OpenCall::Same(is), name.as_bytes(), other.as_bytes());
+        is
+    }
+
+    fn empty(&mut self, name: &str) -> Result<FileStore, Fault> {
+        self.trace.note(&OpenCall::Emptied, name.as_bytes(), b"");
+        FileStore::create_own(self.rt, name).map_err(store_fault)
+    }
+}
+
+/// Why a store was not opened.
+fn store_fault(fault: StoreFault) -> Fault
+    ensures { IsUnopened result }
+{
+    match fault {
+        StoreFault::Device => Fault::Open,
+        StoreFault::NoMemory => Fault::NoMemory,
+    }
+}
+
+/// Whether the same file was found twice.
+fn is_one_file(one: io::Result<Metadata>, two: io::Result<Metadata>) -> bool {
+    match (one, two) {
+        (Ok(one), Ok(two)) => one.dev() == two.dev() && one.ino() == two.ino(),
+        _ => false,
     }
 }
 

@@ -2,46 +2,82 @@
 ghost use Rattle.std.specs.Prelude.{◌≡◌, map, string_bytes};
 ghost use Rattle.cdb_tool.specs.Command.{asked_in, has_wide_words, IsInRange, plan_of};
 ghost use Rattle.cdb_tool.specs.Views.Output.{output_bytes};
-ghost use Rattle.cdb.specs.Performs.{Does, HandsOn, IsSilent, Runs};
+ghost use Rattle.cdb.specs.Performs.{Does, HandsOn, IsUntouched, Runs};
 
 use crate::performing::perform_in;
 use crate::system::System;
 use crate::telling::{refuse, tell};
+use cdb_files::Names;
 use cdb_form::{Narrow, Wide};
 use cdb_store::Store;
 use cdb_tool::{Command, DONE, Fault, Output, plan, status_of};
-use std::fs::File;
+use std::alloc::Global;
 use std::io::{Read, Write};
-use std::rt::Files;
 
 /// Does what the words ask for, of which the first is the program's name, and answers the exit
 /// status. A fault has its line on `errors`, as far as that takes it.
-pub(crate) fn run<R, F, J, Y, I, O, E>(
-    rt: &R,
+pub(crate) fn run<F, J, M, Y, N, I, O, E>(
+    alloc: Global,
     system: &mut Y,
+    names: &mut N,
+    words: Vec<String>,
+    input: I,
+    output: &mut Output<O>,
+    errors: &mut Output<E>,
+) -> u8
+where
+    F: Store + Drop,
+    J: Read + Drop,
+    M: Store + Drop,
+    Y: System<F, J, M>,
+    N: Names,
+    I: Read + Drop,
+    O: Write,
+    E: Write,
+    ensures { Runs F.Store M.Store J.remaining Y.System (plan_of (map string_bytes words.items))
+        (I.remaining input) system.old system.new (N.calls names.old) (N.calls names.new)
+        (output_bytes O.contents output.old)
+        (output_bytes O.contents output.new) (O.contents output.new.writer)
+        (output_bytes E.contents errors.old) (output_bytes E.contents errors.new) result }
+{
+    let status = answer::<F, J, M, Y, N, I, O, Output<E>>(
+        alloc, system, names, words, input, output, errors,
+    );
+    let _ = errors.flush();
+    status
+}
+
+/// Does what the words ask for, and answers the exit status. What is said stays where `errors` holds
+/// it.
+fn answer<F, J, M, Y, N, I, O, E>(
+    alloc: Global,
+    system: &mut Y,
+    names: &mut N,
     words: Vec<String>,
     input: I,
     output: &mut Output<O>,
     errors: &mut E,
 ) -> u8
 where
-    R: Files<File = File> + AllocGlobal,
     F: Store + Drop,
     J: Read + Drop,
-    Y: System<F, J>,
+    M: Store + Drop,
+    Y: System<F, J, M>,
+    N: Names,
     I: Read + Drop,
     O: Write,
     E: Write,
-    ensures { Runs F.Store J.remaining Y.System (plan_of (map string_bytes words.items))
-        (I.remaining input) system.old system.new (output_bytes O.contents output.old)
+    ensures { Runs F.Store M.Store J.remaining Y.System (plan_of (map string_bytes words.items))
+        (I.remaining input) system.old system.new (N.calls names.old) (N.calls names.new)
+        (output_bytes O.contents output.old)
         (output_bytes O.contents output.new) (O.contents output.new.writer)
         (E.contents errors.old) (E.contents errors.new) result }
 {
-    let command = match plan(rt.alloc(), words) {
+    let command = match plan(alloc, words) {
         Ok(command) => command,
         Err(usage) => return refuse(&usage, errors),
     };
-    match perform::<R, F, J, Y, I, O, E>(rt, system, &command, input, output, errors) {
+    match perform::<F, J, M, Y, N, I, O, E>(alloc, system, names, &command, input, output, errors) {
         Ok(()) => DONE,
         Err(fault) => {
             tell(&fault, errors);
@@ -51,33 +87,40 @@ where
 }
 
 /// Performs a command, in its width.
-fn perform<R, F, J, Y, I, O, E>(
-    rt: &R,
+fn perform<F, J, M, Y, N, I, O, E>(
+    alloc: Global,
     system: &mut Y,
+    names: &mut N,
     command: &Command,
     input: I,
     output: &mut Output<O>,
     errors: &mut E,
 ) -> Result<(), Fault>
 where
-    R: Files<File = File> + AllocGlobal,
     F: Store + Drop,
     J: Read + Drop,
-    Y: System<F, J>,
+    M: Store + Drop,
+    Y: System<F, J, M>,
+    N: Names,
     I: Read + Drop,
     O: Write,
     E: Write,
     requires { IsInRange (asked_in command.now) }
-    ensures does { Does F.Store J.remaining Y.System (asked_in command.now) (I.remaining input)
-        system.old system.new (output_bytes O.contents output.old)
-        (O.contents output.new.writer) result }
-    ensures silent { IsSilent (asked_in command.now) errors.old errors.new }
+    ensures does { Does F.Store M.Store J.remaining Y.System (asked_in command.now)
+        (I.remaining input) system.old system.new (N.calls names.old) (N.calls names.new)
+        (output_bytes O.contents output.old) (O.contents output.new.writer)
+        (E.contents errors.old) (E.contents errors.new) result }
+    ensures silent { IsUntouched (asked_in command.now)
+        (E.contents errors.old) (E.contents errors.new) }
+    ensures same { IsUntouched (asked_in command.now) (N.calls names.old) (N.calls names.new) }
 {
     let answer = if is_wide(command) {
-        perform_in::<Wide, R, F, J, Y, I, Output<O>, E>(rt, system, command, input, output, errors)
+        perform_in::<Wide, F, J, M, Y, N, I, Output<O>, E>(
+            alloc, system, names, command, input, output, errors,
+        )
     } else {
-        perform_in::<Narrow, R, F, J, Y, I, Output<O>, E>(
-            rt, system, command, input, output, errors,
+        perform_in::<Narrow, F, J, M, Y, N, I, Output<O>, E>(
+            alloc, system, names, command, input, output, errors,
         )
     };
     handed_on(output, answer)

@@ -4,6 +4,7 @@ ghost use Rattle.std.specs.Prelude.{◌≡◌};
 use crate::open_trace::{OpenCall, OpenTrace};
 use crate::steps::run;
 use crate::system::System;
+use cdb_files::RealNames;
 use cdb_form::{Narrow, PIPE};
 use cdb_store::MemStore;
 use cdb_tool::{Fault, Output, make_bytes};
@@ -34,15 +35,17 @@ impl OneFile<'_> {
     }
 }
 
-impl<'a> System<MemStore, &'a [u8]> for OneFile<'a> {
+impl<'a> System<MemStore, &'a [u8], MemStore> for OneFile<'a> {
     ghost calls = { λ s. s.trace.events };
 
     ghost gives = { λ _ _. Unit {0} };
 
     ghost reads = { λ _ _. Unit {0} };
 
+    ghost makes = { λ _ _. Unit {0} };
+
     fn open_store(&mut self, name: &str) -> Result<MemStore, Fault> {
-        self.trace.note(&OpenCall::AtPlaces, name.as_bytes());
+        self.trace.note(&OpenCall::AtPlaces, name.as_bytes(), b"");
         if self.fails() {
             return Err(Fault::Open);
         }
@@ -54,7 +57,7 @@ impl<'a> System<MemStore, &'a [u8]> for OneFile<'a> {
     }
 
     fn open(&mut self, name: &str) -> Result<&'a [u8], Fault> {
-        self.trace.note(&OpenCall::InTurn, name.as_bytes());
+        self.trace.note(&OpenCall::InTurn, name.as_bytes(), b"");
         if self.fails() {
             return Err(Fault::Open);
         }
@@ -63,8 +66,22 @@ impl<'a> System<MemStore, &'a [u8]> for OneFile<'a> {
 
     fn is_stream(&mut self, name: &str) -> bool {
         let is = self.is_stream;
-        self.trace.note(&OpenCall::Stream(is), name.as_bytes());
+        self.trace.note(&OpenCall::Stream(is), name.as_bytes(), b"");
         is
+    }
+
+    fn is_same_file(&mut self, name: &str, other: &str) -> bool {
+        self.trace
+            .note(&OpenCall::Same(false), name.as_bytes(), other.as_bytes());
+        false
+    }
+
+    fn empty(&mut self, name: &str) -> Result<MemStore, Fault> {
+        self.trace.note(&OpenCall::Emptied, name.as_bytes(), b"");
+        if self.fails() {
+            return Err(Fault::Open);
+        }
+        Ok(MemStore::new(self.alloc))
     }
 }
 
@@ -97,10 +114,21 @@ fn answer(
     };
     let words = words_of(alloc, line)?;
     let (mut output, mut errors) = (Vec::new(alloc), Vec::new(alloc));
-    let mut buffered = Output::new(alloc, &mut output, PIPE)?;
+    let mut written = Output::new(alloc, &mut output, PIPE)?;
+    let mut told = Output::new(alloc, &mut errors, PIPE)?;
     let input: &[u8] = b"";
-    let status = run(rt, &mut system, words, input, &mut buffered, &mut errors);
-    drop(buffered);
+    let mut names = RealNames::new(rt);
+    let status = run(
+        alloc,
+        &mut system,
+        &mut names,
+        words,
+        input,
+        &mut written,
+        &mut told,
+    );
+    drop(written);
+    drop(told);
     let is_told = errors.as_slice() == "cdb: file cannot be opened\n".as_bytes();
     Ok((status, output, is_told))
 }

@@ -4,6 +4,7 @@ ghost use Rattle.std.specs.Prelude.{◌≤◌};
 use crate::creating::{Creation, create};
 use crate::real_system::RealSystem;
 use crate::steps::run;
+use cdb_files::RealNames;
 use cdb_form::{Narrow, PIPE};
 use cdb_make::{MakeFault, Mode};
 use cdb_tool::{Fault, MakeOptions, Output, Style};
@@ -88,7 +89,7 @@ fn script() -> [Row; 15] {
     ]
 }
 
-/// The words of a line, behind the program's name.
+/// The words of a line, after the program's name.
 fn words_of(alloc: Global, line: &str) -> Result<Vec<String>, AllocError> {
     let mut words = Vec::new(alloc);
     words
@@ -108,10 +109,21 @@ fn meets(rt: &HostRuntime, row: Row) -> Result<bool, AllocError> {
     let words = words_of(alloc, row.line)?;
     let (mut output, mut errors) = (Vec::new(alloc), Vec::new(alloc));
     let mut system = RealSystem::new(rt);
-    let mut buffered = Output::new(alloc, &mut output, PIPE)?;
+    let mut names = RealNames::new(rt);
+    let mut written = Output::new(alloc, &mut output, PIPE)?;
+    let mut told = Output::new(alloc, &mut errors, PIPE)?;
     let input = row.input;
-    let status = run(rt, &mut system, words, input, &mut buffered, &mut errors);
-    drop(buffered);
+    let status = run(
+        alloc,
+        &mut system,
+        &mut names,
+        words,
+        input,
+        &mut written,
+        &mut told,
+    );
+    drop(written);
+    drop(told);
     Ok(
         status == row.status
             && output.as_slice() == row.output.as_bytes()
@@ -151,17 +163,19 @@ fn within(rt: &HostRuntime, limit: u64) -> Result<(), Fault>
     };
     let creation = Creation {
         name: "z.store",
-        base: None,
+        base: &None,
         inputs: &[],
-        temporary: None,
+        temporary: &None,
         options,
     };
     let alloc = rt.alloc();
     let (mut output, mut errors) = (Vec::new(alloc), Vec::new(alloc));
     let mut system = RealSystem::new(rt);
-    create::<Narrow, _, _, _, _, _, _, _>(
-        rt,
+    let mut names = RealNames::new(rt);
+    create::<Narrow, _, _, _, _, _, _, _, _>(
+        alloc,
         &mut system,
+        &mut names,
         creation,
         TWICE,
         &mut output,

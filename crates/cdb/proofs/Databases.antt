@@ -1,0 +1,59 @@
+-- What a store has once a run over it succeeded, and what a run says whose lines were handed on.
+use Rattle.std.proofs.Common.{ℕ, List, Option, Some, None, Result, Ok, Err, ◌≡◌, ◌∙◌, inl, inr}
+use Rattle.std.specs.Prelude.{OnOk}
+use Rattle.std.specs.Io.KnownBytes.{Keeps}
+use Rattle.std.proofs.KnownBytes.{Keeps-trans}
+use Rattle.cdb_command.specs.Asked.{Asked}
+use Rattle.cdb_command.specs.declared.usage.Usage.{Usage}
+use Rattle.cdb_files.specs.Folder.{NameCalls}
+use Rattle.cdb_store.specs.declared.store.Store.{Ghosts}
+use Rattle.cdb_make.specs.Views.Maker.{WhereHonest}
+use Rattle.cdb_tool.specs.Message.{fault_line}
+use Rattle.cdb_tool.specs.Runs.Make.{HandsBack, OfBase, Makes}
+use Rattle.cdb_tool.specs.Runs.Make as run
+use Rattle.cdb_tool.specs.declared.fault.Fault.{Fault}
+use Rattle.cdb_tool.proofs.WholeRuns.{front_kept}
+use Rattle.cdb.specs.Creating.{Making, HasDatabase}
+use Rattle.cdb.specs.Performs.{Says, Runs, usage_line}
+use Rattle.cdb.specs.declared.system.System.{Ghosts as Systems}
+
+of_weaker : {F : Type 0} (f : Ghosts F) (base : Option F) (P Q : Option (List ℕ) → Type 0) → ((x : Option (List ℕ)) → P x → Q x) → OfBase f base P → OfBase f base Q
+of_weaker f None P Q g h = g None h
+of_weaker f (Some base) P Q g h = λ b is. g (Some b) (h b is)
+
+made_here : {F : Type 0} (m : Making F) (images : List ℕ → Type 0) (told said : Option (List ℕ)) (b : List ℕ) → images b → (x : Option (List ℕ)) → run.Runs m.word m.greatest m.options x m.inputs images told said (Ok tt)
+    → Makes m.word m.greatest m.options x m.inputs (λ c. c ≡ b) told said
+made_here m images told said b is x runs =
+    let made = runs.ok.made in
+    record { based = runs.ok.based; made = record { read = made.read; are = made.are; goes = made.goes; file = record { each = λ c e. e ∙ made.file.each b is } } }
+
+pub database_made : {F : Type 0} (f : Ghosts F) (m : Making F) (back : Option F) (images inner : List ℕ → Type 0) (told said : Option (List ℕ)) (made : Result Unit Fault) → HandsBack f m.base back
+    → WhereHonest images (OfBase f back (λ x. run.Runs m.word m.greatest m.options x m.inputs images told said made)) → OnOk made ((b : List ℕ) → inner b → images b) → OnOk made (HasDatabase f m inner)
+database_made f m back images inner told said (Ok done) hands runs in_image = λ b is.
+    let at : images b = in_image b is in
+    record { back = back; hands = hands; told = told; said = said; is = of_weaker f back _ _ (made_here m images told said b at) (runs.each b at) }
+database_made f m back images inner told said (Err fault) hands runs in_image = tt
+
+-- ---- the lines that were handed on
+
+says_kept : (result : Result Unit Fault) (told mid said : Option (List ℕ)) → Says result told mid → Keeps mid said → Says result told said
+says_kept (Ok done) told mid said h k = Keeps-trans told mid said h k
+says_kept (Err fault) told mid said h k = front_kept told mid said (fault_line fault) h k
+
+pub run_kept : {F I M Y : Type 0} (s : Ghosts F) (m : Ghosts M) (remaining : I → Option (List ℕ)) (y : Systems Y F I M) (planned : Result Asked Usage) (input : Option (List ℕ)) (old new : Y) (was now : NameCalls) (start end final told mid said : Option (List ℕ)) (status : ℕ)
+    → Runs s m remaining y planned input old new was now start end final told mid status → Keeps mid said → Runs s m remaining y planned input old new was now start end final told said status
+run_kept s m remaining y planned input old new was now start end final told mid said status h k = elim h as (λ _. Runs s m remaining y planned input old new was now start end final told said status) [
+  | inl none ↦ inl (record { usage = none.usage; why = none.why; line = front_kept told mid said (usage_line none.usage) none.line k; untouched = none.untouched; same = none.same; kept = none.kept; is_status = none.is_status })
+  | inr some ↦
+      inr (record {
+        command = some.command;
+        asks = some.asks;
+        result = some.result;
+        before = some.before;
+        does = some.does;
+        silent = some.silent;
+        same = some.same;
+        says = says_kept some.result some.before mid said some.says k;
+        is_status = some.is_status;
+      })
+]

@@ -1,0 +1,73 @@
+-- Files that are opened, and what is asked of them, one after the other.
+use Rattle.std.proofs.Common.{ℕ, ◌+◌, ◌<◌, List, [], ◌∷◌, ◌++◌, ◌≡◌, ◌⊎◌, inl, inr, refl, sym, ap, subst, ◌∙◌, map, take, drop, length, get_or, false, Result, Ok, Err}
+use Rattle.std.proofs.lemmas.List.{map_push, take_more, take-append-drop, map-append, drop_more}
+use Rattle.std.specs.Prelude.{OnOk}
+use Rattle.cdb_store.specs.Calls.{Calls}
+use Rattle.cdb_files.specs.declared.name_trace.NameCall.{NameCall}
+use Rattle.cdb_files.specs.declared.name_trace.NameCall.TheVariants.{Apart}
+use Rattle.cdb_tool.specs.declared.inputs.Turn.{Turn}
+use Rattle.cdb.specs.Creating.{AsksEach, AsksOne}
+use Rattle.cdb.specs.Inputs.{IsStandard, OpensInput, OpensEach, StopsOpening, MissesInput}
+use Rattle.cdb.specs.Opening.{OpenCalls}
+use Rattle.cdb.specs.declared.open_trace.OpenCall.{OpenCall}
+use Rattle.cdb.specs.declared.open_trace.OpenCall.TheVariants.{Same}
+use Rattle.cdb.specs.declared.system.System.{Ghosts as Systems}
+
+-- one input more
+pub opens_more : {F I M Y : Type 0} (y : Systems Y F I M) (names : List (List ℕ)) (turns : List (Turn I)) (name : List ℕ) (turn : Turn I) (old mid new : OpenCalls) → OpensEach y names turns old mid → OpensInput y name turn mid new → OpensEach y (names ++ name ∷ []) (turns ++ turn ∷ []) old new
+opens_more y [] [] name turn old mid new e is = (new, subst (λ v. OpensInput y name turn v new) e is, refl)
+opens_more y (n ∷ names) (t ∷ turns) name turn old mid new e is = (e.0, e.1, opens_more y names turns name turn e.0 mid new e.2 is)
+opens_more y [] (t ∷ turns) name turn old mid new e is = absurd e
+opens_more y (n ∷ names) [] name turn old mid new e is = absurd e
+
+-- it was asked whether a file that is read is another one
+abbrev pub same_file : (name file : List ℕ) → OpenCall × List ℕ × List ℕ
+same_file name file = (Same false, name, file)
+
+abbrev pub apart_file : (temporary file : List ℕ) → NameCall × List ℕ × List ℕ × Calls
+apart_file temporary file = (Apart, temporary, file, [])
+
+pub ok_and : {T E : Type 0} (A B : Type 0) (r : Result T E) → OnOk r A → OnOk r B → OnOk r (A × B)
+ok_and A B (Ok x) a b = (a, b)
+ok_and A B (Err e) a b = tt
+
+-- one file more is asked of
+pub asks_more : {C : Type 0} (ask : List ℕ → C) (names : List (List ℕ)) (name : List ℕ) (old mid new : List C) → AsksEach ask names old mid → AsksOne ask name mid new → AsksEach ask (names ++ name ∷ []) old new
+asks_more ask [] name old mid new e one = (new, subst (λ v. AsksOne ask name v new) e one, refl)
+asks_more ask (n ∷ names) name old mid new e one = (e.0, e.1, asks_more ask names name e.0 mid new e.2 one)
+
+-- ---- the first names, and one more
+
+pub names_more : {A : Type 0} (f : A → List ℕ) (names : List A) (i : ℕ) (r : A) (name : List ℕ) → i < length names → r ≡ get_or names i r → name ≡ f r → map f (take i names) ++ name ∷ [] ≡ map f (take (i + 1) names)
+names_more f names i r name lt is k =
+    ap (λ x. map f (take i names) ++ x ∷ []) k
+    ∙ sym (ap (map f) (take_more names i r lt ∙ ap (λ x. take i names ++ x ∷ []) (sym is)) ∙ map_push f (take i names) r)
+
+-- the names are the first ones and the others
+pub names_split : {A : Type 0} (f : A → List ℕ) (names : List A) (i : ℕ) → map f names ≡ map f (take i names) ++ map f (drop i names)
+names_split f names i = ap (map f) (sym (take-append-drop i names)) ∙ map-append f (take i names) (drop i names)
+
+-- an input was not opened
+pub stops_missed : {A F I M Y : Type 0} (y : Systems Y F I M) (f : A → List ℕ) (names : List A) (i : ℕ) (r : A) (name : List ℕ) (turns : List (Turn I)) (old mid new : OpenCalls) → i < length names → r ≡ get_or names i r → name ≡ f r → OpensEach y (map f (take i names)) turns old mid → MissesInput name mid new
+    → StopsOpening y (map f names) old new
+stops_missed y f names i r name turns old mid new lt is k opens misses = record {
+  opened = map f (take i names);
+  left = map f (drop i names);
+  are = names_split f names i;
+  turns = turns;
+  mid = mid;
+  opens = opens;
+  last = inr (f r, map f (drop (i + 1) names), ap (map f) (drop_more names i r lt ∙ ap (λ x. x ∷ drop (i + 1) names) (sym is)), subst (λ v. MissesInput v mid new) k misses);
+}
+
+-- an allocation failed after some were
+pub stops_after : {A F I M Y : Type 0} (y : Systems Y F I M) (f : A → List ℕ) (names : List A) (i : ℕ) (turns : List (Turn I)) (old new : OpenCalls) → OpensEach y (map f (take i names)) turns old new → StopsOpening y (map f names) old new
+stops_after y f names i turns old new opens = record {
+  opened = map f (take i names);
+  left = map f (drop i names);
+  are = names_split f names i;
+  turns = turns;
+  mid = new;
+  opens = opens;
+  last = inl refl;
+}

@@ -1,0 +1,13 @@
+use Rattle.std.proofs.lemmas.Result.{on_ok_weaker}
+use Rattle.cdb_store.proofs.OverLemmas.{over_emptied}
+use Rattle.cdb.specs.Contents.{making_of}
+use Rattle.cdb.proofs.Databases.{database_made}
+use Rattle.cdb.proofs.making.make_buffered.Goals as goal
+
+pub returns-in-Ok-clause-made : goal.returns-in-Ok-clause-made
+returns-in-Ok-clause-made g c =
+    let e = c.make_in-buffered.ensures in
+    let left = c.make_in-buffered.result.0 in
+    rw c.discard.ensures
+    (database_made g.F.Store (making_of g.L.Width.WORD g.L.Width.GREATEST g.J.Read.remaining g.I.Read.remaining c.args.contents) e.back _ (g.S.Store.image left.inner) _ _ c.make_in-buffered.result.1 e.hands e.runs
+    (on_ok_weaker c.make_in-buffered.result.1 (λ settled. (over_emptied left.pos left.buffer.items (g.S.Store.image left.inner) settled.0).no_other) e.settled))

@@ -1,0 +1,17 @@
+-- What a database is made of, as a clause reads it.
+use Rattle.std.specs.Prelude.{ℕ, List, Option}
+use Rattle.cdb_store.specs.declared.store.Store.{Ghosts}
+use Rattle.cdb_form.specs.declared.width.Width.{Ghosts as Widths}
+use Rattle.cdb_tool.specs.Views.Inputs.{inputs_left}
+use Rattle.cdb.specs.Creating.{Making}
+use Rattle.cdb.specs.declared.contents.Contents.{Contents}
+
+abbrev pub making_of : {L F J I : Type 0} {l : Widths L} → (word greatest : ℕ)
+    → (own : J → Option (List ℕ)) → (shared : I → Option (List ℕ)) → Contents L F J I l → Making F
+making_of word greatest own shared contents = record {
+  word = word;
+  greatest = greatest;
+  options = contents.options;
+  base = contents.base;
+  inputs = inputs_left own shared contents.inputs;
+}

@@ -1,0 +1,148 @@
+-- What a create makes of what it reads, and under which names. The newest call comes first.
+use Rattle.std.specs.Prelude.{ℕ, ◌≡◌, ◌⊎◌, true, false, List, [], ◌∷◌, ◌++◌, map, Option, Some, None, Result}
+use Rattle.std.specs.Prelude.{Ok, Err, OnOk, IfErr, codes}
+use Rattle.std.specs.Io.KnownBytes.{Keeps, Appends}
+use Rattle.cdb_command.specs.declared.options.MakeOptions.{MakeOptions}
+use Rattle.cdb_files.specs.Folder.{NameCalls}
+use Rattle.cdb_files.specs.Replacing.{AreOfReplacing, AtEachMoment, EndsIn, IsRenamed, LeavesNew}
+use Rattle.cdb_files.specs.Replacing.{LeavesOldOrNew}
+use Rattle.cdb_files.specs.declared.name_trace.NameCall.TheVariants as name_call
+use Rattle.cdb_files.specs.declared.replace.ReplaceFault.{ReplaceFault}
+use Rattle.cdb_files.specs.declared.replace.ReplaceFault.TheVariants as replace
+use Rattle.cdb_form.specs.Views.KnownBytes.{AppendsFront}
+use Rattle.cdb_store.specs.Contents.{contents}
+use Rattle.cdb_store.specs.contracts.memory.MemStoreStore.TheImpl.{ghosts as in_memory}
+use Rattle.cdb_store.specs.declared.memory.MemStore.{MemStore}
+use Rattle.cdb_store.specs.declared.store.Store.{Ghosts}
+use Rattle.cdb_make.specs.Views.Maker.{WhereHonest}
+use Rattle.cdb_tool.specs.Runs.Inputs.{InputsLeft}
+use Rattle.cdb_tool.specs.Runs.Make.{HandsBack, Makes, OfBase, Runs}
+use Rattle.cdb_tool.specs.declared.fault.Fault.{Fault}
+use Rattle.cdb_tool.specs.declared.fault.Fault.TheVariants.{Open, NoMemory, Output, Rename}
+use Rattle.cdb.specs.Inputs.{IsStandard}
+use Rattle.cdb.specs.Opening.{IsUnopened, OpenCalls}
+use Rattle.cdb.specs.declared.open_trace.OpenCall.TheVariants.{Emptied, Same}
+use Rattle.cdb.specs.declared.system.System.{Ghosts as Systems}
+
+-- ---- the database
+
+-- what it is made of: words of so many bytes, the greatest length of a file, the options, the base as
+-- it was opened, and what the inputs have
+pub record Making (F : Type 0) : Type 0 where
+  pub word : ℕ
+  pub greatest : ℕ
+  pub options : MakeOptions
+  pub base : Option F
+  pub inputs : InputsLeft
+
+-- these bytes are the database of them
+pub record IsDatabase {F : Type 0} (f : Ghosts F) (m : Making F) (b : List ℕ) : Type 0 where
+  pub back : Option F
+  pub hands : HandsBack f m.base back
+  pub told : Option (List ℕ)
+  pub said : Option (List ℕ)
+  pub is : OfBase f back
+      (λ x. Makes m.word m.greatest m.options x m.inputs (λ c. c ≡ b) told said)
+
+-- a store has it
+abbrev pub HasDatabase : {F : Type 0} → Ghosts F → Making F → (List ℕ → Type 0) → Type 0
+HasDatabase f m images = (b : List ℕ) → images b → IsDatabase f m b
+
+-- it was made in a store, which has this then: the lines that were said, and the answer
+pub record MakesIn {S F : Type 0} (s : Ghosts S) (f : Ghosts F) (m : Making F) (left : S)
+    (told said : Option (List ℕ)) (made : Result Unit Fault) : Type 0 where
+  pub back : Option F
+  pub hands : HandsBack f m.base back
+  pub runs : WhereHonest (s.image left) (OfBase f back (λ x.
+      Runs m.word m.greatest m.options x m.inputs (s.image left) told said made))
+  pub settled : OnOk made (s.settled left)
+
+-- ---- on standard output
+
+-- bytes are written, or a front of them
+pub record WritesAll (start end : Option (List ℕ)) (bytes : List ℕ) (result : Result Unit Fault)
+    : Type 0 where
+  pub ok : OnOk result (Appends start end bytes)
+  pub err : IfErr result (λ fault. (fault ≡ Output) × AppendsFront start end bytes)
+
+-- it is made in memory and written; or it is not made, and nothing is written
+pub record MakesOnOutput {F : Type 0} (f : Ghosts F) (m : Making F)
+    (start end told said : Option (List ℕ)) (result : Result Unit Fault) : Type 0 where
+  pub store : MemStore
+  pub made : Result Unit Fault
+  pub makes : MakesIn in_memory f m store told said made
+  pub written : OnOk made (WritesAll start end (contents store) result)
+  pub failed : IfErr made (λ fault. (result ≡ Err fault) × Keeps start end)
+
+-- ---- the files that are read are other ones
+
+-- something was asked of an input, unless it is standard input
+abbrev pub AsksOne : {C : Type 0} → (List ℕ → C) → List ℕ → (old new : List C) → Type 0
+AsksOne ask name old new =
+    (IsStandard name × (new ≡ old)) ⊎ ((IsStandard name → ⊥) × (new ≡ ask name ∷ old))
+
+-- of each input
+abbrev pub AsksEach : {C : Type 0} → (List ℕ → C) → List (List ℕ) → (old new : List C) → Type 0
+AsksEach ask [] old new = new ≡ old
+AsksEach {C = C} ask (name ∷ names) old new =
+    (mid : List C) × AsksOne ask name old mid × AsksEach ask names mid new
+
+abbrev pub AsksBase : {C : Type 0} → (List ℕ → C) → Option (List ℕ) → (old new : List C) → Type 0
+AsksBase ask None old new = new ≡ old
+AsksBase ask (Some name) old new = new ≡ ask name ∷ old
+
+abbrev pub AsksAll : {C : Type 0} → (List ℕ → C) → Option (List ℕ) → List (List ℕ)
+    → (old new : List C) → Type 0
+AsksAll {C = C} ask base inputs old new =
+    (mid : List C) × AsksBase ask base old mid × AsksEach ask inputs mid new
+
+-- the last one was answered yes
+abbrev pub FindsOne : {C : Type 0} → (List ℕ → C) → (new : List C) → Type 0
+FindsOne {C = C} found new = (file : List ℕ) × (before : List C) × (new ≡ found file ∷ before)
+
+-- ---- in place
+
+-- the file of the name was not opened; or it was emptied, and has the database if the create succeeds
+abbrev pub Empties : {F I M Y : Type 0} → Systems Y F I M → Ghosts F → Ghosts M → Making F
+    → (name : List ℕ) → Result Unit Fault → Type 0
+Empties {M = M} y f s m name result =
+    ((fault : Fault) × IsUnopened fault × (result ≡ Err fault))
+    ⊎ ((store : M) × y.makes name store
+    × ((left : M) × OnOk result (s.settled left × HasDatabase f m (s.image left))))
+
+-- a file that is read is the one of the name; or none is, as was asked of each, and it is emptied
+abbrev pub MakesInPlace : {F I M Y : Type 0} → Systems Y F I M → Ghosts F → Ghosts M → Making F
+    → (name : List ℕ) → (base : Option (List ℕ)) → (inputs : List (List ℕ)) → (old new : OpenCalls)
+    → Result Unit Fault → Type 0
+MakesInPlace y f s m name base inputs old new result =
+    (FindsOne (λ file. (Same true, name, file)) new × (result ≡ Err Open))
+    ⊎ ((mid : OpenCalls) × AsksAll (λ file. (Same false, name, file)) base inputs old mid
+    × (new ≡ (Emptied, name, []) ∷ mid) × Empties y f s m name result)
+
+-- ---- in a temporary file
+
+-- what a fault of a replacement is to the program
+abbrev pub fault_of : ReplaceFault Fault → Fault
+fault_of replace.Open = Open
+fault_of replace.NoMemory = NoMemory
+fault_of replace.Rename = Rename
+fault_of (replace.Build fault) = fault
+
+-- a file with the database replaces the one of the name, at once or not at all
+pub record Replaces {F : Type 0} (f : Ghosts F) (m : Making F) (temporary name : List ℕ)
+    (old new : NameCalls) (result : Result Unit Fault) : Type 0 where
+  pub calls : AreOfReplacing temporary name (IsDatabase f m) old new
+  pub moments : AtEachMoment (LeavesOldOrNew temporary name (IsDatabase f m) old) old new
+  pub ok : OnOk result (IsRenamed temporary name new × LeavesNew name (IsDatabase f m) new)
+  pub err : IfErr result (λ fault. (why : ReplaceFault Fault) × (fault ≡ fault_of why)
+      × EndsIn temporary name old new why)
+
+-- a file that is read has the temporary name; or none has, as was asked of each
+abbrev pub MakesApart : {F : Type 0} → Ghosts F → Making F → (temporary name : List ℕ)
+    → (base : Option (List ℕ)) → (inputs : List (List ℕ)) → (old new : NameCalls)
+    → Result Unit Fault → Type 0
+MakesApart f m temporary name base inputs old new result =
+    (FindsOne (λ file. (name_call.One, temporary, file, [])) new × (result ≡ Err Open))
+    ⊎ ((mid : NameCalls)
+    × AsksAll (λ file. (name_call.Apart, temporary, file, [])) base inputs old mid
+    × Replaces f m temporary name mid new result)

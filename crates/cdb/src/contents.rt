@@ -1,0 +1,22 @@
+// What a create reads, once it is opened.
+ghost use Rattle.std.specs.Prelude.{◌≤◌};
+ghost use Rattle.cdb_form.specs.Format.Pair.{head_size};
+
+use cdb_form::Width;
+use cdb_tool::{Inputs, MakeOptions};
+use std::marker::PhantomData;
+
+/// What a database is made of, with its files opened. Its limit is one of its width.
+#[derive(Drop)]
+pub(crate) struct Contents<L: Width, F, J, I> {
+    /// The base, if one is amended.
+    pub(crate) base: Option<F>,
+    /// The inputs, in their order.
+    pub(crate) inputs: Inputs<J, I>,
+    /// How it is made.
+    pub(crate) options: MakeOptions,
+    /// The width of its words.
+    pub(crate) width: PhantomData<L>,
+    ghost head: { head_size L.WORD ≤ options.limit },
+    ghost words: { options.limit ≤ L.GREATEST },
+}
