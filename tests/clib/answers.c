@@ -1,12 +1,13 @@
 /* Prints what libcdb answers on some files.
  *
- *     answers LIST
+ *     answers LIST [closed]
  *
  * Each line of LIST names a file and a file of keys; a key there is its length in four bytes,
  * lowest first, and its bytes. For a file it prints an answer to cdb_init, one to a walk, and four
  * to each key: all values, the first value, what cdb_seek and cdb_bread give, and the hash. An
  * answer is the status 0, 100 or 111 of the command, the number of its bytes, and the bytes.
- * A call that breaks its own page ends the program with status 1.
+ * A call that breaks its own page ends the program with status 1. With `closed` each call on a
+ * database that was closed is made too, of which tinycdb says nothing.
  */
 #include <cdb.h>
 #include <errno.h>
@@ -18,6 +19,7 @@
 
 static char *text;
 static size_t text_len, text_room;
+static int are_closed;
 
 static void fail(const char *what)
 {
@@ -149,6 +151,36 @@ static void seek(int fd, const void *key, unsigned klen)
   }
 }
 
+/* Each call that reads a database that is not open is -1 or null, with EPROTO. */
+static void want_closed(struct cdb *c)
+{
+  struct cdb_find search;
+  unsigned char byte;
+  unsigned pos;
+  cdb_seqinit(&pos, c);
+  want((errno = 0, cdb_get(c, 0, 0) == NULL) && errno == EPROTO, "cdb_get of no bytes, closed");
+  want((errno = 0, cdb_get(c, 1, 0) == NULL) && errno == EPROTO, "cdb_get of a byte, closed");
+  want((errno = 0, cdb_read(c, &byte, 1, 0) == -1) && errno == EPROTO, "cdb_read, closed");
+  want((errno = 0, cdb_find(c, "a", 1) == -1) && errno == EPROTO, "cdb_find, closed");
+  want((errno = 0, cdb_findinit(&search, c, "a", 1) == -1) && errno == EPROTO, "cdb_findinit, closed");
+  want((errno = 0, cdb_findnext(&search) == -1) && errno == EPROTO, "cdb_findnext, closed");
+  want((errno = 0, cdb_seqnext(&pos, c) == -1) && errno == EPROTO, "cdb_seqnext, closed");
+}
+
+/* Closes a database, while a search of a key is under way. */
+static void close_base(struct cdb *c, const void *key, unsigned klen)
+{
+  struct cdb_find search;
+  int said = cdb_findinit(&search, c, key, klen);
+  cdb_free(c);
+  want_closed(c);
+  if (said > 0) {
+    want((errno = 0, cdb_findnext(&search) == -1) && errno == EPROTO, "a search goes on");
+  }
+  cdb_free(c);
+  want_closed(c);
+}
+
 /* All answers on one file. */
 static void read_file(const char *name, const char *keys_name)
 {
@@ -178,7 +210,8 @@ static void read_file(const char *name, const char *keys_name)
     answer(0);
     free(key);
   }
-  if (said == 0) cdb_free(&c);
+  if (said == 0 && are_closed) close_base(&c, "one", 3);
+  else if (said == 0) cdb_free(&c);
   fclose(keys);
   close(fd);
 }
@@ -186,8 +219,9 @@ static void read_file(const char *name, const char *keys_name)
 int main(int many, char **words)
 {
   char name[512], keys[512];
-  FILE *list = many == 2 ? fopen(words[1], "r") : NULL;
-  want(list != NULL, "usage: answers LIST");
+  FILE *list = many == 2 || many == 3 ? fopen(words[1], "r") : NULL;
+  are_closed = many == 3 && strcmp(words[2], "closed") == 0;
+  want(list != NULL && are_closed == (many == 3), "usage: answers LIST [closed]");
   while (fscanf(list, "%511s %511s", name, keys) == 2) read_file(name, keys);
   fclose(list);
   free(text);

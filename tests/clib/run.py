@@ -4,8 +4,8 @@
     tests/clib/run.py ANSWERS FOLDER [PROGRAM]
 
 ANSWERS is answers.c, built; FOLDER has the library, libcdb.so.1; PROGRAM is the command. Without
-it the answers are compared with the plain ones of model.py alone. If valgrind is installed, some
-files are read once more under it.
+it the answers are compared with the plain ones of model.py alone. Each database is closed in the end,
+and what reads it is called once more. If valgrind is installed, some files are read once more under it.
 """
 
 import os
@@ -48,10 +48,10 @@ class Driver:
                     for key in keys:
                         to.write(len(key).to_bytes(4, "little") + key)
 
-    def answers(self, before=()):
+    def answers(self, before=(), after=()):
         """What it prints of the files in the list, and its status and errors."""
         return subprocess.run(
-            [*before, *self.words, "list"],
+            [*before, *self.words, "list", *after],
             cwd=self.folder, env=self.environment, capture_output=True, timeout=1800,
         )
 
@@ -78,10 +78,10 @@ def differences(files, said):
     return wrong if at == len(said) else wrong or [len(files)]
 
 
-def compare_plain(driver, files):
+def compare_plain(driver, files, after=()):
     """What the library answers, beside the plain answers."""
     driver.place(files)
-    done = driver.answers()
+    done = driver.answers(after=after)
     if done.returncode:
         return f"status {done.returncode}: {done.stderr.decode()}"
     wrong = differences(files, split(done.stdout))
@@ -129,7 +129,7 @@ def main(answers_path, library, program=None):
         files = list(files())
         with tempfile.TemporaryDirectory() as folder:
             driver = Driver(answers_path, library, folder)
-            tests = {"plain answers": lambda: compare_plain(driver, files)}
+            tests = {"plain answers": lambda: compare_plain(driver, files, ["closed"])}
             if program:
                 path = os.path.abspath(program)
                 tests["the command"] = lambda: compare_command(driver, path, files)

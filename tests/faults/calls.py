@@ -41,6 +41,13 @@ TESTS = {
         "a_list_of_a_map_tells_refused_memory",
         "a_load_tells_refused_memory",
         "inputs_tell_refused_memory",
+        "a_dump_tells_refused_memory",
+        "an_adding_run_tells_refused_memory",
+        "a_warning_run_tells_refused_memory",
+        "an_inserting_run_tells_refused_memory",
+        "a_replacing_run_tells_refused_memory",
+        "a_removal_from_a_base_tells_refused_memory",
+        "an_amended_base_tells_refused_memory",
     ],
 }
 ALIKE = {

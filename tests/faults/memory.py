@@ -6,7 +6,9 @@
 The library is refuse.c, built to be loaded ahead of the C library; it refuses nothing here. The two
 runs in a row of ALIKE make as many asks, of as many bytes. Each run of BOUNDED makes no more asks and
 asks for no more bytes than its row says. A vector that grows asks for twice as much each time, so
-all its asks together are for less than four times what it holds in the end.
+all its asks together are for less than four times what it holds in the end. Of the two runs in a row
+of FURTHER the second goes on where the first ends, and asks for no more bytes than the row says for
+what it does there.
 """
 
 import os
@@ -70,16 +72,25 @@ BOUNDED = {
     "a create of many records": (Command(["-c", "x"], text_of(records(20_000))), 10_000, 4 * 24 * 20_000 + 2 * SMALL),
     "a create of many inputs": (Command(["-c", "x", *INPUTS], b"", dict.fromkeys(INPUTS, b"\n")), 10_000, SMALL),
 }
+# A run that ends by a fault, one that goes on there, and the most bytes that it asks for behind it. A
+# finish has room for the slots of one table, here 374 of 32 bytes, and not for all 40,000.
+FURTHER = {
+    "the finish of a create": (
+        Command(["-c", "x"], text_of(records(20_000))[:-1]),
+        Command(["-c", "x"], text_of(records(20_000))),
+        20_000,
+    ),
+}
 
 
-def measure(program, command):
-    """How many asks a run makes, of how many bytes, or how else it ended."""
+def measure(program, command, status=0):
+    """How many asks a run makes, of how many bytes, or how else it ended than by this status."""
     with tempfile.TemporaryDirectory() as folder:
         for name, what in command.files.items():
             with open(os.path.join(folder, name), "wb") as file:
                 file.write(what)
         done, asks, size = program.measure(command.words, command.stdin, folder=folder)
-    if done.returncode != 0:
+    if done.returncode != status:
         return done.returncode, done.stderr
     return asks, size
 
@@ -99,6 +110,16 @@ def bound(program, name):
     return isinstance(size, int) and asks <= most_asks and size <= most_bytes
 
 
+def further(program, name):
+    """Says what the second run of a row asks for beyond the first, and whether that is no more than
+    its row says."""
+    before, after, most_bytes = FURTHER[name]
+    _, ended = measure(program, before, 111)
+    _, size = measure(program, after)
+    print(f"{name}: {ended} bytes before it, and {size} with it, at most {most_bytes} more")
+    return isinstance(ended, int) and isinstance(size, int) and size - ended <= most_bytes
+
+
 def main():
     if len(sys.argv) != 3:
         sys.exit(__doc__)
@@ -106,6 +127,7 @@ def main():
     resource.setrlimit(resource.RLIMIT_CORE, (0, 0))
     program = Refusing(os.path.abspath(sys.argv[1]), os.path.abspath(sys.argv[2]))
     passed = [compare(program, name) for name in ALIKE] + [bound(program, name) for name in BOUNDED]
+    passed += [further(program, name) for name in FURTHER]
     print(f"{sum(passed)} passed, {len(passed) - sum(passed)} failed")
     sys.exit(0 if all(passed) else 1)
 
