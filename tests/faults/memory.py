@@ -8,11 +8,12 @@ runs in a row of ALIKE make as many asks, of as many bytes. Each run of BOUNDED 
 asks for no more bytes than its row says. A vector that grows asks for twice as much each time, so
 all its asks together are for less than four times what it holds in the end. Of the two runs in a row
 of FURTHER the second goes on where the first ends, and asks for no more bytes than the row says for
-what it does there.
+what it does there. Each run of LIMITED succeeds with no more memory at once than its row says.
 """
 
 import os
 import resource
+import subprocess
 import sys
 import tempfile
 
@@ -47,7 +48,8 @@ def of_file(given, file):
     return Command(given, b"", {"x": file})
 
 
-# So many windows of 64 KiB would be 13 million bytes.
+# Each has a window of 64 KiB, which goes with it: all at once would be 13 million bytes.
+WINDOW = 65536
 INPUTS = [f"input{n}" for n in range(200)]
 SHORT_VALUE, LONG_VALUE = with_value(1), with_value(LONG)
 FEW, MANY = file_of(records(2_000)), file_of(records(20_000))
@@ -70,7 +72,7 @@ BOUNDED = {
     "a load of a short database": (Command(["-s"], SHORT_VALUE), 200, SMALL),
     "a load of a long database": (Command(["-s"], LONG_VALUE), 200, 4 * LONG + SMALL),
     "a create of many records": (Command(["-c", "x"], text_of(records(20_000))), 10_000, 4 * 24 * 20_000 + 2 * SMALL),
-    "a create of many inputs": (Command(["-c", "x", *INPUTS], b"", dict.fromkeys(INPUTS, b"\n")), 10_000, SMALL),
+    "a create of many inputs": (Command(["-c", "x", *INPUTS], b"", dict.fromkeys(INPUTS, b"\n")), 10_000, WINDOW * len(INPUTS) + SMALL),
 }
 # A run that ends by a fault, one that goes on there, and the most bytes that it asks for behind it. A
 # finish has room for the slots of one table, here 374 of 32 bytes, and not for all 40,000.
@@ -81,14 +83,23 @@ FURTHER = {
         20_000,
     ),
 }
+# A run, and the most memory that it may have at once, the program and its library too.
+LIMITED = {
+    "a create of many inputs": (Command(["-c", "x", *INPUTS], b"", dict.fromkeys(INPUTS, b"\n")), 8 * MILLION),
+}
+
+
+def fill(folder, command):
+    """Writes the files of a command."""
+    for name, what in command.files.items():
+        with open(os.path.join(folder, name), "wb") as file:
+            file.write(what)
 
 
 def measure(program, command, status=0):
     """How many asks a run makes, of how many bytes, or how else it ended than by this status."""
     with tempfile.TemporaryDirectory() as folder:
-        for name, what in command.files.items():
-            with open(os.path.join(folder, name), "wb") as file:
-                file.write(what)
+        fill(folder, command)
         done, asks, size = program.measure(command.words, command.stdin, folder=folder)
     if done.returncode != status:
         return done.returncode, done.stderr
@@ -120,6 +131,23 @@ def further(program, name):
     return isinstance(ended, int) and isinstance(size, int) and size - ended <= most_bytes
 
 
+def within(path, name):
+    """Says whether a run succeeds with no more memory at once than its row says."""
+    command, most_bytes = LIMITED[name]
+    with tempfile.TemporaryDirectory() as folder:
+        fill(folder, command)
+        done = subprocess.run(
+            [path, *command.words],
+            cwd=folder,
+            input=command.stdin,
+            capture_output=True,
+            preexec_fn=lambda: resource.setrlimit(resource.RLIMIT_AS, (most_bytes, most_bytes)),
+            timeout=60,
+        )
+    print(f"{name}: status {done.returncode} in {most_bytes} bytes at once")
+    return done.returncode == 0
+
+
 def main():
     if len(sys.argv) != 3:
         sys.exit(__doc__)
@@ -128,6 +156,7 @@ def main():
     program = Refusing(os.path.abspath(sys.argv[1]), os.path.abspath(sys.argv[2]))
     passed = [compare(program, name) for name in ALIKE] + [bound(program, name) for name in BOUNDED]
     passed += [further(program, name) for name in FURTHER]
+    passed += [within(program.program, name) for name in LIMITED]
     print(f"{sum(passed)} passed, {len(passed) - sum(passed)} failed")
     sys.exit(0 if all(passed) else 1)
 
