@@ -12,21 +12,29 @@ const KEYS: [&[u8]; 5] = [b"abg", b"ajo", b"arw", b"bnh", b"one"];
 /// Two values are longer than what a store holds back.
 const LONG: usize = 40_000;
 
-/// A record of each key, with a long value.
-fn long_records(alloc: Global, keys: &[&[u8]]) -> Result<Vec<Record>, Fail> {
+/// A record of a key, with a value of so many bytes.
+fn record_of(alloc: Global, key: &[u8], len: usize) -> Result<Record, Fail> {
+    let mut value = Vec::new(alloc);
+    value.resize(len, b'v')?;
+    Ok(Record {
+        key: Vec::from_slice(alloc, key)?,
+        value,
+    })
+}
+
+/// A record of each key, with a value of so many bytes.
+fn records_of(alloc: Global, keys: &[&[u8]], len: usize) -> Result<Vec<Record>, Fail> {
     let mut records = Vec::new(alloc);
     for key in keys {
-        records.push(Record {
-            key: Vec::from_slice(alloc, key)?,
-            value: vec![in alloc; b'v'; LONG]?,
-        })?;
+        let record = record_of(alloc, key, len)?;
+        records.push(record)?;
     }
     Ok(records)
 }
 
 /// How many calls of its store the database of a record of each key takes, and how long it is.
 fn calls_for(alloc: Global, keys: &[&[u8]]) -> Result<(u64, usize), Fail> {
-    let records = long_records(alloc, keys)?;
+    let records = records_of(alloc, keys, LONG)?;
     let store = FuseStore::new(MemStore::new(alloc), u64::MAX, 0);
     let (store, built) = Records::<Narrow>::new(alloc, &records).build(store);
     if built.is_err() {
