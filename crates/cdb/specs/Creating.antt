@@ -19,9 +19,7 @@ use Rattle.cdb_tool.specs.Runs.Inputs.{InputsLeft}
 use Rattle.cdb_tool.specs.Runs.Make.{HandsBack, Makes, OfBase, Runs}
 use Rattle.cdb_tool.specs.declared.fault.Fault.{Fault}
 use Rattle.cdb_tool.specs.declared.fault.Fault.TheVariants.{Open, NoMemory, Output, Rename}
-use Rattle.cdb_tool.specs.declared.inputs.Turn.{Turn}
-use Rattle.cdb_tool.specs.Views.Inputs.{one_of}
-use Rattle.cdb.specs.Inputs.{IsStandard, MissesBase, OpensBase, OpensInputs, StopsOpening}
+use Rattle.cdb.specs.Inputs.{IsStandard}
 use Rattle.cdb.specs.Opening.{IsUnopened, OpenCalls}
 use Rattle.cdb.specs.declared.open_trace.OpenCall.TheVariants.{Emptied, Same}
 use Rattle.cdb.specs.declared.system.System.{Ghosts as Systems}
@@ -148,70 +146,3 @@ MakesApart f m temporary name base inputs old new result =
     ⊎ ((mid : NameCalls)
     × AsksAll (λ file. (name_call.Apart, temporary, file, [])) base inputs old mid
     × Replaces f m temporary name mid new result)
-
--- ---- a create
-
--- the database is made in place: its temporary file is none, or itself
-abbrev pub IsInPlace : (name : List ℕ) → (temporary : Option (List ℕ)) → Type 0
-IsInPlace name None = ⊥
-IsInPlace name (Some temporary) = (temporary ≡ codes "-") ⊎ (temporary ≡ name)
-
-abbrev pub temporary_of : (name : List ℕ) → (temporary : Option (List ℕ)) → List ℕ
-temporary_of name None = name ++ codes ".tmp"
-temporary_of name (Some temporary) = temporary
-
--- the base or an input was not opened
-pub record NotOpened {F I M Y : Type 0} (y : Systems Y F I M) (base : Option (List ℕ))
-    (inputs : List (List ℕ)) (old new : OpenCalls) (result : Result Unit Fault) : Type 0 where
-  pub fault : Fault
-  pub is : result ≡ Err fault
-  pub unopened : IsUnopened fault
-  pub calls : MissesBase base old new ⊎ ((file : Option F) × (mid : OpenCalls)
-      × OpensBase y base file old mid × StopsOpening y inputs mid new)
-
--- all were, and the database is made: on standard output, in place or in a temporary file, unless an
--- allocation failed first
-abbrev pub MakesNamed : {F I M Y : Type 0} → Systems Y F I M → Ghosts F → Ghosts M → Making F
-    → (name : List ℕ) → (base : Option (List ℕ)) → (inputs : List (List ℕ))
-    → (temporary : Option (List ℕ)) → (old new : OpenCalls) → (was now : NameCalls)
-    → Result Unit Fault → Type 0
-MakesNamed y f s m name base inputs temporary old new was now result =
-    (IsInPlace name temporary × (now ≡ was) × MakesInPlace y f s m name base inputs old new result)
-    ⊎ ((IsInPlace name temporary → ⊥) × (new ≡ old)
-    × (((now ≡ was) × (result ≡ Err NoMemory))
-    ⊎ MakesApart f m (temporary_of name temporary) name base inputs was now result))
-
-pub record Opened {F I M Y : Type 0} (w greatest : ℕ) (y : Systems Y F I M) (f : Ghosts F)
-    (s : Ghosts M) (remaining : I → Option (List ℕ)) (o : MakeOptions) (name : List ℕ)
-    (base : Option (List ℕ)) (inputs : List (List ℕ)) (temporary : Option (List ℕ))
-    (standard : Option (List ℕ)) (old new : OpenCalls) (was now : NameCalls)
-    (start end told said : Option (List ℕ)) (result : Result Unit Fault) : Type 0 where
-  pub file : Option F
-  pub turns : List (Turn I)
-  pub mid : OpenCalls
-  pub all : OpenCalls
-  pub base_is : OpensBase y base file old mid
-  pub inputs_are : OpensInputs y inputs turns mid all
-  pub making : Making F
-  pub made_of : making ≡ record {
-    word = w;
-    greatest = greatest;
-    options = o;
-    base = file;
-    inputs = record { each = map (one_of remaining) turns; shared = standard };
-  }
-  pub makes : (IsStandard name × (new ≡ all) × (now ≡ was)
-      × MakesOnOutput f making start end told said result)
-      ⊎ ((IsStandard name → ⊥) × Keeps start end
-      × MakesNamed y f s making name base inputs temporary all new was now result)
-
-abbrev pub Creates : {F I M Y : Type 0} → (w greatest : ℕ) → Systems Y F I M → Ghosts F → Ghosts M
-    → (I → Option (List ℕ)) → MakeOptions → (name : List ℕ) → (base : Option (List ℕ))
-    → (inputs : List (List ℕ)) → (temporary : Option (List ℕ)) → (standard : Option (List ℕ))
-    → (old new : OpenCalls) → (was now : NameCalls) → (start end told said : Option (List ℕ))
-    → Result Unit Fault → Type 0
-Creates w greatest y f s remaining o name base inputs temporary standard old new was now start end told
-    said result =
-    (NotOpened y base inputs old new result × (now ≡ was) × Keeps start end × Keeps told said)
-    ⊎ Opened w greatest y f s remaining o name base inputs temporary standard old new was now start end
-    told said result

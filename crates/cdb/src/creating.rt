@@ -1,7 +1,7 @@
 // A create: its base and inputs are opened, and then the database is made of them.
-ghost use Rattle.std.specs.Prelude.{◌≡◌, ◌↔◌, ◌≤◌, IsTrue, map, option_map, string_bytes};
+ghost use Rattle.std.specs.Prelude.{◌≤◌};
 ghost use Rattle.cdb_form.specs.Format.Pair.{head_size};
-ghost use Rattle.cdb.specs.Creating.{Creates, IsInPlace, MakesNamed, MakesOnOutput};
+ghost use Rattle.cdb.specs.Creating.{MakesOnOutput, WritesAll};
 ghost use Rattle.cdb.specs.Contents.{making_of};
 
 use crate::contents::Contents;
@@ -57,12 +57,6 @@ where
     E: Write,
     requires head { head_size L.WORD ≤ creation.options.limit }
     requires words { creation.options.limit ≤ L.GREATEST }
-    ensures { Creates L.WORD L.GREATEST Y.System F.Store M.Store J.remaining creation.entry.options
-        creation.entry.name.now (option_map string_bytes creation.entry.base.now)
-        (map string_bytes creation.entry.inputs.now) (option_map string_bytes creation.entry.temporary.now)
-        (I.remaining input) (Y.calls system.old) (Y.calls system.new)
-        (N.calls names.old) (N.calls names.new) (O.contents output.old) (O.contents output.new)
-        (E.contents errors.old) (E.contents errors.new) result }
 {
     let base = open_base::<F, J, M, Y>(system, creation.base)?;
     let inputs = open_inputs::<F, J, M, Y, I>(alloc, system, creation.inputs, input)?;
@@ -104,14 +98,19 @@ where
         errors,
     );
     made?;
-    let written = write_whole(output, store.bytes());
+    write_bytes(store.bytes(), output)
+}
+
+/// Writes bytes, and flushes the output.
+fn write_bytes<O: Write>(bytes: &[u8], output: &mut O) -> Result<(), Fault>
+    ensures { WritesAll (O.contents output.old) (O.contents output.new) bytes.now result }
+{
+    let written = write_whole(output, bytes);
     flushed(output, written.map_err(Fault::from))
 }
 
 /// Whether the database is made in the file of its name.
-fn is_in_place(name: &str, temporary: &Option<String>) -> bool
-    ensures { IsTrue result ↔ IsInPlace name.now (option_map string_bytes temporary.now) }
-{
+fn is_in_place(name: &str, temporary: &Option<String>) -> bool {
     match temporary {
         Some(temporary) => temporary.as_str() == NO_FILE || temporary.as_str() == name,
         None => false,
@@ -136,11 +135,6 @@ where
     N: Names,
     I: Read + Drop,
     E: Write,
-    ensures { MakesNamed Y.System F.Store M.Store
-        (making_of L.WORD L.GREATEST J.remaining I.remaining contents)
-        creation.entry.name.now (option_map string_bytes creation.entry.base.now)
-        (map string_bytes creation.entry.inputs.now) (option_map string_bytes creation.entry.temporary.now)
-        (Y.calls system.old) (Y.calls system.new) (N.calls names.old) (N.calls names.new) result }
 {
     if is_in_place(creation.name, creation.temporary) {
         return make_in_place::<L, F, J, M, Y, I, E>(alloc, system, creation, contents, errors);
