@@ -34,6 +34,14 @@ def write_colliding(path, records):
         out.write(b"\n")
 
 
+def write_changes(path, keys, is_removal):
+    """Writes a text that replaces the records of some keys, or removes them."""
+    with open(path, "wb") as out:
+        for key in keys:
+            out.write(b"-%d:%s\n" % (len(key), key) if is_removal else spelled(key, b"changed"))
+        out.write(b"\n")
+
+
 class Goals:
     """The programs, a folder for their files, and how many rows are at their goals."""
 
@@ -87,6 +95,27 @@ class Goals:
         for letters, given in (("-c", text), ("-cw", again)):
             _, peaks = self.measured([[self.ours, letters, x, given]])
             self.say(f"peak memory of {letters}, {records}", peaks[0], "MiB", 30)
+
+    def goes(self, records):
+        """Records that are replaced or removed, beside jobs in which none is."""
+        x, text, again, changes = self.path("x"), self.path("text"), self.path("again"), self.path("changes")
+        with open(text, "wb") as out:
+            out.writelines(spelled(*pair) for pair in pairs(records))
+            out.write(b"\n")
+        self.make(text)
+        keys = write_again(again, records)
+        (replaced, kept), peaks = self.measured([[self.ours, letters, x, again] for letters in ("-cr", "-cu")])
+        self.say(f"-r, every tenth key again, {records}, to -u ({replaced:.3f} s)", replaced / kept, "", 1.3)
+        self.say("peak memory of it, a record", peaks[0] * 2**20 / (records + len(keys)), "B", 26)
+        for job, some, is_removal, goal in [
+            ("10 changes", keys[:: max(1, len(keys) // 10)], False, 0.6),
+            (f"{len(keys)} changes", keys, False, 1.5),
+            (f"{len(keys)} removals", keys, True, 1.5),
+        ]:
+            write_changes(changes, some, is_removal)
+            amend = [self.ours, "-cr", "-b", f"{text}.cdb", x, changes]
+            (amended, made), _ = self.measured([amend, [self.ours, "-c", x, again]])
+            self.say(f"{job} to {records}, to a create ({amended:.3f} s)", amended / made, "", goal)
 
     def grows(self, job, goal, letters, write, few, many, per_record):
         """A job of many records beside the same of few, by the record or in all."""
@@ -144,6 +173,8 @@ def main():
         goals.creates(options.records)
         few, many = options.records, 4 * options.records
         goals.grows(f"-u, none again, time a record, {many} to {few}", 1.5, "-cu", write_text, few, many, True)
+        goals.goes(options.records)
+        goals.grows(f"-r, every tenth key again, {many} to {few}", 4.8, "-cr", write_again, few, many, False)
         goals.dump(options.records)
         goals.chosen()
         goals.grows("create of one key, 200000 to 100000", 3, "-c", write_same, 100_000, 200_000, False)
