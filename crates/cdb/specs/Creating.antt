@@ -19,7 +19,9 @@ use Rattle.cdb_tool.specs.Runs.Inputs.{InputsLeft}
 use Rattle.cdb_tool.specs.Runs.Make.{HandsBack, Makes, OfBase, Runs}
 use Rattle.cdb_tool.specs.declared.fault.Fault.{Fault}
 use Rattle.cdb_tool.specs.declared.fault.Fault.TheVariants.{Open, NoMemory, Output, Rename}
-use Rattle.cdb.specs.Inputs.{IsStandard}
+use Rattle.cdb_tool.specs.declared.inputs.Turn.{Turn}
+use Rattle.cdb_tool.specs.Views.Inputs.{one_of}
+use Rattle.cdb.specs.Inputs.{IsStandard, MissesBase, OpensBase, OpensInputs, StopsOpening}
 use Rattle.cdb.specs.Opening.{IsUnopened, OpenCalls}
 use Rattle.cdb.specs.declared.open_trace.OpenCall.TheVariants.{Emptied, Same}
 use Rattle.cdb.specs.declared.system.System.{Ghosts as Systems}
@@ -146,3 +148,71 @@ MakesApart f m temporary name base inputs old new result =
     ⊎ ((mid : NameCalls)
     × AsksAll (λ file. (name_call.Apart, temporary, file, [])) base inputs old mid
     × Replaces f m temporary name mid new result)
+
+-- ---- under a name
+
+-- the database is made in place: its temporary file is none, or itself
+abbrev pub IsInPlace : (name : List ℕ) → (temporary : Option (List ℕ)) → Type 0
+IsInPlace name None = ⊥
+IsInPlace name (Some temporary) = (temporary ≡ codes "-") ⊎ (temporary ≡ name)
+
+-- the name of the temporary file
+abbrev pub temporary_of : (name : List ℕ) → (temporary : Option (List ℕ)) → List ℕ
+temporary_of name None = name ++ codes ".tmp"
+temporary_of name (Some temporary) = temporary
+
+-- it is made in place; or in a temporary file, unless the allocation of its name failed
+abbrev pub MakesNamed : {F I M Y : Type 0} → Systems Y F I M → Ghosts F → Ghosts M → Making F
+    → (name : List ℕ) → (base : Option (List ℕ)) → (inputs : List (List ℕ))
+    → (temporary : Option (List ℕ)) → (old new : OpenCalls) → (was now : NameCalls)
+    → Result Unit Fault → Type 0
+MakesNamed y f s m name base inputs temporary old new was now result =
+    (IsInPlace name temporary × (now ≡ was) × MakesInPlace y f s m name base inputs old new result)
+    ⊎ ((IsInPlace name temporary → ⊥) × (new ≡ old)
+    × (((now ≡ was) × (result ≡ Err NoMemory))
+    ⊎ MakesApart f m (temporary_of name temporary) name base inputs was now result))
+
+-- ---- a create
+
+-- what is read was opened: the base, then the inputs, of which standard input has these bytes
+pub record OpensAll {F I M Y : Type 0} (y : Systems Y F I M) (remaining : I → Option (List ℕ))
+    (base : Option (List ℕ)) (inputs : List (List ℕ)) (standard : Option (List ℕ))
+    (old new : OpenCalls) (file : Option F) (left : InputsLeft) : Type 0 where
+  pub turns : List (Turn I)
+  pub mid : OpenCalls
+  pub base_is : OpensBase y base file old mid
+  pub inputs_are : OpensInputs y inputs turns mid new
+  pub left_is : left ≡ record { each = map (one_of remaining) turns; shared = standard }
+
+-- or the base or an input was not
+pub record NotOpened {F I M Y : Type 0} (y : Systems Y F I M) (base : Option (List ℕ))
+    (inputs : List (List ℕ)) (old new : OpenCalls) (result : Result Unit Fault) : Type 0 where
+  pub fault : Fault
+  pub is : result ≡ Err fault
+  pub unopened : IsUnopened fault
+  pub calls : MissesBase base old new ⊎ ((file : Option F) × (mid : OpenCalls)
+      × OpensBase y base file old mid × StopsOpening y inputs mid new)
+
+-- the database is made, on standard output or under its name, where standard output stays as it is
+abbrev pub MakesAt : {F I M Y : Type 0} → Systems Y F I M → Ghosts F → Ghosts M → Making F
+    → (name : List ℕ) → (base : Option (List ℕ)) → (inputs : List (List ℕ))
+    → (temporary : Option (List ℕ)) → (old new : OpenCalls) → (was now : NameCalls)
+    → (start end told said : Option (List ℕ)) → Result Unit Fault → Type 0
+MakesAt y f s m name base inputs temporary old new was now start end told said result =
+    (IsStandard name × (new ≡ old) × (now ≡ was) × MakesOnOutput f m start end told said result)
+    ⊎ ((IsStandard name → ⊥) × Keeps start end
+    × MakesNamed y f s m name base inputs temporary old new was now result)
+
+-- all that is read is opened, and then the database is made of it; or nothing is made
+abbrev pub Creates : {F I M Y : Type 0} → (w greatest : ℕ) → Systems Y F I M → Ghosts F → Ghosts M
+    → (I → Option (List ℕ)) → MakeOptions → (name : List ℕ) → (base : Option (List ℕ))
+    → (inputs : List (List ℕ)) → (temporary : Option (List ℕ)) → (standard : Option (List ℕ))
+    → (old new : OpenCalls) → (was now : NameCalls) → (start end told said : Option (List ℕ))
+    → Result Unit Fault → Type 0
+Creates {F = F} w greatest y f s remaining o name base inputs temporary standard old new was now start
+    end told said result =
+    (NotOpened y base inputs old new result × (now ≡ was) × Keeps start end × Keeps told said)
+    ⊎ ((file : Option F) × (left : InputsLeft) × (mid : OpenCalls)
+    × OpensAll y remaining base inputs standard old mid file left
+    × MakesAt y f s (record { word = w; greatest = greatest; options = o; base = file; inputs = left })
+    name base inputs temporary mid new was now start end told said result)

@@ -25,6 +25,7 @@ use Rattle.cdb_tool.specs.Status.{exit_status}
 use Rattle.cdb_tool.specs.declared.fault.Fault.{Fault}
 use Rattle.cdb_tool.specs.declared.fault.Fault.TheVariants.{Output}
 use Rattle.cdb_files.specs.Folder.{NameCalls}
+use Rattle.cdb.specs.Creating.{Creates}
 use Rattle.cdb.specs.Opening.{IsUnopened}
 use Rattle.cdb.specs.declared.open_trace.OpenCall.TheVariants.{AtPlaces, InTurn, Stream}
 use Rattle.cdb.specs.declared.system.System.{Ghosts as Systems}
@@ -152,8 +153,7 @@ pub record WritesUsage (start end : Option (List ℕ)) (result : Result Unit Fau
   pub ok : OnOk result (Appends start end usage_text)
   pub err : IfErr result (λ fault. (fault ≡ Output) × AppendsFront start end usage_text)
 
--- ---- each command, in words of w bytes of files of at most so many; of a create its parts have their
--- contracts, and nothing is claimed of the whole
+-- ---- each command, in words of w bytes of files of at most so many
 abbrev pub Performs : {F I M Y : Type 0} → (w most : ℕ) → Ghosts F → Ghosts M
     → (I → Option (List ℕ)) → Systems Y F I M → Asked → (input : Option (List ℕ)) → (old new : Y)
     → (was now : NameCalls) → (start end told said : Option (List ℕ)) → Result Unit Fault → Type 0
@@ -175,7 +175,8 @@ Performs w most s m remaining y (asked.Check name wide) input old new was now st
     (ChecksStore w start end result s) (ChecksStore w start end result in_memory)
 Performs w most s m remaining y (asked.Create name base inputs temporary options wide) input old new was
     now start end told said result =
-    ⊤
+    Creates w most y s m remaining options name base inputs temporary input (y.calls old) (y.calls new)
+    was now start end told said result
 Performs w most s m remaining y asked.Help input old new was now start end told said result =
     (new ≡ old) × WritesUsage start end result
 

@@ -1,7 +1,10 @@
 // A create: its base and inputs are opened, and then the database is made of them.
-ghost use Rattle.std.specs.Prelude.{◌≤◌};
+ghost use Rattle.std.specs.Prelude.{◌≡◌, ◌↔◌, ◌≤◌, IsTrue, IfOk, IfErr, Err, map, option_map};
+ghost use Rattle.std.specs.Prelude.{string_bytes};
 ghost use Rattle.cdb_form.specs.Format.Pair.{head_size};
-ghost use Rattle.cdb.specs.Creating.{MakesOnOutput, WritesAll};
+ghost use Rattle.cdb_tool.specs.Views.Inputs.{inputs_left};
+ghost use Rattle.cdb.specs.Creating.{Creates, IsInPlace, MakesAt, MakesNamed, MakesOnOutput};
+ghost use Rattle.cdb.specs.Creating.{NotOpened, OpensAll, WritesAll, temporary_of};
 ghost use Rattle.cdb.specs.Contents.{making_of};
 
 use crate::contents::Contents;
@@ -13,7 +16,7 @@ use cdb_files::Names;
 use cdb_form::{Width, write_whole};
 use cdb_store::{MemStore, Store};
 use cdb_tool::{Fault, MakeOptions, flushed};
-use std::alloc::Global;
+use std::alloc::{AllocError, Global};
 use std::io::{Read, Write};
 use std::marker::PhantomData;
 
@@ -57,15 +60,82 @@ where
     E: Write,
     requires head { head_size L.WORD ≤ creation.options.limit }
     requires words { creation.options.limit ≤ L.GREATEST }
+    ensures { Creates L.WORD L.GREATEST Y.System F.Store M.Store J.remaining
+        creation.entry.options creation.entry.name.now
+        (option_map string_bytes creation.entry.base.now) (map string_bytes creation.entry.inputs.now)
+        (option_map string_bytes creation.entry.temporary.now) (I.remaining input)
+        (Y.calls system.old) (Y.calls system.new) (N.calls names.old) (N.calls names.new)
+        (O.contents output.old) (O.contents output.new)
+        (E.contents errors.old) (E.contents errors.new) result }
+{
+    let contents = open_all::<L, F, J, M, Y, I>(alloc, system, creation, input)?;
+    make_at::<L, F, J, M, Y, N, I, O, E>(alloc, system, names, creation, contents, output, errors)
+}
+
+/// Opens what is read: the base, and then all inputs.
+fn open_all<L, F, J, M, Y, I>(
+    alloc: Global,
+    system: &mut Y,
+    creation: Creation<'_>,
+    input: I,
+) -> Result<Contents<L, F, J, I>, Fault>
+where
+    L: Width,
+    F: Store + Drop,
+    J: Read + Drop,
+    M: Store + Drop,
+    Y: System<F, J, M>,
+    I: Read + Drop,
+    requires head { head_size L.WORD ≤ creation.options.limit }
+    requires words { creation.options.limit ≤ L.GREATEST }
+    ensures ok { IfOk result (λ c. OpensAll Y.System J.remaining
+        (option_map string_bytes creation.entry.base.now) (map string_bytes creation.entry.inputs.now)
+        (I.remaining input) (Y.calls system.old) (Y.calls system.new) c.base
+        (inputs_left J.remaining I.remaining c.inputs)) }
+    ensures options { IfOk result (λ c. c.options ≡ creation.entry.options) }
+    ensures fails { IfErr result (λ f. NotOpened Y.System
+        (option_map string_bytes creation.entry.base.now) (map string_bytes creation.entry.inputs.now)
+        (Y.calls system.old) (Y.calls system.new) (Err f)) }
 {
     let base = open_base::<F, J, M, Y>(system, creation.base)?;
     let inputs = open_inputs::<F, J, M, Y, I>(alloc, system, creation.inputs, input)?;
-    let contents = Contents::<L, F, J, I> {
+    Ok(Contents {
         base,
         inputs,
         options: creation.options,
         width: PhantomData,
-    };
+    })
+}
+
+/// Makes it on standard output, or under its name.
+fn make_at<L, F, J, M, Y, N, I, O, E>(
+    alloc: Global,
+    system: &mut Y,
+    names: &mut N,
+    creation: Creation<'_>,
+    contents: Contents<L, F, J, I>,
+    output: &mut O,
+    errors: &mut E,
+) -> Result<(), Fault>
+where
+    L: Width,
+    F: Store + Drop,
+    J: Read + Drop,
+    M: Store + Drop,
+    Y: System<F, J, M>,
+    N: Names,
+    I: Read + Drop,
+    O: Write,
+    E: Write,
+    ensures { MakesAt Y.System F.Store M.Store
+        (making_of L.WORD L.GREATEST J.remaining I.remaining contents)
+        creation.entry.name.now (option_map string_bytes creation.entry.base.now)
+        (map string_bytes creation.entry.inputs.now)
+        (option_map string_bytes creation.entry.temporary.now)
+        (Y.calls system.old) (Y.calls system.new) (N.calls names.old) (N.calls names.new)
+        (O.contents output.old) (O.contents output.new)
+        (E.contents errors.old) (E.contents errors.new) result }
+{
     if is_standard(creation.name) {
         return make_on_output::<L, F, J, I, O, E>(alloc, contents, output, errors);
     }
@@ -110,10 +180,23 @@ fn write_bytes<O: Write>(bytes: &[u8], output: &mut O) -> Result<(), Fault>
 }
 
 /// Whether the database is made in the file of its name.
-fn is_in_place(name: &str, temporary: &Option<String>) -> bool {
+fn is_in_place(name: &str, temporary: &Option<String>) -> bool
+    ensures { IsTrue result ↔ IsInPlace name.now (option_map string_bytes temporary.now) }
+{
     match temporary {
         Some(temporary) => temporary.as_str() == NO_FILE || temporary.as_str() == name,
         None => false,
+    }
+}
+
+/// The name of the temporary file.
+fn name_apart(alloc: Global, name: &str, temporary: &Option<String>) -> Result<String, AllocError>
+    ensures { IfOk result (λ t. string_bytes t
+        ≡ temporary_of name.now (option_map string_bytes temporary.now)) }
+{
+    match temporary {
+        Some(temporary) => temporary.clone(),
+        None => format!(in alloc; "{name}.tmp"),
     }
 }
 
@@ -135,30 +218,16 @@ where
     N: Names,
     I: Read + Drop,
     E: Write,
+    ensures { MakesNamed Y.System F.Store M.Store
+        (making_of L.WORD L.GREATEST J.remaining I.remaining contents)
+        creation.entry.name.now (option_map string_bytes creation.entry.base.now)
+        (map string_bytes creation.entry.inputs.now)
+        (option_map string_bytes creation.entry.temporary.now)
+        (Y.calls system.old) (Y.calls system.new) (N.calls names.old) (N.calls names.new) result }
 {
     if is_in_place(creation.name, creation.temporary) {
         return make_in_place::<L, F, J, M, Y, I, E>(alloc, system, creation, contents, errors);
     }
-    match creation.temporary {
-        Some(temporary) => make_apart::<L, F, J, N, I, E>(
-            alloc,
-            names,
-            temporary.as_str(),
-            creation,
-            contents,
-            errors,
-        ),
-        None => {
-            let name = creation.name;
-            let temporary = format!(in alloc; "{name}.tmp")?;
-            make_apart::<L, F, J, N, I, E>(
-                alloc,
-                names,
-                temporary.as_str(),
-                creation,
-                contents,
-                errors,
-            )
-        }
-    }
+    let temporary = name_apart(alloc, creation.name, creation.temporary)?;
+    make_apart::<L, F, J, N, I, E>(alloc, names, temporary.as_str(), creation, contents, errors)
 }

@@ -1,7 +1,7 @@
 // What the program does: the command of its words, and its exit status.
-ghost use Rattle.std.specs.Prelude.{◌≡◌, map, string_bytes};
+ghost use Rattle.std.specs.Prelude.{◌≡◌, [], map, string_bytes};
 ghost use Rattle.cdb_tool.specs.Command.{asked_in, has_wide_words, IsInRange, plan_of};
-ghost use Rattle.cdb_tool.specs.Views.Output.{output_bytes};
+ghost use Rattle.cdb_tool.specs.Views.Output.{output_bytes, held_by, HasHandedOn};
 ghost use Rattle.cdb.specs.Performs.{Does, HandsOn, IsUntouched, Runs};
 
 use crate::performing::perform_in;
@@ -34,11 +34,13 @@ where
     I: Read + Drop,
     O: Write,
     E: Write,
-    ensures { Runs F.Store M.Store J.remaining Y.System (plan_of (map string_bytes words.items))
+    ensures runs { Runs F.Store M.Store J.remaining Y.System (plan_of (map string_bytes words.items))
         (I.remaining input) system.old system.new (N.calls names.old) (N.calls names.new)
         (output_bytes O.contents output.old)
         (output_bytes O.contents output.new) (O.contents output.new.writer)
         (output_bytes E.contents errors.old) (output_bytes E.contents errors.new) result }
+    ensures handed { held_by output.old ≡ [] → HasHandedOn output.new }
+    ensures said { HasHandedOn errors.new }
 {
     let status = answer::<F, J, M, Y, N, I, O, Output<E>>(
         alloc, system, names, words, input, output, errors,
@@ -67,11 +69,12 @@ where
     I: Read + Drop,
     O: Write,
     E: Write,
-    ensures { Runs F.Store M.Store J.remaining Y.System (plan_of (map string_bytes words.items))
+    ensures runs { Runs F.Store M.Store J.remaining Y.System (plan_of (map string_bytes words.items))
         (I.remaining input) system.old system.new (N.calls names.old) (N.calls names.new)
         (output_bytes O.contents output.old)
         (output_bytes O.contents output.new) (O.contents output.new.writer)
         (E.contents errors.old) (E.contents errors.new) result }
+    ensures handed { held_by output.old ≡ [] → HasHandedOn output.new }
 {
     let command = match plan(alloc, words) {
         Ok(command) => command,
@@ -113,6 +116,7 @@ where
     ensures silent { IsUntouched (asked_in command.now)
         (E.contents errors.old) (E.contents errors.new) }
     ensures same { IsUntouched (asked_in command.now) (N.calls names.old) (N.calls names.new) }
+    ensures handed { HasHandedOn output.new }
 {
     let answer = if is_wide(command) {
         perform_in::<Wide, F, J, M, Y, N, I, Output<O>, E>(
@@ -129,8 +133,9 @@ where
 /// Hands on what the output of a command still holds, after a fault too. A flush that fails is
 /// `Output` if no other fault came.
 fn handed_on<O: Write>(output: &mut Output<O>, answer: Result<(), Fault>) -> Result<(), Fault>
-    ensures { HandsOn (output_bytes O.contents output.old) (O.contents output.new.writer) answer
+    ensures hands { HandsOn (output_bytes O.contents output.old) (O.contents output.new.writer) answer
         result }
+    ensures handed { HasHandedOn output.new }
 {
     match (answer, output.flush()) {
         (Err(fault), _) => Err(fault),

@@ -1,6 +1,6 @@
 // Output through a buffer, from which many bytes go at once.
-ghost use Rattle.std.specs.Prelude.{◌≡◌, ℕ, ◌+◌, ◌<◌, ◌≤◌, [], ◌-◌, length, take, min, IfOk, OnOk};
-ghost use Rattle.std.specs.Prelude.{OnErr, vec_len};
+ghost use Rattle.std.specs.Prelude.{◌≡◌, ℕ, ◌+◌, ◌<◌, ◌≤◌, [], ◌-◌, length, take, min, true, IfOk};
+ghost use Rattle.std.specs.Prelude.{OnOk, OnErr, vec_len};
 ghost use Rattle.std.specs.Io.{WritesAtMost};
 ghost use Rattle.std.specs.Io.KnownBytes.{Keeps, Appends, WriteAppends};
 
@@ -20,6 +20,8 @@ pub struct Output<W> {
     buffer: Vec<u8>,
     start: usize,
     size: usize,
+    /// The writer failed, at this or an earlier call.
+    failed: bool,
     ghost some: { 0 < size },
     ghost within: { start ≤ vec_len buffer },
     ghost room: { vec_len buffer ≤ size },
@@ -43,7 +45,15 @@ impl<W: Write> Output<W> {
             buffer,
             start: 0,
             size,
+            failed: false,
         })
+    }
+
+    /// Whether its writer failed while bytes were handed on to it.
+    pub fn has_failed(&self) -> bool
+        ensures { result ≡ self.now.failed }
+    {
+        self.failed
     }
 
     /// Hands all bytes on to the writer. After a fault those that it did not take stay here.
@@ -53,9 +63,12 @@ impl<W: Write> Output<W> {
         ensures bytes { Keeps (output_bytes W.contents self.old)
             (output_bytes W.contents self.new) }
         ensures empty { OnOk result (vec_len self.new.buffer ≡ 0) }
+        ensures failed { OnErr result (self.new.failed ≡ true) }
     {
         while self.start < self.buffer.len() {
-            self.start += write_some(&mut self.writer, &self.buffer[self.start..])?;
+            let gone = write_some(&mut self.writer, &self.buffer[self.start..]);
+            self.failed |= gone.is_err();
+            self.start += gone?;
         }
         self.buffer.clear();
         self.start = 0;
@@ -94,7 +107,7 @@ impl<W: Write> Output<W> {
 }
 
 impl<W: Write> Write for Output<W> {
-    ghost use Rattle.cdb_tool.specs.Views.Output.{output_bytes, held_by};
+    ghost use Rattle.cdb_tool.specs.Views.Output.{output_bytes, held_by, HasHandedOn};
 
     ghost contents = { output_bytes W.contents };
 
@@ -124,8 +137,9 @@ impl<W: Write> Write for Output<W> {
     fn flush(&mut self) -> io::Result<()>
         ensures bytes { Keeps (output_bytes W.contents self.old)
             (output_bytes W.contents self.new) }
-        // The writer has all that was taken.
+        // The writer has all that was taken, or it failed.
         ensures empty { OnOk result (held_by self.new ≡ []) }
+        ensures handed { HasHandedOn self.new }
     {
         match self.hand_on() {
             Ok(()) => self.writer.flush(),

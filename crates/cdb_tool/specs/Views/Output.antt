@@ -1,5 +1,5 @@
 -- What an output holds.
-use Rattle.std.specs.Prelude.{ℕ, List, drop, Option}
+use Rattle.std.specs.Prelude.{ℕ, ◌≡◌, ◌⊎◌, true, List, [], drop, Option}
 use Rattle.std.specs.Io.KnownBytes.{append_known}
 use Rattle.cdb_tool.specs.declared.output.Output.{Output}
 
@@ -10,3 +10,7 @@ held_by o = drop o.start o.buffer.items
 -- the bytes of the writer, where they are known, and then those in the buffer
 abbrev pub output_bytes : {W : Type 0} → (W → Option (List ℕ)) → Output W → Option (List ℕ)
 output_bytes contents o = append_known (contents o.writer) (held_by o)
+
+-- the writer has all that was taken, or it failed
+abbrev pub HasHandedOn : {W : Type 0} → Output W → Type 0
+HasHandedOn o = (held_by o ≡ []) ⊎ (o.failed ≡ true)

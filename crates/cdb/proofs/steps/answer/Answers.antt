@@ -2,8 +2,8 @@ use Rattle.std.proofs.Common.{inl, inr, refl, Ok, Err}
 use Rattle.std.proofs.KnownBytes.{Keeps-refl}
 use Rattle.cdb.proofs.steps.answer.Goals as goal
 
-pub returns-in-Err : goal.returns-in-Err
-returns-in-Err g c = inl (record {
+pub returns-in-Err-clause-runs : goal.returns-in-Err-clause-runs
+returns-in-Err-clause-runs g c = inl (record {
   usage = c.in-Err.usage;
   why = c.in-Err.ensures.exact;
   line = c.refuse.ensures.line;
@@ -13,8 +13,8 @@ returns-in-Err g c = inl (record {
   is_status = c.refuse.ensures.status;
 })
 
-pub returns-in-Ok-perform : goal.returns-in-Ok-perform
-returns-in-Ok-perform g c = inr (record {
+pub returns-in-Ok-perform-clause-runs : goal.returns-in-Ok-perform-clause-runs
+returns-in-Ok-perform-clause-runs g c = inr (record {
   command = c.in-Ok.command;
   asks = c.in-Ok.ensures.exact;
   result = Ok c.in-Ok-perform.field-0;
@@ -26,8 +26,8 @@ returns-in-Ok-perform g c = inr (record {
   is_status = refl;
 })
 
-pub returns : goal.returns
-returns g c = inr (record {
+pub returns-clause-runs : goal.returns-clause-runs
+returns-clause-runs g c = inr (record {
   command = c.in-Ok.command;
   asks = c.in-Ok.ensures.exact;
   result = Err c.in-Err-perform.fault;

@@ -2,16 +2,16 @@ use Rattle.std.proofs.Common.{rules, inl, inr}
 use Rattle.cdb_tool.specs.Views.Output.{held_by}
 use Rattle.cdb.proofs.steps.handed_on.Goals as goal
 
-pub returns-in-Ok-Err : goal.returns-in-Ok-Err
-returns-in-Ok-Err g c = record {
+pub returns-in-Ok-Err-clause-hands : goal.returns-in-Ok-Err-clause-hands
+returns-in-Ok-Err-clause-hands g c = record {
   held = held_by c.flush.new.self;
   all = c.flush.ensures.bytes;
   handed = search rules;
   answered = inr (search rules);
 }
 
-pub returns-in-Ok-Ok : goal.returns-in-Ok-Ok
-returns-in-Ok-Ok g c = record {
+pub returns-in-Ok-Ok-clause-hands : goal.returns-in-Ok-Ok-clause-hands
+returns-in-Ok-Ok-clause-hands g c = record {
   held = held_by c.flush.new.self;
   all = c.flush.ensures.bytes;
   handed = search rules;
