@@ -20,8 +20,8 @@ pub(crate) enum OpenCall {
     Emptied,
 }
 
-/// A list of calls, the newest first, each with its name, and with another where it is of two. It takes no memory, and its methods do
-/// nothing at run time.
+/// A list of calls, the newest first, each with its name, and with another where it is of two. It
+/// takes no memory, and its methods do nothing at run time.
 #[derive(Drop)]
 pub(crate) struct OpenTrace {
     marker: PhantomData<u8>,
