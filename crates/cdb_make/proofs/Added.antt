@@ -6,7 +6,7 @@ use Rattle.std.proofs.lemmas.List.{append-nil}
 use Rattle.std.proofs.lemmas.List.Concat.{flat_map-append}
 use Rattle.std.proofs.lemmas.List.Sums.{sum_by_push}
 use Rattle.std.proofs.lemmas.List.Elements.{All-set, All-append, All-get_or, All-cons, All-nil, All-weaker}
-use Rattle.cdb_store.specs.Images.{part, overwrite, AreSized, AfterWrite}
+use Rattle.cdb_store.specs.Images.{part, overwrite, AreSized, AfterWrite, Holds}
 use Rattle.cdb_store.proofs.Parts.{part_add, part_from_take, take-overwrite, part-overwrite}
 use Rattle.cdb_form.specs.Format.Hash.{key_hash, table_number}
 use Rattle.cdb_form.specs.Format.Pair.{WordPair, head_size}
@@ -20,33 +20,55 @@ use Rattle.cdb_make.specs.Views.EntryList.{with_entry}
 use Rattle.cdb_make.proofs.EntryLists.{lists_push}
 use Rattle.cdb_make.proofs.Marks.{entries_marked_push}
 
--- what an image holds from a place on, and what was written behind that
-held_more : (at n end : ℕ) (a b xs ys : List ℕ) → end ≡ at + n → end ≤ length a → b ≡ overwrite a end ys → part at n a ≡ xs → part at (n + length ys) b ≡ xs ++ ys
-held_more at n end a b xs ys e inside is held =
+-- what stands below a place stays by a write there
+held_below : (at n end : ℕ) (a b xs ys : List ℕ) → end ≡ at + n → end ≤ length a → b ≡ overwrite a end ys → part at n a ≡ xs → part at n b ≡ xs
+held_below at n end a b xs ys e inside is held =
     let below : take end b ≡ take end a = ap (take end) is ∙ take-overwrite end end a ys (omega arith) inside in
-    let here : part (at + n) (length ys) b ≡ ys = ap (λ (k : ℕ). part k (length ys) b) (sym e) ∙ ap (part end (length ys)) is ∙ part-overwrite end a ys inside in
-    part_add at n (length ys) b
-    ∙ ap (λ v. v ++ part (at + n) (length ys) b) (part_from_take at n end a b (sym e) below ∙ held)
-    ∙ ap (λ v. xs ++ v) here
+    part_from_take at n end a b (sym e) below ∙ held
 
-pub marked_stand_more : {w end : ℕ} {ls ls₁ : List (List WordPair)} {ms : List Bool} {rs : List KeyValue} {old new : List ℕ → Type 0} (size last h : ℕ) (r : KeyValue) (ys : List ℕ)
-    → AreSized size old → end ≤ size → h ≡ key_hash r.key → ys ≡ record_bytes w r → last ≡ end + record_size w r → ls₁ ≡ with_entry ls (record { first = h; second = end })
-    → length ms ≤ length rs → AfterWrite end ys old new → StandMarked w end ls ms rs old → StandMarked w last ls₁ ms (rs ++ r ∷ []) new
-marked_stand_more {w = w} {end = end} {ls = ls} {ls₁ = ls₁} {ms = ms} {rs = rs} size last h r ys sized inside hashed bytes behind added few written stands = record {
+-- records stand behind which some bytes are written
+pub marked_stand_written : {w end : ℕ} {ls : List (List WordPair)} {ms : List Bool} {rs : List KeyValue} {old new : List ℕ → Type 0} (size : ℕ) (ys : List ℕ)
+    → AreSized size old → end ≤ size → AfterWrite end ys old new → StandMarked w end ls ms rs old → StandMarked w end ls ms rs new
+marked_stand_written {w = w} {end = end} {ls = ls} {ms = ms} {rs = rs} size ys sized inside written stands = record {
   each = λ b is.
       let o = written.no_other b is in
       let a : List ℕ = o.0 in
       let t : TellsMarked w end ls ms rs a = stands.each a o.1 in
       let l : length a ≡ size = sized.each a o.1 in
+      record {
+        held = held_below (head_size w) (sum_by (record_size w) rs) end a b (flat_map (record_bytes w) rs) ys t.ends (omega arith) o.2 t.held;
+        ends = t.ends;
+        entries = t.entries;
+      };
+}
+
+-- and they are in each image then
+pub stored_written : {end : ℕ} {ys : List ℕ} {old new : List ℕ → Type 0} (size : ℕ) → AreSized size old → end ≤ size → AfterWrite end ys old new → Holds end ys new
+stored_written {end = end} {ys = ys} size sized inside written = record {
+  each = λ b is.
+      let o = written.no_other b is in
+      let l : length o.0 ≡ size = sized.each o.0 o.1 in
+      ap (part end (length ys)) o.2 ∙ part-overwrite end o.0 ys (omega arith);
+}
+
+-- a record whose bytes are behind the others stands once it has its entry
+pub marked_stand_entered : {w end : ℕ} {ls ls₁ : List (List WordPair)} {ms : List Bool} {rs : List KeyValue} {images : List ℕ → Type 0} (last h : ℕ) (r : KeyValue)
+    → h ≡ key_hash r.key → last ≡ end + record_size w r → ls₁ ≡ with_entry ls (record { first = h; second = end }) → length ms ≤ length rs
+    → Holds end (record_bytes w r) images → StandMarked w end ls ms rs images → StandMarked w last ls₁ ms (rs ++ r ∷ []) images
+marked_stand_entered {w = w} {end = end} {ls = ls} {ls₁ = ls₁} {ms = ms} {rs = rs} last h r hashed behind added few stored stands = record {
+  each = λ b is.
+      let t : TellsMarked w end ls ms rs b = stands.each b is in
       let n : ℕ = sum_by (record_size w) rs in
-      let long : length ys ≡ record_size w r = ap length bytes ∙ length-record_bytes w r in
+      let ys : List ℕ = record_bytes w r in
+      let long : length (record_bytes w r) ≡ record_size w r = length-record_bytes w r in
       let sum : sum_by (record_size w) (rs ++ r ∷ []) ≡ n + length ys = sum_by_push (record_size w) rs r ∙ ap (λ (k : ℕ). n + k) (sym long) in
       let whole : flat_map (record_bytes w) (rs ++ r ∷ []) ≡ flat_map (record_bytes w) rs ++ ys =
-      flat_map-append (record_bytes w) rs (r ∷ []) ∙ ap (λ v. flat_map (record_bytes w) rs ++ v) (append-nil (record_bytes w r) ∙ sym bytes) in
-      let here : end ≡ head_size w + n = t.ends in
+      flat_map-append (record_bytes w) rs (r ∷ []) ∙ ap (λ v. flat_map (record_bytes w) rs ++ v) (append-nil (record_bytes w r)) in
+      let here : part (head_size w + n) (length ys) b ≡ ys = ap (λ (k : ℕ). part k (length ys) b) (sym t.ends) ∙ stored.each b is in
       record {
-        held = ap (λ (k : ℕ). part (head_size w) k b) sum ∙ held_more (head_size w) n end a b (flat_map (record_bytes w) rs) ys here (omega arith) o.2 t.held ∙ sym whole;
-        ends = omega (arith, sum_by_push (record_size w) rs r);
+        held = ap (λ (k : ℕ). part (head_size w) k b) sum ∙ part_add (head_size w) n (length ys) b
+            ∙ ap (λ v. v ++ part (head_size w + n) (length ys) b) t.held ∙ ap (λ v. flat_map (record_bytes w) rs ++ v) here ∙ sym whole;
+        ends = (let e : end ≡ head_size w + n = t.ends in omega (arith, sum_by_push (record_size w) rs r));
         entries = added ∙ lists_push (marked_entries w ms rs) (marked_entries w ms (rs ++ r ∷ [])) h end ls
             (λ k.
             entries_marked_push w k r ms rs few
@@ -54,6 +76,13 @@ marked_stand_more {w = w} {end = end} {ls = ls} {ls₁ = ls₁} {ms = ms} {rs = 
             ∙ ap (λ (v : ℕ). marked_entries w ms rs k ++ filter (in_table k) (record { first = h; second = v } ∷ [])) (sym t.ends)) t.entries;
       };
 }
+
+-- a record that is written behind the others, too
+pub marked_stand_more : {w end : ℕ} {ls ls₁ : List (List WordPair)} {ms : List Bool} {rs : List KeyValue} {old new : List ℕ → Type 0} (size last h : ℕ) (r : KeyValue) (ys : List ℕ)
+    → AreSized size old → end ≤ size → h ≡ key_hash r.key → ys ≡ record_bytes w r → last ≡ end + record_size w r → ls₁ ≡ with_entry ls (record { first = h; second = end })
+    → length ms ≤ length rs → AfterWrite end ys old new → StandMarked w end ls ms rs old → StandMarked w last ls₁ ms (rs ++ r ∷ []) new
+marked_stand_more {end = end} {new = new} size last h r ys sized inside hashed bytes behind added few written stands =
+    marked_stand_entered last h r hashed behind added few (subst (λ (v : List ℕ). Holds end v new) bytes (stored_written size sized inside written)) (marked_stand_written size ys sized inside written stands)
 
 -- no place passes the greatest
 pub within_more : (ls : List (List WordPair)) {ls₁ : List (List WordPair)} (e : WordPair) (most : ℕ) → ls₁ ≡ with_entry ls e → table_number e.first < length ls → e.second ≤ most → AreWithin most ls → AreWithin most ls₁
