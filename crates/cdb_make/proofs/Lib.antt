@@ -26,6 +26,7 @@ pub mod Whole
 pub mod MarkedLists
 pub mod Entering
 pub mod Added
+pub mod Fitting
 pub mod Makers
 pub mod Carrying
 pub mod Batches
@@ -36,6 +37,7 @@ pub mod FinishedFile
 pub mod ClosedAll
 pub mod Puts
 pub mod Following
+pub mod Appends
 pub mod Exchanged
 pub mod Replacing
 pub mod Finishes

@@ -6,4 +6,5 @@ pub mod Maker
 pub mod Carrying
 pub mod Batch
 pub mod Adding
+pub mod Appending
 pub mod Making

@@ -21,7 +21,11 @@ fn collect(piece: &mut [u8], header: &[u8], key: &[u8], value: &[u8])
 }
 
 /// Makes the room for some bytes and writes them, as `append_record` does.
-fn append_piece<S: Store>(store: &mut S, pos: u64, bytes: &[u8]) -> Result<(), StoreFault>
+pub(crate) fn append_piece<S: Store>(
+    store: &mut S,
+    pos: u64,
+    bytes: &[u8],
+) -> Result<(), StoreFault>
     requires inside { pos ≤ S.size store.old }
     requires end { pos + length bytes.now < 2 ^ 63 }
     ensures ok { OnOk result
@@ -50,6 +54,7 @@ fn append_piece<S: Store>(store: &mut S, pos: u64, bytes: &[u8]) -> Result<(), S
     ensures past_room { IsErrOf result NoMemory
         → S.room store.old < pos + length bytes.now }
     ensures room { S.room store.old ≤ S.room store.new }
+    ensures ok_failures { OnOk result (S.failures store.new ≡ S.failures store.old) }
     ensures cause { HasCause (S.failures store.old) (S.failures store.new) result }
 {
     store.reserve(pos + bytes.len() as u64)?;

@@ -4,6 +4,7 @@
 
 mod adding;
 mod append;
+mod appending;
 mod batch;
 mod batch_putting;
 mod batch_removing;
