@@ -179,6 +179,8 @@ impl<S: Store, L: Width> Maker<S, L> {
     }
 
     /// Writes the first whole records of some bytes behind the others, and makes their entries.
+    ///
+    /// The faults are those of `append`.
     fn append_first(&mut self, bytes: &[u8], count: usize, size: usize) -> Result<(), MakeFault>
         requires whole { self.old.broken ≡ false }
         requires first { AreFirst L.WORD bytes.now count size }

@@ -1,5 +1,6 @@
 // The maker and the batch, over stores in memory and files, with faults of the store and want of memory.
 mod again;
+mod appends;
 mod batches;
 mod batches_drawn;
 mod batches_faults;

@@ -11,7 +11,10 @@ use std::prelude::*;
 use std::test::Fail;
 
 /// A maker of files of at most so many bytes behind the head.
-fn limited_maker(alloc: Global, most: u16) -> Result<Maker<MemStore, Narrow>, MakeFault> {
+pub(super) fn limited_maker(
+    alloc: Global,
+    most: u16,
+) -> Result<Maker<MemStore, Narrow>, MakeFault> {
     let limit = 2048 + u64::from(most);
     match Maker::<MemStore, Narrow>::new(alloc, MemStore::new(alloc), limit) {
         Ok(maker) => Ok(maker),

@@ -2,6 +2,7 @@
 // It reads what a test prints: whether the refusal came to a call of the script, to what its file
 // is compared with, or to neither.
 use super::again::{Cause, play};
+use super::appends::run_of;
 use super::batches::{act_on, batch_in, file_of};
 use super::makers::{finished, maker_in};
 use super::scripts::{
@@ -150,6 +151,68 @@ fn came_of_finish(alloc: Global) -> Result<Came, Fail> {
 #[test]
 fn a_finish_tells_refused_memory(rt: HostRuntime) -> Result<(), Fail> {
     tell(&rt, came_of_finish(rt.alloc())?)
+}
+
+/// The file of a maker, whose finish is made again if memory was refused to it, and whether it was.
+fn finished_again(maker: Maker<MemStore, Narrow>) -> Result<(Vec<u8>, bool), Fail> {
+    match maker.finish() {
+        Ok(store) => Ok((store.into_vec(), false)),
+        Err(unfinished) => {
+            if unfinished.fault != MakeFault::NoMemory {
+                return Err(Fail::new("another fault of the finish"));
+            }
+            Ok((finished(unfinished.maker)?.into_vec(), true))
+        }
+    }
+}
+
+/// Appends the records of a script at once, and those that memory was refused to again. Answers
+/// whether it was.
+fn append_again(
+    alloc: Global,
+    maker: &mut Maker<MemStore, Narrow>,
+    script: &[Call],
+    run: &[u8],
+) -> Result<bool, Fail> {
+    match maker.append(run) {
+        Ok(taken) if taken == run.len() => Ok(false),
+        Err(MakeFault::NoMemory) => {
+            let later = script.get(maker.count() as usize..).unwrap_or(&[]);
+            let rest = run_of(alloc, later, 4)?;
+            if rest.is_empty() || maker.append(&rest)? != rest.len() {
+                return Err(Fail::new("the rest of a run is not appended"));
+            }
+            Ok(true)
+        }
+        _ => Err(Fail::new("another answer of an append")),
+    }
+}
+
+/// What came of records that are appended at once.
+fn came_of_append(alloc: Global, script: &[Call]) -> Result<Came, Fail> {
+    let wanted = expected::<Narrow>(alloc, script);
+    let made = maker_in::<MemStore, Narrow>(alloc, MemStore::new(alloc));
+    let (Ok(wanted), Ok(mut maker), Ok(run)) = (wanted, made, run_of(alloc, script, 4)) else {
+        return Ok(Came::NoInputs);
+    };
+    let met = append_again(alloc, &mut maker, script, &run)?;
+    let (file, late) = finished_again(maker)?;
+    if file != wanted.file {
+        return Err(Fail::new("another file"));
+    }
+    Ok(if met || late {
+        Came::NoMemory
+    } else {
+        Came::Whole
+    })
+}
+
+#[test]
+fn an_append_tells_refused_memory(rt: HostRuntime) -> Result<(), Fail> {
+    let mut script = [add(b"a", b"1"); 12];
+    script[3] = add(b"one", b"Hello");
+    script[7] = add(b"two", b"Goodbye");
+    tell(&rt, came_of_append(rt.alloc(), &script)?)
 }
 
 /// Makes calls on a maker in a store with room for so many bytes.
