@@ -39,3 +39,4 @@ pub mod Earliest
 pub mod AllTables
 pub mod EnteredWalk
 pub mod CheckLaws
+pub mod AheadRecords

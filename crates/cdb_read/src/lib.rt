@@ -16,6 +16,7 @@ mod reader;
 mod record_lists;
 mod record_look;
 mod record_walk;
+mod records_ahead;
 mod search;
 mod slot_runs;
 mod slots;

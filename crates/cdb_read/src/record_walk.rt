@@ -1,5 +1,5 @@
 // A walk over the records of a database.
-ghost use Rattle.std.specs.Prelude.{◌≡◌, ℕ, ◌+◌, ◌≤◌, List, IfOk, IfErr, MatchOption};
+ghost use Rattle.std.specs.Prelude.{◌≡◌, ℕ, ◌+◌, ◌<◌, ◌≤◌, List, IfOk, IfErr, MatchOption};
 ghost use Rattle.std.specs.Prelude.{Ok, Err, None, OnOk};
 ghost use Rattle.cdb_read.specs.Lookup.{bytes_of};
 ghost use Rattle.cdb_store.specs.Reads.{OnlyReads};
@@ -24,8 +24,8 @@ pub struct Walk<'a, S: Store, L: Width> {
 
 impl<'a, S: Store, L: Width> Walk<'a, S, L> {
     ghost use Rattle.cdb_read.specs.Views.Walk.{GivesPair, GivesNoPair, WalkingFails};
-    ghost use Rattle.cdb_read.specs.Views.Walk.{HasWalked, HasNoTable, HasNoRecord};
-    ghost use Rattle.cdb_read.specs.declared.fault.ReadFault.TheVariants.{Table, Record};
+    ghost use Rattle.cdb_read.specs.Views.Walk.{HasWalked, HasNoTable, HasNoRecord, GivesRecords};
+    ghost use Rattle.cdb_read.specs.declared.fault.ReadFault.TheVariants.{Table, Record, Device};
 
     /// Where the next record lies, or `None` at the record end.
     pub fn next(&mut self) -> Result<Option<Pair>, ReadFault>
@@ -65,6 +65,34 @@ impl<'a, S: Store, L: Width> Walk<'a, S, L> {
                 Err(ReadFault::Record(rest.place))
             }
         }
+    }
+
+    /// Reads the next records over the front of `into`, as many as are whole there, and answers how
+    /// many bytes they have. The walk is then after them, and the bytes of `into` that follow them
+    /// hold anything.
+    ///
+    /// `Ok(0)` means that no record was read and the walk is where it was: it is at its end or at a
+    /// damage, or `into` has no room for the next record. `next` reports which.
+    ///
+    /// `Device` is the only fault: the store failed. The walk is then where it was, so the same call
+    /// goes on, and `into` holds anything.
+    pub fn records_into(&mut self, into: &mut [u8]) -> Result<usize, ReadFault>
+        ensures same_reader { self.new.reader.ghost_name ≡ self.old.reader.ghost_name }
+        ensures reads { OnlyReads S.Store self.old.reader.now.store self.new.reader.now.store }
+        ensures head { self.new.reader.now.head ≡ self.old.reader.now.head }
+        ensures ok { IfOk result (GivesRecords L.WORD self.old self.new into.new) }
+        ensures fails { IfErr result (λ f. (f ≡ Device) × (self.new.walking ≡ self.old.walking)
+            × (S.failures self.old.reader.now.store < S.failures self.new.reader.now.store)) }
+    {
+        let Walking::At(rest) = self.walking else {
+            return Ok(0);
+        };
+        let n = self.reader.read_records(rest, into)?;
+        self.walking = Walking::At(Rest {
+            place: rest.place + n as u64,
+            end: rest.end,
+        });
+        Ok(n)
     }
 
     /// The bytes of a span, as `Reader::value` gives them. What is left of the walk stays.

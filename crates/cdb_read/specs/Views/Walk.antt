@@ -1,11 +1,12 @@
 -- What a walk is still to give.
-use Rattle.std.specs.Prelude.{ℕ, ◌≡◌, ◌<◌, ◌≤◌, List}
+use Rattle.std.specs.Prelude.{ℕ, ◌≡◌, ◌+◌, ◌<◌, ◌≤◌, List, length, take, drop, min}
 use Rattle.cdb_store.specs.declared.store.Store.{Ghosts}
-use Rattle.cdb_form.specs.Format.Walk.{Walked, no_walk, damaged, with_first}
+use Rattle.cdb_form.specs.Format.Walk.{Walked, no_walk, damaged, with_first, with_records}
+use Rattle.cdb_form.specs.Format.Walk.{whole_records}
 use Rattle.cdb_form.specs.declared.width.Width.{Ghosts as Widths}
 use Rattle.cdb_form.specs.declared.damage.Damage.TheVariants as damage
 use Rattle.cdb_read.specs.Views.Walking.{record_of, behind, walk_ahead, next_place, size_ahead}
-use Rattle.cdb_read.specs.Views.Walking.{LiesAt}
+use Rattle.cdb_read.specs.Views.Walking.{LiesAt, records_length}
 use Rattle.cdb_read.specs.declared.fault.ReadFault.{ReadFault}
 use Rattle.cdb_read.specs.declared.fault.ReadFault.TheVariants.{Table, Record, Device}
 use Rattle.cdb_read.specs.declared.record_walk.Walk.{Walk}
@@ -62,3 +63,17 @@ WalkingFails {s = s} w old new (Record place) = HasNoRecord new place
     × ((b : List ℕ) → s.image new.reader.now.store b
     → left_of w b old ≡ damaged (damage.Record place))
 WalkingFails w old new fault = ⊥
+
+-- a call gave the next n bytes over the front of some bytes: whole records and nothing else, the
+-- first of what was left, and as many as are whole within the bytes and before the record end
+pub record GivesRecords {S L : Type 0} {s : Ghosts S} {l : Widths L} (w : ℕ)
+    (old new : Walk S L s l) (bytes : List ℕ) (n : ℕ) : Type 0 where
+  pub few : n ≤ length bytes
+  pub size : n ≡ records_length w n bytes
+  pub gives : (b : List ℕ) → s.image new.reader.now.store b
+      → left_of w b old ≡ with_records (whole_records w n (take n bytes)) (left_of w b new)
+  pub most : (b : List ℕ) → s.image new.reader.now.store b
+      → n ≡ records_length w (min (length bytes) (bytes_left old)) (drop (place_of w old) b)
+  pub next : place_of w new ≡ place_of w old + n
+  pub fewer : bytes_left new + n ≡ bytes_left old
+  pub stays : n ≡ 0 → new.walking ≡ old.walking

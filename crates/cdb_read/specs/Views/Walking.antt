@@ -1,9 +1,12 @@
 -- What a walk is still to give, and what each part of it tells of the bytes that it reads.
-use Rattle.std.specs.Prelude.{ℕ, ◌≡◌, ◌+◌, ◌-◌, ◌≤◌, List, drop, Option, Some, None}
+use Rattle.std.specs.Prelude.{ℕ, ◌≡◌, ◌+◌, ◌-◌, ◌<◌, ◌≤◌, List, length, take, drop, min, sum_by}
+use Rattle.std.specs.Prelude.{Option, Some, None}
 use Rattle.cdb_form.specs.declared.damage.Damage.TheVariants as damage
 use Rattle.cdb_form.specs.Format.Pair.{pair_size, head_size}
-use Rattle.cdb_form.specs.Format.Record.{KeyValue}
+use Rattle.cdb_form.specs.Format.Record.{KeyValue, record_size}
 use Rattle.cdb_form.specs.Format.Walk.{Walked, walk_from, no_walk, damaged, with_first}
+use Rattle.cdb_form.specs.Format.Walk.{front_size, whole_records}
+use Rattle.cdb_store.specs.Images.{part}
 use Rattle.cdb_read.specs.Lookup.{bytes_of}
 use Rattle.cdb_read.specs.declared.walk_state.Rest.{Rest}
 use Rattle.cdb_read.specs.declared.walk_state.Walking.{Walking}
@@ -64,3 +67,23 @@ pub record PairWithin (w : ℕ) (rest : Rest) (size : ℕ) (pair : Pair) : Type 
 abbrev pub StandsWithin : ℕ → Rest → ℕ → Option Pair → Type 0
 StandsWithin w rest size None = Unit {0}
 StandsWithin w rest size (Some pair) = PairWithin w rest size pair
+
+-- how many bytes the record at the front of some bytes has, where it is whole there
+abbrev pub FrontTells : ℕ → List ℕ → Option ℕ → Type 0
+FrontTells w bytes None = length bytes < front_size w bytes
+FrontTells w bytes (Some n) = (n ≡ front_size w bytes) × (n ≤ length bytes)
+
+-- the bytes of whole records, at most m bytes, that are at the front of some bytes
+abbrev pub records_length : ℕ → ℕ → List ℕ → ℕ
+records_length w m bytes = sum_by (record_size w) (whole_records w m (take m bytes))
+
+-- the first n bytes of some are whole records from the next place on, before the record end, and all
+-- that are whole within as many bytes
+pub record RecordsAhead (w : ℕ) (rest : Rest) (bytes : List ℕ) (images : List ℕ → Type 0) (n : ℕ)
+    : Type 0 where
+  pub few : n ≤ length bytes
+  pub room : n ≤ rest.end - rest.place
+  pub size : n ≡ records_length w n bytes
+  pub same : (b : List ℕ) → images b → take n bytes ≡ part rest.place n b
+  pub most : (b : List ℕ) → images b
+      → n ≡ records_length w (min (length bytes) (rest.end - rest.place)) (drop rest.place b)
