@@ -12,3 +12,4 @@ mod reading;
 mod refusals;
 mod uses;
 mod walking;
+mod windows;

@@ -8,7 +8,7 @@ use std::prelude::*;
 use std::test::Fail;
 
 /// What a call of a walk answers.
-type Answer = Result<Option<Pair>, ReadFault>;
+pub(super) type Answer = Result<Option<Pair>, ReadFault>;
 
 /// The next answer of a walk whose store fails at most one call: then it is asked again.
 fn next_again<L: Width>(records: &mut Walk<'_, Fused, L>) -> Answer {
@@ -50,7 +50,7 @@ fn walks_with(
 }
 
 /// A record at a place, with these lengths, whose header has so many bytes.
-fn pair(place: u64, header: u64, klen: u64, vlen: u64) -> Answer {
+pub(super) fn pair(place: u64, header: u64, klen: u64, vlen: u64) -> Answer {
     let place = place.min(1 << 32);
     let (header, klen) = (header.min(16), klen.min(1 << 32));
     let key = Span {
@@ -65,12 +65,12 @@ fn pair(place: u64, header: u64, klen: u64, vlen: u64) -> Answer {
 }
 
 /// The records of the file of two.
-const ONE: (u64, u64, u64, u64) = (2048, 8, 3, 5);
+pub(super) const ONE: (u64, u64, u64, u64) = (2048, 8, 3, 5);
 
-const TWO: (u64, u64, u64, u64) = (2064, 8, 3, 7);
+pub(super) const TWO: (u64, u64, u64, u64) = (2064, 8, 3, 7);
 
 /// The record of these numbers.
-fn given(at: (u64, u64, u64, u64)) -> Answer {
+pub(super) fn given(at: (u64, u64, u64, u64)) -> Answer {
     pair(at.0, at.1, at.2, at.3)
 }
 
@@ -138,7 +138,7 @@ fn a_file_that_is_cut_is_walked_up_to_the_cut(rt: HostRuntime) -> Result<(), Fai
 }
 
 /// A file of so many records of a key of 8 bytes and a value of 14, and no table.
-fn many(alloc: Global, n: u32) -> Result<Vec<u8>, AllocError> {
+pub(super) fn many(alloc: Global, n: u32) -> Result<Vec<u8>, AllocError> {
     let end = 2048 + 30 * n.min(1 << 20);
     let mut file = Vec::new(alloc);
     for table in 0..256u32 {
