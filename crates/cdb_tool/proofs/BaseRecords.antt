@@ -1,16 +1,18 @@
 -- A base whose records are added to a maker, one after the other.
-use Rattle.std.proofs.Common.{◌≡◌, ℕ, ◌+◌, ◌*◌, ◌≤◌, List, [], ◌∷◌, ◌++◌, refl, sym, ap, subst, ◌∙◌, arith, append_assoc, length, Option, Some}
-use Rattle.std.proofs.lemmas.List.{append-nil}
+use Rattle.std.proofs.Common.{◌≡◌, ℕ, ◌+◌, ◌*◌, ◌≤◌, List, [], ◌∷◌, ◌++◌, refl, sym, ap, subst, ◌∙◌, arith, append_assoc, length, take, Option, Some, None, Bool, true, false, true≢false, ◌<◌}
+use Rattle.std.proofs.Math.Seq.{take-append_seam}
+use Rattle.std.proofs.lemmas.List.{append-nil, length-take}
 use Rattle.cdb_store.specs.declared.store.Store.{Ghosts}
 use Rattle.cdb_form.specs.declared.width.Width.{Ghosts as Widths}
 use Rattle.cdb_form.specs.Format.File.{file_size}
 use Rattle.cdb_form.specs.Format.Record.{KeyValue}
-use Rattle.cdb_form.specs.Format.Walk.{Walked, walk_of, damaged, with_first, with_records}
+use Rattle.cdb_form.specs.Format.Walk.{Walked, walk_of, whole_records, damaged, no_walk, with_first, with_records}
 use Rattle.cdb_form.proofs.WalkSteps.{walk_of-short}
 use Rattle.cdb_form.specs.declared.text.fault.TextFault.{TextFault}
 use Rattle.cdb_form.specs.declared.text.fault.TextFault.TheVariants as text
 use Rattle.cdb_form.specs.declared.damage.Damage.{Damage}
 use Rattle.cdb_form.specs.declared.damage.Damage.TheVariants as damage
+use Rattle.cdb_make.specs.Views.Appending.{AppendsAll, FailsAppending}
 use Rattle.cdb_make.specs.Views.Maker.{Holds, WhereHonest, Puts, FailsPutting, limit_of}
 use Rattle.cdb_make.specs.declared.fault.MakeFault.{MakeFault}
 use Rattle.cdb_make.specs.declared.fault.MakeFault.TheVariants as make
@@ -29,7 +31,8 @@ use Rattle.cdb_read.specs.declared.record_walk.Walk.{Walk}
 use Rattle.cdb_read.specs.declared.span.Pair.{Pair}
 use Rattle.cdb_tool.specs.Views.Fault.{read_fault, make_fault, text_fault}
 use Rattle.cdb_tool.specs.Runs.Course.{TellFails}
-use Rattle.cdb_tool.specs.Runs.Make.{BaseFails, IsOfBase}
+use Rattle.cdb_tool.specs.Runs.Base.{AddsNext, NotAdded}
+use Rattle.cdb_tool.specs.Runs.Make.{AddsBase, BaseFails, IsOfBase}
 use Rattle.cdb_tool.specs.declared.fault.Fault.{Fault}
 use Rattle.cdb_tool.specs.declared.fault.Fault.TheVariants as fault
 use Rattle.cdb_command.specs.declared.options.MakeOptions.{MakeOptions}
@@ -43,59 +46,115 @@ pub record AddedSoFar {S L : Type 0} {s : Ghosts S} {l : Widths L} (w : ℕ) (im
 pub added_none : {S L : Type 0} {s : Ghosts S} {l : Widths L} (w : ℕ) (images : List ℕ → Type 0) (left : List ℕ → Walked) (m : Maker S L s l) → ((b : List ℕ) → images b → left b ≡ walk_of w b) → AddedSoFar w images left m m
 added_none w images left m is = record { done = []; all = λ b i. sym (is b i); holds = λ h. h }
 
--- a record more was given and added
-pub added_more : {S L : Type 0} {s : Ghosts S} {l : Widths L} (w : ℕ) (old new : List ℕ → Type 0) (left rest : List ℕ → Walked) (first m now : Maker S L s l) (pair : Pair) (k v : List ℕ) (put : Put) → AddedSoFar w old left first m
-    → ((b : List ℕ) → new b → old b) → ((b : List ℕ) → new b → left b ≡ with_first (record_of b pair) (rest b)) → ((b : List ℕ) → new b → k ≡ bytes_of b pair.key) → ((b : List ℕ) → new b → v ≡ bytes_of b pair.value)
-    → Puts m now Add (record { key = k; value = v }) put → AddedSoFar w new rest first now
-added_more w old new left rest first m now pair k v put h fewer more key value puts = record {
-  done = h.done ++ record { key = k; value = v } ∷ [];
-  all = λ b i.
+-- some were given before others
+records_then : (done more : List KeyValue) (rest : Walked) → with_records done (with_records more rest) ≡ with_records (done ++ more) rest
+records_then done more rest = ap (λ rs. let walk : Walked = record { records = rs; damage = rest.damage } in walk) (sym (append_assoc done more rest.records))
+
+-- more were given and added
+pub added_next : {S L : Type 0} {s : Ghosts S} {l : Widths L} (w : ℕ) (old new : List ℕ → Type 0) (left rest : List ℕ → Walked) (first m now : Maker S L s l) (more : Bool) → AddedSoFar w old left first m → ((b : List ℕ) → new b → old b) → AddsNext w new left rest m now more
+    → AddedSoFar w new rest first now
+added_next w old new left rest first m now more h fewer x = record {
+  done = h.done ++ x.records;
+  all = λ b i. h.all b (fewer b i) ∙ ap (with_records h.done) (x.given b i) ∙ records_then h.done x.records (rest b);
+  holds = λ none. x.holds h.done (h.holds none);
+}
+
+-- all were
+pub added_all : {S L : Type 0} {s : Ghosts S} {l : Widths L} (w : ℕ) (images : List ℕ → Type 0) (rest : List ℕ → Walked) (first now : Maker S L s l) → AddedSoFar w images rest first now → ((b : List ℕ) → images b → rest b ≡ no_walk) → Holds first [] → AddsBase w images now
+added_all w images rest first now h none holds = record {
+  records = h.done;
+  holds = h.holds holds;
+  each = λ b i.
+      h.all b i ∙ ap (with_records h.done) (none b i) ∙ ap (λ rs. let walk : Walked = record { records = rs; damage = None } in walk) (append-nil h.done);
+}
+
+-- or not
+pub added_not : {S L : Type 0} {s : Ghosts S} {l : Widths L} (old new : List ℕ → Type 0) (left : List ℕ → Walked) (first m now : Maker S L s l) (f : Fault) → AddedSoFar l.WORD old left first m → ((b : List ℕ) → new b → old b)
+    → ((rs : List KeyValue) → Holds m rs → (b : List ℕ) → new b → WhereHonest (s.image now.store) (NotAdded l.WORD (limit_of m) (with_records rs (left b)) f)) → limit_of m ≡ limit_of first → Holds first [] → (b : List ℕ) → new b
+    → WhereHonest (s.image now.store) (BaseFails l.WORD (limit_of first) b f)
+added_not {l = l} old new left first m now f h fewer x limit none b i = record {
+  each = λ a j.
+      subst (λ (k : ℕ). NotAdded l.WORD k (walk_of l.WORD b) f) limit
+      (subst (λ walk. NotAdded l.WORD (limit_of m) walk f) (sym (h.all b (fewer b i))) ((x h.done (h.holds none) b i).each a j));
+}
+
+-- ---- a step
+
+-- a window that was read over whole
+pub whole_window : (len : ℕ) (xs zs : List ℕ) → length xs ≡ len → take len (xs ++ zs) ≡ xs
+whole_window len xs zs e = ap (λ k. take k (xs ++ zs)) (sym e) ∙ take-append_seam xs zs
+
+-- the whole records of a window
+window_records : (w : ℕ) (xs bytes : List ℕ) (n : ℕ) → n ≤ length xs → bytes ≡ take n xs → whole_records w (length bytes) bytes ≡ whole_records w n (take n xs)
+window_records w xs bytes n few is =
+    let long : length bytes ≡ n = omega (arith, few, ap length is, length-take n xs) in
+    ap (λ k. whole_records w k bytes) long ∙ ap (whole_records w n) is
+
+-- they were added
+pub window_added : {S L : Type 0} {s : Ghosts S} {l : Widths L} (w : ℕ) (images : List ℕ → Type 0) (left rest : List ℕ → Walked) (m now : Maker S L s l) (xs bytes : List ℕ) (n k : ℕ) → n ≤ length xs → bytes ≡ take n xs → ((b : List ℕ) → images b → left b ≡ with_records (whole_records w n (take n xs)) (rest b))
+    → AppendsAll m now (whole_records w (length bytes) bytes) k → AddsNext w images left rest m now true
+window_added w images left rest m now xs bytes n k few is given x = record {
+  records = whole_records w (length bytes) bytes;
+  given = λ b i. given b i ∙ ap (λ rs. with_records rs (rest b)) (sym (window_records w xs bytes n few is));
+  holds = x.holds;
+  ended = λ e. absurd (true≢false e);
+}
+
+-- the next record was
+pub one_added : {S L : Type 0} {s : Ghosts S} {l : Widths L} (w : ℕ) (images : List ℕ → Type 0) (left rest : List ℕ → Walked) (m now : Maker S L s l) (pair : Pair) (k v : List ℕ) (put : Put) → ((b : List ℕ) → images b → left b ≡ with_first (record_of b pair) (rest b))
+    → ((b : List ℕ) → images b → k ≡ bytes_of b pair.key) → ((b : List ℕ) → images b → v ≡ bytes_of b pair.value) → Puts m now Add (record { key = k; value = v }) put → AddsNext w images left rest m now true
+one_added w images left rest m now pair k v put given key value puts = record {
+  records = record { key = k; value = v } ∷ [];
+  given = λ b i.
       let r : KeyValue = record_of b pair in
       let is : KeyValue = record { key = k; value = v } in
       let same : is ≡ r = let e = key b i in let f = value b i in cc in
-      h.all b (fewer b i)
-      ∙ ap (with_records h.done) (more b i)
-      ∙ ap (λ rs. let walk : Walked = record { records = rs; damage = (rest b).damage } in walk) (sym (append_assoc h.done (r ∷ []) (rest b).records))
-      ∙ ap (λ q. with_records (h.done ++ q ∷ []) (rest b)) (sym same);
-  holds = λ none. puts.holds h.done (h.holds none);
+      given b i ∙ ap (λ q. with_records (q ∷ []) (rest b)) (sym same);
+  holds = λ rs h. puts.holds rs h;
+  ended = λ e. absurd (true≢false e);
+}
+
+-- none was left
+pub none_added : {S L : Type 0} {s : Ghosts S} {l : Widths L} (w : ℕ) (images : List ℕ → Type 0) (left rest : List ℕ → Walked) (m : Maker S L s l) → ((b : List ℕ) → images b → left b ≡ no_walk) → ((b : List ℕ) → images b → rest b ≡ no_walk) → AddsNext w images left rest m m false
+none_added w images left rest m none ended = record {
+  records = [];
+  given = λ b i. none b i ∙ ap (with_records []) (sym (ended b i));
+  holds = λ rs h. subst (Holds m) (sym (append-nil rs)) h;
+  ended = λ e b i. ended b i;
 }
 
 -- ---- the walk stopped
 
-damaged_all : (w : ℕ) (b : List ℕ) (done : List KeyValue) (left : Walked) (d : Damage) → walk_of w b ≡ with_records done left → left ≡ damaged d → walk_of w b ≡ record { records = done; damage = Some d }
-damaged_all w b done left d all is =
-    all ∙ ap (with_records done) is ∙ ap (λ rs. let walk : Walked = record { records = rs; damage = Some d } in walk) (append-nil done)
+damage_fails : {S L : Type 0} {s : Ghosts S} {l : Widths L} (rs : List KeyValue) (left : Walked) (d : Damage) (m : Maker S L s l) → left ≡ damaged d → Holds m rs → (a : List ℕ) → s.image m.store a
+    → ((with_records rs left).damage ≡ Some d) × (file_size l.WORD (with_records rs left).records ≤ limit_of m)
+damage_fails {l = l} rs left d m is holds a i =
+    let size : m.end + 4 * l.WORD * m.count ≡ file_size l.WORD rs = (held_size m rs _ refl holds).each a i in
+    let same : file_size l.WORD (rs ++ left.records) ≡ file_size l.WORD rs = ap (λ (v : Walked). file_size l.WORD (rs ++ v.records)) is ∙ ap (file_size l.WORD) (append-nil rs) in
+    (ap (λ (v : Walked). v.damage) is, omega (arith, size, same, m.within))
 
-damage_fails : {S L : Type 0} {s : Ghosts S} {l : Widths L} (b : List ℕ) (done : List KeyValue) (d : Damage) (m : Maker S L s l) → walk_of l.WORD b ≡ record { records = done; damage = Some d } → Holds m done → (a : List ℕ) → s.image m.store a
-    → ((walk_of l.WORD b).damage ≡ Some d) × (file_size l.WORD (walk_of l.WORD b).records ≤ limit_of m)
-damage_fails {l = l} b done d m is holds a i =
-    let size : m.end + 4 * l.WORD * m.count ≡ file_size l.WORD done = (held_size m done _ refl holds).each a i in
-    let same : file_size l.WORD (walk_of l.WORD b).records ≡ file_size l.WORD done = ap (λ v. file_size l.WORD v.records) is in
-    (ap (λ v. v.damage) is, omega (arith, size, same, m.within))
+stopped_so : {S L B : Type 0} {s : Ghosts S} {l : Widths L} {t : Ghosts B} (old new : Walk B L t l) (m : Maker S L s l) (f : ReadFault) → WalkingFails l.WORD old new f → (rs : List KeyValue) → Holds m rs → (b : List ℕ) → t.image new.reader.now.store b → (a : List ℕ) → s.image m.store a
+    → NotAdded l.WORD (limit_of m) (with_records rs (left_of l.WORD b old)) (read_fault f)
+stopped_so old new m read.Short x rs holds b i a j = absurd x
+stopped_so {l = l} old new m (read.Table n) x rs holds b i a j =
+    let p = damage_fails rs (left_of l.WORD b old) (damage.Table n) m (x.1 b i) holds a j in
+    (damage.Table n, refl, p.0, p.1)
+stopped_so {l = l} old new m (read.Record place) x rs holds b i a j =
+    let p = damage_fails rs (left_of l.WORD b old) (damage.Record place) m (x.1 b i) holds a j in
+    (damage.Record place, refl, p.0, p.1)
+stopped_so old new m (read.Slot n k) x rs holds b i a j = absurd x
+stopped_so old new m (read.Twice place) x rs holds b i a j = absurd x
+stopped_so old new m (read.Unindexed place) x rs holds b i a j = absurd x
+stopped_so old new m read.Device x rs holds b i a j = tt
+stopped_so old new m read.NoMemory x rs holds b i a j = absurd x
+stopped_so old new m read.Output x rs holds b i a j = absurd x
 
-stopped_so : {S L B : Type 0} {s : Ghosts S} {l : Widths L} {t : Ghosts B} (old new : Walk B L t l) (first m : Maker S L s l) (f : ReadFault) → AddedSoFar l.WORD (t.image old.reader.now.store) (λ b. left_of l.WORD b old) first m
-    → ((b : List ℕ) → t.image new.reader.now.store b → t.image old.reader.now.store b) → WalkingFails l.WORD old new f → limit_of m ≡ limit_of first → Holds first [] → (b : List ℕ) → t.image new.reader.now.store b → (a : List ℕ) → s.image m.store a
-    → BaseFails l.WORD (limit_of first) b (read_fault f)
-stopped_so old new first m read.Short h fewer x limit holds b i a j = absurd x
-stopped_so {l = l} old new first m (read.Table n) h fewer x limit holds b i a j =
-    let p = damage_fails b h.done (damage.Table n) m (damaged_all l.WORD b h.done (left_of l.WORD b old) (damage.Table n) (h.all b (fewer b i)) (x.1 b i)) (h.holds holds) a j in
-    (damage.Table n, refl, p.0, subst (λ (k : ℕ). file_size l.WORD (walk_of l.WORD b).records ≤ k) limit p.1)
-stopped_so {l = l} old new first m (read.Record place) h fewer x limit holds b i a j =
-    let p = damage_fails b h.done (damage.Record place) m (damaged_all l.WORD b h.done (left_of l.WORD b old) (damage.Record place) (h.all b (fewer b i)) (x.1 b i)) (h.holds holds) a j in
-    (damage.Record place, refl, p.0, subst (λ (k : ℕ). file_size l.WORD (walk_of l.WORD b).records ≤ k) limit p.1)
-stopped_so old new first m (read.Slot n k) h fewer x limit holds b i a j = absurd x
-stopped_so old new first m (read.Twice place) h fewer x limit holds b i a j = absurd x
-stopped_so old new first m (read.Unindexed place) h fewer x limit holds b i a j = absurd x
-stopped_so old new first m read.Device h fewer x limit holds b i a j = tt
-stopped_so old new first m read.NoMemory h fewer x limit holds b i a j = absurd x
-stopped_so old new first m read.Output h fewer x limit holds b i a j = absurd x
+pub walk_stopped : {S L B : Type 0} {s : Ghosts S} {l : Widths L} {t : Ghosts B} (left : List ℕ → Walked) (old new : Walk B L t l) (m : Maker S L s l) (f : ReadFault) → ((b : List ℕ) → left b ≡ left_of l.WORD b old) → WalkingFails l.WORD old new f → (rs : List KeyValue) → Holds m rs → (b : List ℕ)
+    → t.image new.reader.now.store b → WhereHonest (s.image m.store) (NotAdded l.WORD (limit_of m) (with_records rs (left b)) (read_fault f))
+walk_stopped {l = l} left old new m f same x rs holds b i = record {
+  each = λ a j. subst (λ v. NotAdded l.WORD (limit_of m) (with_records rs v) (read_fault f)) (sym (same b)) (stopped_so old new m f x rs holds b i a j);
+}
 
-pub walk_stopped : {S L B : Type 0} {s : Ghosts S} {l : Widths L} {t : Ghosts B} (old new : Walk B L t l) (first m : Maker S L s l) (f : ReadFault) → AddedSoFar l.WORD (t.image old.reader.now.store) (λ b. left_of l.WORD b old) first m
-    → ((b : List ℕ) → t.image new.reader.now.store b → t.image old.reader.now.store b) → WalkingFails l.WORD old new f → limit_of m ≡ limit_of first → Holds first [] → (b : List ℕ) → t.image new.reader.now.store b
-    → WhereHonest (s.image m.store) (BaseFails l.WORD (limit_of first) b (read_fault f))
-walk_stopped old new first m f h fewer x limit holds b i = record { each = λ a j. stopped_so old new first m f h fewer x limit holds b i a j }
-
--- ---- a record was not added
+-- ---- records were not added
 
 -- more records take no less room
 pub size_grows : (w : ℕ) (rs more : List KeyValue) → file_size w rs ≤ file_size w (rs ++ more)
@@ -105,32 +164,49 @@ size_grows w rs (r ∷ more) =
     let rest = subst (λ v. file_size w (rs ++ r ∷ []) ≤ file_size w v) (append_assoc rs (r ∷ []) more) (size_grows w (rs ++ r ∷ []) more) in
     omega (arith, one, rest)
 
-unadded_so : {S L : Type 0} {s : Ghosts S} {l : Widths L} (limit : ℕ) (b : List ℕ) (done : List KeyValue) (r : KeyValue) (rest : Walked) (m now : Maker S L s l) (f : MakeFault) → walk_of l.WORD b ≡ with_records (done ++ r ∷ []) rest → FailsPutting m now Add r f → limit_of m ≡ limit → Holds m done
-    → (a : List ℕ) → s.image now.store a → BaseFails l.WORD limit b (make_fault f)
-unadded_so limit b done r rest m now make.Broken all x same holds a j = absurd (x.cause done holds a j)
-unadded_so limit b done r rest m now make.Lookup all x same holds a j = absurd (x.2 refl)
-unadded_so {l = l} limit b done r rest m now make.TooBig all x same holds a j =
-    let large = (x.1 done holds).each a j in
-    let grows = size_grows l.WORD (done ++ r ∷ []) rest.records in
-    let is : file_size l.WORD (walk_of l.WORD b).records ≡ file_size l.WORD ((done ++ r ∷ []) ++ rest.records) = ap (λ v. file_size l.WORD v.records) all in
-    omega (arith, large, grows, is, same)
-unadded_so limit b done r rest m now make.NoMemory all x same holds a j = tt
-unadded_so limit b done r rest m now make.Writing all x same holds a j = tt
+-- a front of what is left passes the limit
+front_passes : (w limit : ℕ) (rs front later : List KeyValue) (rest left : Walked) → left ≡ with_records (front ++ later) rest → limit < file_size w (rs ++ front) → limit < file_size w (rs ++ left.records)
+front_passes w limit rs front later rest left is large =
+    let grows = size_grows w (rs ++ front) (later ++ rest.records) in
+    let all : rs ++ left.records ≡ (rs ++ front) ++ (later ++ rest.records) = ap (λ (v : Walked). rs ++ v.records) is ∙ ap (λ t. rs ++ t) (append_assoc front later rest.records) ∙ sym (append_assoc rs front (later ++ rest.records)) in
+    let same = ap (file_size w) all in
+    omega (arith, large, grows, same)
 
-pub add_stopped : {S L : Type 0} {s : Ghosts S} {l : Widths L} (old new : List ℕ → Type 0) (left rest : List ℕ → Walked) (first m now : Maker S L s l) (pair : Pair) (k v : List ℕ) (f : MakeFault) → AddedSoFar l.WORD old left first m
-    → ((b : List ℕ) → new b → old b) → ((b : List ℕ) → new b → left b ≡ with_first (record_of b pair) (rest b)) → ((b : List ℕ) → new b → k ≡ bytes_of b pair.key) → ((b : List ℕ) → new b → v ≡ bytes_of b pair.value)
-    → FailsPutting m now Add (record { key = k; value = v }) f → limit_of m ≡ limit_of first → Holds first [] → (b : List ℕ) → new b → WhereHonest (s.image now.store) (BaseFails l.WORD (limit_of first) b (make_fault f))
-add_stopped {l = l} old new left rest first m now pair k v f h fewer more key value x limit holds b i = record {
+unappended_so : {S L : Type 0} {s : Ghosts S} {l : Widths L} (rs more : List KeyValue) (left rest : Walked) (m now : Maker S L s l) (f : MakeFault) → left ≡ with_records more rest → FailsAppending m now more f → Holds m rs → (a : List ℕ) → s.image now.store a
+    → NotAdded l.WORD (limit_of m) (with_records rs left) (make_fault f)
+unappended_so rs more left rest m now make.Broken all x holds a j = absurd (true≢false (sym x.0 ∙ holds.whole))
+unappended_so rs more left rest m now make.Lookup all x holds a j = absurd x
+unappended_so {l = l} rs more left rest m now make.TooBig all x holds a j =
+    let some = x.0 in
+    let split : more ≡ (some.done ++ some.next ∷ []) ++ some.later = some.all ∙ sym (append_assoc some.done (some.next ∷ []) some.later) in
+    front_passes l.WORD (limit_of m) rs (some.done ++ some.next ∷ []) some.later rest left (all ∙ ap (λ v. with_records v rest) split) ((some.why rs holds).each a j)
+unappended_so rs more left rest m now make.NoMemory all x holds a j = tt
+unappended_so rs more left rest m now make.Writing all x holds a j = tt
+
+pub window_stopped : {S L : Type 0} {s : Ghosts S} {l : Widths L} (images : List ℕ → Type 0) (left rest : List ℕ → Walked) (m now : Maker S L s l) (xs bytes : List ℕ) (n : ℕ) (f : MakeFault) → n ≤ length xs → bytes ≡ take n xs
+    → ((b : List ℕ) → images b → left b ≡ with_records (whole_records l.WORD n (take n xs)) (rest b)) → FailsAppending m now (whole_records l.WORD (length bytes) bytes) f → (rs : List KeyValue) → Holds m rs → (b : List ℕ) → images b
+    → WhereHonest (s.image now.store) (NotAdded l.WORD (limit_of m) (with_records rs (left b)) (make_fault f))
+window_stopped {l = l} images left rest m now xs bytes n f few is given x rs holds b i = record {
+  each = λ a j. unappended_so rs (whole_records l.WORD (length bytes) bytes) (left b) (rest b) m now f (given b i ∙ ap (λ v. with_records v (rest b)) (sym (window_records l.WORD xs bytes n few is))) x holds a j;
+}
+
+unadded_so : {S L : Type 0} {s : Ghosts S} {l : Widths L} (rs : List KeyValue) (r : KeyValue) (left rest : Walked) (m now : Maker S L s l) (f : MakeFault) → left ≡ with_first r rest → FailsPutting m now Add r f → Holds m rs → (a : List ℕ) → s.image now.store a
+    → NotAdded l.WORD (limit_of m) (with_records rs left) (make_fault f)
+unadded_so rs r left rest m now make.Broken all x holds a j = absurd (x.cause rs holds a j)
+unadded_so rs r left rest m now make.Lookup all x holds a j = absurd (x.2 refl)
+unadded_so {l = l} rs r left rest m now make.TooBig all x holds a j = front_passes l.WORD (limit_of m) rs (r ∷ []) [] rest left all ((x.1 rs holds).each a j)
+unadded_so rs r left rest m now make.NoMemory all x holds a j = tt
+unadded_so rs r left rest m now make.Writing all x holds a j = tt
+
+pub one_stopped : {S L : Type 0} {s : Ghosts S} {l : Widths L} (images : List ℕ → Type 0) (left rest : List ℕ → Walked) (m now : Maker S L s l) (pair : Pair) (k v : List ℕ) (f : MakeFault) → ((b : List ℕ) → images b → left b ≡ with_first (record_of b pair) (rest b))
+    → ((b : List ℕ) → images b → k ≡ bytes_of b pair.key) → ((b : List ℕ) → images b → v ≡ bytes_of b pair.value) → FailsPutting m now Add (record { key = k; value = v }) f
+    → (rs : List KeyValue) → Holds m rs → (b : List ℕ) → images b → WhereHonest (s.image now.store) (NotAdded l.WORD (limit_of m) (with_records rs (left b)) (make_fault f))
+one_stopped images left rest m now pair k v f given key value x rs holds b i = record {
   each = λ a j.
       let r : KeyValue = record_of b pair in
       let is : KeyValue = record { key = k; value = v } in
       let same : is ≡ r = let e = key b i in let g = value b i in cc in
-      let all : walk_of l.WORD b ≡ with_records (h.done ++ is ∷ []) (rest b) =
-      h.all b (fewer b i)
-      ∙ ap (with_records h.done) (more b i)
-      ∙ ap (λ rs. let walk : Walked = record { records = rs; damage = (rest b).damage } in walk) (sym (append_assoc h.done (r ∷ []) (rest b).records))
-      ∙ ap (λ q. with_records (h.done ++ q ∷ []) (rest b)) (sym same) in
-      unadded_so (limit_of first) b h.done is (rest b) m now f all x limit (h.holds holds) a j;
+      unadded_so rs is (left b) (rest b) m now f (given b i ∙ ap (λ q. with_first q (rest b)) (sym same)) x holds a j;
 }
 
 -- what fails so is no fault of the base's store
@@ -170,7 +246,7 @@ unopened_so {l = l} t old new m read.Short x size holds b i a j =
     let long = size b i in
     let same = ap t.size x.1 in
     let few = x.0 in
-    let p = damage_fails b [] damage.Short m (walk_of-short l.WORD b (omega (arith, long, same, few))) holds a j in
+    let p = damage_fails [] (walk_of l.WORD b) damage.Short m (walk_of-short l.WORD b (omega (arith, long, same, few))) holds a j in
     (damage.Short, refl, p.0, p.1)
 unopened_so t old new m read.Device x size holds b i a j = tt
 unopened_so t old new m (read.Table n) x size holds b i a j = absurd x

@@ -9,5 +9,6 @@ pub mod Load
 pub mod Query
 pub mod StatsText
 pub mod Stats
+pub mod Base
 pub mod Check
 pub mod Flushed

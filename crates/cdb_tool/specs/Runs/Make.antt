@@ -11,17 +11,16 @@ use Rattle.cdb_form.specs.Format.Record.{KeyValue}
 use Rattle.cdb_form.specs.Format.Walk.{walk_of}
 use Rattle.cdb_form.specs.Text.Amending.{Change}
 use Rattle.cdb_form.specs.Views.TextFault.{IsOfText}
-use Rattle.cdb_form.specs.declared.damage.Damage.{Damage}
 use Rattle.cdb_form.specs.declared.text.fault.TextFault.{TextFault}
 use Rattle.cdb_form.specs.declared.text.fault.TextFault.TheVariants as text_fault
 use Rattle.cdb_make.specs.Views.Batch.{Holds, limit_of, count_in, IsUsable}
 use Rattle.cdb_make.specs.Views.Maker.{WhereHonest, IsFile}
 use Rattle.cdb_make.specs.Views.Maker as maker
 use Rattle.cdb_make.specs.declared.batch.Batch.{Batch}
-use Rattle.cdb_make.specs.declared.fault.MakeFault.TheVariants.{Lookup, TooBig, Writing}
+use Rattle.cdb_make.specs.declared.fault.MakeFault.TheVariants.{Lookup, Writing}
 use Rattle.cdb_make.specs.declared.maker.Maker.{Maker}
-use Rattle.cdb_read.specs.Views.ReadFault.{damage_fault}
 use Rattle.cdb_read.specs.declared.fault.ReadFault.TheVariants as read
+use Rattle.cdb_tool.specs.Runs.Base.{NotAdded}
 use Rattle.cdb_tool.specs.Runs.Course.{Task, task_of, Incoming, from_inputs, course_of, Goes}
 use Rattle.cdb_tool.specs.Runs.Course.{StopsSo}
 use Rattle.cdb_tool.specs.Runs.Inputs.{InputForm, input_form, HasItemFault, BeginsWithItems}
@@ -38,16 +37,9 @@ pub record IsBase (w limit : ℕ) (b : List ℕ) : Type 0 where
   pub whole : (walk_of w b).damage ≡ None
   pub fits : file_size w (walk_of w b).records ≤ limit
 
--- why it can't be: its records pass the limit, which comes first; or its walk has a damage; or the
--- store or the memory failed
+-- why it can't be
 abbrev pub BaseFails : ℕ → ℕ → List ℕ → Fault → Type 0
-BaseFails w limit b (Make TooBig) = limit < file_size w (walk_of w b).records
-BaseFails w limit b (Make Writing) = ⊤
-BaseFails w limit b (Read read.Device) = ⊤
-BaseFails w limit b (Read fault) = (damage : Damage) × (fault ≡ damage_fault damage)
-    × ((walk_of w b).damage ≡ Some damage) × (file_size w (walk_of w b).records ≤ limit)
-BaseFails w limit b NoMemory = ⊤
-BaseFails w limit b fault = ⊥
+BaseFails w limit b fault = NotAdded w limit (walk_of w b) fault
 
 -- the records of a base
 abbrev pub records_of : ℕ → Option (List ℕ) → Option (List KeyValue)

@@ -1,18 +1,88 @@
 // The records of a base, which a maker begins with.
-ghost use Rattle.std.specs.Prelude.{◌≡◌, ◌<◌, ◌≤◌, ℕ, List, [], OnOk, IfErr};
+ghost use Rattle.std.specs.Prelude.{◌≡◌, ◌<◌, ◌≤◌, ℕ, List, [], true, OnOk, IfOk, IfErr};
 ghost use Rattle.cdb_store.specs.Reads.{OnlyReads};
+ghost use Rattle.cdb_form.specs.Format.Record.{KeyValue};
+ghost use Rattle.cdb_form.specs.Format.Walk.{with_records};
 ghost use Rattle.cdb_make.specs.Views.Maker.{Holds, WhereHonest, ComesFrom, limit_of};
+ghost use Rattle.cdb_read.specs.Views.Walk.{left_of, bytes_left};
+ghost use Rattle.cdb_tool.specs.Runs.Base.{AddsNext, NotAdded};
 ghost use Rattle.cdb_tool.specs.Runs.Make.{BaseFails, HandsBack, HasFailed, IsOfStore};
 ghost use Rattle.cdb_tool.specs.Runs.Make.{IsOfBase, AddsBase, HoldsBase, BaseStopped};
 
 use crate::fault::Fault;
 use cdb_form::Width;
 use cdb_make::{Maker, Mode};
-use cdb_read::{Reader, walk};
+use cdb_read::{Reader, Walk, walk};
 use cdb_store::Store;
-use std::alloc::Global;
+use std::alloc::{AllocError, Global};
 
-/// Adds all records of a database to a maker that holds none. One record is in memory at a time.
+/// How many bytes of a base are read at once.
+const AT_ONCE: usize = 65536;
+
+/// Room for what is read of a base.
+#[derive(Drop)]
+struct Room {
+    /// The records that are copied as they are.
+    window: Vec<u8>,
+    /// The key and the value of a record that is longer.
+    key: Vec<u8>,
+    value: Vec<u8>,
+}
+
+impl Room {
+    /// A window of zeros, and no record.
+    fn new(alloc: Global) -> Result<Room, AllocError> {
+        let mut window = Vec::new(alloc);
+        window.resize(AT_ONCE, 0)?;
+        Ok(Room {
+            window,
+            key: Vec::new(alloc),
+            value: Vec::new(alloc),
+        })
+    }
+}
+
+/// Adds the next records of a walk: all that are whole in the window, as they are, or the next one if
+/// it has no room there. Answers whether there were any.
+fn add_next<L: Width, S: Store, B: Store>(
+    maker: &mut Maker<S, L>,
+    records: &mut Walk<'_, B, L>,
+    room: &mut Room,
+) -> Result<bool, Fault>
+    ensures same_reader { records.new.reader.ghost_name ≡ records.old.reader.ghost_name }
+    ensures reads { OnlyReads B.Store records.old.reader.now.store records.new.reader.now.store }
+    ensures ok { IfOk result (λ more. AddsNext L.WORD (B.image records.new.reader.now.store)
+        (λ b. left_of L.WORD b records.old) (λ b. left_of L.WORD b records.new)
+        maker.old maker.new more) }
+    ensures fewer { IfOk result (λ more. more ≡ true → bytes_left records.new < bytes_left records.old) }
+    ensures fails { IfErr result (λ f. (rs : List KeyValue) → Holds maker.old rs → (b : List ℕ)
+        → B.image records.new.reader.now.store b → WhereHonest (S.image maker.new.store)
+        (NotAdded L.WORD (limit_of maker.old)
+        (with_records rs (left_of L.WORD b records.old)) f)) }
+    ensures comes { ComesFrom (S.image maker.old.store) (S.image maker.new.store) }
+    ensures limit { limit_of maker.new ≡ limit_of maker.old }
+    ensures failures { S.failures maker.old.store ≤ S.failures maker.new.store }
+    ensures failed { IfErr result
+        (λ f. IsOfStore f → S.failures maker.old.store < S.failures maker.new.store) }
+    ensures base_failed { IfErr result (λ f. IsOfBase f
+        → B.failures records.old.reader.now.store < B.failures records.new.reader.now.store) }
+{
+    let n = records.records_into(&mut room.window)?;
+    if n > 0 {
+        maker.append(&room.window[..n])?;
+        return Ok(true);
+    }
+    let Some(pair) = records.next()? else {
+        return Ok(false);
+    };
+    records.value_into(pair.key, &mut room.key)?;
+    records.value_into(pair.value, &mut room.value)?;
+    maker.put(Mode::Add, &room.key, &room.value)?;
+    Ok(true)
+}
+
+/// Adds all records of a database to a maker that holds none. They are copied as they are, by
+/// windows.
 fn add_records<L: Width, S: Store, B: Store>(
     alloc: Global,
     maker: &mut Maker<S, L>,
@@ -32,14 +102,9 @@ fn add_records<L: Width, S: Store, B: Store>(
     ensures base_failed { IfErr result
         (λ f. IsOfBase f → B.failures reader.old.store < B.failures reader.new.store) }
 {
-    let mut key = Vec::new(alloc);
-    let mut value = Vec::new(alloc);
+    let mut room = Room::new(alloc)?;
     let mut records = walk(reader);
-    while let Some(pair) = records.next()? {
-        records.value_into(pair.key, &mut key)?;
-        records.value_into(pair.value, &mut value)?;
-        maker.put(Mode::Add, &key, &value)?;
-    }
+    while add_next(maker, &mut records, &mut room)? {}
     Ok(())
 }
 

@@ -6,8 +6,8 @@ use Rattle.cdb_tool.proofs.BaseRecords.{AddedSoFar}
 use Rattle.cdb_tool.proofs.runs.make_base.add_records.Given as goal
 
 -- the records so far were added
-abbrev pub invariant-loop-value : goal.invariant-loop-value
-invariant-loop-value g l =
+abbrev pub invariant-loop-room : goal.invariant-loop-room
+invariant-loop-room g l =
     record {
       same : l.records.reader.ghost_name ≡ l.initial.records.reader.ghost_name;
       reads : OnlyReads g.B.Store l.fn.reader.store l.records.reader.now.store;
@@ -17,5 +17,5 @@ invariant-loop-value g l =
       failures : g.S.Store.failures l.fn.maker.store ≤ g.S.Store.failures l.maker.store;
     }
 
-abbrev pub decreases-loop-value : goal.decreases-loop-value
-decreases-loop-value g l = bytes_left l.records
+abbrev pub decreases-loop-room : goal.decreases-loop-room
+decreases-loop-room g l = bytes_left l.records
