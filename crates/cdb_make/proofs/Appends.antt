@@ -37,16 +37,7 @@ entered_holds {s = s} {l = l} old new r before h is_record whole hashed behind a
       };
 }
 
--- no entry, and one more
-pub enters_none : {S L : Type 0} {s : Ghosts S} {l : Widths L} (m : Maker S L s l) → m.broken ≡ false → Enters m m []
-enters_none m whole = record {
-  whole = whole;
-  holds = λ before h. subst (λ (v : List KeyValue). Holds m v) (sym (append-nil before)) h;
-  end = omega arith;
-  count = omega arith;
-  limit = refl;
-}
-
+-- an entry more
 pub enters_more : {S L : Type 0} {s : Ghosts S} {l : Widths L} (old mid new : Maker S L s l) (rs : List KeyValue) (r : KeyValue) → Enters old mid rs → new.broken ≡ false
     → ((before : List KeyValue) → Holds mid before → Holds new (before ++ r ∷ [])) → new.end ≡ mid.end + record_size l.WORD r → new.count ≡ mid.count + 1 → new.limit ≡ mid.limit
     → Enters old new (rs ++ r ∷ [])

@@ -1,6 +1,5 @@
 -- A run over the items of one input.
-use Rattle.std.proofs.Common.{◌≤◌, ◌≡◌, ◌≢◌, ℕ, ◌+◌, inl, inr, List, [], ◌∷◌, ◌++◌, length, refl, sym, ap, subst, ◌∙◌, Option, Some, None, IfSome, is_some, Bool, map, arith, length-append, append_assoc}
-use Rattle.std.proofs.lemmas.List.{map-append}
+use Rattle.std.proofs.Common.{◌≤◌, ◌≡◌, ◌≢◌, ℕ, ◌+◌, inl, inr, List, [], ◌∷◌, ◌++◌, length, refl, sym, ap, subst, ◌∙◌, Option, Some, None, IfSome, is_some, Bool, map, arith, length-append}
 use Rattle.cdb_store.specs.declared.store.Store.{Ghosts}
 use Rattle.cdb_form.specs.declared.width.Width.{Ghosts as Widths}
 use Rattle.cdb_form.specs.Text.Amending.{Change}
@@ -141,13 +140,6 @@ own_of remaining reader = form.Own (remaining reader)
 pub own_bytes : {J : Type 0} (remaining : J → Option (List ℕ)) (readers : List J) → map (own_of remaining) readers ≡ map form.Own (map remaining readers)
 own_bytes remaining [] = refl
 own_bytes remaining (reader ∷ readers) = ap (λ v. form.Own (remaining reader) ∷ v) (own_bytes remaining readers)
-
-pub own_next : {J : Type 0} (remaining : J → Option (List ℕ)) (turns : List (Turn J)) (left rest : List J) (reader : J) (all : List OneInput) → left ≡ reader ∷ rest → map (one_of remaining) turns ++ map (own_of remaining) left ≡ all
-    → map (one_of remaining) (turns ++ turn.Own reader ∷ []) ++ map (own_of remaining) rest ≡ all
-own_next remaining turns left rest reader all e h =
-    ap (λ v. v ++ map (own_of remaining) rest) (map-append (one_of remaining) turns (turn.Own reader ∷ []))
-    ∙ append_assoc (map (one_of remaining) turns) (own_of remaining reader ∷ []) (map (own_of remaining) rest)
-    ∙ ap (λ v. map (one_of remaining) turns ++ map (own_of remaining) v) (sym e) ∙ h
 
 -- the inputs that are left, while they are read
 abbrev pub left_now : {J I : Type 0} → (J → Option (List ℕ)) → (I → Option (List ℕ)) → List (Turn J) → SharedInput I → InputsLeft
