@@ -5,7 +5,9 @@
 
 The model is a plain list of records. The bases are made here too: some as `cdb` lays a file out, some
 as other programs may, with the tables in another order and unused bytes between them. After the drawn
-cases each byte of a small base is changed in turn, and a text of changes is cut at each byte.
+cases each byte of a small base is changed in turn, and a text of changes is cut at each byte. Then
+come bases of several windows of 64 KiB, with records that end at the window's end, next to it, and
+that have no room in one.
 """
 
 import os
@@ -20,6 +22,7 @@ CASES = 5000
 KEYS = [b"a", b"bc", b"cB", b"", b"one"]
 ADD, WARN, INSERT, REPLACE = "", "-w", "-u", "-r"
 CHANGES = b"-3:one\n+3,5:one->Again\n\n"
+WINDOW = 65536
 
 
 def foreign_file_of(chosen, records):
@@ -132,6 +135,32 @@ def drawn_case(folder, number):
     return folder.amend(base, spelled(changes), *letters) == (0, told, file_of(after, bytes_of))
 
 
+def large_bases():
+    """Bases of several windows, each with a name and its records."""
+    small = [(b"k%d" % n, b"v" * (n % 90)) for n in range(3000)]
+    bases = {"of small records": small}
+    for over in range(-9, 10):
+        # With header and key the first record has WINDOW + over bytes.
+        first = (b"first", b"x" * (WINDOW + over - 13))
+        bases[f"whose first record passes a window by {over}"] = [first, *small[:50], first]
+    for size in (2 * WINDOW, 5 * WINDOW + 7):
+        bases[f"with a record of {size} bytes"] = [*small[:1500], (b"long", b"y" * size), *small[1500:]]
+    return bases
+
+
+def large_case(folder, records):
+    """Whether a base of several windows is amended, and refused if its last record is cut."""
+    changes = [(b"k7", None), (b"new", b"1"), (b"first", b"2")]
+    base = file_of(records)
+    after, _ = changed(records, changes, REPLACE)
+    # The tables are left out, and with them one byte of the last record.
+    end = 2048 + sum(8 + len(key) + len(value) for key, value in records)
+    return (
+        folder.amend(base, spelled(changes), REPLACE) == (0, b"", file_of(after))
+        and folder.amend(base[: end - 1], b"\n")[::2] == (111, b"old")
+    )
+
+
 def damaged_case(folder, place):
     """Whether a base with one byte changed is amended if its walk is whole, and refused otherwise."""
     base = TWO_FILE[:place] + bytes([TWO_FILE[place] ^ 0x41]) + TWO_FILE[place + 1 :]
@@ -157,6 +186,7 @@ def main():
         answers = [(f"drawn case {n}", drawn_case(folder, n)) for n in range(CASES)]
         answers += [(f"byte {n} of the base", damaged_case(folder, n)) for n in range(len(TWO_FILE))]
         answers += [(f"a text of {n} bytes", cut_case(folder, n)) for n in range(len(CHANGES))]
+        answers += [(f"a base {name}", large_case(folder, rs)) for name, rs in large_bases().items()]
     wrong = [name for name, is_right in answers if not is_right]
     for name in wrong[:20]:
         print(f"{name}: something else was left")
