@@ -5,11 +5,15 @@ ghost use Rattle.cdb_store.specs.Images.{TornWithin, Copied, HasCause};
 
 use cdb_store::{Store, StoreFault};
 
-/// How many bytes are moved at once.
-const PIECE: usize = 4096;
+/// How many bytes of a long move are moved at once.
+const LONG: usize = 65536;
 
-/// The longest move for which a piece of this length does.
-const SHORT: usize = 256;
+/// The longest moves for which pieces of these lengths do.
+const MIDDLE: usize = 4096;
+
+const SHORT: usize = 1024;
+
+const SHORTEST: usize = 256;
 
 /// Copies as `move_down` does, in pieces as long as this one.
 fn move_pieces<S: Store>(
@@ -46,7 +50,7 @@ fn move_pieces<S: Store>(
 }
 
 /// Copies `len` bytes from the position `from` to the lower position `to`, in pieces of at most
-/// 4096 bytes from the front on. The two ranges may overlap.
+/// 64 KiB from the front on. The two ranges may overlap.
 ///
 /// The bytes lie inside the store, whose length stays, and no memory is taken. `Device`: a piece
 /// couldn't be read or written, and the bytes outside of the `len` from `to` on stay. A piece is
@@ -73,9 +77,13 @@ pub(crate) fn move_down<S: Store>(
 {
     if len == 0 {
         Ok(())
+    } else if len <= SHORTEST as u64 {
+        move_pieces(store, from, to, len, &mut [0; SHORTEST])
     } else if len <= SHORT as u64 {
         move_pieces(store, from, to, len, &mut [0; SHORT])
+    } else if len <= MIDDLE as u64 {
+        move_pieces(store, from, to, len, &mut [0; MIDDLE])
     } else {
-        move_pieces(store, from, to, len, &mut [0; PIECE])
+        move_pieces(store, from, to, len, &mut [0; LONG])
     }
 }
