@@ -43,6 +43,7 @@ impl<S: Store, L: Width> Batch<S, L> {
     }
 
     /// One more record, after the others. If there is no room for it, a pass is made first.
+    #[inline(always)]
     fn add(&mut self, key: &[u8], value: &[u8]) -> Result<(), MakeFault>
         ensures ok { OnOk result
             (Adds self.old self.new (record { key = key.now; value = value.now })) }
@@ -121,6 +122,7 @@ impl<S: Store, L: Width> Batch<S, L> {
     }
 
     /// Puts a record as `put` says it.
+    #[inline(always)]
     fn put_by(&mut self, mode: Mode, key: &[u8], value: &[u8]) -> Result<Put, MakeFault>
         ensures puts { IfOk result
             (Puts self.old self.new mode (record { key = key.now; value = value.now })) }
@@ -160,6 +162,7 @@ impl<S: Store, L: Width> Batch<S, L> {
     /// leave the records as they were. `Writing`: the store failed; amid a pass that breaks the
     /// batch, else its records are what they were. `Broken`: an earlier call broke it, or the store
     /// gave back other bytes than were written.
+    #[inline(always)]
     pub fn put(&mut self, mode: Mode, key: &[u8], value: &[u8]) -> Result<Put, MakeFault>
         ensures puts { IfOk result
             (Puts self.old self.new mode (record { key = key.now; value = value.now })) }
