@@ -5,12 +5,13 @@ ghost use Rattle.cdb_store.specs.Images.{TornWithin, Copied, HasCause};
 
 use cdb_store::{Store, StoreFault};
 
-/// How many bytes of a long move are moved at once.
-const LONG: usize = 65536;
+/// How many bytes of a long move are moved at once. A buffer of 64 KiB lets so many pass.
+const LONG: usize = 131_072;
 
-/// The longest moves for which pieces of these lengths do.
+/// How many bytes of another move are.
 const MIDDLE: usize = 4096;
 
+/// The longest moves for which pieces of these lengths do.
 const SHORT: usize = 1024;
 
 const SHORTEST: usize = 256;
@@ -50,11 +51,11 @@ fn move_pieces<S: Store>(
 }
 
 /// Copies `len` bytes from the position `from` to the lower position `to`, in pieces of at most
-/// 64 KiB from the front on. The two ranges may overlap.
+/// 128 KiB from the front on. The two ranges may overlap.
 ///
 /// The bytes lie inside the store, whose length stays, and no memory is taken. `Device`: a piece
 /// couldn't be read or written, and the bytes outside of the `len` from `to` on stay. A piece is
-/// zeroed at each call, so short moves have a short one.
+/// zeroed at each call, so none is much longer than its move.
 pub(crate) fn move_down<S: Store>(
     store: &mut S,
     from: u64,
@@ -81,7 +82,7 @@ pub(crate) fn move_down<S: Store>(
         move_pieces(store, from, to, len, &mut [0; SHORTEST])
     } else if len <= SHORT as u64 {
         move_pieces(store, from, to, len, &mut [0; SHORT])
-    } else if len <= MIDDLE as u64 {
+    } else if len <= LONG as u64 {
         move_pieces(store, from, to, len, &mut [0; MIDDLE])
     } else {
         move_pieces(store, from, to, len, &mut [0; LONG])
