@@ -166,7 +166,7 @@ fails_writing old new r later Broken stays fits fails = absurd fails
 fails_writing old new r later Lookup stays fits fails = absurd fails
 fails_writing old new r later TooBig stays fits fails = absurd fails
 fails_writing old new r later NoMemory stays fits fails = (none_done old new r later stays fits, fails)
-fails_writing old new r later Writing stays fits fails = (none_done old new r later stays fits, fails)
+fails_writing old new r later Writing stays fits fails = (none_done old new r later stays fits, fails, stays)
 
 -- more records follow those that were to be appended
 some_wider : {S L : Type 0} {s : Ghosts S} {l : Widths L} (old new : Maker S L s l) (rs more : List KeyValue) (P : List KeyValue → Type 0) → AppendsSome old new rs P → AppendsSome old new (rs ++ more) P
@@ -186,7 +186,7 @@ fails_wider old new rs more Broken fails = fails
 fails_wider old new rs more Lookup fails = fails
 fails_wider old new rs more TooBig fails = (some_wider old new rs more (PassesLimit old new) fails.0, fails.1)
 fails_wider old new rs more NoMemory fails = (some_wider old new rs more (KeepsLimit old new) fails.0, fails.1)
-fails_wider old new rs more Writing fails = (some_wider old new rs more (KeepsLimit old new) fails.0, fails.1)
+fails_wider old new rs more Writing fails = (some_wider old new rs more (KeepsLimit old new) fails.0, fails.1, fails.2)
 
 -- the next one passes the limit
 pub appends_until : {S L : Type 0} {s : Ghosts S} {l : Widths L} (old new : Maker S L s l) (rs done later : List KeyValue) (r : KeyValue) (n : ℕ) → rs ≡ done ++ r ∷ later → AppendsAll old new done n

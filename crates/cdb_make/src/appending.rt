@@ -1,12 +1,13 @@
 // Whole records, as they are in a file, are written behind the others at once.
 ghost use Rattle.std.specs.Prelude.{◌≡◌, ℕ, ◌+◌, ◌*◌, ◌<◌, ◌≤◌, ◌++◌, ◌∷◌, [], true, false, List};
 ghost use Rattle.std.specs.Prelude.{length, take, sum_by, IfOk, IfErr, OnOk, OnErr};
+ghost use Rattle.cdb_store.specs.Images.{Holds as AreIn};
 ghost use Rattle.cdb_form.specs.Format.File.{whole_size};
 ghost use Rattle.cdb_form.specs.Format.Hash.{key_hash};
 ghost use Rattle.cdb_form.specs.Format.Record.{KeyValue, IsRecord, record_bytes, record_size};
 ghost use Rattle.cdb_form.specs.Format.Walk.{front_size, front_record, whole_records};
 ghost use Rattle.cdb_make.specs.declared.fault.MakeFault.TheVariants.{NoMemory};
-ghost use Rattle.cdb_make.specs.Views.Appending.{records_at, first_size, AreFirst, AreIn};
+ghost use Rattle.cdb_make.specs.Views.Appending.{records_at, first_size, AreFirst};
 
 use crate::append::append_piece;
 use crate::entries::{push_entry, reserve_entry};
@@ -208,7 +209,7 @@ impl<S: Store, L: Width> Maker<S, L> {
     ///
     /// `TooBig`: with the next record the file would pass the limit. `NoMemory`: an allocation
     /// failed at the next record. Both leave the records before that one appended. `Writing`: the
-    /// store failed. In all three cases the earlier records stay. `Broken`: an earlier call broke
+    /// store failed, and the maker holds the records that it held. `Broken`: an earlier call broke
     /// the maker, and it is what it was.
     pub fn append(&mut self, bytes: &[u8]) -> Result<usize, MakeFault>
         ensures ok { IfOk result (λ n.

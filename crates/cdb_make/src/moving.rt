@@ -5,15 +5,17 @@ ghost use Rattle.cdb_store.specs.Images.{TornWithin, Copied, HasCause};
 
 use cdb_store::{Store, StoreFault};
 
-/// How many bytes of a long move are moved at once. A buffer of 64 KiB lets so many pass.
-const LONG: usize = 131_072;
+/// The bytes of a piece of a move that is longer than this. It is on the stack, which is short in
+/// the threads of some callers.
+const LONG: usize = 32_768;
 
-/// How many bytes of another move are.
+/// The bytes of a piece of a move that is shorter than `LONG`.
 const MIDDLE: usize = 4096;
 
-/// The longest moves for which pieces of these lengths do.
+/// The bytes of a piece of a move that is no longer.
 const SHORT: usize = 1024;
 
+/// The bytes of a piece of the shortest moves.
 const SHORTEST: usize = 256;
 
 /// Copies as `move_down` does, in pieces as long as this one.
@@ -51,7 +53,7 @@ fn move_pieces<S: Store>(
 }
 
 /// Copies `len` bytes from the position `from` to the lower position `to`, in pieces of at most
-/// 128 KiB from the front on. The two ranges may overlap.
+/// 32 KiB from the front on. The two ranges may overlap.
 ///
 /// The bytes lie inside the store, whose length stays, and no memory is taken. `Device`: a piece
 /// couldn't be read or written, and the bytes outside of the `len` from `to` on stay. A piece is

@@ -1,6 +1,6 @@
 // Output through a buffer, from which many bytes go at once.
-ghost use Rattle.std.specs.Prelude.{◌≡◌, ℕ, ◌+◌, ◌<◌, ◌≤◌, [], ◌-◌, length, take, min, true, IfOk};
-ghost use Rattle.std.specs.Prelude.{OnOk, OnErr, vec_len};
+ghost use Rattle.std.specs.Prelude.{◌≡◌, ℕ, ◌+◌, ◌<◌, ◌≤◌, [], ◌-◌, length, take, min, true, false};
+ghost use Rattle.std.specs.Prelude.{IfOk, OnOk, OnErr, vec_len};
 ghost use Rattle.std.specs.Io.{WritesAtMost};
 ghost use Rattle.std.specs.Io.KnownBytes.{Keeps, Appends, WriteAppends};
 
@@ -20,7 +20,7 @@ pub struct Output<W> {
     buffer: Vec<u8>,
     start: usize,
     size: usize,
-    /// The writer failed, at this or an earlier call.
+    /// The writer has failed.
     failed: bool,
     ghost some: { 0 < size },
     ghost within: { start ≤ vec_len buffer },
@@ -38,6 +38,7 @@ impl<W: Write> Output<W> {
         ensures bytes { IfOk result (λ o. output_bytes W.contents o ≡ W.contents writer) }
         ensures empty { IfOk result (λ o. held_by o ≡ []) }
         ensures size { IfOk result (λ o. o.size ≡ size) }
+        ensures sound { IfOk result (λ o. o.failed ≡ false) }
     {
         let buffer = Vec::with_capacity(alloc, size)?;
         Ok(Output {
@@ -49,7 +50,7 @@ impl<W: Write> Output<W> {
         })
     }
 
-    /// Whether its writer failed while bytes were handed on to it.
+    /// Whether its writer has failed, to write or to flush.
     pub fn has_failed(&self) -> bool
         ensures { result ≡ self.now.failed }
     {
@@ -64,6 +65,7 @@ impl<W: Write> Output<W> {
             (output_bytes W.contents self.new) }
         ensures empty { OnOk result (vec_len self.new.buffer ≡ 0) }
         ensures failed { OnErr result (self.new.failed ≡ true) }
+        ensures sound { OnOk result (self.new.failed ≡ self.old.failed) }
     {
         while self.start < self.buffer.len() {
             let gone = write_some(&mut self.writer, &self.buffer[self.start..]);
@@ -85,10 +87,14 @@ impl<W: Write> Output<W> {
             (output_bytes W.contents self.new) (take n bytes.now)) }
         ensures err { OnErr result
             (Keeps (output_bytes W.contents self.old) (output_bytes W.contents self.new)) }
+        ensures failed { OnErr result (self.new.failed ≡ true) }
+        ensures sound { OnOk result (self.new.failed ≡ self.old.failed) }
     {
         self.hand_on()?;
         let most = bytes.len().min(MOST);
-        write_some(&mut self.writer, &bytes[..most])
+        let gone = write_some(&mut self.writer, &bytes[..most]);
+        self.failed |= gone.is_err();
+        gone
     }
 
     /// Takes bytes into the buffer, as many as it has room for.
@@ -99,6 +105,7 @@ impl<W: Write> Output<W> {
             (output_bytes W.contents self.new) (take n bytes.now)) }
         ensures err { OnErr result
             (Keeps (output_bytes W.contents self.old) (output_bytes W.contents self.new)) }
+        ensures sound { self.new.failed ≡ self.old.failed }
     {
         let n = bytes.len().min(self.size - self.buffer.len());
         self.buffer.extend_from_slice(&bytes[..n])?;
@@ -118,6 +125,7 @@ impl<W: Write> Write for Output<W> {
             (output_bytes W.contents self.new) result buf.now }
         // Some bytes are taken if there are any.
         ensures some { IfOk result (λ n. 0 < length buf.now → 0 < n) }
+        ensures sound { OnOk result (self.new.failed ≡ self.old.failed) }
     {
         // More than the buffer has room for isn't copied.
         if self.size < buf.len() {
@@ -140,10 +148,14 @@ impl<W: Write> Write for Output<W> {
         // The writer has all that was taken, or it failed.
         ensures empty { OnOk result (held_by self.new ≡ []) }
         ensures handed { HasHandedOn self.new }
+        ensures failed { OnErr result (self.new.failed ≡ true) }
+        ensures sound { OnOk result (self.new.failed ≡ self.old.failed) }
     {
-        match self.hand_on() {
-            Ok(()) => self.writer.flush(),
-            Err(OutFault) => Err(io::Error::from(ErrorKind::Other)),
-        }
+        let Ok(()) = self.hand_on() else {
+            return Err(io::Error::from(ErrorKind::Other));
+        };
+        let flushed = self.writer.flush();
+        self.failed |= flushed.is_err();
+        flushed
     }
 }

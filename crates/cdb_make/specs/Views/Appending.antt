@@ -1,7 +1,6 @@
 -- Whole records that are appended at once.
 use Rattle.std.specs.Prelude.{ℕ, ◌≡◌, ◌+◌, ◌<◌, ◌≤◌, true, false, List, [], ◌∷◌, ◌++◌, length, take, drop}
 use Rattle.std.specs.Prelude.{flat_map, sum_by}
-use Rattle.cdb_store.specs.Images.{Holds as Stored}
 use Rattle.cdb_store.specs.declared.store.Store.{Ghosts}
 use Rattle.cdb_form.specs.declared.width.Width.{Ghosts as Widths}
 use Rattle.cdb_form.specs.Format.File.{file_size}
@@ -12,6 +11,7 @@ use Rattle.cdb_make.specs.declared.fault.MakeFault.TheVariants.{Broken, Lookup, 
 use Rattle.cdb_make.specs.declared.fault.MakeFault.TheVariants.{Writing}
 use Rattle.cdb_make.specs.declared.maker.Maker.{Maker}
 use Rattle.cdb_make.specs.Views.Maker.{Holds, WhereHonest, HasStoreFailed, HasNotFailed}
+use Rattle.cdb_make.specs.Views.Maker.{StaysWhole}
 
 -- all whole records at the front of some bytes
 abbrev pub records_at : ℕ → List ℕ → List KeyValue
@@ -28,10 +28,6 @@ pub record AreFirst (w : ℕ) (bytes : List ℕ) (count size : ℕ) : Type 0 whe
   pub sum : size ≡ first_size w bytes count
   pub are : take size bytes ≡ flat_map (record_bytes w) (take count (records_at w bytes))
   pub rest : records_at w (drop size bytes) ≡ drop count (records_at w bytes)
-
--- each image has these bytes from a place on
-abbrev pub AreIn : ℕ → List ℕ → (List ℕ → Type 0) → Type 0
-AreIn place bytes images = Stored place bytes images
 
 -- all these records were written behind the others, and take so many bytes
 pub record AppendsAll {S L : Type 0} {s : Ghosts S} {l : Widths L} (old new : Maker S L s l)
@@ -77,7 +73,7 @@ FailsAppending old new rs TooBig =
 FailsAppending old new rs NoMemory =
     AppendsSome old new rs (KeepsLimit old new) × HasNotFailed old new
 FailsAppending old new rs Writing =
-    AppendsSome old new rs (KeepsLimit old new) × HasStoreFailed old new
+    AppendsSome old new rs (KeepsLimit old new) × HasStoreFailed old new × StaysWhole old new
 
 -- bytes were not written behind the records, since memory was refused or the store failed
 abbrev pub FailsWriting : {S L : Type 0} {s : Ghosts S} {l : Widths L} → Maker S L s l

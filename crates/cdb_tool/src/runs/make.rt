@@ -196,7 +196,7 @@ fn make_unflushed<L: Width, S: Store, B: Store, J: Read + Drop, I: Read + Drop, 
 /// If an allocation or the store failed, the lines are those of some first records: `put_inputs` says
 /// which.
 ///
-/// The base is read before any input, one record at a time. Store and base are handed back whatever
+/// The base is read before any input, 64 KiB at a time. Store and base are handed back whatever
 /// the answer; the base was only read. At Ok the store holds the file of the records that survive,
 /// and nothing else, and has handed it on to what holds its bytes; after a fault it may hold
 /// anything. `errors` is flushed last, after a fault too.

@@ -5,4 +5,4 @@ use Rattle.cdb_tool.proofs.output.Output.pass_on.Goals as goal
 pub returns-clause-ok : goal.returns-clause-ok
 returns-clause-ok g c =
     let o = c.hand_on.new.self in
-    some_passed_on c.write_some.result o.buffer.items c.args.bytes.now c.min-most.result o.start _ _ _ (omega (arith, c.in_ok-hand_on.ensures.empty, o.buffer.ok.0)) c.hand_on.ensures.bytes c.write_some.ensures.count c.write_some.ensures.ok
+    some_passed_on c.write_some-gone.result o.buffer.items c.args.bytes.now c.min-most.result o.start _ _ _ (omega (arith, c.in_ok-hand_on.ensures.empty, o.buffer.ok.0)) c.hand_on.ensures.bytes c.write_some-gone.ensures.count c.write_some-gone.ensures.ok
