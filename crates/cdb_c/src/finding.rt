@@ -3,8 +3,8 @@ ghost use Rattle.std.specs.Prelude.{◌≡◌, ◌+◌, ◌<◌, ◌≤◌, pos,
 ghost use Rattle.cdb_form.specs.Format.Hash.{key_hash};
 ghost use Rattle.cdb_form.specs.Format.Pair.{head_size};
 ghost use Rattle.cdb_read.specs.Lookup.{lookup_of, nothing_found};
-ghost use Rattle.cdb_read.specs.Views.Turning.{TurnInside};
-ghost use Rattle.cdb_memory.specs.Searches.{turn_of, ahead, IsInside, Begins};
+ghost use Rattle.cdb_read.specs.Views.Probing.{ProbeInside};
+ghost use Rattle.cdb_memory.specs.Searches.{probe_of, ahead, IsInside, Begins};
 ghost use Rattle.cdb_memory.specs.Searches.{GivesSpan, GivesNone, Advances, HasFirst};
 ghost use Rattle.cdb_c.specs.Answers.{Says, IsDamaged, span_of, search_of};
 
@@ -139,7 +139,7 @@ pub extern "C" fn cdb_c_next(file: &[u8], key: &[u8], state: &mut State, found: 
         (state.new ≡ state.old) }
     ensures ended { state.old.left ≡ 0 → (result ≡ pos 0) × (state.new ≡ state.old) }
     ensures astray { 0 < state.old.left
-        → (TurnInside 4 (length file.now) (turn_of (search_of state.old)) → ⊥)
+        → (ProbeInside 4 (length file.now) (probe_of (search_of state.old)) → ⊥)
         → result ≡ negsuc 0 }
 {
     let mut search = state.search();

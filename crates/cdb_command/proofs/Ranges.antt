@@ -10,8 +10,8 @@ use Rattle.cdb_command.specs.Rules.{letters_in, only_letter, no_stray, first_str
 use Rattle.cdb_command.specs.Rules.{options_in, value_number, decimal_in, number_in, two_names}
 use Rattle.cdb_command.specs.Rules.{one_name, first_name, not_both, command_in, line_plan}
 use Rattle.cdb_command.specs.declared.command.Command.{Command}
-use Rattle.cdb_command.specs.declared.letter.Letter.{Letter}
-use Rattle.cdb_command.specs.declared.letter.Letter.TheVariants as letter
+use Rattle.cdb_command.specs.declared.rules.letter.Letter.{Letter}
+use Rattle.cdb_command.specs.declared.rules.letter.Letter.TheVariants as letter
 use Rattle.cdb_command.specs.declared.usage.Usage.{Usage}
 use Rattle.cdb_command.specs.declared.usage.Usage.TheVariants.{Number}
 

@@ -10,8 +10,8 @@ use Rattle.cdb_form.specs.declared.mode.Mode.{Mode}
 use Rattle.cdb_form.specs.declared.mode.Mode.TheVariants.{Add, Warn, Insert, Replace}
 use Rattle.cdb_command.specs.Line.{Text, Given}
 use Rattle.cdb_command.specs.Asked.{Asked, Query, Dump, Listing, Stats, Check, Create, Help, ◌>>=◌}
-use Rattle.cdb_command.specs.declared.letter.Letter.{Letter}
-use Rattle.cdb_command.specs.declared.letter.Letter.TheVariants as letter
+use Rattle.cdb_command.specs.declared.rules.letter.Letter.{Letter}
+use Rattle.cdb_command.specs.declared.rules.letter.Letter.TheVariants as letter
 use Rattle.cdb_command.specs.declared.line.Flags.{Flags}
 use Rattle.cdb_command.specs.declared.options.MakeOptions.{MakeOptions}
 use Rattle.cdb_command.specs.declared.style.Style.{Style}

@@ -1,19 +1,13 @@
 //! The command line of the program `cdb`: its words become a `Command`.
 #![tactic(auto)]
 
-mod asking;
-mod base;
 mod command;
-mod letter;
 mod line;
-mod making;
-mod names;
-mod number;
 mod options;
 mod owned;
 mod parser;
 mod planning;
-mod stray;
+mod rules;
 mod style;
 mod usage;
 mod usage_text;

@@ -4,8 +4,8 @@ ghost use Rattle.cdb_command.specs.Asked.{Gives, asked_in, IsInRange};
 ghost use Rattle.cdb_command.specs.Words.{cdb_faults, plan_of};
 ghost use Rattle.cdb_command.specs.declared.usage.Usage.TheVariants.{Words};
 
-use crate::asking::asked_on;
 use crate::command::Command;
+use crate::rules::asking::asked_on;
 use crate::usage::Usage;
 use crate::words::{line_of, matches_of};
 use std::alloc::Global;

@@ -1,7 +1,7 @@
 -- Gaps that stand apart, one step on.
 use Rattle.std.proofs.Common.{◌≡◌, ℕ, ◌+◌, ◌<◌, ◌≤◌, List, [], ◌∷◌, length, drop, get_or, subst, arith}
 use Rattle.std.proofs.lemmas.List.{at_drop_more, at_drop_all}
-use Rattle.cdb_make.specs.declared.gap.Gap.{Gap}
+use Rattle.cdb_make.specs.declared.removal.gap.Gap.{Gap}
 use Rattle.cdb_make.specs.Gaps.{AreApart}
 
 pub next_gap : (gs : List Gap) (i : ℕ) (d : Gap) → i < length gs → drop i gs ≡ get_or gs i d ∷ drop (i + 1) gs

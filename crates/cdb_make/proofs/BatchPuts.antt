@@ -18,10 +18,10 @@ use Rattle.cdb_form.proofs.Sizes.{size_split}
 use Rattle.cdb_make.specs.declared.batch.Batch.{Batch}
 use Rattle.cdb_make.specs.declared.fault.MakeFault.{MakeFault}
 use Rattle.cdb_make.specs.declared.fault.MakeFault.TheVariants.{Broken, Lookup, TooBig, NoMemory, Writing}
-use Rattle.cdb_make.specs.declared.gap.Gap.{Gap}
+use Rattle.cdb_make.specs.declared.removal.gap.Gap.{Gap}
 use Rattle.cdb_make.specs.declared.maker.Maker.{Maker}
-use Rattle.cdb_make.specs.declared.put.Put.{Put}
-use Rattle.cdb_make.specs.declared.put.Put.TheVariants.{Added, AddedAgain, Present, Replaced}
+use Rattle.cdb_make.specs.declared.records.put.Put.{Put}
+use Rattle.cdb_make.specs.declared.records.put.Put.TheVariants.{Added, AddedAgain, Present, Replaced}
 use Rattle.cdb_make.specs.Gaps.{marked_gaps, unmarked, gaps_by}
 use Rattle.cdb_make.specs.Looks.{NoNewImage}
 use Rattle.cdb_make.specs.Marks.{AreMarked, fresh, with_key}

@@ -14,7 +14,7 @@ use Rattle.cdb_form.specs.Format.Record.{KeyValue, IsRecord, record_size}
 use Rattle.cdb_make.specs.declared.batch.Batch.{Batch}
 use Rattle.cdb_make.specs.declared.fault.MakeFault.{MakeFault}
 use Rattle.cdb_make.specs.declared.fault.MakeFault.TheVariants.{Broken, Lookup, TooBig, NoMemory, Writing}
-use Rattle.cdb_make.specs.declared.gap.Gap.{Gap}
+use Rattle.cdb_make.specs.declared.removal.gap.Gap.{Gap}
 use Rattle.cdb_make.specs.declared.maker.Maker.{Maker}
 use Rattle.cdb_make.specs.Gaps.{AreApart, marked_gaps, unmarked}
 use Rattle.cdb_make.specs.Looks.{NoNewImage}

@@ -9,13 +9,13 @@ use Rattle.cdb_form.specs.declared.width.Width.{Ghosts as Widths}
 use Rattle.cdb_form.specs.Format.Hash.{key_hash, table_number}
 use Rattle.cdb_form.specs.Format.Pair.{WordPair, head_size}
 use Rattle.cdb_form.specs.Format.Record.{KeyValue, IsRecord, record_size}
-use Rattle.cdb_make.specs.declared.list.EntryList.{EntryList}
-use Rattle.cdb_make.specs.declared.looking.LookFault.{LookFault}
-use Rattle.cdb_make.specs.declared.looking.LookFault.TheVariants.{Failed, Foreign}
+use Rattle.cdb_make.specs.declared.index.list.EntryList.{EntryList}
+use Rattle.cdb_make.specs.declared.records.key_at.LookFault.{LookFault}
+use Rattle.cdb_make.specs.declared.records.key_at.LookFault.TheVariants.{Failed, Foreign}
 use Rattle.cdb_make.specs.declared.maker.Maker.{Maker}
 use Rattle.cdb_make.specs.Looks.{NoNewImage}
 use Rattle.cdb_form.proofs.Sizes.{sum_by-table_entries}
-use Rattle.cdb_make.specs.declared.gap.Gap.{Gap}
+use Rattle.cdb_make.specs.declared.removal.gap.Gap.{Gap}
 use Rattle.cdb_make.specs.Gaps.{marked_gaps, unmarked}
 use Rattle.cdb_make.specs.Stands.{Stands}
 use Rattle.cdb_make.specs.Marks.{StandMarked, TellsMarked, AreMarked}

@@ -4,8 +4,8 @@ use Rattle.std.specs.Prelude.{All, Result, Ok, Err, OnOk, OnErr}
 use Rattle.std.proofs.lemmas.List.{get_or-map, length-map}
 use Rattle.std.proofs.lemmas.List.Sums.{sum_by-cons}
 use Rattle.cdb_form.specs.Format.Pair.{WordPair}
-use Rattle.cdb_make.specs.declared.gap.Gap.{Gap}
-use Rattle.cdb_make.specs.declared.list.EntryList.{EntryList}
+use Rattle.cdb_make.specs.declared.removal.gap.Gap.{Gap}
+use Rattle.cdb_make.specs.declared.index.list.EntryList.{EntryList}
 use Rattle.cdb_make.specs.Views.EntryList.{list_entries, lists_entries, AreClosed, AreWithin, HasSpareGaps}
 
 -- the list at a place, in lists of which each is closed

@@ -7,8 +7,8 @@ use Rattle.std.proofs.lemmas.Grind.{get_or-set_at}
 use Rattle.std.proofs.lemmas.List.{get_or-map, get_or-set_other, get_or_default, map-set, length-map}
 use Rattle.std.proofs.lemmas.List.Sums.{sum_by-set}
 use Rattle.cdb_form.specs.Format.Pair.{WordPair}
-use Rattle.cdb_make.specs.declared.gap.Gap.{Gap}
-use Rattle.cdb_make.specs.declared.list.EntryList.{EntryList}
+use Rattle.cdb_make.specs.declared.removal.gap.Gap.{Gap}
+use Rattle.cdb_make.specs.declared.index.list.EntryList.{EntryList}
 use Rattle.cdb_make.specs.Gaps.{AreApart, first_place}
 use Rattle.cdb_make.proofs.Merge.{closed_below}
 use Rattle.cdb_make.specs.Views.EntryList.{IsClosed, AreUnder, list_entries, lists_entries, list_tops}

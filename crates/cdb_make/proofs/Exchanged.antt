@@ -16,8 +16,8 @@ use Rattle.cdb_form.specs.Format.Record.{KeyValue, IsRecord, record_size}
 use Rattle.cdb_form.specs.Format.Table.{entries_from, in_table, table_entries}
 use Rattle.cdb_make.specs.declared.fault.MakeFault.{MakeFault}
 use Rattle.cdb_make.specs.declared.fault.MakeFault.TheVariants.{Broken, Lookup, TooBig, NoMemory, Writing}
-use Rattle.cdb_make.specs.declared.gap.Gap.{Gap}
-use Rattle.cdb_make.specs.declared.list.EntryList.{EntryList}
+use Rattle.cdb_make.specs.declared.removal.gap.Gap.{Gap}
+use Rattle.cdb_make.specs.declared.index.list.EntryList.{EntryList}
 use Rattle.cdb_make.specs.declared.maker.Maker.{Maker}
 use Rattle.cdb_make.specs.Stands.{Tells, Stands, WritesSurvivors}
 use Rattle.cdb_make.specs.Survivors.{has_key, count_of, without}

@@ -16,7 +16,7 @@ use Rattle.cdb_form.specs.Views.Pairs.{PairFits}
 use Rattle.cdb_form.proofs.Fronts.{lengths_of, Begins, Reads, front_reads}
 use Rattle.cdb_form.proofs.Standing.{Begins-record_bytes}
 use Rattle.cdb_form.proofs.Sizes.{length-record_bytes}
-use Rattle.cdb_make.specs.declared.gap.Gap.{Gap}
+use Rattle.cdb_make.specs.declared.removal.gap.Gap.{Gap}
 use Rattle.cdb_make.specs.Gaps.{gaps_by}
 use Rattle.cdb_make.specs.Looks.{key_at, size_at, picked, AreChained}
 use Rattle.cdb_make.specs.Survivors.{has_key}

@@ -6,7 +6,7 @@ use Rattle.cdb_store.proofs.Moves.{kept_within, held_first}
 use Rattle.cdb_form.specs.Format.Pair.{head_size}
 use Rattle.cdb_make.specs.Gaps.{AreApart, first_place}
 use Rattle.cdb_make.specs.Unfinished.{unfinished_head, IsUnfinished, KeepsHead}
-use Rattle.cdb_make.specs.declared.gap.Gap.{Gap}
+use Rattle.cdb_make.specs.declared.removal.gap.Gap.{Gap}
 use Rattle.cdb_make.proofs.Survive.{first_above}
 
 -- where no image came, as after a look

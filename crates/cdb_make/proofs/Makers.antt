@@ -15,10 +15,10 @@ use Rattle.cdb_form.specs.Format.File.{file_size}
 use Rattle.cdb_form.proofs.Sizes.{size_split, sum_by-table_entries}
 use Rattle.cdb_make.specs.declared.fault.MakeFault.{MakeFault}
 use Rattle.cdb_make.specs.declared.fault.MakeFault.TheVariants.{Broken, Lookup, TooBig, NoMemory, Writing}
-use Rattle.cdb_make.specs.declared.gap.Gap.{Gap}
-use Rattle.cdb_make.specs.declared.list.EntryList.{EntryList}
-use Rattle.cdb_make.specs.declared.looking.LookFault.{LookFault}
-use Rattle.cdb_make.specs.declared.looking.LookFault.TheVariants.{Failed, Foreign}
+use Rattle.cdb_make.specs.declared.removal.gap.Gap.{Gap}
+use Rattle.cdb_make.specs.declared.index.list.EntryList.{EntryList}
+use Rattle.cdb_make.specs.declared.records.key_at.LookFault.{LookFault}
+use Rattle.cdb_make.specs.declared.records.key_at.LookFault.TheVariants.{Failed, Foreign}
 use Rattle.cdb_make.specs.declared.maker.Maker.{Maker}
 use Rattle.cdb_make.specs.Looks.{NoNewImage}
 use Rattle.cdb_make.specs.Stands.{Stands, AreGapsOf, WritesSurvivors, gaps_of}

@@ -11,8 +11,8 @@ use Rattle.std.proofs.lemmas.List.FromFn.{fill_by_all, get_or-map-range_with_len
 use Rattle.cdb_form.specs.Format.Hash.{key_hash, table_number}
 use Rattle.cdb_form.specs.Format.Pair.{WordPair, head_size}
 use Rattle.cdb_form.specs.Format.Record.{KeyValue}
-use Rattle.cdb_make.specs.declared.gap.Gap.{Gap}
-use Rattle.cdb_make.specs.declared.list.EntryList.{EntryList}
+use Rattle.cdb_make.specs.declared.removal.gap.Gap.{Gap}
+use Rattle.cdb_make.specs.declared.index.list.EntryList.{EntryList}
 use Rattle.cdb_make.specs.Gaps.{marked_gaps, IsRising}
 use Rattle.cdb_make.specs.Marks.{marked_entries, turn_each, fresh, with_key}
 use Rattle.cdb_make.specs.Views.EntryList.{list_entries, lists_entries, list_tops, entries_of, AreUnder, AreWithin, HasSpareGaps, IsMarked}

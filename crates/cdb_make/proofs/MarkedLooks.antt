@@ -7,7 +7,7 @@ use Rattle.cdb_form.specs.Format.Hash.{key_hash, table_number}
 use Rattle.cdb_form.specs.Format.Pair.{WordPair}
 use Rattle.cdb_form.specs.Format.Record.{KeyValue, record_bytes, record_size}
 use Rattle.cdb_form.specs.Format.Table.{in_table}
-use Rattle.cdb_make.specs.declared.gap.Gap.{Gap}
+use Rattle.cdb_make.specs.declared.removal.gap.Gap.{Gap}
 use Rattle.cdb_make.specs.Gaps.{marked_gaps}
 use Rattle.cdb_make.specs.Looks.{picked, AreChained}
 use Rattle.cdb_make.specs.Marks.{turned, marked_entry, marked_from, fresh}

@@ -14,7 +14,7 @@ use Rattle.cdb_form.specs.Format.Pair.{WordPair, head_size}
 use Rattle.cdb_form.specs.Format.Record.{KeyValue, record_size}
 use Rattle.cdb_form.specs.Format.Table.{entries_from, in_table, table_entries}
 use Rattle.cdb_form.proofs.Sizes.{sum_by-table_entries}
-use Rattle.cdb_make.specs.declared.gap.Gap.{Gap}
+use Rattle.cdb_make.specs.declared.removal.gap.Gap.{Gap}
 use Rattle.cdb_make.specs.Gaps.{is_gap, closed_by, lowered, marked_gaps, unmarked, IsRising}
 use Rattle.cdb_make.specs.Marks.{turned, marked_entry, marked_from, marked_entries, fresh, with_key}
 use Rattle.cdb_make.specs.Survivors.{has_key, is_there, count_of, without}

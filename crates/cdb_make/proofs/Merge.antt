@@ -4,7 +4,7 @@ use Rattle.std.proofs.lemmas.List.{drop-set-lt, drop_all, append-nil, take_all}
 use Rattle.cdb_make.proofs.Sides.{length-entries_of}
 use Rattle.std.proofs.Math.Seq.{take-suc-set}
 use Rattle.cdb_form.specs.Format.Pair.{WordPair}
-use Rattle.cdb_make.specs.declared.gap.Gap.{Gap}
+use Rattle.cdb_make.specs.declared.removal.gap.Gap.{Gap}
 use Rattle.std.specs.Prelude.{slice_index}
 use Rattle.std.specs.List.Sorted.{IsNonDecreasing}
 use Rattle.cdb_make.specs.Gaps.{AreApart, IsRising, is_gap, gone_below, closed_by, first_place}

@@ -12,8 +12,8 @@ use Rattle.cdb_make.specs.declared.fault.MakeFault.TheVariants.{Broken, Lookup, 
 use Rattle.cdb_make.specs.declared.maker.Maker.{Maker}
 use Rattle.cdb_form.specs.declared.mode.Mode.{Mode}
 use Rattle.cdb_form.specs.declared.mode.Mode.TheVariants.{Add, Warn, Insert, Replace}
-use Rattle.cdb_make.specs.declared.put.Put.{Put}
-use Rattle.cdb_make.specs.declared.put.Put.TheVariants.{Added, AddedAgain, Present, Replaced}
+use Rattle.cdb_make.specs.declared.records.put.Put.{Put}
+use Rattle.cdb_make.specs.declared.records.put.Put.TheVariants.{Added, AddedAgain, Present, Replaced}
 use Rattle.cdb_make.specs.Stands.{Tells, Stands, IsThere}
 use Rattle.cdb_make.specs.Survivors.{is_there, put_list, put_answer}
 use Rattle.cdb_make.specs.Views.Adding.{AddFails}

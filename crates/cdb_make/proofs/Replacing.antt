@@ -16,10 +16,10 @@ use Rattle.cdb_form.specs.Format.File.{file_size, whole_size}
 use Rattle.cdb_form.proofs.Sizes.{size_split}
 use Rattle.cdb_make.specs.declared.fault.MakeFault.{MakeFault}
 use Rattle.cdb_make.specs.declared.fault.MakeFault.TheVariants.{Broken, Lookup, TooBig, NoMemory, Writing}
-use Rattle.cdb_make.specs.declared.gap.Gap.{Gap}
+use Rattle.cdb_make.specs.declared.removal.gap.Gap.{Gap}
 use Rattle.cdb_make.specs.declared.maker.Maker.{Maker}
 use Rattle.cdb_form.specs.declared.mode.Mode.TheVariants.{Replace}
-use Rattle.cdb_make.specs.declared.put.Put.TheVariants.{Added, Replaced}
+use Rattle.cdb_make.specs.declared.records.put.Put.TheVariants.{Added, Replaced}
 use Rattle.cdb_make.specs.Stands.{AreGapsOf, gaps_of}
 use Rattle.cdb_make.specs.Survivors.{has_key, is_there, count_of, without, behind_first, put_list}
 use Rattle.cdb_make.specs.Views.Maker.{Holds, WhereHonest, ComesFrom, WritesNothing, Exchanges, FailsClosing, Puts, WouldPut, FailsPutting, made_size}

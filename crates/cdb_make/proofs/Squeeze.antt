@@ -3,7 +3,7 @@ use Rattle.std.proofs.Common.{◌≡◌, ℕ, ◌+◌, ◌-◌, ◌≤◌, List,
 use Rattle.std.proofs.lemmas.List.{take-take, drop-drop}
 use Rattle.cdb_store.specs.Images.{overwrite, part, AreSized, Copied, TornWithin}
 use Rattle.cdb_store.proofs.Parts.{drop-overwrite, overwrite-overwrite, length-part}
-use Rattle.cdb_make.specs.declared.gap.Gap.{Gap}
+use Rattle.cdb_make.specs.declared.removal.gap.Gap.{Gap}
 use Rattle.cdb_make.specs.Gaps.{kept, Closed}
 
 -- amid the pass: the bytes from `start` to `to` are those kept up to `from`, and the rest of them is kept from `from` on

@@ -6,7 +6,7 @@ use Rattle.std.proofs.lemmas.List.Sums.{sum_by-cons}
 use Rattle.cdb_make.proofs.Apart.{apart_end}
 use Rattle.cdb_store.specs.Images.{part, overwrite, AreSized, Holds}
 use Rattle.cdb_store.proofs.Parts.{part_add, length-part, part_from_take, part-overwrite, take-overwrite}
-use Rattle.cdb_make.specs.declared.gap.Gap.{Gap}
+use Rattle.cdb_make.specs.declared.removal.gap.Gap.{Gap}
 use Rattle.cdb_form.specs.Format.Record.{KeyValue, record_size, record_bytes}
 use Rattle.cdb_form.proofs.Sizes.{length-record_bytes, length-records}
 use Rattle.cdb_make.specs.Gaps.{kept, kept_len, marked_gaps, unmarked, Closed, AreApart, first_place}

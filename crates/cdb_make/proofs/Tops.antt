@@ -7,8 +7,8 @@ use Rattle.std.proofs.lemmas.List.{get_or-map, get_or-set_other, get_or-replicat
 use Rattle.std.proofs.lemmas.List.Elements.{All-push, All-same, All-weaker}
 use Rattle.cdb_form.specs.Format.Hash.{table_number}
 use Rattle.cdb_form.specs.Format.Pair.{WordPair}
-use Rattle.cdb_make.specs.declared.gap.Gap.{Gap}
-use Rattle.cdb_make.specs.declared.list.EntryList.{EntryList}
+use Rattle.cdb_make.specs.declared.removal.gap.Gap.{Gap}
+use Rattle.cdb_make.specs.declared.index.list.EntryList.{EntryList}
 use Rattle.cdb_make.specs.Views.EntryList.{AreClosed, AreUnder, list_entries, lists_entries, list_tops, with_entry}
 
 -- a list of some

@@ -10,7 +10,7 @@ use Rattle.cdb_form.specs.Format.Hash.{key_hash, table_number}
 use Rattle.cdb_form.specs.Format.Pair.{WordPair}
 use Rattle.cdb_form.specs.Format.Record.{KeyValue, record_size}
 use Rattle.cdb_form.specs.Format.Table.{entries_from, in_table}
-use Rattle.cdb_make.specs.declared.gap.Gap.{Gap}
+use Rattle.cdb_make.specs.declared.removal.gap.Gap.{Gap}
 use Rattle.cdb_make.specs.Gaps.{marked_gaps, IsRising}
 use Rattle.cdb_make.specs.Marks.{marked_entry, marked_from, turn_at, turn_each, fresh, with_key}
 use Rattle.cdb_make.specs.Survivors.{has_key}

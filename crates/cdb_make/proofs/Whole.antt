@@ -14,8 +14,8 @@ use Rattle.cdb_form.specs.Format.Pair.{WordPair, head_size}
 use Rattle.cdb_form.specs.Format.Record.{KeyValue, record_bytes, record_size, records_end}
 use Rattle.cdb_form.specs.Format.Table.{entries_from, in_table, table_entries}
 use Rattle.cdb_form.proofs.Sizes.{length-records}
-use Rattle.cdb_make.specs.declared.gap.Gap.{Gap}
-use Rattle.cdb_make.specs.declared.list.EntryList.{EntryList}
+use Rattle.cdb_make.specs.declared.removal.gap.Gap.{Gap}
+use Rattle.cdb_make.specs.declared.index.list.EntryList.{EntryList}
 use Rattle.cdb_make.specs.Gaps.{AreApart, IsRising, Closed, closed_by, gaps_by, marked_gaps, unmarked, first_place, kept_len}
 use Rattle.cdb_make.specs.Looks.{picked, Picks, TellsThere, NoNewImage, AreChained, NoneChained}
 use Rattle.cdb_make.specs.Marks.{TellsMarked, StandMarked, AreMarked, WritesPass, marked_entry, marked_from, marked_entries, fresh, behind_mark}

@@ -6,7 +6,7 @@ use Rattle.cdb_make.specs.Survivors.{Call, Answered, put_result, survivors}
 use Rattle.cdb_make.specs.Survivors.Call.{Putting, Removing}
 use Rattle.cdb_make.specs.declared.fault.MakeFault.TheVariants.{TooBig}
 use Rattle.cdb_form.specs.declared.mode.Mode.TheVariants.{Add, Warn, Insert, Replace}
-use Rattle.cdb_make.specs.declared.put.Put.TheVariants.{Added, AddedAgain, Present, Replaced}
+use Rattle.cdb_make.specs.declared.records.put.Put.TheVariants.{Added, AddedAgain, Present, Replaced}
 
 -- two records of the key `a`, and one of the key `b`
 abbrev a1 : KeyValue

@@ -5,9 +5,9 @@ use Rattle.std.specs.Bool.{Decides}
 use Rattle.cdb_store.specs.Images.{part}
 use Rattle.cdb_form.specs.Format.Pair.{WordPair}
 use Rattle.cdb_form.specs.Format.Walk.{front_size, front_record}
-use Rattle.cdb_make.specs.declared.gap.Gap.{Gap}
-use Rattle.cdb_make.specs.declared.looking.LookFault.{LookFault}
-use Rattle.cdb_make.specs.declared.looking.LookFault.TheVariants.{Failed, Foreign}
+use Rattle.cdb_make.specs.declared.removal.gap.Gap.{Gap}
+use Rattle.cdb_make.specs.declared.records.key_at.LookFault.{LookFault}
+use Rattle.cdb_make.specs.declared.records.key_at.LookFault.TheVariants.{Failed, Foreign}
 
 -- the key of the record at a place, and how many bytes the record takes
 unfoldable pub key_at : ℕ → ℕ → List ℕ → List ℕ

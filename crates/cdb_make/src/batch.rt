@@ -8,10 +8,10 @@ ghost use Rattle.cdb_make.specs.Unfinished.{IsUnfinished};
 ghost use Rattle.cdb_make.specs.Views.Making.{MakingFault};
 
 use crate::fault::MakeFault;
-use crate::gap::Gap;
+use crate::lifetime::Refused;
 use crate::maker::Maker;
-use crate::making::Refused;
-use crate::pace::Pace;
+use crate::removal::gap::Gap;
+use crate::removal::pace::Pace;
 use cdb_form::{Width, hash};
 use cdb_store::Store;
 use std::alloc::Global;

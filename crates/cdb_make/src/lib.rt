@@ -2,43 +2,20 @@
 //! place, and finishes their file.
 #![tactic(auto)]
 
-mod adding;
-mod append;
-mod appending;
 mod batch;
-mod batch_putting;
-mod batch_removing;
-mod closing;
-mod entries;
 mod fault;
-mod finding;
 mod finish;
-mod gap;
 mod index;
 pub mod laws;
-mod list;
-mod lists;
-mod looking;
+mod lifetime;
 mod maker;
-mod making;
-mod marking;
-mod moving;
-mod pace;
-mod pointers;
-mod put;
-mod putting;
-mod removing;
-mod repair;
-mod scan;
-mod settling;
-mod table;
-mod tables;
-mod taking_out;
+mod records;
+mod removal;
 
 pub use batch::Batch;
 pub use cdb_form::Mode;
 pub use fault::MakeFault;
+pub use lifetime::{Refused, Unfinished};
 pub use maker::Maker;
-pub use making::{Refused, Unfinished};
-pub use put::Put;
-pub use settling::Unsettled;
+pub use records::put::Put;
+pub use removal::settle::Unsettled;

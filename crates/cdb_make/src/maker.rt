@@ -11,13 +11,13 @@ ghost use Rattle.cdb_make.specs.Stands.{IsThere};
 ghost use Rattle.cdb_make.specs.Views.EntryList.{lists_entries, AreWithin, HasSpareGaps, list_tops};
 ghost use Rattle.cdb_make.specs.Views.EntryList.{AreUnder};
 
-use crate::entries::catch_up;
 use crate::fault::MakeFault;
-use crate::gap::Gap;
-use crate::list::EntryList;
-use crate::looking::LookFault;
-use crate::put::Put;
-use crate::taking_out;
+use crate::index::entries::catch_up;
+use crate::index::list::EntryList;
+use crate::records::key_at::LookFault;
+use crate::records::put::Put;
+use crate::removal::gap::Gap;
+use crate::removal::take_out;
 use cdb_form::{Width, hash, pair_size};
 use cdb_store::Store;
 use std::alloc::Global;
@@ -185,7 +185,7 @@ impl<S: Store, L: Width> Maker<S, L> {
         }
         let hash = hash(key);
         catch_up(&mut self.lists, hash);
-        match taking_out::exists::<S, L>(&mut self.store, &self.lists, hash, key, self.end) {
+        match take_out::exists::<S, L>(&mut self.store, &self.lists, hash, key, self.end) {
             Ok(there) => Ok(there),
             Err(fault) => Err(self.failed_look(fault)),
         }

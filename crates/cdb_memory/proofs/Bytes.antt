@@ -13,18 +13,18 @@ use Rattle.cdb_form.specs.Format.Reading.{pair_at, nth_pair, head_at}
 use Rattle.cdb_form.specs.Views.Pairs.{header_pair}
 use Rattle.cdb_form.specs.declared.header.Header.{Header}
 use Rattle.cdb_read.specs.Lookup.{lookup_of}
-use Rattle.cdb_read.specs.Views.Search.{TellsSame, turn_slot, StepsFrom, Meets}
-use Rattle.cdb_read.specs.Views.Turning.{TurnInside, next_turn}
-use Rattle.cdb_read.specs.declared.search.Step.TheVariants as step
-use Rattle.cdb_read.specs.declared.search.Met.TheVariants as met
+use Rattle.cdb_read.specs.Views.Search.{TellsSame, probe_slot, StepsFrom, Meets}
+use Rattle.cdb_read.specs.Views.Probing.{ProbeInside, next_probe}
+use Rattle.cdb_read.specs.declared.lookup.search.Step.TheVariants as step
+use Rattle.cdb_read.specs.declared.lookup.search.Met.TheVariants as met
 use Rattle.cdb_read.specs.declared.span.Span.{Span}
-use Rattle.cdb_read.specs.declared.turn.Turn.{Turn}
+use Rattle.cdb_read.specs.declared.lookup.probe.Probe.{Probe}
 use Rattle.cdb_read.proofs.Headers.{HasLengths, has_lengths, front_pair}
 use Rattle.cdb_read.proofs.Searches.{IsTurnSlot, SameAhead}
 use Rattle.cdb_read.proofs.LookupLaws.{lookup_of-is, found_by}
 
-pub slot_here : {w : ℕ} {turn : Turn} {slot : WordPair} (file : List ℕ) → slot ≡ turn_slot w file turn → IsTurnSlot w turn slot (λ b. b ≡ file)
-slot_here {w = w} {turn = turn} file e = record { each = λ b is. e ∙ ap (λ k. turn_slot w k turn) (sym is) }
+pub slot_here : {w : ℕ} {probe : Probe} {slot : WordPair} (file : List ℕ) → slot ≡ probe_slot w file probe → IsTurnSlot w probe slot (λ b. b ≡ file)
+slot_here {w = w} {probe = probe} file e = record { each = λ b is. e ∙ ap (λ k. probe_slot w k probe) (sym is) }
 
 pub header_here : {w p n : ℕ} (file : List ℕ) (h : Header) → n ≡ 2 * w → p + n ≤ length file → header_pair h ≡ pair_at w (take ((p + n) - p) (drop p file)) → HasLengths w p h.klen h.vlen (length file) (λ b. b ≡ file)
 header_here {w = w} {p = p} {n = n} file h e inside read =
@@ -68,31 +68,31 @@ looked_up w {n = n} {size = size} {hash = hash} file key p long number is read =
     ∙ ap (nth_pair w file) (number ∙ ap table_number is) in
     ap (found_by w file key) at ∙ sym (lookup_of-is w file key)
 
--- what a turn tells, after turns that passed
-pub meets_empty : {w : ℕ} {key : List ℕ} {from turn : Turn} {images : List ℕ → Type 0} → SameAhead w key from turn images → StepsFrom w key turn step.Empty images → Meets w key from met.End images
+-- what a probe tells, after probes that passed
+pub meets_empty : {w : ℕ} {key : List ℕ} {from probe : Probe} {images : List ℕ → Type 0} → SameAhead w key from probe images → StepsFrom w key probe step.Empty images → Meets w key from met.End images
 meets_empty same steps = record { each = λ b is. same.each b is ∙ steps.each b is }
 
-pub meets_broken : {w : ℕ} {key : List ℕ} {from turn : Turn} {images : List ℕ → Type 0} (place : ℕ) → SameAhead w key from turn images → StepsFrom w key turn (step.Broken place) images → Meets w key from (met.Broken place) images
+pub meets_broken : {w : ℕ} {key : List ℕ} {from probe : Probe} {images : List ℕ → Type 0} (place : ℕ) → SameAhead w key from probe images → StepsFrom w key probe (step.Broken place) images → Meets w key from (met.Broken place) images
 meets_broken place same steps = record { each = λ b is. same.each b is ∙ steps.each b is }
 
-pub meets_value : {w : ℕ} {key : List ℕ} {from turn then : Turn} {images : List ℕ → Type 0} (span : Span) → then ≡ next_turn turn → SameAhead w key from turn images → StepsFrom w key turn (step.Value span) images → Meets w key from (met.Value span then) images
-meets_value {w = w} {key = key} {from = from} {turn = turn} {then = then} {images = images} span is same steps =
+pub meets_value : {w : ℕ} {key : List ℕ} {from probe then : Probe} {images : List ℕ → Type 0} (span : Span) → then ≡ next_probe probe → SameAhead w key from probe images → StepsFrom w key probe (step.Value span) images → Meets w key from (met.Value span then) images
+meets_value {w = w} {key = key} {from = from} {probe = probe} {then = then} {images = images} span is same steps =
     subst (λ t. Meets w key from (met.Value span t) images) (sym is) (record { each = λ b here. same.each b here ∙ steps.each b here })
 
-pub same_next : {w : ℕ} {key : List ℕ} {from turn then : Turn} {images : List ℕ → Type 0} → then ≡ next_turn turn → SameAhead w key from turn images → StepsFrom w key turn step.Passed images → SameAhead w key from then images
-same_next {w = w} {key = key} {from = from} {turn = turn} {then = then} {images = images} is same steps =
+pub same_next : {w : ℕ} {key : List ℕ} {from probe then : Probe} {images : List ℕ → Type 0} → then ≡ next_probe probe → SameAhead w key from probe images → StepsFrom w key probe step.Passed images → SameAhead w key from then images
+same_next {w = w} {key = key} {from = from} {probe = probe} {then = then} {images = images} is same steps =
     subst (λ t. SameAhead w key from t images) (sym is) (record { each = λ b here. same.each b here ∙ steps.each b here })
 
 round : (slot slots : ℕ) → slot < slots → (slot + 1) % slots < slots
 round slot slots low = mod-lt (slot + 1) (omega arith)
 
-pub next_inside : {w size : ℕ} {turn then : Turn} → then ≡ next_turn turn → TurnInside w size turn → TurnInside w size then
-next_inside {w = w} {size = size} {turn = turn} is inside =
+pub next_inside : {w size : ℕ} {probe then : Probe} → then ≡ next_probe probe → ProbeInside w size probe → ProbeInside w size then
+next_inside {w = w} {size = size} {probe = probe} is inside =
     let left = inside.left in
-    subst (λ t. TurnInside w size t) (sym is) (record { behind = inside.behind; inside = inside.inside; slot = round turn.slot turn.table.slots inside.slot; left = omega arith })
+    subst (λ t. ProbeInside w size t) (sym is) (record { behind = inside.behind; inside = inside.inside; slot = round probe.slot probe.table.slots inside.slot; left = omega arith })
 
-pub next_fewer : (turn then : Turn) {n : ℕ} → then ≡ next_turn turn → turn.left ≤ n → then.left ≤ n
-next_fewer turn then {n = n} is few = subst (λ (t : Turn). t.left ≤ n) (sym is) (omega arith)
+pub next_fewer : (probe then : Probe) {n : ℕ} → then ≡ next_probe probe → probe.left ≤ n → then.left ≤ n
+next_fewer probe then {n = n} is few = subst (λ (t : Probe). t.left ≤ n) (sym is) (omega arith)
 
 -- the head of a file is that of its first bytes
 pub head_here : (w : ℕ) {n : ℕ} {ps : List WordPair} (file : List ℕ) → n ≡ head_size w → head_size w ≤ length file → ps ≡ head_at w (take n file) → head_at w file ≡ ps

@@ -7,7 +7,7 @@ use Rattle.cdb_form.specs.Views.Pairs.{header_pair}
 use Rattle.cdb_form.specs.declared.damage.Damage.TheVariants.{Record}
 use Rattle.cdb_form.specs.declared.header.Header.{Header}
 use Rattle.cdb_read.specs.Views.Walking.{behind, LiesAt}
-use Rattle.cdb_read.specs.declared.walk_state.Rest.{Rest}
+use Rattle.cdb_read.specs.declared.walking.state.Rest.{Rest}
 use Rattle.cdb_read.specs.declared.span.Pair.{Pair}
 use Rattle.cdb_read.proofs.Headers.{front_pair}
 use Rattle.cdb_read.proofs.Pairs.{HeaderTells, either, no_header, no_body, stands}

@@ -3,23 +3,23 @@ use Rattle.std.specs.Prelude.{ℕ, ◌≡◌, ◌+◌, ◌<◌, ◌≤◌, List,
 use Rattle.cdb_form.specs.Format.Hash.{key_hash}
 use Rattle.cdb_read.specs.Lookup.{Found, lookup_of, nothing_found, with_span}
 use Rattle.cdb_read.specs.Views.Search.{found_ahead}
-use Rattle.cdb_read.specs.Views.Turning.{TurnInside}
+use Rattle.cdb_read.specs.Views.Probing.{ProbeInside}
 use Rattle.cdb_read.specs.declared.span.Span.{Span}
-use Rattle.cdb_read.specs.declared.turn.Searching.TheVariants.{At}
-use Rattle.cdb_read.specs.declared.turn.Turn.{Turn}
+use Rattle.cdb_read.specs.declared.lookup.probe.Searching.TheVariants.{At}
+use Rattle.cdb_read.specs.declared.lookup.probe.Probe.{Probe}
 use Rattle.cdb_memory.specs.declared.search.Search.{Search}
 
--- the turn at which it is
-abbrev pub turn_of : Search → Turn
-turn_of s = record { table = record { place = s.table; slots = s.slots }; slot = s.slot; left = s.left }
+-- the probe at which it is
+abbrev pub probe_of : Search → Probe
+probe_of s = record { table = record { place = s.table; slots = s.slots }; slot = s.slot; left = s.left }
 
 -- what is left of the look-up of a key
 abbrev pub ahead : ℕ → List ℕ → List ℕ → Search → Found
-ahead w file key s = found_ahead w file key (At (turn_of s))
+ahead w file key s = found_ahead w file key (At (probe_of s))
 
 -- its table and its slot lie in a file of so many bytes, if it has slots left
 abbrev pub IsInside : ℕ → ℕ → Search → Type 0
-IsInside w size s = 0 < s.left → TurnInside w size (turn_of s)
+IsInside w size s = 0 < s.left → ProbeInside w size (probe_of s)
 
 -- a search of a key in a file begins
 pub record Begins (w : ℕ) (file key : List ℕ) (s : Search) : Type 0 where
@@ -34,7 +34,7 @@ pub record GivesSpan (w : ℕ) (file key : List ℕ) (old new : Search) (span : 
 pub record Advances (w size : ℕ) (old new : Search) (span : Span) : Type 0 where
   pub value : span.place + span.len ≤ size
   pub hash : new.hash ≡ old.hash
-  pub inside : TurnInside w size (turn_of new)
+  pub inside : ProbeInside w size (probe_of new)
   pub fewer : new.left < old.left
 
 -- or none, since nothing was left

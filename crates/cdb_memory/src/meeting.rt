@@ -2,12 +2,12 @@
 ghost use Rattle.std.specs.Prelude.{◌≡◌, ◌<◌, ◌≤◌, length};
 ghost use Rattle.cdb_form.specs.Format.Hash.{key_hash};
 ghost use Rattle.cdb_form.specs.Views.Pairs.{slot_pair};
-ghost use Rattle.cdb_read.specs.Views.Search.{turn_slot, StepsFrom, StepWithin};
+ghost use Rattle.cdb_read.specs.Views.Search.{probe_slot, StepsFrom, StepWithin};
 ghost use Rattle.cdb_read.specs.Views.Search.{Meets, MetWithin, LooksAt, LookWithin};
-ghost use Rattle.cdb_read.specs.Views.Turning.{TurnInside};
+ghost use Rattle.cdb_read.specs.Views.Probing.{ProbeInside};
 
 use cdb_form::{Slot, Width, head_size, pair_size, read_header, read_slot};
-use cdb_read::{Look, Met, Span, Step, Turn, has_bytes};
+use cdb_read::{Look, Met, Probe, Span, Step, has_bytes};
 
 /// The record at a place, as far as a search of a key needs it.
 fn look_at<L: Width>(file: &[u8], place: u64, key: &[u8]) -> Look
@@ -41,25 +41,25 @@ fn look_at<L: Width>(file: &[u8], place: u64, key: &[u8]) -> Look
     })
 }
 
-/// The slot of a turn.
-fn slot_at<L: Width>(file: &[u8], turn: Turn) -> Slot
-    requires { TurnInside L.WORD (length file.now) turn }
-    ensures { slot_pair result ≡ turn_slot L.WORD file.now turn }
+/// The slot of a probe.
+fn slot_at<L: Width>(file: &[u8], probe: Probe) -> Slot
+    requires { ProbeInside L.WORD (length file.now) probe }
+    ensures { slot_pair result ≡ probe_slot L.WORD file.now probe }
 {
     let slot_size = pair_size::<L>();
-    let at = (turn.table.place + slot_size as u64 * turn.slot) as usize;
+    let at = (probe.table.place + slot_size as u64 * probe.slot) as usize;
     read_slot::<L>(&file[at..at + slot_size])
 }
 
-/// One turn of the search of a key by a hash.
-fn take_turn<L: Width>(file: &[u8], turn: Turn, key: &[u8], hash: u64) -> Step
-    requires inside { TurnInside L.WORD (length file.now) turn }
-    requires left { 0 < turn.left }
+/// One probe of the search of a key by a hash.
+fn make_probe<L: Width>(file: &[u8], probe: Probe, key: &[u8], hash: u64) -> Step
+    requires inside { ProbeInside L.WORD (length file.now) probe }
+    requires left { 0 < probe.left }
     ensures steps { hash ≡ key_hash key.now
-        → StepsFrom L.WORD key.now turn result (λ b. b ≡ file.now) }
+        → StepsFrom L.WORD key.now probe result (λ b. b ≡ file.now) }
     ensures within { StepWithin (length file.now) result }
 {
-    let slot = slot_at::<L>(file, turn);
+    let slot = slot_at::<L>(file, probe);
     if slot.place == 0 {
         return Step::Empty;
     }
@@ -73,19 +73,19 @@ fn take_turn<L: Width>(file: &[u8], turn: Turn, key: &[u8], hash: u64) -> Step
     }
 }
 
-/// The search of a key by a hash, from a turn up to the next value.
-pub(crate) fn meet<L: Width>(file: &[u8], from: Turn, key: &[u8], hash: u64) -> Met
-    requires inside { TurnInside L.WORD (length file.now) from }
+/// The search of a key by a hash, from a probe up to the next value.
+pub(crate) fn meet<L: Width>(file: &[u8], from: Probe, key: &[u8], hash: u64) -> Met
+    requires inside { ProbeInside L.WORD (length file.now) from }
     ensures meets { hash ≡ key_hash key.now
         → Meets L.WORD key.now from result (λ b. b ≡ file.now) }
     ensures within { MetWithin L.WORD (length file.now) from result }
 {
-    let mut turn = from;
-    while turn.left > 0 {
-        match take_turn::<L>(file, turn, key, hash) {
+    let mut probe = from;
+    while probe.left > 0 {
+        match make_probe::<L>(file, probe, key, hash) {
             Step::Empty => return Met::End,
-            Step::Passed => turn = turn.next(),
-            Step::Value(span) => return Met::Value(span, turn.next()),
+            Step::Passed => probe = probe.next(),
+            Step::Value(span) => return Met::Value(span, probe.next()),
             Step::Broken(place) => return Met::Broken(place),
         }
     }

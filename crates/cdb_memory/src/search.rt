@@ -6,13 +6,13 @@ ghost use Rattle.cdb_form.specs.Format.Pair.{head_size};
 ghost use Rattle.cdb_form.specs.declared.damage.Damage.TheVariants.{Table};
 ghost use Rattle.cdb_read.specs.Lookup.{lookup_of, nothing_found, found_damaged};
 ghost use Rattle.cdb_read.specs.Views.Search.{found_ahead};
-ghost use Rattle.cdb_read.specs.Views.Turning.{TurnInside, IsTurnInside};
-ghost use Rattle.cdb_memory.specs.Searches.{turn_of, ahead, IsInside, Begins};
+ghost use Rattle.cdb_read.specs.Views.Probing.{ProbeInside, IsTurnInside};
+ghost use Rattle.cdb_memory.specs.Searches.{probe_of, ahead, IsInside, Begins};
 ghost use Rattle.cdb_memory.specs.Searches.{GivesSpan, GivesNone, Advances, HasFirst};
 
 use crate::meeting::meet;
 use cdb_form::{Damage, Pointer, Width, hash, home_slot, pair_size, read_pointer, table_number};
-use cdb_read::{Met, Searching, Span, Turn, lies_inside};
+use cdb_read::{Met, Probe, Searching, Span, lies_inside};
 
 /// Where the search of a key is: the next slot of a table, and how many slots are left.
 #[derive(Clone, Copy, Debug, PartialEq, Eq)]
@@ -30,25 +30,25 @@ pub struct Search {
 }
 
 impl Search {
-    /// The search that is at a turn.
-    fn at(hash: u64, turn: Turn) -> Search
+    /// The search that is at a probe.
+    fn at(hash: u64, probe: Probe) -> Search
         ensures hash { result.hash ≡ hash }
-        ensures turn { turn_of result ≡ turn }
+        ensures probe { probe_of result ≡ probe }
     {
         Search {
             hash,
-            table: turn.table.place,
-            slots: turn.table.slots,
-            slot: turn.slot,
-            left: turn.left,
+            table: probe.table.place,
+            slots: probe.table.slots,
+            slot: probe.slot,
+            left: probe.left,
         }
     }
 
-    /// The turn at which it is.
-    fn turn(&self) -> Turn
-        ensures { result ≡ turn_of self.now }
+    /// The probe at which it is.
+    fn probe(&self) -> Probe
+        ensures { result ≡ probe_of self.now }
     {
-        Turn {
+        Probe {
             table: Pointer {
                 place: self.table,
                 slots: self.slots,
@@ -59,17 +59,17 @@ impl Search {
     }
 }
 
-/// Whether a turn's table and slot lie inside a file of so many bytes.
-fn is_inside<L: Width>(turn: Turn, size: u64) -> bool
-    ensures { Decides result (TurnInside L.WORD size turn) }
+/// Whether a probe's table and slot lie inside a file of so many bytes.
+fn is_inside<L: Width>(probe: Probe, size: u64) -> bool
+    ensures { Decides result (ProbeInside L.WORD size probe) }
 {
-    lies_inside::<L>(turn.table, size)
-        && turn.slot < turn.table.slots
-        && turn.left <= turn.table.slots
+    lies_inside::<L>(probe.table, size)
+        && probe.slot < probe.table.slots
+        && probe.left <= probe.table.slots
 }
 
 /// Where the search of a key with this hash begins.
-fn first_turn<L: Width>(file: &[u8], hash: u64) -> Searching
+fn first_probe<L: Width>(file: &[u8], hash: u64) -> Searching
     requires { head_size L.WORD ≤ length file.now }
     ensures inside { IsTurnInside L.WORD (length file.now) result }
     ensures finds { (key : List ℕ) → hash ≡ key_hash key
@@ -84,7 +84,7 @@ fn first_turn<L: Width>(file: &[u8], hash: u64) -> Searching
     if !lies_inside::<L>(table, file.len() as u64) {
         return Searching::NoTable(n as u64);
     }
-    Searching::At(Turn {
+    Searching::At(Probe {
         table,
         slot: home_slot(hash, table.slots),
         left: table.slots,
@@ -99,7 +99,7 @@ pub fn begin<L: Width>(file: &[u8], key: &[u8]) -> Result<Search, Damage>
         lookup_of L.WORD file.now key.now ≡ found_damaged d) }
 {
     let hash = u64::from(hash(key));
-    match first_turn::<L>(file, hash) {
+    match first_probe::<L>(file, hash) {
         Searching::AtEnd => Ok(Search {
             hash,
             table: 0,
@@ -107,7 +107,7 @@ pub fn begin<L: Width>(file: &[u8], key: &[u8]) -> Result<Search, Damage>
             slot: 0,
             left: 0,
         }),
-        Searching::At(turn) => Ok(Search::at(hash, turn)),
+        Searching::At(probe) => Ok(Search::at(hash, probe)),
         Searching::NoTable(n) => Err(Damage::Table(n)),
         Searching::NoRecord(place) => Err(Damage::Record(place)),
     }
@@ -131,17 +131,17 @@ pub fn next<L: Width>(file: &[u8], key: &[u8], search: &mut Search) -> Result<Op
     ensures stays { IfErr result (λ d. search.new ≡ search.old) }
     ensures ended { search.old.left ≡ 0 → (result ≡ Ok None) × (search.new ≡ search.old) }
     ensures astray { 0 < search.old.left
-        → (TurnInside L.WORD (length file.now) (turn_of search.old) → ⊥)
+        → (ProbeInside L.WORD (length file.now) (probe_of search.old) → ⊥)
         → result ≡ Err (Table (table_number search.old.hash)) }
 {
     if search.left == 0 {
         return Ok(None);
     }
-    let turn = search.turn();
-    if !is_inside::<L>(turn, file.len() as u64) {
+    let probe = search.probe();
+    if !is_inside::<L>(probe, file.len() as u64) {
         return Err(Damage::Table(table_number(search.hash) as u64));
     }
-    match meet::<L>(file, turn, key, search.hash) {
+    match meet::<L>(file, probe, key, search.hash) {
         Met::End => {
             search.left = 0;
             Ok(None)
@@ -164,13 +164,13 @@ pub fn find<L: Width>(file: &[u8], key: &[u8]) -> Result<Option<Span>, Damage>
         lookup_of L.WORD file.now key.now ≡ found_damaged d) }
 {
     let hash = u64::from(hash(key));
-    let turn = match first_turn::<L>(file, hash) {
+    let probe = match first_probe::<L>(file, hash) {
         Searching::AtEnd => return Ok(None),
-        Searching::At(turn) => turn,
+        Searching::At(probe) => probe,
         Searching::NoTable(n) => return Err(Damage::Table(n)),
         Searching::NoRecord(place) => return Err(Damage::Record(place)),
     };
-    match meet::<L>(file, turn, key, hash) {
+    match meet::<L>(file, probe, key, hash) {
         Met::End => Ok(None),
         Met::Value(span, _) => Ok(Some(span)),
         Met::Broken(place) => Err(Damage::Record(place)),

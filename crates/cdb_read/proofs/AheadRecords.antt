@@ -15,10 +15,10 @@ use Rattle.cdb_store.specs.declared.store.Store.{Ghosts}
 use Rattle.cdb_form.specs.declared.width.Width.{Ghosts as Widths}
 use Rattle.cdb_read.specs.Views.Walk.{GivesRecords, bytes_left, place_of}
 use Rattle.cdb_read.specs.Views.Walking.{records_length, RecordsAhead, walk_ahead, next_place, size_ahead}
-use Rattle.cdb_read.specs.declared.record_walk.Walk.{Walk}
-use Rattle.cdb_read.specs.declared.walk_state.Rest.{Rest}
-use Rattle.cdb_read.specs.declared.walk_state.Walking.{Walking}
-use Rattle.cdb_read.specs.declared.walk_state.Walking.TheVariants.{At, AtEnd, NoTable, NoRecord}
+use Rattle.cdb_read.specs.declared.walking.records.Walk.{Walk}
+use Rattle.cdb_read.specs.declared.walking.state.Rest.{Rest}
+use Rattle.cdb_read.specs.declared.walking.state.Walking.{Walking}
+use Rattle.cdb_read.specs.declared.walking.state.Walking.TheVariants.{At, AtEnd, NoTable, NoRecord}
 use Rattle.cdb_form.proofs.Fronts.{all_records, fits_front, whole_records-none, whole_records-room}
 use Rattle.cdb_form.proofs.WordLemmas.{pair_at-take}
 use Rattle.cdb_form.proofs.WalkSteps.{walk_from-is, walk_with, stopped}

@@ -17,7 +17,7 @@ use Rattle.cdb_read.specs.Sound.{table_at, tables_below, all_slots}
 use Rattle.cdb_read.specs.Views.Checked.{TableIsClear, TableHas, TablesAreClear, TablesHave}
 use Rattle.cdb_read.specs.Views.TableRecords.{Marks}
 use Rattle.cdb_read.specs.Views.RecordLists.{ListsMark}
-use Rattle.cdb_read.specs.declared.table_records.TableRecords.{TableRecords}
+use Rattle.cdb_read.specs.declared.checking.table_records.TableRecords.{TableRecords}
 use Rattle.cdb_read.proofs.Beginnings.{pointer_known}
 use Rattle.cdb_read.proofs.Elsewhere.{faults_in, marks_elsewhere}
 use Rattle.cdb_read.proofs.FaultSteps.{range_split, first_of-nil, none_next, first_next}

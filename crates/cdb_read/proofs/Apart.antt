@@ -135,12 +135,12 @@ put_first g x rest before after same =
     let right = flat_map g after in
     let front : IsPermutation (g x ++ flat_map g rest) (g x ++ (left ++ right)) =
     IsPermutation-append_right (g x) (flat_map g rest) (left ++ right) (subst (IsPermutation (flat_map g rest)) (flat_map-append g before after) same) in
-    let turn : IsPermutation ((g x ++ left) ++ right) ((left ++ g x) ++ right) =
+    let probe : IsPermutation ((g x ++ left) ++ right) ((left ++ g x) ++ right) =
     IsPermutation-append_left right (g x ++ left) (left ++ g x) (IsPermutation-append_comm (g x) left) in
     let there : flat_map g (before ++ x ∷ after) ≡ left ++ (g x ++ right) = flat_map-append g before (x ∷ after) in
     let turned : IsPermutation (g x ++ (left ++ right)) (flat_map g (before ++ x ∷ after)) =
     subst (λ l. IsPermutation l (flat_map g (before ++ x ∷ after))) (append_assoc (g x) left right)
-    (subst (IsPermutation ((g x ++ left) ++ right)) (append_assoc left (g x) right ∙ sym there) turn) in
+    (subst (IsPermutation ((g x ++ left) ++ right)) (append_assoc left (g x) right ∙ sym there) probe) in
     IsPermutation-trans (g x ++ flat_map g rest) (g x ++ (left ++ right)) (flat_map g (before ++ x ∷ after)) front turned
 
 -- entries apart, and slots that are such entries and have the place of each once: both give the

@@ -16,11 +16,11 @@ use Rattle.cdb_read.specs.Lookup.{lookup_of, found_at, met_slots, has_hash, is_i
 use Rattle.cdb_read.specs.Lookup.{nothing_found, found_damaged}
 use Rattle.cdb_read.specs.Views.Search.{found_ahead}
 use Rattle.cdb_read.specs.Views.Inside.{LiesInside}
-use Rattle.cdb_read.specs.declared.turn.Searching.TheVariants.{At}
-use Rattle.cdb_read.specs.declared.turn.Turn.{Turn}
+use Rattle.cdb_read.specs.declared.lookup.probe.Searching.TheVariants.{At}
+use Rattle.cdb_read.specs.declared.lookup.probe.Probe.{Probe}
 use Rattle.cdb_read.proofs.Filled.{length-slots_from}
 use Rattle.cdb_read.proofs.LookupLaws.{lookup_of-is, found_by}
-use Rattle.cdb_read.proofs.Turns.{length-slots_at}
+use Rattle.cdb_read.proofs.Probes.{length-slots_at}
 
 pub and_true : (x y : Bool) → (x && y) ≡ true → (x ≡ true) × (y ≡ true)
 and_true true y e = (refl, e)
@@ -70,18 +70,18 @@ begins_outside w size b key p n long some outside e =
     ∙ sym (cond-false (not (has_slots p)) _ _ (some_slots p some) ∙ cond-false (is_inside w b p) _ _ not_inside)
 
 -- and one inside
-pub begins_at : (w size h : ℕ) (b key : List ℕ) (turn : Turn) → size ≡ length b → h ≡ key_hash key → (turn.table.slots ≡ 0 → ⊥) → LiesInside w size (pointer_pair turn.table) → turn.slot ≡ home_slot h turn.table.slots → turn.left ≡ turn.table.slots
-    → found_ahead w b key (At turn) ≡ found_by w b key (pointer_pair turn.table)
+pub begins_at : (w size h : ℕ) (b key : List ℕ) (probe : Probe) → size ≡ length b → h ≡ key_hash key → (probe.table.slots ≡ 0 → ⊥) → LiesInside w size (pointer_pair probe.table) → probe.slot ≡ home_slot h probe.table.slots → probe.left ≡ probe.table.slots
+    → found_ahead w b key (At probe) ≡ found_by w b key (pointer_pair probe.table)
 unfolding met_slots
-begins_at w size hash b key turn long_is hash_is some inside home all =
-    let p = pointer_pair turn.table in
+begins_at w size hash b key probe long_is hash_is some inside home all =
+    let p = pointer_pair probe.table in
     let h = key_hash key in
     let slots = slots_at w b p in
     let n = length-slots_at w b p in
     let within = inside.inside in
     let is_in : is_inside w b p ≡ true = and_from _ _ (le-leb (head_size w) p.first inside.behind) (le-leb (p.first + pair_size w * p.second) (length b) (omega arith)) in
     let long = length-slots_from (home_slot h (length slots)) slots in
-    let from : slots_from turn.slot slots ≡ slots_from (home_slot h (length slots)) slots = ap (λ k. slots_from k slots) (home ∙ ap (λ k. home_slot k turn.table.slots) hash_is ∙ ap (home_slot h) (sym n)) in
-    let every : take turn.left (slots_from turn.slot slots) ≡ slots_from (home_slot h (length slots)) slots = ap (take turn.left) from ∙ take_all turn.left (slots_from (home_slot h (length slots)) slots) (omega arith) in
+    let from : slots_from probe.slot slots ≡ slots_from (home_slot h (length slots)) slots = ap (λ k. slots_from k slots) (home ∙ ap (λ k. home_slot k probe.table.slots) hash_is ∙ ap (home_slot h) (sym n)) in
+    let every : take probe.left (slots_from probe.slot slots) ≡ slots_from (home_slot h (length slots)) slots = ap (take probe.left) from ∙ take_all probe.left (slots_from (home_slot h (length slots)) slots) (omega arith) in
     ap (λ xs. found_at w b key (map (λ (s : WordPair). s.second) (filter (has_hash h) (take_while is_used xs)))) every
     ∙ sym (cond-false (not (has_slots p)) _ _ (some_slots p some) ∙ cond-true (is_inside w b p) _ _ is_in)

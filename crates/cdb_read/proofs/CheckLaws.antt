@@ -21,7 +21,7 @@ use Rattle.cdb_read.specs.Views.Check.{IsFirst}
 use Rattle.cdb_read.specs.Views.Checked.{HasEntries, WalkHas, TablesAreClear, TablesHave}
 use Rattle.cdb_read.specs.Views.Inside.{StandsInside}
 use Rattle.cdb_read.specs.Views.RecordLists.{ListsMark}
-use Rattle.cdb_read.specs.declared.table_records.TableRecords.{TableRecords}
+use Rattle.cdb_read.specs.declared.checking.table_records.TableRecords.{TableRecords}
 use Rattle.cdb_read.proofs.Beginnings.{pointer_known}
 use Rattle.cdb_read.proofs.FaultLaws.{first_fault-whole, none_of-all, all_numbers, sound_is_no_damage}
 use Rattle.cdb_read.proofs.FaultSteps.{first_next}

@@ -8,7 +8,7 @@ use Rattle.std.proofs.lemmas.List.FromFn.{length-map-range_with_len, get_or-map-
 use Rattle.std.proofs.lemmas.List.Sums.{sum_by-append}
 use Rattle.cdb_read.specs.Statistics.{capped, collisions_of, distance_counts}
 use Rattle.cdb_read.specs.Views.Counting.{Counts}
-use Rattle.cdb_read.specs.declared.distances.Distances.{Distances}
+use Rattle.cdb_read.specs.declared.statistics.distances.Distances.{Distances}
 
 -- a count that stops, and one more
 pub capped_more : (n m : ℕ) → min (capped n + m) 18446744073709551615 ≡ capped (n + m)

@@ -13,7 +13,7 @@ use Rattle.cdb_form.specs.declared.damage.Damage.TheVariants.{Unindexed}
 use Rattle.cdb_read.specs.Faults.{first_of, fault_if, lost_fault}
 use Rattle.cdb_read.specs.Views.TableRecords.{is_told, Marks}
 use Rattle.cdb_read.specs.Views.RecordLists.{earlier_of, IsRising, ListsMark}
-use Rattle.cdb_read.specs.declared.table_records.TableRecords.{TableRecords}
+use Rattle.cdb_read.specs.declared.checking.table_records.TableRecords.{TableRecords}
 use Rattle.cdb_read.proofs.FaultSteps.{first_of-cons, first_of-nil}
 use Rattle.cdb_read.proofs.Rising.{rising_filter}
 

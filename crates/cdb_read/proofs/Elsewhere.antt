@@ -15,7 +15,7 @@ use Rattle.cdb_read.specs.Faults.{first_of, faults_behind, is_right_slot, is_sam
 use Rattle.cdb_read.specs.Sound.{has_place, is_reached, nth_slot, table_at, tables_below}
 use Rattle.cdb_read.specs.Views.TableRecords.{is_told, marks_of, Marks}
 use Rattle.cdb_read.specs.Views.RecordLists.{IsRising}
-use Rattle.cdb_read.specs.declared.table_records.TableRecords.{TableRecords}
+use Rattle.cdb_read.specs.declared.checking.table_records.TableRecords.{TableRecords}
 use Rattle.cdb_read.proofs.Apart.{apart_same}
 use Rattle.cdb_read.proofs.FaultLaws.{slot_clean, slots_clean}
 use Rattle.cdb_read.proofs.Rising.{rising_above, rising_is_apart}

@@ -16,7 +16,7 @@ use Rattle.cdb_form.specs.declared.damage.Damage.TheVariants.{Slot, Twice, Unind
 use Rattle.cdb_read.specs.Faults.{first_of, fault_if, is_same, is_right_slot, used_fault, lost_fault}
 use Rattle.cdb_read.specs.Sound.{has_place}
 use Rattle.cdb_read.specs.Views.TableRecords.{entries_of, entry_pairs, is_told, marks_of, Marks}
-use Rattle.cdb_read.specs.declared.table_records.TableRecords.{TableRecords}
+use Rattle.cdb_read.specs.declared.checking.table_records.TableRecords.{TableRecords}
 use Rattle.cdb_read.proofs.FaultSteps.{first_of-cons, first_of-nil}
 
 pub length-entries_of : (ps hs : List ℕ) → length hs ≡ length ps → length (entries_of ps hs) ≡ length ps

@@ -12,7 +12,7 @@ use Rattle.cdb_read.specs.Lookup.{bytes_of}
 use Rattle.cdb_read.specs.Views.Checked.{HasEntries}
 use Rattle.cdb_read.specs.Views.RecordLists.{IsRising, ListsMark, HasAdded}
 use Rattle.cdb_read.specs.Views.Walking.{record_of, behind, LiesAt}
-use Rattle.cdb_read.specs.declared.table_records.TableRecords.{TableRecords}
+use Rattle.cdb_read.specs.declared.checking.table_records.TableRecords.{TableRecords}
 use Rattle.cdb_read.specs.declared.span.Pair.{Pair}
 use Rattle.cdb_read.proofs.Rising.{rising_entries, rising_from_one}
 use Rattle.cdb_read.proofs.WalkedLengths.{length_of}

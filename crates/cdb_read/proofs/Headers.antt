@@ -16,7 +16,7 @@ use Rattle.cdb_form.proofs.WordLemmas.{pair_at-take}
 use Rattle.cdb_read.proofs.Beginnings.{and_true}
 use Rattle.cdb_read.specs.Lookup.{is_whole, value_span}
 use Rattle.cdb_read.specs.Views.Search.{TellsSame, LooksAt}
-use Rattle.cdb_read.specs.declared.record_look.Look.TheVariants as look
+use Rattle.cdb_read.specs.declared.lookup.key_at.Look.TheVariants as look
 use Rattle.cdb_read.specs.declared.span.Span.{Span}
 
 -- in each image, of n bytes, the record at a place has lengths k and v

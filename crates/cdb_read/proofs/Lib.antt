@@ -14,7 +14,7 @@ pub mod LookupLaws
 pub mod SoundLookups
 pub mod Heads
 pub mod PieceReads
-pub mod Turns
+pub mod Probes
 pub mod Beginnings
 pub mod Compare
 pub mod Headers

@@ -10,7 +10,7 @@ use Rattle.cdb_form.specs.Format.Pair.{WordPair}
 use Rattle.cdb_form.specs.Format.Table.{in_table}
 use Rattle.cdb_read.specs.Views.TableRecords.{entry_pairs, marks_of, HasMore, Marks}
 use Rattle.cdb_read.specs.Views.RecordLists.{IsRising, ListsMark, HasAdded}
-use Rattle.cdb_read.specs.declared.table_records.TableRecords.{TableRecords}
+use Rattle.cdb_read.specs.declared.checking.table_records.TableRecords.{TableRecords}
 use Rattle.cdb_read.proofs.Entered.{marks_of-push}
 use Rattle.cdb_read.proofs.Rising.{rising_filter, places_rise, places_above}
 

@@ -15,7 +15,7 @@ use Rattle.cdb_form.proofs.Fronts.{Begins}
 use Rattle.cdb_form.proofs.WalkSteps.{walk_from-more, walk_from-no_header, walk_from-no_body}
 use Rattle.cdb_read.proofs.Headers.{front_pair, pair_read}
 use Rattle.cdb_read.specs.Views.Walking.{record_of, behind, LiesAt, StandsAt}
-use Rattle.cdb_read.specs.declared.walk_state.Rest.{Rest}
+use Rattle.cdb_read.specs.declared.walking.state.Rest.{Rest}
 use Rattle.cdb_read.specs.declared.span.Pair.{Pair}
 use Rattle.std.specs.Prelude.{Some, None, min}
 

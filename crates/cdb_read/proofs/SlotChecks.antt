@@ -13,10 +13,10 @@ use Rattle.cdb_read.specs.Lookup.{slots_at}
 use Rattle.cdb_read.specs.Sound.{nth_slot, is_reached}
 use Rattle.cdb_read.specs.Views.Checked.{SlotIsClear, SlotHas, TableIsClear, TableHas}
 use Rattle.cdb_read.specs.Views.TableRecords.{Marks}
-use Rattle.cdb_read.specs.declared.table_records.TableRecords.{TableRecords}
+use Rattle.cdb_read.specs.declared.checking.table_records.TableRecords.{TableRecords}
 use Rattle.cdb_read.proofs.Entered.{marks_unused}
 use Rattle.cdb_read.proofs.FaultSteps.{first_of-nil, none_next, first_next}
-use Rattle.cdb_read.proofs.Turns.{slot_is, length-slots_at}
+use Rattle.cdb_read.proofs.Probes.{slot_is, length-slots_at}
 
 -- the slot that was read
 pub slot_read : (w : ℕ) (b : List ℕ) (p : WordPair) (i : ℕ) (s : WordPair) → i < p.second → s ≡ pair_at w (drop (p.first + 2 * w * i) b) → nth_slot (slots_at w b p) i ≡ s

@@ -16,8 +16,8 @@ use Rattle.cdb_form.specs.declared.head.Pointer.{Pointer}
 use Rattle.cdb_read.specs.Sound.{distance}
 use Rattle.cdb_read.specs.Statistics.{slot_of, distances_in, distances_of, table_sizes}
 use Rattle.cdb_read.specs.Views.Counting.{Counts, Spreads}
-use Rattle.cdb_read.specs.declared.distances.Distances.{Distances}
-use Rattle.cdb_read.specs.declared.spread.Spread.{Spread}
+use Rattle.cdb_read.specs.declared.statistics.distances.Distances.{Distances}
+use Rattle.cdb_read.specs.declared.statistics.spread.Spread.{Spread}
 
 -- the distances of the used slots before one
 abbrev pub is_used_at : ℕ → List ℕ → WordPair → ℕ → Bool

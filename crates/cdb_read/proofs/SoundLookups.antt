@@ -123,7 +123,7 @@ met_once {w = w} {bytes = bytes} h e some s c t =
       | inr f ↦ f
     ]) (table_at w bytes m) (slots_told m s below))) in
     let single = count_lists_one (has_place e) (table_at w bytes) n 0 256 (omega arith) (omega arith) others in
-    let turn = count_by-slots_from (has_place e) (home_slot h (length table)) table in
+    let probe = count_by-slots_from (has_place e) (home_slot h (length table)) table in
     let only : All (OnlyWanted (has_place e) is_used (has_hash h)) (from_home h table) =
     All-weaker (λ q. is_used q ≡ true → IsEntryOf (walk_entries w bytes) n q) (OnlyWanted (has_place e) is_used (has_hash h))
     (λ q k p. (let is = slot_same w n rs e q some c k p in (is.is_used, ap (has_hash h) is.same ∙ t)))
@@ -132,7 +132,7 @@ met_once {w = w} {bytes = bytes} h e some s c t =
     let one = All-contains (λ q. count_by (has_place q) (all_slots w bytes) ≡ 1) (walk_entries w bytes) e s.once c in
     ap (count_by (has_place e)) (met_slots-met h table)
     ∙ count-met (has_place e) is_used (has_hash h) (from_home h table) only none
-    ∙ turn ∙ sym single ∙ one
+    ∙ probe ∙ sym single ∙ one
 
 -- so a search meets the entries of its hash, in some order
 met_same : {w : ℕ} {bytes : List ℕ} {Y : Type 0} (g : WordPair → List Y) (h : ℕ) → 0 < w → IsSound w bytes → IsPermutation (flat_map g (filter (has_hash h) (walk_entries w bytes))) (flat_map g (met_slots h (table_at w bytes (table_number h))))

@@ -17,12 +17,12 @@ use Rattle.cdb_store.specs.Reads.{OnlyReads}
 use Rattle.cdb_read.specs.Views.Reads.{StoreFails}
 use Rattle.cdb_read.specs.Views.Inside.{StandsInside}
 use Rattle.cdb_read.specs.Views.Stats.{HasStats, StatsFail}
-use Rattle.cdb_read.specs.declared.distances.Distances.{Distances}
+use Rattle.cdb_read.specs.declared.statistics.distances.Distances.{Distances}
 use Rattle.cdb_read.specs.declared.fault.ReadFault.{ReadFault}
 use Rattle.cdb_read.specs.declared.fault.ReadFault.TheVariants.{Short, Table, Record, Slot, Twice, Unindexed, Device, NoMemory, Output}
-use Rattle.cdb_read.specs.declared.lengths.Lengths.{Lengths}
-use Rattle.cdb_read.specs.declared.spread.Spread.{Spread}
-use Rattle.cdb_read.specs.declared.statistics.Stats.{Stats}
+use Rattle.cdb_read.specs.declared.statistics.lengths.Lengths.{Lengths}
+use Rattle.cdb_read.specs.declared.statistics.spread.Spread.{Spread}
+use Rattle.cdb_read.specs.declared.statistics.stats.Stats.{Stats}
 
 -- the damage, by the first table outside the file
 damage_by : (w : ℕ) (b : List ℕ) (ps : List WordPair) (first : Option ℕ) → head_at w b ≡ ps → first ≡ position (is_outside w b) ps → statistics_damage w b ≡ option_or (option_map (λ n. damage.Table n) first) (walk_of w b).damage

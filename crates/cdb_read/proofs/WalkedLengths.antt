@@ -19,11 +19,11 @@ use Rattle.cdb_read.specs.Views.Walk.{left_of, WalkingFails}
 use Rattle.cdb_read.specs.Views.Walking.{record_of, behind, LiesAt}
 use Rattle.cdb_read.specs.declared.fault.ReadFault.{ReadFault}
 use Rattle.cdb_read.specs.declared.fault.ReadFault.TheVariants.{Short, Table, Record, Slot, Twice, Unindexed, Device, NoMemory, Output}
-use Rattle.cdb_read.specs.declared.record_walk.Walk.{Walk}
-use Rattle.cdb_read.specs.declared.lengths.Lengths.{Lengths}
+use Rattle.cdb_read.specs.declared.walking.records.Walk.{Walk}
+use Rattle.cdb_read.specs.declared.statistics.lengths.Lengths.{Lengths}
 use Rattle.cdb_read.specs.declared.span.Pair.{Pair}
 use Rattle.cdb_read.specs.declared.span.Span.{Span}
-use Rattle.cdb_read.specs.declared.spread.Spread.{Spread}
+use Rattle.cdb_read.specs.declared.statistics.spread.Spread.{Spread}
 
 -- some records were given, whose lengths these are, and then what is left of the walk
 pub record WalkedSoFar (w : ℕ) (b : List ℕ) (left : Walked) (key_spread value_spread : Spread) : Type 0 where

@@ -14,7 +14,7 @@ use Rattle.cdb_form.specs.declared.damage.Damage.{Damage}
 use Rattle.cdb_form.specs.declared.damage.Damage.TheVariants.{Table}
 use Rattle.cdb_read.specs.Lookup.{is_inside}
 use Rattle.cdb_read.specs.Sound.{distance}
-use Rattle.cdb_read.specs.declared.statistics.Stats.{Stats}
+use Rattle.cdb_read.specs.declared.statistics.stats.Stats.{Stats}
 
 -- a count that stops at the greatest number of 64 bits
 abbrev pub capped : ℕ → ℕ

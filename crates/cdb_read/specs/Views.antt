@@ -3,7 +3,7 @@ pub mod ReadFault
 pub mod Reads
 pub mod Reader
 pub mod Inside
-pub mod Turning
+pub mod Probing
 pub mod Search
 pub mod Finder
 pub mod Getting

@@ -1,73 +1,8 @@
-// Whether a file is sound.
-ghost use Rattle.std.specs.Prelude.{◌≡◌, ℕ, List, All, map, length, OnOk, IfErr};
-ghost use Rattle.cdb_form.specs.Views.Pairs.{pointer_pair};
-ghost use Rattle.cdb_read.specs.Sound.{IsSound};
-ghost use Rattle.cdb_read.specs.Views.Check.{CheckFails, ReadTells};
-ghost use Rattle.cdb_read.specs.Views.Checked.{TablesAreClear, TablesHave};
-ghost use Rattle.cdb_read.specs.Views.Inside.{StandsInside};
-ghost use Rattle.cdb_store.specs.Reads.{OnlyReads};
-
-use crate::collected::walk_entries;
-use crate::fault::ReadFault;
-use crate::reader::Reader;
-use crate::record_lists::first_unmarked;
-use crate::slots::check_tables;
-use crate::table_records::TableRecords;
-use crate::tables::first_outside;
-use cdb_form::Width;
-use cdb_store::Store;
-use std::alloc::Global;
-
-impl<S: Store, L: Width> Reader<S, L> {
-    /// Checks the slots of all tables, which lie inside the file if they have slots, and marks
-    /// their records.
-    fn check_slots(&mut self, lists: &mut [TableRecords]) -> Result<(), ReadFault>
-        requires many { length lists.old ≡ 256 }
-        requires inside { All (StandsInside L.WORD (S.size self.old.store))
-            (map pointer_pair self.old.head.pointers) }
-        ensures clear { (b : List ℕ) → S.image self.new.store b
-            → OnOk result (TablesAreClear L.WORD b lists.old lists.new) }
-        ensures reads { OnlyReads S.Store self.old.store self.new.store }
-        ensures fails { IfErr result
-            (ReadTells S.Store (TablesHave L.WORD lists.old) self.old.store self.new.store) }
-    {
-        check_tables::<S, L>(
-            &mut self.store,
-            &self.head.pointers,
-            &mut self.window,
-            lists,
-        )
-    }
-}
-
-/// Checks whether a file is sound: its tables and its records lie where they should, and the slots
-/// that are used are those of the records, one each, where a search for the hash comes to it.
-///
-/// It answers the first fault that there is, in this order: `Table`, the first table by its number
-/// that has slots and doesn't lie after the head and inside the file; `Record` if no whole
-/// record is there; at the first used slot that is wrong `Slot`, if no record has its hash and its
-/// place, its hash is of another table, or an empty slot lies on the way from where its search
-/// begins, and else `Twice`, if an earlier slot has its record; and `Unindexed`, the first
-/// record that no slot has. `NoMemory` and `Device` come if memory ran out or the store failed.
-///
-/// The walk, and then the slots, are read through the window, 4096 bytes at once. It takes 13 bytes
-/// of memory a record, and time in order n log n. Whatever it answers, the reader stays as usable
-/// as it was.
-pub fn check<L: Width, S: Store>(alloc: Global, reader: &mut Reader<S, L>) -> Result<(), ReadFault>
-    ensures reads { OnlyReads S.Store reader.old.store reader.new.store }
-    ensures sound { (b : List ℕ) → S.image reader.new.store b
-        → OnOk result (IsSound L.WORD b) }
-    ensures fails { IfErr result
-        (CheckFails L.WORD S.Store reader.old.store reader.new.store) }
-{
-    let outside = first_outside::<L>(&reader.head.pointers, reader.store.len());
-    if let Some(n) = outside {
-        return Err(ReadFault::Table(n));
-    }
-    let mut lists = walk_entries(alloc, reader)?;
-    reader.check_slots(&mut lists)?;
-    match first_unmarked(&lists) {
-        Some(place) => Err(ReadFault::Unindexed(place)),
-        None => Ok(()),
-    }
-}
+// Whether the tables of a database and its records agree.
+pub(crate) mod collected;
+pub(crate) mod key_hash;
+pub(crate) mod record_lists;
+pub(crate) mod slot_runs;
+pub(crate) mod slots;
+pub(crate) mod sound;
+pub(crate) mod table_records;

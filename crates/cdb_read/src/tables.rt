@@ -14,10 +14,10 @@ ghost use Rattle.cdb_store.specs.Reads.{OnlyReads};
 ghost use Rattle.cdb_read.specs.Views.Reads.{StoreFails};
 ghost use Rattle.cdb_read.specs.Views.Window.{Shows};
 
-use crate::distances::Distances;
 use crate::fault::ReadFault;
-use crate::finder::lies_inside;
-use crate::spread::Spread;
+use crate::lookup::finder::lies_inside;
+use crate::statistics::distances::Distances;
+use crate::statistics::spread::Spread;
 use crate::window::{WINDOW, Window};
 use cdb_form::{Pointer, Slot, Width, home_slot, pair_size, read_slot};
 use cdb_store::Store;

@@ -18,7 +18,7 @@ use Rattle.cdb_make.specs.declared.fault.MakeFault.{MakeFault}
 use Rattle.cdb_make.specs.declared.fault.MakeFault.TheVariants as make
 use Rattle.cdb_make.specs.declared.maker.Maker.{Maker}
 use Rattle.cdb_form.specs.declared.mode.Mode.TheVariants.{Add}
-use Rattle.cdb_make.specs.declared.put.Put.{Put}
+use Rattle.cdb_make.specs.declared.records.put.Put.{Put}
 use Rattle.cdb_make.proofs.EntryLists.{size_push}
 use Rattle.cdb_make.proofs.Makers.{held_size}
 use Rattle.cdb_read.specs.Lookup.{bytes_of}
@@ -27,7 +27,7 @@ use Rattle.cdb_read.specs.Views.Walk.{left_of, WalkingFails}
 use Rattle.cdb_read.specs.Views.Walking.{record_of}
 use Rattle.cdb_read.specs.declared.fault.ReadFault.{ReadFault}
 use Rattle.cdb_read.specs.declared.fault.ReadFault.TheVariants as read
-use Rattle.cdb_read.specs.declared.record_walk.Walk.{Walk}
+use Rattle.cdb_read.specs.declared.walking.records.Walk.{Walk}
 use Rattle.cdb_read.specs.declared.span.Pair.{Pair}
 use Rattle.cdb_tool.specs.Views.Fault.{read_fault, make_fault, text_fault}
 use Rattle.cdb_tool.specs.Runs.Course.{TellFails}

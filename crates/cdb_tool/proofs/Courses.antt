@@ -19,8 +19,8 @@ use Rattle.cdb_make.specs.declared.fault.MakeFault.{MakeFault}
 use Rattle.cdb_make.specs.declared.fault.MakeFault.TheVariants as make
 use Rattle.cdb_make.specs.declared.batch.Batch.{Batch}
 use Rattle.cdb_form.specs.declared.mode.Mode.{Mode}
-use Rattle.cdb_make.specs.declared.put.Put.{Put}
-use Rattle.cdb_make.specs.declared.put.Put.TheVariants.{Added, AddedAgain, Present, Replaced}
+use Rattle.cdb_make.specs.declared.records.put.Put.{Put}
+use Rattle.cdb_make.specs.declared.records.put.Put.TheVariants.{Added, AddedAgain, Present, Replaced}
 use Rattle.cdb_make.proofs.Batches.{holds_count}
 use Rattle.cdb_make.proofs.BatchPuts.{holds_fits}
 use Rattle.cdb_tool.specs.Views.Fault.{make_fault}

@@ -5,7 +5,7 @@ use Rattle.std.specs.Io.KnownBytes.{Appends}
 use Rattle.cdb_form.specs.Views.KnownBytes.{AppendsFront, Writes}
 use Rattle.cdb_form.proofs.WritingLemmas.{appends_then, front_then, writes_last}
 use Rattle.cdb_tool.specs.Runs.StatsText.{count_line, distance_line, distance_lines, records_line, keys_line, values_line, tables_line, sizes_line, stats_text}
-use Rattle.cdb_read.specs.declared.statistics.Stats.{Stats}
+use Rattle.cdb_read.specs.declared.statistics.stats.Stats.{Stats}
 use Rattle.cdb_tool.proofs.Courses.{appends_none}
 
 -- ---- line after line

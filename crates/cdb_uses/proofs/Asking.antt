@@ -25,7 +25,7 @@ use Rattle.cdb_read.specs.Views.Reads.{CopyingFails}
 use Rattle.cdb_read.specs.Views.Search.{found_ahead}
 use Rattle.cdb_read.specs.declared.fault.ReadFault.{ReadFault}
 use Rattle.cdb_read.specs.declared.fault.ReadFault.TheVariants.{Short, Table, Record, Slot, Twice, Unindexed, Device, NoMemory, Output}
-use Rattle.cdb_read.specs.declared.finder.Finder.{Finder}
+use Rattle.cdb_read.specs.declared.lookup.finder.Finder.{Finder}
 use Rattle.cdb_read.specs.declared.span.Span.{Span}
 use Rattle.cdb_uses.specs.Asks.{AskingFails}
 use Rattle.cdb_uses.specs.declared.ask.AskFault.TheVariants.{Read}

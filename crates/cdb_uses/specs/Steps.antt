@@ -14,7 +14,7 @@ use Rattle.cdb_make.specs.declared.fault.MakeFault.{MakeFault}
 use Rattle.cdb_make.specs.declared.fault.MakeFault.TheVariants.{Broken, Lookup, TooBig, NoMemory}
 use Rattle.cdb_make.specs.declared.fault.MakeFault.TheVariants.{Writing}
 use Rattle.cdb_make.specs.declared.maker.Maker.{Maker}
-use Rattle.cdb_make.specs.declared.put.Put.TheVariants.{Present}
+use Rattle.cdb_make.specs.declared.records.put.Put.TheVariants.{Present}
 use Rattle.cdb_uses.specs.declared.changes.Change.{Change}
 use Rattle.cdb_uses.specs.declared.changes.Change.TheVariants.{Put, Remove}
 use Rattle.cdb_uses.specs.declared.steps.Step.{Step}

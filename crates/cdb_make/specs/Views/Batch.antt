@@ -14,8 +14,8 @@ use Rattle.cdb_make.specs.declared.batch.Batch.{Batch}
 use Rattle.cdb_make.specs.declared.fault.MakeFault.{MakeFault}
 use Rattle.cdb_make.specs.declared.fault.MakeFault.TheVariants.{Broken, Lookup, TooBig, NoMemory}
 use Rattle.cdb_make.specs.declared.fault.MakeFault.TheVariants.{Writing}
-use Rattle.cdb_make.specs.declared.put.Put.{Put}
-use Rattle.cdb_make.specs.declared.put.Put.TheVariants.{Present}
+use Rattle.cdb_make.specs.declared.records.put.Put.{Put}
+use Rattle.cdb_make.specs.declared.records.put.Put.TheVariants.{Present}
 use Rattle.cdb_make.specs.Gaps.{marked_gaps, unmarked}
 use Rattle.cdb_make.specs.Marks.{AreMarked, behind_mark, fresh, with_key}
 use Rattle.cdb_make.specs.Survivors.{has_key, is_there, count_of, without, behind_first, put_list}

@@ -8,7 +8,7 @@ use Rattle.cdb_form.specs.Format.Record.{KeyValue, IsRecord, record_size}
 use Rattle.cdb_make.specs.declared.maker.Maker.{Maker}
 use Rattle.cdb_make.specs.declared.fault.MakeFault.{MakeFault}
 use Rattle.cdb_make.specs.declared.fault.MakeFault.TheVariants.{Broken, Writing}
-use Rattle.cdb_make.specs.declared.gap.Gap.{Gap}
+use Rattle.cdb_make.specs.declared.removal.gap.Gap.{Gap}
 use Rattle.cdb_make.specs.Marks.{AreMarked, TellsMarked}
 use Rattle.cdb_make.specs.Views.EntryList.{lists_entries, entry_count, entry_room}
 use Rattle.cdb_make.specs.Views.Maker.{HasStoreFailed}

@@ -1,6 +1,6 @@
 -- What an index holds.
 use Rattle.std.specs.Prelude.{ℕ, ◌-◌, ◌^◌, min, cond, nat_lt, vec_capacity}
-use Rattle.cdb_make.specs.declared.index.Index.{Index}
+use Rattle.cdb_make.specs.declared.index.rings.Index.{Index}
 
 -- how many entries a list may have before its index takes memory. Of those of more entries it has
 -- no more, and takes none for them.

@@ -12,10 +12,10 @@ use Rattle.cdb_make.specs.declared.fault.MakeFault.TheVariants.{Writing}
 use Rattle.cdb_make.specs.declared.maker.Maker.{Maker}
 use Rattle.cdb_form.specs.declared.mode.Mode.{Mode}
 use Rattle.cdb_form.specs.declared.mode.Mode.TheVariants.{Add, Warn, Insert, Replace}
-use Rattle.cdb_make.specs.declared.put.Put.{Put}
-use Rattle.cdb_make.specs.declared.put.Put.TheVariants.{Present}
-use Rattle.cdb_make.specs.declared.looking.LookFault.{LookFault}
-use Rattle.cdb_make.specs.declared.looking.LookFault.TheVariants.{Failed, Foreign}
+use Rattle.cdb_make.specs.declared.records.put.Put.{Put}
+use Rattle.cdb_make.specs.declared.records.put.Put.TheVariants.{Present}
+use Rattle.cdb_make.specs.declared.records.key_at.LookFault.{LookFault}
+use Rattle.cdb_make.specs.declared.records.key_at.LookFault.TheVariants.{Failed, Foreign}
 use Rattle.cdb_make.specs.Stands.{Tells, AreGapsOf}
 use Rattle.cdb_make.specs.Survivors.{has_key, is_there, count_of, without, behind_first, put_list}
 use Rattle.cdb_make.specs.Survivors.{put_answer}

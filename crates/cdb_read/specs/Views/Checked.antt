@@ -9,7 +9,7 @@ use Rattle.cdb_read.specs.Lookup.{slots_at}
 use Rattle.cdb_read.specs.Sound.{walk_entries, all_slots}
 use Rattle.cdb_read.specs.Views.TableRecords.{Marks}
 use Rattle.cdb_read.specs.Views.RecordLists.{ListsMark}
-use Rattle.cdb_read.specs.declared.table_records.TableRecords.{TableRecords}
+use Rattle.cdb_read.specs.declared.checking.table_records.TableRecords.{TableRecords}
 
 -- used slot i of table n has no fault, and its record is marked; or this is its fault
 pub record SlotIsClear (n i : ℕ) (slot : WordPair) (is_reached : Bool) (old new : TableRecords)

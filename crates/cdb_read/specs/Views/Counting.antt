@@ -1,8 +1,8 @@
 -- What counters tell of the numbers that they took.
 use Rattle.std.specs.Prelude.{ℕ, ◌≡◌, List, length, sum}
 use Rattle.cdb_read.specs.Statistics.{capped, least_of, greatest_of, collisions_of, distance_counts}
-use Rattle.cdb_read.specs.declared.distances.Distances.{Distances}
-use Rattle.cdb_read.specs.declared.spread.Spread.{Spread}
+use Rattle.cdb_read.specs.declared.statistics.distances.Distances.{Distances}
+use Rattle.cdb_read.specs.declared.statistics.spread.Spread.{Spread}
 
 -- how some numbers lie
 pub record Spreads (spread : Spread) (ns : List ℕ) : Type 0 where

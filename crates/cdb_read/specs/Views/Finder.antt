@@ -7,10 +7,10 @@ use Rattle.cdb_read.specs.Lookup.{Found, nothing_found, found_damaged, with_span
 use Rattle.cdb_read.specs.Views.Search.{found_ahead}
 use Rattle.cdb_read.specs.declared.fault.ReadFault.{ReadFault}
 use Rattle.cdb_read.specs.declared.fault.ReadFault.TheVariants.{Table, Record, Device}
-use Rattle.cdb_read.specs.declared.finder.Finder.{Finder}
+use Rattle.cdb_read.specs.declared.lookup.finder.Finder.{Finder}
 use Rattle.cdb_read.specs.declared.span.Span.{Span}
-use Rattle.cdb_read.specs.declared.turn.Searching.{Searching}
-use Rattle.cdb_read.specs.declared.turn.Searching.TheVariants.{At, AtEnd, NoTable, NoRecord}
+use Rattle.cdb_read.specs.declared.lookup.probe.Searching.{Searching}
+use Rattle.cdb_read.specs.declared.lookup.probe.Searching.TheVariants.{At, AtEnd, NoTable, NoRecord}
 
 -- what is left of the look-up, in a list of bytes
 abbrev pub left_in : {S L : Type 0} {s : Ghosts S} {l : Widths L} → ℕ → List ℕ → Finder S L s l
@@ -18,12 +18,12 @@ abbrev pub left_in : {S L : Type 0} {s : Ghosts S} {l : Widths L} → ℕ → Li
 left_in w b t = found_ahead w b t.key.now t.searching
 
 -- how many slots it may still look at
-abbrev pub turns_left : Searching → ℕ
-turns_left (At turn) = turn.left
-turns_left other = 0
+abbrev pub probes_left : Searching → ℕ
+probes_left (At probe) = probe.left
+probes_left other = 0
 
 abbrev pub slots_left : {S L : Type 0} {s : Ghosts S} {l : Widths L} → Finder S L s l → ℕ
-slots_left t = turns_left t.searching
+slots_left t = probes_left t.searching
 
 -- it has answered `None`, that a table isn't inside the file, or that a record isn't whole
 abbrev pub HasEnded : {S L : Type 0} {s : Ghosts S} {l : Widths L} → Finder S L s l → Type 0

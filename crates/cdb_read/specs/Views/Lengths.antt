@@ -7,7 +7,7 @@ use Rattle.cdb_read.specs.Statistics.{key_lengths, value_lengths}
 use Rattle.cdb_read.specs.Views.Counting.{Spreads}
 use Rattle.cdb_read.specs.declared.fault.ReadFault.{ReadFault}
 use Rattle.cdb_read.specs.declared.fault.ReadFault.TheVariants.{Table, Record, Device}
-use Rattle.cdb_read.specs.declared.lengths.Lengths.{Lengths}
+use Rattle.cdb_read.specs.declared.statistics.lengths.Lengths.{Lengths}
 
 -- the walk of a list of bytes has no damage, and its records have these lengths
 pub record HasLengths (w : ℕ) (b : List ℕ) (lengths : Lengths) : Type 0 where

@@ -4,7 +4,7 @@ use Rattle.std.specs.Prelude.{filter, Option, Some, None}
 use Rattle.cdb_form.specs.Format.Pair.{WordPair}
 use Rattle.cdb_form.specs.Format.Table.{in_table}
 use Rattle.cdb_read.specs.Views.TableRecords.{Marks}
-use Rattle.cdb_read.specs.declared.table_records.TableRecords.{TableRecords}
+use Rattle.cdb_read.specs.declared.checking.table_records.TableRecords.{TableRecords}
 
 -- places that rise, from one on
 abbrev pub IsRising : ℕ → List WordPair → Type 0

@@ -5,7 +5,7 @@ use Rattle.cdb_form.specs.declared.damage.Damage.TheVariants as damage
 use Rattle.cdb_read.specs.Statistics.{statistics_of, statistics_damage}
 use Rattle.cdb_read.specs.declared.fault.ReadFault.{ReadFault}
 use Rattle.cdb_read.specs.declared.fault.ReadFault.TheVariants.{Table, Record, Device}
-use Rattle.cdb_read.specs.declared.statistics.Stats.{Stats}
+use Rattle.cdb_read.specs.declared.statistics.stats.Stats.{Stats}
 
 -- a list of bytes has no damage, and these statistics
 pub record HasStats (w : ℕ) (b : List ℕ) (stats : Stats) : Type 0 where

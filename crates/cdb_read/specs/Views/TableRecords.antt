@@ -6,7 +6,7 @@ use Rattle.std.specs.List.Sorted.{IsStrictlyIncreasing}
 use Rattle.cdb_form.specs.Format.Pair.{WordPair}
 use Rattle.cdb_form.specs.declared.slot.Slot.{Slot}
 use Rattle.cdb_read.specs.Sound.{has_place}
-use Rattle.cdb_read.specs.declared.table_records.TableRecords.{TableRecords}
+use Rattle.cdb_read.specs.declared.checking.table_records.TableRecords.{TableRecords}
 
 -- places and hashes side by side
 abbrev pub entries_of : List ℕ → List ℕ → List WordPair

@@ -9,8 +9,8 @@ use Rattle.cdb_read.specs.Views.Walking.{record_of, behind, walk_ahead, next_pla
 use Rattle.cdb_read.specs.Views.Walking.{LiesAt, records_length}
 use Rattle.cdb_read.specs.declared.fault.ReadFault.{ReadFault}
 use Rattle.cdb_read.specs.declared.fault.ReadFault.TheVariants.{Table, Record, Device}
-use Rattle.cdb_read.specs.declared.record_walk.Walk.{Walk}
-use Rattle.cdb_read.specs.declared.walk_state.Walking.TheVariants.{AtEnd, NoTable, NoRecord}
+use Rattle.cdb_read.specs.declared.walking.records.Walk.{Walk}
+use Rattle.cdb_read.specs.declared.walking.state.Walking.TheVariants.{AtEnd, NoTable, NoRecord}
 use Rattle.cdb_read.specs.declared.span.Pair.{Pair}
 
 -- what is left of the walk, in a list of bytes

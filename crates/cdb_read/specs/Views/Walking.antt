@@ -8,9 +8,9 @@ use Rattle.cdb_form.specs.Format.Walk.{Walked, walk_from, no_walk, damaged, with
 use Rattle.cdb_form.specs.Format.Walk.{front_size, whole_records}
 use Rattle.cdb_store.specs.Images.{part}
 use Rattle.cdb_read.specs.Lookup.{bytes_of}
-use Rattle.cdb_read.specs.declared.walk_state.Rest.{Rest}
-use Rattle.cdb_read.specs.declared.walk_state.Walking.{Walking}
-use Rattle.cdb_read.specs.declared.walk_state.Walking.TheVariants.{At, AtEnd, NoTable, NoRecord}
+use Rattle.cdb_read.specs.declared.walking.state.Rest.{Rest}
+use Rattle.cdb_read.specs.declared.walking.state.Walking.{Walking}
+use Rattle.cdb_read.specs.declared.walking.state.Walking.TheVariants.{At, AtEnd, NoTable, NoRecord}
 use Rattle.cdb_read.specs.declared.span.Pair.{Pair}
 
 -- the record of a pair

@@ -12,7 +12,7 @@ use Rattle.cdb_form.specs.declared.damage.Damage.TheVariants as damage
 use Rattle.cdb_form.specs.declared.width.Width.{Ghosts as Widths}
 use Rattle.cdb_read.specs.Lookup.{Found, bytes_of, lookup_of, with_spans}
 use Rattle.cdb_read.specs.Views.Finder.{left_in, HasEnded, HasNoTable, HasNoRecord}
-use Rattle.cdb_read.specs.declared.finder.Finder.{Finder}
+use Rattle.cdb_read.specs.declared.lookup.finder.Finder.{Finder}
 use Rattle.cdb_read.specs.Views.ReadFault.{damage_fault}
 use Rattle.cdb_store.specs.Reads.{OnlyReads}
 use Rattle.cdb_read.specs.declared.fault.ReadFault.TheVariants as read

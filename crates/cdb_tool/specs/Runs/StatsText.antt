@@ -1,7 +1,7 @@
 -- The text of statistics: a line of each number, or of three that belong together.
 use Rattle.std.specs.Prelude.{ℕ, List, ◌++◌, flat_map, get_or, decimal, codes}
 use Rattle.std.specs.List.{range_with_len}
-use Rattle.cdb_read.specs.declared.statistics.Stats.{Stats}
+use Rattle.cdb_read.specs.declared.statistics.stats.Stats.{Stats}
 
 -- a line of a number, and one of three
 abbrev pub count_line : List ℕ → ℕ → List ℕ

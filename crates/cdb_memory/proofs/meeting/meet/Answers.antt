@@ -4,20 +4,20 @@ use Rattle.cdb_memory.proofs.Bytes.{meets_empty, meets_value, meets_broken, same
 use Rattle.cdb_memory.proofs.meeting.meet.Goals as goal
 
 pub returns-clause-meets : goal.returns-clause-meets
-returns-clause-meets g c = λ is. let none : c.loop-turn.turn.left ≡ 0 = omega arith in meets_none none (c.loop-turn.invariant.same is)
+returns-clause-meets g c = λ is. let none : c.loop-probe.probe.left ≡ 0 = omega arith in meets_none none (c.loop-probe.invariant.same is)
 
 pub returns-in-Empty-clause-meets : goal.returns-in-Empty-clause-meets
-returns-in-Empty-clause-meets g c = λ is. meets_empty (c.loop-turn.invariant.same is) (c.in-Empty.ensures.steps is)
+returns-in-Empty-clause-meets g c = λ is. meets_empty (c.loop-probe.invariant.same is) (c.in-Empty.ensures.steps is)
 
 pub returns-in-Broken-clause-meets : goal.returns-in-Broken-clause-meets
-returns-in-Broken-clause-meets g c = λ is. meets_broken c.in-Broken.place (c.loop-turn.invariant.same is) (c.in-Broken.ensures.steps is)
+returns-in-Broken-clause-meets g c = λ is. meets_broken c.in-Broken.place (c.loop-probe.invariant.same is) (c.in-Broken.ensures.steps is)
 
 pub returns-in-Value-clause-meets : goal.returns-in-Value-clause-meets
-returns-in-Value-clause-meets g c = λ is. meets_value c.in-Value.span c.next.ensures (c.loop-turn.invariant.same is) (c.in-Value.ensures.steps is)
+returns-in-Value-clause-meets g c = λ is. meets_value c.in-Value.span c.next.ensures (c.loop-probe.invariant.same is) (c.in-Value.ensures.steps is)
 
-pub loop-turn-preserved : goal.loop-turn-preserved
-loop-turn-preserved g c = record {
-  inside = next_inside c.next-turn.ensures c.loop-turn.invariant.inside;
-  fewer = next_fewer _ _ c.next-turn.ensures c.loop-turn.invariant.fewer;
-  same = λ is. same_next c.next-turn.ensures (c.loop-turn.invariant.same is) (c.in-Passed.ensures.steps is);
+pub loop-probe-preserved : goal.loop-probe-preserved
+loop-probe-preserved g c = record {
+  inside = next_inside c.next-probe.ensures c.loop-probe.invariant.inside;
+  fewer = next_fewer _ _ c.next-probe.ensures c.loop-probe.invariant.fewer;
+  same = λ is. same_next c.next-probe.ensures (c.loop-probe.invariant.same is) (c.in-Passed.ensures.steps is);
 }

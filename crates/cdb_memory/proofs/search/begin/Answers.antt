@@ -1,9 +1,9 @@
 use Rattle.std.proofs.Common.{◌≡◌, ◌∙◌, length, refl, sym, ap, subst, arith}
 use Rattle.cdb_form.specs.Format.Hash.{key_hash}
 use Rattle.cdb_read.specs.Views.Search.{found_ahead}
-use Rattle.cdb_read.specs.Views.Turning.{TurnInside}
-use Rattle.cdb_read.specs.declared.turn.Searching.TheVariants.{At}
-use Rattle.cdb_read.specs.declared.turn.Turn.{Turn}
+use Rattle.cdb_read.specs.Views.Probing.{ProbeInside}
+use Rattle.cdb_read.specs.declared.lookup.probe.Searching.TheVariants.{At}
+use Rattle.cdb_read.specs.declared.lookup.probe.Probe.{Probe}
 use Rattle.cdb_read.proofs.Searches.{none_left}
 use Rattle.cdb_memory.proofs.search.begin.Goals as goal
 
@@ -21,6 +21,6 @@ returns-in-At-clause-begins g c =
     let is : c.from-hash.result ≡ key_hash c.args.key.now = c.from-hash.ensures ∙ c.hash.ensures in
     record {
       hash = c.at.ensures.hash ∙ is;
-      finds = ap (λ (t : Turn). found_ahead g.L.Width.WORD c.args.file.now c.args.key.now (At t)) c.at.ensures.turn ∙ c.in-At.ensures.finds c.args.key.now is;
-      inside = λ some. subst (λ (t : Turn). TurnInside g.L.Width.WORD (length c.args.file.now) t) (sym c.at.ensures.turn) (c.in-At.ensures.inside c.in-At.turn refl);
+      finds = ap (λ (t : Probe). found_ahead g.L.Width.WORD c.args.file.now c.args.key.now (At t)) c.at.ensures.probe ∙ c.in-At.ensures.finds c.args.key.now is;
+      inside = λ some. subst (λ (t : Probe). ProbeInside g.L.Width.WORD (length c.args.file.now) t) (sym c.at.ensures.probe) (c.in-At.ensures.inside c.in-At.probe refl);
     }

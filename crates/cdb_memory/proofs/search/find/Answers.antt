@@ -1,11 +1,11 @@
 use Rattle.std.proofs.Common.{◌≡◌, ◌∙◌, refl, sym}
 use Rattle.cdb_form.specs.Format.Hash.{key_hash}
 use Rattle.cdb_read.specs.Views.Search.{found_ahead}
-use Rattle.cdb_read.specs.declared.turn.Searching.TheVariants.{At}
+use Rattle.cdb_read.specs.declared.lookup.probe.Searching.TheVariants.{At}
 use Rattle.cdb_memory.proofs.search.find.Goals as goal
 
 pub meet-requires : goal.meet-requires
-meet-requires g c = record { inside = c.in-At.ensures.inside c.in-At.turn refl }
+meet-requires g c = record { inside = c.in-At.ensures.inside c.in-At.probe refl }
 
 pub returns-in-End-clause-finds : goal.returns-in-End-clause-finds
 returns-in-End-clause-finds g c =

@@ -2,7 +2,7 @@ use Rattle.std.proofs.Common.{refl, sym, ap, ◌∙◌, ◌≡◌, ◌+◌, arit
 use Rattle.std.proofs.lemmas.List.{take_at}
 use Rattle.cdb_form.specs.Format.Record.{KeyValue}
 use Rattle.cdb_make.specs.declared.batch.Batch.{Batch}
-use Rattle.cdb_make.specs.declared.gap.Gap.{Gap}
+use Rattle.cdb_make.specs.declared.removal.gap.Gap.{Gap}
 use Rattle.cdb_make.proofs.BatchPuts.{exchanges_noted, noted_last, waits_short, waits_full, fails_noted}
 use Rattle.cdb_make.proofs.Following.{follows_then, follows_still}
 use Rattle.cdb_make.proofs.batch.Batch.exchange.Goals as goal

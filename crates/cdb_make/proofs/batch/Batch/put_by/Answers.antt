@@ -2,7 +2,7 @@ use Rattle.std.proofs.Common.{refl, sym, ap, ◌∙◌, ◌≡◌, arith, cond}
 use Rattle.std.proofs.lemmas.Result.{err_from_is_err_and, on_err_weaker}
 use Rattle.cdb_form.specs.declared.mode.Mode.{Mode}
 use Rattle.cdb_form.specs.declared.mode.Mode.TheVariants.{Add, Warn, Insert}
-use Rattle.cdb_make.specs.declared.put.Put.TheVariants.{Added, AddedAgain}
+use Rattle.cdb_make.specs.declared.records.put.Put.TheVariants.{Added, AddedAgain}
 use Rattle.cdb_make.proofs.Batches.{fails_look, same_batch, with_maker, writes_nothing}
 use Rattle.cdb_make.proofs.BatchPuts.{puts_added, fails_added, puts_present, fails_put_looking, rests_looked, rests_same, lone_add_fails, there_held}
 use Rattle.cdb_make.proofs.Following.{follows_read, follows_then}

@@ -1,6 +1,6 @@
 use Rattle.std.proofs.Common.{arith, refl, ap, ◌∙◌, ◌≡◌, ◌++◌, ℕ, List}
 use Rattle.std.proofs.lemmas.Result.{err_from_is_err_and, IfOk-weaker, on_err_weaker}
-use Rattle.cdb_make.specs.declared.gap.Gap.{Gap}
+use Rattle.cdb_make.specs.declared.removal.gap.Gap.{Gap}
 use Rattle.cdb_make.proofs.Batches.{fails_look, same_batch, with_maker}
 use Rattle.cdb_make.proofs.BatchPuts.{rests_looked, noted_last, removes_noted, removes_settled, fails_remove_settled, fails_remove_amid, fails_remove_looking}
 use Rattle.cdb_make.proofs.Compare.{reads_fewer}

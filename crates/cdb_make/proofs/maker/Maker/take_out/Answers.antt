@@ -1,10 +1,10 @@
 use Rattle.std.proofs.Common.{arith, sym, ap, subst, ◌∙◌, ◌≡◌, ◌≤◌, ℕ, List, length, sum_by, vec_capacity, rules}
 use Rattle.std.proofs.lemmas.List.{take_at}
-use Rattle.cdb_make.specs.declared.list.EntryList.{EntryList}
+use Rattle.cdb_make.specs.declared.index.list.EntryList.{EntryList}
 use Rattle.cdb_make.specs.Views.EntryList.{lists_entries, list_tops, AreWithin, AreUnder, HasSpareGaps}
 use Rattle.cdb_make.proofs.Tops.{under_taken}
 use Rattle.cdb_make.proofs.ClosedAll.{within_taken, spare_taken, count_small}
-use Rattle.cdb_make.specs.declared.gap.Gap.{Gap}
+use Rattle.cdb_make.specs.declared.removal.gap.Gap.{Gap}
 use Rattle.cdb_make.specs.Stands.{Stands, AreGapsOf}
 use Rattle.cdb_make.proofs.Makers.{held_stand, left_counted, comes_torn}
 use Rattle.std.proofs.lemmas.Grind.{common_steps}

@@ -1,0 +1,98 @@
+// What a line asks for.
+ghost use Rattle.std.specs.Prelude.{◌≡◌, option_map, string_bytes};
+ghost use Rattle.cdb_command.specs.Line.{given_in};
+ghost use Rattle.cdb_command.specs.Asked.{Gives, asked_in};
+ghost use Rattle.cdb_command.specs.Rules.{one_name, query_in, create_in, command_in, line_plan};
+
+use crate::command::Command;
+use crate::line::Line;
+use crate::owned::{owned, owned_all, owned_option};
+use crate::rules::letter::{Letter, only_letter};
+use crate::rules::names::{first_name, one_name, two_names};
+use crate::rules::number::number_of;
+use crate::rules::options::{not_both, options_of, style_of};
+use crate::rules::stray::without_stray;
+use crate::usage::Usage;
+use std::alloc::Global;
+
+/// The file to be read.
+fn input_of(alloc: Global, line: &Line<'_, '_>) -> Result<Option<String>, Usage>
+    ensures { Gives (option_map string_bytes) result (one_name (given_in line.now).names) }
+{
+    owned_option(alloc, one_name(line.names)?)
+}
+
+/// A query, of a value with a number or of all.
+fn query_of(alloc: Global, line: &Line<'_, '_>, number: Option<u64>) -> Result<Command, Usage>
+    ensures { Gives asked_in result (query_in (given_in line.now) number) }
+{
+    let (name, key) = two_names(line.names)?;
+    Ok(Command::Query {
+        name: owned(alloc, name)?,
+        key: owned(alloc, key)?,
+        number,
+        lines: line.flags.map,
+        wide: line.flags.wide,
+    })
+}
+
+/// A create.
+fn create_of(alloc: Global, line: &Line<'_, '_>) -> Result<Command, Usage>
+    ensures { Gives asked_in result (create_in (given_in line.now)) }
+{
+    let (name, inputs) = first_name(line.names)?;
+    not_both(line.flags)?;
+    Ok(Command::Create {
+        name: owned(alloc, name)?,
+        base: owned_option(alloc, line.base)?,
+        inputs: owned_all(alloc, inputs)?,
+        temporary: owned_option(alloc, line.temporary)?,
+        options: options_of(line.flags),
+        wide: line.flags.wide,
+    })
+}
+
+/// The command of a letter, on a line without options that it does not take.
+fn command_of(
+    alloc: Global,
+    letter: Letter,
+    line: &Line<'_, '_>,
+    number: Option<u64>,
+) -> Result<Command, Usage>
+    ensures { Gives asked_in result (command_in letter (given_in line.now) number) }
+{
+    let (style, wide) = (style_of(line.flags), line.flags.wide);
+    match letter {
+        Letter::Query => query_of(alloc, line, number),
+        Letter::Create => create_of(alloc, line),
+        Letter::Dump => {
+            let name = input_of(alloc, line)?;
+            Ok(Command::Dump { name, style, wide })
+        }
+        Letter::List => {
+            let name = input_of(alloc, line)?;
+            Ok(Command::List { name, style, wide })
+        }
+        Letter::Stats => {
+            let name = input_of(alloc, line)?;
+            Ok(Command::Stats { name, wide })
+        }
+        Letter::Check => {
+            let name = input_of(alloc, line)?;
+            Ok(Command::Check { name, wide })
+        }
+    }
+}
+
+/// The command of a line, or the first of its faults.
+pub(crate) fn asked_on(alloc: Global, line: &Line<'_, '_>) -> Result<Command, Usage>
+    ensures { Gives asked_in result (line_plan (given_in line.now)) }
+{
+    if line.flags.help {
+        return Ok(Command::Help);
+    }
+    let letter = only_letter(line.flags)?;
+    without_stray(letter, line)?;
+    let number = number_of(line.number)?;
+    command_of(alloc, letter, line, number)
+}

@@ -1,0 +1,75 @@
+// Options that a command does not take.
+ghost use Rattle.std.specs.Prelude.{◌≡◌, []};
+ghost use Rattle.cdb_command.specs.Line.{given_in};
+ghost use Rattle.cdb_command.specs.Rules.{taken_by, making_options_in, options_in, first_stray};
+ghost use Rattle.cdb_command.specs.Rules.{no_stray};
+ghost use Rattle.cdb_command.specs.declared.rules.letter.Letter.TheVariants as letter;
+
+use crate::line::Line;
+use crate::rules::base::takes_base;
+use crate::rules::letter::Letter;
+use crate::usage::Usage;
+
+/// The first option on a line, in the order `m n t w e r u b`, that the command does not take.
+fn stray_option(letter: Letter, line: &Line<'_, '_>) -> Option<char>
+    ensures { result ≡ first_stray (taken_by letter (given_in line.now))
+        (options_in (given_in line.now)) }
+{
+    let flags = line.flags;
+    let (takes_map, takes_number, takes_making) = match letter {
+        Letter::Query => (true, true, false),
+        Letter::Dump | Letter::List => (true, false, false),
+        Letter::Stats | Letter::Check => (false, false, false),
+        Letter::Create => (true, false, true),
+    };
+    if flags.map && !takes_map {
+        Some('m')
+    } else if line.number.is_some() && !takes_number {
+        Some('n')
+    } else if takes_making {
+        stray_base(line)
+    } else {
+        making_option(line)
+    }
+}
+
+/// The option `b`, if a create does not take the base of a line.
+fn stray_base(line: &Line<'_, '_>) -> Option<char>
+    ensures { result ≡ first_stray (taken_by letter.Create (given_in line.now))
+        (making_options_in (given_in line.now)) }
+{
+    if takes_base(line) { None } else { Some('b') }
+}
+
+/// The first option on a line, in the order `t w e r u b`, of those that a create alone takes.
+fn making_option(line: &Line<'_, '_>) -> Option<char>
+    ensures { result ≡ first_stray [] (making_options_in (given_in line.now)) }
+{
+    let flags = line.flags;
+    if line.temporary.is_some() {
+        Some('t')
+    } else if flags.warn {
+        Some('w')
+    } else if flags.stop {
+        Some('e')
+    } else if flags.replace {
+        Some('r')
+    } else if flags.insert {
+        Some('u')
+    } else if line.base.is_some() {
+        Some('b')
+    } else {
+        None
+    }
+}
+
+/// `Option` of the first option on a line that the command does not take.
+pub(crate) fn without_stray(letter: Letter, line: &Line<'_, '_>) -> Result<(), Usage>
+    ensures { result ≡ no_stray (first_stray (taken_by letter (given_in line.now))
+        (options_in (given_in line.now))) }
+{
+    match stray_option(letter, line) {
+        Some(option) => Err(Usage::Option(option)),
+        None => Ok(()),
+    }
+}

@@ -1,0 +1,10 @@
+use Rattle.cdb_make.proofs.Filling.{first_behind_slots, first_before_slots}
+use Rattle.cdb_make.proofs.finish.table.first_empty.Goals as goal
+
+pub returns-then-behind-slots-clause-first : goal.returns-then-behind-slots-clause-first
+returns-then-behind-slots-clause-first c =
+    first_behind_slots c.args.slots.now c.args.home c.next_empty-behind.result c.requires.home c.next_empty-behind.ensures.first c.if-behind-slots.true
+
+pub returns-else-behind-slots-clause-first : goal.returns-else-behind-slots-clause-first
+returns-else-behind-slots-clause-first c =
+    first_before_slots c.args.slots.now c.args.home c.next_empty-behind.result c.next_empty.result c.min.result c.requires.home c.next_empty-behind.ensures.first c.if-behind-slots.false c.next_empty.ensures.first c.min.ensures

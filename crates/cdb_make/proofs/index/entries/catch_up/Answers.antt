@@ -1,0 +1,25 @@
+use Rattle.std.proofs.Common.{◌≡◌, ◌<◌, ap, sym, ◌∙◌, arith, length}
+use Rattle.std.proofs.Math.Seq.{map-set_same}
+use Rattle.cdb_make.specs.declared.index.list.EntryList.{EntryList}
+use Rattle.cdb_form.specs.Format.Hash.{table_number}
+use Rattle.cdb_make.specs.Views.EntryList.{list_entries, list_room}
+use Rattle.cdb_make.proofs.Entering.{told_of_set, told_of_list}
+use Rattle.cdb_make.proofs.index.entries.catch_up.Goals as goal
+
+pub returns-clause-entries : goal.returns-clause-entries
+returns-clause-entries c =
+    map-set_same list_entries c.args.lists.now.items c.table_number.result c.catch_up.new.self c.index_mut.result.now
+    (c.catch_up.ensures.entries ∙ ap list_entries c.index_mut.ensures.value)
+
+pub returns-clause-tops : goal.returns-clause-tops
+returns-clause-tops c =
+    map-set_same (λ (l : EntryList). l.top) c.args.lists.now.items c.table_number.result c.catch_up.new.self c.index_mut.result.now
+    (c.catch_up.ensures.top ∙ ap (λ (l : EntryList). l.top) c.index_mut.ensures.value)
+
+pub returns-clause-room : goal.returns-clause-room
+returns-clause-room c =
+    let n : table_number c.args.hash ≡ c.table_number.result = sym (c.table_number.ensures.number ∙ ap table_number c.from.ensures) in
+    let lt : c.table_number.result < length c.args.lists.now.items = omega (arith, c.table_number.ensures.within, c.requires) in
+    let was = told_of_list list_room c.args.lists.now.items c.table_number.result (table_number c.args.hash) c.index_mut.result.now 0 n lt c.index_mut.ensures.value in
+    let now = told_of_set list_room c.args.lists.now.items c.table_number.result (table_number c.args.hash) c.catch_up.new.self 0 n lt in
+    omega (arith, was, now, c.catch_up.ensures.room)

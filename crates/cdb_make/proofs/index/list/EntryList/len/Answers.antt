@@ -1,0 +1,8 @@
+use Rattle.std.proofs.Common.{arith}
+use Rattle.cdb_make.proofs.Sides.{length-entries_of}
+use Rattle.cdb_make.proofs.index.list.EntryList.len.Goals as goal
+
+pub returns : goal.returns
+returns c =
+    let s = c.args.self.now in
+    omega (arith, length-entries_of s.hashes.items s.places.items s.paired, s.hashes.ok.0, c.len.ensures)

@@ -1,0 +1,25 @@
+use Rattle.std.specs.Prelude.{All, slice_index, ◌<◌}
+use Rattle.std.proofs.Common.{ℕ, ◌≡◌, ◌+◌, ◌-◌, ◌≤◌, ◌^◌, ◌++◌, take, drop, length}
+use Rattle.cdb_make.specs.Gaps.{AreApart, IsRising, closed_by}
+use Rattle.cdb_make.specs.Views.EntryList.{entries_of}
+use Rattle.cdb_make.proofs.removal.close_entries.close_entries.Given as goal
+
+abbrev pub invariant-loop-entry : goal.invariant-loop-entry
+invariant-loop-entry l = record {
+  behind : l.kept ≤ l.entry;
+  within : l.entry ≤ length l.places;
+  gap_within : l.next ≤ length l.gaps;
+  paired : length l.hashes ≡ length l.places;
+  start : l.start ≤ l.kept;
+  front : (k : ℕ) → k < l.start → slice_index l.hashes k ≡ slice_index l.fn.hashes k;
+  same : l.kept ≡ l.entry → l.hashes ≡ l.fn.hashes;
+  apart : AreApart l.gone (drop l.next l.gaps) (2 ^ 63);
+  rising : IsRising 0 (entries_of l.fn.hashes l.fn.places) → IsRising 0 (drop l.entry (entries_of l.hashes l.places));
+  sofar : IsRising 0 (entries_of l.fn.hashes l.fn.places)
+      → closed_by 0 l.gaps (entries_of l.fn.hashes l.fn.places)
+      ≡ take l.kept (entries_of l.hashes l.places) ++ closed_by l.gone (drop l.next l.gaps) (drop l.entry (entries_of l.hashes l.places));
+  bounded : (most : ℕ) → All (λ p. p ≤ most) l.fn.places → All (λ p. p ≤ most) l.places;
+}
+
+abbrev pub decreases-loop-entry : goal.decreases-loop-entry
+decreases-loop-entry l = (length l.places - l.entry) + (length l.gaps - l.next)

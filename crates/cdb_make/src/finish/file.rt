@@ -1,0 +1,111 @@
+// The whole file of a maker's records, in its store.
+ghost use Rattle.std.specs.Prelude.{◌≡◌, ℕ, ◌+◌, ◌-◌, ◌*◌, ◌<◌, ◌≤◌, ◌⊎◌, length, sum_by, All, Err};
+ghost use Rattle.std.specs.Prelude.{OnOk, IfErr, IsErrOf};
+ghost use Rattle.cdb_store.specs.declared.store.StoreFault.TheVariants.{NoMemory as Refused};
+ghost use Rattle.cdb_store.specs.Images.{SameImages, KeepsPart, HasCause};
+ghost use Rattle.cdb_form.specs.Format.Pair.{head_size, pair_size};
+ghost use Rattle.cdb_make.specs.declared.fault.MakeFault.TheVariants.{NoMemory, Writing};
+ghost use Rattle.cdb_make.specs.Finished.{IsFinished, HeadIsLast};
+ghost use Rattle.cdb_make.specs.Parts.{tables_end};
+ghost use Rattle.cdb_make.specs.Views.EntryList.{lists_entries};
+
+use crate::fault::MakeFault;
+use crate::finish::head::write_pointers;
+use crate::finish::table::EMPTY;
+use crate::finish::tables::write_tables;
+use crate::index::list::EntryList;
+use crate::index::lists::{count_all, longest};
+use cdb_form::{Slot, Width, pair_size};
+use cdb_store::{Store, StoreFault};
+use std::alloc::Global;
+
+/// Writes the tables from `end` to `last` and then the head, cuts the store after them, and
+/// flushes it. It takes no memory.
+///
+/// `Device`: the bytes between the head and `end` stay.
+fn write_parts<S: Store, L: Width>(
+    store: &mut S,
+    lists: &[EntryList],
+    end: u64,
+    last: u64,
+    slots: &mut [Slot],
+    runs: &mut [usize],
+    bytes: &mut [u8],
+) -> Result<(), StoreFault>
+    requires long { length lists.now ≡ 256 }
+    requires start { head_size L.WORD ≤ end }
+    requires inside { end ≤ S.size store.old }
+    requires last { last ≡ tables_end L.WORD end (lists_entries lists.now) }
+    requires limit { last ≤ L.GREATEST }
+    requires room { last ≤ S.room store.old }
+    requires slots { All (λ list. 2 * length list ≤ length slots.old) (lists_entries lists.now) }
+    requires runs { length slots.old ≤ length runs.old }
+    requires bytes { length bytes.old ≡ pair_size L.WORD * length slots.old }
+    requires fits { All (All (λ e. e.second ≤ L.TOP)) (lists_entries lists.now) }
+    ensures file { OnOk result (IsFinished L.WORD end (lists_entries lists.now)
+        (S.image store.old) (S.image store.new)) }
+    ensures size { OnOk result (S.size store.new ≡ last) }
+    ensures written { OnOk result
+        (S.written store.new + end ≡ S.written store.old + (head_size L.WORD + last)) }
+    ensures settled { OnOk result (S.settled store.new) }
+    ensures head_last { HeadIsLast L.WORD end (lists_entries lists.now) (S.image store.old)
+        (S.image store.new) }
+    ensures kept { KeepsPart (head_size L.WORD) (end - head_size L.WORD)
+        (S.image store.old) (S.image store.new) }
+    ensures inside { end ≤ S.size store.new }
+    ensures room { S.room store.old ≤ S.room store.new }
+    ensures memory { IsErrOf result Refused → ⊥ }
+    ensures cause { HasCause (S.failures store.old) (S.failures store.new) result }
+{
+    write_tables::<S, L>(store, lists, end, slots, runs, bytes)?;
+    write_pointers::<S, L>(store, lists, end)?;
+    store.cut(last)?;
+    store.flush()
+}
+
+/// Writes the tables and the head of the records that lie up to `end`, cuts the store after
+/// the tables, and flushes it.
+///
+/// All memory is taken before the first byte is written, so `NoMemory` leaves the store as it was.
+/// `Writing`: the store failed. The records' bytes stay whatever the answer, and the head is
+/// written last.
+pub(crate) fn finish<S: Store, L: Width>(
+    alloc: Global,
+    store: &mut S,
+    lists: &[EntryList],
+    end: u64,
+) -> Result<(), MakeFault>
+    requires long { length lists.now ≡ 256 }
+    requires start { head_size L.WORD ≤ end }
+    requires inside { end ≤ S.size store.old }
+    requires limit { tables_end L.WORD end (lists_entries lists.now) ≤ L.GREATEST }
+    requires fits { All (All (λ e. e.second ≤ L.TOP)) (lists_entries lists.now) }
+    ensures file { OnOk result (IsFinished L.WORD end (lists_entries lists.now)
+        (S.image store.old) (S.image store.new)) }
+    ensures size { OnOk result
+        (S.size store.new ≡ tables_end L.WORD end (lists_entries lists.now)) }
+    ensures written { OnOk result (S.written store.new + end ≡ S.written store.old
+        + (head_size L.WORD + tables_end L.WORD end (lists_entries lists.now))) }
+    ensures settled { OnOk result (S.settled store.new) }
+    ensures head_last { HeadIsLast L.WORD end (lists_entries lists.now) (S.image store.old)
+        (S.image store.new) }
+    ensures kept { KeepsPart (head_size L.WORD) (end - head_size L.WORD)
+        (S.image store.old) (S.image store.new) }
+    ensures inside { end ≤ S.size store.new }
+    ensures room { S.room store.old ≤ S.room store.new }
+    ensures memory { result ≡ Err NoMemory → SameImages (S.image store.old) (S.image store.new) }
+    ensures memory_size { result ≡ Err NoMemory → S.size store.new ≡ S.size store.old }
+    ensures memory_written { result ≡ Err NoMemory → S.written store.new ≡ S.written store.old }
+    ensures failed { result ≡ Err Writing → S.failures store.old < S.failures store.new }
+    ensures faults { IfErr result (λ f. (f ≡ NoMemory) ⊎ (f ≡ Writing)) }
+    ensures failures { S.failures store.old ≤ S.failures store.new }
+{
+    let most = 2 * longest(lists);
+    let mut slots = vec![in alloc; EMPTY; most]?;
+    let mut runs = vec![in alloc; 0usize; most]?;
+    let mut bytes = vec![in alloc; 0u8; pair_size::<L>() * most]?;
+    let last = end + 2 * pair_size::<L>() as u64 * count_all(lists);
+    store.reserve(last)?;
+    write_parts::<S, L>(store, lists, end, last, &mut slots, &mut runs, &mut bytes)?;
+    Ok(())
+}

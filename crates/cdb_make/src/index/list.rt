@@ -1,0 +1,220 @@
+// The entries of one table, as a maker keeps them.
+ghost use Rattle.std.specs.Prelude.{◌≡◌, ℕ, ◌<◌, ◌≤◌, ◌^◌, ◌+◌, ◌-◌, [], ◌∷◌, ◌++◌, length, get_or, All};
+ghost use Rattle.std.specs.Prelude.{true, OnOk, OnErr, max, slice_index, vec_capacity};
+ghost use Rattle.cdb_make.specs.Marks.{turned};
+ghost use Rattle.cdb_make.specs.Rings.{AreLinked};
+ghost use Rattle.cdb_make.specs.Views.Index.{index_room};
+
+use crate::index::rings::Index;
+use crate::removal::close_entries::{below, close_entries, entry_at};
+use crate::removal::gap::Gap;
+use cdb_form::Slot;
+use std::alloc::{AllocError, Global};
+
+/// A hash with its lowest bit turned, which no key of the same table has.
+fn turned(hash: u32) -> u32
+    ensures { result ≡ turned hash }
+{
+    if hash % 2 == 0 { hash + 1 } else { hash - 1 }
+}
+
+/// The entries of one table, in the order of their places: 20 to 24 bytes each.
+#[derive(Drop)]
+pub(crate) struct EntryList {
+    /// The hash of each record's key.
+    hashes: Vec<u32>,
+    /// Where each record lies, in bytes from the file's start.
+    places: Vec<u64>,
+    /// Where the entries of a hash are.
+    index: Index,
+    /// In the first list of a group, a place that no place of the group's lists passes.
+    top: u64,
+    ghost paired: { length hashes.items ≡ length places.items },
+    ghost linked: { AreLinked index.ends.items index.next.items hashes.items },
+    ghost indexed: { length hashes.items ≤ index_room index },
+    ghost hash_room: { length hashes.items ≤ vec_capacity hashes },
+    ghost place_room: { length places.items ≤ vec_capacity places },
+}
+
+impl EntryList {
+    ghost use Rattle.cdb_form.specs.Views.Pairs.{slot_pair};
+    ghost use Rattle.cdb_make.specs.Gaps.{AreApart, IsRising, closed_by, first_place};
+    ghost use Rattle.cdb_make.specs.Marks.{turn_at};
+    ghost use Rattle.cdb_make.specs.Views.EntryList.{list_entries, list_room, IsNowhereIn};
+
+    /// No entries.
+    pub(crate) fn new(alloc: Global) -> EntryList
+        ensures { list_entries result ≡ [] }
+    {
+        EntryList {
+            hashes: Vec::new(alloc),
+            places: Vec::new(alloc),
+            index: Index::new(alloc),
+            top: 0,
+        }
+    }
+
+    /// A place that no place of its group of lists passes, if it is the first of them.
+    pub(crate) fn top(&self) -> u64
+        ensures { result ≡ self.now.top }
+    {
+        self.top
+    }
+
+    /// A place of its group may be as high as this one.
+    pub(crate) fn raise(&mut self, place: u64)
+        ensures top { self.new.top ≡ max self.old.top place }
+        ensures entries { list_entries self.new ≡ list_entries self.old }
+        ensures room { list_room self.new ≡ list_room self.old }
+    {
+        self.top = self.top.max(place);
+    }
+
+    /// How many entries there are.
+    pub(crate) fn len(&self) -> usize
+        ensures { result ≡ length (list_entries self.now) }
+    {
+        self.hashes.len()
+    }
+
+    /// The hash of each entry.
+    pub(crate) fn hashes(&self) -> &[u32]
+        ensures { result.now ≡ self.now.hashes.items }
+    {
+        &self.hashes
+    }
+
+    /// The place of each entry.
+    pub(crate) fn places(&self) -> &[u64]
+        ensures { result.now ≡ self.now.places.items }
+    {
+        &self.places
+    }
+
+    /// The number of the first entry with a hash from `from` on, or that of all entries.
+    pub(crate) fn next_place(&self, hash: u32, from: usize) -> usize
+        requires { from ≤ length self.now.hashes.items }
+        ensures from { from ≤ result }
+        ensures within { result ≤ length self.now.hashes.items }
+        ensures none { IsNowhereIn hash self.now.hashes.items from result }
+        ensures found { result < length self.now.hashes.items
+            → slice_index self.now.hashes.items result ≡ hash }
+    {
+        self.index.next_place(&self.hashes, hash, from)
+    }
+
+    /// An entry, as a slot of its table holds it.
+    pub(crate) fn entry(&self, n: usize) -> Slot
+        requires { n < length (list_entries self.now) }
+        ensures entry { slot_pair result ≡ get_or (list_entries self.now) n (slot_pair result) }
+        ensures hash { result.hash < 2 ^ 32 }
+    {
+        Slot {
+            hash: u64::from(self.hashes[n]),
+            place: self.places[n],
+        }
+    }
+
+    /// Makes room for one more entry. If memory is refused, the entries stay.
+    pub(crate) fn reserve(&mut self) -> Result<(), AllocError>
+        ensures entries { list_entries self.new ≡ list_entries self.old }
+        ensures ok { OnOk result (length (list_entries self.new) < list_room self.new) }
+        ensures full { OnErr result (list_room self.old ≤ length (list_entries self.old)) }
+        ensures room { list_room self.old ≤ list_room self.new }
+        ensures top { self.new.top ≡ self.old.top }
+    {
+        self.hashes.reserve(1)?;
+        self.places.reserve(1)?;
+        self.index.reserve(self.hashes.len())
+    }
+
+    /// One more entry, for which there is room.
+    pub(crate) fn push(&mut self, hash: u32, place: u64)
+        requires { length (list_entries self.old) < list_room self.old }
+        ensures entries { list_entries self.new
+            ≡ list_entries self.old ++ record { first = hash; second = place } ∷ [] }
+        ensures room { list_room self.new ≡ list_room self.old }
+        ensures top { self.new.top ≡ self.old.top }
+    {
+        self.hashes.push_reserved(hash);
+        self.places.push_reserved(place);
+    }
+
+    /// Indexes the entries that are not yet, if they are many. It takes no memory.
+    pub(crate) fn catch_up(&mut self)
+        ensures entries { list_entries self.new ≡ list_entries self.old }
+        ensures room { list_room self.old ≤ list_room self.new }
+        ensures top { self.new.top ≡ self.old.top }
+    {
+        self.index.catch_up(&self.hashes);
+    }
+
+    /// Turns the hash of the entry at a place, so that no look for a key of its table finds it. It
+    /// takes no memory.
+    pub(crate) fn mark(&mut self, place: u64)
+        ensures entries { IsRising 0 (list_entries self.old)
+            → list_entries self.new ≡ turn_at place (list_entries self.old) }
+        ensures places { self.new.places.items ≡ self.old.places.items }
+        ensures top { self.new.top ≡ self.old.top }
+        ensures room { list_room self.new ≡ list_room self.old }
+    {
+        let n = below(&self.places, place);
+        if n < self.places.len() && self.places[n] == place {
+            self.hashes[n] = turned(self.hashes[n]);
+        }
+    }
+
+    /// Whether each entry lies below a place.
+    fn is_below(&self, place: u64) -> bool
+        ensures { result ≡ true → IsRising 0 (list_entries self.now) → (k : ℕ)
+            → k < length self.now.places.items → get_or self.now.places.items k 0 < place }
+    {
+        let count = self.places.len();
+        count == 0 || self.places[count - 1] < place
+    }
+
+    /// Closes the gaps as `close` does, from the first entry that they reach on.
+    fn close_reached(&mut self, gaps: &[Gap], first: u64) -> usize
+        requires apart { AreApart 0 gaps.now (2 ^ 63) }
+        requires first { first ≡ first_place gaps.now (2 ^ 64 - 1) }
+        ensures entries { IsRising 0 (list_entries self.old) → list_entries self.new
+            ≡ closed_by 0 gaps.now (list_entries self.old) }
+        ensures gone { length (list_entries self.new) + result ≡ length (list_entries self.old) }
+        ensures bounded { (most : ℕ) → All (λ e. e.second ≤ most) (list_entries self.old)
+            → All (λ e. e.second ≤ most) (list_entries self.new) }
+        ensures top { self.new.top ≡ self.old.top }
+        ensures room { list_room self.new ≡ list_room self.old }
+    {
+        let start = below(&self.places, first);
+        // The entries at gaps have one hash. Where they are in this list, one is at the first gap.
+        let linked = entry_at(&self.places, start, first);
+        self.index.cut(&self.hashes, linked);
+        let count = self.places.len();
+        let kept = close_entries(&mut self.hashes, &mut self.places, gaps, start);
+        if kept < linked {
+            self.index.clear();
+        }
+        self.hashes.truncate(kept);
+        self.places.truncate(kept);
+        count - kept
+    }
+
+    /// Takes out the entries at the gaps, of which the first is at `first`, lowers each other place
+    /// by the gaps below it, and answers how many went. The room stays.
+    pub(crate) fn close(&mut self, gaps: &[Gap], first: u64) -> usize
+        requires apart { AreApart 0 gaps.now (2 ^ 63) }
+        requires first { first ≡ first_place gaps.now (2 ^ 64 - 1) }
+        ensures entries { IsRising 0 (list_entries self.old) → list_entries self.new
+            ≡ closed_by 0 gaps.now (list_entries self.old) }
+        ensures gone { length (list_entries self.new) + result ≡ length (list_entries self.old) }
+        ensures bounded { (most : ℕ) → All (λ e. e.second ≤ most) (list_entries self.old)
+            → All (λ e. e.second ≤ most) (list_entries self.new) }
+        ensures top { self.new.top ≡ self.old.top }
+        ensures room { list_room self.new ≡ list_room self.old }
+    {
+        if self.is_below(first) {
+            return 0;
+        }
+        self.close_reached(gaps, first)
+    }
+}

@@ -1,0 +1,93 @@
+// A record is written behind the others, and its entry noted.
+ghost use Rattle.std.specs.Prelude.{◌≡◌, ℕ, ◌+◌, ◌-◌, ◌<◌, ◌≤◌, ◌⊎◌, ◌++◌, ◌∷◌, [], List, Bool};
+ghost use Rattle.std.specs.Prelude.{length, sum_by, vec_capacity, IfOk, IfErr, OnOk, OnErr};
+ghost use Rattle.cdb_store.specs.Images.{KeepsPart};
+ghost use Rattle.cdb_form.specs.Format.Hash.{key_hash};
+ghost use Rattle.cdb_form.specs.Format.Pair.{head_size};
+ghost use Rattle.cdb_form.specs.Format.Record.{KeyValue, record_size};
+ghost use Rattle.cdb_make.specs.Marks.{StandMarked};
+ghost use Rattle.cdb_make.specs.Stands.{Stands};
+ghost use Rattle.cdb_make.specs.Unfinished.{KeepsHead};
+ghost use Rattle.cdb_make.specs.Views.EntryList.{lists_entries, entry_count, entry_room};
+ghost use Rattle.cdb_make.specs.Views.EntryList.{AreWithin, HasSpareGaps, list_tops, AreUnder};
+ghost use Rattle.cdb_make.specs.Views.Adding.{AddFails};
+ghost use Rattle.cdb_make.specs.Views.Maker.{ComesFrom};
+
+use crate::fault::MakeFault;
+use crate::index::entries::{push_entry, reserve_entry};
+use crate::index::list::EntryList;
+use crate::records::write::append_record;
+use crate::removal::gap::Gap;
+use cdb_form::{GREATEST_PAIR, Header, Width, pair_size, write_header};
+use cdb_store::Store;
+
+/// Writes a record from `end` on and notes its entry, and answers where the records end then.
+///
+/// All memory is taken first. `NoMemory`: nothing was written; `Writing`: the store failed. The
+/// entries then are what they were, and the bytes below `end` stay.
+pub(crate) fn add<S: Store, L: Width>(
+    store: &mut S,
+    lists: &mut Vec<EntryList>,
+    gaps: &mut Vec<Gap>,
+    end: u64,
+    hash: u32,
+    key: &[u8],
+    value: &[u8],
+) -> Result<u64, MakeFault>
+    requires all { length lists.old.items ≡ 256 }
+    requires start { head_size L.WORD ≤ end }
+    requires inside { end ≤ S.size store.old }
+    requires fits { end + record_size L.WORD (record { key = key.now; value = value.now })
+        ≤ L.GREATEST }
+    requires hash { hash ≡ key_hash key.now }
+    ensures stands { (rs : List KeyValue)
+        → Stands L.WORD end (lists_entries lists.old.items) rs (S.image store.old)
+        → IfOk result (λ last. Stands L.WORD last (lists_entries lists.new.items)
+        (rs ++ record { key = key.now; value = value.now } ∷ []) (S.image store.new)) }
+    ensures marked { (marks : List Bool) (rs : List KeyValue) → length marks ≤ length rs
+        → StandMarked L.WORD end (lists_entries lists.old.items) marks rs (S.image store.old)
+        → IfOk result (λ last. StandMarked L.WORD last (lists_entries lists.new.items) marks
+        (rs ++ record { key = key.now; value = value.now } ∷ []) (S.image store.new)) }
+    ensures end { IfOk result (λ last.
+        last ≡ end + record_size L.WORD (record { key = key.now; value = value.now })) }
+    ensures inside { IfOk result (λ last. last ≤ S.size store.new) }
+    ensures written { OnOk result (S.written store.new ≡ S.written store.old
+        + record_size L.WORD (record { key = key.now; value = value.now })) }
+    ensures one_more { OnOk result (sum_by length (lists_entries lists.new.items)
+        ≡ sum_by length (lists_entries lists.old.items) + 1) }
+    ensures placed { (most : ℕ) → end ≤ most → AreWithin most (lists_entries lists.old.items)
+        → AreWithin most (lists_entries lists.new.items) }
+    ensures spare { HasSpareGaps (lists_entries lists.old.items) (vec_capacity gaps.old)
+        → HasSpareGaps (lists_entries lists.new.items) (vec_capacity gaps.new) }
+    ensures under { AreUnder (list_tops lists.old.items) (lists_entries lists.old.items)
+        → AreUnder (list_tops lists.new.items) (lists_entries lists.new.items) }
+    ensures all { length lists.new.items ≡ 256 }
+    ensures entries { OnErr result (lists_entries lists.new.items ≡ lists_entries lists.old.items) }
+    ensures kept { OnErr result
+        (KeepsPart (head_size L.WORD) (end - head_size L.WORD) (S.image store.old)
+        (S.image store.new)) }
+    ensures comes { ComesFrom (S.image store.old) (S.image store.new) }
+    ensures head { KeepsHead L.WORD (S.image store.old) (S.image store.new) }
+    ensures fails { IfErr result
+        (AddFails (S.written store.old) (S.written store.new) (S.failures store.old)
+        (S.failures store.new)
+        ((entry_room lists.old.items hash ≤ entry_count lists.old.items hash)
+        ⊎ (vec_capacity gaps.old ≤ entry_count lists.old.items hash))
+        (S.room store.old
+        < end + record_size L.WORD (record { key = key.now; value = value.now }))) }
+    ensures longer { S.size store.old ≤ S.size store.new }
+    ensures room { S.room store.old ≤ S.room store.new }
+    ensures failures { S.failures store.old ≤ S.failures store.new }
+{
+    reserve_entry(lists, gaps, hash)?;
+    let header = Header {
+        klen: key.len() as u64,
+        vlen: value.len() as u64,
+    };
+    let mut words = [0u8; GREATEST_PAIR];
+    let len = pair_size::<L>();
+    write_header::<L>(header, &mut words[..len]);
+    append_record(store, end, &words[..len], key, value)?;
+    push_entry(lists, hash, end);
+    Ok(end + len as u64 + header.klen + header.vlen)
+}

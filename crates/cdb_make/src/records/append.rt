@@ -1,0 +1,231 @@
+// Whole records, as they are in a file, are written behind the others at once.
+ghost use Rattle.std.specs.Prelude.{◌≡◌, ℕ, ◌+◌, ◌*◌, ◌<◌, ◌≤◌, ◌++◌, ◌∷◌, [], true, false, List};
+ghost use Rattle.std.specs.Prelude.{length, take, sum_by, IfOk, IfErr, OnOk, OnErr};
+ghost use Rattle.cdb_store.specs.Images.{Holds as AreIn};
+ghost use Rattle.cdb_form.specs.Format.File.{whole_size};
+ghost use Rattle.cdb_form.specs.Format.Hash.{key_hash};
+ghost use Rattle.cdb_form.specs.Format.Record.{KeyValue, IsRecord, record_bytes, record_size};
+ghost use Rattle.cdb_form.specs.Format.Walk.{front_size, front_record, whole_records};
+ghost use Rattle.cdb_make.specs.declared.fault.MakeFault.TheVariants.{NoMemory};
+ghost use Rattle.cdb_make.specs.Views.Appending.{records_at, first_size, AreFirst};
+
+use crate::fault::MakeFault;
+use crate::index::entries::{push_entry, reserve_entry};
+use crate::maker::Maker;
+use crate::records::write::append_piece;
+use cdb_form::{Width, hash, pair_size, read_header};
+use cdb_store::Store;
+
+/// How many bytes the whole record has with which some bytes begin. There are none if they begin
+/// with no whole record.
+fn front_size<L: Width>(bytes: &[u8]) -> usize
+    ensures whole { 0 < result → result ≡ front_size L.WORD bytes.now }
+    ensures within { result ≤ length bytes.now }
+    ensures none { result ≡ 0 → length bytes.now < front_size L.WORD bytes.now }
+{
+    let size = pair_size::<L>();
+    if bytes.len() < size {
+        return 0;
+    }
+    let header = read_header::<L>(&bytes[..size]);
+    let held = (bytes.len() - size) as u64;
+    // The lengths may be any: their sum may pass a word.
+    if held < header.klen || held - header.klen < header.vlen {
+        return 0;
+    }
+    size + header.klen as usize + header.vlen as usize
+}
+
+/// The key of the whole record with which some bytes begin.
+fn front_key<L: Width>(bytes: &[u8]) -> &[u8]
+    requires { front_size L.WORD bytes.now ≤ length bytes.now }
+    ensures { result.now ≡ (front_record L.WORD bytes.now).key }
+{
+    let size = pair_size::<L>();
+    let header = read_header::<L>(&bytes[..size]);
+    &bytes[size..size + header.klen as usize]
+}
+
+/// Which records of a run are appended.
+#[derive(Clone, Copy)]
+struct Fitting {
+    /// How many they are.
+    count: usize,
+    /// How many bytes they have.
+    size: usize,
+    /// The limit keeps out a whole record that follows them.
+    passes: bool,
+}
+
+/// The first whole records at the front of some bytes for which a file has room: with the slots of
+/// their tables they take at most so many bytes.
+fn measure<L: Width>(bytes: &[u8], room: u64) -> Fitting
+    ensures first { AreFirst L.WORD bytes.now result.count result.size }
+    ensures room { sum_by (whole_size L.WORD) (take result.count (records_at L.WORD bytes.now))
+        ≤ room }
+    ensures all { result.passes ≡ false → result.count ≡ length (records_at L.WORD bytes.now) }
+    ensures more { result.passes ≡ true → result.count < length (records_at L.WORD bytes.now) }
+    ensures passes { result.passes ≡ true → room
+        < sum_by (whole_size L.WORD) (take (result.count + 1) (records_at L.WORD bytes.now)) }
+{
+    let slots = 2 * pair_size::<L>() as u64;
+    let mut left = room;
+    let (mut count, mut place) = (0, 0);
+    let mut next = front_size::<L>(bytes);
+    while 0 < next {
+        if left < slots || left - slots < next as u64 {
+            return Fitting {
+                count,
+                size: place,
+                passes: true,
+            };
+        }
+        left -= slots + next as u64;
+        count += 1;
+        place += next;
+        next = front_size::<L>(&bytes[place..]);
+    }
+    Fitting {
+        count,
+        size: place,
+        passes: false,
+    }
+}
+
+impl<S: Store, L: Width> Maker<S, L> {
+    ghost use Rattle.cdb_make.specs.Views.Maker.{Holds, StaysWhole, SameCounts, Follows, made_size};
+    ghost use Rattle.cdb_make.specs.Views.Maker.{HasNotFailed};
+    ghost use Rattle.cdb_make.specs.Views.Appending.{AppendsAll, AppendsSome, FailsAppending};
+    ghost use Rattle.cdb_make.specs.Views.Appending.{Enters, KeepsLimit, FailsWriting};
+
+    /// Makes the entry of a record whose bytes are in the store, behind the others.
+    ///
+    /// `NoMemory`: the records are what they were.
+    fn enter(&mut self, hash: u32, size: u64) -> Result<(), MakeFault>
+        requires whole { self.old.broken ≡ false }
+        requires inside { self.old.end + size ≤ S.size self.old.store }
+        requires within { made_size self.old + size + 4 * L.WORD ≤ self.old.limit }
+        ensures holds { (r : KeyValue) (before : List KeyValue) → IsRecord r
+            → hash ≡ key_hash r.key → size ≡ record_size L.WORD r
+            → AreIn self.old.end (record_bytes L.WORD r) (S.image self.old.store)
+            → Holds self.old before → OnOk result (Holds self.new (before ++ r ∷ [])) }
+        ensures end { OnOk result (self.new.end ≡ self.old.end + size) }
+        ensures count { OnOk result (self.new.count ≡ self.old.count + 1) }
+        ensures stays { OnErr result (StaysWhole self.old self.new) }
+        ensures counts { OnErr result (SameCounts self.old self.new) }
+        ensures memory { IfErr result (λ fault. fault ≡ NoMemory) }
+        ensures whole { self.new.broken ≡ false }
+        ensures limit { self.new.limit ≡ self.old.limit }
+        ensures store { self.new.store ≡ self.old.store }
+    {
+        reserve_entry(&mut self.lists, &mut self.gaps, hash)?;
+        push_entry(&mut self.lists, hash, self.end);
+        self.end += size;
+        self.count += 1;
+        Ok(())
+    }
+
+    /// Makes the entries of the first whole records of some bytes, which are in the store behind
+    /// the others.
+    ///
+    /// `NoMemory`: the records that have an entry are held, and the bytes behind them are those of
+    /// no record.
+    fn enter_all(&mut self, bytes: &[u8], count: usize) -> Result<(), MakeFault>
+        requires whole { self.old.broken ≡ false }
+        requires first { AreFirst L.WORD bytes.now count (first_size L.WORD bytes.now count) }
+        requires room { made_size self.old
+            + sum_by (whole_size L.WORD) (take count (records_at L.WORD bytes.now))
+            ≤ self.old.limit }
+        requires inside { self.old.end + first_size L.WORD bytes.now count
+            ≤ S.size self.old.store }
+        requires written { AreIn self.old.end (take (first_size L.WORD bytes.now count) bytes.now)
+            (S.image self.old.store) }
+        ensures ok { OnOk result
+            (Enters self.old self.new (take count (records_at L.WORD bytes.now))) }
+        ensures some { OnErr result
+            (AppendsSome self.old self.new (take count (records_at L.WORD bytes.now))
+            (KeepsLimit self.old self.new)) }
+        ensures memory { IfErr result (λ fault. fault ≡ NoMemory) }
+        ensures limit { self.new.limit ≡ self.old.limit }
+        ensures store { self.new.store ≡ self.old.store }
+    {
+        let mut place = 0;
+        for _ in 0..count {
+            let rest = &bytes[place..];
+            let size = front_size::<L>(rest);
+            self.enter(hash(front_key::<L>(rest)), size as u64)?;
+            place += size;
+        }
+        Ok(())
+    }
+
+    /// Writes some bytes behind the records, which stay.
+    ///
+    /// `NoMemory`: nothing was written. `Writing`: the store failed.
+    fn write_behind(&mut self, bytes: &[u8]) -> Result<(), MakeFault>
+        requires whole { self.old.broken ≡ false }
+        requires fits { self.old.end + length bytes.now ≤ self.old.limit }
+        ensures stays { StaysWhole self.old self.new }
+        ensures counts { SameCounts self.old self.new }
+        ensures follows { Follows self.old self.new }
+        ensures inside { OnOk result (self.new.end + length bytes.now ≤ S.size self.new.store) }
+        ensures stored { OnOk result (AreIn self.new.end bytes.now (S.image self.new.store)) }
+        ensures written { OnOk result
+            (S.written self.new.store ≡ S.written self.old.store + length bytes.now) }
+        ensures failures { OnOk result (HasNotFailed self.old self.new) }
+        ensures fails { IfErr result (FailsWriting self.old self.new) }
+    {
+        append_piece(&mut self.store, self.end, bytes)?;
+        Ok(())
+    }
+
+    /// Writes the first whole records of some bytes behind the others, and makes their entries.
+    ///
+    /// The faults are those of `append`.
+    fn append_first(&mut self, bytes: &[u8], count: usize, size: usize) -> Result<(), MakeFault>
+        requires whole { self.old.broken ≡ false }
+        requires first { AreFirst L.WORD bytes.now count size }
+        requires room { made_size self.old
+            + sum_by (whole_size L.WORD) (take count (records_at L.WORD bytes.now))
+            ≤ self.old.limit }
+        ensures ok { OnOk result (AppendsAll self.old self.new
+            (take count (records_at L.WORD bytes.now)) size) }
+        ensures fails { IfErr result
+            (FailsAppending self.old self.new (take count (records_at L.WORD bytes.now))) }
+        ensures follows { Follows self.old self.new }
+    {
+        if count == 0 {
+            return Ok(());
+        }
+        self.write_behind(&bytes[..size])?;
+        self.enter_all(bytes, count)
+    }
+
+    /// Appends the whole records at the front of some bytes, as they are, and answers how many
+    /// bytes they have.
+    ///
+    /// They are written by one write, and no record is copied. The bytes after the last whole
+    /// record are left out: pass them again, before those that follow them.
+    ///
+    /// `TooBig`: with the next record the file would pass the limit. `NoMemory`: an allocation
+    /// failed at the next record. Both leave the records before that one appended. `Writing`: the
+    /// store failed, and the maker holds the records that it held. `Broken`: an earlier call broke
+    /// the maker, and it is what it was.
+    pub fn append(&mut self, bytes: &[u8]) -> Result<usize, MakeFault>
+        ensures ok { IfOk result (λ n.
+            AppendsAll self.old self.new (whole_records L.WORD (length bytes.now) bytes.now) n) }
+        ensures fails { IfErr result
+            (FailsAppending self.old self.new (whole_records L.WORD (length bytes.now) bytes.now)) }
+        ensures follows { Follows self.old self.new }
+    {
+        if self.broken {
+            return Err(MakeFault::Broken);
+        }
+        let fitting = measure::<L>(bytes, self.limit - self.size());
+        self.append_first(bytes, fitting.count, fitting.size)?;
+        if fitting.passes {
+            return Err(MakeFault::TooBig);
+        }
+        Ok(fitting.size)
+    }
+}

@@ -1,0 +1,178 @@
+// A record, put by a batch.
+ghost use Rattle.std.specs.Prelude.{◌≡◌, ◌⊎◌, [], true, false, length, IfOk, IfErr, OnOk, OnErr};
+ghost use Rattle.cdb_form.specs.Format.Record.{KeyValue};
+ghost use Rattle.cdb_form.specs.declared.mode.Mode.TheVariants.{Replace};
+ghost use Rattle.cdb_make.specs.Views.Batch.{is_short};
+
+use crate::batch::Batch;
+use crate::fault::MakeFault;
+use crate::records::put::Put;
+use crate::removal::marks::note;
+use cdb_form::{Mode, Width, hash};
+use cdb_store::Store;
+
+/// Whether a pass could mend why a record was not added.
+fn is_short(fault: MakeFault) -> bool
+    ensures { result ≡ is_short fault }
+{
+    match fault {
+        MakeFault::TooBig | MakeFault::NoMemory => true,
+        MakeFault::Broken | MakeFault::Lookup | MakeFault::Writing => false,
+    }
+}
+
+/// How many records a put took out.
+fn taken_by(put: Put) -> u64 {
+    match put {
+        Put::Replaced(taken) => taken,
+        Put::Added | Put::AddedAgain | Put::Present => 0,
+    }
+}
+
+impl<S: Store, L: Width> Batch<S, L> {
+    ghost use Rattle.cdb_make.specs.Views.Batch.{SameCounts, Adds, FailsAdding, Puts, FailsPutting};
+    ghost use Rattle.cdb_make.specs.Views.Batch.{Exchanges, FailsExchanging, Waits};
+    ghost use Rattle.cdb_make.specs.Views.Maker.{Follows};
+
+    /// Whether a pass would mend why a record was not added.
+    fn is_mended(&self, fault: MakeFault) -> bool
+        ensures mended { result ≡ true → is_short fault ≡ true }
+        ensures not { result ≡ false → (self.now.gone.items ≡ []) ⊎ (is_short fault ≡ false) }
+    {
+        !self.gone.is_empty() && is_short(fault)
+    }
+
+    /// One more record, after the others. If there is no room for it, a pass is made first.
+    #[inline(always)]
+    fn add(&mut self, key: &[u8], value: &[u8]) -> Result<(), MakeFault>
+        ensures ok { OnOk result
+            (Adds self.old self.new (record { key = key.now; value = value.now })) }
+        ensures fails { IfErr result
+            (FailsAdding self.old self.new (record { key = key.now; value = value.now })) }
+        ensures follows { Follows self.old.maker self.new.maker }
+        ensures counts { OnErr result (SameCounts self.old self.new) }
+    {
+        match self.maker.add(key, value) {
+            Ok(()) => return Ok(()),
+            Err(fault) => {
+                if !self.is_mended(fault) {
+                    return Err(fault);
+                }
+            }
+        }
+        self.settle()?;
+        self.maker.add(key, value)
+    }
+
+    /// Marks the records whose gaps are noted, so many, and adds one after the others. Or it does
+    /// neither, since a pass has to be made first.
+    fn exchange(&mut self, taken: u64, key: &[u8], value: &[u8]) -> Result<bool, MakeFault>
+        requires taken { taken ≡ length self.old.maker.gaps.items }
+        requires whole { self.old.maker.broken ≡ false }
+        ensures done { IfOk result (λ done. done ≡ true
+            → Exchanges self.old self.new (record { key = key.now; value = value.now })) }
+        ensures waits { IfOk result (λ done. done ≡ false
+            → Waits self.old self.new (record { key = key.now; value = value.now })) }
+        ensures same { IfOk result (λ done. done ≡ false → SameCounts self.old self.new) }
+        ensures fails { IfErr result
+            (FailsExchanging self.old self.new (record { key = key.now; value = value.now })) }
+        ensures follows { Follows self.old.maker self.new.maker }
+        ensures counts { OnErr result (SameCounts self.old self.new) }
+    {
+        if !self.has_room(taken) {
+            return Ok(false);
+        }
+        let from = self.gone.len();
+        note(&mut self.gone, self.maker.noted_gaps());
+        match self.maker.add(key, value) {
+            Ok(()) => {
+                self.maker.mark(hash(key), &self.gone[from..]);
+                Ok(true)
+            }
+            Err(fault) => {
+                self.gone.truncate(from);
+                if is_short(fault) {
+                    Ok(false)
+                } else {
+                    Err(fault)
+                }
+            }
+        }
+    }
+
+    /// The record instead of those of its key.
+    fn replace(&mut self, key: &[u8], value: &[u8]) -> Result<Put, MakeFault>
+        ensures puts { IfOk result
+            (Puts self.old self.new Replace (record { key = key.now; value = value.now })) }
+        ensures fails { IfErr result
+            (FailsPutting self.old self.new Replace (record { key = key.now; value = value.now })) }
+        ensures follows { Follows self.old.maker self.new.maker }
+        ensures counts { OnErr result (SameCounts self.old self.new) }
+    {
+        let taken = self.maker.find(key)?;
+        if taken == 0 {
+            self.add(key, value)?;
+            return Ok(Put::Added);
+        }
+        if self.exchange(taken, key, value)? {
+            return Ok(Put::Replaced(taken));
+        }
+        self.settle()?;
+        self.maker.put(Mode::Replace, key, value)
+    }
+
+    /// Puts a record as `put` says it.
+    #[inline(always)]
+    fn put_by(&mut self, mode: Mode, key: &[u8], value: &[u8]) -> Result<Put, MakeFault>
+        ensures puts { IfOk result
+            (Puts self.old self.new mode (record { key = key.now; value = value.now })) }
+        ensures fails { IfErr result
+            (FailsPutting self.old self.new mode (record { key = key.now; value = value.now })) }
+        ensures follows { Follows self.old.maker self.new.maker }
+        ensures counts { OnErr result (SameCounts self.old self.new) }
+    {
+        match mode {
+            Mode::Add => self.add(key, value)?,
+            Mode::Warn => {
+                let there = self.maker.look(key)?;
+                self.add(key, value)?;
+                if there {
+                    return Ok(Put::AddedAgain);
+                }
+            }
+            Mode::Insert => {
+                if self.maker.look(key)? {
+                    return Ok(Put::Present);
+                }
+                self.add(key, value)?;
+            }
+            Mode::Replace => return self.replace(key, value),
+        }
+        Ok(Put::Added)
+    }
+
+    /// Puts a record: the mode says what is done if its key is there already.
+    ///
+    /// A replacement marks the records of its key. It makes a pass first if there is no room to
+    /// note their gaps. A put makes one if the store, with the marked records and this one, would
+    /// pass the limit or wants memory that is not given.
+    ///
+    /// `Lookup`: the store failed while it was read. `TooBig`: the file of the records would pass
+    /// the limit. `NoMemory`: memory was refused to a put that would have been taken. All these
+    /// leave the records as they were. `Writing`: the store failed; amid a pass that breaks the
+    /// batch, else its records are what they were. `Broken`: an earlier call broke it, or the store
+    /// gave back other bytes than were written.
+    #[inline(always)]
+    pub fn put(&mut self, mode: Mode, key: &[u8], value: &[u8]) -> Result<Put, MakeFault>
+        ensures puts { IfOk result
+            (Puts self.old self.new mode (record { key = key.now; value = value.now })) }
+        ensures fails { IfErr result
+            (FailsPutting self.old self.new mode (record { key = key.now; value = value.now })) }
+        ensures follows { Follows self.old.maker self.new.maker }
+        ensures counts { OnErr result (SameCounts self.old self.new) }
+    {
+        let put = self.put_by(mode, key, value)?;
+        self.make_room(key, taken_by(put));
+        Ok(put)
+    }
+}

@@ -1,0 +1,49 @@
+// The records of a key, removed by a batch.
+ghost use Rattle.std.specs.Prelude.{◌≡◌, IfOk, IfErr, OnErr};
+
+use crate::batch::Batch;
+use crate::fault::MakeFault;
+use crate::removal::marks::note;
+use cdb_form::{Width, hash};
+use cdb_store::Store;
+
+impl<S: Store, L: Width> Batch<S, L> {
+    ghost use Rattle.cdb_make.specs.Views.Batch.{Removes, FailsRemoving, SameCounts};
+    ghost use Rattle.cdb_make.specs.Views.Maker.{Follows};
+
+    /// Marks the records of a key, or makes a pass and removes them.
+    fn remove_by(&mut self, key: &[u8]) -> Result<u64, MakeFault>
+        ensures removes { IfOk result (Removes self.old self.new key.now) }
+        ensures fails { IfErr result (FailsRemoving self.old self.new key.now) }
+        ensures follows { Follows self.old.maker self.new.maker }
+        ensures counts { OnErr result (SameCounts self.old self.new) }
+    {
+        let taken = self.maker.find(key)?;
+        if self.has_room(taken) {
+            let from = self.gone.len();
+            note(&mut self.gone, self.maker.noted_gaps());
+            self.maker.mark(hash(key), &self.gone[from..]);
+            return Ok(taken);
+        }
+        self.settle()?;
+        self.maker.remove(key)
+    }
+
+    /// Removes every record of a key, and answers how many they were. They are marked. If it may
+    /// not note so many gaps more, a pass is made.
+    ///
+    /// It wants no memory: where none is given for more gaps, it makes a pass sooner. `Lookup`: the
+    /// store failed while it was read, and no record has gone. `Writing`: it failed amid a pass, and
+    /// the batch is broken. `Broken`: an earlier call broke it, or the store gave back other bytes
+    /// than were written.
+    pub fn remove(&mut self, key: &[u8]) -> Result<u64, MakeFault>
+        ensures removes { IfOk result (Removes self.old self.new key.now) }
+        ensures fails { IfErr result (FailsRemoving self.old self.new key.now) }
+        ensures follows { Follows self.old.maker self.new.maker }
+        ensures counts { OnErr result (SameCounts self.old self.new) }
+    {
+        let taken = self.remove_by(key)?;
+        self.make_room(key, taken);
+        Ok(taken)
+    }
+}

@@ -1,0 +1,23 @@
+use Rattle.std.proofs.Common.{◌≡◌, ap, ◌∙◌, ◌∷◌, [], ◌++◌, List, ℕ, Bool, false, arith}
+use Rattle.cdb_read.specs.Views.TableRecords.{entries_of}
+use Rattle.cdb_read.proofs.Entered.{entries_of-push}
+use Rattle.std.proofs.lemmas.Grind.{common_steps}
+use Rattle.cdb_read.proofs.checking.table_records.TableRecords.add.Goals as goal
+
+pub returns : goal.returns
+returns c =
+    let s = c.args.self.now in
+    let places : c.push_reserved.new.self.items ≡ s.places.items ++ c.args.place ∷ [] =
+    c.push_reserved.ensures.items ∙ ap (λ (v : List ℕ). v ++ c.args.place ∷ []) c.reserve.ensures.items in
+    let hashes : c.push_reserved-2.new.self.items ≡ s.hashes.items ++ c.args.hash ∷ [] =
+    c.push_reserved-2.ensures.items ∙ ap (λ (v : List ℕ). v ++ c.args.hash ∷ []) c.reserve-2.ensures.items in
+    record {
+      entries =
+          ap (λ (v : List ℕ). entries_of v c.push_reserved-2.new.self.items) places
+          ∙ ap (entries_of (s.places.items ++ c.args.place ∷ [])) hashes
+          ∙ entries_of-push s.places.items s.hashes.items c.args.place c.args.hash s.paired;
+      marks = c.push_reserved-3.ensures.items ∙ ap (λ (v : List Bool). v ++ false ∷ []) c.reserve-3.ensures.items;
+    }
+
+pub invariant_of-self-2 : goal.invariant_of-self-2
+invariant_of-self-2 c = grind (arith, common_steps)

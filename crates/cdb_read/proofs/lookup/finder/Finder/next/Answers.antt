@@ -1,0 +1,19 @@
+use Rattle.std.proofs.Common.{ℕ, subst, sym, rules, arith}
+use Rattle.cdb_read.specs.Views.Probing.{IsTurnInside}
+use Rattle.std.proofs.lemmas.Grind.{common_steps}
+use Rattle.cdb_read.proofs.lookup.finder.Finder.next.Goals as goal
+
+pub met_from-requires : goal.met_from-requires
+met_from-requires g c = record { inside = c.args.self.now.inside c.in-At.probe c.in-At.is }
+
+pub invariant_of-self : goal.invariant_of-self
+invariant_of-self g c = record { inside = subst (λ (n : ℕ). IsTurnInside g.L.Width.WORD n c.args.self.now.searching) (sym c.met_from.ensures.reads.size) c.args.self.now.inside }
+
+pub returns-in-Broken-clause-fails : goal.returns-in-Broken-clause-fails
+returns-in-Broken-clause-fails g c = search rules
+
+pub returns-in-Broken-clause-no_table : goal.returns-in-Broken-clause-no_table
+returns-in-Broken-clause-no_table g c = grind (arith, common_steps)
+
+pub returns-in-NoRecord-clause-no_record : goal.returns-in-NoRecord-clause-no_record
+returns-in-NoRecord-clause-no_record g c = grind (arith, common_steps)

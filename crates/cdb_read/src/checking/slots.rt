@@ -1,0 +1,103 @@
+// The slots of tables, checked against the records of a walk.
+ghost use Rattle.std.specs.Prelude.{◌≡◌, ℕ, ◌<◌, ◌^◌, List, All, map, length, OnOk, IfErr};
+ghost use Rattle.cdb_form.specs.Format.Reading.{head_at};
+ghost use Rattle.cdb_form.specs.Views.Pairs.{pointer_pair, slot_pair};
+ghost use Rattle.cdb_read.specs.Views.Check.{FaultTells, ReadTells};
+ghost use Rattle.cdb_read.specs.Views.Checked.{SlotIsClear, SlotHas, TableIsClear, TableHas};
+ghost use Rattle.cdb_read.specs.Views.Checked.{TablesAreClear, TablesHave};
+ghost use Rattle.cdb_read.specs.Views.Inside.{StandsInside};
+ghost use Rattle.cdb_store.specs.Reads.{OnlyReads};
+ghost use Rattle.cdb_read.specs.Views.Window.{Shows};
+
+use crate::checking::slot_runs::{last_run, run_with};
+use crate::checking::table_records::TableRecords;
+use crate::fault::ReadFault;
+use crate::tables::{distance_of, slot_at};
+use crate::window::{WINDOW, Window};
+use cdb_form::{Pointer, Slot, Width, table_number};
+use cdb_store::Store;
+
+/// Checks used slot `i` of table `n`, of which is known whether a search comes to it. Its record is
+/// marked if the slot is right.
+fn check_slot(
+    entries: &mut TableRecords,
+    n: u64,
+    i: u64,
+    slot: Slot,
+    is_reached: bool,
+) -> Result<(), ReadFault>
+    ensures clear { OnOk result
+        (SlotIsClear n i (slot_pair slot) is_reached entries.old entries.new) }
+    ensures fails { IfErr result
+        (FaultTells (SlotHas n i (slot_pair slot) is_reached entries.old)) }
+{
+    if table_number(slot.hash) as u64 != n || !is_reached {
+        return Err(ReadFault::Slot(n, i));
+    }
+    let Some(k) = entries.find(slot) else {
+        return Err(ReadFault::Slot(n, i));
+    };
+    if entries.is_marked(k) {
+        return Err(ReadFault::Twice(slot.place));
+    }
+    entries.mark(k);
+    Ok(())
+}
+
+/// Checks the slots of table `n` against the records of its list, and marks these. The run of used
+/// slots before each slot is known as the slots pass, so no way to a slot is gone twice.
+fn check_table<S: Store, L: Width>(
+    store: &mut S,
+    n: u64,
+    table: Pointer,
+    window: &mut Window,
+    entries: &mut TableRecords,
+) -> Result<(), ReadFault>
+    requires inside { StandsInside L.WORD (S.size store.old) (pointer_pair table) }
+    requires fits { S.size store.old < 2 ^ 64 }
+    requires shows { Shows window.old (S.image store.old) }
+    ensures shows { Shows window.new (S.image store.new) }
+    ensures clear { (b : List ℕ) → S.image store.new b → OnOk result
+        (TableIsClear L.WORD n (pointer_pair table) b entries.old entries.new) }
+    ensures reads { OnlyReads S.Store store.old store.new }
+    ensures fails { IfErr result (ReadTells S.Store
+        (TableHas L.WORD n (pointer_pair table) entries.old) store.old store.new) }
+{
+    let mut run = last_run::<S, L>(store, table, window)?;
+    for i in 0..table.slots {
+        let slot = slot_at::<S, L>(store, table, i, window, WINDOW)?;
+        if slot.place != 0 {
+            let is_reached = distance_of(table.slots, slot.hash, i) <= run;
+            check_slot(entries, n, i, slot, is_reached)?;
+        }
+        run = run_with(run, slot);
+    }
+    Ok(())
+}
+
+/// Checks the slots of all tables, each against the records of its list alone, and marks these.
+pub(crate) fn check_tables<S: Store, L: Width>(
+    store: &mut S,
+    tables: &[Pointer],
+    window: &mut Window,
+    lists: &mut [TableRecords],
+) -> Result<(), ReadFault>
+    requires many { length tables.now ≡ 256 }
+    requires lists { length lists.old ≡ 256 }
+    requires known { (b : List ℕ) → S.image store.old b
+        → head_at L.WORD b ≡ map pointer_pair tables.now }
+    requires inside { All (StandsInside L.WORD (S.size store.old)) (map pointer_pair tables.now) }
+    requires fits { S.size store.old < 2 ^ 64 }
+    requires shows { Shows window.old (S.image store.old) }
+    ensures shows { Shows window.new (S.image store.new) }
+    ensures clear { (b : List ℕ) → S.image store.new b
+        → OnOk result (TablesAreClear L.WORD b lists.old lists.new) }
+    ensures reads { OnlyReads S.Store store.old store.new }
+    ensures fails { IfErr result
+        (ReadTells S.Store (TablesHave L.WORD lists.old) store.old store.new) }
+{
+    for n in 0..tables.len() {
+        check_table::<S, L>(store, n as u64, tables[n], window, &mut lists[n])?;
+    }
+    Ok(())
+}

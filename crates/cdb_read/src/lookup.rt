@@ -1,0 +1,6 @@
+// A key is looked up.
+pub(crate) mod finder;
+pub(crate) mod first_value;
+pub(crate) mod key_at;
+pub(crate) mod probe;
+pub(crate) mod search;

@@ -1,0 +1,187 @@
+// The values of a key, one after the other.
+ghost use Rattle.std.specs.Prelude.{◌≡◌, ℕ, ◌+◌, ◌<◌, ◌≤◌, List, IfOk, IfErr};
+ghost use Rattle.std.specs.Prelude.{MatchOption, Ok, Err, None};
+ghost use Rattle.std.specs.Bool.{Decides};
+ghost use Rattle.cdb_form.specs.Views.KnownBytes.{Writes};
+ghost use Rattle.cdb_form.specs.Views.Pairs.{pointer_pair};
+ghost use Rattle.cdb_read.specs.Lookup.{bytes_of, lookup_of};
+ghost use Rattle.cdb_read.specs.Views.Inside.{LiesInside};
+ghost use Rattle.cdb_store.specs.Reads.{OnlyReads};
+ghost use Rattle.cdb_read.specs.Views.Reads.{StoreFails, CopyingFails};
+ghost use Rattle.cdb_read.specs.Views.Search.{found_ahead, Meets, MetWithin};
+ghost use Rattle.cdb_read.specs.Views.Probing.{ProbeInside, IsTurnInside};
+
+use crate::fault::ReadFault;
+use crate::lookup::probe::{Probe, Searching};
+use crate::lookup::search::{Met, next_met};
+use crate::reader::Reader;
+use crate::span::Span;
+use crate::window::WINDOW;
+use cdb_form::{Pointer, Width, hash, head_size, home_slot, pair_size, table_number};
+use cdb_store::Store;
+use std::io::Write;
+
+/// Finds the values of a key.
+#[derive(Drop)]
+pub struct Finder<'a, S: Store, L: Width> {
+    /// Where the key is looked up.
+    pub(crate) reader: &'a mut Reader<S, L>,
+    /// The key.
+    pub(crate) key: &'a [u8],
+    /// Where the search is.
+    pub(crate) searching: Searching,
+    /// Whether it gave a value. The next ones are mostly near, so more is read at once.
+    pub(crate) has_given: bool,
+    ghost inside: { IsTurnInside L.WORD (S.size reader.now.store) searching },
+}
+
+/// Whether a table lies after the head and inside a file of so many bytes.
+pub fn lies_inside<L: Width>(table: Pointer, size: u64) -> bool
+    ensures { Decides result (LiesInside L.WORD size (pointer_pair table)) }
+{
+    let slot_size = pair_size::<L>() as u64;
+    head_size::<L>() as u64 <= table.place
+        && table.place <= size
+        && table.slots <= (size - table.place) / slot_size
+}
+
+impl<S: Store, L: Width> Reader<S, L> {
+    ghost use Rattle.cdb_read.specs.Views.Finder.{left_in};
+
+    /// Where the search of a key begins.
+    fn first_probe(&self, key: &[u8]) -> Searching
+        ensures inside { IsTurnInside L.WORD (S.size self.now.store) result }
+        ensures finds { (b : List ℕ) → S.image self.now.store b
+            → found_ahead L.WORD b key.now result ≡ lookup_of L.WORD b key.now }
+    {
+        let hash = u64::from(hash(key));
+        let n = table_number(hash);
+        let table = self.head.pointers[n];
+        if table.slots == 0 {
+            return Searching::AtEnd;
+        }
+        if !lies_inside::<L>(table, self.store.len()) {
+            return Searching::NoTable(n as u64);
+        }
+        Searching::At(Probe {
+            table,
+            slot: home_slot(hash, table.slots),
+            left: table.slots,
+        })
+    }
+
+    /// The search of a key from a probe on, up to its next value. So many bytes are read at once.
+    fn next_met(&mut self, from: Probe, key: &[u8], ahead: usize) -> Result<Met, ReadFault>
+        requires inside { ProbeInside L.WORD (S.size self.old.store) from }
+        ensures meets { IfOk result (λ met.
+            Meets L.WORD key.now from met (S.image self.new.store)) }
+        ensures within { IfOk result (MetWithin L.WORD (S.size self.new.store) from) }
+        ensures reads { OnlyReads S.Store self.old.store self.new.store }
+        ensures fails { IfErr result (StoreFails S.Store self.old.store self.new.store) }
+    {
+        next_met::<S, L>(
+            &mut self.store,
+            from,
+            key,
+            &mut self.slots,
+            &mut self.window,
+            ahead,
+        )
+    }
+
+    /// The same. After a first value more bytes are read than are needed; if that failed, these
+    /// alone are read again, so a bad place among the others spoils nothing.
+    fn met_from(&mut self, from: Probe, key: &[u8], has_given: bool) -> Result<Met, ReadFault>
+        requires inside { ProbeInside L.WORD (S.size self.old.store) from }
+        ensures meets { IfOk result (λ met.
+            Meets L.WORD key.now from met (S.image self.new.store)) }
+        ensures within { IfOk result (MetWithin L.WORD (S.size self.new.store) from) }
+        ensures reads { OnlyReads S.Store self.old.store self.new.store }
+        ensures fails { IfErr result (StoreFails S.Store self.old.store self.new.store) }
+    {
+        if !has_given {
+            return self.next_met(from, key, 0);
+        }
+        match self.next_met(from, key, WINDOW) {
+            Ok(met) => Ok(met),
+            Err(_) => self.next_met(from, key, 0),
+        }
+    }
+
+    /// A finder of the values of a key. Nothing is read yet.
+    pub fn find<'a>(&'a mut self, key: &'a [u8]) -> Finder<'a, S, L>
+        ensures same_reader { result.reader.ghost_name ≡ self.entry.ghost_name }
+        ensures reader { result.reader.now ≡ self.old }
+        ensures key { result.key.now ≡ key.now }
+        ensures finds { (b : List ℕ) → S.image self.old.store b
+            → left_in L.WORD b result ≡ lookup_of L.WORD b key.now }
+    {
+        let searching = self.first_probe(key);
+        Finder {
+            reader: self,
+            key,
+            searching,
+            has_given: false,
+        }
+    }
+}
+
+impl<'a, S: Store, L: Width> Finder<'a, S, L> {
+    ghost use Rattle.cdb_read.specs.Views.Finder.{GivesSpan, GivesNone, FindingFails};
+    ghost use Rattle.cdb_read.specs.Views.Finder.{HasEnded, HasNoTable, HasNoRecord};
+    ghost use Rattle.cdb_read.specs.declared.fault.ReadFault.TheVariants.{Table, Record};
+
+    /// The next value. From the second on more bytes are read at once than it needs.
+    pub fn next(&mut self) -> Result<Option<Span>, ReadFault>
+        ensures same_reader { self.new.reader.ghost_name ≡ self.old.reader.ghost_name }
+        ensures key { self.new.key.now ≡ self.old.key.now }
+        ensures reads { OnlyReads S.Store self.old.reader.now.store self.new.reader.now.store }
+        ensures gives { IfOk result (λ found. MatchOption found
+            (GivesNone L.WORD self.old self.new)
+            (GivesSpan L.WORD self.old self.new)) }
+        ensures fails { IfErr result (FindingFails L.WORD self.old self.new) }
+        // After the end and after a damage nothing is read, and the answer stays.
+        ensures ended { HasEnded self.old → (result ≡ Ok None) × (self.new ≡ self.old) }
+        ensures no_table { (n : _) → HasNoTable self.old n →
+            (result ≡ Err (Table n)) × (self.new ≡ self.old) }
+        ensures no_record { (place : _) → HasNoRecord self.old place →
+            (result ≡ Err (Record place)) × (self.new ≡ self.old) }
+    {
+        let probe = match self.searching {
+            Searching::AtEnd => return Ok(None),
+            Searching::NoTable(n) => return Err(ReadFault::Table(n)),
+            Searching::NoRecord(place) => return Err(ReadFault::Record(place)),
+            Searching::At(probe) => probe,
+        };
+        match self.reader.met_from(probe, self.key, self.has_given)? {
+            Met::End => {
+                self.searching = Searching::AtEnd;
+                Ok(None)
+            }
+            Met::Value(span, then) => {
+                self.searching = Searching::At(then);
+                self.has_given = true;
+                Ok(Some(span))
+            }
+            Met::Broken(place) => {
+                self.searching = Searching::NoRecord(place);
+                Err(ReadFault::Record(place))
+            }
+        }
+    }
+
+    /// Writes the bytes of a span, as `Reader::copy` does. What is left of the look-up stays.
+    pub fn copy<W: Write>(&mut self, span: Span, w: &mut W) -> Result<(), ReadFault>
+        requires inside { span.place + span.len ≤ S.size self.old.reader.now.store }
+        ensures same_reader { self.new.reader.ghost_name ≡ self.old.reader.ghost_name }
+        ensures key { self.new.key.now ≡ self.old.key.now }
+        ensures stays { self.new.searching ≡ self.old.searching }
+        ensures reads { OnlyReads S.Store self.old.reader.now.store self.new.reader.now.store }
+        ensures copies { (b : List ℕ) → S.image self.new.reader.now.store b
+            → Writes result (W.contents w.old) (W.contents w.new) (bytes_of b span) }
+        ensures fails { IfErr result
+            (CopyingFails S.Store self.old.reader.now.store self.new.reader.now.store) }
+    {
+        self.reader.copy(span, w)
+    }
+}

@@ -1,0 +1,141 @@
+// The search of a key in a table.
+ghost use Rattle.std.specs.Prelude.{◌≡◌, ℕ, ◌<◌, ◌^◌, List, length, IfOk, IfErr};
+ghost use Rattle.cdb_form.specs.Format.Hash.{key_hash};
+ghost use Rattle.cdb_form.specs.Views.Pairs.{slot_pair};
+ghost use Rattle.cdb_store.specs.Reads.{OnlyReads};
+ghost use Rattle.cdb_read.specs.Views.Reads.{StoreFails};
+ghost use Rattle.cdb_read.specs.Views.Search.{probe_slot, StepsFrom, StepWithin, Meets, MetWithin};
+ghost use Rattle.cdb_read.specs.Views.Probing.{ProbeInside};
+ghost use Rattle.cdb_read.specs.Views.Window.{Shows};
+
+use crate::fault::ReadFault;
+use crate::lookup::key_at::{Look, look_at};
+use crate::lookup::probe::Probe;
+use crate::span::Span;
+use crate::tables::slot_at;
+use crate::window::Window;
+use cdb_form::{Slot, Width, hash};
+use cdb_store::Store;
+
+/// How many bytes of slots are read at once, if no more are to be read ahead.
+const SLOTS_AHEAD: usize = 64;
+
+/// What one probe of a search comes to.
+#[derive(Clone, Copy)]
+pub enum Step {
+    /// The slot is empty, and ends the search.
+    Empty,
+    /// Its record has another key.
+    Passed,
+    /// Its record has the key, and this value.
+    Value(Span),
+    /// At its place, this one, is no whole record.
+    Broken(u64),
+}
+
+/// What some probes of a search come to.
+#[derive(Clone, Copy)]
+pub enum Met {
+    /// No slot is left.
+    End,
+    /// A value, and the probe after it.
+    Value(Span, Probe),
+    /// No whole record is at this place.
+    Broken(u64),
+}
+
+/// The slot of a probe.
+fn read_probe<S: Store, L: Width>(
+    store: &mut S,
+    probe: Probe,
+    window: &mut Window,
+    ahead: usize,
+) -> Result<Slot, ReadFault>
+    requires inside { ProbeInside L.WORD (S.size store.old) probe }
+    requires fits { S.size store.old < 2 ^ 64 }
+    requires shows { Shows window.old (S.image store.old) }
+    ensures shows { Shows window.new (S.image store.new) }
+    ensures read { (b : List ℕ) → S.image store.new b
+        → IfOk result (λ slot. slot_pair slot ≡ probe_slot L.WORD b probe) }
+    ensures reads { OnlyReads S.Store store.old store.new }
+    ensures fails { IfErr result (StoreFails S.Store store.old store.new) }
+{
+    slot_at::<S, L>(
+        store,
+        probe.table,
+        probe.slot,
+        window,
+        SLOTS_AHEAD.max(ahead),
+    )
+}
+
+/// One probe of the search of a key, which has this hash.
+fn make_probe<S: Store, L: Width>(
+    store: &mut S,
+    probe: Probe,
+    key: &[u8],
+    hash: u64,
+    slots: &mut Window,
+    window: &mut Window,
+    ahead: usize,
+) -> Result<Step, ReadFault>
+    requires inside { ProbeInside L.WORD (S.size store.old) probe }
+    requires left { 0 < probe.left }
+    requires hash { hash ≡ key_hash key.now }
+    requires fits { S.size store.old < 2 ^ 64 }
+    requires shows { Shows window.old (S.image store.old) }
+    requires slots { Shows slots.old (S.image store.old) }
+    ensures shows { Shows window.new (S.image store.new) }
+    ensures slots { Shows slots.new (S.image store.new) }
+    ensures steps { IfOk result (λ step. StepsFrom L.WORD key.now probe step (S.image store.new)) }
+    ensures within { IfOk result (StepWithin (S.size store.new)) }
+    ensures reads { OnlyReads S.Store store.old store.new }
+    ensures fails { IfErr result (StoreFails S.Store store.old store.new) }
+{
+    let slot = read_probe::<S, L>(store, probe, slots, ahead)?;
+    if slot.place == 0 {
+        return Ok(Step::Empty);
+    }
+    if slot.hash != hash {
+        return Ok(Step::Passed);
+    }
+    match look_at::<S, L>(store, slot.place, key, window, ahead)? {
+        Look::Broken => Ok(Step::Broken(slot.place)),
+        Look::Other => Ok(Step::Passed),
+        Look::Value(span) => Ok(Step::Value(span)),
+    }
+}
+
+/// The search of a key from a probe on, up to its next value. Slots are read through one window and
+/// records through the other, `ahead` bytes at once if what is needed has fewer.
+pub(crate) fn next_met<S: Store, L: Width>(
+    store: &mut S,
+    from: Probe,
+    key: &[u8],
+    slots: &mut Window,
+    window: &mut Window,
+    ahead: usize,
+) -> Result<Met, ReadFault>
+    requires inside { ProbeInside L.WORD (S.size store.old) from }
+    requires fits { S.size store.old < 2 ^ 64 }
+    requires shows { Shows window.old (S.image store.old) }
+    requires slots { Shows slots.old (S.image store.old) }
+    ensures shows { Shows window.new (S.image store.new) }
+    ensures slots { Shows slots.new (S.image store.new) }
+    ensures meets { IfOk result (λ met. Meets L.WORD key.now from met (S.image store.new)) }
+    ensures within { IfOk result (MetWithin L.WORD (S.size store.new) from) }
+    ensures reads { OnlyReads S.Store store.old store.new }
+    ensures fails { IfErr result (StoreFails S.Store store.old store.new) }
+{
+    let hash = u64::from(hash(key));
+    let mut probe = from;
+    while probe.left > 0 {
+        match make_probe::<S, L>(store, probe, key, hash, slots, window, ahead)? {
+            Step::Empty => return Ok(Met::End),
+            Step::Passed => probe = probe.next(),
+            Step::Value(span) => return Ok(Met::Value(span, probe.next())),
+            Step::Broken(place) => return Ok(Met::Broken(place)),
+        }
+    }
+    Ok(Met::End)
+}

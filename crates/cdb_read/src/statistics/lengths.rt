@@ -1,0 +1,41 @@
+// How long the keys and the values of a database are.
+ghost use Rattle.std.specs.Prelude.{◌≡◌, ℕ, List, IfOk, IfErr};
+ghost use Rattle.cdb_read.specs.Views.Lengths.{HasLengths, LengthsFail};
+ghost use Rattle.cdb_store.specs.Reads.{OnlyReads};
+
+use crate::fault::ReadFault;
+use crate::reader::Reader;
+use crate::statistics::spread::Spread;
+use crate::walking::start::walk;
+use cdb_form::Width;
+use cdb_store::Store;
+
+/// How long keys and values are.
+#[derive(Clone, Copy)]
+pub(crate) struct Lengths {
+    /// The lengths of the keys.
+    pub(crate) keys: Spread,
+    /// The lengths of the values.
+    pub(crate) values: Spread,
+}
+
+/// How long the keys and the values of all records are. No memory is taken.
+pub(crate) fn walk_lengths<S: Store, L: Width>(
+    reader: &mut Reader<S, L>,
+) -> Result<Lengths, ReadFault>
+    ensures reads { OnlyReads S.Store reader.old.store reader.new.store }
+    ensures head { reader.new.head ≡ reader.old.head }
+    ensures lengths { (b : List ℕ) → S.image reader.new.store b
+        → IfOk result (HasLengths L.WORD b) }
+    ensures fails { IfErr result
+        (LengthsFail L.WORD S.Store reader.old.store reader.new.store) }
+{
+    let mut keys = Spread::new();
+    let mut values = Spread::new();
+    let mut records = walk(reader);
+    while let Some(pair) = records.next()? {
+        keys.add(pair.key.len);
+        values.add(pair.value.len);
+    }
+    Ok(Lengths { keys, values })
+}

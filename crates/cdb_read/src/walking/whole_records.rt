@@ -1,0 +1,71 @@
+// The next whole records of a walk, as bytes.
+ghost use Rattle.std.specs.Prelude.{◌≡◌, ◌≤◌, length, sum_by, IfOk, IfErr};
+ghost use Rattle.cdb_form.specs.Format.Record.{record_size};
+ghost use Rattle.cdb_form.specs.Format.Walk.{whole_records};
+ghost use Rattle.cdb_store.specs.Reads.{OnlyReads};
+ghost use Rattle.cdb_read.specs.Views.Reads.{StoreFails};
+ghost use Rattle.cdb_read.specs.Views.Walking.{FrontTells, RecordsAhead};
+
+use crate::fault::ReadFault;
+use crate::lookup::key_at::has_bytes;
+use crate::pieces::read_part;
+use crate::reader::Reader;
+use crate::walking::state::Rest;
+use cdb_form::{Width, pair_size, read_header};
+use cdb_store::Store;
+
+/// How many bytes the record at the front of some bytes has, or `None` if it is not whole there.
+fn front_len<L: Width>(bytes: &[u8]) -> Option<usize>
+    ensures { FrontTells L.WORD bytes.now result }
+{
+    let size = bytes.len() as u64;
+    let header_size = pair_size::<L>();
+    if !has_bytes(size, 0, header_size as u64) {
+        return None;
+    }
+    let header = read_header::<L>(&bytes[..header_size]);
+    let key = header_size as u64;
+    if !has_bytes(size, key, header.klen) {
+        return None;
+    }
+    let value = key + header.klen;
+    if !has_bytes(size, value, header.vlen) {
+        return None;
+    }
+    Some((value + header.vlen) as usize)
+}
+
+/// How many bytes the whole records at the front of some bytes have together.
+fn whole_len<L: Width>(bytes: &[u8]) -> usize
+    ensures within { result ≤ length bytes.now }
+    ensures whole { result ≡ sum_by (record_size L.WORD)
+        (whole_records L.WORD (length bytes.now) bytes.now) }
+{
+    let mut done = 0;
+    while let Some(len) = front_len::<L>(&bytes[done..]) {
+        done += len;
+    }
+    done
+}
+
+impl<S: Store, L: Width> Reader<S, L> {
+    /// Reads the next whole records of a walk over the front of `into`, and answers how many bytes
+    /// they have. The store is not read if no byte is left before the record end.
+    pub(crate) fn read_records(&mut self, rest: Rest, into: &mut [u8]) -> Result<usize, ReadFault>
+        ensures ahead { IfOk result
+            (RecordsAhead L.WORD rest into.new (S.image self.new.store)) }
+        ensures head { self.new.head ≡ self.old.head }
+        ensures reads { OnlyReads S.Store self.old.store self.new.store }
+        ensures fails { IfErr result (StoreFails S.Store self.old.store self.new.store) }
+    {
+        let stored = self.store.len().saturating_sub(rest.place);
+        let left = (rest.end - rest.place).min(stored);
+        let n = left.min(into.len() as u64) as usize;
+        if n == 0 {
+            return Ok(0);
+        }
+        let part = &mut into[..n];
+        read_part(&mut self.store, rest.place, part)?;
+        Ok(whole_len::<L>(part))
+    }
+}
