@@ -51,7 +51,7 @@ puts_fail {l = l} limit before i records old new r TooBig held same later more f
       omega (arith, big, first, same, first_fit l.WORD (i + 1) records);
 }
 puts_fail limit before i records old new r NoMemory held same later more fails = tt
-puts_fail {s = s} limit before i records old new r Writing held same later more (inl x, would) = let failed : s.failures old.store < s.failures new.store = x.1 in omega (arith, later, failed)
+puts_fail {s = s} limit before i records old new r Writing held same later more (inl x, would) = let failed : s.failures old.store < s.failures new.store = x.1.failed in omega (arith, later, failed)
 puts_fail {s = s} limit before i records old new r Writing held same later more (inr x, would) = let failed : s.failures old.store < s.failures new.store = x.0.failed in omega (arith, later, failed)
 
 -- a store that had failed less often before

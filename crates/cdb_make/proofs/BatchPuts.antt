@@ -37,7 +37,7 @@ use Rattle.cdb_make.proofs.Found.{length-gaps_by, some_gap}
 use Rattle.cdb_make.proofs.Makers.{honest_comes, held_size}
 use Rattle.cdb_make.proofs.Marks.{fresh_count, fresh_there, key_long, more_marked, gaps_push, unmarked_key, unmarked_push, unmarked_sizes, unmarked_count}
 use Rattle.cdb_make.proofs.Places.{unmarked_by}
-use Rattle.cdb_make.proofs.Puts.{JustAdds, comes_then, just_add, not_present}
+use Rattle.cdb_make.proofs.Puts.{JustAdds, comes_then, failed_behind, just_add, not_present}
 use Rattle.cdb_make.proofs.Replacing.{fewer_bytes, just_replace}
 use Rattle.cdb_make.proofs.Whole.{none_goes}
 
@@ -61,6 +61,7 @@ rests_same m whole = record {
   most = refl;
   comes = record { each = λ b is. (b, is) };
   room = omega arith;
+  later = omega arith;
   fine = refl;
 }
 
@@ -73,6 +74,7 @@ rests_then a b c f g = record {
   most = g.most ∙ f.most;
   comes = comes_then f.comes g.comes;
   room = omega (arith, f.room, g.room);
+  later = omega (arith, f.later, g.later);
   fine = g.fine ∙ f.fine;
 }
 
@@ -293,6 +295,7 @@ rests_short {s = s} {l = l} old new r TooBig short same spare keeps follows coun
   most = spare;
   comes = follows.comes;
   room = follows.room;
+  later = follows.unwritten;
   fine = ap (λ (m : _). s.failures m.store) fails.0;
 }
 rests_short {l = l} old new r NoMemory short same spare keeps follows counts fails = record {
@@ -303,6 +306,7 @@ rests_short {l = l} old new r NoMemory short same spare keeps follows counts fai
   most = spare;
   comes = follows.comes;
   room = follows.room;
+  later = follows.unwritten;
   fine = fails.2;
 }
 
@@ -356,7 +360,7 @@ fails_settled {s = s} {l = l} old mid new r NoMemory settles follows fine none c
 )
 fails_settled {s = s} {l = l} old mid new r Writing settles follows fine none comes due fails = inl (
   stays_settled old mid new settles none fails.0.whole fails.0.holds,
-  (let k : s.failures mid.maker.store < s.failures new.maker.store = fails.1 in let e : s.failures mid.maker.store ≡ s.failures old.maker.store = fine in omega arith),
+  failed_behind old.maker mid.maker new.maker (let e : s.failures mid.maker.store ≡ s.failures old.maker.store = fine in omega arith) follows.unwritten fails.1,
   λ rs h. honest_comes comes (record {
     each = λ b at.
         let made : made_size mid.maker ≡ file_size l.WORD rs = (held_size mid.maker rs (made_size mid.maker) refl (settles.stands rs h)).each b at in
@@ -495,7 +499,7 @@ fails_added {s = s} old mid new mode r answer NoMemory rests wants comes just fa
 fails_added {s = s} old mid new mode r answer Writing rests wants comes just fails = elim fails [
   | inl plain ↦ inl (
     stays_then old mid new rests plain.0,
-    (let k : s.failures mid.maker.store < s.failures new.maker.store = plain.1 in let e : s.failures mid.maker.store ≡ s.failures old.maker.store = rests.fine in omega arith),
+    failed_behind old.maker mid.maker new.maker (let e : s.failures mid.maker.store ≡ s.failures old.maker.store = rests.fine in omega arith) rests.later plain.1,
     would_add old mid new mode r answer rests comes just plain.2,
   )
   | inr torn ↦ inr (torn_rested old mid new (λ rs. HasGaps mid) (HasGapsOr old r.key) rests (λ rs some. inl (gaps_rested old mid rests some)) torn)
@@ -726,7 +730,7 @@ fails_put_settled {s = s} {l = l} old mid late set new r Writing rests wants fou
     elim fails.0 [
       | inl plain ↦ inl (
         stays_settled old set new settled none plain.0.whole plain.0.holds,
-        (let k : s.failures set.maker.store < s.failures new.maker.store = plain.1 in omega arith),
+        failed_behind old.maker set.maker new.maker (omega arith) (omega (arith, own.later, follows.unwritten)) plain.1,
         would,
       )
       | inr torn ↦ inr (record {
@@ -765,7 +769,7 @@ fails_exchange old mid new r TooBig wide rests comes fails = absurd fails
 fails_exchange old mid new r NoMemory wide rests comes fails = absurd fails
 fails_exchange {s = s} {l = l} old mid new r Writing wide rests comes fails = inl (
   stays_then old mid new rests fails.0,
-  (let k : s.failures mid.maker.store < s.failures new.maker.store = fails.1 in let e : s.failures mid.maker.store ≡ s.failures old.maker.store = rests.fine in omega arith),
+  failed_behind old.maker mid.maker new.maker (let e : s.failures mid.maker.store ≡ s.failures old.maker.store = rests.fine in omega arith) rests.later fails.1,
   λ rs h. honest_comes comes (record {
     each = λ b is.
         let k = (fits_more mid r rs wide fails.2 (rests_holds old mid rs rests h)).each b is in
@@ -950,8 +954,8 @@ fails_finish_settled old mid new TooBig settles fine none comes fails = absurd f
 -- ---- the steps of a call
 
 pub rests_looked : {S L : Type 0} {s : Ghosts S} {l : Widths L} (old : Batch S L s l) (m : Maker S L s l) (spare : length old.gone.items ≤ old.most) (within : old.most ≤ vec_capacity old.gone) → WritesNone old.maker m → (m.broken ≡ false → KeepsCarrying old.maker m) → NoNewImage (s.image old.maker.store) (s.image m.store)
-    → s.room old.maker.store ≤ s.room m.store → SameCounts old.maker m → HasNotFailed old.maker m → Rests old (with_maker old m spare within)
-rests_looked {l = l} old m spare within writes keeps few room counts fine = record {
+    → s.room old.maker.store ≤ s.room m.store → SameCounts old.maker m → HasNotFailed old.maker m → s.unwritten old.maker.store ≤ s.unwritten m.store → Rests old (with_maker old m spare within)
+rests_looked {l = l} old m spare within writes keeps few room counts fine later = record {
   nothing = writes_nothing old (with_maker old m spare within) refl few keeps writes;
   size = ap (λ (n : ℕ). n + 4 * l.WORD * m.count) counts.end ∙ ap (λ (n : ℕ). old.maker.end + 4 * l.WORD * n) counts.count;
   limit = counts.limit;
@@ -959,6 +963,7 @@ rests_looked {l = l} old m spare within writes keeps few room counts fine = reco
   most = refl;
   comes = record { each = λ b is. (b, few.no_other b is) };
   room = room;
+  later = later;
   fine = fine;
 }
 

@@ -1,5 +1,5 @@
 -- A record put: behind the others, or in the place of those of its key.
-use Rattle.std.proofs.Common.{◌≡◌, ℕ, ◌+◌, ◌-◌, ◌<◌, inl, Bool, true, false, cond, List, [], ◌∷◌, ◌++◌, refl, sym, ap, subst, ◌∙◌, arith}
+use Rattle.std.proofs.Common.{◌≡◌, ℕ, ◌+◌, ◌-◌, ◌<◌, ◌≤◌, inl, Bool, true, false, cond, List, [], ◌∷◌, ◌++◌, refl, sym, ap, subst, ◌∙◌, arith}
 use Rattle.std.proofs.lemmas.List.Elements.{All-append, All-cons, All-nil}
 use Rattle.cdb_store.specs.declared.store.Store.{Ghosts}
 use Rattle.cdb_store.specs.Images.{KeepsPart, SameImages, AfterTornWrite}
@@ -18,7 +18,7 @@ use Rattle.cdb_make.specs.Stands.{Tells, Stands, IsThere}
 use Rattle.cdb_make.specs.Survivors.{is_there, put_list, put_answer}
 use Rattle.cdb_make.specs.Views.Adding.{AddFails}
 use Rattle.cdb_make.specs.Views.EntryList.{lists_entries}
-use Rattle.cdb_make.specs.Views.Maker.{Holds, HoldsIn, WhereHonest, ComesFrom, StaysWhole, WritesNothing, Adds, HasRoom, FailsAdding, Puts, WouldPut, FailsPutting, put_bytes, made_size}
+use Rattle.cdb_make.specs.Views.Maker.{HasFailedToWrite, Holds, HoldsIn, WhereHonest, ComesFrom, StaysWhole, WritesNothing, Adds, HasRoom, FailsAdding, Puts, WouldPut, FailsPutting, put_bytes, made_size}
 use Rattle.cdb_make.proofs.EntryLists.{size_push}
 use Rattle.cdb_make.proofs.FinishedFile.{stands_kept}
 use Rattle.cdb_make.proofs.Makers.{held_stand, held_size, honest_comes}
@@ -79,12 +79,12 @@ adds_more old new r is_record was whole stands written comes = record {
 -- none more
 pub adds_none : {S L : Type 0} {s : Ghosts S} {l : Widths L} (old new : Maker S L s l) (r : KeyValue) (full past : Type 0) (fault : MakeFault) → old.broken ≡ false → HasRoom old r → new.broken ≡ false → new.end ≡ old.end
     → lists_entries new.lists.items ≡ lists_entries old.lists.items → KeepsPart (head_size l.WORD) (old.end - head_size l.WORD) (s.image old.store) (s.image new.store)
-    → AddFails (s.written old.store) (s.written new.store) (s.failures old.store) (s.failures new.store) full past fault → FailsAdding old new r fault
-adds_none old new r full past Broken was fit whole end lists keeps fails = absurd fails
-adds_none old new r full past Lookup was fit whole end lists keeps fails = absurd fails
-adds_none old new r full past TooBig was fit whole end lists keeps fails = absurd fails
-adds_none old new r full past NoMemory was fit whole end lists keeps fails = (record { stays = stays_kept old new was whole end lists keeps; written = fails.0 }, fit, fails.2)
-adds_none old new r full past Writing was fit whole end lists keeps fails = (stays_kept old new was whole end lists keeps, fails, fit)
+    → AddFails (s.written old.store) (s.written new.store) (s.failures old.store) (s.failures new.store) full past fault → (fault ≡ Writing → s.unwritten old.store < s.unwritten new.store) → FailsAdding old new r fault
+adds_none old new r full past Broken was fit whole end lists keeps fails unwritten = absurd fails
+adds_none old new r full past Lookup was fit whole end lists keeps fails unwritten = absurd fails
+adds_none old new r full past TooBig was fit whole end lists keeps fails unwritten = absurd fails
+adds_none old new r full past NoMemory was fit whole end lists keeps fails unwritten = (record { stays = stays_kept old new was whole end lists keeps; written = fails.0 }, fit, fails.2)
+adds_none old new r full past Writing was fit whole end lists keeps fails unwritten = (stays_kept old new was whole end lists keeps, record { failed = fails; unwritten = unwritten refl }, fit)
 
 abbrev IsReplace : Mode → Type 0
 IsReplace Replace = Unit {0}
@@ -149,13 +149,20 @@ would_add {s = s} {l = l} old mid new mode r answer stays limit comes just fit =
       (j.takes, omega (arith, size_push l.WORD rs r));
 })
 
+-- a write that failed later on
+pub failed_behind : {S L : Type 0} {s : Ghosts S} {l : Widths L} (a b c : Maker S L s l) → s.failures a.store ≤ s.failures b.store → s.unwritten a.store ≤ s.unwritten b.store → HasFailedToWrite b c → HasFailedToWrite a c
+failed_behind {s = s} a b c failures unwritten fails = record {
+  failed = (let k : s.failures b.store < s.failures c.store = fails.failed in omega arith);
+  unwritten = omega (arith, fails.unwritten);
+}
+
 -- and what one that failed leaves
 pub fails_added : {S L : Type 0} {s : Ghosts S} {l : Widths L} (old mid new : Maker S L s l) (mode : Mode) (r : KeyValue) (answer : Put) (fault : MakeFault) → WritesNothing old mid → mid.limit ≡ old.limit
-    → s.failures mid.store ≡ s.failures old.store → ComesFrom (s.image mid.store) (s.image new.store) → ((rs : List KeyValue) → Holds old rs → WhereHonest (s.image mid.store) (JustAdds l.WORD mode r rs answer))
+    → s.failures mid.store ≡ s.failures old.store → s.unwritten old.store ≤ s.unwritten mid.store → ComesFrom (s.image mid.store) (s.image new.store) → ((rs : List KeyValue) → Holds old rs → WhereHonest (s.image mid.store) (JustAdds l.WORD mode r rs answer))
     → FailsAdding mid new r fault → FailsPutting old new mode r fault
-fails_added old mid new mode r answer Broken stays limit later comes just fails = absurd (let k : true ≡ false = sym fails.0 ∙ stays.stays.whole in cc)
-fails_added old mid new mode r answer Lookup stays limit later comes just fails = absurd fails
-fails_added {s = s} {l = l} old mid new mode r answer TooBig stays limit later comes just fails =
+fails_added old mid new mode r answer Broken stays limit later unwritten comes just fails = absurd (let k : true ≡ false = sym fails.0 ∙ stays.stays.whole in cc)
+fails_added old mid new mode r answer Lookup stays limit later unwritten comes just fails = absurd fails
+fails_added {s = s} {l = l} old mid new mode r answer TooBig stays limit later unwritten comes just fails =
     let same : new ≡ mid = fails.0 in
     let large : mid.limit < made_size mid + whole_size l.WORD r = fails.2 in (
       subst (λ (v : _). WritesNothing old v) (sym same) stays,
@@ -168,16 +175,16 @@ fails_added {s = s} {l = l} old mid new mode r answer TooBig stays limit later c
       }),
       ap (λ (v : _). s.failures v.store) same ∙ later,
     )
-fails_added {s = s} old mid new mode r answer NoMemory stays limit later comes just fails = (
+fails_added {s = s} old mid new mode r answer NoMemory stays limit later unwritten comes just fails = (
   writes_then old mid new stays fails.0,
   λ rs h replaces. honest_comes comes (record { each = λ a is there. absurd (((just rs h).each a is).absent replaces there) }),
   would_add old mid new mode r answer stays.stays limit comes just fails.1,
   fails.2 ∙ later,
 )
-fails_added {s = s} old mid new mode r answer Writing stays limit later comes just fails = (
+fails_added {s = s} old mid new mode r answer Writing stays limit later unwritten comes just fails = (
   inl (
     stays_then old mid new stays.stays fails.0,
-    (let k : s.failures mid.store < s.failures new.store = fails.1 in omega arith),
+    failed_behind old mid new (omega arith) unwritten fails.1,
     λ rs h. honest_comes comes (record { each = λ a is. ((just rs h).each a is).list }),
   ),
   would_add old mid new mode r answer stays.stays limit comes just fails.2,
@@ -212,9 +219,9 @@ fails_add old new r Broken comes fails = record {
   cause = λ rs h. absurd (let k : true ≡ false = sym fails.0 ∙ h.whole in cc);
 }
 fails_add old new r Lookup comes fails = absurd fails
-fails_add old new r TooBig comes fails = fails_added old old new Add r Added TooBig (writes_same old fails.1) refl refl comes (λ rs h. just_add _ rs r) fails
-fails_add old new r NoMemory comes fails = fails_added old old new Add r Added NoMemory (writes_same old fails.0.stays.was) refl refl comes (λ rs h. just_add _ rs r) fails
-fails_add old new r Writing comes fails = fails_added old old new Add r Added Writing (writes_same old fails.0.was) refl refl comes (λ rs h. just_add _ rs r) fails
+fails_add old new r TooBig comes fails = fails_added old old new Add r Added TooBig (writes_same old fails.1) refl refl (omega arith) comes (λ rs h. just_add _ rs r) fails
+fails_add old new r NoMemory comes fails = fails_added old old new Add r Added NoMemory (writes_same old fails.0.stays.was) refl refl (omega arith) comes (λ rs h. just_add _ rs r) fails
+fails_add old new r Writing comes fails = fails_added old old new Add r Added Writing (writes_same old fails.0.was) refl refl (omega arith) comes (λ rs h. just_add _ rs r) fails
 
 -- an insertion of a record whose key is there
 pub puts_present : {S L : Type 0} {s : Ghosts S} {l : Widths L} (old new : Maker S L s l) (r : KeyValue) (there : Bool) → WritesNothing old new → there ≡ true

@@ -153,6 +153,7 @@ impl<S: Store, L: Width> Maker<S, L> {
         ensures images { NoNewImage (S.image self.old.store) (S.image self.new.store) }
         ensures room { S.room self.old.store ≤ S.room self.new.store }
         ensures failures { S.failures self.old.store ≤ S.failures self.new.store }
+        ensures unwritten { S.unwritten self.old.store ≤ S.unwritten self.new.store }
         ensures ok_failures { OnOk result (HasNotFailed self.old self.new) }
     {
         self.look(key)
@@ -168,6 +169,7 @@ impl<S: Store, L: Width> Maker<S, L> {
         ensures images { NoNewImage (S.image self.old.store) (S.image self.new.store) }
         ensures room { S.room self.old.store ≤ S.room self.new.store }
         ensures failures { S.failures self.old.store ≤ S.failures self.new.store }
+        ensures unwritten { S.unwritten self.old.store ≤ S.unwritten self.new.store }
         ensures ok_failures { OnOk result (HasNotFailed self.old self.new) }
         ensures one { (all : List KeyValue) (marks : List Bool) → Carries self.old all marks
             → IfOk result (λ there. IsThere there key.now (unmarked marks all)

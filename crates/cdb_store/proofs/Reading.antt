@@ -10,6 +10,7 @@ reads_more p q = record {
   written = q.written ∙ p.written;
   room = (let f = p.room in let g = q.room in omega arith);
   failures = (let f = p.failures in let g = q.failures in omega arith);
+  unwritten = (let f = p.unwritten in let g = q.unwritten in omega arith);
 }
 
 pub reads_nothing : {S : Type 0} {s : Ghosts S} (old new : S) → new ≡ old → OnlyReads s old new
@@ -21,4 +22,5 @@ reads_nothing {s = s} old new same =
       written = refl;
       room = omega arith;
       failures = omega arith;
+      unwritten = omega arith;
     })

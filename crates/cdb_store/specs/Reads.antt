@@ -9,3 +9,4 @@ pub record OnlyReads {S : Type 0} (s : Ghosts S) (old new : S) : Type 0 where
   pub written : s.written new ≡ s.written old
   pub room : s.room old ≤ s.room new
   pub failures : s.failures old ≤ s.failures new
+  pub unwritten : s.unwritten old ≤ s.unwritten new

@@ -45,6 +45,7 @@ impl<S: Store> BufferedStore<S> {
         ensures images { IfOk result (λ f. SameImages (S.image inner) (images_of f)) }
         ensures size { IfOk result (λ f. size_of f ≡ S.size inner) }
         ensures failures { IfOk result (λ f. S.failures f.inner ≡ S.failures inner) }
+        ensures unwritten { IfOk result (λ f. S.unwritten f.inner ≡ S.unwritten inner) }
         ensures room { IfOk result (λ f. S.room f.inner ≡ S.room inner) }
         ensures inner { IfOk result (λ f. f.inner ≡ inner) }
         ensures capacity { IfOk result (λ f. f.capacity ≡ capacity) }
@@ -77,6 +78,7 @@ impl<S: Store> BufferedStore<S> {
         ensures room { S.room self.inner ≤ S.room result.0 }
         ensures memory { IsErrOf result.1 NoMemory → ⊥ }
         ensures cause { HasCause (S.failures self.inner) (S.failures result.0) result.1 }
+        ensures unwritten { HasCause (S.unwritten self.inner) (S.unwritten result.0) result.1 }
     {
         let answer = self.settle();
         let BufferedStore {
@@ -126,6 +128,8 @@ impl<S: Store> BufferedStore<S> {
         ensures capacity { self.new.capacity ≡ self.old.capacity }
         ensures room { S.room self.old.inner ≤ S.room self.new.inner }
         ensures memory { IsErrOf result NoMemory → ⊥ }
+        ensures unwritten { HasCause (S.unwritten self.old.inner) (S.unwritten self.new.inner)
+            result }
         ensures cause { HasCause (S.failures self.old.inner) (S.failures self.new.inner) result }
         ensures ok_failures { OnOk result (S.failures self.new.inner ≡ S.failures self.old.inner) }
     {
@@ -150,6 +154,8 @@ impl<S: Store> BufferedStore<S> {
         ensures trace { self.new.trace ≡ self.old.trace }
         ensures room { S.room self.old.inner ≤ S.room self.new.inner }
         ensures memory { IsErrOf result NoMemory → ⊥ }
+        ensures unwritten { HasCause (S.unwritten self.old.inner) (S.unwritten self.new.inner)
+            result }
         ensures cause { HasCause (S.failures self.old.inner) (S.failures self.new.inner) result }
         ensures ok_failures { OnOk result (S.failures self.new.inner ≡ S.failures self.old.inner) }
     {
@@ -188,6 +194,8 @@ impl<S: Store> Store for BufferedStore<S> {
 
     ghost failures = { λ f. S.failures f.inner };
 
+    ghost unwritten = { λ f. S.unwritten f.inner };
+
     ghost written = { λ f. written_of f };
 
     ghost room = { λ f. S.room f.inner };
@@ -210,6 +218,7 @@ impl<S: Store> Store for BufferedStore<S> {
         ensures size { size_of self.new ≡ size_of self.old }
         ensures written { written_of self.new ≡ written_of self.old }
         ensures room { S.room self.old.inner ≤ S.room self.new.inner }
+        ensures unwritten { S.unwritten self.old.inner ≤ S.unwritten self.new.inner }
         ensures cause { HasCause (S.failures self.old.inner) (S.failures self.new.inner) result }
         ensures ok_failures { OnOk result (S.failures self.new.inner ≡ S.failures self.old.inner) }
         ensures memory { IsErrOf result NoMemory → ⊥ }
@@ -260,6 +269,8 @@ impl<S: Store> Store for BufferedStore<S> {
         ensures size { size_of self.new ≡ size_of self.old }
         ensures written { written_of self.new ≡ written_of self.old }
         ensures room { S.room self.old.inner ≤ S.room self.new.inner }
+        ensures unwritten { HasCause (S.unwritten self.old.inner) (S.unwritten self.new.inner)
+            result }
         ensures cause { HasCause (S.failures self.old.inner) (S.failures self.new.inner) result }
         ensures ok_failures { OnOk result (S.failures self.new.inner ≡ S.failures self.old.inner) }
         ensures memory { IsErrOf result NoMemory → ⊥ }

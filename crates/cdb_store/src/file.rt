@@ -218,6 +218,8 @@ impl<F: RawFile> Store for FileStore<F> {
 
     ghost failures = { λ f. failures_of f };
 
+    ghost unwritten = { λ f. failures_of f };
+
     ghost written = { λ f. written_of f };
 
     ghost room = { λ f. 2 ^ 63 };

@@ -95,6 +95,8 @@ impl<S: Store> Store for FuseStore<S> {
 
     ghost failures = { λ f. failures_of S.failures f };
 
+    ghost unwritten = { λ f. failures_of S.unwritten f };
+
     ghost written = { λ f. S.written f.inner };
 
     ghost room = { λ f. S.room f.inner };
@@ -117,6 +119,7 @@ impl<S: Store> Store for FuseStore<S> {
         ensures size { S.size self.new.inner ≡ S.size self.old.inner }
         ensures written { S.written self.new.inner ≡ S.written self.old.inner }
         ensures room { S.room self.old.inner ≤ S.room self.new.inner }
+        ensures unwritten { failures_of S.unwritten self.old ≤ failures_of S.unwritten self.new }
         ensures cause { HasCause (failures_of S.failures self.old) (failures_of S.failures self.new)
             result }
         ensures ok_failures { OnOk result
@@ -163,6 +166,8 @@ impl<S: Store> Store for FuseStore<S> {
         ensures past_room { IsErrOf result NoMemory
             → S.room self.old.inner < pos + length bytes.now }
         ensures room { S.room self.old.inner ≤ S.room self.new.inner }
+        ensures unwritten { HasCause (failures_of S.unwritten self.old)
+            (failures_of S.unwritten self.new) result }
         ensures cause { HasCause (failures_of S.failures self.old) (failures_of S.failures self.new)
             result }
         ensures ok_failures { OnOk result
@@ -210,6 +215,7 @@ impl<S: Store> Store for FuseStore<S> {
         ensures size { S.size self.new.inner ≡ S.size self.old.inner }
         ensures written { S.written self.new.inner ≡ S.written self.old.inner }
         ensures room { S.room self.old.inner ≤ S.room self.new.inner }
+        ensures unwritten { failures_of S.unwritten self.old ≤ failures_of S.unwritten self.new }
         ensures failures { failures_of S.failures self.old ≤ failures_of S.failures self.new }
         ensures same_calls { self.new.calls ≡ self.old.calls }
         ensures same_limit { self.new.limit ≡ self.old.limit }
@@ -228,6 +234,8 @@ impl<S: Store> Store for FuseStore<S> {
         ensures no_longer { S.size self.new.inner ≤ S.size self.old.inner }
         ensures written { S.written self.new.inner ≡ S.written self.old.inner }
         ensures room { S.room self.old.inner ≤ S.room self.new.inner }
+        ensures unwritten { HasCause (failures_of S.unwritten self.old)
+            (failures_of S.unwritten self.new) result }
         ensures cause { HasCause (failures_of S.failures self.old) (failures_of S.failures self.new)
             result }
         ensures ok_failures { OnOk result
@@ -250,6 +258,8 @@ impl<S: Store> Store for FuseStore<S> {
         ensures size { S.size self.new.inner ≡ S.size self.old.inner }
         ensures written { S.written self.new.inner ≡ S.written self.old.inner }
         ensures room { S.room self.old.inner ≤ S.room self.new.inner }
+        ensures unwritten { HasCause (failures_of S.unwritten self.old)
+            (failures_of S.unwritten self.new) result }
         ensures cause { HasCause (failures_of S.failures self.old) (failures_of S.failures self.new)
             result }
         ensures ok_failures { OnOk result

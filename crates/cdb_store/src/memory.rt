@@ -60,6 +60,8 @@ impl Store for MemStore {
 
     ghost failures = { λ _. 0 };
 
+    ghost unwritten = { λ _. 0 };
+
     ghost written = { λ m. written_count m.trace.events };
 
     ghost room = { λ m. max (length m.bytes.items) (vec_capacity m.bytes) };

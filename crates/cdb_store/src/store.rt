@@ -78,12 +78,13 @@ impl<T: Drop> From<AllocFailed<T>> for StoreFault {
 
 /// Bytes at positions, counted from 0, that are read, written and cut.
 ///
-/// A contract speaks of a store by five facts. Its *images* are the byte lists, all of its length,
+/// A contract speaks of a store by six facts. Its *images* are the byte lists, all of its length,
 /// that agree with all that it was told to write and all that it gave back: a store in memory has
 /// exactly one, a file that was opened every list of its length until it is read. Its *failures*
-/// and *bytes written* are counts without a bound. Its *room* is how far writes go without taking
-/// memory. It is *settled* if all that it was told to write was handed on to what holds the
-/// bytes.
+/// and *bytes written* are counts without a bound. Its *unwritten* count rises with each write that
+/// fails, so a caller that only read cannot answer that a write failed. Its *room* is how far writes
+/// go without taking memory. It is *settled* if all that it was told to write was handed on to what
+/// holds the bytes.
 pub trait Store {
     /// How many bytes it has.
     ghost size: { Self → ℕ };
@@ -93,6 +94,9 @@ pub trait Store {
 
     /// How often it has failed.
     ghost failures: { Self → ℕ };
+
+    /// A count that rises where a write, a cut or a flush fails. It may rise elsewhere too.
+    ghost unwritten: { Self → ℕ };
 
     /// How many bytes were written by calls that answered Ok, and at most as many by those that
     /// failed.
@@ -120,6 +124,7 @@ pub trait Store {
         ensures room { room self.old ≤ room self.new }
         ensures cause { HasCause (failures self.old) (failures self.new) result }
         ensures ok_failures { OnOk result (failures self.new ≡ failures self.old) }
+        ensures unwritten { unwritten self.old ≤ unwritten self.new }
         ensures memory { IsErrOf result NoMemory → ⊥ };
 
     /// Writes the bytes from `pos` on, which is at most the store's length, over what
@@ -148,7 +153,8 @@ pub trait Store {
         ensures past_room { IsErrOf result NoMemory → room self.old < pos + length bytes.now }
         ensures room { room self.old ≤ room self.new }
         ensures ok_failures { OnOk result (failures self.new ≡ failures self.old) }
-        ensures cause { HasCause (failures self.old) (failures self.new) result };
+        ensures cause { HasCause (failures self.old) (failures self.new) result }
+        ensures unwritten { HasCause (unwritten self.old) (unwritten self.new) result };
 
     /// Makes room, so that no write that ends at or before `len` takes memory.
     ///
@@ -165,7 +171,8 @@ pub trait Store {
         ensures size { size self.new ≡ size self.old }
         ensures written { written self.new ≡ written self.old }
         ensures room { room self.old ≤ room self.new }
-        ensures failures { failures self.old ≤ failures self.new };
+        ensures failures { failures self.old ≤ failures self.new }
+        ensures unwritten { unwritten self.old ≤ unwritten self.new };
 
     /// Cuts it to the length `len`, which is at most its own.
     ///
@@ -180,6 +187,7 @@ pub trait Store {
         ensures room { room self.old ≤ room self.new }
         ensures cause { HasCause (failures self.old) (failures self.new) result }
         ensures ok_failures { OnOk result (failures self.new ≡ failures self.old) }
+        ensures unwritten { HasCause (unwritten self.old) (unwritten self.new) result }
         ensures memory { IsErrOf result NoMemory → ⊥ };
 
     /// Hands everything on to what holds the bytes. After `Device` no byte has changed.
@@ -191,6 +199,7 @@ pub trait Store {
         ensures room { room self.old ≤ room self.new }
         ensures cause { HasCause (failures self.old) (failures self.new) result }
         ensures ok_failures { OnOk result (failures self.new ≡ failures self.old) }
+        ensures unwritten { HasCause (unwritten self.old) (unwritten self.new) result }
         ensures memory { IsErrOf result NoMemory → ⊥ };
 
     /// What it has takes no memory.

@@ -182,7 +182,7 @@ refused_store old new mode r make.Broken x is = absurd is
 refused_store old new mode r make.Lookup x is = x.2
 refused_store old new mode r make.TooBig x is = absurd is
 refused_store old new mode r make.NoMemory x is = absurd is
-refused_store old new mode r make.Writing x is = elim x [ inl stays ↦ stays.1 | inr torn ↦ torn.failed ]
+refused_store old new mode r make.Writing x is = elim x [ inl stays ↦ stays.1.failed | inr torn ↦ torn.failed ]
 
 -- ---- where a run came to that was halted
 

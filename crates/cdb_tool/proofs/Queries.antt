@@ -32,7 +32,7 @@ use Rattle.cdb_tool.proofs.Courses.{appends_none}
 -- ---- reading
 
 pub reads_none : {S : Type 0} (s : Ghosts S) (store : S) → OnlyReads s store store
-reads_none s store = record { images = λ b is. is; size = refl; written = refl; room = omega arith; failures = omega arith }
+reads_none s store = record { images = λ b is. is; size = refl; written = refl; room = omega arith; failures = omega arith; unwritten = omega arith }
 
 abbrev pub ending : List Span → Option Damage → Found
 ending spans damage = record { spans = spans; damage = damage }

@@ -88,7 +88,7 @@ hands_some s (Some old) None h = absurd h
 
 pub hands_same : {B : Type 0} (s : Ghosts B) (base : Option B) → HandsBack s base base
 hands_same s None = tt
-hands_same s (Some base) = record { images = λ b is. is; size = refl; written = refl; room = omega arith; failures = omega arith }
+hands_same s (Some base) = record { images = λ b is. is; size = refl; written = refl; room = omega arith; failures = omega arith; unwritten = omega arith }
 
 pub runs_unbased : {B : Type 0} (s : Ghosts B) (base : Option B) (w g : ℕ) (o : MakeOptions) (limit : ℕ) (inputs : InputsLeft) (start : Option (List ℕ)) (images : List ℕ → Type 0) (f : Fault) → limit ≡ o.limit → BaseStopped w limit s base images f
     → WhereHonest images (OfBase s base (λ x. Runs w g o x inputs images start start (Err f)))

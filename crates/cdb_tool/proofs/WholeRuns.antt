@@ -153,7 +153,7 @@ refused {k = k} g o m n t u b c r make.TooBig image h read is never x =
 refused g o m n t u b c r make.NoMemory image h read is never x = tt
 refused g o m n t u b c r make.Broken image h read is never x = absurd (x.cause h.records h.holds image is)
 refused g o m n t u b c r make.Lookup image h read is never x = absurd (x.2 refl)
-refused g o m n t u b c r make.Writing image h read is never x = elim x.0 [ inl stays ↦ absurd (never stays.1) | inr torn ↦ absurd (never torn.0.failed) ]
+refused g o m n t u b c r make.Writing image h read is never x = elim x.0 [ inl stays ↦ absurd (never stays.1.failed) | inr torn ↦ absurd (never torn.0.failed) ]
 
 -- ---- the file
 

@@ -124,7 +124,7 @@ finder_fails w key rs old start now first t u b Output h reads was is fails file
 
 -- a store that is not read yet
 pub reads_none : {S : Type 0} {s : Ghosts S} (a : S) → OnlyReads s a a
-reads_none a = record { images = λ b is. is; size = refl; written = refl; room = omega arith; failures = omega arith }
+reads_none a = record { images = λ b is. is; size = refl; written = refl; room = omega arith; failures = omega arith; unwritten = omega arith }
 
 -- the records of a maker make a file within the greatest size
 pub held_within : {S L : Type 0} {s : Ghosts S} {l : Widths L} (m : Maker S L s l) (rs : List KeyValue) (b : List ℕ) → s.image m.store b → Holds m rs → All IsRecord rs × (file_size l.WORD rs ≤ l.GREATEST)

@@ -132,7 +132,7 @@ put_tried {l = l} old new mode r (Err Writing) rs puts (inl x, would) follows h 
     (record {
       each = λ b is.
           let put = (would rs (h x.0.was)).each b is in
-          meets_whole x.0.was (put.0, le-leb (file_size l.WORD (put_list mode r rs)) old.limit put.1, x.1, x.0.whole ∙ sym (adds_only mode r rs ((x.2 rs (h x.0.was)).each b is)));
+          meets_whole x.0.was (put.0, le-leb (file_size l.WORD (put_list mode r rs)) old.limit put.1, x.1.failed, x.0.whole ∙ sym (adds_only mode r rs ((x.2 rs (h x.0.was)).each b is)));
     })
     (λ whole. x.0.holds rs (h x.0.was))
 put_tried {l = l} old new mode r (Err Writing) rs puts (inr x, would) follows h =

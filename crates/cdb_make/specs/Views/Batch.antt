@@ -23,6 +23,7 @@ use Rattle.cdb_make.specs.Survivors.{put_answer}
 use Rattle.cdb_make.specs.Views.Carrying.{Carries, WantsMemory}
 use Rattle.cdb_make.specs.Views.Maker.{WhereHonest, ComesFrom, put_bytes, made_size}
 use Rattle.cdb_make.specs.Views.Maker.{Holds as Has, HasStoreFailed, HasNotFailed, HasRoom}
+use Rattle.cdb_make.specs.Views.Maker.{HasFailedToWrite}
 
 -- its store has these records, and those with a mark are to go: it has noted the bytes of each
 pub record Lies {S L : Type 0} {s : Ghosts S} {l : Widths L} (m : Batch S L s l)
@@ -243,7 +244,7 @@ FailsPutting old new mode r NoMemory =
     StaysWhole old new × PassesAtMost old new (MaySettle old mode r)
     × WantsRoom old new mode r × WouldPut old new mode r × HasNotFailed old.maker new.maker
 FailsPutting old new mode r Writing =
-    (StaysWhole old new × HasStoreFailed old.maker new.maker × WouldPut old new mode r)
+    (StaysWhole old new × HasFailedToWrite old.maker new.maker × WouldPut old new mode r)
     ⊎ IsTorn old new (HasGapsOr old r.key)
 
 -- why a file was not finished, and what the batch is then
@@ -271,6 +272,7 @@ pub record Rests {S L : Type 0} {s : Ghosts S} {l : Widths L} (old new : Batch S
   pub most : new.most ≡ old.most
   pub comes : ComesFrom (s.image old.maker.store) (s.image new.maker.store)
   pub room : s.room old.maker.store ≤ s.room new.maker.store
+  pub later : s.unwritten old.maker.store ≤ s.unwritten new.maker.store
   pub fine : HasNotFailed old.maker new.maker
 
 -- one record more, behind the others
@@ -301,7 +303,7 @@ FailsAdding old new r NoMemory =
     StaysWhole old new × PassesAtMost old new (λ rs. IsOver old r ⊎ WantsMemory old.maker r)
     × FitsMore old new r × HasNotFailed old.maker new.maker
 FailsAdding old new r Writing =
-    (StaysWhole old new × HasStoreFailed old.maker new.maker × FitsMore old new r)
+    (StaysWhole old new × HasFailedToWrite old.maker new.maker × FitsMore old new r)
     ⊎ IsTorn old new (λ rs. HasGaps old)
 FailsAdding old new r Lookup = ⊥
 
@@ -320,7 +322,7 @@ pub record Exchanges {S L : Type 0} {s : Ghosts S} {l : Widths L} (old new : Bat
 abbrev pub FailsExchanging : {S L : Type 0} {s : Ghosts S} {l : Widths L} → Batch S L s l
     → Batch S L s l → KeyValue → MakeFault → Type 0
 FailsExchanging old new r Writing =
-    StaysWhole old new × HasStoreFailed old.maker new.maker × HasRoom old.maker r
+    StaysWhole old new × HasFailedToWrite old.maker new.maker × HasRoom old.maker r
 FailsExchanging old new r fault = ⊥
 
 -- they were not, since a pass has to be made first

@@ -74,6 +74,12 @@ abbrev pub HasStoreFailed : {S L : Type 0} {s : Ghosts S} {l : Widths L} → Mak
     → Maker S L s l → Type 0
 HasStoreFailed {s = s} old new = s.failures old.store < s.failures new.store
 
+-- and so that a write failed, and not a read alone
+pub record HasFailedToWrite {S L : Type 0} {s : Ghosts S} {l : Widths L} (old new : Maker S L s l)
+    : Type 0 where
+  pub failed : HasStoreFailed old new
+  pub unwritten : s.unwritten old.store < s.unwritten new.store
+
 -- and no failure of it was counted
 abbrev pub HasNotFailed : {S L : Type 0} {s : Ghosts S} {l : Widths L} → Maker S L s l
     → Maker S L s l → Type 0
@@ -112,6 +118,7 @@ pub record Follows {S L : Type 0} {s : Ghosts S} {l : Widths L} (old new : Maker
   pub limit : new.limit ≡ old.limit
   pub room : s.room old.store ≤ s.room new.store
   pub failures : s.failures old.store ≤ s.failures new.store
+  pub unwritten : s.unwritten old.store ≤ s.unwritten new.store
 
 -- what a fault of a look is to its caller, and whether it breaks the maker
 abbrev pub look_fault : LookFault → MakeFault
@@ -178,7 +185,7 @@ FailsAdding old new r Broken = (old.broken ≡ true) × (new ≡ old)
 FailsAdding {s = s} {l = l} old new r TooBig =
     (new ≡ old) × (old.broken ≡ false) × (old.limit < made_size old + whole_size l.WORD r)
 FailsAdding old new r NoMemory = WritesNothing old new × HasRoom old r × HasNotFailed old new
-FailsAdding old new r Writing = StaysWhole old new × HasStoreFailed old new × HasRoom old r
+FailsAdding old new r Writing = StaysWhole old new × HasFailedToWrite old new × HasRoom old r
 FailsAdding old new r Lookup = ⊥
 
 -- how many bytes a put writes: the records that it moves, and its own
@@ -251,7 +258,7 @@ FailsPutting old new mode r NoMemory =
     WritesNothing old new × WantsRoom old new mode r × WouldPut old new mode r
     × HasNotFailed old new
 FailsPutting old new mode r Writing =
-    ((StaysWhole old new × HasStoreFailed old new × OnlyAdds old new mode r)
+    ((StaysWhole old new × HasFailedToWrite old new × OnlyAdds old new mode r)
     ⊎ (IsTorn old new r.key × (mode ≡ Replace))) × WouldPut old new mode r
 
 -- every image is the file of these records

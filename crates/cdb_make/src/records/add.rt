@@ -6,6 +6,7 @@ ghost use Rattle.cdb_form.specs.Format.Hash.{key_hash};
 ghost use Rattle.cdb_form.specs.Format.Pair.{head_size};
 ghost use Rattle.cdb_form.specs.Format.Record.{KeyValue, record_size};
 ghost use Rattle.cdb_make.specs.Marks.{StandMarked};
+ghost use Rattle.cdb_make.specs.declared.fault.MakeFault.TheVariants.{Writing};
 ghost use Rattle.cdb_make.specs.Stands.{Stands};
 ghost use Rattle.cdb_make.specs.Unfinished.{KeepsHead};
 ghost use Rattle.cdb_make.specs.Views.EntryList.{lists_entries, entry_count, entry_room};
@@ -78,6 +79,9 @@ pub(crate) fn add<S: Store, L: Width>(
     ensures longer { S.size store.old ≤ S.size store.new }
     ensures room { S.room store.old ≤ S.room store.new }
     ensures failures { S.failures store.old ≤ S.failures store.new }
+    ensures unwritten { S.unwritten store.old ≤ S.unwritten store.new }
+    ensures not_written { IfErr result
+        (λ f. f ≡ Writing → S.unwritten store.old < S.unwritten store.new) }
 {
     reserve_entry(lists, gaps, hash)?;
     let header = Header {

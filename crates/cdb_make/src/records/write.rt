@@ -56,6 +56,7 @@ pub(crate) fn append_piece<S: Store>(
     ensures room { S.room store.old ≤ S.room store.new }
     ensures ok_failures { OnOk result (S.failures store.new ≡ S.failures store.old) }
     ensures cause { HasCause (S.failures store.old) (S.failures store.new) result }
+    ensures unwritten { HasCause (S.unwritten store.old) (S.unwritten store.new) result }
 {
     store.reserve(pos + bytes.len() as u64)?;
     store.write_at(pos, bytes)
@@ -98,6 +99,7 @@ fn append_parts<S: Store>(
         → S.room store.old < pos + length (header.now ++ (key.now ++ value.now)) }
     ensures room { S.room store.old ≤ S.room store.new }
     ensures cause { HasCause (S.failures store.old) (S.failures store.new) result }
+    ensures unwritten { HasCause (S.unwritten store.old) (S.unwritten store.new) result }
 {
     let key_pos = pos + header.len() as u64;
     let value_pos = key_pos + key.len() as u64;
@@ -149,6 +151,7 @@ pub(crate) fn append_record<S: Store>(
         → S.room store.old < pos + length (header.now ++ (key.now ++ value.now)) }
     ensures room { S.room store.old ≤ S.room store.new }
     ensures cause { HasCause (S.failures store.old) (S.failures store.new) result }
+    ensures unwritten { HasCause (S.unwritten store.old) (S.unwritten store.new) result }
 {
     let len = header
         .len()

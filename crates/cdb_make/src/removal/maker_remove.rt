@@ -100,6 +100,7 @@ impl<S: Store, L: Width> Maker<S, L> {
         ensures size { S.size self.new.store ≡ S.size self.old.store }
         ensures room { S.room self.old.store ≤ S.room self.new.store }
         ensures failures { S.failures self.old.store ≤ S.failures self.new.store }
+        ensures unwritten { S.unwritten self.old.store ≤ S.unwritten self.new.store }
     {
         self.broken = true;
         let left = take_out::close::<S, L>(&mut self.store, &mut self.lists, &self.gaps, self.end)?;

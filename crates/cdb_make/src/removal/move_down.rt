@@ -39,6 +39,7 @@ fn move_pieces<S: Store>(
     ensures room { S.room store.old ≤ S.room store.new }
     ensures memory { IsErrOf result NoMemory → ⊥ }
     ensures cause { HasCause (S.failures store.old) (S.failures store.new) result }
+    ensures unwritten { S.unwritten store.old ≤ S.unwritten store.new }
     ensures ok_failures { OnOk result (S.failures store.new ≡ S.failures store.old) }
 {
     let mut done = 0;
@@ -76,6 +77,7 @@ pub(crate) fn move_down<S: Store>(
     ensures room { S.room store.old ≤ S.room store.new }
     ensures memory { IsErrOf result NoMemory → ⊥ }
     ensures cause { HasCause (S.failures store.old) (S.failures store.new) result }
+    ensures unwritten { S.unwritten store.old ≤ S.unwritten store.new }
     ensures ok_failures { OnOk result (S.failures store.new ≡ S.failures store.old) }
 {
     if len == 0 {

@@ -178,6 +178,7 @@ pub(crate) fn close<S: Store, L: Width>(
     ensures room { S.room store.old ≤ S.room store.new }
     ensures memory { IsErrOf result NoMemory → ⊥ }
     ensures cause { S.failures store.old ≤ S.failures store.new }
+    ensures unwritten { S.unwritten store.old ≤ S.unwritten store.new }
     ensures failed { OnErr result (S.failures store.old < S.failures store.new) }
     ensures ok_failures { OnOk result (S.failures store.new ≡ S.failures store.old) }
 {

@@ -58,6 +58,8 @@ impl<S: Store> Store for ScarceStore<S> {
 
     ghost failures = { λ s. S.failures s.inner };
 
+    ghost unwritten = { λ s. S.unwritten s.inner };
+
     ghost written = { λ s. S.written s.inner };
 
     ghost room = { λ s. s.room };

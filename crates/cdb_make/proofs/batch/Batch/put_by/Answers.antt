@@ -31,7 +31,7 @@ returns-in_err-there-in-Warn-clause-fails g c =
     (fails_look {s = g.S.Store} {l = g.L.Width} m _ _ refl (same_batch {s = g.S.Store} {l = g.L.Width} m c.look.new.self _ _) e.images e.keeps e.none c.in_err-there-in-Warn.ensures.fails))
 
 pub returns-in_err-there-in-Warn-clause-follows : goal.returns-in_err-there-in-Warn-clause-follows
-returns-in_err-there-in-Warn-clause-follows g c = let e = c.look.ensures in follows_read {s = g.S.Store} {l = g.L.Width} c.args.self.now.maker c.look.new.self e.images.no_other e.counts.limit e.room e.failures
+returns-in_err-there-in-Warn-clause-follows g c = let e = c.look.ensures in follows_read {s = g.S.Store} {l = g.L.Width} c.args.self.now.maker c.look.new.self e.images.no_other e.counts.limit e.room e.failures e.unwritten
 
 pub returns-in_err-there-in-Warn-clause-counts : goal.returns-in_err-there-in-Warn-clause-counts
 returns-in_err-there-in-Warn-clause-counts g c =
@@ -46,11 +46,11 @@ returns-in_err-add-in-Warn-clause-fails g c =
     let f = c.in_ok-there-in-Warn.ensures in
     let there = c.in_ok-there-in-Warn.there in
     rw (p.1, p.2, c.in-Warn.is)
-    (fails_added {s = g.S.Store} {l = g.L.Width} m (with_maker m c.look.new.self _ _) _ Warn _ _ _ (rests_looked {s = g.S.Store} {l = g.L.Width} m c.look.new.self _ _ f.ok e.keeps e.images e.room e.counts f.ok_failures) (f.wants c.args.value.now) c.add-in-Warn.ensures.follows.comes
+    (fails_added {s = g.S.Store} {l = g.L.Width} m (with_maker m c.look.new.self _ _) _ Warn _ _ _ (rests_looked {s = g.S.Store} {l = g.L.Width} m c.look.new.self _ _ f.ok e.keeps e.images e.room e.counts f.ok_failures e.unwritten) (f.wants c.args.value.now) c.add-in-Warn.ensures.follows.comes
     (λ rs h. just_warn there _ rs _ refl (there_held {s = g.S.Store} {l = g.L.Width} m there c.args.key.now (record { each = λ b is. (b, e.images.no_other b is) }) f.one rs h)) c.in_err-add-in-Warn.ensures.fails)
 
 pub returns-in_err-add-in-Warn-clause-follows : goal.returns-in_err-add-in-Warn-clause-follows
-returns-in_err-add-in-Warn-clause-follows g c = let e = c.look.ensures in follows_then (follows_read {s = g.S.Store} {l = g.L.Width} c.args.self.now.maker c.look.new.self e.images.no_other e.counts.limit e.room e.failures) c.add-in-Warn.ensures.follows
+returns-in_err-add-in-Warn-clause-follows g c = let e = c.look.ensures in follows_then (follows_read {s = g.S.Store} {l = g.L.Width} c.args.self.now.maker c.look.new.self e.images.no_other e.counts.limit e.room e.failures e.unwritten) c.add-in-Warn.ensures.follows
 
 pub returns-in_err-add-in-Warn-clause-counts : goal.returns-in_err-add-in-Warn-clause-counts
 returns-in_err-add-in-Warn-clause-counts g c =
@@ -65,11 +65,11 @@ returns-then-there-clause-puts g c =
     let f = c.in_ok-there-in-Warn.ensures in
     let there = c.in_ok-there-in-Warn.there in
     rw (c.in-Warn.is)
-    (puts_added {s = g.S.Store} {l = g.L.Width} m (with_maker m c.look.new.self _ _) _ Warn _ AddedAgain (rests_looked {s = g.S.Store} {l = g.L.Width} m c.look.new.self _ _ f.ok e.keeps e.images e.room e.counts f.ok_failures) (f.wants c.args.value.now) c.in_ok-add-in-Warn.ensures.ok
+    (puts_added {s = g.S.Store} {l = g.L.Width} m (with_maker m c.look.new.self _ _) _ Warn _ AddedAgain (rests_looked {s = g.S.Store} {l = g.L.Width} m c.look.new.self _ _ f.ok e.keeps e.images e.room e.counts f.ok_failures e.unwritten) (f.wants c.args.value.now) c.in_ok-add-in-Warn.ensures.ok
     (λ rs h. just_warn there AddedAgain rs _ (ap (λ v. cond v AddedAgain Added) (sym c.if-there.true)) (there_held {s = g.S.Store} {l = g.L.Width} m there c.args.key.now (record { each = λ b is. (b, e.images.no_other b is) }) f.one rs h)))
 
 pub returns-then-there-clause-follows : goal.returns-then-there-clause-follows
-returns-then-there-clause-follows g c = let e = c.look.ensures in follows_then (follows_read {s = g.S.Store} {l = g.L.Width} c.args.self.now.maker c.look.new.self e.images.no_other e.counts.limit e.room e.failures) c.add-in-Warn.ensures.follows
+returns-then-there-clause-follows g c = let e = c.look.ensures in follows_then (follows_read {s = g.S.Store} {l = g.L.Width} c.args.self.now.maker c.look.new.self e.images.no_other e.counts.limit e.room e.failures e.unwritten) c.add-in-Warn.ensures.follows
 
 pub returns-else-there-clause-puts : goal.returns-else-there-clause-puts
 returns-else-there-clause-puts g c =
@@ -78,11 +78,11 @@ returns-else-there-clause-puts g c =
     let f = c.in_ok-there-in-Warn.ensures in
     let there = c.in_ok-there-in-Warn.there in
     rw (c.in-Warn.is)
-    (puts_added {s = g.S.Store} {l = g.L.Width} m (with_maker m c.look.new.self _ _) _ Warn _ Added (rests_looked {s = g.S.Store} {l = g.L.Width} m c.look.new.self _ _ f.ok e.keeps e.images e.room e.counts f.ok_failures) (f.wants c.args.value.now) c.in_ok-add-in-Warn.ensures.ok
+    (puts_added {s = g.S.Store} {l = g.L.Width} m (with_maker m c.look.new.self _ _) _ Warn _ Added (rests_looked {s = g.S.Store} {l = g.L.Width} m c.look.new.self _ _ f.ok e.keeps e.images e.room e.counts f.ok_failures e.unwritten) (f.wants c.args.value.now) c.in_ok-add-in-Warn.ensures.ok
     (λ rs h. just_warn there Added rs _ (ap (λ v. cond v AddedAgain Added) (sym c.if-there.false)) (there_held {s = g.S.Store} {l = g.L.Width} m there c.args.key.now (record { each = λ b is. (b, e.images.no_other b is) }) f.one rs h)))
 
 pub returns-else-there-clause-follows : goal.returns-else-there-clause-follows
-returns-else-there-clause-follows g c = let e = c.look.ensures in follows_then (follows_read {s = g.S.Store} {l = g.L.Width} c.args.self.now.maker c.look.new.self e.images.no_other e.counts.limit e.room e.failures) c.add-in-Warn.ensures.follows
+returns-else-there-clause-follows g c = let e = c.look.ensures in follows_then (follows_read {s = g.S.Store} {l = g.L.Width} c.args.self.now.maker c.look.new.self e.images.no_other e.counts.limit e.room e.failures e.unwritten) c.add-in-Warn.ensures.follows
 
 pub returns-in_err-look-in-Insert-clause-fails : goal.returns-in_err-look-in-Insert-clause-fails
 returns-in_err-look-in-Insert-clause-fails g c =
@@ -94,7 +94,7 @@ returns-in_err-look-in-Insert-clause-fails g c =
     (fails_look {s = g.S.Store} {l = g.L.Width} m _ _ refl (same_batch {s = g.S.Store} {l = g.L.Width} m c.look-in-Insert.new.self _ _) e.images e.keeps e.none c.in_err-look-in-Insert.ensures.fails))
 
 pub returns-in_err-look-in-Insert-clause-follows : goal.returns-in_err-look-in-Insert-clause-follows
-returns-in_err-look-in-Insert-clause-follows g c = let e = c.look-in-Insert.ensures in follows_read {s = g.S.Store} {l = g.L.Width} c.args.self.now.maker c.look-in-Insert.new.self e.images.no_other e.counts.limit e.room e.failures
+returns-in_err-look-in-Insert-clause-follows g c = let e = c.look-in-Insert.ensures in follows_read {s = g.S.Store} {l = g.L.Width} c.args.self.now.maker c.look-in-Insert.new.self e.images.no_other e.counts.limit e.room e.failures e.unwritten
 
 pub returns-in_err-look-in-Insert-clause-counts : goal.returns-in_err-look-in-Insert-clause-counts
 returns-in_err-look-in-Insert-clause-counts g c =
@@ -112,7 +112,7 @@ returns-then-branch-clause-puts g c =
     (λ rs h. there_held {s = g.S.Store} {l = g.L.Width} m there c.args.key.now (record { each = λ b is. (b, e.images.no_other b is) }) f.one rs h))
 
 pub returns-then-branch-clause-follows : goal.returns-then-branch-clause-follows
-returns-then-branch-clause-follows g c = let e = c.look-in-Insert.ensures in follows_read {s = g.S.Store} {l = g.L.Width} c.args.self.now.maker c.look-in-Insert.new.self e.images.no_other e.counts.limit e.room e.failures
+returns-then-branch-clause-follows g c = let e = c.look-in-Insert.ensures in follows_read {s = g.S.Store} {l = g.L.Width} c.args.self.now.maker c.look-in-Insert.new.self e.images.no_other e.counts.limit e.room e.failures e.unwritten
 
 pub returns-in_err-add-in-Insert-clause-fails : goal.returns-in_err-add-in-Insert-clause-fails
 returns-in_err-add-in-Insert-clause-fails g c =
@@ -122,11 +122,11 @@ returns-in_err-add-in-Insert-clause-fails g c =
     let f = c.in_ok-look-in-Insert.ensures in
     let there = c.in_ok-look-in-Insert.field-0 in
     rw (p.1, p.2, c.in-Insert.is)
-    (fails_added {s = g.S.Store} {l = g.L.Width} m (with_maker m c.look-in-Insert.new.self _ _) _ Insert _ Added _ (rests_looked {s = g.S.Store} {l = g.L.Width} m c.look-in-Insert.new.self _ _ f.ok e.keeps e.images e.room e.counts f.ok_failures) (f.wants c.args.value.now) c.add-in-Insert.ensures.follows.comes
+    (fails_added {s = g.S.Store} {l = g.L.Width} m (with_maker m c.look-in-Insert.new.self _ _) _ Insert _ Added _ (rests_looked {s = g.S.Store} {l = g.L.Width} m c.look-in-Insert.new.self _ _ f.ok e.keeps e.images e.room e.counts f.ok_failures e.unwritten) (f.wants c.args.value.now) c.add-in-Insert.ensures.follows.comes
     (λ rs h. just_insert there rs _ c.if-branch.false (there_held {s = g.S.Store} {l = g.L.Width} m there c.args.key.now (record { each = λ b is. (b, e.images.no_other b is) }) f.one rs h)) c.in_err-add-in-Insert.ensures.fails)
 
 pub returns-in_err-add-in-Insert-clause-follows : goal.returns-in_err-add-in-Insert-clause-follows
-returns-in_err-add-in-Insert-clause-follows g c = let e = c.look-in-Insert.ensures in follows_then (follows_read {s = g.S.Store} {l = g.L.Width} c.args.self.now.maker c.look-in-Insert.new.self e.images.no_other e.counts.limit e.room e.failures) c.add-in-Insert.ensures.follows
+returns-in_err-add-in-Insert-clause-follows g c = let e = c.look-in-Insert.ensures in follows_then (follows_read {s = g.S.Store} {l = g.L.Width} c.args.self.now.maker c.look-in-Insert.new.self e.images.no_other e.counts.limit e.room e.failures e.unwritten) c.add-in-Insert.ensures.follows
 
 pub returns-in_err-add-in-Insert-clause-counts : goal.returns-in_err-add-in-Insert-clause-counts
 returns-in_err-add-in-Insert-clause-counts g c =
@@ -141,11 +141,11 @@ returns-in_ok-add-in-Insert-clause-puts g c =
     let f = c.in_ok-look-in-Insert.ensures in
     let there = c.in_ok-look-in-Insert.field-0 in
     rw (c.in-Insert.is)
-    (puts_added {s = g.S.Store} {l = g.L.Width} m (with_maker m c.look-in-Insert.new.self _ _) _ Insert _ Added (rests_looked {s = g.S.Store} {l = g.L.Width} m c.look-in-Insert.new.self _ _ f.ok e.keeps e.images e.room e.counts f.ok_failures) (f.wants c.args.value.now) c.in_ok-add-in-Insert.ensures.ok
+    (puts_added {s = g.S.Store} {l = g.L.Width} m (with_maker m c.look-in-Insert.new.self _ _) _ Insert _ Added (rests_looked {s = g.S.Store} {l = g.L.Width} m c.look-in-Insert.new.self _ _ f.ok e.keeps e.images e.room e.counts f.ok_failures e.unwritten) (f.wants c.args.value.now) c.in_ok-add-in-Insert.ensures.ok
     (λ rs h. just_insert there rs _ c.if-branch.false (there_held {s = g.S.Store} {l = g.L.Width} m there c.args.key.now (record { each = λ b is. (b, e.images.no_other b is) }) f.one rs h)))
 
 pub returns-in_ok-add-in-Insert-clause-follows : goal.returns-in_ok-add-in-Insert-clause-follows
-returns-in_ok-add-in-Insert-clause-follows g c = let e = c.look-in-Insert.ensures in follows_then (follows_read {s = g.S.Store} {l = g.L.Width} c.args.self.now.maker c.look-in-Insert.new.self e.images.no_other e.counts.limit e.room e.failures) c.add-in-Insert.ensures.follows
+returns-in_ok-add-in-Insert-clause-follows g c = let e = c.look-in-Insert.ensures in follows_then (follows_read {s = g.S.Store} {l = g.L.Width} c.args.self.now.maker c.look-in-Insert.new.self e.images.no_other e.counts.limit e.room e.failures e.unwritten) c.add-in-Insert.ensures.follows
 
 pub returns-in-Replace-clause-puts : goal.returns-in-Replace-clause-puts
 returns-in-Replace-clause-puts g c = rw (c.in-Replace.is) c.replace.ensures.puts

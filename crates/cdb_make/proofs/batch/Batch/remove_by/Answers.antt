@@ -35,7 +35,7 @@ returns-then-has_room-clause-removes g c =
     let noted : c.note.new.gone.items ≡ m.gone.items ++ gaps = c.note.ensures.items ∙ ap (λ (v : List Gap). m.gone.items ++ v) c.noted_gaps.ensures in
     let last = noted_last c.deref.result.now m.gone.items gaps from (c.deref.ensures.value ∙ noted) (omega (arith, c.len-from.ensures, m.gone.ok.0)) in
     removes_noted {s = g.S.Store} {l = g.L.Width} m (with_maker m c.find.new.self m.spare m.within) _ c.args.key.now c.in_ok-taken.taken c.hash.result _
-    (rests_looked {s = g.S.Store} {l = g.L.Width} m c.find.new.self m.spare m.within f.ok e.keeps (reads_fewer e.reads) e.reads.room e.counts f.ok_failures) f.fresh f.count (λ full. (let r = c.if-has_room.ensures.room refl in omega arith))
+    (rests_looked {s = g.S.Store} {l = g.L.Width} m c.find.new.self m.spare m.within f.ok e.keeps (reads_fewer e.reads) e.reads.room e.counts f.ok_failures e.reads.unwritten) f.fresh f.count (λ full. (let r = c.if-has_room.ensures.room refl in omega arith))
     c.mark.ensures.broken c.mark.ensures.store noted c.hash.ensures last c.mark.ensures.marked
 
 pub returns-then-has_room-clause-follows : goal.returns-then-has_room-clause-follows
@@ -50,7 +50,7 @@ returns-in_err-settle-clause-fails g c =
     let e = c.find.ensures in
     let f = c.in_ok-taken.ensures in
     rw (p.1, p.2) (fails_remove_amid {s = g.S.Store} {l = g.L.Width} m (with_maker m c.find.new.self _ _) _ c.args.key.now _
-    (rests_looked {s = g.S.Store} {l = g.L.Width} m c.find.new.self _ _ f.ok e.keeps (reads_fewer e.reads) e.reads.room e.counts f.ok_failures) c.in_err-settle.ensures.fails)
+    (rests_looked {s = g.S.Store} {l = g.L.Width} m c.find.new.self _ _ f.ok e.keeps (reads_fewer e.reads) e.reads.room e.counts f.ok_failures e.reads.unwritten) c.in_err-settle.ensures.fails)
 
 pub returns-in_err-settle-clause-follows : goal.returns-in_err-settle-clause-follows
 returns-in_err-settle-clause-follows g c = let e = c.find.ensures in follows_then (follows_looked {s = g.S.Store} {l = g.L.Width} c.args.self.now.maker c.find.new.self e.reads e.counts) c.settle.ensures.follows
@@ -69,7 +69,7 @@ returns-clause-removes g c =
     let k = c.in_ok-settle.ensures in
     IfOk-weaker c.remove.result _ _
     (λ n removes. removes_settled {s = g.S.Store} {l = g.L.Width} m (with_maker m c.find.new.self _ _) c.settle.new.self _ c.args.key.now c.in_ok-taken.taken n
-    (rests_looked {s = g.S.Store} {l = g.L.Width} m c.find.new.self _ _ f.ok e.keeps (reads_fewer e.reads) e.reads.room e.counts f.ok_failures) f.fresh f.count (c.if-has_room.ensures.full refl) k.settles c.settle.ensures.follows.comes k.settles.none c.remove.ensures.follows.comes removes)
+    (rests_looked {s = g.S.Store} {l = g.L.Width} m c.find.new.self _ _ f.ok e.keeps (reads_fewer e.reads) e.reads.room e.counts f.ok_failures e.reads.unwritten) f.fresh f.count (c.if-has_room.ensures.full refl) k.settles c.settle.ensures.follows.comes k.settles.none c.remove.ensures.follows.comes removes)
     c.remove.ensures.removes
 
 pub returns-clause-fails : goal.returns-clause-fails
@@ -80,7 +80,7 @@ returns-clause-fails g c =
     let k = c.in_ok-settle.ensures in
     on_fault_is c.remove.result
     (λ fault is fails. fails_remove_settled {s = g.S.Store} {l = g.L.Width} m (with_maker m c.find.new.self _ _) c.settle.new.self _ c.args.key.now c.in_ok-taken.taken fault
-    (rests_looked {s = g.S.Store} {l = g.L.Width} m c.find.new.self _ _ f.ok e.keeps (reads_fewer e.reads) e.reads.room e.counts f.ok_failures) f.fresh f.count (c.if-has_room.ensures.full refl) k.settles c.settle.ensures.follows.comes k.fine k.settles.none c.remove.ensures.follows.comes fails)
+    (rests_looked {s = g.S.Store} {l = g.L.Width} m c.find.new.self _ _ f.ok e.keeps (reads_fewer e.reads) e.reads.room e.counts f.ok_failures e.reads.unwritten) f.fresh f.count (c.if-has_room.ensures.full refl) k.settles c.settle.ensures.follows.comes k.fine k.settles.none c.remove.ensures.follows.comes fails)
     c.remove.ensures.fails
 
 pub returns-clause-follows : goal.returns-clause-follows

@@ -38,7 +38,7 @@ returns-in_err-add-clause-fails g c =
     let none : length c.find.new.self.gaps.items ≡ 0 = omega (arith, f.count, c.if-taken-eq0.true) in
     let r : KeyValue = record { key = c.args.key.now; value = c.args.value.now } in
     rw (p.1, p.2)
-    (fails_added {s = g.S.Store} {l = g.L.Width} m (with_maker m c.find.new.self _ _) _ Replace r Added _ (rests_looked {s = g.S.Store} {l = g.L.Width} m c.find.new.self _ _ f.ok e.keeps (reads_fewer e.reads) e.reads.room e.counts f.ok_failures) (f.wants c.args.value.now) c.add.ensures.follows.comes
+    (fails_added {s = g.S.Store} {l = g.L.Width} m (with_maker m c.find.new.self _ _) _ Replace r Added _ (rests_looked {s = g.S.Store} {l = g.L.Width} m c.find.new.self _ _ f.ok e.keeps (reads_fewer e.reads) e.reads.room e.counts f.ok_failures e.reads.unwritten) (f.wants c.args.value.now) c.add.ensures.follows.comes
     (just_lone {s = g.S.Store} {l = g.L.Width} m (with_maker m c.find.new.self m.spare m.within) r none (follows_looked {s = g.S.Store} {l = g.L.Width} m.maker c.find.new.self e.reads e.counts).comes f.fresh) c.in_err-add.ensures.fails)
 
 pub returns-in_err-add-clause-follows : goal.returns-in_err-add-clause-follows
@@ -57,7 +57,7 @@ returns-then-taken-eq0-clause-puts g c =
     let f = c.in_ok-taken.ensures in
     let none : length c.find.new.self.gaps.items ≡ 0 = omega (arith, f.count, c.if-taken-eq0.true) in
     let r : KeyValue = record { key = c.args.key.now; value = c.args.value.now } in
-    puts_added {s = g.S.Store} {l = g.L.Width} m (with_maker m c.find.new.self _ _) _ Replace r Added (rests_looked {s = g.S.Store} {l = g.L.Width} m c.find.new.self _ _ f.ok e.keeps (reads_fewer e.reads) e.reads.room e.counts f.ok_failures) (f.wants c.args.value.now) c.in_ok-add.ensures.ok
+    puts_added {s = g.S.Store} {l = g.L.Width} m (with_maker m c.find.new.self _ _) _ Replace r Added (rests_looked {s = g.S.Store} {l = g.L.Width} m c.find.new.self _ _ f.ok e.keeps (reads_fewer e.reads) e.reads.room e.counts f.ok_failures e.reads.unwritten) (f.wants c.args.value.now) c.in_ok-add.ensures.ok
     (just_lone {s = g.S.Store} {l = g.L.Width} m (with_maker m c.find.new.self m.spare m.within) r none (follows_looked {s = g.S.Store} {l = g.L.Width} m.maker c.find.new.self e.reads e.counts).comes f.fresh)
 
 pub returns-then-taken-eq0-clause-follows : goal.returns-then-taken-eq0-clause-follows
@@ -70,7 +70,7 @@ returns-in_err-exchange-clause-fails g c =
     let e = c.find.ensures in
     let f = c.in_ok-taken.ensures in
     rw (p.1, p.2)
-    (fails_exchange {s = g.S.Store} {l = g.L.Width} m (with_maker m c.find.new.self _ _) _ (record { key = c.args.key.now; value = c.args.value.now }) _ g.met.L.Width.four_or_eight (rests_looked {s = g.S.Store} {l = g.L.Width} m c.find.new.self _ _ f.ok e.keeps (reads_fewer e.reads) e.reads.room e.counts f.ok_failures) c.exchange.ensures.follows.comes c.in_err-exchange.ensures.fails)
+    (fails_exchange {s = g.S.Store} {l = g.L.Width} m (with_maker m c.find.new.self _ _) _ (record { key = c.args.key.now; value = c.args.value.now }) _ g.met.L.Width.four_or_eight (rests_looked {s = g.S.Store} {l = g.L.Width} m c.find.new.self _ _ f.ok e.keeps (reads_fewer e.reads) e.reads.room e.counts f.ok_failures e.reads.unwritten) c.exchange.ensures.follows.comes c.in_err-exchange.ensures.fails)
 
 pub returns-in_err-exchange-clause-follows : goal.returns-in_err-exchange-clause-follows
 returns-in_err-exchange-clause-follows g c = let e = c.find.ensures in follows_then (follows_looked {s = g.S.Store} {l = g.L.Width} c.args.self.now.maker c.find.new.self e.reads e.counts) c.exchange.ensures.follows
@@ -86,7 +86,7 @@ returns-then-branch-clause-puts g c =
     let m = c.args.self.now in
     let e = c.find.ensures in
     let f = c.in_ok-taken.ensures in
-    puts_exchanged {s = g.S.Store} {l = g.L.Width} m (with_maker m c.find.new.self _ _) _ (record { key = c.args.key.now; value = c.args.value.now }) c.in_ok-taken.taken (rests_looked {s = g.S.Store} {l = g.L.Width} m c.find.new.self _ _ f.ok e.keeps (reads_fewer e.reads) e.reads.room e.counts f.ok_failures) f.fresh f.count (omega (arith, c.if-taken-eq0.false)) (c.in_ok-exchange.ensures.done c.if-branch.true)
+    puts_exchanged {s = g.S.Store} {l = g.L.Width} m (with_maker m c.find.new.self _ _) _ (record { key = c.args.key.now; value = c.args.value.now }) c.in_ok-taken.taken (rests_looked {s = g.S.Store} {l = g.L.Width} m c.find.new.self _ _ f.ok e.keeps (reads_fewer e.reads) e.reads.room e.counts f.ok_failures e.reads.unwritten) f.fresh f.count (omega (arith, c.if-taken-eq0.false)) (c.in_ok-exchange.ensures.done c.if-branch.true)
 
 pub returns-then-branch-clause-follows : goal.returns-then-branch-clause-follows
 returns-then-branch-clause-follows g c = let e = c.find.ensures in follows_then (follows_looked {s = g.S.Store} {l = g.L.Width} c.args.self.now.maker c.find.new.self e.reads e.counts) c.exchange.ensures.follows
@@ -100,7 +100,7 @@ returns-in_err-settle-clause-fails g c =
     let waits = c.in_ok-exchange.ensures.waits c.if-branch.false in
     rw (p.1, p.2)
     (fails_put_amid {s = g.S.Store} {l = g.L.Width} m c.exchange.new.self _ (record { key = c.args.key.now; value = c.args.value.now }) _
-    (rests_then {s = g.S.Store} {l = g.L.Width} m (with_maker m c.find.new.self _ _) c.exchange.new.self (rests_looked {s = g.S.Store} {l = g.L.Width} m c.find.new.self _ _ f.ok e.keeps (reads_fewer e.reads) e.reads.room e.counts f.ok_failures) waits.rests) c.in_err-settle.ensures.fails)
+    (rests_then {s = g.S.Store} {l = g.L.Width} m (with_maker m c.find.new.self _ _) c.exchange.new.self (rests_looked {s = g.S.Store} {l = g.L.Width} m c.find.new.self _ _ f.ok e.keeps (reads_fewer e.reads) e.reads.room e.counts f.ok_failures e.reads.unwritten) waits.rests) c.in_err-settle.ensures.fails)
 
 pub returns-in_err-settle-clause-follows : goal.returns-in_err-settle-clause-follows
 returns-in_err-settle-clause-follows g c = let e = c.find.ensures in follows_then (follows_looked {s = g.S.Store} {l = g.L.Width} c.args.self.now.maker c.find.new.self e.reads e.counts) (follows_then c.exchange.ensures.follows c.settle.ensures.follows)
@@ -120,7 +120,7 @@ returns-clause-puts g c =
     let k = c.in_ok-settle.ensures in
     IfOk-weaker c.put.result _ _
     (λ answer puts. puts_settled {s = g.S.Store} {l = g.L.Width} m (with_maker m c.find.new.self _ _) c.exchange.new.self c.settle.new.self _ (record { key = c.args.key.now; value = c.args.value.now }) answer
-    (rests_looked {s = g.S.Store} {l = g.L.Width} m c.find.new.self _ _ f.ok e.keeps (reads_fewer e.reads) e.reads.room e.counts f.ok_failures) (f.wants c.args.value.now) f.fresh (c.in_ok-exchange.ensures.waits c.if-branch.false) k.settles c.settle.ensures.follows.comes k.settles.none c.put.ensures.follows.comes puts)
+    (rests_looked {s = g.S.Store} {l = g.L.Width} m c.find.new.self _ _ f.ok e.keeps (reads_fewer e.reads) e.reads.room e.counts f.ok_failures e.reads.unwritten) (f.wants c.args.value.now) f.fresh (c.in_ok-exchange.ensures.waits c.if-branch.false) k.settles c.settle.ensures.follows.comes k.settles.none c.put.ensures.follows.comes puts)
     c.put.ensures.puts
 
 pub returns-clause-fails : goal.returns-clause-fails
@@ -131,7 +131,7 @@ returns-clause-fails g c =
     let k = c.in_ok-settle.ensures in
     on_fault_is c.put.result
     (λ fault is fails. fails_put_settled {s = g.S.Store} {l = g.L.Width} m (with_maker m c.find.new.self _ _) c.exchange.new.self c.settle.new.self _ (record { key = c.args.key.now; value = c.args.value.now }) fault
-    (rests_looked {s = g.S.Store} {l = g.L.Width} m c.find.new.self _ _ f.ok e.keeps (reads_fewer e.reads) e.reads.room e.counts f.ok_failures) (f.wants c.args.value.now) f.fresh (c.in_ok-exchange.ensures.waits c.if-branch.false) k.settles c.settle.ensures.follows k.fine k.settles.none c.put.ensures.follows.comes fails)
+    (rests_looked {s = g.S.Store} {l = g.L.Width} m c.find.new.self _ _ f.ok e.keeps (reads_fewer e.reads) e.reads.room e.counts f.ok_failures e.reads.unwritten) (f.wants c.args.value.now) f.fresh (c.in_ok-exchange.ensures.waits c.if-branch.false) k.settles c.settle.ensures.follows k.fine k.settles.none c.put.ensures.follows.comes fails)
     c.put.ensures.fails
 
 pub returns-clause-follows : goal.returns-clause-follows

@@ -14,7 +14,7 @@ returns-in_err-self-clause-fails g c =
     let e = c.in_err-self.ensures in
     let r : KeyValue = record { key = c.args.key.now; value = c.args.value.now } in
     let fit : HasRoom {s = g.S.Store} {l = g.L.Width} c.args.self.now r = omega (arith, c.size.ensures.is, c.if-not-has_room.ensures.room refl) in
-    rw (p.1, p.2) (adds_none {s = g.S.Store} {l = g.L.Width} c.args.self.now _ r _ _ _ c.if-self.false fit c.if-self.false refl e.entries e.kept e.fails)
+    rw (p.1, p.2) (adds_none {s = g.S.Store} {l = g.L.Width} c.args.self.now _ r _ _ _ c.if-self.false fit c.if-self.false refl e.entries e.kept e.fails e.not_written)
 
 pub returns-clause-ok : goal.returns-clause-ok
 returns-clause-ok g c =

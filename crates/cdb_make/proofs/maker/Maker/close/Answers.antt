@@ -103,10 +103,10 @@ returns-clause-moved g c = λ all marks h found.
     c.in_ok-left.ensures.moves marks all was found
 
 pub returns-in_err-left-clause-follows : goal.returns-in_err-left-clause-follows
-returns-in_err-left-clause-follows g c = let e = c.close.ensures in follows_closed {s = g.S.Store} {l = g.L.Width} c.args.self.now _ c.args.gaps.now c.requires.apart e.torn refl e.room e.cause
+returns-in_err-left-clause-follows g c = let e = c.close.ensures in follows_closed {s = g.S.Store} {l = g.L.Width} c.args.self.now _ c.args.gaps.now c.requires.apart e.torn refl e.room e.cause e.unwritten
 
 pub returns-then-left-gaps-clause-follows : goal.returns-then-left-gaps-clause-follows
-returns-then-left-gaps-clause-follows g c = let e = c.close.ensures in follows_closed {s = g.S.Store} {l = g.L.Width} c.args.self.now _ c.args.gaps.now c.requires.apart e.torn refl e.room e.cause
+returns-then-left-gaps-clause-follows g c = let e = c.close.ensures in follows_closed {s = g.S.Store} {l = g.L.Width} c.args.self.now _ c.args.gaps.now c.requires.apart e.torn refl e.room e.cause e.unwritten
 
 pub returns-clause-follows : goal.returns-clause-follows
-returns-clause-follows g c = let e = c.close.ensures in follows_closed {s = g.S.Store} {l = g.L.Width} c.args.self.now _ c.args.gaps.now c.requires.apart e.torn refl e.room e.cause
+returns-clause-follows g c = let e = c.close.ensures in follows_closed {s = g.S.Store} {l = g.L.Width} c.args.self.now _ c.args.gaps.now c.requires.apart e.torn refl e.room e.cause e.unwritten

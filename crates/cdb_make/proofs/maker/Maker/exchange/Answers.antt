@@ -59,28 +59,28 @@ returns-in-Err-clause-broken g c = search rules
 pub returns-in_err-last-clause-follows : goal.returns-in_err-last-clause-follows
 returns-in_err-last-clause-follows g c =
     let t = c.take_out.ensures in
-    follows_moved {s = g.S.Store} {l = g.L.Width} c.args.self.now c.take_out.new.self c.requires.apart t.torn t.counts t.room t.failures
+    follows_moved {s = g.S.Store} {l = g.L.Width} c.args.self.now c.take_out.new.self c.requires.apart t.torn t.counts t.room t.failures t.unwritten
 
 pub returns-in-Ok-clause-follows : goal.returns-in-Ok-clause-follows
 returns-in-Ok-clause-follows g c =
     let t = c.take_out.ensures in
     let a = c.add.ensures in
-    follows_then (follows_moved {s = g.S.Store} {l = g.L.Width} c.args.self.now c.take_out.new.self c.requires.apart t.torn t.counts t.room t.failures)
-    (record { comes = a.comes; head = a.head; limit = refl; room = a.room; failures = a.failures })
+    follows_then (follows_moved {s = g.S.Store} {l = g.L.Width} c.args.self.now c.take_out.new.self c.requires.apart t.torn t.counts t.room t.failures t.unwritten)
+    (record { comes = a.comes; head = a.head; limit = refl; room = a.room; failures = a.failures; unwritten = a.unwritten })
 
 pub returns-in-Err-NoMemory-clause-follows : goal.returns-in-Err-NoMemory-clause-follows
 returns-in-Err-NoMemory-clause-follows g c =
     let t = c.take_out.ensures in
     let a = c.add.ensures in
-    follows_then (follows_moved {s = g.S.Store} {l = g.L.Width} c.args.self.now c.take_out.new.self c.requires.apart t.torn t.counts t.room t.failures)
-    (record { comes = a.comes; head = a.head; limit = refl; room = a.room; failures = a.failures })
+    follows_then (follows_moved {s = g.S.Store} {l = g.L.Width} c.args.self.now c.take_out.new.self c.requires.apart t.torn t.counts t.room t.failures t.unwritten)
+    (record { comes = a.comes; head = a.head; limit = refl; room = a.room; failures = a.failures; unwritten = a.unwritten })
 
 pub returns-in-Err-clause-follows : goal.returns-in-Err-clause-follows
 returns-in-Err-clause-follows g c =
     let t = c.take_out.ensures in
     let a = c.add.ensures in
-    follows_then (follows_moved {s = g.S.Store} {l = g.L.Width} c.args.self.now c.take_out.new.self c.requires.apart t.torn t.counts t.room t.failures)
-    (record { comes = a.comes; head = a.head; limit = refl; room = a.room; failures = a.failures })
+    follows_then (follows_moved {s = g.S.Store} {l = g.L.Width} c.args.self.now c.take_out.new.self c.requires.apart t.torn t.counts t.room t.failures t.unwritten)
+    (record { comes = a.comes; head = a.head; limit = refl; room = a.room; failures = a.failures; unwritten = a.unwritten })
 
 pub invariant_of-self-clause-under : goal.invariant_of-self-clause-under
 invariant_of-self-clause-under g c = c.add.ensures.under c.take_out.new.self.under

@@ -21,7 +21,7 @@ returns-in_err-add-in-Warn-clause-fails g c =
     let p = err_from_is_err_and c.from_residual-in_err-add-in-Warn.result c.from_residual-in_err-add-in-Warn.ensures.1 in
     let e = c.in_ok-there-in-Warn.ensures in
     rw (p.1, p.2, c.in-Warn.is)
-    (fails_added {s = g.S.Store} {l = g.L.Width} _ c.exists.new.self _ Warn _ _ _ e.ok c.exists.ensures.counts.limit e.ok_failures c.add-in-Warn.ensures.follows.comes
+    (fails_added {s = g.S.Store} {l = g.L.Width} _ c.exists.new.self _ Warn _ _ _ e.ok c.exists.ensures.counts.limit e.ok_failures c.exists.ensures.unwritten c.add-in-Warn.ensures.follows.comes
     (λ rs h. just_warn c.in_ok-there-in-Warn.there _ rs _ refl (e.there rs h)) c.in_err-add-in-Warn.ensures.fails)
 
 pub returns-then-there-clause-puts : goal.returns-then-there-clause-puts
@@ -48,7 +48,7 @@ returns-in_err-add-in-Insert-clause-fails g c =
     let p = err_from_is_err_and c.from_residual-in_err-add-in-Insert.result c.from_residual-in_err-add-in-Insert.ensures.1 in
     let e = c.in_ok-exists-in-Insert.ensures in
     rw (p.1, p.2, c.in-Insert.is)
-    (fails_added {s = g.S.Store} {l = g.L.Width} _ c.exists-in-Insert.new.self _ Insert _ Added _ e.ok c.exists-in-Insert.ensures.counts.limit e.ok_failures c.add-in-Insert.ensures.follows.comes
+    (fails_added {s = g.S.Store} {l = g.L.Width} _ c.exists-in-Insert.new.self _ Insert _ Added _ e.ok c.exists-in-Insert.ensures.counts.limit e.ok_failures c.exists-in-Insert.ensures.unwritten c.add-in-Insert.ensures.follows.comes
     (λ rs h. just_insert c.in_ok-exists-in-Insert.field-0 rs _ c.if-branch.false (e.there rs h)) c.in_err-add-in-Insert.ensures.fails)
 
 pub returns-in_ok-add-in-Insert-clause-puts : goal.returns-in_ok-add-in-Insert-clause-puts

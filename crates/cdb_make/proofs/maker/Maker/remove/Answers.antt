@@ -42,11 +42,11 @@ pub returns-in_err-self-clause-follows : goal.returns-in_err-self-clause-follows
 returns-in_err-self-clause-follows g c =
     let t = c.take_out.ensures in
     follows_then (follows_looked {s = g.S.Store} {l = g.L.Width} c.args.self.now c.find.new.self c.find.ensures.reads c.find.ensures.counts)
-    (follows_moved {s = g.S.Store} {l = g.L.Width} c.find.new.self c.take_out.new.self c.in_ok-taken.ensures.apart t.torn t.counts t.room t.failures)
+    (follows_moved {s = g.S.Store} {l = g.L.Width} c.find.new.self c.take_out.new.self c.in_ok-taken.ensures.apart t.torn t.counts t.room t.failures t.unwritten)
 
 pub returns-in_ok-self-clause-follows : goal.returns-in_ok-self-clause-follows
 returns-in_ok-self-clause-follows g c =
     let t = c.take_out.ensures in
     let f = follows_then (follows_looked {s = g.S.Store} {l = g.L.Width} c.args.self.now c.find.new.self c.find.ensures.reads c.find.ensures.counts)
-    (follows_moved {s = g.S.Store} {l = g.L.Width} c.find.new.self c.take_out.new.self c.in_ok-taken.ensures.apart t.torn t.counts t.room t.failures) in
-    record { comes = f.comes; head = f.head; limit = f.limit; room = f.room; failures = f.failures }
+    (follows_moved {s = g.S.Store} {l = g.L.Width} c.find.new.self c.take_out.new.self c.in_ok-taken.ensures.apart t.torn t.counts t.room t.failures t.unwritten) in
+    record { comes = f.comes; head = f.head; limit = f.limit; room = f.room; failures = f.failures; unwritten = f.unwritten }

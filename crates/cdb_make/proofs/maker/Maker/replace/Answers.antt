@@ -22,7 +22,7 @@ returns-in_err-add-clause-fails g c =
     let p = err_from_is_err_and c.from_residual-in_err-add.result c.from_residual-in_err-add.ensures.1 in
     let e = c.in_ok-taken.ensures in
     let none : c.find.new.self.gaps.items ≡ [] = nil_from_length c.find.new.self.gaps.items (omega (arith, e.count, c.if-taken-eq0.true)) in
-    rw (p.1, p.2) (fails_added {s = g.S.Store} {l = g.L.Width} _ c.find.new.self _ Replace _ Added _ e.ok c.find.ensures.counts.limit e.ok_failures c.add.ensures.follows.comes (λ rs h. just_replace rs _ none (e.gaps rs h)) c.in_err-add.ensures.fails)
+    rw (p.1, p.2) (fails_added {s = g.S.Store} {l = g.L.Width} _ c.find.new.self _ Replace _ Added _ e.ok c.find.ensures.counts.limit e.ok_failures c.find.ensures.reads.unwritten c.add.ensures.follows.comes (λ rs h. just_replace rs _ none (e.gaps rs h)) c.in_err-add.ensures.fails)
 
 pub returns-then-taken-eq0-clause-puts : goal.returns-then-taken-eq0-clause-puts
 returns-then-taken-eq0-clause-puts g c =

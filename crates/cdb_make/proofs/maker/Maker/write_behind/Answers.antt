@@ -32,6 +32,7 @@ returns-in_err-append_piece-clause-follows g c =
       limit = refl;
       room = e.room;
       failures = e.cause.later;
+      unwritten = e.unwritten.later;
     }
 
 pub returns-clause-follows : goal.returns-clause-follows
@@ -43,6 +44,7 @@ returns-clause-follows g c =
       limit = refl;
       room = e.room;
       failures = e.cause.later;
+      unwritten = e.unwritten.later;
     }
 
 pub returns-clause-stored : goal.returns-clause-stored

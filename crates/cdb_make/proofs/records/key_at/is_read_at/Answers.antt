@@ -20,6 +20,7 @@ loop-done-preserved g c =
       written = c.read_at.ensures.written;
       room = c.read_at.ensures.room;
       failures = c.read_at.ensures.cause.later;
+      unwritten = c.read_at.ensures.unwritten;
     } in
     record {
       inside = omega arith;

@@ -87,6 +87,7 @@ loop-gap-preserved g c =
       more_written = omega (arith, c.move_down.ensures.more_written);
       room = omega (arith, c.move_down.ensures.room);
       failures = omega (arith, c.in_ok-move_down.ensures.ok_failures);
+      unwritten = omega (arith, c.loop-gap.invariant.unwritten, c.move_down.ensures.unwritten);
     }
 
 pub returns-clause-at_most_written : goal.returns-clause-at_most_written

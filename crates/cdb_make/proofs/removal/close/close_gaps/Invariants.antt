@@ -16,4 +16,5 @@ invariant-loop-gap g l = record {
   more_written : g.S.Store.written l.fn.store ≤ g.S.Store.written l.store;
   room : g.S.Store.room l.fn.store ≤ g.S.Store.room l.store;
   failures : g.S.Store.failures l.store ≡ g.S.Store.failures l.fn.store;
+  unwritten : g.S.Store.unwritten l.fn.store ≤ g.S.Store.unwritten l.store;
 }

@@ -12,6 +12,7 @@ loop-done-init g c = record {
   size = refl;
   written = omega arith;
   failures = refl;
+  unwritten = omega arith;
   room = omega arith;
 }
 
@@ -31,6 +32,7 @@ loop-done-preserved g c =
       size = omega (arith, c.in_ok-write_at.ensures.longer, c.in_ok-write_at.ensures.not_past);
       written = omega (arith, c.in_ok-write_at.ensures.ok_written);
       failures = omega (arith, c.in_ok-write_at.ensures.ok_failures, c.in_ok-read_at.ensures.ok_failures);
+      unwritten = omega (arith, c.loop-done.invariant.unwritten, c.read_at.ensures.unwritten, c.write_at.ensures.unwritten.later);
       room = omega arith;
     }
 

@@ -10,6 +10,7 @@ invariant-loop-done g l = record {
   size : g.S.Store.size l.store ≡ g.S.Store.size l.fn.store;
   written : g.S.Store.written l.store ≡ g.S.Store.written l.fn.store + l.done;
   failures : g.S.Store.failures l.store ≡ g.S.Store.failures l.fn.store;
+  unwritten : g.S.Store.unwritten l.fn.store ≤ g.S.Store.unwritten l.store;
   room : g.S.Store.room l.fn.store ≤ g.S.Store.room l.store;
 }
 
