@@ -151,9 +151,10 @@ impl<W: Write> Write for Output<W> {
         ensures failed { OnErr result (self.new.failed ≡ true) }
         ensures sound { OnOk result (self.new.failed ≡ self.old.failed) }
     {
-        let Ok(()) = self.hand_on() else {
+        let handed = self.hand_on();
+        if handed.is_err() {
             return Err(io::Error::from(ErrorKind::Other));
-        };
+        }
         let flushed = self.writer.flush();
         self.failed |= flushed.is_err();
         flushed

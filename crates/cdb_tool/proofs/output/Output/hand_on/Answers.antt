@@ -1,5 +1,5 @@
 use Rattle.std.proofs.lemmas.Grind.{common_steps}
-use Rattle.std.proofs.Common.{◌∙◌, ap, drop, arith}
+use Rattle.std.proofs.Common.{◌∙◌, ap, drop, arith, rules}
 use Rattle.std.proofs.lemmas.List.{take_rest}
 use Rattle.cdb_tool.proofs.WholeRuns.{keeps_then}
 use Rattle.cdb_tool.proofs.OutputLemmas.{handed_on}

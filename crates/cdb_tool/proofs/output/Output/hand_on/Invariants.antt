@@ -4,9 +4,12 @@ use Rattle.cdb_tool.specs.Views.Output.{output_bytes}
 use Rattle.cdb_tool.proofs.output.Output.hand_on.Given as goal
 
 -- no byte was lost so far, and the writer did not fail
-pub record invariant-loop-self (g : goal.GivenGenerics) (l : goal.LoopSelf g) : Type 0 where
-  pub kept : Keeps (output_bytes g.W.Write.contents l.fn.self) (output_bytes g.W.Write.contents l.self)
-  pub sound : l.self.failed ≡ l.fn.self.failed
+abbrev pub invariant-loop-self : goal.invariant-loop-self
+invariant-loop-self g l =
+    record {
+      kept : Keeps (output_bytes g.W.Write.contents l.fn.self) (output_bytes g.W.Write.contents l.self);
+      sound : l.self.failed ≡ l.fn.self.failed;
+    }
 
 abbrev pub decreases-loop-self : goal.decreases-loop-self
 decreases-loop-self g l = length l.self.buffer.items - l.self.start
