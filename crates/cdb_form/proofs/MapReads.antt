@@ -1,5 +1,5 @@
 -- What the parser of a map text read, piece after piece.
-use Rattle.std.proofs.Common.{All, List, None, Option, Some, [], append_assoc, ap, arith, false, get_or, is_some, length-append, refl, subst, sym, true, ◌++◌, ◌+◌, ◌<◌, ◌∙◌, ◌∷◌, ◌≡◌, ◌≢◌, ◌≤◌, ℕ}
+use Rattle.std.proofs.Common.{All, List, None, Option, Some, [], append_assoc, ap, arith, false, get_or, is_some, length-append, refl, subst, sym, take, true, ◌++◌, ◌+◌, ◌<◌, ◌∙◌, ◌∷◌, ◌≡◌, ◌≢◌, ◌≤◌, ℕ}
 use Rattle.std.specs.List.{AllPass}
 use Rattle.std.specs.Prelude.{◌==◌}
 use Rattle.std.specs.Io.KnownBytes.{Consumes, IsAtEnd, Keeps}
@@ -9,9 +9,9 @@ use Rattle.std.proofs.lemmas.List.Concat.{flat_map-append}
 use Rattle.std.proofs.lemmas.List.Elements.{All-append, All-nil, All-push}
 use Rattle.cdb_form.specs.Format.Record.{KeyValue}
 use Rattle.cdb_form.specs.Text.Map.{IsIgnoredLine, IsLineOf, Lacks, behind_blanks, is_blank, is_newline, line_pair, with_newlines}
-use Rattle.cdb_form.specs.Views.MapParser.{ReadsLine, ReadsPair, ReadsRun, ReadsToEnding, ReadsValue, is_of, line_end}
+use Rattle.cdb_form.specs.Views.MapParser.{MovesRun, ReadsLine, ReadsPair, ReadsRun, ReadsToEnding, ReadsValue, is_of, line_end}
 use Rattle.cdb_form.specs.Views.MapReader.{IsAmidLines, ReadsLinesOf}
-use Rattle.cdb_form.specs.Views.AtHand.{MovesCounted, MovesLine}
+use Rattle.cdb_form.specs.Views.FrontLine.{BeginsWithLine}
 use Rattle.cdb_form.specs.Views.Source.{LeavesAmid, Takes, budget}
 use Rattle.cdb_form.specs.Views.TextFault.{IsOfText, IsReadFault, IsSpent}
 use Rattle.cdb_form.specs.declared.text.fault.TextFault.{TextFault}
@@ -83,7 +83,7 @@ run_more kind remaining old mid new bytes b so read counted fewer spends of_kind
 
 -- more bytes that were at hand
 pub run_at_hand : {R : Type 0} (kind : Kind) (remaining : R → Option (List ℕ)) (old mid new : Source R) (bytes held holds : List ℕ) → RunSoFar kind remaining old mid bytes
-    → (m : MovesCounted kind remaining mid new held holds) → RunSoFar kind remaining old new (bytes ++ m.bytes)
+    → (m : MovesRun kind remaining mid new held holds) → RunSoFar kind remaining old new (bytes ++ m.bytes)
 run_at_hand kind remaining old mid new bytes held holds so m = record {
   each = All-append (λ c. is_of kind c ≡ true) bytes m.bytes so.each m.each;
   takes = takes_then remaining old mid new bytes m.bytes so.takes m.takes;
@@ -286,15 +286,12 @@ line_of_pair remaining old mid new blanks stop c r a no_newline no_note b =
     (blanks ++ c ∷ b.tail, is, behind_stop Blank remaining old mid new blanks b.tail stop c a b.reads)
 
 -- a record's whole line, by one step
-pub line_at_hand : {R : Type 0} (remaining : R → Option (List ℕ)) (old new : Source R) (n : ℕ) (r : KeyValue) → MovesLine (remaining old.reader) (remaining new.reader) n r → new.taken ≡ old.taken + n → old.asks ≡ new.asks + n → ReadsLine remaining old new r Pair
-line_at_hand remaining old new n r m counted asked = (
-  m.line,
-  m.is,
-  record {
-    takes = record { read = m.read; counted = omega (arith, counted, m.long, length-append m.line (10 ∷ [])) };
-    ends = refl;
-    spends = omega (arith, counted, asked);
-  },
+pub line_at_hand : {R : Type 0} (remaining : R → Option (List ℕ)) (old new : Source R) (bytes : List ℕ) (n : ℕ) (r : KeyValue) → BeginsWithLine bytes n r → Takes remaining old new (take n bytes)
+    → new.taken ≡ old.taken + n → old.asks ≡ new.asks + n → ReadsLine remaining old new r Pair
+line_at_hand remaining old new bytes n r begins takes counted asked = (
+  begins.line,
+  begins.is,
+  record { takes = subst (λ t. Takes remaining old new t) begins.front takes; ends = refl; spends = omega (arith, counted, asked) },
 )
 
 -- ---- lines

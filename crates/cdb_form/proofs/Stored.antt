@@ -1,11 +1,11 @@
 -- A record of a database file at the front of some bytes that are at hand.
-use Rattle.std.proofs.Common.{◌≡◌, ℕ, ◌+◌, ◌-◌, ◌*◌, ◌<◌, ◌≤◌, List, [], ◌++◌, length, take, drop, refl, sym, subst, ap, ◌∙◌, arith, Option, Some, None, append_assoc, length-append, length-drop}
+use Rattle.std.proofs.Common.{◌≡◌, ℕ, ◌+◌, ◌-◌, ◌*◌, ◌<◌, ◌≤◌, List, ◌++◌, length, take, drop, refl, sym, subst, ap, ◌∙◌, arith, Option, Some, None, append_assoc, length-append, length-drop}
 use Rattle.std.proofs.lemmas.List.{drop-drop, drop-take, length-take-le, take-append-drop, take-take, take_all}
-use Rattle.std.specs.Io.KnownBytes.{prepend_known, Consumes, Keeps}
+use Rattle.std.specs.Io.KnownBytes.{prepend_known, Consumes}
 use Rattle.cdb_form.specs.Format.Pair.{WordPair}
 use Rattle.cdb_form.specs.Format.Reading.{pair_at}
-use Rattle.cdb_form.specs.Format.Record.{KeyValue, record_size}
-use Rattle.cdb_form.specs.Format.Walk.{Walked, front_record, front_size, walk_from, with_first}
+use Rattle.cdb_form.specs.Format.Record.{record_size}
+use Rattle.cdb_form.specs.Format.Walk.{front_record, front_size, walk_from, with_first}
 use Rattle.cdb_form.specs.Views.KnownBytes.{FromTo}
 use Rattle.cdb_form.specs.Views.Pairs.{header_pair}
 use Rattle.cdb_form.specs.Views.Reading.{ReadsFirst}
@@ -13,7 +13,6 @@ use Rattle.cdb_form.specs.declared.header.Header.{Header}
 use Rattle.cdb_form.proofs.Fronts.{lengths_of}
 use Rattle.cdb_form.proofs.ReadBack.{same_words}
 use Rattle.cdb_form.proofs.RecordReads.{record_cut, record_read}
-use Rattle.cdb_form.proofs.SourceLemmas.{consumes_then, kept_consumes}
 use Rattle.cdb_form.proofs.WordLemmas.{pair_at-take}
 
 -- the parts of the record that some bytes begin with, and whose header has this size
@@ -92,13 +91,3 @@ stored_read w place end next old new bytes some read whole at room =
       record_read w place end next old mid new header r some one two parts.long parts.lengths behind room,
       record_cut w place end next old mid new header r some one two parts.long parts.lengths behind room,
     )
-
--- nothing was taken before
-pub kept_then : (old mid new : Option (List ℕ)) (P : List ℕ → List ℕ → Type 0) → Keeps old mid → FromTo mid new P → FromTo old new P
-kept_then None mid new P kept so = tt
-kept_then (Some o) None new P kept so = absurd kept
-kept_then (Some o) (Some m) None P kept so = absurd so
-kept_then (Some o) (Some m) (Some n) P kept so = subst (λ t. P t n) kept so
-
-pub kept_first : (old mid new : Option (List ℕ)) (r : KeyValue) (walk rest : List ℕ → Walked) → Keeps old mid → ReadsFirst r walk rest mid new → ReadsFirst r walk rest old new
-kept_first old mid new r walk rest kept one = record { bytes = one.bytes; read = consumes_then old mid new [] one.bytes (kept_consumes old mid kept) one.read; first = one.first }

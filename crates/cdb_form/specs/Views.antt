@@ -8,7 +8,6 @@ pub mod WalkFault
 pub mod Source
 pub mod NativeParser
 pub mod MapParser
-pub mod AtHand
 pub mod Front
 pub mod FrontLine
 pub mod FormReader

@@ -3,7 +3,7 @@ use Rattle.std.specs.Io.KnownBytes.{IsAtEnd}
 use Rattle.std.specs.List.{AllPass}
 use Rattle.std.specs.Prelude.{Bool, IfNone, IfSome, List, None, Option, Some, [], codes, false}
 use Rattle.std.specs.Prelude.{if◌then◌else◌, length, not, ◌*◌, ◌+◌, ◌++◌, ◌||◌, ◌∷◌, ◌≡◌, ◌≤◌, ℕ}
-use Rattle.cdb_form.specs.Format.Record.{KeyValue}
+use Rattle.cdb_form.specs.Format.Record.{AreBytes, KeyValue}
 use Rattle.cdb_form.specs.Text.Map.{BeginsOther, IsIgnoredLine, IsLineOf, Lacks, is_blank}
 use Rattle.cdb_form.specs.Text.Map.{is_newline, line_pair}
 use Rattle.cdb_form.specs.Views.Source.{Takes, budget}
@@ -19,6 +19,18 @@ abbrev pub is_of : Kind → ℕ → Bool
 is_of Blank c = is_blank c
 is_of InWord c = not (is_blank c || is_newline c)
 is_of InLine c = not (is_newline c)
+
+-- Bytes of a kind went from the front of what was unread behind what was held. They were counted,
+-- and took an ask each at most.
+pub record MovesRun {R : Type 0} (kind : Kind) (remaining : R → Option (List ℕ))
+    (old new : Source R) (held holds : List ℕ) : Type 0 where
+  pub bytes : List ℕ
+  pub takes : Takes remaining old new bytes
+  pub moved : holds ≡ held ++ bytes
+  pub each : AllPass (is_of kind) bytes
+  pub are : AreBytes bytes
+  pub asks : new.asks ≤ old.asks
+  pub spends : budget old ≤ budget new
 
 -- the byte that was read behind a run, where there is one
 abbrev pub stop_bytes : Option ℕ → List ℕ

@@ -1,6 +1,6 @@
 -- What a source gave of a text, and how often it may still be asked.
 use Rattle.std.specs.Io.KnownBytes.{Consumes}
-use Rattle.std.specs.Prelude.{List, Option, length, ◌*◌, ◌+◌, ◌≡◌, ◌≢◌, ◌≤◌, ℕ}
+use Rattle.std.specs.Prelude.{List, Option, length, take, ◌*◌, ◌+◌, ◌≡◌, ◌≢◌, ◌≤◌, ℕ}
 use Rattle.cdb_form.specs.Views.TextFault.{IsOfText, IsSpent}
 use Rattle.cdb_form.specs.declared.text.fault.TextFault.{TextFault}
 use Rattle.cdb_form.specs.declared.text.fault.TextFault.TheVariants.{NoMemory}
@@ -9,6 +9,10 @@ use Rattle.cdb_form.specs.declared.text.source.Source.{Source}
 -- each byte that a source gave took at most 1001 asks
 abbrev pub budget : {R : Type 0} → Source R → ℕ
 budget s = s.asks + 1001 * s.taken
+
+-- the bytes that a source has at hand, as many at most as it has asks left
+abbrev pub at_hand : {R : Type 0} → (R → List ℕ) → Source R → List ℕ
+at_hand held s = take s.asks (held s.reader)
 
 -- these bytes were read of what was unread, and were counted
 pub record Takes {R : Type 0} (remaining : R → Option (List ℕ)) (old new : Source R)

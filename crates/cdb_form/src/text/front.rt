@@ -94,7 +94,11 @@ fn has_body(bytes: &[u8], klen: usize, vlen: usize) -> bool
 /// Copies the record that some bytes begin with over another one, and answers how many bytes spell
 /// it. There are none if no whole record is found, and then the record holds anything.
 #[inline(always)]
-pub fn front_record(bytes: &[u8], greatest: u64, into: &mut Record) -> Result<usize, AllocError>
+pub(crate) fn front_record(
+    bytes: &[u8],
+    greatest: u64,
+    into: &mut Record,
+) -> Result<usize, AllocError>
     ensures { IfOk result (λ n. 0 < n →
         BeginsWithRecord greatest bytes.now n (key_value into.new)) }
 {

@@ -50,7 +50,7 @@ fn run(kind: Kind, bytes: &[u8]) -> usize
 /// bytes the line has, with its newline. There are none if it has no newline or no record, and then
 /// the record holds anything.
 #[inline(always)]
-pub fn front_line(bytes: &[u8], into: &mut Record) -> Result<usize, AllocError>
+pub(crate) fn front_line(bytes: &[u8], into: &mut Record) -> Result<usize, AllocError>
     ensures { IfOk result (λ n. 0 < n → BeginsWithLine bytes.now n (key_value into.new)) }
 {
     let start = blanks(bytes);

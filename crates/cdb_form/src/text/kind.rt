@@ -6,8 +6,8 @@ ghost use Rattle.cdb_form.specs.Views.MapParser.{is_of};
 use memchr::{memchr, memchr3};
 
 /// A kind of bytes that stand in a row.
-#[derive(Clone, Copy, Debug, PartialEq, Eq)]
-pub enum Kind {
+#[derive(Clone, Copy)]
+pub(crate) enum Kind {
     /// A space or a tab.
     Blank,
     /// What a key is made of: neither a blank nor a newline.
@@ -18,7 +18,7 @@ pub enum Kind {
 
 impl Kind {
     /// Whether a byte is of this kind.
-    pub fn has(self, byte: u8) -> bool
+    pub(crate) fn has(self, byte: u8) -> bool
         ensures { result ≡ is_of self byte }
     {
         match self {
@@ -30,7 +30,7 @@ impl Kind {
 
     /// How many bytes of this kind some bytes begin with. Blanks are few, and not looked for.
     #[inline(always)]
-    pub fn run(self, bytes: &[u8]) -> usize
+    pub(crate) fn run(self, bytes: &[u8]) -> usize
         ensures within { result ≤ length bytes.now }
         ensures each { AllPass (is_of self) (take result bytes.now) }
     {

@@ -4,8 +4,7 @@ ghost use Rattle.std.specs.Prelude.{◌≡◌, ◌<◌, true, ℕ, List, ◌∷�
 ghost use Rattle.cdb_form.specs.Format.Record.{AreBytes};
 ghost use Rattle.cdb_form.specs.Text.Map.{Lacks, is_newline};
 ghost use Rattle.cdb_form.specs.Views.MapParser.{ReadsLine, ReadsPair, ReadsRun, ReadsValue, is_of};
-ghost use Rattle.cdb_form.specs.Views.MapParser.{line_end};
-ghost use Rattle.cdb_form.specs.Views.AtHand.{MovesCounted};
+ghost use Rattle.cdb_form.specs.Views.MapParser.{MovesRun, line_end};
 ghost use Rattle.cdb_form.specs.Views.MapReader.{IsAmidLines, ReadsEntry};
 ghost use Rattle.cdb_form.specs.declared.text.fault.TextFault.TheVariants.{NoMemory};
 ghost use Rattle.cdb_form.specs.Views.Pairs.{key_value};
@@ -15,6 +14,7 @@ ghost use Rattle.cdb_form.specs.declared.text.kind.Kind.TheVariants.{InWord};
 use crate::record::Record;
 use crate::text::at_hand::AtHand;
 use crate::text::fault::TextFault;
+use crate::text::front_line::front_line;
 use crate::text::kind::Kind;
 use crate::text::source::Source;
 use std::io::Read;
@@ -70,15 +70,16 @@ impl<R: Read> Source<R> {
         kind: Kind,
         into: &mut Vec<u8>,
     ) -> Result<(), TextFault>
-        ensures moved { OnOk result (MovesCounted kind R.remaining self.old self.new
+        ensures moved { OnOk result (MovesRun kind R.remaining self.old self.new
             into.old.items into.new.items) }
         ensures err { IfErr result (λ f. (f ≡ NoMemory)
             × (self.new.taken ≡ self.old.taken) × (self.new.asks ≡ self.old.asks)
             × (into.new.items ≡ into.old.items)) }
     {
-        let n = A::take_run(&mut self.reader, kind, self.asks, into)?;
-        self.asks -= n;
-        self.taken += n;
+        let window = self.at_hand::<A>();
+        let run = kind.run(window);
+        into.extend_from_slice(&window[..run])?;
+        self.take_at_hand::<A>(run);
         Ok(())
     }
 
@@ -189,12 +190,11 @@ impl<R: Read> Source<R> {
         ensures leaves { IfErr result (LeavesAmid (Lacks is_newline)
             R.remaining self.old self.new) }
     {
-        let n = A::take_line(&mut self.reader, self.asks, into)?;
+        let n = front_line(self.at_hand::<A>(), into)?;
         if n == 0 {
             return self.line::<A>(into);
         }
-        self.asks -= n;
-        self.taken += n;
+        self.take_at_hand::<A>(n);
         Ok(LineRead::Pair)
     }
 

@@ -18,6 +18,7 @@ use crate::item::ItemKind;
 use crate::record::Record;
 use crate::text::at_hand::AtHand;
 use crate::text::fault::TextFault;
+use crate::text::front::front_record;
 use crate::text::source::Source;
 use std::io::Read;
 
@@ -203,6 +204,7 @@ impl<R: Read> Source<R> {
             Some(_) => Err(TextFault::Syntax(start)),
         }
     }
+
     /// Takes the next item as `entry` does, a record that is at hand by one step. Then each of its
     /// bytes counts as an ask.
     #[inline(always)]
@@ -228,12 +230,11 @@ impl<R: Read> Source<R> {
         ensures leaves { IfErr result (Leaves R.remaining self.old self.new) }
         ensures spends { OnOk result (budget self.old ≤ budget self.new) }
     {
-        let n = A::take_record(&mut self.reader, greatest, self.asks, into)?;
+        let n = front_record(self.at_hand::<A>(), greatest, into)?;
         if n == 0 {
             return self.entry(into, greatest, removals);
         }
-        self.asks -= n;
-        self.taken += n;
+        self.take_at_hand::<A>(n);
         Ok(Some(ItemKind::Put))
     }
 }

@@ -1,10 +1,10 @@
 // A reader of a text, with the count of what it gave and of how often it may still be asked.
-ghost use Rattle.std.specs.Prelude.{◌≡◌, ◌+◌, ◌*◌, ◌^◌, ◌<◌, ◌≤◌, [], ◌∷◌, length, OnOk, OnErr};
-ghost use Rattle.std.specs.Prelude.{IfOk, IfErr, MatchOption};
+ghost use Rattle.std.specs.Prelude.{◌≡◌, ◌+◌, ◌*◌, ◌^◌, ◌<◌, ◌≤◌, [], ◌∷◌, length, take};
+ghost use Rattle.std.specs.Prelude.{OnOk, OnErr, IfOk, IfErr, MatchOption};
 ghost use Rattle.std.specs.Io.KnownBytes.{Keeps, Consumes, IsAtEnd};
 
 use crate::reading::{some_bytes, vector};
-use crate::text::at_hand::AtHand;
+use crate::text::at_hand::{AtHand, window_within};
 use crate::text::fault::TextFault;
 use std::io::Read;
 
@@ -23,7 +23,7 @@ pub(crate) struct Source<R> {
 impl<R: Read> Source<R> {
     ghost use Rattle.cdb_form.specs.Format.Record.{AreBytes};
     ghost use Rattle.cdb_form.specs.Views.NativeParser.{FailsBytes, FailsIn, Leaves};
-    ghost use Rattle.cdb_form.specs.Views.Source.{budget};
+    ghost use Rattle.cdb_form.specs.Views.Source.{Takes, at_hand, budget};
     ghost use Rattle.cdb_form.specs.Views.TextFault.{IsReadFault, IsSpent};
 
     /// A reader that gave nothing yet, and may be asked so often.
@@ -72,6 +72,27 @@ impl<R: Read> Source<R> {
         Ok(Some(one[0]))
     }
 
+    /// The bytes at hand, as many at most as there are asks left.
+    #[inline(always)]
+    pub(crate) fn at_hand<A: AtHand<R>>(&self) -> &[u8]
+        ensures { result.now ≡ at_hand A.held self.now }
+    {
+        window_within::<R, A>(&self.reader, self.asks)
+    }
+
+    /// Takes the first `n` of the bytes at hand. Each counts as an ask.
+    #[inline(always)]
+    pub(crate) fn take_at_hand<A: AtHand<R>>(&mut self, n: usize)
+        requires { n ≤ length (at_hand A.held self.old) }
+        ensures takes { Takes R.remaining self.old self.new (take n (at_hand A.held self.old)) }
+        ensures taken { self.new.taken ≡ self.old.taken + n }
+        ensures asks { self.old.asks ≡ self.new.asks + n }
+    {
+        A::take(&mut self.reader, n);
+        self.asks -= n as u64;
+        self.taken += n as u64;
+    }
+
     /// The next byte, or `None` at the end. One that is at hand is taken without an ask, and counts
     /// as one.
     #[inline(always)]
@@ -93,17 +114,11 @@ impl<R: Read> Source<R> {
         ensures fails { IfErr result IsReadFault }
         ensures spent { IfErr result (IsSpent self.new.asks) }
     {
-        if self.asks == 0 {
-            return Err(TextFault::Endless);
-        }
-        match A::take_byte(&mut self.reader) {
-            Some(byte) => {
-                self.asks -= 1;
-                self.taken += 1;
-                Ok(Some(byte))
-            }
-            None => self.byte(),
-        }
+        let Some(&byte) = self.at_hand::<A>().first() else {
+            return self.byte();
+        };
+        self.take_at_hand::<A>(1);
+        Ok(Some(byte))
     }
 
     /// Takes the next `len` bytes. Memory is asked for as they come, a piece ahead.

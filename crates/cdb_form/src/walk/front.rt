@@ -29,7 +29,7 @@ fn keep_value(bytes: &[u8], keeping: Keeping, into: &mut Vec<u8>) -> Result<(), 
 /// many bytes the record has. There are none if the bytes don't begin with a whole one, and then what
 /// would be kept holds anything.
 #[inline(always)]
-pub fn front_stored<L: Width>(
+pub(crate) fn front_stored<L: Width>(
     bytes: &[u8],
     keeping: Keeping,
     into: &mut Record,

@@ -11,8 +11,9 @@ ghost use Rattle.cdb_form.specs.Views.WalkFault.{IsDamage, stopped_by};
 
 use crate::pair::pair_size;
 use crate::record::Record;
-use crate::text::at_hand::AtHand;
+use crate::text::at_hand::{AtHand, window_within};
 use crate::walk::fault::WalkFault;
+use crate::walk::front::front_stored;
 use crate::walk::keeping::Keeping;
 use crate::walk::record_area::Area;
 use crate::walk::source::{record_body, record_header};
@@ -98,12 +99,14 @@ pub(crate) fn read_record_by<R: Read, L: Width, A: AtHand<R>>(
     ensures part { OnErr result (ReadsNoRecord (walk_from L.WORD area.place area.end)
         (R.remaining reader.old) (R.remaining reader.new)) }
 {
-    let n = A::take_stored::<L>(reader, keeping, area.end - area.place, into)?;
+    let window = window_within::<R, A>(reader, area.end - area.place);
+    let n = front_stored::<L>(window, keeping, into)?;
     if n == 0 {
         return read_record::<R, L>(reader, into, area, keeping);
     }
+    A::take(reader, n);
     Ok(Area {
-        place: area.place + n,
+        place: area.place + n as u64,
         end: area.end,
     })
 }

@@ -2,8 +2,7 @@
 // all: each is read as byte by byte, with the same fault, and as far.
 use super::windows::{Dripping, MOST, SIZES};
 use cdb_form::{
-    AmendReader, AtHand, ItemKind, Keeping, Kind, Narrow, NoneAtHand, Record, TextFault,
-    TextReader, Wide, Width,
+    AmendReader, AtHand, ItemKind, Narrow, NoneAtHand, Record, TextFault, TextReader, Wide, Width,
 };
 use cdb_tool::{InWindow, Input};
 use std::alloc::{AllocError, Global};
@@ -80,44 +79,16 @@ impl Read for Lent<'_, '_> {
 pub(super) struct InLent;
 
 impl AtHand<Lent<'_, '_>> for InLent {
-    fn take_run(
-        lent: &mut Lent<'_, '_>,
-        kind: Kind,
-        most: u64,
-        into: &mut Vec<u8>,
-    ) -> Result<u64, AllocError> {
-        InWindow::take_run(&mut *lent.input, kind, most, into)
+    ghost use Rattle.cdb_tool.specs.Views.Input.{window_of};
+
+    ghost held = { λ lent. window_of lent.input.now };
+
+    fn window<'r>(lent: &'r Lent<'_, '_>) -> &'r [u8] {
+        InWindow::window(&*lent.input)
     }
 
-    fn take_byte(lent: &mut Lent<'_, '_>) -> Option<u8> {
-        InWindow::take_byte(&mut *lent.input)
-    }
-
-    fn take_record(
-        lent: &mut Lent<'_, '_>,
-        greatest: u64,
-        most: u64,
-        into: &mut Record,
-    ) -> Result<u64, AllocError> {
-        InWindow::take_record(&mut *lent.input, greatest, most, into)
-    }
-
-    fn take_line(lent: &mut Lent<'_, '_>, most: u64, into: &mut Record) -> Result<u64, AllocError> {
-        InWindow::take_line(&mut *lent.input, most, into)
-    }
-
-    fn take_stored<L: Width>(
-        lent: &mut Lent<'_, '_>,
-        keeping: Keeping,
-        most: u64,
-        into: &mut Record,
-    ) -> Result<u64, AllocError> {
-        <InWindow as AtHand<Input<Dripping<'_>>>>::take_stored::<L>(
-            &mut *lent.input,
-            keeping,
-            most,
-            into,
-        )
+    fn take(lent: &mut Lent<'_, '_>, n: usize) {
+        InWindow::take(&mut *lent.input, n);
     }
 }
 

@@ -4,7 +4,7 @@ use super::fakes::FakeReader;
 use super::native_windows::{InLent, Lent, rest_of};
 use super::windows::{Dripping, MOST};
 use super::worked::{File, TWO_TEXT};
-use cdb_form::{AtHand, Keeping, Narrow, NoneAtHand, Record, RecordReader, WalkFault, Wide, Width};
+use cdb_form::{AtHand, Narrow, NoneAtHand, Record, RecordReader, WalkFault, Wide, Width};
 use cdb_tool::{Fault, InWindow, Input, Style, dump_run_by, list_run_by};
 use std::alloc::{AllocError, Global};
 use std::io::Read;
@@ -240,6 +240,13 @@ fn show(record: &Record, shown: &mut Vec<u8>) -> Result<(), AllocError> {
         shown.extend_from_slice(part)?;
     }
     Ok(())
+}
+
+/// What is kept of a record.
+#[derive(Clone, Copy, Debug)]
+enum Keeping {
+    Both,
+    Key,
 }
 
 /// The next record of a reader, or its key over the one of a record.

@@ -3,4 +3,7 @@ use Rattle.cdb_form.proofs.MapReads.{line_at_hand}
 use Rattle.cdb_form.proofs.text.source.Source.line_by.Goals as goal
 
 pub returns-clause-reads : goal.returns-clause-reads
-returns-clause-reads g c = line_at_hand _ _ _ _ _ (c.in_ok-n.ensures.moved (omega arith)) (omega arith) (omega (arith, c.in_ok-n.ensures.most))
+returns-clause-reads g c =
+    let t = c.take_at_hand.ensures in
+    let begins = rw c.at_hand.ensures at (c.in_ok-n.ensures (omega arith)) in
+    line_at_hand _ _ _ _ _ _ begins t.takes t.taken t.asks
