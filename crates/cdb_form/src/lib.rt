@@ -48,6 +48,7 @@ pub use text::map_writer::write_map_record;
 pub use text::native_reader::TextReader;
 pub use text::native_writer::{write_end, write_record};
 pub use walk::fault::WalkFault;
+pub use walk::front::front_len;
 pub use walk::record_reader::RecordReader;
 pub use width::{Narrow, Wide, Width};
 pub use writing::{OutFault, flush_whole, write_pieces, write_some, write_whole};

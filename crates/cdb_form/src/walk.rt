@@ -1,6 +1,6 @@
 // The records of a file, one after the other.
 pub(crate) mod fault;
-mod front;
+pub(crate) mod front;
 mod keeping;
 mod next_record;
 mod record_area;

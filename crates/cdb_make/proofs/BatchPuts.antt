@@ -1,12 +1,11 @@
 -- A record put by a batch, and the records of a key removed.
 use Rattle.std.proofs.Common.{◌≡◌, ℕ, ◌+◌, ◌*◌, ◌-◌, ◌<◌, ◌≤◌, ◌⊎◌, inl, inr, Bool, true, false, cond, List, [], ◌∷◌, ◌++◌, length, map, vec_capacity, refl, sym, ap, subst, ◌∙◌, arith, sum_by, length-append, take, drop}
-use Rattle.std.specs.Prelude.{◌≢◌, All, Result, Ok, Err, IfOk}
+use Rattle.std.specs.Prelude.{◌≢◌, Result, Ok, Err, IfOk}
 use Rattle.std.specs.List.Sorted.{IsPermutation}
 use Rattle.std.proofs.lemmas.Bool.{cases_lt, false_from_ne_true}
 use Rattle.std.proofs.lemmas.List.{nil_from_length, append-nil, drop_at, take_all}
-use Rattle.std.proofs.lemmas.List.Sorted.{IsPermutation-trans, IsPermutation-append_left, length_permutation}
+use Rattle.std.proofs.lemmas.List.Sorted.{IsPermutation-trans, IsPermutation-append_left}
 use Rattle.cdb_store.specs.declared.store.Store.{Ghosts}
-use Rattle.cdb_store.specs.Laws.{HasNoImage}
 use Rattle.cdb_form.specs.declared.width.Width.{Ghosts as Widths}
 use Rattle.cdb_form.specs.declared.mode.Mode.{Mode}
 use Rattle.cdb_form.specs.declared.mode.Mode.TheVariants.{Add, Warn, Insert, Replace}
@@ -21,25 +20,24 @@ use Rattle.cdb_make.specs.declared.fault.MakeFault.TheVariants.{Broken, Lookup, 
 use Rattle.cdb_make.specs.declared.removal.gap.Gap.{Gap}
 use Rattle.cdb_make.specs.declared.maker.Maker.{Maker}
 use Rattle.cdb_make.specs.declared.records.put.Put.{Put}
-use Rattle.cdb_make.specs.declared.records.put.Put.TheVariants.{Added, AddedAgain, Present, Replaced}
+use Rattle.cdb_make.specs.declared.records.put.Put.TheVariants.{Added, Present, Replaced}
 use Rattle.cdb_make.specs.Gaps.{marked_gaps, unmarked, gaps_by}
 use Rattle.cdb_make.specs.Looks.{NoNewImage}
 use Rattle.cdb_make.specs.Marks.{AreMarked, fresh, with_key}
 use Rattle.cdb_make.specs.Stands.{AreGapsOf, gaps_of, IsThere}
 use Rattle.cdb_make.specs.Survivors.{has_key, is_there, count_of, without, behind_first, put_list, put_answer}
-use Rattle.cdb_make.specs.Views.Batch.{Lies, Held, Holds, StaysWhole, WritesNothing, Rests, Settles, FailsSettling, Writes, PassesAtMost, IsFull, IsOver, taken_by, MustSettle, MaySettle, lone_bytes, pass_bytes, IsBroken, IsTorn, HasGaps, HasGapsOr, FailsLooking, Adds, FitsMore, FailsAdding, is_short, Exchanges, FailsExchanging, Waits, Puts, IsTooBig, WantsRoom, WouldPut, FailsPutting, Removes, FailsRemoving, FailsFinishing, limit_of}
+use Rattle.cdb_make.specs.Views.Batch.{Lies, Held, Holds, StaysWhole, WritesNothing, Rests, Settles, FailsSettling, PassesAtMost, IsFull, IsOver, taken_by, MustSettle, MaySettle, lone_bytes, pass_bytes, IsBroken, IsTorn, HasGaps, HasGapsOr, FailsLooking, Adds, FitsMore, FailsAdding, is_short, Exchanges, FailsExchanging, Waits, Puts, WouldPut, FailsPutting, Removes, FailsRemoving, FailsFinishing, limit_of}
 use Rattle.cdb_make.specs.Views.Carrying.{Carries, KeepsCarrying, WantsMemory}
-use Rattle.cdb_make.specs.Views.Maker.{WhereHonest, ComesFrom, Follows, SameCounts, HasStoreFailed, HasNotFailed, HasRoom, put_bytes, made_size}
+use Rattle.cdb_make.specs.Views.Maker.{WhereHonest, ComesFrom, Follows, SameCounts, HasNotFailed, HasRoom, put_bytes, made_size}
 use Rattle.cdb_make.specs.Views.Maker.{Holds as Has, Adds as AddsIn, FailsAdding as FailsAddingIn, Puts as PutsIn, FailsPutting as FailsPuttingIn, Removes as RemovesIn, FailsRemoving as FailsRemovingIn, WritesNothing as WritesNone, FailsFinishing as FailsFinishingIn, IsFile}
 use Rattle.cdb_make.proofs.Batches.{with_maker, rests_held, held_rests, lies_count, writes_nothing}
 use Rattle.cdb_make.proofs.EntryLists.{size_push}
 use Rattle.cdb_make.proofs.Found.{length-gaps_by, some_gap}
 use Rattle.cdb_make.proofs.Makers.{honest_comes, held_size}
-use Rattle.cdb_make.proofs.Marks.{fresh_count, fresh_there, key_long, more_marked, gaps_push, unmarked_key, unmarked_push, unmarked_sizes, unmarked_count}
+use Rattle.cdb_make.proofs.Marks.{fresh_count, key_long, more_marked, gaps_push, unmarked_key, unmarked_push, unmarked_sizes, unmarked_count}
 use Rattle.cdb_make.proofs.Places.{unmarked_by}
 use Rattle.cdb_make.proofs.Puts.{JustAdds, comes_then, failed_behind, just_add, not_present}
 use Rattle.cdb_make.proofs.Replacing.{fewer_bytes, just_replace}
-use Rattle.cdb_make.proofs.Whole.{none_goes}
 
 -- what it holds after a look
 pub rests_holds : {S L : Type 0} {s : Ghosts S} {l : Widths L} (old mid : Batch S L s l) (rs : List KeyValue) → Rests old mid → Holds old rs → Holds mid rs

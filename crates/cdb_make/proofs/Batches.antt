@@ -1,16 +1,14 @@
 -- What a batch holds, from one call to the next.
-use Rattle.std.proofs.Common.{◌≡◌, ℕ, ◌+◌, ◌*◌, ◌-◌, ◌<◌, ◌≤◌, ◌⊎◌, inl, inr, Bool, true, false, cond, List, [], ◌∷◌, ◌++◌, length, vec_capacity, refl, sym, ap, subst, ◌∙◌, arith, sum_by}
+use Rattle.std.proofs.Common.{◌≡◌, ℕ, ◌+◌, ◌<◌, ◌≤◌, Bool, true, false, List, [], length, vec_capacity, refl, sym, ap, subst, ◌∙◌, arith, sum_by}
 use native.Mathlib.Bridge.{le_prop}
-use Rattle.std.specs.Prelude.{All}
 use Rattle.std.specs.List.Sorted.{IsPermutation, IsNonDecreasingBy}
 use Rattle.std.proofs.lemmas.List.{nil_from_length}
-use Rattle.std.proofs.lemmas.List.Elements.{All-nil, All-cons, All-head, All-tail}
 use Rattle.std.proofs.lemmas.List.Sorted.{IsPermutation-refl, length_permutation}
 use Rattle.cdb_store.specs.declared.store.Store.{Ghosts}
 use Rattle.cdb_store.specs.Laws.{HasNoImage}
 use Rattle.cdb_form.specs.declared.width.Width.{Ghosts as Widths}
 use Rattle.cdb_form.specs.Format.Pair.{head_size}
-use Rattle.cdb_form.specs.Format.Record.{KeyValue, IsRecord, record_size}
+use Rattle.cdb_form.specs.Format.Record.{KeyValue, IsRecord}
 use Rattle.cdb_make.specs.declared.batch.Batch.{Batch}
 use Rattle.cdb_make.specs.declared.fault.MakeFault.{MakeFault}
 use Rattle.cdb_make.specs.declared.fault.MakeFault.TheVariants.{Broken, Lookup, TooBig, NoMemory, Writing}
@@ -21,9 +19,8 @@ use Rattle.cdb_make.specs.Looks.{NoNewImage}
 use Rattle.cdb_make.specs.Marks.{AreMarked, WritesPass}
 use Rattle.cdb_make.specs.Views.Batch.{Lies, Holds, WritesNothing, FailsLooking, Settles, FailsSettling, count_in}
 use Rattle.cdb_make.specs.Views.Carrying.{Carries, KeepsCarrying, PassFails}
-use Rattle.cdb_make.specs.Views.EntryList.{lists_entries}
 use Rattle.cdb_make.specs.Views.Maker.{WhereHonest, ComesFrom}
-use Rattle.cdb_make.specs.Views.Maker.{Holds as Has, HoldsIn, FailsLooking as FailsIn, HasStoreFailed, IsBroken as IsBrokenIn, WritesNothing as WritesNone}
+use Rattle.cdb_make.specs.Views.Maker.{Holds as Has, HoldsIn, FailsLooking as FailsIn, WritesNothing as WritesNone}
 use Rattle.cdb_make.proofs.Carrying.{held_carried, carried_stand, all_unmarked}
 use Rattle.cdb_make.proofs.Marks.{unmarked_count, sum_marked}
 use Rattle.cdb_make.proofs.SortedGaps.{sorted_gaps, marked_gaps_rise}

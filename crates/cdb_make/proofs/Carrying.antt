@@ -1,12 +1,11 @@
 -- What a maker carries, from one call to the next.
-use Rattle.std.proofs.Common.{◌≡◌, ℕ, ◌+◌, ◌-◌, ◌<◌, ◌≤◌, ◌⊎◌, inl, inr, Bool, true, false, List, [], ◌∷◌, ◌++◌, length, get_or, vec_capacity, refl, sym, ap, subst, ◌∙◌, arith, length-append}
+use Rattle.std.proofs.Common.{◌≡◌, ℕ, ◌+◌, ◌-◌, ◌≤◌, Bool, true, false, List, [], ◌∷◌, ◌++◌, length, refl, sym, ap, subst, ◌∙◌, arith, length-append}
 use Rattle.std.specs.Prelude.{sum_by, All, cond}
 use Rattle.std.proofs.lemmas.List.Elements.{All-append, All-cons, All-nil, All-head, All-tail}
 use Rattle.cdb_store.specs.declared.store.Store.{Ghosts}
 use Rattle.cdb_store.specs.Images.{KeepsPart, part}
 use Rattle.cdb_store.specs.Laws.{HasNoImage}
 use Rattle.cdb_form.specs.declared.width.Width.{Ghosts as Widths}
-use Rattle.cdb_form.specs.Format.Hash.{key_hash, table_number}
 use Rattle.cdb_form.specs.Format.Pair.{WordPair, head_size}
 use Rattle.cdb_form.specs.Format.Record.{KeyValue, IsRecord, record_size}
 use Rattle.cdb_make.specs.declared.index.list.EntryList.{EntryList}
@@ -18,13 +17,13 @@ use Rattle.cdb_form.proofs.Sizes.{sum_by-table_entries}
 use Rattle.cdb_make.specs.declared.removal.gap.Gap.{Gap}
 use Rattle.cdb_make.specs.Gaps.{marked_gaps, unmarked}
 use Rattle.cdb_make.specs.Stands.{Stands}
-use Rattle.cdb_make.specs.Marks.{StandMarked, TellsMarked, AreMarked}
-use Rattle.cdb_make.specs.Views.Carrying.{Carries, CarriesIn, KeepsCarrying, WantsMemory}
-use Rattle.cdb_make.specs.Views.EntryList.{lists_entries, entry_count, entry_room}
+use Rattle.cdb_make.specs.Marks.{StandMarked, AreMarked}
+use Rattle.cdb_make.specs.Views.Carrying.{Carries, CarriesIn, KeepsCarrying}
+use Rattle.cdb_make.specs.Views.EntryList.{lists_entries}
 use Rattle.cdb_make.specs.Views.Maker.{Holds, ComesFrom, is_foreign}
 use Rattle.cdb_make.proofs.Makers.{held_stand}
 use Rattle.cdb_make.proofs.Marks.{sum_marked, unmarked_count}
-use Rattle.cdb_make.proofs.Whole.{stand_marked, marked_stand}
+use Rattle.cdb_make.proofs.Whole.{stand_marked}
 
 -- what it carries stands on its store
 pub carried_stand : {S L : Type 0} {s : Ghosts S} {l : Widths L} (m : Maker S L s l) (all : List KeyValue) (marks : List Bool) → Carries m all marks → StandMarked l.WORD m.end (lists_entries m.lists.items) marks all (s.image m.store)

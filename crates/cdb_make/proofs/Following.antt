@@ -1,5 +1,5 @@
 -- One maker that comes of another.
-use Rattle.std.proofs.Common.{◌≡◌, ◌≤◌, ◌-◌, ℕ, List, refl, ap, subst, ◌∙◌, arith}
+use Rattle.std.proofs.Common.{◌≡◌, ◌≤◌, ◌-◌, ℕ, List, ap, subst, ◌∙◌, arith}
 use Rattle.cdb_store.specs.Images.{TornWithin}
 use Rattle.cdb_store.specs.Reads.{OnlyReads}
 use Rattle.cdb_store.specs.declared.store.Store.{Ghosts}

@@ -1,5 +1,5 @@
 -- The hash of one entry of a list is turned.
-use Rattle.std.proofs.Common.{◌≡◌, ℕ, zero, suc, true, ◌+◌, ◌-◌, ◌%◌, ◌/◌, ◌<◌, ◌≤◌, List, [], ◌∷◌, length, get_or, set, take, refl, sym, ap, subst, ◌∙◌, arith, inl, inr}
+use Rattle.std.proofs.Common.{◌≡◌, ℕ, zero, suc, true, ◌+◌, ◌-◌, ◌%◌, ◌<◌, ◌≤◌, List, [], ◌∷◌, length, get_or, set, take, refl, sym, ap, subst, ◌∙◌, arith, inl, inr}
 use Rattle.std.specs.Prelude.{slice_index, ◌≢◌}
 use Rattle.std.specs.List.Sorted.{IsNonDecreasing}
 use Rattle.std.proofs.lemmas.Bool.{cases_eq, cases_lt}
@@ -9,7 +9,7 @@ use Rattle.cdb_make.specs.Gaps.{IsRising}
 use Rattle.cdb_make.specs.declared.removal.gap.Gap.{Gap}
 use Rattle.cdb_make.specs.declared.index.list.EntryList.{EntryList}
 use Rattle.cdb_make.specs.Marks.{turned, marked_entry, turn_at, turn_each}
-use Rattle.cdb_make.specs.Rings.{bucket_of, IsFree, Follows, IsRing, AreLinked}
+use Rattle.cdb_make.specs.Rings.{bucket_of, IsFree, AreLinked}
 use Rattle.cdb_make.specs.Views.EntryList.{entries_of, list_entries, list_room, IsMarked}
 use Rattle.cdb_make.proofs.Marks.{turned_bucket}
 use Rattle.cdb_make.proofs.Merge.{rising_least}

@@ -1,5 +1,5 @@
 -- A maker's lists once the records of a key are marked.
-use Rattle.std.proofs.Common.{◌≡◌, ℕ, ◌+◌, ◌*◌, ◌/◌, ◌<◌, ◌≤◌, Bool, inl, inr, List, [], ◌∷◌, ◌++◌, length, map, get_or, slice_set, refl, sym, ap, subst, ◌∙◌, arith, sum_by}
+use Rattle.std.proofs.Common.{◌≡◌, ℕ, ◌+◌, ◌*◌, ◌/◌, ◌<◌, ◌≤◌, Bool, inl, inr, List, [], ◌++◌, length, map, get_or, slice_set, sym, ap, subst, ◌∙◌, arith, sum_by}
 use Rattle.std.specs.Prelude.{All}
 use Rattle.std.specs.List.{range_with_len}
 use Rattle.std.proofs.Math.Seq.{map-set_same}
@@ -15,7 +15,7 @@ use Rattle.cdb_make.specs.declared.removal.gap.Gap.{Gap}
 use Rattle.cdb_make.specs.declared.index.list.EntryList.{EntryList}
 use Rattle.cdb_make.specs.Gaps.{marked_gaps, IsRising}
 use Rattle.cdb_make.specs.Marks.{marked_entries, turn_each, fresh, with_key}
-use Rattle.cdb_make.specs.Views.EntryList.{list_entries, lists_entries, list_tops, entries_of, AreUnder, AreWithin, HasSpareGaps, IsMarked}
+use Rattle.cdb_make.specs.Views.EntryList.{list_entries, lists_entries, list_tops, AreUnder, AreWithin, HasSpareGaps, IsMarked}
 use Rattle.cdb_make.proofs.ClosedLists.{sum_gone}
 use Rattle.cdb_make.proofs.Marks.{marked_rising}
 use Rattle.cdb_make.proofs.Sides.{list_long, places_below, entries_below}

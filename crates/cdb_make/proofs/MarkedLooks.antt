@@ -1,5 +1,5 @@
 -- A look among records of which some are marked finds those that have no mark.
-use Rattle.std.proofs.Common.{◌≡◌, ℕ, ◌+◌, ◌-◌, ◌<◌, ◌≤◌, ◌^◌, Bool, true, false, cond, List, [], ◌∷◌, flat_map, refl, sym, ap, subst, ◌∙◌, arith}
+use Rattle.std.proofs.Common.{◌≡◌, ℕ, ◌+◌, ◌≤◌, ◌^◌, Bool, true, false, cond, List, [], ◌∷◌, flat_map, refl, sym, ap, subst, ◌∙◌, arith}
 use Rattle.std.specs.Prelude.{sum_by, ◌==◌}
 use Rattle.std.proofs.lemmas.Bool.Decides.{nat_tests}
 use Rattle.cdb_store.specs.Images.{part}
@@ -10,7 +10,7 @@ use Rattle.cdb_form.specs.Format.Table.{in_table}
 use Rattle.cdb_make.specs.declared.removal.gap.Gap.{Gap}
 use Rattle.cdb_make.specs.Gaps.{marked_gaps}
 use Rattle.cdb_make.specs.Looks.{picked, AreChained}
-use Rattle.cdb_make.specs.Marks.{turned, marked_entry, marked_from, fresh}
+use Rattle.cdb_make.specs.Marks.{marked_entry, marked_from, fresh}
 use Rattle.cdb_make.specs.Survivors.{has_key}
 use Rattle.cdb_make.proofs.Found.{HeldFirst, held_first, picked_step, picked_is, chained_is}
 use Rattle.cdb_make.proofs.Marks.{turned_table}

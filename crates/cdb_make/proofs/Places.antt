@@ -7,7 +7,7 @@ use Rattle.cdb_form.specs.Format.Pair.{WordPair, head_size}
 use Rattle.cdb_form.specs.Format.Record.{KeyValue, record_size}
 use Rattle.cdb_form.specs.Format.Table.{entries_from, in_table, table_entries}
 use Rattle.cdb_make.specs.declared.removal.gap.Gap.{Gap}
-use Rattle.cdb_make.specs.Gaps.{is_gap, gone_below, lowered, closed_by, marked_gaps, unmarked, gaps_by, IsRising}
+use Rattle.cdb_make.specs.Gaps.{is_gap, gone_below, lowered, closed_by, marked_gaps, unmarked, IsRising}
 
 cond_map : {X Y : Type 0} (f : X → Y) (b : Bool) (x y : X) → f (cond b x y) ≡ cond b (f x) (f y)
 cond_map f true x y = refl

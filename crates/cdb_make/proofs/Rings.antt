@@ -1,10 +1,9 @@
 -- Rings of entries: one entry more, and where a search goes on.
-use Rattle.std.proofs.Common.{◌≡◌, ℕ, ◌+◌, ◌-◌, ◌/◌, ◌^◌, ◌<◌, ◌≤◌, min, List, [], ◌∷◌, ◌++◌, length, take, set, refl, ap, sym, subst, ◌∙◌, arith, inl, inr, length-append, length-take}
-use Rattle.std.specs.Prelude.{slice_index, cond, nat_lt, ◌≢◌, ◌⊎◌}
+use Rattle.std.proofs.Common.{◌≡◌, ℕ, ◌+◌, ◌-◌, ◌/◌, ◌<◌, ◌≤◌, List, [], ◌∷◌, ◌++◌, length, take, set, refl, ap, sym, subst, ◌∙◌, arith, inl, inr, length-append, length-take}
+use Rattle.std.specs.Prelude.{slice_index, ◌≢◌, ◌⊎◌}
 use Rattle.std.proofs.lemmas.List.{get_or-set_same, get_or-set_other, get_or_append_left, get_or-take, length-set}
 use Rattle.std.proofs.Math.Seq.{get_or-append_seam}
 use Rattle.std.proofs.lemmas.Bool.{cases_eq, cases_lt}
-use Rattle.std.proofs.lemmas.Bool.Decides.{nat_tests}
 use Rattle.std.proofs.lemmas.Nat.{mod_below}
 use Rattle.cdb_make.specs.Rings.{bucket_of, IsFree, Follows, IsRing, AreLinked, AreCut}
 use Rattle.cdb_make.specs.Views.EntryList.{IsNowhereIn}

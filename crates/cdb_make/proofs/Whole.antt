@@ -19,7 +19,7 @@ use Rattle.cdb_make.specs.declared.index.list.EntryList.{EntryList}
 use Rattle.cdb_make.specs.Gaps.{AreApart, IsRising, Closed, closed_by, gaps_by, marked_gaps, unmarked, first_place, kept_len}
 use Rattle.cdb_make.specs.Looks.{picked, Picks, TellsThere, NoNewImage, AreChained, NoneChained}
 use Rattle.cdb_make.specs.Marks.{TellsMarked, StandMarked, AreMarked, WritesPass, marked_entry, marked_from, marked_entries, fresh, behind_mark}
-use Rattle.cdb_make.specs.Stands.{Tells, Stands, gaps_of, AreGapsOf, IsCount, IsThere, WritesSurvivors}
+use Rattle.cdb_make.specs.Stands.{Tells, Stands, AreGapsOf, IsCount, IsThere, WritesSurvivors}
 use Rattle.cdb_make.specs.Survivors.{has_key, is_there, without, behind_first}
 use Rattle.cdb_make.specs.Views.EntryList.{list_entries, lists_entries, AreClosed}
 use Rattle.cdb_make.proofs.Found.{length-gaps_by}

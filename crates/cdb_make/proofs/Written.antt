@@ -1,17 +1,14 @@
 -- What a writer holds, part after part.
-use Rattle.std.proofs.Common.{◌≡◌, ℕ, suc, ◌+◌, ◌*◌, ◌^◌, ◌%◌, ◌<◌, ◌≤◌, ◌⊎◌, inl, inr, List, [], ◌∷◌, ◌++◌, length, take, map, flat_map, get_or, refl, sym, ap, subst, ◌∙◌, arith, Option, Result, Ok, Err, OnOk, OnErr, append_assoc, fold, replicate, bit_xor}
+use Rattle.std.proofs.Common.{◌≡◌, ℕ, suc, ◌+◌, ◌*◌, ◌^◌, ◌%◌, ◌<◌, ◌≤◌, ◌⊎◌, inl, inr, List, [], ◌∷◌, ◌++◌, length, take, map, flat_map, get_or, refl, sym, ap, subst, ◌∙◌, arith, Result, Ok, Err, OnOk, OnErr, append_assoc, fold, replicate, bit_xor}
 use Rattle.std.specs.Prelude.{All}
-use Rattle.std.proofs.lemmas.List.{append-nil, take_at, get_or-map, length-map}
+use Rattle.std.proofs.lemmas.List.{take_at, get_or-map, length-map}
 use Rattle.std.proofs.lemmas.List.Elements.{All-get_or, All-set, All-replicate, All-head, All-tail}
 use Rattle.std.proofs.lemmas.Nat.{xor_lt}
-use Rattle.std.specs.Io.KnownBytes.{Appends}
-use Rattle.cdb_form.specs.Views.KnownBytes.{AppendsFront}
 use Rattle.cdb_form.specs.Format.Hash.{hash_step}
 use Rattle.cdb_form.specs.Format.Record.{AreBytes, KeyValue, record_bytes}
 use Rattle.cdb_form.specs.Format.Pair.{WordPair, pair_bytes}
 use Rattle.cdb_form.specs.Format.Table.{slots_with, filled_slots, slots_of, empty_slot}
 use Rattle.cdb_form.specs.Views.Pairs.{slot_pair, PairFits}
-use Rattle.cdb_form.proofs.WritingLemmas.{front_then}
 use Rattle.cdb_form.specs.declared.slot.Slot.{Slot}
 
 pub on_any_ok : {T E : Type 0} {P : Type 0} (r : Result T E) → P → OnOk r P

@@ -6,7 +6,7 @@ use Rattle.cdb_store.specs.Images.{part}
 use Rattle.cdb_form.specs.Format.Hash.{key_hash}
 use Rattle.cdb_form.specs.Format.Pair.{WordPair, head_size}
 use Rattle.cdb_form.specs.Format.Record.{KeyValue, record_bytes, record_size, records_end}
-use Rattle.cdb_form.specs.Format.Table.{entries_from, in_table, table_entries}
+use Rattle.cdb_form.specs.Format.Table.{entries_from, in_table}
 use Rattle.cdb_make.specs.declared.removal.gap.Gap.{Gap}
 use Rattle.cdb_make.specs.Gaps.{marked_gaps, unmarked}
 use Rattle.cdb_make.specs.Survivors.{has_key}

@@ -1,5 +1,6 @@
 -- What bytes of a native text begin with, and those of a database file.
-use Rattle.std.specs.Prelude.{List, drop, length, take, [], codes, ◌+◌, ◌++◌, ◌∷◌, ◌≡◌, ◌≤◌, ℕ}
+use Rattle.std.specs.Prelude.{List, drop, length, take, [], codes, ◌+◌, ◌++◌, ◌∷◌, ◌≡◌, ◌<◌, ◌≤◌, ℕ}
+use Rattle.std.specs.Prelude.{Option, Some, None}
 use Rattle.cdb_form.specs.Format.Record.{KeyValue}
 use Rattle.cdb_form.specs.Format.Walk.{front_record, front_size}
 use Rattle.cdb_form.specs.Text.Native.{IsNumeral, Spells}
@@ -44,3 +45,8 @@ pub record BeginsWithStored (w : ℕ) (keeping : Keeping) (bytes : List ℕ) (n 
   pub whole : front_size w (take n bytes) ≡ n
   pub kept : IsKept keeping into (front_record w (take n bytes))
   pub within : n ≤ length bytes
+
+-- how many bytes the record at the front of some bytes has, where it is whole there
+abbrev pub FrontTells : ℕ → List ℕ → Option ℕ → Type 0
+FrontTells w bytes None = length bytes < front_size w bytes
+FrontTells w bytes (Some n) = (n ≡ front_size w bytes) × (n ≤ length bytes)

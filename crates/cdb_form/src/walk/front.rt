@@ -1,7 +1,7 @@
 // The record of a database file that some bytes begin with.
 ghost use Rattle.std.specs.Prelude.{◌≡◌, ◌<◌, IfOk, OnOk};
 ghost use Rattle.cdb_form.specs.Format.Record.{AreBytes};
-ghost use Rattle.cdb_form.specs.Views.Front.{BeginsWithStored};
+ghost use Rattle.cdb_form.specs.Views.Front.{BeginsWithStored, FrontTells};
 ghost use Rattle.cdb_form.specs.declared.walk.keeping.Keeping.TheVariants.{Both, Key};
 
 use crate::copying::copy_over;
@@ -11,6 +11,23 @@ use crate::record::Record;
 use crate::walk::keeping::Keeping;
 use crate::width::Width;
 use std::alloc::AllocError;
+
+/// How many bytes the record has that some bytes begin with, or `None` if they end before it does.
+pub fn front_len<L: Width>(bytes: &[u8]) -> Option<usize>
+    ensures { FrontTells L.WORD bytes.now result }
+{
+    let size = pair_size::<L>();
+    if bytes.len() < size {
+        return None;
+    }
+    let header = read_header::<L>(&bytes[..size]);
+    // The lengths may be any: their sum may pass a word.
+    let held = (bytes.len() - size) as u64;
+    if held < header.klen || held - header.klen < header.vlen {
+        return None;
+    }
+    Some(size + header.klen as usize + header.vlen as usize)
+}
 
 /// Copies the value of a record over another one, or leaves that as it is.
 #[inline(always)]

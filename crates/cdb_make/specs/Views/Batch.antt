@@ -6,7 +6,7 @@ use Rattle.cdb_store.specs.declared.store.Store.{Ghosts}
 use Rattle.cdb_store.specs.Laws.{HasNoImage}
 use Rattle.cdb_form.specs.declared.width.Width.{Ghosts as Widths}
 use Rattle.cdb_form.specs.declared.mode.Mode.{Mode}
-use Rattle.cdb_form.specs.declared.mode.Mode.TheVariants.{Add, Warn, Insert, Replace}
+use Rattle.cdb_form.specs.declared.mode.Mode.TheVariants.{Add, Insert, Replace}
 use Rattle.cdb_form.specs.Format.File.{file_size, whole_size}
 use Rattle.cdb_form.specs.Format.Pair.{head_size}
 use Rattle.cdb_form.specs.Format.Record.{KeyValue, record_size, records_end}

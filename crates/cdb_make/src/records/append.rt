@@ -13,37 +13,30 @@ use crate::fault::MakeFault;
 use crate::index::entries::{push_entry, reserve_entry};
 use crate::maker::Maker;
 use crate::records::write::append_piece;
-use cdb_form::{Width, hash, pair_size, read_header};
+use cdb_form::{Width, front_len, hash, pair_size, read_header};
 use cdb_store::Store;
 
-/// How many bytes the whole record has with which some bytes begin. There are none if they begin
-/// with no whole record.
-fn front_size<L: Width>(bytes: &[u8]) -> usize
-    ensures whole { 0 < result → result ≡ front_size L.WORD bytes.now }
-    ensures within { result ≤ length bytes.now }
-    ensures none { result ≡ 0 → length bytes.now < front_size L.WORD bytes.now }
-{
-    let size = pair_size::<L>();
-    if bytes.len() < size {
-        return 0;
-    }
-    let header = read_header::<L>(&bytes[..size]);
-    let held = (bytes.len() - size) as u64;
-    // The lengths may be any: their sum may pass a word.
-    if held < header.klen || held - header.klen < header.vlen {
-        return 0;
-    }
-    size + header.klen as usize + header.vlen as usize
+/// The record with which some bytes begin.
+#[derive(Clone, Copy)]
+struct First<'a> {
+    key: &'a [u8],
+    /// How many bytes it has.
+    size: usize,
 }
 
-/// The key of the whole record with which some bytes begin.
-fn front_key<L: Width>(bytes: &[u8]) -> &[u8]
+/// The whole record with which some bytes begin.
+fn first_record<L: Width>(bytes: &[u8]) -> First<'_>
     requires { front_size L.WORD bytes.now ≤ length bytes.now }
-    ensures { result.now ≡ (front_record L.WORD bytes.now).key }
+    ensures key { result.key.now ≡ (front_record L.WORD bytes.now).key }
+    ensures size { result.size ≡ front_size L.WORD bytes.now }
 {
     let size = pair_size::<L>();
     let header = read_header::<L>(&bytes[..size]);
-    &bytes[size..size + header.klen as usize]
+    let value = size + header.klen as usize;
+    First {
+        key: &bytes[size..value],
+        size: value + header.vlen as usize,
+    }
 }
 
 /// Which records of a run are appended.
@@ -71,8 +64,7 @@ fn measure<L: Width>(bytes: &[u8], room: u64) -> Fitting
     let slots = 2 * pair_size::<L>() as u64;
     let mut left = room;
     let (mut count, mut place) = (0, 0);
-    let mut next = front_size::<L>(bytes);
-    while 0 < next {
+    while let Some(next) = front_len::<L>(&bytes[place..]) {
         if left < slots || left - slots < next as u64 {
             return Fitting {
                 count,
@@ -83,7 +75,6 @@ fn measure<L: Width>(bytes: &[u8], room: u64) -> Fitting
         left -= slots + next as u64;
         count += 1;
         place += next;
-        next = front_size::<L>(&bytes[place..]);
     }
     Fitting {
         count,
@@ -151,10 +142,9 @@ impl<S: Store, L: Width> Maker<S, L> {
     {
         let mut place = 0;
         for _ in 0..count {
-            let rest = &bytes[place..];
-            let size = front_size::<L>(rest);
-            self.enter(hash(front_key::<L>(rest)), size as u64)?;
-            place += size;
+            let first = first_record::<L>(&bytes[place..]);
+            self.enter(hash(first.key), first.size as u64)?;
+            place += first.size;
         }
         Ok(())
     }

@@ -5,7 +5,7 @@ use Rattle.cdb_form.specs.declared.damage.Damage.TheVariants as damage
 use Rattle.cdb_form.specs.Format.Pair.{pair_size, head_size}
 use Rattle.cdb_form.specs.Format.Record.{KeyValue, record_size}
 use Rattle.cdb_form.specs.Format.Walk.{Walked, walk_from, no_walk, damaged, with_first}
-use Rattle.cdb_form.specs.Format.Walk.{front_size, whole_records}
+use Rattle.cdb_form.specs.Format.Walk.{whole_records}
 use Rattle.cdb_store.specs.Images.{part}
 use Rattle.cdb_read.specs.Lookup.{bytes_of}
 use Rattle.cdb_read.specs.declared.walking.state.Rest.{Rest}
@@ -67,11 +67,6 @@ pub record PairWithin (w : ℕ) (rest : Rest) (size : ℕ) (pair : Pair) : Type 
 abbrev pub StandsWithin : ℕ → Rest → ℕ → Option Pair → Type 0
 StandsWithin w rest size None = Unit {0}
 StandsWithin w rest size (Some pair) = PairWithin w rest size pair
-
--- how many bytes the record at the front of some bytes has, where it is whole there
-abbrev pub FrontTells : ℕ → List ℕ → Option ℕ → Type 0
-FrontTells w bytes None = length bytes < front_size w bytes
-FrontTells w bytes (Some n) = (n ≡ front_size w bytes) × (n ≤ length bytes)
 
 -- the bytes of whole records, at most m bytes, that are at the front of some bytes
 abbrev pub records_length : ℕ → ℕ → List ℕ → ℕ

@@ -4,36 +4,14 @@ ghost use Rattle.cdb_form.specs.Format.Record.{record_size};
 ghost use Rattle.cdb_form.specs.Format.Walk.{whole_records};
 ghost use Rattle.cdb_store.specs.Reads.{OnlyReads};
 ghost use Rattle.cdb_read.specs.Views.Reads.{StoreFails};
-ghost use Rattle.cdb_read.specs.Views.Walking.{FrontTells, RecordsAhead};
+ghost use Rattle.cdb_read.specs.Views.Walking.{RecordsAhead};
 
 use crate::fault::ReadFault;
-use crate::lookup::key_at::has_bytes;
 use crate::pieces::read_part;
 use crate::reader::Reader;
 use crate::walking::state::Rest;
-use cdb_form::{Width, pair_size, read_header};
+use cdb_form::{Width, front_len};
 use cdb_store::Store;
-
-/// How many bytes the record at the front of some bytes has, or `None` if it is not whole there.
-fn front_len<L: Width>(bytes: &[u8]) -> Option<usize>
-    ensures { FrontTells L.WORD bytes.now result }
-{
-    let size = bytes.len() as u64;
-    let header_size = pair_size::<L>();
-    if !has_bytes(size, 0, header_size as u64) {
-        return None;
-    }
-    let header = read_header::<L>(&bytes[..header_size]);
-    let key = header_size as u64;
-    if !has_bytes(size, key, header.klen) {
-        return None;
-    }
-    let value = key + header.klen;
-    if !has_bytes(size, value, header.vlen) {
-        return None;
-    }
-    Some((value + header.vlen) as usize)
-}
 
 /// How many bytes the whole records at the front of some bytes have together.
 fn whole_len<L: Width>(bytes: &[u8]) -> usize

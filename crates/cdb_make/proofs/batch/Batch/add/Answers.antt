@@ -1,8 +1,6 @@
-use Rattle.std.proofs.Common.{arith, refl, sym, ap, ◌∙◌, Err, length}
+use Rattle.std.proofs.Common.{arith, refl, ap, ◌∙◌, Err}
 use Rattle.std.proofs.lemmas.Result.{err_from_is_err_and, on_ok_weaker, on_err_weaker}
 use Rattle.cdb_form.specs.Format.Record.{KeyValue}
-use Rattle.cdb_make.specs.declared.batch.Batch.{Batch}
-use Rattle.cdb_make.specs.Views.Batch.{Rests}
 use Rattle.cdb_make.proofs.Batches.{same_batch, with_maker}
 use Rattle.cdb_make.proofs.BatchPuts.{adds_lone, adds_settled, fails_lone, fails_settled, fails_amid, none_short, rests_short, due_short, settles_rested}
 use Rattle.cdb_make.proofs.Finishes.{on_fault_is}

@@ -1,6 +1,5 @@
 use Rattle.std.proofs.Common.{refl, sym, ap, ◌∙◌, ◌≡◌, arith, cond}
-use Rattle.std.proofs.lemmas.Result.{err_from_is_err_and, on_err_weaker}
-use Rattle.cdb_form.specs.declared.mode.Mode.{Mode}
+use Rattle.std.proofs.lemmas.Result.{err_from_is_err_and}
 use Rattle.cdb_form.specs.declared.mode.Mode.TheVariants.{Add, Warn, Insert}
 use Rattle.cdb_make.specs.declared.records.put.Put.TheVariants.{Added, AddedAgain}
 use Rattle.cdb_make.proofs.Batches.{fails_look, same_batch, with_maker, writes_nothing}

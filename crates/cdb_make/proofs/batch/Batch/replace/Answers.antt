@@ -1,7 +1,6 @@
-use Rattle.std.proofs.Common.{refl, sym, ap, ◌∙◌, ◌≡◌, arith, length, ℕ}
+use Rattle.std.proofs.Common.{refl, ◌∙◌, ◌≡◌, arith, length}
 use Rattle.std.proofs.lemmas.Result.{err_from_is_err_and, IfOk-weaker, on_err_weaker}
 use Rattle.cdb_form.specs.Format.Record.{KeyValue}
-use Rattle.cdb_form.specs.declared.mode.Mode.{Mode}
 use Rattle.cdb_form.specs.declared.mode.Mode.TheVariants.{Add, Replace}
 use Rattle.cdb_make.specs.declared.records.put.Put.TheVariants.{Added}
 use Rattle.cdb_make.proofs.Batches.{fails_look, same_batch, with_maker}

@@ -1,10 +1,8 @@
-use Rattle.std.proofs.Common.{arith, inl, inr, refl, sym, ap, subst, ◌∙◌, ◌≡◌, ◌<◌, ℕ, List, length, true, false}
+use Rattle.std.proofs.Common.{arith, inl, inr, refl, sym, ap, subst, ◌∙◌, ◌≡◌, ◌<◌, List, length, true, false}
 use Rattle.std.specs.List.Sorted.{IsPermutation, IsNonDecreasingBy}
 use Rattle.std.proofs.lemmas.List.Sorted.{length_permutation}
 use Rattle.std.proofs.lemmas.Result.{err_from_is_err_and}
 use Rattle.cdb_make.specs.declared.removal.gap.Gap.{Gap}
-use Rattle.cdb_make.specs.declared.records.key_at.LookFault.TheVariants.{Foreign}
-use Rattle.cdb_make.specs.Gaps.{AreApart}
 use Rattle.cdb_make.proofs.Batches.{none_apart, settles_closed, fails_pass}
 use Rattle.cdb_make.proofs.batch.Batch.settle.Goals as goal
 

@@ -1,6 +1,5 @@
-use Rattle.std.proofs.Common.{arith, refl, sym, ap, subst, ◌∙◌, ◌≡◌, ◌≤◌, ◌+◌, ◌-◌, ◌*◌, ℕ, Bool, List, length, sum_by, vec_capacity, rules}
+use Rattle.std.proofs.Common.{arith, refl, sym, ap, subst, ◌∙◌, ◌≡◌, ◌≤◌, ◌-◌, ℕ, List, length, sum_by, vec_capacity}
 use Rattle.std.proofs.lemmas.List.{take_at}
-use Rattle.cdb_form.specs.Format.Record.{KeyValue}
 use Rattle.cdb_make.specs.declared.index.list.EntryList.{EntryList}
 use Rattle.cdb_make.specs.Gaps.{unmarked}
 use Rattle.cdb_make.specs.Marks.{StandMarked}

@@ -1,9 +1,6 @@
-use Rattle.std.proofs.Common.{arith, inl, inr, ap, ◌∙◌, ◌≡◌, ◌<◌, ◌≤◌, ℕ, List, length, length-append, vec_capacity}
+use Rattle.std.proofs.Common.{arith, inl, inr, ap, ◌∙◌, ◌≡◌, ◌<◌, length, length-append, vec_capacity}
 use Rattle.std.proofs.lemmas.List.{length-set}
 use Rattle.cdb_form.specs.Format.Hash.{table_number}
-use Rattle.cdb_make.specs.declared.removal.gap.Gap.{Gap}
-use Rattle.cdb_make.specs.declared.index.list.EntryList.{EntryList}
-use Rattle.cdb_make.specs.Marks.{with_key}
 use Rattle.cdb_make.proofs.MarkedLists.{marked_counted, marked_within, marked_under, marked_spare, lists_marked}
 use Rattle.cdb_make.proofs.Marks.{key_long}
 use Rattle.cdb_make.proofs.maker.Maker.mark.Goals as goal

@@ -1,7 +1,7 @@
 use Rattle.std.proofs.Common.{◌≡◌, ℕ, ◌+◌, ◌≤◌, List, Some, None, length, drop, length-drop, sym, ap, ◌∙◌, subst, arith}
 use Rattle.std.proofs.lemmas.List.{drop-drop, take_rest}
 use Rattle.cdb_form.specs.Format.Walk.{front_size}
-use Rattle.cdb_read.specs.Views.Walking.{FrontTells}
+use Rattle.cdb_form.specs.Views.Front.{FrontTells}
 use Rattle.cdb_read.proofs.WalkedLengths.{some_word}
 use Rattle.cdb_read.proofs.AheadRecords.{all_size, size_step, size_end}
 use Rattle.cdb_read.proofs.walking.whole_records.whole_len.Goals as goal

@@ -1,8 +1,8 @@
-use Rattle.std.proofs.Common.{arith, rules, sym, ap, subst, ◌∙◌, ◌≡◌, ◌<◌, ◌≤◌, ℕ, List, length, vec_capacity, get_or, slice_index, slice_set}
+use Rattle.std.proofs.Common.{arith, sym, ap, subst, ◌∙◌, ◌≡◌, ◌<◌, ◌≤◌, ℕ, List, length, vec_capacity, get_or, slice_index, slice_set}
 use Rattle.std.specs.Prelude.{◌≢◌}
 use Rattle.std.specs.List.Sorted.{IsNonDecreasing}
 use Rattle.std.proofs.lemmas.List.{get_or_read, length-set}
-use Rattle.cdb_make.specs.Marks.{turned, turn_at}
+use Rattle.cdb_make.specs.Marks.{turned}
 use Rattle.cdb_make.specs.Rings.{AreLinked}
 use Rattle.cdb_make.specs.Views.EntryList.{entries_of}
 use Rattle.cdb_make.specs.Views.Index.{index_room}
