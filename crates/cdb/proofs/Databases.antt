@@ -1,11 +1,14 @@
 -- What a store has once a run over it succeeded, and what a run says whose lines were handed on.
-use Rattle.std.proofs.Common.{ℕ, List, Option, Some, None, Result, Ok, Err, ◌≡◌, ◌∙◌, inl, inr}
+use Rattle.std.proofs.Common.{ℕ, List, Option, Some, None, Result, Ok, Err, ◌≡◌, ◌∙◌, ap, inl, inr}
 use Rattle.std.specs.Prelude.{OnOk}
 use Rattle.std.specs.Io.KnownBytes.{Keeps}
 use Rattle.std.proofs.KnownBytes.{Keeps-trans}
 use Rattle.cdb_command.specs.Asked.{Asked}
 use Rattle.cdb_command.specs.declared.usage.Usage.{Usage}
 use Rattle.cdb_files.specs.Folder.{NameCalls}
+use Rattle.cdb_files.specs.Replacing.{Tells}
+use Rattle.cdb_files.specs.declared.replace.ReplaceFault.{ReplaceFault}
+use Rattle.cdb_store.specs.declared.raw.RawFile.{Ghosts as Raw}
 use Rattle.cdb_store.specs.declared.store.Store.{Ghosts}
 use Rattle.cdb_make.specs.Views.Maker.{WhereHonest}
 use Rattle.cdb_tool.specs.Message.{fault_line}
@@ -13,7 +16,7 @@ use Rattle.cdb_tool.specs.Runs.Make.{HandsBack, OfBase, Makes}
 use Rattle.cdb_tool.specs.Runs.Make as run
 use Rattle.cdb_tool.specs.declared.fault.Fault.{Fault}
 use Rattle.cdb_tool.proofs.WholeRuns.{front_kept}
-use Rattle.cdb.specs.Creating.{Making, HasDatabase}
+use Rattle.cdb.specs.Creating.{Making, HasDatabase, IsBufferedRun, IsRun}
 use Rattle.cdb.specs.Performs.{Says, Runs, usage_line}
 use Rattle.cdb.specs.declared.system.System.{Ghosts as Systems}
 
@@ -34,15 +37,38 @@ database_made f m back images inner told said (Ok done) hands runs in_image = λ
     record { back = back; hands = hands; told = told; said = said; is = of_weaker f back _ _ (made_here m images told said b at) (runs.each b at) }
 database_made f m back images inner told said (Err fault) hands runs in_image = tt
 
+runs_under : {F : Type 0} (m : Making F) (images inner : List ℕ → Type 0) (told said : Option (List ℕ)) (made : Result Unit Fault) → OnOk made ((b : List ℕ) → inner b → images b) → (x : Option (List ℕ)) → run.Runs m.word m.greatest m.options x m.inputs images told said made
+    → run.Runs m.word m.greatest m.options x m.inputs inner told said made
+runs_under m images inner told said (Ok done) in_image x runs =
+    let made = runs.ok.made in
+    record { ok = record { based = runs.ok.based; made = record { read = made.read; are = made.are; goes = made.goes; file = record { each = λ b is. made.file.each b (in_image b is) } } }; err = tt }
+runs_under m images inner told said (Err fault) in_image x runs = record { ok = tt; err = runs.err }
+
+-- a run in a store over another one is one of the other's images too
+pub run_under : {F : Type 0} (f : Ghosts F) (m : Making F) (images inner : List ℕ → Type 0) (told said : Option (List ℕ)) (made : Result Unit Fault) → IsRun f m images told said made
+    → ((b : List ℕ) → inner b → (a : List ℕ) × images a) → OnOk made ((b : List ℕ) → inner b → images b) → IsRun f m inner told said made
+run_under f m images inner told said made ran over in_image = record {
+  back = ran.back;
+  hands = ran.hands;
+  runs = record { each = λ b is. of_weaker f ran.back _ _ (runs_under m images inner told said made in_image) (ran.runs.each (over b is).0 (over b is).1) };
+}
+
+-- what is said of a writer is said of what it has
+pub of_contents : {F R T : Type 0} (contents : T → Option (List ℕ)) (f : Ghosts F) (r : Raw R) (m : Making F) (t n : List ℕ) (old new : NameCalls) (told said : T) (answer : Result Unit (ReplaceFault Fault))
+    → Tells r (λ before after images made. IsBufferedRun f m images (contents before) (contents after) made) t n old new told said answer
+    → Tells r (λ before after images made. IsBufferedRun f m images before after made) t n old new (contents told) (contents said) answer
+of_contents contents f r m t n old new told said answer (inl none) = inl (ap contents none.0, none.1, none.2, none.3)
+of_contents contents f r m t n old new told said answer (inr some) = inr (record { left = some.left; built = some.built; tells_so = some.tells_so; answers = some.answers; renamed = some.renamed })
+
 -- ---- the lines that were handed on
 
 says_kept : (result : Result Unit Fault) (told mid said : Option (List ℕ)) → Says result told mid → Keeps mid said → Says result told said
 says_kept (Ok done) told mid said h k = Keeps-trans told mid said h k
 says_kept (Err fault) told mid said h k = front_kept told mid said (fault_line fault) h k
 
-pub run_kept : {F I M Y : Type 0} (s : Ghosts F) (m : Ghosts M) (remaining : I → Option (List ℕ)) (y : Systems Y F I M) (planned : Result Asked Usage) (input : Option (List ℕ)) (old new : Y) (was now : NameCalls) (start end final told mid said : Option (List ℕ)) (status : ℕ)
-    → Runs s m remaining y planned input old new was now start end final told mid status → Keeps mid said → Runs s m remaining y planned input old new was now start end final told said status
-run_kept s m remaining y planned input old new was now start end final told mid said status h k = elim h as (λ _. Runs s m remaining y planned input old new was now start end final told said status) [
+pub run_kept : {F I M R Y : Type 0} (s : Ghosts F) (m : Ghosts M) (r : Raw R) (remaining : I → Option (List ℕ)) (y : Systems Y F I M) (planned : Result Asked Usage) (input : Option (List ℕ)) (old new : Y) (was now : NameCalls) (start end final told mid said : Option (List ℕ)) (status : ℕ)
+    → Runs s m r remaining y planned input old new was now start end final told mid status → Keeps mid said → Runs s m r remaining y planned input old new was now start end final told said status
+run_kept s m r remaining y planned input old new was now start end final told mid said status h k = elim h as (λ _. Runs s m r remaining y planned input old new was now start end final told said status) [
   | inl none ↦ inl (record { usage = none.usage; why = none.why; line = front_kept told mid said (usage_line none.usage) none.line k; untouched = none.untouched; same = none.same; kept = none.kept; is_status = none.is_status })
   | inr some ↦
       inr (record {

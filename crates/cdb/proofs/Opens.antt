@@ -1,5 +1,5 @@
 -- Files that are opened, and what is asked of them, one after the other.
-use Rattle.std.proofs.Common.{ℕ, ◌+◌, ◌<◌, List, [], ◌∷◌, ◌++◌, ◌≡◌, ◌⊎◌, inl, inr, refl, sym, ap, subst, ◌∙◌, map, take, drop, length, get_or, false, Result, Ok, Err}
+use Rattle.std.proofs.Common.{ℕ, ◌+◌, ◌<◌, List, [], ◌∷◌, ◌++◌, ◌≡◌, inl, inr, refl, sym, ap, subst, ◌∙◌, map, take, drop, length, get_or, false, Result, Ok, Err}
 use Rattle.std.proofs.lemmas.List.{map_push, take_more, take-append-drop, map-append, drop_more}
 use Rattle.std.specs.Prelude.{OnOk}
 use Rattle.cdb_store.specs.Calls.{Calls}
@@ -7,7 +7,7 @@ use Rattle.cdb_files.specs.declared.name_trace.NameCall.{NameCall}
 use Rattle.cdb_files.specs.declared.name_trace.NameCall.TheVariants.{Apart}
 use Rattle.cdb_tool.specs.declared.inputs.Turn.{Turn}
 use Rattle.cdb.specs.Creating.{AsksEach, AsksOne}
-use Rattle.cdb.specs.Inputs.{IsStandard, OpensInput, OpensEach, StopsOpening, MissesInput}
+use Rattle.cdb.specs.Inputs.{OpensInput, OpensEach, StopsOpening, MissesInput}
 use Rattle.cdb.specs.Opening.{OpenCalls}
 use Rattle.cdb.specs.declared.open_trace.OpenCall.{OpenCall}
 use Rattle.cdb.specs.declared.open_trace.OpenCall.TheVariants.{Same}

@@ -1,6 +1,5 @@
 -- What a database is made of, as a clause reads it.
 use Rattle.std.specs.Prelude.{ℕ, List, Option}
-use Rattle.cdb_store.specs.declared.store.Store.{Ghosts}
 use Rattle.cdb_form.specs.declared.width.Width.{Ghosts as Widths}
 use Rattle.cdb_tool.specs.Views.Inputs.{inputs_left}
 use Rattle.cdb.specs.Creating.{Making}

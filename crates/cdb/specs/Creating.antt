@@ -5,7 +5,7 @@ use Rattle.std.specs.Io.KnownBytes.{Keeps, Appends}
 use Rattle.cdb_command.specs.declared.options.MakeOptions.{MakeOptions}
 use Rattle.cdb_files.specs.Folder.{NameCalls}
 use Rattle.cdb_files.specs.Replacing.{AreOfReplacing, AtEachMoment, EndsIn, IsRenamed, LeavesNew}
-use Rattle.cdb_files.specs.Replacing.{LeavesOldOrNew}
+use Rattle.cdb_files.specs.Replacing.{LeavesOldOrNew, Tells}
 use Rattle.cdb_files.specs.declared.name_trace.NameCall.TheVariants as name_call
 use Rattle.cdb_files.specs.declared.replace.ReplaceFault.{ReplaceFault}
 use Rattle.cdb_files.specs.declared.replace.ReplaceFault.TheVariants as replace
@@ -13,6 +13,7 @@ use Rattle.cdb_form.specs.Views.KnownBytes.{AppendsFront}
 use Rattle.cdb_store.specs.Contents.{contents}
 use Rattle.cdb_store.specs.contracts.memory.MemStoreStore.TheImpl.{ghosts as in_memory}
 use Rattle.cdb_store.specs.declared.memory.MemStore.{MemStore}
+use Rattle.cdb_store.specs.declared.raw.RawFile.{Ghosts as Raw}
 use Rattle.cdb_store.specs.declared.store.Store.{Ghosts}
 use Rattle.cdb_make.specs.Views.Maker.{WhereHonest}
 use Rattle.cdb_tool.specs.Runs.Inputs.{InputsLeft}
@@ -50,14 +51,25 @@ pub record IsDatabase {F : Type 0} (f : Ghosts F) (m : Making F) (b : List ℕ) 
 abbrev pub HasDatabase : {F : Type 0} → Ghosts F → Making F → (List ℕ → Type 0) → Type 0
 HasDatabase f m images = (b : List ℕ) → images b → IsDatabase f m b
 
--- it was made in a store, which has this then: the lines that were said, and the answer
-pub record MakesIn {S F : Type 0} (s : Ghosts S) (f : Ghosts F) (m : Making F) (left : S)
+-- a run made it, or failed to: the images that are left, the lines that were said, and the answer
+pub record IsRun {F : Type 0} (f : Ghosts F) (m : Making F) (images : List ℕ → Type 0)
     (told said : Option (List ℕ)) (made : Result Unit Fault) : Type 0 where
   pub back : Option F
   pub hands : HandsBack f m.base back
-  pub runs : WhereHonest (s.image left) (OfBase f back (λ x.
-      Runs m.word m.greatest m.options x m.inputs (s.image left) told said made))
+  pub runs : WhereHonest images (OfBase f back (λ x.
+      Runs m.word m.greatest m.options x m.inputs images told said made))
+
+-- one did in a store, which has this then
+pub record MakesIn {S F : Type 0} (s : Ghosts S) (f : Ghosts F) (m : Making F) (left : S)
+    (told said : Option (List ℕ)) (made : Result Unit Fault) : Type 0 where
+  pub run : IsRun f m (s.image left) told said made
   pub settled : OnOk made (s.settled left)
+
+-- one did through a buffer; or memory for that was refused, and no line was said
+abbrev pub IsBufferedRun : {F : Type 0} → Ghosts F → Making F → (images : List ℕ → Type 0)
+    → (told said : Option (List ℕ)) → Result Unit Fault → Type 0
+IsBufferedRun f m images told said made =
+    IsRun f m images told said made ⊎ ((made ≡ Err NoMemory) × Keeps told said)
 
 -- ---- on standard output
 
@@ -104,22 +116,24 @@ FindsOne {C = C} found new = (file : List ℕ) × (before : List C) × (new ≡ 
 
 -- ---- in place
 
--- the file of the name was not opened; or it was emptied, and has the database if the create succeeds
+-- the file of the name was not opened; or it was emptied, a run was made in it, and it has the
+-- database if the create succeeds
 abbrev pub Empties : {F I M Y : Type 0} → Systems Y F I M → Ghosts F → Ghosts M → Making F
-    → (name : List ℕ) → Result Unit Fault → Type 0
-Empties {M = M} y f s m name result =
-    ((fault : Fault) × IsUnopened fault × (result ≡ Err fault))
+    → (name : List ℕ) → (told said : Option (List ℕ)) → Result Unit Fault → Type 0
+Empties {M = M} y f s m name told said result =
+    ((fault : Fault) × IsUnopened fault × (result ≡ Err fault) × Keeps told said)
     ⊎ ((store : M) × y.makes name store
-    × ((left : M) × OnOk result (s.settled left × HasDatabase f m (s.image left))))
+    × ((left : M) × IsBufferedRun f m (s.image left) told said result
+    × OnOk result (s.settled left × HasDatabase f m (s.image left))))
 
 -- a file that is read is the one of the name; or none is, as was asked of each, and it is emptied
 abbrev pub MakesInPlace : {F I M Y : Type 0} → Systems Y F I M → Ghosts F → Ghosts M → Making F
     → (name : List ℕ) → (base : Option (List ℕ)) → (inputs : List (List ℕ)) → (old new : OpenCalls)
-    → Result Unit Fault → Type 0
-MakesInPlace y f s m name base inputs old new result =
-    (FindsOne (λ file. (Same true, name, file)) new × (result ≡ Err Open))
+    → (told said : Option (List ℕ)) → Result Unit Fault → Type 0
+MakesInPlace y f s m name base inputs old new told said result =
+    (FindsOne (λ file. (Same true, name, file)) new × (result ≡ Err Open) × Keeps told said)
     ⊎ ((mid : OpenCalls) × AsksAll (λ file. (Same false, name, file)) base inputs old mid
-    × (new ≡ (Emptied, name, []) ∷ mid) × Empties y f s m name result)
+    × (new ≡ (Emptied, name, []) ∷ mid) × Empties y f s m name told said result)
 
 -- ---- in a temporary file
 
@@ -130,24 +144,35 @@ fault_of replace.NoMemory = NoMemory
 fault_of replace.Rename = Rename
 fault_of (replace.Build fault) = fault
 
--- a file with the database replaces the one of the name, at once or not at all
-pub record Replaces {F : Type 0} (f : Ghosts F) (m : Making F) (temporary name : List ℕ)
-    (old new : NameCalls) (result : Result Unit Fault) : Type 0 where
+-- and its answer
+abbrev pub answer_of : Result Unit (ReplaceFault Fault) → Result Unit Fault
+answer_of (Ok done) = Ok done
+answer_of (Err fault) = Err (fault_of fault)
+
+-- a file with the database replaces the one of the name, at once or not at all; the lines are those
+-- of the run that was made in it
+pub record Replaces {F R : Type 0} (f : Ghosts F) (r : Raw R) (m : Making F)
+    (temporary name : List ℕ) (old new : NameCalls) (told said : Option (List ℕ))
+    (result : Result Unit Fault) : Type 0 where
+  pub answer : Result Unit (ReplaceFault Fault)
+  pub answered : result ≡ answer_of answer
   pub calls : AreOfReplacing temporary name (IsDatabase f m) old new
   pub moments : AtEachMoment (LeavesOldOrNew temporary name (IsDatabase f m) old) old new
-  pub ok : OnOk result (IsRenamed temporary name new × LeavesNew name (IsDatabase f m) new)
-  pub err : IfErr result (λ fault. (why : ReplaceFault Fault) × (fault ≡ fault_of why)
-      × EndsIn temporary name old new why)
+  pub ok : OnOk answer (IsRenamed temporary name new × LeavesNew name (IsDatabase f m) new)
+  pub err : IfErr answer (EndsIn temporary name old new)
+  pub lines : Tells r (λ before after images made. IsBufferedRun f m images before after made)
+      temporary name old new told said answer
 
 -- a file that is read has the temporary name; or none has, as was asked of each
-abbrev pub MakesApart : {F : Type 0} → Ghosts F → Making F → (temporary name : List ℕ)
+abbrev pub MakesApart : {F R : Type 0} → Ghosts F → Raw R → Making F → (temporary name : List ℕ)
     → (base : Option (List ℕ)) → (inputs : List (List ℕ)) → (old new : NameCalls)
-    → Result Unit Fault → Type 0
-MakesApart f m temporary name base inputs old new result =
-    (FindsOne (λ file. (name_call.One, temporary, file, [])) new × (result ≡ Err Open))
+    → (told said : Option (List ℕ)) → Result Unit Fault → Type 0
+MakesApart f r m temporary name base inputs old new told said result =
+    (FindsOne (λ file. (name_call.One, temporary, file, [])) new × (result ≡ Err Open)
+    × Keeps told said)
     ⊎ ((mid : NameCalls)
     × AsksAll (λ file. (name_call.Apart, temporary, file, [])) base inputs old mid
-    × Replaces f m temporary name mid new result)
+    × Replaces f r m temporary name mid new told said result)
 
 -- ---- under a name
 
@@ -162,15 +187,16 @@ temporary_of name None = name ++ codes ".tmp"
 temporary_of name (Some temporary) = temporary
 
 -- it is made in place; or in a temporary file, unless the allocation of its name failed
-abbrev pub MakesNamed : {F I M Y : Type 0} → Systems Y F I M → Ghosts F → Ghosts M → Making F
-    → (name : List ℕ) → (base : Option (List ℕ)) → (inputs : List (List ℕ))
+abbrev pub MakesNamed : {F I M R Y : Type 0} → Systems Y F I M → Ghosts F → Ghosts M → Raw R
+    → Making F → (name : List ℕ) → (base : Option (List ℕ)) → (inputs : List (List ℕ))
     → (temporary : Option (List ℕ)) → (old new : OpenCalls) → (was now : NameCalls)
-    → Result Unit Fault → Type 0
-MakesNamed y f s m name base inputs temporary old new was now result =
-    (IsInPlace name temporary × (now ≡ was) × MakesInPlace y f s m name base inputs old new result)
+    → (told said : Option (List ℕ)) → Result Unit Fault → Type 0
+MakesNamed y f s r m name base inputs temporary old new was now told said result =
+    (IsInPlace name temporary × (now ≡ was)
+    × MakesInPlace y f s m name base inputs old new told said result)
     ⊎ ((IsInPlace name temporary → ⊥) × (new ≡ old)
-    × (((now ≡ was) × (result ≡ Err NoMemory))
-    ⊎ MakesApart f m (temporary_of name temporary) name base inputs was now result))
+    × (((now ≡ was) × (result ≡ Err NoMemory) × Keeps told said)
+    ⊎ MakesApart f r m (temporary_of name temporary) name base inputs was now told said result))
 
 -- ---- a create
 
@@ -194,25 +220,26 @@ pub record NotOpened {F I M Y : Type 0} (y : Systems Y F I M) (base : Option (Li
       × OpensBase y base file old mid × StopsOpening y inputs mid new)
 
 -- the database is made, on standard output or under its name, where standard output stays as it is
-abbrev pub MakesAt : {F I M Y : Type 0} → Systems Y F I M → Ghosts F → Ghosts M → Making F
-    → (name : List ℕ) → (base : Option (List ℕ)) → (inputs : List (List ℕ))
+abbrev pub MakesAt : {F I M R Y : Type 0} → Systems Y F I M → Ghosts F → Ghosts M → Raw R
+    → Making F → (name : List ℕ) → (base : Option (List ℕ)) → (inputs : List (List ℕ))
     → (temporary : Option (List ℕ)) → (old new : OpenCalls) → (was now : NameCalls)
     → (start end told said : Option (List ℕ)) → Result Unit Fault → Type 0
-MakesAt y f s m name base inputs temporary old new was now start end told said result =
+MakesAt y f s r m name base inputs temporary old new was now start end told said result =
     (IsStandard name × (new ≡ old) × (now ≡ was) × MakesOnOutput f m start end told said result)
     ⊎ ((IsStandard name → ⊥) × Keeps start end
-    × MakesNamed y f s m name base inputs temporary old new was now result)
+    × MakesNamed y f s r m name base inputs temporary old new was now told said result)
 
 -- all that is read is opened, and then the database is made of it; or nothing is made
-abbrev pub Creates : {F I M Y : Type 0} → (w greatest : ℕ) → Systems Y F I M → Ghosts F → Ghosts M
-    → (I → Option (List ℕ)) → MakeOptions → (name : List ℕ) → (base : Option (List ℕ))
+abbrev pub Creates : {F I M R Y : Type 0} → (w greatest : ℕ) → Systems Y F I M → Ghosts F → Ghosts M
+    → Raw R → (I → Option (List ℕ)) → MakeOptions → (name : List ℕ) → (base : Option (List ℕ))
     → (inputs : List (List ℕ)) → (temporary : Option (List ℕ)) → (standard : Option (List ℕ))
     → (old new : OpenCalls) → (was now : NameCalls) → (start end told said : Option (List ℕ))
     → Result Unit Fault → Type 0
-Creates {F = F} w greatest y f s remaining o name base inputs temporary standard old new was now start
-    end told said result =
+Creates {F = F} w greatest y f s r remaining o name base inputs temporary standard old new was now
+    start end told said result =
     (NotOpened y base inputs old new result × (now ≡ was) × Keeps start end × Keeps told said)
     ⊎ ((file : Option F) × (left : InputsLeft) × (mid : OpenCalls)
     × OpensAll y remaining base inputs standard old mid file left
-    × MakesAt y f s (record { word = w; greatest = greatest; options = o; base = file; inputs = left })
-    name base inputs temporary mid new was now start end told said result)
+    × MakesAt y f s r
+    (record { word = w; greatest = greatest; options = o; base = file; inputs = left }) name base
+    inputs temporary mid new was now start end told said result)

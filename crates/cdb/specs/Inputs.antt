@@ -1,5 +1,5 @@
 -- What a create reads: its base, and its inputs in their order. The newest call comes first.
-use Rattle.std.specs.Prelude.{ℕ, ◌≡◌, ◌≢◌, ◌⊎◌, List, [], ◌∷◌, ◌++◌, Option, Some, None, codes}
+use Rattle.std.specs.Prelude.{ℕ, ◌≡◌, ◌⊎◌, List, [], ◌∷◌, ◌++◌, Option, Some, None, codes}
 use Rattle.cdb_tool.specs.declared.inputs.Turn.{Turn}
 use Rattle.cdb_tool.specs.declared.inputs.Turn.TheVariants.{Own, Shared}
 use Rattle.cdb.specs.Opening.{OpenCalls}

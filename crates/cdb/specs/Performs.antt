@@ -13,6 +13,7 @@ use Rattle.cdb_store.specs.Contents.{contents}
 use Rattle.cdb_store.specs.Reads.{OnlyReads}
 use Rattle.cdb_store.specs.contracts.memory.MemStoreStore.TheImpl.{ghosts as in_memory}
 use Rattle.cdb_store.specs.declared.memory.MemStore.{MemStore}
+use Rattle.cdb_store.specs.declared.raw.RawFile.{Ghosts as Raw}
 use Rattle.cdb_store.specs.declared.store.Store.{Ghosts}
 use Rattle.cdb_tool.specs.Runs.Check.{FindsSound, CheckingFails}
 use Rattle.cdb_tool.specs.Runs.Form.{Form, dump_form, list_form}
@@ -154,41 +155,43 @@ pub record WritesUsage (start end : Option (List ℕ)) (result : Result Unit Fau
   pub err : IfErr result (λ fault. (fault ≡ Output) × AppendsFront start end usage_text)
 
 -- ---- each command, in words of w bytes of files of at most so many
-abbrev pub Performs : {F I M Y : Type 0} → (w most : ℕ) → Ghosts F → Ghosts M
+abbrev pub Performs : {F I M R Y : Type 0} → (w most : ℕ) → Ghosts F → Ghosts M → Raw R
     → (I → Option (List ℕ)) → Systems Y F I M → Asked → (input : Option (List ℕ)) → (old new : Y)
     → (was now : NameCalls) → (start end told said : Option (List ℕ)) → Result Unit Fault → Type 0
-Performs w most s m remaining y (asked.Query name key number lines wide) input old new was now start end
-    told said result =
+Performs w most s m r remaining y (asked.Query name key number lines wide) input old new was now
+    start end told said result =
     PerformsQuery w s y name (record { key = key; number = number; lines = lines }) old new start end
     result
-Performs w most s m remaining y (asked.Dump name style wide) input old new was now start end told said
-    result =
+Performs w most s m r remaining y (asked.Dump name style wide) input old new was now start end told
+    said result =
     PerformsText w remaining y (dump_form style) name input old new start end result
-Performs w most s m remaining y (asked.Listing name style wide) input old new was now start end told said
-    result =
+Performs w most s m r remaining y (asked.Listing name style wide) input old new was now start end
+    told said result =
     PerformsText w remaining y (list_form style) name input old new start end result
-Performs w most s m remaining y (asked.Stats name wide) input old new was now start end told said result =
+Performs w most s m r remaining y (asked.Stats name wide) input old new was now start end told said
+    result =
     PerformsOn s remaining y most name input old new start end result
     (TellsStore w start end result s) (TellsStore w start end result in_memory)
-Performs w most s m remaining y (asked.Check name wide) input old new was now start end told said result =
+Performs w most s m r remaining y (asked.Check name wide) input old new was now start end told said
+    result =
     PerformsOn s remaining y most name input old new start end result
     (ChecksStore w start end result s) (ChecksStore w start end result in_memory)
-Performs w most s m remaining y (asked.Create name base inputs temporary options wide) input old new was
-    now start end told said result =
-    Creates w most y s m remaining options name base inputs temporary input (y.calls old) (y.calls new)
-    was now start end told said result
-Performs w most s m remaining y asked.Help input old new was now start end told said result =
+Performs w most s m r remaining y (asked.Create name base inputs temporary options wide) input old new
+    was now start end told said result =
+    Creates w most y s m r remaining options name base inputs temporary input (y.calls old)
+    (y.calls new) was now start end told said result
+Performs w most s m r remaining y asked.Help input old new was now start end told said result =
     (new ≡ old) × WritesUsage start end result
 
 -- in words of 8 bytes or of 4
-abbrev pub PerformsIn : {F I M Y : Type 0} → (wide : Bool) → Ghosts F → Ghosts M
+abbrev pub PerformsIn : {F I M R Y : Type 0} → (wide : Bool) → Ghosts F → Ghosts M → Raw R
     → (I → Option (List ℕ)) → Systems Y F I M → Asked → (input : Option (List ℕ)) → (old new : Y)
     → (was now : NameCalls) → (start end told said : Option (List ℕ)) → Result Unit Fault → Type 0
-PerformsIn true s m remaining y command input old new was now start end told said result =
-    Performs 8 9223372036854775807 s m remaining y command input old new was now start end told said
-    result
-PerformsIn false s m remaining y command input old new was now start end told said result =
-    Performs 4 4294967295 s m remaining y command input old new was now start end told said result
+PerformsIn true s m r remaining y command input old new was now start end told said result =
+    Performs 8 9223372036854775807 s m r remaining y command input old new was now start end told
+    said result
+PerformsIn false s m r remaining y command input old new was now start end told said result =
+    Performs 4 4294967295 s m r remaining y command input old new was now start end told said result
 
 -- ---- the end of a command
 
@@ -201,13 +204,13 @@ pub record HandsOn (end final : Option (List ℕ)) (answer result : Result Unit 
   pub answered : (result ≡ answer) ⊎ (IsOk answer × (result ≡ Err Output))
 
 -- the command was performed, and what it wrote was handed on
-pub record Does {F I M Y : Type 0} (s : Ghosts F) (m : Ghosts M) (remaining : I → Option (List ℕ))
-    (y : Systems Y F I M) (command : Asked) (input : Option (List ℕ)) (old new : Y)
-    (was now : NameCalls) (start final told said : Option (List ℕ)) (result : Result Unit Fault)
-    : Type 0 where
+pub record Does {F I M R Y : Type 0} (s : Ghosts F) (m : Ghosts M) (r : Raw R)
+    (remaining : I → Option (List ℕ)) (y : Systems Y F I M) (command : Asked)
+    (input : Option (List ℕ)) (old new : Y) (was now : NameCalls)
+    (start final told said : Option (List ℕ)) (result : Result Unit Fault) : Type 0 where
   pub end : Option (List ℕ)
   pub answer : Result Unit Fault
-  pub performs : PerformsIn (has_wide_words command) s m remaining y command input old new was now
+  pub performs : PerformsIn (has_wide_words command) s m r remaining y command input old new was now
       start end told said answer
   pub hands : HandsOn end final answer result
 
@@ -250,14 +253,15 @@ pub record AsksNothing {Y : Type 0} (planned : Result Asked Usage) (old new : Y)
   pub is_status : status ≡ usage_status usage
 
 -- the command that they ask for was performed, and then its fault was said
-pub record AsksFor {F I M Y : Type 0} (s : Ghosts F) (m : Ghosts M) (remaining : I → Option (List ℕ))
-    (y : Systems Y F I M) (planned : Result Asked Usage) (input : Option (List ℕ)) (old new : Y)
-    (was now : NameCalls) (start final told said : Option (List ℕ)) (status : ℕ) : Type 0 where
+pub record AsksFor {F I M R Y : Type 0} (s : Ghosts F) (m : Ghosts M) (r : Raw R)
+    (remaining : I → Option (List ℕ)) (y : Systems Y F I M) (planned : Result Asked Usage)
+    (input : Option (List ℕ)) (old new : Y) (was now : NameCalls)
+    (start final told said : Option (List ℕ)) (status : ℕ) : Type 0 where
   pub command : Command
   pub asks : planned ≡ Ok (asked_in command)
   pub result : Result Unit Fault
   pub before : Option (List ℕ)
-  pub does : Does s m remaining y (asked_in command) input old new was now start final told before
+  pub does : Does s m r remaining y (asked_in command) input old new was now start final told before
       result
   pub silent : IsUntouched (asked_in command) told before
   pub same : IsUntouched (asked_in command) was now
@@ -266,9 +270,10 @@ pub record AsksFor {F I M Y : Type 0} (s : Ghosts F) (m : Ghosts M) (remaining :
 
 -- from its words to its exit status: what was written, what standard output has of it, and what is
 -- said on standard error
-abbrev pub Runs : {F I M Y : Type 0} → Ghosts F → Ghosts M → (I → Option (List ℕ)) → Systems Y F I M
-    → (planned : Result Asked Usage) → (input : Option (List ℕ)) → (old new : Y)
-    → (was now : NameCalls) → (start end final told said : Option (List ℕ)) → (status : ℕ) → Type 0
-Runs s m remaining y planned input old new was now start end final told said status =
+abbrev pub Runs : {F I M R Y : Type 0} → Ghosts F → Ghosts M → Raw R → (I → Option (List ℕ))
+    → Systems Y F I M → (planned : Result Asked Usage) → (input : Option (List ℕ))
+    → (old new : Y) → (was now : NameCalls) → (start end final told said : Option (List ℕ))
+    → (status : ℕ) → Type 0
+Runs s m r remaining y planned input old new was now start end final told said status =
     AsksNothing planned old new was now start end told said status
-    ⊎ AsksFor s m remaining y planned input old new was now start final told said status
+    ⊎ AsksFor s m r remaining y planned input old new was now start final told said status

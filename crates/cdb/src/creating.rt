@@ -60,7 +60,7 @@ where
     E: Write,
     requires head { head_size L.WORD ≤ creation.options.limit }
     requires words { creation.options.limit ≤ L.GREATEST }
-    ensures { Creates L.WORD L.GREATEST Y.System F.Store M.Store J.remaining
+    ensures { Creates L.WORD L.GREATEST Y.System F.Store M.Store N.File.RawFile J.remaining
         creation.entry.options creation.entry.name.now
         (option_map string_bytes creation.entry.base.now) (map string_bytes creation.entry.inputs.now)
         (option_map string_bytes creation.entry.temporary.now) (I.remaining input)
@@ -127,7 +127,7 @@ where
     I: Read + Drop,
     O: Write,
     E: Write,
-    ensures { MakesAt Y.System F.Store M.Store
+    ensures { MakesAt Y.System F.Store M.Store N.File.RawFile
         (making_of L.WORD L.GREATEST J.remaining I.remaining contents)
         creation.entry.name.now (option_map string_bytes creation.entry.base.now)
         (map string_bytes creation.entry.inputs.now)
@@ -218,12 +218,13 @@ where
     N: Names,
     I: Read + Drop,
     E: Write,
-    ensures { MakesNamed Y.System F.Store M.Store
+    ensures { MakesNamed Y.System F.Store M.Store N.File.RawFile
         (making_of L.WORD L.GREATEST J.remaining I.remaining contents)
         creation.entry.name.now (option_map string_bytes creation.entry.base.now)
         (map string_bytes creation.entry.inputs.now)
         (option_map string_bytes creation.entry.temporary.now)
-        (Y.calls system.old) (Y.calls system.new) (N.calls names.old) (N.calls names.new) result }
+        (Y.calls system.old) (Y.calls system.new) (N.calls names.old) (N.calls names.new)
+        (E.contents errors.old) (E.contents errors.new) result }
 {
     if is_in_place(creation.name, creation.temporary) {
         return make_in_place::<L, F, J, M, Y, I, E>(alloc, system, creation, contents, errors);

@@ -1,6 +1,6 @@
 // The database of what was opened, made in a store.
 ghost use Rattle.std.specs.Prelude.{OnOk};
-ghost use Rattle.cdb.specs.Creating.{HasDatabase, MakesIn};
+ghost use Rattle.cdb.specs.Creating.{HasDatabase, IsBufferedRun, MakesIn};
 ghost use Rattle.cdb.specs.Contents.{making_of};
 
 use crate::contents::Contents;
@@ -56,6 +56,9 @@ where
     ensures settled { OnOk result.1 (S.settled result.0) }
     ensures made { OnOk result.1 (HasDatabase F.Store
         (making_of L.WORD L.GREATEST J.remaining I.remaining contents) (S.image result.0)) }
+    ensures run { IsBufferedRun F.Store
+        (making_of L.WORD L.GREATEST J.remaining I.remaining contents) (S.image result.0)
+        (E.contents errors.old) (E.contents errors.new) result.1 }
 {
     match BufferedStore::new(alloc, store, PIPE) {
         Ok(buffered) => {

@@ -42,8 +42,8 @@ where
     O: Write,
     E: Write,
     requires { FitsIn (head_size L.WORD) L.GREATEST (asked_in command.now) }
-    ensures performs { Performs L.WORD L.GREATEST F.Store M.Store J.remaining Y.System
-        (asked_in command.now) (I.remaining input) system.old system.new
+    ensures performs { Performs L.WORD L.GREATEST F.Store M.Store N.File.RawFile J.remaining
+        Y.System (asked_in command.now) (I.remaining input) system.old system.new
         (N.calls names.old) (N.calls names.new) (O.contents output.old) (O.contents output.new)
         (E.contents errors.old) (E.contents errors.new) result }
     ensures silent { IsUntouched (asked_in command.now)

@@ -1,7 +1,7 @@
 // A database made under its name: in place, or in a temporary file that is renamed.
 ghost use Rattle.std.specs.Prelude.{◌≡◌, [], true, false, map, option_map, string_bytes, Ok, Err};
-ghost use Rattle.cdb.specs.Creating.{AsksAll, AsksBase, AsksEach, AsksOne, FindsOne, IsDatabase};
-ghost use Rattle.cdb.specs.Creating.{MakesApart, MakesInPlace, fault_of};
+ghost use Rattle.cdb.specs.Creating.{AsksAll, AsksBase, AsksEach, AsksOne, FindsOne};
+ghost use Rattle.cdb.specs.Creating.{IsBufferedRun, IsDatabase, MakesApart, MakesInPlace, fault_of};
 ghost use Rattle.cdb.specs.Contents.{making_of};
 ghost use Rattle.cdb.specs.declared.open_trace.OpenCall.TheVariants.{Same};
 ghost use Rattle.cdb_files.specs.declared.name_trace.NameCall.TheVariants.{Apart, One};
@@ -17,6 +17,7 @@ use cdb_store::Store;
 use cdb_tool::Fault;
 use std::alloc::Global;
 use std::io::{Read, Write};
+use std::marker::PhantomData;
 
 /// Whether an input is the file of this name, links followed.
 fn is_database<F: Store, J: Read, M: Store, Y: System<F, J, M>>(
@@ -111,7 +112,8 @@ where
         (making_of L.WORD L.GREATEST J.remaining I.remaining contents)
         creation.entry.name.now (option_map string_bytes creation.entry.base.now)
         (map string_bytes creation.entry.inputs.now)
-        (Y.calls system.old) (Y.calls system.new) result }
+        (Y.calls system.old) (Y.calls system.new)
+        (E.contents errors.old) (E.contents errors.new) result }
 {
     if reads_database::<F, J, M, Y>(system, creation) {
         return Err(Fault::Open);
@@ -193,9 +195,11 @@ where
     N: Names,
     I: Read + Drop,
     E: Write,
-    ensures { MakesApart F.Store (making_of L.WORD L.GREATEST J.remaining I.remaining contents)
+    ensures { MakesApart F.Store N.File.RawFile
+        (making_of L.WORD L.GREATEST J.remaining I.remaining contents)
         temporary.now creation.entry.name.now (option_map string_bytes creation.entry.base.now)
-        (map string_bytes creation.entry.inputs.now) (N.calls names.old) (N.calls names.new) result }
+        (map string_bytes creation.entry.inputs.now) (N.calls names.old) (N.calls names.new)
+        (E.contents errors.old) (E.contents errors.new) result }
 {
     if has_read_file(names, temporary, creation) {
         return Err(Fault::Open);
@@ -203,9 +207,15 @@ where
     let builder = Building::<L, F, J, I, E> {
         alloc,
         contents,
-        errors,
+        errors: PhantomData,
     };
-    match replace_file::<N, Building<L, F, J, I, E>>(names, creation.name, temporary, builder) {
+    match replace_file::<N, Building<L, F, J, I, E>>(
+        names,
+        creation.name,
+        temporary,
+        builder,
+        errors,
+    ) {
         Ok(()) => Ok(()),
         Err(fault) => Err(why_not(fault)),
     }
@@ -225,13 +235,14 @@ fn why_not(fault: ReplaceFault<Fault>) -> Fault
 
 /// Builds the database in a file that is empty.
 #[derive(Drop)]
-struct Building<'a, L: Width, F, J, I, E> {
+struct Building<L: Width, F, J, I, E> {
     alloc: Global,
     contents: Contents<L, F, J, I>,
-    errors: &'a mut E,
+    /// What the lines of duplicates are written to.
+    errors: PhantomData<E>,
 }
 
-impl<'a, S, L, F, J, I, E> Builder<S> for Building<'a, L, F, J, I, E>
+impl<S, L, F, J, I, E> Builder<S> for Building<L, F, J, I, E>
 where
     S: Store + Drop,
     L: Width,
@@ -242,14 +253,20 @@ where
 {
     type Fault = Fault;
 
+    type Told = E;
+
     ghost builds = { λ b. IsDatabase F.Store
         (making_of L.WORD L.GREATEST J.remaining I.remaining b.contents) };
 
-    fn build(self, store: S) -> (S, Result<(), Fault>) {
+    ghost tells = { λ b told said images made. IsBufferedRun F.Store
+        (making_of L.WORD L.GREATEST J.remaining I.remaining b.contents) images
+        (E.contents told) (E.contents said) made };
+
+    fn build(self, store: S, errors: &mut E) -> (S, Result<(), Fault>) {
         let Building {
             alloc,
             contents,
-            errors,
+            ..
         } = self;
         make_buffered::<L, S, F, J, I, E>(alloc, store, contents, errors)
     }

@@ -34,9 +34,9 @@ where
     I: Read + Drop,
     O: Write,
     E: Write,
-    ensures runs { Runs F.Store M.Store J.remaining Y.System (plan_of (map string_bytes words.items))
-        (I.remaining input) system.old system.new (N.calls names.old) (N.calls names.new)
-        (output_bytes O.contents output.old)
+    ensures runs { Runs F.Store M.Store N.File.RawFile J.remaining Y.System
+        (plan_of (map string_bytes words.items)) (I.remaining input) system.old system.new
+        (N.calls names.old) (N.calls names.new) (output_bytes O.contents output.old)
         (output_bytes O.contents output.new) (O.contents output.new.writer)
         (output_bytes E.contents errors.old) (output_bytes E.contents errors.new) result }
     ensures handed { held_by output.old ≡ [] → HasHandedOn output.new }
@@ -69,9 +69,9 @@ where
     I: Read + Drop,
     O: Write,
     E: Write,
-    ensures runs { Runs F.Store M.Store J.remaining Y.System (plan_of (map string_bytes words.items))
-        (I.remaining input) system.old system.new (N.calls names.old) (N.calls names.new)
-        (output_bytes O.contents output.old)
+    ensures runs { Runs F.Store M.Store N.File.RawFile J.remaining Y.System
+        (plan_of (map string_bytes words.items)) (I.remaining input) system.old system.new
+        (N.calls names.old) (N.calls names.new) (output_bytes O.contents output.old)
         (output_bytes O.contents output.new) (O.contents output.new.writer)
         (E.contents errors.old) (E.contents errors.new) result }
     ensures handed { held_by output.old ≡ [] → HasHandedOn output.new }
@@ -109,7 +109,7 @@ where
     O: Write,
     E: Write,
     requires { IsInRange (asked_in command.now) }
-    ensures does { Does F.Store M.Store J.remaining Y.System (asked_in command.now)
+    ensures does { Does F.Store M.Store N.File.RawFile J.remaining Y.System (asked_in command.now)
         (I.remaining input) system.old system.new (N.calls names.old) (N.calls names.new)
         (output_bytes O.contents output.old) (O.contents output.new.writer)
         (E.contents errors.old) (E.contents errors.new) result }

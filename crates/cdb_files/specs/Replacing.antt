@@ -1,9 +1,9 @@
 -- What a replacement of a file does to its name.
 use Rattle.std.specs.Prelude.{◌≡◌, ℕ, ◌+◌, ◌⊎◌, Bool, true, false, List, [], ◌∷◌, ◌++◌, Option}
-use Rattle.std.specs.Prelude.{None, Some}
+use Rattle.std.specs.Prelude.{None, Some, Result, Ok, Err, OnOk}
 use Rattle.std.specs.List.{AllByRecursion}
 use Rattle.cdb_store.specs.Calls.{Calls, IsSynced, FileImage}
-use Rattle.cdb_store.specs.FileStore.{calls_of}
+use Rattle.cdb_store.specs.FileStore.{calls_of, images_of}
 use Rattle.cdb_store.specs.declared.file.FileStore.{FileStore}
 use Rattle.cdb_store.specs.declared.raw.RawFile.{Ghosts as Raw}
 use Rattle.cdb_store.specs.declared.trace.Call.TheVariants as file_call
@@ -61,6 +61,14 @@ pub record IsRenamed (temporary name : List ℕ) (calls : NameCalls) : Type 0 wh
   pub before : NameCalls
   pub are : calls ≡ (sync, name, [], []) ∷ (Renamed len, temporary, name, file) ∷ before
 
+-- the last calls are the rename of the file of this length, on which these calls were made, and the
+-- sync of the folder
+pub record RenamesFile (temporary name : List ℕ) (len : ℕ) (file : Calls) (calls : NameCalls)
+    : Type 0 where
+  pub sync : NameCall
+  pub before : NameCalls
+  pub are : calls ≡ (sync, name, [], []) ∷ (Renamed len, temporary, name, file) ∷ before
+
 -- it is empty or ends in a slash
 abbrev pub IsNoName : List ℕ → Type 0
 IsNoName name = (name ≡ []) ⊎ ((front : List ℕ) × (name ≡ front ++ 47 ∷ []))
@@ -81,6 +89,16 @@ StopsMaking temporary name calls = (before : NameCalls)
     ⊎ IsCleared temporary ((Free, temporary, [], []) ∷ before) calls
     ⊎ IsCleared temporary ((One, temporary, name, []) ∷ before) calls
     ⊎ IsCleared temporary ((NotAllowed, temporary, name, []) ∷ before) calls)
+
+-- which calls end in this fault before anything is built
+abbrev pub StopsUnbuilt : {E : Type 0} → (temporary name : List ℕ) (old new : NameCalls)
+    → ReplaceFault E → Type 0
+StopsUnbuilt temporary name old new Open =
+    ((new ≡ old) × (IsNoName name ⊎ (temporary ≡ name))) ⊎ StopsMaking temporary name new
+StopsUnbuilt temporary name old new NoMemory =
+    (before : NameCalls) × (new ≡ (NotMade name_fault.NoMemory, temporary, [], []) ∷ before)
+StopsUnbuilt temporary name old new Rename = new ≡ (Special true, name, [], []) ∷ old
+StopsUnbuilt temporary name old new (Build fault) = ⊥
 
 -- which calls end in this fault
 abbrev pub EndsIn : {E : Type 0} → (temporary name : List ℕ) (old new : NameCalls)
@@ -146,3 +164,29 @@ pub record FailsToBuild {F : Type 0} {file : Raw F} {E : Type 0}
 abbrev pub IsOfBuilder : {E : Type 0} → (E → Type 0) → ReplaceFault E → Type 0
 IsOfBuilder P (Build fault) = P fault
 IsOfBuilder P fault = Unit {0}
+
+-- what a replacement answers whose builder answered so: a fault is told, and a rename may fail
+abbrev pub Answers : {E : Type 0} → Result Unit E → Result Unit (ReplaceFault E) → Type 0
+Answers (Ok done) (Ok all) = Unit {0}
+Answers (Ok done) (Err fault) = IsOfBuilder (λ _. ⊥) fault
+Answers (Err fault) result = result ≡ Err (Build fault)
+
+-- a builder built a file, or failed to, and left this in what it writes to beside; if all went
+-- well, that very file was renamed
+pub record TellsOfFile {F T E : Type 0} (file : Raw F)
+    (tells : T → T → (List ℕ → Type 0) → Result Unit E → Type 0) (temporary name : List ℕ)
+    (calls : NameCalls) (told said : T) (result : Result Unit (ReplaceFault E)) : Type 0 where
+  pub left : FileStore F file
+  pub built : Result Unit E
+  pub tells_so : tells told said (images_of left) built
+  pub answers : Answers built result
+  pub renamed : OnOk result (RenamesFile temporary name left.len (calls_of left) calls)
+
+-- nothing was built, and it is as it was; or something was
+abbrev pub Tells : {F T E : Type 0} → Raw F
+    → (T → T → (List ℕ → Type 0) → Result Unit E → Type 0) → (temporary name : List ℕ)
+    → (old new : NameCalls) → (told said : T) → Result Unit (ReplaceFault E) → Type 0
+Tells {E = E} file tells temporary name old new told said result =
+    ((said ≡ told) × (fault : ReplaceFault E) × (result ≡ Err fault)
+    × StopsUnbuilt temporary name old new fault)
+    ⊎ TellsOfFile file tells temporary name new told said result

@@ -1,5 +1,5 @@
 // A database of some records, under its name.
-ghost use Rattle.std.specs.Prelude.{◌≡◌, ◌≤◌, ◌++◌, [], codes, IfErr, OnOk, OnErr};
+ghost use Rattle.std.specs.Prelude.{◌≡◌, ◌≤◌, ◌++◌, [], ⊤, codes, IfErr, OnOk, OnErr};
 ghost use Rattle.cdb_form.specs.Views.Pairs.{key_values};
 ghost use Rattle.cdb_make.specs.Views.Maker.{Holds, IsFile, limit_of};
 ghost use Rattle.cdb_files.specs.Folder.{AreGuarded};
@@ -98,12 +98,16 @@ fn put_all<S: Store, L: Width>(
 impl<'a, S: Store, L: Width> Builder<S> for Records<'a, L> {
     type Fault = MakeFault;
 
+    type Told = ();
+
     ghost builds = { λ r. IsFileOf L.WORD r.records.now };
 
     ghost fails = { λ r old new. FailsBuilding L.WORD L.GREATEST r.records.now
         (S.failures old) (S.failures new) (S.image new) };
 
-    fn build(self, store: S) -> (S, Result<(), MakeFault>) {
+    ghost tells = { λ _ _ _ _ _. ⊤ };
+
+    fn build(self, store: S, _told: &mut ()) -> (S, Result<(), MakeFault>) {
         let Records {
             alloc,
             records,
@@ -152,7 +156,7 @@ pub fn make_file_in<L: Width, N: Names>(
         (LeavesNew name.now (IsFileOf L.WORD records.now) (N.calls names.new)) }
 {
     let builder = Records::<L>::new(alloc, records);
-    match replace_file::<N, Records<L>>(names, name, temporary, builder) {
+    match replace_file::<N, Records<L>>(names, name, temporary, builder, &mut ()) {
         Ok(()) => Ok(()),
         Err(fault) => Err(FileFault::from(fault)),
     }

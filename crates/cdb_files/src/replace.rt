@@ -1,6 +1,6 @@
 // A file is replaced under its name: at once, or not at all.
 ghost use Rattle.std.specs.Prelude.{◌≡◌, ◌≢◌, ℕ, ◌+◌, ◌↔◌, ◌⊎◌, ⊤, List, [], ◌∷◌, IsTrue};
-ghost use Rattle.std.specs.Prelude.{IfOk, IfErr, OnOk, OnErr};
+ghost use Rattle.std.specs.Prelude.{IfOk, IfErr, OnOk, OnErr, Result};
 ghost use Rattle.cdb_store.specs.Calls.{IsSynced, FileImage};
 ghost use Rattle.cdb_store.specs.FileStore.{calls_of};
 ghost use Rattle.cdb_store.specs.declared.trace.Call.TheVariants.{Made as FileMade};
@@ -19,7 +19,10 @@ ghost use Rattle.cdb_files.specs.Replacing.{
   IsRenamed,
   LeavesNew,
   LeavesOldOrNew,
+  RenamesFile,
   StopsMaking,
+  StopsUnbuilt,
+  Tells,
   of_name,
   renames,
 };
@@ -33,6 +36,9 @@ pub trait Builder<S: Store> {
     /// Why it did not.
     type Fault: Drop;
 
+    /// What it writes to beside the store, as for lines of warnings: `()` if there is nothing.
+    type Told;
+
     /// The files that it may build.
     ghost builds: { Self → List ℕ → Type 0 };
 
@@ -40,12 +46,18 @@ pub trait Builder<S: Store> {
     /// not say may fail for any reason.
     ghost fails: { Self → S → S → Self.Fault → Type 0 } = { λ _ _ _ _. ⊤ };
 
+    /// What it leaves in what it writes to beside, as that was and as it is then, with the images
+    /// of the store and the answer.
+    ghost tells: { Self → Self.Told → Self.Told → (List ℕ → Type 0) → Result Unit Self.Fault
+        → Type 0 };
+
     /// Builds the file, and flushes the store after its last change. It hands the store back. After
     /// a fault that may hold anything.
-    fn build(self, store: S) -> (S, Result<(), Self::Fault>)
+    fn build(self, store: S, told: &mut Self::Told) -> (S, Result<(), Self::Fault>)
         ensures settled { OnOk result.1 (S.settled result.0) }
         ensures built { OnOk result.1 ((b : List ℕ) → S.image result.0 b → builds self b) }
-        ensures fails { IfErr result.1 (fails self store result.0) };
+        ensures fails { IfErr result.1 (fails self store result.0) }
+        ensures tells { tells self told.old told.new (S.image result.0) result.1 };
 }
 
 /// Why a file was not replaced.
@@ -87,7 +99,7 @@ fn clear<N: Names, E: Drop>(
     ensures guarded { AreGuarded (N.calls names.old) (N.calls names.new) }
     ensures renames { renames (N.calls names.new) ≡ renames (N.calls names.old) }
     ensures err { IfErr result
-        (EndsIn temporary.now name.now (N.calls names.old) (N.calls names.new)) }
+        (StopsUnbuilt temporary.now name.now (N.calls names.old) (N.calls names.new)) }
     ensures not_built { IfErr result (IsOfBuilder (λ _. ⊥)) }
 {
     if is_no_name(name) {
@@ -161,7 +173,7 @@ fn make_apart<N: Names, E: Drop>(
     ensures seen { OnOk result (AreApart temporary.now name.now (N.calls names.new)) }
     ensures renames { renames (N.calls names.new) ≡ renames (N.calls names.old) }
     ensures err { IfErr result
-        (EndsIn temporary.now name.now (N.calls names.old) (N.calls names.new)) }
+        (StopsUnbuilt temporary.now name.now (N.calls names.old) (N.calls names.new)) }
     ensures empty { IfOk result (λ s. calls_of s ≡ (FileMade, []) ∷ []) }
     ensures not_built { IfErr result (IsOfBuilder (λ _. ⊥)) }
 {
@@ -191,6 +203,8 @@ fn publish<N: Names, E: Drop>(
     requires lock { HasLock temporary.now (N.calls names.old) }
     requires seen { AreApart temporary.now name.now (N.calls names.old) }
     ensures ok { OnOk result (IsRenamed temporary.now name.now (N.calls names.new)) }
+    ensures file { OnOk result
+        (RenamesFile temporary.now name.now len (N.File.calls file) (N.calls names.new)) }
     ensures calls { AreOfReplacing temporary.now name.now (FileImage len (N.File.calls file))
         (N.calls names.old) (N.calls names.new) }
     ensures guarded { AreGuarded (N.calls names.old) (N.calls names.new) }
@@ -222,11 +236,14 @@ fn publish<N: Names, E: Drop>(
 /// overwritten. The new file has the permission bits of the regular file that it replaces. It is
 /// locked until after the rename, so no other create takes it. After a fault the temporary name is
 /// taken from the file, if it still has it. A folder that cannot be synced is no fault.
+///
+/// What the builder writes to beside the file is passed on to it.
 pub fn replace_file<N: Names, B: Builder<FileStore<N::File>> + Drop>(
     names: &mut N,
     name: &str,
     temporary: &str,
     builder: B,
+    told: &mut B::Told,
 ) -> Result<(), ReplaceFault<B::Fault>>
     // Nothing but the rename touches the name, and it comes after a flush that no write follows.
     ensures calls { AreOfReplacing temporary.now name.now (B.builds builder) (N.calls names.old)
@@ -242,6 +259,10 @@ pub fn replace_file<N: Names, B: Builder<FileStore<N::File>> + Drop>(
         (EndsIn temporary.now name.now (N.calls names.old) (N.calls names.new)) }
     // The fault of the builder is the one that it answered.
     ensures build { IfErr result (IsOfBuilder (FailsToBuild (B.fails builder))) }
+    // If nothing was built, what the builder writes to beside is as it was. Else it is as the
+    // builder left it, and at Ok the file that it built then was renamed.
+    ensures told { Tells N.File.RawFile (B.tells builder) temporary.now name.now
+        (N.calls names.old) (N.calls names.new) told.old told.new result }
     // With one text for both names nothing is done.
     ensures one_name { (temporary.now ≢ name.now) ⊎ (N.calls names.new ≡ N.calls names.old) }
     // A crash at any moment leaves the old file or the new one, whole, if the names are of two files.
@@ -252,7 +273,7 @@ pub fn replace_file<N: Names, B: Builder<FileStore<N::File>> + Drop>(
     ensures sure { OnOk result (LeavesNew name.now (B.builds builder) (N.calls names.new)) }
 {
     let empty = make_apart(names, name, temporary)?;
-    let (store, built) = builder.build(empty);
+    let (store, built) = builder.build(empty, told);
     match built {
         Ok(()) => {
             let len = store.len();

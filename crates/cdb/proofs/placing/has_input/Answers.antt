@@ -1,4 +1,4 @@
-use Rattle.std.proofs.Common.{arith, ℕ, ◌+◌, map, string_bytes, subst, take, rules}
+use Rattle.std.proofs.Common.{arith, ℕ, map, string_bytes, subst, take, rules}
 use Rattle.cdb.specs.Creating.{AsksEach, AsksOne}
 use Rattle.cdb.proofs.Opens.{asks_more, names_more, apart_file}
 use Rattle.cdb.proofs.placing.has_input.Goals as goal

@@ -1,4 +1,4 @@
-use Rattle.std.proofs.Common.{[], false, map, string_bytes, take}
+use Rattle.std.proofs.Common.{false, map, string_bytes, take}
 use Rattle.cdb.specs.Creating.{AsksEach}
 use Rattle.cdb.specs.declared.open_trace.OpenCall.TheVariants.{Same}
 use Rattle.cdb.proofs.placing.reads_input.Given as goal

@@ -1,4 +1,4 @@
-use Rattle.std.proofs.Common.{rules, ◌≡◌, ◌∙◌, true, false, subst, sym}
+use Rattle.std.proofs.Common.{◌≡◌, ◌∙◌, true, false, subst, sym}
 use Rattle.cdb_tool.specs.Command.{asked_in, has_wide_words}
 use Rattle.cdb_tool.specs.Views.Output.{output_bytes}
 use Rattle.cdb.specs.Performs.{PerformsIn}
@@ -12,10 +12,10 @@ returns-clause-does g c = record {
   performs = elim c.if-is_wide.branch [
     | then-is_wide w ↦
         (let wide : true ≡ has_wide_words (asked_in c.args.command.now) = sym w.if-is_wide.true ∙ c.is_wide.ensures in
-        rw w.system-is (rw w.names-is (rw w.errors-is (rw w.output-is (rw w.answer-is (subst (λ b. PerformsIn b g.F.Store g.M.Store g.J.Read.remaining g.Y.System (asked_in c.args.command.now) (g.I.Read.remaining c.args.input) c.args.system.now w.perform_in-answer.new.system (g.N.Names.calls c.args.names.now) (g.N.Names.calls w.perform_in-answer.new.names) (output_bytes g.O.Write.contents c.args.output.now) (output_bytes g.O.Write.contents w.perform_in-answer.new.output) (g.E.Write.contents c.args.errors.now) (g.E.Write.contents w.perform_in-answer.new.errors) w.perform_in-answer.result) wide w.perform_in-answer.ensures.performs))))))
+        rw w.system-is (rw w.names-is (rw w.errors-is (rw w.output-is (rw w.answer-is (subst (λ b. PerformsIn b g.F.Store g.M.Store g.N.File.RawFile g.J.Read.remaining g.Y.System (asked_in c.args.command.now) (g.I.Read.remaining c.args.input) c.args.system.now w.perform_in-answer.new.system (g.N.Names.calls c.args.names.now) (g.N.Names.calls w.perform_in-answer.new.names) (output_bytes g.O.Write.contents c.args.output.now) (output_bytes g.O.Write.contents w.perform_in-answer.new.output) (g.E.Write.contents c.args.errors.now) (g.E.Write.contents w.perform_in-answer.new.errors) w.perform_in-answer.result) wide w.perform_in-answer.ensures.performs))))))
     | else-is_wide w ↦
         (let narrow : false ≡ has_wide_words (asked_in c.args.command.now) = sym w.if-is_wide.false ∙ c.is_wide.ensures in
-        rw w.system-is (rw w.names-is (rw w.errors-is (rw w.output-is (rw w.answer-is (subst (λ b. PerformsIn b g.F.Store g.M.Store g.J.Read.remaining g.Y.System (asked_in c.args.command.now) (g.I.Read.remaining c.args.input) c.args.system.now w.perform_in-answer-else-is_wide.new.system (g.N.Names.calls c.args.names.now) (g.N.Names.calls w.perform_in-answer-else-is_wide.new.names) (output_bytes g.O.Write.contents c.args.output.now) (output_bytes g.O.Write.contents w.perform_in-answer-else-is_wide.new.output) (g.E.Write.contents c.args.errors.now) (g.E.Write.contents w.perform_in-answer-else-is_wide.new.errors) w.perform_in-answer-else-is_wide.result) narrow w.perform_in-answer-else-is_wide.ensures.performs))))))
+        rw w.system-is (rw w.names-is (rw w.errors-is (rw w.output-is (rw w.answer-is (subst (λ b. PerformsIn b g.F.Store g.M.Store g.N.File.RawFile g.J.Read.remaining g.Y.System (asked_in c.args.command.now) (g.I.Read.remaining c.args.input) c.args.system.now w.perform_in-answer-else-is_wide.new.system (g.N.Names.calls c.args.names.now) (g.N.Names.calls w.perform_in-answer-else-is_wide.new.names) (output_bytes g.O.Write.contents c.args.output.now) (output_bytes g.O.Write.contents w.perform_in-answer-else-is_wide.new.output) (g.E.Write.contents c.args.errors.now) (g.E.Write.contents w.perform_in-answer-else-is_wide.new.errors) w.perform_in-answer-else-is_wide.result) narrow w.perform_in-answer-else-is_wide.ensures.performs))))))
   ];
   hands = c.handed_on.ensures.hands;
 }

@@ -1,5 +1,7 @@
-use Rattle.std.proofs.Common.{inr, ap, sym, subst, ◌≡◌, List, ℕ}
-use Rattle.cdb_files.specs.Replacing.{EndsIn, FailsRename, of_name}
+use Rattle.std.proofs.Common.{inr, ap, refl, sym, subst, ◌≡◌, List, ℕ, Result, Ok, Err}
+use Rattle.std.specs.Prelude.{IfErr, OnOk}
+use Rattle.cdb_store.specs.Calls.{Calls}
+use Rattle.cdb_files.specs.Replacing.{Answers, EndsIn, FailsRename, IsOfBuilder, RenamesFile, of_name}
 use Rattle.cdb_files.specs.declared.name_fault.NameFault.{NameFault}
 use Rattle.cdb_files.specs.declared.name_fault.NameFault.TheVariants.{Failed, NoMemory}
 use Rattle.cdb_files.proofs.Locking.{lock_on, lock_cleared}
@@ -13,6 +15,22 @@ ends_in : {E : Type 0} {t n : List ℕ} (old new : NameCalls) (e : ReplaceFault 
     → ((fault : NameFault) × (e ≡ of_name fault) × FailsRename t n new fault) → EndsIn t n old new e
 ends_in {E = E} {t = t} {n = n} old new e (Failed, is, fails) = subst (λ (f : ReplaceFault E). EndsIn t n old new f) (sym is) (inr fails)
 ends_in {E = E} {t = t} {n = n} old new e (NoMemory, is, fails) = subst (λ (f : ReplaceFault E). EndsIn t n old new f) (sym is) (inr fails)
+
+no_build : (E : Type 0) (fault : NameFault) → IsOfBuilder (λ (e : E). ⊥) (of_name fault)
+no_build E Failed = tt
+no_build E NoMemory = tt
+
+-- a rename that failed is no fault of the builder
+renames_built : {E : Type 0} (t n : List ℕ) (calls : NameCalls) (r : Result Unit (ReplaceFault E))
+    → IfErr r (λ e. (fault : NameFault) × (e ≡ of_name fault) × FailsRename t n calls fault) → Answers (Ok tt) r
+renames_built t n calls (Ok done) fails = tt
+renames_built {E = E} t n calls (Err e) (fault, is, fails) = subst (λ (f : ReplaceFault E). IsOfBuilder (λ _. ⊥) f) (sym is) (no_build E fault)
+
+-- the same of a file known by its length and its calls
+renames_same : {E : Type 0} (t n : List ℕ) (len m : ℕ) (calls file : Calls) (named : NameCalls) (r : Result Unit (ReplaceFault E)) → m ≡ len → file ≡ calls
+    → OnOk r (RenamesFile t n m file named) → OnOk r (RenamesFile t n len calls named)
+renames_same t n len m calls file named r same_len same is =
+    subst (λ (k : ℕ). OnOk r (RenamesFile t n k calls named)) same_len (subst (λ (cs : Calls). OnOk r (RenamesFile t n m cs named)) same is)
 
 pub returns-in_err-empty-clause-calls : goal.returns-in_err-empty-clause-calls
 returns-in_err-empty-clause-calls g c = weaker (λ b none. absurd none) c.make_apart.ensures.calls
@@ -55,3 +73,25 @@ returns-in-Err-clause-guarded g c =
 pub returns-in-Err-clause-build : goal.returns-in-Err-clause-build
 returns-in-Err-clause-build g c =
     record { empty = c.in_ok-empty.empty; left = c.build-store.result.0; made = c.in_ok-empty.ensures.empty; why = rw c.in-Err.is at c.build-store.ensures.fails }
+
+pub returns-in-Ok-clause-told : goal.returns-in-Ok-clause-told
+returns-in-Ok-clause-told g c =
+    let store = c.build-store.result.0 in
+    inr (record {
+      left = store;
+      built = Ok tt;
+      tells_so = rw c.in-Ok.is at c.build-store.ensures.tells;
+      answers = renames_built _ _ _ c.publish.result c.publish.ensures.err;
+      renamed = renames_same _ _ _ _ _ _ _ c.publish.result c.len-len.ensures (ap g.N.File.RawFile.calls c.into_file.ensures) c.publish.ensures.file;
+    })
+
+pub returns-in-Err-clause-told : goal.returns-in-Err-clause-told
+returns-in-Err-clause-told g c =
+    let store = c.build-store.result.0 in
+    inr (record {
+      left = store;
+      built = Err c.in-Err.fault;
+      tells_so = rw c.in-Err.is at c.build-store.ensures.tells;
+      answers = refl;
+      renamed = tt;
+    })
