@@ -12,7 +12,6 @@ ghost use Rattle.cdb_make.specs.Views.Appending.{records_at, first_size, AreFirs
 use crate::fault::MakeFault;
 use crate::index::entries::{push_entry, reserve_entry};
 use crate::maker::Maker;
-use crate::records::write::append_piece;
 use cdb_form::{Width, front_len, hash, pair_size, read_header};
 use cdb_store::Store;
 
@@ -165,7 +164,7 @@ impl<S: Store, L: Width> Maker<S, L> {
         ensures failures { OnOk result (HasNotFailed self.old self.new) }
         ensures fails { IfErr result (FailsWriting self.old self.new) }
     {
-        append_piece(&mut self.store, self.end, bytes)?;
+        self.store.write_at(self.end, bytes)?;
         Ok(())
     }
 

@@ -8,6 +8,9 @@ use cdb_store::{Store, StoreFault};
 /// The longest record that is collected for one write, in bytes.
 const PIECE: usize = 256;
 
+/// The longest one for which a piece of this length does. Each piece is zeroed first.
+const SHORT: usize = 128;
+
 /// Leaves three parts in a piece, one after another.
 fn collect(piece: &mut [u8], header: &[u8], key: &[u8], value: &[u8])
     requires { length piece.old ≡ length header.now + (length key.now + length value.now) }
@@ -18,48 +21,6 @@ fn collect(piece: &mut [u8], header: &[u8], key: &[u8], value: &[u8])
     front.copy_from_slice(header);
     middle.copy_from_slice(key);
     back.copy_from_slice(value);
-}
-
-/// Makes the room for some bytes and writes them, as `append_record` does.
-pub(crate) fn append_piece<S: Store>(
-    store: &mut S,
-    pos: u64,
-    bytes: &[u8],
-) -> Result<(), StoreFault>
-    requires inside { pos ≤ S.size store.old }
-    requires end { pos + length bytes.now < 2 ^ 63 }
-    ensures ok { OnOk result
-        (AfterWrite pos bytes.now (S.image store.old)
-        (S.image store.new)) }
-    ensures ok_size { OnOk result
-        (S.size store.new
-        ≡ max (S.size store.old) (pos + length bytes.now)) }
-    ensures ok_written { OnOk result
-        (S.written store.new
-        ≡ S.written store.old + length bytes.now) }
-    ensures torn { AfterTornWrite pos (length bytes.now)
-        (S.image store.old) (S.image store.new) }
-    ensures longer { S.size store.old ≤ S.size store.new }
-    ensures not_past { S.size store.new
-        ≤ max (S.size store.old) (pos + length bytes.now) }
-    ensures more_written { S.written store.old ≤ S.written store.new }
-    ensures at_most_written { S.written store.new
-        ≤ S.written store.old + length bytes.now }
-    ensures memory { IsErrOf result NoMemory → SameImages (S.image store.old) (S.image store.new) }
-    ensures memory_size { IsErrOf result NoMemory → S.size store.new ≡ S.size store.old }
-    ensures memory_written { IsErrOf result NoMemory → S.written store.new ≡ S.written store.old }
-    ensures memory_room { IsErrOf result NoMemory → S.room store.new ≡ S.room store.old }
-    ensures memory_failures { IsErrOf result NoMemory
-        → S.failures store.new ≡ S.failures store.old }
-    ensures past_room { IsErrOf result NoMemory
-        → S.room store.old < pos + length bytes.now }
-    ensures room { S.room store.old ≤ S.room store.new }
-    ensures ok_failures { OnOk result (S.failures store.new ≡ S.failures store.old) }
-    ensures cause { HasCause (S.failures store.old) (S.failures store.new) result }
-    ensures unwritten { HasCause (S.unwritten store.old) (S.unwritten store.new) result }
-{
-    store.reserve(pos + bytes.len() as u64)?;
-    store.write_at(pos, bytes)
 }
 
 /// Writes a record part by part, as `append_record` does.
@@ -158,10 +119,14 @@ pub(crate) fn append_record<S: Store>(
         .saturating_add(key.len())
         .saturating_add(value.len());
     if len > PIECE {
-        return append_parts(store, pos, header, key, value);
+        append_parts(store, pos, header, key, value)
+    } else if len > SHORT {
+        let piece = &mut [0; PIECE][..len];
+        collect(piece, header, key, value);
+        store.write_at(pos, piece)
+    } else {
+        let piece = &mut [0; SHORT][..len];
+        collect(piece, header, key, value);
+        store.write_at(pos, piece)
     }
-    let mut piece = [0; PIECE];
-    let piece = &mut piece[..len];
-    collect(piece, header, key, value);
-    append_piece(store, pos, piece)
 }
