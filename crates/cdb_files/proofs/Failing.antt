@@ -86,6 +86,7 @@ file_store file = record {
   size = λ f. f.len;
   image = λ f. images_of f;
   failures = λ f. failures_of f;
+  unwritten = λ f. failures_of f;
   written = λ f. written_of f;
   room = λ f. 2 ^ 63;
   settled = λ f. IsSynced (calls_of f);
