@@ -15,6 +15,7 @@ pub mod Sizes
 pub mod Places
 pub mod WholeText
 pub mod Fronts
+mod FormReads
 mod FrontLemmas
 pub mod WalkSteps
 pub mod Standing

@@ -3,6 +3,7 @@ pub(crate) mod amend_reader;
 pub(crate) mod amend_writer;
 pub(crate) mod at_hand;
 pub(crate) mod fault;
+mod form_reader;
 mod front;
 mod front_line;
 pub(crate) mod going;

@@ -1,13 +1,42 @@
 -- What a clause reads of a reader of a text of some form, whose items are spelled as `spelling` says.
 use Rattle.std.specs.Io.KnownBytes.{Consumes}
-use Rattle.std.specs.Prelude.{ℕ, List, ◌+◌, ◌-◌, ◌≤◌, length, take, Option, ◌≡◌, ◌≢◌, IfSome}
+use Rattle.std.specs.Prelude.{ℕ, List, ◌+◌, ◌-◌, ◌<◌, ◌≤◌, length, take, Option, ◌≡◌, ◌≢◌, IfSome}
+use Rattle.std.specs.Prelude.{Bool, true, false, codes}
+use Rattle.cdb_form.specs.Text.Amending.{SpellsChange}
 use Rattle.cdb_form.specs.Text.Form.{HasFault, HasNoItem}
+use Rattle.cdb_form.specs.Text.Native.{Spells}
 use Rattle.cdb_form.specs.Views.KnownBytes.{Took}
 use Rattle.cdb_form.specs.Views.Source.{budget}
 use Rattle.cdb_form.specs.Views.TextFault.{IsOfText, IsReadFault, IsSpent, LastRead}
 use Rattle.cdb_form.specs.declared.text.fault.TextFault.{TextFault}
 use Rattle.cdb_form.specs.declared.text.fault.TextFault.TheVariants.{Ended, NoMemory}
+use Rattle.cdb_form.specs.declared.text.form_reader.FormReader.{FormReader}
+use Rattle.cdb_form.specs.declared.text.going.Going.TheVariants.{On, AtEnd, Failed}
 use Rattle.cdb_form.specs.declared.text.source.Source.{Source}
+
+-- the bytes that its reader has left, where they are known
+abbrev pub unread : {R L : Type 0} → (R → Option (List ℕ)) → FormReader R L → Option (List ℕ)
+unread remaining t = remaining t.source.reader
+
+-- how many bytes it read
+abbrev pub taken_of : {R L : Type 0} → FormReader R L → ℕ
+taken_of t = t.source.taken
+
+-- how often its reader may still be asked
+abbrev pub asks_left : {R L : Type 0} → FormReader R L → ℕ
+asks_left t = t.source.asks
+
+-- it has answered neither `None` nor a fault
+abbrev pub IsGoing : {R L : Type 0} → FormReader R L → Type 0
+IsGoing t = t.going ≡ On
+
+-- it has answered `None`
+abbrev pub HasEnded : {R L : Type 0} → FormReader R L → Type 0
+HasEnded t = t.going ≡ AtEnd
+
+-- it has answered this fault
+abbrev pub HasFailed : {R L : Type 0} → FormReader R L → TextFault → Type 0
+HasFailed t fault = t.going ≡ Failed fault
 
 -- what was read of a text, from the count `from` to the count `to`, is the front of a text, and no
 -- whole one; no whole item is there
@@ -39,3 +68,32 @@ pub record MeetsFault {R X : Type 0} (spelling : ℕ → List ℕ → X → Type
   pub last : LastRead new.taken fault
   pub spent : IsSpent new.asks fault
   pub spends : budget old ≤ budget new + 1001
+
+-- a call gave an item, which was spelled by what was unread
+pub record GivesItem {R L X : Type 0} (spelling : ℕ → List ℕ → X → Type 0) (greatest : ℕ)
+    (remaining : R → Option (List ℕ)) (old new : FormReader R L) (x : X) : Type 0 where
+  pub reads : ReadsItem spelling greatest (unread remaining old) (unread remaining new)
+      (taken_of old) (taken_of new) x
+  pub going : IsGoing new
+  pub fewer : asks_left new < asks_left old
+  pub spends : budget old.source ≤ budget new.source
+
+-- a call told the end: the first such call took the newline that ends the text
+pub record GivesEnd {R L : Type 0} (remaining : R → Option (List ℕ)) (old new : FormReader R L) :
+    Type 0 where
+  pub ended : HasEnded new
+  pub newline : IsGoing old → Consumes (unread remaining old) (unread remaining new) (codes "\n")
+  pub counted : IsGoing old → taken_of new ≡ taken_of old + 1
+  pub spends : budget old.source ≤ budget new.source
+
+-- a call answered a fault, as every later one will
+pub record Fails {R L X : Type 0} (spelling : ℕ → List ℕ → X → Type 0) (greatest : ℕ)
+    (remaining : R → Option (List ℕ)) (old new : FormReader R L) (fault : TextFault) : Type 0 where
+  pub failed : HasFailed new fault
+  pub meets : IsGoing old → MeetsFault spelling greatest remaining old.source new.source fault
+
+-- the same of an amending text, where removals are taken, or else of a native one
+abbrev pub FailsAs : Bool → {R L : Type 0} → ℕ → (R → Option (List ℕ)) → FormReader R L
+    → FormReader R L → TextFault → Type 0
+FailsAs true greatest remaining old new fault = Fails SpellsChange greatest remaining old new fault
+FailsAs false greatest remaining old new fault = Fails Spells greatest remaining old new fault

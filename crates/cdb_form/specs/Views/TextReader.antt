@@ -1,36 +1,34 @@
 -- What a clause reads of a reader of a native text.
-use Rattle.std.specs.Io.KnownBytes.{Consumes}
-use Rattle.std.specs.Prelude.{ℕ, List, ◌+◌, ◌*◌, ◌<◌, ◌≤◌, codes, Option, ◌≡◌}
+use Rattle.std.specs.Prelude.{ℕ, List, ◌+◌, ◌*◌, Option}
 use Rattle.cdb_form.specs.Format.Record.{KeyValue}
 use Rattle.cdb_form.specs.Text.Native.{Spells}
 use Rattle.cdb_form.specs.Views.FormReader as form
 use Rattle.cdb_form.specs.declared.text.fault.TextFault.{TextFault}
-use Rattle.cdb_form.specs.declared.text.going.Going.TheVariants.{On, AtEnd, Failed}
 use Rattle.cdb_form.specs.declared.text.native_reader.TextReader.{TextReader}
 
 -- the bytes that its reader has left, where they are known
 abbrev pub unread : {R L : Type 0} → (R → Option (List ℕ)) → TextReader R L → Option (List ℕ)
-unread remaining t = remaining t.source.reader
+unread remaining t = form.unread remaining t.items
 
 -- how many bytes it read
 abbrev pub taken_of : {R L : Type 0} → TextReader R L → ℕ
-taken_of t = t.source.taken
+taken_of t = form.taken_of t.items
 
 -- how often its reader may still be asked
 abbrev pub asks_left : {R L : Type 0} → TextReader R L → ℕ
-asks_left t = t.source.asks
+asks_left t = form.asks_left t.items
 
 -- it has answered neither `None` nor a fault
 abbrev pub IsGoing : {R L : Type 0} → TextReader R L → Type 0
-IsGoing t = t.going ≡ On
+IsGoing t = form.IsGoing t.items
 
 -- it has answered `None`
 abbrev pub HasEnded : {R L : Type 0} → TextReader R L → Type 0
-HasEnded t = t.going ≡ AtEnd
+HasEnded t = form.HasEnded t.items
 
 -- it has answered this fault
 abbrev pub HasFailed : {R L : Type 0} → TextReader R L → TextFault → Type 0
-HasFailed t fault = t.going ≡ Failed fault
+HasFailed t fault = form.HasFailed t.items fault
 
 -- what was read of a text, from the count `from` to the count `to`, is the front of a text, and no
 -- whole one; no whole record is there
@@ -46,30 +44,24 @@ abbrev pub budget : {R L : Type 0} → TextReader R L → ℕ
 budget t = asks_left t + 1001 * taken_of t
 
 -- a call gave a record, which was spelled by what was unread
-pub record GivesRecord {R L : Type 0} (greatest : ℕ) (remaining : R → Option (List ℕ))
-    (old new : TextReader R L) (r : KeyValue) : Type 0 where
-  pub reads : ReadsRecord greatest (unread remaining old) (unread remaining new) (taken_of old)
-      (taken_of new) r
-  pub going : IsGoing new
-  pub fewer : asks_left new < asks_left old
-  pub spends : budget old ≤ budget new
+abbrev pub GivesRecord : {R L : Type 0} → ℕ → (R → Option (List ℕ)) → TextReader R L
+    → TextReader R L → KeyValue → Type 0
+GivesRecord greatest remaining old new r =
+    form.GivesItem Spells greatest remaining old.items new.items r
 
 -- a call told the end: the first such call took the newline that ends the text
-pub record GivesEnd {R L : Type 0} (remaining : R → Option (List ℕ)) (old new : TextReader R L) :
-    Type 0 where
-  pub ended : HasEnded new
-  pub newline : IsGoing old → Consumes (unread remaining old) (unread remaining new) (codes "\n")
-  pub counted : IsGoing old → taken_of new ≡ taken_of old + 1
-  pub spends : budget old ≤ budget new
+abbrev pub GivesEnd : {R L : Type 0} → (R → Option (List ℕ)) → TextReader R L
+    → TextReader R L → Type 0
+GivesEnd remaining old new = form.GivesEnd remaining old.items new.items
 
 -- a reader met a fault of a native text
 abbrev pub MeetsFault : {R L : Type 0} → ℕ → (R → Option (List ℕ)) → TextReader R L
     → TextReader R L → TextFault → Type 0
 MeetsFault greatest remaining old new fault =
-    form.MeetsFault Spells greatest remaining old.source new.source fault
+    form.MeetsFault Spells greatest remaining old.items.source new.items.source fault
 
 -- a call answered a fault, as every later one will
-pub record Fails {R L : Type 0} (greatest : ℕ) (remaining : R → Option (List ℕ))
-    (old new : TextReader R L) (fault : TextFault) : Type 0 where
-  pub failed : HasFailed new fault
-  pub meets : IsGoing old → MeetsFault greatest remaining old new fault
+abbrev pub Fails : {R L : Type 0} → ℕ → (R → Option (List ℕ)) → TextReader R L
+    → TextReader R L → TextFault → Type 0
+Fails greatest remaining old new fault =
+    form.Fails Spells greatest remaining old.items new.items fault

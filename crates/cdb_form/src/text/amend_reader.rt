@@ -6,12 +6,10 @@ use crate::item::{Item, ItemKind};
 use crate::record::Record;
 use crate::text::at_hand::{AtHand, NoneAtHand};
 use crate::text::fault::TextFault;
-use crate::text::going::Going;
-use crate::text::source::Source;
+use crate::text::form_reader::FormReader;
 use crate::width::Width;
 use std::alloc::Global;
 use std::io::Read;
-use std::marker::PhantomData;
 
 /// Reads the items of an amending text, one after the other: the puts of a native text, and
 /// removals of keys.
@@ -21,9 +19,7 @@ use std::marker::PhantomData;
 #[derive(Drop)]
 pub struct AmendReader<R, L> {
     alloc: Global,
-    source: Source<R>,
-    going: Going,
-    width: PhantomData<L>,
+    items: FormReader<R, L>,
 }
 
 impl<R: Read, L: Width> AmendReader<R, L> {
@@ -50,9 +46,7 @@ impl<R: Read, L: Width> AmendReader<R, L> {
     {
         AmendReader {
             alloc,
-            source: Source::new(reader, asks),
-            going: Going::On,
-            width: PhantomData,
+            items: FormReader::new(reader, asks),
         }
     }
 
@@ -60,7 +54,7 @@ impl<R: Read, L: Width> AmendReader<R, L> {
     pub fn into_reader(self) -> R
         ensures { R.remaining result ≡ unread R.remaining self }
     {
-        self.source.reader
+        self.items.into_reader()
     }
 
     /// The next item, or `None` at the newline that ends the text.
@@ -121,21 +115,6 @@ impl<R: Read, L: Width> AmendReader<R, L> {
         ensures failed { (fault : _) → HasFailed self.old fault →
             (result ≡ Err fault) × (self.new ≡ self.old) }
     {
-        match self.going {
-            Going::On => {}
-            Going::AtEnd => return Ok(None),
-            Going::Failed(fault) => return Err(fault),
-        }
-        match self.source.entry_by::<A>(into, L::GREATEST, true) {
-            Ok(Some(kind)) => Ok(Some(kind)),
-            Ok(None) => {
-                self.going = Going::AtEnd;
-                Ok(None)
-            }
-            Err(fault) => {
-                self.going = Going::Failed(fault);
-                Err(fault)
-            }
-        }
+        self.items.read_by::<A>(into, true)
     }
 }

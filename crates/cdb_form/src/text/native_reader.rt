@@ -5,12 +5,10 @@ ghost use Rattle.cdb_form.specs.Views.Pairs.{key_value};
 use crate::record::Record;
 use crate::text::at_hand::{AtHand, NoneAtHand};
 use crate::text::fault::TextFault;
-use crate::text::going::Going;
-use crate::text::source::Source;
+use crate::text::form_reader::FormReader;
 use crate::width::Width;
 use std::alloc::Global;
 use std::io::Read;
-use std::marker::PhantomData;
 
 /// Reads the records of a native text, one after the other.
 ///
@@ -19,9 +17,7 @@ use std::marker::PhantomData;
 #[derive(Drop)]
 pub struct TextReader<R, L> {
     alloc: Global,
-    source: Source<R>,
-    going: Going,
-    width: PhantomData<L>,
+    items: FormReader<R, L>,
 }
 
 impl<R: Read, L: Width> TextReader<R, L> {
@@ -48,9 +44,7 @@ impl<R: Read, L: Width> TextReader<R, L> {
     {
         TextReader {
             alloc,
-            source: Source::new(reader, asks),
-            going: Going::On,
-            width: PhantomData,
+            items: FormReader::new(reader, asks),
         }
     }
 
@@ -58,7 +52,7 @@ impl<R: Read, L: Width> TextReader<R, L> {
     pub fn into_reader(self) -> R
         ensures { R.remaining result ≡ unread R.remaining self }
     {
-        self.source.reader
+        self.items.into_reader()
     }
 
     /// The next record, or `None` at the newline that ends the text.
@@ -113,21 +107,7 @@ impl<R: Read, L: Width> TextReader<R, L> {
         ensures failed { (fault : _) → HasFailed self.old fault →
             (result ≡ Err fault) × (self.new ≡ self.old) }
     {
-        match self.going {
-            Going::On => {}
-            Going::AtEnd => return Ok(false),
-            Going::Failed(fault) => return Err(fault),
-        }
-        match self.source.entry_by::<A>(into, L::GREATEST, false) {
-            Ok(Some(_)) => Ok(true),
-            Ok(None) => {
-                self.going = Going::AtEnd;
-                Ok(false)
-            }
-            Err(fault) => {
-                self.going = Going::Failed(fault);
-                Err(fault)
-            }
-        }
+        let found = self.items.read_by::<A>(into, false)?;
+        Ok(found.is_some())
     }
 }

@@ -1,3 +1,4 @@
+use Rattle.std.proofs.lemmas.Grind.{common_steps}
 use Rattle.std.proofs.lemmas.List.{length-take, length-take-le, take-take}
 use Rattle.std.proofs.Common.{[], ap, arith, inl, inr, length, subst, sym, take, ◌-◌, ◌∙◌, ◌≡◌, ◌≤◌}
 use Rattle.std.proofs.lemmas.Result.{err_from_is_err_and}
@@ -38,3 +39,12 @@ returns-clause-record g c =
       all.1,
       all.2,
     )
+
+pub returns-clause-loses : goal.returns-clause-loses
+returns-clause-loses g c = grind (arith, common_steps)
+
+pub overflow_add-result : goal.overflow_add-result
+overflow_add-result g c = grind (arith, common_steps)
+
+pub invariant_of-result : goal.invariant_of-result
+invariant_of-result g c = grind (arith, common_steps)

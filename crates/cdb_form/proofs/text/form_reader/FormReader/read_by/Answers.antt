@@ -1,0 +1,8 @@
+use Rattle.std.proofs.Common.{refl}
+use Rattle.cdb_form.proofs.FormReads.{fails_as}
+use Rattle.cdb_form.proofs.text.form_reader.FormReader.read_by.Goals as goal
+
+pub returns-in-Err-clause-fails : goal.returns-in-Err-clause-fails
+returns-in-Err-clause-fails g c =
+    let e = c.in-Err.ensures in
+    fails_as c.args.removals g.L.Width.GREATEST _ _ _ c.in-Err.fault refl (rw c.GREATEST.ensures at e.fails) e.leaves

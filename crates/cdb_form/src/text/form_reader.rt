@@ -1,0 +1,89 @@
+// Items out of a text of either form: what `TextReader` and `AmendReader` are made of.
+ghost use Rattle.std.specs.Prelude.{◌≡◌, ◌≢◌, ◌≤◌, ◌^◌, false, Some, IfOk, IfErr, MatchOption};
+ghost use Rattle.cdb_form.specs.Text.Amending.{SpellsChange};
+ghost use Rattle.cdb_form.specs.Views.Pairs.{change_in};
+ghost use Rattle.cdb_form.specs.declared.item.ItemKind.TheVariants.{Remove};
+
+use crate::item::ItemKind;
+use crate::record::Record;
+use crate::text::at_hand::AtHand;
+use crate::text::fault::TextFault;
+use crate::text::going::Going;
+use crate::text::source::Source;
+use crate::width::Width;
+use std::io::Read;
+use std::marker::PhantomData;
+
+/// Reads the items of an amending text, or of a native one, which has puts alone.
+#[derive(Drop)]
+pub(crate) struct FormReader<R, L> {
+    source: Source<R>,
+    going: Going,
+    width: PhantomData<L>,
+}
+
+impl<R: Read, L: Width> FormReader<R, L> {
+    ghost use Rattle.cdb_form.specs.Views.FormReader.{unread, taken_of, asks_left, IsGoing};
+    ghost use Rattle.cdb_form.specs.Views.FormReader.{HasEnded, HasFailed, GivesItem, GivesEnd};
+    ghost use Rattle.cdb_form.specs.Views.FormReader.{FailsAs};
+
+    /// A reader of the text that `reader` gives, which may be asked so many times.
+    pub(crate) fn new(reader: R, asks: u64) -> FormReader<R, L>
+        requires { asks ≤ 2 ^ 48 }
+        ensures unread { unread R.remaining result ≡ R.remaining reader }
+        ensures taken { taken_of result ≡ 0 }
+        ensures asks { asks_left result ≡ asks }
+        ensures going { IsGoing result }
+    {
+        FormReader {
+            source: Source::new(reader, asks),
+            going: Going::On,
+            width: PhantomData,
+        }
+    }
+
+    /// Its reader, which goes on after what was read of it.
+    pub(crate) fn into_reader(self) -> R
+        ensures { R.remaining result ≡ unread R.remaining self }
+    {
+        self.source.reader
+    }
+
+    /// Reads the next item over a record, and answers its kind: none is at the newline that ends
+    /// the text. With no removals the text is a native one. One at hand is taken without an ask.
+    #[inline(always)]
+    pub(crate) fn read_by<A: AtHand<R>>(
+        &mut self,
+        into: &mut Record,
+        removals: bool,
+    ) -> Result<Option<ItemKind>, TextFault>
+        ensures gives { IfOk result (λ found. MatchOption found
+            (GivesEnd R.remaining self.old self.new)
+            (λ kind. GivesItem SpellsChange L.GREATEST R.remaining self.old self.new
+            (change_in kind into.new))) }
+        ensures puts { removals ≡ false → IfOk result (λ found. found ≢ Some Remove) }
+        ensures fails { IfErr result
+            (FailsAs removals L.GREATEST R.remaining self.old self.new) }
+        // After the end and after a fault nothing is read, and the answer stays.
+        ensures ended { HasEnded self.old → (result ≡ Ok None) × (self.new ≡ self.old) }
+        ensures failed { (fault : _) → HasFailed self.old fault →
+            (result ≡ Err fault) × (self.new ≡ self.old) }
+    {
+        match self.going {
+            Going::On => {}
+            Going::AtEnd => return Ok(None),
+            Going::Failed(fault) => return Err(fault),
+        }
+        match self.source.entry_by::<A>(into, L::GREATEST, removals) {
+            Ok(Some(kind)) => Ok(Some(kind)),
+            Ok(None) => {
+                self.going = Going::AtEnd;
+                Ok(None)
+            }
+            Err(fault) => {
+                self.going = Going::Failed(fault);
+                Err(fault)
+            }
+        }
+    }
+}
