@@ -12,8 +12,8 @@ use crate::system::System;
 use cdb_form::{PIPE, Width};
 use cdb_store::{MemStore, Store};
 use cdb_tool::{
-    Content, Fault, InWindow, Input, Style, check_run, dump_run_by, list_run_by, load, query_run,
-    stats_run,
+    Content, Fault, InWindow, Input, Style, check_run, dump_run_buffered, list_run_buffered, load,
+    query_run, stats_run,
 };
 use std::alloc::Global;
 use std::io::{Read, Write};
@@ -57,8 +57,8 @@ fn write_text<L: Width, I: Read + Drop, O: Write>(
 {
     let input = Input::new(alloc, input, PIPE)?;
     match content {
-        Content::Records => dump_run_by::<L, _, O, InWindow>(alloc, input, style, output),
-        Content::Keys => list_run_by::<L, _, O, InWindow>(alloc, input, style, output),
+        Content::Records => dump_run_buffered::<L, _, O, InWindow>(alloc, input, style, output),
+        Content::Keys => list_run_buffered::<L, _, O, InWindow>(alloc, input, style, output),
     }
 }
 

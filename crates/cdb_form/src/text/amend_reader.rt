@@ -96,12 +96,12 @@ impl<R: Read, L: Width> AmendReader<R, L> {
         ensures failed { (fault : _) → HasFailed self.old fault →
             (result ≡ Err fault) × (self.new ≡ self.old) }
     {
-        self.read_by::<NoneAtHand>(into)
+        self.read_buffered::<NoneAtHand>(into)
     }
 
     /// Does what `read_into` does, and takes a record that is at hand without an ask. Then each of
     /// its bytes counts as an ask.
-    pub fn read_by<A: AtHand<R>>(
+    pub fn read_buffered<A: AtHand<R>>(
         &mut self,
         into: &mut Record,
     ) -> Result<Option<ItemKind>, TextFault>
@@ -115,6 +115,6 @@ impl<R: Read, L: Width> AmendReader<R, L> {
         ensures failed { (fault : _) → HasFailed self.old fault →
             (result ≡ Err fault) × (self.new ≡ self.old) }
     {
-        self.items.read_by::<A>(into, true)
+        self.items.read_buffered::<A>(into, true)
     }
 }

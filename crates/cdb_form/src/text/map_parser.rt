@@ -183,7 +183,7 @@ impl<R: Read> Source<R> {
     /// Takes a line as `line` does, a record's that is at hand by one step. Then each of its bytes
     /// counts as an ask.
     #[inline(always)]
-    fn line_by<A: AtHand<R>>(&mut self, into: &mut Record) -> Result<LineRead, TextFault>
+    fn line_buffered<A: AtHand<R>>(&mut self, into: &mut Record) -> Result<LineRead, TextFault>
         ensures reads { IfOk result (ReadsLine R.remaining self.old self.new
             (key_value into.new)) }
         ensures fewer { OnOk result (self.new.asks < self.old.asks) }
@@ -206,7 +206,7 @@ impl<R: Read> Source<R> {
         ensures leaves { IfErr result (LeavesAmid IsAmidLines R.remaining self.old self.new) }
     {
         loop {
-            match self.line_by::<A>(into)? {
+            match self.line_buffered::<A>(into)? {
                 LineRead::Ignored => {}
                 LineRead::Last => return Ok(Entry::End),
                 LineRead::Pair => return Ok(Entry::Closed),

@@ -96,11 +96,11 @@ impl<R: Read> MapReader<R> {
         ensures failed { (fault : _) → HasFailed self.old fault →
             (result ≡ Err fault) × (self.new ≡ self.old) }
     {
-        self.read_by::<NoneAtHand>(into)
+        self.read_buffered::<NoneAtHand>(into)
     }
 
     /// Does what `read_into` does, and takes bytes at hand without an ask. Each counts as an ask.
-    pub fn read_by<A: AtHand<R>>(&mut self, into: &mut Record) -> Result<bool, TextFault>
+    pub fn read_buffered<A: AtHand<R>>(&mut self, into: &mut Record) -> Result<bool, TextFault>
         ensures gives { IfOk result (λ given. MatchBool given
             (GivesRecord R.remaining self.old self.new (key_value into.new))
             (GivesEnd R.remaining self.old self.new)) }

@@ -208,7 +208,7 @@ impl<R: Read> Source<R> {
     /// Takes the next item as `entry` does, a record that is at hand by one step. Then each of its
     /// bytes counts as an ask.
     #[inline(always)]
-    pub(crate) fn entry_by<A: AtHand<R>>(
+    pub(crate) fn entry_buffered<A: AtHand<R>>(
         &mut self,
         into: &mut Record,
         greatest: u64,

@@ -92,12 +92,12 @@ impl<R: Read, L: Width> TextReader<R, L> {
         ensures failed { (fault : _) → HasFailed self.old fault →
             (result ≡ Err fault) × (self.new ≡ self.old) }
     {
-        self.read_by::<NoneAtHand>(into)
+        self.read_buffered::<NoneAtHand>(into)
     }
 
     /// Does what `read_into` does, and takes a record that is at hand without an ask. Then each of
     /// its bytes counts as an ask.
-    pub fn read_by<A: AtHand<R>>(&mut self, into: &mut Record) -> Result<bool, TextFault>
+    pub fn read_buffered<A: AtHand<R>>(&mut self, into: &mut Record) -> Result<bool, TextFault>
         ensures gives { IfOk result (λ given. MatchBool given
             (GivesRecord L.GREATEST R.remaining self.old self.new (key_value into.new))
             (GivesEnd R.remaining self.old self.new)) }
@@ -107,7 +107,7 @@ impl<R: Read, L: Width> TextReader<R, L> {
         ensures failed { (fault : _) → HasFailed self.old fault →
             (result ≡ Err fault) × (self.new ≡ self.old) }
     {
-        let found = self.items.read_by::<A>(into, false)?;
+        let found = self.items.read_buffered::<A>(into, false)?;
         Ok(found.is_some())
     }
 }

@@ -71,7 +71,7 @@ fn read_record<R: Read, L: Width>(
 
 /// Reads the record at the next place as `read_record` does, one that is at hand by one step.
 #[inline(always)]
-pub(crate) fn read_record_by<R: Read, L: Width, A: AtHand<R>>(
+pub(crate) fn read_record_buffered<R: Read, L: Width, A: AtHand<R>>(
     reader: &mut R,
     into: &mut Record,
     area: Area,

@@ -17,7 +17,7 @@ use crate::record::Record;
 use crate::text::at_hand::{AtHand, NoneAtHand};
 use crate::walk::fault::WalkFault;
 use crate::walk::keeping::Keeping;
-use crate::walk::next_record::read_record_by;
+use crate::walk::next_record::read_record_buffered;
 use crate::walk::record_area::{Area, read_area};
 use crate::width::Width;
 use std::alloc::Global;
@@ -100,12 +100,12 @@ impl<R: Read, L: Width> RecordReader<R, L> {
         ensures failed { (fault : _) → HasFailed self.old fault →
             (result ≡ Err fault) × (self.new ≡ self.old) }
     {
-        self.read_by::<NoneAtHand>(into)
+        self.read_buffered::<NoneAtHand>(into)
     }
 
     /// Does what `read_into` does, and takes a record that is at hand without asking for it.
     #[inline(always)]
-    pub fn read_by<A: AtHand<R>>(&mut self, into: &mut Record) -> Result<bool, WalkFault>
+    pub fn read_buffered<A: AtHand<R>>(&mut self, into: &mut Record) -> Result<bool, WalkFault>
         ensures gives { IfOk result (λ given. MatchBool given
             (GivesRecord L.WORD R.remaining self.old self.new (key_value into.new))
             (GivesEnd L.WORD R.remaining self.old self.new)) }
@@ -131,12 +131,12 @@ impl<R: Read, L: Width> RecordReader<R, L> {
         ensures failed { (fault : _) → HasFailed self.old fault →
             (result ≡ Err fault) × (self.new ≡ self.old) }
     {
-        self.read_key_by::<NoneAtHand>(into)
+        self.read_key_buffered::<NoneAtHand>(into)
     }
 
     /// Does what `read_key` does, and takes a record that is at hand without asking for it.
     #[inline(always)]
-    pub fn read_key_by<A: AtHand<R>>(&mut self, into: &mut Record) -> Result<bool, WalkFault>
+    pub fn read_key_buffered<A: AtHand<R>>(&mut self, into: &mut Record) -> Result<bool, WalkFault>
         ensures gives { IfOk result (λ given. MatchBool given
             (GivesKey L.WORD R.remaining self.old self.new into.new.key.items)
             (GivesEnd L.WORD R.remaining self.old self.new)) }
@@ -261,7 +261,7 @@ impl<R: Read, L: Width> RecordReader<R, L> {
         if area.place == area.end {
             return Ok(false);
         }
-        let behind = read_record_by::<R, L, A>(&mut self.reader, into, area, keeping)?;
+        let behind = read_record_buffered::<R, L, A>(&mut self.reader, into, area, keeping)?;
         self.walking = Walking::At(behind);
         Ok(true)
     }

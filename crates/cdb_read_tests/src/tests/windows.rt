@@ -21,7 +21,7 @@ fn read_again<L: Width>(
 
 /// How many bytes each call with a window of a length reads, up to the one that reads none, and
 /// all these bytes.
-fn read_by<L: Width>(
+fn read_buffered<L: Width>(
     alloc: Global,
     records: &mut Walk<'_, Fused, L>,
     window: &mut Vec<u8>,
@@ -51,7 +51,7 @@ fn reads<L: Width>(
     let mut reader = opened_again::<L>(store)?;
     let mut records = walk(&mut reader);
     let mut window = vec![in alloc; 0u8; window]?;
-    let (sizes, bytes) = read_by(alloc, &mut records, &mut window)?;
+    let (sizes, bytes) = read_buffered(alloc, &mut records, &mut window)?;
     let stored = file.get(head_size::<L>()..).unwrap_or(b"");
     let mut same = sizes.as_slice() == wanted.0 && stored.starts_with(bytes.as_slice());
     let last = match records.next() {

@@ -39,8 +39,8 @@ impl<R: Read, L: Width> InputReader<R, L> {
         ensures fails { IfErr result (Fails L.GREATEST R.remaining self.old self.new) }
     {
         match self {
-            InputReader::Native(text) => text.read_by::<A>(into),
-            InputReader::Map(text) => text.read_by::<A>(into),
+            InputReader::Native(text) => text.read_buffered::<A>(into),
+            InputReader::Map(text) => text.read_buffered::<A>(into),
         }
     }
     /// Its reader, which goes on after what was read of it.

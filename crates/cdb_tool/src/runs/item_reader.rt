@@ -59,7 +59,7 @@ impl<R: Read, L: Width> ItemReader<R, L> {
                 Ok(false) => Ok(None),
                 Err(fault) => Err(fault),
             },
-            ItemReader::Changes(items) => items.read_by::<A>(into),
+            ItemReader::Changes(items) => items.read_buffered::<A>(into),
         }
     }
     /// Its reader, which goes on after what was read of it.

@@ -54,11 +54,11 @@ pub fn list_run<L: Width, R: Read + Drop, W: Write>(
     ensures { (rest : Option (List ℕ)) × WritesWalk L.WORD (list_form style)
         (R.remaining reader) rest (W.contents w.old) (W.contents w.new) result }
 {
-    list_run_by::<L, R, W, NoneAtHand>(alloc, reader, style, w)
+    list_run_buffered::<L, R, W, NoneAtHand>(alloc, reader, style, w)
 }
 
 /// Does what `list_run` does, and takes a record that the reader has at hand without asking for it.
-pub fn list_run_by<L: Width, R: Read + Drop, W: Write, A: AtHand<R>>(
+pub fn list_run_buffered<L: Width, R: Read + Drop, W: Write, A: AtHand<R>>(
     alloc: Global,
     reader: R,
     style: Style,

@@ -48,7 +48,7 @@ fn fitting_records<L: Width, R: Read, A: AtHand<R>>(
         value: Vec::new(alloc),
     };
     loop {
-        match text.read_by::<A>(&mut record) {
+        match text.read_buffered::<A>(&mut record) {
             Err(fault) => return Err(Fault::of_text(INPUT, fault)),
             Ok(false) => return Ok(maker),
             Ok(true) => {}
@@ -137,11 +137,11 @@ pub fn make_bytes<L: Width, R: Read + Drop, W: Write>(
     ensures { (rest : Option (List ℕ)) × Makes L.WORD L.GREATEST (R.remaining reader) rest
         (W.contents w.old) (W.contents w.new) result }
 {
-    make_bytes_by::<L, R, W, NoneAtHand>(alloc, reader, w)
+    make_bytes_buffered::<L, R, W, NoneAtHand>(alloc, reader, w)
 }
 
 /// Does what `make_bytes` does, and takes bytes at hand without an ask. Each counts as an ask.
-pub fn make_bytes_by<L: Width, R: Read + Drop, W: Write, A: AtHand<R>>(
+pub fn make_bytes_buffered<L: Width, R: Read + Drop, W: Write, A: AtHand<R>>(
     alloc: Global,
     reader: R,
     w: &mut W,

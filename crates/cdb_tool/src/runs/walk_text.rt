@@ -34,8 +34,8 @@ fn read_item<L: Width, R: Read, A: AtHand<R>>(
     ensures fails { IfErr result (Fails L.WORD R.remaining records.old records.new) }
 {
     match content {
-        Content::Records => records.read_by::<A>(into),
-        Content::Keys => records.read_key_by::<A>(into),
+        Content::Records => records.read_buffered::<A>(into),
+        Content::Keys => records.read_key_buffered::<A>(into),
     }
 }
 

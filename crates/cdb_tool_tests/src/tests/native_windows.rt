@@ -143,7 +143,7 @@ fn read_native<L: Width, R: Read + Drop, A: AtHand<R>>(
     let mut texts: TextReader<R, L> = TextReader::new(alloc, reader);
     let mut record = no_record(alloc);
     for _ in 0..100 {
-        match texts.read_by::<A>(&mut record) {
+        match texts.read_buffered::<A>(&mut record) {
             Ok(true) => show(ItemKind::Put, &record, shown)?,
             Ok(false) => return Ok(None),
             Err(fault) => return Ok(Some(fault)),
@@ -161,7 +161,7 @@ fn read_amending<R: Read + Drop, A: AtHand<R>>(
     let mut changes: AmendReader<R, Narrow> = AmendReader::new(alloc, reader);
     let mut record = no_record(alloc);
     for _ in 0..100 {
-        match changes.read_by::<A>(&mut record) {
+        match changes.read_buffered::<A>(&mut record) {
             Ok(Some(kind)) => show(kind, &record, shown)?,
             Ok(None) => return Ok(None),
             Err(fault) => return Ok(Some(fault)),

@@ -5,7 +5,7 @@ use super::native_windows::{InLent, Lent, rest_of};
 use super::windows::{Dripping, MOST};
 use super::worked::{File, TWO_TEXT};
 use cdb_form::{AtHand, Narrow, NoneAtHand, Record, RecordReader, WalkFault, Wide, Width};
-use cdb_tool::{Fault, InWindow, Input, Style, dump_run_by, list_run_by};
+use cdb_tool::{Fault, InWindow, Input, Style, dump_run_buffered, list_run_buffered};
 use std::alloc::{AllocError, Global};
 use std::io::Read;
 use std::prelude::*;
@@ -256,8 +256,8 @@ fn read_kept<L: Width, R: Read, A: AtHand<R>>(
     record: &mut Record,
 ) -> Result<bool, WalkFault> {
     match keeping {
-        Keeping::Both => records.read_by::<A>(record),
-        Keeping::Key => records.read_key_by::<A>(record),
+        Keeping::Both => records.read_buffered::<A>(record),
+        Keeping::Key => records.read_key_buffered::<A>(record),
     }
 }
 
@@ -440,7 +440,7 @@ fn failing(alloc: Global, piece: &[u8]) -> Result<Input<FakeReader<'_>>, AllocEr
 fn dump(alloc: Global, piece: &[u8], text: &[u8]) -> Result<(Result<(), Fault>, bool), AllocError> {
     let mut out = Vec::new(alloc);
     let input = failing(alloc, piece)?;
-    let answer = dump_run_by::<Narrow, _, _, InWindow>(alloc, input, Style::Native, &mut out);
+    let answer = dump_run_buffered::<Narrow, _, _, InWindow>(alloc, input, Style::Native, &mut out);
     Ok((answer, out.as_slice() == text))
 }
 
@@ -448,7 +448,7 @@ fn dump(alloc: Global, piece: &[u8], text: &[u8]) -> Result<(Result<(), Fault>, 
 fn list(alloc: Global, piece: &[u8], text: &[u8]) -> Result<(Result<(), Fault>, bool), AllocError> {
     let mut out = Vec::new(alloc);
     let input = failing(alloc, piece)?;
-    let answer = list_run_by::<Narrow, _, _, InWindow>(alloc, input, Style::Map, &mut out);
+    let answer = list_run_buffered::<Narrow, _, _, InWindow>(alloc, input, Style::Map, &mut out);
     Ok((answer, out.as_slice() == text))
 }
 

@@ -96,7 +96,7 @@ fn shown(alloc: Global, text: &[u8], size: usize, most: usize) -> Result<Vec<u8>
     };
     let mut shown = Vec::new(alloc);
     for _ in 0..1000 {
-        if !maps.read_by::<InWindow>(&mut record)? {
+        if !maps.read_buffered::<InWindow>(&mut record)? {
             break;
         }
         let parts: [&[u8]; 5] = [b"<", &record.key, b"|", &record.value, b">"];
@@ -148,7 +148,7 @@ fn given_for(alloc: Global, asks: u64, size: usize) -> Result<(usize, bool), Fai
         value: Vec::new(alloc),
     };
     for count in 0..10 {
-        match maps.read_by::<InWindow>(&mut record) {
+        match maps.read_buffered::<InWindow>(&mut record) {
             Ok(true) => {}
             Ok(false) => return Ok((count, true)),
             Err(_) => return Ok((count, false)),

@@ -1,6 +1,6 @@
 use Rattle.std.proofs.lemmas.Grind.{common_steps}
 use Rattle.std.proofs.Common.{rules, arith}
-use Rattle.cdb_form.proofs.text.map_reader.MapReader.read_by.Goals as goal
+use Rattle.cdb_form.proofs.text.map_reader.MapReader.read_buffered.Goals as goal
 
 pub returns-in-Err-clause-fails : goal.returns-in-Err-clause-fails
 returns-in-Err-clause-fails g c = search rules

@@ -7,7 +7,7 @@ use Rattle.cdb_form.proofs.RecordReads.{none_header}
 use Rattle.cdb_form.proofs.SourceLemmas.{nothing_lost}
 use Rattle.cdb_form.proofs.Stored.{stored_read}
 use Rattle.cdb_form.specs.Format.Walk.{front_record}
-use Rattle.cdb_form.proofs.walk.next_record.read_record_by.Goals as goal
+use Rattle.cdb_form.proofs.walk.next_record.read_record_buffered.Goals as goal
 
 pub returns-in_err-n-clause-part : goal.returns-in_err-n-clause-part
 returns-in_err-n-clause-part g c =
