@@ -1,4 +1,4 @@
--- What a reader gave of an input, whatever its style.
+-- What a reader of a native text gave of an input, and one of a map text.
 use Rattle.std.proofs.Common.{◌≡◌, ◌≢◌, ℕ, ◌+◌, ◌*◌, ◌^◌, ◌<◌, ◌≤◌, inl, inr, ◌⊎◌, List, [], ◌∷◌, ◌++◌, refl, append_assoc, Option, Some, None, IfSome, sym, ap, subst, ◌∙◌, length, length-append, take, drop, arith}
 use Rattle.std.proofs.lemmas.List.{append-nil, take-append-drop, length-take-le}
 use Rattle.std.specs.Prelude.{codes}
@@ -21,10 +21,7 @@ use Rattle.cdb_form.specs.declared.text.source.Source.{Source}
 use Rattle.cdb_form.proofs.WholeMap.{GaveAll, GaveSoFar, gave_so_far_amid, gave_so_far_none, gave_so_far_rest, going_on}
 use Rattle.cdb_form.proofs.WholeMap.{Gave as GaveLines, gave_more as gave_lines_more, gave_all as gave_lines_all}
 use Rattle.cdb_form.proofs.WholeText.{SoFar, so_far_none, so_far_more}
-use Rattle.cdb_tool.specs.Views.InputReader.{style_of, unread, asks_left, IsNew, GivesRecord, GivesEnd, Fails}
 use Rattle.cdb_tool.specs.Runs.Inputs.{HasFaultBehind, IsInput, BeginsWith, HasInputFault}
-use Rattle.cdb_tool.specs.declared.runs.input_reader.InputReader.{InputReader}
-use Rattle.cdb_tool.specs.declared.runs.input_reader.InputReader.TheVariants.{Native, Map}
 use Rattle.cdb_command.specs.declared.style.Style.TheVariants as style
 use Rattle.cdb_tool.proofs.NativeInputs.{fault_of_text, fault_of_part}
 
@@ -43,21 +40,23 @@ abbrev pub HasNoMore : Option (List ℕ) → Option (List ℕ) → Type 0
 HasNoMore input now = FromTo input now (λ text rest. rest ≡ [])
 
 -- it gave these records so far
-abbrev pub Gave : {R L : Type 0} → ℕ → (R → Option (List ℕ)) → Option (List ℕ) → InputReader R L → List KeyValue → Type 0
-Gave g remaining input (Native t) rs = texts.IsGoing t × SoFar g input (texts.unread remaining t) (texts.taken_of t) rs × (2 ^ 48 ≤ texts.budget t)
-Gave g remaining input (Map t) rs = GaveLines remaining input t rs × (maps.IsGoing t → HasSpent remaining input t) × (maps.HasEnded t → HasNoMore input (maps.unread remaining t))
+abbrev pub GaveNative : {R L : Type 0} → ℕ → (R → Option (List ℕ)) → Option (List ℕ) → TextReader R L → List KeyValue → Type 0
+GaveNative g remaining input t rs = texts.IsGoing t × SoFar g input (texts.unread remaining t) (texts.taken_of t) rs × (2 ^ 48 ≤ texts.budget t)
+
+abbrev pub GaveMap : {R : Type 0} → (R → Option (List ℕ)) → Option (List ℕ) → MapReader R → List KeyValue → Type 0
+GaveMap remaining input t rs = GaveLines remaining input t rs × (maps.IsGoing t → HasSpent remaining input t) × (maps.HasEnded t → HasNoMore input (maps.unread remaining t))
 
 spent_none : (asks taken : ℕ) (o n : Option (List ℕ)) → n ≡ o → taken ≡ 0 → asks ≡ 2 ^ 48 → FromTo o n (Spent asks taken)
 spent_none asks taken None n e t a = tt
 spent_none asks taken (Some text) n e t a = subst (λ n. FromTo (Some text) n (Spent asks taken)) (sym e) (record { counted = omega (arith, t); asked = omega (arith, t, a) })
 
-none_native : {R L : Type 0} (g : ℕ) (remaining : R → Option (List ℕ)) (input : Option (List ℕ)) (t : TextReader R L) → texts.unread remaining t ≡ input → texts.taken_of t ≡ 0 → texts.asks_left t ≡ 2 ^ 48
-    → SoFar g input (texts.unread remaining t) (texts.taken_of t) [] × (2 ^ 48 ≤ texts.budget t)
-none_native g remaining input t e taken asks = (subst (λ n. SoFar g input (texts.unread remaining t) n []) (sym taken) (so_far_none g input _ e), omega (arith, taken, asks))
+pub native_none : {R L : Type 0} (g : ℕ) (remaining : R → Option (List ℕ)) (input : Option (List ℕ)) (t : TextReader R L) → texts.IsGoing t → texts.unread remaining t ≡ input → texts.taken_of t ≡ 0 → texts.asks_left t ≡ 2 ^ 48
+    → GaveNative g remaining input t []
+native_none g remaining input t going e taken asks = (going, subst (λ n. SoFar g input (texts.unread remaining t) n []) (sym taken) (so_far_none g input _ e), omega (arith, taken, asks))
 
-pub gave_none : {R L : Type 0} (g : ℕ) (remaining : R → Option (List ℕ)) (input : Option (List ℕ)) (t : InputReader R L) → IsNew t → unread remaining t ≡ input → Gave g remaining input t []
-gave_none g remaining input (Native t) new e = let n = none_native g remaining input t e new.taken new.asks in (new.going, n.0, n.1)
-gave_none g remaining input (Map t) new e = (inl (new.going, gave_so_far_none input _ e), λ going. spent_none _ _ input _ e new.taken new.asks, λ ended. absurd (going_on t new.going ended))
+pub map_none : {R : Type 0} (remaining : R → Option (List ℕ)) (input : Option (List ℕ)) (t : MapReader R) → maps.IsGoing t → maps.unread remaining t ≡ input → maps.taken_of t ≡ 0 → maps.asks_left t ≡ 2 ^ 48
+    → GaveMap remaining input t []
+map_none remaining input t going e taken asks = (inl (going, gave_so_far_none input _ e), λ going. spent_none _ _ input _ e taken asks, λ ended. absurd (going_on t going ended))
 
 -- ---- one record more
 
@@ -93,50 +92,38 @@ ended_line : {R : Type 0} (remaining : R → Option (List ℕ)) (input : Option 
 ended_line remaining input t u r [] s m goes ended = known_end (Spent (maps.asks_left t) (maps.taken_of t)) input (maps.unread remaining t) (maps.unread remaining u) ((with_newlines m.ignored ++ m.line) ++ []) s m.reads.takes.read m.reads.ends
 ended_line remaining input t u r (c ∷ bytes) s m goes ended = absurd (going_on u goes ended)
 
-pub gave_more : {R L : Type 0} (g : ℕ) (remaining : R → Option (List ℕ)) (input : Option (List ℕ)) (t u : InputReader R L) (rs : List KeyValue) (r : KeyValue) → Gave g remaining input t rs → GivesRecord g remaining t u r → Gave g remaining input u (rs ++ r ∷ [])
-gave_more g remaining input (Native t) (Native u) rs r h m = (m.going, so_far_more g input _ _ _ _ rs r h.1 m.reads, omega (arith, h.2, m.spends))
-gave_more g remaining input (Map t) (Map u) rs r h m =
+pub native_more : {R L : Type 0} (g : ℕ) (remaining : R → Option (List ℕ)) (input : Option (List ℕ)) (t u : TextReader R L) (rs : List KeyValue) (r : KeyValue) → GaveNative g remaining input t rs → texts.GivesRecord g remaining t u r → GaveNative g remaining input u (rs ++ r ∷ [])
+native_more g remaining input t u rs r h m = (m.going, so_far_more g input _ _ _ _ rs r h.1 m.reads, omega (arith, h.2, m.spends))
+
+pub map_more : {R : Type 0} (remaining : R → Option (List ℕ)) (input : Option (List ℕ)) (t u : MapReader R) (rs : List KeyValue) (r : KeyValue) → GaveMap remaining input t rs → maps.GivesRecord remaining t u r → GaveMap remaining input u (rs ++ r ∷ [])
+map_more remaining input t u rs r h m =
     (gave_lines_more remaining input t u rs r h.0 m, spent_line remaining input t u r m.ending h.1 m.was m.reads m.going, ended_line remaining input t u r m.ending (h.1 m.was) m.reads m.going)
-gave_more g remaining input (Native t) (Map u) rs r h m = absurd m
-gave_more g remaining input (Map t) (Native u) rs r h m = absurd m
-
-pub fewer_asks : {R L : Type 0} (g : ℕ) (remaining : R → Option (List ℕ)) (t u : InputReader R L) (r : KeyValue) → GivesRecord g remaining t u r → asks_left u < asks_left t
-fewer_asks g remaining (Native t) (Native u) r m = m.fewer
-fewer_asks g remaining (Map t) (Map u) r m = m.fewer
-fewer_asks g remaining (Native t) (Map u) r m = absurd m
-fewer_asks g remaining (Map t) (Native u) r m = absurd m
-
-pub same_style : {R L : Type 0} (g : ℕ) (remaining : R → Option (List ℕ)) (t u : InputReader R L) (r : KeyValue) → GivesRecord g remaining t u r → style_of u ≡ style_of t
-same_style g remaining (Native t) (Native u) r m = refl
-same_style g remaining (Map t) (Map u) r m = refl
-same_style g remaining (Native t) (Map u) r m = absurd m
-same_style g remaining (Map t) (Native u) r m = absurd m
 
 -- ---- the end, and how far it is
 
-all_native : (g : ℕ) (o m n : Option (List ℕ)) (taken : ℕ) (rs : List KeyValue) → SoFar g o m taken rs → Consumes m n (codes "\n") → FromTo o n (Reads g rs)
-all_native g None m n taken rs a b = tt
-all_native g (Some t) None n taken rs a b = absurd a
-all_native g (Some t) (Some m) None taken rs a b = absurd b
-all_native g (Some t) (Some m) (Some n) taken rs a b = subst (Spelled g rs t) b a.0
+all_spelled : (g : ℕ) (o m n : Option (List ℕ)) (taken : ℕ) (rs : List KeyValue) → SoFar g o m taken rs → Consumes m n (codes "\n") → FromTo o n (Reads g rs)
+all_spelled g None m n taken rs a b = tt
+all_spelled g (Some t) None n taken rs a b = absurd a
+all_spelled g (Some t) (Some m) None taken rs a b = absurd b
+all_spelled g (Some t) (Some m) (Some n) taken rs a b = subst (Spelled g rs t) b a.0
 
 both_known : (P : List ℕ → Type 0) (Q : List ℕ → List ℕ → Type 0) (o n : Option (List ℕ)) → IfSome o P → FromTo o n Q → FromTo o n (λ text rest. P text × Q text rest)
 both_known P Q None n p q = tt
 both_known P Q (Some t) None p q = absurd q
 both_known P Q (Some t) (Some n) p q = (p, q)
 
-all_map : {R : Type 0} (remaining : R → Option (List ℕ)) (input : Option (List ℕ)) (t u : MapReader R) (rs : List KeyValue) → GaveLines remaining input t rs → (maps.IsGoing t → HasSpent remaining input t) → (maps.HasEnded t → HasNoMore input (maps.unread remaining t)) → maps.GivesEnd remaining t u
+none_left : {R : Type 0} (remaining : R → Option (List ℕ)) (input : Option (List ℕ)) (t u : MapReader R) (rs : List KeyValue) → GaveLines remaining input t rs → (maps.IsGoing t → HasSpent remaining input t) → (maps.HasEnded t → HasNoMore input (maps.unread remaining t)) → maps.GivesEnd remaining t u
     → HasNoMore input (maps.unread remaining u)
-all_map remaining input t u rs gave spent none m = elim gave as (λ _. HasNoMore input (maps.unread remaining u)) [
+none_left remaining input t u rs gave spent none m = elim gave as (λ _. HasNoMore input (maps.unread remaining u)) [
   | inl so ↦ (let end = m.reads so.0 in known_end (Spent (maps.asks_left t) (maps.taken_of t)) input (maps.unread remaining t) (maps.unread remaining u) _ (spent so.0) end.reads.takes.read end.reads.ends)
   | inr ended ↦ subst (λ v. HasNoMore input (maps.unread remaining v)) (sym (m.stays ended.0)) (none ended.0)
 ]
 
-pub gave_all : {R L : Type 0} (g : ℕ) (remaining : R → Option (List ℕ)) (input : Option (List ℕ)) (t u : InputReader R L) (rs : List KeyValue) → Gave g remaining input t rs → GivesEnd remaining t u → FromTo input (unread remaining u) (IsInput (style_of t) g rs)
-gave_all g remaining input (Native t) (Native u) rs h m = all_native g input _ _ _ rs h.1 (m.newline h.0)
-gave_all g remaining input (Map t) (Map u) rs h m = both_known _ _ input (maps.unread remaining u) (gave_lines_all remaining input t u rs h.0 m) (all_map remaining input t u rs h.0 h.1 h.2 m)
-gave_all g remaining input (Native t) (Map u) rs h m = absurd m
-gave_all g remaining input (Map t) (Native u) rs h m = absurd m
+pub native_all : {R L : Type 0} (g : ℕ) (remaining : R → Option (List ℕ)) (input : Option (List ℕ)) (t u : TextReader R L) (rs : List KeyValue) → GaveNative g remaining input t rs → texts.GivesEnd remaining t u → FromTo input (texts.unread remaining u) (IsInput style.Native g rs)
+native_all g remaining input t u rs h m = all_spelled g input _ _ _ rs h.1 (m.newline h.0)
+
+pub map_all : {R : Type 0} (g : ℕ) (remaining : R → Option (List ℕ)) (input : Option (List ℕ)) (t u : MapReader R) (rs : List KeyValue) → GaveMap remaining input t rs → maps.GivesEnd remaining t u → FromTo input (maps.unread remaining u) (IsInput style.Map g rs)
+map_all g remaining input t u rs h m = both_known _ _ input (maps.unread remaining u) (gave_lines_all remaining input t u rs h.0 m) (none_left remaining input t u rs h.0 h.1 h.2 m)
 
 begins_native : (g : ℕ) (o m : Option (List ℕ)) (taken : ℕ) (rs : List KeyValue) → SoFar g o m taken rs → IfSome o (λ t. (rest : List ℕ) × Spelled g rs t rest)
 begins_native g None m taken rs a = tt
@@ -152,19 +139,21 @@ all_begins : (o : Option (List ℕ)) (rs : List KeyValue) → GaveAll o rs → I
 all_begins None rs a = tt
 all_begins (Some t) rs a = ([], a ∙ sym (append-nil rs))
 
-pub gave_first : {R L : Type 0} (g : ℕ) (remaining : R → Option (List ℕ)) (input : Option (List ℕ)) (t : InputReader R L) (rs : List KeyValue) → Gave g remaining input t rs → IfSome input (BeginsWith (style_of t) g rs)
-gave_first g remaining input (Native t) rs h = begins_native g input _ _ rs h.1
-gave_first g remaining input (Map t) rs h = elim h.0 [
+pub native_first : {R L : Type 0} (g : ℕ) (remaining : R → Option (List ℕ)) (input : Option (List ℕ)) (t : TextReader R L) (rs : List KeyValue) → GaveNative g remaining input t rs → IfSome input (BeginsWith style.Native g rs)
+native_first g remaining input t rs h = begins_native g input _ _ rs h.1
+
+pub map_first : {R : Type 0} (g : ℕ) (remaining : R → Option (List ℕ)) (input : Option (List ℕ)) (t : MapReader R) (rs : List KeyValue) → GaveMap remaining input t rs → IfSome input (BeginsWith style.Map g rs)
+map_first g remaining input t rs h = elim h.0 [
   | inl so ↦ begins_map input _ rs (gave_so_far_rest input _ rs so.1)
   | inr ended ↦ all_begins input rs ended.1
 ]
 
 -- ---- a fault
 
-native_fault : {R L : Type 0} (g : ℕ) (remaining : R → Option (List ℕ)) (o : Option (List ℕ)) (t u : TextReader R L) (rs : List KeyValue) (f : TextFault) → SoFar g o (texts.unread remaining t) (texts.taken_of t) rs → 2 ^ 48 ≤ texts.budget t
+so_far_native : {R L : Type 0} (g : ℕ) (remaining : R → Option (List ℕ)) (o : Option (List ℕ)) (t u : TextReader R L) (rs : List KeyValue) (f : TextFault) → SoFar g o (texts.unread remaining t) (texts.taken_of t) rs → 2 ^ 48 ≤ texts.budget t
     → texts.MeetsFault g remaining t u f → f ≢ fault.NoMemory → IfSome o (HasInputFault style.Native g rs f)
-native_fault g remaining None t u rs f a b m other = tt
-native_fault g remaining (Some x) t u rs f a b m other = record {
+so_far_native g remaining None t u rs f a b m other = tt
+so_far_native g remaining (Some x) t u rs f a b m other = record {
   of_text = fault_of_text g (Some x) _ _ rs f a m.exact m.no_record;
   of_reader = λ is.
       let p = fault_of_part g (Some x) _ _ _ (texts.taken_of u) rs f a (m.took other) m.part is in
@@ -179,14 +168,14 @@ native_fault g remaining (Some x) t u rs f a b m other = record {
       };
 }
 
-map_fault : {R : Type 0} (g : ℕ) (remaining : R → Option (List ℕ)) (o : Option (List ℕ)) (old new : Source R) (rs : List KeyValue) (f : TextFault) → GaveSoFar o (remaining old.reader) rs → FromTo o (remaining old.reader) (Spent old.asks old.taken)
+amid_map : {R : Type 0} (g : ℕ) (remaining : R → Option (List ℕ)) (o : Option (List ℕ)) (old new : Source R) (rs : List KeyValue) (f : TextFault) → GaveSoFar o (remaining old.reader) rs → FromTo o (remaining old.reader) (Spent old.asks old.taken)
     → LeavesAmid IsAmidLines remaining old new f → f ≢ fault.NoMemory → (m n : Option (List ℕ)) → remaining old.reader ≡ m → remaining new.reader ≡ n → IfSome o (HasInputFault style.Map g rs f)
-map_fault g remaining None old new rs f a b l other m n e k = tt
-map_fault g remaining (Some x) old new rs f a b l other None n e k = absurd (subst (λ v. FromTo (Some x) v (Spent old.asks old.taken)) e b)
-map_fault g remaining (Some x) old new rs f a b l other (Some mid) None e k =
+amid_map g remaining None old new rs f a b l other m n e k = tt
+amid_map g remaining (Some x) old new rs f a b l other None n e k = absurd (subst (λ v. FromTo (Some x) v (Spent old.asks old.taken)) e b)
+amid_map g remaining (Some x) old new rs f a b l other (Some mid) None e k =
     let p = l.part other in
     absurd (subst (λ v. Consumes (Some mid) v p.0) k (subst (λ v. Consumes v (remaining new.reader) p.0) e p.2.read))
-map_fault g remaining (Some x) old new rs f a b l other (Some mid) (Some rest) e k =
+amid_map g remaining (Some x) old new rs f a b l other (Some mid) (Some rest) e k =
     let was : Spent old.asks old.taken x mid = subst (λ v. FromTo (Some x) v (Spent old.asks old.taken)) e b in
     let p = l.part other in
     let split : mid ≡ p.0 ++ rest = subst (λ v. Consumes (Some mid) v p.0) k (subst (λ v. Consumes v (remaining new.reader) p.0) e p.2.read) in
@@ -212,22 +201,20 @@ map_fault g remaining (Some x) old new rs f a b l other (Some mid) (Some rest) e
       };
     }
 
-pub gave_fault : {R L : Type 0} (g : ℕ) (remaining : R → Option (List ℕ)) (input : Option (List ℕ)) (t u : InputReader R L) (rs : List KeyValue) (f : TextFault) → Gave g remaining input t rs → Fails g remaining t u f → f ≢ fault.NoMemory
-    → IfSome input (HasInputFault (style_of t) g rs f)
-gave_fault g remaining input (Native t) (Native u) rs f h m other = native_fault g remaining input t u rs f h.1 h.2 (m.meets h.0) other
-gave_fault g remaining input (Map t) (Map u) rs f h m other = elim h.0 [
-  | inl so ↦ map_fault g remaining input t.source u.source rs f so.1 (h.1 so.0) (m.meets so.0) other _ _ refl refl
+pub native_fault : {R L : Type 0} (g : ℕ) (remaining : R → Option (List ℕ)) (input : Option (List ℕ)) (t u : TextReader R L) (rs : List KeyValue) (f : TextFault) → GaveNative g remaining input t rs → texts.Fails g remaining t u f → f ≢ fault.NoMemory
+    → IfSome input (HasInputFault style.Native g rs f)
+native_fault g remaining input t u rs f h m other = so_far_native g remaining input t u rs f h.1 h.2 (m.meets h.0) other
+
+pub map_fault : {R : Type 0} (g : ℕ) (remaining : R → Option (List ℕ)) (input : Option (List ℕ)) (t u : MapReader R) (rs : List KeyValue) (f : TextFault) → GaveMap remaining input t rs → maps.Fails remaining t u f → f ≢ fault.NoMemory
+    → IfSome input (HasInputFault style.Map g rs f)
+map_fault g remaining input t u rs f h m other = elim h.0 [
+  | inl so ↦ amid_map g remaining input t.source u.source rs f so.1 (h.1 so.0) (m.meets so.0) other _ _ refl refl
   | inr ended ↦ absurd (m.unended ended.0)
 ]
-gave_fault g remaining input (Native t) (Map u) rs f h m other = absurd m
-gave_fault g remaining input (Map t) (Native u) rs f h m other = absurd m
 
 -- a map text has no fault of its own
-pub fault_native : {R L : Type 0} (g : ℕ) (remaining : R → Option (List ℕ)) (input : Option (List ℕ)) (t u : InputReader R L) (rs : List KeyValue) (f : TextFault) → Gave g remaining input t rs → Fails g remaining t u f → IsOfText f → style_of t ≡ style.Native
-fault_native g remaining input (Native t) (Native u) rs f h m is = refl
-fault_native g remaining input (Map t) (Map u) rs f h m is = elim h.0 [
-  | inl so ↦ absurd ((m.meets so.0).outside is)
-  | inr ended ↦ absurd (m.unended ended.0)
+pub no_map_fault : {R : Type 0} (remaining : R → Option (List ℕ)) (input : Option (List ℕ)) (t u : MapReader R) (rs : List KeyValue) (f : TextFault) → GaveMap remaining input t rs → maps.Fails remaining t u f → IsOfText f → ⊥
+no_map_fault remaining input t u rs f h m is = elim h.0 [
+  | inl so ↦ (m.meets so.0).outside is
+  | inr ended ↦ m.unended ended.0
 ]
-fault_native g remaining input (Native t) (Map u) rs f h m is = absurd m
-fault_native g remaining input (Map t) (Native u) rs f h m is = absurd m

@@ -3,5 +3,4 @@ pub mod Fault
 pub mod Input
 pub mod Inputs
 pub mod Output
-pub mod InputReader
 pub mod ItemReader

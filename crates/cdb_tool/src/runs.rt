@@ -3,7 +3,6 @@ pub mod check;
 pub mod content;
 pub mod dump;
 pub(crate) mod flushed;
-mod input_reader;
 mod item_reader;
 pub mod list;
 pub mod load;

@@ -1,23 +1,34 @@
 // The items of an input, whatever its form.
-ghost use Rattle.std.specs.Prelude.{◌≡◌, IfOk, IfErr, MatchOption};
+ghost use Rattle.std.specs.Prelude.{◌≡◌, true, false, Some, None, IfOk, IfErr, MatchOption};
 ghost use Rattle.cdb_form.specs.Views.Pairs.{change_in};
+ghost use Rattle.cdb_form.specs.declared.item.ItemKind.TheVariants.{Put};
 ghost use Rattle.cdb_tool.specs.Runs.Inputs.{input_form};
 ghost use Rattle.cdb_tool.specs.Views.ItemReader.{form_of, unread, IsNew};
 ghost use Rattle.cdb_tool.specs.Views.ItemReader.{GivesItem, GivesEnd, Fails};
 
-use crate::runs::input_reader::InputReader;
 use cdb_command::Style;
-use cdb_form::{AmendReader, AtHand, ItemKind, Record, TextFault, Width};
+use cdb_form::{AmendReader, AtHand, ItemKind, MapReader, Record, TextFault, TextReader, Width};
 use std::alloc::Global;
 use std::io::Read;
 
 /// Reads what an input says, one item after the other.
 #[derive(Drop)]
 pub(crate) enum ItemReader<R, L> {
-    /// An input that only puts records.
-    Puts(InputReader<R, L>),
+    /// A native text, which only puts records.
+    Native(TextReader<R, L>),
+    /// A map text, which only puts records.
+    Map(MapReader<R>),
     /// An amending text.
     Changes(AmendReader<R, L>),
+}
+
+/// What a text says that only puts records, if it has one more.
+#[inline(always)]
+fn put_if(given: bool) -> Option<ItemKind>
+    ensures put { given ≡ true → result ≡ Some Put }
+    ensures none { given ≡ false → result ≡ None }
+{
+    if given { Some(ItemKind::Put) } else { None }
 }
 
 impl<R: Read, L: Width> ItemReader<R, L> {
@@ -29,12 +40,12 @@ impl<R: Read, L: Width> ItemReader<R, L> {
         ensures fresh { IsNew result }
     {
         match style {
-            Style::Map => ItemReader::Puts(InputReader::new(alloc, Style::Map, reader)),
+            Style::Map => ItemReader::Map(MapReader::new(alloc, reader)),
             Style::Native => {
                 if amends {
                     ItemReader::Changes(AmendReader::new(alloc, reader))
                 } else {
-                    ItemReader::Puts(InputReader::new(alloc, Style::Native, reader))
+                    ItemReader::Native(TextReader::new(alloc, reader))
                 }
             }
         }
@@ -54,20 +65,19 @@ impl<R: Read, L: Width> ItemReader<R, L> {
         ensures fails { IfErr result (Fails L.GREATEST R.remaining self.old self.new) }
     {
         match self {
-            ItemReader::Puts(records) => match records.read_into::<A>(into) {
-                Ok(true) => Ok(Some(ItemKind::Put)),
-                Ok(false) => Ok(None),
-                Err(fault) => Err(fault),
-            },
+            ItemReader::Native(text) => Ok(put_if(text.read_buffered::<A>(into)?)),
+            ItemReader::Map(text) => Ok(put_if(text.read_buffered::<A>(into)?)),
             ItemReader::Changes(items) => items.read_buffered::<A>(into),
         }
     }
+
     /// Its reader, which goes on after what was read of it.
     pub(crate) fn into_reader(self) -> R
         ensures { R.remaining result ≡ unread R.remaining self }
     {
         match self {
-            ItemReader::Puts(records) => records.into_reader(),
+            ItemReader::Native(text) => text.into_reader(),
+            ItemReader::Map(text) => text.into_reader(),
             ItemReader::Changes(items) => items.into_reader(),
         }
     }
