@@ -8,9 +8,6 @@ use cdb_store::{Store, StoreFault};
 /// The longest record that is collected for one write, in bytes.
 const PIECE: usize = 256;
 
-/// The longest one for which a piece of this length does. Each piece is zeroed first.
-const SHORT: usize = 128;
-
 /// Leaves three parts in a piece, one after another.
 fn collect(piece: &mut [u8], header: &[u8], key: &[u8], value: &[u8])
     requires { length piece.old ≡ length header.now + (length key.now + length value.now) }
@@ -76,6 +73,7 @@ fn append_parts<S: Store>(
 /// `pos` is at most the store's length. The store's room is made first, so if memory is refused
 /// (`NoMemory`) nothing has changed. After `Device` the record's range may hold any bytes, and
 /// those outside of it stay.
+#[inline(always)]
 pub(crate) fn append_record<S: Store>(
     store: &mut S,
     pos: u64,
@@ -119,14 +117,10 @@ pub(crate) fn append_record<S: Store>(
         .saturating_add(key.len())
         .saturating_add(value.len());
     if len > PIECE {
-        append_parts(store, pos, header, key, value)
-    } else if len > SHORT {
-        let piece = &mut [0; PIECE][..len];
-        collect(piece, header, key, value);
-        store.write_at(pos, piece)
-    } else {
-        let piece = &mut [0; SHORT][..len];
-        collect(piece, header, key, value);
-        store.write_at(pos, piece)
+        return append_parts(store, pos, header, key, value);
     }
+    let mut piece = [0; PIECE];
+    let piece = &mut piece[..len];
+    collect(piece, header, key, value);
+    store.write_at(pos, piece)
 }
