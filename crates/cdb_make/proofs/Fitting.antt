@@ -1,5 +1,5 @@
 -- The first whole records of some bytes.
-use Rattle.std.proofs.Common.{◌≡◌, ℕ, suc, ◌+◌, ◌-◌, ◌*◌, ◌<◌, ◌≤◌, List, [], ◌∷◌, ◌++◌, length, take, drop, flat_map, refl, sym, ap, subst, ◌∙◌, arith, inl, inr, append_assoc, length-take, length-drop}
+use Rattle.std.proofs.Common.{◌≡◌, ℕ, suc, ◌+◌, ◌-◌, ◌*◌, ◌<◌, ◌≤◌, List, [], ◌∷◌, ◌++◌, length, take, drop, flat_map, refl, sym, ap, ◌∙◌, arith, inl, inr, append_assoc, length-take, length-drop}
 use Rattle.std.specs.Prelude.{sum_by}
 use Rattle.std.proofs.Math.Seq.{take-add}
 use Rattle.std.proofs.lemmas.List.{append-nil, drop-drop, drop-take, take-take, take_at}
@@ -13,7 +13,6 @@ use Rattle.cdb_form.specs.Format.Record.{AreBytes, IsRecord, KeyValue, record_by
 use Rattle.cdb_form.specs.Format.Reading.{pair_at}
 use Rattle.cdb_form.specs.Format.Walk.{front_record, front_size, whole_records}
 use Rattle.cdb_form.proofs.ByteLemmas.{AreBytes-take}
-use Rattle.cdb_form.proofs.HeadLemmas.{rest_of}
 use Rattle.cdb_form.proofs.Fronts.{fits_front, whole_records-none, whole_records-room}
 use Rattle.cdb_form.proofs.Sizes.{length-record_bytes}
 use Rattle.cdb_form.proofs.Standing.{AreBytes-drop, front_stands}
@@ -174,17 +173,3 @@ next_of xs k n x lt cut =
     let m : ℕ = n - (k + 1) in
     let e : n ≡ k + 1 + m = omega arith in
     ap (λ (j : ℕ). take j xs) e ∙ take-add (k + 1) m xs ∙ ap (λ t. t ++ take m (drop (k + 1) xs)) cut.1 ∙ append_assoc (take k xs) (x ∷ []) (take m (drop (k + 1) xs))
-
--- the size that a look at its header gives
-pub next_size : (w : ℕ) (bytes : List ℕ) (count place n : ℕ) → AreFirst w bytes count place → count < length (records_at w bytes)
-    → (0 < n → n ≡ front_size w (take (length bytes - place) (drop place bytes)))
-    → (n ≡ 0 → length (take (length bytes - place) (drop place bytes)) < front_size w (take (length bytes - place) (drop place bytes))) → n ≡ front_size w (drop place bytes)
-next_size w bytes count place n first more whole none =
-    let rest = rest_of place (length bytes) bytes refl in
-    let fits : front_size w (drop place bytes) ≤ length (drop place bytes) = next_fits w bytes count place first more in
-    elim (cases_lt 0 n) [
-      | inl some ↦ whole some ∙ ap (front_size w) rest
-      | inr nothing ↦
-          let short : length (drop place bytes) < front_size w (drop place bytes) = subst (λ (v : List ℕ). length v < front_size w v) rest (none (omega arith)) in
-          absurd (omega arith)
-    ]
