@@ -22,7 +22,6 @@ use Rattle.cdb_tool.specs.declared.inputs.Inputs.{Inputs}
 use Rattle.cdb_tool.specs.declared.inputs.SharedInput.{SharedInput}
 use Rattle.cdb_tool.specs.declared.inputs.SharedInput.TheVariants.{Unread}
 use Rattle.cdb_tool.specs.declared.inputs.Turn.{Turn}
-use Rattle.cdb_tool.specs.declared.inputs.Turn.TheVariants as turn
 use Rattle.cdb_tool.specs.declared.runs.item_reader.ItemReader.{ItemReader}
 use Rattle.cdb_command.specs.declared.options.MakeOptions.{MakeOptions}
 use Rattle.cdb_command.specs.declared.style.Style.TheVariants as style

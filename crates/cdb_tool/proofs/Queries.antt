@@ -1,5 +1,5 @@
 -- The values of a key that were found so far, and how a query ends.
-use Rattle.std.proofs.Common.{◌≡◌, ◌∙◌, ℕ, ◌+◌, ◌-◌, ◌≤◌, true, false, Bool, List, [], ◌∷◌, ◌++◌, length, take, drop, map, flat_map, refl, sym, ap, subst, arith, append_assoc, codes, Option, None, Some, Result, Ok, Err, OnOk, IfErr, ◌≢◌, true≢false, ◌<◌}
+use Rattle.std.proofs.Common.{◌≡◌, ◌∙◌, ℕ, ◌+◌, ◌-◌, ◌≤◌, true, false, Bool, List, [], ◌∷◌, ◌++◌, length, take, drop, map, flat_map, refl, sym, ap, subst, arith, append_assoc, codes, Option, None, Some, Result, Ok, Err, OnOk, IfErr, ◌≢◌, ◌<◌}
 use Rattle.std.proofs.lemmas.Bool.{le-leb, cond-true}
 use Rattle.std.proofs.lemmas.List.{append-nil, length-map, map-append, length-append}
 use Rattle.std.proofs.lemmas.List.Concat.{flat_map-append}
@@ -14,7 +14,7 @@ use Rattle.cdb_form.specs.Views.KnownBytes.{AppendsFront}
 use Rattle.cdb_form.proofs.WritingLemmas.{appends_then, front_then}
 use Rattle.cdb_form.proofs.WritingLemmas.{front_last}
 use Rattle.cdb_read.specs.Lookup.{Found, bytes_of, lookup_of, with_spans}
-use Rattle.cdb_read.specs.Views.Finder.{left_in, GivesSpan, GivesNone, FindingFails}
+use Rattle.cdb_read.specs.Views.Finder.{left_in, GivesSpan, FindingFails}
 use Rattle.cdb_store.specs.Reads.{OnlyReads}
 use Rattle.cdb_read.specs.Views.Reads.{CopyingFails}
 use Rattle.cdb_read.specs.Views.Search.{found_ahead}

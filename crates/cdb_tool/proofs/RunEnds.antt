@@ -1,6 +1,6 @@
 -- How a run ends: without a record, with a fault of its inputs or its store, or with its file; and
 -- then the flush.
-use Rattle.std.proofs.Common.{◌≡◌, ◌+◌, ◌*◌, Bool, true, false, ℕ, inl, inr, List, [], ◌∷◌, refl, sym, ap, subst, ◌∙◌, Option, Some, None, IfSome, is_some, Result, Ok, Err, arith}
+use Rattle.std.proofs.Common.{◌≡◌, ◌+◌, ◌*◌, Bool, ℕ, inl, inr, List, [], ◌∷◌, refl, sym, ap, subst, ◌∙◌, Option, Some, None, is_some, Result, Ok, Err, arith}
 use Rattle.std.specs.Prelude.{IsOk}
 use Rattle.std.specs.Io.KnownBytes.{Keeps}
 use Rattle.cdb_store.specs.declared.store.Store.{Ghosts}
@@ -9,7 +9,6 @@ use Rattle.cdb_form.specs.Format.Record.{KeyValue}
 use Rattle.cdb_form.specs.Format.File.{file_size}
 use Rattle.cdb_form.specs.Format.Walk.{walk_of}
 use Rattle.cdb_form.specs.Text.Amending.{Change}
-use Rattle.cdb_form.specs.Text.Map.{map_lines}
 use Rattle.cdb_form.specs.Views.KnownBytes.{AppendsFront}
 use Rattle.cdb_form.proofs.WritingLemmas.{appends_kept}
 use Rattle.cdb_make.specs.Views.Batch as batch
@@ -29,7 +28,6 @@ use Rattle.cdb_tool.specs.Runs.Make.{InCourse, Stops, InputsFail, RunFails, Runs
 use Rattle.cdb_tool.specs.declared.fault.Fault.{Fault}
 use Rattle.cdb_tool.specs.declared.fault.Fault.TheVariants.{Text, Make, Duplicate, Missing, Read, Walk, Output, Long, Open, Rename, NoMemory}
 use Rattle.cdb_command.specs.declared.options.MakeOptions.{MakeOptions}
-use Rattle.cdb_command.specs.declared.style.Style.TheVariants as style
 use Rattle.cdb_tool.proofs.WholeRuns.{front_kept, whole_front, not_ok}
 use Rattle.cdb_tool.proofs.InputRuns.{begins_none}
 use Rattle.cdb_tool.proofs.Courses.{came_none, appends_none, course_starts}

@@ -1,5 +1,5 @@
 -- A head of all ones names tables outside of the file.
-use Rattle.std.proofs.Common.{◌≡◌, ◌⊎◌, ◌+◌, ◌-◌, ◌*◌, ◌^◌, ◌<◌, ◌≤◌, true, false, ℕ, Bool, zero, suc, inl, inr, List, [], ◌∷◌, ◌++◌, flat_map, length, take, drop, replicate, refl, sym, ap, ◌∙◌, arith, Some, None, length-drop}
+use Rattle.std.proofs.Common.{◌≡◌, ◌⊎◌, ◌+◌, ◌-◌, ◌*◌, ◌^◌, ◌<◌, ◌≤◌, true, false, ℕ, Bool, zero, suc, inl, inr, List, [], ◌∷◌, ◌++◌, flat_map, length, take, drop, replicate, refl, sym, ap, ◌∙◌, arith, Some, length-drop}
 use Rattle.std.specs.Prelude.{◌&&◌, ◌==◌, not, nat_le, nat_lt, sum_by}
 use Rattle.std.specs.List.{AllByRecursion, range_with_len}
 use Rattle.std.specs.Option.{option_or}
@@ -14,7 +14,7 @@ use Rattle.cdb_form.specs.Format.Reading.{head_at, nth_pair, pair_at}
 use Rattle.cdb_form.specs.Format.Record.{KeyValue, record_size}
 use Rattle.cdb_form.specs.Format.Walk.{Walked, front_record, front_size, has_slots, least_place, record_end, walk_from, walk_of, whole_records}
 use Rattle.cdb_form.specs.Views.Pairs.{PairFits}
-use Rattle.cdb_form.specs.declared.damage.Damage.TheVariants.{Record, Table}
+use Rattle.cdb_form.specs.declared.damage.Damage.TheVariants.{Table}
 use Rattle.cdb_form.proofs.Fronts.{all_records, fits_front}
 use Rattle.cdb_form.proofs.ReadBack.{map-nth_pair, nth_pair-flat_map}
 use Rattle.cdb_form.proofs.WalkSteps.{walk_from-is, walk_of-records, walk_with}

@@ -1,12 +1,12 @@
 -- Calls worked out by hand, under a limit of 2099 bytes, within which one record of 26 bytes is, and
 -- two are not.
-use Rattle.std.specs.Prelude.{◌≡◌, ◌<◌, ℕ, List, [], ◌∷◌, Some, None, true, false}
+use Rattle.std.specs.Prelude.{◌≡◌, ℕ, [], ◌∷◌, Some, None, true}
 use Rattle.std.proofs.Common.{refl}
 use Rattle.std.proofs.Math.Nat.{le_refl}
 use Rattle.cdb_form.specs.Format.Record.{KeyValue}
-use Rattle.cdb_make.specs.Survivors.{Answered, survivors}
+use Rattle.cdb_make.specs.Survivors.{survivors}
 use Rattle.cdb_make.specs.Survivors.Call.{Putting, Removing}
-use Rattle.cdb_make.specs.declared.fault.MakeFault.TheVariants.{Lookup, NoMemory, TooBig, Writing}
+use Rattle.cdb_make.specs.declared.fault.MakeFault.TheVariants.{NoMemory, TooBig, Writing}
 use Rattle.cdb_form.specs.declared.mode.Mode.TheVariants.{Add, Insert, Replace}
 use Rattle.cdb_make.proofs.Puts.{not_present}
 use Rattle.cdb_uses.specs.Steps.{Answers, answer_of, whole}

@@ -1,5 +1,5 @@
 -- What a walk is still to give, and what each part of it tells of the bytes that it reads.
-use Rattle.std.specs.Prelude.{ℕ, ◌≡◌, ◌+◌, ◌-◌, ◌<◌, ◌≤◌, List, length, take, drop, min, sum_by}
+use Rattle.std.specs.Prelude.{ℕ, ◌≡◌, ◌+◌, ◌-◌, ◌≤◌, List, length, take, drop, min, sum_by}
 use Rattle.std.specs.Prelude.{Option, Some, None}
 use Rattle.cdb_form.specs.declared.damage.Damage.TheVariants as damage
 use Rattle.cdb_form.specs.Format.Pair.{pair_size, head_size}

@@ -1,7 +1,7 @@
-use Rattle.std.proofs.Common.{arith, ◌≡◌, ◌∙◌, ◌+◌, ◌<◌, ◌++◌, ◌∷◌, ℕ, List, [], ap, refl, sym, subst, take, length, get_or}
+use Rattle.std.proofs.Common.{arith, ◌≡◌, ◌∙◌, ◌+◌, ◌<◌, ◌++◌, ◌∷◌, ℕ, List, [], ap, refl, sym, take, length, get_or}
 use Rattle.std.proofs.lemmas.List.{take_more}
 use Rattle.cdb_uses.specs.declared.changes.Change.{Change}
-use Rattle.cdb_uses.proofs.Changing.{ChangedSoFar, changed_more, changed_none}
+use Rattle.cdb_uses.proofs.Changing.{changed_more, changed_none}
 use Rattle.cdb_uses.proofs.changes.try_changes.Goals as goal
 
 -- one change more

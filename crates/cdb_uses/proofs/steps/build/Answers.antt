@@ -1,4 +1,4 @@
-use Rattle.std.proofs.Common.{◌+◌, ℕ, ap, arith, refl, take}
+use Rattle.std.proofs.Common.{ℕ, ap, arith, refl, take}
 use Rattle.cdb_uses.proofs.Finishing.{ended_made, ended_taken, one_more, out_of_memory, so_far_more, so_far_none, unbuilt}
 use Rattle.cdb_uses.proofs.steps.build.Goals as goal
 

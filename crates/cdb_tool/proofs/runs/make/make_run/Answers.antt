@@ -1,4 +1,3 @@
-use Rattle.std.proofs.Common.{refl}
 use Rattle.cdb_tool.proofs.RunEnds.{runs_unbegun, runs_flushed, hands_same}
 use Rattle.cdb_tool.proofs.runs.make.make_run.Goals as goal
 

@@ -1,6 +1,6 @@
 use Rattle.std.proofs.lemmas.Grind.{common_steps}
 use Rattle.cdb_tool.proofs.RunEnds.{IsOver, runs_not, runs_unbased, runs_stopped, runs_whole, runs_unfinished, hands_same, hands_some}
-use Rattle.std.proofs.Common.{sym, subst, ◌∙◌, map, [], Bool, arith}
+use Rattle.std.proofs.Common.{sym, subst, ◌∙◌, Bool, arith}
 use Rattle.cdb_tool.proofs.BaseRecords.{make_no_base}
 use Rattle.cdb_tool.specs.Runs.Inputs.{input_form, AreAllInputs}
 use Rattle.cdb_tool.specs.Views.Inputs.{inputs_left}

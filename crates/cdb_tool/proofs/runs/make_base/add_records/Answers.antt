@@ -1,9 +1,8 @@
-use Rattle.std.proofs.Common.{refl, sym, ap, ◌∙◌, arith, rules}
+use Rattle.std.proofs.Common.{refl, ap, ◌∙◌, arith, rules}
 use Rattle.std.proofs.lemmas.Result.{err_from_is_err_and}
 use Rattle.cdb_store.proofs.Reading.{reads_more, reads_nothing}
 use Rattle.cdb_make.proofs.Puts.{comes_then}
 use Rattle.cdb_read.specs.Views.Walk.{left_of}
-use Rattle.cdb_tool.specs.Runs.Base.{AddsNext}
 use Rattle.cdb_tool.proofs.BaseRecords.{added_none, added_next, added_all, added_not}
 use Rattle.cdb_tool.proofs.runs.make_base.add_records.Goals as goal
 
