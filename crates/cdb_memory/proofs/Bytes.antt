@@ -12,7 +12,7 @@ use Rattle.cdb_form.specs.Format.Pair.{WordPair, head_size}
 use Rattle.cdb_form.specs.Format.Reading.{pair_at, nth_pair, head_at}
 use Rattle.cdb_form.specs.Views.Pairs.{header_pair}
 use Rattle.cdb_form.specs.declared.header.Header.{Header}
-use Rattle.cdb_read.specs.Lookup.{lookup_of}
+use Rattle.cdb_read.specs.Lookup.{found_by, lookup_of}
 use Rattle.cdb_read.specs.Views.Search.{TellsSame, probe_slot, StepsFrom, Meets}
 use Rattle.cdb_read.specs.Views.Probing.{ProbeInside, next_probe}
 use Rattle.cdb_read.specs.declared.lookup.search.Step.TheVariants as step
@@ -21,7 +21,7 @@ use Rattle.cdb_read.specs.declared.span.Span.{Span}
 use Rattle.cdb_read.specs.declared.lookup.probe.Probe.{Probe}
 use Rattle.cdb_read.proofs.Headers.{HasLengths, has_lengths, front_pair}
 use Rattle.cdb_read.proofs.Searches.{IsTurnSlot, SameAhead}
-use Rattle.cdb_read.proofs.LookupLaws.{lookup_of-is, found_by}
+use Rattle.cdb_read.proofs.LookupLaws.{lookup_of-is}
 
 pub slot_here : {w : ℕ} {probe : Probe} {slot : WordPair} (file : List ℕ) → slot ≡ probe_slot w file probe → IsTurnSlot w probe slot (λ b. b ≡ file)
 slot_here {w = w} {probe = probe} file e = record { each = λ b is. e ∙ ap (λ k. probe_slot w k probe) (sym is) }

@@ -7,7 +7,7 @@ ghost use Rattle.cdb_read.specs.Views.Search.{Meets, MetWithin, LooksAt, LookWit
 ghost use Rattle.cdb_read.specs.Views.Probing.{ProbeInside};
 
 use cdb_form::{Slot, Width, head_size, pair_size, read_header, read_slot};
-use cdb_read::{Look, Met, Probe, Span, Step, has_bytes};
+use cdb_read::{Look, Met, Probe, Step, has_bytes, spans};
 
 /// The record at a place, as far as a search of a key needs it.
 fn look_at<L: Width>(file: &[u8], place: u64, key: &[u8]) -> Look
@@ -21,24 +21,17 @@ fn look_at<L: Width>(file: &[u8], place: u64, key: &[u8]) -> Look
     }
     let at = place as usize;
     let header = read_header::<L>(&file[at..at + header_size]);
-    let key_place = place + header_size as u64;
-    if !has_bytes(size, key_place, header.klen) {
+    let Some(record) = spans::<L>(place, header, size) else {
         return Look::Broken;
-    }
-    if !has_bytes(size, key_place + header.klen, header.vlen) {
-        return Look::Broken;
-    }
-    if header.klen != key.len() as u64 {
+    };
+    if record.key.len != key.len() as u64 {
         return Look::Other;
     }
-    let from = key_place as usize;
+    let from = record.key.place as usize;
     if &file[from..from + key.len()] != key {
         return Look::Other;
     }
-    Look::Value(Span {
-        place: key_place + header.klen,
-        len: header.vlen,
-    })
+    Look::Value(record.value)
 }
 
 /// The slot of a probe.

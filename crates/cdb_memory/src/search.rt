@@ -11,8 +11,8 @@ ghost use Rattle.cdb_memory.specs.Searches.{probe_of, ahead, IsInside, Begins};
 ghost use Rattle.cdb_memory.specs.Searches.{GivesSpan, GivesNone, Advances, HasFirst};
 
 use crate::meeting::meet;
-use cdb_form::{Damage, Pointer, Width, hash, home_slot, pair_size, read_pointer, table_number};
-use cdb_read::{Met, Probe, Searching, Span, lies_inside};
+use cdb_form::{Damage, Pointer, Width, hash, pair_size, read_pointer, table_number};
+use cdb_read::{Met, Probe, Searching, Span, first_probe, lies_inside};
 
 /// Where the search of a key is: the next slot of a table, and how many slots are left.
 #[derive(Clone, Copy, Debug, PartialEq, Eq)]
@@ -69,7 +69,7 @@ fn is_inside<L: Width>(probe: Probe, size: u64) -> bool
 }
 
 /// Where the search of a key with this hash begins.
-fn first_probe<L: Width>(file: &[u8], hash: u64) -> Searching
+fn first_of<L: Width>(file: &[u8], hash: u64) -> Searching
     requires { head_size L.WORD ≤ length file.now }
     ensures inside { IsTurnInside L.WORD (length file.now) result }
     ensures finds { (key : List ℕ) → hash ≡ key_hash key
@@ -78,17 +78,7 @@ fn first_probe<L: Width>(file: &[u8], hash: u64) -> Searching
     let n = table_number(hash);
     let size = pair_size::<L>();
     let table = read_pointer::<L>(&file[size * n..size * n + size]);
-    if table.slots == 0 {
-        return Searching::AtEnd;
-    }
-    if !lies_inside::<L>(table, file.len() as u64) {
-        return Searching::NoTable(n as u64);
-    }
-    Searching::At(Probe {
-        table,
-        slot: home_slot(hash, table.slots),
-        left: table.slots,
-    })
+    first_probe::<L>(table, hash, file.len() as u64)
 }
 
 /// Begins the search of a key in a file, which has at least a head. `next` goes on with it.
@@ -99,7 +89,7 @@ pub fn begin<L: Width>(file: &[u8], key: &[u8]) -> Result<Search, Damage>
         lookup_of L.WORD file.now key.now ≡ found_damaged d) }
 {
     let hash = u64::from(hash(key));
-    match first_probe::<L>(file, hash) {
+    match first_of::<L>(file, hash) {
         Searching::AtEnd => Ok(Search {
             hash,
             table: 0,
@@ -164,7 +154,7 @@ pub fn find<L: Width>(file: &[u8], key: &[u8]) -> Result<Option<Span>, Damage>
         lookup_of L.WORD file.now key.now ≡ found_damaged d) }
 {
     let hash = u64::from(hash(key));
-    let probe = match first_probe::<L>(file, hash) {
+    let probe = match first_of::<L>(file, hash) {
         Searching::AtEnd => return Ok(None),
         Searching::At(probe) => probe,
         Searching::NoTable(n) => return Err(Damage::Table(n)),

@@ -6,7 +6,7 @@ ghost use Rattle.cdb_form.specs.declared.damage.Damage.TheVariants.{Record};
 ghost use Rattle.cdb_memory.specs.Walks.{rest_of, Begins, Stands, GivesPair};
 
 use cdb_form::{Damage, Width, head_size, pair_size, read_head, read_header};
-use cdb_read::{Pair, Span, has_bytes};
+use cdb_read::{Pair, has_bytes, spans};
 
 /// Where the records lie that a walk has left.
 #[derive(Clone, Copy, Debug, PartialEq, Eq)]
@@ -33,21 +33,7 @@ fn pair_at<L: Width>(file: &[u8], place: u64, end: u64) -> Option<Pair>
     }
     let at = place as usize;
     let header = read_header::<L>(&file[at..at + header_size]);
-    let key = Span {
-        place: place + header_size as u64,
-        len: header.klen,
-    };
-    if !has_bytes(limit, key.place, key.len) {
-        return None;
-    }
-    let value = Span {
-        place: key.place + key.len,
-        len: header.vlen,
-    };
-    if !has_bytes(limit, value.place, value.len) {
-        return None;
-    }
-    Some(Pair { place, key, value })
+    spans::<L>(place, header, limit)
 }
 
 /// Begins a walk over the records of a file, which has at least a head.

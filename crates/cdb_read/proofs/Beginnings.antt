@@ -12,14 +12,14 @@ use Rattle.cdb_form.specs.Format.Walk.{has_slots}
 use Rattle.cdb_form.specs.Views.Pairs.{pointer_pair}
 use Rattle.cdb_form.specs.declared.damage.Damage.TheVariants.{Table}
 use Rattle.cdb_form.specs.declared.head.Pointer.{Pointer}
-use Rattle.cdb_read.specs.Lookup.{lookup_of, found_at, met_slots, has_hash, is_inside, slots_at}
+use Rattle.cdb_read.specs.Lookup.{found_by, lookup_of, found_at, met_slots, has_hash, is_inside, slots_at}
 use Rattle.cdb_read.specs.Lookup.{nothing_found, found_damaged}
 use Rattle.cdb_read.specs.Views.Search.{found_ahead}
 use Rattle.cdb_read.specs.Views.Inside.{LiesInside}
 use Rattle.cdb_read.specs.declared.lookup.probe.Searching.TheVariants.{At}
 use Rattle.cdb_read.specs.declared.lookup.probe.Probe.{Probe}
 use Rattle.cdb_read.proofs.Filled.{length-slots_from}
-use Rattle.cdb_read.proofs.LookupLaws.{lookup_of-is, found_by}
+use Rattle.cdb_read.proofs.LookupLaws.{lookup_of-is}
 use Rattle.cdb_read.proofs.Probes.{length-slots_at}
 
 pub and_true : (x y : Bool) → (x && y) ≡ true → (x ≡ true) × (y ≡ true)

@@ -1,6 +1,6 @@
 -- A look-up in the file of some records finds the values of the key.
 use Rattle.std.proofs.Common.{◌≡◌, ℕ, ◌+◌, ◌*◌, ◌<◌, true, false, cond, List, [], ◌∷◌, length, drop, map, refl, sym, ap, ◌∙◌, subst, arith, inl, inr}
-use Rattle.std.specs.Prelude.{Option, Some, None, option_map, ◌==◌, not, if◌then◌else◌, bytes_eq, filter, take_while, find}
+use Rattle.std.specs.Prelude.{Option, Some, None, option_map, ◌==◌, not, bytes_eq, filter, take_while, find}
 use Rattle.std.proofs.lemmas.Slice.Eq.{bytes_eq-Decides}
 use Rattle.std.proofs.lemmas.List.{nil_from_length}
 use Rattle.std.proofs.lemmas.List.Sums.{take_while-cons}
@@ -15,11 +15,11 @@ use Rattle.cdb_form.specs.Format.Table.{entries_from, file_entries, in_table, ta
 use Rattle.cdb_form.specs.Format.Walk.{has_slots}
 use Rattle.cdb_form.specs.Format.File.{file_bytes}
 use Rattle.cdb_form.specs.declared.damage.Damage.{Damage}
-use Rattle.cdb_form.specs.declared.damage.Damage.TheVariants.{Table, Record}
+use Rattle.cdb_form.specs.declared.damage.Damage.TheVariants.{Record}
 use Rattle.cdb_form.proofs.Places.{tables_bytes, drop-head}
 use Rattle.cdb_form.proofs.Sizes.{length-file_bytes}
 use Rattle.cdb_read.specs.Laws.{FindsValues}
-use Rattle.cdb_read.specs.Lookup.{bytes_of, with_span, is_whole, has_key, value_span, is_inside, slots_at, has_hash, met_slots, Found, found_at, lookup_of}
+use Rattle.cdb_read.specs.Lookup.{found_by, bytes_of, with_span, is_whole, has_key, value_span, is_inside, slots_at, has_hash, met_slots, Found, found_at, lookup_of}
 use Rattle.cdb_read.specs.Values.{values_of}
 use Rattle.cdb_read.proofs.FileTables.{table_pointer, nth_pair-file_bytes, slots_at-file_bytes, is_inside-file_bytes}
 use Rattle.cdb_read.proofs.Filled.{IsUsed, met_slots-filled_slots, met_slots-none}
@@ -155,12 +155,6 @@ met_slots-table w rs h some =
     met_slots-filled_slots h (2 * length es) es (omega arith) (All-filter (in_table (table_number h)) IsUsed (file_entries w rs) (AllUsed-entries w (head_size w) rs (omega arith))) ∙ filter_filter h (file_entries w rs)
 
 -- a look-up, once the pointer is known
-abbrev pub found_by : ℕ → List ℕ → List ℕ → WordPair → Found
-found_by w bytes key p =
-    if not (has_slots p) then record { spans = []; damage = None }
-    else if is_inside w bytes p then found_at w bytes key (places_of (met_slots (key_hash key) (slots_at w bytes p)))
-    else record { spans = []; damage = Some (Table (table_number (key_hash key))) }
-
 pub lookup_of-is : (w : ℕ) (bytes key : List ℕ) → lookup_of w bytes key ≡ found_by w bytes key (nth_pair w bytes (table_number (key_hash key)))
 unfolding lookup_of
 lookup_of-is w bytes key = refl

@@ -2,7 +2,7 @@
 use Rattle.std.proofs.Common.{◌≡◌, ℕ, ◌+◌, ◌-◌, ◌*◌, ◌<◌, ◌≤◌, ◌⊎◌, List, ◌++◌, length, take, drop, refl, sym, ap, ◌∙◌, arith, inl, inr, length-drop}
 use Rattle.std.proofs.lemmas.List.{take-append-drop, drop-drop}
 use Rattle.std.proofs.lemmas.Bool.{cases_lt}
-use Rattle.std.proofs.Math.Nat.{le-min}
+use Rattle.std.proofs.Math.Nat.{le-min, min-le_left, min-le_right}
 use Rattle.cdb_store.specs.Images.{part, Holds}
 use Rattle.cdb_store.proofs.Parts.{length-part}
 use Rattle.cdb_form.specs.Format.Pair.{WordPair}
@@ -14,10 +14,11 @@ use Rattle.cdb_form.specs.declared.header.Header.{Header}
 use Rattle.cdb_form.proofs.Fronts.{Begins}
 use Rattle.cdb_form.proofs.WalkSteps.{walk_from-more, walk_from-no_header, walk_from-no_body}
 use Rattle.cdb_read.proofs.Headers.{front_pair, pair_read}
-use Rattle.cdb_read.specs.Views.Walking.{record_of, behind, LiesAt, StandsAt}
+use Rattle.cdb_read.specs.Views.Spans.{HasSpans}
+use Rattle.cdb_read.specs.Views.Walking.{record_of, behind, LiesAt, StandsAt, StandsWithin}
 use Rattle.cdb_read.specs.declared.walking.state.Rest.{Rest}
 use Rattle.cdb_read.specs.declared.span.Pair.{Pair}
-use Rattle.std.specs.Prelude.{Some, None, min}
+use Rattle.std.specs.Prelude.{Option, Some, None, MatchOption, min}
 
 -- in each image, of n bytes, the header at a place tells these lengths
 pub record HeaderTells (w p n : ℕ) (lengths : WordPair) (images : List ℕ → Type 0) : Type 0 where
@@ -111,3 +112,37 @@ stands {rest = rest} {w = w} pair some lies inside before header = record {
       walk_from-more w rest.place rest.end (drop rest.place b) r (drop (behind pair) b) some begins (omega arith)
       ∙ ap (λ q. with_first r (walk_from w q rest.end (drop (behind pair) b))) next;
 }
+
+-- the spans by the header, which lies before the record end and inside a file of n bytes
+pub spans_stand : {rest : Rest} {w n limit : ℕ} {images : List ℕ → Type 0} (h : Header) (found : Option Pair) → 0 < w → rest.place < rest.end → limit ≡ min n rest.end → rest.place + 2 * w ≤ limit
+    → MatchOption found (limit < rest.place + (2 * w + h.klen + h.vlen)) (HasSpans w rest.place h limit) → HeaderTells w rest.place n (header_pair h) images → StandsAt w rest found images
+spans_stand {rest = rest} {w = w} {n = n} {limit = limit} h None some before least room past header =
+    let left = min-le_left n rest.end in
+    let right = min-le_right n rest.end in
+    no_body {k = h.klen} {v = h.vlen} before (omega arith) (omega arith) (least_below n rest.end limit (rest.place + (2 * w + h.klen + h.vlen)) least past) header
+spans_stand {rest = rest} {w = w} {n = n} h (Some pair) some before least room has header =
+    let left = min-le_left n rest.end in
+    let right = min-le_right n rest.end in
+    let early = has.before in
+    let lengths : header_pair h ≡ record { first = pair.key.len; second = pair.value.len } = pair_is h.klen h.vlen _ _ (sym has.klen) (sym has.vlen) in
+    stands pair some has.lies (omega arith) (omega arith) (record { told = λ b is. header.told b is ∙ lengths; long = header.long })
+
+pub spans_within : (rest : Rest) (w : ℕ) (h : Header) {n limit size : ℕ} (found : Option Pair) → limit ≡ min n rest.end → n ≡ size → MatchOption found (limit < rest.place + (2 * w + h.klen + h.vlen)) (HasSpans w rest.place h limit) → StandsWithin w rest size found
+spans_within rest w h None least same past = tt
+spans_within rest w h {n = n} (Some pair) least same has =
+    let left = min-le_left n rest.end in
+    let right = min-le_right n rest.end in
+    let early = has.before in
+    record { lies = has.lies; before = omega arith; inside = omega arith }
+
+-- the record ends before the limit
+pub spans_fit : {w place limit : ℕ} {h : Header} {pair : Pair} → HasSpans w place h limit pair → place + (2 * w + h.klen + h.vlen) ≤ limit
+spans_fit has =
+    let lies = has.lies in
+    let here = lies.here in
+    let key = lies.key in
+    let value = lies.value in
+    let klen = has.klen in
+    let vlen = has.vlen in
+    let before = has.before in
+    omega arith

@@ -76,12 +76,14 @@ found_at w bytes key places =
       damage = option_map (λ place. Record place) other;
     }
 
--- the look-up of a key
-unfoldable pub lookup_of : ℕ → List ℕ → List ℕ → Found
-lookup_of w bytes key =
+-- the look-up of a key in the table of a pointer, and in a file
+abbrev pub found_by : ℕ → List ℕ → List ℕ → WordPair → Found
+found_by w bytes key p =
     let h = key_hash key in
-    let p = nth_pair w bytes (table_number h) in
     if not (has_slots p) then nothing_found
     else if is_inside w bytes p
     then found_at w bytes key (map (λ s. s.second) (met_slots h (slots_at w bytes p)))
     else found_damaged (Table (table_number h))
+
+unfoldable pub lookup_of : ℕ → List ℕ → List ℕ → Found
+lookup_of w bytes key = found_by w bytes key (nth_pair w bytes (table_number (key_hash key)))

@@ -9,6 +9,7 @@ pub mod Finder
 pub mod Getting
 pub mod Window
 pub mod Walking
+pub mod Spans
 pub mod Walk
 pub mod Counting
 pub mod Lengths

@@ -15,12 +15,12 @@ mod window;
 
 pub use checking::sound::check;
 pub use fault::ReadFault;
-pub use lookup::finder::{Finder, lies_inside};
-pub use lookup::key_at::{Look, has_bytes};
-pub use lookup::probe::{Probe, Searching};
+pub use lookup::finder::Finder;
+pub use lookup::key_at::Look;
+pub use lookup::probe::{Probe, Searching, first_probe, lies_inside};
 pub use lookup::search::{Met, Step};
 pub use reader::{Reader, Unread};
-pub use span::{Pair, Span};
+pub use span::{Pair, Span, has_bytes, spans};
 pub use statistics::count::stats;
 pub use statistics::stats::Stats;
 pub use walking::records::Walk;

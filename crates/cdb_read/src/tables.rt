@@ -15,7 +15,7 @@ ghost use Rattle.cdb_read.specs.Views.Reads.{StoreFails};
 ghost use Rattle.cdb_read.specs.Views.Window.{Shows};
 
 use crate::fault::ReadFault;
-use crate::lookup::finder::lies_inside;
+use crate::lookup::probe::lies_inside;
 use crate::statistics::distances::Distances;
 use crate::statistics::spread::Spread;
 use crate::window::{WINDOW, Window};

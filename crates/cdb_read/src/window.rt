@@ -7,7 +7,7 @@ ghost use Rattle.cdb_read.specs.Views.Reads.{StoreFails};
 ghost use Rattle.cdb_read.specs.Views.Window.{Shows, Covers};
 
 use crate::fault::ReadFault;
-use crate::lookup::key_at::has_bytes;
+use crate::span::has_bytes;
 use crate::pieces::read_part;
 use cdb_store::Store;
 

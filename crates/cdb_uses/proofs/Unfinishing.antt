@@ -20,9 +20,9 @@ use Rattle.cdb_form.proofs.ReadBack.{map-nth_pair, nth_pair-flat_map}
 use Rattle.cdb_form.proofs.WalkSteps.{walk_from-is, walk_of-records, walk_with}
 use Rattle.cdb_make.specs.Unfinished.{unfinished_head}
 use Rattle.cdb_read.specs.Faults.{first_fault, first_of, table_fault, fault_if, slots_fault, entry_fault}
-use Rattle.cdb_read.specs.Lookup.{lookup_of, is_inside, found_damaged}
+use Rattle.cdb_read.specs.Lookup.{found_by, lookup_of, is_inside, found_damaged}
 use Rattle.cdb_read.specs.Sound.{walk_entries}
-use Rattle.cdb_read.proofs.LookupLaws.{lookup_of-is, found_by}
+use Rattle.cdb_read.proofs.LookupLaws.{lookup_of-is}
 use Rattle.cdb_read.proofs.FaultSteps.{first_of-cons}
 use Rattle.cdb_uses.specs.Unfinished.{IsDamaged, broken_off}
 

@@ -1,23 +1,20 @@
 // The values of a key, one after the other.
 ghost use Rattle.std.specs.Prelude.{◌≡◌, ℕ, ◌+◌, ◌<◌, ◌≤◌, List, IfOk, IfErr};
 ghost use Rattle.std.specs.Prelude.{MatchOption, Ok, Err, None};
-ghost use Rattle.std.specs.Bool.{Decides};
 ghost use Rattle.cdb_form.specs.Views.KnownBytes.{Writes};
-ghost use Rattle.cdb_form.specs.Views.Pairs.{pointer_pair};
 ghost use Rattle.cdb_read.specs.Lookup.{bytes_of, lookup_of};
-ghost use Rattle.cdb_read.specs.Views.Inside.{LiesInside};
 ghost use Rattle.cdb_store.specs.Reads.{OnlyReads};
 ghost use Rattle.cdb_read.specs.Views.Reads.{StoreFails, CopyingFails};
 ghost use Rattle.cdb_read.specs.Views.Search.{found_ahead, Meets, MetWithin};
 ghost use Rattle.cdb_read.specs.Views.Probing.{ProbeInside, IsTurnInside};
 
 use crate::fault::ReadFault;
-use crate::lookup::probe::{Probe, Searching};
+use crate::lookup::probe::{Probe, Searching, first_probe};
 use crate::lookup::search::{Met, next_met};
 use crate::reader::Reader;
 use crate::span::Span;
 use crate::window::WINDOW;
-use cdb_form::{Pointer, Width, hash, head_size, home_slot, pair_size, table_number};
+use cdb_form::{Width, hash, table_number};
 use cdb_store::Store;
 use std::io::Write;
 
@@ -35,16 +32,6 @@ pub struct Finder<'a, S: Store, L: Width> {
     ghost inside: { IsTurnInside L.WORD (S.size reader.now.store) searching },
 }
 
-/// Whether a table lies after the head and inside a file of so many bytes.
-pub fn lies_inside<L: Width>(table: Pointer, size: u64) -> bool
-    ensures { Decides result (LiesInside L.WORD size (pointer_pair table)) }
-{
-    let slot_size = pair_size::<L>() as u64;
-    head_size::<L>() as u64 <= table.place
-        && table.place <= size
-        && table.slots <= (size - table.place) / slot_size
-}
-
 impl<S: Store, L: Width> Reader<S, L> {
     ghost use Rattle.cdb_read.specs.Views.Finder.{left_in};
 
@@ -55,19 +42,8 @@ impl<S: Store, L: Width> Reader<S, L> {
             → found_ahead L.WORD b key.now result ≡ lookup_of L.WORD b key.now }
     {
         let hash = u64::from(hash(key));
-        let n = table_number(hash);
-        let table = self.head.pointers[n];
-        if table.slots == 0 {
-            return Searching::AtEnd;
-        }
-        if !lies_inside::<L>(table, self.store.len()) {
-            return Searching::NoTable(n as u64);
-        }
-        Searching::At(Probe {
-            table,
-            slot: home_slot(hash, table.slots),
-            left: table.slots,
-        })
+        let table = self.head.pointers[table_number(hash)];
+        first_probe::<L>(table, hash, self.store.len())
     }
 
     /// The search of a key from a probe on, up to its next value. So many bytes are read at once.

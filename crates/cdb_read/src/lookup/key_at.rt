@@ -7,7 +7,7 @@ ghost use Rattle.cdb_read.specs.Views.Search.{TellsSame, LooksAt, LookWithin};
 ghost use Rattle.cdb_read.specs.Views.Window.{Shows};
 
 use crate::fault::ReadFault;
-use crate::span::Span;
+use crate::span::{Span, has_bytes, spans};
 use crate::window::{WINDOW, Window};
 use cdb_form::{Width, head_size, pair_size, read_header};
 use cdb_store::Store;
@@ -50,13 +50,6 @@ fn key_is_at<S: Store>(
     Ok(true)
 }
 
-/// Whether a file of so many bytes has `len` bytes from a place on.
-pub fn has_bytes(size: u64, place: u64, len: u64) -> bool
-    ensures { Decides result (place + len ≤ size) }
-{
-    place <= size && len <= size - place
-}
-
 /// The record at a place, and whether it has a key. Bytes that the window lacks are read with so
 /// many after the place, or, if those are fewer, with the header and as many as the key has.
 pub(crate) fn look_at<S: Store, L: Width>(
@@ -86,17 +79,11 @@ pub(crate) fn look_at<S: Store, L: Width>(
         header_size.saturating_add(key.len()).max(ahead),
     )?;
     let header = read_header::<L>(window.shown(place, header_size));
-    let key_place = place + header_size as u64;
-    if !has_bytes(size, key_place, header.klen)
-        || !has_bytes(size, key_place + header.klen, header.vlen)
-    {
+    let Some(record) = spans::<L>(place, header, size) else {
         return Ok(Look::Broken);
-    }
-    if header.klen != key.len() as u64 || !key_is_at(store, key_place, key, window)? {
+    };
+    if record.key.len != key.len() as u64 || !key_is_at(store, record.key.place, key, window)? {
         return Ok(Look::Other);
     }
-    Ok(Look::Value(Span {
-        place: key_place + header.klen,
-        len: header.vlen,
-    }))
+    Ok(Look::Value(record.value))
 }

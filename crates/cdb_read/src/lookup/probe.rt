@@ -1,8 +1,14 @@
 // How far a search is.
-ghost use Rattle.std.specs.Prelude.{◌≡◌, ◌<◌};
-ghost use Rattle.cdb_read.specs.Views.Probing.{next_probe};
+ghost use Rattle.std.specs.Prelude.{◌≡◌, ◌<◌, ℕ, List, length};
+ghost use Rattle.std.specs.Bool.{Decides};
+ghost use Rattle.cdb_form.specs.Format.Hash.{key_hash};
+ghost use Rattle.cdb_form.specs.Views.Pairs.{pointer_pair};
+ghost use Rattle.cdb_read.specs.Lookup.{found_by};
+ghost use Rattle.cdb_read.specs.Views.Inside.{LiesInside};
+ghost use Rattle.cdb_read.specs.Views.Probing.{next_probe, IsTurnInside};
+ghost use Rattle.cdb_read.specs.Views.Search.{found_ahead};
 
-use cdb_form::Pointer;
+use cdb_form::{Pointer, Width, head_size, home_slot, pair_size, table_number};
 
 /// What a search does next.
 #[derive(Clone, Copy)]
@@ -43,4 +49,34 @@ impl Probe {
             left: self.left - 1,
         }
     }
+}
+
+/// Whether a table lies after the head and inside a file of so many bytes.
+pub fn lies_inside<L: Width>(table: Pointer, size: u64) -> bool
+    ensures { Decides result (LiesInside L.WORD size (pointer_pair table)) }
+{
+    let slot_size = pair_size::<L>() as u64;
+    head_size::<L>() as u64 <= table.place
+        && table.place <= size
+        && table.slots <= (size - table.place) / slot_size
+}
+
+/// Where the search of a key with this hash begins in its table, which a file of so many bytes
+/// has.
+pub fn first_probe<L: Width>(table: Pointer, hash: u64, size: u64) -> Searching
+    ensures inside { IsTurnInside L.WORD size result }
+    ensures finds { (b key : List ℕ) → size ≡ length b → hash ≡ key_hash key
+        → found_ahead L.WORD b key result ≡ found_by L.WORD b key (pointer_pair table) }
+{
+    if table.slots == 0 {
+        return Searching::AtEnd;
+    }
+    if !lies_inside::<L>(table, size) {
+        return Searching::NoTable(table_number(hash) as u64);
+    }
+    Searching::At(Probe {
+        table,
+        slot: home_slot(hash, table.slots),
+        left: table.slots,
+    })
 }

@@ -6,8 +6,7 @@ ghost use Rattle.cdb_read.specs.Views.Walking.{StandsAt, StandsWithin};
 ghost use Rattle.cdb_read.specs.Views.Window.{Shows};
 
 use crate::fault::ReadFault;
-use crate::lookup::key_at::has_bytes;
-use crate::span::{Pair, Span};
+use crate::span::{Pair, has_bytes, spans};
 use crate::walking::state::Rest;
 use crate::window::{WINDOW, Window};
 use cdb_form::{Width, pair_size, read_header};
@@ -36,19 +35,5 @@ pub(crate) fn pair_at<S: Store, L: Width>(
     }
     window.cover(store, place, header_size, WINDOW)?;
     let header = read_header::<L>(window.shown(place, header_size));
-    let key = Span {
-        place: place + header_size as u64,
-        len: header.klen,
-    };
-    if !has_bytes(limit, key.place, key.len) {
-        return Ok(None);
-    }
-    let value = Span {
-        place: key.place + key.len,
-        len: header.vlen,
-    };
-    if !has_bytes(limit, value.place, value.len) {
-        return Ok(None);
-    }
-    Ok(Some(Pair { place, key, value }))
+    Ok(spans::<L>(place, header, limit))
 }

@@ -1,20 +1,34 @@
-use Rattle.std.proofs.Common.{◌≡◌, ◌+◌, ◌*◌, ◌≤◌, ℕ, length, refl, arith}
+use Rattle.std.proofs.Common.{◌≡◌, ◌+◌, ◌*◌, ◌≤◌, length, sym, ◌∙◌, arith}
 use Rattle.cdb_form.specs.Format.Pair.{head_size}
-use Rattle.cdb_read.proofs.Headers.{HasLengths, other_length, other_key, same_key}
+use Rattle.cdb_read.specs.Views.Spans.{HasSpans}
+use Rattle.cdb_read.proofs.Headers.{HasLengths, no_room, other_length, other_key, same_key}
+use Rattle.cdb_read.proofs.Pairs.{spans_fit}
 use Rattle.cdb_memory.proofs.Bytes.{header_here, tells_not, tells_so}
 use Rattle.cdb_memory.proofs.meeting.look_at.Goals as goal
 
-pub returns-then-header-key-clause-looks : goal.returns-then-header-key-clause-looks
-returns-then-header-key-clause-looks g c =
+pub returns-in_default-clause-looks : goal.returns-in_default-clause-looks
+returns-in_default-clause-looks g c =
+    let w = g.L.Width.WORD in
+    let file = c.args.file.now in
+    let head = c.read_header-header.result in
+    let room : c.args.place + c.pair_size-header_size.result ≤ length file = c.has_bytes.ensures.0 c.if-not-has_bytes.false in
+    let h : HasLengths w c.args.place head.klen head.vlen (length file) (λ b. b ≡ file) = header_here file head c.pair_size-header_size.ensures room c.read_header-header.ensures.read in
+    no_room c.args.key.now h c.in_default.ensures
+
+pub returns-then-record-key-clause-looks : goal.returns-then-record-key-clause-looks
+returns-then-record-key-clause-looks g c =
     let w = g.L.Width.WORD in
     let file = c.args.file.now in
     let head = c.read_header-header.result in
     let room : c.args.place + c.pair_size-header_size.result ≤ length file = c.has_bytes.ensures.0 c.if-not-has_bytes.false in
     let h : HasLengths w c.args.place head.klen head.vlen (length file) (λ b. b ≡ file) = header_here file head c.pair_size-header_size.ensures room c.read_header-header.ensures.read in
     let low : head_size w ≤ c.args.place = omega (arith, c.head_size.ensures, c.if-place-head_size.false) in
-    let whole : c.args.place + c.pair_size-header_size.result + head.klen + head.vlen ≤ length file = c.has_bytes-3.ensures.0 c.if-not-has_bytes-3.false in
-    let fits : c.args.place + (2 * w + head.klen + head.vlen) ≤ length file = omega (arith, whole, c.pair_size-header_size.ensures) in
-    other_length c.args.key.now h low fits (λ same. c.if-header-key.true same)
+    let found = c.in-Some.record in
+    let has : HasSpans w c.args.place head (length file) found = c.in-Some.ensures in
+    let lies = has.lies in
+    let fits : c.args.place + (2 * w + head.klen + head.vlen) ≤ length file = spans_fit has in
+    let at : found.key.place ≡ c.args.place + 2 * w = omega arith in
+    other_length c.args.key.now h low fits (λ same. c.if-record-key.true (has.klen ∙ same))
 
 pub returns-then-ne-clause-looks : goal.returns-then-ne-clause-looks
 returns-then-ne-clause-looks g c =
@@ -24,11 +38,13 @@ returns-then-ne-clause-looks g c =
     let room : c.args.place + c.pair_size-header_size.result ≤ length file = c.has_bytes.ensures.0 c.if-not-has_bytes.false in
     let h : HasLengths w c.args.place head.klen head.vlen (length file) (λ b. b ≡ file) = header_here file head c.pair_size-header_size.ensures room c.read_header-header.ensures.read in
     let low : head_size w ≤ c.args.place = omega (arith, c.head_size.ensures, c.if-place-head_size.false) in
-    let whole : c.args.place + c.pair_size-header_size.result + head.klen + head.vlen ≤ length file = c.has_bytes-3.ensures.0 c.if-not-has_bytes-3.false in
-    let fits : c.args.place + (2 * w + head.klen + head.vlen) ≤ length file = omega (arith, whole, c.pair_size-header_size.ensures) in
-    let place : ℕ = c.args.place + c.pair_size-header_size.result in
-    let at : place ≡ c.args.place + 2 * w = omega (arith, c.pair_size-header_size.ensures) in
-    other_key place c.args.key.now at c.if-header-key.false h low fits (tells_not c.args.key.now file c.if-ne.ensures)
+    let found = c.in-Some.record in
+    let has : HasSpans w c.args.place head (length file) found = c.in-Some.ensures in
+    let lies = has.lies in
+    let fits : c.args.place + (2 * w + head.klen + head.vlen) ≤ length file = spans_fit has in
+    let at : found.key.place ≡ c.args.place + 2 * w = omega arith in
+    let same : head.klen ≡ length c.args.key.now = sym has.klen ∙ c.if-record-key.false in
+    other_key found.key.place c.args.key.now at same h low fits (tells_not c.args.key.now file c.if-ne.ensures)
 
 pub returns-clause-looks : goal.returns-clause-looks
 returns-clause-looks g c =
@@ -38,8 +54,11 @@ returns-clause-looks g c =
     let room : c.args.place + c.pair_size-header_size.result ≤ length file = c.has_bytes.ensures.0 c.if-not-has_bytes.false in
     let h : HasLengths w c.args.place head.klen head.vlen (length file) (λ b. b ≡ file) = header_here file head c.pair_size-header_size.ensures room c.read_header-header.ensures.read in
     let low : head_size w ≤ c.args.place = omega (arith, c.head_size.ensures, c.if-place-head_size.false) in
-    let whole : c.args.place + c.pair_size-header_size.result + head.klen + head.vlen ≤ length file = c.has_bytes-3.ensures.0 c.if-not-has_bytes-3.false in
-    let fits : c.args.place + (2 * w + head.klen + head.vlen) ≤ length file = omega (arith, whole, c.pair_size-header_size.ensures) in
-    let place : ℕ = c.args.place + c.pair_size-header_size.result in
-    let at : place ≡ c.args.place + 2 * w = omega (arith, c.pair_size-header_size.ensures) in
-    same_key place c.args.key.now _ at (omega (arith, c.pair_size-header_size.ensures)) refl c.if-header-key.false h low fits (tells_so c.args.key.now file c.if-ne.ensures)
+    let found = c.in-Some.record in
+    let has : HasSpans w c.args.place head (length file) found = c.in-Some.ensures in
+    let lies = has.lies in
+    let fits : c.args.place + (2 * w + head.klen + head.vlen) ≤ length file = spans_fit has in
+    let at : found.key.place ≡ c.args.place + 2 * w = omega arith in
+    let same : head.klen ≡ length c.args.key.now = sym has.klen ∙ c.if-record-key.false in
+    let klen = has.klen in
+    same_key found.key.place c.args.key.now found.value at (omega arith) has.vlen same h low fits (tells_so c.args.key.now file c.if-ne.ensures)
