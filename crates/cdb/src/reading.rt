@@ -12,8 +12,8 @@ use crate::system::System;
 use cdb_form::{PIPE, Width};
 use cdb_store::{MemStore, Store};
 use cdb_tool::{
-    Content, Fault, InWindow, Input, Style, check_run, dump_run_buffered, list_run_buffered, load,
-    query_run, stats_run,
+    Content, Fault, InWindow, Input, Style, check_run, load, query_run, stats_run,
+    text_run_buffered,
 };
 use std::alloc::Global;
 use std::io::{Read, Write};
@@ -56,10 +56,7 @@ fn write_text<L: Width, I: Read + Drop, O: Write>(
         (O.contents output.old) (O.contents output.new) result }
 {
     let input = Input::new(alloc, input, PIPE)?;
-    match content {
-        Content::Records => dump_run_buffered::<L, _, O, InWindow>(alloc, input, style, output),
-        Content::Keys => list_run_buffered::<L, _, O, InWindow>(alloc, input, style, output),
-    }
+    text_run_buffered::<L, _, O, InWindow>(alloc, content, input, style, output)
 }
 
 /// Writes the text of a file, or of standard input.

@@ -7,8 +7,8 @@ ghost use Rattle.cdb_read.specs.Views.Reads.{StoreFails};
 ghost use Rattle.cdb_read.specs.Views.Window.{Shows, Covers};
 
 use crate::fault::ReadFault;
-use crate::span::has_bytes;
 use crate::pieces::read_part;
+use crate::span::has_bytes;
 use cdb_store::Store;
 
 /// How many bytes a window has room for.

@@ -1,10 +1,8 @@
 // What the program is asked to do, a run each.
 pub mod check;
 pub mod content;
-pub mod dump;
 pub(crate) mod flushed;
 mod item_reader;
-pub mod list;
 pub mod load;
 pub mod make;
 mod make_base;
@@ -13,4 +11,5 @@ mod make_input;
 pub mod query;
 pub mod stats;
 mod stats_text;
+pub mod texts;
 mod walk_text;

@@ -5,7 +5,7 @@ use super::native_windows::{InLent, Lent, rest_of};
 use super::windows::{Dripping, MOST};
 use super::worked::{File, TWO_TEXT};
 use cdb_form::{AtHand, Narrow, NoneAtHand, Record, RecordReader, WalkFault, Wide, Width};
-use cdb_tool::{Fault, InWindow, Input, Style, dump_run_buffered, list_run_buffered};
+use cdb_tool::{Content, Fault, InWindow, Input, Style, text_run_buffered};
 use std::alloc::{AllocError, Global};
 use std::io::Read;
 use std::prelude::*;
@@ -440,7 +440,13 @@ fn failing(alloc: Global, piece: &[u8]) -> Result<Input<FakeReader<'_>>, AllocEr
 fn dump(alloc: Global, piece: &[u8], text: &[u8]) -> Result<(Result<(), Fault>, bool), AllocError> {
     let mut out = Vec::new(alloc);
     let input = failing(alloc, piece)?;
-    let answer = dump_run_buffered::<Narrow, _, _, InWindow>(alloc, input, Style::Native, &mut out);
+    let answer = text_run_buffered::<Narrow, _, _, InWindow>(
+        alloc,
+        Content::Records,
+        input,
+        Style::Native,
+        &mut out,
+    );
     Ok((answer, out.as_slice() == text))
 }
 
@@ -448,7 +454,13 @@ fn dump(alloc: Global, piece: &[u8], text: &[u8]) -> Result<(Result<(), Fault>, 
 fn list(alloc: Global, piece: &[u8], text: &[u8]) -> Result<(Result<(), Fault>, bool), AllocError> {
     let mut out = Vec::new(alloc);
     let input = failing(alloc, piece)?;
-    let answer = list_run_buffered::<Narrow, _, _, InWindow>(alloc, input, Style::Map, &mut out);
+    let answer = text_run_buffered::<Narrow, _, _, InWindow>(
+        alloc,
+        Content::Keys,
+        input,
+        Style::Map,
+        &mut out,
+    );
     Ok((answer, out.as_slice() == text))
 }
 
