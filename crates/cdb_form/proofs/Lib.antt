@@ -1,4 +1,5 @@
 pub mod ByteLemmas
+mod HashLemmas
 pub mod HeadLemmas
 pub mod WordLemmas
 pub mod ReadBack

@@ -16,6 +16,19 @@ pub fn hash_more(hash: u32, bytes: &[u8]) -> u32
     ensures { result ≡ fold hash_step hash bytes.now }
 {
     let mut hash = hash;
+    let (eights, rest) = bytes.as_chunks::<8>();
+    for eight in eights {
+        hash = hash_each(hash, eight);
+    }
+    hash_each(hash, rest)
+}
+
+/// The hash so far with each of these bytes. Inlined over eight of them it has no loop.
+#[inline(always)]
+fn hash_each(hash: u32, bytes: &[u8]) -> u32
+    ensures { result ≡ fold hash_step hash bytes.now }
+{
+    let mut hash = hash;
     for byte in bytes {
         hash = (hash << 5).wrapping_add(hash) ^ u32::from(*byte);
     }

@@ -30,7 +30,7 @@ pub(crate) struct FrontLengths {
 
 /// The short numeral that some bytes begin with, with `stop` after it.
 #[inline(always)]
-fn front_numeral(bytes: &[u8], stop: u8) -> Option<FrontNumeral>
+fn numeral(bytes: &[u8], stop: u8) -> Option<FrontNumeral>
     ensures begins { IfSome result (BeginsWithNumeral stop bytes.now) }
     ensures short { IfSome result (λ n. n.value < 1000000000) }
 {
@@ -52,6 +52,32 @@ fn front_numeral(bytes: &[u8], stop: u8) -> Option<FrontNumeral>
         place += 1;
     }
     None
+}
+
+/// The same, not inlined: numerals of more than three digits are rare.
+#[cold]
+#[inline(never)]
+fn long_numeral(bytes: &[u8], stop: u8) -> Option<FrontNumeral>
+    ensures begins { IfSome result (BeginsWithNumeral stop bytes.now) }
+    ensures short { IfSome result (λ n. n.value < 1000000000) }
+{
+    numeral(bytes, stop)
+}
+
+/// The short numeral of a record that some bytes begin with, with `stop` after it. At least four
+/// bytes are left of a whole record, and over as many the loop of `numeral` is unrolled.
+#[inline(always)]
+fn front_numeral(bytes: &[u8], stop: u8) -> Option<FrontNumeral>
+    ensures begins { IfSome result (BeginsWithNumeral stop bytes.now) }
+    ensures short { IfSome result (λ n. n.value < 1000000000) }
+{
+    if bytes.len() < 4 {
+        return None;
+    }
+    match numeral(&bytes[..4], stop) {
+        Some(found) => Some(found),
+        None => long_numeral(bytes, stop),
+    }
 }
 
 /// The lengths, neither above `greatest`, of the record that some bytes begin with.

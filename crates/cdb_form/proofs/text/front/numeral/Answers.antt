@@ -3,7 +3,7 @@ use Rattle.std.proofs.Common.{get_or, subst, sym, arith, refl, ◌*◌, ◌+◌,
 use Rattle.std.specs.Char.{digit_value}
 use Rattle.std.proofs.lemmas.Str.{digit_value_digit}
 use Rattle.cdb_form.proofs.FrontLemmas.{FrontDigits, front_digit}
-use Rattle.cdb_form.proofs.text.front.front_numeral.Goals as goal
+use Rattle.cdb_form.proofs.text.front.numeral.Goals as goal
 
 pub loop-place-preserved : goal.loop-place-preserved
 loop-place-preserved c =

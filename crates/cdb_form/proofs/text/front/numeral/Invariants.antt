@@ -1,6 +1,6 @@
 use Rattle.std.proofs.Common.{length, ◌-◌, ◌<◌}
 use Rattle.cdb_form.proofs.FrontLemmas.{FrontDigits}
-use Rattle.cdb_form.proofs.text.front.front_numeral.Given as goal
+use Rattle.cdb_form.proofs.text.front.numeral.Given as goal
 
 -- the digits so far
 abbrev pub invariant-loop-place : goal.invariant-loop-place
