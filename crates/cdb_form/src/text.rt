@@ -4,7 +4,7 @@ pub(crate) mod amend_writer;
 pub(crate) mod at_hand;
 pub(crate) mod fault;
 mod form_reader;
-mod front;
+pub(crate) mod front;
 mod front_line;
 pub(crate) mod going;
 mod kind;

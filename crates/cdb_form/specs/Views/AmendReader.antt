@@ -1,5 +1,6 @@
 -- What a clause reads of a reader of an amending text.
 use Rattle.std.specs.Prelude.{ℕ, List, ◌+◌, ◌*◌, Option}
+use Rattle.cdb_form.specs.Format.Record.{KeyValue}
 use Rattle.cdb_form.specs.Text.Amending.{Change, SpellsChange}
 use Rattle.cdb_form.specs.Views.FormReader as form
 use Rattle.cdb_form.specs.declared.text.fault.TextFault.{TextFault}
@@ -28,6 +29,10 @@ HasEnded t = form.HasEnded t.items
 -- it has answered this fault
 abbrev pub HasFailed : {R L : Type 0} → AmendReader R L → TextFault → Type 0
 HasFailed t fault = form.HasFailed t.items fault
+
+-- the next item is a record that is whole at hand, spelled by n bytes there
+abbrev pub HasFront : {R L : Type 0} → (R → List ℕ) → ℕ → AmendReader R L → ℕ → KeyValue → Type 0
+HasFront held greatest t n r = form.HasFront held greatest t.items n r
 
 -- what was read of a text, from the count `from` to the count `to`, is the front of a text, and no
 -- whole one; no whole change is there

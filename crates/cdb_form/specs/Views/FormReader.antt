@@ -2,11 +2,13 @@
 use Rattle.std.specs.Io.KnownBytes.{Consumes}
 use Rattle.std.specs.Prelude.{ℕ, List, ◌+◌, ◌-◌, ◌<◌, ◌≤◌, length, take, Option, ◌≡◌, ◌≢◌, IfSome}
 use Rattle.std.specs.Prelude.{Bool, true, false, codes}
+use Rattle.cdb_form.specs.Format.Record.{KeyValue}
 use Rattle.cdb_form.specs.Text.Amending.{SpellsChange}
 use Rattle.cdb_form.specs.Text.Form.{HasFault, HasNoItem}
 use Rattle.cdb_form.specs.Text.Native.{Spells}
+use Rattle.cdb_form.specs.Views.Front.{BeginsWithRecord}
 use Rattle.cdb_form.specs.Views.KnownBytes.{Took}
-use Rattle.cdb_form.specs.Views.Source.{budget}
+use Rattle.cdb_form.specs.Views.Source.{at_hand, budget}
 use Rattle.cdb_form.specs.Views.TextFault.{IsOfText, IsReadFault, IsSpent, LastRead}
 use Rattle.cdb_form.specs.declared.text.fault.TextFault.{TextFault}
 use Rattle.cdb_form.specs.declared.text.fault.TextFault.TheVariants.{Ended, NoMemory}
@@ -37,6 +39,12 @@ HasEnded t = t.going ≡ AtEnd
 -- it has answered this fault
 abbrev pub HasFailed : {R L : Type 0} → FormReader R L → TextFault → Type 0
 HasFailed t fault = t.going ≡ Failed fault
+
+-- the next item is a record that is whole at hand, spelled by n bytes there
+pub record HasFront {R L : Type 0} (held : R → List ℕ) (greatest : ℕ) (t : FormReader R L) (n : ℕ)
+    (r : KeyValue) : Type 0 where
+  pub going : IsGoing t
+  pub begins : BeginsWithRecord greatest (at_hand held t.source) n r
 
 -- what was read of a text, from the count `from` to the count `to`, is the front of a text, and no
 -- whole one; no whole item is there

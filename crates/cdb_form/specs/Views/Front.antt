@@ -8,6 +8,7 @@ use Rattle.cdb_form.specs.Views.Reading.{IsKept}
 use Rattle.cdb_form.specs.declared.record.Record.{Record}
 use Rattle.cdb_form.specs.declared.text.front.FrontLengths.{FrontLengths}
 use Rattle.cdb_form.specs.declared.text.front.FrontNumeral.{FrontNumeral}
+use Rattle.cdb_form.specs.declared.text.front.FrontRecord.{FrontRecord}
 use Rattle.cdb_form.specs.declared.walk.keeping.Keeping.{Keeping}
 
 -- a numeral with `stop` behind it
@@ -38,6 +39,10 @@ pub record BeginsWithBody (klen vlen : ℕ) (bytes : List ℕ) : Type 0 where
 pub record BeginsWithRecord (greatest : ℕ) (bytes : List ℕ) (n : ℕ) (r : KeyValue) : Type 0 where
   pub spells : Spells greatest (take n bytes) r
   pub within : n ≤ length bytes
+
+-- the record that is shown
+abbrev pub shown_by : FrontRecord → KeyValue
+shown_by f = record { key = f.key.now; value = f.value.now }
 
 -- n bytes that are a record of a database file, of which so much was kept
 pub record BeginsWithStored (w : ℕ) (keeping : Keeping) (bytes : List ℕ) (n : ℕ) (into : Record) :

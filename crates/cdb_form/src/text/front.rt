@@ -1,7 +1,7 @@
 // The record of a native text that some bytes begin with.
 ghost use Rattle.std.specs.Prelude.{◌≡◌, true, ◌+◌, ◌<◌, ◌≤◌, IfOk, IfSome};
 ghost use Rattle.cdb_form.specs.Views.Front.{BeginsWithBody, BeginsWithLengths, BeginsWithNumeral};
-ghost use Rattle.cdb_form.specs.Views.Front.{BeginsWithRecord};
+ghost use Rattle.cdb_form.specs.Views.Front.{BeginsWithRecord, shown_by};
 ghost use Rattle.cdb_form.specs.Views.Pairs.{key_value};
 
 use crate::copying::copy_over;
@@ -17,6 +17,15 @@ pub(crate) struct FrontNumeral {
     pub(crate) value: u64,
     /// The place after the byte that ends it.
     pub(crate) end: usize,
+}
+
+/// A record that a reader has at hand, where it is.
+#[derive(Clone, Copy, Debug)]
+pub struct FrontRecord<'a> {
+    pub key: &'a [u8],
+    pub value: &'a [u8],
+    /// How many bytes spell it.
+    pub len: usize,
 }
 
 /// The lengths of a record that some bytes begin with.
@@ -117,10 +126,28 @@ fn has_body(bytes: &[u8], klen: usize, vlen: usize) -> bool
     bytes[klen + 2 + vlen] == b'\n'
 }
 
+/// The record that some bytes begin with, if it is whole there.
+#[inline(always)]
+pub(crate) fn front_record(bytes: &[u8], greatest: u64) -> Option<FrontRecord<'_>>
+    ensures { IfSome result (λ f. BeginsWithRecord greatest bytes.now f.len (shown_by f)) }
+{
+    let lengths = front_lengths(bytes, greatest)?;
+    let (klen, vlen) = (lengths.klen, lengths.vlen);
+    let body = &bytes[lengths.end..];
+    if !has_body(body, klen, vlen) {
+        return None;
+    }
+    Some(FrontRecord {
+        key: &body[..klen],
+        value: &body[klen + 2..klen + 2 + vlen],
+        len: lengths.end + (klen + vlen + 3),
+    })
+}
+
 /// Copies the record that some bytes begin with over another one, and answers how many bytes spell
 /// it. There are none if no whole record is found, and then the record holds anything.
 #[inline(always)]
-pub(crate) fn front_record(
+pub(crate) fn copy_front(
     bytes: &[u8],
     greatest: u64,
     into: &mut Record,
@@ -128,15 +155,10 @@ pub(crate) fn front_record(
     ensures { IfOk result (λ n. 0 < n →
         BeginsWithRecord greatest bytes.now n (key_value into.new)) }
 {
-    let Some(lengths) = front_lengths(bytes, greatest) else {
+    let Some(front) = front_record(bytes, greatest) else {
         return Ok(0);
     };
-    let (klen, vlen) = (lengths.klen, lengths.vlen);
-    let body = &bytes[lengths.end..];
-    if !has_body(body, klen, vlen) {
-        return Ok(0);
-    }
-    copy_over(&body[..klen], &mut into.key)?;
-    copy_over(&body[klen + 2..klen + 2 + vlen], &mut into.value)?;
-    Ok(lengths.end + (klen + vlen + 3))
+    copy_over(front.key, &mut into.key)?;
+    copy_over(front.value, &mut into.value)?;
+    Ok(front.len)
 }

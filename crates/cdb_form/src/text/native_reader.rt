@@ -1,11 +1,14 @@
 // Records out of a native text.
-ghost use Rattle.std.specs.Prelude.{◌≡◌, ◌^◌, ◌≤◌, false, IfOk, IfErr, MatchOption, MatchBool};
+ghost use Rattle.std.specs.Prelude.{◌≡◌, ◌^◌, ◌≤◌, false, IfOk, IfErr, IfSome, MatchOption, MatchBool};
+ghost use Rattle.cdb_form.specs.Format.Record.{KeyValue};
+ghost use Rattle.cdb_form.specs.Views.Front.{shown_by};
 ghost use Rattle.cdb_form.specs.Views.Pairs.{key_value};
 
 use crate::record::Record;
 use crate::text::at_hand::{AtHand, NoneAtHand};
 use crate::text::fault::TextFault;
 use crate::text::form_reader::FormReader;
+use crate::text::front::FrontRecord;
 use crate::width::Width;
 use std::alloc::Global;
 use std::io::Read;
@@ -22,8 +25,8 @@ pub struct TextReader<R, L> {
 
 impl<R: Read, L: Width> TextReader<R, L> {
     ghost use Rattle.cdb_form.specs.Views.TextReader.{unread, taken_of, asks_left, IsGoing};
-    ghost use Rattle.cdb_form.specs.Views.TextReader.{HasEnded, HasFailed, GivesRecord, GivesEnd};
-    ghost use Rattle.cdb_form.specs.Views.TextReader.{Fails};
+    ghost use Rattle.cdb_form.specs.Views.TextReader.{HasEnded, HasFailed, HasFront, GivesRecord};
+    ghost use Rattle.cdb_form.specs.Views.TextReader.{GivesEnd, Fails};
     /// A reader of the text that `reader` gives, which may be asked 2^48 times.
     pub fn new(alloc: Global, reader: R) -> TextReader<R, L>
         ensures unread { unread R.remaining result ≡ R.remaining reader }
@@ -109,5 +112,24 @@ impl<R: Read, L: Width> TextReader<R, L> {
     {
         let found = self.items.read_buffered::<A>(into, false)?;
         Ok(found.is_some())
+    }
+
+    /// The next record, if it is whole at hand, where it is. Nothing is taken: `take_front` does.
+    #[inline(always)]
+    pub fn front<A: AtHand<R>>(&self) -> Option<FrontRecord<'_>>
+        ensures { IfSome result (λ f.
+            HasFront A.held L.GREATEST self.now f.len (shown_by f)) }
+    {
+        self.items.front::<A>()
+    }
+
+    /// Takes the record that `front` shows, whose `len` this is. Each of its bytes counts as an ask.
+    #[inline(always)]
+    pub fn take_front<A: AtHand<R>>(&mut self, len: usize)
+        requires { (r : KeyValue) × HasFront A.held L.GREATEST self.old len r }
+        ensures { (r : KeyValue) → HasFront A.held L.GREATEST self.old len r
+            → GivesRecord L.GREATEST R.remaining self.old self.new r }
+    {
+        self.items.take_front::<A>(len);
     }
 }
