@@ -92,6 +92,14 @@ items_first g remaining input (Native t) items h = some_weaker input (λ x is. (
 items_first g remaining input (Map t) items h = some_weaker input (λ x is. (h.0, h.1, is)) (map_first g remaining input t h.0 h.2)
 items_first g remaining input (Changes t) items h = begins_changes g input _ _ items h.1
 
+-- the same of a reader of this form, and of it behind one item more
+pub items_begin : {R L : Type 0} (g : ℕ) (remaining : R → Option (List ℕ)) (input : Option (List ℕ)) (t : ItemReader R L) (form : InputForm) (items : List Change) → form_of t ≡ form → GaveItems g remaining input t items → IfSome input (BeginsWithItems form g items)
+items_begin g remaining input t form items e h = subst (λ v. IfSome input (BeginsWithItems v g items)) e (items_first g remaining input t items h)
+
+pub items_behind : {R L : Type 0} (g : ℕ) (remaining : R → Option (List ℕ)) (input : Option (List ℕ)) (t u : ItemReader R L) (form : InputForm) (items : List Change) (c : Change) → form_of t ≡ form → GaveItems g remaining input t items → GivesItem g remaining t u c
+    → IfSome input (BeginsWithItems form g (items ++ c ∷ []))
+items_behind g remaining input t u form items c e h m = items_begin g remaining input u form (items ++ c ∷ []) (same_form g remaining t u c m ∙ e) (items_more g remaining input t u items c h m)
+
 -- ---- a fault
 
 changes_fault : {R L : Type 0} (g : ℕ) (remaining : R → Option (List ℕ)) (o : Option (List ℕ)) (t u : AmendReader R L) (items : List Change) (f : TextFault) → SoFar g o (changes.unread remaining t) (changes.taken_of t) items → 2 ^ 48 ≤ changes.budget t

@@ -1,5 +1,6 @@
 -- What a clause reads of the reader of an input, whatever its form.
 use Rattle.std.specs.Prelude.{ℕ, ◌≡◌, ◌^◌, List, Option}
+use Rattle.cdb_form.specs.Format.Record.{KeyValue}
 use Rattle.cdb_form.specs.Text.Amending.{Change, Putting}
 use Rattle.cdb_form.specs.Views.AmendReader as changes
 use Rattle.cdb_form.specs.Views.MapReader as map
@@ -45,6 +46,12 @@ pub record IsNew {R L : Type 0} (t : ItemReader R L) : Type 0 where
   pub going : IsGoing t
   pub taken : taken_of t ≡ 0
   pub asks : asks_left t ≡ 2 ^ 48
+
+-- the next item is a record that is whole at hand, spelled by n bytes there
+abbrev pub HasFront : {R L : Type 0} → (R → List ℕ) → ℕ → ItemReader R L → ℕ → KeyValue → Type 0
+HasFront held greatest (Native t) n r = native.HasFront held greatest t n r
+HasFront held greatest (Map t) n r = ⊥
+HasFront held greatest (Changes t) n r = changes.HasFront held greatest t n r
 
 -- a call gave an item, told the end, or answered a fault, as a reader of its form does
 abbrev pub GivesItem : {R L : Type 0} → ℕ → (R → Option (List ℕ)) → ItemReader R L

@@ -1,13 +1,19 @@
 // The items of an input, whatever its form.
-ghost use Rattle.std.specs.Prelude.{◌≡◌, true, false, Some, None, IfOk, IfErr, MatchOption};
+ghost use Rattle.std.specs.Prelude.{◌≡◌, true, false, Some, None, IfOk, IfErr, IfSome};
+ghost use Rattle.std.specs.Prelude.{MatchOption};
+ghost use Rattle.cdb_form.specs.Format.Record.{KeyValue};
+ghost use Rattle.cdb_form.specs.Text.Amending.{Putting};
+ghost use Rattle.cdb_form.specs.Views.Front.{shown_by};
 ghost use Rattle.cdb_form.specs.Views.Pairs.{change_in};
 ghost use Rattle.cdb_form.specs.declared.item.ItemKind.TheVariants.{Put};
 ghost use Rattle.cdb_tool.specs.Runs.Inputs.{input_form};
 ghost use Rattle.cdb_tool.specs.Views.ItemReader.{form_of, unread, IsNew};
-ghost use Rattle.cdb_tool.specs.Views.ItemReader.{GivesItem, GivesEnd, Fails};
+ghost use Rattle.cdb_tool.specs.Views.ItemReader.{HasFront, GivesItem, GivesEnd, Fails};
 
 use cdb_command::Style;
-use cdb_form::{AmendReader, AtHand, ItemKind, MapReader, Record, TextFault, TextReader, Width};
+use cdb_form::{
+    AmendReader, AtHand, FrontRecord, ItemKind, MapReader, Record, TextFault, TextReader, Width,
+};
 use std::alloc::Global;
 use std::io::Read;
 
@@ -51,8 +57,35 @@ impl<R: Read, L: Width> ItemReader<R, L> {
         }
     }
 
+    /// The record that the next item puts, if it is whole at hand, where it is. Nothing is taken. Of a
+    /// map none is shown.
+    #[inline(always)]
+    pub(crate) fn front<A: AtHand<R>>(&self) -> Option<FrontRecord<'_>>
+        ensures { IfSome result (λ f. HasFront A.held L.GREATEST self.now f.len (shown_by f)) }
+    {
+        match self {
+            ItemReader::Native(text) => text.front::<A>(),
+            ItemReader::Map(_) => None,
+            ItemReader::Changes(items) => items.front::<A>(),
+        }
+    }
+
+    /// Takes the record that `front` shows.
+    #[inline(always)]
+    pub(crate) fn take_front<A: AtHand<R>>(&mut self, len: usize)
+        requires { (r : KeyValue) × HasFront A.held L.GREATEST self.old len r }
+        ensures { (r : KeyValue) → HasFront A.held L.GREATEST self.old len r
+            → GivesItem L.GREATEST R.remaining self.old self.new (Putting r) }
+    {
+        match self {
+            ItemReader::Native(text) => text.take_front::<A>(len),
+            ItemReader::Map(_) => {}
+            ItemReader::Changes(items) => items.take_front::<A>(len),
+        }
+    }
+
     /// Reads the next item over a record, whose memory it takes, and answers its kind, or that there
-    /// is none. Bytes at hand are taken without an ask.
+    /// is none. Of a map bytes at hand are taken without an ask.
     #[inline(always)]
     pub(crate) fn read_into<A: AtHand<R>>(
         &mut self,
@@ -65,9 +98,9 @@ impl<R: Read, L: Width> ItemReader<R, L> {
         ensures fails { IfErr result (Fails L.GREATEST R.remaining self.old self.new) }
     {
         match self {
-            ItemReader::Native(text) => Ok(put_if(text.read_buffered::<A>(into)?)),
+            ItemReader::Native(text) => Ok(put_if(text.read_into(into)?)),
             ItemReader::Map(text) => Ok(put_if(text.read_buffered::<A>(into)?)),
-            ItemReader::Changes(items) => items.read_buffered::<A>(into),
+            ItemReader::Changes(items) => items.read_into(into),
         }
     }
 

@@ -5,7 +5,7 @@ ghost use Rattle.std.specs.Io.KnownBytes.{Appends};
 ghost use Rattle.cdb_form.specs.Format.Record.{KeyValue};
 ghost use Rattle.cdb_form.specs.Text.Amending.{Change, Putting, Removing};
 ghost use Rattle.cdb_form.specs.Views.KnownBytes.{FromTo};
-ghost use Rattle.cdb_form.specs.Views.Pairs.{key_value, change_in};
+ghost use Rattle.cdb_form.specs.Views.Pairs.{change_in};
 ghost use Rattle.cdb_make.specs.Views.Maker.{WhereHonest, ComesFrom};
 ghost use Rattle.cdb_tool.specs.Views.ItemReader.{form_of, unread, IsNew};
 ghost use Rattle.cdb_tool.specs.Runs.Course.{Incoming, from_inputs, mode_of, meets_key, said};
@@ -86,20 +86,21 @@ fn put_record<L: Width, S: Store, E: Write>(
     options: &MakeOptions,
     input: u64,
     number: u64,
-    from: &Record,
+    key: &[u8],
+    value: &[u8],
     errors: &mut E,
 ) -> Result<(), Fault>
     ensures ok { (t : Task) (cs : List Incoming) (start : Option (List ℕ))
         → t.options ≡ options.now
         → InCourse t cs start (E.contents errors.old) maker.old
         → OnOk result (InCourse t
-        (cs ++ record { input = input; number = number; it = Putting (key_value from.now) } ∷ [])
+        (cs ++ record { input = input; number = number; it = Putting (record { key = key.now; value = value.now }) } ∷ [])
         start (E.contents errors.new) maker.new) }
     ensures fails { (t : Task) (cs : List Incoming) (start : Option (List ℕ))
         → t.options ≡ options.now
         → InCourse t cs start (E.contents errors.old) maker.old
         → IfErr result (λ f. WhereHonest (S.image maker.new.maker.store) (PutStops L.WORD t cs
-        (record { input = input; number = number; it = Putting (key_value from.now) })
+        (record { input = input; number = number; it = Putting (record { key = key.now; value = value.now }) })
         start (E.contents errors.new) f)) }
     ensures stands { (t : Task) (cs : List Incoming) (start : Option (List ℕ))
         → t.options ≡ options.now
@@ -111,14 +112,14 @@ fn put_record<L: Width, S: Store, E: Write>(
         → InCourse t cs start (E.contents errors.old) maker.old
         → IfErr result (λ f. f ≡ NoMemory → WhereHonest (S.image maker.new.maker.store)
         (TakesNext L.WORD t cs
-        (record { input = input; number = number; it = Putting (key_value from.now) }))) }
+        (record { input = input; number = number; it = Putting (record { key = key.now; value = value.now }) }))) }
     ensures comes { ComesFrom (S.image maker.old.maker.store) (S.image maker.new.maker.store) }
     ensures failures { S.failures maker.old.maker.store ≤ S.failures maker.new.maker.store }
     ensures failed { IfErr result
         (λ f. IsOfStore f → S.failures maker.old.maker.store < S.failures maker.new.maker.store) }
     ensures own { IfErr result (λ f. IsOfBase f → ⊥) }
 {
-    let put = maker.put(put_mode(options), &from.key, &from.value)?;
+    let put = maker.put(put_mode(options), key, value)?;
     tell_put(options, input, number, put, errors)
 }
 
@@ -181,7 +182,15 @@ fn do_item<L: Width, S: Store, E: Write>(
     ensures own { IfErr result (λ f. IsOfBase f → ⊥) }
 {
     match kind {
-        ItemKind::Put => put_record(maker, options, input, number, item, errors),
+        ItemKind::Put => put_record(
+            maker,
+            options,
+            input,
+            number,
+            &item.key,
+            &item.value,
+            errors,
+        ),
         ItemKind::Remove => remove_key(maker, &item.key),
     }
 }
@@ -226,12 +235,27 @@ pub(crate) fn put_input<L: Width, S: Store, R: Read + Drop, E: Write, A: AtHand<
     };
     let mut number = 0;
     loop {
-        let kind = match items.read_into::<A>(&mut item) {
-            Err(fault) => return Err(Fault::of_text(input, fault)),
-            Ok(None) => return Ok(items.into_reader()),
-            Ok(Some(kind)) => kind,
-        };
         number += 1;
-        do_item(maker, options, input, number, kind, &item, errors)?;
+        if let Some(front) = items.front::<A>() {
+            let len = front.len;
+            let put = put_record(
+                maker,
+                options,
+                input,
+                number,
+                front.key,
+                front.value,
+                errors,
+            );
+            items.take_front::<A>(len);
+            put?;
+        } else {
+            let kind = match items.read_into::<A>(&mut item) {
+                Err(fault) => return Err(Fault::of_text(input, fault)),
+                Ok(None) => return Ok(items.into_reader()),
+                Ok(Some(kind)) => kind,
+            };
+            do_item(maker, options, input, number, kind, &item, errors)?;
+        }
     }
 }
