@@ -141,9 +141,9 @@ impl<S: Store, L: Width> Batch<S, L> {
         count <= (self.most - self.gone.len()) as u64
     }
 
-    /// After so many records of a key were taken out: asks for memory to note more gaps, as many as
+    /// After so many records of a hash were taken out: asks for memory to note more gaps, as many as
     /// there are and some. Without it, or if a pass is due, one is made before the next gap is noted.
-    pub(crate) fn make_room(&mut self, key: &[u8], taken: u64)
+    pub(crate) fn make_room(&mut self, hash: u32, taken: u64)
         ensures maker { self.new.maker ≡ self.old.maker }
         ensures gone { self.new.gone.items ≡ self.old.gone.items }
     {
@@ -155,7 +155,7 @@ impl<S: Store, L: Width> Batch<S, L> {
         if self.gone.capacity() < most && self.gone.capacity() <= len + SPARE / 2 {
             let _ = self.gone.reserve(len + SPARE);
         }
-        self.most = if self.is_due(hash(key), taken) {
+        self.most = if self.is_due(hash, taken) {
             len
         } else {
             self.gone.capacity().min(most.max(len))
@@ -190,6 +190,6 @@ impl<S: Store, L: Width> Batch<S, L> {
         ensures follows { Follows self.old.maker self.new.maker }
         ensures ok_failures { OnOk result (HasNotFailed self.old.maker self.new.maker) }
     {
-        self.maker.look(key)
+        self.maker.look(hash(key), key)
     }
 }

@@ -4,6 +4,7 @@ ghost use Rattle.std.specs.Prelude.{sum_by, vec_capacity, All, IfOk, IfErr, OnOk
 ghost use Rattle.cdb_form.specs.Format.Pair.{head_size};
 ghost use Rattle.cdb_form.specs.Format.Record.{KeyValue};
 ghost use Rattle.cdb_form.specs.Format.File.{file_size};
+ghost use Rattle.cdb_form.specs.Format.Hash.{key_hash};
 ghost use Rattle.cdb_store.specs.Laws.{HasNoImage};
 ghost use Rattle.cdb_make.specs.Gaps.{unmarked};
 ghost use Rattle.cdb_make.specs.Looks.{NoNewImage};
@@ -156,11 +157,12 @@ impl<S: Store, L: Width> Maker<S, L> {
         ensures unwritten { S.unwritten self.old.store ≤ S.unwritten self.new.store }
         ensures ok_failures { OnOk result (HasNotFailed self.old self.new) }
     {
-        self.look(key)
+        self.look(hash(key), key)
     }
 
-    /// Whether some record has a key that is not marked, as `exists` says it.
-    pub(crate) fn look(&mut self, key: &[u8]) -> Result<bool, MakeFault>
+    /// Whether some record has a key of this hash that is not marked, as `exists` says it.
+    pub(crate) fn look(&mut self, hash: u32, key: &[u8]) -> Result<bool, MakeFault>
+        requires hash { hash ≡ key_hash key.now }
         ensures there { (rs : List KeyValue) → Holds self.old rs
             → IfOk result (λ there. IsThere there key.now rs (S.image self.new.store)) }
         ensures ok { OnOk result (WritesNothing self.old self.new) }
@@ -185,7 +187,6 @@ impl<S: Store, L: Width> Maker<S, L> {
         if self.broken {
             return Err(MakeFault::Broken);
         }
-        let hash = hash(key);
         catch_up(&mut self.lists, hash);
         match take_out::exists::<S, L>(&mut self.store, &self.lists, hash, key, self.end) {
             Ok(there) => Ok(there),

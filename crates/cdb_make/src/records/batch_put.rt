@@ -1,5 +1,6 @@
 // A record, put by a batch.
 ghost use Rattle.std.specs.Prelude.{◌≡◌, ◌⊎◌, [], true, false, length, IfOk, IfErr, OnOk, OnErr};
+ghost use Rattle.cdb_form.specs.Format.Hash.{key_hash};
 ghost use Rattle.cdb_form.specs.Format.Record.{KeyValue};
 ghost use Rattle.cdb_form.specs.declared.mode.Mode.TheVariants.{Replace};
 ghost use Rattle.cdb_make.specs.Views.Batch.{is_short};
@@ -44,7 +45,8 @@ impl<S: Store, L: Width> Batch<S, L> {
 
     /// One more record, after the others. If there is no room for it, a pass is made first.
     #[inline(always)]
-    fn add(&mut self, key: &[u8], value: &[u8]) -> Result<(), MakeFault>
+    fn add(&mut self, hash: u32, key: &[u8], value: &[u8]) -> Result<(), MakeFault>
+        requires hash { hash ≡ key_hash key.now }
         ensures ok { OnOk result
             (Adds self.old self.new (record { key = key.now; value = value.now })) }
         ensures fails { IfErr result
@@ -52,7 +54,7 @@ impl<S: Store, L: Width> Batch<S, L> {
         ensures follows { Follows self.old.maker self.new.maker }
         ensures counts { OnErr result (SameCounts self.old self.new) }
     {
-        match self.maker.add(key, value) {
+        match self.maker.add(hash, key, value) {
             Ok(()) => return Ok(()),
             Err(fault) => {
                 if !self.is_mended(fault) {
@@ -61,12 +63,19 @@ impl<S: Store, L: Width> Batch<S, L> {
             }
         }
         self.settle()?;
-        self.maker.add(key, value)
+        self.maker.add(hash, key, value)
     }
 
     /// Marks the records whose gaps are noted, so many, and adds one after the others. Or it does
     /// neither, since a pass has to be made first.
-    fn exchange(&mut self, taken: u64, key: &[u8], value: &[u8]) -> Result<bool, MakeFault>
+    fn exchange(
+        &mut self,
+        taken: u64,
+        hash: u32,
+        key: &[u8],
+        value: &[u8],
+    ) -> Result<bool, MakeFault>
+        requires hash { hash ≡ key_hash key.now }
         requires taken { taken ≡ length self.old.maker.gaps.items }
         requires whole { self.old.maker.broken ≡ false }
         ensures done { IfOk result (λ done. done ≡ true
@@ -84,9 +93,9 @@ impl<S: Store, L: Width> Batch<S, L> {
         }
         let from = self.gone.len();
         note(&mut self.gone, self.maker.noted_gaps());
-        match self.maker.add(key, value) {
+        match self.maker.add(hash, key, value) {
             Ok(()) => {
-                self.maker.mark(hash(key), &self.gone[from..]);
+                self.maker.mark(hash, &self.gone[from..]);
                 Ok(true)
             }
             Err(fault) => {
@@ -101,7 +110,8 @@ impl<S: Store, L: Width> Batch<S, L> {
     }
 
     /// The record instead of those of its key.
-    fn replace(&mut self, key: &[u8], value: &[u8]) -> Result<Put, MakeFault>
+    fn replace(&mut self, hash: u32, key: &[u8], value: &[u8]) -> Result<Put, MakeFault>
+        requires hash { hash ≡ key_hash key.now }
         ensures puts { IfOk result
             (Puts self.old self.new Replace (record { key = key.now; value = value.now })) }
         ensures fails { IfErr result
@@ -109,21 +119,22 @@ impl<S: Store, L: Width> Batch<S, L> {
         ensures follows { Follows self.old.maker self.new.maker }
         ensures counts { OnErr result (SameCounts self.old self.new) }
     {
-        let taken = self.maker.find(key)?;
+        let taken = self.maker.find(hash, key)?;
         if taken == 0 {
-            self.add(key, value)?;
+            self.add(hash, key, value)?;
             return Ok(Put::Added);
         }
-        if self.exchange(taken, key, value)? {
+        if self.exchange(taken, hash, key, value)? {
             return Ok(Put::Replaced(taken));
         }
         self.settle()?;
-        self.maker.put(Mode::Replace, key, value)
+        self.maker.replace(hash, key, value)
     }
 
     /// Puts a record as `put` says it.
     #[inline(always)]
-    fn put_by(&mut self, mode: Mode, key: &[u8], value: &[u8]) -> Result<Put, MakeFault>
+    fn put_by(&mut self, mode: Mode, hash: u32, key: &[u8], value: &[u8]) -> Result<Put, MakeFault>
+        requires hash { hash ≡ key_hash key.now }
         ensures puts { IfOk result
             (Puts self.old self.new mode (record { key = key.now; value = value.now })) }
         ensures fails { IfErr result
@@ -132,21 +143,21 @@ impl<S: Store, L: Width> Batch<S, L> {
         ensures counts { OnErr result (SameCounts self.old self.new) }
     {
         match mode {
-            Mode::Add => self.add(key, value)?,
+            Mode::Add => self.add(hash, key, value)?,
             Mode::Warn => {
-                let there = self.maker.look(key)?;
-                self.add(key, value)?;
+                let there = self.maker.look(hash, key)?;
+                self.add(hash, key, value)?;
                 if there {
                     return Ok(Put::AddedAgain);
                 }
             }
             Mode::Insert => {
-                if self.maker.look(key)? {
+                if self.maker.look(hash, key)? {
                     return Ok(Put::Present);
                 }
-                self.add(key, value)?;
+                self.add(hash, key, value)?;
             }
-            Mode::Replace => return self.replace(key, value),
+            Mode::Replace => return self.replace(hash, key, value),
         }
         Ok(Put::Added)
     }
@@ -171,8 +182,9 @@ impl<S: Store, L: Width> Batch<S, L> {
         ensures follows { Follows self.old.maker self.new.maker }
         ensures counts { OnErr result (SameCounts self.old self.new) }
     {
-        let put = self.put_by(mode, key, value)?;
-        self.make_room(key, taken_by(put));
+        let hash = hash(key);
+        let put = self.put_by(mode, hash, key, value)?;
+        self.make_room(hash, taken_by(put));
         Ok(put)
     }
 }

@@ -1,6 +1,7 @@
 // A record, put by a maker.
 ghost use Rattle.std.specs.Prelude.{◌≡◌, ℕ, ◌+◌, ◌*◌, ◌<◌, ◌≤◌, ◌++◌, ◌∷◌, [], true, false, List, Bool, length};
 ghost use Rattle.std.specs.Prelude.{sum_by, IfOk, IfErr, OnOk, OnErr};
+ghost use Rattle.cdb_form.specs.Format.Hash.{key_hash};
 ghost use Rattle.cdb_form.specs.Format.Pair.{head_size};
 ghost use Rattle.cdb_form.specs.Format.File.{whole_size};
 ghost use Rattle.cdb_form.specs.Format.Record.{KeyValue, record_size};
@@ -38,8 +39,9 @@ impl<S: Store, L: Width> Maker<S, L> {
         words <= left && klen <= left - words && vlen <= left - words - klen
     }
 
-    /// One more record, after the others.
-    pub(crate) fn add(&mut self, key: &[u8], value: &[u8]) -> Result<(), MakeFault>
+    /// One more record, after the others. The hash is that of its key.
+    pub(crate) fn add(&mut self, hash: u32, key: &[u8], value: &[u8]) -> Result<(), MakeFault>
+        requires hash { hash ≡ key_hash key.now }
         ensures ok { OnOk result
             (Adds self.old self.new (record { key = key.now; value = value.now })) }
         ensures fails { IfErr result
@@ -63,7 +65,7 @@ impl<S: Store, L: Width> Maker<S, L> {
             return Err(MakeFault::TooBig);
         }
         let (store, lists, gaps) = (&mut self.store, &mut self.lists, &mut self.gaps);
-        self.end = add::<S, L>(store, lists, gaps, self.end, hash(key), key, value)?;
+        self.end = add::<S, L>(store, lists, gaps, self.end, hash, key, value)?;
         self.count += 1;
         Ok(())
     }
@@ -72,7 +74,8 @@ impl<S: Store, L: Width> Maker<S, L> {
     /// is room for it in the store.
     ///
     /// `Broken`: the store gave back other bytes than were written.
-    fn exchange(&mut self, taken: u64, key: &[u8], value: &[u8]) -> Result<(), MakeFault>
+    fn exchange(&mut self, taken: u64, hash: u32, key: &[u8], value: &[u8]) -> Result<(), MakeFault>
+        requires hash { hash ≡ key_hash key.now }
         requires taken { taken ≡ length self.old.gaps.items }
         requires whole { self.old.broken ≡ false }
         requires apart { AreApart (head_size L.WORD) self.old.gaps.items self.old.end }
@@ -94,7 +97,7 @@ impl<S: Store, L: Width> Maker<S, L> {
     {
         let last = self.take_out()?;
         let (store, lists, gaps) = (&mut self.store, &mut self.lists, &mut self.gaps);
-        match add::<S, L>(store, lists, gaps, last, hash(key), key, value) {
+        match add::<S, L>(store, lists, gaps, last, hash, key, value) {
             Ok(end) => {
                 self.end = end;
                 self.count = self.count - taken + 1;
@@ -108,7 +111,8 @@ impl<S: Store, L: Width> Maker<S, L> {
     }
 
     /// The record instead of those of its key.
-    fn replace(&mut self, key: &[u8], value: &[u8]) -> Result<Put, MakeFault>
+    pub(crate) fn replace(&mut self, hash: u32, key: &[u8], value: &[u8]) -> Result<Put, MakeFault>
+        requires hash { hash ≡ key_hash key.now }
         ensures puts { IfOk result
             (Puts self.old self.new Replace (record { key = key.now; value = value.now })) }
         ensures fails { IfErr result
@@ -116,9 +120,9 @@ impl<S: Store, L: Width> Maker<S, L> {
         ensures follows { Follows self.old self.new }
         ensures counts { OnErr result (SameCounts self.old self.new) }
     {
-        let taken = self.find(key)?;
+        let taken = self.find(hash, key)?;
         if taken == 0 {
-            self.add(key, value)?;
+            self.add(hash, key, value)?;
             return Ok(Put::Added);
         }
         let gone = all_sizes(&self.gaps);
@@ -128,7 +132,7 @@ impl<S: Store, L: Width> Maker<S, L> {
         }
         let size = pair_size::<L>() as u64 + key.len() as u64 + value.len() as u64;
         self.store.reserve(self.end - gone + size)?;
-        self.exchange(taken, key, value)?;
+        self.exchange(taken, hash, key, value)?;
         Ok(Put::Replaced(taken))
     }
 
@@ -147,22 +151,23 @@ impl<S: Store, L: Width> Maker<S, L> {
         ensures follows { Follows self.old self.new }
         ensures counts { OnErr result (SameCounts self.old self.new) }
     {
+        let hash = hash(key);
         match mode {
-            Mode::Add => self.add(key, value)?,
+            Mode::Add => self.add(hash, key, value)?,
             Mode::Warn => {
-                let there = self.exists(key)?;
-                self.add(key, value)?;
+                let there = self.look(hash, key)?;
+                self.add(hash, key, value)?;
                 if there {
                     return Ok(Put::AddedAgain);
                 }
             }
             Mode::Insert => {
-                if self.exists(key)? {
+                if self.look(hash, key)? {
                     return Ok(Put::Present);
                 }
-                self.add(key, value)?;
+                self.add(hash, key, value)?;
             }
-            Mode::Replace => return self.replace(key, value),
+            Mode::Replace => return self.replace(hash, key, value),
         }
         Ok(Put::Added)
     }

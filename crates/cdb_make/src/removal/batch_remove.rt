@@ -1,5 +1,6 @@
 // The records of a key, removed by a batch.
 ghost use Rattle.std.specs.Prelude.{◌≡◌, IfOk, IfErr, OnErr};
+ghost use Rattle.cdb_form.specs.Format.Hash.{key_hash};
 
 use crate::batch::Batch;
 use crate::fault::MakeFault;
@@ -12,17 +13,18 @@ impl<S: Store, L: Width> Batch<S, L> {
     ghost use Rattle.cdb_make.specs.Views.Maker.{Follows};
 
     /// Marks the records of a key, or makes a pass and removes them.
-    fn remove_by(&mut self, key: &[u8]) -> Result<u64, MakeFault>
+    fn remove_by(&mut self, hash: u32, key: &[u8]) -> Result<u64, MakeFault>
+        requires hash { hash ≡ key_hash key.now }
         ensures removes { IfOk result (Removes self.old self.new key.now) }
         ensures fails { IfErr result (FailsRemoving self.old self.new key.now) }
         ensures follows { Follows self.old.maker self.new.maker }
         ensures counts { OnErr result (SameCounts self.old self.new) }
     {
-        let taken = self.maker.find(key)?;
+        let taken = self.maker.find(hash, key)?;
         if self.has_room(taken) {
             let from = self.gone.len();
             note(&mut self.gone, self.maker.noted_gaps());
-            self.maker.mark(hash(key), &self.gone[from..]);
+            self.maker.mark(hash, &self.gone[from..]);
             return Ok(taken);
         }
         self.settle()?;
@@ -42,8 +44,9 @@ impl<S: Store, L: Width> Batch<S, L> {
         ensures follows { Follows self.old.maker self.new.maker }
         ensures counts { OnErr result (SameCounts self.old self.new) }
     {
-        let taken = self.remove_by(key)?;
-        self.make_room(key, taken);
+        let hash = hash(key);
+        let taken = self.remove_by(hash, key)?;
+        self.make_room(hash, taken);
         Ok(taken)
     }
 }

@@ -4,6 +4,7 @@ ghost use Rattle.std.specs.Prelude.{IfOk, IfErr, OnOk, OnErr, vec_capacity};
 ghost use Rattle.cdb_store.specs.Images.{TornWithin};
 ghost use Rattle.cdb_store.specs.Laws.{HasNoImage};
 ghost use Rattle.cdb_store.specs.Reads.{OnlyReads};
+ghost use Rattle.cdb_form.specs.Format.Hash.{key_hash};
 ghost use Rattle.cdb_form.specs.Format.Pair.{head_size};
 ghost use Rattle.cdb_form.specs.Format.Record.{KeyValue};
 ghost use Rattle.cdb_make.specs.Gaps.{AreApart, first_place};
@@ -25,8 +26,9 @@ impl<S: Store, L: Width> Maker<S, L> {
     ghost use Rattle.cdb_make.specs.Views.Maker.{Follows, HasNotFailed};
     ghost use Rattle.cdb_make.specs.Views.Carrying.{Carries, KeepsCarrying, WantsMemory};
 
-    /// How many records have a key, whose gaps are noted.
-    pub(crate) fn find(&mut self, key: &[u8]) -> Result<u64, MakeFault>
+    /// How many records have a key of this hash, whose gaps are noted.
+    pub(crate) fn find(&mut self, hash: u32, key: &[u8]) -> Result<u64, MakeFault>
+        requires hash { hash ≡ key_hash key.now }
         ensures count { IfOk result (λ n. n ≡ length self.new.gaps.items) }
         ensures few { IfOk result (λ n. n ≤ self.new.count) }
         ensures gaps { (rs : List KeyValue) → Holds self.old rs
@@ -55,7 +57,6 @@ impl<S: Store, L: Width> Maker<S, L> {
         if self.broken {
             return Err(MakeFault::Broken);
         }
-        let hash = hash(key);
         catch_up(&mut self.lists, hash);
         let (store, gaps) = (&mut self.store, &mut self.gaps);
         match take_out::find::<S, L>(store, &self.lists, hash, key, self.end, gaps) {
@@ -121,7 +122,7 @@ impl<S: Store, L: Width> Maker<S, L> {
         ensures follows { Follows self.old self.new }
         ensures counts { OnErr result (SameCounts self.old self.new) }
     {
-        let taken = self.find(key)?;
+        let taken = self.find(hash(key), key)?;
         if taken > 0 {
             self.end = self.take_out()?;
             self.count -= taken;

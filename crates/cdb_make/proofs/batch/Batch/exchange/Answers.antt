@@ -28,7 +28,7 @@ returns-in-Ok-clause-done g c = λ e.
       within = omega (arith, c.note.ensures.capacity, m.within);
     } in
     let last = noted_last c.deref.result.now m.gone.items m.maker.gaps.items from (c.deref.ensures.value ∙ noted) (omega (arith, c.len-from.ensures, m.gone.ok.0)) in
-    exchanges_noted {s = g.S.Store} {l = g.L.Width} m mid _ r c.hash.result _ (λ full. omega (arith, room, c.requires.taken)) noted refl f.ok f.carries f.fits c.mark.ensures.broken c.mark.ensures.store c.hash.ensures last c.mark.ensures.marked
+    exchanges_noted {s = g.S.Store} {l = g.L.Width} m mid _ r c.args.hash _ (λ full. omega (arith, room, c.requires.taken)) noted refl f.ok f.carries f.fits c.mark.ensures.broken c.mark.ensures.store c.requires.hash last c.mark.ensures.marked
 
 pub returns-in-Ok-clause-follows : goal.returns-in-Ok-clause-follows
 returns-in-Ok-clause-follows g c = follows_then c.add.ensures.follows (follows_still {s = g.S.Store} {l = g.L.Width} c.add.new.self c.mark.new.self c.mark.ensures.store c.mark.ensures.counts)

@@ -34,9 +34,9 @@ returns-then-has_room-clause-removes g c =
     let gaps : List Gap = c.find.new.self.gaps.items in
     let noted : c.note.new.gone.items ≡ m.gone.items ++ gaps = c.note.ensures.items ∙ ap (λ (v : List Gap). m.gone.items ++ v) c.noted_gaps.ensures in
     let last = noted_last c.deref.result.now m.gone.items gaps from (c.deref.ensures.value ∙ noted) (omega (arith, c.len-from.ensures, m.gone.ok.0)) in
-    removes_noted {s = g.S.Store} {l = g.L.Width} m (with_maker m c.find.new.self m.spare m.within) _ c.args.key.now c.in_ok-taken.taken c.hash.result _
+    removes_noted {s = g.S.Store} {l = g.L.Width} m (with_maker m c.find.new.self m.spare m.within) _ c.args.key.now c.in_ok-taken.taken c.args.hash _
     (rests_looked {s = g.S.Store} {l = g.L.Width} m c.find.new.self m.spare m.within f.ok e.keeps (reads_fewer e.reads) e.reads.room e.counts f.ok_failures e.reads.unwritten) f.fresh f.count (λ full. (let r = c.if-has_room.ensures.room refl in omega arith))
-    c.mark.ensures.broken c.mark.ensures.store noted c.hash.ensures last c.mark.ensures.marked
+    c.mark.ensures.broken c.mark.ensures.store noted c.requires.hash last c.mark.ensures.marked
 
 pub returns-then-has_room-clause-follows : goal.returns-then-has_room-clause-follows
 returns-then-has_room-clause-follows g c =

@@ -117,10 +117,10 @@ returns-clause-puts g c =
     let e = c.find.ensures in
     let f = c.in_ok-taken.ensures in
     let k = c.in_ok-settle.ensures in
-    IfOk-weaker c.put.result _ _
+    IfOk-weaker c.replace.result _ _
     (λ answer puts. puts_settled {s = g.S.Store} {l = g.L.Width} m (with_maker m c.find.new.self _ _) c.exchange.new.self c.settle.new.self _ (record { key = c.args.key.now; value = c.args.value.now }) answer
-    (rests_looked {s = g.S.Store} {l = g.L.Width} m c.find.new.self _ _ f.ok e.keeps (reads_fewer e.reads) e.reads.room e.counts f.ok_failures e.reads.unwritten) (f.wants c.args.value.now) f.fresh (c.in_ok-exchange.ensures.waits c.if-branch.false) k.settles c.settle.ensures.follows.comes k.settles.none c.put.ensures.follows.comes puts)
-    c.put.ensures.puts
+    (rests_looked {s = g.S.Store} {l = g.L.Width} m c.find.new.self _ _ f.ok e.keeps (reads_fewer e.reads) e.reads.room e.counts f.ok_failures e.reads.unwritten) (f.wants c.args.value.now) f.fresh (c.in_ok-exchange.ensures.waits c.if-branch.false) k.settles c.settle.ensures.follows.comes k.settles.none c.replace.ensures.follows.comes puts)
+    c.replace.ensures.puts
 
 pub returns-clause-fails : goal.returns-clause-fails
 returns-clause-fails g c =
@@ -128,17 +128,17 @@ returns-clause-fails g c =
     let e = c.find.ensures in
     let f = c.in_ok-taken.ensures in
     let k = c.in_ok-settle.ensures in
-    on_fault_is c.put.result
+    on_fault_is c.replace.result
     (λ fault is fails. fails_put_settled {s = g.S.Store} {l = g.L.Width} m (with_maker m c.find.new.self _ _) c.exchange.new.self c.settle.new.self _ (record { key = c.args.key.now; value = c.args.value.now }) fault
-    (rests_looked {s = g.S.Store} {l = g.L.Width} m c.find.new.self _ _ f.ok e.keeps (reads_fewer e.reads) e.reads.room e.counts f.ok_failures e.reads.unwritten) (f.wants c.args.value.now) f.fresh (c.in_ok-exchange.ensures.waits c.if-branch.false) k.settles c.settle.ensures.follows k.fine k.settles.none c.put.ensures.follows.comes fails)
-    c.put.ensures.fails
+    (rests_looked {s = g.S.Store} {l = g.L.Width} m c.find.new.self _ _ f.ok e.keeps (reads_fewer e.reads) e.reads.room e.counts f.ok_failures e.reads.unwritten) (f.wants c.args.value.now) f.fresh (c.in_ok-exchange.ensures.waits c.if-branch.false) k.settles c.settle.ensures.follows k.fine k.settles.none c.replace.ensures.follows.comes fails)
+    c.replace.ensures.fails
 
 pub returns-clause-follows : goal.returns-clause-follows
-returns-clause-follows g c = let e = c.find.ensures in follows_then (follows_looked {s = g.S.Store} {l = g.L.Width} c.args.self.now.maker c.find.new.self e.reads e.counts) (follows_then c.exchange.ensures.follows (follows_then c.settle.ensures.follows c.put.ensures.follows))
+returns-clause-follows g c = let e = c.find.ensures in follows_then (follows_looked {s = g.S.Store} {l = g.L.Width} c.args.self.now.maker c.find.new.self e.reads e.counts) (follows_then c.exchange.ensures.follows (follows_then c.settle.ensures.follows c.replace.ensures.follows))
 
 pub returns-clause-counts : goal.returns-clause-counts
 returns-clause-counts g c =
     let e = c.find.ensures.counts in
     let h = c.in_ok-exchange.ensures.same c.if-branch.false in
     let k = c.settle.ensures.counts in
-    on_err_weaker c.put.result (λ same. record { count = omega (arith, e.count, h.count, k.count, same.count); limit = same.limit ∙ k.limit ∙ h.limit ∙ e.limit }) c.put.ensures.counts
+    on_err_weaker c.replace.result (λ same. record { count = omega (arith, e.count, h.count, k.count, same.count); limit = same.limit ∙ k.limit ∙ h.limit ∙ e.limit }) c.replace.ensures.counts

@@ -40,7 +40,7 @@ returns-in-Err-NoMemory-clause-fails g c = λ rs h found b is.
     let some : 0 < count_of c.args.key.now rs = omega (arith, (count_found found).each a.0 a.1, c.requires.some) in
     let why = add_wants _ _ _ _ _ _ c.in-Err-NoMemory.field-0 c.in-Err-NoMemory.field-0-is c.in-Err-NoMemory.ensures.fails in
     elim why [
-      | inl full ↦ room_left c.args.key.now a.0 z.0 m.all c.hash.ensures e.lists was now some m.spare (room_same _ _ (ap (λ v. vec_capacity v) c.take_out.ensures.gaps) full)
+      | inl full ↦ room_left c.args.key.now a.0 z.0 m.all c.requires.hash e.lists was now some m.spare (room_same _ _ (ap (λ v. vec_capacity v) c.take_out.ensures.gaps) full)
       | inr past ↦ omega (arith, past, c.requires.room, e.end, c.take_out.ensures.room)
     ]
 
