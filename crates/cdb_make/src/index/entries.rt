@@ -1,7 +1,8 @@
 // The lists of all tables grow by an entry.
 ghost use Rattle.std.specs.Prelude.{◌≡◌, ℕ, ◌<◌, ◌≤◌, ◌⊎◌, [], length, replicate, vec_capacity};
 ghost use Rattle.std.specs.Prelude.{IfOk, OnOk, OnErr};
-ghost use Rattle.cdb_make.specs.Views.EntryList.{lists_entries, entry_count, entry_room};
+ghost use Rattle.cdb_make.specs.Views.EntryList.{list_entries, lists_entries, list_room};
+ghost use Rattle.cdb_make.specs.Views.EntryList.{entry_count, entry_room};
 ghost use Rattle.cdb_make.specs.Views.EntryList.{with_entry, list_tops, AreUnder};
 
 use crate::index::list::EntryList;
@@ -19,6 +20,25 @@ pub(crate) fn no_entries(alloc: Global) -> Result<Vec<EntryList>, AllocError>
         lists.push(EntryList::new(alloc))?;
     }
     Ok(lists)
+}
+
+/// Makes room for an entry in a list, and for a gap for each entry there. If memory is refused, the
+/// entries stay.
+#[cold]
+#[inline(never)]
+fn grow(list: &mut EntryList, gaps: &mut Vec<Gap>) -> Result<(), AllocError>
+    ensures entries { list_entries list.new ≡ list_entries list.old }
+    ensures top { list.new.top ≡ list.old.top }
+    ensures room { OnOk result (length (list_entries list.new) < list_room list.new) }
+    ensures spare { OnOk result (length (list_entries list.old) < vec_capacity gaps.new) }
+    ensures kept { vec_capacity gaps.old ≤ vec_capacity gaps.new }
+    ensures full { OnErr result
+        ((list_room list.old ≤ length (list_entries list.old))
+        ⊎ (vec_capacity gaps.old ≤ length (list_entries list.old))) }
+{
+    gaps.clear();
+    gaps.reserve(list.hashes().len() + 1)?;
+    list.reserve()
 }
 
 /// Makes room for an entry in the list of its hash, and for a gap for each entry there. If
@@ -41,9 +61,10 @@ pub(crate) fn reserve_entry(
         ⊎ (vec_capacity gaps.old ≤ entry_count lists.old.items hash)) }
 {
     let list = &mut lists[table_number(u64::from(hash))];
-    gaps.clear();
-    gaps.reserve(list.hashes().len() + 1)?;
-    list.reserve()
+    if list.has_room() && list.len() < gaps.capacity() {
+        return Ok(());
+    }
+    grow(list, gaps)
 }
 
 /// Indexes the entries of the list of a hash, before a look for it.

@@ -29,11 +29,16 @@ pub(crate) struct EntryList {
     index: Index,
     /// In the first list of a group, a place that no place of the group's lists passes.
     top: u64,
+    /// So many entries take no memory. There may be room for more.
+    room: usize,
     ghost paired: { length hashes.items ≡ length places.items },
     ghost linked: { AreLinked index.ends.items index.next.items hashes.items },
     ghost indexed: { length hashes.items ≤ index_room index },
     ghost hash_room: { length hashes.items ≤ vec_capacity hashes },
     ghost place_room: { length places.items ≤ vec_capacity places },
+    ghost known_hash_room: { room ≤ vec_capacity hashes },
+    ghost known_place_room: { room ≤ vec_capacity places },
+    ghost known_index_room: { room ≤ index_room index },
 }
 
 impl EntryList {
@@ -51,6 +56,7 @@ impl EntryList {
             places: Vec::new(alloc),
             index: Index::new(alloc),
             top: 0,
+            room: 0,
         }
     }
 
@@ -115,6 +121,13 @@ impl EntryList {
         }
     }
 
+    /// Whether it is known that one more entry takes no memory.
+    pub(crate) fn has_room(&self) -> bool
+        ensures { result ≡ true → length (list_entries self.now) < list_room self.now }
+    {
+        self.hashes.len() < self.room
+    }
+
     /// Makes room for one more entry. If memory is refused, the entries stay.
     pub(crate) fn reserve(&mut self) -> Result<(), AllocError>
         ensures entries { list_entries self.new ≡ list_entries self.old }
@@ -125,7 +138,10 @@ impl EntryList {
     {
         self.hashes.reserve(1)?;
         self.places.reserve(1)?;
-        self.index.reserve(self.hashes.len())
+        self.index.reserve(self.hashes.len())?;
+        let room = self.hashes.capacity().min(self.places.capacity());
+        self.room = room.min(self.index.room());
+        Ok(())
     }
 
     /// One more entry, for which there is room.
@@ -140,7 +156,7 @@ impl EntryList {
         self.places.push_reserved(place);
     }
 
-    /// Indexes the entries that are not yet, if they are many. It takes no memory.
+    /// Indexes the entries that are not yet. It takes no memory.
     pub(crate) fn catch_up(&mut self)
         ensures entries { list_entries self.new ≡ list_entries self.old }
         ensures room { list_room self.old ≤ list_room self.new }

@@ -9,9 +9,6 @@ use std::alloc::{AllocError, Global};
 /// How many entries of a list an index has at most, since their numbers are 32 bits wide.
 const MOST: usize = 4294967295;
 
-/// So many new entries are put into rings together, before a search. Fewer it compares one by one.
-const LATE: usize = 32;
-
 /// The first entries of a list in rings, a ring for the hashes of each bucket: 8 to 12 bytes an
 /// entry. So a search looks at few entries but those of its hash, however many there are.
 #[derive(Drop)]
@@ -104,6 +101,13 @@ impl Index {
         }
         let rest = from.max(at);
         rest + first_place(&hashes[rest..], hash)
+    }
+
+    /// So many entries a list may have before the index takes memory, or more.
+    pub(crate) fn room(&self) -> usize
+        ensures { result ≤ index_room self.now }
+    {
+        self.next.capacity().min(self.ends.capacity())
     }
 
     /// Makes room for one more entry than so many. The rings stay.
@@ -239,17 +243,16 @@ impl Index {
         let _ = self.ends.resize(room, 0);
     }
 
-    /// Puts the entries that are in no ring into those of their buckets, if they are many. It takes
-    /// no memory.
+    /// Puts the entries that are in no ring into those of their buckets. It takes no memory.
     pub(crate) fn catch_up(&mut self, hashes: &[u32])
         requires linked { AreLinked self.old.ends.items self.old.next.items hashes.now }
         requires room { length hashes.now ≤ index_room self.old }
         ensures linked { AreLinked self.new.ends.items self.new.next.items hashes.now }
-        ensures near { min (length hashes.now) (2 ^ 32 - 1) < length self.new.next.items + 32 }
+        ensures all { length self.new.next.items ≡ min (length hashes.now) (2 ^ 32 - 1) }
         ensures room { index_room self.old ≤ index_room self.new }
     {
         let most = hashes.len().min(MOST);
-        if most < self.next.len() + LATE {
+        if self.next.len() == most {
             return;
         }
         if most > self.ends.len() {
