@@ -19,6 +19,11 @@ pub on_any_err : {T E : Type 0} {P : Type 0} (r : Result T E) → P → OnErr r 
 on_any_err (Ok x) h = tt
 on_any_err (Err e) h = h
 
+-- what follows of three facts of an answer
+pub on_ok_of : {T E : Type 0} {A B C D : Type 0} (r : Result T E) → (A → B → C → D) → OnOk r A → OnOk r B → OnOk r C → OnOk r D
+on_ok_of (Ok x) f a b c = f a b c
+on_ok_of (Err e) f a b c = tt
+
 pub written_front : (k : ℕ) (into xs rest : List ℕ) → into ≡ xs → length xs ≡ k → take k (into ++ rest) ≡ xs
 written_front k into xs rest e l = ap (λ t. take k (t ++ rest)) e ∙ take_at xs rest k l
 

@@ -8,3 +8,4 @@ pub mod Batch
 pub mod Adding
 pub mod Appending
 pub mod Making
+pub mod Writing

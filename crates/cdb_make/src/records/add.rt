@@ -19,7 +19,7 @@ use crate::index::entries::{push_entry, reserve_entry};
 use crate::index::list::EntryList;
 use crate::records::write::append_record;
 use crate::removal::gap::Gap;
-use cdb_form::{GREATEST_PAIR, Header, Width, pair_size, write_header};
+use cdb_form::{Width, pair_size};
 use cdb_store::Store;
 
 /// Writes a record from `end` on and notes its entry, and answers where the records end then.
@@ -84,14 +84,7 @@ pub(crate) fn add<S: Store, L: Width>(
         (λ f. f ≡ Writing → S.unwritten store.old < S.unwritten store.new) }
 {
     reserve_entry(lists, gaps, hash)?;
-    let header = Header {
-        klen: key.len() as u64,
-        vlen: value.len() as u64,
-    };
-    let mut words = [0u8; GREATEST_PAIR];
-    let len = pair_size::<L>();
-    write_header::<L>(header, &mut words[..len]);
-    append_record(store, end, &words[..len], key, value)?;
+    append_record::<S, L>(store, end, key, value)?;
     push_entry(lists, hash, end);
-    Ok(end + len as u64 + header.klen + header.vlen)
+    Ok(end + pair_size::<L>() as u64 + key.len() as u64 + value.len() as u64)
 }

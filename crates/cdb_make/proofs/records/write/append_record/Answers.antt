@@ -1,0 +1,39 @@
+use Rattle.std.proofs.Common.{arith, ◌≡◌, ℕ, List, length, ap, subst, ◌∙◌}
+use Rattle.cdb_store.specs.Images.{AfterWrite}
+use Rattle.cdb_store.proofs.Moves.{torn_wider}
+use Rattle.cdb_form.specs.Format.Record.{KeyValue, record_size}
+use Rattle.cdb_form.proofs.Sizes.{length-record_bytes}
+use Rattle.cdb_make.proofs.Written.{on_ok_of}
+use Rattle.cdb_make.proofs.records.write.append_record.Goals as goal
+
+pub returns-clause-ok : goal.returns-clause-ok
+returns-clause-ok g c =
+    let w : ℕ = g.L.Width.WORD in
+    let r : KeyValue = record { key = c.args.key.now; value = c.args.value.now } in
+    let f = c.write_at.ensures in
+    let long : length c.collect.new.piece ≡ record_size w r = ap length c.collect.ensures ∙ length-record_bytes w r in
+    on_ok_of c.write_at.result (λ ok size written. record {
+      images = subst (λ (v : List ℕ). AfterWrite c.args.pos v (g.S.Store.image c.args.store.now) (g.S.Store.image c.write_at.new.self)) c.collect.ensures ok;
+      size = omega (arith, long, length-record_bytes w r, size);
+      written = omega (arith, long, length-record_bytes w r, written);
+    })
+    f.ok f.ok_size f.ok_written
+
+pub returns-clause-within : goal.returns-clause-within
+returns-clause-within g c =
+    let w : ℕ = g.L.Width.WORD in
+    let r : KeyValue = record { key = c.args.key.now; value = c.args.value.now } in
+    let f = c.write_at.ensures in
+    let long : length c.collect.new.piece ≡ record_size w r = ap length c.collect.ensures ∙ length-record_bytes w r in
+    record {
+      torn = torn_wider c.args.pos _ _ _ _ (omega (arith, long)) f.torn;
+      longer = f.longer;
+      not_past = omega (arith, f.not_past, long);
+      more_written = f.more_written;
+      at_most_written = omega (arith, f.at_most_written, long);
+      memory = λ refused. record { images = f.memory refused; size = f.memory_size refused; written = f.memory_written refused; room = f.memory_room refused; failures = f.memory_failures refused };
+      past_room = λ refused. omega (arith, f.past_room refused, long);
+      room = f.room;
+      cause = f.cause;
+      unwritten = f.unwritten;
+    }
