@@ -12,6 +12,7 @@ use Rattle.cdb_form.specs.Format.Table.{is_used, slots_from, slots_with, filled_
 use Rattle.cdb_form.specs.Format.Hash.{home_slot}
 use Rattle.cdb_form.specs.Views.Pairs.{slot_pair}
 use Rattle.cdb_form.specs.declared.slot.Slot.{Slot}
+use Rattle.cdb_make.specs.Runs.{AreEmpty}
 
 -- the first empty slot stands behind home
 pub first_behind : (p : WordPair → Bool) (xs : List WordPair) (home n b : ℕ) → length xs ≡ n → home < n → b ≡ prefix_len p (drop home xs) → b < n - home → home + b ≡ (home + prefix_len p (slots_from home xs)) % n
@@ -71,9 +72,10 @@ entry_put slots e home place n en eh ep =
     ep ∙ ap (λ (m : ℕ). (home + prefix_len is_used (slots_from home (map slot_pair slots))) % m) (en ∙ sym l) ∙ ap (λ (m : ℕ). (m + prefix_len is_used (slots_from m (map slot_pair slots))) % length (map slot_pair slots)) h in
     map-set slot_pair slots place e ∙ ap (λ (m : ℕ). slice_set (map slot_pair slots) m (slot_pair e)) p
 
-pub all_empty : (xs : List Slot) → ((k : ℕ) (d : Slot) → k < length xs → get_or xs k d ≡ record { hash = 0; place = 0 }) → map slot_pair xs ≡ replicate (length xs) empty_slot
+-- empty slots, side by side
+pub all_empty : (xs : List Slot) → AreEmpty xs → map slot_pair xs ≡ replicate (length xs) empty_slot
 all_empty [] h = refl
-all_empty (x ∷ xs) h = let first : slot_pair x ≡ empty_slot = ap slot_pair (h 0 x (omega arith)) in
+all_empty (x ∷ xs) h = let first : slot_pair x ≡ empty_slot = h 0 x (omega arith) in
     let ih = all_empty xs (λ k d l. h (suc k) d (omega arith)) in
     cc
 

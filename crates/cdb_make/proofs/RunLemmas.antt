@@ -10,7 +10,7 @@ use Rattle.cdb_form.specs.Format.Pair.{WordPair}
 use Rattle.cdb_form.specs.Format.Table.{is_used, empty_slot}
 use Rattle.cdb_form.specs.Views.Pairs.{slot_pair}
 use Rattle.cdb_form.specs.declared.slot.Slot.{Slot}
-use Rattle.cdb_make.specs.Runs.{IsRun, AreRuns}
+use Rattle.cdb_make.specs.Runs.{IsRun, AreRuns, AreEmpty}
 
 past : {X : Type 0} (xs : List X) (at : ℕ) (d : X) → length xs ≤ at → get_or xs at d ≡ d
 past [] at d h = refl
@@ -50,10 +50,10 @@ run_passed slots at (suc n) run =
 
 -- a run is noted
 pub run_noted : (slots : List WordPair) (runs : List ℕ) (at n : ℕ) → at < length runs → IsRun at n slots → AreRuns runs slots → AreRuns (slice_set runs at n) slots
-run_noted slots runs at n within run all = λ i. elim (cases_lt i at) [
-  | inl low ↦ subst (λ (r : ℕ). IsRun i r slots) (sym (get_or-set_other runs at i n 0 (λ e. omega (arith, e, low)))) (all i)
+run_noted slots runs at n within run all = λ i used. elim (cases_lt i at) [
+  | inl low ↦ subst (λ (r : ℕ). IsRun i r slots) (sym (get_or-set_other runs at i n 0 (λ e. omega (arith, e, low)))) (all i used)
   | inr high ↦ elim (cases_lt at i) [
-    | inl above ↦ subst (λ (r : ℕ). IsRun i r slots) (sym (get_or-set_other runs at i n 0 (λ e. omega (arith, e, above)))) (all i)
+    | inl above ↦ subst (λ (r : ℕ). IsRun i r slots) (sym (get_or-set_other runs at i n 0 (λ e. omega (arith, e, above)))) (all i used)
     | inr not ↦
         let same : at ≡ i = omega (arith, high, not) in
         subst (λ (j : ℕ). IsRun j (get_or (slice_set runs at n) j 0) slots) same
@@ -61,17 +61,33 @@ run_noted slots runs at n within run all = λ i. elim (cases_lt i at) [
   ]
 ]
 
--- an empty slot is filled
-pub runs_kept : (slots : List WordPair) (runs : List ℕ) (place : ℕ) (e : WordPair) → is_used (get_or slots place empty_slot) ≡ false → AreRuns runs slots → AreRuns runs (slice_set slots place e)
-runs_kept slots runs place e empty all = λ at k low.
-    let used = all at k low in
+-- an empty slot is filled, and nothing is known of its run
+runs_kept : (slots : List WordPair) (runs : List ℕ) (place at : ℕ) (e : WordPair) → (at ≡ place → ⊥) → is_used (get_or slots place empty_slot) ≡ false → AreRuns runs slots
+    → is_used (get_or (slice_set slots place e) at empty_slot) ≡ true → IsRun at (get_or runs at 0) (slice_set slots place e)
+runs_kept slots runs place at e apart empty all filled = λ k low.
+    let was : is_used (get_or slots at empty_slot) ≡ true = sym (ap is_used (get_or-set_other slots place at e empty_slot apart)) ∙ filled in
+    let used = all at was k low in
     let other : (at + k ≡ place → ⊥) = λ same.
     let clash : true ≡ false = sym used ∙ ap (λ (i : ℕ). is_used (get_or slots i empty_slot)) same ∙ empty in grind (arith, clash) in
     ap is_used (get_or-set_other slots place (at + k) e empty_slot other) ∙ used
 
+runs_filled : (slots : List WordPair) (runs : List ℕ) (place : ℕ) (e : WordPair) → place < length runs → is_used (get_or slots place empty_slot) ≡ false → AreRuns runs slots → AreRuns (slice_set runs place 0) (slice_set slots place e)
+runs_filled slots runs place e within empty all = λ at filled. elim (cases_lt at place) [
+  | inl low ↦ let apart : (at ≡ place → ⊥) = λ e. omega (arith, e, low) in
+      subst (λ (r : ℕ). IsRun at r (slice_set slots place e)) (sym (get_or-set_other runs place at 0 0 apart)) (runs_kept slots runs place at e apart empty all filled)
+  | inr high ↦ elim (cases_lt place at) [
+    | inl above ↦ let apart : (at ≡ place → ⊥) = λ e. omega (arith, e, above) in
+        subst (λ (r : ℕ). IsRun at r (slice_set slots place e)) (sym (get_or-set_other runs place at 0 0 apart)) (runs_kept slots runs place at e apart empty all filled)
+    | inr not ↦
+        let same : place ≡ at = omega (arith, high, not) in
+        subst (λ (j : ℕ). IsRun j (get_or (slice_set runs place 0) j 0) (slice_set slots place e)) same
+        (subst (λ (r : ℕ). IsRun place r (slice_set slots place e)) (sym (get_or-set_same runs place 0 0 within)) (λ k low. let no : ⊥ = omega (arith, low) in elim no [ ]))
+  ]
+]
+
 -- no run is noted
 pub runs_unknown : (slots : List WordPair) (runs : List ℕ) → ((k : ℕ) → get_or runs k 0 ≡ 0) → AreRuns runs slots
-runs_unknown slots runs none = λ at k low. let n = none at in let no : ⊥ = omega (arith, n, low) in elim no [ ]
+runs_unknown slots runs none = λ at used k low. let n = none at in let no : ⊥ = omega (arith, n, low) in elim no [ ]
 
 pub all_zero : (runs : List ℕ) (n : ℕ) → length runs ≤ n → ((k : ℕ) → k < n → get_or runs k 0 ≡ 0) → (k : ℕ) → get_or runs k 0 ≡ 0
 all_zero runs n long so k = elim (cases_lt k n) [
@@ -123,7 +139,16 @@ runs_passed slots at run more within first second =
     let over = run_passed (map slot_pair slots) at (run + more) joined in
     record { within = omega (arith, low, l); joined = joined; passed = omega (arith, over) }
 
--- an entry in an empty slot, or one of whose runs nothing is known
-pub filled_kept : (slots : List Slot) (runs : List ℕ) (place : ℕ) (e : Slot) → place < length slots → (get_or slots place (record { hash = 0; place = 0 })).place ≡ 0 → AreRuns runs (map slot_pair slots) → AreRuns runs (map slot_pair (slice_set slots place e))
-filled_kept slots runs place e low none all =
-    subst (AreRuns runs) (sym (map-set slot_pair slots place e)) (runs_kept (map slot_pair slots) runs place (slot_pair e) (slot_empty slots place low none) all)
+-- an entry in an empty slot
+pub filled_kept : (slots : List Slot) (runs : List ℕ) (place : ℕ) (e : Slot) → place < length slots → length runs ≡ length slots → (get_or slots place (record { hash = 0; place = 0 })).place ≡ 0 → AreRuns runs (map slot_pair slots)
+    → AreRuns (slice_set runs place 0) (map slot_pair (slice_set slots place e))
+filled_kept slots runs place e low long none all =
+    subst (AreRuns (slice_set runs place 0)) (sym (map-set slot_pair slots place e)) (runs_filled (map slot_pair slots) runs place (slot_pair e) (omega (arith, low, long)) (slot_empty slots place low none) all)
+
+-- of empty slots no run is known
+pub runs_none : (slots : List Slot) (runs : List ℕ) → AreEmpty slots → AreRuns runs (map slot_pair slots)
+runs_none slots runs empty = λ at used.
+    let low : at < length slots = omega (arith, used_within (map slot_pair slots) at used, length-map slots slot_pair) in
+    let d : Slot = record { hash = 0; place = 0 } in
+    let none : get_or (map slot_pair slots) at empty_slot ≡ empty_slot = get_or-map slot_pair slots at d empty_slot low ∙ empty at d low in
+    let clash : false ≡ true = sym (ap is_used none) ∙ used in grind (arith, clash)

@@ -7,6 +7,7 @@ ghost use Rattle.cdb_form.specs.Format.Pair.{head_size, pair_size};
 ghost use Rattle.cdb_make.specs.declared.fault.MakeFault.TheVariants.{NoMemory, Writing};
 ghost use Rattle.cdb_make.specs.Finished.{IsFinished, HeadIsLast};
 ghost use Rattle.cdb_make.specs.Parts.{tables_end};
+ghost use Rattle.cdb_make.specs.Runs.{AreEmpty};
 ghost use Rattle.cdb_make.specs.Views.EntryList.{lists_entries};
 
 use crate::fault::MakeFault;
@@ -41,6 +42,7 @@ fn write_parts<S: Store, L: Width>(
     requires slots { All (λ list. 2 * length list ≤ length slots.old) (lists_entries lists.now) }
     requires runs { length slots.old ≤ length runs.old }
     requires bytes { length bytes.old ≡ pair_size L.WORD * length slots.old }
+    requires empty { AreEmpty slots.old }
     requires fits { All (All (λ e. e.second ≤ L.TOP)) (lists_entries lists.now) }
     ensures file { OnOk result (IsFinished L.WORD end (lists_entries lists.now)
         (S.image store.old) (S.image store.new)) }

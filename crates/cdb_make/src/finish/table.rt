@@ -6,7 +6,7 @@ ghost use Rattle.std.specs.List.{prefix_len};
 ghost use Rattle.cdb_form.specs.Format.Table.{is_used, slots_from, slots_with, filled_slots};
 ghost use Rattle.cdb_form.specs.Format.Table.{empty_slot};
 ghost use Rattle.cdb_form.specs.Views.Pairs.{slot_pair, PairFits};
-ghost use Rattle.cdb_make.specs.Runs.{IsRun, AreRuns};
+ghost use Rattle.cdb_make.specs.Runs.{IsRun, AreRuns, AreEmpty};
 
 use cdb_form::{Slot, Width, home_slot, pair_size, write_slot};
 
@@ -79,24 +79,17 @@ pub(crate) fn put_entry(slots: &mut [Slot], runs: &mut [usize], entry: Slot)
 {
     let home = home_slot(entry.hash, slots.len() as u64);
     let place = first_empty(slots, runs, home as usize);
-    // If no slot is empty, the entry takes the place of another.
-    if slots[place].place != 0 {
+    if slots[place].place == 0 {
+        runs[place] = 0;
+    } else {
+        // No slot is empty, and the entry takes the place of another.
         forget(runs);
     }
     slots[place] = entry;
 }
 
-/// Empties each slot.
-pub(crate) fn clear(slots: &mut [Slot])
-    ensures { map slot_pair slots.new ≡ replicate (length slots.old) empty_slot }
-{
-    for slot in slots.iter_mut() {
-        *slot = EMPTY;
-    }
-}
-
 /// Notes no run of used slots.
-pub(crate) fn forget(runs: &mut [usize])
+fn forget(runs: &mut [usize])
     ensures { (at : ℕ) → get_or runs.new at 0 ≡ 0 }
 {
     for run in runs.iter_mut() {
@@ -104,16 +97,18 @@ pub(crate) fn forget(runs: &mut [usize])
     }
 }
 
-/// Leaves the bytes of some slots.
-pub(crate) fn encode_slots<L: Width>(slots: &[Slot], into: &mut [u8])
-    requires long { length into.old ≡ pair_size L.WORD * length slots.now }
-    requires fits { All (PairFits L.TOP) (map slot_pair slots.now) }
-    ensures { into.new ≡ flat_map (pair_bytes L.WORD) (map slot_pair slots.now) }
+/// Leaves the bytes of some slots, and empties each slot.
+pub(crate) fn encode_slots<L: Width>(slots: &mut [Slot], into: &mut [u8])
+    requires long { length into.old ≡ pair_size L.WORD * length slots.old }
+    requires fits { All (PairFits L.TOP) (map slot_pair slots.old) }
+    ensures bytes { into.new ≡ flat_map (pair_bytes L.WORD) (map slot_pair slots.old) }
+    ensures empty { AreEmpty slots.new }
 {
     let size = pair_size::<L>();
     let mut at = 0;
-    for slot in slots {
+    for slot in slots.iter_mut() {
         write_slot::<L>(*slot, &mut into[at..at + size]);
+        *slot = EMPTY;
         at += size;
     }
 }

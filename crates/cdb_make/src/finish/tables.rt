@@ -7,30 +7,31 @@ ghost use Rattle.cdb_form.specs.Format.Pair.{pair_size};
 ghost use Rattle.cdb_form.specs.Format.Table.{slots_of};
 ghost use Rattle.cdb_form.specs.Views.Pairs.{slot_pair};
 ghost use Rattle.cdb_make.specs.Parts.{table_bytes, tables_end};
+ghost use Rattle.cdb_make.specs.Runs.{AreEmpty};
 ghost use Rattle.cdb_make.specs.Views.EntryList.{list_entries, lists_entries};
 
-use crate::finish::table::{clear, encode_slots, forget, put_entry};
+use crate::finish::table::{encode_slots, put_entry};
 use crate::index::list::EntryList;
 use cdb_form::{Slot, Width, pair_size};
 use cdb_store::{Store, StoreFault};
 
-/// Leaves the table of a list's entries, filled in their order. It has two slots for each.
+/// Leaves the table of a list's entries in empty slots, filled in their order. It has two slots for
+/// each.
 fn fill_table_of(slots: &mut [Slot], runs: &mut [usize], list: &EntryList)
     requires slots { length slots.old ≡ 2 * length (list_entries list.now) }
     requires runs { length slots.old ≤ length runs.old }
+    requires empty { AreEmpty slots.old }
     ensures filled { map slot_pair slots.new ≡ slots_of (list_entries list.now) }
     ensures hashes { All (λ e. e.first < 2 ^ 32) (list_entries list.now) }
 {
-    clear(slots);
     let runs = &mut runs[..slots.len()];
-    forget(runs);
     for n in 0..list.len() {
         put_entry(slots, runs, list.entry(n));
     }
 }
 
-/// Writes the table of a list's entries at a place, by way of its slots and of its bytes. It takes
-/// no memory. A table with no slots isn't written.
+/// Writes the table of a list's entries at a place, by way of its slots, which are empty before and
+/// after, and of its bytes. It takes no memory. A table with no slots isn't written.
 ///
 /// `Device`: the table's bytes may be any, and those before and after it stay.
 fn write_table<S: Store, L: Width>(
@@ -44,6 +45,7 @@ fn write_table<S: Store, L: Width>(
     requires slots { length slots.old ≡ 2 * length (list_entries list.now) }
     requires runs { length slots.old ≤ length runs.old }
     requires bytes { length bytes.old ≡ pair_size L.WORD * length slots.old }
+    requires empty { AreEmpty slots.old }
     requires fits { All (λ e. e.second ≤ L.TOP) (list_entries list.now) }
     requires inside { place ≤ S.size store.old }
     requires limit { place + length bytes.old ≤ L.GREATEST }
@@ -54,6 +56,7 @@ fn write_table<S: Store, L: Width>(
         (S.size store.new ≡ max (S.size store.old) (place + length bytes.old)) }
     ensures written { OnOk result (S.written store.new ≡ S.written store.old + length bytes.old) }
     ensures torn { AfterTornWrite place (length bytes.old) (S.image store.old) (S.image store.new) }
+    ensures empty { AreEmpty slots.new }
     ensures longer { S.size store.old ≤ S.size store.new }
     ensures room { S.room store.old ≤ S.room store.new }
     ensures memory { IsErrOf result NoMemory → ⊥ }
@@ -67,8 +70,8 @@ fn write_table<S: Store, L: Width>(
     store.write_at(place, bytes)
 }
 
-/// Writes one table after another from `end` on, each by way of the same slots and bytes. It takes
-/// no memory.
+/// Writes one table after another from `end` on, each by way of the same slots, which are empty, and
+/// of the same bytes. It takes no memory.
 ///
 /// `Device`: the tables' bytes may be any, and those before and after them stay.
 pub(crate) fn write_tables<S: Store, L: Width>(
@@ -82,6 +85,7 @@ pub(crate) fn write_tables<S: Store, L: Width>(
     requires slots { All (λ list. 2 * length list ≤ length slots.old) (lists_entries lists.now) }
     requires runs { length slots.old ≤ length runs.old }
     requires bytes { length bytes.old ≡ pair_size L.WORD * length slots.old }
+    requires empty { AreEmpty slots.old }
     requires fits { All (All (λ e. e.second ≤ L.TOP)) (lists_entries lists.now) }
     requires inside { end ≤ S.size store.old }
     requires limit { tables_end L.WORD end (lists_entries lists.now) ≤ L.GREATEST }

@@ -6,7 +6,8 @@ use Rattle.cdb_make.proofs.finish.table.run_at.Goals as goal
 
 pub returns-then-slots-at-ne0-clause-run : goal.returns-then-slots-at-ne0-clause-run
 returns-then-slots-at-ne0-clause-run c =
-    run_some (map slot_pair c.args.slots.now) c.args.at _ _ c.max.ensures (slot_used c.args.slots.now c.args.at c.if-at-slots.true c.if-slots-at-ne0.true) (c.requires.runs c.args.at)
+    let used = slot_used c.args.slots.now c.args.at c.if-at-slots.true c.if-slots-at-ne0.true in
+    run_some (map slot_pair c.args.slots.now) c.args.at _ _ c.max.ensures used (c.requires.runs c.args.at used)
 
 pub returns-else-at-slots-clause-none : goal.returns-else-at-slots-clause-none
 returns-else-at-slots-clause-none c = λ _. elim c.else-at-slots.branch [

@@ -5,16 +5,16 @@ use Rattle.cdb_form.specs.Format.Pair.{WordPair}
 use Rattle.cdb_form.specs.Format.Table.{empty_slot, filled_slots}
 use Rattle.cdb_form.specs.Views.Pairs.{slot_pair}
 use Rattle.cdb_make.specs.Views.EntryList.{list_entries}
-use Rattle.cdb_make.proofs.Filling.{filled_nothing, filled_next}
-use Rattle.cdb_make.proofs.RunLemmas.{runs_unknown}
+use Rattle.cdb_make.proofs.Filling.{all_empty, filled_nothing, filled_next}
+use Rattle.cdb_make.proofs.RunLemmas.{runs_none}
 use Rattle.cdb_make.proofs.finish.tables.fill_table_of.Goals as goal
 
 pub loop-n-init : goal.loop-n-init
 loop-n-init c = record {
-  long = omega (arith, c.clear.auto.slots, c.requires.slots);
-  noted = omega (arith, c.forget.auto.runs, c.clear.auto.slots, c.requires.runs, length-take {A = ℕ});
-  runs = runs_unknown (map slot_pair c.clear.new.slots) c.forget.new.runs c.forget.ensures;
-  filled = filled_nothing _ (map slot_pair c.clear.new.slots) (c.clear.ensures ∙ ap (λ (n : ℕ). replicate n empty_slot) c.requires.slots);
+  long = omega (arith, c.requires.slots);
+  noted = omega (arith, c.requires.runs, length-take {A = ℕ});
+  runs = runs_none c.args.slots.now _ c.requires.empty;
+  filled = filled_nothing _ (map slot_pair c.args.slots.now) (all_empty c.args.slots.now c.requires.empty ∙ ap (λ (n : ℕ). replicate n empty_slot) c.requires.slots);
   hashes = All-nil (λ e. e.first < 2 ^ 32);
 }
 

@@ -1,8 +1,10 @@
 use Rattle.std.proofs.Common.{arith, refl, ◌≡◌, ◌∙◌, ◌+◌, ◌*◌, ◌<◌, ◌≤◌, ◌++◌, ℕ, List, length, take, get_or, flat_map, sum_by, ap, sym, subst, length-append, length-drop}
 use Rattle.std.proofs.lemmas.List.{take_all, length-take-le, get_or-map, length-map}
-use Rattle.std.proofs.lemmas.List.Elements.{All-same}
+use Rattle.std.proofs.lemmas.List.Elements.{All-same, All-take, All-append, All-drop}
 use Rattle.cdb_store.specs.Images.{AfterWrite, AfterTornWrite, AreSized}
 use Rattle.cdb_store.proofs.Moves.{write_more, torn_behind, torn_wider, torn_from_write}
+use Rattle.cdb_form.specs.Format.Table.{empty_slot}
+use Rattle.cdb_form.specs.Views.Pairs.{slot_pair}
 use Rattle.cdb_make.specs.Parts.{table_bytes}
 use Rattle.cdb_make.specs.Views.EntryList.{list_entries, lists_entries}
 use Rattle.cdb_make.proofs.HeadPointers.{sums_more}
@@ -120,6 +122,7 @@ loop-list-preserved g c =
       place = omega (arith, more, new, count, r.table, c.loop-list.invariant.place);
       slots = simp (length-append, length-drop) (omega (arith, slots_cut, c.write_table.auto.slots, r.slots, c.loop-list.invariant.slots));
       bytes = simp (length-append, length-drop) (omega (arith, new, r.bytes, c.loop-list.invariant.bytes));
+      empty = All-append (λ s. slot_pair s ≡ empty_slot) _ _ c.write_table.ensures.empty (All-drop (λ s. slot_pair s ≡ empty_slot) (2 * c.len-count.result) c.loop-list.slots c.loop-list.invariant.empty);
       tables = subst (λ (v : List ℕ). AfterWrite c.args.end v (g.S.Store.image c.args.store.now) (g.S.Store.image c.write_table.new.store)) (tables_next list_entries w ls i x (omega arith) c.list-item.is) wrote;
       size = omega (arith, cut, new, c.loop-list.invariant.size, c.in_ok-write_table.ensures.ok_size);
       written = omega (arith, cut, new, c.loop-list.invariant.written, c.in_ok-write_table.ensures.written);
@@ -151,3 +154,6 @@ returns-clause-written g c = grind (arith, common_steps)
 
 pub returns-clause-ok : goal.returns-clause-ok
 returns-clause-ok g c = grind (arith, common_steps)
+
+pub write_table-requires-clause-empty : goal.write_table-requires-clause-empty
+write_table-requires-clause-empty g c = All-take (λ s. slot_pair s ≡ empty_slot) (2 * c.len-count.result) c.loop-list.slots c.loop-list.invariant.empty
