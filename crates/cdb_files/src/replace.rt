@@ -159,7 +159,7 @@ fn make_own<N: Names, E: Drop>(
 
 /// Makes a file under the temporary name, in place of an old one of that name that is not the file
 /// to be replaced and that no other create holds.
-fn make_apart<N: Names, E: Drop>(
+fn make_temporary<N: Names, E: Drop>(
     names: &mut N,
     name: &str,
     temporary: &str,
@@ -272,7 +272,7 @@ pub fn replace_file<N: Names, B: Builder<FileStore<N::File>> + Drop>(
     // Once the folder was synced, a crash leaves the new one.
     ensures sure { OnOk result (LeavesNew name.now (B.builds builder) (N.calls names.new)) }
 {
-    let empty = make_apart(names, name, temporary)?;
+    let empty = make_temporary(names, name, temporary)?;
     let (store, built) = builder.build(empty, told);
     match built {
         Ok(()) => {

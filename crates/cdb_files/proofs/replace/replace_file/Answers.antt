@@ -33,23 +33,23 @@ renames_same t n len m calls file named r same_len same is =
     subst (λ (k : ℕ). OnOk r (RenamesFile t n k calls named)) same_len (subst (λ (cs : Calls). OnOk r (RenamesFile t n m cs named)) same is)
 
 pub returns-in_err-empty-clause-calls : goal.returns-in_err-empty-clause-calls
-returns-in_err-empty-clause-calls g c = weaker (λ b none. absurd none) c.make_apart.ensures.calls
+returns-in_err-empty-clause-calls g c = weaker (λ b none. absurd none) c.make_temporary.ensures.calls
 
 pub returns-in-Ok-clause-calls : goal.returns-in-Ok-clause-calls
 returns-in-Ok-clause-calls g c =
-    go_on (of_file _ _ _ _ c.len-len.ensures (ap g.N.File.RawFile.calls c.into_file.ensures) (rw c.in-Ok.is at c.build-store.ensures.built)) (weaker (λ b none. absurd none) c.make_apart.ensures.calls) c.publish.ensures.calls
+    go_on (of_file _ _ _ _ c.len-len.ensures (ap g.N.File.RawFile.calls c.into_file.ensures) (rw c.in-Ok.is at c.build-store.ensures.built)) (weaker (λ b none. absurd none) c.make_temporary.ensures.calls) c.publish.ensures.calls
 
 pub returns-in-Err-clause-calls : goal.returns-in-Err-clause-calls
 returns-in-Err-clause-calls g c =
-    cleared _ (weaker (λ b none. absurd none) c.make_apart.ensures.calls) c.remove_own.ensures
+    cleared _ (weaker (λ b none. absurd none) c.make_temporary.ensures.calls) c.remove_own.ensures
 
 pub returns-in-Ok-clause-any_moment : goal.returns-in-Ok-clause-any_moment
 returns-in-Ok-clause-any_moment g c =
-    at_each_moment (go_on (of_file _ _ _ _ c.len-len.ensures (ap g.N.File.RawFile.calls c.into_file.ensures) (rw c.in-Ok.is at c.build-store.ensures.built)) (weaker (λ b none. absurd none) c.make_apart.ensures.calls) c.publish.ensures.calls)
+    at_each_moment (go_on (of_file _ _ _ _ c.len-len.ensures (ap g.N.File.RawFile.calls c.into_file.ensures) (rw c.in-Ok.is at c.build-store.ensures.built)) (weaker (λ b none. absurd none) c.make_temporary.ensures.calls) c.publish.ensures.calls)
 
 pub returns-in-Err-clause-any_moment : goal.returns-in-Err-clause-any_moment
 returns-in-Err-clause-any_moment g c =
-    at_each_moment (cleared _ (weaker (λ b none. absurd none) c.make_apart.ensures.calls) c.remove_own.ensures)
+    at_each_moment (cleared _ (weaker (λ b none. absurd none) c.make_temporary.ensures.calls) c.remove_own.ensures)
 
 pub returns-in-Ok-clause-sure : goal.returns-in-Ok-clause-sure
 returns-in-Ok-clause-sure g c =
@@ -61,14 +61,14 @@ returns-in-Ok-clause-err g c =
 
 pub returns-in_err-empty-clause-any_moment : goal.returns-in_err-empty-clause-any_moment
 returns-in_err-empty-clause-any_moment g c =
-    at_each_moment (weaker (λ b none. absurd none) c.make_apart.ensures.calls)
+    at_each_moment (weaker (λ b none. absurd none) c.make_temporary.ensures.calls)
 
 pub returns-in-Ok-clause-guarded : goal.returns-in-Ok-clause-guarded
-returns-in-Ok-clause-guarded g c = lock_on c.make_apart.ensures.guarded c.publish.ensures.guarded
+returns-in-Ok-clause-guarded g c = lock_on c.make_temporary.ensures.guarded c.publish.ensures.guarded
 
 pub returns-in-Err-clause-guarded : goal.returns-in-Err-clause-guarded
 returns-in-Err-clause-guarded g c =
-    lock_cleared _ c.make_apart.ensures.guarded c.in_ok-empty.ensures.lock c.remove_own.ensures
+    lock_cleared _ c.make_temporary.ensures.guarded c.in_ok-empty.ensures.lock c.remove_own.ensures
 
 pub returns-in-Err-clause-build : goal.returns-in-Err-clause-build
 returns-in-Err-clause-build g c =

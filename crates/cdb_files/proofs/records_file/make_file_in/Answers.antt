@@ -2,7 +2,7 @@ use Rattle.std.proofs.Common.{List, subst}
 use Rattle.cdb_form.specs.declared.record.Record.{Record}
 use Rattle.cdb_files.specs.Made.{FailsToMake}
 use Rattle.cdb_files.proofs.Failing.{building_fault}
-use Rattle.cdb_files.proofs.making.make_file_in.Goals as goal
+use Rattle.cdb_files.proofs.records_file.make_file_in.Goals as goal
 
 pub returns-in-Err-clause-build : goal.returns-in-Err-clause-build
 returns-in-Err-clause-build g c =

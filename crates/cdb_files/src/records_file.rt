@@ -1,4 +1,4 @@
-// A database of some records, under its name.
+// The database of some records, made under its name.
 ghost use Rattle.std.specs.Prelude.{◌≡◌, ◌≤◌, ◌++◌, [], ⊤, codes, IfErr, OnOk, OnErr};
 ghost use Rattle.cdb_form.specs.Views.Pairs.{key_values};
 ghost use Rattle.cdb_make.specs.Views.Maker.{Holds, IsFile, limit_of};

@@ -2,7 +2,7 @@ use Rattle.std.proofs.Common.{arith, subst, OnOk, Ok, Err, Result}
 use Rattle.std.proofs.lemmas.Result.{IfErr-weaker}
 use Rattle.cdb_store.proofs.OverLemmas.{over_emptied}
 use Rattle.cdb_files.proofs.Failing.{building_below, building_later}
-use Rattle.cdb_files.proofs.making.RecordsBuilder.build.Goals as goal
+use Rattle.cdb_files.proofs.records_file.RecordsBuilder.build.Goals as goal
 
 -- what both clauses give where the call answered Ok
 both : {T E P Q R : Type 0} (r : Result T E) → (P → Q → R) → OnOk r P → OnOk r Q → OnOk r R

@@ -6,7 +6,7 @@ use Rattle.cdb_form.specs.declared.record.Record.{Record}
 use Rattle.cdb_make.specs.Views.Maker.{Holds}
 use Rattle.std.proofs.lemmas.Result.{err_from_is_err_and}
 use Rattle.cdb_files.proofs.Failing.{puts_fail}
-use Rattle.cdb_files.proofs.making.put_records.Goals as goal
+use Rattle.cdb_files.proofs.records_file.put_records.Goals as goal
 
 -- one record more
 one_more : (rs : List Record) (i : ℕ) (r : Record) (key value : List ℕ) → i < length rs → r ≡ get_or rs i r → key ≡ r.key.items → value ≡ r.value.items
