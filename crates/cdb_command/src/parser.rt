@@ -33,39 +33,6 @@ fn names<'a>(alloc: Global) -> Arg<'a>
     Arg::new(alloc, "names").num_args(0..)
 }
 
-/// The command with a letter more.
-fn with_flag<'a>(
-    alloc: Global,
-    parser: Command<'a>,
-    id: &'a str,
-    letter: char,
-) -> Result<Command<'a>, AllocError>
-    ensures { IfOk result (λ r. app_of r
-        ≡ with_rule (app_of parser.entry) (flag_rule id.entry.now letter)) }
-{
-    parser.arg(flag(alloc, id, letter))
-}
-
-/// The command with a letter more that has a value.
-fn with_option<'a>(
-    alloc: Global,
-    parser: Command<'a>,
-    id: &'a str,
-    letter: char,
-) -> Result<Command<'a>, AllocError>
-    ensures { IfOk result (λ r. app_of r
-        ≡ with_rule (app_of parser.entry) (option_rule id.entry.now letter)) }
-{
-    parser.arg(option(alloc, id, letter))
-}
-
-/// The command with names.
-fn with_names<'a>(alloc: Global, parser: Command<'a>) -> Result<Command<'a>, AllocError>
-    ensures { IfOk result (λ r. app_of r ≡ with_rule (app_of parser.entry) names_rule) }
-{
-    parser.arg(names(alloc))
-}
-
 /// The command with three letters more.
 fn with_three<'a>(
     alloc: Global,
@@ -80,9 +47,9 @@ fn with_three<'a>(
         (flag_rule second.entry.0.now second.entry.1))
         (flag_rule third.entry.0.now third.entry.1)) }
 {
-    let parser = with_flag(alloc, parser, first.0, first.1)?;
-    let parser = with_flag(alloc, parser, second.0, second.1)?;
-    with_flag(alloc, parser, third.0, third.1)
+    let parser = parser.arg(flag(alloc, first.0, first.1))?;
+    let parser = parser.arg(flag(alloc, second.0, second.1))?;
+    parser.arg(flag(alloc, third.0, third.1))
 }
 
 /// The command with the letters of the program's commands.
@@ -91,7 +58,7 @@ fn with_commands<'a>(alloc: Global, parser: Command<'a>) -> Result<Command<'a>, 
 {
     let parser = with_three(alloc, parser, ("q", 'q'), ("d", 'd'), ("l", 'l'))?;
     let parser = with_three(alloc, parser, ("s", 's'), ("c", 'c'), ("k", 'k'))?;
-    with_flag(alloc, parser, "h", 'h')
+    parser.arg(flag(alloc, "h", 'h'))
 }
 
 /// The command with the letters of their options.
@@ -106,10 +73,10 @@ fn with_letters<'a>(alloc: Global, parser: Command<'a>) -> Result<Command<'a>, A
 fn with_values<'a>(alloc: Global, parser: Command<'a>) -> Result<Command<'a>, AllocError>
     ensures { IfOk result (λ r. app_of r ≡ with_rules (app_of parser.entry) value_rules) }
 {
-    let parser = with_option(alloc, parser, "n", 'n')?;
-    let parser = with_option(alloc, parser, "t", 't')?;
-    let parser = with_option(alloc, parser, "b", 'b')?;
-    with_names(alloc, parser)
+    let parser = parser.arg(option(alloc, "n", 'n'))?;
+    let parser = parser.arg(option(alloc, "t", 't'))?;
+    let parser = parser.arg(option(alloc, "b", 'b'))?;
+    parser.arg(names(alloc))
 }
 
 /// A command of no letters, not of `clap`'s own for help and version either.
