@@ -1,16 +1,12 @@
 -- Files that are opened, and what is asked of them, one after the other.
-use Rattle.std.proofs.Common.{ℕ, ◌+◌, ◌<◌, List, [], ◌∷◌, ◌++◌, ◌≡◌, inl, inr, refl, sym, ap, subst, ◌∙◌, map, take, drop, length, get_or, false, Result, Ok, Err}
+use Rattle.std.proofs.Common.{ℕ, ◌+◌, ◌<◌, List, [], ◌∷◌, ◌++◌, ◌≡◌, inl, inr, refl, sym, ap, subst, ◌∙◌, map, take, drop, length, get_or, Result, Ok, Err}
 use Rattle.std.proofs.lemmas.List.{map_push, take_more, take-append-drop, map-append, drop_more}
 use Rattle.std.specs.Prelude.{OnOk}
-use Rattle.cdb_store.specs.Calls.{Calls}
-use Rattle.cdb_files.specs.declared.name_trace.NameCall.{NameCall}
-use Rattle.cdb_files.specs.declared.name_trace.NameCall.TheVariants.{Apart}
+use Rattle.cdb_files.specs.Folder.{NameCalls}
 use Rattle.cdb_tool.specs.declared.inputs.Turn.{Turn}
 use Rattle.cdb.specs.Creating.{AsksEach, AsksOne}
 use Rattle.cdb.specs.Inputs.{OpensInput, OpensEach, StopsOpening, MissesInput}
 use Rattle.cdb.specs.Opening.{OpenCalls}
-use Rattle.cdb.specs.declared.open_trace.OpenCall.{OpenCall}
-use Rattle.cdb.specs.declared.open_trace.OpenCall.TheVariants.{Same}
 use Rattle.cdb.specs.declared.system.System.{Ghosts as Systems}
 
 -- one input more
@@ -20,21 +16,14 @@ opens_more y (n ∷ names) (t ∷ turns) name turn old mid new e is = (e.0, e.1,
 opens_more y [] (t ∷ turns) name turn old mid new e is = absurd e
 opens_more y (n ∷ names) [] name turn old mid new e is = absurd e
 
--- it was asked whether a file that is read is another one
-abbrev pub same_file : (name file : List ℕ) → OpenCall × List ℕ × List ℕ
-same_file name file = (Same false, name, file)
-
-abbrev pub apart_file : (temporary file : List ℕ) → NameCall × List ℕ × List ℕ × Calls
-apart_file temporary file = (Apart, temporary, file, [])
-
 pub ok_and : {T E : Type 0} (A B : Type 0) (r : Result T E) → OnOk r A → OnOk r B → OnOk r (A × B)
 ok_and A B (Ok x) a b = (a, b)
 ok_and A B (Err e) a b = tt
 
 -- one file more is asked of
-pub asks_more : {C : Type 0} (ask : List ℕ → C) (names : List (List ℕ)) (name : List ℕ) (old mid new : List C) → AsksEach ask names old mid → AsksOne ask name mid new → AsksEach ask (names ++ name ∷ []) old new
-asks_more ask [] name old mid new e one = (new, subst (λ v. AsksOne ask name v new) e one, refl)
-asks_more ask (n ∷ names) name old mid new e one = (e.0, e.1, asks_more ask names name e.0 mid new e.2 one)
+pub asks_more : (name : List ℕ) (files : List (List ℕ)) (file : List ℕ) (was mid now : NameCalls) → AsksEach name files was mid → AsksOne name file mid now → AsksEach name (files ++ file ∷ []) was now
+asks_more name [] file was mid now e one = (now, subst (λ v. AsksOne name file v now) e one, refl)
+asks_more name (f ∷ files) file was mid now e one = (e.0, e.1, asks_more name files file e.0 mid now e.2 one)
 
 -- ---- the first names, and one more
 

@@ -24,7 +24,7 @@ use Rattle.cdb_tool.specs.declared.inputs.Turn.{Turn}
 use Rattle.cdb_tool.specs.Views.Inputs.{one_of}
 use Rattle.cdb.specs.Inputs.{IsStandard, MissesBase, OpensBase, OpensInputs, StopsOpening}
 use Rattle.cdb.specs.Opening.{IsUnopened, OpenCalls}
-use Rattle.cdb.specs.declared.open_trace.OpenCall.TheVariants.{Emptied, Same}
+use Rattle.cdb.specs.declared.open_trace.OpenCall.TheVariants.{Emptied}
 use Rattle.cdb.specs.declared.system.System.{Ghosts as Systems}
 
 -- ---- the database
@@ -88,31 +88,34 @@ pub record MakesOnOutput {F : Type 0} (f : Ghosts F) (m : Making F)
   pub written : OnOk made (WritesAll start end (contents store) result)
   pub failed : IfErr made (λ fault. (result ≡ Err fault) × Keeps start end)
 
--- ---- the files that are read are other ones
+-- ---- the files that are read are not the one of a name
 
--- something was asked of an input, unless it is standard input
-abbrev pub AsksOne : {C : Type 0} → (List ℕ → C) → List ℕ → (old new : List C) → Type 0
-AsksOne ask name old new =
-    (IsStandard name × (new ≡ old)) ⊎ ((IsStandard name → ⊥) × (new ≡ ask name ∷ old))
+-- that was asked of an input, unless it is standard input
+abbrev pub AsksOne : (name file : List ℕ) → (was now : NameCalls) → Type 0
+AsksOne name file was now =
+    (IsStandard file × (now ≡ was))
+    ⊎ ((IsStandard file → ⊥) × (now ≡ (name_call.Apart, name, file, []) ∷ was))
 
 -- of each input
-abbrev pub AsksEach : {C : Type 0} → (List ℕ → C) → List (List ℕ) → (old new : List C) → Type 0
-AsksEach ask [] old new = new ≡ old
-AsksEach {C = C} ask (name ∷ names) old new =
-    (mid : List C) × AsksOne ask name old mid × AsksEach ask names mid new
+abbrev pub AsksEach : (name : List ℕ) → (files : List (List ℕ)) → (was now : NameCalls) → Type 0
+AsksEach name [] was now = now ≡ was
+AsksEach name (file ∷ files) was now =
+    (mid : NameCalls) × AsksOne name file was mid × AsksEach name files mid now
 
-abbrev pub AsksBase : {C : Type 0} → (List ℕ → C) → Option (List ℕ) → (old new : List C) → Type 0
-AsksBase ask None old new = new ≡ old
-AsksBase ask (Some name) old new = new ≡ ask name ∷ old
+abbrev pub AsksBase : (name : List ℕ) → Option (List ℕ) → (was now : NameCalls) → Type 0
+AsksBase name None was now = now ≡ was
+AsksBase name (Some file) was now = now ≡ (name_call.Apart, name, file, []) ∷ was
 
-abbrev pub AsksAll : {C : Type 0} → (List ℕ → C) → Option (List ℕ) → List (List ℕ)
-    → (old new : List C) → Type 0
-AsksAll {C = C} ask base inputs old new =
-    (mid : List C) × AsksBase ask base old mid × AsksEach ask inputs mid new
+-- of each file that is read, and no answer was yes
+abbrev pub AsksAll : (name : List ℕ) → (base : Option (List ℕ)) → (inputs : List (List ℕ))
+    → (was now : NameCalls) → Type 0
+AsksAll name base inputs was now =
+    (mid : NameCalls) × AsksBase name base was mid × AsksEach name inputs mid now
 
--- the last one was answered yes
-abbrev pub FindsOne : {C : Type 0} → (List ℕ → C) → (new : List C) → Type 0
-FindsOne {C = C} found new = (file : List ℕ) × (before : List C) × (new ≡ found file ∷ before)
+-- the last answer was yes
+abbrev pub FindsOne : (name : List ℕ) → (now : NameCalls) → Type 0
+FindsOne name now =
+    (file : List ℕ) × (before : NameCalls) × (now ≡ (name_call.One, name, file, []) ∷ before)
 
 -- ---- in place
 
@@ -129,11 +132,11 @@ Empties {M = M} y f s m name told said result =
 -- a file that is read is the one of the name; or none is, as was asked of each, and it is emptied
 abbrev pub MakesInPlace : {F I M Y : Type 0} → Systems Y F I M → Ghosts F → Ghosts M → Making F
     → (name : List ℕ) → (base : Option (List ℕ)) → (inputs : List (List ℕ)) → (old new : OpenCalls)
-    → (told said : Option (List ℕ)) → Result Unit Fault → Type 0
-MakesInPlace y f s m name base inputs old new told said result =
-    (FindsOne (λ file. (Same true, name, file)) new × (result ≡ Err Open) × Keeps told said)
-    ⊎ ((mid : OpenCalls) × AsksAll (λ file. (Same false, name, file)) base inputs old mid
-    × (new ≡ (Emptied, name, []) ∷ mid) × Empties y f s m name told said result)
+    → (was now : NameCalls) → (told said : Option (List ℕ)) → Result Unit Fault → Type 0
+MakesInPlace y f s m name base inputs old new was now told said result =
+    (FindsOne name now × (new ≡ old) × (result ≡ Err Open) × Keeps told said)
+    ⊎ (AsksAll name base inputs was now × (new ≡ (Emptied, name) ∷ old)
+    × Empties y f s m name told said result)
 
 -- ---- in a temporary file
 
@@ -168,10 +171,8 @@ abbrev pub MakesApart : {F R : Type 0} → Ghosts F → Raw R → Making F → (
     → (base : Option (List ℕ)) → (inputs : List (List ℕ)) → (old new : NameCalls)
     → (told said : Option (List ℕ)) → Result Unit Fault → Type 0
 MakesApart f r m temporary name base inputs old new told said result =
-    (FindsOne (λ file. (name_call.One, temporary, file, [])) new × (result ≡ Err Open)
-    × Keeps told said)
-    ⊎ ((mid : NameCalls)
-    × AsksAll (λ file. (name_call.Apart, temporary, file, [])) base inputs old mid
+    (FindsOne temporary new × (result ≡ Err Open) × Keeps told said)
+    ⊎ ((mid : NameCalls) × AsksAll temporary base inputs old mid
     × Replaces f r m temporary name mid new told said result)
 
 -- ---- under a name
@@ -192,8 +193,8 @@ abbrev pub MakesNamed : {F I M R Y : Type 0} → Systems Y F I M → Ghosts F �
     → (temporary : Option (List ℕ)) → (old new : OpenCalls) → (was now : NameCalls)
     → (told said : Option (List ℕ)) → Result Unit Fault → Type 0
 MakesNamed y f s r m name base inputs temporary old new was now told said result =
-    (IsInPlace name temporary × (now ≡ was)
-    × MakesInPlace y f s m name base inputs old new told said result)
+    (IsInPlace name temporary
+    × MakesInPlace y f s m name base inputs old new was now told said result)
     ⊎ ((IsInPlace name temporary → ⊥) × (new ≡ old)
     × (((now ≡ was) × (result ≡ Err NoMemory) × Keeps told said)
     ⊎ MakesApart f r m (temporary_of name temporary) name base inputs was now told said result))

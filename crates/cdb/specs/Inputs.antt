@@ -15,20 +15,20 @@ abbrev pub OpensBase : {F I M Y : Type 0} → Systems Y F I M → Option (List �
     → (old new : OpenCalls) → Type 0
 OpensBase y None None old new = new ≡ old
 OpensBase y (Some name) (Some file) old new =
-    (new ≡ (AtPlaces, name, []) ∷ old) × y.gives name file
+    (new ≡ (AtPlaces, name) ∷ old) × y.gives name file
 OpensBase y name file old new = ⊥
 
 -- or it was not
 abbrev pub MissesBase : Option (List ℕ) → (old new : OpenCalls) → Type 0
 MissesBase None old new = ⊥
-MissesBase (Some name) old new = new ≡ (AtPlaces, name, []) ∷ old
+MissesBase (Some name) old new = new ≡ (AtPlaces, name) ∷ old
 
 -- an input is standard input, for which nothing is opened, or the file that came for its name
 abbrev pub OpensInput : {F I M Y : Type 0} → Systems Y F I M → List ℕ → Turn I
     → (old new : OpenCalls) → Type 0
 OpensInput y name Shared old new = IsStandard name × (new ≡ old)
 OpensInput y name (Own file) old new =
-    (IsStandard name → ⊥) × (new ≡ (InTurn, name, []) ∷ old) × y.reads name file
+    (IsStandard name → ⊥) × (new ≡ (InTurn, name) ∷ old) × y.reads name file
 
 -- each of these is
 abbrev pub OpensEach : {F I M Y : Type 0} → Systems Y F I M → List (List ℕ) → List (Turn I)
@@ -46,7 +46,7 @@ OpensInputs y (name ∷ names) turns old new = OpensEach y (name ∷ names) turn
 
 -- the file of an input was not opened
 abbrev pub MissesInput : List ℕ → (old new : OpenCalls) → Type 0
-MissesInput name old new = (IsStandard name → ⊥) × (new ≡ (InTurn, name, []) ∷ old)
+MissesInput name old new = (IsStandard name → ⊥) × (new ≡ (InTurn, name) ∷ old)
 
 -- the first of them were opened, and then one was not, or an allocation failed
 pub record StopsOpening {F I M Y : Type 0} (y : Systems Y F I M) (names : List (List ℕ))

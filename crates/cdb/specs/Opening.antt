@@ -4,9 +4,9 @@ use Rattle.cdb.specs.declared.open_trace.OpenCall.{OpenCall}
 use Rattle.cdb_tool.specs.declared.fault.Fault.{Fault}
 use Rattle.cdb_tool.specs.declared.fault.Fault.TheVariants.{Open, NoMemory}
 
--- the calls, each with its name, and with another where it is of two
+-- the calls, each with its name
 abbrev pub OpenCalls : Type 0
-OpenCalls = List (OpenCall × List ℕ × List ℕ)
+OpenCalls = List (OpenCall × List ℕ)
 
 -- why a file is not opened
 abbrev pub IsUnopened : Fault → Type 0

@@ -52,7 +52,7 @@ pub record QueriesFile {F I M Y : Type 0} (w : ℕ) (s : Ghosts F) (y : Systems 
 abbrev pub PerformsQuery : {F I M Y : Type 0} → ℕ → Ghosts F → Systems Y F I M → (name : List ℕ)
     → Query → (old new : Y) → (start end : Option (List ℕ)) → Result Unit Fault → Type 0
 PerformsQuery w s y name q old new start end result =
-    (y.calls new ≡ (AtPlaces, name, []) ∷ y.calls old)
+    (y.calls new ≡ (AtPlaces, name) ∷ y.calls old)
     × (Refuses start end result ⊎ QueriesFile w s y name q start end result)
 
 -- ---- dump and list
@@ -77,7 +77,7 @@ abbrev pub PerformsText : {F I M Y : Type 0} → ℕ → (I → Option (List ℕ
     → Option (List ℕ) → (input : Option (List ℕ)) → (old new : Y) → (start end : Option (List ℕ))
     → Result Unit Fault → Type 0
 PerformsText w remaining y form (Some name) input old new start end result =
-    (y.calls new ≡ (InTurn, name, []) ∷ y.calls old)
+    (y.calls new ≡ (InTurn, name) ∷ y.calls old)
     × (Refuses start end result ⊎ WritesFile w remaining y form name start end result)
 PerformsText w remaining y form None input old new start end result =
     (new ≡ old) × (Refuses start end result ⊎ WritesText w form input start end result)
@@ -140,9 +140,9 @@ abbrev pub PerformsOn : {F I M Y : Type 0} → Ghosts F → (I → Option (List 
     → (most : ℕ) → (name : Option (List ℕ)) → (input : Option (List ℕ)) → (old new : Y)
     → (start end : Option (List ℕ)) → Result Unit Fault → (F → Type 0) → (MemStore → Type 0) → Type 0
 PerformsOn s remaining y most (Some name) input old new start end result file taken =
-    ((y.calls new ≡ (AtPlaces, name, []) ∷ (Stream false, name, []) ∷ y.calls old)
+    ((y.calls new ≡ (AtPlaces, name) ∷ (Stream false, name) ∷ y.calls old)
     × (Refuses start end result ⊎ OfFile y name file))
-    ⊎ ((y.calls new ≡ (InTurn, name, []) ∷ (Stream true, name, []) ∷ y.calls old)
+    ⊎ ((y.calls new ≡ (InTurn, name) ∷ (Stream true, name) ∷ y.calls old)
     × (Refuses start end result ⊎ OfStream remaining y name most start end result taken))
 PerformsOn s remaining y most None input old new start end result file taken =
     (new ≡ old) × Takes most input start end result taken

@@ -3,14 +3,14 @@ ghost use Rattle.std.specs.Prelude.{◌≡◌, ◌↔◌, ◌≤◌, IsTrue, IfO
 ghost use Rattle.std.specs.Prelude.{string_bytes};
 ghost use Rattle.cdb_form.specs.Format.Pair.{head_size};
 ghost use Rattle.cdb_tool.specs.Views.Inputs.{inputs_left};
-ghost use Rattle.cdb.specs.Creating.{Creates, IsInPlace, MakesAt, MakesNamed, MakesOnOutput};
+ghost use Rattle.cdb.specs.Creating.{Creates, IsInPlace, MakesOnOutput};
 ghost use Rattle.cdb.specs.Creating.{NotOpened, OpensAll, WritesAll, temporary_of};
 ghost use Rattle.cdb.specs.Contents.{making_of};
 
+use crate::building::make_in;
 use crate::contents::Contents;
 use crate::inputs::{is_standard, open_base, open_inputs};
-use crate::making::make_in;
-use crate::placing::{make_apart, make_in_place};
+use crate::placing::{make_in_place, replace_database};
 use crate::system::System;
 use cdb_files::Names;
 use cdb_form::{Width, write_whole};
@@ -38,7 +38,9 @@ pub(crate) struct Creation<'a> {
     pub(crate) options: MakeOptions,
 }
 
-/// Makes a database. The base and then all inputs are opened before anything is made.
+/// Makes a database, on standard output or under its name: in place, or in a temporary file. The
+/// base and then all inputs are opened before anything is made.
+#[inline(never)]
 pub(crate) fn create<L, F, J, M, Y, N, I, O, E>(
     alloc: Global,
     system: &mut Y,
@@ -69,7 +71,23 @@ where
         (E.contents errors.old) (E.contents errors.new) result }
 {
     let contents = open_all::<L, F, J, M, Y, I>(alloc, system, creation, input)?;
-    make_at::<L, F, J, M, Y, N, I, O, E>(alloc, system, names, creation, contents, output, errors)
+    if is_standard(creation.name) {
+        return make_on_output::<L, F, J, I, O, E>(alloc, contents, output, errors);
+    }
+    if is_in_place(creation.name, creation.temporary) {
+        return make_in_place::<L, F, J, M, Y, N, I, E>(
+            alloc, system, names, creation, contents, errors,
+        );
+    }
+    let temporary = temporary_name(alloc, creation.name, creation.temporary)?;
+    replace_database::<L, F, J, N, I, E>(
+        alloc,
+        names,
+        temporary.as_str(),
+        creation,
+        contents,
+        errors,
+    )
 }
 
 /// Opens what is read: the base, and then all inputs.
@@ -107,42 +125,8 @@ where
     })
 }
 
-/// Makes it on standard output, or under its name.
-fn make_at<L, F, J, M, Y, N, I, O, E>(
-    alloc: Global,
-    system: &mut Y,
-    names: &mut N,
-    creation: Creation<'_>,
-    contents: Contents<L, F, J, I>,
-    output: &mut O,
-    errors: &mut E,
-) -> Result<(), Fault>
-where
-    L: Width,
-    F: Store + Drop,
-    J: Read + Drop,
-    M: Store + Drop,
-    Y: System<F, J, M>,
-    N: Names,
-    I: Read + Drop,
-    O: Write,
-    E: Write,
-    ensures { MakesAt Y.System F.Store M.Store N.File.RawFile
-        (making_of L.WORD L.GREATEST J.remaining I.remaining contents)
-        creation.entry.name.now (option_map string_bytes creation.entry.base.now)
-        (map string_bytes creation.entry.inputs.now)
-        (option_map string_bytes creation.entry.temporary.now)
-        (Y.calls system.old) (Y.calls system.new) (N.calls names.old) (N.calls names.new)
-        (O.contents output.old) (O.contents output.new)
-        (E.contents errors.old) (E.contents errors.new) result }
-{
-    if is_standard(creation.name) {
-        return make_on_output::<L, F, J, I, O, E>(alloc, contents, output, errors);
-    }
-    make_named::<L, F, J, M, Y, N, I, E>(alloc, system, names, creation, contents, errors)
-}
-
 /// Makes it in memory and writes it.
+#[inline(never)]
 fn make_on_output<L, F, J, I, O, E>(
     alloc: Global,
     contents: Contents<L, F, J, I>,
@@ -190,7 +174,11 @@ fn is_in_place(name: &str, temporary: &Option<String>) -> bool
 }
 
 /// The name of the temporary file.
-fn name_apart(alloc: Global, name: &str, temporary: &Option<String>) -> Result<String, AllocError>
+fn temporary_name(
+    alloc: Global,
+    name: &str,
+    temporary: &Option<String>,
+) -> Result<String, AllocError>
     ensures { IfOk result (λ t. string_bytes t
         ≡ temporary_of name.now (option_map string_bytes temporary.now)) }
 {
@@ -198,37 +186,4 @@ fn name_apart(alloc: Global, name: &str, temporary: &Option<String>) -> Result<S
         Some(temporary) => temporary.clone(),
         None => format!(in alloc; "{name}.tmp"),
     }
-}
-
-/// Makes it under its name: in place, or in a temporary file.
-fn make_named<L, F, J, M, Y, N, I, E>(
-    alloc: Global,
-    system: &mut Y,
-    names: &mut N,
-    creation: Creation<'_>,
-    contents: Contents<L, F, J, I>,
-    errors: &mut E,
-) -> Result<(), Fault>
-where
-    L: Width,
-    F: Store + Drop,
-    J: Read + Drop,
-    M: Store + Drop,
-    Y: System<F, J, M>,
-    N: Names,
-    I: Read + Drop,
-    E: Write,
-    ensures { MakesNamed Y.System F.Store M.Store N.File.RawFile
-        (making_of L.WORD L.GREATEST J.remaining I.remaining contents)
-        creation.entry.name.now (option_map string_bytes creation.entry.base.now)
-        (map string_bytes creation.entry.inputs.now)
-        (option_map string_bytes creation.entry.temporary.now)
-        (Y.calls system.old) (Y.calls system.new) (N.calls names.old) (N.calls names.new)
-        (E.contents errors.old) (E.contents errors.new) result }
-{
-    if is_in_place(creation.name, creation.temporary) {
-        return make_in_place::<L, F, J, M, Y, I, E>(alloc, system, creation, contents, errors);
-    }
-    let temporary = name_apart(alloc, creation.name, creation.temporary)?;
-    make_apart::<L, F, J, N, I, E>(alloc, names, temporary.as_str(), creation, contents, errors)
 }

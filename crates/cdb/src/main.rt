@@ -1,10 +1,10 @@
 //! The program `cdb`: makes constant databases.
 #![tactic(auto)]
 
+mod building;
 mod contents;
 mod creating;
 mod inputs;
-mod making;
 mod open_trace;
 mod performing;
 mod placing;

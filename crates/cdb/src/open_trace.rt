@@ -14,18 +14,16 @@ pub(crate) enum OpenCall {
     InTurn,
     /// It is a stream, a pipe or a device, or it is not.
     Stream(bool),
-    /// The other name is that of this file too, or it is not.
-    Same(bool),
     /// It was emptied or made, to be written.
     Emptied,
 }
 
-/// A list of calls, the newest first, each with its name, and with another where it is of two. It
-/// takes no memory, and its methods do nothing at run time.
+/// A list of calls, the newest first, each with its name. It takes no memory, and its methods do
+/// nothing at run time.
 #[derive(Drop)]
 pub(crate) struct OpenTrace {
     marker: PhantomData<u8>,
-    pub ghost events: { List (OpenCall × List ℕ × List ℕ) },
+    pub ghost events: { List (OpenCall × List ℕ) },
 }
 
 impl Model for OpenTrace {
@@ -43,7 +41,7 @@ impl OpenTrace {
     }
 
     /// Adds a call.
-    pub(crate) fn note(&mut self, _call: &OpenCall, _name: &[u8], _other: &[u8])
-        ensures { self.new.events ≡ (_call.now, _name.now, _other.now) ∷ self.old.events }
+    pub(crate) fn note(&mut self, _call: &OpenCall, _name: &[u8])
+        ensures { self.new.events ≡ (_call.now, _name.now) ∷ self.old.events }
     {}
 }

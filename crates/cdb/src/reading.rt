@@ -19,6 +19,7 @@ use std::alloc::Global;
 use std::io::{Read, Write};
 
 /// Writes the values of a key, which are counted from 1.
+#[inline(never)]
 pub(crate) fn query<L, F, J, M, Y, O>(
     system: &mut Y,
     name: &str,
@@ -60,6 +61,7 @@ fn write_text<L: Width, I: Read + Drop, O: Write>(
 }
 
 /// Writes the text of a file, or of standard input.
+#[inline(never)]
 pub(crate) fn text<L, F, J, M, Y, I, O>(
     alloc: Global,
     system: &mut Y,
@@ -114,6 +116,7 @@ fn stats_of_stream<L: Width, I: Read + Drop, O: Write>(
 }
 
 /// Writes the statistics of a file, or of a stream: standard input, a pipe or a device.
+#[inline(never)]
 pub(crate) fn stats<L, F, J, M, Y, I, O>(
     alloc: Global,
     system: &mut Y,
@@ -158,6 +161,7 @@ fn check_of_stream<L: Width, I: Read + Drop>(alloc: Global, input: I) -> Result<
 }
 
 /// Checks a file, or a stream: standard input, a pipe or a device. Nothing is written.
+#[inline(never)]
 pub(crate) fn check<L, F, J, M, Y, I>(
     alloc: Global,
     system: &mut Y,

@@ -54,7 +54,7 @@ impl<'a, R: Files<File = File>> System<FileStore, File, FileStore> for RealSyste
     ghost makes = { λ _ _. Unit {0} };
 
     fn open_store(&mut self, name: &str) -> Result<FileStore, Fault> {
-        self.trace.note(&OpenCall::AtPlaces, name.as_bytes(), b"");
+        self.trace.note(&OpenCall::AtPlaces, name.as_bytes());
         if is_stream(self.rt, name) {
             return Err(Fault::Open);
         }
@@ -63,7 +63,7 @@ impl<'a, R: Files<File = File>> System<FileStore, File, FileStore> for RealSyste
 
     /// The file is given up if it got the number of a standard stream that is closed.
     fn open(&mut self, name: &str) -> Result<File, Fault> {
-        self.trace.note(&OpenCall::InTurn, name.as_bytes(), b"");
+        self.trace.note(&OpenCall::InTurn, name.as_bytes());
         match File::open(self.rt, name) {
             Ok(file) if file.as_raw_fd() <= LAST_STANDARD => Err(Fault::Open),
             Ok(file) => Ok(file),
@@ -73,19 +73,12 @@ impl<'a, R: Files<File = File>> System<FileStore, File, FileStore> for RealSyste
 
     fn is_stream(&mut self, name: &str) -> bool {
         let is = is_stream(self.rt, name);
-        self.trace.note(&OpenCall::Stream(is), name.as_bytes(), b"");
-        is
-    }
-
-    fn is_same_file(&mut self, name: &str, other: &str) -> bool {
-        let is = is_one_file(fs::metadata(self.rt, name), fs::metadata(self.rt, other));
-        self.trace
-            .note(&OpenCall::Same(is), name.as_bytes(), other.as_bytes());
+        self.trace.note(&OpenCall::Stream(is), name.as_bytes());
         is
     }
 
     fn empty(&mut self, name: &str) -> Result<FileStore, Fault> {
-        self.trace.note(&OpenCall::Emptied, name.as_bytes(), b"");
+        self.trace.note(&OpenCall::Emptied, name.as_bytes());
         FileStore::create_own(self.rt, name).map_err(store_fault)
     }
 }
@@ -97,14 +90,6 @@ fn store_fault(fault: StoreFault) -> Fault
     match fault {
         StoreFault::Device => Fault::Open,
         StoreFault::NoMemory => Fault::NoMemory,
-    }
-}
-
-/// Whether the same file was found twice.
-fn is_one_file(one: io::Result<Metadata>, two: io::Result<Metadata>) -> bool {
-    match (one, two) {
-        (Ok(one), Ok(two)) => one.dev() == two.dev() && one.ino() == two.ino(),
-        _ => false,
     }
 }
 

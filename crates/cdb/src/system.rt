@@ -1,7 +1,7 @@
 // The files of a system, by their names and the calls on them.
-ghost use Rattle.std.specs.Prelude.{◌≡◌, [], ◌∷◌, ℕ, List, IfOk, IfErr};
+ghost use Rattle.std.specs.Prelude.{◌≡◌, ◌∷◌, ℕ, List, IfOk, IfErr};
 ghost use Rattle.cdb.specs.Opening.{OpenCalls, IsUnopened};
-ghost use Rattle.cdb.specs.declared.open_trace.OpenCall.TheVariants.{AtPlaces, InTurn, Stream, Same};
+ghost use Rattle.cdb.specs.declared.open_trace.OpenCall.TheVariants.{AtPlaces, InTurn, Stream};
 ghost use Rattle.cdb.specs.declared.open_trace.OpenCall.TheVariants.{Emptied};
 
 use cdb_store::Store;
@@ -26,28 +26,24 @@ pub(crate) trait System<F: Store, I: Read, M: Store> {
     /// Opens the file of a name, to be read at places. `Open`: it cannot be opened, or it is a pipe
     /// or a device, which has no places to be read at.
     fn open_store(&mut self, name: &str) -> Result<F, Fault>
-        ensures calls { calls self.new ≡ (AtPlaces, name.now, []) ∷ calls self.old }
+        ensures calls { calls self.new ≡ (AtPlaces, name.now) ∷ calls self.old }
         ensures gives { IfOk result (gives name.now) }
         ensures fails { IfErr result IsUnopened };
 
     /// Opens the file of a name, to be read from its start on. `Open`: it cannot be opened.
     fn open(&mut self, name: &str) -> Result<I, Fault>
-        ensures calls { calls self.new ≡ (InTurn, name.now, []) ∷ calls self.old }
+        ensures calls { calls self.new ≡ (InTurn, name.now) ∷ calls self.old }
         ensures reads { IfOk result (reads name.now) }
         ensures fails { IfErr result IsUnopened };
 
     /// Whether a name is that of a pipe or a device, which is read from its start to its end alone.
     fn is_stream(&mut self, name: &str) -> bool
-        ensures calls { calls self.new ≡ (Stream result, name.now, []) ∷ calls self.old };
-
-    /// Whether two names, links followed, are those of one file.
-    fn is_same_file(&mut self, name: &str, other: &str) -> bool
-        ensures calls { calls self.new ≡ (Same result, name.now, other.now) ∷ calls self.old };
+        ensures calls { calls self.new ≡ (Stream result, name.now) ∷ calls self.old };
 
     /// Empties the file of a name, or makes one, to be read and written at places. `Open`: it cannot
     /// be opened, or the name is that of a link, which is not followed.
     fn empty(&mut self, name: &str) -> Result<M, Fault>
-        ensures calls { calls self.new ≡ (Emptied, name.now, []) ∷ calls self.old }
+        ensures calls { calls self.new ≡ (Emptied, name.now) ∷ calls self.old }
         ensures makes { IfOk result (makes name.now) }
         ensures fails { IfErr result IsUnopened };
 }

@@ -21,6 +21,8 @@ fn write_line<E: Write>(line: &Line, errors: &mut E)
 }
 
 /// Says what a fault is.
+#[cold]
+#[inline(never)]
 pub(crate) fn tell<E: Write>(fault: &Fault, errors: &mut E)
     ensures { AppendsFront (E.contents errors.old) (E.contents errors.new) (fault_line fault.now) }
 {
@@ -30,6 +32,8 @@ pub(crate) fn tell<E: Write>(fault: &Fault, errors: &mut E)
 }
 
 /// Says why the words ask for nothing, and answers the exit status.
+#[cold]
+#[inline(never)]
 pub(crate) fn refuse<E: Write>(usage: &Usage, errors: &mut E) -> u8
     ensures line { AppendsFront (E.contents errors.old) (E.contents errors.new)
         (usage_line usage.now) }

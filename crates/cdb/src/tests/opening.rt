@@ -45,7 +45,7 @@ impl<'a> System<MemStore, &'a [u8], MemStore> for OneFile<'a> {
     ghost makes = { λ _ _. Unit {0} };
 
     fn open_store(&mut self, name: &str) -> Result<MemStore, Fault> {
-        self.trace.note(&OpenCall::AtPlaces, name.as_bytes(), b"");
+        self.trace.note(&OpenCall::AtPlaces, name.as_bytes());
         if self.fails() {
             return Err(Fault::Open);
         }
@@ -57,7 +57,7 @@ impl<'a> System<MemStore, &'a [u8], MemStore> for OneFile<'a> {
     }
 
     fn open(&mut self, name: &str) -> Result<&'a [u8], Fault> {
-        self.trace.note(&OpenCall::InTurn, name.as_bytes(), b"");
+        self.trace.note(&OpenCall::InTurn, name.as_bytes());
         if self.fails() {
             return Err(Fault::Open);
         }
@@ -66,18 +66,12 @@ impl<'a> System<MemStore, &'a [u8], MemStore> for OneFile<'a> {
 
     fn is_stream(&mut self, name: &str) -> bool {
         let is = self.is_stream;
-        self.trace.note(&OpenCall::Stream(is), name.as_bytes(), b"");
+        self.trace.note(&OpenCall::Stream(is), name.as_bytes());
         is
     }
 
-    fn is_same_file(&mut self, name: &str, other: &str) -> bool {
-        self.trace
-            .note(&OpenCall::Same(false), name.as_bytes(), other.as_bytes());
-        false
-    }
-
     fn empty(&mut self, name: &str) -> Result<MemStore, Fault> {
-        self.trace.note(&OpenCall::Emptied, name.as_bytes(), b"");
+        self.trace.note(&OpenCall::Emptied, name.as_bytes());
         if self.fails() {
             return Err(Fault::Open);
         }

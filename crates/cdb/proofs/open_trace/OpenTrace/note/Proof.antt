@@ -41,48 +41,48 @@ use Rattle.cdb.specs.contracts.open_trace.OpenCall as K
 use Rattle.std.proofs.Common.{◌<◌, ◌^◌, length}
 
 abbrev Arg : Type 0
-Arg = MutBor OpenTrace × (Bor OpenCall × (Bor (List ℕ) × (Bor (List ℕ) × Unit {0})))
+Arg = MutBor OpenTrace × (Bor OpenCall × (Bor (List ℕ) × Unit {0}))
 
 abbrev stayed : Stays (it.ended).signature.params (it.ended).kept
-stayed = (stay_ref (0 ∷ []) tt (plain (λ _. T.the_row)), (stay_none_ref (1 ∷ []) tt (plain (λ _. K.the_row)) yes, (stay_none_slice (2 ∷ []) tt (plain (λ _. u8)) yes, (stay_none_slice (3 ∷ []) tt (plain (λ _. u8)) yes, tt))))
+stayed = (stay_ref (0 ∷ []) tt (plain (λ _. T.the_row)), (stay_none_ref (1 ∷ []) tt (plain (λ _. K.the_row)) yes, (stay_none_slice (2 ∷ []) tt (plain (λ _. u8)) yes, tt)))
 
-module _ {M : Type 1} {𝓤 : Ura M} (𝓛 : Logic 𝓤) (at_mem : Memory → SProp 𝓤) (run : Routine → Fun 𝓤) (κ κ1 κ2 κ3 : Lft) (q q1 q2 q3 : Share) (b o : ℕ) (γ : GName) (h : OpenTrace) (k : Bor OpenCall) (s t : Bor (List ℕ)) where
+module _ {M : Type 1} {𝓤 : Ura M} (𝓛 : Logic 𝓤) (at_mem : Memory → SProp 𝓤) (run : Routine → Fun 𝓤) (κ κ1 κ2 : Lft) (q q1 q2 : Share) (b o : ℕ) (γ : GName) (h : OpenTrace) (k : Bor OpenCall) (s : Bor (List ℕ)) where
   open 𝓛 use {H, A}
 
   abbrev x : Arg
-  x = (record { ref_ptr = (b, o); ghost_name = γ; now = h }, (k, (s, (t, tt))))
+  x = (record { ref_ptr = (b, o); ghost_name = γ; now = h }, (k, (s, tt)))
 
   abbrev h' : OpenTrace
-  h' = record { marker = h.marker; events = (k.now, s.now, t.now) ∷ h.events }
+  h' = record { marker = h.marker; events = (k.now, s.now) ∷ h.events }
 
-  abbrev at : List Val × (List Val × (List Val × (List Val × Unit {0})))
-  at = (vptr b o ∷ [], (vptr k.ref_ptr.0 k.ref_ptr.1 ∷ [], (slice_val s.ref_ptr (length s.now) ∷ [], (slice_val t.ref_ptr (length t.now) ∷ [], tt))))
+  abbrev at : List Val × (List Val × (List Val × Unit {0}))
+  at = (vptr b o ∷ [], (vptr k.ref_ptr.0 k.ref_ptr.1 ∷ [], (slice_val s.ref_ptr (length s.now) ∷ [], tt)))
 
   abbrev rest : base.Fml.Fml
-  rest = owns (ShrRef (named 1) κ1 K.the_row ∷ ShrSlice (named 2) κ2 u8 ∷ ShrSlice (named 3) κ3 u8 ∷ []) x.1 at.1
+  rest = owns (ShrRef (named 1) κ1 K.the_row ∷ ShrSlice (named 2) κ2 u8 ∷ []) x.1 at.1
 
-  abbrev all_lft : Lft × (Lft × (Lft × (Lft × Unit {0})))
-  all_lft = (κ, (κ1, (κ2, (κ3, tt))))
+  abbrev all_lft : Lft × (Lft × (Lft × Unit {0}))
+  all_lft = (κ, (κ1, (κ2, tt)))
 
-  abbrev all_shares : Share × (Share × (Share × (Share × Unit {0})))
-  all_shares = (q, (q1, (q2, (q3, tt))))
+  abbrev all_shares : Share × (Share × (Share × Unit {0}))
+  all_shares = (q, (q1, (q2, tt)))
 
   abbrev Post : Val → SProp 𝓤
   Post = (walk_of 𝓛 it.ended stayed (it.clauses 𝓛 at_mem run)).post ((all_lft, all_shares, tt, x, at), tt)
 
-  exits : ent 𝓤 (sep 𝓤 (A.obs γ ((T.the_row).coded.code h')) (sep 𝓤 (A.bor κ (Body (mem T.the_row) b o γ)) (sep 𝓤 (A.lft κ q) (sep 𝓤 (types.Logic.sem 𝓛 rest) (sep 𝓤 (A.lft κ1 q1) (sep 𝓤 (A.lft κ2 q2) (sep 𝓤 (A.lft κ3 q3) (emp 𝓤)))))))) (Post vunit)
+  exits : ent 𝓤 (sep 𝓤 (A.obs γ ((T.the_row).coded.code h')) (sep 𝓤 (A.bor κ (Body (mem T.the_row) b o γ)) (sep 𝓤 (A.lft κ q) (sep 𝓤 (types.Logic.sem 𝓛 rest) (sep 𝓤 (A.lft κ1 q1) (sep 𝓤 (A.lft κ2 q2) (emp 𝓤))))))) (Post vunit)
   exits =
-      qed 𝓛 (‵ (fobs γ ((T.the_row).coded.code h')) ∷ ‵ (fbor κ (Body (mem T.the_row) b o γ)) ∷ ‵ (flft κ q) ∷ ‵ rest ∷ (‵ (flft κ1 q1) ⊛ (‵ (flft κ2 q2) ⊛ (‵ (flft κ3 q3) ⊛ ‵ ftrue))) ∷ []) ∵
-      suffices ! _ (ends_at 𝓛 it.ended stayed (it.clauses 𝓛 at_mem run) ((all_lft, all_shares, tt, x, at), tt) vunit tt (h', (tt, (tt, (tt, tt)))) (tt, (tt, (tt, (tt, tt))))) $ says ! refl $ move ! (2 ∷ 4 ∷ []) $ join ! $
+      qed 𝓛 (‵ (fobs γ ((T.the_row).coded.code h')) ∷ ‵ (fbor κ (Body (mem T.the_row) b o γ)) ∷ ‵ (flft κ q) ∷ ‵ rest ∷ (‵ (flft κ1 q1) ⊛ (‵ (flft κ2 q2) ⊛ ‵ ftrue)) ∷ []) ∵
+      suffices ! _ (ends_at 𝓛 it.ended stayed (it.clauses 𝓛 at_mem run) ((all_lft, all_shares, tt, x, at), tt) vunit tt (h', (tt, (tt, tt))) (tt, (tt, (tt, tt)))) $ says ! refl $ move ! (2 ∷ 4 ∷ []) $ join ! $
       frame ! $ feq_i ! (List Val) (vptr b o ∷ []) (vptr b o ∷ []) refl $ fjoin3 ! $ fjoin ! $
       feq_i ! (List Val) (vunit ∷ []) (vunit ∷ []) refl $ move ! (1 ∷ 0 ∷ []) $ done !
 
   module _ (C : Calls 𝓤 H) (Λ : Loops 𝓤 H) where
-    walk : length s.now < 2 ^ 64 → length t.now < 2 ^ 64 → ent 𝓤 (on_entry 𝓛 it.signature all_lft all_shares x at) (WpFn 𝓤 H C Λ code.function (vptr b o ∷ vptr k.ref_ptr.0 k.ref_ptr.1 ∷ slice_val s.ref_ptr (length s.now) ∷ slice_val t.ref_ptr (length t.now) ∷ []) Post)
-    walk fs ft =
-        qed 𝓛 ((‵ (flft κ q) ⊛ (‵ (flft κ1 q1) ⊛ (‵ (flft κ2 q2) ⊛ (‵ (flft κ3 q3) ⊛ ‵ ftrue)))) ∷ ‵ (owns (MutRef (named 0) κ T.the_row ∷ ShrRef (named 1) κ1 K.the_row ∷ ShrSlice (named 2) κ2 u8 ∷ ShrSlice (named 3) κ3 u8 ∷ []) x at) ∷ []) ∵ split ! $ move ! (2 ∷ []) $ fsplit ! $ fsplit3 ! $ drop ! $ move ! (0 ∷ 1 ∷ 3 ∷ []) $
-        enter ! C Λ code.function (vptr b o ∷ vptr k.ref_ptr.0 k.ref_ptr.1 ∷ slice_val s.ref_ptr (length s.now) ∷ slice_val t.ref_ptr (length t.now) ∷ []) _ $
-        alloc_all ! (λ l. pass_all ! refl ((tt, tt), ((tt, tt), ((tt, (tt, (record { fits = fs }, tt))), ((tt, (tt, (record { fits = ft }, tt))), tt)))) $
+    walk : length s.now < 2 ^ 64 → ent 𝓤 (on_entry 𝓛 it.signature all_lft all_shares x at) (WpFn 𝓤 H C Λ code.function (vptr b o ∷ vptr k.ref_ptr.0 k.ref_ptr.1 ∷ slice_val s.ref_ptr (length s.now) ∷ []) Post)
+    walk fs =
+        qed 𝓛 ((‵ (flft κ q) ⊛ (‵ (flft κ1 q1) ⊛ (‵ (flft κ2 q2) ⊛ ‵ ftrue))) ∷ ‵ (owns (MutRef (named 0) κ T.the_row ∷ ShrRef (named 1) κ1 K.the_row ∷ ShrSlice (named 2) κ2 u8 ∷ []) x at) ∷ []) ∵ split ! $ move ! (2 ∷ []) $ fsplit ! $ fsplit3 ! $ drop ! $ move ! (0 ∷ 1 ∷ 3 ∷ []) $
+        enter ! C Λ code.function (vptr b o ∷ vptr k.ref_ptr.0 k.ref_ptr.1 ∷ slice_val s.ref_ptr (length s.now) ∷ []) _ $
+        alloc_all ! (λ l. pass_all ! refl ((tt, tt), ((tt, tt), ((tt, (tt, (record { fits = fs }, tt))), tt))) $
         move ! (0 ∷ 1 ∷ 2 ∷ []) $ opens ! tt T.the_row {h = h} b o (λ vs.
         sets ! (of_opd ! (unit_lit !)) refl (tt, tt) $
         move ! (1 ∷ []) $ use1 𝓛 (‵ ((T.the_row).own_val h' vs)) (id⊢ 𝓤 _) $ move ! (1 ∷ 0 ∷ []) $ closes ! tt T.the_row h' vs b o $
@@ -93,11 +93,11 @@ module _ {M : Type 1} {𝓤 : Ura M} (𝓛 : Logic 𝓤) (at_mem : Memory → SP
   open 𝓛 use {H}
 
   walks : (C : Calls 𝓤 H) (Λ : Loops 𝓤 H) → Walks 𝓛 it.ended stayed (WpFn 𝓤 H C Λ code.function) (it.clauses 𝓛 at_mem run)
-  walks C Λ = walked 𝓛 it.ended stayed (it.clauses 𝓛 at_mem run) (WpFn 𝓤 H C Λ code.function) (λ κs. (mut_vals, (shr_vals, (shr_slice_vals, (shr_slice_vals, tt))))) (λ κs. (mut_Tells (named 0) κs.0 T.the_row, (shr_Tells (named 1) κs.1.0 K.the_row, (shr_slice_Tells (named 2) κs.1.1.0 u8, (shr_slice_Tells (named 3) κs.1.1.1.0 u8, tt)))))
-      (λ κs qs bounds a _ are. via 𝓤 _ (fst∗ 𝓤 _ (emp 𝓤)) (walk 𝓛 at_mem run κs.0 κs.1.0 κs.1.1.0 κs.1.1.1.0 qs.0 qs.1.0 qs.1.1.0 qs.1.1.1.0 a.0.ref_ptr.0 a.0.ref_ptr.1 a.0.ghost_name a.0.now a.1.0 a.1.1.0 a.1.1.1.0 C Λ are.1.1.0.0.1.0 are.1.1.1.0.0.1.0))
+  walks C Λ = walked 𝓛 it.ended stayed (it.clauses 𝓛 at_mem run) (WpFn 𝓤 H C Λ code.function) (λ κs. (mut_vals, (shr_vals, (shr_slice_vals, tt)))) (λ κs. (mut_Tells (named 0) κs.0 T.the_row, (shr_Tells (named 1) κs.1.0 K.the_row, (shr_slice_Tells (named 2) κs.1.1.0 u8, tt))))
+      (λ κs qs bounds a _ are. via 𝓤 _ (fst∗ 𝓤 _ (emp 𝓤)) (walk 𝓛 at_mem run κs.0 κs.1.0 κs.1.1.0 qs.0 qs.1.0 qs.1.1.0 a.0.ref_ptr.0 a.0.ref_ptr.1 a.0.ghost_name a.0.now a.1.0 a.1.1.0 C Λ are.1.1.0.0.1.0))
 
-  goes : AllGo 𝓛 4 (it.signature).params (it.ended).kept stayed
-  goes = (Goes-ref 𝓛 4 0 tt (plain (λ _. T.the_row)), (Goes-none_ref 𝓛 4 (1 ∷ []) tt (plain (λ _. K.the_row)) yes, (Goes-none_slice 𝓛 4 (2 ∷ []) tt (plain (λ _. u8)) yes, (Goes-none_slice 𝓛 4 (3 ∷ []) tt (plain (λ _. u8)) yes, tt))))
+  goes : AllGo 𝓛 3 (it.signature).params (it.ended).kept stayed
+  goes = (Goes-ref 𝓛 3 0 tt (plain (λ _. T.the_row)), (Goes-none_ref 𝓛 3 (1 ∷ []) tt (plain (λ _. K.the_row)) yes, (Goes-none_slice 𝓛 3 (2 ∷ []) tt (plain (λ _. u8)) yes, tt)))
 
 meets : {M : Type 1} {𝓤 : Ura M} (𝓛 : Logic 𝓤) → (at_mem : Memory → SProp 𝓤) (run : Routine → Fun 𝓤) (𝓣 : Tables 𝓤 𝓛.H)
     → Meets 𝓛 it.signature (WpFn 𝓤 𝓛.H 𝓣.C 𝓣.Λ code.function) (it.spec 𝓛 at_mem run)

@@ -4,20 +4,20 @@ use Rattle.cdb_store.specs.Images.{overwrite}
 use Rattle.cdb_store.proofs.OverLemmas.{over_emptied}
 use Rattle.cdb.specs.Contents.{making_of}
 use Rattle.cdb.proofs.Databases.{database_made, run_under}
-use Rattle.cdb.proofs.making.make_buffered.Goals as goal
+use Rattle.cdb.proofs.building.BuildingBuilder.build.Goals as goal
 
-pub returns-in-Ok-clause-made : goal.returns-in-Ok-clause-made
-returns-in-Ok-clause-made g c =
+pub returns-in-Ok-clause-built : goal.returns-in-Ok-clause-built
+returns-in-Ok-clause-built g c =
     let e = c.make_in-buffered.ensures in
     let left = c.make_in-buffered.result.0 in
     rw c.discard.ensures
-    (database_made g.F.Store (making_of g.L.Width.WORD g.L.Width.GREATEST g.J.Read.remaining g.I.Read.remaining c.args.contents) e.run.back _ (g.S.Store.image left.inner) _ _ c.make_in-buffered.result.1 e.run.hands e.run.runs
+    (database_made g.F.Store (making_of g.L.Width.WORD g.L.Width.GREATEST g.J.Read.remaining g.I.Read.remaining c.args.self.contents) e.run.back _ (g.S.Store.image left.inner) _ _ c.make_in-buffered.result.1 e.run.hands e.run.runs
     (on_ok_weaker c.make_in-buffered.result.1 (λ settled. (over_emptied left.pos left.buffer.items (g.S.Store.image left.inner) settled.0).no_other) e.settled))
 
-pub returns-in-Ok-clause-run : goal.returns-in-Ok-clause-run
-returns-in-Ok-clause-run g c =
+pub returns-in-Ok-clause-tells : goal.returns-in-Ok-clause-tells
+returns-in-Ok-clause-tells g c =
     let e = c.make_in-buffered.ensures in
     let left = c.make_in-buffered.result.0 in
     rw c.discard.ensures
-    (inl (run_under g.F.Store (making_of g.L.Width.WORD g.L.Width.GREATEST g.J.Read.remaining g.I.Read.remaining c.args.contents) _ (g.S.Store.image left.inner) _ _ c.make_in-buffered.result.1 e.run (λ b is. (overwrite b left.pos left.buffer.items, (b, is, refl)))
+    (inl (run_under g.F.Store (making_of g.L.Width.WORD g.L.Width.GREATEST g.J.Read.remaining g.I.Read.remaining c.args.self.contents) _ (g.S.Store.image left.inner) _ _ c.make_in-buffered.result.1 e.run (λ b is. (overwrite b left.pos left.buffer.items, (b, is, refl)))
     (on_ok_weaker c.make_in-buffered.result.1 (λ settled. (over_emptied left.pos left.buffer.items (g.S.Store.image left.inner) settled.0).no_other) e.settled)))

@@ -1,8 +1,0 @@
-use Rattle.std.proofs.Common.{[], map, string_bytes, take}
-use Rattle.cdb.specs.Creating.{AsksEach}
-use Rattle.cdb_files.specs.declared.name_trace.NameCall.TheVariants.{Apart}
-use Rattle.cdb.proofs.placing.has_input.Given as goal
-
--- the inputs so far are other files
-abbrev pub invariant-loop-input : goal.invariant-loop-input
-invariant-loop-input g l = AsksEach (λ file. (Apart, l.temporary, file, [])) (map string_bytes (take l.input-index l.inputs)) (g.N.Names.calls l.fn.names) (g.N.Names.calls l.names)

@@ -1,0 +1,14 @@
+use Rattle.std.proofs.Common.{arith, ℕ, map, string_bytes, subst, take, rules}
+use Rattle.cdb.specs.Creating.{AsksEach, AsksOne}
+use Rattle.cdb.proofs.Opens.{asks_more, names_more}
+use Rattle.cdb.proofs.placing.is_one_of_inputs.Goals as goal
+
+pub loop-input-preserved : goal.loop-input-preserved
+loop-input-preserved g c =
+    let i : ℕ = c.loop-input.input-index in
+    let old = g.N.Names.calls c.args.names.now in
+    let mid = g.N.Names.calls c.loop-input.names in
+    let new = g.N.Names.calls c.is_input.new.names in
+    let more = names_more string_bytes c.args.inputs.now i c.input-item.result c.as_str.result.now (omega arith) c.input-item.is c.as_str.ensures.value in
+    let one : AsksOne c.args.name.now c.as_str.result.now mid new = c.is_input.ensures.other (search rules) in
+    subst (λ v. AsksEach c.args.name.now v old new) more (asks_more c.args.name.now (map string_bytes (take i c.args.inputs.now)) c.as_str.result.now old mid new c.loop-input.invariant one)

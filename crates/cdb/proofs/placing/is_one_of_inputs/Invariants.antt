@@ -1,0 +1,7 @@
+use Rattle.std.proofs.Common.{map, string_bytes, take}
+use Rattle.cdb.specs.Creating.{AsksEach}
+use Rattle.cdb.proofs.placing.is_one_of_inputs.Given as goal
+
+-- the inputs so far are other files
+abbrev pub invariant-loop-input : goal.invariant-loop-input
+invariant-loop-input g l = AsksEach l.name (map string_bytes (take l.input-index l.inputs)) (g.N.Names.calls l.fn.names) (g.N.Names.calls l.names)

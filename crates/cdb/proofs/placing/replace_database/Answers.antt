@@ -1,0 +1,24 @@
+use Rattle.std.proofs.Common.{inr, rules}
+use Rattle.cdb.specs.Contents.{making_of}
+use Rattle.cdb.proofs.Databases.{of_contents}
+use Rattle.cdb.proofs.Opens.{ok_and}
+use Rattle.cdb.proofs.placing.replace_database.Goals as goal
+
+pub returns : goal.returns
+returns g c =
+    let e = c.replace_file-answer.ensures in
+    let answer = c.replace_file-answer.result in
+    let making = making_of g.L.Width.WORD g.L.Width.GREATEST g.J.Read.remaining g.I.Read.remaining c.args.contents in
+    inr (
+      g.N.Names.calls c.is_read.new.names,
+      c.is_read.ensures.others (search rules),
+      record {
+        answer = answer;
+        answered = c.answer_to_program.ensures;
+        calls = e.calls;
+        moments = e.any_moment;
+        ok = ok_and _ _ answer e.ok e.sure;
+        err = e.err;
+        lines = of_contents g.E.Write.contents g.F.Store g.N.File.RawFile making _ _ _ _ _ _ answer e.told;
+      },
+    )

@@ -1,0 +1,89 @@
+// What builds the database of what was opened.
+ghost use Rattle.cdb.specs.Creating.{IsBufferedRun, IsDatabase, MakesIn};
+ghost use Rattle.cdb.specs.Contents.{making_of};
+
+use crate::contents::Contents;
+use cdb_files::Builder;
+use cdb_form::{PIPE, Width};
+use cdb_store::{BufferedStore, Store};
+use cdb_tool::{Fault, make_run_from};
+use std::alloc::Global;
+use std::io::{Read, Write};
+use std::marker::PhantomData;
+
+/// Makes it in a store, which is handed back.
+pub(crate) fn make_in<L, S, F, J, I, E>(
+    alloc: Global,
+    store: S,
+    contents: Contents<L, F, J, I>,
+    errors: &mut E,
+) -> (S, Result<(), Fault>)
+where
+    L: Width,
+    S: Store,
+    F: Store + Drop,
+    J: Read + Drop,
+    I: Read + Drop,
+    E: Write,
+    ensures { MakesIn S.Store F.Store (making_of L.WORD L.GREATEST J.remaining I.remaining contents)
+        result.0 (E.contents errors.old) (E.contents errors.new) result.1 }
+{
+    let Contents {
+        base,
+        inputs,
+        options,
+        width: _,
+    } = contents;
+    let (store, _, made) = make_run_from::<L, S, F, J, I, E>(
+        alloc, store, base, inputs, options, errors,
+    );
+    (store, made)
+}
+
+/// Builds the database in a file that is empty, through a buffer.
+#[derive(Drop)]
+pub(crate) struct Building<L: Width, F, J, I, E> {
+    pub(crate) alloc: Global,
+    /// What was opened.
+    pub(crate) contents: Contents<L, F, J, I>,
+    /// What the lines of duplicates are written to.
+    pub(crate) errors: PhantomData<E>,
+}
+
+impl<S, L, F, J, I, E> Builder<S> for Building<L, F, J, I, E>
+where
+    S: Store + Drop,
+    L: Width,
+    F: Store + Drop,
+    J: Read + Drop,
+    I: Read + Drop,
+    E: Write,
+{
+    type Fault = Fault;
+
+    type Told = E;
+
+    ghost builds = { λ b. IsDatabase F.Store
+        (making_of L.WORD L.GREATEST J.remaining I.remaining b.contents) };
+
+    ghost tells = { λ b told said images made. IsBufferedRun F.Store
+        (making_of L.WORD L.GREATEST J.remaining I.remaining b.contents) images
+        (E.contents told) (E.contents said) made };
+
+    fn build(self, store: S, errors: &mut E) -> (S, Result<(), Fault>) {
+        let Building {
+            alloc,
+            contents,
+            ..
+        } = self;
+        match BufferedStore::new(alloc, store, PIPE) {
+            Ok(buffered) => {
+                let (buffered, made) = make_in::<L, BufferedStore<S>, F, J, I, E>(
+                    alloc, buffered, contents, errors,
+                );
+                (buffered.discard(), made)
+            }
+            Err(failed) => (failed.value, Err(Fault::NoMemory)),
+        }
+    }
+}
