@@ -122,7 +122,8 @@ impl<R: Read, L: Width> AmendReader<R, L> {
         self.items.read_buffered::<A>(into, true)
     }
 
-    /// The record that the next item puts, if it is whole at hand, where it is. Nothing is taken: `take_front` does.
+    /// The record that the next item puts, where it lies, if it is whole at hand. Nothing is taken:
+    /// `take_front` does that.
     #[inline(always)]
     pub fn front<A: AtHand<R>>(&self) -> Option<FrontRecord<'_>>
         ensures { IfSome result (λ f.

@@ -114,7 +114,8 @@ impl<R: Read, L: Width> TextReader<R, L> {
         Ok(found.is_some())
     }
 
-    /// The next record, if it is whole at hand, where it is. Nothing is taken: `take_front` does.
+    /// The next record, where it lies, if it is whole at hand. Nothing is taken: `take_front` does
+    /// that.
     #[inline(always)]
     pub fn front<A: AtHand<R>>(&self) -> Option<FrontRecord<'_>>
         ensures { IfSome result (λ f.
