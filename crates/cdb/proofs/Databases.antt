@@ -15,7 +15,7 @@ use Rattle.cdb_tool.specs.Message.{fault_line}
 use Rattle.cdb_tool.specs.Runs.Make.{HandsBack, OfBase, Makes}
 use Rattle.cdb_tool.specs.Runs.Make as run
 use Rattle.cdb_tool.specs.declared.fault.Fault.{Fault}
-use Rattle.cdb_tool.proofs.WholeRuns.{front_kept}
+use Rattle.cdb_tool.proofs.WholeRuns.{prefix_kept}
 use Rattle.cdb.specs.Creating.{Making, HasDatabase, IsBufferedRun, IsRun}
 use Rattle.cdb.specs.Performs.{Says, Runs, usage_line}
 use Rattle.cdb.specs.declared.system.System.{Ghosts as Systems}
@@ -64,12 +64,12 @@ of_contents contents f r m t n old new told said answer (inr some) = inr (record
 
 says_kept : (result : Result Unit Fault) (told mid said : Option (List ℕ)) → Says result told mid → Keeps mid said → Says result told said
 says_kept (Ok done) told mid said h k = Keeps-trans told mid said h k
-says_kept (Err fault) told mid said h k = front_kept told mid said (fault_line fault) h k
+says_kept (Err fault) told mid said h k = prefix_kept told mid said (fault_line fault) h k
 
 pub run_kept : {F I M R Y : Type 0} (s : Ghosts F) (m : Ghosts M) (r : Raw R) (remaining : I → Option (List ℕ)) (y : Systems Y F I M) (planned : Result Asked Usage) (input : Option (List ℕ)) (old new : Y) (was now : NameCalls) (start end final told mid said : Option (List ℕ)) (status : ℕ)
     → Runs s m r remaining y planned input old new was now start end final told mid status → Keeps mid said → Runs s m r remaining y planned input old new was now start end final told said status
 run_kept s m r remaining y planned input old new was now start end final told mid said status h k = elim h as (λ _. Runs s m r remaining y planned input old new was now start end final told said status) [
-  | inl none ↦ inl (record { usage = none.usage; why = none.why; line = front_kept told mid said (usage_line none.usage) none.line k; untouched = none.untouched; same = none.same; kept = none.kept; is_status = none.is_status })
+  | inl none ↦ inl (record { usage = none.usage; why = none.why; line = prefix_kept told mid said (usage_line none.usage) none.line k; untouched = none.untouched; same = none.same; kept = none.kept; is_status = none.is_status })
   | inr some ↦
       inr (record {
         command = some.command;

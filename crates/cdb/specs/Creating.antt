@@ -9,7 +9,7 @@ use Rattle.cdb_files.specs.Replacing.{LeavesOldOrNew, Tells}
 use Rattle.cdb_files.specs.declared.name_trace.NameCall.TheVariants as name_call
 use Rattle.cdb_files.specs.declared.replace.ReplaceFault.{ReplaceFault}
 use Rattle.cdb_files.specs.declared.replace.ReplaceFault.TheVariants as replace
-use Rattle.cdb_form.specs.Views.KnownBytes.{AppendsFront}
+use Rattle.cdb_form.specs.Views.KnownBytes.{AppendsPrefix}
 use Rattle.cdb_store.specs.Contents.{contents}
 use Rattle.cdb_store.specs.contracts.memory.MemStoreStore.TheImpl.{ghosts as in_memory}
 use Rattle.cdb_store.specs.declared.memory.MemStore.{MemStore}
@@ -73,11 +73,11 @@ IsBufferedRun f m images told said made =
 
 -- ---- on standard output
 
--- bytes are written, or a front of them
+-- bytes are written, or a prefix of them
 pub record WritesAll (start end : Option (List ℕ)) (bytes : List ℕ) (result : Result Unit Fault)
     : Type 0 where
   pub ok : OnOk result (Appends start end bytes)
-  pub err : IfErr result (λ fault. (fault ≡ Output) × AppendsFront start end bytes)
+  pub err : IfErr result (λ fault. (fault ≡ Output) × AppendsPrefix start end bytes)
 
 -- it is made in memory and written; or it is not made, and nothing is written
 pub record MakesOnOutput {F : Type 0} (f : Ghosts F) (m : Making F)

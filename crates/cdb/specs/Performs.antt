@@ -8,7 +8,7 @@ use Rattle.cdb_command.specs.Usage.{usage_message, usage_text}
 use Rattle.cdb_command.specs.declared.command.Command.{Command}
 use Rattle.cdb_command.specs.declared.usage.Usage.{Usage}
 use Rattle.cdb_command.specs.declared.usage.Usage.TheVariants.{NoMemory}
-use Rattle.cdb_form.specs.Views.KnownBytes.{AppendsFront}
+use Rattle.cdb_form.specs.Views.KnownBytes.{AppendsPrefix}
 use Rattle.cdb_store.specs.Contents.{contents}
 use Rattle.cdb_store.specs.Reads.{OnlyReads}
 use Rattle.cdb_store.specs.contracts.memory.MemStoreStore.TheImpl.{ghosts as in_memory}
@@ -152,7 +152,7 @@ PerformsOn s remaining y most None input old new start end result file taken =
 -- the usage text is written
 pub record WritesUsage (start end : Option (List ℕ)) (result : Result Unit Fault) : Type 0 where
   pub ok : OnOk result (Appends start end usage_text)
-  pub err : IfErr result (λ fault. (fault ≡ Output) × AppendsFront start end usage_text)
+  pub err : IfErr result (λ fault. (fault ≡ Output) × AppendsPrefix start end usage_text)
 
 -- ---- each command, in words of w bytes of files of at most so many
 abbrev pub Performs : {F I M R Y : Type 0} → (w most : ℕ) → Ghosts F → Ghosts M → Raw R
@@ -228,7 +228,7 @@ usage_line usage = codes "cdb: " ++ (usage_message usage ++ codes "\n")
 -- the line of a fault is said, as far as standard error takes it, and nothing of a success
 abbrev pub Says : Result Unit Fault → (told said : Option (List ℕ)) → Type 0
 Says (Ok done) told said = Keeps told said
-Says (Err fault) told said = AppendsFront told said (fault_line fault)
+Says (Err fault) told said = AppendsPrefix told said (fault_line fault)
 
 -- ---- the program
 
@@ -246,7 +246,7 @@ pub record AsksNothing {Y : Type 0} (planned : Result Asked Usage) (old new : Y)
     (was now : NameCalls) (start end told said : Option (List ℕ)) (status : ℕ) : Type 0 where
   pub usage : Usage
   pub why : (usage ≡ NoMemory) ⊎ (planned ≡ Err usage)
-  pub line : AppendsFront told said (usage_line usage)
+  pub line : AppendsPrefix told said (usage_line usage)
   pub untouched : new ≡ old
   pub same : now ≡ was
   pub kept : Keeps start end

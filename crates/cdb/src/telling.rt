@@ -1,6 +1,6 @@
 // The lines on standard error.
 ghost use Rattle.std.specs.Prelude.{◌≡◌};
-ghost use Rattle.cdb_form.specs.Views.KnownBytes.{AppendsFront};
+ghost use Rattle.cdb_form.specs.Views.KnownBytes.{AppendsPrefix};
 ghost use Rattle.cdb_tool.specs.Message.{fault_line};
 ghost use Rattle.cdb.specs.Performs.{usage_line, usage_status};
 
@@ -15,7 +15,7 @@ type Line = ArrayVec<u8, 256>;
 /// Writes a line at once, so that no other program's line comes between, as far as `errors` takes
 /// it.
 fn write_line<E: Write>(line: &Line, errors: &mut E)
-    ensures { AppendsFront (E.contents errors.old) (E.contents errors.new) line.now.items }
+    ensures { AppendsPrefix (E.contents errors.old) (E.contents errors.new) line.now.items }
 {
     let _ = write_whole(errors, line.as_slice());
 }
@@ -24,7 +24,7 @@ fn write_line<E: Write>(line: &Line, errors: &mut E)
 #[cold]
 #[inline(never)]
 pub(crate) fn tell<E: Write>(fault: &Fault, errors: &mut E)
-    ensures { AppendsFront (E.contents errors.old) (E.contents errors.new) (fault_line fault.now) }
+    ensures { AppendsPrefix (E.contents errors.old) (E.contents errors.new) (fault_line fault.now) }
 {
     let mut line = Line::new();
     let _ = write_fault(fault, &mut line);
@@ -35,7 +35,7 @@ pub(crate) fn tell<E: Write>(fault: &Fault, errors: &mut E)
 #[cold]
 #[inline(never)]
 pub(crate) fn refuse<E: Write>(usage: &Usage, errors: &mut E) -> u8
-    ensures line { AppendsFront (E.contents errors.old) (E.contents errors.new)
+    ensures line { AppendsPrefix (E.contents errors.old) (E.contents errors.new)
         (usage_line usage.now) }
     ensures status { result ≡ usage_status usage.now }
 {

@@ -1,4 +1,5 @@
 // The making calls.
+ghost use Rattle.cdb_form.specs.Format.Record.{record_of};
 ghost use Rattle.std.specs.Prelude.{◌≡◌, None, Err, IfOk, IfErr, negsuc};
 ghost use Rattle.cdb_make.specs.Views.Maker.{Puts, FailsPutting, Follows};
 ghost use Rattle.cdb_make.specs.Views.Maker.{Removes, FailsRemoving, FailsFinishing};
@@ -24,10 +25,10 @@ fn put_by(
     value: &[u8],
 ) -> Result<Put, MakeFault>
     ensures puts { IfOk result (λ p. Between (kept_in handle.old) (kept_in handle.new) (λ m n.
-        Puts m.maker n.maker (mode_of mode) (record { key = key.now; value = value.now }) p)) }
+        Puts m.maker n.maker (mode_of mode) (record_of key.now value.now) p)) }
     ensures fails { IfErr result (λ f. Between (kept_in handle.old) (kept_in handle.new) (λ m n.
         FailsPutting m.maker n.maker (mode_of mode)
-        (record { key = key.now; value = value.now }) f)) }
+        (record_of key.now value.now) f)) }
     ensures follows { Between (kept_in handle.old) (kept_in handle.new) (λ m n.
         Follows m.maker n.maker) }
     ensures no_maker { HasNoMaker (kept_in handle.old) → result ≡ Err Broken }
@@ -56,10 +57,10 @@ pub extern "C" fn cdb_c_make_put(
 ) -> i32
     ensures puts { Answers put_code result
         (λ p. Between (kept_in handle.old) (kept_in handle.new) (λ m n.
-        Puts m.maker n.maker (mode_of mode) (record { key = key.now; value = value.now }) p))
+        Puts m.maker n.maker (mode_of mode) (record_of key.now value.now) p))
         (λ f. Between (kept_in handle.old) (kept_in handle.new) (λ m n.
         FailsPutting m.maker n.maker (mode_of mode)
-        (record { key = key.now; value = value.now }) f)) }
+        (record_of key.now value.now) f)) }
     ensures follows { Between (kept_in handle.old) (kept_in handle.new) (λ m n.
         Follows m.maker n.maker) }
     ensures no_maker { HasNoMaker (kept_in handle.old) → result ≡ negsuc 0 }

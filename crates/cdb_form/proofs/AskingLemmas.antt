@@ -5,10 +5,10 @@ use Rattle.std.specs.Io.KnownBytes.{Consumes}
 use borrow.Rule.Slice.PartMut.{put_mid, post_of}
 use Rattle.cdb_form.specs.Format.Record.{AreBytes}
 use Rattle.cdb_form.proofs.ByteLemmas.{AreBytes-append, AreBytes-take}
-use Rattle.cdb_form.proofs.Fronts.{take_past}
+use Rattle.cdb_form.proofs.Prefixes.{take_past}
 use Rattle.cdb_form.proofs.SourceLemmas.{consumes_then}
 
--- the front of a slice of which a part was read, and n bytes of that part
+-- the start of a slice of which a part was read, and n bytes of that part
 pub take_read : (a k n : ℕ) (xs ys : List ℕ) → a ≤ length xs → n ≤ length ys → take (a + n) (put_mid a k xs ys) ≡ take a xs ++ take n ys
 take_read a k n xs ys within few =
     take_past (take a xs) (ys ++ post_of a k xs) a n (length-take-le a xs within) ∙ ap (λ t. take a xs ++ t) (take-append-le n ys (post_of a k xs) few)
@@ -27,15 +27,15 @@ read_more old mid new so_far into done n a are long b bytes few = record {
   long = omega (arith, length-append so_far (take n into), length-take-le n into few);
 }
 
--- the front of some zeros, that words are read into
+-- the start of some zeros, that words are read into
 pub zeros_long : (size room : ℕ) → size ≤ room → length (take size (replicate {A = ℕ} room 0)) ≡ size
 zeros_long size room small = length-take-le size (replicate {A = ℕ} room 0) (omega (arith, length-replicate {A = ℕ} room 0))
 
--- a front of what a vector held before it was made longer
-pub same_front : (held : ℕ) (old longer : List ℕ) → held ≤ length old → take (length old) longer ≡ old → take held longer ≡ take held old
-same_front held old longer within front = sym (take-take held (length old) longer within) ∙ ap (take held) front
+-- a prefix of what a vector held before it was made longer
+pub same_prefix : (held : ℕ) (old longer : List ℕ) → held ≤ length old → take (length old) longer ≡ old → take held longer ≡ take held old
+same_prefix held old longer within front = sym (take-take held (length old) longer within) ∙ ap (take held) front
 
--- n bytes came behind a front
+-- n bytes came behind a prefix
 pub came_behind : (held n len : ℕ) (front ys post rest : List ℕ) → length front ≡ held → n ≤ length ys → held + n ≤ len → take (held + n) (take len (front ++ (ys ++ post) ++ rest)) ≡ front ++ take n ys
 came_behind held n len front ys post rest long few within =
     take-take (held + n) len (front ++ (ys ++ post) ++ rest) within

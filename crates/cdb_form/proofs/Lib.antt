@@ -15,9 +15,9 @@ pub mod RecordLemmas
 pub mod Sizes
 pub mod Places
 pub mod WholeText
-pub mod Fronts
+pub mod Prefixes
 mod FormReads
-mod FrontLemmas
+mod PrefixLemmas
 pub mod WalkSteps
 pub mod Standing
 pub mod WalkLaws
@@ -31,5 +31,5 @@ pub mod WalkText
 pub mod MapLines
 pub mod MapReads
 pub mod WholeMap
-mod LineFront
+mod LinePrefix
 mod LaneRuns

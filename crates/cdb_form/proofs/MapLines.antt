@@ -8,7 +8,7 @@ use Rattle.std.proofs.lemmas.List.Splits.{slice_split_at, slice_split_none}
 use Rattle.cdb_form.specs.Format.Record.{KeyValue}
 use Rattle.cdb_form.specs.Text.Map.{BeginsOther, IsMapWord, Lacks, behind_blanks, is_blank, is_ignored, is_newline, line_records, lines_of, map_line, map_lines, map_text, line_pair}
 
--- ---- a run of bytes at the front
+-- ---- a run of bytes at the start
 
 run_long : (p : ℕ → Bool) (xs ys : List ℕ) → AllByRecursion (λ c. p c ≡ true) xs → prefix_len p ys ≡ 0 → prefix_len p (xs ++ ys) ≡ length xs
 run_long p [] ys each h = h
@@ -20,7 +20,7 @@ prefix_len-run p xs ys each h = run_long p xs ys (recursion_from_All _ xs each) 
 lacks_pass : (p : ℕ → Bool) (xs : List ℕ) → Lacks p xs → AllPass (λ c. not (p c)) xs
 lacks_pass p xs h k d l = ap not (h k d l)
 
--- the blanks at the front are dropped
+-- the blanks at the start are dropped
 pub behind_blanks-run : (bs rest : List ℕ) → AllPass is_blank bs → BeginsOther is_blank rest → behind_blanks (bs ++ rest) ≡ rest
 behind_blanks-run bs rest each other = drop_at bs rest (prefix_len is_blank (bs ++ rest)) (sym (prefix_len-run is_blank bs rest each other))
 

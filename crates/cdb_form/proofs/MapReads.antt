@@ -11,7 +11,7 @@ use Rattle.cdb_form.specs.Format.Record.{KeyValue}
 use Rattle.cdb_form.specs.Text.Map.{IsIgnoredLine, IsLineOf, Lacks, behind_blanks, is_blank, is_newline, line_pair, with_newlines}
 use Rattle.cdb_form.specs.Views.MapParser.{MovesRun, ReadsLine, ReadsPair, ReadsRun, ReadsToEnding, ReadsValue, is_of, line_end}
 use Rattle.cdb_form.specs.Views.MapReader.{IsAmidLines, ReadsLinesOf}
-use Rattle.cdb_form.specs.Views.FrontLine.{BeginsWithLine}
+use Rattle.cdb_form.specs.Views.PrefixLine.{BeginsWithLine}
 use Rattle.cdb_form.specs.Views.Source.{LeavesAmid, Takes, budget}
 use Rattle.cdb_form.specs.Views.TextFault.{IsOfText, IsReadFault, IsSpent}
 use Rattle.cdb_form.specs.declared.text.fault.TextFault.{TextFault}

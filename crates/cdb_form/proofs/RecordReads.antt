@@ -7,22 +7,22 @@ use Rattle.cdb_form.specs.Views.Reading.{ReadsNoRecord, ReadsFirst}
 use Rattle.cdb_form.specs.Format.Record.{KeyValue, record_size}
 use Rattle.cdb_form.specs.Format.Pair.{WordPair}
 use Rattle.cdb_form.specs.Format.Reading.{pair_at}
-use Rattle.cdb_form.specs.Format.Walk.{Walked, front_size, walk_from, with_first}
+use Rattle.cdb_form.specs.Format.Walk.{Walked, prefix_size, walk_from, with_first}
 use Rattle.cdb_form.specs.Views.Pairs.{header_pair}
 use Rattle.cdb_form.specs.Views.WalkFault.{stopped_by}
 use Rattle.cdb_form.specs.declared.walk.fault.WalkFault.{WalkFault}
 use Rattle.cdb_form.specs.declared.header.Header.{Header}
 use Rattle.cdb_form.specs.declared.walk.fault.WalkFault.TheVariants.{Record}
-use Rattle.cdb_form.proofs.Fronts.{lengths_of, Begins, front_reads}
+use Rattle.cdb_form.proofs.Prefixes.{lengths_of, Begins, prefix_reads}
 use Rattle.cdb_form.proofs.SourceLemmas.{consumes_then, nothing_lost}
 use Rattle.cdb_form.proofs.WalkSteps.{walk_from-no_header, walk_from-no_body, walk_from-more}
 
 abbrev pub StopsAt : ℕ → ℕ → ℕ → WalkFault → Option (List ℕ) → Type 0
 StopsAt w place end fault old = IfSome old (λ text. walk_from w place end text ≡ stopped_by fault)
 
--- how long the record at the front is, as its header tells
-pub front_told : (w : ℕ) (xs : List ℕ) (h : Header) → header_pair h ≡ pair_at w xs → front_size w xs ≡ 2 * w + h.klen + h.vlen
-front_told w xs h lengths = ap (λ (p : WordPair). 2 * w + p.first + p.second) (sym lengths)
+-- how long the record at the start is, as its header tells
+pub prefix_told : (w : ℕ) (xs : List ℕ) (h : Header) → header_pair h ≡ pair_at w xs → prefix_size w xs ≡ 2 * w + h.klen + h.vlen
+prefix_told w xs h lengths = ap (λ (p : WordPair). 2 * w + p.first + p.second) (sym lengths)
 
 -- no header fits before the record end
 pub no_room : (w place end : ℕ) (old : Option (List ℕ)) → place < end → end - place < 2 * w → StopsAt w place end (Record place) old
@@ -35,7 +35,7 @@ header_early w place end None fault before e h = tt
 header_early w place end (Some text) fault before e h = walk_from-no_header w place end text before (inr h) ∙ ap stopped_by (sym e)
 
 -- what the header tells doesn't fit before the record end
-pub body_no_room : (w place end : ℕ) (old new : Option (List ℕ)) (header : List ℕ) → place < end → Consumes old new header → length header ≡ 2 * w → 2 * w ≤ end - place → end - place < front_size w header
+pub body_no_room : (w place end : ℕ) (old new : Option (List ℕ)) (header : List ℕ) → place < end → Consumes old new header → length header ≡ 2 * w → 2 * w ≤ end - place → end - place < prefix_size w header
     → StopsAt w place end (Record place) old
 body_no_room w place end None new header before read long room few = tt
 body_no_room w place end (Some text) None header before read long room few = absurd read
@@ -43,7 +43,7 @@ body_no_room w place end (Some text) (Some rest) header before read long room fe
 
 -- the file ends within a key or a value
 pub body_early : (w place end n : ℕ) (old new : Option (List ℕ)) (header some : List ℕ) (fault : WalkFault) → place < end → fault ≡ Record place → Consumes old new (header ++ some) → length header ≡ 2 * w → 2 * w ≤ end - place
-    → 2 * w + length some + n ≤ front_size w header → IfSome new (λ text. length text < n) → StopsAt w place end fault old
+    → 2 * w + length some + n ≤ prefix_size w header → IfSome new (λ text. length text < n) → StopsAt w place end fault old
 body_early w place end n None new header some fault before e read long room size h = tt
 body_early w place end n (Some text) None header some fault before e read long room size h = absurd read
 body_early w place end n (Some text) (Some rest) header some fault before e read long room size h =
@@ -60,7 +60,7 @@ record_read w place end next (Some text) None new header r some a b long lengths
 record_read w place end next (Some text) (Some t) None header r some a b long lengths at room = absurd b
 record_read w place end next (Some text) (Some t) (Some rest) header r some a b long lengths at room =
     let begins : Begins w text r rest = record { header = header; long = long; lengths = lengths; split = a ∙ ap (λ t. header ++ t) (b ∙ append_assoc r.key r.value rest) } in
-    let reads = front_reads w text r rest begins in
+    let reads = prefix_reads w text r rest begins in
     let n : next - place ≡ record_size w r = omega arith in (
       walk_from-more w place end text r rest some begins (omega arith) ∙ ap (λ (k : ℕ). with_first r (walk_from w k end rest)) (sym at),
       sym (ap (λ (k : ℕ). drop k text) n ∙ reads.rest_is),
@@ -109,7 +109,7 @@ none_header w place end old new before l = record {
 }
 
 -- a header was, of a record that doesn't fit
-pub none_body_no_room : (w place end : ℕ) (old new : Option (List ℕ)) (header : List ℕ) → place < end → Consumes old new header → length header ≡ 2 * w → 2 * w ≤ end - place → end - place < front_size w header
+pub none_body_no_room : (w place end : ℕ) (old new : Option (List ℕ)) (header : List ℕ) → place < end → Consumes old new header → length header ≡ 2 * w → 2 * w ≤ end - place → end - place < prefix_size w header
     → ReadsNoRecord (walk_from w place end) old new
 none_body_no_room w place end old new header before read long room few = record {
   lost = header;
@@ -118,7 +118,7 @@ none_body_no_room w place end old new header before read long room few = record 
 }
 
 -- a header and a part of what it tells was
-pub none_body : (w place end n : ℕ) (old mid new : Option (List ℕ)) (header : List ℕ) → place < end → Consumes old mid header → LosesFewer mid new n → length header ≡ 2 * w → 2 * w ≤ end - place → 2 * w + n ≤ front_size w header
+pub none_body : (w place end n : ℕ) (old mid new : Option (List ℕ)) (header : List ℕ) → place < end → Consumes old mid header → LosesFewer mid new n → length header ≡ 2 * w → 2 * w ≤ end - place → 2 * w + n ≤ prefix_size w header
     → ReadsNoRecord (walk_from w place end) old new
 none_body w place end n old mid new header before read l long room size = record {
   lost = header ++ l.lost;

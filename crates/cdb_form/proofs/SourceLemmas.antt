@@ -14,9 +14,9 @@ use Rattle.cdb_form.specs.Text.Amending.{SpellsRemoval}
 use Rattle.cdb_form.specs.Text.Native.{IsNumeral, Spells}
 use Rattle.std.specs.Prelude.{codes, option_map}
 use Rattle.cdb_form.specs.Views.KnownBytes.{Took}
-use Rattle.cdb_form.proofs.Fronts.{take_past}
-use Rattle.cdb_form.specs.declared.reading.Unread.{Unread}
-use Rattle.cdb_form.specs.declared.reading.Unread.TheVariants as unread
+use Rattle.cdb_form.proofs.Prefixes.{take_past}
+use Rattle.cdb_form.specs.declared.reading.ReadStop.{ReadStop}
+use Rattle.cdb_form.specs.declared.reading.ReadStop.TheVariants as unread
 use Rattle.cdb_form.specs.Views.TextFault.{IsReadFault, IsSpent, LastRead, unread_fault}
 use Rattle.cdb_form.specs.Views.NativeParser.{FailsBytes, FailsField, ReadsBehind, seen, told, Leaves}
 use Rattle.cdb_form.specs.Views.Source.{budget}
@@ -173,7 +173,7 @@ removal_behind o m n greatest from to a key ia fits bytes c₁ c₂ counted =
     }
 
 -- the bytes read are all that there were, where the reader has no more; else they are what was read
-pub bytes_fail : (o n : Option (List ℕ)) (len from to : ℕ) (bytes : List ℕ) (u : Unread) → (u ≢ unread.NoMemory → Consumes o n bytes) → (u ≡ unread.Ended → IsAtEnd n) → AreBytes bytes → length bytes < len → to ≡ from + length bytes
+pub bytes_fail : (o n : Option (List ℕ)) (len from to : ℕ) (bytes : List ℕ) (u : ReadStop) → (u ≢ unread.NoMemory → Consumes o n bytes) → (u ≡ unread.Ended → IsAtEnd n) → AreBytes bytes → length bytes < len → to ≡ from + length bytes
     → IfSome (seen from to (unread_fault to u) o) (λ text. FailsBytes len from text (told to (unread_fault to u)))
 bytes_fail None n len from to bytes unread.Ended read end are short counted = tt
 bytes_fail (Some o) None len from to bytes unread.Ended read end are short counted = absurd (read (λ e. cc))

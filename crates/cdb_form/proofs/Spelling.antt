@@ -4,7 +4,7 @@ use Rattle.std.specs.Str.Parse.{digits_value}
 use Rattle.cdb_form.specs.Format.Record.{KeyValue}
 use Rattle.cdb_form.specs.Text.Amending.{Change, Putting, Removing, SpellsRemoval, SpellsChange}
 use Rattle.cdb_form.specs.Text.Native.{Spells}
-use Rattle.cdb_form.proofs.Grammar.{same_digits, same_fronts}
+use Rattle.cdb_form.proofs.Grammar.{same_digits, same_prefixes}
 
 -- What the laws of a form rest on: no spelling begins with a newline, a greater bound spells no
 -- less, and no spelling begins another, whatever the bounds.
@@ -38,8 +38,8 @@ same_first g h a b x y r q sa sb e =
     let v = same_digits sa.vlen sb.vlen _ _ 58 58 sa.vlen_is.each sb.vlen_is.each (lit≤ tt) (lit≤ tt) k.2 in
     let key_long : length r.key ≡ length q.key = sym sa.klen_is.value ∙ ap (digits_value 10) k.0 ∙ sb.klen_is.value in
     let value_long : length r.value ≡ length q.value = sym sa.vlen_is.value ∙ ap (digits_value 10) v.0 ∙ sb.vlen_is.value in
-    let keys = same_fronts r.key q.key _ _ key_long v.2 in
-    let values = same_fronts r.value q.value _ _ value_long (tails _ _ _ _ (tails _ _ _ _ keys.1)) in
+    let keys = same_prefixes r.key q.key _ _ key_long v.2 in
+    let values = same_prefixes r.value q.value _ _ value_long (tails _ _ _ _ (tails _ _ _ _ keys.1)) in
     (same_record r q keys.0 values.0, tails _ _ _ _ values.1)
 
 spells_more : (g g' : ℕ) (t : List ℕ) (r : KeyValue) → g ≤ g' → Spells g t r → Spells g' t r
@@ -74,7 +74,7 @@ same_removal g h a b x y k q sa sb e =
     let whole = tails _ _ _ _ (sym (first_of_removal g a x k sa) ∙ e ∙ first_of_removal h b y q sb) in
     let n = same_digits sa.klen sb.klen _ _ 58 58 sa.klen_is.each sb.klen_is.each (lit≤ tt) (lit≤ tt) whole in
     let long : length k ≡ length q = sym sa.klen_is.value ∙ ap (digits_value 10) n.0 ∙ sb.klen_is.value in
-    let keys = same_fronts k q _ _ long n.2 in
+    let keys = same_prefixes k q _ _ long n.2 in
     (keys.0, tails _ _ _ _ keys.1)
 
 -- ---- changes

@@ -1,4 +1,4 @@
--- Records that stand at the front of some bytes are those that are read there.
+-- Records that stand at the start of some bytes are those that are read there.
 use Rattle.std.proofs.Common.{◌≡◌, ℕ, zero, suc, ◌+◌, ◌*◌, ◌/◌, ◌%◌, ◌^◌, ◌<◌, ◌≤◌, List, [], ◌∷◌, ◌++◌, length, take, drop, flat_map, refl, sym, ap, ◌∙◌, arith, append_assoc, length-take, length-drop}
 use Rattle.std.specs.Prelude.{sum_by}
 use Rattle.std.specs.List.{AllByRecursion}
@@ -13,10 +13,10 @@ use Rattle.cdb_form.specs.Format.Record.{AreBytes, KeyValue, record_bytes, recor
 use Rattle.cdb_form.specs.Format.Pair.{WordPair, pair_bytes}
 use Rattle.cdb_form.specs.Format.Reading.{pair_at}
 use Rattle.cdb_form.specs.Views.Pairs.{PairFits}
-use Rattle.cdb_form.specs.Format.Walk.{front_size, front_record, whole_records}
+use Rattle.cdb_form.specs.Format.Walk.{prefix_size, prefix_record, whole_records}
 use Rattle.cdb_form.proofs.HeadLemmas.{length-pair_bytes}
 use Rattle.cdb_form.proofs.ReadBack.{pair_at-pair_bytes, same_words}
-use Rattle.cdb_form.proofs.Fronts.{lengths_of, Begins, all_records, all_records-more, fits_front}
+use Rattle.cdb_form.proofs.Prefixes.{lengths_of, Begins, all_records, all_records-more, fits_prefix}
 
 -- the bytes of a record, and then others
 pub Begins-record_bytes : (w top : ℕ) (r : KeyValue) (rest : List ℕ) → top + 1 ≡ 256 ^ w → PairFits top (lengths_of r) → Begins w (record_bytes w r ++ rest) r rest
@@ -90,27 +90,27 @@ pair_bytes-pair_at w xs bytes l =
     ∙ ap (λ t. take w xs ++ t) (take-append-drop w (drop w xs))
     ∙ take-append-drop w xs
 
--- a whole record at the front stands there
-pub front_stands : (w : ℕ) (xs : List ℕ) → AreBytes xs → front_size w xs ≤ length xs → xs ≡ record_bytes w (front_record w xs) ++ drop (front_size w xs) xs
+-- a whole record at the start stands there
+pub prefix_stands : (w : ℕ) (xs : List ℕ) → AreBytes xs → prefix_size w xs ≤ length xs → xs ≡ record_bytes w (prefix_record w xs) ++ drop (prefix_size w xs) xs
 unfolding record_bytes
-front_stands w xs bytes h =
+prefix_stands w xs bytes h =
     let k = (pair_at w xs).first in
     let v = (pair_at w xs).second in
-    let r = front_record w xs in
+    let r = prefix_record w xs in
     let a = length-take (pair_at w xs).first (drop (2 * w) xs) in
     let b = length-drop (2 * w) xs in
     let c = length-take (pair_at w xs).second (drop (2 * w + (pair_at w xs).first) xs) in
     let d = length-drop (2 * w + (pair_at w xs).first) xs in
-    let lens : lengths_of (front_record w xs) ≡ pair_at w xs = same_words (lengths_of (front_record w xs)) (pair_at w xs) (omega arith) (omega arith) in
+    let lens : lengths_of (prefix_record w xs) ≡ pair_at w xs = same_words (lengths_of (prefix_record w xs)) (pair_at w xs) (omega arith) (omega arith) in
     let key : take (pair_at w xs).first (drop (2 * w) xs) ++ drop (2 * w + (pair_at w xs).first) xs ≡ drop (2 * w) xs =
     ap (λ t. take (pair_at w xs).first (drop (2 * w) xs) ++ t) (sym (drop-drop (pair_at w xs).first (2 * w) xs)) ∙ take-append-drop (pair_at w xs).first (drop (2 * w) xs) in
-    let value : take (pair_at w xs).second (drop (2 * w + (pair_at w xs).first) xs) ++ drop (front_size w xs) xs ≡ drop (2 * w + (pair_at w xs).first) xs =
+    let value : take (pair_at w xs).second (drop (2 * w + (pair_at w xs).first) xs) ++ drop (prefix_size w xs) xs ≡ drop (2 * w + (pair_at w xs).first) xs =
     ap (λ t. take (pair_at w xs).second (drop (2 * w + (pair_at w xs).first) xs) ++ t) (sym (drop-drop (pair_at w xs).second (2 * w + (pair_at w xs).first) xs)) ∙ take-append-drop (pair_at w xs).second (drop (2 * w + (pair_at w xs).first) xs) in
     sym (
-    append_assoc (pair_bytes w (lengths_of (front_record w xs)) ++ (front_record w xs).key) (front_record w xs).value (drop (front_size w xs) xs)
-    ∙ ap (λ t. (pair_bytes w (lengths_of (front_record w xs)) ++ (front_record w xs).key) ++ t) value
-    ∙ append_assoc (pair_bytes w (lengths_of (front_record w xs))) (front_record w xs).key (drop (2 * w + (pair_at w xs).first) xs)
-    ∙ ap (λ t. pair_bytes w (lengths_of (front_record w xs)) ++ t) key
+    append_assoc (pair_bytes w (lengths_of (prefix_record w xs)) ++ (prefix_record w xs).key) (prefix_record w xs).value (drop (prefix_size w xs) xs)
+    ∙ ap (λ t. (pair_bytes w (lengths_of (prefix_record w xs)) ++ (prefix_record w xs).key) ++ t) value
+    ∙ append_assoc (pair_bytes w (lengths_of (prefix_record w xs))) (prefix_record w xs).key (drop (2 * w + (pair_at w xs).first) xs)
+    ∙ ap (λ t. pair_bytes w (lengths_of (prefix_record w xs)) ++ t) key
     ∙ ap (λ (p : WordPair). pair_bytes w p ++ drop (2 * w) xs) lens
     ∙ pair_bytes-pair_at w xs bytes (omega arith))
 
@@ -119,13 +119,13 @@ pub whole_records-stand : (w most : ℕ) (xs : List ℕ) → AreBytes xs → (re
 unfolding whole_records
 whole_records-stand w zero xs bytes = (xs, refl)
 whole_records-stand w (suc most) xs bytes =
-    cond_both (fits_front w xs) (front_record w xs ∷ whole_records w most (drop (front_size w xs) xs)) [] (λ rs. (rest : List ℕ) × (xs ≡ flat_map (record_bytes w) rs ++ rest))
+    cond_both (fits_prefix w xs) (prefix_record w xs ∷ whole_records w most (drop (prefix_size w xs) xs)) [] (λ rs. (rest : List ℕ) × (xs ≡ flat_map (record_bytes w) rs ++ rest))
     (λ t.
-    (let size = leb-true (front_size w xs) (length xs) t in
-    let ih = whole_records-stand w most (drop (front_size w xs) xs) (AreBytes-drop (front_size w xs) xs bytes) in (
+    (let size = leb-true (prefix_size w xs) (length xs) t in
+    let ih = whole_records-stand w most (drop (prefix_size w xs) xs) (AreBytes-drop (prefix_size w xs) xs bytes) in (
       ih.0,
-      front_stands w xs bytes size
-          ∙ ap (λ u. record_bytes w (front_record w xs) ++ u) ih.1
-          ∙ sym (append_assoc (record_bytes w (front_record w xs)) (flat_map (record_bytes w) (whole_records w most (drop (front_size w xs) xs))) ih.0),
+      prefix_stands w xs bytes size
+          ∙ ap (λ u. record_bytes w (prefix_record w xs) ++ u) ih.1
+          ∙ sym (append_assoc (record_bytes w (prefix_record w xs)) (flat_map (record_bytes w) (whole_records w most (drop (prefix_size w xs) xs))) ih.0),
     )))
     (λ f. (xs, refl))

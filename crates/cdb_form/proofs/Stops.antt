@@ -13,12 +13,12 @@ use Rattle.cdb_form.specs.declared.text.fault.TextFault.TheVariants.{Syntax, End
 use Rattle.cdb_form.specs.Views.TextFault.{IsOfText, IsReadFault}
 use Rattle.cdb_form.specs.Views.FormReader.{StopsAmid}
 use Rattle.cdb_form.specs.Views.NativeParser.{FailsNumber, FailsByte, FailsField, FailsItem, FailsEntry, seen, told}
-use Rattle.cdb_form.specs.Text.Form.{Reads, HasNoItem, IsFront, HasNoText, LongestFront, HasFault}
+use Rattle.cdb_form.specs.Text.Form.{Reads, HasNoItem, IsPrefix, HasNoText, LongestPrefix, HasFault}
 use Rattle.cdb_form.specs.Text.Native.{IsNumeral, Spells}
 use Rattle.cdb_form.specs.Text.Amending.{Change, Putting, Removing, SpellsRemoval, SpellsChange}
 use Rattle.cdb_form.proofs.ByteLemmas.{AreBytes-nil}
 use Rattle.cdb_form.proofs.Spelling.{IsSpelling, records, changes, first_of_spelled, first_of_removal, head_of_spelled, head_of_removal, no_change}
-use Rattle.cdb_form.proofs.Grammar.{Front, Bare, Never, Lit, Bulk, Num, front_lit, front_lit_none, bare_lit, bare_lit_none, never_lit, never_lit_none, front_bulk, front_bulk_part, bare_bulk, never_bulk, front_num, front_num_part, bare_num, bare_num_part, never_num, never_num_bad, never_num_large}
+use Rattle.cdb_form.proofs.Grammar.{Prefix, Bare, Never, Lit, Bulk, Num, prefix_lit, prefix_lit_none, bare_lit, bare_lit_none, never_lit, never_lit_none, prefix_bulk, prefix_bulk_part, bare_bulk, never_bulk, prefix_num, prefix_num_part, bare_num, bare_num_part, never_num, never_num_bad, never_num_large}
 
 -- ---- texts of a form
 
@@ -30,11 +30,11 @@ abbrev pub Any : ℕ → List ℕ → Type 0
 Any g t = ⊤
 
 -- the shortest text
-pub front_form : {X : Type 0} (S : ℕ → List ℕ → X → Type 0) (g : ℕ) → Front (Form S g) []
-front_form S g = (10 ∷ [], ([], refl))
+pub prefix_form : {X : Type 0} (S : ℕ → List ℕ → X → Type 0) (g : ℕ) → Prefix (Form S g) []
+prefix_form S g = (10 ∷ [], ([], refl))
 
-pub front_any : (g : ℕ) → Front (Any g) []
-front_any g = ([], tt)
+pub prefix_any : (g : ℕ) → Prefix (Any g) []
+prefix_any g = ([], tt)
 
 no_item_empty : {X : Type 0} (S : ℕ → List ℕ → X → Type 0) → IsSpelling S → (g : ℕ) → HasNoItem S g []
 no_item_empty S s g first rest i sp e = s.newline g first (rest ++ 10 ∷ []) [] i sp (sym (append_assoc first rest (10 ∷ [])) ∙ ap (λ z. z ++ 10 ∷ []) (sym e))
@@ -50,13 +50,13 @@ reads_split S g (i ∷ xs) t rest (first, more, sp, e, reads) =
     let split = reads_split S g xs more rest reads in
     (first ++ split.0, (first, split.0, sp, refl, split.1), e ∙ ap (λ x. first ++ x) split.2 ∙ sym (append_assoc first split.0 rest))
 
--- of two fronts of a list one is a front of the other
-pub fronts : (u s x y : List ℕ) (c : ℕ) → s ++ c ∷ y ≡ u ++ x → ((v : List ℕ) × (s ≡ u ++ v)) ⊎ ((m : List ℕ) × (u ≡ s ++ c ∷ m))
-fronts [] s x y c e = inl (s, refl)
-fronts (a ∷ u) [] x y c e = inr (u, (let h : a ≡ c = cc in cc))
-fronts (a ∷ u) (b ∷ s) x y c e =
+-- of two prefixes of a list one is a prefix of the other
+pub prefixes : (u s x y : List ℕ) (c : ℕ) → s ++ c ∷ y ≡ u ++ x → ((v : List ℕ) × (s ≡ u ++ v)) ⊎ ((m : List ℕ) × (u ≡ s ++ c ∷ m))
+prefixes [] s x y c e = inl (s, refl)
+prefixes (a ∷ u) [] x y c e = inr (u, (let h : a ≡ c = cc in cc))
+prefixes (a ∷ u) (b ∷ s) x y c e =
     let h : b ≡ a = cc in
-    elim (fronts u s x y c (let t : s ++ c ∷ y ≡ u ++ x = cc in t)) [ inl p ↦ inl (p.0, (let i = p.1 in cc)) | inr p ↦ inr (p.0, (let i = p.1 in cc)) ]
+    elim (prefixes u s x y c (let t : s ++ c ∷ y ≡ u ++ x = cc in t)) [ inl p ↦ inl (p.0, (let i = p.1 in cc)) | inr p ↦ inr (p.0, (let i = p.1 in cc)) ]
 
 no_text_ended : {X : Type 0} (S : ℕ → List ℕ → X → Type 0) (g : ℕ) (t : List ℕ) → Bare (Form S g) t → HasNoText S g t
 no_text_ended S g t b xs rest reads = let split = reads_split S g xs t rest reads in b split.0 rest (xs, split.1) split.2
@@ -64,7 +64,7 @@ no_text_ended S g t b xs rest reads = let split = reads_split S g xs t rest read
 no_text_stuck : {X : Type 0} (S : ℕ → List ℕ → X → Type 0) (g c : ℕ) (s rest : List ℕ) → Bare (Form S g) s → Never (Form S g) s c → HasNoText S g (s ++ c ∷ rest)
 no_text_stuck S g c s rest b n xs rest' reads =
     let split = reads_split S g xs (s ++ c ∷ rest) rest' reads in
-    elim (fronts split.0 s rest' rest c split.2) [ inl p ↦ b split.0 p.0 (xs, split.1) p.1 | inr p ↦ n p.0 (subst (Form S g) p.1 (xs, split.1)) ]
+    elim (prefixes split.0 s rest' rest c split.2) [ inl p ↦ b split.0 p.0 (xs, split.1) p.1 | inr p ↦ n p.0 (subst (Form S g) p.1 (xs, split.1)) ]
 
 take_past : (s rest : List ℕ) (c q : ℕ) → length s < q → (m : List ℕ) × (take q (s ++ c ∷ rest) ≡ s ++ c ∷ m)
 take_past [] rest c zero h = absurd (omega arith)
@@ -79,23 +79,23 @@ byte_behind : (s rest : List ℕ) (c : ℕ) → get_or (s ++ c ∷ rest) (length
 byte_behind [] rest c = refl
 byte_behind (a ∷ s) rest c = byte_behind s rest c
 
-is_front : {X : Type 0} (S : ℕ → List ℕ → X → Type 0) (g : ℕ) (s : List ℕ) → Front (Form S g) s → IsFront S g s
-is_front S g s (m, (xs, reads)) = (xs, m, reads)
+is_prefix : {X : Type 0} (S : ℕ → List ℕ → X → Type 0) (g : ℕ) (s : List ℕ) → Prefix (Form S g) s → IsPrefix S g s
+is_prefix S g s (m, (xs, reads)) = (xs, m, reads)
 
-not_front : {X : Type 0} (S : ℕ → List ℕ → X → Type 0) (g c : ℕ) (s m : List ℕ) → Never (Form S g) s c → IsFront S g (s ++ c ∷ m) → ⊥
-not_front S g c s m n (xs, more, reads) = n (m ++ more) (xs, subst (λ t. Reads S g xs t []) (append_assoc s (c ∷ m) more) reads)
+not_prefix : {X : Type 0} (S : ℕ → List ℕ → X → Type 0) (g c : ℕ) (s m : List ℕ) → Never (Form S g) s c → IsPrefix S g (s ++ c ∷ m) → ⊥
+not_prefix S g c s m n (xs, more, reads) = n (m ++ more) (xs, subst (λ t. Reads S g xs t []) (append_assoc s (c ∷ m) more) reads)
 
-longest_stuck : {X : Type 0} (S : ℕ → List ℕ → X → Type 0) (g c : ℕ) (s rest : List ℕ) → Front (Form S g) s → Never (Form S g) s c → LongestFront S g (s ++ c ∷ rest) (length s)
+longest_stuck : {X : Type 0} (S : ℕ → List ℕ → X → Type 0) (g c : ℕ) (s rest : List ℕ) → Prefix (Form S g) s → Never (Form S g) s c → LongestPrefix S g (s ++ c ∷ rest) (length s)
 longest_stuck S g c s rest f n = record {
   within = simp length-append (omega arith);
-  front = subst (IsFront S g) (sym (take_at s (c ∷ rest) (length s) refl)) (is_front S g s f);
-  longest = λ q h l front. let past = take_past s rest c q h in not_front S g c s past.0 n (subst (IsFront S g) past.1 front);
+  front = subst (IsPrefix S g) (sym (take_at s (c ∷ rest) (length s) refl)) (is_prefix S g s f);
+  longest = λ q h l front. let past = take_past s rest c q h in not_prefix S g c s past.0 n (subst (IsPrefix S g) past.1 front);
 }
 
-longest_ended : {X : Type 0} (S : ℕ → List ℕ → X → Type 0) (g : ℕ) (t : List ℕ) → Front (Form S g) t → LongestFront S g t (length t)
+longest_ended : {X : Type 0} (S : ℕ → List ℕ → X → Type 0) (g : ℕ) (t : List ℕ) → Prefix (Form S g) t → LongestPrefix S g t (length t)
 longest_ended S g t f = record {
   within = omega arith;
-  front = subst (IsFront S g) (sym (take_all (length t) t (omega arith))) (is_front S g t f);
+  front = subst (IsPrefix S g) (sym (take_all (length t) t (omega arith))) (is_prefix S g t f);
   longest = λ q h l front. omega arith;
 }
 
@@ -103,10 +103,10 @@ longest_ended S g t f = record {
 
 -- The text stops being one of K at the place of the fault. Its first byte stands at `from`.
 abbrev pub StopsAt : (ℕ → List ℕ → Type 0) → ℕ → ℕ → List ℕ → TextFault → Type 0
-StopsAt K g from text (Ended at) = Front (K g) text × Bare (K g) text × (at ≡ from + length text)
-StopsAt K g from text (Syntax at) = (s : List ℕ) × (c : ℕ) × (rest : List ℕ) × (text ≡ s ++ c ∷ rest) × (at ≡ from + length s) × Front (K g) s × Bare (K g) s × ((g' : ℕ) → g ≤ g' → Never (K g') s c)
-StopsAt K g from text (Large at) = (s : List ℕ) × (c : ℕ) × (rest : List ℕ) × (text ≡ s ++ c ∷ rest) × (at ≡ from + length s) × Front (K g) s × Bare (K g) s × Never (K g) s c
-    × (digit_value c < 10) × ((g' : ℕ) × (g ≤ g') × Front (K g') (s ++ c ∷ []))
+StopsAt K g from text (Ended at) = Prefix (K g) text × Bare (K g) text × (at ≡ from + length text)
+StopsAt K g from text (Syntax at) = (s : List ℕ) × (c : ℕ) × (rest : List ℕ) × (text ≡ s ++ c ∷ rest) × (at ≡ from + length s) × Prefix (K g) s × Bare (K g) s × ((g' : ℕ) → g ≤ g' → Never (K g') s c)
+StopsAt K g from text (Large at) = (s : List ℕ) × (c : ℕ) × (rest : List ℕ) × (text ≡ s ++ c ∷ rest) × (at ≡ from + length s) × Prefix (K g) s × Bare (K g) s × Never (K g) s c
+    × (digit_value c < 10) × ((g' : ℕ) × (g ≤ g') × Prefix (K g') (s ++ c ∷ []))
 StopsAt K g from text _ = ⊤
 
 stops_form : {X : Type 0} (S : ℕ → List ℕ → X → Type 0) (g from : ℕ) (text : List ℕ) (f : TextFault) → StopsAt (Form S) g from text f → HasFault S g from text f
@@ -117,7 +117,7 @@ stops_form S g from text (Syntax at) (s, c, rest, e, place, f, b, n) =
       no_text_stuck S g c s rest b (n g (omega arith)),
       longest_stuck S g c s rest f (n g (omega arith)),
       simp length-append (omega arith),
-      (λ l. not_front S l.1.0 c s [] (n l.1.0 l.1.1) (subst (IsFront S l.1.0) (take_one_more s rest c) l.1.2)),
+      (λ l. not_prefix S l.1.0 c s [] (n l.1.0 l.1.1) (subst (IsPrefix S l.1.0) (take_one_more s rest c) l.1.2)),
       place,
     )
 stops_form S g from text (Large at) (s, c, rest, e, place, f, b, n, digit, (g', l, more)) =
@@ -126,7 +126,7 @@ stops_form S g from text (Large at) (s, c, rest, e, place, f, b, n, digit, (g', 
       no_text_stuck S g c s rest b n,
       longest_stuck S g c s rest f n,
       simp length-append (omega arith),
-      (subst (λ (d : ℕ). digit_value d < 10) (sym (byte_behind s rest c)) digit, (g', l, subst (IsFront S g') (sym (take_one_more s rest c)) (is_front S g' (s ++ c ∷ []) more))),
+      (subst (λ (d : ℕ). digit_value d < 10) (sym (byte_behind s rest c)) digit, (g', l, subst (IsPrefix S g') (sym (take_one_more s rest c)) (is_prefix S g' (s ++ c ∷ []) more))),
       place,
     )
 stops_form S g from text Input h = tt
@@ -134,30 +134,30 @@ stops_form S g from text Endless h = tt
 stops_form S g from text NoMemory h = tt
 
 stops_lit : (K : ℕ → List ℕ → Type 0) (g c from to : ℕ) (text : List ℕ) (f : TextFault) → to ≡ from + 1 → StopsAt K g to text f → StopsAt (λ g. Lit c (K g)) g from (c ∷ text) f
-stops_lit K g c from to text (Ended at) e (f, b, place) = (front_lit c (K g) text f, bare_lit c (K g) text b, omega arith)
+stops_lit K g c from to text (Ended at) e (f, b, place) = (prefix_lit c (K g) text f, bare_lit c (K g) text b, omega arith)
 stops_lit K g c from to text (Syntax at) e (s, d, rest, split, place, f, b, n) =
-    (c ∷ s, d, rest, ap (λ x. c ∷ x) split, omega arith, front_lit c (K g) s f, bare_lit c (K g) s b, λ g' le. never_lit c d (K g') s (n g' le))
+    (c ∷ s, d, rest, ap (λ x. c ∷ x) split, omega arith, prefix_lit c (K g) s f, bare_lit c (K g) s b, λ g' le. never_lit c d (K g') s (n g' le))
 stops_lit K g c from to text (Large at) e (s, d, rest, split, place, f, b, n, digit, (g', l, more)) =
-    (c ∷ s, d, rest, ap (λ x. c ∷ x) split, omega arith, front_lit c (K g) s f, bare_lit c (K g) s b, never_lit c d (K g) s n, digit, (g', l, front_lit c (K g') (s ++ d ∷ []) more))
+    (c ∷ s, d, rest, ap (λ x. c ∷ x) split, omega arith, prefix_lit c (K g) s f, bare_lit c (K g) s b, never_lit c d (K g) s n, digit, (g', l, prefix_lit c (K g') (s ++ d ∷ []) more))
 stops_lit K g c from to text Input e h = tt
 stops_lit K g c from to text Endless e h = tt
 stops_lit K g c from to text NoMemory e h = tt
 
 stops_bulk : (K : ℕ → List ℕ → Type 0) (g n from to : ℕ) (v text : List ℕ) (f : TextFault) → length v ≡ n → AreBytes v → to ≡ from + n → StopsAt K g to text f → StopsAt (λ g. Bulk n (K g)) g from (v ++ text) f
-stops_bulk K g n from to v text (Ended at) l are e (f, b, place) = (front_bulk n (K g) v text l are f, bare_bulk n (K g) v text l b, omega (arith, length-append v text))
+stops_bulk K g n from to v text (Ended at) l are e (f, b, place) = (prefix_bulk n (K g) v text l are f, bare_bulk n (K g) v text l b, omega (arith, length-append v text))
 stops_bulk K g n from to v text (Syntax at) l are e (s, d, rest, split, place, f, b, never) =
-    (v ++ s, d, rest, ap (λ x. v ++ x) split ∙ sym (append_assoc v s (d ∷ rest)), omega (arith, length-append v s), front_bulk n (K g) v s l are f, bare_bulk n (K g) v s l b, λ g' le. never_bulk n d (K g') v s l (never g' le))
+    (v ++ s, d, rest, ap (λ x. v ++ x) split ∙ sym (append_assoc v s (d ∷ rest)), omega (arith, length-append v s), prefix_bulk n (K g) v s l are f, bare_bulk n (K g) v s l b, λ g' le. never_bulk n d (K g') v s l (never g' le))
 stops_bulk K g n from to v text (Large at) l are e (s, d, rest, split, place, f, b, never, digit, (g', le, more)) = (
   v ++ s,
   d,
   rest,
   ap (λ x. v ++ x) split ∙ sym (append_assoc v s (d ∷ rest)),
   omega (arith, length-append v s),
-  front_bulk n (K g) v s l are f,
+  prefix_bulk n (K g) v s l are f,
   bare_bulk n (K g) v s l b,
   never_bulk n d (K g) v s l never,
   digit,
-  (g', le, subst (Front (Bulk n (K g'))) (sym (append_assoc v s (d ∷ []))) (front_bulk n (K g') v (s ++ d ∷ []) l are more)),
+  (g', le, subst (Prefix (Bulk n (K g'))) (sym (append_assoc v s (d ∷ []))) (prefix_bulk n (K g') v (s ++ d ∷ []) l are more)),
 )
 stops_bulk K g n from to v text Input l are e h = tt
 stops_bulk K g n from to v text Endless l are e h = tt
@@ -165,30 +165,30 @@ stops_bulk K g n from to v text NoMemory l are e h = tt
 
 stops_num : (K : ℕ → ℕ → List ℕ → Type 0) (g c n from to : ℕ) (ds text : List ℕ) (f : TextFault) → IsNumeral ds n → n ≤ g → 10 ≤ digit_value c → to ≡ from + (length ds + 1)
     → StopsAt (λ g. K g n) g to text f → StopsAt (λ g. Num g c (K g)) g from (ds ++ c ∷ text) f
-stops_num K g c n from to ds text (Ended at) i l nc e (f, b, place) = (front_num g c n (K g) ds text i l f, bare_num g c n (K g) ds text i nc b, omega (arith, length-append ds (c ∷ text)))
+stops_num K g c n from to ds text (Ended at) i l nc e (f, b, place) = (prefix_num g c n (K g) ds text i l f, bare_num g c n (K g) ds text i nc b, omega (arith, length-append ds (c ∷ text)))
 stops_num K g c n from to ds text (Syntax at) i l nc e (s, d, rest, split, place, f, b, never) =
-    (ds ++ c ∷ s, d, rest, ap (λ x. ds ++ c ∷ x) split ∙ sym (append_assoc ds (c ∷ s) (d ∷ rest)), omega (arith, length-append ds (c ∷ s)), front_num g c n (K g) ds s i l f, bare_num g c n (K g) ds s i nc b, λ g' le. never_num g' c d n (K g') ds s i nc (never g' le))
+    (ds ++ c ∷ s, d, rest, ap (λ x. ds ++ c ∷ x) split ∙ sym (append_assoc ds (c ∷ s) (d ∷ rest)), omega (arith, length-append ds (c ∷ s)), prefix_num g c n (K g) ds s i l f, bare_num g c n (K g) ds s i nc b, λ g' le. never_num g' c d n (K g') ds s i nc (never g' le))
 stops_num K g c n from to ds text (Large at) i l nc e (s, d, rest, split, place, f, b, never, digit, (g', le, more)) = (
   ds ++ c ∷ s,
   d,
   rest,
   ap (λ x. ds ++ c ∷ x) split ∙ sym (append_assoc ds (c ∷ s) (d ∷ rest)),
   omega (arith, length-append ds (c ∷ s)),
-  front_num g c n (K g) ds s i l f,
+  prefix_num g c n (K g) ds s i l f,
   bare_num g c n (K g) ds s i nc b,
   never_num g c d n (K g) ds s i nc never,
   digit,
-  (g', le, subst (Front (Num g' c (K g'))) (sym (append_assoc ds (c ∷ s) (d ∷ []))) (front_num g' c n (K g') ds (s ++ d ∷ []) i (omega arith) more)),
+  (g', le, subst (Prefix (Num g' c (K g'))) (sym (append_assoc ds (c ∷ s) (d ∷ []))) (prefix_num g' c n (K g') ds (s ++ d ∷ []) i (omega arith) more)),
 )
 stops_num K g c n from to ds text Input i l nc e h = tt
 stops_num K g c n from to ds text Endless i l nc e h = tt
 stops_num K g c n from to ds text NoMemory i l nc e h = tt
 
-stops_byte : (K : ℕ → List ℕ → Type 0) (g c from : ℕ) (text : List ℕ) (f : TextFault) → ((g : ℕ) → Front (K g) []) → FailsByte c from text f → StopsAt (λ g. Lit c (K g)) g from text f
+stops_byte : (K : ℕ → List ℕ → Type 0) (g c from : ℕ) (text : List ℕ) (f : TextFault) → ((g : ℕ) → Prefix (K g) []) → FailsByte c from text f → StopsAt (λ g. Lit c (K g)) g from text f
 stops_byte K g c from text (Ended at) k (e, place) =
-    (subst (Front (Lit c (K g))) (sym e) (front_lit_none c (K g) (k g)), subst (Bare (Lit c (K g))) (sym e) (bare_lit_none c (K g)), omega (arith, ap length e))
+    (subst (Prefix (Lit c (K g))) (sym e) (prefix_lit_none c (K g) (k g)), subst (Bare (Lit c (K g))) (sym e) (bare_lit_none c (K g)), omega (arith, ap length e))
 stops_byte K g c from text (Syntax at) k (d, rest, e, other, place) =
-    ([], d, rest, e, omega arith, front_lit_none c (K g) (k g), bare_lit_none c (K g), λ g' le. never_lit_none c d (K g') other)
+    ([], d, rest, e, omega arith, prefix_lit_none c (K g) (k g), bare_lit_none c (K g), λ g' le. never_lit_none c d (K g') other)
 stops_byte K g c from text (Large at) k h = absurd h
 stops_byte K g c from text Input k h = tt
 stops_byte K g c from text Endless k h = tt
@@ -200,9 +200,9 @@ bare_field n c K v l u w (v', m, l', are, e, k) h =
     let split : v ≡ v' ++ (m ++ w) = h ∙ ap (λ t. t ++ w) e ∙ append_assoc v' m w in
     omega (arith, ap length split, length-append v' (m ++ w), length-append m w, ap length k.1)
 
-stops_field : (K : ℕ → List ℕ → Type 0) (g n c from : ℕ) (text : List ℕ) (f : TextFault) → ((g : ℕ) → Front (K g) []) → FailsField n c from text f → StopsAt (λ g. Bulk n (Lit c (K g))) g from text f
+stops_field : (K : ℕ → List ℕ → Type 0) (g n c from : ℕ) (text : List ℕ) (f : TextFault) → ((g : ℕ) → Prefix (K g) []) → FailsField n c from text f → StopsAt (λ g. Bulk n (Lit c (K g))) g from text f
 stops_field K g n c from text (Ended at) k (are, short, place) =
-    (front_bulk_part n (Lit c (K g)) text short are (front_lit_none c (K g) (k g)), bare_field n c (K g) text short, place)
+    (prefix_bulk_part n (Lit c (K g)) text short are (prefix_lit_none c (K g) (k g)), bare_field n c (K g) text short, place)
 stops_field K g n c from text (Syntax at) k (other, place) =
     let v = other.bytes in
     subst (λ t. StopsAt (λ g. Bulk n (Lit c (K g))) g from t (Syntax at)) (sym other.text_is)
@@ -213,15 +213,15 @@ stops_field K g n c from text Input k h = tt
 stops_field K g n c from text Endless k h = tt
 stops_field K g n c from text NoMemory k h = tt
 
-stops_number : (K : ℕ → ℕ → List ℕ → Type 0) (g c from : ℕ) (text : List ℕ) (f : TextFault) → ((g n : ℕ) → Front (K g n) []) → 10 ≤ digit_value c → FailsNumber g c from text f → StopsAt (λ g. Num g c (K g)) g from text f
-stops_number K g c from text (Ended at) k nc (each, fits, place) = (front_num_part g c (K g) text each fits (k g), bare_num_part g c (K g) text each nc, place)
+stops_number : (K : ℕ → ℕ → List ℕ → Type 0) (g c from : ℕ) (text : List ℕ) (f : TextFault) → ((g n : ℕ) → Prefix (K g n) []) → 10 ≤ digit_value c → FailsNumber g c from text f → StopsAt (λ g. Num g c (K g)) g from text f
+stops_number K g c from text (Ended at) k nc (each, fits, place) = (prefix_num_part g c (K g) text each fits (k g), bare_num_part g c (K g) text each nc, place)
 stops_number K g c from text (Syntax at) k nc (d, n, t, place, nd, other) = (
   t.digits,
   d,
   t.rest,
   t.text_is,
   omega (arith, t.long),
-  front_num_part g c (K g) t.digits t.each t.fits (k g),
+  prefix_num_part g c (K g) t.digits t.each t.fits (k g),
   bare_num_part g c (K g) t.digits t.each nc,
   λ g' le. never_num_bad g' c d (K g') t.digits t.each nc nd (λ e. t.long ∙ other e),
 )
@@ -234,14 +234,14 @@ stops_number K g c from text (Large at) k nc (d, n, t, place, dd) =
       t.rest,
       t.text_is,
       omega (arith, t.long),
-      front_num_part g c (K g) t.digits t.each t.fits (k g),
+      prefix_num_part g c (K g) t.digits t.each t.fits (k g),
       bare_num_part g c (K g) t.digits t.each nc,
       never_num_large g c d (K g) t.digits t.each nc dd lifts,
       dd,
       (
         greater,
         omega (arith, lifts),
-        front_num_part greater c (K greater) (t.digits ++ d ∷ []) (digits_push 10 t.digits d t.each dd) (omega (arith, value)) (k greater),
+        prefix_num_part greater c (K greater) (t.digits ++ d ∷ []) (digits_push 10 t.digits d t.each dd) (omega (arith, value)) (k greater),
       ),
     )
 stops_number K g c from text Input k nc h = tt
@@ -276,25 +276,25 @@ abbrev pub BehindMinus : (ℕ → List ℕ → Type 0) → ℕ → List ℕ → 
 BehindMinus F g t = Num g 58 (λ k. Rest5 F k g) t
 
 abbrev pub Starts : (ℕ → List ℕ → Type 0) → Type 0
-Starts F = (g : ℕ) → Front (F g) []
+Starts F = (g : ℕ) → Prefix (F g) []
 
 front6 : (F : ℕ → List ℕ → Type 0) → Starts F → Starts (Rest6 F)
-front6 F s g = front_lit_none 10 (F g) (s g)
+front6 F s g = prefix_lit_none 10 (F g) (s g)
 
 front5 : (F : ℕ → List ℕ → Type 0) (n : ℕ) → Starts F → Starts (Rest5 F n)
-front5 F n s g = front_bulk_part n (Rest6 F g) [] (omega arith) AreBytes-nil (front6 F s g)
+front5 F n s g = prefix_bulk_part n (Rest6 F g) [] (omega arith) AreBytes-nil (front6 F s g)
 
 front4 : (F : ℕ → List ℕ → Type 0) (n : ℕ) → Starts F → Starts (Rest4 F n)
-front4 F n s g = front_lit_none 62 (Rest5 F n g) (front5 F n s g)
+front4 F n s g = prefix_lit_none 62 (Rest5 F n g) (front5 F n s g)
 
 front3 : (F : ℕ → List ℕ → Type 0) (n : ℕ) → Starts F → Starts (Rest3 F n)
-front3 F n s g = front_lit_none 45 (Rest4 F n g) (front4 F n s g)
+front3 F n s g = prefix_lit_none 45 (Rest4 F n g) (front4 F n s g)
 
 front2 : (F : ℕ → List ℕ → Type 0) (k n : ℕ) → Starts F → Starts (Rest2 F k n)
-front2 F k n s g = front_bulk_part k (Rest3 F n g) [] (omega arith) AreBytes-nil (front3 F n s g)
+front2 F k n s g = prefix_bulk_part k (Rest3 F n g) [] (omega arith) AreBytes-nil (front3 F n s g)
 
 front1 : (F : ℕ → List ℕ → Type 0) (k : ℕ) → Starts F → Starts (Rest1 F k)
-front1 F k s g = front_num_part g 58 (λ n. Rest2 F k n g) [] tt (omega arith) (λ n. front2 F k n s g)
+front1 F k s g = prefix_num_part g 58 (λ n. Rest2 F k n g) [] tt (omega arith) (λ n. front2 F k n s g)
 
 -- ---- the same of what a reader has left, where that is known
 
@@ -356,7 +356,7 @@ lift_length F g k from to o m ds f i l e read h = lift_num (λ g k. Rest5 F k g)
 pub base_length : (F : ℕ → List ℕ → Type 0) (g from : ℕ) (o : Option (List ℕ)) (f : TextFault) → Starts F → IfSome o (λ t. FailsNumber g 58 from t f) → IfSome o (λ t. StopsAt (BehindMinus F) g from t f)
 base_length F g from o f s h = IfSome_then o h (λ t. stops_number (λ g k. Rest5 F k g) g 58 from t f (λ g k. front5 F k s g) (lit≤ tt))
 
--- ---- at the front of an item: its mark h, and then B
+-- ---- at the start of an item: its mark h, and then B
 
 record IsMark {X : Type 0} (S : ℕ → List ℕ → X → Type 0) (h : ℕ) (B : (ℕ → List ℕ → Type 0) → ℕ → List ℕ → Type 0) : Type 0 where
   to : (g : ℕ) (t : List ℕ) → B (Form S) g t → Form S g (h ∷ t)
@@ -369,7 +369,7 @@ behind_tail x y s t e = cc
 first_is : (c d : ℕ) (s t : List ℕ) → c ∷ s ≡ d ∷ t → c ≡ d
 first_is c d s t e = cc
 
--- an item at the front of a text of the form that does not begin with a newline
+-- an item at the start of a text of the form that does not begin with a newline
 from_cases : {X : Type 0} (S : ℕ → List ℕ → X → Type 0) (h : ℕ) (B : (ℕ → List ℕ → Type 0) → ℕ → List ℕ → Type 0) (g : ℕ) (t : List ℕ) → (h ≡ 10 → ⊥)
     → ((first more : List ℕ) (i : X) → S g first i → h ∷ t ≡ first ++ more → Form S g more → B (Form S) g t) → Form S g (h ∷ t) → B (Form S) g t
 from_cases S h B g t other behind ([], e) = absurd (other (first_is h 10 t [] e))
@@ -465,8 +465,8 @@ minus_changes = record {
 
 -- ---- where an item stops behind its mark
 
-front_mark : {X : Type 0} (S : ℕ → List ℕ → X → Type 0) (h : ℕ) (B : (ℕ → List ℕ → Type 0) → ℕ → List ℕ → Type 0) → IsMark S h B → (g : ℕ) (s : List ℕ) → Front (B (Form S) g) s → Front (Form S g) (h ∷ s)
-front_mark S h B k g s f = (f.0, k.to g (s ++ f.0) f.1)
+prefix_mark : {X : Type 0} (S : ℕ → List ℕ → X → Type 0) (h : ℕ) (B : (ℕ → List ℕ → Type 0) → ℕ → List ℕ → Type 0) → IsMark S h B → (g : ℕ) (s : List ℕ) → Prefix (B (Form S) g) s → Prefix (Form S g) (h ∷ s)
+prefix_mark S h B k g s f = (f.0, k.to g (s ++ f.0) f.1)
 
 bare_mark : {X : Type 0} (S : ℕ → List ℕ → X → Type 0) → IsSpelling S → (h : ℕ) (B : (ℕ → List ℕ → Type 0) → ℕ → List ℕ → Type 0) → IsMark S h B → (g : ℕ) (s : List ℕ) → Bare (B (Form S) g) s → Bare (Form S g) (h ∷ s)
 bare_mark S is h B k g s b [] v form e = not_empty S is g form
@@ -479,11 +479,11 @@ never_mark : {X : Type 0} (S : ℕ → List ℕ → X → Type 0) (h : ℕ) (B :
 never_mark S h B k g c s n m form = n m (k.from g (s ++ c ∷ m) form)
 
 stops_mark : {X : Type 0} (S : ℕ → List ℕ → X → Type 0) → IsSpelling S → (h : ℕ) (B : (ℕ → List ℕ → Type 0) → ℕ → List ℕ → Type 0) → IsMark S h B → (g from to : ℕ) (text : List ℕ) (f : TextFault) → to ≡ from + 1 → StopsAt (B (Form S)) g to text f → HasFault S g from (h ∷ text) f
-stops_mark S is h B k g from to text (Ended at) e (f, b, place) = stops_form S g from (h ∷ text) (Ended at) (front_mark S h B k g text f, bare_mark S is h B k g text b, omega arith)
+stops_mark S is h B k g from to text (Ended at) e (f, b, place) = stops_form S g from (h ∷ text) (Ended at) (prefix_mark S h B k g text f, bare_mark S is h B k g text b, omega arith)
 stops_mark S is h B k g from to text (Syntax at) e (s, d, rest, split, place, f, b, n) =
-    stops_form S g from (h ∷ text) (Syntax at) (h ∷ s, d, rest, ap (λ x. h ∷ x) split, omega arith, front_mark S h B k g s f, bare_mark S is h B k g s b, λ g' le. never_mark S h B k g' d s (n g' le))
+    stops_form S g from (h ∷ text) (Syntax at) (h ∷ s, d, rest, ap (λ x. h ∷ x) split, omega arith, prefix_mark S h B k g s f, bare_mark S is h B k g s b, λ g' le. never_mark S h B k g' d s (n g' le))
 stops_mark S is h B k g from to text (Large at) e (s, d, rest, split, place, f, b, n, digit, (g', l, more)) =
-    stops_form S g from (h ∷ text) (Large at) (h ∷ s, d, rest, ap (λ x. h ∷ x) split, omega arith, front_mark S h B k g s f, bare_mark S is h B k g s b, never_mark S h B k g d s n, digit, (g', l, front_mark S h B k g' (s ++ d ∷ []) more))
+    stops_form S g from (h ∷ text) (Large at) (h ∷ s, d, rest, ap (λ x. h ∷ x) split, omega arith, prefix_mark S h B k g s f, bare_mark S is h B k g s b, never_mark S h B k g d s n, digit, (g', l, prefix_mark S h B k g' (s ++ d ∷ []) more))
 stops_mark S is h B k g from to text Input e p = tt
 stops_mark S is h B k g from to text Endless e p = tt
 stops_mark S is h B k g from to text NoMemory e p = tt
@@ -501,7 +501,7 @@ no_item_stops S h B k g from text NoMemory p is first rest i sp e = absurd is
 item_fails : {X : Type 0} (S : ℕ → List ℕ → X → Type 0) → IsSpelling S → (h : ℕ) (B : (ℕ → List ℕ → Type 0) → ℕ → List ℕ → Type 0) → IsMark S h B → (g from to : ℕ) (o : Option (List ℕ)) (f : TextFault) → to ≡ from + 1
     → ((F : ℕ → List ℕ → Type 0) → Starts F → IfSome o (λ t. StopsAt (B F) g to t f)) → IfSome o (λ text. FailsItem S g from (h ∷ text) f)
 item_fails S is h B k g from to None f e p = tt
-item_fails S is h B k g from to (Some t) f e p = record { fault = stops_mark S is h B k g from to t f e (p (Form S) (front_form S)); no_item = no_item_stops S h B k g to t f (p Any front_any) }
+item_fails S is h B k g from to (Some t) f e p = record { fault = stops_mark S is h B k g from to t f e (p (Form S) (prefix_form S)); no_item = no_item_stops S h B k g to t f (p Any prefix_any) }
 
 pub record_fails : (removals : Bool) (g from to : ℕ) (o : Option (List ℕ)) (f : TextFault) → to ≡ from + 1 → ((F : ℕ → List ℕ → Type 0) → Starts F → IfSome o (λ t. StopsAt (Behind F) g to t f))
     → IfSome o (λ text. FailsEntry removals g from (43 ∷ text) f)
@@ -528,13 +528,13 @@ never_form S g c newline other m (i ∷ xs, (first, more, sp, e, reads)) = other
 
 ended_item : {X : Type 0} (S : ℕ → List ℕ → X → Type 0) → IsSpelling S → (g from : ℕ) (t : List ℕ) → t ≡ [] → FailsItem S g from t (Ended from)
 ended_item S is g from t e = record {
-  fault = stops_form S g from t (Ended from) (subst (Front (Form S g)) (sym e) (front_form S g), subst (Bare (Form S g)) (sym e) (bare_form S is g), omega (arith, ap length e));
+  fault = stops_form S g from t (Ended from) (subst (Prefix (Form S g)) (sym e) (prefix_form S g), subst (Bare (Form S g)) (sym e) (bare_form S is g), omega (arith, ap length e));
   no_item = λ of. subst (HasNoItem S g) (sym e) (no_item_empty S is g);
 }
 
 syntax_item : {X : Type 0} (S : ℕ → List ℕ → X → Type 0) → IsSpelling S → (g from c : ℕ) (o m : List ℕ) → o ≡ c ∷ m → c ≢ 10 → BeginsNone S c → FailsItem S g from o (Syntax from)
 syntax_item S is g from c o m h newline other = record {
-  fault = stops_form S g from o (Syntax from) ([], c, m, h, omega arith, front_form S g, bare_form S is g, λ g' le. never_form S g' c newline other);
+  fault = stops_form S g from o (Syntax from) ([], c, m, h, omega arith, prefix_form S g, bare_form S is g, λ g' le. never_form S g' c newline other);
   no_item = λ of first rest i sp e. other g first rest m i sp (sym e ∙ h);
 }
 

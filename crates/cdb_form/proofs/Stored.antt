@@ -1,29 +1,29 @@
--- A record of a database file at the front of some bytes that are at hand.
+-- A record of a database file at the start of some bytes that are at hand.
 use Rattle.std.proofs.Common.{◌≡◌, ℕ, ◌+◌, ◌-◌, ◌*◌, ◌<◌, ◌≤◌, List, ◌++◌, length, take, drop, refl, sym, subst, ap, ◌∙◌, arith, Option, Some, None, append_assoc, length-append, length-drop}
 use Rattle.std.proofs.lemmas.List.{drop-drop, drop-take, length-take-le, take-append-drop, take-take, take_all}
 use Rattle.std.specs.Io.KnownBytes.{prepend_known, Consumes}
 use Rattle.cdb_form.specs.Format.Pair.{WordPair}
 use Rattle.cdb_form.specs.Format.Reading.{pair_at}
 use Rattle.cdb_form.specs.Format.Record.{record_size}
-use Rattle.cdb_form.specs.Format.Walk.{front_record, front_size, walk_from, with_first}
+use Rattle.cdb_form.specs.Format.Walk.{prefix_record, prefix_size, walk_from, with_first}
 use Rattle.cdb_form.specs.Views.KnownBytes.{FromTo}
 use Rattle.cdb_form.specs.Views.Pairs.{header_pair}
 use Rattle.cdb_form.specs.Views.Reading.{ReadsFirst}
 use Rattle.cdb_form.specs.declared.header.Header.{Header}
-use Rattle.cdb_form.proofs.Fronts.{lengths_of}
+use Rattle.cdb_form.proofs.Prefixes.{lengths_of}
 use Rattle.cdb_form.proofs.ReadBack.{same_words}
 use Rattle.cdb_form.proofs.RecordReads.{record_cut, record_read}
 use Rattle.cdb_form.proofs.WordLemmas.{pair_at-take}
 
 -- the parts of the record that some bytes begin with, and whose header has this size
 pub record Stored (w size n klen vlen : ℕ) (bytes : List ℕ) : Type 0 where
-  pub whole : front_size w (take n bytes) ≡ n
-  pub key : (front_record w (take n bytes)).key ≡ take klen (drop size bytes)
-  pub value : (front_record w (take n bytes)).value ≡ take vlen (drop klen (drop size bytes))
+  pub whole : prefix_size w (take n bytes) ≡ n
+  pub key : (prefix_record w (take n bytes)).key ≡ take klen (drop size bytes)
+  pub value : (prefix_record w (take n bytes)).value ≡ take vlen (drop klen (drop size bytes))
 
 -- they are those of the bytes that it has alone
-in_front : (w : ℕ) (bytes : List ℕ) (h : Header) → header_pair h ≡ pair_at w (take (2 * w) bytes) → Stored w (2 * w) (2 * w + h.klen + h.vlen) h.klen h.vlen bytes
-in_front w bytes h told =
+in_prefix : (w : ℕ) (bytes : List ℕ) (h : Header) → header_pair h ≡ pair_at w (take (2 * w) bytes) → Stored w (2 * w) (2 * w + h.klen + h.vlen) h.klen h.vlen bytes
+in_prefix w bytes h told =
     let n = 2 * w + h.klen + h.vlen in
     let twice : 2 * w ≡ w + w = omega arith in
     let long : n ≡ 2 * w + (h.klen + h.vlen) = omega arith in
@@ -38,17 +38,17 @@ in_front w bytes h told =
       value = ap (λ (p : WordPair). take p.second (drop (2 * w + p.first) (take n bytes))) words ∙ ap (take h.vlen) behind ∙ take-take h.vlen h.vlen (drop h.klen (drop (2 * w) bytes)) (omega arith);
     }
 
-pub stored_front : (w size : ℕ) (bytes : List ℕ) (h : Header) → size ≡ 2 * w → header_pair h ≡ pair_at w (take size bytes) → Stored w size (size + h.klen + h.vlen) h.klen h.vlen bytes
-stored_front w size bytes h e told =
-    subst (λ (k : ℕ). Stored w k (k + h.klen + h.vlen) h.klen h.vlen bytes) (sym e) (in_front w bytes h (told ∙ ap (λ (k : ℕ). pair_at w (take k bytes)) e))
+pub stored_prefix : (w size : ℕ) (bytes : List ℕ) (h : Header) → size ≡ 2 * w → header_pair h ≡ pair_at w (take size bytes) → Stored w size (size + h.klen + h.vlen) h.klen h.vlen bytes
+stored_prefix w size bytes h e told =
+    subst (λ (k : ℕ). Stored w k (k + h.klen + h.vlen) h.klen h.vlen bytes) (sym e) (in_prefix w bytes h (told ∙ ap (λ (k : ℕ). pair_at w (take k bytes)) e))
 
 -- the parts of bytes that are one record
 record Parts (w : ℕ) (bytes : List ℕ) : Type 0 where
   pub long : length (take (2 * w) bytes) ≡ 2 * w
-  pub lengths : pair_at w (take (2 * w) bytes) ≡ lengths_of (front_record w bytes)
-  pub split : bytes ≡ take (2 * w) bytes ++ ((front_record w bytes).key ++ (front_record w bytes).value)
+  pub lengths : pair_at w (take (2 * w) bytes) ≡ lengths_of (prefix_record w bytes)
+  pub split : bytes ≡ take (2 * w) bytes ++ ((prefix_record w bytes).key ++ (prefix_record w bytes).value)
 
-parts_of : (w : ℕ) (bytes : List ℕ) → front_size w bytes ≡ length bytes → Parts w bytes
+parts_of : (w : ℕ) (bytes : List ℕ) → prefix_size w bytes ≡ length bytes → Parts w bytes
 parts_of w bytes whole =
     let p = pair_at w bytes in
     let body = drop (2 * w) bytes in
@@ -60,7 +60,7 @@ parts_of w bytes whole =
     let behind : take p.first body ++ take p.second tail ≡ body = ap (λ t. take p.first body ++ t) (last ∙ sym (drop-drop p.first (2 * w) bytes)) ∙ take-append-drop p.first body in
     record {
       long = length-take-le (2 * w) bytes (omega (arith, whole));
-      lengths = ap (λ (k : ℕ). pair_at w (take k bytes)) twice ∙ pair_at-take w bytes ∙ same_words p (lengths_of (front_record w bytes)) (sym klong) (sym vlong);
+      lengths = ap (λ (k : ℕ). pair_at w (take k bytes)) twice ∙ pair_at-take w bytes ∙ same_words p (lengths_of (prefix_record w bytes)) (sym klong) (sym vlong);
       split = sym (ap (λ t. take (2 * w) bytes ++ t) behind ∙ take-append-drop (2 * w) bytes);
     }
 
@@ -75,12 +75,12 @@ last_part None ys = tt
 last_part (Some n) ys = refl
 
 -- a record that was taken is the next one of the walk
-pub stored_read : (w place end next : ℕ) (old new : Option (List ℕ)) (bytes : List ℕ) → 0 < w → Consumes old new bytes → front_size w bytes ≡ length bytes → next ≡ place + length bytes → next ≤ end
-    → (next ≡ place + record_size w (front_record w bytes))
-    × FromTo old new (λ text rest. (walk_from w place end text ≡ with_first (front_record w bytes) (walk_from w next end rest)) × (rest ≡ drop (next - place) text))
-    × ReadsFirst (front_record w bytes) (walk_from w place end) (walk_from w next end) old new
+pub stored_read : (w place end next : ℕ) (old new : Option (List ℕ)) (bytes : List ℕ) → 0 < w → Consumes old new bytes → prefix_size w bytes ≡ length bytes → next ≡ place + length bytes → next ≤ end
+    → (next ≡ place + record_size w (prefix_record w bytes))
+    × FromTo old new (λ text rest. (walk_from w place end text ≡ with_first (prefix_record w bytes) (walk_from w next end rest)) × (rest ≡ drop (next - place) text))
+    × ReadsFirst (prefix_record w bytes) (walk_from w place end) (walk_from w next end) old new
 stored_read w place end next old new bytes some read whole at room =
-    let r = front_record w bytes in
+    let r = prefix_record w bytes in
     let header = take (2 * w) bytes in
     let parts = parts_of w bytes whole in
     let mid = prepend_known (r.key ++ r.value) new in

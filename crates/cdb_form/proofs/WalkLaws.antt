@@ -20,7 +20,7 @@ use Rattle.cdb_form.specs.Laws.Walk.{Stand, StandLongest, HasHead, IsWalk, Walks
 use Rattle.cdb_form.proofs.ReadBack.{map-nth_pair}
 use Rattle.cdb_form.proofs.Places.{slot_count, tables_bytes, length-file_pointers, slot_count-file_tables, file_of_is, drop-head}
 use Rattle.cdb_form.proofs.Sizes.{length-records, size_split, length-file_bytes, pointers_fit, sum_by-table_entries, tables_are}
-use Rattle.cdb_form.proofs.Fronts.{all_records, take_past}
+use Rattle.cdb_form.proofs.Prefixes.{all_records, take_past}
 use Rattle.cdb_form.proofs.WalkSteps.{walk_with, walk_from-is, stopped, walk_of-short, walk_of-table, walk_of-records}
 use Rattle.cdb_form.proofs.Standing.{AreBytes-drop, lengths_fit, all_records-flat_map, whole_records-stand}
 use Rattle.cdb_form.proofs.ByteLemmas.{AreBytes-take}
@@ -55,7 +55,7 @@ record_end-le w top bytes are top_is head =
 abbrev pub area_of : ℕ → List ℕ → List ℕ
 area_of w bytes = take (record_end w bytes - head_size w) (drop (head_size w) bytes)
 
--- records that stand are the front of those that are read
+-- records that stand are the start of those that are read
 pub stand_longest : (w top : ℕ) (bytes : List ℕ) (rs : List KeyValue) → 0 < w → top + 1 ≡ 256 ^ w → record_end w bytes ≤ top → Stand w bytes rs → (more : List KeyValue) × (all_records w (area_of w bytes) ≡ rs ++ more)
 stand_longest w top bytes rs some top_is low s =
     let n = sum_by (record_size w) rs in

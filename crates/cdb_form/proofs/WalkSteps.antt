@@ -6,10 +6,10 @@ use Rattle.std.proofs.lemmas.Bool.{cond-true, cond-false, eq-eqb, ne_eqb, lt-ltb
 use Rattle.cdb_form.specs.Format.Record.{KeyValue, record_size}
 use Rattle.cdb_form.specs.Format.Pair.{WordPair, head_size}
 use Rattle.cdb_form.specs.Format.Reading.{pair_at, head_at}
-use Rattle.cdb_form.specs.Format.Walk.{Walked, front_size, whole_records, walk_from, walk_of, no_walk, with_first, damaged, record_end, first_table_at}
+use Rattle.cdb_form.specs.Format.Walk.{Walked, prefix_size, whole_records, walk_from, walk_of, no_walk, with_first, damaged, record_end, first_table_at}
 use Rattle.cdb_form.specs.declared.damage.Damage.{Damage}
 use Rattle.cdb_form.specs.declared.damage.Damage.TheVariants.{Short, Table, Record}
-use Rattle.cdb_form.proofs.Fronts.{Begins, Begins-take, all_records, all_records-more, whole_records-none, pair_at-front, take_past}
+use Rattle.cdb_form.proofs.Prefixes.{Begins, Begins-take, all_records, all_records-more, whole_records-none, pair_at-front, take_past}
 
 -- the damage of a walk that stops at a place
 abbrev pub stopped : ℕ → ℕ → Option Damage
@@ -51,7 +51,7 @@ walk_from-end w place end bytes at =
     ∙ ap (λ d. let v : Walked = record { records = []; damage = d } in v) (cond-true (place + 0 == end) _ _ (eq-eqb (place + 0) end e))
 
 -- before it, where no whole record stands, the walk stops
-pub walk_from-stop : (w place end : ℕ) (bytes : List ℕ) → place < end → length (take (end - place) bytes) < front_size w (take (end - place) bytes) → walk_from w place end bytes ≡ damaged (Record place)
+pub walk_from-stop : (w place end : ℕ) (bytes : List ℕ) → place < end → length (take (end - place) bytes) < prefix_size w (take (end - place) bytes) → walk_from w place end bytes ≡ damaged (Record place)
 walk_from-stop w place end bytes before short =
     let e : place + 0 ≡ place = omega arith in
     let other : place ≡ end → ⊥ = λ s. absurd (omega arith) in
@@ -67,12 +67,12 @@ walk_from-no_header w place end bytes before few =
 
 -- there is no room for what the header tells, or the file has not got it
 pub walk_from-no_body : (w place end : ℕ) (bytes header more : List ℕ) → place < end → bytes ≡ header ++ more → length header ≡ 2 * w → 2 * w ≤ end - place
-    → (end - place < front_size w header) ⊎ (length bytes < front_size w header) → walk_from w place end bytes ≡ damaged (Record place)
+    → (end - place < prefix_size w header) ⊎ (length bytes < prefix_size w header) → walk_from w place end bytes ≡ damaged (Record place)
 walk_from-no_body w place end bytes header more before split long room few =
     let n : end - place ≡ 2 * w + (end - place - 2 * w) = omega arith in
     let area : take (end - place) bytes ≡ header ++ take (end - place - 2 * w) more = ap (λ k. take k bytes) n ∙ ap (take (2 * w + (end - place - 2 * w))) split ∙ take_past header more (2 * w) (end - place - 2 * w) long in
     let words : pair_at w (take (end - place) bytes) ≡ pair_at w header = ap (pair_at w) area ∙ pair_at-front w header (take (end - place - 2 * w) more) long in
-    let size : front_size w (take (end - place) bytes) ≡ front_size w header = ap (λ (p : WordPair). 2 * w + p.first + p.second) words in
+    let size : prefix_size w (take (end - place) bytes) ≡ prefix_size w header = ap (λ (p : WordPair). 2 * w + p.first + p.second) words in
     let l = length-take (end - place) bytes in
     walk_from-stop w place end bytes before (elim few [ inl a ↦ omega arith | inr b ↦ omega arith ])
 

@@ -74,10 +74,10 @@ gave_before w remaining file t rs damage so_far exact =
     from_if file (unread remaining t) (λ text rest. (walk_of w text ≡ with_records rs (walk_left w t rest)) × (behind_end w t rest ≡ behind_records w text)) (λ text. walk_left w t text ≡ damaged damage) (λ text. walk_of w text ≡ walked rs (Some damage))
     (λ a b p q. p.0 ∙ ap (with_records rs) q ∙ ap (λ qs. walked qs (Some damage)) (append-nil rs)) so_far exact
 
--- at any time they are a front of the records of the walk
-pub gave_front : {R L : Type 0} (w : ℕ) (remaining : R → Option (List ℕ)) (file : Option (List ℕ)) (t : RecordReader R L) (rs : List KeyValue) → GaveSoFar w remaining file t rs
+-- at any time they are a prefix of the records of the walk
+pub gave_prefix : {R L : Type 0} (w : ℕ) (remaining : R → Option (List ℕ)) (file : Option (List ℕ)) (t : RecordReader R L) (rs : List KeyValue) → GaveSoFar w remaining file t rs
     → IfSome file (λ text. (more : List KeyValue) × ((walk_of w text).records ≡ rs ++ more))
-gave_front w remaining file t rs so_far =
+gave_prefix w remaining file t rs so_far =
     from_known file (unread remaining t) (λ text rest. (walk_of w text ≡ with_records rs (walk_left w t rest)) × (behind_end w t rest ≡ behind_records w text)) (λ text. (more : List KeyValue) × ((walk_of w text).records ≡ rs ++ more))
     (λ a b p. ((walk_left w t b).records, ap (λ (v : Walked). v.records) p.0)) so_far
 

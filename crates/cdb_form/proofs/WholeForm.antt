@@ -11,7 +11,7 @@ use Rattle.cdb_form.specs.Laws.Text.{IsReadAs}
 use Rattle.cdb_form.specs.Views.FormReader.{ReadsItem, StopsAmid}
 use Rattle.cdb_form.specs.Views.TextFault.{IsOfText, IsReadFault}
 use Rattle.cdb_form.specs.Views.KnownBytes.{Took}
-use Rattle.cdb_form.specs.Text.Form.{Spelled, Reads, HasNoItem, WholeItems, IsFront, HasNoText, LongestFront, LiftsLength, HasFault}
+use Rattle.cdb_form.specs.Text.Form.{Spelled, Reads, HasNoItem, WholeItems, IsPrefix, HasNoText, LongestPrefix, LiftsLength, HasFault}
 use Rattle.cdb_form.proofs.Spelling.{IsSpelling}
 
 -- ---- one item more
@@ -49,8 +49,8 @@ lines_read S s line g xs rest each =
 
 -- ---- the fault of a text behind an item
 
-front_behind : {X : Type 0} (S : ℕ → List ℕ → X → Type 0) (g : ℕ) (first x : List ℕ) (i : X) → S g first i → IsFront S g x → IsFront S g (first ++ x)
-front_behind S g first x i sp (xs, more, reads) = (i ∷ xs, more, (first, x ++ more, sp, append_assoc first x more, reads))
+prefix_behind : {X : Type 0} (S : ℕ → List ℕ → X → Type 0) (g : ℕ) (first x : List ℕ) (i : X) → S g first i → IsPrefix S g x → IsPrefix S g (first ++ x)
+prefix_behind S g first x i sp (xs, more, reads) = (i ∷ xs, more, (first, x ++ more, sp, append_assoc first x more, reads))
 
 -- what a text of the form goes on with behind an item is one too
 reads_inside : {X : Type 0} (S : ℕ → List ℕ → X → Type 0) → IsSpelling S → (g : ℕ) (first x rest : List ℕ) (i : X) (qs : List X) → S g first i → Reads S g qs (first ++ x) rest → (xs : List X) × Reads S g xs x rest
@@ -58,8 +58,8 @@ reads_inside S s g first x rest i [] sp e = absurd (s.newline g first x rest i s
 reads_inside S s g first x rest i (q ∷ qs) sp (first', more', sp', e, reads) =
     (qs, subst (λ t. Spelled S g qs t (10 ∷ rest)) (sym (s.alone g g first first' x more' i q sp sp' e).1) reads)
 
-front_inside : {X : Type 0} (S : ℕ → List ℕ → X → Type 0) → IsSpelling S → (g : ℕ) (first x : List ℕ) (i : X) → S g first i → IsFront S g (first ++ x) → IsFront S g x
-front_inside S s g first x i sp (xs, more, reads) =
+prefix_inside : {X : Type 0} (S : ℕ → List ℕ → X → Type 0) → IsSpelling S → (g : ℕ) (first x : List ℕ) (i : X) → S g first i → IsPrefix S g (first ++ x) → IsPrefix S g x
+prefix_inside S s g first x i sp (xs, more, reads) =
     let inside = reads_inside S s g first (x ++ more) [] i xs sp (subst (λ t. Reads S g xs t []) (append_assoc first x more) reads) in
     (inside.0, more, inside.1)
 
@@ -69,14 +69,14 @@ no_text_behind S s g first x i sp none xs rest reads = let inside = reads_inside
 take_behind : (first x : List ℕ) (p q : ℕ) → q ≡ length first + p → take q (first ++ x) ≡ first ++ take p x
 take_behind first x p q e = ap (λ (n : ℕ). take n (first ++ x)) e ∙ take-append-add first x p
 
-longest_behind : {X : Type 0} (S : ℕ → List ℕ → X → Type 0) → IsSpelling S → (g : ℕ) (first x : List ℕ) (p q : ℕ) (i : X) → S g first i → q ≡ length first + p → LongestFront S g x p → LongestFront S g (first ++ x) q
+longest_behind : {X : Type 0} (S : ℕ → List ℕ → X → Type 0) → IsSpelling S → (g : ℕ) (first x : List ℕ) (p q : ℕ) (i : X) → S g first i → q ≡ length first + p → LongestPrefix S g x p → LongestPrefix S g (first ++ x) q
 longest_behind S s g first x p q i sp e l = record {
   within = omega (arith, e, l.within, length-append first x);
-  front = subst (IsFront S g) (sym (take_behind first x p q e)) (front_behind S g first (take p x) i sp l.front);
+  front = subst (IsPrefix S g) (sym (take_behind first x p q e)) (prefix_behind S g first (take p x) i sp l.front);
   longest = λ k h w front.
       let part : k ≡ length first + (k - length first) = omega (arith, e, h) in
       l.longest (k - length first) (omega (arith, e, h)) (omega (arith, e, h, w, length-append first x))
-      (front_inside S s g first (take (k - length first) x) i sp (subst (IsFront S g) (take_behind first x (k - length first) k part) front));
+      (prefix_inside S s g first (take (k - length first) x) i sp (subst (IsPrefix S g) (take_behind first x (k - length first) k part) front));
 }
 
 byte_behind : (first x : List ℕ) (p q : ℕ) → q ≡ length first + p → get_or (first ++ x) q 0 ≡ get_or x p 0
@@ -85,12 +85,12 @@ byte_behind first x p q e = ap (λ (n : ℕ). get_or (first ++ x) n 0) e ∙ get
 lifts_behind : {X : Type 0} (S : ℕ → List ℕ → X → Type 0) → IsSpelling S → (g : ℕ) (first x : List ℕ) (p q : ℕ) (i : X) → S g first i → q ≡ length first + p → LiftsLength S g x p → LiftsLength S g (first ++ x) q
 lifts_behind S s g first x p q i sp e (digit, (greater, le, front)) =
     let next : q + 1 ≡ length first + (p + 1) = omega (arith, e) in
-    (omega (arith, digit, ap digit_value (byte_behind first x p q e)), (greater, le, subst (IsFront S greater) (sym (take_behind first x (p + 1) (q + 1) next)) (front_behind S greater first (take (p + 1) x) i (s.more g greater first i le sp) front)))
+    (omega (arith, digit, ap digit_value (byte_behind first x p q e)), (greater, le, subst (IsPrefix S greater) (sym (take_behind first x (p + 1) (q + 1) next)) (prefix_behind S greater first (take (p + 1) x) i (s.more g greater first i le sp) front)))
 
 lifts_inside : {X : Type 0} (S : ℕ → List ℕ → X → Type 0) → IsSpelling S → (g : ℕ) (first x : List ℕ) (p q : ℕ) (i : X) → S g first i → q ≡ length first + p → LiftsLength S g (first ++ x) q → LiftsLength S g x p
 lifts_inside S s g first x p q i sp e (digit, (greater, le, front)) =
     let next : q + 1 ≡ length first + (p + 1) = omega (arith, e) in
-    (omega (arith, digit, ap digit_value (byte_behind first x p q e)), (greater, le, front_inside S s greater first (take (p + 1) x) i (s.more g greater first i le sp) (subst (IsFront S greater) (take_behind first x (p + 1) (q + 1) next) front)))
+    (omega (arith, digit, ap digit_value (byte_behind first x p q e)), (greater, le, prefix_inside S s greater first (take (p + 1) x) i (s.more g greater first i le sp) (subst (IsPrefix S greater) (take_behind first x (p + 1) (q + 1) next) front)))
 
 fault_behind_one : {X : Type 0} (S : ℕ → List ℕ → X → Type 0) → IsSpelling S → (g from to : ℕ) (first x : List ℕ) (i : X) (f : TextFault) → S g first i → to ≡ from + length first → HasFault S g to x f → HasFault S g from (first ++ x) f
 fault_behind_one S s g from to first x i (Ended at) sp e (none, longest, place) =
@@ -148,15 +148,15 @@ so_far_fault S s g (Some t) (Some m) taken xs f a b none = λ of_text.
 -- ---- a part that a reader gave before it failed
 
 -- what spells some items, whatever follows it
-record Front {X : Type 0} (S : ℕ → List ℕ → X → Type 0) (g : ℕ) (xs : List X) (t mid : List ℕ) : Type 0 where
+record Prefix {X : Type 0} (S : ℕ → List ℕ → X → Type 0) (g : ℕ) (xs : List X) (t mid : List ℕ) : Type 0 where
   front : List ℕ
   split : t ≡ front ++ mid
   spelled : (x : List ℕ) → Spelled S g xs (front ++ x) x
 
-front_of : {X : Type 0} (S : ℕ → List ℕ → X → Type 0) (g : ℕ) (xs : List X) (t mid : List ℕ) → Spelled S g xs t mid → Front S g xs t mid
-front_of S g [] t mid e = record { front = []; split = e; spelled = λ x. refl }
-front_of S g (i ∷ xs) t mid (first, more, sp, e, reads) =
-    let f = front_of S g xs more mid reads in
+prefix_of : {X : Type 0} (S : ℕ → List ℕ → X → Type 0) (g : ℕ) (xs : List X) (t mid : List ℕ) → Spelled S g xs t mid → Prefix S g xs t mid
+prefix_of S g [] t mid e = record { front = []; split = e; spelled = λ x. refl }
+prefix_of S g (i ∷ xs) t mid (first, more, sp, e, reads) =
+    let f = prefix_of S g xs more mid reads in
     record {
       front = first ++ f.front;
       split = e ∙ ap (λ z. first ++ z) f.split ∙ sym (append_assoc first f.front mid);
@@ -172,7 +172,7 @@ pub record EndsBehind {X : Type 0} (S : ℕ → List ℕ → X → Type 0) (g : 
 part_ends : {X : Type 0} (S : ℕ → List ℕ → X → Type 0) → IsSpelling S → (g from to k : ℕ) (t mid : List ℕ) (xs : List X) → Spelled S g xs t mid → from + length mid ≡ length t → to ≡ from + k → k ≤ length mid
     → HasFault S g from (take (to - from) mid) (Ended to) → HasNoItem S g (take (to - from) mid) → EndsBehind S g (take to t) xs to
 part_ends S s g from to k t mid xs sp long e few has none =
-    let f = front_of S g xs t mid sp in
+    let f = prefix_of S g xs t mid sp in
     let place : from ≡ length f.front = omega (arith, long, ap length f.split, length-append f.front mid) in
     let part : to - from ≡ k = omega (arith, e) in
     let read : take to t ≡ f.front ++ take k mid =

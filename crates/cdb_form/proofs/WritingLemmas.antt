@@ -4,7 +4,7 @@ use Rattle.std.proofs.lemmas.List.{append-nil, take-append-drop, drop_more}
 use Rattle.std.proofs.lemmas.List.Concat.{flat_map-append}
 use Rattle.std.specs.Io.KnownBytes.{Appends, Keeps}
 use Rattle.std.proofs.Math.Seq.{take-add}
-use Rattle.cdb_form.specs.Views.KnownBytes.{AppendsFront, Writes}
+use Rattle.cdb_form.specs.Views.KnownBytes.{AppendsPrefix, Writes}
 
 pub appends_then : (old mid new : Option (List ℕ)) (xs ys : List ℕ) → Appends old mid xs → Appends mid new ys → Appends old new (xs ++ ys)
 appends_then None mid new xs ys a b = tt
@@ -18,9 +18,9 @@ appends_kept (Some o) None new xs a b = absurd a
 appends_kept (Some o) (Some m) None xs a b = absurd b
 appends_kept (Some o) (Some m) (Some n) xs a b = b ∙ a
 
--- a front of the last piece, behind the ones before it
-pub front_then : (old mid new : Option (List ℕ)) (xs ys zs all : List ℕ) → Appends old mid xs → AppendsFront mid new ys → all ≡ xs ++ (ys ++ zs) → AppendsFront old new all
-front_then old mid new xs ys zs all a b e =
+-- a prefix of the last piece, behind the ones before it
+pub prefix_then : (old mid new : Option (List ℕ)) (xs ys zs all : List ℕ) → Appends old mid xs → AppendsPrefix mid new ys → all ≡ xs ++ (ys ++ zs) → AppendsPrefix old new all
+prefix_then old mid new xs ys zs all a b e =
     record {
       front = xs ++ b.front;
       more = b.more ++ zs;
@@ -28,25 +28,25 @@ front_then old mid new xs ys zs all a b e =
       appended = appends_then old mid new xs b.front a b.appended;
     }
 
--- a front of the first part
-pub front_in : (old new : Option (List ℕ)) (ys zs all : List ℕ) → AppendsFront old new ys → all ≡ ys ++ zs → AppendsFront old new all
-front_in old new ys zs all a e = record { front = a.front; more = a.more ++ zs; split = e ∙ ap (λ t. t ++ zs) a.split ∙ append_assoc a.front a.more zs; appended = a.appended }
+-- a prefix of the first part
+pub prefix_in : (old new : Option (List ℕ)) (ys zs all : List ℕ) → AppendsPrefix old new ys → all ≡ ys ++ zs → AppendsPrefix old new all
+prefix_in old new ys zs all a e = record { front = a.front; more = a.more ++ zs; split = e ∙ ap (λ t. t ++ zs) a.split ∙ append_assoc a.front a.more zs; appended = a.appended }
 
--- a front of the last part
-pub front_last : (old mid new : Option (List ℕ)) (xs ys all : List ℕ) → Appends old mid xs → AppendsFront mid new ys → all ≡ xs ++ ys → AppendsFront old new all
-front_last old mid new xs ys all a b e = front_then old mid new xs ys [] all a b (e ∙ ap (λ t. xs ++ t) (sym (append-nil ys)))
+-- a prefix of the last part
+pub prefix_last : (old mid new : Option (List ℕ)) (xs ys all : List ℕ) → Appends old mid xs → AppendsPrefix mid new ys → all ≡ xs ++ ys → AppendsPrefix old new all
+prefix_last old mid new xs ys all a b e = prefix_then old mid new xs ys [] all a b (e ∙ ap (λ t. xs ++ t) (sym (append-nil ys)))
 
--- what was taken so far is a front
-pub front_taken : (old mid new : Option (List ℕ)) (k : ℕ) (xs : List ℕ) → Appends old mid (take k xs) → Keeps mid new → AppendsFront old new xs
-front_taken old mid new k xs a b = record { front = take k xs; more = drop k xs; split = sym (take-append-drop k xs); appended = appends_kept old mid new (take k xs) a b }
+-- what was taken so far is a prefix
+pub prefix_taken : (old mid new : Option (List ℕ)) (k : ℕ) (xs : List ℕ) → Appends old mid (take k xs) → Keeps mid new → AppendsPrefix old new xs
+prefix_taken old mid new k xs a b = record { front = take k xs; more = drop k xs; split = sym (take-append-drop k xs); appended = appends_kept old mid new (take k xs) a b }
 
--- a fault left a front
-pub writes_front : {A E : Type 0} (r : Result A E) (e : E) (old new : Option (List ℕ)) (bytes : List ℕ) → r ≡ Err e → AppendsFront old new bytes → Writes r old new bytes
-writes_front r e old new bytes is front = rw is (record { ok = tt; err = front })
+-- a fault left a prefix
+pub writes_prefix : {A E : Type 0} (r : Result A E) (e : E) (old new : Option (List ℕ)) (bytes : List ℕ) → r ≡ Err e → AppendsPrefix old new bytes → Writes r old new bytes
+writes_prefix r e old new bytes is front = rw is (record { ok = tt; err = front })
 
 -- the same bytes, said otherwise
-pub same_front : (old new : Option (List ℕ)) (xs ys : List ℕ) → xs ≡ ys → AppendsFront old new xs → AppendsFront old new ys
-same_front old new xs ys e a = subst (AppendsFront old new) e a
+pub same_prefix : (old new : Option (List ℕ)) (xs ys : List ℕ) → xs ≡ ys → AppendsPrefix old new xs → AppendsPrefix old new ys
+same_prefix old new xs ys e a = subst (AppendsPrefix old new) e a
 
 pub same_appends : (old new : Option (List ℕ)) (xs ys : List ℕ) → xs ≡ ys → Appends old new xs → Appends old new ys
 same_appends old new xs ys e a = subst (Appends old new) e a
@@ -57,7 +57,7 @@ same_writes r old new xs ys e w = subst (Writes r old new) e w
 -- the last part, behind the ones before it
 pub writes_last : {A E : Type 0} (r : Result A E) (old mid new : Option (List ℕ)) (xs ys all : List ℕ) → Appends old mid xs → Writes r mid new ys → all ≡ xs ++ ys → Writes r old new all
 writes_last (Ok x) old mid new xs ys all a w e = record { ok = subst (Appends old new) (sym e) (appends_then old mid new xs ys a w.ok); err = tt }
-writes_last (Err x) old mid new xs ys all a w e = record { ok = tt; err = front_then old mid new xs ys [] all a w.err (e ∙ ap (λ t. xs ++ t) (sym (append-nil ys))) }
+writes_last (Err x) old mid new xs ys all a w e = record { ok = tt; err = prefix_then old mid new xs ys [] all a w.err (e ∙ ap (λ t. xs ++ t) (sym (append-nil ys))) }
 
 -- n bytes more of the rest
 pub written_more : (old mid new : Option (List ℕ)) (k n : ℕ) (xs ys : List ℕ) → Appends old mid (take k xs) → Appends mid new (take n ys) → ys ≡ drop k xs → Appends old new (take (k + n) xs)

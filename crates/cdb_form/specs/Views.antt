@@ -8,8 +8,8 @@ pub mod WalkFault
 pub mod Source
 pub mod NativeParser
 pub mod MapParser
-pub mod Front
-pub mod FrontLine
+pub mod Prefix
+pub mod PrefixLine
 pub mod FormReader
 pub mod TextReader
 pub mod AmendReader

@@ -7,7 +7,7 @@ ghost use Rattle.std.specs.Prelude.{◌==◌, ◌&&◌, not, min, filter, positi
 ghost use Rattle.std.specs.List.{reduce};
 ghost use Rattle.cdb_form.specs.Views.Pairs.{pointer_pair, head_pairs, PairFits};
 
-use crate::pair::{Pair, pair_size, read_pair, write_pair};
+use crate::pair::{TwoWords, pair_size, read_pair, write_pair};
 use crate::width::Width;
 
 /// How many bytes a head takes at most: that of words of 8 bytes.
@@ -91,7 +91,7 @@ pub fn write_pointer<L: Width>(pointer: Pointer, into: &mut [u8])
     ensures written { into.new ≡ pair_bytes L.WORD (pointer_pair pointer) }
     ensures read_back { pair_at L.WORD into.new ≡ pointer_pair pointer }
 {
-    let pair = Pair {
+    let pair = TwoWords {
         first: pointer.place,
         second: pointer.slots,
     };

@@ -4,7 +4,7 @@ ghost use Rattle.cdb_form.specs.Format.Pair.{pair_bytes, pair_size};
 ghost use Rattle.cdb_form.specs.Format.Reading.{pair_at};
 ghost use Rattle.cdb_form.specs.Views.Pairs.{header_pair, PairFits};
 
-use crate::pair::{Pair, read_pair, write_pair};
+use crate::pair::{TwoWords, read_pair, write_pair};
 use crate::width::Width;
 
 /// The header of a record, as Bernstein's cdb specification has it: two words before the key.
@@ -36,7 +36,7 @@ pub fn write_header<L: Width>(header: Header, into: &mut [u8])
     ensures written { into.new ≡ pair_bytes L.WORD (header_pair header) }
     ensures read_back { pair_at L.WORD into.new ≡ header_pair header }
 {
-    let pair = Pair {
+    let pair = TwoWords {
         first: header.klen,
         second: header.vlen,
     };

@@ -11,7 +11,7 @@ pub const GREATEST_PAIR: usize = 16;
 
 /// Two words.
 #[derive(Clone, Copy)]
-pub(crate) struct Pair {
+pub(crate) struct TwoWords {
     pub(crate) first: u64,
     pub(crate) second: u64,
 }
@@ -24,19 +24,19 @@ pub fn pair_size<L: Width>() -> usize
 }
 
 /// The two words of some bytes.
-pub(crate) fn read_pair<L: Width>(from: &[u8]) -> Pair
+pub(crate) fn read_pair<L: Width>(from: &[u8]) -> TwoWords
     requires { length from.now ≡ pair_size L.WORD }
     ensures read { pair_of result ≡ pair_at L.WORD from.now }
     ensures fits { PairFits L.TOP (pair_of result) }
 {
-    Pair {
+    TwoWords {
         first: L::read_word(&from[..L::WORD]),
         second: L::read_word(&from[L::WORD..]),
     }
 }
 
 /// Leaves the bytes of two words.
-pub(crate) fn write_pair<L: Width>(pair: Pair, into: &mut [u8])
+pub(crate) fn write_pair<L: Width>(pair: TwoWords, into: &mut [u8])
     requires long { length into.old ≡ pair_size L.WORD }
     requires fits { PairFits L.TOP (pair_of pair) }
     ensures written { into.new ≡ pair_bytes L.WORD (pair_of pair) }

@@ -5,8 +5,8 @@ ghost use Rattle.std.specs.Io.KnownBytes.{Keeps, Consumes, IsAtEnd};
 ghost use Rattle.cdb_form.specs.Format.Record.{AreBytes};
 ghost use Rattle.cdb_form.specs.Views.KnownBytes.{LosesAtMost, LosesFewer};
 ghost use Rattle.cdb_form.specs.Views.Reading.{IsOfReader, ReadsShort, Passes};
-ghost use Rattle.cdb_form.specs.declared.reading.Unread.TheVariants.{Ended, Failed, Spent};
-ghost use Rattle.cdb_form.specs.declared.reading.Unread.TheVariants.{NoMemory};
+ghost use Rattle.cdb_form.specs.declared.reading.ReadStop.TheVariants.{Ended, Failed, Spent};
+ghost use Rattle.cdb_form.specs.declared.reading.ReadStop.TheVariants.{NoMemory};
 
 use std::alloc::AllocError;
 use std::io::{ErrorKind, Read};
@@ -19,7 +19,7 @@ pub(crate) const RETRIES: u32 = 1000;
 
 /// Why a reader did not give what it was asked for.
 #[derive(Clone, Copy)]
-pub(crate) enum Unread {
+pub(crate) enum ReadStop {
     /// It had no more bytes.
     Ended,
     /// It failed, or was interrupted more often in a row than it is asked again.
@@ -30,11 +30,11 @@ pub(crate) enum Unread {
     NoMemory,
 }
 
-impl From<AllocError> for Unread {
+impl From<AllocError> for ReadStop {
     ghost from_gives = { λ _ f. f ≡ NoMemory };
 
-    fn from(_: AllocError) -> Unread {
-        Unread::NoMemory
+    fn from(_: AllocError) -> ReadStop {
+        ReadStop::NoMemory
     }
 }
 
@@ -46,7 +46,7 @@ pub(crate) fn some_bytes<R: Read>(
     reader: &mut R,
     asks: &mut u64,
     into: &mut [u8],
-) -> Result<usize, Unread>
+) -> Result<usize, ReadStop>
     requires { 0 < length into.old }
     ensures bound { IfOk result (λ n. n ≤ length into.new) }
     ensures bytes { IfOk result (λ n.
@@ -62,19 +62,19 @@ pub(crate) fn some_bytes<R: Read>(
 {
     for _ in 0..RETRIES + 1 {
         if *asks == 0 {
-            return Err(Unread::Spent);
+            return Err(ReadStop::Spent);
         }
         *asks -= 1;
         match reader.read(into) {
             Ok(n) => return Ok(n),
             Err(e) => {
                 if e.kind() != ErrorKind::Interrupted {
-                    return Err(Unread::Failed);
+                    return Err(ReadStop::Failed);
                 }
             }
         }
     }
-    Err(Unread::Failed)
+    Err(ReadStop::Failed)
 }
 
 /// Fills all of `into`.
@@ -82,7 +82,7 @@ pub(crate) fn all_bytes<R: Read>(
     reader: &mut R,
     asks: &mut u64,
     into: &mut [u8],
-) -> Result<(), Unread>
+) -> Result<(), ReadStop>
     ensures bytes { OnOk result (Consumes (R.remaining reader.old)
         (R.remaining reader.new) into.new) }
     ensures are { OnOk result (AreBytes into.new) }
@@ -99,7 +99,7 @@ pub(crate) fn all_bytes<R: Read>(
     while done < into.len() {
         let n = some_bytes(reader, asks, &mut into[done..])?;
         if n == 0 {
-            return Err(Unread::Ended);
+            return Err(ReadStop::Ended);
         }
         done += n;
     }
@@ -130,7 +130,7 @@ fn some_behind<R: Read>(
     into: &mut Vec<u8>,
     held: usize,
     most: usize,
-) -> Result<usize, Unread>
+) -> Result<usize, ReadStop>
     requires some { 0 < most }
     requires room { held + most < 2 ^ 64 }
     requires within { held ≤ length into.old.items }
@@ -151,12 +151,12 @@ fn some_behind<R: Read>(
     let end = held + most;
     if lengthen(into, end).is_err() {
         into.truncate(held);
-        return Err(Unread::NoMemory);
+        return Err(ReadStop::NoMemory);
     }
     match some_bytes(reader, asks, &mut into[held..end]) {
         Ok(0) => {
             into.truncate(held);
-            Err(Unread::Ended)
+            Err(ReadStop::Ended)
         }
         Ok(n) => Ok(n),
         Err(unread) => {
@@ -176,7 +176,7 @@ pub(crate) fn vector<R: Read>(
     into: &mut Vec<u8>,
     len: u64,
     piece: u64,
-) -> Result<(), Unread>
+) -> Result<(), ReadStop>
     requires { 0 < piece }
     ensures read { OnOk result (Consumes (R.remaining reader.old)
         (R.remaining reader.new) into.new.items) }
@@ -210,7 +210,7 @@ pub(crate) fn skip<R: Read>(
     asks: &mut u64,
     len: u64,
     piece: &mut [u8],
-) -> Result<(), Unread>
+) -> Result<(), ReadStop>
     requires some { 0 < length piece.old }
     ensures read { OnOk result
         (Passes len (R.remaining reader.old) (R.remaining reader.new)) }
@@ -226,7 +226,7 @@ pub(crate) fn skip<R: Read>(
         let most = (len - done).min(piece.len() as u64);
         let n = some_bytes(reader, asks, &mut piece[..most as usize])?;
         if n == 0 {
-            return Err(Unread::Ended);
+            return Err(ReadStop::Ended);
         }
         done += n as u64;
     }

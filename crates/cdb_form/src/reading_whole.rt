@@ -7,7 +7,7 @@ ghost use Rattle.cdb_form.specs.Views.KnownBytes.{LosesAtMost};
 ghost use Rattle.cdb_form.specs.Views.Reading.{Gives};
 ghost use Rattle.cdb_form.specs.declared.reading_whole.InFault.TheVariants.{Failed};
 
-use crate::reading::{Unread, vector};
+use crate::reading::{ReadStop, vector};
 use std::error::Error;
 use std::fmt;
 use std::io::Read;
@@ -69,8 +69,8 @@ pub fn read_whole<R: Read>(reader: &mut R, into: &mut Vec<u8>, most: u64) -> Res
     let mut asks = u64::MAX;
     match vector(reader, &mut asks, into, most.saturating_add(1), 4096) {
         Ok(()) => Ok(Extent::More),
-        Err(Unread::Ended) => Ok(Extent::All),
-        Err(Unread::Failed | Unread::Spent) => Err(InFault::Failed),
-        Err(Unread::NoMemory) => Err(InFault::NoMemory),
+        Err(ReadStop::Ended) => Ok(Extent::All),
+        Err(ReadStop::Failed | ReadStop::Spent) => Err(InFault::Failed),
+        Err(ReadStop::NoMemory) => Err(InFault::NoMemory),
     }
 }

@@ -4,7 +4,7 @@ ghost use Rattle.cdb_form.specs.Format.Pair.{pair_bytes, pair_size};
 ghost use Rattle.cdb_form.specs.Format.Reading.{pair_at};
 ghost use Rattle.cdb_form.specs.Views.Pairs.{slot_pair, PairFits};
 
-use crate::pair::{Pair, read_pair, write_pair};
+use crate::pair::{TwoWords, read_pair, write_pair};
 use crate::width::Width;
 
 /// A slot of a table. An empty one has the place 0.
@@ -36,7 +36,7 @@ pub fn write_slot<L: Width>(slot: Slot, into: &mut [u8])
     ensures written { into.new ≡ pair_bytes L.WORD (slot_pair slot) }
     ensures read_back { pair_at L.WORD into.new ≡ slot_pair slot }
 {
-    let pair = Pair {
+    let pair = TwoWords {
         first: slot.hash,
         second: slot.place,
     };

@@ -1,8 +1,8 @@
 // The records of a file, one after the other.
 pub(crate) mod fault;
-pub(crate) mod front;
 mod keeping;
 mod next_record;
+pub(crate) mod prefix;
 mod record_area;
 pub(crate) mod record_reader;
 mod source;

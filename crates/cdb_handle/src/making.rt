@@ -1,4 +1,5 @@
 // The calls of a maker whose handle a program in C holds.
+ghost use Rattle.cdb_form.specs.Format.Record.{record_of};
 ghost use Rattle.std.specs.Prelude.{◌≡◌, Some, None, Err, IfOk, IfErr, OnOk, OnErr};
 ghost use Rattle.cdb_make.specs.declared.fault.MakeFault.TheVariants.{Broken};
 ghost use Rattle.cdb_make.specs.Views.Maker.{Puts, FailsPutting, Follows};
@@ -48,9 +49,9 @@ pub fn put(
     value: &[u8],
 ) -> Result<Put, MakeFault>
     ensures puts { IfOk result (λ p. Between (kept_in handle.old) (kept_in handle.new) (λ m n.
-        Puts m.maker n.maker mode (record { key = key.now; value = value.now }) p)) }
+        Puts m.maker n.maker mode (record_of key.now value.now) p)) }
     ensures fails { IfErr result (λ f. Between (kept_in handle.old) (kept_in handle.new) (λ m n.
-        FailsPutting m.maker n.maker mode (record { key = key.now; value = value.now }) f)) }
+        FailsPutting m.maker n.maker mode (record_of key.now value.now) f)) }
     ensures follows { Between (kept_in handle.old) (kept_in handle.new) (λ m n.
         Follows m.maker n.maker) }
     ensures no_maker { HasNoMaker (kept_in handle.old) → result ≡ Err Broken }

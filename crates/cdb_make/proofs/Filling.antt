@@ -36,7 +36,7 @@ first_before p xs home n b a l h e large ea =
     let small : a < n = omega arith in
     (small, let total : home + prefix_len p (slots_from home xs) ≡ n + a = omega arith in sym (ap (λ (m : ℕ). m % n) total ∙ add-mod_left n a ∙ mod-eq_of_lt small))
 
--- from the front on as many are used as before home, if all from home on are
+-- from the start on as many are used as before home, if all from home on are
 pub before_home : (p : WordPair → Bool) (xs : List WordPair) (home n : ℕ) → length xs ≡ n → home < n → n ≤ home + prefix_len p (drop home xs) → min (prefix_len p xs) home ≡ prefix_len p (take home xs)
 before_home p xs home n l h large =
     let d : length (drop home xs) ≡ n - home = simp length-drop (omega arith) in

@@ -21,7 +21,7 @@ pub length-head_bytes : (w end : ℕ) (ls : List (List WordPair)) → length ls 
 length-head_bytes w end ls long =
     length-flat_map_words w (pointers_from w end (map slots_of ls)) ∙ ap (λ (n : ℕ). 2 * w * n) (length-pointers_from w end (map slots_of ls) ∙ length-map ls slots_of ∙ long) ∙ omega arith
 
--- a list with bytes over its end and others over its front, cut behind the first
+-- a list with bytes over its end and others over its start, cut behind the first
 both_written : (first end last : ℕ) (a head tables : List ℕ) → length head ≡ first → first ≤ end → end ≤ length a → last ≡ end + length tables
     → take last (overwrite (overwrite a end tables) 0 head) ≡ (head ++ part first (end - first) a) ++ tables
 both_written first end last a head tables eh le inside el =

@@ -13,7 +13,7 @@ use Rattle.cdb_form.specs.Format.Pair.{WordPair}
 use Rattle.cdb_form.specs.Format.Record.{KeyValue, record_bytes, record_size}
 use Rattle.cdb_form.specs.Format.Table.{entries_from, in_table}
 use Rattle.cdb_form.specs.Views.Pairs.{PairFits}
-use Rattle.cdb_form.proofs.Fronts.{lengths_of, Begins, Reads, front_reads}
+use Rattle.cdb_form.proofs.Prefixes.{lengths_of, Begins, Reads, prefix_reads}
 use Rattle.cdb_form.proofs.Standing.{Begins-record_bytes}
 use Rattle.cdb_form.proofs.Sizes.{length-record_bytes}
 use Rattle.cdb_make.specs.declared.removal.gap.Gap.{Gap}
@@ -35,7 +35,7 @@ reads_as w top at b r words fits e =
     let rest : List ℕ = drop n (drop at b) in
     let split : record_bytes w r ++ rest ≡ drop at b = ap (λ v. v ++ rest) (sym e) ∙ take-append-drop n (drop at b) in
     let begins : Begins w (drop at b) r rest = subst (λ v. Begins w v r rest) split (Begins-record_bytes w top r rest words fits) in
-    let reads : Reads w (drop at b) r rest = front_reads w (drop at b) r rest begins in
+    let reads : Reads w (drop at b) r rest = prefix_reads w (drop at b) r rest begins in
     record { key = ap (λ (q : KeyValue). q.key) reads.is; size = reads.size }
 
 yes_same : (n : ℕ) → (n == n) ≡ true

@@ -12,8 +12,8 @@ use Rattle.cdb_form.proofs.WordLemmas.{pair_at-take}
 use Rattle.cdb_make.specs.declared.records.key_at.LookFault.TheVariants.{Foreign}
 use Rattle.cdb_make.specs.Looks.{key_at, size_at, NoNewImage, HasLengths, HoldAt, TellsSame, LooksAt}
 
-front_pair : (w n : ℕ) (xs : List ℕ) → n ≡ 2 * w → pair_at w (take n xs) ≡ pair_at w xs
-front_pair w n xs e =
+prefix_pair : (w n : ℕ) (xs : List ℕ) → n ≡ 2 * w → pair_at w (take n xs) ≡ pair_at w xs
+prefix_pair w n xs e =
     let m : n ≡ w + w = omega arith in
     ap (λ k. pair_at w (take k xs)) m ∙ pair_at-take w xs
 
@@ -22,7 +22,7 @@ pub has_lengths : {w p : ℕ} {bytes : List ℕ} {old new : List ℕ → Type 0}
 unfolding size_at key_at
 has_lengths {w = w} {p = p} {bytes = bytes} h l e r =
     let front : (b : List ℕ) → _ → take (2 * w) (drop p b) ≡ take (2 * w) bytes = λ b is. sym (take-take (2 * w) (length bytes) (drop p b) l) ∙ ap (take (2 * w)) (r.read b is) in
-    let same : (b : List ℕ) → _ → pair_at w (drop p b) ≡ header_pair h = λ b is. sym (front_pair w (2 * w) (drop p b) refl) ∙ ap (pair_at w) (front b is) ∙ sym e in
+    let same : (b : List ℕ) → _ → pair_at w (drop p b) ≡ header_pair h = λ b is. sym (prefix_pair w (2 * w) (drop p b) refl) ∙ ap (pair_at w) (front b is) ∙ sym e in
     record {
       size = λ b is. ap (λ q. 2 * w + q.first + q.second) (same b is);
       key = λ b is. ap (λ q. take q.first (drop (2 * w) (drop p b))) (same b is) ∙ ap (take h.klen) (drop-drop (2 * w) p b);

@@ -68,14 +68,14 @@ far_below q top [] h = tt
 far_below q top (g ∷ gs) h = h
 
 -- the entries below the first gap stay
-pub closed_front : (hs ps : List ℕ) (k : ℕ) (gs : List Gap) (end top : ℕ) → length hs ≡ length ps → AreApart 0 gs end → ((i : ℕ) → i < k → slice_index ps i < first_place gs top)
+pub closed_prefix : (hs ps : List ℕ) (k : ℕ) (gs : List Gap) (end top : ℕ) → length hs ≡ length ps → AreApart 0 gs end → ((i : ℕ) → i < k → slice_index ps i < first_place gs top)
     → closed_by 0 gs (entries_of hs ps) ≡ take k (entries_of hs ps) ++ closed_by 0 gs (drop k (entries_of hs ps))
-closed_front hs ps zero gs end top e apart below = refl
-closed_front [] ps (suc k) gs end top e apart below = refl
-closed_front (h ∷ hs) [] (suc k) gs end top e apart below = refl
-closed_front (h ∷ hs) (p ∷ ps) (suc k) gs end top e apart below =
+closed_prefix hs ps zero gs end top e apart below = refl
+closed_prefix [] ps (suc k) gs end top e apart below = refl
+closed_prefix (h ∷ hs) [] (suc k) gs end top e apart below = refl
+closed_prefix (h ∷ hs) (p ∷ ps) (suc k) gs end top e apart below =
     keep_step 0 end gs (record { first = h; second = p }) (entries_of hs ps) p (omega arith) apart (far_below p top gs (below 0 (omega arith)))
-    ∙ ap (λ (t : List WordPair). record { first = h; second = p } ∷ t) (closed_front hs ps k gs end top (omega arith) apart (λ i lt. below (suc i) (omega arith)))
+    ∙ ap (λ (t : List WordPair). record { first = h; second = p } ∷ t) (closed_prefix hs ps k gs end top (omega arith) apart (λ i lt. below (suc i) (omega arith)))
 
 pub rising_drop : (k : ℕ) (es : List WordPair) → IsRising 0 es → IsRising 0 (drop k es)
 rising_drop zero es h = h
@@ -113,5 +113,5 @@ pub closed_below : (hs ps : List ℕ) (gs : List Gap) (end top : ℕ) → length
 closed_below hs ps gs end top e apart below =
     let es : List WordPair = entries_of hs ps in
     let l : length es ≡ length hs = length-entries_of hs ps e in
-    let front = closed_front hs ps (length es) gs end top e apart (λ i lt. below i (omega (arith, lt, l, e))) in
+    let front = closed_prefix hs ps (length es) gs end top e apart (λ i lt. below i (omega (arith, lt, l, e))) in
     sym (front ∙ ap (λ v. take (length es) es ++ closed_by 0 gs v) (drop_all (length es) es (omega arith)) ∙ append-nil _ ∙ take_all (length es) es (omega arith))

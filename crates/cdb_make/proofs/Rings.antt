@@ -464,9 +464,9 @@ cut_all ends next hs from cut =
     }
 
 -- the entries in rings keep their numbers where the others move
-pub linked_front : (ends next hs new : List ℕ) (linked kept start : ℕ) → length next ≤ linked → linked ≤ kept → kept ≤ length new → length new ≡ length hs → (start < linked → linked ≡ length hs) → (kept ≡ length hs → new ≡ hs)
+pub linked_prefix : (ends next hs new : List ℕ) (linked kept start : ℕ) → length next ≤ linked → linked ≤ kept → kept ≤ length new → length new ≡ length hs → (start < linked → linked ≡ length hs) → (kept ≡ length hs → new ≡ hs)
     → ((k : ℕ) → k < start → slice_index new k ≡ slice_index hs k) → AreLinked ends next hs → AreLinked ends next (take kept new)
-linked_front ends next hs new linked kept start short low within long all same front is =
+linked_prefix ends next hs new linked kept start short low within long all same front is =
     linked_kept ends next hs (take kept new) (omega (arith, length-take {A = ℕ}))
     (λ k lt. get_or-take kept new k 0 (omega arith) ∙ elim (cases_lt start linked) [
       | inl more ↦ let e : linked ≡ length hs = all more in ap (λ (v : List ℕ). slice_index v k) (same (omega arith))

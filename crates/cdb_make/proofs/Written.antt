@@ -24,8 +24,8 @@ pub on_ok_of : {T E : Type 0} {A B C D : Type 0} (r : Result T E) → (A → B �
 on_ok_of (Ok x) f a b c = f a b c
 on_ok_of (Err e) f a b c = tt
 
-pub written_front : (k : ℕ) (into xs rest : List ℕ) → into ≡ xs → length xs ≡ k → take k (into ++ rest) ≡ xs
-written_front k into xs rest e l = ap (λ t. take k (t ++ rest)) e ∙ take_at xs rest k l
+pub written_prefix : (k : ℕ) (into xs rest : List ℕ) → into ≡ xs → length xs ≡ k → take k (into ++ rest) ≡ xs
+written_prefix k into xs rest e l = ap (λ t. take k (t ++ rest)) e ∙ take_at xs rest k l
 
 pub flat_map-map : {X Y A : Type 0} (f : Y → List A) (g : X → Y) (xs : List X) → flat_map f (map g xs) ≡ flat_map (λ x. f (g x)) xs
 flat_map-map f g [] = refl

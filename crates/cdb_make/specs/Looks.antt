@@ -4,17 +4,17 @@ use Rattle.std.specs.Prelude.{◌∷◌, length, drop, bytes_eq, Result, Ok, Err
 use Rattle.std.specs.Bool.{Decides}
 use Rattle.cdb_store.specs.Images.{part}
 use Rattle.cdb_form.specs.Format.Pair.{WordPair}
-use Rattle.cdb_form.specs.Format.Walk.{front_size, front_record}
+use Rattle.cdb_form.specs.Format.Walk.{prefix_size, prefix_record}
 use Rattle.cdb_make.specs.declared.removal.gap.Gap.{Gap}
 use Rattle.cdb_make.specs.declared.records.key_at.LookFault.{LookFault}
 use Rattle.cdb_make.specs.declared.records.key_at.LookFault.TheVariants.{Failed, Foreign}
 
 -- the key of the record at a place, and how many bytes the record takes
 unfoldable pub key_at : ℕ → ℕ → List ℕ → List ℕ
-key_at w p image = (front_record w (drop p image)).key
+key_at w p image = (prefix_record w (drop p image)).key
 
 unfoldable pub size_at : ℕ → ℕ → List ℕ → ℕ
-size_at w p image = front_size w (drop p image)
+size_at w p image = prefix_size w (drop p image)
 
 -- whether it has this key
 abbrev pub has_key_at : ℕ → List ℕ → List ℕ → ℕ → Bool

@@ -19,11 +19,11 @@ use Rattle.cdb_read.specs.declared.lookup.search.Step.TheVariants as step
 use Rattle.cdb_read.specs.declared.lookup.search.Met.TheVariants as met
 use Rattle.cdb_read.specs.declared.span.Span.{Span}
 use Rattle.cdb_read.specs.declared.lookup.probe.Probe.{Probe}
-use Rattle.cdb_read.proofs.Headers.{HasLengths, has_lengths, front_pair}
-use Rattle.cdb_read.proofs.Searches.{IsTurnSlot, SameAhead}
+use Rattle.cdb_read.proofs.Headers.{HasLengths, has_lengths, prefix_pair}
+use Rattle.cdb_read.proofs.Searches.{IsProbeSlot, SameAhead}
 use Rattle.cdb_read.proofs.LookupLaws.{lookup_of-is}
 
-pub slot_here : {w : ℕ} {probe : Probe} {slot : WordPair} (file : List ℕ) → slot ≡ probe_slot w file probe → IsTurnSlot w probe slot (λ b. b ≡ file)
+pub slot_here : {w : ℕ} {probe : Probe} {slot : WordPair} (file : List ℕ) → slot ≡ probe_slot w file probe → IsProbeSlot w probe slot (λ b. b ≡ file)
 slot_here {w = w} {probe = probe} file e = record { each = λ b is. e ∙ ap (λ k. probe_slot w k probe) (sym is) }
 
 pub header_here : {w p n : ℕ} (file : List ℕ) (h : Header) → n ≡ 2 * w → p + n ≤ length file → header_pair h ≡ pair_at w (take ((p + n) - p) (drop p file)) → HasLengths w p h.klen h.vlen (length file) (λ b. b ≡ file)
@@ -63,7 +63,7 @@ looked_up w {n = n} {size = size} {hash = hash} file key p long number is read =
     let at : p ≡ nth_pair w file (table_number (key_hash key)) =
     read
     ∙ ap (λ k. pair_at w (take k (drop (size * n) file))) m
-    ∙ front_pair w size (drop (size * n) file) long
+    ∙ prefix_pair w size (drop (size * n) file) long
     ∙ ap (λ k. pair_at w (drop (k * n) file)) long
     ∙ ap (nth_pair w file) (number ∙ ap table_number is) in
     ap (found_by w file key) at ∙ sym (lookup_of-is w file key)

@@ -6,7 +6,7 @@ ghost use Rattle.cdb_form.specs.Format.Pair.{head_size};
 ghost use Rattle.cdb_form.specs.declared.damage.Damage.TheVariants.{Table};
 ghost use Rattle.cdb_read.specs.Lookup.{lookup_of, nothing_found, found_damaged};
 ghost use Rattle.cdb_read.specs.Views.Search.{found_ahead};
-ghost use Rattle.cdb_read.specs.Views.Probing.{ProbeInside, IsTurnInside};
+ghost use Rattle.cdb_read.specs.Views.Probing.{ProbeInside, IsSearchInside};
 ghost use Rattle.cdb_memory.specs.Searches.{probe_of, ahead, IsInside, Begins};
 ghost use Rattle.cdb_memory.specs.Searches.{GivesSpan, GivesNone, Advances, HasFirst};
 
@@ -71,7 +71,7 @@ fn is_inside<L: Width>(probe: Probe, size: u64) -> bool
 /// Where the search of a key with this hash begins.
 fn first_of<L: Width>(file: &[u8], hash: u64) -> Searching
     requires { head_size L.WORD ≤ length file.now }
-    ensures inside { IsTurnInside L.WORD (length file.now) result }
+    ensures inside { IsSearchInside L.WORD (length file.now) result }
     ensures finds { (key : List ℕ) → hash ≡ key_hash key
         → found_ahead L.WORD file.now key result ≡ lookup_of L.WORD file.now key }
 {

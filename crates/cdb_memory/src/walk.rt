@@ -3,7 +3,7 @@ ghost use Rattle.std.specs.Prelude.{◌≡◌, ◌+◌, ◌<◌, ◌≤◌, leng
 ghost use Rattle.cdb_form.specs.Format.Pair.{head_size};
 ghost use Rattle.cdb_form.specs.Format.Walk.{walk_of, walk_from, damaged};
 ghost use Rattle.cdb_form.specs.declared.damage.Damage.TheVariants.{Record};
-ghost use Rattle.cdb_memory.specs.Walks.{rest_of, Begins, Stands, GivesPair};
+ghost use Rattle.cdb_memory.specs.Walks.{rest_of, Begins, StandsPair, GivesPair};
 
 use cdb_form::{Damage, Width, head_size, pair_size, read_head, read_header};
 use cdb_read::{Pair, has_bytes, spans};
@@ -23,7 +23,7 @@ fn pair_at<L: Width>(file: &[u8], place: u64, end: u64) -> Option<Pair>
     requires { place < end }
     ensures { MatchOption result
         (walk_from L.WORD place end (drop place file.now) ≡ damaged (Record place))
-        (Stands L.WORD file.now place end) }
+        (StandsPair L.WORD file.now place end) }
 {
     let size = file.len() as u64;
     let limit = size.min(end);

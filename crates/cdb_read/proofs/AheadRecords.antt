@@ -1,4 +1,4 @@
--- Whole records at the front of some bytes, and the walk after them.
+-- Whole records at the start of some bytes, and the walk after them.
 use Rattle.std.proofs.Common.{◌≡◌, ℕ, zero, suc, ◌+◌, ◌-◌, ◌*◌, ◌<◌, ◌≤◌, List, [], ◌∷◌, ◌++◌, length, take, drop, false, refl, sym, ap, ◌∙◌, subst, arith, inl, inr, length-append, length-drop, length-take}
 use Rattle.std.specs.Prelude.{min, sum_by}
 use Rattle.std.proofs.lemmas.Bool.{cases_Bool, cases_lt, cond-true, cond-false, le-leb, leb-true}
@@ -9,7 +9,7 @@ use Rattle.std.proofs.Math.Bridge.{le_prop}
 use Rattle.cdb_form.specs.Format.Pair.{WordPair}
 use Rattle.cdb_form.specs.Format.Reading.{pair_at}
 use Rattle.cdb_form.specs.Format.Record.{KeyValue, record_size}
-use Rattle.cdb_form.specs.Format.Walk.{Walked, front_size, front_record, whole_records, walk_from, with_records}
+use Rattle.cdb_form.specs.Format.Walk.{Walked, prefix_size, prefix_record, whole_records, walk_from, with_records}
 use Rattle.cdb_store.specs.Images.{part}
 use Rattle.cdb_store.specs.declared.store.Store.{Ghosts}
 use Rattle.cdb_form.specs.declared.width.Width.{Ghosts as Widths}
@@ -19,17 +19,17 @@ use Rattle.cdb_read.specs.declared.walking.records.Walk.{Walk}
 use Rattle.cdb_read.specs.declared.walking.state.Rest.{Rest}
 use Rattle.cdb_read.specs.declared.walking.state.Walking.{Walking}
 use Rattle.cdb_read.specs.declared.walking.state.Walking.TheVariants.{At, AtEnd, NoTable, NoRecord}
-use Rattle.cdb_form.proofs.Fronts.{all_records, fits_front, whole_records-none, whole_records-room}
+use Rattle.cdb_form.proofs.Prefixes.{all_records, fits_prefix, whole_records-none, whole_records-room}
 use Rattle.cdb_form.proofs.WordLemmas.{pair_at-take}
 use Rattle.cdb_form.proofs.WalkSteps.{walk_from-is, walk_with, stopped}
 
--- how many bytes the whole records at the front of some have
+-- how many bytes the whole records at the start of some have
 abbrev pub all_size : ℕ → List ℕ → ℕ
 all_size w bytes = sum_by (record_size w) (all_records w bytes)
 
 -- a whole record is as long as it tells
-front_long : (w : ℕ) (xs : List ℕ) → front_size w xs ≤ length xs → record_size w (front_record w xs) ≡ front_size w xs
-front_long w xs fits =
+prefix_long : (w : ℕ) (xs : List ℕ) → prefix_size w xs ≤ length xs → record_size w (prefix_record w xs) ≡ prefix_size w xs
+prefix_long w xs fits =
     let k : ℕ = (pair_at w xs).first in
     let v : ℕ = (pair_at w xs).second in
     let key : length (take k (drop (2 * w) xs)) ≡ k = length-take-le k (drop (2 * w) xs) (omega (arith, fits, length-drop (2 * w) xs)) in
@@ -42,7 +42,7 @@ pair_more w xs ys long =
     let within : w + w ≤ length xs = omega arith in
     sym (pair_at-take w (xs ++ ys)) ∙ ap (pair_at w) (take-append-le (w + w) xs ys within) ∙ pair_at-take w xs
 
-size_more : (w : ℕ) (xs ys : List ℕ) → 2 * w ≤ length xs → front_size w (xs ++ ys) ≡ front_size w xs
+size_more : (w : ℕ) (xs ys : List ℕ) → 2 * w ≤ length xs → prefix_size w (xs ++ ys) ≡ prefix_size w xs
 size_more w xs ys long = ap (λ (p : WordPair). 2 * w + p.first + p.second) (pair_more w xs ys long)
 
 part_more : (from n : ℕ) (xs ys : List ℕ) → from + n ≤ length xs → take n (drop from (xs ++ ys)) ≡ take n (drop from xs)
@@ -53,84 +53,84 @@ part_more from n xs ys fits =
 same_record : (a b : KeyValue) → a.key ≡ b.key → a.value ≡ b.value → a ≡ b
 same_record a b k v = ap (λ x. let p : KeyValue = record { key = x; value = a.value } in p) k ∙ ap (λ x. let p : KeyValue = record { key = b.key; value = x } in p) v
 
-record_more : (w : ℕ) (xs ys : List ℕ) → front_size w xs ≤ length xs → front_record w (xs ++ ys) ≡ front_record w xs
+record_more : (w : ℕ) (xs ys : List ℕ) → prefix_size w xs ≤ length xs → prefix_record w (xs ++ ys) ≡ prefix_record w xs
 record_more w xs ys fits =
     let k : ℕ = (pair_at w xs).first in
     let v : ℕ = (pair_at w xs).second in
     let same : pair_at w (xs ++ ys) ≡ pair_at w xs = pair_more w xs ys (omega arith) in
-    same_record (front_record w (xs ++ ys)) (front_record w xs)
+    same_record (prefix_record w (xs ++ ys)) (prefix_record w xs)
     (ap (λ (p : WordPair). take p.first (drop (2 * w) (xs ++ ys))) same ∙ part_more (2 * w) k xs ys (omega arith))
     (ap (λ (p : WordPair). take p.second (drop (2 * w + p.first) (xs ++ ys))) same ∙ part_more (2 * w + k) v xs ys (omega arith))
 
 -- a whole record, and then the others
-one_more : (w most : ℕ) (xs : List ℕ) → front_size w xs ≤ length xs → whole_records w (suc most) xs ≡ front_record w xs ∷ whole_records w most (drop (front_size w xs) xs)
+one_more : (w most : ℕ) (xs : List ℕ) → prefix_size w xs ≤ length xs → whole_records w (suc most) xs ≡ prefix_record w xs ∷ whole_records w most (drop (prefix_size w xs) xs)
 unfolding whole_records
-one_more w most xs fits = cond-true (fits_front w xs) _ _ (le-leb (front_size w xs) (length xs) fits)
+one_more w most xs fits = cond-true (fits_prefix w xs) _ _ (le-leb (prefix_size w xs) (length xs) fits)
 
 none_left : (w most : ℕ) (xs : List ℕ) → 0 < w → length xs ≡ 0 → whole_records w most xs ≡ []
 none_left w most xs some empty = whole_records-none w most xs (omega arith)
 
-all_more : (w : ℕ) (xs : List ℕ) → 0 < w → front_size w xs ≤ length xs → all_records w xs ≡ front_record w xs ∷ all_records w (drop (front_size w xs) xs)
+all_more : (w : ℕ) (xs : List ℕ) → 0 < w → prefix_size w xs ≤ length xs → all_records w xs ≡ prefix_record w xs ∷ all_records w (drop (prefix_size w xs) xs)
 all_more w xs some fits =
-    let rest : List ℕ = drop (front_size w xs) xs in
-    let left = length-drop (front_size w xs) xs in
+    let rest : List ℕ = drop (prefix_size w xs) xs in
+    let left = length-drop (prefix_size w xs) xs in
     whole_records-room w (length xs) (suc (length xs)) xs some (omega arith) (omega arith)
     ∙ one_more w (length xs) xs fits
-    ∙ ap (λ rs. front_record w xs ∷ rs) (whole_records-room w (length xs) (length rest) rest some (omega arith) (omega arith))
+    ∙ ap (λ rs. prefix_record w xs ∷ rs) (whole_records-room w (length xs) (length rest) rest some (omega arith) (omega arith))
 
 -- a step of a count of the bytes
-pub size_step : (w : ℕ) (xs : List ℕ) → 0 < w → front_size w xs ≤ length xs → all_size w xs ≡ front_size w xs + all_size w (drop (front_size w xs) xs)
+pub size_step : (w : ℕ) (xs : List ℕ) → 0 < w → prefix_size w xs ≤ length xs → all_size w xs ≡ prefix_size w xs + all_size w (drop (prefix_size w xs) xs)
 size_step w xs some fits =
     ap (sum_by (record_size w)) (all_more w xs some fits)
-    ∙ sum_by-cons (record_size w) (front_record w xs) (all_records w (drop (front_size w xs) xs))
-    ∙ ap (λ n. n + all_size w (drop (front_size w xs) xs)) (front_long w xs fits)
+    ∙ sum_by-cons (record_size w) (prefix_record w xs) (all_records w (drop (prefix_size w xs) xs))
+    ∙ ap (λ n. n + all_size w (drop (prefix_size w xs) xs)) (prefix_long w xs fits)
 
-pub size_end : (w : ℕ) (xs : List ℕ) → length xs < front_size w xs → all_size w xs ≡ 0
+pub size_end : (w : ℕ) (xs : List ℕ) → length xs < prefix_size w xs → all_size w xs ≡ 0
 size_end w xs short = ap (sum_by (record_size w)) (whole_records-none w (length xs) xs short)
 
 -- the whole records of some bytes, in those that they have
 records_within : (w most : ℕ) (xs : List ℕ) → sum_by (record_size w) (whole_records w most xs) ≤ length xs
 unfolding whole_records
 records_within w zero xs = omega arith
-records_within w (suc most) xs = elim (cases_Bool (fits_front w xs)) [
+records_within w (suc most) xs = elim (cases_Bool (fits_prefix w xs)) [
   | inl t ↦
-      (let fits = leb-true (front_size w xs) (length xs) t in
-      let left = length-drop (front_size w xs) xs in
-      let e = ap (sum_by (record_size w)) (one_more w most xs fits) ∙ sum_by-cons (record_size w) (front_record w xs) (whole_records w most (drop (front_size w xs) xs)) in
-      omega (arith, e, front_long w xs fits, records_within w most (drop (front_size w xs) xs)))
-  | inr f ↦ (let e = ap (sum_by (record_size w)) (cond-false (fits_front w xs) (front_record w xs ∷ whole_records w most (drop (front_size w xs) xs)) [] f) in omega (arith, e))
+      (let fits = leb-true (prefix_size w xs) (length xs) t in
+      let left = length-drop (prefix_size w xs) xs in
+      let e = ap (sum_by (record_size w)) (one_more w most xs fits) ∙ sum_by-cons (record_size w) (prefix_record w xs) (whole_records w most (drop (prefix_size w xs) xs)) in
+      omega (arith, e, prefix_long w xs fits, records_within w most (drop (prefix_size w xs) xs)))
+  | inr f ↦ (let e = ap (sum_by (record_size w)) (cond-false (fits_prefix w xs) (prefix_record w xs ∷ whole_records w most (drop (prefix_size w xs) xs)) [] f) in omega (arith, e))
 ]
 
 pub size_within : (w : ℕ) (xs : List ℕ) → all_size w xs ≤ length xs
 size_within w xs = records_within w (length xs) xs
 
-none_here : (w most : ℕ) (xs : List ℕ) → fits_front w xs ≡ false → whole_records w (suc most) xs ≡ []
+none_here : (w most : ℕ) (xs : List ℕ) → fits_prefix w xs ≡ false → whole_records w (suc most) xs ≡ []
 unfolding whole_records
-none_here w most xs f = cond-false (fits_front w xs) (front_record w xs ∷ whole_records w most (drop (front_size w xs) xs)) [] f
+none_here w most xs f = cond-false (fits_prefix w xs) (prefix_record w xs ∷ whole_records w most (drop (prefix_size w xs) xs)) [] f
 
-size_more_records : (w most : ℕ) (xs : List ℕ) → front_size w xs ≤ length xs → sum_by (record_size w) (whole_records w (suc most) xs) ≡ front_size w xs + sum_by (record_size w) (whole_records w most (drop (front_size w xs) xs))
+size_more_records : (w most : ℕ) (xs : List ℕ) → prefix_size w xs ≤ length xs → sum_by (record_size w) (whole_records w (suc most) xs) ≡ prefix_size w xs + sum_by (record_size w) (whole_records w most (drop (prefix_size w xs) xs))
 size_more_records w most xs fits =
     ap (sum_by (record_size w)) (one_more w most xs fits)
-    ∙ sum_by-cons (record_size w) (front_record w xs) (whole_records w most (drop (front_size w xs) xs))
-    ∙ ap (λ n. n + sum_by (record_size w) (whole_records w most (drop (front_size w xs) xs))) (front_long w xs fits)
+    ∙ sum_by-cons (record_size w) (prefix_record w xs) (whole_records w most (drop (prefix_size w xs) xs))
+    ∙ ap (λ n. n + sum_by (record_size w) (whole_records w most (drop (prefix_size w xs) xs))) (prefix_long w xs fits)
 
 -- where some bytes are whole records, those of more bytes are they and then the others
-front_then : (w most : ℕ) (xs ys : List ℕ) → 0 < w → length xs ≤ most → sum_by (record_size w) (whole_records w most xs) ≡ length xs → all_records w (xs ++ ys) ≡ whole_records w most xs ++ all_records w ys
+prefix_then : (w most : ℕ) (xs ys : List ℕ) → 0 < w → length xs ≤ most → sum_by (record_size w) (whole_records w most xs) ≡ length xs → all_records w (xs ++ ys) ≡ whole_records w most xs ++ all_records w ys
 unfolding whole_records
-front_then w zero xs ys some room whole = ap (λ t. all_records w (t ++ ys)) (nil_from_length xs (omega arith))
-front_then w (suc most) xs ys some room whole = elim (cases_Bool (fits_front w xs)) [
+prefix_then w zero xs ys some room whole = ap (λ t. all_records w (t ++ ys)) (nil_from_length xs (omega arith))
+prefix_then w (suc most) xs ys some room whole = elim (cases_Bool (fits_prefix w xs)) [
   | inl t ↦
-      (let fits : front_size w xs ≤ length xs = leb-true (front_size w xs) (length xs) t in
-      let rest : List ℕ = drop (front_size w xs) xs in
-      let left : length rest ≡ length xs - front_size w xs = length-drop (front_size w xs) xs in
+      (let fits : prefix_size w xs ≤ length xs = leb-true (prefix_size w xs) (length xs) t in
+      let rest : List ℕ = drop (prefix_size w xs) xs in
+      let left : length rest ≡ length xs - prefix_size w xs = length-drop (prefix_size w xs) xs in
       let both : length (xs ++ ys) ≡ length xs + length ys = length-append xs ys in
       let sums = size_more_records w most xs fits in
-      let same : front_size w (xs ++ ys) ≡ front_size w xs = size_more w xs ys (omega arith) in
+      let same : prefix_size w (xs ++ ys) ≡ prefix_size w xs = size_more w xs ys (omega arith) in
       all_more w (xs ++ ys) some (omega arith)
-      ∙ ap (λ r. r ∷ all_records w (drop (front_size w (xs ++ ys)) (xs ++ ys))) (record_more w xs ys fits)
-      ∙ ap (λ n. front_record w xs ∷ all_records w (drop n (xs ++ ys))) same
-      ∙ ap (λ t. front_record w xs ∷ all_records w t) (drop-append-le (front_size w xs) xs ys fits)
-      ∙ ap (λ rs. front_record w xs ∷ rs) (front_then w most rest ys some (omega arith) (omega arith))
+      ∙ ap (λ r. r ∷ all_records w (drop (prefix_size w (xs ++ ys)) (xs ++ ys))) (record_more w xs ys fits)
+      ∙ ap (λ n. prefix_record w xs ∷ all_records w (drop n (xs ++ ys))) same
+      ∙ ap (λ t. prefix_record w xs ∷ all_records w t) (drop-append-le (prefix_size w xs) xs ys fits)
+      ∙ ap (λ rs. prefix_record w xs ∷ rs) (prefix_then w most rest ys some (omega arith) (omega arith))
       ∙ ap (λ rs. rs ++ all_records w ys) (sym (one_more w most xs fits)))
   | inr f ↦
       (let none = none_here w most xs f in
@@ -139,27 +139,27 @@ front_then w (suc most) xs ys some room whole = elim (cases_Bool (fits_front w x
 ]
 
 -- the whole records of some bytes are those of the bytes that they have
-front_same : (w most : ℕ) (xs : List ℕ) → 0 < w → whole_records w most (take (sum_by (record_size w) (whole_records w most xs)) xs) ≡ whole_records w most xs
+prefix_same : (w most : ℕ) (xs : List ℕ) → 0 < w → whole_records w most (take (sum_by (record_size w) (whole_records w most xs)) xs) ≡ whole_records w most xs
 unfolding whole_records
-front_same w zero xs some = refl
-front_same w (suc most) xs some = elim (cases_Bool (fits_front w xs)) [
+prefix_same w zero xs some = refl
+prefix_same w (suc most) xs some = elim (cases_Bool (fits_prefix w xs)) [
   | inl t ↦
-      (let fits : front_size w xs ≤ length xs = leb-true (front_size w xs) (length xs) t in
-      let rest : List ℕ = drop (front_size w xs) xs in
+      (let fits : prefix_size w xs ≤ length xs = leb-true (prefix_size w xs) (length xs) t in
+      let rest : List ℕ = drop (prefix_size w xs) xs in
       let more : ℕ = sum_by (record_size w) (whole_records w most rest) in
       let within : more ≤ length rest = records_within w most rest in
-      let left : length rest ≡ length xs - front_size w xs = length-drop (front_size w xs) xs in
-      let n : ℕ = front_size w xs + more in
+      let left : length rest ≡ length xs - prefix_size w xs = length-drop (prefix_size w xs) xs in
+      let n : ℕ = prefix_size w xs + more in
       let cut : List ℕ = take n xs in
       let long : length cut ≡ n = length-take-le n xs (omega arith) in
       let split : cut ++ drop n xs ≡ xs = take-append-drop n xs in
-      let size : front_size w cut ≡ front_size w xs = sym (size_more w cut (drop n xs) (omega arith)) ∙ ap (front_size w) split in
+      let size : prefix_size w cut ≡ prefix_size w xs = sym (size_more w cut (drop n xs) (omega arith)) ∙ ap (prefix_size w) split in
       ap (λ k. whole_records w (suc most) (take k xs)) (size_more_records w most xs fits)
       ∙ one_more w most cut (omega arith)
-      ∙ ap (λ r. r ∷ whole_records w most (drop (front_size w cut) cut)) (sym (record_more w cut (drop n xs) (omega arith)) ∙ ap (front_record w) split)
-      ∙ ap (λ k. front_record w xs ∷ whole_records w most (drop k cut)) size
-      ∙ ap (λ t. front_record w xs ∷ whole_records w most t) (drop-take (front_size w xs) more xs)
-      ∙ ap (λ rs. front_record w xs ∷ rs) (front_same w most rest some)
+      ∙ ap (λ r. r ∷ whole_records w most (drop (prefix_size w cut) cut)) (sym (record_more w cut (drop n xs) (omega arith)) ∙ ap (prefix_record w) split)
+      ∙ ap (λ k. prefix_record w xs ∷ whole_records w most (drop k cut)) size
+      ∙ ap (λ t. prefix_record w xs ∷ whole_records w most t) (drop-take (prefix_size w xs) more xs)
+      ∙ ap (λ rs. prefix_record w xs ∷ rs) (prefix_same w most rest some)
       ∙ sym (one_more w most xs fits))
   | inr f ↦
       (let none = none_here w most xs f in
@@ -173,7 +173,7 @@ pub read_size : (w n : ℕ) (xs : List ℕ) → 0 < w → n ≡ all_size w xs �
 read_size w n xs some is =
     let within = size_within w xs in
     let long : length (take n xs) ≡ n = length-take-le n xs (omega arith) in
-    is ∙ ap (sum_by (record_size w)) (sym (front_same w (length xs) xs some)
+    is ∙ ap (sum_by (record_size w)) (sym (prefix_same w (length xs) xs some)
     ∙ ap (λ k. whole_records w (length xs) (take k xs)) (sym is)
     ∙ whole_records-room w (length xs) n (take n xs) some (omega arith) (omega arith))
 
@@ -186,7 +186,7 @@ walk_past w place end n xs ys some long room whole after =
     let all : end - place ≡ n + left = omega arith in
     let size : length (take n xs) ≡ n = length-take-le n xs long in
     let area : take (end - place) xs ≡ take n xs ++ take left ys = ap (λ k. take k xs) all ∙ take-add n left xs ∙ ap (λ t. take n xs ++ take left t) (sym after) in
-    let are : all_records w (take (end - place) xs) ≡ rs ++ qs = ap (all_records w) area ∙ front_then w n (take n xs) (take left ys) some (omega arith) (sym whole ∙ sym size) in
+    let are : all_records w (take (end - place) xs) ≡ rs ++ qs = ap (all_records w) area ∙ prefix_then w n (take n xs) (take left ys) some (omega arith) (sym whole ∙ sym size) in
     let stop : place + sum_by (record_size w) (rs ++ qs) ≡ place + n + sum_by (record_size w) qs = omega (arith, sum_by-append (record_size w) rs qs, whole) in
     walk_from-is w place end xs
     ∙ ap (walk_with w place end) are

@@ -9,7 +9,7 @@ use Rattle.cdb_store.specs.Images.{part, Holds}
 use Rattle.cdb_store.proofs.Parts.{length-part}
 use Rattle.cdb_form.specs.Format.Pair.{WordPair, head_size}
 use Rattle.cdb_form.specs.Format.Reading.{pair_at}
-use Rattle.cdb_form.specs.Format.Walk.{front_size, front_record}
+use Rattle.cdb_form.specs.Format.Walk.{prefix_size, prefix_record}
 use Rattle.cdb_form.specs.Views.Pairs.{header_pair}
 use Rattle.cdb_form.specs.declared.header.Header.{Header}
 use Rattle.cdb_form.proofs.WordLemmas.{pair_at-take}
@@ -21,19 +21,19 @@ use Rattle.cdb_read.specs.declared.span.Span.{Span}
 
 -- in each image, of n bytes, the record at a place has lengths k and v
 pub record HasLengths (w p k v n : ℕ) (images : List ℕ → Type 0) : Type 0 where
-  pub size : (b : List ℕ) → images b → front_size w (drop p b) ≡ 2 * w + k + v
-  pub key : (b : List ℕ) → images b → (front_record w (drop p b)).key ≡ part (p + 2 * w) k b
+  pub size : (b : List ℕ) → images b → prefix_size w (drop p b) ≡ 2 * w + k + v
+  pub key : (b : List ℕ) → images b → (prefix_record w (drop p b)).key ≡ part (p + 2 * w) k b
   pub value : (b : List ℕ) → images b → value_span w b p ≡ record { place = p + 2 * w + k; len = v }
   pub long : (b : List ℕ) → images b → length b ≡ n
 
-pub front_pair : (w n : ℕ) (xs : List ℕ) → n ≡ 2 * w → pair_at w (take n xs) ≡ pair_at w xs
-front_pair w n xs e =
+pub prefix_pair : (w n : ℕ) (xs : List ℕ) → n ≡ 2 * w → pair_at w (take n xs) ≡ pair_at w xs
+prefix_pair w n xs e =
     let m : n ≡ w + w = omega arith in
     ap (λ k. pair_at w (take k xs)) m ∙ pair_at-take w xs
 
 -- the pair that was read at a place
 pub pair_read : {bytes : List ℕ} {images : List ℕ → Type 0} (w at : ℕ) (p : WordPair) → length bytes ≡ 2 * w → p ≡ pair_at w bytes → Holds at bytes images → (b : List ℕ) → images b → pair_at w (drop at b) ≡ p
-pair_read {bytes = bytes} w at p l e held b is = sym (front_pair w (length bytes) (drop at b) l) ∙ ap (pair_at w) (held.each b is) ∙ sym e
+pair_read {bytes = bytes} w at p l e held b is = sym (prefix_pair w (length bytes) (drop at b) l) ∙ ap (pair_at w) (held.each b is) ∙ sym e
 
 pub has_lengths : {w p n : ℕ} {bytes : List ℕ} {images : List ℕ → Type 0} (h : Header) → length bytes ≡ 2 * w → header_pair h ≡ pair_at w bytes → Holds p bytes images → ((b : List ℕ) → images b → length b ≡ n) → HasLengths w p h.klen h.vlen n images
 has_lengths {w = w} {p = p} {bytes = bytes} h l e r long =
@@ -53,7 +53,7 @@ fewer_lengths few h = record {
   long = λ b is. h.long b (few b is);
 }
 
-size_least : (w : ℕ) (b : List ℕ) → 2 * w ≤ front_size w b
+size_least : (w : ℕ) (b : List ℕ) → 2 * w ≤ prefix_size w b
 size_least w b =
     let least : (m n : ℕ) → 2 * w ≤ 2 * w + m + n = λ m n. omega arith in
     least (pair_at w b).first (pair_at w b).second
@@ -64,16 +64,16 @@ unequal xs ys h =
     let f : (v : Bool) → (v ≡ true → xs ≡ ys) → v ≡ false = λ v. elim v as (λ v. (v ≡ true → xs ≡ ys) → v ≡ false) [ true ↦ λ k. absurd (h (k refl)) | false ↦ λ k. refl ] in
     f (bytes_eq xs ys) d.0
 
-not_whole : (w : ℕ) (b : List ℕ) (p : ℕ) → (head_size w ≤ p → p + front_size w (drop p b) ≤ length b → ⊥) → is_whole w b p ≡ false
+not_whole : (w : ℕ) (b : List ℕ) (p : ℕ) → (head_size w ≤ p → p + prefix_size w (drop p b) ≤ length b → ⊥) → is_whole w b p ≡ false
 not_whole w b p none = elim (cases_Bool (is_whole w b p)) [
   | inl t ↦
-      (let both = and_true (nat_le (head_size w) p) (nat_le (p + front_size w (drop p b)) (length b)) t in
-      absurd (none (leb-true (head_size w) p both.0) (leb-true (p + front_size w (drop p b)) (length b) both.1)))
+      (let both = and_true (nat_le (head_size w) p) (nat_le (p + prefix_size w (drop p b)) (length b)) t in
+      absurd (none (leb-true (head_size w) p both.0) (leb-true (p + prefix_size w (drop p b)) (length b) both.1)))
   | inr f ↦ f
 ]
 
-whole : (w : ℕ) (b : List ℕ) (p : ℕ) → head_size w ≤ p → p + front_size w (drop p b) ≤ length b → is_whole w b p ≡ true
-whole w b p low high = and_from _ _ (le-leb (head_size w) p low) (le-leb (p + front_size w (drop p b)) (length b) high)
+whole : (w : ℕ) (b : List ℕ) (p : ℕ) → head_size w ≤ p → p + prefix_size w (drop p b) ≤ length b → is_whole w b p ≡ true
+whole w b p low high = and_from _ _ (le-leb (head_size w) p low) (le-leb (p + prefix_size w (drop p b)) (length b) high)
 
 -- what an answer denies
 pub passes : (answer : Bool) (m n : ℕ) → Decides answer (m ≤ n) → answer ≡ false → n < m
@@ -103,7 +103,7 @@ other_length {w = w} {p = p} {k = k} key h low fits ne = record {
   each = λ b is.
       let l = h.long b is in (
         whole_here h low fits b is,
-        unequal ((front_record w (drop p b)).key) key
+        unequal ((prefix_record w (drop p b)).key) key
             (λ same.
             let y : length (part (p + 2 * w) k b) ≡ k = length-part (p + 2 * w) k b (omega arith) in
             ne (sym y ∙ ap length (sym (h.key b is) ∙ same))),
@@ -114,7 +114,7 @@ pub other_key : {w p k v n : ℕ} {images : List ℕ → Type 0} (place : ℕ) (
 other_key {w = w} {p = p} {k = k} place key at same h low fits tells = record {
   each = λ b is. (
     whole_here h low fits b is,
-    unequal ((front_record w (drop p b)).key) key
+    unequal ((prefix_record w (drop p b)).key) key
         (λ eq.
         let both = (tells.each b is).1 (ap (λ v. part v (length key) b) at ∙ ap (λ v. part (p + 2 * w) v b) (sym same) ∙ sym (h.key b is) ∙ eq) in
         cc),
@@ -125,7 +125,7 @@ pub same_key : {w p k v n : ℕ} {images : List ℕ → Type 0} (place : ℕ) (k
 same_key {w = w} {p = p} {k = k} place key span at here long same h low fits tells = record {
   each = λ b is. (
     whole_here h low fits b is,
-    (bytes_eq-Decides ((front_record w (drop p b)).key) key).1 (h.key b is ∙ ap (λ v. part (p + 2 * w) v b) same ∙ ap (λ v. part v (length key) b) (sym at) ∙ (tells.each b is).0 refl),
+    (bytes_eq-Decides ((prefix_record w (drop p b)).key) key).1 (h.key b is ∙ ap (λ v. part (p + 2 * w) v b) same ∙ ap (λ v. part v (length key) b) (sym at) ∙ (tells.each b is).0 refl),
     ap (λ q. let s : Span = record { place = q; len = span.len } in s) here ∙ ap (λ q. let s : Span = record { place = p + 2 * w + k; len = q } in s) long ∙ sym (h.value b is),
   );
 }

@@ -8,14 +8,14 @@ use Rattle.cdb_store.proofs.Parts.{length-part}
 use Rattle.cdb_form.specs.Format.Pair.{WordPair}
 use Rattle.cdb_form.specs.Format.Reading.{pair_at}
 use Rattle.cdb_form.specs.Format.Record.{KeyValue, record_size}
-use Rattle.cdb_form.specs.Format.Walk.{front_size, walk_from, with_first}
+use Rattle.cdb_form.specs.Format.Walk.{prefix_size, walk_from, with_first}
 use Rattle.cdb_form.specs.Views.Pairs.{header_pair}
 use Rattle.cdb_form.specs.declared.header.Header.{Header}
-use Rattle.cdb_form.proofs.Fronts.{Begins}
+use Rattle.cdb_form.proofs.Prefixes.{Begins}
 use Rattle.cdb_form.proofs.WalkSteps.{walk_from-more, walk_from-no_header, walk_from-no_body}
-use Rattle.cdb_read.proofs.Headers.{front_pair, pair_read}
+use Rattle.cdb_read.proofs.Headers.{prefix_pair, pair_read}
 use Rattle.cdb_read.specs.Views.Spans.{HasSpans}
-use Rattle.cdb_read.specs.Views.Walking.{record_of, behind, LiesAt, StandsAt, StandsWithin}
+use Rattle.cdb_read.specs.Views.Walking.{record_in, behind, LiesAt, StandsAt, StandsWithin}
 use Rattle.cdb_read.specs.declared.walking.state.Rest.{Rest}
 use Rattle.cdb_read.specs.declared.span.Pair.{Pair}
 use Rattle.std.specs.Prelude.{Option, Some, None, MatchOption, min}
@@ -63,8 +63,8 @@ no_body {rest = rest} {w = w} {k = k} {v = v} before room area few header = reco
       let size = header.long b is in
       let l : length at ≡ length b - rest.place = length-drop rest.place b in
       let front : length (take (2 * w) at) ≡ 2 * w = length-part rest.place (2 * w) b (omega arith) in
-      let told : pair_at w (take (2 * w) at) ≡ record { first = k; second = v } = front_pair w (2 * w) at refl ∙ header.told b is in
-      let needs : front_size w (take (2 * w) at) ≡ 2 * w + k + v = ap (λ (p : WordPair). 2 * w + p.first + p.second) told in
+      let told : pair_at w (take (2 * w) at) ≡ record { first = k; second = v } = prefix_pair w (2 * w) at refl ∙ header.told b is in
+      let needs : prefix_size w (take (2 * w) at) ≡ 2 * w + k + v = ap (λ (p : WordPair). 2 * w + p.first + p.second) told in
       walk_from-no_body w rest.place rest.end at (take (2 * w) at) (drop (2 * w) at) before (sym (take-append-drop (2 * w) at)) front (omega arith)
       (elim few [ inl a ↦ inr (omega arith) | inr a ↦ inl (omega arith) ]);
 }
@@ -76,8 +76,8 @@ split_at n q b = sym (take-append-drop n (drop q b)) ∙ ap (λ t. part q n b ++
 pair_is : (a b c d : ℕ) → a ≡ c → b ≡ d → (let p : WordPair = record { first = a; second = b } in p) ≡ record { first = c; second = d }
 pair_is a b c d e f = ap (λ x. let p : WordPair = record { first = x; second = b } in p) e ∙ ap (λ y. let p : WordPair = record { first = c; second = y } in p) f
 
--- the record of a pair stands at the front
-begins_here : (w p : ℕ) (pair : Pair) (b : List ℕ) → LiesAt w p pair → behind pair ≤ length b → pair_at w (drop p b) ≡ record { first = pair.key.len; second = pair.value.len } → Begins w (drop p b) (record_of b pair) (drop (behind pair) b)
+-- the record of a pair stands at the start
+begins_here : (w p : ℕ) (pair : Pair) (b : List ℕ) → LiesAt w p pair → behind pair ≤ length b → pair_at w (drop p b) ≡ record { first = pair.key.len; second = pair.value.len } → Begins w (drop p b) (record_in b pair) (drop (behind pair) b)
 begins_here w p pair b lies inside told =
     let here = lies.here in
     let key = lies.key in
@@ -88,7 +88,7 @@ begins_here w p pair b lies inside told =
     record {
       header = take (2 * w) (drop p b);
       long = length-part p (2 * w) b (omega arith);
-      lengths = front_pair w (2 * w) (drop p b) refl ∙ told ∙ pair_is pair.key.len pair.value.len _ _ (sym klen) (sym vlen);
+      lengths = prefix_pair w (2 * w) (drop p b) refl ∙ told ∙ pair_is pair.key.len pair.value.len _ _ (sym klen) (sym vlen);
       split = split_at (2 * w) p b
           ∙ ap (λ q. take (2 * w) (drop p b) ++ drop q b) at
           ∙ ap (λ t. take (2 * w) (drop p b) ++ t) (split_at pair.key.len pair.key.place b
@@ -101,7 +101,7 @@ pub stands : {rest : Rest} {w n : ℕ} {images : List ℕ → Type 0} (pair : Pa
 stands {rest = rest} {w = w} pair some lies inside before header = record {
   each = λ b is.
       let size = header.long b is in
-      let r : KeyValue = record_of b pair in
+      let r : KeyValue = record_in b pair in
       let begins = begins_here w rest.place pair b lies (omega arith) (header.told b is) in
       let here = lies.here in
       let key = lies.key in

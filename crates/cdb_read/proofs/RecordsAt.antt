@@ -9,9 +9,9 @@ use Rattle.cdb_form.specs.Format.Pair.{WordPair, head_size}
 use Rattle.cdb_form.specs.Format.Reading.{pair_at}
 use Rattle.cdb_form.specs.Format.Record.{KeyValue, record_bytes, record_size}
 use Rattle.cdb_form.specs.Format.Table.{entries_from}
-use Rattle.cdb_form.specs.Format.Walk.{front_size, front_record}
+use Rattle.cdb_form.specs.Format.Walk.{prefix_size, prefix_record}
 use Rattle.cdb_form.specs.Views.Pairs.{PairFits}
-use Rattle.cdb_form.proofs.Fronts.{lengths_of, Begins, front_reads}
+use Rattle.cdb_form.proofs.Prefixes.{lengths_of, Begins, prefix_reads}
 use Rattle.cdb_form.proofs.Sizes.{length-record_bytes}
 use Rattle.cdb_form.proofs.Standing.{Begins-record_bytes}
 use Rattle.cdb_read.specs.Lookup.{bytes_of, is_whole, value_span}
@@ -19,19 +19,19 @@ use Rattle.cdb_read.specs.Lookup.{bytes_of, is_whole, value_span}
 -- how a record that stands at a place reads
 pub record ReadsAt (w : ℕ) (bytes : List ℕ) (at : ℕ) (r : KeyValue) : Type 0 where
   pub whole : is_whole w bytes at ≡ true
-  pub key : (front_record w (drop at bytes)).key ≡ r.key
+  pub key : (prefix_record w (drop at bytes)).key ≡ r.key
   pub value : bytes_of bytes (value_span w bytes at) ≡ r.value
 
 reads_at : (w top : ℕ) (bytes : List ℕ) (at : ℕ) (r : KeyValue) (rest : List ℕ) → top + 1 ≡ 256 ^ w → PairFits top (lengths_of r) → drop at bytes ≡ record_bytes w r ++ rest → head_size w ≤ at → at + record_size w r ≤ length bytes → ReadsAt w bytes at r
 reads_at w top bytes at r rest top_is fit here low high =
     let begins : Begins w (drop at bytes) r rest = subst (λ b. Begins w b r rest) (sym here) (Begins-record_bytes w top r rest top_is fit) in
-    let reads = front_reads w (drop at bytes) r rest begins in
+    let reads = prefix_reads w (drop at bytes) r rest begins in
     let size = reads.size in
     let p = pair_at w (drop at bytes) in
     let sum : at + (2 * w + p.first) ≡ at + 2 * w + p.first = omega arith in
     let there : drop (2 * w + p.first) (drop at bytes) ≡ drop (at + 2 * w + p.first) bytes = drop-drop (2 * w + p.first) at bytes ∙ ap (λ n. drop n bytes) sum in
     record {
-      whole = and_from _ _ (le-leb (head_size w) at low) (le-leb (at + front_size w (drop at bytes)) (length bytes) (omega arith));
+      whole = and_from _ _ (le-leb (head_size w) at low) (le-leb (at + prefix_size w (drop at bytes)) (length bytes) (omega arith));
       key = ap (λ (q : KeyValue). q.key) reads.is;
       value = ap (take p.second) (sym there) ∙ ap (λ (q : KeyValue). q.value) reads.is;
     }

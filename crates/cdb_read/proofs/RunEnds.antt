@@ -28,7 +28,7 @@ run_of-used xs s u = let e = run_of-push xs s ∙ cond-true (is_used s) (1 + run
 pub run_of-unused : (xs : List WordPair) (s : WordPair) → is_used s ≡ false → run_of (xs ++ s ∷ []) ≡ 0
 run_of-unused xs s u = run_of-push xs s ∙ cond-false (is_used s) (1 + run_of xs) 0 u
 
--- so many elements at the front pass, exactly where as many or more pass in a row
+-- so many elements at the start pass, exactly where as many or more pass in a row
 run_passes : {X : Type 0} (u : X → Bool) (d : ℕ) (xs : List X) → d ≤ length xs → nat_le d (prefix_len u xs) ≡ list_all u (take d xs)
 run_passes u zero xs l = le-leb 0 (prefix_len u xs) (omega arith)
 run_passes u (suc d) [] l = absurd (omega arith)

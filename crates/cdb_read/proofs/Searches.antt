@@ -54,14 +54,14 @@ none_left w b key probe none =
     ∙ found_at-none w b key
 
 -- in each image a slot is that of a probe
-pub record IsTurnSlot (w : ℕ) (probe : Probe) (slot : WordPair) (images : List ℕ → Type 0) : Type 0 where
+pub record IsProbeSlot (w : ℕ) (probe : Probe) (slot : WordPair) (images : List ℕ → Type 0) : Type 0 where
   pub each : (b : List ℕ) → images b → slot ≡ probe_slot w b probe
 
 fewer_probes : (left slots : ℕ) → 0 < left → left ≤ slots → left - 1 < slots
 fewer_probes left slots some within = omega arith
 
 -- an empty slot
-pub step_empty : {w size : ℕ} {images : List ℕ → Type 0} (key : List ℕ) (probe : Probe) (slot : WordPair) → ProbeInside w size probe → 0 < probe.left → IsTurnSlot w probe slot images → slot.second ≡ 0 → StepsFrom w key probe step.Empty images
+pub step_empty : {w size : ℕ} {images : List ℕ → Type 0} (key : List ℕ) (probe : Probe) (slot : WordPair) → ProbeInside w size probe → 0 < probe.left → IsProbeSlot w probe slot images → slot.second ≡ 0 → StepsFrom w key probe step.Empty images
 step_empty {w = w} key probe slot inside some is_slot empty = record {
   each = λ b is.
       let p = pointer_pair probe.table in
@@ -73,7 +73,7 @@ step_empty {w = w} key probe slot inside some is_slot empty = record {
 }
 
 -- a slot with another hash
-pub step_other : {w size : ℕ} {images : List ℕ → Type 0} (key : List ℕ) (probe : Probe) (slot : WordPair) → ProbeInside w size probe → 0 < probe.left → IsTurnSlot w probe slot images → slot.second ≢ 0 → slot.first ≢ key_hash key → StepsFrom w key probe step.Passed images
+pub step_other : {w size : ℕ} {images : List ℕ → Type 0} (key : List ℕ) (probe : Probe) (slot : WordPair) → ProbeInside w size probe → 0 < probe.left → IsProbeSlot w probe slot images → slot.second ≢ 0 → slot.first ≢ key_hash key → StepsFrom w key probe step.Passed images
 step_other {w = w} key probe slot inside some is_slot used other = record {
   each = λ b is.
       let p = pointer_pair probe.table in
@@ -99,17 +99,17 @@ hash_ahead w b key probe slot low some within is used same =
     (ap (has_hash h) (sym is) ∙ eq-eqb slot.first h same))
     ∙ ap (λ (s : WordPair). found_at w b key (s.second ∷ map (λ (t : WordPair). t.second) rest)) (sym is)
 
-pub step_broken : {w size : ℕ} {images : List ℕ → Type 0} (key : List ℕ) (probe : Probe) (slot : WordPair) → ProbeInside w size probe → 0 < probe.left → IsTurnSlot w probe slot images → slot.second ≢ 0 → slot.first ≡ key_hash key → LooksAt w key slot.second look.Broken images → StepsFrom w key probe (step.Broken slot.second) images
+pub step_broken : {w size : ℕ} {images : List ℕ → Type 0} (key : List ℕ) (probe : Probe) (slot : WordPair) → ProbeInside w size probe → 0 < probe.left → IsProbeSlot w probe slot images → slot.second ≢ 0 → slot.first ≡ key_hash key → LooksAt w key slot.second look.Broken images → StepsFrom w key probe (step.Broken slot.second) images
 step_broken {w = w} key probe slot inside some is_slot used same looks = record {
   each = λ b is. hash_ahead w b key probe slot inside.slot some inside.left (is_slot.each b is) used same ∙ found_at-broken w b key slot.second _ (looks.each b is);
 }
 
-pub step_passed : {w size : ℕ} {images : List ℕ → Type 0} (key : List ℕ) (probe : Probe) (slot : WordPair) → ProbeInside w size probe → 0 < probe.left → IsTurnSlot w probe slot images → slot.second ≢ 0 → slot.first ≡ key_hash key → LooksAt w key slot.second look.Other images → StepsFrom w key probe step.Passed images
+pub step_passed : {w size : ℕ} {images : List ℕ → Type 0} (key : List ℕ) (probe : Probe) (slot : WordPair) → ProbeInside w size probe → 0 < probe.left → IsProbeSlot w probe slot images → slot.second ≢ 0 → slot.first ≡ key_hash key → LooksAt w key slot.second look.Other images → StepsFrom w key probe step.Passed images
 step_passed {w = w} key probe slot inside some is_slot used same looks = record {
   each = λ b is. hash_ahead w b key probe slot inside.slot some inside.left (is_slot.each b is) used same ∙ found_at-other w b key slot.second _ (looks.each b is).0 (looks.each b is).1 ∙ sym (ahead_is w b key (next_probe probe));
 }
 
-pub step_value : {w size : ℕ} {images : List ℕ → Type 0} (key : List ℕ) (probe : Probe) (slot : WordPair) (span : Span) → ProbeInside w size probe → 0 < probe.left → IsTurnSlot w probe slot images → slot.second ≢ 0 → slot.first ≡ key_hash key → LooksAt w key slot.second (look.Value span) images → StepsFrom w key probe (step.Value span) images
+pub step_value : {w size : ℕ} {images : List ℕ → Type 0} (key : List ℕ) (probe : Probe) (slot : WordPair) (span : Span) → ProbeInside w size probe → 0 < probe.left → IsProbeSlot w probe slot images → slot.second ≢ 0 → slot.first ≡ key_hash key → LooksAt w key slot.second (look.Value span) images → StepsFrom w key probe (step.Value span) images
 unfolding found_at met_of
 step_value {w = w} key probe slot span inside some is_slot used same looks = record {
   each = λ b is.
@@ -118,7 +118,7 @@ step_value {w = w} key probe slot span inside some is_slot used same looks = rec
       ∙ ap (λ (s : Span). with_span s (found_ahead w b key (At (next_probe probe)))) (sym tells.2);
 }
 
-pub fewer_slots : {w : ℕ} {probe : Probe} {slot : WordPair} {old new : List ℕ → Type 0} → ((b : List ℕ) → new b → old b) → IsTurnSlot w probe slot old → IsTurnSlot w probe slot new
+pub fewer_slots : {w : ℕ} {probe : Probe} {slot : WordPair} {old new : List ℕ → Type 0} → ((b : List ℕ) → new b → old b) → IsProbeSlot w probe slot old → IsProbeSlot w probe slot new
 fewer_slots few is_slot = record { each = λ b is. is_slot.each b (few b is) }
 
 -- in each image, two probes are to give the same

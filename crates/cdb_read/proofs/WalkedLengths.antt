@@ -16,7 +16,7 @@ use Rattle.cdb_read.specs.Views.Lengths.{HasLengths, LengthsFail}
 pub use Rattle.cdb_store.proofs.Reading.{reads_nothing}
 use Rattle.cdb_store.specs.Reads.{OnlyReads}
 use Rattle.cdb_read.specs.Views.Walk.{left_of, WalkingFails}
-use Rattle.cdb_read.specs.Views.Walking.{record_of, behind, LiesAt}
+use Rattle.cdb_read.specs.Views.Walking.{record_in, behind, LiesAt}
 use Rattle.cdb_read.specs.declared.fault.ReadFault.{ReadFault}
 use Rattle.cdb_read.specs.declared.fault.ReadFault.TheVariants.{Short, Table, Record, Slot, Twice, Unindexed, Device, NoMemory, Output}
 use Rattle.cdb_read.specs.declared.walking.records.Walk.{Walk}
@@ -39,10 +39,10 @@ walked_none w b left keys values is no_keys no_values = record { done = []; all 
 pub length_of : (b : List ℕ) (span : Span) → span.place + span.len ≤ length b → length (bytes_of b span) ≡ span.len
 length_of b span inside = length-part span.place span.len b inside
 
-pub walked_more : (w place : ℕ) (b : List ℕ) (old new : Walked) (keys values keys_now values_now : Spread) (pair : Pair) → WalkedSoFar w b old keys values → old ≡ with_first (record_of b pair) new → LiesAt w place pair → behind pair ≤ length b
+pub walked_more : (w place : ℕ) (b : List ℕ) (old new : Walked) (keys values keys_now values_now : Spread) (pair : Pair) → WalkedSoFar w b old keys values → old ≡ with_first (record_in b pair) new → LiesAt w place pair → behind pair ≤ length b
     → ((ns : List ℕ) → Spreads keys ns → Spreads keys_now (ns ++ pair.key.len ∷ [])) → ((ns : List ℕ) → Spreads values ns → Spreads values_now (ns ++ pair.value.len ∷ [])) → WalkedSoFar w b new keys_now values_now
 walked_more w place b old new keys values keys_now values_now pair so_far first lies inside add_key add_value =
-    let r = record_of b pair in
+    let r = record_in b pair in
     let done = so_far.done in
     let after = lies.value in
     let key : length (bytes_of b pair.key) ≡ pair.key.len = length_of b pair.key (omega arith) in

@@ -8,7 +8,7 @@ use Rattle.cdb_form.specs.Format.Hash.{key_hash, table_number, home_slot}
 use Rattle.cdb_form.specs.Format.Pair.{WordPair, pair_size, head_size}
 use Rattle.cdb_form.specs.Format.Reading.{pair_at, nth_pair}
 use Rattle.cdb_form.specs.Format.Table.{is_used, slots_from}
-use Rattle.cdb_form.specs.Format.Walk.{front_size, front_record, has_slots}
+use Rattle.cdb_form.specs.Format.Walk.{prefix_size, prefix_record, has_slots}
 use Rattle.cdb_form.specs.declared.damage.Damage.{Damage}
 use Rattle.cdb_form.specs.declared.damage.Damage.TheVariants.{Table, Record}
 use Rattle.cdb_read.specs.declared.span.Span.{Span}
@@ -20,11 +20,11 @@ bytes_of bytes s = take s.len (drop s.place bytes)
 -- whether the record at a place stands behind the head and inside the file
 abbrev pub is_whole : ℕ → List ℕ → ℕ → Bool
 is_whole w bytes place =
-    nat_le (head_size w) place && nat_le (place + front_size w (drop place bytes)) (length bytes)
+    nat_le (head_size w) place && nat_le (place + prefix_size w (drop place bytes)) (length bytes)
 
 -- whether it has a key
 abbrev pub has_key : ℕ → List ℕ → List ℕ → ℕ → Bool
-has_key w bytes key place = bytes_eq (front_record w (drop place bytes)).key key
+has_key w bytes key place = bytes_eq (prefix_record w (drop place bytes)).key key
 
 -- where its value lies
 abbrev pub value_span : ℕ → List ℕ → ℕ → Span

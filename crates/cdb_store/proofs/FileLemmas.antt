@@ -25,21 +25,21 @@ gave_long len pos bytes u e long = rw e (record { each = λ b is. long.each b (u
 pub refused : {c d : Calls} → d ≡ (Refused, []) ∷ c → Untouched c d
 refused {c = c} e = rw e (record { same = record { no_other = λ b is. is; none_lost = λ b is. is }; syncs = refl; written = refl; later = omega arith; known = refl })
 
-part_front : (pos n len : ℕ) (a : List ℕ) → pos + n ≤ len → part pos n (take len a) ≡ part pos n a
-part_front pos n len a inside = part_from_take pos n (pos + n) a (take len a) refl (take-take (pos + n) len a inside)
+part_prefix : (pos n len : ℕ) (a : List ℕ) → pos + n ≤ len → part pos n (take len a) ≡ part pos n a
+part_prefix pos n len a inside = part_from_take pos n (pos + n) a (take len a) refl (take-take (pos + n) len a inside)
 
 -- bytes that came were given back
 pub file_gave : (pos len : ℕ) (bytes : List ℕ) {c d e : Calls} → pos + length bytes ≤ len → Untouched c d → e ≡ (Gave pos, bytes) ∷ d
     → AfterRead pos bytes (FileImage len c) (FileImage len e)
 file_gave pos len bytes inside u e = rw e (record {
   no_other = λ b is. (is.0, u.same.no_other is.0 is.1.0, is.2, is.3);
-  read = λ b is. ap (part pos (length bytes)) is.3 ∙ part_front pos (length bytes) len is.0 inside ∙ is.1.1;
-  none_lost = λ b is h. (is.0, (u.same.none_lost is.0 is.1, sym (part_front pos (length bytes) len is.0 inside) ∙ ap (part pos (length bytes)) (sym is.3) ∙ h), is.2, is.3);
+  read = λ b is. ap (part pos (length bytes)) is.3 ∙ part_prefix pos (length bytes) len is.0 inside ∙ is.1.1;
+  none_lost = λ b is h. (is.0, (u.same.none_lost is.0 is.1, sym (part_prefix pos (length bytes) len is.0 inside) ∙ ap (part pos (length bytes)) (sym is.3) ∙ h), is.2, is.3);
 })
 
--- the front of a list that was overwritten
-front_overwrite : (pos len : ℕ) (a ys : List ℕ) → pos ≤ len → len ≤ length a → take (max len (pos + length ys)) (overwrite a pos ys) ≡ overwrite (take len a) pos ys
-front_overwrite pos len a ys before inside =
+-- the start of a list that was overwritten
+prefix_overwrite : (pos len : ℕ) (a ys : List ℕ) → pos ≤ len → len ≤ length a → take (max len (pos + length ys)) (overwrite a pos ys) ≡ overwrite (take len a) pos ys
+prefix_overwrite pos len a ys before inside =
     let k : ℕ = length ys in
     let most : ℕ = max len (pos + k) in
     let m : ℕ = most - (pos + k) in
@@ -62,11 +62,11 @@ pub file_put : (pos len : ℕ) (bytes : List ℕ) {c d : Calls} → pos ≤ len 
 file_put pos len bytes inside long w = record {
   no_other = λ b is. let h = w.no_other is.0 is.1 in
       let l : len ≤ length h.0 = long.each h.0 h.1 in
-      (take len h.0, (h.0, h.1, l, refl), is.3 ∙ ap (take (max len (pos + length bytes))) h.3 ∙ front_overwrite pos len h.0 bytes inside l);
+      (take len h.0, (h.0, h.1, l, refl), is.3 ∙ ap (take (max len (pos + length bytes))) h.3 ∙ prefix_overwrite pos len h.0 bytes inside l);
   none_lost = λ x is.
       let l : len ≤ length is.0 = is.2 in
       let n : length (overwrite is.0 pos bytes) ≡ max (length is.0) (pos + length bytes) = length-overwrite pos is.0 bytes (omega arith) in
-      (overwrite is.0 pos bytes, w.none_lost is.0 is.1 (omega arith), omega arith, ap (λ v. overwrite v pos bytes) is.3 ∙ sym (front_overwrite pos len is.0 bytes inside l));
+      (overwrite is.0 pos bytes, w.none_lost is.0 is.1 (omega arith), omega arith, ap (λ v. overwrite v pos bytes) is.3 ∙ sym (prefix_overwrite pos len is.0 bytes inside l));
 }
 
 pub put_long : (pos len : ℕ) (bytes : List ℕ) {c d : Calls} → pos ≤ len → AreAtLeast len c → AfterPut pos bytes c d → AreAtLeast (max len (pos + length bytes)) d
@@ -77,8 +77,8 @@ put_long pos len bytes inside long w = record {
       omega arith;
 }
 
-torn_front : (pos n len left : ℕ) (a y : List ℕ) → pos ≤ len → len ≤ left → left ≤ max len (pos + n) → Torn pos n a y → Torn pos n (take len a) (take left y)
-torn_front pos n len left a y inside longer not_past t = record {
+torn_prefix : (pos n len left : ℕ) (a y : List ℕ) → pos ≤ len → len ≤ left → left ≤ max len (pos + n) → Torn pos n a y → Torn pos n (take len a) (take left y)
+torn_prefix pos n len left a y inside longer not_past t = record {
   before = take-take pos left y (omega arith) ∙ t.before ∙ sym (take-take pos len a inside);
   after = elim (cases_lt len (pos + n)) [
     | inl h ↦ short left y (omega arith) ∙ sym (short len a (omega arith))
@@ -97,12 +97,12 @@ pub file_torn : (pos n len left : ℕ) {c d : Calls} → pos ≤ len → len ≤
 file_torn pos n len left inside longer not_past long w = record {
   no_other = λ b is. let h = w.no_other is.0 is.1 in
       let l : len ≤ length h.0 = long.each h.0 h.1 in
-      (take len h.0, (h.0, h.1, l, refl), subst (λ (z : List ℕ). Torn pos n (take len h.0) z) (sym is.3) (torn_front pos n len left h.0 is.0 inside longer not_past h.3));
+      (take len h.0, (h.0, h.1, l, refl), subst (λ (z : List ℕ). Torn pos n (take len h.0) z) (sym is.3) (torn_prefix pos n len left h.0 is.0 inside longer not_past h.3));
   none_lost = λ x is.
       let l : len ≤ length is.0 = is.2 in
       let h = w.none_lost is.0 is.1 (omega arith) in
       let far : max (length is.0) (pos + n) ≤ length h.0 = h.2 in
-      (take left h.0, (h.0, h.1, omega arith, refl), subst (λ (z : List ℕ). Torn pos n z (take left h.0)) (sym is.3) (torn_front pos n len left is.0 h.0 inside longer not_past h.3));
+      (take left h.0, (h.0, h.1, omega arith, refl), subst (λ (z : List ℕ). Torn pos n z (take left h.0)) (sym is.3) (torn_prefix pos n len left is.0 h.0 inside longer not_past h.3));
 }
 
 -- the length that is told is one that the images can have

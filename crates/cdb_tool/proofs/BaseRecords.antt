@@ -24,7 +24,7 @@ use Rattle.cdb_make.proofs.Makers.{held_size}
 use Rattle.cdb_read.specs.Lookup.{bytes_of}
 use Rattle.cdb_read.specs.Views.Reads.{OpeningFails}
 use Rattle.cdb_read.specs.Views.Walk.{left_of, WalkingFails}
-use Rattle.cdb_read.specs.Views.Walking.{record_of}
+use Rattle.cdb_read.specs.Views.Walking.{record_in}
 use Rattle.cdb_read.specs.declared.fault.ReadFault.{ReadFault}
 use Rattle.cdb_read.specs.declared.fault.ReadFault.TheVariants as read
 use Rattle.cdb_read.specs.declared.walking.records.Walk.{Walk}
@@ -101,12 +101,12 @@ window_added w images left rest m now xs bytes n k few is given x = record {
 }
 
 -- the next record was
-pub one_added : {S L : Type 0} {s : Ghosts S} {l : Widths L} (w : ℕ) (images : List ℕ → Type 0) (left rest : List ℕ → Walked) (m now : Maker S L s l) (pair : Pair) (k v : List ℕ) (put : Put) → ((b : List ℕ) → images b → left b ≡ with_first (record_of b pair) (rest b))
+pub one_added : {S L : Type 0} {s : Ghosts S} {l : Widths L} (w : ℕ) (images : List ℕ → Type 0) (left rest : List ℕ → Walked) (m now : Maker S L s l) (pair : Pair) (k v : List ℕ) (put : Put) → ((b : List ℕ) → images b → left b ≡ with_first (record_in b pair) (rest b))
     → ((b : List ℕ) → images b → k ≡ bytes_of b pair.key) → ((b : List ℕ) → images b → v ≡ bytes_of b pair.value) → Puts m now Add (record { key = k; value = v }) put → AddsNext w images left rest m now true
 one_added w images left rest m now pair k v put given key value puts = record {
   records = record { key = k; value = v } ∷ [];
   given = λ b i.
-      let r : KeyValue = record_of b pair in
+      let r : KeyValue = record_in b pair in
       let is : KeyValue = record { key = k; value = v } in
       let same : is ≡ r = let e = key b i in let f = value b i in cc in
       given b i ∙ ap (λ q. with_records (q ∷ []) (rest b)) (sym same);
@@ -164,9 +164,9 @@ size_grows w rs (r ∷ more) =
     let rest = subst (λ v. file_size w (rs ++ r ∷ []) ≤ file_size w v) (append_assoc rs (r ∷ []) more) (size_grows w (rs ++ r ∷ []) more) in
     omega (arith, one, rest)
 
--- a front of what is left passes the limit
-front_passes : (w limit : ℕ) (rs front later : List KeyValue) (rest left : Walked) → left ≡ with_records (front ++ later) rest → limit < file_size w (rs ++ front) → limit < file_size w (rs ++ left.records)
-front_passes w limit rs front later rest left is large =
+-- a prefix of what is left passes the limit
+prefix_passes : (w limit : ℕ) (rs front later : List KeyValue) (rest left : Walked) → left ≡ with_records (front ++ later) rest → limit < file_size w (rs ++ front) → limit < file_size w (rs ++ left.records)
+prefix_passes w limit rs front later rest left is large =
     let grows = size_grows w (rs ++ front) (later ++ rest.records) in
     let all : rs ++ left.records ≡ (rs ++ front) ++ (later ++ rest.records) = ap (λ (v : Walked). rs ++ v.records) is ∙ ap (λ t. rs ++ t) (append_assoc front later rest.records) ∙ sym (append_assoc rs front (later ++ rest.records)) in
     let same = ap (file_size w) all in
@@ -179,7 +179,7 @@ unappended_so rs more left rest m now make.Lookup all x holds a j = absurd x
 unappended_so {l = l} rs more left rest m now make.TooBig all x holds a j =
     let some = x.0 in
     let split : more ≡ (some.done ++ some.next ∷ []) ++ some.later = some.all ∙ sym (append_assoc some.done (some.next ∷ []) some.later) in
-    front_passes l.WORD (limit_of m) rs (some.done ++ some.next ∷ []) some.later rest left (all ∙ ap (λ v. with_records v rest) split) ((some.why rs holds).each a j)
+    prefix_passes l.WORD (limit_of m) rs (some.done ++ some.next ∷ []) some.later rest left (all ∙ ap (λ v. with_records v rest) split) ((some.why rs holds).each a j)
 unappended_so rs more left rest m now make.NoMemory all x holds a j = tt
 unappended_so rs more left rest m now make.Writing all x holds a j = tt
 
@@ -194,16 +194,16 @@ unadded_so : {S L : Type 0} {s : Ghosts S} {l : Widths L} (rs : List KeyValue) (
     → NotAdded l.WORD (limit_of m) (with_records rs left) (make_fault f)
 unadded_so rs r left rest m now make.Broken all x holds a j = absurd (x.cause rs holds a j)
 unadded_so rs r left rest m now make.Lookup all x holds a j = absurd (x.2 refl)
-unadded_so {l = l} rs r left rest m now make.TooBig all x holds a j = front_passes l.WORD (limit_of m) rs (r ∷ []) [] rest left all ((x.1 rs holds).each a j)
+unadded_so {l = l} rs r left rest m now make.TooBig all x holds a j = prefix_passes l.WORD (limit_of m) rs (r ∷ []) [] rest left all ((x.1 rs holds).each a j)
 unadded_so rs r left rest m now make.NoMemory all x holds a j = tt
 unadded_so rs r left rest m now make.Writing all x holds a j = tt
 
-pub one_stopped : {S L : Type 0} {s : Ghosts S} {l : Widths L} (images : List ℕ → Type 0) (left rest : List ℕ → Walked) (m now : Maker S L s l) (pair : Pair) (k v : List ℕ) (f : MakeFault) → ((b : List ℕ) → images b → left b ≡ with_first (record_of b pair) (rest b))
+pub one_stopped : {S L : Type 0} {s : Ghosts S} {l : Widths L} (images : List ℕ → Type 0) (left rest : List ℕ → Walked) (m now : Maker S L s l) (pair : Pair) (k v : List ℕ) (f : MakeFault) → ((b : List ℕ) → images b → left b ≡ with_first (record_in b pair) (rest b))
     → ((b : List ℕ) → images b → k ≡ bytes_of b pair.key) → ((b : List ℕ) → images b → v ≡ bytes_of b pair.value) → FailsPutting m now Add (record { key = k; value = v }) f
     → (rs : List KeyValue) → Holds m rs → (b : List ℕ) → images b → WhereHonest (s.image now.store) (NotAdded l.WORD (limit_of m) (with_records rs (left b)) (make_fault f))
 one_stopped images left rest m now pair k v f given key value x rs holds b i = record {
   each = λ a j.
-      let r : KeyValue = record_of b pair in
+      let r : KeyValue = record_in b pair in
       let is : KeyValue = record { key = k; value = v } in
       let same : is ≡ r = let e = key b i in let g = value b i in cc in
       unadded_so rs is (left b) (rest b) m now f (given b i ∙ ap (λ q. with_first q (rest b)) (sym same)) x holds a j;

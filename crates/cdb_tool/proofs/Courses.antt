@@ -10,8 +10,8 @@ use Rattle.cdb_form.specs.declared.width.Width.{Ghosts as Widths}
 use Rattle.cdb_form.specs.Format.Record.{KeyValue}
 use Rattle.cdb_form.specs.Format.File.{file_size}
 use Rattle.cdb_form.specs.Text.Amending.{Change, Putting, Removing}
-use Rattle.cdb_form.specs.Views.KnownBytes.{AppendsFront}
-use Rattle.cdb_form.proofs.WritingLemmas.{appends_then, front_then}
+use Rattle.cdb_form.specs.Views.KnownBytes.{AppendsPrefix}
+use Rattle.cdb_form.proofs.WritingLemmas.{appends_then, prefix_then}
 use Rattle.cdb_make.specs.Survivors.{put_list, put_answer, fits}
 use Rattle.cdb_make.specs.Views.Batch.{Holds, Held, StaysWhole, Puts, WouldPut, FailsPutting, Removes, FailsRemoving, limit_of, count_in, IsUsable}
 use Rattle.cdb_make.specs.Views.Maker.{WhereHonest, ComesFrom}
@@ -116,7 +116,7 @@ told_so t cs i n r start mid end m put Open b p x = absurd x
 told_so t cs i n r start mid end m put Rename b p x = absurd x
 told_so t cs i n r start mid end m put NoMemory b p x = absurd x
 told_so {l = l} t cs i n r start mid end m put Output b p x =
-    subst (λ s. AppendsFront start end s.lines) (sym p.is) (front_then start mid end (course_of l.WORD t cs).lines (said t.options i n (Ok put)) [] _ p.goes.lines x (ap (λ u. (course_of l.WORD t cs).lines ++ u) (sym (append-nil _))))
+    subst (λ s. AppendsPrefix start end s.lines) (sym p.is) (prefix_then start mid end (course_of l.WORD t cs).lines (said t.options i n (Ok put)) [] _ p.goes.lines x (ap (λ u. (course_of l.WORD t cs).lines ++ u) (sym (append-nil _))))
 told_so t cs i n r start mid end m put Duplicate b p x = record {
   before = cs;
   last = putting i n r;

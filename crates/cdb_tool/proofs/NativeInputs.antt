@@ -43,8 +43,8 @@ spelling g (r ∷ rs) t mid (first, more, sp, e, reads) =
     }
 
 -- these records were lost with their spelling, which is so long
-pub front_of : (g : ℕ) (rs : List KeyValue) (t mid : List ℕ) → Spelled g rs t mid → (front : List ℕ) × (t ≡ front ++ mid)
-front_of g rs t mid sp = let s = spelling g rs t mid sp in (s.front, s.split)
+pub prefix_of : (g : ℕ) (rs : List KeyValue) (t mid : List ℕ) → Spelled g rs t mid → (front : List ℕ) × (t ≡ front ++ mid)
+prefix_of g rs t mid sp = let s = spelling g rs t mid sp in (s.front, s.split)
 
 part_fails : (g from to k : ℕ) (t mid : List ℕ) (rs : List KeyValue) → Spelled g rs t mid → from + length mid ≡ length t → to ≡ from + k → k ≤ length mid
     → HasFault g from (take (to - from) mid) (Ended to) → HasNoRecord g (take (to - from) mid) → HasFaultBehind Spells g (take to t) rs (Ended to)

@@ -10,9 +10,9 @@ use Rattle.cdb_form.specs.declared.width.Width.{Ghosts as Widths}
 use Rattle.cdb_form.specs.declared.damage.Damage.{Damage}
 use Rattle.cdb_form.specs.declared.damage.Damage.TheVariants as damage
 use Rattle.cdb_form.specs.Format.Pair.{head_size}
-use Rattle.cdb_form.specs.Views.KnownBytes.{AppendsFront}
-use Rattle.cdb_form.proofs.WritingLemmas.{appends_then, front_then}
-use Rattle.cdb_form.proofs.WritingLemmas.{front_last}
+use Rattle.cdb_form.specs.Views.KnownBytes.{AppendsPrefix}
+use Rattle.cdb_form.proofs.WritingLemmas.{appends_then, prefix_then}
+use Rattle.cdb_form.proofs.WritingLemmas.{prefix_last}
 use Rattle.cdb_read.specs.Lookup.{Found, bytes_of, lookup_of, with_spans}
 use Rattle.cdb_read.specs.Views.Finder.{left_in, GivesSpan, FindingFails}
 use Rattle.cdb_store.specs.Reads.{OnlyReads}
@@ -24,7 +24,7 @@ use Rattle.cdb_read.specs.declared.lookup.finder.Finder.{Finder}
 use Rattle.cdb_read.specs.declared.span.Span.{Span}
 use Rattle.cdb_store.proofs.Reading.{reads_more}
 use Rattle.cdb_tool.specs.Views.Fault.{read_fault}
-use Rattle.cdb_tool.specs.Runs.Query.{Query, asked_of, value_text, values_text, spans_text, query_text, has_asked, why_missing, found_answer, query_answer, Answers, WritesFront, QueryFails, Queries, WritesAll, in_hand, WritesSome, WritesEach, LeftFails}
+use Rattle.cdb_tool.specs.Runs.Query.{Query, asked_of, value_text, values_text, spans_text, query_text, has_asked, why_missing, found_answer, query_answer, Answers, WritesPrefix, QueryFails, Queries, WritesAll, in_hand, WritesSome, WritesEach, LeftFails}
 use Rattle.cdb_tool.specs.declared.fault.Fault.{Fault}
 use Rattle.cdb_tool.specs.declared.fault.Fault.TheVariants.{Text, Make, Duplicate, Missing, Read, Walk, Output, Long, Open, Rename, NoMemory}
 use Rattle.cdb_tool.proofs.Courses.{appends_none}
@@ -95,8 +95,8 @@ nth_one lines b spans rest span number count =
     ∙ append-nil (value_text lines (bytes_of b span))
 
 -- nothing was written yet
-pub none_front : (start now : Option (List ℕ)) (text : List ℕ) → Appends start now [] → AppendsFront start now text
-none_front start now text h = record { front = []; more = text; split = refl; appended = h }
+pub none_prefix : (start now : Option (List ℕ)) (text : List ℕ) → Appends start now [] → AppendsPrefix start now text
+none_prefix start now text h = record { front = []; more = text; split = refl; appended = h }
 
 -- ---- how a query ends
 
@@ -115,7 +115,7 @@ handed_back {w = w} {s = s} {q = q} {old = old} {start = start} {now = now} {ans
 
 -- a value was not written whole
 copying_fault : {S : Type 0} (w : ℕ) (s : Ghosts S) (q : Query) (old mid new : S) (start now : Option (List ℕ)) (f : ReadFault) → OnlyReads s old mid → OnlyReads s mid new → head_size w ≤ s.size old → CopyingFails s mid new f
-    → WritesFront w s q new start now → QueryFails w s q old new start now (read_fault f)
+    → WritesPrefix w s q new start now → QueryFails w s q old new start now (read_fault f)
 copying_fault w s q old mid new start now read.Device before reads long fails front = (let p = before.failures in omega (arith, p, fails), front)
 copying_fault w s q old mid new start now read.Output before reads long fails front = (still_long w (reads_more before reads) long, front)
 copying_fault w s q old mid new start now read.Short before reads long fails front = absurd fails
@@ -127,7 +127,7 @@ copying_fault w s q old mid new start now (read.Unindexed place) before reads lo
 copying_fault w s q old mid new start now read.NoMemory before reads long fails front = absurd fails
 
 pub copying_fails : {S : Type 0} (w : ℕ) (s : Ghosts S) (q : Query) (old mid new : S) (start now : Option (List ℕ)) (f : ReadFault) → OnlyReads s old mid → OnlyReads s mid new → head_size w ≤ s.size old → CopyingFails s mid new f
-    → ((b : List ℕ) → s.image new b → AppendsFront start now (query_text w b q)) → Queries w s q old new start now (Err (read_fault f))
+    → ((b : List ℕ) → s.image new b → AppendsPrefix start now (query_text w b q)) → Queries w s q old new start now (Err (read_fault f))
 copying_fails w s q old mid new start now f before reads long fails front =
     record { reads = reads_more before reads; ok = tt; err = copying_fault w s q old mid new start now f before reads long fails (record { written = front }) }
 
@@ -171,8 +171,8 @@ ends_all w lines old t u start now any damage h reads none = record {
 }
 
 -- no value is in hand
-nothing_in_hand : (now : Option (List ℕ)) → AppendsFront now now []
-nothing_in_hand now = none_front now now [] (appends_none now)
+nothing_in_hand : (now : Option (List ℕ)) → AppendsPrefix now now []
+nothing_in_hand now = none_prefix now now [] (appends_none now)
 
 pub finding_fails : {S L : Type 0} {s : Ghosts S} {l : Widths L} (w : ℕ) (lines : Bool) (old t u : Finder S L s l) (start now : Option (List ℕ)) (any : Bool) (f : ReadFault) → WrittenSoFar w (λ b. left_in w b old) lines old.reader.now.store t start now any
     → OnlyReads s t.reader.now.store u.reader.now.store → u.key.now ≡ t.key.now → FindingFails w t u f → LeftFails w lines old u start now (read_fault f)
@@ -201,7 +201,7 @@ finding_fails w lines old t u start now any read.Output h reads same fails = abs
 -- a value was not written whole
 pub value_fails : {S L : Type 0} {s : Ghosts S} {l : Widths L} (w : ℕ) (lines : Bool) (old t u : Finder S L s l) (start mid now : Option (List ℕ)) (spans : List Span) (span : Span) (f : ReadFault) → FoundSoFar w (λ b. left_in w b old) old.reader.now.store u (spans ++ span ∷ [])
     → s.failures old.reader.now.store ≤ s.failures t.reader.now.store → CopyingFails s t.reader.now.store u.reader.now.store f → ((b : List ℕ) → s.image u.reader.now.store b → Appends start mid (values_text lines b spans))
-    → ((b : List ℕ) → s.image u.reader.now.store b → AppendsFront mid now (value_text lines (bytes_of b span))) → LeftFails w lines old u start now (read_fault f)
+    → ((b : List ℕ) → s.image u.reader.now.store b → AppendsPrefix mid now (value_text lines (bytes_of b span))) → LeftFails w lines old u start now (read_fault f)
 value_fails {s = s} w lines old t u start mid now spans span f found before fails whole front = by f fails
   where
     some : WritesSome w lines old u start now
@@ -211,7 +211,7 @@ value_fails {s = s} w lines old t u start mid now spans span f found before fail
       before = mid;
       given = found.first;
       written = whole;
-      front = λ b is. subst (AppendsFront mid now) (sym (append-nil (value_text lines (bytes_of b span)))) (front b is);
+      front = λ b is. subst (AppendsPrefix mid now) (sym (append-nil (value_text lines (bytes_of b span)))) (front b is);
     }
 
     by : (f : ReadFault) → CopyingFails s t.reader.now.store u.reader.now.store f → LeftFails w lines old u start now (read_fault f)
@@ -243,10 +243,10 @@ module _ {S L : Type 0} {s : Ghosts S} {l : Widths L} (w : ℕ) (key : List ℕ)
     written = λ b is. subst (λ f. Appends start now (values_text lines b f.spans)) (sym (looked_up b is ∙ h.given b is)) (h.written b is);
   }
 
-  some_front : WritesSome w lines t u start now → WritesFront w s (all_of key lines) u.reader.now.store start now
-  some_front h = record {
+  some_prefix : WritesSome w lines t u start now → WritesPrefix w s (all_of key lines) u.reader.now.store start now
+  some_prefix h = record {
     written = λ b is.
-        front_then start h.before now _ _ _ _ (h.written b is) (h.front b is)
+        prefix_then start h.before now _ _ _ _ (h.written b is) (h.front b is)
         (text_is w b (all_of key lines) _ (looked_up b is ∙ h.given b is)
         ∙ text_append lines b (h.spans ++ in_hand h.hand) (left_in w b u).spans
         ∙ ap (λ t. t ++ values_text lines b (left_in w b u).spans) (text_append lines b h.spans (in_hand h.hand))
@@ -261,8 +261,8 @@ module _ {S L : Type 0} {s : Ghosts S} {l : Widths L} (w : ℕ) (key : List ℕ)
   left_fault Missing h = answers [] None _ h.1 refl
   left_fault (Read (read.Table n)) h = answers h.1.spans (Some (damage.Table n)) _ h.1.all refl
   left_fault (Read (read.Record place)) h = answers h.1.spans (Some (damage.Record place)) _ h.1.all refl
-  left_fault (Read read.Device) h = (subst (λ x. s.failures x < s.failures u.reader.now.store) same h.0, some_front h.1)
-  left_fault Output h = (still_long w read_from long, some_front h)
+  left_fault (Read read.Device) h = (subst (λ x. s.failures x < s.failures u.reader.now.store) same h.0, some_prefix h.1)
+  left_fault Output h = (still_long w read_from long, some_prefix h)
   left_fault (Read read.Short) h = absurd h
   left_fault (Read (read.Slot n i)) h = absurd h
   left_fault (Read (read.Twice place)) h = absurd h
@@ -332,6 +332,6 @@ nth_written w key lines old u number start mid now spans span found count long k
   err = tt;
 }
 
-pub nth_front : {S L : Type 0} {s : Ghosts S} {l : Widths L} (w : ℕ) (key : List ℕ) (lines : Bool) (old : S) (u : Finder S L s l) (number : ℕ) (start mid now : Option (List ℕ)) (spans : List Span) (span : Span) (b : List ℕ) → FoundSoFar w (λ b. lookup_of w b key) old u (spans ++ span ∷ [])
-    → length spans + 1 ≡ number → s.image u.reader.now.store b → Appends start mid [] → AppendsFront mid now (value_text lines (bytes_of b span)) → AppendsFront start now (query_text w b (nth_of key number lines))
-nth_front w key lines old u number start mid now spans span b found count is kept front = front_last start mid now [] _ _ kept front (nth_text w key lines old u number spans span b found count is)
+pub nth_prefix : {S L : Type 0} {s : Ghosts S} {l : Widths L} (w : ℕ) (key : List ℕ) (lines : Bool) (old : S) (u : Finder S L s l) (number : ℕ) (start mid now : Option (List ℕ)) (spans : List Span) (span : Span) (b : List ℕ) → FoundSoFar w (λ b. lookup_of w b key) old u (spans ++ span ∷ [])
+    → length spans + 1 ≡ number → s.image u.reader.now.store b → Appends start mid [] → AppendsPrefix mid now (value_text lines (bytes_of b span)) → AppendsPrefix start now (query_text w b (nth_of key number lines))
+nth_prefix w key lines old u number start mid now spans span b found count is kept front = prefix_last start mid now [] _ _ kept front (nth_text w key lines old u number spans span b found count is)

@@ -10,19 +10,19 @@ use Rattle.cdb_read.specs.declared.fault.ReadFault.{ReadFault}
 use Rattle.cdb_read.specs.declared.fault.ReadFault.TheVariants as read
 use Rattle.cdb_tool.specs.Views.Fault.{read_fault}
 use Rattle.cdb_tool.specs.Runs.Flushed.{Flushed}
-use Rattle.cdb_tool.specs.Runs.Query.{Query, query_text, Answers, WritesFront, QueryFails, Queries}
+use Rattle.cdb_tool.specs.Runs.Query.{Query, query_text, Answers, WritesPrefix, QueryFails, Queries}
 use Rattle.cdb_tool.specs.declared.fault.Fault.{Fault}
 use Rattle.cdb_tool.specs.declared.fault.Fault.TheVariants.{Text, Make, Duplicate, Missing, Read, Walk, Output, Long, Open, Rename, NoMemory}
 use Rattle.cdb_tool.proofs.Courses.{appends_none}
-use Rattle.cdb_tool.proofs.Queries.{reads_none, none_front}
-use Rattle.cdb_tool.proofs.WholeRuns.{keeps_self, keeps_then, front_kept, whole_front, not_ok}
+use Rattle.cdb_tool.proofs.Queries.{reads_none, none_prefix}
+use Rattle.cdb_tool.proofs.WholeRuns.{keeps_self, keeps_then, prefix_kept, whole_prefix, not_ok}
 
 -- ---- the store was not opened
 
 pub opening_fails : {S : Type 0} (w : ℕ) (s : Ghosts S) (q : Query) (old new : S) (start : Option (List ℕ)) (f : ReadFault) → OpeningFails w s old new f → Queries w s q old new start start (Err (read_fault f))
 opening_fails w s q old new start read.Short h =
     record { reads = subst (OnlyReads s old) (sym h.1) (reads_none s old); ok = tt; err = record { short = h.0; unread = h.1; kept = keeps_self start } }
-opening_fails w s q old new start read.Device h = record { reads = h.0; ok = tt; err = (h.1, record { written = λ b is. none_front start start _ (appends_none start) }) }
+opening_fails w s q old new start read.Device h = record { reads = h.0; ok = tt; err = (h.1, record { written = λ b is. none_prefix start start _ (appends_none start) }) }
 opening_fails w s q old new start (read.Table n) h = absurd h
 opening_fails w s q old new start (read.Record place) h = absurd h
 opening_fails w s q old new start (read.Slot n i) h = absurd h
@@ -36,8 +36,8 @@ opening_fails w s q old new start read.Output h = absurd h
 answers_kept : {S : Type 0} (w : ℕ) (s : Ghosts S) (q : Query) (store : S) (start mid now : Option (List ℕ)) (r : Result Unit Fault) → Answers w s q store start mid r → Keeps mid now → Answers w s q store start now r
 answers_kept w s q store start mid now r h k = record { long = h.long; answered = h.answered; written = λ b is. appends_kept start mid now (query_text w b q) (h.written b is) k }
 
-fronts_kept : {S : Type 0} (w : ℕ) (s : Ghosts S) (q : Query) (store : S) (start mid now : Option (List ℕ)) → WritesFront w s q store start mid → Keeps mid now → WritesFront w s q store start now
-fronts_kept w s q store start mid now h k = record { written = λ b is. front_kept start mid now (query_text w b q) (h.written b is) k }
+fronts_kept : {S : Type 0} (w : ℕ) (s : Ghosts S) (q : Query) (store : S) (start mid now : Option (List ℕ)) → WritesPrefix w s q store start mid → Keeps mid now → WritesPrefix w s q store start now
+fronts_kept w s q store start mid now h k = record { written = λ b is. prefix_kept start mid now (query_text w b q) (h.written b is) k }
 
 fault_kept : {S : Type 0} (w : ℕ) (s : Ghosts S) (q : Query) (old new : S) (start mid now : Option (List ℕ)) (f : Fault) → QueryFails w s q old new start mid f → Keeps mid now → QueryFails w s q old new start now f
 fault_kept w s q old new start mid now Missing h k = answers_kept w s q new start mid now _ h k
@@ -68,7 +68,7 @@ query_kept w s q old new start mid now (Err f) h k = record { reads = h.reads; o
 flush_fails : {S : Type 0} (w : ℕ) (s : Ghosts S) (q : Query) (old new : S) (start mid now : Option (List ℕ)) (r : Result Unit Fault) → Queries w s q old new start mid r → Keeps mid now → IsOk r → Queries w s q old new start now (Err Output)
 flush_fails w s q old new start mid now (Ok u) h k is =
     let all = answers_kept w s q new start mid now _ h.ok k in
-    record { reads = h.reads; ok = tt; err = (all.long, record { written = λ b is. whole_front start now (query_text w b q) (all.written b is) }) }
+    record { reads = h.reads; ok = tt; err = (all.long, record { written = λ b is. whole_prefix start now (query_text w b q) (all.written b is) }) }
 flush_fails w s q old new start mid now (Err f) h k is = absurd (not_ok is)
 
 pub query_flushed : {S : Type 0} (w : ℕ) (s : Ghosts S) (q : Query) (old new : S) (start mid now : Option (List ℕ)) (answer result : Result Unit Fault) → Queries w s q old new start mid answer → Flushed mid now answer result → Queries w s q old new start now result

@@ -9,7 +9,7 @@ use Rattle.cdb_form.specs.Format.Record.{KeyValue}
 use Rattle.cdb_form.specs.Format.File.{file_size}
 use Rattle.cdb_form.specs.Format.Walk.{walk_of}
 use Rattle.cdb_form.specs.Text.Amending.{Change}
-use Rattle.cdb_form.specs.Views.KnownBytes.{AppendsFront}
+use Rattle.cdb_form.specs.Views.KnownBytes.{AppendsPrefix}
 use Rattle.cdb_form.proofs.WritingLemmas.{appends_kept}
 use Rattle.cdb_make.specs.Views.Batch as batch
 use Rattle.cdb_make.specs.Views.Maker.{Holds, WhereHonest, ComesFrom, IsFile, limit_of}
@@ -28,7 +28,7 @@ use Rattle.cdb_tool.specs.Runs.Make.{InCourse, Stops, InputsFail, RunFails, Runs
 use Rattle.cdb_tool.specs.declared.fault.Fault.{Fault}
 use Rattle.cdb_tool.specs.declared.fault.Fault.TheVariants.{Text, Make, Duplicate, Missing, Read, Walk, Output, Long, Open, Rename, NoMemory}
 use Rattle.cdb_command.specs.declared.options.MakeOptions.{MakeOptions}
-use Rattle.cdb_tool.proofs.WholeRuns.{front_kept, whole_front, not_ok}
+use Rattle.cdb_tool.proofs.WholeRuns.{prefix_kept, whole_prefix, not_ok}
 use Rattle.cdb_tool.proofs.InputRuns.{begins_none}
 use Rattle.cdb_tool.proofs.Courses.{came_none, appends_none, course_starts}
 
@@ -208,7 +208,7 @@ stops_kept w o cs old mid new (Make make.Broken) h k = absurd h
 stops_kept w o cs old mid new (Make make.NoMemory) h k = absurd h
 stops_kept w o cs old mid new Duplicate h k = ends_kept w o cs _ old mid new h k
 stops_kept w o cs old mid new NoMemory h k = goes_kept w o cs old mid new h k
-stops_kept w o cs old mid new Output h k = front_kept old mid new _ h k
+stops_kept w o cs old mid new Output h k = prefix_kept old mid new _ h k
 stops_kept w o cs old mid new (Text n f) h k = absurd h
 stops_kept w o cs old mid new (Walk f) h k = absurd h
 stops_kept w o cs old mid new Missing h k = absurd h
@@ -261,7 +261,7 @@ flush_fails w g o x inputs images old mid new (Ok u) h k is =
       ok = tt;
       err = inr (record {
         based = h.ok.based;
-        fails = record { read = made.read; last = []; rest = made.are.rest; are = made.are.are; begins = first_none (form_of t) g made.are.rest; stops = subst (λ cs. AppendsFront old new (course_of w t cs).lines) (sym (came_none made.read)) (whole_front old new _ lines) };
+        fails = record { read = made.read; last = []; rest = made.are.rest; are = made.are.are; begins = first_none (form_of t) g made.are.rest; stops = subst (λ cs. AppendsPrefix old new (course_of w t cs).lines) (sym (came_none made.read)) (whole_prefix old new _ lines) };
       });
     }
 flush_fails w g o x inputs images old mid new (Err f) h k is = absurd (not_ok is)

@@ -2,15 +2,15 @@
 use Rattle.std.proofs.Common.{◌≡◌, ◌∙◌, ℕ, ◌+◌, ◌-◌, ◌<◌, suc, List, [], ◌++◌, flat_map, get_or, refl, sym, ap, arith, append_assoc, codes, Option, Result}
 use Rattle.std.specs.List.{range_with_len}
 use Rattle.std.specs.Io.KnownBytes.{Appends}
-use Rattle.cdb_form.specs.Views.KnownBytes.{AppendsFront, Writes}
-use Rattle.cdb_form.proofs.WritingLemmas.{appends_then, front_then, writes_last}
+use Rattle.cdb_form.specs.Views.KnownBytes.{AppendsPrefix, Writes}
+use Rattle.cdb_form.proofs.WritingLemmas.{appends_then, prefix_then, writes_last}
 use Rattle.cdb_tool.specs.Runs.StatsText.{count_line, distance_line, distance_lines, records_line, keys_line, values_line, tables_line, sizes_line, stats_text}
 use Rattle.cdb_read.specs.declared.statistics.stats.Stats.{Stats}
 use Rattle.cdb_tool.proofs.Courses.{appends_none}
 
 -- ---- line after line
 
--- a front of a text was written, and a rest comes
+-- a prefix of a text was written, and a rest comes
 pub record IsAmid (start now : Option (List ℕ)) (text rest : List ℕ) : Type 0 where
   pub before : List ℕ
   pub split : text ≡ before ++ rest
@@ -27,8 +27,8 @@ amid_more start mid now text rest line less a e one = record {
 }
 
 -- the writer failed in a line
-pub amid_front : (start mid now : Option (List ℕ)) (text rest line less : List ℕ) → IsAmid start mid text rest → rest ≡ line ++ less → AppendsFront mid now line → AppendsFront start now text
-amid_front start mid now text rest line less a e one = front_then start mid now a.before line less text a.written one (a.split ∙ ap (λ t. a.before ++ t) e)
+pub amid_prefix : (start mid now : Option (List ℕ)) (text rest line less : List ℕ) → IsAmid start mid text rest → rest ≡ line ++ less → AppendsPrefix mid now line → AppendsPrefix start now text
+amid_prefix start mid now text rest line less a e one = prefix_then start mid now a.before line less text a.written one (a.split ∙ ap (λ t. a.before ++ t) e)
 
 -- the last line
 pub amid_last : {A E : Type 0} (r : Result A E) (start mid now : Option (List ℕ)) (text rest : List ℕ) → IsAmid start mid text rest → Writes r mid now rest → Writes r start now text

@@ -9,7 +9,7 @@ use Rattle.cdb_form.specs.declared.text.fault.TextFault.{TextFault}
 use Rattle.cdb_form.specs.declared.text.fault.TextFault.TheVariants as text_fault
 use Rattle.cdb_form.specs.declared.text.fault.TextFault.TheVariants.{Syntax, Ended, Large, Input, Endless}
 use Rattle.cdb_form.specs.Views.TextReader.{unread, taken_of, budget, ReadsRecord, StopsAmid, MeetsFault}
-use Rattle.cdb_form.specs.Views.KnownBytes.{AppendsFront, FromTo, Took}
+use Rattle.cdb_form.specs.Views.KnownBytes.{AppendsPrefix, FromTo, Took}
 use Rattle.cdb_form.specs.declared.text.native_reader.TextReader.{TextReader}
 use Rattle.cdb_form.specs.Text.Native.{Spelled, Reads, HasFault, HasNoRecord}
 use Rattle.cdb_form.specs.Views.TextFault.{IsOfText, IsReadFault}
@@ -23,7 +23,7 @@ use Rattle.cdb_form.specs.declared.mode.Mode.TheVariants as mode
 use Rattle.cdb_make.specs.declared.fault.MakeFault.{MakeFault}
 use Rattle.cdb_make.specs.declared.fault.MakeFault.TheVariants as make
 use Rattle.cdb_tool.specs.Views.Fault as run
-use Rattle.cdb_tool.proofs.NativeInputs.{some_weaker, fault_of_text, fault_of_part, front_of}
+use Rattle.cdb_tool.proofs.NativeInputs.{some_weaker, fault_of_text, fault_of_part, prefix_of}
 use Rattle.cdb_tool.specs.Runs.Flushed.{Flushed}
 use Rattle.cdb_tool.specs.Runs.MakeBytes.{IsNewText, FailsText, FailsRead, PassesGreatest, NotRead, ReadsFitting, MakesFile, Makes}
 use Rattle.cdb_tool.specs.declared.fault.Fault.{Fault}
@@ -41,12 +41,12 @@ keeps_then (Some o) None new a b = absurd a
 keeps_then (Some o) (Some m) None a b = absurd b
 keeps_then (Some o) (Some m) (Some n) a b = b ∙ a
 
-pub front_kept : (old mid new : Option (List ℕ)) (bytes : List ℕ) → AppendsFront old mid bytes → Keeps mid new → AppendsFront old new bytes
-front_kept old mid new bytes a k = record { front = a.front; more = a.more; split = a.split; appended = appends_kept old mid new a.front a.appended k }
+pub prefix_kept : (old mid new : Option (List ℕ)) (bytes : List ℕ) → AppendsPrefix old mid bytes → Keeps mid new → AppendsPrefix old new bytes
+prefix_kept old mid new bytes a k = record { front = a.front; more = a.more; split = a.split; appended = appends_kept old mid new a.front a.appended k }
 
--- the whole is a front
-pub whole_front : (old new : Option (List ℕ)) (bytes : List ℕ) → Appends old new bytes → AppendsFront old new bytes
-whole_front old new bytes a = record { front = bytes; more = []; split = sym (append-nil bytes); appended = a }
+-- the whole is a prefix
+pub whole_prefix : (old new : Option (List ℕ)) (bytes : List ℕ) → Appends old new bytes → AppendsPrefix old new bytes
+whole_prefix old new bytes a = record { front = bytes; more = []; split = sym (append-nil bytes); appended = a }
 
 -- ---- the records of a text
 
@@ -102,7 +102,7 @@ took_all g (Some t) None n from to rs a took = absurd a
 took_all g (Some t) (Some m) None from to rs a took = absurd took.read
 took_all g (Some t) (Some m) (Some n) from to rs a took =
     let split : m ≡ took.bytes ++ n = took.read in
-    let s = front_of g rs t m a.0 in
+    let s = prefix_of g rs t m a.0 in
     record {
       bytes = s.0 ++ took.bytes;
       read = s.1 ∙ ap (λ z. s.0 ++ z) split ∙ sym (append_assoc s.0 took.bytes n);
@@ -174,7 +174,7 @@ nothing_made w g text rest o NoMemory x = record { ok = tt; err = (x, keeps_self
 pub file_made : (w g : ℕ) (text rest old new : Option (List ℕ)) (rs : List KeyValue) → ReadsFitting w g text rest rs → Appends old new (file_bytes w rs) → Makes w g text rest old new (Ok tt)
 file_made w g text rest old new rs read a = record { ok = record { records = rs; read = read; appended = a }; err = tt }
 
-pub file_fails : (w g : ℕ) (text rest old new : Option (List ℕ)) (rs : List KeyValue) → ReadsFitting w g text rest rs → AppendsFront old new (file_bytes w rs) → Makes w g text rest old new (Err Output)
+pub file_fails : (w g : ℕ) (text rest old new : Option (List ℕ)) (rs : List KeyValue) → ReadsFitting w g text rest rs → AppendsPrefix old new (file_bytes w rs) → Makes w g text rest old new (Err Output)
 file_fails w g text rest old new rs read x = record { ok = tt; err = record { records = rs; read = read; appended = x } }
 
 -- ---- the flush
@@ -195,7 +195,7 @@ makes_kept w g text rest old mid new (Err Open) m k = record { ok = tt; err = (m
 makes_kept w g text rest old mid new (Err Rename) m k = record { ok = tt; err = (m.err.0, keeps_then old mid new m.err.1 k) }
 makes_kept w g text rest old mid new (Err NoMemory) m k = record { ok = tt; err = (m.err.0, keeps_then old mid new m.err.1 k) }
 makes_kept w g text rest old mid new (Err Output) m k =
-    record { ok = tt; err = record { records = m.err.records; read = m.err.read; appended = front_kept old mid new (file_bytes w m.err.records) m.err.appended k } }
+    record { ok = tt; err = record { records = m.err.records; read = m.err.read; appended = prefix_kept old mid new (file_bytes w m.err.records) m.err.appended k } }
 
 -- a fault is no Ok
 pub not_ok : false ≡ true → ⊥
@@ -205,7 +205,7 @@ not_ok e = cc
 flush_fails : (w g : ℕ) (text rest old mid new : Option (List ℕ)) (r : Result Unit Fault) → Makes w g text rest old mid r → Keeps mid new → IsOk r → Makes w g text rest old new (Err Output)
 flush_fails w g text rest old mid new (Ok u) m k is =
     let a = file_kept w g text rest old mid new m.ok k in
-    record { ok = tt; err = record { records = a.records; read = a.read; appended = whole_front old new (file_bytes w a.records) a.appended } }
+    record { ok = tt; err = record { records = a.records; read = a.read; appended = whole_prefix old new (file_bytes w a.records) a.appended } }
 flush_fails w g text rest old mid new (Err f) m k is = absurd (not_ok is)
 
 pub makes_flushed : (w g : ℕ) (text rest old mid new : Option (List ℕ)) (answer result : Result Unit Fault) → Makes w g text rest old mid answer → Flushed mid new answer result → Makes w g text rest old new result

@@ -4,7 +4,7 @@ use Rattle.std.specs.Prelude.{IsOk}
 use Rattle.std.proofs.lemmas.List.{append-nil, take-append-drop}
 use Rattle.std.proofs.lemmas.List.Concat.{flat_map-append}
 use Rattle.std.specs.Io.KnownBytes.{Appends, Keeps}
-use Rattle.cdb_form.specs.Views.KnownBytes.{FromTo, AppendsFront}
+use Rattle.cdb_form.specs.Views.KnownBytes.{FromTo, AppendsPrefix}
 use Rattle.cdb_form.specs.Views.Reading.{ReadsFirst, ReadsNoRecord}
 use Rattle.cdb_form.specs.Format.Record.{KeyValue}
 use Rattle.cdb_form.specs.Views.RecordReader.{unread, walk_left, size_of_rest, behind_end, behind_records, GaveSoFar, HasEnded, IsFresh}
@@ -15,15 +15,15 @@ use Rattle.cdb_form.specs.declared.damage.Damage.{Damage}
 use Rattle.cdb_form.specs.declared.damage.Damage.TheVariants as file_damage
 use Rattle.cdb_form.specs.declared.walk.fault.WalkFault.{WalkFault}
 use Rattle.cdb_form.specs.declared.walk.fault.WalkFault.TheVariants as walk
-use Rattle.cdb_form.proofs.WalkText.{walked, gave_more, gave_all, gave_before, gave_front, from_then, gave_none, ReadSoFar, read_none, read_more, read_all}
-use Rattle.cdb_form.proofs.WritingLemmas.{appends_then, appends_kept, front_then}
+use Rattle.cdb_form.proofs.WalkText.{walked, gave_more, gave_all, gave_before, gave_prefix, from_then, gave_none, ReadSoFar, read_none, read_more, read_all}
+use Rattle.cdb_form.proofs.WritingLemmas.{appends_then, appends_kept, prefix_then}
 use Rattle.cdb_tool.specs.Views.Fault.{walk_fault}
 use Rattle.cdb_tool.specs.Runs.Flushed.{Flushed}
 use Rattle.cdb_tool.specs.Runs.Form.{Form}
-use Rattle.cdb_tool.specs.Runs.WalkText.{closing, walk_text, Writes, WritesFront, WritesFirst, WritingFails, LeavesBehind, KeepsBehind, WritesWalk}
+use Rattle.cdb_tool.specs.Runs.WalkText.{closing, walk_text, Writes, WritesPrefix, WritesFirst, WritingFails, LeavesBehind, KeepsBehind, WritesWalk}
 use Rattle.cdb_tool.specs.declared.fault.Fault.{Fault}
 use Rattle.cdb_tool.specs.declared.fault.Fault.TheVariants.{Text, Make, Duplicate, Missing, Read, Walk, Output, Long, Open, Rename, NoMemory}
-use Rattle.cdb_tool.proofs.WholeRuns.{front_kept, whole_front, not_ok}
+use Rattle.cdb_tool.proofs.WholeRuns.{prefix_kept, whole_prefix, not_ok}
 
 -- a weaker relation
 pub from_part : (o n : Option (List ℕ)) (P Q : List ℕ → List ℕ → Type 0) → ((a b : List ℕ) → P a b → Q a b) → FromTo o n P → FromTo o n Q
@@ -121,20 +121,20 @@ written_all w form remaining file t u old mid new d end behind ended appended =
 -- the writer failed in the end
 pub end_fails : {R L : Type 0} (w : ℕ) (form : Form) (remaining : R → Option (List ℕ)) (file : Option (List ℕ)) (t u : RecordReader R L) (old mid new : Option (List ℕ)) → WrittenSoFar w form remaining file t old mid
     → IfSome (unread remaining t) (λ text. walk_left w t text ≡ no_walk) → FromTo (unread remaining t) (unread remaining u) (λ text rest. behind_end w u rest ≡ behind_end w t text) → HasEnded u
-    → AppendsFront mid new form.end → WritesWalk w form file (unread remaining u) old new (Err Output)
+    → AppendsPrefix mid new form.end → WritesWalk w form file (unread remaining u) old new (Err Output)
 end_fails w form remaining file t u old mid new d end behind ended front =
     record {
       ok = tt;
-      err = record { walked = walked d.records None; is = gave_all w remaining file t d.records d.gave end; appended = front_then old mid new (flat_map form.item d.records) form.end [] _ d.appended front (ap (λ z. flat_map form.item d.records ++ z) (sym (append-nil form.end))) };
+      err = record { walked = walked d.records None; is = gave_all w remaining file t d.records d.gave end; appended = prefix_then old mid new (flat_map form.item d.records) form.end [] _ d.appended front (ap (λ z. flat_map form.item d.records ++ z) (sym (append-nil form.end))) };
       behind = all_behind w file (unread remaining u) (behind_left w remaining file t u d.records d.gave behind ended);
     }
 
 -- the writer failed in a record
-front_of_walk : (w : ℕ) (form : Form) (file old mid new : Option (List ℕ)) (rs : List KeyValue) (r : KeyValue) → IfSome file (λ f. (more : List KeyValue) × ((walk_of w f).records ≡ (rs ++ r ∷ []) ++ more))
-    → Appends old mid (flat_map form.item rs) → AppendsFront mid new (form.item r) → WritesFront w form file old new
-front_of_walk w form None old mid new rs r more a front =
-    record { walked = walked (rs ++ r ∷ []) None; is = tt; appended = front_then old mid new (flat_map form.item rs) (form.item r) form.end _ a front (ap (λ z. z ++ form.end) (texts_more form rs r) ∙ append_assoc (flat_map form.item rs) (form.item r) form.end) }
-front_of_walk w form (Some f) old mid new rs r more a front =
+prefix_of_walk : (w : ℕ) (form : Form) (file old mid new : Option (List ℕ)) (rs : List KeyValue) (r : KeyValue) → IfSome file (λ f. (more : List KeyValue) × ((walk_of w f).records ≡ (rs ++ r ∷ []) ++ more))
+    → Appends old mid (flat_map form.item rs) → AppendsPrefix mid new (form.item r) → WritesPrefix w form file old new
+prefix_of_walk w form None old mid new rs r more a front =
+    record { walked = walked (rs ++ r ∷ []) None; is = tt; appended = prefix_then old mid new (flat_map form.item rs) (form.item r) form.end _ a front (ap (λ z. z ++ form.end) (texts_more form rs r) ∙ append_assoc (flat_map form.item rs) (form.item r) form.end) }
+prefix_of_walk w form (Some f) old mid new rs r more a front =
     let end = closing form (walk_of w f).damage in
     let rest = flat_map form.item more.0 in
     let split : walk_text form (walk_of w f) ≡ flat_map form.item rs ++ (form.item r ++ (rest ++ end)) =
@@ -142,17 +142,17 @@ front_of_walk w form (Some f) old mid new rs r more a front =
     ∙ ap (λ t. t ++ end) (flat_map-append form.item (rs ++ r ∷ []) more.0)
     ∙ ap (λ t. (t ++ rest) ++ end) (texts_more form rs r)
     ∙ simp append_assoc in
-    record { walked = walk_of w f; is = refl; appended = front_then old mid new (flat_map form.item rs) (form.item r) (rest ++ end) (walk_text form (walk_of w f)) a front split }
+    record { walked = walk_of w f; is = refl; appended = prefix_then old mid new (flat_map form.item rs) (form.item r) (rest ++ end) (walk_text form (walk_of w f)) a front split }
 
 pub record_fails : {R L : Type 0} (w : ℕ) (form : Form) (remaining : R → Option (List ℕ)) (file : Option (List ℕ)) (t u : RecordReader R L) (old mid new : Option (List ℕ)) (r : KeyValue) → WrittenSoFar w form remaining file t old mid
     → FromTo (unread remaining t) (unread remaining u) (λ text rest. walk_left w t text ≡ with_first r (walk_left w u rest))
     → FromTo (unread remaining t) (unread remaining u) (λ text rest. behind_end w u rest ≡ behind_end w t text)
-    → AppendsFront mid new (form.item r) → WritesWalk w form file (unread remaining u) old new (Err Output)
+    → AppendsPrefix mid new (form.item r) → WritesWalk w form file (unread remaining u) old new (Err Output)
 record_fails w form remaining file t u old mid new r d one behind front =
     let gave = gave_more w remaining file t u d.records r d.gave one behind in
     record {
       ok = tt;
-      err = front_of_walk w form file old mid new d.records r (gave_front w remaining file u (d.records ++ r ∷ []) gave) d.appended front;
+      err = prefix_of_walk w form file old mid new d.records r (gave_prefix w remaining file u (d.records ++ r ∷ []) gave) d.appended front;
       behind = behind_kept w remaining file u (d.records ++ r ∷ []) gave;
     }
 
@@ -165,7 +165,7 @@ written_damage w form remaining file t old new damage d exact =
 written_first : {R L : Type 0} (w : ℕ) (form : Form) (remaining : R → Option (List ℕ)) (file : Option (List ℕ)) (t u : RecordReader R L) (old new : Option (List ℕ)) → WrittenSoFar w form remaining file t old new
     → ReadsNoRecord (walk_left w t) (unread remaining t) (unread remaining u) → WritesFirst w form file (unread remaining u) old new
 written_first w form remaining file t u old new d none =
-    record { first = d.records; read = read_all w remaining file t u d.records d.read none; is = gave_front w remaining file t d.records d.gave; appended = d.appended }
+    record { first = d.records; read = read_all w remaining file t u d.records d.read none; is = gave_prefix w remaining file t d.records d.gave; appended = d.appended }
 
 reader_fault : {R L : Type 0} (w : ℕ) (form : Form) (remaining : R → Option (List ℕ)) (file : Option (List ℕ)) (t u : RecordReader R L) (old new : Option (List ℕ)) (fault : WalkFault) → WrittenSoFar w form remaining file t old new
     → (IsDamage fault → IfSome (unread remaining t) (λ text. walk_left w t text ≡ stopped_by fault)) → ReadsNoRecord (walk_left w t) (unread remaining t) (unread remaining u) → WritingFails w form file (unread remaining u) old new (walk_fault fault)
@@ -196,7 +196,7 @@ fails_kept w form file rest old mid new (Walk (walk.Record place)) d k = writes_
 fails_kept w form file rest old mid new (Walk walk.Input) d k = first_kept w form file rest old mid new d k
 fails_kept w form file rest old mid new (Walk walk.NoMemory) d k = absurd d
 fails_kept w form file rest old mid new NoMemory d k = first_kept w form file rest old mid new d k
-fails_kept w form file rest old mid new Output d k = record { walked = d.walked; is = d.is; appended = front_kept old mid new (walk_text form d.walked) d.appended k }
+fails_kept w form file rest old mid new Output d k = record { walked = d.walked; is = d.is; appended = prefix_kept old mid new (walk_text form d.walked) d.appended k }
 fails_kept w form file rest old mid new (Text input f) d k = absurd d
 fails_kept w form file rest old mid new (Make f) d k = absurd d
 fails_kept w form file rest old mid new Duplicate d k = absurd d
@@ -214,7 +214,7 @@ runs_kept w form file rest old mid new (Err f) d k = record { ok = tt; err = fai
 flush_fails : (w : ℕ) (form : Form) (file rest old mid new : Option (List ℕ)) (r : Result Unit Fault) → WritesWalk w form file rest old mid r → Keeps mid new → IsOk r → WritesWalk w form file rest old new (Err Output)
 flush_fails w form file rest old mid new (Ok u) d k is =
     let a = writes_kept w form file None old mid new d.ok.0 k in
-    record { ok = tt; err = record { walked = a.walked; is = a.is; appended = whole_front old new (walk_text form a.walked) a.appended }; behind = d.behind }
+    record { ok = tt; err = record { walked = a.walked; is = a.is; appended = whole_prefix old new (walk_text form a.walked) a.appended }; behind = d.behind }
 flush_fails w form file rest old mid new (Err f) d k is = absurd (not_ok is)
 
 pub written_flushed : (w : ℕ) (form : Form) (file rest old mid new : Option (List ℕ)) (answer result : Result Unit Fault) → WritesWalk w form file rest old mid answer → Flushed mid new answer result → WritesWalk w form file rest old new result

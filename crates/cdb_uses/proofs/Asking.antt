@@ -8,10 +8,10 @@ use Rattle.std.specs.Io.KnownBytes.{Appends}
 use Rattle.cdb_store.specs.declared.store.Store.{Ghosts}
 use Rattle.cdb_form.specs.Format.File.{file_bytes, file_size}
 use Rattle.cdb_form.specs.Format.Record.{KeyValue, IsRecord}
-use Rattle.cdb_form.specs.Views.KnownBytes.{AppendsFront}
+use Rattle.cdb_form.specs.Views.KnownBytes.{AppendsPrefix}
 use Rattle.cdb_form.specs.declared.damage.Damage.{Damage}
 use Rattle.cdb_form.specs.declared.width.Width.{Ghosts as Widths}
-use Rattle.cdb_form.proofs.WritingLemmas.{appends_then, front_then}
+use Rattle.cdb_form.proofs.WritingLemmas.{appends_then, prefix_then}
 use Rattle.cdb_make.specs.Views.Maker.{Holds, IsFile}
 use Rattle.cdb_make.specs.declared.maker.Maker.{Maker}
 use Rattle.cdb_make.proofs.Makers.{held_size}
@@ -83,17 +83,17 @@ asked_all w key rs old new left start now b h is none file law =
     let all = values_split w key rs b h.spans (left b) (h.first b is) file law in
     subst (Appends start now) (sym (all ∙ ap (λ (f : Found). flat_map (bytes_of b) h.spans ++ flat_map (bytes_of b) f.spans) none ∙ append-nil (flat_map (bytes_of b) h.spans))) (h.written b is)
 
--- and so far a front of them was written
-pub asked_front : (w : ℕ) (key : List ℕ) (rs : List KeyValue) (old new : List ℕ → Type 0) (left : List ℕ → Found) (start now : Option (List ℕ)) (b : List ℕ) → AskedSoFar w key old new left start now → new b → b ≡ file_bytes w rs
-    → FindsValues w rs key → AppendsFront start now (concat (values_of key rs))
-asked_front w key rs old new left start now b h is file law =
+-- and so far a prefix of them was written
+pub asked_prefix : (w : ℕ) (key : List ℕ) (rs : List KeyValue) (old new : List ℕ → Type 0) (left : List ℕ → Found) (start now : Option (List ℕ)) (b : List ℕ) → AskedSoFar w key old new left start now → new b → b ≡ file_bytes w rs
+    → FindsValues w rs key → AppendsPrefix start now (concat (values_of key rs))
+asked_prefix w key rs old new left start now b h is file law =
     record { front = flat_map (bytes_of b) h.spans; more = flat_map (bytes_of b) (left b).spans; split = values_split w key rs b h.spans (left b) (h.first b is) file law; appended = h.written b is }
 
 -- also where the next of them was not written whole
-pub copied_front : (w : ℕ) (key : List ℕ) (rs : List KeyValue) (old new : List ℕ → Type 0) (left rest : List ℕ → Found) (start now end : Option (List ℕ)) (b : List ℕ) (span : Span) → AskedSoFar w key old new left start now → new b → left b ≡ with_span span (rest b)
-    → AppendsFront now end (bytes_of b span) → b ≡ file_bytes w rs → FindsValues w rs key → AppendsFront start end (concat (values_of key rs))
-copied_front w key rs old new left rest start now end b span h is gives front file law =
-    front_then start now end (flat_map (bytes_of b) h.spans) (bytes_of b span) (flat_map (bytes_of b) (rest b).spans) (concat (values_of key rs)) (h.written b is) front
+pub copied_prefix : (w : ℕ) (key : List ℕ) (rs : List KeyValue) (old new : List ℕ → Type 0) (left rest : List ℕ → Found) (start now end : Option (List ℕ)) (b : List ℕ) (span : Span) → AskedSoFar w key old new left start now → new b → left b ≡ with_span span (rest b)
+    → AppendsPrefix now end (bytes_of b span) → b ≡ file_bytes w rs → FindsValues w rs key → AppendsPrefix start end (concat (values_of key rs))
+copied_prefix w key rs old new left rest start now end b span h is gives front file law =
+    prefix_then start now end (flat_map (bytes_of b) h.spans) (bytes_of b span) (flat_map (bytes_of b) (rest b).spans) (concat (values_of key rs)) (h.written b is) front
     (values_split w key rs b h.spans (left b) (h.first b is) file law ∙ ap (λ (f : Found). flat_map (bytes_of b) h.spans ++ flat_map (bytes_of b) f.spans) gives)
 
 -- and none of it is damaged
@@ -137,7 +137,7 @@ pub file_opened : {S : Type 0} (s : Ghosts S) {w : ℕ} {rs : List KeyValue} {ol
 file_opened s file reads = record { each = λ b is. file.each b (reads.images b is) }
 
 -- where its store does not fail, only the writer can
-pub writer_fails : {S : Type 0} (s : Ghosts S) (before after : S) (old new : Option (List ℕ)) (values : List ℕ) (f : ReadFault) → s.failures after ≡ s.failures before → CopyingFails s before after f → AppendsFront old new values → AskingFails old new values (Read f)
+pub writer_fails : {S : Type 0} (s : Ghosts S) (before after : S) (old new : Option (List ℕ)) (values : List ℕ) (f : ReadFault) → s.failures after ≡ s.failures before → CopyingFails s before after f → AppendsPrefix old new values → AskingFails old new values (Read f)
 writer_fails s before after old new values Device same fails front = absurd (let failed : s.failures before < s.failures after = fails in omega arith)
 writer_fails s before after old new values (Table n) same fails front = absurd fails
 writer_fails s before after old new values (Record place) same fails front = absurd fails

@@ -12,10 +12,10 @@ use Rattle.cdb_form.specs.Format.Hash.{key_hash, table_number}
 use Rattle.cdb_form.specs.Format.Pair.{WordPair, pair_bytes, head_size}
 use Rattle.cdb_form.specs.Format.Reading.{head_at, nth_pair, pair_at}
 use Rattle.cdb_form.specs.Format.Record.{KeyValue, record_size}
-use Rattle.cdb_form.specs.Format.Walk.{Walked, front_record, front_size, has_slots, least_place, record_end, walk_from, walk_of, whole_records}
+use Rattle.cdb_form.specs.Format.Walk.{Walked, prefix_record, prefix_size, has_slots, least_place, record_end, walk_from, walk_of, whole_records}
 use Rattle.cdb_form.specs.Views.Pairs.{PairFits}
 use Rattle.cdb_form.specs.declared.damage.Damage.TheVariants.{Table}
-use Rattle.cdb_form.proofs.Fronts.{all_records, fits_front}
+use Rattle.cdb_form.proofs.Prefixes.{all_records, fits_prefix}
 use Rattle.cdb_form.proofs.ReadBack.{map-nth_pair, nth_pair-flat_map}
 use Rattle.cdb_form.proofs.WalkSteps.{walk_from-is, walk_of-records, walk_with}
 use Rattle.cdb_make.specs.Unfinished.{unfinished_head}
@@ -86,15 +86,15 @@ records_within : (w most : ℕ) (xs : List ℕ) → sum_by (record_size w) (whol
 unfolding whole_records
 records_within w zero xs = omega arith
 records_within w (suc most) xs =
-    cond_both (fits_front w xs) (front_record w xs ∷ whole_records w most (drop (front_size w xs) xs)) [] (λ rs. sum_by (record_size w) rs ≤ length xs)
+    cond_both (fits_prefix w xs) (prefix_record w xs ∷ whole_records w most (drop (prefix_size w xs) xs)) [] (λ rs. sum_by (record_size w) rs ≤ length xs)
     (λ t.
-    (let size = leb-true (front_size w xs) (length xs) t in
-    let rest = records_within w most (drop (front_size w xs) xs) in
-    let left = length-drop (front_size w xs) xs in
+    (let size = leb-true (prefix_size w xs) (length xs) t in
+    let rest = records_within w most (drop (prefix_size w xs) xs) in
+    let left = length-drop (prefix_size w xs) xs in
     let key = length-take (pair_at w xs).first (drop (2 * w) xs) in
     let value = length-take (pair_at w xs).second (drop (2 * w + (pair_at w xs).first) xs) in
-    let both = sum_by-cons (record_size w) (front_record w xs) (whole_records w most (drop (front_size w xs) xs)) in
-    let one : record_size w (front_record w xs) ≤ front_size w xs = omega arith in
+    let both = sum_by-cons (record_size w) (prefix_record w xs) (whole_records w most (drop (prefix_size w xs) xs)) in
+    let one : record_size w (prefix_record w xs) ≤ prefix_size w xs = omega arith in
     omega arith))
     (λ f. omega arith)
 

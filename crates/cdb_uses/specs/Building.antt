@@ -6,7 +6,7 @@ use Rattle.cdb_store.specs.declared.store.Store.{Ghosts}
 use Rattle.cdb_form.specs.Format.Pair.{head_size}
 use Rattle.cdb_form.specs.Format.Record.{KeyValue}
 use Rattle.cdb_form.specs.declared.width.Width.{Ghosts as Widths}
-use Rattle.cdb_form.specs.Views.KnownBytes.{AppendsFront}
+use Rattle.cdb_form.specs.Views.KnownBytes.{AppendsPrefix}
 use Rattle.cdb_make.specs.Views.Maker.{ComesFrom, IsFile, WhereHonest}
 use Rattle.cdb_make.specs.declared.maker.Maker.{Maker}
 use Rattle.cdb_make.specs.declared.fault.MakeFault.{MakeFault}
@@ -63,7 +63,7 @@ pub record NotRead (w limit : ℕ) (steps : List Step) (faults : List (Option Ma
   pub built : ℕ
   pub builds : Builds w limit steps faults before built
   pub fails : ReadingFails built after fault
-  pub front : AppendsFront old new (concat (values_of key (left_by w limit steps faults)))
+  pub front : AppendsPrefix old new (concat (values_of key (left_by w limit steps faults)))
 
 -- what the fault of a database says that was not built
 abbrev pub BuildingFault : {S : Type 0} → Ghosts S → (w limit : ℕ) → S → List Step → Unbuilt S

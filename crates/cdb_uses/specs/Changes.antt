@@ -4,7 +4,7 @@ use Rattle.std.specs.List.{concat}
 use Rattle.std.specs.Io.KnownBytes.{Appends}
 use Rattle.cdb_form.specs.declared.width.Width.{Ghosts as Widths}
 use Rattle.cdb_form.specs.Format.File.{file_bytes}
-use Rattle.cdb_form.specs.Views.KnownBytes.{AppendsFront}
+use Rattle.cdb_form.specs.Views.KnownBytes.{AppendsPrefix}
 use Rattle.cdb_make.specs.Views.Maker.{Holds}
 use Rattle.cdb_make.specs.declared.fault.MakeFault.{MakeFault}
 use Rattle.cdb_make.specs.declared.fault.MakeFault.TheVariants.{NoMemory}
@@ -42,16 +42,16 @@ pub record LeavesFile (w limit : ℕ) (changes : List Change) (key : List ℕ)
       (concat (values_of key (left_by w limit (steps_of changes) c.faults.items)))
 
 -- or the writer failed, and holds a prefix of the values
-pub record LeavesFront (w limit : ℕ) (changes : List Change) (key : List ℕ)
+pub record LeavesPrefix (w limit : ℕ) (changes : List Change) (key : List ℕ)
     (old new : Option (List ℕ)) : Type 0 where
   pub faults : List (Option MakeFault)
   pub runs : RunsInMemory w limit changes faults
-  pub front : AppendsFront old new
+  pub front : AppendsPrefix old new
       (concat (values_of key (left_by w limit (steps_of changes) faults)))
 
 -- or memory was refused, and nothing was written
 abbrev pub LeavesNone : ℕ → ℕ → List Change → List ℕ → (old new : Option (List ℕ)) → AskFault
     → Type 0
 LeavesNone w limit changes key old new (Make NoMemory) = new ≡ old
-LeavesNone w limit changes key old new (Read Output) = LeavesFront w limit changes key old new
+LeavesNone w limit changes key old new (Read Output) = LeavesPrefix w limit changes key old new
 LeavesNone w limit changes key old new fault = ⊥

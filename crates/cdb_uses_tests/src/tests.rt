@@ -181,7 +181,7 @@ fn changes_leave_the_file_made_from_scratch(rt: HostRuntime) -> Result<(), Fail>
 }
 
 #[test]
-fn a_writer_that_fails_holds_a_front_of_the_values(rt: HostRuntime) -> Result<(), Fail> {
+fn a_writer_that_fails_holds_a_prefix_of_the_values(rt: HostRuntime) -> Result<(), Fail> {
     let alloc = rt.alloc();
     let mut room = [0; 2];
     let mut left = room.as_mut_slice();

@@ -1,4 +1,4 @@
-// The usage text, and a writer that takes a front of it.
+// The usage text, and a writer that takes a prefix of it.
 use cdb_command::write_usage;
 use cdb_form::OutFault;
 use std::prelude::*;

@@ -4,7 +4,7 @@ use Rattle.std.specs.List.{range_with_len}
 use Rattle.byteorder.specs.Endian.{little_number}
 use Rattle.cdb_form.specs.Format.Pair.{WordPair, pair_size}
 
--- the two words at the front of some bytes
+-- the two words at the start of some bytes
 abbrev pub pair_at : ℕ → List ℕ → WordPair
 pair_at w bytes = record { first = little_number w bytes; second = little_number w (drop w bytes) }
 

@@ -12,6 +12,10 @@ pub record KeyValue : Type 0 where
   pub key : List ℕ
   pub value : List ℕ
 
+-- the record of a key and a value
+abbrev pub record_of : List ℕ → List ℕ → KeyValue
+record_of key value = record { key = key; value = value }
+
 pub record IsRecord (r : KeyValue) : Type 0 where
   pub key : AreBytes r.key
   pub value : AreBytes r.value

@@ -25,25 +25,25 @@ record_end w bytes = least_place (head_size w) (head_at w bytes)
 abbrev pub first_table_at : ℕ → List WordPair → ℕ
 first_table_at place ps = position_or_len (λ p. has_slots p && (p.first == place)) ps
 
--- how many bytes the record at the front of some bytes takes, by the lengths that it tells
-abbrev pub front_size : ℕ → List ℕ → ℕ
-front_size w bytes = 2 * w + (pair_at w bytes).first + (pair_at w bytes).second
+-- how many bytes the record at the start of some bytes takes, by the lengths that it tells
+abbrev pub prefix_size : ℕ → List ℕ → ℕ
+prefix_size w bytes = 2 * w + (pair_at w bytes).first + (pair_at w bytes).second
 
 -- and the record itself
-abbrev pub front_record : ℕ → List ℕ → KeyValue
-front_record w bytes =
+abbrev pub prefix_record : ℕ → List ℕ → KeyValue
+prefix_record w bytes =
     let p = pair_at w bytes in
     record {
       key = take p.first (drop (2 * w) bytes);
       value = take p.second (drop (2 * w + p.first) bytes);
     }
 
--- the whole records at the front of some bytes, at most `most` of them
+-- the whole records at the start of some bytes, at most `most` of them
 unfoldable pub whole_records : ℕ → ℕ → List ℕ → List KeyValue
 whole_records w zero bytes = []
 whole_records w (suc most) bytes =
-    if nat_le (front_size w bytes) (length bytes)
-    then front_record w bytes ∷ whole_records w most (drop (front_size w bytes) bytes) else []
+    if nat_le (prefix_size w bytes) (length bytes)
+    then prefix_record w bytes ∷ whole_records w most (drop (prefix_size w bytes) bytes) else []
 
 -- the records of a walk, and then a damage or none
 pub record Walked : Type 0 where

@@ -32,11 +32,11 @@ SpelledChanges greatest changes text rest = form.Spelled SpellsChange greatest c
 abbrev pub ReadsChanges : ℕ → List Change → List ℕ → List ℕ → Type 0
 ReadsChanges greatest changes text rest = form.Reads SpellsChange greatest changes text rest
 
--- no spelled change is at the front of the input
+-- no spelled change is at the start of the input
 abbrev pub HasNoChange : ℕ → List ℕ → Type 0
 HasNoChange greatest input = form.HasNoItem SpellsChange greatest input
 
--- the spelled changes at the front of the input, all of them, and the rest behind them
+-- the spelled changes at the start of the input, all of them, and the rest behind them
 abbrev pub WholeChanges : ℕ → List ℕ → List Change → List ℕ → Type 0
 WholeChanges greatest input changes rest =
     form.WholeItems SpellsChange greatest input changes rest

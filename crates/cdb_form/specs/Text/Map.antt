@@ -11,7 +11,7 @@ is_blank c = (c == 32) || (c == 9)
 abbrev pub is_newline : ℕ → Bool
 is_newline c = c == 10
 
--- what is left of a line behind the blanks at its front
+-- what is left of a line behind the blanks at its start
 abbrev pub behind_blanks : List ℕ → List ℕ
 behind_blanks line = drop (prefix_len is_blank line) line
 

@@ -33,11 +33,11 @@ Spelled greatest rs text rest = form.Spelled Spells greatest rs text rest
 abbrev pub Reads : ℕ → List KeyValue → List ℕ → List ℕ → Type 0
 Reads greatest rs text rest = form.Reads Spells greatest rs text rest
 
--- no spelled record is at the front of the input
+-- no spelled record is at the start of the input
 abbrev pub HasNoRecord : ℕ → List ℕ → Type 0
 HasNoRecord greatest input = form.HasNoItem Spells greatest input
 
--- the spelled records at the front of the input, all of them, and the rest behind them
+-- the spelled records at the start of the input, all of them, and the rest behind them
 abbrev pub WholeRecords : ℕ → List ℕ → List KeyValue → List ℕ → Type 0
 WholeRecords greatest input rs rest = form.WholeItems Spells greatest input rs rest
 

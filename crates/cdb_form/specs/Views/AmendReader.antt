@@ -31,10 +31,10 @@ abbrev pub HasFailed : {R L : Type 0} → AmendReader R L → TextFault → Type
 HasFailed t fault = form.HasFailed t.items fault
 
 -- the next item is a record that is whole at hand, spelled by n bytes there
-abbrev pub HasFront : {R L : Type 0} → (R → List ℕ) → ℕ → AmendReader R L → ℕ → KeyValue → Type 0
-HasFront held greatest t n r = form.HasFront held greatest t.items n r
+abbrev pub HasPeeked : {R L : Type 0} → (R → List ℕ) → ℕ → AmendReader R L → ℕ → KeyValue → Type 0
+HasPeeked held greatest t n r = form.HasPeeked held greatest t.items n r
 
--- what was read of a text, from the count `from` to the count `to`, is the front of a text, and no
+-- what was read of a text, from the count `from` to the count `to`, is the start of a text, and no
 -- whole one; no whole change is there
 abbrev pub StopsAmid : ℕ → ℕ → ℕ → List ℕ → Type 0
 StopsAmid greatest from to text = form.StopsAmid SpellsChange greatest from to text

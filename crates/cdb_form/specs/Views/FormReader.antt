@@ -6,7 +6,7 @@ use Rattle.cdb_form.specs.Format.Record.{KeyValue}
 use Rattle.cdb_form.specs.Text.Amending.{SpellsChange}
 use Rattle.cdb_form.specs.Text.Form.{HasFault, HasNoItem}
 use Rattle.cdb_form.specs.Text.Native.{Spells}
-use Rattle.cdb_form.specs.Views.Front.{BeginsWithRecord}
+use Rattle.cdb_form.specs.Views.Prefix.{BeginsWithRecord}
 use Rattle.cdb_form.specs.Views.KnownBytes.{Took}
 use Rattle.cdb_form.specs.Views.Source.{at_hand, budget}
 use Rattle.cdb_form.specs.Views.TextFault.{IsOfText, IsReadFault, IsSpent, LastRead}
@@ -41,12 +41,12 @@ abbrev pub HasFailed : {R L : Type 0} → FormReader R L → TextFault → Type 
 HasFailed t fault = t.going ≡ Failed fault
 
 -- the next item is a record that is whole at hand, spelled by n bytes there
-pub record HasFront {R L : Type 0} (held : R → List ℕ) (greatest : ℕ) (t : FormReader R L) (n : ℕ)
+pub record HasPeeked {R L : Type 0} (held : R → List ℕ) (greatest : ℕ) (t : FormReader R L) (n : ℕ)
     (r : KeyValue) : Type 0 where
   pub going : IsGoing t
   pub begins : BeginsWithRecord greatest (at_hand held t.source) n r
 
--- what was read of a text, from the count `from` to the count `to`, is the front of a text, and no
+-- what was read of a text, from the count `from` to the count `to`, is the start of a text, and no
 -- whole one; no whole item is there
 pub record StopsAmid {X : Type 0} (spelling : ℕ → List ℕ → X → Type 0) (greatest from to : ℕ)
     (text : List ℕ) : Type 0 where
@@ -62,7 +62,7 @@ pub record ReadsItem {X : Type 0} (spelling : ℕ → List ℕ → X → Type 0)
   pub counted : to ≡ from + length text
 
 -- A reader met a fault: one of the text, in all that was unread; or it failed or was asked too
--- often, and what it gave is the front of a text. No whole item is there. What was read ends with
+-- often, and what it gave is the start of a text. No whole item is there. What was read ends with
 -- the byte at the fault's place, and is gone.
 pub record MeetsFault {R X : Type 0} (spelling : ℕ → List ℕ → X → Type 0) (greatest : ℕ)
     (remaining : R → Option (List ℕ)) (old new : Source R) (fault : TextFault) : Type 0 where

@@ -25,18 +25,18 @@ FromTo (Some text) (Some rest) P = P text rest
 abbrev pub StillFrom : ℕ → List ℕ → List ℕ → Type 0
 StillFrom n text rest = (more : List ℕ) × (rest ≡ more ++ drop n text)
 
--- known bytes grow by a front of some bytes
-pub record AppendsFront (old new : Option (List ℕ)) (bytes : List ℕ) : Type 0 where
+-- known bytes grow by a prefix of some bytes
+pub record AppendsPrefix (old new : Option (List ℕ)) (bytes : List ℕ) : Type 0 where
   pub front : List ℕ
   pub more : List ℕ
   pub split : bytes ≡ front ++ more
   pub appended : Appends old new front
 
--- some bytes were written: all of them, or after a fault a front of them
+-- some bytes were written: all of them, or after a fault a prefix of them
 pub record Writes {A E : Type 0} (result : Result A E) (old new : Option (List ℕ))
     (bytes : List ℕ) : Type 0 where
   pub ok : OnOk result (Appends old new bytes)
-  pub err : OnErr result (AppendsFront old new bytes)
+  pub err : OnErr result (AppendsPrefix old new bytes)
 
 -- bytes were read of what was unread, and the count of bytes went from `from` to `to`
 pub record Took (old new : Option (List ℕ)) (from to : ℕ) : Type 0 where

@@ -20,7 +20,7 @@ is_of Blank c = is_blank c
 is_of InWord c = not (is_blank c || is_newline c)
 is_of InLine c = not (is_newline c)
 
--- Bytes of a kind went from the front of what was unread behind what was held. They were counted,
+-- Bytes of a kind went from the start of what was unread behind what was held. They were counted,
 -- and took an ask each at most.
 pub record MovesRun {R : Type 0} (kind : Kind) (remaining : R → Option (List ℕ))
     (old new : Source R) (held holds : List ℕ) : Type 0 where

@@ -30,7 +30,7 @@ told to Input = Ended to
 told to Endless = Ended to
 told to fault = fault
 
--- digits of a number of at most `greatest` stand at the front of the text, and then c
+-- digits of a number of at most `greatest` stand at the start of the text, and then c
 pub record DigitsThen (greatest : ℕ) (text : List ℕ) (c count : ℕ) : Type 0 where
   pub digits : List ℕ
   pub rest : List ℕ
@@ -40,7 +40,7 @@ pub record DigitsThen (greatest : ℕ) (text : List ℕ) (c count : ℕ) : Type 
   pub text_is : text ≡ digits ++ c ∷ rest
   pub lifts : digit_value c < 10 → greatest < digits_value 10 digits * 10 + digit_value c
 
--- no numeral of at most `greatest` with `stop` behind it is at the front of the text
+-- no numeral of at most `greatest` with `stop` behind it is at the start of the text
 abbrev pub FailsNumber : ℕ → ℕ → ℕ → List ℕ → TextFault → Type 0
 FailsNumber greatest stop from text (Syntax at) =
     (c n : ℕ) × DigitsThen greatest text c n × (at ≡ from + n) × (10 ≤ digit_value c)
@@ -51,7 +51,7 @@ FailsNumber greatest stop from text (Ended at) =
     AllDigits 10 text × (digits_value 10 text ≤ greatest) × (at ≡ from + length text)
 FailsNumber greatest stop from text _ = ⊤
 
--- the byte isn't at the front of the text
+-- the byte isn't at the start of the text
 abbrev pub FailsByte : ℕ → ℕ → List ℕ → TextFault → Type 0
 FailsByte byte from text (Syntax at) =
     (c : ℕ) × (rest : List ℕ) × (text ≡ c ∷ rest) × (c ≢ byte) × (at ≡ from)
@@ -66,7 +66,7 @@ FailsBytes n from text (Large at) = ⊥
 FailsBytes n from text (Ended at) = AreBytes text × (length text < n) × (at ≡ from + length text)
 FailsBytes n from text _ = ⊤
 
--- n bytes and then another byte than `stop` stand at the front of the text
+-- n bytes and then another byte than `stop` stand at the start of the text
 pub record BytesThenOther (n stop : ℕ) (text : List ℕ) : Type 0 where
   pub bytes : List ℕ
   pub other : ℕ
@@ -76,7 +76,7 @@ pub record BytesThenOther (n stop : ℕ) (text : List ℕ) : Type 0 where
   pub text_is : text ≡ bytes ++ other ∷ rest
   pub differs : other ≢ stop
 
--- n bytes with `stop` behind them aren't at the front of the text
+-- n bytes with `stop` behind them aren't at the start of the text
 abbrev pub FailsField : ℕ → ℕ → ℕ → List ℕ → TextFault → Type 0
 FailsField n stop from text (Syntax at) = BytesThenOther n stop text × (at ≡ from + n)
 FailsField n stop from text (Large at) = ⊥
@@ -92,7 +92,7 @@ pub record ReadsBehind {X : Type 0} (spelling : ℕ → List ℕ → X → Type 
   pub read : Consumes old new text
   pub counted : to ≡ from + length text
 
--- the text has this fault, and no spelled item at its front
+-- the text has this fault, and no spelled item at its start
 pub record FailsItem {X : Type 0} (spelling : ℕ → List ℕ → X → Type 0) (greatest from : ℕ)
     (text : List ℕ) (f : TextFault) : Type 0 where
   pub fault : form.HasFault spelling greatest from text f

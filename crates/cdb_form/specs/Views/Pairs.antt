@@ -10,7 +10,7 @@ use Rattle.cdb_form.specs.declared.item.Item.{Item}
 use Rattle.cdb_form.specs.declared.item.Item.TheVariants.{Put, Remove}
 use Rattle.cdb_form.specs.declared.item.ItemKind.{ItemKind}
 use Rattle.cdb_form.specs.declared.item.ItemKind.TheVariants as kind
-use Rattle.cdb_form.specs.declared.pair.Pair.{Pair}
+use Rattle.cdb_form.specs.declared.pair.TwoWords.{TwoWords}
 use Rattle.cdb_form.specs.declared.record.Record.{Record}
 use Rattle.cdb_form.specs.declared.slot.Slot.{Slot}
 
@@ -34,7 +34,7 @@ abbrev pub change_in : ItemKind → Record → Change
 change_in kind.Put r = Putting (key_value r)
 change_in kind.Remove r = Removing r.key.items
 
-abbrev pub pair_of : Pair → WordPair
+abbrev pub pair_of : TwoWords → WordPair
 pair_of p = record { first = p.first; second = p.second }
 
 abbrev pub header_pair : Header → WordPair

@@ -14,11 +14,11 @@ use Rattle.cdb_form.specs.declared.header.Header.{Header}
 use Rattle.cdb_form.specs.Views.KnownBytes.{LosesAtMost}
 use Rattle.cdb_form.specs.declared.reading_whole.Extent.{Extent}
 use Rattle.cdb_form.specs.declared.reading_whole.Extent.TheVariants.{All, More}
-use Rattle.cdb_form.specs.declared.reading.Unread.{Unread}
-use Rattle.cdb_form.specs.declared.reading.Unread.TheVariants.{Ended, Failed, Spent, NoMemory}
+use Rattle.cdb_form.specs.declared.reading.ReadStop.{ReadStop}
+use Rattle.cdb_form.specs.declared.reading.ReadStop.TheVariants.{Ended, Failed, Spent, NoMemory}
 
 -- the reader itself failed, or was asked as often as it may be
-abbrev pub IsOfReader : Unread → Type 0
+abbrev pub IsOfReader : ReadStop → Type 0
 IsOfReader Failed = ⊤
 IsOfReader Spent = ⊤
 IsOfReader Ended = ⊥

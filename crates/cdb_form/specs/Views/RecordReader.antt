@@ -11,33 +11,33 @@ use Rattle.cdb_form.specs.declared.record.Record.{Record}
 use Rattle.cdb_form.specs.declared.walk.keeping.Keeping.{Keeping}
 use Rattle.cdb_form.specs.declared.walk.fault.WalkFault.{WalkFault}
 use Rattle.cdb_form.specs.declared.walk.record_reader.RecordReader.{RecordReader}
-use Rattle.cdb_form.specs.declared.walk.record_reader.Walking.{Walking}
-use Rattle.cdb_form.specs.declared.walk.record_reader.Walking.TheVariants.{AtHead, At, AtEnd}
-use Rattle.cdb_form.specs.declared.walk.record_reader.Walking.TheVariants.{Failed}
+use Rattle.cdb_form.specs.declared.walk.record_reader.Progress.{Progress}
+use Rattle.cdb_form.specs.declared.walk.record_reader.Progress.TheVariants.{AtHead, At, AtEnd}
+use Rattle.cdb_form.specs.declared.walk.record_reader.Progress.TheVariants.{Failed}
 
 -- the walk of what is unread: of a whole file before its head was read, and then from the next
 -- place on
-abbrev pub walk_of_rest : ℕ → Walking → List ℕ → Walked
+abbrev pub walk_of_rest : ℕ → Progress → List ℕ → Walked
 walk_of_rest w AtHead text = walk_of w text
 walk_of_rest w (At area) text = walk_from w area.place area.end text
 walk_of_rest w AtEnd text = no_walk
 walk_of_rest w (Failed fault) text = stopped_by fault
 
 -- how many of the unread bytes stand before the record end, or in the head
-abbrev pub size_of_rest : ℕ → Walking → List ℕ → ℕ
+abbrev pub size_of_rest : ℕ → Progress → List ℕ → ℕ
 size_of_rest w AtHead text = max (head_size w) (record_end w text)
 size_of_rest w (At area) text = area.end - area.place
 size_of_rest w AtEnd text = 0
 size_of_rest w (Failed fault) text = 0
 
 -- a bound on the bytes that may still be read
-abbrev pub bound_of_rest : Walking → ℕ
+abbrev pub bound_of_rest : Progress → ℕ
 bound_of_rest AtHead = 2 ^ 64
 bound_of_rest (At area) = area.end - area.place
 bound_of_rest AtEnd = 0
 bound_of_rest (Failed fault) = 0
 
-abbrev pub is_going : Walking → Type 0
+abbrev pub is_going : Progress → Type 0
 is_going AtHead = ⊤
 is_going (At area) = ⊤
 is_going AtEnd = ⊥
@@ -95,7 +95,7 @@ GaveSoFar w remaining file t rs =
     × (behind_end w t rest ≡ behind_records w text))
 
 -- how many bytes of the head and of one header are still to be read
-abbrev pub headers_left : ℕ → Walking → ℕ
+abbrev pub headers_left : ℕ → Progress → ℕ
 headers_left w AtHead = head_size w + pair_size w
 headers_left w _ = pair_size w
 

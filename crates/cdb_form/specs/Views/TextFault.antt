@@ -1,7 +1,7 @@
 -- What kind of fault a fault of a text is, and its number.
 use Rattle.std.specs.Prelude.{ℕ, ◌≡◌, ◌+◌, ⊤, List, ◌++◌, codes, decimal, Option, Some, None}
-use Rattle.cdb_form.specs.declared.reading.Unread.{Unread}
-use Rattle.cdb_form.specs.declared.reading.Unread.TheVariants as unread
+use Rattle.cdb_form.specs.declared.reading.ReadStop.{ReadStop}
+use Rattle.cdb_form.specs.declared.reading.ReadStop.TheVariants as unread
 use Rattle.cdb_form.specs.declared.text.fault.TextFault.{TextFault}
 use Rattle.cdb_form.specs.declared.text.fault.TextFault.TheVariants.{Syntax, Ended, Large, Input}
 use Rattle.cdb_form.specs.declared.text.fault.TextFault.TheVariants.{Endless, NoMemory}
@@ -33,7 +33,7 @@ text_number Endless = 5
 text_number NoMemory = 6
 
 -- the fault of a text whose reader, after so many bytes, did not give what it was asked for
-abbrev pub unread_fault : ℕ → Unread → TextFault
+abbrev pub unread_fault : ℕ → ReadStop → TextFault
 unread_fault at unread.Ended = Ended at
 unread_fault at unread.Failed = Input
 unread_fault at unread.Spent = Endless

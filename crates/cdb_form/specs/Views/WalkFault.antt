@@ -3,8 +3,8 @@ use Rattle.std.specs.Prelude.{ℕ, ⊤, List, [], ◌++◌, codes, decimal, Opti
 use Rattle.cdb_form.specs.Format.Walk.{Walked}
 use Rattle.cdb_form.specs.declared.damage.Damage.{Damage}
 use Rattle.cdb_form.specs.declared.damage.Damage.TheVariants as damage
-use Rattle.cdb_form.specs.declared.reading.Unread.{Unread}
-use Rattle.cdb_form.specs.declared.reading.Unread.TheVariants as unread
+use Rattle.cdb_form.specs.declared.reading.ReadStop.{ReadStop}
+use Rattle.cdb_form.specs.declared.reading.ReadStop.TheVariants as unread
 use Rattle.cdb_form.specs.declared.walk.fault.WalkFault.{WalkFault}
 use Rattle.cdb_form.specs.declared.walk.fault.WalkFault.TheVariants.{Short, Table, Record, Input}
 use Rattle.cdb_form.specs.declared.walk.fault.WalkFault.TheVariants.{NoMemory}
@@ -37,7 +37,7 @@ walk_number NoMemory = 5
 
 -- the fault of a walk whose reader did not give what it was asked for, where it is `early` that it
 -- had no more
-abbrev pub unread_walk : WalkFault → Unread → WalkFault
+abbrev pub unread_walk : WalkFault → ReadStop → WalkFault
 unread_walk early unread.Ended = early
 unread_walk early unread.Failed = Input
 unread_walk early unread.Spent = Input

@@ -2,7 +2,7 @@
 ghost use Rattle.std.specs.Prelude.{◌≡◌, ◌^◌, ◌≤◌, IfOk, IfErr, IfSome, MatchOption};
 ghost use Rattle.cdb_form.specs.Format.Record.{KeyValue};
 ghost use Rattle.cdb_form.specs.Text.Amending.{Putting};
-ghost use Rattle.cdb_form.specs.Views.Front.{shown_by};
+ghost use Rattle.cdb_form.specs.Views.Prefix.{shown_by};
 ghost use Rattle.cdb_form.specs.Views.Pairs.{change_in, change_of};
 
 use crate::item::{Item, ItemKind};
@@ -10,7 +10,7 @@ use crate::record::Record;
 use crate::text::at_hand::{AtHand, NoneAtHand};
 use crate::text::fault::TextFault;
 use crate::text::form_reader::FormReader;
-use crate::text::front::FrontRecord;
+use crate::text::prefix::PeekedRecord;
 use crate::width::Width;
 use std::alloc::Global;
 use std::io::Read;
@@ -28,7 +28,7 @@ pub struct AmendReader<R, L> {
 
 impl<R: Read, L: Width> AmendReader<R, L> {
     ghost use Rattle.cdb_form.specs.Views.AmendReader.{unread, taken_of, asks_left, IsGoing};
-    ghost use Rattle.cdb_form.specs.Views.AmendReader.{HasEnded, HasFailed, HasFront, GivesChange};
+    ghost use Rattle.cdb_form.specs.Views.AmendReader.{HasEnded, HasFailed, HasPeeked, GivesChange};
     ghost use Rattle.cdb_form.specs.Views.AmendReader.{GivesEnd, Fails};
     /// A reader of the text that `reader` gives, which may be asked 2^48 times.
     pub fn new(alloc: Global, reader: R) -> AmendReader<R, L>
@@ -123,22 +123,22 @@ impl<R: Read, L: Width> AmendReader<R, L> {
     }
 
     /// The record that the next item puts, where it lies, if it is whole at hand. Nothing is taken:
-    /// `take_front` does that.
+    /// `take_peeked` does that.
     #[inline(always)]
-    pub fn front<A: AtHand<R>>(&self) -> Option<FrontRecord<'_>>
+    pub fn peek<A: AtHand<R>>(&self) -> Option<PeekedRecord<'_>>
         ensures { IfSome result (λ f.
-            HasFront A.held L.GREATEST self.now f.len (shown_by f)) }
+            HasPeeked A.held L.GREATEST self.now f.len (shown_by f)) }
     {
-        self.items.front::<A>()
+        self.items.peek::<A>()
     }
 
-    /// Takes the record that `front` shows, whose `len` this is. Each of its bytes counts as an ask.
+    /// Takes the record that `peek` shows, whose `len` this is. Each of its bytes counts as an ask.
     #[inline(always)]
-    pub fn take_front<A: AtHand<R>>(&mut self, len: usize)
-        requires { (r : KeyValue) × HasFront A.held L.GREATEST self.old len r }
-        ensures { (r : KeyValue) → HasFront A.held L.GREATEST self.old len r
+    pub fn take_peeked<A: AtHand<R>>(&mut self, len: usize)
+        requires { (r : KeyValue) × HasPeeked A.held L.GREATEST self.old len r }
+        ensures { (r : KeyValue) → HasPeeked A.held L.GREATEST self.old len r
             → GivesChange L.GREATEST R.remaining self.old self.new (Putting r) }
     {
-        self.items.take_front::<A>(len);
+        self.items.take_peeked::<A>(len);
     }
 }

@@ -3,7 +3,7 @@ ghost use Rattle.std.specs.Prelude.{◌≡◌};
 ghost use Rattle.cdb_form.specs.Views.TextFault.{text_number, text_message, text_place};
 ghost use Rattle.cdb_form.specs.Views.TextFault.{unread_fault};
 
-use crate::reading::Unread;
+use crate::reading::ReadStop;
 use std::alloc::{AllocError, AllocFailed};
 use std::error::Error;
 use std::fmt;
@@ -41,14 +41,14 @@ impl TextFault {
     }
 
     /// The fault of a text whose reader, after so many bytes, did not give what it was asked for.
-    pub(crate) fn of_reader(unread: Unread, at: u64) -> TextFault
+    pub(crate) fn of_reader(unread: ReadStop, at: u64) -> TextFault
         ensures { result ≡ unread_fault at unread }
     {
         match unread {
-            Unread::Ended => TextFault::Ended(at),
-            Unread::Failed => TextFault::Input,
-            Unread::Spent => TextFault::Endless,
-            Unread::NoMemory => TextFault::NoMemory,
+            ReadStop::Ended => TextFault::Ended(at),
+            ReadStop::Failed => TextFault::Input,
+            ReadStop::Spent => TextFault::Endless,
+            ReadStop::NoMemory => TextFault::NoMemory,
         }
     }
 

@@ -3,7 +3,7 @@ ghost use Rattle.std.specs.Prelude.{◌≡◌, ◌≢◌, ◌≤◌, ◌^◌, fa
 ghost use Rattle.std.specs.Prelude.{MatchOption};
 ghost use Rattle.cdb_form.specs.Format.Record.{KeyValue};
 ghost use Rattle.cdb_form.specs.Text.Amending.{Putting, SpellsChange};
-ghost use Rattle.cdb_form.specs.Views.Front.{shown_by};
+ghost use Rattle.cdb_form.specs.Views.Prefix.{shown_by};
 ghost use Rattle.cdb_form.specs.Views.Pairs.{change_in};
 ghost use Rattle.cdb_form.specs.declared.item.ItemKind.TheVariants.{Remove};
 
@@ -11,8 +11,8 @@ use crate::item::ItemKind;
 use crate::record::Record;
 use crate::text::at_hand::AtHand;
 use crate::text::fault::TextFault;
-use crate::text::front::{FrontRecord, front_record};
 use crate::text::going::Going;
+use crate::text::prefix::{PeekedRecord, prefix_record};
 use crate::text::source::Source;
 use crate::width::Width;
 use std::io::Read;
@@ -28,7 +28,7 @@ pub(crate) struct FormReader<R, L> {
 
 impl<R: Read, L: Width> FormReader<R, L> {
     ghost use Rattle.cdb_form.specs.Views.FormReader.{unread, taken_of, asks_left, IsGoing};
-    ghost use Rattle.cdb_form.specs.Views.FormReader.{HasEnded, HasFailed, HasFront, GivesItem};
+    ghost use Rattle.cdb_form.specs.Views.FormReader.{HasEnded, HasFailed, HasPeeked, GivesItem};
     ghost use Rattle.cdb_form.specs.Views.FormReader.{GivesEnd, FailsAs};
 
     /// A reader of the text that `reader` gives, which may be asked so many times.
@@ -55,21 +55,21 @@ impl<R: Read, L: Width> FormReader<R, L> {
 
     /// The record that the next item puts, if it is whole at hand. Nothing is taken.
     #[inline(always)]
-    pub(crate) fn front<A: AtHand<R>>(&self) -> Option<FrontRecord<'_>>
+    pub(crate) fn peek<A: AtHand<R>>(&self) -> Option<PeekedRecord<'_>>
         ensures { IfSome result (λ f.
-            HasFront A.held L.GREATEST self.now f.len (shown_by f)) }
+            HasPeeked A.held L.GREATEST self.now f.len (shown_by f)) }
     {
         match self.going {
-            Going::On => front_record(self.source.at_hand::<A>(), L::GREATEST),
+            Going::On => prefix_record(self.source.at_hand::<A>(), L::GREATEST),
             Going::AtEnd | Going::Failed(_) => None,
         }
     }
 
-    /// Takes the record that `front` shows. Each of its bytes counts as an ask.
+    /// Takes the record that `peek` shows. Each of its bytes counts as an ask.
     #[inline(always)]
-    pub(crate) fn take_front<A: AtHand<R>>(&mut self, len: usize)
-        requires { (r : KeyValue) × HasFront A.held L.GREATEST self.old len r }
-        ensures { (r : KeyValue) → HasFront A.held L.GREATEST self.old len r
+    pub(crate) fn take_peeked<A: AtHand<R>>(&mut self, len: usize)
+        requires { (r : KeyValue) × HasPeeked A.held L.GREATEST self.old len r }
+        ensures { (r : KeyValue) → HasPeeked A.held L.GREATEST self.old len r
             → GivesItem SpellsChange L.GREATEST R.remaining self.old self.new (Putting r) }
     {
         self.source.take_at_hand::<A>(len);

@@ -14,8 +14,8 @@ ghost use Rattle.cdb_form.specs.declared.text.kind.Kind.TheVariants.{InWord};
 use crate::record::Record;
 use crate::text::at_hand::AtHand;
 use crate::text::fault::TextFault;
-use crate::text::front_line::front_line;
 use crate::text::kind::Kind;
+use crate::text::prefix_line::prefix_line;
 use crate::text::source::Source;
 use std::io::Read;
 
@@ -190,7 +190,7 @@ impl<R: Read> Source<R> {
         ensures leaves { IfErr result (LeavesAmid (Lacks is_newline)
             R.remaining self.old self.new) }
     {
-        let n = front_line(self.at_hand::<A>(), into)?;
+        let n = prefix_line(self.at_hand::<A>(), into)?;
         if n == 0 {
             return self.line::<A>(into);
         }

@@ -18,7 +18,7 @@ use crate::item::ItemKind;
 use crate::record::Record;
 use crate::text::at_hand::AtHand;
 use crate::text::fault::TextFault;
-use crate::text::front::copy_front;
+use crate::text::prefix::copy_prefix;
 use crate::text::source::Source;
 use std::io::Read;
 
@@ -230,7 +230,7 @@ impl<R: Read> Source<R> {
         ensures leaves { IfErr result (Leaves R.remaining self.old self.new) }
         ensures spends { OnOk result (budget self.old ≤ budget self.new) }
     {
-        let n = copy_front(self.at_hand::<A>(), greatest, into)?;
+        let n = copy_prefix(self.at_hand::<A>(), greatest, into)?;
         if n == 0 {
             return self.entry(into, greatest, removals);
         }

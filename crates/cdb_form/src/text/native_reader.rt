@@ -1,14 +1,14 @@
 // Records out of a native text.
 ghost use Rattle.std.specs.Prelude.{◌≡◌, ◌^◌, ◌≤◌, false, IfOk, IfErr, IfSome, MatchOption, MatchBool};
 ghost use Rattle.cdb_form.specs.Format.Record.{KeyValue};
-ghost use Rattle.cdb_form.specs.Views.Front.{shown_by};
+ghost use Rattle.cdb_form.specs.Views.Prefix.{shown_by};
 ghost use Rattle.cdb_form.specs.Views.Pairs.{key_value};
 
 use crate::record::Record;
 use crate::text::at_hand::{AtHand, NoneAtHand};
 use crate::text::fault::TextFault;
 use crate::text::form_reader::FormReader;
-use crate::text::front::FrontRecord;
+use crate::text::prefix::PeekedRecord;
 use crate::width::Width;
 use std::alloc::Global;
 use std::io::Read;
@@ -25,7 +25,7 @@ pub struct TextReader<R, L> {
 
 impl<R: Read, L: Width> TextReader<R, L> {
     ghost use Rattle.cdb_form.specs.Views.TextReader.{unread, taken_of, asks_left, IsGoing};
-    ghost use Rattle.cdb_form.specs.Views.TextReader.{HasEnded, HasFailed, HasFront, GivesRecord};
+    ghost use Rattle.cdb_form.specs.Views.TextReader.{HasEnded, HasFailed, HasPeeked, GivesRecord};
     ghost use Rattle.cdb_form.specs.Views.TextReader.{GivesEnd, Fails};
     /// A reader of the text that `reader` gives, which may be asked 2^48 times.
     pub fn new(alloc: Global, reader: R) -> TextReader<R, L>
@@ -114,23 +114,23 @@ impl<R: Read, L: Width> TextReader<R, L> {
         Ok(found.is_some())
     }
 
-    /// The next record, where it lies, if it is whole at hand. Nothing is taken: `take_front` does
+    /// The next record, where it lies, if it is whole at hand. Nothing is taken: `take_peeked` does
     /// that.
     #[inline(always)]
-    pub fn front<A: AtHand<R>>(&self) -> Option<FrontRecord<'_>>
+    pub fn peek<A: AtHand<R>>(&self) -> Option<PeekedRecord<'_>>
         ensures { IfSome result (λ f.
-            HasFront A.held L.GREATEST self.now f.len (shown_by f)) }
+            HasPeeked A.held L.GREATEST self.now f.len (shown_by f)) }
     {
-        self.items.front::<A>()
+        self.items.peek::<A>()
     }
 
-    /// Takes the record that `front` shows, whose `len` this is. Each of its bytes counts as an ask.
+    /// Takes the record that `peek` shows, whose `len` this is. Each of its bytes counts as an ask.
     #[inline(always)]
-    pub fn take_front<A: AtHand<R>>(&mut self, len: usize)
-        requires { (r : KeyValue) × HasFront A.held L.GREATEST self.old len r }
-        ensures { (r : KeyValue) → HasFront A.held L.GREATEST self.old len r
+    pub fn take_peeked<A: AtHand<R>>(&mut self, len: usize)
+        requires { (r : KeyValue) × HasPeeked A.held L.GREATEST self.old len r }
+        ensures { (r : KeyValue) → HasPeeked A.held L.GREATEST self.old len r
             → GivesRecord L.GREATEST R.remaining self.old self.new r }
     {
-        self.items.take_front::<A>(len);
+        self.items.take_peeked::<A>(len);
     }
 }

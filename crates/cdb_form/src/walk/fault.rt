@@ -2,7 +2,7 @@
 ghost use Rattle.std.specs.Prelude.{◌≡◌, option_map};
 ghost use Rattle.cdb_form.specs.Views.WalkFault.{walk_number, walk_message, walk_part, unread_walk};
 
-use crate::reading::Unread;
+use crate::reading::ReadStop;
 use std::alloc::{AllocError, AllocFailed};
 use std::error::Error;
 use std::fmt;
@@ -39,13 +39,13 @@ impl WalkFault {
 
     /// The fault of a walk whose reader did not give what it was asked for, if it is `early`
     /// that it had no more.
-    pub(crate) fn of_reader(unread: Unread, early: WalkFault) -> WalkFault
+    pub(crate) fn of_reader(unread: ReadStop, early: WalkFault) -> WalkFault
         ensures { result ≡ unread_walk early unread }
     {
         match unread {
-            Unread::Ended => early,
-            Unread::Failed | Unread::Spent => WalkFault::Input,
-            Unread::NoMemory => WalkFault::NoMemory,
+            ReadStop::Ended => early,
+            ReadStop::Failed | ReadStop::Spent => WalkFault::Input,
+            ReadStop::NoMemory => WalkFault::NoMemory,
         }
     }
 

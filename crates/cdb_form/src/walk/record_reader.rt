@@ -26,7 +26,7 @@ use std::marker::PhantomData;
 
 /// What a reader of records does next.
 #[derive(Clone, Copy)]
-pub(crate) enum Walking {
+pub(crate) enum Progress {
     AtHead,
     At(Area),
     AtEnd,
@@ -41,7 +41,7 @@ pub(crate) enum Walking {
 pub struct RecordReader<R, L> {
     alloc: Global,
     reader: R,
-    walking: Walking,
+    walking: Progress,
     width: PhantomData<L>,
 }
 
@@ -58,7 +58,7 @@ impl<R: Read, L: Width> RecordReader<R, L> {
         RecordReader {
             alloc,
             reader,
-            walking: Walking::AtHead,
+            walking: Progress::AtHead,
             width: PhantomData,
         }
     }
@@ -167,15 +167,15 @@ impl<R: Read, L: Width> RecordReader<R, L> {
             (result ≡ Err fault) × (self.new ≡ self.old) }
     {
         let answer = match self.walking {
-            Walking::AtHead => self.first::<A>(into, keeping),
-            Walking::At(area) => self.record_at::<A>(into, area, keeping),
-            Walking::AtEnd => return Ok(false),
-            Walking::Failed(fault) => return Err(fault),
+            Progress::AtHead => self.first::<A>(into, keeping),
+            Progress::At(area) => self.record_at::<A>(into, area, keeping),
+            Progress::AtEnd => return Ok(false),
+            Progress::Failed(fault) => return Err(fault),
         };
         match answer {
             Ok(true) => {}
-            Ok(false) => self.walking = Walking::AtEnd,
-            Err(fault) => self.walking = Walking::Failed(fault),
+            Ok(false) => self.walking = Progress::AtEnd,
+            Err(fault) => self.walking = Progress::Failed(fault),
         }
         answer
     }
@@ -262,7 +262,7 @@ impl<R: Read, L: Width> RecordReader<R, L> {
             return Ok(false);
         }
         let behind = read_record_buffered::<R, L, A>(&mut self.reader, into, area, keeping)?;
-        self.walking = Walking::At(behind);
+        self.walking = Progress::At(behind);
         Ok(true)
     }
 }

@@ -227,11 +227,11 @@ fn write_changes(writer: &mut FakeWriter) -> Result<(), OutFault> {
 }
 
 #[test]
-fn changes_are_written_or_a_front_of_them(rt: HostRuntime) {
+fn changes_are_written_or_a_prefix_of_them(rt: HostRuntime) {
     let text = b"+3,5:one->Hello\n-3:one\n-0:\n\n";
     for room in 0..text.len() + 1 {
         let mut writer = FakeWriter::new(rt.alloc(), room, 0);
         let answer = write_changes(&mut writer);
-        assert!(rt; writer.holds_front(answer, text, room), "room for {room}");
+        assert!(rt; writer.holds_prefix(answer, text, room), "room for {room}");
     }
 }

@@ -113,7 +113,7 @@ impl FakeWriter {
 impl FakeWriter {
     /// Whether it holds as much of a text as it had room for, and the answer says whether that is
     /// the whole text.
-    pub(super) fn holds_front(
+    pub(super) fn holds_prefix(
         &self,
         answer: Result<(), OutFault>,
         text: &[u8],

@@ -281,11 +281,11 @@ fn write_all(writer: &mut FakeWriter) -> Result<(), OutFault> {
 }
 
 #[test]
-fn texts_are_written_or_a_front_of_them(rt: HostRuntime) {
+fn texts_are_written_or_a_prefix_of_them(rt: HostRuntime) {
     let text = b"one Hello\ntwo Goodbye\n+3:one\n+0:\n+10:0123456789\n\none\ntwo\n";
     for room in 0..text.len() + 1 {
         let mut writer = FakeWriter::new(rt.alloc(), room, 0);
         let answer = write_all(&mut writer);
-        assert!(rt; writer.holds_front(answer, text, room), "room for {room}");
+        assert!(rt; writer.holds_prefix(answer, text, room), "room for {room}");
     }
 }

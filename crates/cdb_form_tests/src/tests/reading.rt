@@ -27,8 +27,8 @@ fn no_more_than_one_byte_above_the_most_is_taken(rt: HostRuntime) -> Result<(), 
         let mut reader = FakeReader::new(&text, Behind::End);
         let mut held = vec![in rt.alloc(); b'y'; 3]?;
         let answer = read_whole(&mut reader, &mut held, u64::from(most));
-        let is_front = held.len() == taken && held.iter().all(|byte| *byte == b'x');
-        let is_right = answer == Ok(extent) && is_front && reader.text.len() == left;
+        let is_prefix = held.len() == taken && held.iter().all(|byte| *byte == b'x');
+        let is_right = answer == Ok(extent) && is_prefix && reader.text.len() == left;
         assert!(rt; is_right && reader.greatest_ask <= 4096, "{most} of {len}");
     }
     Ok(())

@@ -9,12 +9,12 @@ use std::prelude::*;
 use std::test::Fail;
 
 #[test]
-fn a_writer_that_fails_holds_a_front(rt: HostRuntime) {
+fn a_writer_that_fails_holds_a_prefix(rt: HostRuntime) {
     let bytes = b"Hello, Goodbye";
     for room in 0..bytes.len() + 1 {
         let mut writer = FakeWriter::new(rt.alloc(), room, 0);
         let answer = write_pieces(&mut writer, &[&bytes[..5], &bytes[5..]]);
-        assert!(rt; writer.holds_front(answer, bytes, room), "room for {room}");
+        assert!(rt; writer.holds_prefix(answer, bytes, room), "room for {room}");
     }
 }
 
@@ -66,12 +66,12 @@ fn write_two(writer: &mut FakeWriter) -> Result<(), OutFault> {
 }
 
 #[test]
-fn a_text_is_written_or_a_front_of_it(rt: HostRuntime) {
+fn a_text_is_written_or_a_prefix_of_it(rt: HostRuntime) {
     let text = b"+3,5:one->Hello\n+0,10:->->\n-> +0,0\n\n";
     for room in 0..text.len() + 1 {
         let mut writer = FakeWriter::new(rt.alloc(), room, 0);
         let answer = write_two(&mut writer);
-        assert!(rt; writer.holds_front(answer, text, room), "room for {room}");
+        assert!(rt; writer.holds_prefix(answer, text, room), "room for {room}");
     }
 }
 

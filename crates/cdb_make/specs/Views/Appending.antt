@@ -13,7 +13,7 @@ use Rattle.cdb_make.specs.declared.maker.Maker.{Maker}
 use Rattle.cdb_make.specs.Views.Maker.{Holds, WhereHonest, HasStoreFailed, HasNotFailed}
 use Rattle.cdb_make.specs.Views.Maker.{StaysWhole}
 
--- all whole records at the front of some bytes
+-- all whole records at the start of some bytes
 abbrev pub records_at : ℕ → List ℕ → List KeyValue
 records_at w bytes = whole_records w (length bytes) bytes
 

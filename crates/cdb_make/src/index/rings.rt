@@ -3,7 +3,7 @@ ghost use Rattle.std.specs.Prelude.{◌≡◌, ℕ, List, [], ◌+◌, ◌-◌, 
 ghost use Rattle.std.specs.Prelude.{slice_index, vec_capacity, OnOk, OnErr};
 ghost use Rattle.cdb_make.specs.Rings.{AreCut, AreLinked, bucket_of};
 
-use crate::index::scan::first_place;
+use crate::index::scan::first_of_hash;
 use std::alloc::{AllocError, Global};
 
 /// How many entries of a list an index has at most, since their numbers are 32 bits wide.
@@ -100,7 +100,7 @@ impl Index {
             at = self.after(at);
         }
         let rest = from.max(at);
-        rest + first_place(&hashes[rest..], hash)
+        rest + first_of_hash(&hashes[rest..], hash)
     }
 
     /// So many entries a list may have before the index takes memory, or more.

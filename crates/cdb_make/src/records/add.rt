@@ -4,7 +4,7 @@ ghost use Rattle.std.specs.Prelude.{length, sum_by, vec_capacity, IfOk, IfErr, O
 ghost use Rattle.cdb_store.specs.Images.{KeepsPart};
 ghost use Rattle.cdb_form.specs.Format.Hash.{key_hash};
 ghost use Rattle.cdb_form.specs.Format.Pair.{head_size};
-ghost use Rattle.cdb_form.specs.Format.Record.{KeyValue, record_size};
+ghost use Rattle.cdb_form.specs.Format.Record.{record_of, KeyValue, record_size};
 ghost use Rattle.cdb_make.specs.Marks.{StandMarked};
 ghost use Rattle.cdb_make.specs.declared.fault.MakeFault.TheVariants.{Writing};
 ghost use Rattle.cdb_make.specs.Stands.{Stands};
@@ -38,22 +38,22 @@ pub(crate) fn add<S: Store, L: Width>(
     requires all { length lists.old.items ≡ 256 }
     requires start { head_size L.WORD ≤ end }
     requires inside { end ≤ S.size store.old }
-    requires fits { end + record_size L.WORD (record { key = key.now; value = value.now })
+    requires fits { end + record_size L.WORD (record_of key.now value.now)
         ≤ L.GREATEST }
     requires hash { hash ≡ key_hash key.now }
     ensures stands { (rs : List KeyValue)
         → Stands L.WORD end (lists_entries lists.old.items) rs (S.image store.old)
         → IfOk result (λ last. Stands L.WORD last (lists_entries lists.new.items)
-        (rs ++ record { key = key.now; value = value.now } ∷ []) (S.image store.new)) }
+        (rs ++ record_of key.now value.now ∷ []) (S.image store.new)) }
     ensures marked { (marks : List Bool) (rs : List KeyValue) → length marks ≤ length rs
         → StandMarked L.WORD end (lists_entries lists.old.items) marks rs (S.image store.old)
         → IfOk result (λ last. StandMarked L.WORD last (lists_entries lists.new.items) marks
-        (rs ++ record { key = key.now; value = value.now } ∷ []) (S.image store.new)) }
+        (rs ++ record_of key.now value.now ∷ []) (S.image store.new)) }
     ensures end { IfOk result (λ last.
-        last ≡ end + record_size L.WORD (record { key = key.now; value = value.now })) }
+        last ≡ end + record_size L.WORD (record_of key.now value.now)) }
     ensures inside { IfOk result (λ last. last ≤ S.size store.new) }
     ensures written { OnOk result (S.written store.new ≡ S.written store.old
-        + record_size L.WORD (record { key = key.now; value = value.now })) }
+        + record_size L.WORD (record_of key.now value.now)) }
     ensures one_more { OnOk result (sum_by length (lists_entries lists.new.items)
         ≡ sum_by length (lists_entries lists.old.items) + 1) }
     ensures placed { (most : ℕ) → end ≤ most → AreWithin most (lists_entries lists.old.items)
@@ -75,7 +75,7 @@ pub(crate) fn add<S: Store, L: Width>(
         ((entry_room lists.old.items hash ≤ entry_count lists.old.items hash)
         ⊎ (vec_capacity gaps.old ≤ entry_count lists.old.items hash))
         (S.room store.old
-        < end + record_size L.WORD (record { key = key.now; value = value.now }))) }
+        < end + record_size L.WORD (record_of key.now value.now))) }
     ensures longer { S.size store.old ≤ S.size store.new }
     ensures room { S.room store.old ≤ S.room store.new }
     ensures failures { S.failures store.old ≤ S.failures store.new }

@@ -5,14 +5,14 @@ ghost use Rattle.cdb_store.specs.Images.{Holds as AreIn};
 ghost use Rattle.cdb_form.specs.Format.File.{whole_size};
 ghost use Rattle.cdb_form.specs.Format.Hash.{key_hash};
 ghost use Rattle.cdb_form.specs.Format.Record.{KeyValue, IsRecord, record_bytes, record_size};
-ghost use Rattle.cdb_form.specs.Format.Walk.{front_size, front_record, whole_records};
+ghost use Rattle.cdb_form.specs.Format.Walk.{prefix_size, prefix_record, whole_records};
 ghost use Rattle.cdb_make.specs.declared.fault.MakeFault.TheVariants.{NoMemory};
 ghost use Rattle.cdb_make.specs.Views.Appending.{records_at, first_size, AreFirst};
 
 use crate::fault::MakeFault;
 use crate::index::entries::{push_entry, reserve_entry};
 use crate::maker::Maker;
-use cdb_form::{Width, front_len, hash, pair_size, read_header};
+use cdb_form::{Width, hash, pair_size, read_header, record_len};
 use cdb_store::Store;
 
 /// The record with which some bytes begin.
@@ -25,9 +25,9 @@ struct First<'a> {
 
 /// The whole record with which some bytes begin.
 fn first_record<L: Width>(bytes: &[u8]) -> First<'_>
-    requires { front_size L.WORD bytes.now ≤ length bytes.now }
-    ensures key { result.key.now ≡ (front_record L.WORD bytes.now).key }
-    ensures size { result.size ≡ front_size L.WORD bytes.now }
+    requires { prefix_size L.WORD bytes.now ≤ length bytes.now }
+    ensures key { result.key.now ≡ (prefix_record L.WORD bytes.now).key }
+    ensures size { result.size ≡ prefix_size L.WORD bytes.now }
 {
     let size = pair_size::<L>();
     let header = read_header::<L>(&bytes[..size]);
@@ -49,7 +49,7 @@ struct Fitting {
     passes: bool,
 }
 
-/// The first whole records at the front of some bytes for which a file has room: with the slots of
+/// The first whole records at the start of some bytes for which a file has room: with the slots of
 /// their tables they take at most so many bytes.
 fn measure<L: Width>(bytes: &[u8], room: u64) -> Fitting
     ensures first { AreFirst L.WORD bytes.now result.count result.size }
@@ -63,7 +63,7 @@ fn measure<L: Width>(bytes: &[u8], room: u64) -> Fitting
     let slots = 2 * pair_size::<L>() as u64;
     let mut left = room;
     let (mut count, mut place) = (0, 0);
-    while let Some(next) = front_len::<L>(&bytes[place..]) {
+    while let Some(next) = record_len::<L>(&bytes[place..]) {
         if left < slots || left - slots < next as u64 {
             return Fitting {
                 count,
@@ -190,7 +190,7 @@ impl<S: Store, L: Width> Maker<S, L> {
         self.enter_all(bytes, count)
     }
 
-    /// Appends the whole records at the front of some bytes, as they are, and answers how many
+    /// Appends the whole records at the start of some bytes, as they are, and answers how many
     /// bytes they have.
     ///
     /// They are written by one write, and no record is copied. The bytes after the last whole

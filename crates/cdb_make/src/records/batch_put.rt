@@ -1,7 +1,7 @@
 // A record, put by a batch.
 ghost use Rattle.std.specs.Prelude.{◌≡◌, ◌⊎◌, [], true, false, length, IfOk, IfErr, OnOk, OnErr};
 ghost use Rattle.cdb_form.specs.Format.Hash.{key_hash};
-ghost use Rattle.cdb_form.specs.Format.Record.{KeyValue};
+ghost use Rattle.cdb_form.specs.Format.Record.{record_of, KeyValue};
 ghost use Rattle.cdb_form.specs.declared.mode.Mode.TheVariants.{Replace};
 ghost use Rattle.cdb_make.specs.Views.Batch.{is_short};
 
@@ -48,9 +48,9 @@ impl<S: Store, L: Width> Batch<S, L> {
     fn add(&mut self, hash: u32, key: &[u8], value: &[u8]) -> Result<(), MakeFault>
         requires hash { hash ≡ key_hash key.now }
         ensures ok { OnOk result
-            (Adds self.old self.new (record { key = key.now; value = value.now })) }
+            (Adds self.old self.new (record_of key.now value.now)) }
         ensures fails { IfErr result
-            (FailsAdding self.old self.new (record { key = key.now; value = value.now })) }
+            (FailsAdding self.old self.new (record_of key.now value.now)) }
         ensures follows { Follows self.old.maker self.new.maker }
         ensures counts { OnErr result (SameCounts self.old self.new) }
     {
@@ -79,12 +79,12 @@ impl<S: Store, L: Width> Batch<S, L> {
         requires taken { taken ≡ length self.old.maker.gaps.items }
         requires whole { self.old.maker.broken ≡ false }
         ensures done { IfOk result (λ done. done ≡ true
-            → Exchanges self.old self.new (record { key = key.now; value = value.now })) }
+            → Exchanges self.old self.new (record_of key.now value.now)) }
         ensures waits { IfOk result (λ done. done ≡ false
-            → Waits self.old self.new (record { key = key.now; value = value.now })) }
+            → Waits self.old self.new (record_of key.now value.now)) }
         ensures same { IfOk result (λ done. done ≡ false → SameCounts self.old self.new) }
         ensures fails { IfErr result
-            (FailsExchanging self.old self.new (record { key = key.now; value = value.now })) }
+            (FailsExchanging self.old self.new (record_of key.now value.now)) }
         ensures follows { Follows self.old.maker self.new.maker }
         ensures counts { OnErr result (SameCounts self.old self.new) }
     {
@@ -113,9 +113,9 @@ impl<S: Store, L: Width> Batch<S, L> {
     fn replace(&mut self, hash: u32, key: &[u8], value: &[u8]) -> Result<Put, MakeFault>
         requires hash { hash ≡ key_hash key.now }
         ensures puts { IfOk result
-            (Puts self.old self.new Replace (record { key = key.now; value = value.now })) }
+            (Puts self.old self.new Replace (record_of key.now value.now)) }
         ensures fails { IfErr result
-            (FailsPutting self.old self.new Replace (record { key = key.now; value = value.now })) }
+            (FailsPutting self.old self.new Replace (record_of key.now value.now)) }
         ensures follows { Follows self.old.maker self.new.maker }
         ensures counts { OnErr result (SameCounts self.old self.new) }
     {
@@ -136,9 +136,9 @@ impl<S: Store, L: Width> Batch<S, L> {
     fn put_by(&mut self, mode: Mode, hash: u32, key: &[u8], value: &[u8]) -> Result<Put, MakeFault>
         requires hash { hash ≡ key_hash key.now }
         ensures puts { IfOk result
-            (Puts self.old self.new mode (record { key = key.now; value = value.now })) }
+            (Puts self.old self.new mode (record_of key.now value.now)) }
         ensures fails { IfErr result
-            (FailsPutting self.old self.new mode (record { key = key.now; value = value.now })) }
+            (FailsPutting self.old self.new mode (record_of key.now value.now)) }
         ensures follows { Follows self.old.maker self.new.maker }
         ensures counts { OnErr result (SameCounts self.old self.new) }
     {
@@ -176,9 +176,9 @@ impl<S: Store, L: Width> Batch<S, L> {
     #[inline(always)]
     pub fn put(&mut self, mode: Mode, key: &[u8], value: &[u8]) -> Result<Put, MakeFault>
         ensures puts { IfOk result
-            (Puts self.old self.new mode (record { key = key.now; value = value.now })) }
+            (Puts self.old self.new mode (record_of key.now value.now)) }
         ensures fails { IfErr result
-            (FailsPutting self.old self.new mode (record { key = key.now; value = value.now })) }
+            (FailsPutting self.old self.new mode (record_of key.now value.now)) }
         ensures follows { Follows self.old.maker self.new.maker }
         ensures counts { OnErr result (SameCounts self.old self.new) }
     {

@@ -121,7 +121,7 @@ fn key_follows<S: Store>(
 }
 
 /// Reads the header of the record at a place, and as many bytes after it as there is room for.
-fn read_front<S: Store, L: Width>(
+fn read_prefix<S: Store, L: Width>(
     store: &mut S,
     place: u64,
     front: &mut [u8],
@@ -169,7 +169,7 @@ pub(crate) fn look_at<S: Store, L: Width>(
     let room = end - key_place;
     let mut front = [0; GREATEST_PAIR + BESIDE];
     let front = &mut front[..header_size + bytes_beside(key, room)];
-    let header = read_front::<S, L>(store, place, front)?;
+    let header = read_prefix::<S, L>(store, place, front)?;
     if room < header.klen || room - header.klen < header.vlen {
         return Err(LookFault::Foreign);
     }

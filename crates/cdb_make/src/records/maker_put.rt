@@ -4,7 +4,7 @@ ghost use Rattle.std.specs.Prelude.{sum_by, IfOk, IfErr, OnOk, OnErr};
 ghost use Rattle.cdb_form.specs.Format.Hash.{key_hash};
 ghost use Rattle.cdb_form.specs.Format.Pair.{head_size};
 ghost use Rattle.cdb_form.specs.Format.File.{whole_size};
-ghost use Rattle.cdb_form.specs.Format.Record.{KeyValue, record_size};
+ghost use Rattle.cdb_form.specs.Format.Record.{record_of, KeyValue, record_size};
 ghost use Rattle.cdb_form.specs.declared.mode.Mode.TheVariants.{Replace};
 ghost use Rattle.cdb_make.specs.Gaps.{AreApart};
 ghost use Rattle.cdb_make.specs.declared.fault.MakeFault.TheVariants.{NoMemory};
@@ -27,10 +27,10 @@ impl<S: Store, L: Width> Maker<S, L> {
     fn has_room(&self, size: u64, key: &[u8], value: &[u8]) -> bool
         requires { size ≤ self.now.limit }
         ensures room { result ≡ true
-            → size + whole_size L.WORD (record { key = key.now; value = value.now })
+            → size + whole_size L.WORD (record_of key.now value.now)
             ≤ self.now.limit }
         ensures none { result ≡ false → self.now.limit
-            < size + whole_size L.WORD (record { key = key.now; value = value.now }) }
+            < size + whole_size L.WORD (record_of key.now value.now) }
     {
         // The header, and two slots.
         let words = 3 * pair_size::<L>() as u64;
@@ -43,20 +43,20 @@ impl<S: Store, L: Width> Maker<S, L> {
     pub(crate) fn add(&mut self, hash: u32, key: &[u8], value: &[u8]) -> Result<(), MakeFault>
         requires hash { hash ≡ key_hash key.now }
         ensures ok { OnOk result
-            (Adds self.old self.new (record { key = key.now; value = value.now })) }
+            (Adds self.old self.new (record_of key.now value.now)) }
         ensures fails { IfErr result
-            (FailsAdding self.old self.new (record { key = key.now; value = value.now })) }
+            (FailsAdding self.old self.new (record_of key.now value.now)) }
         ensures follows { Follows self.old self.new }
         ensures counts { OnErr result (SameCounts self.old self.new) }
         ensures more { OnOk result (self.new.count ≡ self.old.count + 1) }
         ensures carries { (all : List KeyValue) (marks : List Bool) → Carries self.old all marks
             → OnOk result (Carries self.new
-            (all ++ record { key = key.now; value = value.now } ∷ []) marks) }
+            (all ++ record_of key.now value.now ∷ []) marks) }
         ensures fits { OnOk result
-            (HasRoom self.old (record { key = key.now; value = value.now })) }
+            (HasRoom self.old (record_of key.now value.now)) }
         ensures keeps { OnErr result (KeepsCarrying self.old self.new) }
         ensures wants { result ≡ Err NoMemory
-            → WantsMemory self.old (record { key = key.now; value = value.now }) }
+            → WantsMemory self.old (record_of key.now value.now) }
     {
         if self.broken {
             return Err(MakeFault::Broken);
@@ -82,14 +82,14 @@ impl<S: Store, L: Width> Maker<S, L> {
         requires few { length self.old.gaps.items ≤ self.old.count }
         requires some { 0 < length self.old.gaps.items }
         requires fits { made_size self.old
-            + whole_size L.WORD (record { key = key.now; value = value.now })
+            + whole_size L.WORD (record_of key.now value.now)
             ≤ self.old.limit + sum_by (λ g. g.size) self.old.gaps.items
             + 4 * L.WORD * length self.old.gaps.items }
         requires room { self.old.end
-            + record_size L.WORD (record { key = key.now; value = value.now })
+            + record_size L.WORD (record_of key.now value.now)
             ≤ S.room self.old.store + sum_by (λ g. g.size) self.old.gaps.items }
         ensures ok { OnOk result
-            (Exchanges self.old self.new (record { key = key.now; value = value.now })) }
+            (Exchanges self.old self.new (record_of key.now value.now)) }
         ensures fails { IfErr result (FailsClosing self.old self.new key.now) }
         ensures broken { OnErr result (self.new.broken ≡ true) }
         ensures follows { Follows self.old self.new }
@@ -114,9 +114,9 @@ impl<S: Store, L: Width> Maker<S, L> {
     pub(crate) fn replace(&mut self, hash: u32, key: &[u8], value: &[u8]) -> Result<Put, MakeFault>
         requires hash { hash ≡ key_hash key.now }
         ensures puts { IfOk result
-            (Puts self.old self.new Replace (record { key = key.now; value = value.now })) }
+            (Puts self.old self.new Replace (record_of key.now value.now)) }
         ensures fails { IfErr result
-            (FailsPutting self.old self.new Replace (record { key = key.now; value = value.now })) }
+            (FailsPutting self.old self.new Replace (record_of key.now value.now)) }
         ensures follows { Follows self.old self.new }
         ensures counts { OnErr result (SameCounts self.old self.new) }
     {
@@ -145,9 +145,9 @@ impl<S: Store, L: Width> Maker<S, L> {
     /// call broke it, or the store gave back other bytes than were written.
     pub fn put(&mut self, mode: Mode, key: &[u8], value: &[u8]) -> Result<Put, MakeFault>
         ensures puts { IfOk result
-            (Puts self.old self.new mode (record { key = key.now; value = value.now })) }
+            (Puts self.old self.new mode (record_of key.now value.now)) }
         ensures fails { IfErr result
-            (FailsPutting self.old self.new mode (record { key = key.now; value = value.now })) }
+            (FailsPutting self.old self.new mode (record_of key.now value.now)) }
         ensures follows { Follows self.old self.new }
         ensures counts { OnErr result (SameCounts self.old self.new) }
     {

@@ -1,7 +1,7 @@
 // A record is written to a store.
 ghost use Rattle.std.specs.Prelude.{◌≡◌, ◌+◌, ◌<◌, ◌≤◌, ◌^◌, length, OnOk};
 ghost use Rattle.cdb_form.specs.Format.Pair.{pair_size};
-ghost use Rattle.cdb_form.specs.Format.Record.{KeyValue, record_bytes, record_size};
+ghost use Rattle.cdb_form.specs.Format.Record.{record_of, KeyValue, record_bytes, record_size};
 ghost use Rattle.cdb_make.specs.Views.Writing.{Writes, WritesWithin};
 
 use cdb_form::{GREATEST_PAIR, Header, Width, pair_size, write_header};
@@ -13,9 +13,9 @@ const PIECE: usize = 256;
 /// Leaves the bytes of a record.
 fn collect<L: Width>(piece: &mut [u8], key: &[u8], value: &[u8])
     requires long { length piece.old
-        ≡ record_size L.WORD (record { key = key.now; value = value.now }) }
+        ≡ record_size L.WORD (record_of key.now value.now) }
     requires fits { length key.now + length value.now ≤ L.TOP }
-    ensures { piece.new ≡ record_bytes L.WORD (record { key = key.now; value = value.now }) }
+    ensures { piece.new ≡ record_bytes L.WORD (record_of key.now value.now) }
 {
     let header = Header {
         klen: key.len() as u64,
@@ -36,12 +36,12 @@ fn append_parts<S: Store, L: Width>(
     value: &[u8],
 ) -> Result<(), StoreFault>
     requires inside { pos ≤ S.size store.old }
-    requires end { pos + record_size L.WORD (record { key = key.now; value = value.now }) < 2 ^ 63 }
+    requires end { pos + record_size L.WORD (record_of key.now value.now) < 2 ^ 63 }
     requires fits { length key.now + length value.now ≤ L.TOP }
     ensures ok { OnOk result (Writes S.Store pos
-        (record_bytes L.WORD (record { key = key.now; value = value.now })) store.old store.new) }
+        (record_bytes L.WORD (record_of key.now value.now)) store.old store.new) }
     ensures within { WritesWithin S.Store pos
-        (record_size L.WORD (record { key = key.now; value = value.now })) store.old store.new
+        (record_size L.WORD (record_of key.now value.now)) store.old store.new
         result }
 {
     let header = Header {
@@ -73,12 +73,12 @@ pub(crate) fn append_record<S: Store, L: Width>(
     value: &[u8],
 ) -> Result<(), StoreFault>
     requires inside { pos ≤ S.size store.old }
-    requires end { pos + record_size L.WORD (record { key = key.now; value = value.now }) < 2 ^ 63 }
+    requires end { pos + record_size L.WORD (record_of key.now value.now) < 2 ^ 63 }
     requires fits { length key.now + length value.now ≤ L.TOP }
     ensures ok { OnOk result (Writes S.Store pos
-        (record_bytes L.WORD (record { key = key.now; value = value.now })) store.old store.new) }
+        (record_bytes L.WORD (record_of key.now value.now)) store.old store.new) }
     ensures within { WritesWithin S.Store pos
-        (record_size L.WORD (record { key = key.now; value = value.now })) store.old store.new
+        (record_size L.WORD (record_of key.now value.now)) store.old store.new
         result }
 {
     let len = pair_size::<L>()

@@ -13,8 +13,8 @@ pub record ProbeInside (w size : ℕ) (probe : Probe) : Type 0 where
   pub slot : probe.slot < probe.table.slots
   pub left : probe.left ≤ probe.table.slots
 
-abbrev pub IsTurnInside : ℕ → ℕ → Searching → Type 0
-IsTurnInside w size searching = (probe : Probe) → searching ≡ At probe → ProbeInside w size probe
+abbrev pub IsSearchInside : ℕ → ℕ → Searching → Type 0
+IsSearchInside w size searching = (probe : Probe) → searching ≡ At probe → ProbeInside w size probe
 
 -- the probe behind one
 abbrev pub next_probe : Probe → Probe

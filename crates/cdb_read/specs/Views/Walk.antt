@@ -5,7 +5,7 @@ use Rattle.cdb_form.specs.Format.Walk.{Walked, no_walk, damaged, with_first, wit
 use Rattle.cdb_form.specs.Format.Walk.{whole_records}
 use Rattle.cdb_form.specs.declared.width.Width.{Ghosts as Widths}
 use Rattle.cdb_form.specs.declared.damage.Damage.TheVariants as damage
-use Rattle.cdb_read.specs.Views.Walking.{record_of, behind, walk_ahead, next_place, size_ahead}
+use Rattle.cdb_read.specs.Views.Walking.{record_in, behind, walk_ahead, next_place, size_ahead}
 use Rattle.cdb_read.specs.Views.Walking.{LiesAt, records_length}
 use Rattle.cdb_read.specs.declared.fault.ReadFault.{ReadFault}
 use Rattle.cdb_read.specs.declared.fault.ReadFault.TheVariants.{Table, Record, Device}
@@ -39,7 +39,7 @@ HasNoRecord t place = t.walking ≡ NoRecord place
 pub record GivesPair {S L : Type 0} {s : Ghosts S} {l : Widths L} (w : ℕ)
     (old new : Walk S L s l) (pair : Pair) : Type 0 where
   pub first : (b : List ℕ) → s.image new.reader.now.store b
-      → left_of w b old ≡ with_first (record_of b pair) (left_of w b new)
+      → left_of w b old ≡ with_first (record_in b pair) (left_of w b new)
   pub lies : LiesAt w (place_of w old) pair
   pub next : place_of w new ≡ behind pair
   pub inside : behind pair ≤ s.size new.reader.now.store
@@ -64,7 +64,7 @@ WalkingFails {s = s} w old new (Record place) = HasNoRecord new place
     → left_of w b old ≡ damaged (damage.Record place))
 WalkingFails w old new fault = ⊥
 
--- a call gave the next n bytes over the front of some bytes: whole records and nothing else, the
+-- a call gave the next n bytes over the start of some bytes: whole records and nothing else, the
 -- first of what was left, and as many as are whole within the bytes and before the record end
 pub record GivesRecords {S L : Type 0} {s : Ghosts S} {l : Widths L} (w : ℕ)
     (old new : Walk S L s l) (bytes : List ℕ) (n : ℕ) : Type 0 where

@@ -14,8 +14,8 @@ use Rattle.cdb_read.specs.declared.walking.state.Walking.TheVariants.{At, AtEnd,
 use Rattle.cdb_read.specs.declared.span.Pair.{Pair}
 
 -- the record of a pair
-abbrev pub record_of : List ℕ → Pair → KeyValue
-record_of b pair = record { key = bytes_of b pair.key; value = bytes_of b pair.value }
+abbrev pub record_in : List ℕ → Pair → KeyValue
+record_in b pair = record { key = bytes_of b pair.key; value = bytes_of b pair.value }
 
 -- the place behind it
 abbrev pub behind : Pair → ℕ
@@ -52,7 +52,7 @@ StandsTells w rest None b =
     walk_from w rest.place rest.end (drop rest.place b) ≡ damaged (damage.Record rest.place)
 StandsTells w rest (Some pair) b =
     walk_from w rest.place rest.end (drop rest.place b)
-    ≡ with_first (record_of b pair) (walk_from w (behind pair) rest.end (drop (behind pair) b))
+    ≡ with_first (record_in b pair) (walk_from w (behind pair) rest.end (drop (behind pair) b))
 
 pub record StandsAt (w : ℕ) (rest : Rest) (found : Option Pair) (images : List ℕ → Type 0)
     : Type 0 where
@@ -68,7 +68,7 @@ abbrev pub StandsWithin : ℕ → Rest → ℕ → Option Pair → Type 0
 StandsWithin w rest size None = Unit {0}
 StandsWithin w rest size (Some pair) = PairWithin w rest size pair
 
--- the bytes of whole records, at most m bytes, that are at the front of some bytes
+-- the bytes of whole records, at most m bytes, that are at the start of some bytes
 abbrev pub records_length : ℕ → ℕ → List ℕ → ℕ
 records_length w m bytes = sum_by (record_size w) (whole_records w m (take m bytes))
 

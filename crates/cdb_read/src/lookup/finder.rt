@@ -6,7 +6,7 @@ ghost use Rattle.cdb_read.specs.Lookup.{bytes_of, lookup_of};
 ghost use Rattle.cdb_store.specs.Reads.{OnlyReads};
 ghost use Rattle.cdb_read.specs.Views.Reads.{StoreFails, CopyingFails};
 ghost use Rattle.cdb_read.specs.Views.Search.{found_ahead, Meets, MetWithin};
-ghost use Rattle.cdb_read.specs.Views.Probing.{ProbeInside, IsTurnInside};
+ghost use Rattle.cdb_read.specs.Views.Probing.{ProbeInside, IsSearchInside};
 
 use crate::fault::ReadFault;
 use crate::lookup::probe::{Probe, Searching, first_probe};
@@ -29,7 +29,7 @@ pub struct Finder<'a, S: Store, L: Width> {
     pub(crate) searching: Searching,
     /// Whether it gave a value. The next ones are mostly near, so more is read at once.
     pub(crate) has_given: bool,
-    ghost inside: { IsTurnInside L.WORD (S.size reader.now.store) searching },
+    ghost inside: { IsSearchInside L.WORD (S.size reader.now.store) searching },
 }
 
 impl<S: Store, L: Width> Reader<S, L> {
@@ -37,7 +37,7 @@ impl<S: Store, L: Width> Reader<S, L> {
 
     /// Where the search of a key begins.
     fn first_probe(&self, key: &[u8]) -> Searching
-        ensures inside { IsTurnInside L.WORD (S.size self.now.store) result }
+        ensures inside { IsSearchInside L.WORD (S.size self.now.store) result }
         ensures finds { (b : List ℕ) → S.image self.now.store b
             → found_ahead L.WORD b key.now result ≡ lookup_of L.WORD b key.now }
     {

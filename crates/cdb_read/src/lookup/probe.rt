@@ -5,7 +5,7 @@ ghost use Rattle.cdb_form.specs.Format.Hash.{key_hash};
 ghost use Rattle.cdb_form.specs.Views.Pairs.{pointer_pair};
 ghost use Rattle.cdb_read.specs.Lookup.{found_by};
 ghost use Rattle.cdb_read.specs.Views.Inside.{LiesInside};
-ghost use Rattle.cdb_read.specs.Views.Probing.{next_probe, IsTurnInside};
+ghost use Rattle.cdb_read.specs.Views.Probing.{next_probe, IsSearchInside};
 ghost use Rattle.cdb_read.specs.Views.Search.{found_ahead};
 
 use cdb_form::{Pointer, Width, head_size, home_slot, pair_size, table_number};
@@ -64,7 +64,7 @@ pub fn lies_inside<L: Width>(table: Pointer, size: u64) -> bool
 /// Where the search of a key with this hash begins in its table, which a file of so many bytes
 /// has.
 pub fn first_probe<L: Width>(table: Pointer, hash: u64, size: u64) -> Searching
-    ensures inside { IsTurnInside L.WORD size result }
+    ensures inside { IsSearchInside L.WORD size result }
     ensures finds { (b key : List ℕ) → size ≡ length b → hash ≡ key_hash key
         → found_ahead L.WORD b key result ≡ found_by L.WORD b key (pointer_pair table) }
 {

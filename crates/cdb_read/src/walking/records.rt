@@ -67,7 +67,7 @@ impl<'a, S: Store, L: Width> Walk<'a, S, L> {
         }
     }
 
-    /// Reads the next records over the front of `into`, as many as are whole there, and answers how
+    /// Reads the next records over the start of `into`, as many as are whole there, and answers how
     /// many bytes they have. The walk is then after them, and the bytes of `into` that follow them
     /// hold anything.
     ///

@@ -10,24 +10,24 @@ use crate::fault::ReadFault;
 use crate::pieces::read_part;
 use crate::reader::Reader;
 use crate::walking::state::Rest;
-use cdb_form::{Width, front_len};
+use cdb_form::{Width, record_len};
 use cdb_store::Store;
 
-/// How many bytes the whole records at the front of some bytes have together.
+/// How many bytes the whole records at the start of some bytes have together.
 fn whole_len<L: Width>(bytes: &[u8]) -> usize
     ensures within { result ≤ length bytes.now }
     ensures whole { result ≡ sum_by (record_size L.WORD)
         (whole_records L.WORD (length bytes.now) bytes.now) }
 {
     let mut done = 0;
-    while let Some(len) = front_len::<L>(&bytes[done..]) {
+    while let Some(len) = record_len::<L>(&bytes[done..]) {
         done += len;
     }
     done
 }
 
 impl<S: Store, L: Width> Reader<S, L> {
-    /// Reads the next whole records of a walk over the front of `into`, and answers how many bytes
+    /// Reads the next whole records of a walk over the start of `into`, and answers how many bytes
     /// they have. The store is not read if no byte is left before the record end.
     pub(crate) fn read_records(&mut self, rest: Rest, into: &mut [u8]) -> Result<usize, ReadFault>
         ensures ahead { IfOk result

@@ -152,7 +152,7 @@ fn a_copy_leaves_what_its_writer_takes(rt: HostRuntime) -> Result<(), Fail> {
     Ok(())
 }
 
-/// Whether a copy of a span whose store fails at its call of a number leaves a front of these
+/// Whether a copy of a span whose store fails at its call of a number leaves a prefix of these
 /// bytes, and the same copy again all of them.
 fn copies_again(
     alloc: Global,

@@ -5,7 +5,7 @@ use Rattle.std.specs.Prelude.{List, [], ◌∷◌, ◌++◌, fold, Option, None,
 use Rattle.std.specs.Io.KnownBytes.{Appends}
 use Rattle.cdb_form.specs.Format.Record.{KeyValue}
 use Rattle.cdb_form.specs.Text.Amending.{Change, Putting, Removing}
-use Rattle.cdb_form.specs.Views.KnownBytes.{AppendsFront}
+use Rattle.cdb_form.specs.Views.KnownBytes.{AppendsPrefix}
 use Rattle.cdb_make.specs.Survivors.{put_step, put_result, without}
 use Rattle.cdb_make.specs.declared.fault.MakeFault.{MakeFault}
 use Rattle.cdb_make.specs.declared.fault.MakeFault.TheVariants.{TooBig, Lookup, Writing}
@@ -104,13 +104,13 @@ with_next w o s c = if is_going s.ended then with_change w o s c.input c.number 
 abbrev pub course_of : ℕ → Task → List Incoming → Course
 course_of w t cs = fold (with_next w t.options) (at_start t) cs
 
--- what is told of a put where the run stops there: its line was appended, or a front of it where
+-- what is told of a put where the run stops there: its line was appended, or a prefix of it where
 -- the writer failed
 abbrev pub TellFails : MakeOptions → ℕ → ℕ → Put → Option (List ℕ) → Option (List ℕ) → Fault
     → Type 0
 TellFails o input number put old new Duplicate =
     Appends old new (said o input number (Ok put)) × (ends o (Ok put) ≡ Some Duplicate)
-TellFails o input number put old new Output = AppendsFront old new (said o input number (Ok put))
+TellFails o input number put old new Output = AppendsPrefix old new (said o input number (Ok put))
 TellFails o input number put old new fault = ⊥
 
 -- the run has not ended, and its lines were appended
@@ -138,5 +138,5 @@ StopsSo w t cs old new Duplicate = EndsSo w t cs Duplicate old new
 StopsSo w t cs old new (Make Lookup) = Goes w t cs old new
 StopsSo w t cs old new (Make Writing) = Goes w t cs old new
 StopsSo w t cs old new NoMemory = Goes w t cs old new
-StopsSo w t cs old new Output = AppendsFront old new (course_of w t cs).lines
+StopsSo w t cs old new Output = AppendsPrefix old new (course_of w t cs).lines
 StopsSo w t cs old new fault = ⊥

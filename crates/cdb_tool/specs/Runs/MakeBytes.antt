@@ -7,7 +7,7 @@ use Rattle.cdb_form.specs.Format.Record.{KeyValue}
 use Rattle.cdb_form.specs.Format.File.{file_size, file_bytes}
 use Rattle.cdb_form.specs.Text.Native.{Spells, Spelled, Reads}
 use Rattle.cdb_form.specs.Views.TextFault.{IsOfText, IsReadFault, LastRead}
-use Rattle.cdb_form.specs.Views.KnownBytes.{AppendsFront, FromTo, Took}
+use Rattle.cdb_form.specs.Views.KnownBytes.{AppendsPrefix, FromTo, Took}
 use Rattle.cdb_form.specs.Views.TextReader.{IsGoing, taken_of, asks_left}
 use Rattle.cdb_form.specs.declared.text.native_reader.TextReader.{TextReader}
 use Rattle.cdb_form.specs.declared.text.fault.TextFault.{TextFault}
@@ -76,21 +76,21 @@ pub record MakesFile (w greatest : ℕ) (text rest old new : Option (List ℕ)) 
   pub read : ReadsFitting w greatest text rest records
   pub appended : Appends old new (file_bytes w records)
 
--- a front of the file of the text was appended
-pub record MakesFront (w greatest : ℕ) (text rest old new : Option (List ℕ)) : Type 0 where
+-- a prefix of the file of the text was appended
+pub record MakesPrefix (w greatest : ℕ) (text rest old new : Option (List ℕ)) : Type 0 where
   pub records : List KeyValue
   pub read : ReadsFitting w greatest text rest records
-  pub appended : AppendsFront old new (file_bytes w records)
+  pub appended : AppendsPrefix old new (file_bytes w records)
 
--- what a fault leaves: a front of the file where the writer failed, else nothing was written
+-- what a fault leaves: a prefix of the file where the writer failed, else nothing was written
 abbrev pub MakeFails : ℕ → ℕ → Option (List ℕ) → Option (List ℕ) → Option (List ℕ)
     → Option (List ℕ) → Fault → Type 0
-MakeFails w greatest text rest old new Output = MakesFront w greatest text rest old new
+MakeFails w greatest text rest old new Output = MakesPrefix w greatest text rest old new
 MakeFails w greatest text rest old new fault =
     NotRead w greatest text rest fault × Keeps old new
 
 -- what a run leaves
-pub record Makes (w greatest : ℕ) (text rest old new : Option (List ℕ)) (result : Result Unit Fault)
+pub record MakesBytes (w greatest : ℕ) (text rest old new : Option (List ℕ)) (result : Result Unit Fault)
     : Type 0 where
   pub ok : OnOk result (MakesFile w greatest text rest old new)
   pub err : IfErr result (MakeFails w greatest text rest old new)

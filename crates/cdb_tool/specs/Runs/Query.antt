@@ -6,7 +6,7 @@ use Rattle.std.specs.Prelude.{Option, None, Some, Result, Ok, Err, OnOk, IfErr}
 use Rattle.std.specs.Io.KnownBytes.{Appends, Keeps}
 use Rattle.cdb_store.specs.declared.store.Store.{Ghosts}
 use Rattle.cdb_form.specs.Format.Pair.{head_size}
-use Rattle.cdb_form.specs.Views.KnownBytes.{AppendsFront}
+use Rattle.cdb_form.specs.Views.KnownBytes.{AppendsPrefix}
 use Rattle.cdb_form.specs.declared.damage.Damage.{Damage}
 use Rattle.cdb_form.specs.declared.damage.Damage.TheVariants as damage
 use Rattle.cdb_form.specs.declared.width.Width.{Ghosts as Widths}
@@ -76,10 +76,10 @@ pub record Answers {S : Type 0} (w : ℕ) (s : Ghosts S) (q : Query) (store : S)
   pub answered : (b : List ℕ) → s.image store b → answer ≡ query_answer w b q
   pub written : (b : List ℕ) → s.image store b → Appends start end (query_text w b q)
 
--- in each image a front of the text was
-pub record WritesFront {S : Type 0} (w : ℕ) (s : Ghosts S) (q : Query) (store : S)
+-- in each image a prefix of the text was
+pub record WritesPrefix {S : Type 0} (w : ℕ) (s : Ghosts S) (q : Query) (store : S)
     (start end : Option (List ℕ)) : Type 0 where
-  pub written : (b : List ℕ) → s.image store b → AppendsFront start end (query_text w b q)
+  pub written : (b : List ℕ) → s.image store b → AppendsPrefix start end (query_text w b q)
 
 -- the file has no head: nothing was read, and nothing written
 pub record IsShort {S : Type 0} (w : ℕ) (s : Ghosts S) (old new : S)
@@ -88,7 +88,7 @@ pub record IsShort {S : Type 0} (w : ℕ) (s : Ghosts S) (old new : S)
   pub unread : new ≡ old
   pub kept : Keeps start end
 
--- what a fault leaves: the text where it is the answer; a front of it where the store failed, or
+-- what a fault leaves: the text where it is the answer; a prefix of it where the store failed, or
 -- the writer
 abbrev pub QueryFails : {S : Type 0} → ℕ → Ghosts S → Query → (old new : S) → Option (List ℕ)
     → Option (List ℕ) → Fault → Type 0
@@ -99,9 +99,9 @@ QueryFails w s q old new start end (Read (read.Table n)) =
 QueryFails w s q old new start end (Read (read.Record place)) =
     Answers w s q new start end (Err (Read (read.Record place)))
 QueryFails w s q old new start end (Read read.Device) =
-    (s.failures old < s.failures new) × WritesFront w s q new start end
+    (s.failures old < s.failures new) × WritesPrefix w s q new start end
 QueryFails w s q old new start end Output =
-    (head_size w ≤ s.size new) × WritesFront w s q new start end
+    (head_size w ≤ s.size new) × WritesPrefix w s q new start end
 QueryFails w s q old new start end fault = ⊥
 
 -- what a query leaves
@@ -127,7 +127,7 @@ in_hand None = []
 in_hand (Some span) = span ∷ []
 
 -- it has others left: the values that it gave were written whole, but of the last, where that is
--- still in hand, a front
+-- still in hand, a prefix
 pub record WritesSome {S L : Type 0} {s : Ghosts S} {l : Widths L} (w : ℕ) (lines : Bool)
     (old new : Finder S L s l) (start end : Option (List ℕ)) : Type 0 where
   pub spans : List Span
@@ -138,7 +138,7 @@ pub record WritesSome {S L : Type 0} {s : Ghosts S} {l : Widths L} (w : ℕ) (li
   pub written : (b : List ℕ) → s.image new.reader.now.store b
       → Appends start before (values_text lines b spans)
   pub front : (b : List ℕ) → s.image new.reader.now.store b
-      → AppendsFront before end (values_text lines b (in_hand hand))
+      → AppendsPrefix before end (values_text lines b (in_hand hand))
 
 -- all values were written, at least one
 pub record WritesEach {S L : Type 0} {s : Ghosts S} {l : Widths L} (w : ℕ) (lines : Bool)

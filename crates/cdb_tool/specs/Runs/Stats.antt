@@ -4,7 +4,7 @@ use Rattle.std.specs.Prelude.{ℕ, ◌≡◌, ◌<◌, ◌≤◌, List, Option, 
 use Rattle.std.specs.Io.KnownBytes.{Appends, Keeps}
 use Rattle.cdb_store.specs.declared.store.Store.{Ghosts}
 use Rattle.cdb_form.specs.Format.Pair.{head_size}
-use Rattle.cdb_form.specs.Views.KnownBytes.{AppendsFront}
+use Rattle.cdb_form.specs.Views.KnownBytes.{AppendsPrefix}
 use Rattle.cdb_form.specs.declared.damage.Damage.{Damage}
 use Rattle.cdb_form.specs.declared.damage.Damage.TheVariants as damage
 use Rattle.cdb_read.specs.Statistics.{statistics_of, statistics_damage}
@@ -26,12 +26,12 @@ pub record WritesStats {S : Type 0} (w : ℕ) (s : Ghosts S) (store : S)
   pub whole : (b : List ℕ) → s.image store b → statistics_damage w b ≡ None
   pub written : (b : List ℕ) → s.image store b → Appends start end (statistics_text w b)
 
--- the same, with a front of the text
-pub record WritesStatsFront {S : Type 0} (w : ℕ) (s : Ghosts S) (store : S)
+-- the same, with a prefix of the text
+pub record WritesStatsPrefix {S : Type 0} (w : ℕ) (s : Ghosts S) (store : S)
     (start end : Option (List ℕ)) : Type 0 where
   pub long : head_size w ≤ s.size store
   pub whole : (b : List ℕ) → s.image store b → statistics_damage w b ≡ None
-  pub written : (b : List ℕ) → s.image store b → AppendsFront start end (statistics_text w b)
+  pub written : (b : List ℕ) → s.image store b → AppendsPrefix start end (statistics_text w b)
 
 -- the file has a head, each image has this damage, and nothing was written
 pub record HasDamage {S : Type 0} (w : ℕ) (s : Ghosts S) (store : S) (damage : Damage)
@@ -50,7 +50,7 @@ TellingFails w s old new start end (Read (read.Record place)) =
     HasDamage w s new (damage.Record place) start end
 TellingFails w s old new start end (Read read.Device) =
     (s.failures old < s.failures new) × Keeps start end
-TellingFails w s old new start end Output = WritesStatsFront w s new start end
+TellingFails w s old new start end Output = WritesStatsPrefix w s new start end
 TellingFails w s old new start end fault = ⊥
 
 -- what writing them leaves

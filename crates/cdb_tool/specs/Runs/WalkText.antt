@@ -5,7 +5,7 @@ use Rattle.std.specs.Prelude.{IfErr, flat_map}
 use Rattle.std.specs.Io.KnownBytes.{Appends}
 use Rattle.cdb_form.specs.Format.Record.{KeyValue}
 use Rattle.cdb_form.specs.Format.Walk.{Walked, walk_of}
-use Rattle.cdb_form.specs.Views.KnownBytes.{AppendsFront, FromTo}
+use Rattle.cdb_form.specs.Views.KnownBytes.{AppendsPrefix, FromTo}
 use Rattle.cdb_form.specs.Views.Reading.{ReadsRecords}
 use Rattle.cdb_form.specs.Views.RecordReader.{behind_records}
 use Rattle.cdb_form.specs.Views.WalkFault.{damage_of}
@@ -32,11 +32,11 @@ pub record Writes (w : ℕ) (form : Form) (file : Option (List ℕ)) (damage : O
   pub is : IfSome file (λ f. walk_of w f ≡ walked)
   pub appended : Appends old new (walk_text form walked)
 
--- a front of the text of a walk was appended, the file's where that is known
-pub record WritesFront (w : ℕ) (form : Form) (file old new : Option (List ℕ)) : Type 0 where
+-- a prefix of the text of a walk was appended, the file's where that is known
+pub record WritesPrefix (w : ℕ) (form : Form) (file old new : Option (List ℕ)) : Type 0 where
   pub walked : Walked
   pub is : IfSome file (λ f. walk_of w f ≡ walked)
-  pub appended : AppendsFront old new (walk_text form walked)
+  pub appended : AppendsPrefix old new (walk_text form walked)
 
 -- the texts of some records were appended, the first of the file's walk where that is known: they
 -- are all whole records in what was read of the file
@@ -47,13 +47,13 @@ pub record WritesFirst (w : ℕ) (form : Form) (file rest old new : Option (List
   pub appended : Appends old new (flat_map form.item first)
 
 -- what a fault leaves: at a damage of the file the text of its walk; where the reader failed or
--- memory ran out all records that were read; where the writer failed a front of the text of the walk
+-- memory ran out all records that were read; where the writer failed a prefix of the text of the walk
 abbrev pub WritingFails : ℕ → Form → (file rest old new : Option (List ℕ)) → Fault → Type 0
 WritingFails w form file rest old new (Walk walk.Input) = WritesFirst w form file rest old new
 WritingFails w form file rest old new (Walk walk.NoMemory) = ⊥
 WritingFails w form file rest old new (Walk fault) = Writes w form file (damage_of fault) old new
 WritingFails w form file rest old new NoMemory = WritesFirst w form file rest old new
-WritingFails w form file rest old new Output = WritesFront w form file old new
+WritingFails w form file rest old new Output = WritesPrefix w form file old new
 WritingFails w form file rest old new fault = ⊥
 
 -- what stands behind the record end is all that is unread; and is among what is unread

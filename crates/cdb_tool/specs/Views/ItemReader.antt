@@ -48,10 +48,10 @@ pub record IsNew {R L : Type 0} (t : ItemReader R L) : Type 0 where
   pub asks : asks_left t ≡ 2 ^ 48
 
 -- the next item is a record that is whole at hand, spelled by n bytes there
-abbrev pub HasFront : {R L : Type 0} → (R → List ℕ) → ℕ → ItemReader R L → ℕ → KeyValue → Type 0
-HasFront held greatest (Native t) n r = native.HasFront held greatest t n r
-HasFront held greatest (Map t) n r = ⊥
-HasFront held greatest (Changes t) n r = changes.HasFront held greatest t n r
+abbrev pub HasPeeked : {R L : Type 0} → (R → List ℕ) → ℕ → ItemReader R L → ℕ → KeyValue → Type 0
+HasPeeked held greatest (Native t) n r = native.HasPeeked held greatest t n r
+HasPeeked held greatest (Map t) n r = ⊥
+HasPeeked held greatest (Changes t) n r = changes.HasPeeked held greatest t n r
 
 -- a call gave an item, told the end, or answered a fault, as a reader of its form does
 abbrev pub GivesItem : {R L : Type 0} → ℕ → (R → Option (List ℕ)) → ItemReader R L

@@ -3,16 +3,16 @@ ghost use Rattle.std.specs.Prelude.{◌≡◌, true, false, Some, None, IfOk, If
 ghost use Rattle.std.specs.Prelude.{MatchOption};
 ghost use Rattle.cdb_form.specs.Format.Record.{KeyValue};
 ghost use Rattle.cdb_form.specs.Text.Amending.{Putting};
-ghost use Rattle.cdb_form.specs.Views.Front.{shown_by};
+ghost use Rattle.cdb_form.specs.Views.Prefix.{shown_by};
 ghost use Rattle.cdb_form.specs.Views.Pairs.{change_in};
 ghost use Rattle.cdb_form.specs.declared.item.ItemKind.TheVariants.{Put};
 ghost use Rattle.cdb_tool.specs.Runs.Inputs.{input_form};
 ghost use Rattle.cdb_tool.specs.Views.ItemReader.{form_of, unread, IsNew};
-ghost use Rattle.cdb_tool.specs.Views.ItemReader.{HasFront, GivesItem, GivesEnd, Fails};
+ghost use Rattle.cdb_tool.specs.Views.ItemReader.{HasPeeked, GivesItem, GivesEnd, Fails};
 
 use cdb_command::Style;
 use cdb_form::{
-    AmendReader, AtHand, FrontRecord, ItemKind, MapReader, Record, TextFault, TextReader, Width,
+    AmendReader, AtHand, ItemKind, MapReader, PeekedRecord, Record, TextFault, TextReader, Width,
 };
 use std::alloc::Global;
 use std::io::Read;
@@ -60,27 +60,27 @@ impl<R: Read, L: Width> ItemReader<R, L> {
     /// The record that the next item puts, if it is whole at hand, where it is. Nothing is taken. Of a
     /// map none is shown.
     #[inline(always)]
-    pub(crate) fn front<A: AtHand<R>>(&self) -> Option<FrontRecord<'_>>
-        ensures { IfSome result (λ f. HasFront A.held L.GREATEST self.now f.len (shown_by f)) }
+    pub(crate) fn peek<A: AtHand<R>>(&self) -> Option<PeekedRecord<'_>>
+        ensures { IfSome result (λ f. HasPeeked A.held L.GREATEST self.now f.len (shown_by f)) }
     {
         match self {
-            ItemReader::Native(text) => text.front::<A>(),
+            ItemReader::Native(text) => text.peek::<A>(),
             ItemReader::Map(_) => None,
-            ItemReader::Changes(items) => items.front::<A>(),
+            ItemReader::Changes(items) => items.peek::<A>(),
         }
     }
 
-    /// Takes the record that `front` shows.
+    /// Takes the record that `peek` shows.
     #[inline(always)]
-    pub(crate) fn take_front<A: AtHand<R>>(&mut self, len: usize)
-        requires { (r : KeyValue) × HasFront A.held L.GREATEST self.old len r }
-        ensures { (r : KeyValue) → HasFront A.held L.GREATEST self.old len r
+    pub(crate) fn take_peeked<A: AtHand<R>>(&mut self, len: usize)
+        requires { (r : KeyValue) × HasPeeked A.held L.GREATEST self.old len r }
+        ensures { (r : KeyValue) → HasPeeked A.held L.GREATEST self.old len r
             → GivesItem L.GREATEST R.remaining self.old self.new (Putting r) }
     {
         match self {
-            ItemReader::Native(text) => text.take_front::<A>(len),
+            ItemReader::Native(text) => text.take_peeked::<A>(len),
             ItemReader::Map(_) => {}
-            ItemReader::Changes(items) => items.take_front::<A>(len),
+            ItemReader::Changes(items) => items.take_peeked::<A>(len),
         }
     }
 

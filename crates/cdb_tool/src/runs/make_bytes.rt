@@ -5,7 +5,7 @@ ghost use Rattle.cdb_form.specs.Format.Record.{KeyValue};
 ghost use Rattle.cdb_form.specs.Views.TextReader.{unread};
 ghost use Rattle.cdb_make.specs.Views.Maker.{Holds, limit_of};
 ghost use Rattle.cdb_tool.specs.declared.fault.Fault.TheVariants.{NoMemory};
-ghost use Rattle.cdb_tool.specs.Runs.MakeBytes.{IsNewText, ReadsFitting, NotRead, Makes};
+ghost use Rattle.cdb_tool.specs.Runs.MakeBytes.{IsNewText, ReadsFitting, NotRead, MakesBytes};
 
 use crate::fault::Fault;
 use crate::runs::flushed::flushed;
@@ -71,13 +71,13 @@ fn file_in_memory<L: Width>(maker: Maker<MemStore, L>) -> Result<Vec<u8>, Fault>
 }
 
 /// Writes the file of a text, which the writer may keep in a buffer.
-fn make_unflushed<L: Width, R: Read, W: Write, A: AtHand<R>>(
+fn make_bytes_unflushed<L: Width, R: Read, W: Write, A: AtHand<R>>(
     alloc: Global,
     text: &mut TextReader<R, L>,
     w: &mut W,
 ) -> Result<(), Fault>
     requires { IsNewText text.old }
-    ensures { Makes L.WORD L.GREATEST (unread R.remaining text.old) (unread R.remaining text.new)
+    ensures { MakesBytes L.WORD L.GREATEST (unread R.remaining text.old) (unread R.remaining text.new)
         (W.contents w.old) (W.contents w.new) result }
 {
     let maker = fitting_records::<L, R, A>(alloc, text)?;
@@ -86,7 +86,7 @@ fn make_unflushed<L: Width, R: Read, W: Write, A: AtHand<R>>(
     Ok(())
 }
 
-/// Makes the database file of one native text, of which nothing was read yet, and flushes the writer
+/// MakesBytes the database file of one native text, of which nothing was read yet, and flushes the writer
 /// last.
 fn make_text<L: Width, R: Read, W: Write, A: AtHand<R>>(
     alloc: Global,
@@ -94,14 +94,14 @@ fn make_text<L: Width, R: Read, W: Write, A: AtHand<R>>(
     w: &mut W,
 ) -> Result<(), Fault>
     requires { IsNewText text.old }
-    ensures { Makes L.WORD L.GREATEST (unread R.remaining text.old) (unread R.remaining text.new)
+    ensures { MakesBytes L.WORD L.GREATEST (unread R.remaining text.old) (unread R.remaining text.new)
         (W.contents w.old) (W.contents w.new) result }
 {
-    let made = make_unflushed::<L, R, W, A>(alloc, text, w);
+    let made = make_bytes_unflushed::<L, R, W, A>(alloc, text, w);
     flushed(w, made)
 }
 
-/// Makes the database file of one native text, of which nothing was read yet.
+/// MakesBytes the database file of one native text, of which nothing was read yet.
 ///
 /// It does what `make_bytes` does, and leaves in the reader of the text what it did not read: at Ok
 /// what follows the text, after a fault of the text what follows the byte at its place.
@@ -111,13 +111,13 @@ pub fn make_from<L: Width, R: Read, W: Write>(
     w: &mut W,
 ) -> Result<(), Fault>
     requires { IsNewText text.old }
-    ensures { Makes L.WORD L.GREATEST (unread R.remaining text.old) (unread R.remaining text.new)
+    ensures { MakesBytes L.WORD L.GREATEST (unread R.remaining text.old) (unread R.remaining text.new)
         (W.contents w.old) (W.contents w.new) result }
 {
     make_text::<L, R, W, NoneAtHand>(alloc, text, w)
 }
 
-/// Makes the database file of one native text, in memory, and writes it whole.
+/// MakesBytes the database file of one native text, in memory, and writes it whole.
 ///
 /// The text is read up to its end, and no further, before the first byte is written. Each of its
 /// records is added, so a key may have several. The faults, in their order:
@@ -134,7 +134,7 @@ pub fn make_bytes<L: Width, R: Read + Drop, W: Write>(
     reader: R,
     w: &mut W,
 ) -> Result<(), Fault>
-    ensures { (rest : Option (List ℕ)) × Makes L.WORD L.GREATEST (R.remaining reader) rest
+    ensures { (rest : Option (List ℕ)) × MakesBytes L.WORD L.GREATEST (R.remaining reader) rest
         (W.contents w.old) (W.contents w.new) result }
 {
     make_bytes_buffered::<L, R, W, NoneAtHand>(alloc, reader, w)
@@ -146,7 +146,7 @@ pub fn make_bytes_buffered<L: Width, R: Read + Drop, W: Write, A: AtHand<R>>(
     reader: R,
     w: &mut W,
 ) -> Result<(), Fault>
-    ensures { (rest : Option (List ℕ)) × Makes L.WORD L.GREATEST (R.remaining reader) rest
+    ensures { (rest : Option (List ℕ)) × MakesBytes L.WORD L.GREATEST (R.remaining reader) rest
         (W.contents w.old) (W.contents w.new) result }
 {
     let mut text = TextReader::<R, L>::new(alloc, reader);

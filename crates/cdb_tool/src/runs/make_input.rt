@@ -236,18 +236,18 @@ pub(crate) fn put_input<L: Width, S: Store, R: Read + Drop, E: Write, A: AtHand<
     let mut number = 0;
     loop {
         number += 1;
-        if let Some(front) = items.front::<A>() {
-            let len = front.len;
+        if let Some(peeked) = items.peek::<A>() {
+            let len = peeked.len;
             let put = put_record(
                 maker,
                 options,
                 input,
                 number,
-                front.key,
-                front.value,
+                peeked.key,
+                peeked.value,
                 errors,
             );
-            items.take_front::<A>(len);
+            items.take_peeked::<A>(len);
             put?;
         } else {
             let kind = match items.read_into::<A>(&mut item) {

@@ -208,12 +208,12 @@ fn each_call_of_the_store_fails(rt: HostRuntime) -> Result<(), Fail> {
 }
 
 #[test]
-fn a_writer_that_fails_holds_a_front(rt: HostRuntime) -> Result<(), Fail> {
+fn a_writer_that_fails_holds_a_prefix(rt: HostRuntime) -> Result<(), Fail> {
     let file = File::Two.bytes(rt.alloc())?;
     for room in 0..OF_TWO.len() + 1 {
         let mut w = FakeWriter::new(rt.alloc(), room);
         let answer = answer::<Narrow, _>(file.clone()?, &mut w);
-        assert!(rt; w.holds_front(answer, OF_TWO, room), "room for {room}");
+        assert!(rt; w.holds_prefix(answer, OF_TWO, room), "room for {room}");
     }
     Ok(())
 }

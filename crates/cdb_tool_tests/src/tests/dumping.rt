@@ -152,7 +152,7 @@ fn interrupted_reads_are_asked_again(rt: HostRuntime) -> Result<(), Fail> {
 }
 
 #[test]
-fn a_writer_of_a_dump_that_fails_holds_a_front(rt: HostRuntime) -> Result<(), Fail> {
+fn a_writer_of_a_dump_that_fails_holds_a_prefix(rt: HostRuntime) -> Result<(), Fail> {
     let file = File::Two.bytes(rt.alloc())?;
     for room in 0..TWO_TEXT.len() + 1 {
         let mut w = FakeWriter::new(rt.alloc(), room);
@@ -162,7 +162,7 @@ fn a_writer_of_a_dump_that_fails_holds_a_front(rt: HostRuntime) -> Result<(), Fa
             Style::Native,
             &mut w,
         );
-        assert!(rt; w.holds_front(answer, TWO_TEXT, room), "room for {room}");
+        assert!(rt; w.holds_prefix(answer, TWO_TEXT, room), "room for {room}");
     }
     Ok(())
 }

@@ -201,7 +201,7 @@ fn a_line_that_is_cut_is_a_fault(rt: HostRuntime) {
             flush_fails: false,
         };
         let answer = write_fault(&Fault::Text(1, TextFault::Endless), &mut errors);
-        let is_front = Some(errors.held.as_slice()) == line.get(..room);
-        assert!(rt; answer == Err(OutFault) && is_front, "room for {room}");
+        let is_prefix = Some(errors.held.as_slice()) == line.get(..room);
+        assert!(rt; answer == Err(OutFault) && is_prefix, "room for {room}");
     }
 }

@@ -156,19 +156,19 @@ fn interrupted_reads_are_asked_again(rt: HostRuntime) -> Result<(), Fail> {
 }
 
 /// Whether a writer with room for so many bytes holds as many of the text.
-fn leaves_front(alloc: Global, file: &[u8], text: Text, room: usize) -> bool {
+fn leaves_prefix(alloc: Global, file: &[u8], text: Text, room: usize) -> bool {
     let mut w = FakeWriter::new(alloc, room);
     let answer = write_text::<&[u8], _>(alloc, file, text, &mut w);
-    w.holds_front(answer, text.two, room)
+    w.holds_prefix(answer, text.two, room)
 }
 
 #[test]
-fn a_writer_that_fails_holds_a_front(rt: HostRuntime) -> Result<(), Fail> {
+fn a_writer_that_fails_holds_a_prefix(rt: HostRuntime) -> Result<(), Fail> {
     let file = File::Two.bytes(rt.alloc())?;
     for &text in &TEXTS {
         for room in 0..text.two.len() + 1 {
             assert!(rt;
-                leaves_front(rt.alloc(), &file, text, room),
+                leaves_prefix(rt.alloc(), &file, text, room),
                 "room for {room}"
             );
         }

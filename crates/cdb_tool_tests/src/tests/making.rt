@@ -139,12 +139,12 @@ fn interruptions_are_asked_again(rt: HostRuntime) -> Result<(), Fail> {
 }
 
 #[test]
-fn a_writer_that_fails_holds_a_front(rt: HostRuntime) -> Result<(), Fail> {
+fn a_writer_that_fails_holds_a_prefix(rt: HostRuntime) -> Result<(), Fail> {
     let file = File::Two.bytes(rt.alloc())?;
     for room in 0..file.len() + 1 {
         let mut w = FakeWriter::new(rt.alloc(), room);
         let answer = make_bytes::<Narrow, &[u8], FakeWriter>(rt.alloc(), TWO_TEXT, &mut w);
-        assert!(rt; w.holds_front(answer, &file, room), "room for {room}");
+        assert!(rt; w.holds_prefix(answer, &file, room), "room for {room}");
     }
     Ok(())
 }

@@ -462,18 +462,18 @@ const WRITTEN: [(Asked, &[u8]); 2] = [
 ];
 
 /// Whether a writer with room for so many bytes holds as many of a text.
-fn leaves_front(alloc: Global, file: Vec<u8>, asked: Asked, text: &[u8], room: usize) -> bool {
+fn leaves_prefix(alloc: Global, file: Vec<u8>, asked: Asked, text: &[u8], room: usize) -> bool {
     let mut w = FakeWriter::new(alloc, room);
     let answer = answer::<Narrow, _>(file, asked, &mut w);
-    w.holds_front(answer, text, room)
+    w.holds_prefix(answer, text, room)
 }
 
 #[test]
-fn a_writer_that_fails_holds_a_front(rt: HostRuntime) -> Result<(), Fail> {
+fn a_writer_that_fails_holds_a_prefix(rt: HostRuntime) -> Result<(), Fail> {
     let file = File::Two.bytes(rt.alloc())?;
     for &(asked, text) in &WRITTEN {
         for room in 0..text.len() + 1 {
-            let is_so = leaves_front(rt.alloc(), file.clone()?, asked, text, room);
+            let is_so = leaves_prefix(rt.alloc(), file.clone()?, asked, text, room);
             assert!(rt; is_so, "room for {room}");
         }
     }

@@ -249,11 +249,11 @@ fn told(
 }
 
 #[test]
-fn a_writer_of_lines_that_fails_holds_a_front(rt: HostRuntime) -> Result<(), Fail> {
+fn a_writer_of_lines_that_fails_holds_a_prefix(rt: HostRuntime) -> Result<(), Fail> {
     for room in 0..=LINE.len() {
         let mut w = FakeWriter::new(rt.alloc(), room);
         let answer = told(rt.alloc(), TWICE, &mut w)?;
-        assert!(rt; w.holds_front(answer, LINE, room), "{room}");
+        assert!(rt; w.holds_prefix(answer, LINE, room), "{room}");
     }
     Ok(())
 }

@@ -485,8 +485,8 @@ fn dumps_and_lists_through_a_window(rt: HostRuntime) -> Result<(), Fail> {
     let failed = Err(Fault::Walk(WalkFault::Input));
     assert!(rt; is_written(rt.alloc(), 2082, Ok(()), TWO_TEXT, b"one\ntwo\n")?);
     for cut in 2064..2082 {
-        let is_front = is_written(rt.alloc(), cut, failed, b"+3,5:one->Hello\n", b"one\n")?;
-        assert!(rt; is_front, "failure at {cut}");
+        let is_prefix = is_written(rt.alloc(), cut, failed, b"+3,5:one->Hello\n", b"one\n")?;
+        assert!(rt; is_prefix, "failure at {cut}");
     }
     Ok(())
 }

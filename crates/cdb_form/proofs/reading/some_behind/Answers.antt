@@ -1,7 +1,7 @@
 use Rattle.std.proofs.Common.{◌≡◌, ◌+◌, ◌-◌, ◌≤◌, ◌++◌, length, length-drop, take, drop, arith, ap, ◌∙◌, rules}
 use Rattle.std.proofs.lemmas.List.{length-take, length-take-le}
 use Rattle.cdb_form.proofs.ByteLemmas.{AreBytes-take}
-use Rattle.cdb_form.proofs.AskingLemmas.{same_front, came_behind}
+use Rattle.cdb_form.proofs.AskingLemmas.{same_prefix, came_behind}
 use Rattle.std.proofs.lemmas.Grind.{common_steps}
 use Rattle.cdb_form.proofs.reading.some_behind.Goals as goal
 
@@ -14,7 +14,7 @@ returns-in-Ok-clause-read g c =
     let ys = c.some_bytes.new.into in
     let n = c.in-Ok.n in
     let e = c.in-Ok.ensures in
-    let front : take held xs ≡ take held old = ap (take held) c.deref_mut.ensures.value ∙ same_front held old longer c.requires.within c.lengthen.ensures.front in
+    let front : take held xs ≡ take held old = ap (take held) c.deref_mut.ensures.value ∙ same_prefix held old longer c.requires.within c.lengthen.ensures.front in
     let fits : held ≤ length xs = omega (arith, c.requires.within, c.lengthen.ensures.longer, ap length c.deref_mut.ensures.value) in
     let within : held + n ≤ c.lengthen.new.into.len =
     omega (arith, fits, e.bound, c.some_bytes.auto.into, length-take (held + c.args.most - held) (drop held xs), length-drop held xs, c.deref_mut.ensures.len) in (

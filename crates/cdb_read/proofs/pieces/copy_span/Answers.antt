@@ -1,21 +1,21 @@
 use Rattle.std.proofs.Common.{rules, arith, ◌≡◌, ◌+◌, ◌-◌, ℕ, length, length-append, length-drop, refl}
 use Rattle.std.proofs.lemmas.Result.{err_from_is_err_and}
-use Rattle.cdb_form.proofs.WritingLemmas.{writes_front}
-use Rattle.cdb_read.proofs.PieceReads.{reads_more, copied_front, copied_piece, copied_more}
+use Rattle.cdb_form.proofs.WritingLemmas.{writes_prefix}
+use Rattle.cdb_read.proofs.PieceReads.{reads_more, copied_prefix, copied_piece, copied_more}
 use Rattle.cdb_read.proofs.pieces.copy_span.Goals as goal
 
 pub returns-in_err-read_part-clause-copies : goal.returns-in_err-read_part-clause-copies
 returns-in_err-read_part-clause-copies g c = λ b is.
     let p = err_from_is_err_and c.from_residual.result c.from_residual.ensures.1 in
     let rest : ℕ = c.args.span.len - c.loop-done.done in
-    writes_front _ _ _ _ _ p.1 (copied_front {place = c.args.span.place} {done = c.loop-done.done} rest (omega arith) c.loop-done.invariant.copied c.read_part.ensures.reads.images b is)
+    writes_prefix _ _ _ _ _ p.1 (copied_prefix {place = c.args.span.place} {done = c.loop-done.done} rest (omega arith) c.loop-done.invariant.copied c.read_part.ensures.reads.images b is)
 
 pub returns-in_err-write_whole-clause-copies : goal.returns-in_err-write_whole-clause-copies
 returns-in_err-write_whole-clause-copies g c = λ b is.
     let p = err_from_is_err_and c.from_residual-in_err-write_whole.result c.from_residual-in_err-write_whole.ensures.1 in
     let l : length c.read_part.new.into ≡ c.min-n.result = search rules in
     let rest : ℕ = c.args.span.len - (c.loop-done.done + c.min-n.result) in
-    writes_front _ _ _ _ _ p.1 (copied_piece {place = c.args.span.place} {done = c.loop-done.done} rest (omega arith) refl l c.loop-done.invariant.copied c.in_ok-read_part.ensures.read c.in_err-write_whole.ensures.err b is)
+    writes_prefix _ _ _ _ _ p.1 (copied_piece {place = c.args.span.place} {done = c.loop-done.done} rest (omega arith) refl l c.loop-done.invariant.copied c.in_ok-read_part.ensures.read c.in_err-write_whole.ensures.err b is)
 
 pub loop-done-preserved : goal.loop-done-preserved
 loop-done-preserved g c =

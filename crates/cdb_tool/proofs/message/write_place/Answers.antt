@@ -1,6 +1,6 @@
 use Rattle.std.proofs.Common.{refl, codes}
 use Rattle.std.proofs.lemmas.Result.{err_from_is_err_and}
-use Rattle.cdb_form.proofs.WritingLemmas.{front_in, writes_front, writes_last}
+use Rattle.cdb_form.proofs.WritingLemmas.{prefix_in, writes_prefix, writes_last}
 use Rattle.cdb_tool.specs.Message.{numbered}
 use Rattle.cdb_tool.proofs.message.write_place.Goals as goal
 
@@ -8,7 +8,7 @@ pub returns-in_err-write_numbered-in-Byte : goal.returns-in_err-write_numbered-i
 returns-in_err-write_numbered-in-Byte g c =
     let p = err_from_is_err_and c.from_residual.result c.from_residual.ensures.1 in
     let second = numbered (codes "byte ") c.in-Byte.at in
-    rw c.in-Byte.is (writes_front _ _ _ _ _ p.1 (front_in _ _ (numbered (codes "input ") c.in-Byte.input) second _ c.in_err-write_numbered-in-Byte.ensures.err refl))
+    rw c.in-Byte.is (writes_prefix _ _ _ _ _ p.1 (prefix_in _ _ (numbered (codes "input ") c.in-Byte.input) second _ c.in_err-write_numbered-in-Byte.ensures.err refl))
 
 pub returns-in_ok-write_numbered-in-Byte : goal.returns-in_ok-write_numbered-in-Byte
 returns-in_ok-write_numbered-in-Byte g c =
@@ -18,7 +18,7 @@ pub returns-in_err-write_numbered-in-Slot : goal.returns-in_err-write_numbered-i
 returns-in_err-write_numbered-in-Slot g c =
     let p = err_from_is_err_and c.from_residual-in_err-write_numbered-in-Slot.result c.from_residual-in_err-write_numbered-in-Slot.ensures.1 in
     let second = numbered (codes "slot ") c.in-Slot.i in
-    rw c.in-Slot.is (writes_front _ _ _ _ _ p.1 (front_in _ _ (numbered (codes "table ") c.in-Slot.n) second _ c.in_err-write_numbered-in-Slot.ensures.err refl))
+    rw c.in-Slot.is (writes_prefix _ _ _ _ _ p.1 (prefix_in _ _ (numbered (codes "table ") c.in-Slot.n) second _ c.in_err-write_numbered-in-Slot.ensures.err refl))
 
 pub returns-in_ok-write_numbered-in-Slot : goal.returns-in_ok-write_numbered-in-Slot
 returns-in_ok-write_numbered-in-Slot g c =

@@ -1,7 +1,7 @@
 use Rattle.std.proofs.Common.{◌≡◌, ◌∙◌, refl, ◌++◌, ap, append_assoc}
 use Rattle.std.proofs.lemmas.Result.{err_from_is_err_and}
 use Rattle.std.specs.Prelude.{codes}
-use Rattle.cdb_form.proofs.WritingLemmas.{appends_then, front_then, front_in, same_front, same_appends, same_writes, writes_front, writes_last}
+use Rattle.cdb_form.proofs.WritingLemmas.{appends_then, prefix_then, prefix_in, same_prefix, same_appends, same_writes, writes_prefix, writes_last}
 use Rattle.cdb_tool.specs.Message.{said_place, fault_place, fault_message, said_line}
 use Rattle.cdb_tool.specs.declared.fault.Fault.{Fault}
 use Rattle.cdb_tool.proofs.message.write_said.Goals as goal
@@ -12,14 +12,14 @@ in_three f = ap (λ t. codes "cdb: " ++ t) (append_assoc (said_place (fault_plac
 pub returns-in_err-write_whole : goal.returns-in_err-write_whole
 returns-in_err-write_whole g c =
     let p = err_from_is_err_and c.from_residual.result c.from_residual.ensures.1 in
-    writes_front _ _ _ _ _ p.1 (front_in _ _ (codes "cdb: ") _ _ c.in_err-write_whole.ensures.err refl)
+    writes_prefix _ _ _ _ _ p.1 (prefix_in _ _ (codes "cdb: ") _ _ c.in_err-write_whole.ensures.err refl)
 
 pub returns-in_err-write_place : goal.returns-in_err-write_place
 returns-in_err-write_place g c =
     let p = err_from_is_err_and c.from_residual-in_err-write_place.result c.from_residual-in_err-write_place.ensures.1 in
     let f = c.args.fault.now in
-    let place = same_front _ _ _ _ (ap said_place c.place.ensures) c.in_err-write_place.ensures.err in
-    writes_front _ _ _ _ _ p.1 (front_then _ _ _ (codes "cdb: ") (said_place (fault_place f)) (fault_message f ++ codes "\n") (said_line f) c.in_ok-write_whole.ensures.ok place (in_three f))
+    let place = same_prefix _ _ _ _ (ap said_place c.place.ensures) c.in_err-write_place.ensures.err in
+    writes_prefix _ _ _ _ _ p.1 (prefix_then _ _ _ (codes "cdb: ") (said_place (fault_place f)) (fault_message f ++ codes "\n") (said_line f) c.in_ok-write_whole.ensures.ok place (in_three f))
 
 pub returns : goal.returns
 returns g c =

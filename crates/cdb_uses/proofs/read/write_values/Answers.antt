@@ -3,9 +3,9 @@ use Rattle.cdb_read.specs.Views.Reads.{CopyingFails}
 use Rattle.cdb_read.specs.Lookup.{with_span}
 use Rattle.std.proofs.Common.{rules, ap, ◌∙◌, refl}
 use Rattle.std.proofs.lemmas.Result.{err_from_is_err_and}
-use Rattle.cdb_form.proofs.WritingLemmas.{writes_front}
+use Rattle.cdb_form.proofs.WritingLemmas.{writes_prefix}
 use Rattle.cdb_store.proofs.Reading.{reads_more}
-use Rattle.cdb_uses.proofs.Asking.{asked_none, asked_more, asked_all, asked_front, copied_front, finds_within, finder_fails, reads_none, same_left}
+use Rattle.cdb_uses.proofs.Asking.{asked_none, asked_more, asked_all, asked_prefix, copied_prefix, finds_within, finder_fails, reads_none, same_left}
 use Rattle.cdb_uses.proofs.read.write_values.Goals as goal
 
 pub loop-span-init : goal.loop-span-init
@@ -62,8 +62,8 @@ returns-in_err-span-clause-values g c = λ rs are room file b is.
     let w = g.L.Width.WORD in
     let here : g.S.Store.image c.next.new.self.reader.now.store b = search rules in
     let was = c.next.ensures.reads.images b here in
-    writes_front _ _ _ _ _ p.1
-    (asked_front w c.args.key.now rs _ _ (λ x. left_in w x c.loop-span.finder) _ _ b inv.asked was (file.each b (inv.asked.images b was))
+    writes_prefix _ _ _ _ _ p.1
+    (asked_prefix w c.args.key.now rs _ _ (λ x. left_in w x c.loop-span.finder) _ _ b inv.asked was (file.each b (inv.asked.images b was))
     (finds_within w g.L.Width.TOP g.L.Width.GREATEST rs c.args.key.now g.met.L.Width.four_or_eight g.met.L.Width.top_is g.met.L.Width.greatest_fits.0 are room))
 
 pub returns-in_err-copy-clause-values : goal.returns-in_err-copy-clause-values
@@ -75,6 +75,6 @@ returns-in_err-copy-clause-values g c = λ rs are room file b is.
     let mid = c.copy.ensures.reads.images b here in
     let was = c.next.ensures.reads.images b mid in
     let one = rw c.in-Some.is at c.in_ok-span.ensures.gives in
-    writes_front _ _ _ _ _ p.1
-    (copied_front w c.args.key.now rs _ _ (λ x. left_in w x c.loop-span.finder) (λ x. left_in w x c.next.new.self) _ _ _ b c.in-Some.span inv.asked was (one.first b mid) (c.in_err-copy.ensures.copies b here).err (file.each b (inv.asked.images b was))
+    writes_prefix _ _ _ _ _ p.1
+    (copied_prefix w c.args.key.now rs _ _ (λ x. left_in w x c.loop-span.finder) (λ x. left_in w x c.next.new.self) _ _ _ b c.in-Some.span inv.asked was (one.first b mid) (c.in_err-copy.ensures.copies b here).err (file.each b (inv.asked.images b was))
     (finds_within w g.L.Width.TOP g.L.Width.GREATEST rs c.args.key.now g.met.L.Width.four_or_eight g.met.L.Width.top_is g.met.L.Width.greatest_fits.0 are room))

@@ -4,7 +4,7 @@ use Rattle.std.proofs.lemmas.Result.{err_from_is_err_and}
 use Rattle.std.proofs.lemmas.List.{append-nil}
 use Rattle.std.specs.Io.KnownBytes.{Consumes}
 use Rattle.cdb_form.proofs.ReadBack.{same_words}
-use Rattle.cdb_form.proofs.RecordReads.{front_told, no_room, header_early, body_no_room, body_early, record_read, record_cut, loses_then, none_no_room, none_header, none_body_no_room, none_body}
+use Rattle.cdb_form.proofs.RecordReads.{prefix_told, no_room, header_early, body_no_room, body_early, record_read, record_cut, loses_then, none_no_room, none_header, none_body_no_room, none_body}
 use Rattle.cdb_form.proofs.walk.next_record.read_record.Goals.{then-left-header-via-then-left-header, then-left-header-via-else-left-header+then-left-header-2}
 use Rattle.cdb_form.proofs.walk.next_record.read_record.Goals as goal
 
@@ -21,7 +21,7 @@ returns-in_err-header-clause-fails g c =
 pub returns-then-left-header-clause-fails : goal.returns-then-left-header-clause-fails
 returns-then-left-header-clause-fails g c = λ damage.
     let r = c.in_ok-header.ensures.read in
-    let told = front_told g.L.Width.WORD r.bytes c.in_ok-header.header r.lengths in
+    let told = prefix_told g.L.Width.WORD r.bytes c.in_ok-header.header r.lengths in
     body_no_room g.L.Width.WORD c.args.area.place c.args.area.end _ _ r.bytes c.requires r.read r.long (omega (arith, c.pair_size-size.ensures, c.if-left-size.false))
     (elim c.then-left-header.branch [
       | then-left-header-via-then-left-header w ↦ omega (arith, told, c.pair_size-size.ensures, w.if-left-header.true)
@@ -32,7 +32,7 @@ pub returns-in_err-record_body-clause-fails : goal.returns-in_err-record_body-cl
 returns-in_err-record_body-clause-fails g c =
     let p = err_from_is_err_and c.from_residual-in_err-record_body.result c.from_residual-in_err-record_body.ensures.1 in
     let r = c.in_ok-header.ensures.read in
-    let told = front_told g.L.Width.WORD r.bytes c.in_ok-header.header r.lengths in
+    let told = prefix_told g.L.Width.WORD r.bytes c.in_ok-header.header r.lengths in
     rw (p.1, p.2) (λ damage.
     let h = c.in_err-record_body.ensures.fails damage in
     body_early g.L.Width.WORD c.args.area.place c.args.area.end (c.in_ok-header.header.klen + c.in_ok-header.header.vlen) _ _ r.bytes [] c.in_err-record_body.field-0.0 c.requires h.0
@@ -83,7 +83,7 @@ returns-in_err-header-clause-part g c =
 pub returns-then-left-header-clause-part : goal.returns-then-left-header-clause-part
 returns-then-left-header-clause-part g c =
     let r = c.in_ok-header.ensures.read in
-    let told = front_told g.L.Width.WORD r.bytes c.in_ok-header.header r.lengths in
+    let told = prefix_told g.L.Width.WORD r.bytes c.in_ok-header.header r.lengths in
     none_body_no_room g.L.Width.WORD c.args.area.place c.args.area.end _ _ r.bytes c.requires r.read r.long (omega (arith, c.pair_size-size.ensures, c.if-left-size.false))
     (elim c.then-left-header.branch [
       | then-left-header-via-then-left-header w ↦ omega (arith, told, c.pair_size-size.ensures, w.if-left-header.true)
@@ -94,7 +94,7 @@ pub returns-in_err-record_body-clause-part : goal.returns-in_err-record_body-cla
 returns-in_err-record_body-clause-part g c =
     let p = err_from_is_err_and c.from_residual-in_err-record_body.result c.from_residual-in_err-record_body.ensures.1 in
     let r = c.in_ok-header.ensures.read in
-    let told = front_told g.L.Width.WORD r.bytes c.in_ok-header.header r.lengths in
+    let told = prefix_told g.L.Width.WORD r.bytes c.in_ok-header.header r.lengths in
     rw (p.1) (none_body g.L.Width.WORD c.args.area.place c.args.area.end (c.in_ok-header.header.klen + c.in_ok-header.header.vlen) _ _ _ r.bytes c.requires r.read
     c.in_err-record_body.ensures.loses_fewer r.long (omega (arith, c.pair_size-size.ensures, c.if-left-size.false)) (omega (arith, told)))
 

@@ -6,7 +6,7 @@ use Rattle.std.specs.Io.KnownBytes.{Consumes}
 use Rattle.cdb_form.proofs.RecordReads.{none_header}
 use Rattle.cdb_form.proofs.SourceLemmas.{nothing_lost}
 use Rattle.cdb_form.proofs.Stored.{stored_read}
-use Rattle.cdb_form.specs.Format.Walk.{front_record}
+use Rattle.cdb_form.specs.Format.Walk.{prefix_record}
 use Rattle.cdb_form.proofs.walk.next_record.read_record_buffered.Goals as goal
 
 pub returns-in_err-n-clause-part : goal.returns-in_err-n-clause-part
@@ -33,7 +33,7 @@ returns-clause-record g c =
     let long = length-take-le n window begins.within in
     let all = stored_read w c.args.area.place c.args.area.end _ _ _ (take n window) (elim g.met.L.Width.four_or_eight [ inl a ↦ omega arith | inr b ↦ omega arith ])
     read (begins.whole ∙ sym long) (omega (arith, long)) (omega (arith, few)) in (
-      front_record w (take n window),
+      prefix_record w (take n window),
       begins.kept,
       all.0,
       all.1,

@@ -4,7 +4,7 @@ use Rattle.std.proofs.lemmas.List.{take-append-drop}
 use Rattle.std.proofs.lemmas.Result.{err_from_is_err_and}
 use Rattle.cdb_form.specs.Format.File.{whole_size}
 use Rattle.cdb_form.specs.Format.Record.{KeyValue}
-use Rattle.cdb_form.specs.Format.Walk.{front_record}
+use Rattle.cdb_form.specs.Format.Walk.{prefix_record}
 use Rattle.cdb_make.specs.Views.Appending.{FailsAppending, PassesLimit, records_at}
 use Rattle.cdb_make.proofs.Appends.{appends_until, fails_wider, passes_limit}
 use Rattle.cdb_make.proofs.Fitting.{next_fits, next_splits}
@@ -32,7 +32,7 @@ returns-then-fitting-clause-fails g c =
     let n : ℕ = c.measure-fitting.result.count in
     let size : ℕ = c.measure-fitting.result.size in
     let e = c.measure-fitting.ensures in
-    let r : KeyValue = front_record w (drop size bytes) in
+    let r : KeyValue = prefix_record w (drop size bytes) in
     let some : 0 < g.L.Width.WORD = omega (arith, g.met.L.Width.four_or_eight) in
     let cut = next_splits w bytes n size some e.first (next_fits w bytes n size e.first (e.more c.if-fitting.true)) in
     let are : all ≡ take n all ++ r ∷ drop (n + 1) all = sym (take-append-drop n all) ∙ ap (λ t. take n all ++ t) cut.2 in

@@ -4,7 +4,7 @@ use Rattle.std.proofs.lemmas.Result.{err_from_is_err_and, on_ok_weaker}
 use Rattle.cdb_store.specs.Images.{Holds as Stored}
 use Rattle.cdb_form.specs.Format.File.{whole_size}
 use Rattle.cdb_form.specs.Format.Record.{KeyValue, record_size}
-use Rattle.cdb_form.specs.Format.Walk.{front_record}
+use Rattle.cdb_form.specs.Format.Walk.{prefix_record}
 use Rattle.cdb_form.proofs.Sizes.{size_split}
 use Rattle.cdb_make.specs.Views.Appending.{AreFirst, FailsAppending, KeepsLimit, records_at}
 use Rattle.cdb_make.proofs.Appends.{appends_all, fails_behind, fails_writing, keeps_limit}
@@ -26,7 +26,7 @@ returns-in_err-write_behind-clause-fails g c =
     let new = c.write_behind.new.self in
     let bytes : List ℕ = c.args.bytes.now in
     let all : List KeyValue = records_at w bytes in
-    let r : KeyValue = front_record w bytes in
+    let r : KeyValue = prefix_record w bytes in
     let later : List KeyValue = take (c.args.count - (0 + 1)) (drop (0 + 1) all) in
     let some : 0 < g.L.Width.WORD = omega (arith, g.met.L.Width.four_or_eight) in
     let more : 0 < c.args.count = omega (arith, c.if-count-eq0.false) in

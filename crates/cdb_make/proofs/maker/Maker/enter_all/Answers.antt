@@ -4,12 +4,12 @@ use Rattle.cdb_store.specs.Images.{Holds as Stored}
 use Rattle.cdb_form.specs.Format.File.{whole_size}
 use Rattle.cdb_form.specs.Format.Hash.{key_hash}
 use Rattle.cdb_form.specs.Format.Record.{AreBytes, KeyValue, record_bytes, record_size}
-use Rattle.cdb_form.specs.Format.Walk.{front_record, front_size}
+use Rattle.cdb_form.specs.Format.Walk.{prefix_record, prefix_size}
 use Rattle.cdb_form.proofs.HeadLemmas.{rest_of}
 use Rattle.cdb_form.proofs.Standing.{AreBytes-drop}
 use Rattle.cdb_make.specs.Views.Appending.{Enters, first_size, records_at}
 use Rattle.cdb_make.proofs.Appends.{entered_size, enters_more, stops_entering}
-use Rattle.cdb_make.proofs.Fitting.{first_more, front_is_record, front_sized, next_fits, next_of, next_splits, next_stored, next_sums, next_within, sum_take}
+use Rattle.cdb_make.proofs.Fitting.{first_more, prefix_is_record, prefix_sized, next_fits, next_of, next_splits, next_stored, next_sums, next_within, sum_take}
 use Rattle.cdb_make.proofs.Written.{on_any_err}
 use Rattle.cdb_make.proofs.maker.Maker.enter_all.Goals as goal
 
@@ -23,7 +23,7 @@ first_record-first-requires g c =
     let bytes : List ℕ = c.args.bytes.now in
     let i = c.loop.invariant in
     let more : c.loop.counter < length (records_at w bytes) = omega (arith, c.requires.first.few, c.loop-test.true) in
-    subst (λ (v : List ℕ). front_size w v ≤ length v) (sym (rest_of c.loop.place (length bytes) bytes refl)) (next_fits w bytes c.loop.counter c.loop.place i.first more)
+    subst (λ (v : List ℕ). prefix_size w v ≤ length v) (sym (rest_of c.loop.place (length bytes) bytes refl)) (next_fits w bytes c.loop.counter c.loop.place i.first more)
 
 pub enter-requires-clause-inside : goal.enter-requires-clause-inside
 enter-requires-clause-inside g c =
@@ -34,7 +34,7 @@ enter-requires-clause-inside g c =
     let i = c.loop.invariant in
     let some : 0 < g.L.Width.WORD = omega (arith, g.met.L.Width.four_or_eight) in
     let more : c.loop.counter < length (records_at w bytes) = omega (arith, c.requires.first.few, c.loop-test.true) in
-    let is : c.first_record-first.result.size ≡ front_size w (drop place bytes) = c.first_record-first.ensures.size ∙ ap (front_size w) (rest_of place (length bytes) bytes refl) in
+    let is : c.first_record-first.result.size ≡ prefix_size w (drop place bytes) = c.first_record-first.ensures.size ∙ ap (prefix_size w) (rest_of place (length bytes) bytes refl) in
     let within = next_within w bytes k place c.args.count (first_size w bytes c.args.count) some (λ k. omega (arith, c.type_inv.bytes k)) i.first c.requires.first c.loop-test.true in
     omega (arith, i.entered.end, i.first.sum, c.requires.inside, ap g.S.Store.size i.store)
 
@@ -48,7 +48,7 @@ enter-requires-clause-within g c =
     let i = c.loop.invariant in
     let some : 0 < g.L.Width.WORD = omega (arith, g.met.L.Width.four_or_eight) in
     let more : c.loop.counter < length (records_at w bytes) = omega (arith, c.requires.first.few, c.loop-test.true) in
-    let is : c.first_record-first.result.size ≡ front_size w (drop place bytes) = c.first_record-first.ensures.size ∙ ap (front_size w) (rest_of place (length bytes) bytes refl) in
+    let is : c.first_record-first.result.size ≡ prefix_size w (drop place bytes) = c.first_record-first.ensures.size ∙ ap (prefix_size w) (rest_of place (length bytes) bytes refl) in
     let sums = next_sums w bytes k place some i.first (next_fits w bytes k place i.first more) in
     let le = sum_take (whole_size w) all (k + 1) c.args.count (omega (arith, c.loop-test.true)) in
     omega (arith, entered_size {s = g.S.Store} {l = g.L.Width} c.args.self.now c.loop.self (take k all) i.entered, c.requires.room, i.entered.limit)
@@ -60,7 +60,7 @@ returns-in_err-enter-clause-some g c =
     let k : ℕ = c.loop.counter in
     let place : ℕ = c.loop.place in
     let all : List KeyValue = records_at w bytes in
-    let r : KeyValue = front_record w (drop place bytes) in
+    let r : KeyValue = prefix_record w (drop place bytes) in
     let i = c.loop.invariant in
     let e = c.in_err-enter.ensures in
     let some : 0 < g.L.Width.WORD = omega (arith, g.met.L.Width.four_or_eight) in
@@ -81,16 +81,16 @@ loop-preserved g c =
     let k : ℕ = c.loop.counter in
     let place : ℕ = c.loop.place in
     let all : List KeyValue = records_at w bytes in
-    let r : KeyValue = front_record w (drop place bytes) in
+    let r : KeyValue = prefix_record w (drop place bytes) in
     let i = c.loop.invariant in
     let e = c.in_ok-enter.ensures in
     let some : 0 < g.L.Width.WORD = omega (arith, g.met.L.Width.four_or_eight) in
     let more : c.loop.counter < length (records_at w bytes) = omega (arith, c.requires.first.few, c.loop-test.true) in
-    let fits : front_size w (drop place bytes) ≤ length (drop place bytes) = next_fits w bytes k place i.first more in
-    let is : c.first_record-first.result.size ≡ front_size w (drop place bytes) = c.first_record-first.ensures.size ∙ ap (front_size w) (rest_of place (length bytes) bytes refl) in
-    let sized : c.first_record-first.result.size ≡ record_size w r = is ∙ sym (front_sized w (drop place bytes) fits) in
+    let fits : prefix_size w (drop place bytes) ≤ length (drop place bytes) = next_fits w bytes k place i.first more in
+    let is : c.first_record-first.result.size ≡ prefix_size w (drop place bytes) = c.first_record-first.ensures.size ∙ ap (prefix_size w) (rest_of place (length bytes) bytes refl) in
+    let sized : c.first_record-first.result.size ≡ record_size w r = is ∙ sym (prefix_sized w (drop place bytes) fits) in
     let cut = next_splits w bytes k place some i.first fits in
-    let hashed : c.hash.result ≡ key_hash r.key = c.hash.ensures ∙ ap key_hash (c.first_record-first.ensures.key ∙ ap (λ (v : List ℕ). (front_record w v).key) (rest_of place (length bytes) bytes refl)) in
+    let hashed : c.hash.result ≡ key_hash r.key = c.hash.ensures ∙ ap key_hash (c.first_record-first.ensures.key ∙ ap (λ (v : List ℕ). (prefix_record w v).key) (rest_of place (length bytes) bytes refl)) in
     let here : c.loop.self.end ≡ m.end + place = i.entered.end ∙ ap (λ (n : ℕ). m.end + n) (sym i.first.sum) in
     let was = next_stored w m.end bytes k place c.args.count (first_size w bytes c.args.count) some are i.first c.requires.first c.loop-test.true c.requires.written in
     let stored : Stored c.loop.self.end (record_bytes w r) (g.S.Store.image c.loop.self.store) =
@@ -99,7 +99,7 @@ loop-preserved g c =
       first = first_more w bytes k place c.first_record-first.result.size some are i.first is (omega arith);
       entered = subst (λ (v : List KeyValue). Enters {s = g.S.Store} {l = g.L.Width} m c.enter.new.self v) (sym cut.1)
           (enters_more {s = g.S.Store} {l = g.L.Width} m c.loop.self c.enter.new.self (take k all) r i.entered c.enter.ensures.whole
-          (λ before h. e.holds r before (front_is_record w (drop place bytes) (AreBytes-drop place bytes are)) hashed sized stored h)
+          (λ before h. e.holds r before (prefix_is_record w (drop place bytes) (AreBytes-drop place bytes are)) hashed sized stored h)
           (end_at c.loop.self.end e.end sized) e.count c.enter.ensures.limit);
       store = c.enter.ensures.store ∙ i.store;
     }

@@ -1,7 +1,7 @@
 use Rattle.std.proofs.Common.{rules, ◌∙◌}
 use Rattle.std.proofs.lemmas.Bool.{OnTrue_at}
 use Rattle.std.proofs.lemmas.Result.{err_from_is_err_and}
-use Rattle.cdb_form.proofs.WritingLemmas.{same_appends, same_front, writes_front}
+use Rattle.cdb_form.proofs.WritingLemmas.{same_appends, same_prefix, writes_prefix}
 use Rattle.cdb_read.proofs.Windows.{shown_is}
 use Rattle.cdb_read.proofs.reader.Reader.copy.Goals as goal
 
@@ -20,4 +20,4 @@ pub returns-in_err-write_whole-clause-copies : goal.returns-in_err-write_whole-c
 returns-in_err-write_whole-clause-copies g c = λ b image.
     let p = err_from_is_err_and c.from_residual.result c.from_residual.ensures.1 in
     let is = c.shown.ensures.is ∙ shown_is c.args.self.now.window (g.S.Store.image c.args.self.now.store) c.args.span.place c.args.span.len c.args.self.now.shows (OnTrue_at c.if-covers.true c.covers.ensures) b image in
-    writes_front _ _ _ _ _ p.1 (same_front _ _ _ _ is c.in_err-write_whole.ensures.err)
+    writes_prefix _ _ _ _ _ p.1 (same_prefix _ _ _ _ is c.in_err-write_whole.ensures.err)

@@ -1,6 +1,6 @@
 use Rattle.std.proofs.Common.{ℕ, ap, subst, sym, ◌∙◌}
 use Rattle.cdb_form.specs.Format.Hash.{table_number}
-use Rattle.cdb_read.specs.Views.Probing.{IsTurnInside}
+use Rattle.cdb_read.specs.Views.Probing.{IsSearchInside}
 use Rattle.cdb_read.proofs.Beginnings.{looks_by}
 use Rattle.cdb_read.proofs.reader.Reader.first_probe.Goals as goal
 
@@ -13,4 +13,4 @@ returns-clause-finds g c = λ b image.
     ∙ sym (looks_by g.L.Width.WORD b key c.args.self.now.head.pointers c.table_number.result _ (c.args.self.now.known b image) (c.table_number.ensures.number ∙ ap table_number hash))
 
 pub returns-clause-inside : goal.returns-clause-inside
-returns-clause-inside g c = subst (λ (n : ℕ). IsTurnInside g.L.Width.WORD n c.first_probe.result) c.len.ensures c.first_probe.ensures.inside
+returns-clause-inside g c = subst (λ (n : ℕ). IsSearchInside g.L.Width.WORD n c.first_probe.result) c.len.ensures c.first_probe.ensures.inside

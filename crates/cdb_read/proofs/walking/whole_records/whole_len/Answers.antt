@@ -1,7 +1,7 @@
 use Rattle.std.proofs.Common.{◌≡◌, ℕ, ◌+◌, ◌≤◌, List, Some, None, length, drop, length-drop, sym, ap, ◌∙◌, subst, arith}
 use Rattle.std.proofs.lemmas.List.{drop-drop, take_rest}
-use Rattle.cdb_form.specs.Format.Walk.{front_size}
-use Rattle.cdb_form.specs.Views.Front.{FrontTells}
+use Rattle.cdb_form.specs.Format.Walk.{prefix_size}
+use Rattle.cdb_form.specs.Views.Prefix.{PrefixTells}
 use Rattle.cdb_read.proofs.WalkedLengths.{some_word}
 use Rattle.cdb_read.proofs.AheadRecords.{all_size, size_step, size_end}
 use Rattle.cdb_read.proofs.walking.whole_records.whole_len.Goals as goal
@@ -11,8 +11,8 @@ loop-len-preserved g c =
     let w = g.L.Width.WORD in
     let bytes : List ℕ = c.args.bytes.now in
     let rest : List ℕ = drop c.loop-len.done bytes in
-    let told : FrontTells w rest (Some c.in-Some.len) = subst (λ t. FrontTells w t (Some c.in-Some.len)) (take_rest bytes c.loop-len.done) c.in-Some.ensures in
-    let size : c.in-Some.len ≡ front_size w rest = told.0 in
+    let told : PrefixTells w rest (Some c.in-Some.len) = subst (λ t. PrefixTells w t (Some c.in-Some.len)) (take_rest bytes c.loop-len.done) c.in-Some.ensures in
+    let size : c.in-Some.len ≡ prefix_size w rest = told.0 in
     let fits : c.in-Some.len ≤ length rest = told.1 in
     let left = length-drop c.loop-len.done bytes in
     let so_far = c.loop-len.invariant.so_far in
@@ -29,5 +29,5 @@ pub returns-clause-whole : goal.returns-clause-whole
 returns-clause-whole g c =
     let w = g.L.Width.WORD in
     let bytes : List ℕ = c.args.bytes.now in
-    let told : FrontTells w (drop c.loop-len.done bytes) None = subst (λ t. FrontTells w t None) (take_rest bytes c.loop-len.done) c.in_default.ensures in
+    let told : PrefixTells w (drop c.loop-len.done bytes) None = subst (λ t. PrefixTells w t None) (take_rest bytes c.loop-len.done) c.in_default.ensures in
     omega (arith, c.loop-len.invariant.so_far, size_end w (drop c.loop-len.done bytes) told)

@@ -4,7 +4,7 @@ use Rattle.cdb_form.specs.Format.Record.{KeyValue}
 use Rattle.cdb_form.specs.Format.Walk.{with_first}
 use Rattle.cdb_make.specs.Views.Maker.{Puts, FailsPutting}
 use Rattle.cdb_read.specs.Views.Walk.{left_of}
-use Rattle.cdb_read.specs.Views.Walking.{record_of, walk_ahead}
+use Rattle.cdb_read.specs.Views.Walking.{record_in, walk_ahead}
 use Rattle.cdb_tool.proofs.BaseRecords.{whole_window, window_added, window_stopped, walk_stopped, none_added, one_added, one_stopped}
 use Rattle.cdb_tool.proofs.Courses.{as_told}
 use Rattle.cdb_tool.proofs.runs.make_base.add_next.Goals as goal
@@ -50,7 +50,7 @@ returns-in_err-put-clause-fails g c =
     let r : KeyValue = record { key = c.value_into.new.into.items; value = c.value_into-2.new.into.items } in
     let fails = as_told (λ m r. FailsPutting {s = g.S.Store} {l = g.L.Width} c.args.maker.now c.put.new.self m r f) _ _ _ _ r refl c.deref-2.ensures.value c.deref-3.ensures.value c.in_err-put.ensures.fails in
     rw (p.1, p.2) (λ rs holds b i. one_stopped {s = g.S.Store} {l = g.L.Width} (g.B.Store.image c.value_into-2.new.self.reader.now.store) (λ b. left_of g.L.Width.WORD b c.args.records.now) (λ b. left_of g.L.Width.WORD b c.value_into-2.new.self) _ c.put.new.self c.in-Some.pair _ _ f
-    (λ b i. ap (walk_ahead g.L.Width.WORD b) (sym stays) ∙ one.first b (key.reads.images b (value.reads.images b i)) ∙ ap (λ v. with_first (record_of b c.in-Some.pair) (walk_ahead g.L.Width.WORD b v)) (sym (value.stays ∙ key.stays)))
+    (λ b i. ap (walk_ahead g.L.Width.WORD b) (sym stays) ∙ one.first b (key.reads.images b (value.reads.images b i)) ∙ ap (λ v. with_first (record_in b c.in-Some.pair) (walk_ahead g.L.Width.WORD b v)) (sym (value.stays ∙ key.stays)))
     (λ b i. c.in_ok-value_into.ensures.is b (value.reads.images b i)) (λ b i. c.in_ok-value_into-2.ensures.is b i) fails rs holds b i)
 
 pub returns-clause-ok : goal.returns-clause-ok
@@ -63,5 +63,5 @@ returns-clause-ok g c =
     let r : KeyValue = record { key = c.value_into.new.into.items; value = c.value_into-2.new.into.items } in
     let puts = as_told (λ m r. Puts {s = g.S.Store} {l = g.L.Width} c.args.maker.now c.put.new.self m r c.in_ok-put.field-0) _ _ _ _ r refl c.deref-2.ensures.value c.deref-3.ensures.value c.in_ok-put.ensures.puts in
     one_added {s = g.S.Store} {l = g.L.Width} _ (g.B.Store.image c.value_into-2.new.self.reader.now.store) (λ b. left_of g.L.Width.WORD b c.args.records.now) (λ b. left_of g.L.Width.WORD b c.value_into-2.new.self) _ c.put.new.self c.in-Some.pair _ _ _
-    (λ b i. ap (walk_ahead g.L.Width.WORD b) (sym stays) ∙ one.first b (key.reads.images b (value.reads.images b i)) ∙ ap (λ v. with_first (record_of b c.in-Some.pair) (walk_ahead g.L.Width.WORD b v)) (sym (value.stays ∙ key.stays)))
+    (λ b i. ap (walk_ahead g.L.Width.WORD b) (sym stays) ∙ one.first b (key.reads.images b (value.reads.images b i)) ∙ ap (λ v. with_first (record_in b c.in-Some.pair) (walk_ahead g.L.Width.WORD b v)) (sym (value.stays ∙ key.stays)))
     (λ b i. c.in_ok-value_into.ensures.is b (value.reads.images b i)) (λ b i. c.in_ok-value_into-2.ensures.is b i) puts

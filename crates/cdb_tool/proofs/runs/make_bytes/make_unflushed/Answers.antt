@@ -1,8 +1,8 @@
 use Rattle.std.proofs.Common.{◌∙◌}
 use Rattle.std.proofs.lemmas.Result.{err_from_is_err_and}
-use Rattle.cdb_form.proofs.WritingLemmas.{same_front, same_appends}
+use Rattle.cdb_form.proofs.WritingLemmas.{same_prefix, same_appends}
 use Rattle.cdb_tool.proofs.WholeRuns.{nothing_made, file_made, file_fails}
-use Rattle.cdb_tool.proofs.runs.make_bytes.make_unflushed.Goals as goal
+use Rattle.cdb_tool.proofs.runs.make_bytes.make_bytes_unflushed.Goals as goal
 
 pub returns-in_err-maker : goal.returns-in_err-maker
 returns-in_err-maker g c =
@@ -20,7 +20,7 @@ returns-in_err-write_whole g c =
     let p = err_from_is_err_and c.from_residual-in_err-write_whole.result c.from_residual-in_err-write_whole.ensures.1 in
     let read = c.in_ok-maker.ensures.ok in
     let bytes = c.deref.ensures.value ∙ c.in_ok-file.ensures.ok read.0 read.1 in
-    rw (p.1, p.2) (file_fails _ _ _ _ _ _ read.0 read.2 (same_front _ _ _ _ bytes c.in_err-write_whole.ensures.err))
+    rw (p.1, p.2) (file_fails _ _ _ _ _ _ read.0 read.2 (same_prefix _ _ _ _ bytes c.in_err-write_whole.ensures.err))
 
 pub returns : goal.returns
 returns g c =

@@ -1,7 +1,7 @@
 use Rattle.std.proofs.lemmas.Grind.{common_steps}
 use Rattle.std.proofs.Common.{rules, refl, ap, ◌∙◌, ◌≡◌, ◌≤◌, ◌+◌, ◌-◌, arith, length}
 use Rattle.std.proofs.lemmas.Result.{err_from_is_err_and}
-use Rattle.cdb_tool.proofs.Queries.{found_none, found_more, found_still, passed_none, passed_more, copying_fails, handed_back, nth_written, nth_front}
+use Rattle.cdb_tool.proofs.Queries.{found_none, found_more, found_still, passed_none, passed_more, copying_fails, handed_back, nth_written, nth_prefix}
 use Rattle.cdb_tool.proofs.runs.query.write_nth.Goals as goal
 
 pub loop-value-init : goal.loop-value-init
@@ -40,7 +40,7 @@ returns-in_err-write_value g c =
     rw (p.1, p.2)
     (handed_back c.write_value.new.finder.reader.now.store _ (search rules)
     (copying_fails _ g.S.Store _ _ c.next.new.self.reader.now.store _ _ _ c.in_err-write_value.field-0.0 next.reads written.reads c.args.reader.now.long c.in_err-write_value.ensures.fails
-    (λ b is. nth_front {s = g.S.Store} {l = g.L.Width} _ _ _ _ c.write_value.new.finder _ _ _ _ inv.passed.spans c.in-Some.value b found count is inv.passed.kept (c.in_err-write_value.ensures.writes b is).err)))
+    (λ b is. nth_prefix {s = g.S.Store} {l = g.L.Width} _ _ _ _ c.write_value.new.finder _ _ _ _ inv.passed.spans c.in-Some.value b found count is inv.passed.kept (c.in_err-write_value.ensures.writes b is).err)))
 
 pub returns-then-left-eq0 : goal.returns-then-left-eq0
 returns-then-left-eq0 g c =

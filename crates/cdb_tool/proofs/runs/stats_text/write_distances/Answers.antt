@@ -1,7 +1,7 @@
 use Rattle.std.proofs.Common.{arith}
 use Rattle.std.proofs.lemmas.Result.{err_from_is_err_and}
-use Rattle.cdb_form.proofs.WritingLemmas.{writes_front}
-use Rattle.cdb_tool.proofs.StatsTexts.{amid_none, amid_more, amid_front, amid_last, lines_are, lines_next, lines_last}
+use Rattle.cdb_form.proofs.WritingLemmas.{writes_prefix}
+use Rattle.cdb_tool.proofs.StatsTexts.{amid_none, amid_more, amid_prefix, amid_last, lines_are, lines_next, lines_last}
 use Rattle.cdb_tool.proofs.runs.stats_text.write_distances.Goals as goal
 
 pub loop-distance-init : goal.loop-distance-init
@@ -10,7 +10,7 @@ loop-distance-init g c = rw (lines_are c.args.counts.now) (amid_none _ _)
 pub returns-in_err-write_distance : goal.returns-in_err-write_distance
 returns-in_err-write_distance g c =
     let p = err_from_is_err_and c.from_residual.result c.from_residual.ensures.1 in
-    writes_front _ _ _ _ _ p.1 (amid_front _ _ _ _ _ _ _ c.loop-distance.invariant (lines_next c.args.counts.now c.loop-distance.distance (omega arith)) c.in_err-write_distance.ensures.err)
+    writes_prefix _ _ _ _ _ p.1 (amid_prefix _ _ _ _ _ _ _ c.loop-distance.invariant (lines_next c.args.counts.now c.loop-distance.distance (omega arith)) c.in_err-write_distance.ensures.err)
 
 pub loop-distance-preserved : goal.loop-distance-preserved
 loop-distance-preserved g c = amid_more _ _ _ _ _ _ _ c.loop-distance.invariant (lines_next c.args.counts.now c.loop-distance.distance (omega arith)) c.in_ok-write_distance.ensures.ok

@@ -1,27 +1,27 @@
 use Rattle.std.proofs.Common.{refl}
 use Rattle.std.proofs.lemmas.Result.{err_from_is_err_and}
-use Rattle.cdb_form.proofs.WritingLemmas.{front_in, writes_front}
+use Rattle.cdb_form.proofs.WritingLemmas.{prefix_in, writes_prefix}
 use Rattle.cdb_tool.specs.Runs.StatsText.{records_line, keys_line, values_line, tables_line, sizes_line, distance_lines}
-use Rattle.cdb_tool.proofs.StatsTexts.{amid_front, amid_last, behind_records, behind_keys, behind_values, behind_tables, first_line, after_records, after_keys, after_values, after_tables, after_sizes}
+use Rattle.cdb_tool.proofs.StatsTexts.{amid_prefix, amid_last, behind_records, behind_keys, behind_values, behind_tables, first_line, after_records, after_keys, after_values, after_tables, after_sizes}
 use Rattle.cdb_tool.proofs.runs.stats_text.write_stats.Goals as goal
 
 pub returns-in_err-write_count : goal.returns-in_err-write_count
 returns-in_err-write_count g c =
     let s = c.args.stats.now in
-    writes_front _ _ _ _ _ (err_from_is_err_and c.from_residual.result c.from_residual.ensures.1).1 (front_in _ _ (records_line s) (behind_records s) _ c.in_err-write_count.ensures.err (first_line s))
+    writes_prefix _ _ _ _ _ (err_from_is_err_and c.from_residual.result c.from_residual.ensures.1).1 (prefix_in _ _ (records_line s) (behind_records s) _ c.in_err-write_count.ensures.err (first_line s))
 
 pub returns-in_err-write_triple : goal.returns-in_err-write_triple
 returns-in_err-write_triple g c =
     let s = c.args.stats.now in
     let one = after_records _ _ s c.in_ok-write_count.ensures.ok in
-    writes_front _ _ _ _ _ (err_from_is_err_and c.from_residual-in_err-write_triple.result c.from_residual-in_err-write_triple.ensures.1).1 (amid_front _ _ _ _ _ (keys_line s) (behind_keys s) one refl c.in_err-write_triple.ensures.err)
+    writes_prefix _ _ _ _ _ (err_from_is_err_and c.from_residual-in_err-write_triple.result c.from_residual-in_err-write_triple.ensures.1).1 (amid_prefix _ _ _ _ _ (keys_line s) (behind_keys s) one refl c.in_err-write_triple.ensures.err)
 
 pub returns-in_err-write_triple-2 : goal.returns-in_err-write_triple-2
 returns-in_err-write_triple-2 g c =
     let s = c.args.stats.now in
     let one = after_records _ _ s c.in_ok-write_count.ensures.ok in
     let two = after_keys _ _ _ s one c.in_ok-write_triple.ensures.ok in
-    writes_front _ _ _ _ _ (err_from_is_err_and c.from_residual-in_err-write_triple-2.result c.from_residual-in_err-write_triple-2.ensures.1).1 (amid_front _ _ _ _ _ (values_line s) (behind_values s) two refl c.in_err-write_triple-2.ensures.err)
+    writes_prefix _ _ _ _ _ (err_from_is_err_and c.from_residual-in_err-write_triple-2.result c.from_residual-in_err-write_triple-2.ensures.1).1 (amid_prefix _ _ _ _ _ (values_line s) (behind_values s) two refl c.in_err-write_triple-2.ensures.err)
 
 pub returns-in_err-write_triple-3 : goal.returns-in_err-write_triple-3
 returns-in_err-write_triple-3 g c =
@@ -29,7 +29,7 @@ returns-in_err-write_triple-3 g c =
     let one = after_records _ _ s c.in_ok-write_count.ensures.ok in
     let two = after_keys _ _ _ s one c.in_ok-write_triple.ensures.ok in
     let three = after_values _ _ _ s two c.in_ok-write_triple-2.ensures.ok in
-    writes_front _ _ _ _ _ (err_from_is_err_and c.from_residual-in_err-write_triple-3.result c.from_residual-in_err-write_triple-3.ensures.1).1 (amid_front _ _ _ _ _ (tables_line s) (behind_tables s) three refl c.in_err-write_triple-3.ensures.err)
+    writes_prefix _ _ _ _ _ (err_from_is_err_and c.from_residual-in_err-write_triple-3.result c.from_residual-in_err-write_triple-3.ensures.1).1 (amid_prefix _ _ _ _ _ (tables_line s) (behind_tables s) three refl c.in_err-write_triple-3.ensures.err)
 
 pub returns-in_err-write_triple-4 : goal.returns-in_err-write_triple-4
 returns-in_err-write_triple-4 g c =
@@ -38,7 +38,7 @@ returns-in_err-write_triple-4 g c =
     let two = after_keys _ _ _ s one c.in_ok-write_triple.ensures.ok in
     let three = after_values _ _ _ s two c.in_ok-write_triple-2.ensures.ok in
     let four = after_tables _ _ _ s three c.in_ok-write_triple-3.ensures.ok in
-    writes_front _ _ _ _ _ (err_from_is_err_and c.from_residual-in_err-write_triple-4.result c.from_residual-in_err-write_triple-4.ensures.1).1 (amid_front _ _ _ _ _ (sizes_line s) (distance_lines s.distances) four refl c.in_err-write_triple-4.ensures.err)
+    writes_prefix _ _ _ _ _ (err_from_is_err_and c.from_residual-in_err-write_triple-4.result c.from_residual-in_err-write_triple-4.ensures.1).1 (amid_prefix _ _ _ _ _ (sizes_line s) (distance_lines s.distances) four refl c.in_err-write_triple-4.ensures.err)
 
 pub returns : goal.returns
 returns g c =

@@ -7,7 +7,7 @@ use Rattle.cdb_make.specs.Gaps.{IsRising, closed_by}
 use Rattle.cdb_make.specs.Views.EntryList.{entries_of}
 use Rattle.cdb_make.proofs.Sides.{entries_of-take, length-entries_of, places_below, entries_below}
 use Rattle.cdb_make.specs.Rings.{AreLinked}
-use Rattle.cdb_make.proofs.Rings.{linked_front}
+use Rattle.cdb_make.proofs.Rings.{linked_prefix}
 use Rattle.cdb_make.proofs.index.list.EntryList.close_reached.Goals.{then-kept-linked, else-kept-linked}
 use Rattle.cdb_make.proofs.index.list.EntryList.close_reached.Goals as goal
 
@@ -78,7 +78,7 @@ invariant_of-self-clause-linked c =
       | else-kept-linked w ↦
           subst (λ v. AreLinked v.1.1.1.0.ends.items v.1.1.1.0.next.items c.truncate.new.self.items) (sym w.self-is)
           (subst (AreLinked index.ends.items index.next.items) (sym cut)
-          (linked_front index.ends.items index.next.items hs new linked kept c.below-start.result (omega (arith, c.cut.ensures.left)) w.if-kept-linked.false
+          (linked_prefix index.ends.items index.next.items hs new linked kept c.below-start.result (omega (arith, c.cut.ensures.left)) w.if-kept-linked.false
           (omega (arith, c.close_entries-kept.ensures.within, s.paired, s.hashes.ok.0)) (omega (arith, s.hashes.ok.0))
           (λ more. omega (arith, c.entry_at-linked.ensures.all more, s.paired)) (λ e. c.close_entries-kept.ensures.same (omega arith) ∙ c.deref_mut.ensures.value)
           (λ k lt. c.close_entries-kept.ensures.front k lt ∙ ap (λ (v : List ℕ). slice_index v k) c.deref_mut.ensures.value) is))

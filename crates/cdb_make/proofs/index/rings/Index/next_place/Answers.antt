@@ -41,5 +41,5 @@ pub returns-clause-none : goal.returns-clause-none
 returns-clause-none c =
     let rest : ℕ = c.max-rest.result in
     let before : IsNowhereIn c.args.hash c.args.hashes.now c.args.from rest = λ k low high. c.loop-at.invariant.none k low (omega (arith, c.max-rest.ensures)) in
-    nowhere_behind c.args.hash c.args.from rest (length c.args.hashes.now - rest) c.first_place.result (rest + c.first_place.result) c.args.hashes.now before
-    (omega (arith, c.first_place.ensures.within, length-take {A = ℕ}, length-drop {A = ℕ})) (omega arith) c.first_place.ensures.none
+    nowhere_behind c.args.hash c.args.from rest (length c.args.hashes.now - rest) c.first_of_hash.result (rest + c.first_of_hash.result) c.args.hashes.now before
+    (omega (arith, c.first_of_hash.ensures.within, length-take {A = ℕ}, length-drop {A = ℕ})) (omega arith) c.first_of_hash.ensures.none

@@ -1,5 +1,5 @@
 use Rattle.std.proofs.Common.{ℕ, subst, sym, rules, arith}
-use Rattle.cdb_read.specs.Views.Probing.{IsTurnInside}
+use Rattle.cdb_read.specs.Views.Probing.{IsSearchInside}
 use Rattle.std.proofs.lemmas.Grind.{common_steps}
 use Rattle.cdb_read.proofs.lookup.finder.Finder.next.Goals as goal
 
@@ -7,7 +7,7 @@ pub met_from-requires : goal.met_from-requires
 met_from-requires g c = record { inside = c.args.self.now.inside c.in-At.probe c.in-At.is }
 
 pub invariant_of-self : goal.invariant_of-self
-invariant_of-self g c = record { inside = subst (λ (n : ℕ). IsTurnInside g.L.Width.WORD n c.args.self.now.searching) (sym c.met_from.ensures.reads.size) c.args.self.now.inside }
+invariant_of-self g c = record { inside = subst (λ (n : ℕ). IsSearchInside g.L.Width.WORD n c.args.self.now.searching) (sym c.met_from.ensures.reads.size) c.args.self.now.inside }
 
 pub returns-in-Broken-clause-fails : goal.returns-in-Broken-clause-fails
 returns-in-Broken-clause-fails g c = search rules

@@ -1,7 +1,0 @@
-use Rattle.std.proofs.Common.{arith}
-use Rattle.std.proofs.lemmas.Bool.{eqb-true}
-use Rattle.cdb_form.proofs.FrontLemmas.{body_front}
-use Rattle.cdb_form.proofs.text.front.has_body.Goals as goal
-
-pub returns : goal.returns
-returns c = λ e. body_front c.args.klen c.args.vlen c.args.bytes.now (omega arith) (omega arith) (omega arith) (eqb-true _ _ e)

@@ -1,0 +1,7 @@
+use Rattle.std.proofs.Common.{arith}
+use Rattle.std.proofs.lemmas.Bool.{eqb-true}
+use Rattle.cdb_form.proofs.PrefixLemmas.{body_prefix}
+use Rattle.cdb_form.proofs.text.prefix.has_body.Goals as goal
+
+pub returns : goal.returns
+returns c = λ e. body_prefix c.args.klen c.args.vlen c.args.bytes.now (omega arith) (omega arith) (omega arith) (eqb-true _ _ e)

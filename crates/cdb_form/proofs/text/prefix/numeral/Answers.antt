@@ -1,0 +1,34 @@
+use Rattle.std.proofs.lemmas.Grind.{common_steps}
+use Rattle.std.proofs.Common.{get_or, subst, sym, arith, refl, ◌*◌, ◌+◌, ◌<◌, ◌≡◌, ℕ, rules}
+use Rattle.std.specs.Char.{digit_value}
+use Rattle.std.proofs.lemmas.Str.{digit_value_digit}
+use Rattle.cdb_form.proofs.PrefixLemmas.{PrefixDigits, prefix_digit}
+use Rattle.cdb_form.proofs.text.prefix.numeral.Goals as goal
+
+pub loop-place-preserved : goal.loop-place-preserved
+loop-place-preserved c =
+    let place = c.loop-place.place in
+    let code = get_or c.args.bytes.now place 0 in
+    let range = rw c.if-not-is_ascii_digit.false at c.is_ascii_digit.ensures.cases in
+    let low : digit_value code < 10 = rw c.if-not-is_ascii_digit.false at c.is_ascii_digit.ensures.bound in
+    let is : c.from.result ≡ digit_value code = omega (arith, c.from.ensures, digit_value_digit code range) in
+    let so = prefix_digit c.args.bytes.now place c.loop-place.value _ c.loop-place.invariant.so_far (omega arith) refl low in
+    record {
+      so_far = subst (λ (d : ℕ). PrefixDigits c.args.bytes.now (place + 1) (c.loop-place.value * 10 + d)) (sym is) so;
+      short = omega (arith, c.if-value-lt-LONG.true, low, is);
+    }
+
+pub overflow_add-place : goal.overflow_add-place
+overflow_add-place c = grind (arith, common_steps)
+
+pub loop-place-smaller : goal.loop-place-smaller
+loop-place-smaller c = grind (arith, common_steps)
+
+pub returns-then-place-gt0-clause-short : goal.returns-then-place-gt0-clause-short
+returns-then-place-gt0-clause-short c = search rules
+
+pub overflow_add-value : goal.overflow_add-value
+overflow_add-value c = search rules
+
+pub bounds-bytes-place : goal.bounds-bytes-place
+bounds-bytes-place c = search rules

@@ -1,0 +1,57 @@
+-- What bytes of a native text begin with, and those of a database file.
+use Rattle.std.specs.Prelude.{List, drop, length, take, [], codes, ◌+◌, ◌++◌, ◌∷◌, ◌≡◌, ◌<◌, ◌≤◌, ℕ}
+use Rattle.std.specs.Prelude.{Option, Some, None}
+use Rattle.cdb_form.specs.Format.Record.{KeyValue}
+use Rattle.cdb_form.specs.Format.Walk.{prefix_record, prefix_size}
+use Rattle.cdb_form.specs.Text.Native.{IsNumeral, Spells}
+use Rattle.cdb_form.specs.Views.Reading.{IsKept}
+use Rattle.cdb_form.specs.declared.record.Record.{Record}
+use Rattle.cdb_form.specs.declared.text.prefix.PrefixLengths.{PrefixLengths}
+use Rattle.cdb_form.specs.declared.text.prefix.PrefixNumeral.{PrefixNumeral}
+use Rattle.cdb_form.specs.declared.text.prefix.PeekedRecord.{PeekedRecord}
+use Rattle.cdb_form.specs.declared.walk.keeping.Keeping.{Keeping}
+
+-- a numeral with `stop` behind it
+pub record BeginsWithNumeral (stop : ℕ) (bytes : List ℕ) (n : PrefixNumeral) : Type 0 where
+  pub digits : List ℕ
+  pub is : IsNumeral digits n.value
+  pub front : take n.end bytes ≡ digits ++ stop ∷ []
+  pub within : n.end ≤ length bytes
+
+-- what stands before the key of a record, whose lengths are at most `greatest`
+pub record BeginsWithLengths (greatest : ℕ) (bytes : List ℕ) (l : PrefixLengths) : Type 0 where
+  pub klen : List ℕ
+  pub vlen : List ℕ
+  pub klen_is : IsNumeral klen l.klen
+  pub vlen_is : IsNumeral vlen l.vlen
+  pub key_fits : l.klen ≤ greatest
+  pub value_fits : l.vlen ≤ greatest
+  pub front : take l.end bytes ≡ codes "+" ++ klen ++ codes "," ++ vlen ++ codes ":"
+  pub within : l.end ≤ length bytes
+
+-- a key and a value of these lengths, with what stands behind each
+pub record BeginsWithBody (klen vlen : ℕ) (bytes : List ℕ) : Type 0 where
+  pub front : take (klen + vlen + 3) bytes ≡ take klen bytes ++ codes "->"
+      ++ take vlen (drop (klen + 2) bytes) ++ codes "\n"
+  pub within : klen + vlen + 3 ≤ length bytes
+
+-- n bytes that spell a record
+pub record BeginsWithRecord (greatest : ℕ) (bytes : List ℕ) (n : ℕ) (r : KeyValue) : Type 0 where
+  pub spells : Spells greatest (take n bytes) r
+  pub within : n ≤ length bytes
+
+-- the record that is shown
+abbrev pub shown_by : PeekedRecord → KeyValue
+shown_by f = record { key = f.key.now; value = f.value.now }
+
+-- n bytes that are a record of a database file, of which so much was kept
+pub record BeginsWithStored (w : ℕ) (keeping : Keeping) (bytes : List ℕ) (n : ℕ) (into : Record) :
+    Type 0 where
+  pub whole : prefix_size w (take n bytes) ≡ n
+  pub kept : IsKept keeping into (prefix_record w (take n bytes))
+  pub within : n ≤ length bytes
+
+-- how many bytes the record at the start of some bytes has, where it is whole there
+abbrev pub PrefixTells : ℕ → List ℕ → Option ℕ → Type 0
+PrefixTells w bytes None = length bytes < prefix_size w bytes
+PrefixTells w bytes (Some n) = (n ≡ prefix_size w bytes) × (n ≤ length bytes)

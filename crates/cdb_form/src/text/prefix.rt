@@ -1,0 +1,164 @@
+// The record of a native text that some bytes begin with.
+ghost use Rattle.std.specs.Prelude.{◌≡◌, true, ◌+◌, ◌<◌, ◌≤◌, IfOk, IfSome};
+ghost use Rattle.cdb_form.specs.Views.Prefix.{BeginsWithBody, BeginsWithLengths, BeginsWithNumeral};
+ghost use Rattle.cdb_form.specs.Views.Prefix.{BeginsWithRecord, shown_by};
+ghost use Rattle.cdb_form.specs.Views.Pairs.{key_value};
+
+use crate::copying::copy_over;
+use crate::record::Record;
+use std::alloc::AllocError;
+
+/// A numeral from here on takes no further digit: so much is never at hand.
+const LONG: u64 = 100_000_000;
+
+/// A numeral that some bytes begin with.
+#[derive(Clone, Copy)]
+pub(crate) struct PrefixNumeral {
+    pub(crate) value: u64,
+    /// The place after the byte that ends it.
+    pub(crate) end: usize,
+}
+
+/// A record that a reader has at hand, where it is.
+#[derive(Clone, Copy, Debug)]
+pub struct PeekedRecord<'a> {
+    pub key: &'a [u8],
+    pub value: &'a [u8],
+    /// How many bytes spell it.
+    pub len: usize,
+}
+
+/// The lengths of a record that some bytes begin with.
+#[derive(Clone, Copy)]
+pub(crate) struct PrefixLengths {
+    pub(crate) klen: usize,
+    pub(crate) vlen: usize,
+    /// The place of the key.
+    pub(crate) end: usize,
+}
+
+/// The short numeral that some bytes begin with, with `stop` after it.
+#[inline(always)]
+fn numeral(bytes: &[u8], stop: u8) -> Option<PrefixNumeral>
+    ensures begins { IfSome result (BeginsWithNumeral stop bytes.now) }
+    ensures short { IfSome result (λ n. n.value < 1000000000) }
+{
+    let mut value = 0;
+    let mut place = 0;
+    while place < bytes.len() && value < LONG {
+        let byte = bytes[place];
+        if !byte.is_ascii_digit() {
+            return if byte == stop && 0 < place {
+                Some(PrefixNumeral {
+                    value,
+                    end: place + 1,
+                })
+            } else {
+                None
+            };
+        }
+        value = value * 10 + u64::from(byte - b'0');
+        place += 1;
+    }
+    None
+}
+
+/// The same, not inlined: numerals of more than three digits are rare.
+#[cold]
+#[inline(never)]
+fn long_numeral(bytes: &[u8], stop: u8) -> Option<PrefixNumeral>
+    ensures begins { IfSome result (BeginsWithNumeral stop bytes.now) }
+    ensures short { IfSome result (λ n. n.value < 1000000000) }
+{
+    numeral(bytes, stop)
+}
+
+/// The short numeral of a record that some bytes begin with, with `stop` after it. At least four
+/// bytes are left of a whole record, and over as many the loop of `numeral` is unrolled.
+#[inline(always)]
+fn prefix_numeral(bytes: &[u8], stop: u8) -> Option<PrefixNumeral>
+    ensures begins { IfSome result (BeginsWithNumeral stop bytes.now) }
+    ensures short { IfSome result (λ n. n.value < 1000000000) }
+{
+    if bytes.len() < 4 {
+        return None;
+    }
+    match numeral(&bytes[..4], stop) {
+        Some(found) => Some(found),
+        None => long_numeral(bytes, stop),
+    }
+}
+
+/// The lengths, neither above `greatest`, of the record that some bytes begin with.
+#[inline(always)]
+fn prefix_lengths(bytes: &[u8], greatest: u64) -> Option<PrefixLengths>
+    ensures begins { IfSome result (BeginsWithLengths greatest bytes.now) }
+    ensures short { IfSome result (λ l. (l.klen < 1000000000) × (l.vlen < 1000000000)) }
+{
+    if bytes.is_empty() || bytes[0] != b'+' {
+        return None;
+    }
+    let klen = prefix_numeral(&bytes[1..], b',')?;
+    let at = 1 + klen.end;
+    let vlen = prefix_numeral(&bytes[at..], b':')?;
+    if greatest < klen.value || greatest < vlen.value {
+        return None;
+    }
+    Some(PrefixLengths {
+        klen: klen.value as usize,
+        vlen: vlen.value as usize,
+        end: at + vlen.end,
+    })
+}
+
+/// Whether some bytes begin with a key and a value of these lengths, with their marks.
+#[inline(always)]
+fn has_body(bytes: &[u8], klen: usize, vlen: usize) -> bool
+    requires { klen + vlen < 2000000000 }
+    ensures { result ≡ true → BeginsWithBody klen vlen bytes.now }
+{
+    if bytes.len() < klen + vlen + 3 {
+        return false;
+    }
+    if bytes[klen] != b'-' || bytes[klen + 1] != b'>' {
+        return false;
+    }
+    bytes[klen + 2 + vlen] == b'\n'
+}
+
+/// The record that some bytes begin with, if it is whole there.
+#[inline(always)]
+pub(crate) fn prefix_record(bytes: &[u8], greatest: u64) -> Option<PeekedRecord<'_>>
+    ensures { IfSome result (λ f. BeginsWithRecord greatest bytes.now f.len (shown_by f)) }
+{
+    let lengths = prefix_lengths(bytes, greatest)?;
+    let (klen, vlen) = (lengths.klen, lengths.vlen);
+    let body = &bytes[lengths.end..];
+    if !has_body(body, klen, vlen) {
+        return None;
+    }
+    Some(PeekedRecord {
+        key: &body[..klen],
+        value: &body[klen + 2..klen + 2 + vlen],
+        len: lengths.end + (klen + vlen + 3),
+    })
+}
+
+/// Copies the record that some bytes begin with over another one, and answers how many bytes spell
+/// it. There are none if no whole record is found, and then the record holds anything.
+#[inline(always)]
+pub(crate) fn copy_prefix(
+    bytes: &[u8],
+    greatest: u64,
+    into: &mut Record,
+) -> Result<usize, AllocError>
+    ensures { IfOk result (λ n. 0 < n →
+        BeginsWithRecord greatest bytes.now n (key_value into.new)) }
+{
+    let Some(front) = prefix_record(bytes, greatest) else {
+        return Ok(0);
+    };
+    copy_over(front.key, &mut into.key)?;
+    copy_over(front.value, &mut into.value)?;
+    Ok(front.len)
+}

@@ -1,0 +1,72 @@
+// The record of a map text whose line some bytes begin with.
+ghost use Rattle.std.specs.Prelude.{◌≡◌, true, ℕ, ◌<◌, ◌≤◌, length, slice_index, IfOk};
+ghost use Rattle.std.specs.List.{prefix_len};
+ghost use Rattle.cdb_form.specs.Text.Map.{is_blank};
+ghost use Rattle.cdb_form.specs.Views.PrefixLine.{BeginsWithLine};
+ghost use Rattle.cdb_form.specs.Views.MapParser.{is_of};
+ghost use Rattle.cdb_form.specs.Views.Pairs.{key_value};
+
+use crate::copying::copy_over;
+use crate::record::Record;
+use crate::text::kind::Kind;
+use crate::text::lanes::wide_run;
+use std::alloc::AllocError;
+
+/// How many bytes of a kind some bytes begin with, if so many are known to be. The others are
+/// looked at one by one.
+#[inline(always)]
+fn run_past(known: usize, kind: Kind, bytes: &[u8]) -> usize
+    requires held { known ≤ length bytes.now }
+    requires known { (k : ℕ) → k < known → is_of kind (slice_index bytes.now k) ≡ true }
+    ensures within { result ≤ length bytes.now }
+    ensures is { result ≡ prefix_len (is_of kind) bytes.now }
+{
+    let mut place = known;
+    while place < bytes.len() && kind.has(bytes[place]) {
+        place += 1;
+    }
+    place
+}
+
+/// How many blanks some bytes begin with. They are few, so each is looked at alone.
+#[inline(always)]
+fn blanks(bytes: &[u8]) -> usize
+    ensures within { result ≤ length bytes.now }
+    ensures is { result ≡ prefix_len is_blank bytes.now }
+{
+    run_past(0, Kind::Blank, bytes)
+}
+
+/// How many bytes of a kind some bytes begin with.
+#[inline(always)]
+fn run(kind: Kind, bytes: &[u8]) -> usize
+    ensures within { result ≤ length bytes.now }
+    ensures is { result ≡ prefix_len (is_of kind) bytes.now }
+{
+    run_past(wide_run(kind, bytes), kind, bytes)
+}
+
+/// Copies the record of the line that some bytes begin with over another one, and answers how many
+/// bytes the line has, with its newline. There are none if it has no newline or no record, and then
+/// the record holds anything.
+#[inline(always)]
+pub(crate) fn prefix_line(bytes: &[u8], into: &mut Record) -> Result<usize, AllocError>
+    ensures { IfOk result (λ n. 0 < n → BeginsWithLine bytes.now n (key_value into.new)) }
+{
+    let start = blanks(bytes);
+    let words = &bytes[start..];
+    let klen = run(Kind::InWord, words);
+    if klen == 0 || words[0] == b'#' {
+        return Ok(0);
+    }
+    let behind = &words[klen..];
+    let gap = blanks(behind);
+    let rest = &behind[gap..];
+    let vlen = run(Kind::InLine, rest);
+    if vlen == rest.len() {
+        return Ok(0);
+    }
+    copy_over(&words[..klen], &mut into.key)?;
+    copy_over(&rest[..vlen], &mut into.value)?;
+    Ok(start + klen + gap + vlen + 1)
+}
