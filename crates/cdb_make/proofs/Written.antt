@@ -1,7 +1,7 @@
 -- What a writer holds, part after part.
-use Rattle.std.proofs.Common.{◌≡◌, ℕ, suc, ◌+◌, ◌*◌, ◌^◌, ◌%◌, ◌<◌, ◌≤◌, ◌⊎◌, inl, inr, List, [], ◌∷◌, ◌++◌, length, take, map, flat_map, get_or, refl, sym, ap, subst, ◌∙◌, arith, Result, Ok, Err, OnOk, OnErr, append_assoc, fold, replicate, bit_xor}
+use Rattle.std.proofs.Common.{◌≡◌, ℕ, suc, ◌+◌, ◌*◌, ◌^◌, ◌%◌, ◌<◌, ◌≤◌, ◌⊎◌, inl, inr, List, [], ◌∷◌, ◌++◌, length, map, flat_map, get_or, refl, sym, ap, subst, ◌∙◌, arith, Result, Ok, Err, OnOk, OnErr, append_assoc, fold, replicate, bit_xor}
 use Rattle.std.specs.Prelude.{All}
-use Rattle.std.proofs.lemmas.List.{take_at, get_or-map, length-map}
+use Rattle.std.proofs.lemmas.List.{get_or-map, length-map}
 use Rattle.std.proofs.lemmas.List.Elements.{All-get_or, All-set, All-replicate, All-head, All-tail}
 use Rattle.std.proofs.lemmas.Nat.{xor_lt}
 use Rattle.cdb_form.specs.Format.Hash.{hash_step}
@@ -23,9 +23,6 @@ on_any_err (Err e) h = h
 pub on_ok_of : {T E : Type 0} {A B C D : Type 0} (r : Result T E) → (A → B → C → D) → OnOk r A → OnOk r B → OnOk r C → OnOk r D
 on_ok_of (Ok x) f a b c = f a b c
 on_ok_of (Err e) f a b c = tt
-
-pub written_prefix : (k : ℕ) (into xs rest : List ℕ) → into ≡ xs → length xs ≡ k → take k (into ++ rest) ≡ xs
-written_prefix k into xs rest e l = ap (λ t. take k (t ++ rest)) e ∙ take_at xs rest k l
 
 pub flat_map-map : {X Y A : Type 0} (f : Y → List A) (g : X → Y) (xs : List X) → flat_map f (map g xs) ≡ flat_map (λ x. f (g x)) xs
 flat_map-map f g [] = refl
