@@ -25,7 +25,7 @@ use Rattle.cdb_make.specs.declared.fault.MakeFault.TheVariants as make
 use Rattle.cdb_tool.specs.Views.Fault as run
 use Rattle.cdb_tool.proofs.NativeInputs.{some_weaker, fault_of_text, fault_of_part, prefix_of}
 use Rattle.cdb_tool.specs.Runs.Flushed.{Flushed}
-use Rattle.cdb_tool.specs.Runs.MakeBytes.{IsNewText, FailsText, FailsRead, PassesGreatest, NotRead, ReadsFitting, MakesFile, Makes}
+use Rattle.cdb_tool.specs.Runs.MakeBytes.{IsNewText, FailsText, FailsRead, PassesGreatest, NotRead, ReadsFitting, MakesFile, MakesBytes}
 use Rattle.cdb_tool.specs.declared.fault.Fault.{Fault}
 use Rattle.cdb_tool.specs.declared.fault.Fault.TheVariants.{Text, Make, Duplicate, Missing, Read, Walk, Output, Long, Open, Rename, NoMemory}
 
@@ -158,7 +158,7 @@ refused g o m n t u b c r make.Writing image h read is never x = elim x.0 [ inl 
 -- ---- the file
 
 -- nothing was written where the text was not read
-pub nothing_made : (w g : ℕ) (text rest o : Option (List ℕ)) (f : Fault) → NotRead w g text rest f → Makes w g text rest o o (Err f)
+pub nothing_made : (w g : ℕ) (text rest o : Option (List ℕ)) (f : Fault) → NotRead w g text rest f → MakesBytes w g text rest o o (Err f)
 nothing_made w g text rest o (Text input f) x = record { ok = tt; err = (x, keeps_self o) }
 nothing_made w g text rest o (Make f) x = record { ok = tt; err = (x, keeps_self o) }
 nothing_made w g text rest o Duplicate x = absurd x
@@ -171,10 +171,10 @@ nothing_made w g text rest o Open x = absurd x
 nothing_made w g text rest o Rename x = absurd x
 nothing_made w g text rest o NoMemory x = record { ok = tt; err = (x, keeps_self o) }
 
-pub file_made : (w g : ℕ) (text rest old new : Option (List ℕ)) (rs : List KeyValue) → ReadsFitting w g text rest rs → Appends old new (file_bytes w rs) → Makes w g text rest old new (Ok tt)
+pub file_made : (w g : ℕ) (text rest old new : Option (List ℕ)) (rs : List KeyValue) → ReadsFitting w g text rest rs → Appends old new (file_bytes w rs) → MakesBytes w g text rest old new (Ok tt)
 file_made w g text rest old new rs read a = record { ok = record { records = rs; read = read; appended = a }; err = tt }
 
-pub file_fails : (w g : ℕ) (text rest old new : Option (List ℕ)) (rs : List KeyValue) → ReadsFitting w g text rest rs → AppendsPrefix old new (file_bytes w rs) → Makes w g text rest old new (Err Output)
+pub file_fails : (w g : ℕ) (text rest old new : Option (List ℕ)) (rs : List KeyValue) → ReadsFitting w g text rest rs → AppendsPrefix old new (file_bytes w rs) → MakesBytes w g text rest old new (Err Output)
 file_fails w g text rest old new rs read x = record { ok = tt; err = record { records = rs; read = read; appended = x } }
 
 -- ---- the flush
@@ -182,7 +182,7 @@ file_fails w g text rest old new rs read x = record { ok = tt; err = record { re
 file_kept : (w g : ℕ) (text rest old mid new : Option (List ℕ)) → MakesFile w g text rest old mid → Keeps mid new → MakesFile w g text rest old new
 file_kept w g text rest old mid new a k = record { records = a.records; read = a.read; appended = appends_kept old mid new (file_bytes w a.records) a.appended k }
 
-makes_kept : (w g : ℕ) (text rest old mid new : Option (List ℕ)) (r : Result Unit Fault) → Makes w g text rest old mid r → Keeps mid new → Makes w g text rest old new r
+makes_kept : (w g : ℕ) (text rest old mid new : Option (List ℕ)) (r : Result Unit Fault) → MakesBytes w g text rest old mid r → Keeps mid new → MakesBytes w g text rest old new r
 makes_kept w g text rest old mid new (Ok u) m k = record { ok = file_kept w g text rest old mid new m.ok k; err = tt }
 makes_kept w g text rest old mid new (Err (Text input f)) m k = record { ok = tt; err = (m.err.0, keeps_then old mid new m.err.1 k) }
 makes_kept w g text rest old mid new (Err (Make f)) m k = record { ok = tt; err = (m.err.0, keeps_then old mid new m.err.1 k) }
@@ -202,14 +202,14 @@ pub not_ok : false ≡ true → ⊥
 not_ok e = cc
 
 -- the whole file was written, but it wasn't flushed
-flush_fails : (w g : ℕ) (text rest old mid new : Option (List ℕ)) (r : Result Unit Fault) → Makes w g text rest old mid r → Keeps mid new → IsOk r → Makes w g text rest old new (Err Output)
+flush_fails : (w g : ℕ) (text rest old mid new : Option (List ℕ)) (r : Result Unit Fault) → MakesBytes w g text rest old mid r → Keeps mid new → IsOk r → MakesBytes w g text rest old new (Err Output)
 flush_fails w g text rest old mid new (Ok u) m k is =
     let a = file_kept w g text rest old mid new m.ok k in
     record { ok = tt; err = record { records = a.records; read = a.read; appended = whole_prefix old new (file_bytes w a.records) a.appended } }
 flush_fails w g text rest old mid new (Err f) m k is = absurd (not_ok is)
 
-pub makes_flushed : (w g : ℕ) (text rest old mid new : Option (List ℕ)) (answer result : Result Unit Fault) → Makes w g text rest old mid answer → Flushed mid new answer result → Makes w g text rest old new result
-makes_flushed w g text rest old mid new answer result m f = elim f.answered as (λ _. Makes w g text rest old new result) [
-  | inl e ↦ subst (Makes w g text rest old new) (sym e) (makes_kept w g text rest old mid new answer m f.kept)
-  | inr e ↦ subst (Makes w g text rest old new) (sym e.1) (flush_fails w g text rest old mid new answer m f.kept e.0)
+pub makes_flushed : (w g : ℕ) (text rest old mid new : Option (List ℕ)) (answer result : Result Unit Fault) → MakesBytes w g text rest old mid answer → Flushed mid new answer result → MakesBytes w g text rest old new result
+makes_flushed w g text rest old mid new answer result m f = elim f.answered as (λ _. MakesBytes w g text rest old new result) [
+  | inl e ↦ subst (MakesBytes w g text rest old new) (sym e) (makes_kept w g text rest old mid new answer m f.kept)
+  | inr e ↦ subst (MakesBytes w g text rest old new) (sym e.1) (flush_fails w g text rest old mid new answer m f.kept e.0)
 ]

@@ -15,8 +15,8 @@ use Rattle.cdb_tool.proofs.ItemTexts.{items_none, items_more, items_all, items_f
 use Rattle.cdb_tool.proofs.InputRuns.{none_put, put_stops, input_fails, text_store, halted_here}
 use Rattle.cdb_tool.proofs.runs.make_input.put_input.Goals as goal
 
-pub loop-peek-init : goal.loop-peek-init
-loop-peek-init g c = record {
+pub loop-peeked-init : goal.loop-peeked-init
+loop-peeked-init g c = record {
   last = [];
   gave = items_none g.L.Width.GREATEST g.R.Read.remaining _ c.args.items c.requires.fresh refl;
   form = refl;
@@ -29,31 +29,31 @@ loop-peek-init g c = record {
 
 pub returns-in-Err-clause-fails : goal.returns-in-Err-clause-fails
 returns-in-Err-clause-fails g c = λ t read start o f n h.
-    let inv = c.loop-peek.invariant in
+    let inv = c.loop-peeked.invariant in
     rw c.of_text.ensures
-    (input_fails {s = g.S.Store} {k = g.L.Width} g.L.Width.GREATEST t g.R.Read.remaining read _ c.args.input c.loop-peek.items c.read_into.new.self inv.last start _ c.loop-peek.maker c.in-Err.fault (inv.form ∙ sym f) inv.gave c.in-Err.ensures.fails n
+    (input_fails {s = g.S.Store} {k = g.L.Width} g.L.Width.GREATEST t g.R.Read.remaining read _ c.args.input c.loop-peeked.items c.read_into.new.self inv.last start _ c.loop-peeked.maker c.in-Err.fault (inv.form ∙ sym f) inv.gave c.in-Err.ensures.fails n
     (inv.course t read start o n h))
 
 pub returns-in-Ok-None-clause-ok : goal.returns-in-Ok-None-clause-ok
 returns-in-Ok-None-clause-ok g c =
-    let inv = c.loop-peek.invariant in
+    let inv = c.loop-peeked.invariant in
     let end = rw c.in-Ok-None.field-0-is at c.in-Ok-None.ensures.gives in
     let greatest = g.L.Width.GREATEST in
     let remaining = g.R.Read.remaining in
     let input = unread remaining c.args.items in
     let new = c.read_into.new.self in
-    let all = items_all greatest remaining input c.loop-peek.items new inv.last inv.gave end in
+    let all = items_all greatest remaining input c.loop-peeked.items new inv.last inv.gave end in
     let in_form = subst (λ v. FromTo input (unread remaining new) (IsInputOf v greatest inv.last)) inv.form all in
     (inv.last, subst (λ v. FromTo input v (IsInputOf (form_of c.args.items) greatest inv.last)) (sym c.into_reader.ensures) in_form, inv.course)
 
-pub loop-peek-preserved : goal.loop-peek-preserved
-loop-peek-preserved g c =
-    let inv = c.loop-peek.invariant in
+pub loop-peeked-preserved : goal.loop-peeked-preserved
+loop-peeked-preserved g c =
+    let inv = c.loop-peeked.invariant in
     let item : Change = change_in c.in-Ok-Some.kind c.read_into.new.into in
     let one = rw c.in-Ok-Some.field-0-is at c.in-Ok-Some.ensures.gives in
     let greatest = g.L.Width.GREATEST in
     let remaining = g.R.Read.remaining in
-    let old = c.loop-peek.items in
+    let old = c.loop-peeked.items in
     let new = c.read_into.new.self in
     record {
       last = inv.last ++ item ∷ [];
@@ -63,20 +63,20 @@ loop-peek-preserved g c =
       asks = omega (arith, inv.asks, items_fewer greatest remaining old new item one);
       course = λ t read start o n h.
           subst (λ cs. InCourse {s = g.S.Store} {l = g.L.Width} t cs start (g.E.Write.contents c.do_item.new.errors) c.do_item.new.maker)
-          (sym (came_more c.args.input (c.loop-peek.number + 1) read inv.last item n (ap (λ (n : ℕ). n + 1) inv.number)))
+          (sym (came_more c.args.input (c.loop-peeked.number + 1) read inv.last item n (ap (λ (n : ℕ). n + 1) inv.number)))
           (c.in_ok-do_item.ensures.ok t _ start o (inv.course t read start o n h));
       comes = comes_then inv.comes c.do_item.ensures.comes;
       failures = omega (arith, inv.failures, c.do_item.ensures.failures);
     }
 
-pub loop-peek-preserved-in-Continue-1 : goal.loop-peek-preserved-in-Continue-1
-loop-peek-preserved-in-Continue-1 g c =
-    let inv = c.loop-peek.invariant in
+pub loop-peeked-preserved-in-Continue-1 : goal.loop-peeked-preserved-in-Continue-1
+loop-peeked-preserved-in-Continue-1 g c =
+    let inv = c.loop-peeked.invariant in
     let item : Change = Putting (shown_by c.in-Some.peeked) in
     let one = c.take_peeked.ensures (shown_by c.in-Some.peeked) c.in-Some.ensures in
     let greatest = g.L.Width.GREATEST in
     let remaining = g.R.Read.remaining in
-    let old = c.loop-peek.items in
+    let old = c.loop-peeked.items in
     let new = c.take_peeked.new.self in
     record {
       last = inv.last ++ item ∷ [];
@@ -86,7 +86,7 @@ loop-peek-preserved-in-Continue-1 g c =
       asks = omega (arith, inv.asks, items_fewer greatest remaining old new item one);
       course = λ t read start o n h.
           subst (λ cs. InCourse {s = g.S.Store} {l = g.L.Width} t cs start (g.E.Write.contents c.put_record-put.new.errors) c.put_record-put.new.maker)
-          (sym (came_more c.args.input (c.loop-peek.number + 1) read inv.last item n (ap (λ (n : ℕ). n + 1) inv.number)))
+          (sym (came_more c.args.input (c.loop-peeked.number + 1) read inv.last item n (ap (λ (n : ℕ). n + 1) inv.number)))
           (c.in_ok-put.ensures.ok t _ start o (inv.course t read start o n h));
       comes = comes_then inv.comes c.put_record-put.ensures.comes;
       failures = omega (arith, inv.failures, c.put_record-put.ensures.failures);
@@ -95,39 +95,39 @@ loop-peek-preserved-in-Continue-1 g c =
 pub returns-in_err-do_item-clause-fails : goal.returns-in_err-do_item-clause-fails
 returns-in_err-do_item-clause-fails g c = λ t read start o f n h.
     let p = err_from_is_err_and c.from_residual-in_err-do_item.result c.from_residual-in_err-do_item.ensures.1 in
-    let inv = c.loop-peek.invariant in
+    let inv = c.loop-peeked.invariant in
     let item : Change = change_in c.in-Ok-Some.kind c.read_into.new.into in
     let one = rw c.in-Ok-Some.field-0-is at c.in-Ok-Some.ensures.gives in
     let greatest = g.L.Width.GREATEST in
     let remaining = g.R.Read.remaining in
     let input = unread remaining c.args.items in
     let same = inv.form ∙ sym f in
-    let before = items_begin greatest remaining input c.loop-peek.items (task_form t) inv.last same inv.gave in
-    let after = items_behind greatest remaining input c.loop-peek.items c.read_into.new.self (task_form t) inv.last item same inv.gave one in
+    let before = items_begin greatest remaining input c.loop-peeked.items (task_form t) inv.last same inv.gave in
+    let after = items_behind greatest remaining input c.loop-peeked.items c.read_into.new.self (task_form t) inv.last item same inv.gave one in
     let stops = c.in_err-do_item.ensures.fails t _ start o (inv.course t read start o n h) in
     let fault = c.in_err-do_item.field-0.0 in
     rw (p.1, p.2)
     (record {
-      each = λ b is. put_stops g.L.Width.WORD greatest t read input inv.last (record { input = c.args.input; number = c.loop-peek.number + 1; it = item }) start _ fault before after n (ap (λ (n : ℕ). n + 1) inv.number) (stops.each b is);
+      each = λ b is. put_stops g.L.Width.WORD greatest t read input inv.last (record { input = c.args.input; number = c.loop-peeked.number + 1; it = item }) start _ fault before after n (ap (λ (n : ℕ). n + 1) inv.number) (stops.each b is);
     })
 
 pub returns-in_err-put-clause-fails : goal.returns-in_err-put-clause-fails
 returns-in_err-put-clause-fails g c = λ t read start o f n h.
     let p = err_from_is_err_and c.from_residual.result c.from_residual.ensures.1 in
-    let inv = c.loop-peek.invariant in
+    let inv = c.loop-peeked.invariant in
     let item : Change = Putting (shown_by c.in-Some.peeked) in
     let one = c.take_peeked.ensures (shown_by c.in-Some.peeked) c.in-Some.ensures in
     let greatest = g.L.Width.GREATEST in
     let remaining = g.R.Read.remaining in
     let input = unread remaining c.args.items in
     let same = inv.form ∙ sym f in
-    let before = items_begin greatest remaining input c.loop-peek.items (task_form t) inv.last same inv.gave in
-    let after = items_behind greatest remaining input c.loop-peek.items c.take_peeked.new.self (task_form t) inv.last item same inv.gave one in
+    let before = items_begin greatest remaining input c.loop-peeked.items (task_form t) inv.last same inv.gave in
+    let after = items_behind greatest remaining input c.loop-peeked.items c.take_peeked.new.self (task_form t) inv.last item same inv.gave one in
     let stops = c.in_err-put.ensures.fails t _ start o (inv.course t read start o n h) in
     let fault = c.in_err-put.field-0.0 in
     rw (p.1, p.2)
     (record {
-      each = λ b is. put_stops g.L.Width.WORD greatest t read input inv.last (record { input = c.args.input; number = c.loop-peek.number + 1; it = item }) start _ fault before after n (ap (λ (n : ℕ). n + 1) inv.number) (stops.each b is);
+      each = λ b is. put_stops g.L.Width.WORD greatest t read input inv.last (record { input = c.args.input; number = c.loop-peeked.number + 1; it = item }) start _ fault before after n (ap (λ (n : ℕ). n + 1) inv.number) (stops.each b is);
     })
 
 pub returns-in-Err-clause-failed : goal.returns-in-Err-clause-failed
@@ -138,35 +138,35 @@ returns-in-Err-clause-own g c = rw c.of_text.ensures (λ is. absurd (text_no_bas
 
 pub returns-in-Err-clause-stands : goal.returns-in-Err-clause-stands
 returns-in-Err-clause-stands g c = λ t read start o n h.
-    let inv = c.loop-peek.invariant in
+    let inv = c.loop-peeked.invariant in
     let greatest = g.L.Width.GREATEST in
     let remaining = g.R.Read.remaining in
     let input = unread remaining c.args.items in
     rw c.of_text.ensures
-    (λ halt. halted_here {s = g.S.Store} {k = g.L.Width} _ _ greatest t read input inv.last start _ c.loop-peek.maker inv.form (items_first greatest remaining input c.loop-peek.items inv.last inv.gave)
-    (course_stands {s = g.S.Store} {l = g.L.Width} t _ start _ c.loop-peek.maker (inv.course t read start o n h)))
+    (λ halt. halted_here {s = g.S.Store} {k = g.L.Width} _ _ greatest t read input inv.last start _ c.loop-peeked.maker inv.form (items_first greatest remaining input c.loop-peeked.items inv.last inv.gave)
+    (course_stands {s = g.S.Store} {l = g.L.Width} t _ start _ c.loop-peeked.maker (inv.course t read start o n h)))
 
 pub returns-in_err-do_item-clause-stands : goal.returns-in_err-do_item-clause-stands
 returns-in_err-do_item-clause-stands g c = λ t read start o n h.
     let p = err_from_is_err_and c.from_residual-in_err-do_item.result c.from_residual-in_err-do_item.ensures.1 in
-    let inv = c.loop-peek.invariant in
+    let inv = c.loop-peeked.invariant in
     let greatest = g.L.Width.GREATEST in
     let remaining = g.R.Read.remaining in
     let input = unread remaining c.args.items in
     let stands = c.in_err-do_item.ensures.stands t _ start o (inv.course t read start o n h) in
     rw (p.1, p.2)
-    (λ halt. halted_here {s = g.S.Store} {k = g.L.Width} _ _ greatest t read input inv.last start _ c.do_item.new.maker inv.form (items_first greatest remaining input c.loop-peek.items inv.last inv.gave) (stands halt))
+    (λ halt. halted_here {s = g.S.Store} {k = g.L.Width} _ _ greatest t read input inv.last start _ c.do_item.new.maker inv.form (items_first greatest remaining input c.loop-peeked.items inv.last inv.gave) (stands halt))
 
 pub returns-in_err-put-clause-stands : goal.returns-in_err-put-clause-stands
 returns-in_err-put-clause-stands g c = λ t read start o n h.
     let p = err_from_is_err_and c.from_residual.result c.from_residual.ensures.1 in
-    let inv = c.loop-peek.invariant in
+    let inv = c.loop-peeked.invariant in
     let greatest = g.L.Width.GREATEST in
     let remaining = g.R.Read.remaining in
     let input = unread remaining c.args.items in
     let stands = c.in_err-put.ensures.stands t _ start o (inv.course t read start o n h) in
     rw (p.1, p.2)
-    (λ halt. halted_here {s = g.S.Store} {k = g.L.Width} _ _ greatest t read input inv.last start _ c.put_record-put.new.maker inv.form (items_first greatest remaining input c.loop-peek.items inv.last inv.gave) (stands halt))
+    (λ halt. halted_here {s = g.S.Store} {k = g.L.Width} _ _ greatest t read input inv.last start _ c.put_record-put.new.maker inv.form (items_first greatest remaining input c.loop-peeked.items inv.last inv.gave) (stands halt))
 
 pub returns-in_err-do_item-clause-comes : goal.returns-in_err-do_item-clause-comes
 returns-in_err-do_item-clause-comes g c = grind (arith, common_steps)

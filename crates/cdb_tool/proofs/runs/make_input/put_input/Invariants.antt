@@ -8,8 +8,8 @@ use Rattle.cdb_tool.proofs.ItemTexts.{GaveItems}
 use Rattle.cdb_tool.proofs.runs.make_input.put_input.Given as goal
 
 -- the items so far were done
-abbrev pub invariant-loop-peek : goal.invariant-loop-peek
-invariant-loop-peek g l =
+abbrev pub invariant-loop-peeked : goal.invariant-loop-peeked
+invariant-loop-peeked g l =
     record {
       last : List Change;
       gave : GaveItems g.L.Width.GREATEST g.R.Read.remaining (unread g.R.Read.remaining l.fn.items) l.items last;
@@ -23,5 +23,5 @@ invariant-loop-peek g l =
       failures : g.S.Store.failures l.fn.maker.maker.store ≤ g.S.Store.failures l.maker.maker.store;
     }
 
-abbrev pub decreases-loop-peek : goal.decreases-loop-peek
-decreases-loop-peek g l = asks_left l.items
+abbrev pub decreases-loop-peeked : goal.decreases-loop-peeked
+decreases-loop-peeked g l = asks_left l.items
