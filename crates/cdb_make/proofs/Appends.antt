@@ -15,7 +15,8 @@ use Rattle.cdb_make.specs.declared.fault.MakeFault.{MakeFault}
 use Rattle.cdb_make.specs.declared.fault.MakeFault.TheVariants.{Broken, Lookup, TooBig, NoMemory, Writing}
 use Rattle.cdb_make.specs.declared.maker.Maker.{Maker}
 use Rattle.cdb_make.specs.Views.Appending.{AppendsAll, AppendsSome, Enters, FailsAppending, FailsWriting, KeepsLimit, PassesLimit}
-use Rattle.cdb_make.specs.Views.EntryList.{lists_entries, with_entry}
+use Rattle.cdb_make.specs.Views.EntryList.{with_entry}
+use Rattle.cdb_make.specs.Views.Lists.{all_entries}
 use Rattle.cdb_make.specs.Views.Maker.{ComesFrom, Holds, StaysWhole, made_size}
 use Rattle.cdb_make.proofs.Added.{marked_stand_entered}
 use Rattle.std.proofs.lemmas.List.Elements.{All-append, All-cons, All-nil}
@@ -24,7 +25,7 @@ use Rattle.cdb_make.proofs.Whole.{marked_stand, stand_marked}
 
 -- a record whose bytes are behind the others is held once it has its entry
 pub entered_holds : {S L : Type 0} {s : Ghosts S} {l : Widths L} (old new : Maker S L s l) (r : KeyValue) (before : List KeyValue) (h : ℕ) → IsRecord r → new.broken ≡ false → h ≡ key_hash r.key
-    → new.end ≡ old.end + record_size l.WORD r → lists_entries new.lists.items ≡ with_entry (lists_entries old.lists.items) (record { first = h; second = old.end }) → new.store ≡ old.store
+    → new.end ≡ old.end + record_size l.WORD r → all_entries new.lists ≡ with_entry (all_entries old.lists) (record { first = h; second = old.end }) → new.store ≡ old.store
     → Stored old.end (record_bytes l.WORD r) (s.image old.store) → Holds old before → Holds new (before ++ r ∷ [])
 entered_holds {s = s} {l = l} old new r before h is_record whole hashed behind added same stored held = record {
   whole = whole;

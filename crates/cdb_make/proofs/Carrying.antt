@@ -8,7 +8,7 @@ use Rattle.cdb_store.specs.Laws.{HasNoImage}
 use Rattle.cdb_form.specs.declared.width.Width.{Ghosts as Widths}
 use Rattle.cdb_form.specs.Format.Pair.{WordPair, head_size}
 use Rattle.cdb_form.specs.Format.Record.{KeyValue, IsRecord, record_size}
-use Rattle.cdb_make.specs.declared.index.list.EntryList.{EntryList}
+use Rattle.cdb_make.specs.declared.index.lists.Lists.{Lists}
 use Rattle.cdb_make.specs.declared.records.key_at.LookFault.{LookFault}
 use Rattle.cdb_make.specs.declared.records.key_at.LookFault.TheVariants.{Failed, Foreign}
 use Rattle.cdb_make.specs.declared.maker.Maker.{Maker}
@@ -19,14 +19,14 @@ use Rattle.cdb_make.specs.Gaps.{marked_gaps, unmarked}
 use Rattle.cdb_make.specs.Stands.{Stands}
 use Rattle.cdb_make.specs.Marks.{StandMarked, AreMarked}
 use Rattle.cdb_make.specs.Views.Carrying.{Carries, CarriesIn, KeepsCarrying}
-use Rattle.cdb_make.specs.Views.EntryList.{lists_entries}
+use Rattle.cdb_make.specs.Views.Lists.{all_entries}
 use Rattle.cdb_make.specs.Views.Maker.{Holds, ComesFrom, is_foreign}
 use Rattle.cdb_make.proofs.Makers.{held_stand}
 use Rattle.cdb_make.proofs.Marks.{sum_marked, unmarked_count}
 use Rattle.cdb_make.proofs.Whole.{stand_marked}
 
 -- what it carries stands on its store
-pub carried_stand : {S L : Type 0} {s : Ghosts S} {l : Widths L} (m : Maker S L s l) (all : List KeyValue) (marks : List Bool) → Carries m all marks → StandMarked l.WORD m.end (lists_entries m.lists.items) marks all (s.image m.store)
+pub carried_stand : {S L : Type 0} {s : Ghosts S} {l : Widths L} (m : Maker S L s l) (all : List KeyValue) (marks : List Bool) → Carries m all marks → StandMarked l.WORD m.end (all_entries m.lists) marks all (s.image m.store)
 carried_stand m all marks h = record { each = λ b is. (h.each b is).stand }
 
 -- what it holds it carries, without marks
@@ -38,7 +38,7 @@ held_carried m rs h = record {
 }
 
 -- a look leaves it all
-pub carries_looked : {S L : Type 0} {s : Ghosts S} {l : Widths L} (old new : Maker S L s l) → new.broken ≡ false → new.end ≡ old.end → lists_entries new.lists.items ≡ lists_entries old.lists.items
+pub carries_looked : {S L : Type 0} {s : Ghosts S} {l : Widths L} (old new : Maker S L s l) → new.broken ≡ false → new.end ≡ old.end → all_entries new.lists ≡ all_entries old.lists
     → NoNewImage (s.image old.store) (s.image new.store) → KeepsCarrying old new
 carries_looked old new whole end lists few = λ all marks h. record {
   whole = whole;
@@ -49,7 +49,7 @@ carries_looked old new whole end lists few = λ all marks h. record {
 }
 
 -- and bytes of the records that stay
-pub carries_kept : {S L : Type 0} {s : Ghosts S} {l : Widths L} (old new : Maker S L s l) → new.broken ≡ false → new.end ≡ old.end → lists_entries new.lists.items ≡ lists_entries old.lists.items
+pub carries_kept : {S L : Type 0} {s : Ghosts S} {l : Widths L} (old new : Maker S L s l) → new.broken ≡ false → new.end ≡ old.end → all_entries new.lists ≡ all_entries old.lists
     → KeepsPart (head_size l.WORD) (old.end - head_size l.WORD) (s.image old.store) (s.image new.store) → KeepsCarrying old new
 carries_kept {l = l} old new whole end lists keeps = λ all marks h. record {
   whole = whole;
@@ -70,7 +70,7 @@ carries_kept {l = l} old new whole end lists keeps = λ all marks h. record {
 
 -- one record more
 pub carries_more : {S L : Type 0} {s : Ghosts S} {l : Widths L} (old new : Maker S L s l) (r : KeyValue) (all : List KeyValue) (marks : List Bool) → IsRecord r → new.broken ≡ false → Carries old all marks
-    → StandMarked l.WORD new.end (lists_entries new.lists.items) marks (all ++ r ∷ []) (s.image new.store) → ComesFrom (s.image old.store) (s.image new.store) → Carries new (all ++ r ∷ []) marks
+    → StandMarked l.WORD new.end (all_entries new.lists) marks (all ++ r ∷ []) (s.image new.store) → ComesFrom (s.image old.store) (s.image new.store) → Carries new (all ++ r ∷ []) marks
 carries_more old new r all marks is_record whole h stands comes = record {
   whole = whole;
   few = (let f : length marks ≤ length all = h.few in omega (arith, length-append all (r ∷ [])));
@@ -83,8 +83,8 @@ carries_more old new r all marks is_record whole h stands comes = record {
 }
 
 -- where the store gave back other bytes
-pub none_carried : {S L : Type 0} {s : Ghosts S} {l : Widths L} (old new : Maker S L s l) (t : S) (ls : List EntryList) (look : LookFault) → lists_entries ls ≡ lists_entries old.lists.items → new.broken ≡ is_foreign look → new.store ≡ t
-    → (look ≡ Foreign → (marks : List Bool) (all : List KeyValue) → StandMarked l.WORD old.end (lists_entries ls) marks all (s.image old.store) → HasNoImage (s.image t))
+pub none_carried : {S L : Type 0} {s : Ghosts S} {l : Widths L} (old new : Maker S L s l) (t : S) (ls : Lists) (look : LookFault) → all_entries ls ≡ all_entries old.lists → new.broken ≡ is_foreign look → new.store ≡ t
+    → (look ≡ Foreign → (marks : List Bool) (all : List KeyValue) → StandMarked l.WORD old.end (all_entries ls) marks all (s.image old.store) → HasNoImage (s.image t))
     → new.broken ≡ true → (all : List KeyValue) (marks : List Bool) → Carries old all marks → HasNoImage (s.image new.store)
 none_carried old new t ls Failed own is same foreign broken all marks h = absurd (let k : true ≡ false = sym broken ∙ is in cc)
 none_carried {s = s} {l = l} old new t ls Foreign own is same foreign broken all marks h =
@@ -100,7 +100,7 @@ all_unmarked P (m ∷ ms) (r ∷ rs) all =
     elim m as (λ b. All P (cond b (unmarked ms rs) (r ∷ unmarked ms rs))) [ true ↦ t | false ↦ All-cons P r (unmarked ms rs) (All-head P r rs all) t ]
 
 pub settled_holds : {S L : Type 0} {s : Ghosts S} {l : Widths L} (old new : Maker S L s l) (all : List KeyValue) (marks : List Bool) → new.broken ≡ false → Carries old all marks
-    → Stands l.WORD new.end (lists_entries new.lists.items) (unmarked marks all) (s.image new.store) → ComesFrom (s.image old.store) (s.image new.store) → Holds new (unmarked marks all)
+    → Stands l.WORD new.end (all_entries new.lists) (unmarked marks all) (s.image new.store) → ComesFrom (s.image old.store) (s.image new.store) → Holds new (unmarked marks all)
 settled_holds old new all marks whole h stands comes = record {
   whole = whole;
   each = λ b is.
@@ -109,13 +109,13 @@ settled_holds old new all marks whole h stands comes = record {
 }
 
 -- as many entries went as there are gaps
-pub pass_counted : {S L : Type 0} {s : Ghosts S} {l : Widths L} (m : Maker S L s l) (gaps : List Gap) (all : List KeyValue) (marks : List Bool) (last : ℕ) (ls : List EntryList) {new : List ℕ → Type 0} → Carries m all marks
-    → AreMarked l.WORD gaps marks all (s.image m.store) → Stands l.WORD last (lists_entries ls) (unmarked marks all) new → ComesFrom (s.image m.store) new
-    → (b : List ℕ) → new b → sum_by length (lists_entries ls) + length gaps ≡ m.count
+pub pass_counted : {S L : Type 0} {s : Ghosts S} {l : Widths L} (m : Maker S L s l) (gaps : List Gap) (all : List KeyValue) (marks : List Bool) (last : ℕ) (ls : Lists) {new : List ℕ → Type 0} → Carries m all marks
+    → AreMarked l.WORD gaps marks all (s.image m.store) → Stands l.WORD last (all_entries ls) (unmarked marks all) new → ComesFrom (s.image m.store) new
+    → (b : List ℕ) → new b → sum_by length (all_entries ls) + length gaps ≡ m.count
 pass_counted {l = l} m gaps all marks last ls h found stands comes b is =
     let w : ℕ = l.WORD in
     let a = comes.each b is in
-    let left : sum_by length (lists_entries ls) ≡ length (unmarked marks all) = ap (sum_by length) (stands.each b is).entries ∙ sum_by-table_entries w (unmarked marks all) in
+    let left : sum_by length (all_entries ls) ≡ length (unmarked marks all) = ap (sum_by length) (stands.each b is).entries ∙ sum_by-table_entries w (unmarked marks all) in
     let count : m.count ≡ length all = sym (m.counted h.whole) ∙ ap (sum_by length) (h.each a.0 a.1).stand.entries ∙ sum_marked w marks all in
     let gone : length gaps ≡ length (marked_gaps w (head_size w) marks all) = ap length (found.each a.0 a.1) in
     let both = unmarked_count w (head_size w) marks all in

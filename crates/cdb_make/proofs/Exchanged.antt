@@ -18,11 +18,13 @@ use Rattle.cdb_make.specs.declared.fault.MakeFault.{MakeFault}
 use Rattle.cdb_make.specs.declared.fault.MakeFault.TheVariants.{Broken, Lookup, TooBig, NoMemory, Writing}
 use Rattle.cdb_make.specs.declared.removal.gap.Gap.{Gap}
 use Rattle.cdb_make.specs.declared.index.list.EntryList.{EntryList}
+use Rattle.cdb_make.specs.declared.index.lists.Lists.{Lists}
 use Rattle.cdb_make.specs.declared.maker.Maker.{Maker}
 use Rattle.cdb_make.specs.Stands.{Tells, Stands, WritesSurvivors}
 use Rattle.cdb_make.specs.Survivors.{has_key, count_of, without}
 use Rattle.cdb_make.specs.Views.Adding.{AddFails}
-use Rattle.cdb_make.specs.Views.EntryList.{list_entries, lists_entries, list_room, entry_count, entry_room, AreClosed, HasSpareGaps}
+use Rattle.cdb_make.specs.Views.EntryList.{list_entries, list_room, HasSpareGaps}
+use Rattle.cdb_make.specs.Views.Lists.{all_entries, entry_count, entry_room, AreAllClosed}
 use Rattle.cdb_make.specs.Views.Maker.{Holds, HoldsIn, WhereHonest, ComesFrom, put_bytes}
 use Rattle.cdb_form.specs.declared.mode.Mode.TheVariants.{Replace}
 use Rattle.cdb_make.proofs.Sides.{length-entries_of}
@@ -74,27 +76,29 @@ first_of [] h = absurd (omega arith)
 first_of (l ∷ ls) h = l
 
 -- where an entry of a key was taken out, its list has room for one more
-pub room_left : {w end last h room : ℕ} (k : List ℕ) {gs : List Gap} {ls ls₁ : List EntryList} {rs : List KeyValue} (a b : List ℕ) → length ls ≡ 256 → h ≡ key_hash k → AreClosed gs ls ls₁
-    → Tells w end (lists_entries ls) rs a → Tells w last (lists_entries ls₁) (without k rs) b → 0 < count_of k rs → HasSpareGaps (lists_entries ls) room
-    → (entry_room ls₁ h ≤ entry_count ls₁ h) ⊎ (room ≤ entry_count ls₁ h) → ⊥
-room_left {w = w} {h = h} {room = room} k {ls = ls} {ls₁ = ls₁} {rs = rs} a b long hashed closed was now some spare full =
+pub room_left : {w end last h room : ℕ} (k : List ℕ) {gs : List Gap} (lists lists₁ : Lists) {rs : List KeyValue} (a b : List ℕ) → h ≡ key_hash k → AreAllClosed gs lists lists₁
+    → Tells w end (all_entries lists) rs a → Tells w last (all_entries lists₁) (without k rs) b → 0 < count_of k rs → HasSpareGaps (all_entries lists) room
+    → (entry_room lists₁ h ≤ entry_count lists₁ h) ⊎ (room ≤ entry_count lists₁ h) → ⊥
+room_left {w = w} {h = h} {room = room} k lists lists₁ {rs = rs} a b hashed closed was now some spare full =
+    let ls : List EntryList = lists.each.items in
+    let ls₁ : List EntryList = lists₁.each.items in
     let n : ℕ = table_number h in
-    let lt : n < length ls = omega arith in
+    let lt : n < length ls = omega (arith, lists.all) in
     let d : EntryList = first_of ls (omega arith) in
-    let at : entry_count ls h ≡ length (table_entries w rs n) = ap (λ v. length (get_or v n [])) was.entries ∙ ap length (get_or-map-range_with_len (table_entries w rs) 0 256 n n [] (omega arith) (omega arith)) in
-    let at₁ : entry_count ls₁ h ≡ length (table_entries w (without k rs) n) =
+    let at : entry_count lists h ≡ length (table_entries w rs n) = ap (λ v. length (get_or v n [])) was.entries ∙ ap length (get_or-map-range_with_len (table_entries w rs) 0 256 n n [] (omega arith) (omega arith)) in
+    let at₁ : entry_count lists₁ h ≡ length (table_entries w (without k rs) n) =
     ap (λ v. length (get_or v n [])) now.entries ∙ ap length (get_or-map-range_with_len (table_entries w (without k rs)) 0 256 n n [] (omega arith) (omega arith)) in
     let fewer = table_fewer w h k rs hashed in
     let one = closed.each n d lt in
-    let count : entry_count ls h ≡ length (list_entries (get_or ls n d)) = ap length (get_or-map list_entries ls n d [] lt) in
-    let rooms : entry_room ls₁ h ≡ list_room (get_or ls₁ n d) = get_or-map list_room ls₁ n d 0 (omega (arith, closed.long)) in
-    let most : length (get_or (lists_entries ls) n []) ≤ room = spare n [] (omega (arith, length-map ls list_entries)) in
+    let count : entry_count lists h ≡ length (list_entries (get_or ls n d)) = ap length (get_or-map list_entries ls n d [] lt) in
+    let rooms : entry_room lists₁ h ≡ list_room (get_or ls₁ n d) = get_or-map list_room ls₁ n d 0 (omega (arith, closed.long)) in
+    let most : length (get_or (all_entries lists) n []) ≤ room = spare n [] (omega (arith, length-map ls list_entries)) in
     let within = list_within (get_or ls n d) in
     elim full [ inl f ↦ omega (arith, one.room) | inr f ↦ omega arith ]
 
 -- the record stands behind those of other keys
 pub exchanged_holds : {S L : Type 0} {s : Ghosts S} {l : Widths L} (old new : Maker S L s l) (r : KeyValue) (rs : List KeyValue) → IsRecord r → new.broken ≡ false → Holds old rs
-    → Stands l.WORD new.end (lists_entries new.lists.items) (without r.key rs ++ r ∷ []) (s.image new.store) → ComesFrom (s.image old.store) (s.image new.store) → Holds new (without r.key rs ++ r ∷ [])
+    → Stands l.WORD new.end (all_entries new.lists) (without r.key rs ++ r ∷ []) (s.image new.store) → ComesFrom (s.image old.store) (s.image new.store) → Holds new (without r.key rs ++ r ∷ [])
 exchanged_holds old new r rs is_record whole h stands comes = record {
   whole = whole;
   each = λ b is.

@@ -15,6 +15,7 @@ use Rattle.cdb_make.specs.declared.index.list.EntryList.{EntryList}
 use Rattle.cdb_make.specs.declared.maker.Maker.{Maker}
 use Rattle.cdb_make.specs.Finished.{IsFinished}
 use Rattle.cdb_make.specs.Views.EntryList.{list_entries, lists_entries, AreWithin, HasSpareGaps}
+use Rattle.cdb_make.specs.Views.Lists.{all_entries}
 use Rattle.cdb_make.specs.Views.Maker.{Holds, IsFile, FailsFinishing, SameCounts, StaysWhole}
 use Rattle.cdb_make.proofs.EntryLists.{lists_none}
 use Rattle.cdb_make.proofs.FinishedFile.{all_finished}
@@ -22,7 +23,7 @@ use Rattle.cdb_make.proofs.Makers.{held_stand}
 use Rattle.cdb_make.proofs.Puts.{stays_kept}
 
 -- no record in an empty store
-pub holds_none : {S L : Type 0} {s : Ghosts S} {l : Widths L} (m : Maker S L s l) → m.broken ≡ false → m.end ≡ head_size l.WORD → lists_entries m.lists.items ≡ replicate 256 [] → Holds m []
+pub holds_none : {S L : Type 0} {s : Ghosts S} {l : Widths L} (m : Maker S L s l) → m.broken ≡ false → m.end ≡ head_size l.WORD → all_entries m.lists ≡ replicate 256 [] → Holds m []
 holds_none {l = l} m whole end lists = record {
   whole = whole;
   each = λ b is. record {
@@ -47,18 +48,15 @@ pub lists_spare : (room : ℕ) (ls : List EntryList) → lists_entries ls ≡ re
 lists_spare room ls e = subst (λ (v : List (List WordPair)). HasSpareGaps v room) (sym e) (All-replicate (λ v. length v ≤ room) 256 [] (omega arith))
 
 -- where the store is finished it holds the file
-pub is_file : {S L : Type 0} {s : Ghosts S} {l : Widths L} (m : Maker S L s l) (rs : List KeyValue) (ls : List EntryList) {new : List ℕ → Type 0} → ls ≡ m.lists.items → Holds m rs
-    → IsFinished l.WORD m.end (lists_entries ls) (s.image m.store) new → IsFile l.WORD rs new
-is_file {s = s} {l = l} m rs ls {new = new} own h finished = record {
-  each = all_finished (held_stand m rs h) (subst (λ (v : List EntryList). IsFinished l.WORD m.end (lists_entries v) (s.image m.store) new) own finished);
-}
+pub is_file : {S L : Type 0} {s : Ghosts S} {l : Widths L} (m : Maker S L s l) (rs : List KeyValue) {new : List ℕ → Type 0} → Holds m rs → IsFinished l.WORD m.end (all_entries m.lists) (s.image m.store) new → IsFile l.WORD rs new
+is_file m rs h finished = record { each = all_finished (held_stand m rs h) finished }
 
 -- and where it isn't, the records stand as they stood
 pub fails_finishing : {S L : Type 0} {s : Ghosts S} {l : Widths L} (old new : Maker S L s l) (fault : MakeFault) → old.broken ≡ false → new.broken ≡ false → new.end ≡ old.end → new.count ≡ old.count → new.limit ≡ old.limit → new.lists ≡ old.lists
     → KeepsPart (head_size l.WORD) (old.end - head_size l.WORD) (s.image old.store) (s.image new.store) → (fault ≡ NoMemory → s.written new.store ≡ s.written old.store) → (fault ≡ Writing → s.failures old.store < s.failures new.store)
     → (fault ≡ NoMemory) ⊎ (fault ≡ Writing) → FailsFinishing old new fault
 fails_finishing old new fault was whole end count limit lists keeps written failed which =
-    let stays : StaysWhole old new = stays_kept old new was whole end (ap (λ v. lists_entries v.items) lists) keeps in
+    let stays : StaysWhole old new = stays_kept old new was whole end (ap all_entries lists) keeps in
     let same : SameCounts old new = record { end = end; count = count; limit = limit } in
     elim which [
       | inl e ↦ subst (λ (f : MakeFault). FailsFinishing old new f) (sym e) (record { stays = stays; written = written e }, same)

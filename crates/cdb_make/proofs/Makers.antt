@@ -16,20 +16,20 @@ use Rattle.cdb_form.proofs.Sizes.{size_split, sum_by-table_entries}
 use Rattle.cdb_make.specs.declared.fault.MakeFault.{MakeFault}
 use Rattle.cdb_make.specs.declared.fault.MakeFault.TheVariants.{Broken, Lookup, TooBig, NoMemory, Writing}
 use Rattle.cdb_make.specs.declared.removal.gap.Gap.{Gap}
-use Rattle.cdb_make.specs.declared.index.list.EntryList.{EntryList}
+use Rattle.cdb_make.specs.declared.index.lists.Lists.{Lists}
 use Rattle.cdb_make.specs.declared.records.key_at.LookFault.{LookFault}
 use Rattle.cdb_make.specs.declared.records.key_at.LookFault.TheVariants.{Failed, Foreign}
 use Rattle.cdb_make.specs.declared.maker.Maker.{Maker}
 use Rattle.cdb_make.specs.Looks.{NoNewImage}
 use Rattle.cdb_make.specs.Stands.{Stands, AreGapsOf, WritesSurvivors, gaps_of}
 use Rattle.cdb_make.specs.Survivors.{has_key, is_there, without, behind_first}
-use Rattle.cdb_make.specs.Views.EntryList.{lists_entries}
+use Rattle.cdb_make.specs.Views.Lists.{all_entries}
 use Rattle.cdb_make.specs.Views.Maker.{Holds, HoldsIn, WhereHonest, ComesFrom, StaysWhole, WritesNothing, FailsLooking, look_fault, is_foreign, Removes, FailsRemoving, FailsClosing}
 use Rattle.cdb_make.proofs.Found.{some_gap}
 use Rattle.cdb_make.proofs.Whole.{count_found, stands_still, writes_none}
 
 -- the records that it holds stand on its store
-pub held_stand : {S L : Type 0} {s : Ghosts S} {l : Widths L} (m : Maker S L s l) (rs : List KeyValue) → Holds m rs → Stands l.WORD m.end (lists_entries m.lists.items) rs (s.image m.store)
+pub held_stand : {S L : Type 0} {s : Ghosts S} {l : Widths L} (m : Maker S L s l) (rs : List KeyValue) → Holds m rs → Stands l.WORD m.end (all_entries m.lists) rs (s.image m.store)
 held_stand m rs h = record { each = λ b is. (h.each b is).stand }
 
 pub held_count : {S L : Type 0} {s : Ghosts S} {l : Widths L} (m : Maker S L s l) (rs : List KeyValue) → Holds m rs → WhereHonest (s.image m.store) (m.count ≡ length rs)
@@ -45,7 +45,7 @@ held_size {l = l} m rs size is_size h = record {
 }
 
 -- a look changes nothing but that images may go
-pub stays_looked : {S L : Type 0} {s : Ghosts S} {l : Widths L} {old new : Maker S L s l} → old.broken ≡ false → new.broken ≡ false → new.end ≡ old.end → lists_entries new.lists.items ≡ lists_entries old.lists.items
+pub stays_looked : {S L : Type 0} {s : Ghosts S} {l : Widths L} {old new : Maker S L s l} → old.broken ≡ false → new.broken ≡ false → new.end ≡ old.end → all_entries new.lists ≡ all_entries old.lists
     → NoNewImage (s.image old.store) (s.image new.store) → StaysWhole old new
 stays_looked {old = old} {new = new} was whole end lists few = record {
   was = was;
@@ -65,14 +65,14 @@ stays_looked {old = old} {new = new} was whole end lists few = record {
   };
 }
 
-pub writes_looked : {S L : Type 0} {s : Ghosts S} {l : Widths L} {old new : Maker S L s l} → old.broken ≡ false → new.broken ≡ false → new.end ≡ old.end → lists_entries new.lists.items ≡ lists_entries old.lists.items
+pub writes_looked : {S L : Type 0} {s : Ghosts S} {l : Widths L} {old new : Maker S L s l} → old.broken ≡ false → new.broken ≡ false → new.end ≡ old.end → all_entries new.lists ≡ all_entries old.lists
     → NoNewImage (s.image old.store) (s.image new.store) → s.written new.store ≡ s.written old.store → WritesNothing old new
 writes_looked was whole end lists few written = record { stays = stays_looked was whole end lists few; written = written }
 
 -- what a look that failed leaves
-pub fails_looked : {S L : Type 0} {s : Ghosts S} {l : Widths L} (old new : Maker S L s l) (t : S) (ls : List EntryList) (look : LookFault) (fault : MakeFault) → lists_entries ls ≡ lists_entries old.lists.items → fault ≡ look_fault look → old.broken ≡ false → new.broken ≡ is_foreign look
-    → new.end ≡ old.end → lists_entries new.lists.items ≡ lists_entries old.lists.items → new.store ≡ t → NoNewImage (s.image old.store) (s.image t) → s.written t ≡ s.written old.store
-    → (look ≡ Failed → s.failures old.store < s.failures t) → (look ≡ Foreign → (rs : List KeyValue) → Stands l.WORD old.end (lists_entries ls) rs (s.image old.store) → HasNoImage (s.image t))
+pub fails_looked : {S L : Type 0} {s : Ghosts S} {l : Widths L} (old new : Maker S L s l) (t : S) (ls : Lists) (look : LookFault) (fault : MakeFault) → all_entries ls ≡ all_entries old.lists → fault ≡ look_fault look → old.broken ≡ false → new.broken ≡ is_foreign look
+    → new.end ≡ old.end → all_entries new.lists ≡ all_entries old.lists → new.store ≡ t → NoNewImage (s.image old.store) (s.image t) → s.written t ≡ s.written old.store
+    → (look ≡ Failed → s.failures old.store < s.failures t) → (look ≡ Foreign → (rs : List KeyValue) → Stands l.WORD old.end (all_entries ls) rs (s.image old.store) → HasNoImage (s.image t))
     → FailsLooking old new fault
 fails_looked {s = s} old new t ls Failed fault own is was broken end lists same few written failed foreign =
     let images : NoNewImage (s.image old.store) (s.image new.store) = subst (λ (v : _). NoNewImage (s.image old.store) (s.image v)) (sym same) few in
@@ -90,13 +90,13 @@ pub comes_torn : {at n : ℕ} {old new : List ℕ → Type 0} → TornWithin at 
 comes_torn torn = record { each = λ b is. let h = torn.each b is in (h.0, h.1) }
 
 -- the entries that are left and the gaps are as many as the records were
-pub left_counted : {S L : Type 0} {s : Ghosts S} {l : Widths L} (m : Maker S L s l) (rs : List KeyValue) (key : List ℕ) (last : ℕ) (ls : List EntryList) {new : List ℕ → Type 0} → Holds m rs
-    → AreGapsOf l.WORD key m.gaps.items rs (s.image m.store) → Stands l.WORD last (lists_entries ls) (without key rs) new → ComesFrom (s.image m.store) new
-    → WhereHonest new (sum_by length (lists_entries ls) + length m.gaps.items ≡ m.count)
+pub left_counted : {S L : Type 0} {s : Ghosts S} {l : Widths L} (m : Maker S L s l) (rs : List KeyValue) (key : List ℕ) (last : ℕ) (ls : Lists) {new : List ℕ → Type 0} → Holds m rs
+    → AreGapsOf l.WORD key m.gaps.items rs (s.image m.store) → Stands l.WORD last (all_entries ls) (without key rs) new → ComesFrom (s.image m.store) new
+    → WhereHonest new (sum_by length (all_entries ls) + length m.gaps.items ≡ m.count)
 left_counted {l = l} m rs key last ls h found stands comes = record {
   each = λ b is.
       let a = comes.each b is in
-      let left : sum_by length (lists_entries ls) ≡ length (without key rs) = ap (sum_by length) (stands.each b is).entries ∙ sum_by-table_entries l.WORD (without key rs) in
+      let left : sum_by length (all_entries ls) ≡ length (without key rs) = ap (sum_by length) (stands.each b is).entries ∙ sum_by-table_entries l.WORD (without key rs) in
       let gone : length m.gaps.items ≡ length (filter (has_key key) rs) = (count_found found).each a.0 a.1 ∙ sym (length-filter (has_key key) rs) in
       let both = length-filter_both (has_key key) (λ r. not (has_key key r)) (λ r. refl) rs in
       let all : m.count ≡ length rs = (held_count m rs h).each a.0 a.1 in
@@ -126,7 +126,7 @@ removes_none {s = s} {l = l} old new key n stays count zero gaps =
 -- gaps were found, and closed
 pub removes_some : {S L : Type 0} {s : Ghosts S} {l : Widths L} (old mid new : Maker S L s l) (key : List ℕ) (n : ℕ) → WritesNothing old mid → n ≡ length mid.gaps.items → new.broken ≡ false
     → ((rs : List KeyValue) → Holds old rs → AreGapsOf l.WORD key mid.gaps.items rs (s.image mid.store))
-    → ((rs : List KeyValue) → Holds mid rs → AreGapsOf l.WORD key mid.gaps.items rs (s.image mid.store) → Stands l.WORD new.end (lists_entries new.lists.items) (without key rs) (s.image new.store))
+    → ((rs : List KeyValue) → Holds mid rs → AreGapsOf l.WORD key mid.gaps.items rs (s.image mid.store) → Stands l.WORD new.end (all_entries new.lists) (without key rs) (s.image new.store))
     → ((rs : List KeyValue) → Holds mid rs → AreGapsOf l.WORD key mid.gaps.items rs (s.image mid.store) → WritesSurvivors l.WORD key rs (s.image new.store) (s.written mid.store) (s.written new.store))
     → ComesFrom (s.image mid.store) (s.image new.store) → Removes old new key n
 removes_some {s = s} {l = l} old mid new key n stays count whole gaps stands writes comes = record {

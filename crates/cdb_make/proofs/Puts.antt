@@ -17,7 +17,7 @@ use Rattle.cdb_make.specs.declared.records.put.Put.TheVariants.{Added, AddedAgai
 use Rattle.cdb_make.specs.Stands.{Tells, Stands, IsThere}
 use Rattle.cdb_make.specs.Survivors.{is_there, put_list, put_answer}
 use Rattle.cdb_make.specs.Views.Adding.{AddFails}
-use Rattle.cdb_make.specs.Views.EntryList.{lists_entries}
+use Rattle.cdb_make.specs.Views.Lists.{all_entries}
 use Rattle.cdb_make.specs.Views.Maker.{HasFailedToWrite, Holds, HoldsIn, WhereHonest, ComesFrom, StaysWhole, WritesNothing, Adds, HasRoom, FailsAdding, Puts, WouldPut, FailsPutting, put_bytes, made_size}
 use Rattle.cdb_make.proofs.EntryLists.{size_push}
 use Rattle.cdb_make.proofs.FinishedFile.{stands_kept}
@@ -33,7 +33,7 @@ pub comes_then : {i j k : List ℕ → Type 0} → ComesFrom i j → ComesFrom j
 comes_then f g = record { each = λ b is. let h = g.each b is in f.each h.0 h.1 }
 
 -- the records' bytes stay, and so do the records
-pub stays_kept : {S L : Type 0} {s : Ghosts S} {l : Widths L} (old new : Maker S L s l) → old.broken ≡ false → new.broken ≡ false → new.end ≡ old.end → lists_entries new.lists.items ≡ lists_entries old.lists.items
+pub stays_kept : {S L : Type 0} {s : Ghosts S} {l : Widths L} (old new : Maker S L s l) → old.broken ≡ false → new.broken ≡ false → new.end ≡ old.end → all_entries new.lists ≡ all_entries old.lists
     → KeepsPart (head_size l.WORD) (old.end - head_size l.WORD) (s.image old.store) (s.image new.store) → StaysWhole old new
 stays_kept {l = l} old new was whole end lists keeps = record {
   was = was;
@@ -42,7 +42,7 @@ stays_kept {l = l} old new was whole end lists keeps = record {
     whole = whole;
     each = λ b is.
         let k = keeps.each b is in
-        let t : Tells l.WORD old.end (lists_entries old.lists.items) rs b = (stands_kept keeps (held_stand old rs h)).each b is in
+        let t : Tells l.WORD old.end (all_entries old.lists) rs b = (stands_kept keeps (held_stand old rs h)).each b is in
         record { are = (h.each k.0 k.1).are; stand = record { held = t.held; ends = end ∙ t.ends; entries = lists ∙ t.entries } };
   };
 }
@@ -58,7 +58,7 @@ writes_then old mid new a b = record { stays = stays_then old mid new a.stays b.
 
 -- one record more
 pub adds_more : {S L : Type 0} {s : Ghosts S} {l : Widths L} (old new : Maker S L s l) (r : KeyValue) → IsRecord r → old.broken ≡ false → new.broken ≡ false
-    → ((rs : List KeyValue) → Stands l.WORD old.end (lists_entries old.lists.items) rs (s.image old.store) → Stands l.WORD new.end (lists_entries new.lists.items) (rs ++ r ∷ []) (s.image new.store))
+    → ((rs : List KeyValue) → Stands l.WORD old.end (all_entries old.lists) rs (s.image old.store) → Stands l.WORD new.end (all_entries new.lists) (rs ++ r ∷ []) (s.image new.store))
     → s.written new.store ≡ s.written old.store + record_size l.WORD r → ComesFrom (s.image old.store) (s.image new.store) → Adds old new r
 adds_more old new r is_record was whole stands written comes = record {
   was = was;
@@ -78,7 +78,7 @@ adds_more old new r is_record was whole stands written comes = record {
 
 -- none more
 pub adds_none : {S L : Type 0} {s : Ghosts S} {l : Widths L} (old new : Maker S L s l) (r : KeyValue) (full past : Type 0) (fault : MakeFault) → old.broken ≡ false → HasRoom old r → new.broken ≡ false → new.end ≡ old.end
-    → lists_entries new.lists.items ≡ lists_entries old.lists.items → KeepsPart (head_size l.WORD) (old.end - head_size l.WORD) (s.image old.store) (s.image new.store)
+    → all_entries new.lists ≡ all_entries old.lists → KeepsPart (head_size l.WORD) (old.end - head_size l.WORD) (s.image old.store) (s.image new.store)
     → AddFails (s.written old.store) (s.written new.store) (s.failures old.store) (s.failures new.store) full past fault → (fault ≡ Writing → s.unwritten old.store < s.unwritten new.store) → FailsAdding old new r fault
 adds_none old new r full past Broken was fit whole end lists keeps fails unwritten = absurd fails
 adds_none old new r full past Lookup was fit whole end lists keeps fails unwritten = absurd fails

@@ -1,6 +1,7 @@
 -- The tops of groups of lists.
 use Rattle.std.proofs.Common.{◌≡◌, ℕ, ◌*◌, ◌/◌, ◌<◌, ◌≤◌, List, [], ◌∷◌, ◌++◌, length, get_or, slice_set, replicate, sym, ap, subst, ◌∙◌, inl, inr, arith}
-use Rattle.std.specs.Prelude.{All, OnOk, OnErr, Result, Ok, Err}
+use Rattle.std.specs.Prelude.{All}
+use Rattle.std.proofs.Math.Seq.{map-set_same}
 use Rattle.std.proofs.lemmas.Bool.{cases_eq, cases_lt}
 use Rattle.std.proofs.lemmas.Grind.{get_or-set_at}
 use Rattle.std.proofs.lemmas.List.{get_or-map, get_or-set_other, get_or-replicate, get_or_past, length-replicate, length-map}
@@ -59,10 +60,6 @@ under_closed {ls = ls} {new = new} closed under k =
           All-same (λ v. v.second ≤ get_or (list_tops new) m 0) _ _ is (λ j d lt. absurd (omega arith))
     ]
 
-pub under_taken : {T F : Type 0} (gs : List Gap) {own ls : List EntryList} (ls₁ : List EntryList) (r : Result T F) → ls ≡ own → OnOk r (AreClosed gs ls ls₁) → OnErr r (ls₁ ≡ ls) → AreUnder (list_tops own) (lists_entries own) → AreUnder (list_tops ls₁) (lists_entries ls₁)
-under_taken gs ls₁ (Ok x) lent closed same under = under_closed closed (subst (λ (v : List EntryList). AreUnder (list_tops v) (lists_entries v)) (sym lent) under)
-under_taken gs ls₁ (Err e) lent closed same under = subst (λ (v : List EntryList). AreUnder (list_tops v) (lists_entries v)) (sym (same ∙ lent)) under
-
 -- no entries
 pub under_none : (tops : List ℕ) (lists : List (List WordPair)) → lists ≡ replicate 256 [] → AreUnder tops lists
 under_none tops lists none k =
@@ -71,3 +68,11 @@ under_none tops lists none k =
       | inr le ↦ get_or_past (replicate {A = List WordPair} 256 []) k [] (omega (arith, length-replicate {A = List WordPair} 256 []))
     ] in
     All-same (λ v. v.second ≤ get_or tops (k / 16 * 16) 0) _ _ is (λ j d lt. absurd (omega arith))
+
+-- one list changed, and neither its entries nor its top
+pub under_set : (ls : List EntryList) (n : ℕ) (new old : EntryList) → list_entries new ≡ list_entries old → new.top ≡ old.top → old ≡ get_or ls n old → AreUnder (list_tops ls) (lists_entries ls)
+    → AreUnder (list_tops (slice_set ls n new)) (lists_entries (slice_set ls n new))
+under_set ls n new old entries top is under =
+    let e : lists_entries (slice_set ls n new) ≡ lists_entries ls = map-set_same list_entries ls n new old (entries ∙ ap list_entries is) in
+    let t : list_tops (slice_set ls n new) ≡ list_tops ls = map-set_same (λ (l : EntryList). l.top) ls n new old (top ∙ ap (λ (l : EntryList). l.top) is) in
+    subst (λ (v : List ℕ). AreUnder v (lists_entries (slice_set ls n new))) (sym t) (subst (λ (v : List (List WordPair)). AreUnder (list_tops ls) v) (sym e) under)

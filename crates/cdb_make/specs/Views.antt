@@ -2,6 +2,7 @@
 pub mod MakeFault
 pub mod Index
 pub mod EntryList
+pub mod Lists
 pub mod Maker
 pub mod Carrying
 pub mod Batch

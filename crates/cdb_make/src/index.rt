@@ -1,5 +1,5 @@
 // The entries of the records: table by table, and found by their hashes.
-pub(crate) mod entries;
+pub(crate) mod close_lists;
 pub(crate) mod list;
 pub(crate) mod lists;
 pub(crate) mod rings;

@@ -7,13 +7,12 @@ ghost use Rattle.cdb_form.specs.Format.Pair.{head_size};
 ghost use Rattle.cdb_form.specs.Format.Record.{KeyValue};
 ghost use Rattle.cdb_make.specs.Finished.{HeadIsLast};
 ghost use Rattle.cdb_make.specs.Unfinished.{IsUnfinished};
-ghost use Rattle.cdb_make.specs.Views.EntryList.{lists_entries};
+ghost use Rattle.cdb_make.specs.Views.Lists.{all_entries};
 ghost use Rattle.cdb_make.specs.Views.Making.{MakingFault};
 
 use crate::fault::MakeFault;
 use crate::finish::file::finish;
-use crate::index::entries::no_entries;
-use crate::index::list::EntryList;
+use crate::index::lists::Lists;
 use crate::maker::Maker;
 use cdb_form::{GREATEST_HEAD, Width, head_size};
 use cdb_store::Store;
@@ -58,8 +57,8 @@ impl<S: Store + Drop, L: Width> From<Unfinished<S, L>> for MakeFault {
 
 /// Leaves a head of all ones in a store and nothing else, and gives lists without entries. All
 /// memory is taken first.
-fn emptied<S: Store, L: Width>(alloc: Global, store: &mut S) -> Result<Vec<EntryList>, MakeFault>
-    ensures lists { IfOk result (λ v. lists_entries v.items ≡ replicate 256 []) }
+fn emptied<S: Store, L: Width>(alloc: Global, store: &mut S) -> Result<Lists, MakeFault>
+    ensures lists { IfOk result (λ ls. all_entries ls ≡ replicate 256 []) }
     ensures head { OnOk result (IsUnfinished L.WORD (S.image store.new)) }
     ensures size { OnOk result (S.size store.new ≡ head_size L.WORD) }
     ensures written { OnOk result (S.written store.new ≡ S.written store.old + head_size L.WORD) }
@@ -68,7 +67,7 @@ fn emptied<S: Store, L: Width>(alloc: Global, store: &mut S) -> Result<Vec<Entry
     ensures fails { IfErr result
         (MakingFault S.image S.size S.written S.failures store.old store.new) }
 {
-    let lists = no_entries(alloc)?;
+    let lists = Lists::new(alloc)?;
     let head = [0xff; GREATEST_HEAD];
     let len = head_size::<L>();
     store.reserve(len as u64)?;
@@ -128,7 +127,7 @@ impl<S: Store, L: Width> Maker<S, L> {
         ensures written { OnOk result (S.written self.new.store + self.old.end
             ≡ S.written self.old.store + (head_size L.WORD + made_size self.old)) }
         ensures settled { OnOk result (S.settled self.new.store) }
-        ensures head_last { HeadIsLast L.WORD self.old.end (lists_entries self.old.lists.items)
+        ensures head_last { HeadIsLast L.WORD self.old.end (all_entries self.old.lists)
             (S.image self.old.store) (S.image self.new.store) }
         ensures comes { ComesFrom (S.image self.old.store) (S.image self.new.store) }
         ensures failures { S.failures self.old.store ≤ S.failures self.new.store }
@@ -161,7 +160,7 @@ impl<S: Store, L: Width> Maker<S, L> {
             S.failures self.store ≤ S.failures u.maker.store) }
         // In each image the head is an old one, or all tables stand.
         ensures head_last { IfErr result (λ u. HeadIsLast L.WORD self.end
-            (lists_entries self.lists.items) (S.image self.store) (S.image u.maker.store)) }
+            (all_entries self.lists) (S.image self.store) (S.image u.maker.store)) }
         ensures fails_comes { IfErr result (λ u.
             ComesFrom (S.image self.store) (S.image u.maker.store)) }
     {

@@ -9,12 +9,11 @@ ghost use Rattle.cdb_store.specs.Laws.{HasNoImage};
 ghost use Rattle.cdb_make.specs.Gaps.{unmarked};
 ghost use Rattle.cdb_make.specs.Looks.{NoNewImage};
 ghost use Rattle.cdb_make.specs.Stands.{IsThere};
-ghost use Rattle.cdb_make.specs.Views.EntryList.{lists_entries, AreWithin, HasSpareGaps, list_tops};
-ghost use Rattle.cdb_make.specs.Views.EntryList.{AreUnder};
+ghost use Rattle.cdb_make.specs.Views.EntryList.{AreWithin, HasSpareGaps};
+ghost use Rattle.cdb_make.specs.Views.Lists.{all_entries};
 
 use crate::fault::MakeFault;
-use crate::index::entries::catch_up;
-use crate::index::list::EntryList;
+use crate::index::lists::Lists;
 use crate::records::key_at::LookFault;
 use crate::records::put::Put;
 use crate::removal::gap::Gap;
@@ -33,7 +32,7 @@ pub struct Maker<S: Store, L: Width> {
     pub(crate) alloc: Global,
     pub(crate) store: S,
     /// The entries of each table.
-    pub(crate) lists: Vec<EntryList>,
+    pub(crate) lists: Lists,
     /// Where a removal notes what it takes out. There is room for the longest list.
     pub(crate) gaps: Vec<Gap>,
     /// Where the records end.
@@ -46,15 +45,13 @@ pub struct Maker<S: Store, L: Width> {
     /// written.
     pub(crate) broken: bool,
     pub(crate) width: PhantomData<L>,
-    ghost all: { length lists.items ≡ 256 },
     ghost start: { head_size L.WORD ≤ end },
     ghost inside: { end ≤ S.size store },
     ghost within: { end + 4 * L.WORD * count ≤ limit },
     ghost limited: { limit ≤ L.GREATEST },
-    ghost counted: { broken ≡ false → sum_by length (lists_entries lists.items) ≡ count },
-    ghost placed: { AreWithin L.GREATEST (lists_entries lists.items) },
-    ghost under: { AreUnder (list_tops lists.items) (lists_entries lists.items) },
-    ghost spare: { HasSpareGaps (lists_entries lists.items) (vec_capacity gaps) },
+    ghost counted: { broken ≡ false → sum_by length (all_entries lists) ≡ count },
+    ghost placed: { AreWithin L.GREATEST (all_entries lists) },
+    ghost spare: { HasSpareGaps (all_entries lists) (vec_capacity gaps) },
 }
 
 impl<S: Store, L: Width> Maker<S, L> {
@@ -187,7 +184,7 @@ impl<S: Store, L: Width> Maker<S, L> {
         if self.broken {
             return Err(MakeFault::Broken);
         }
-        catch_up(&mut self.lists, hash);
+        self.lists.catch_up(hash);
         match take_out::exists::<S, L>(&mut self.store, &self.lists, hash, key, self.end) {
             Ok(there) => Ok(there),
             Err(fault) => Err(self.failed_look(fault)),

@@ -10,14 +10,14 @@ use Rattle.cdb_make.specs.declared.fault.MakeFault.{MakeFault}
 use Rattle.cdb_make.specs.declared.fault.MakeFault.TheVariants.{Broken, Writing}
 use Rattle.cdb_make.specs.declared.removal.gap.Gap.{Gap}
 use Rattle.cdb_make.specs.Marks.{AreMarked, TellsMarked}
-use Rattle.cdb_make.specs.Views.EntryList.{lists_entries, entry_count, entry_room}
+use Rattle.cdb_make.specs.Views.Lists.{all_entries, entry_count, entry_room}
 use Rattle.cdb_make.specs.Views.Maker.{HasStoreFailed}
 
 -- in an image it has these records, from behind the head on, with these marks
 pub record CarriesIn {S L : Type 0} {s : Ghosts S} {l : Widths L} (m : Maker S L s l)
     (all : List KeyValue) (marks : List Bool) (b : List ℕ) : Type 0 where
   pub are : All IsRecord all
-  pub stand : TellsMarked l.WORD m.end (lists_entries m.lists.items) marks all b
+  pub stand : TellsMarked l.WORD m.end (all_entries m.lists) marks all b
 
 -- it is whole, and has them in each image
 pub record Carries {S L : Type 0} {s : Ghosts S} {l : Widths L} (m : Maker S L s l)
@@ -36,8 +36,8 @@ KeepsCarrying old new =
 abbrev pub WantsMemory : {S L : Type 0} {s : Ghosts S} {l : Widths L} → Maker S L s l → KeyValue
     → Type 0
 WantsMemory {s = s} {l = l} m r =
-    ((entry_room m.lists.items (key_hash r.key) ≤ entry_count m.lists.items (key_hash r.key))
-    ⊎ (vec_capacity m.gaps ≤ entry_count m.lists.items (key_hash r.key)))
+    ((entry_room m.lists (key_hash r.key) ≤ entry_count m.lists (key_hash r.key))
+    ⊎ (vec_capacity m.gaps ≤ entry_count m.lists (key_hash r.key)))
     ⊎ (s.room m.store < m.end + record_size l.WORD r)
 
 -- why the gaps of marked records were not closed

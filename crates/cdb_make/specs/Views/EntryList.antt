@@ -57,14 +57,6 @@ abbrev pub IsNowhereIn : ℕ → List ℕ → ℕ → ℕ → Type 0
 IsNowhereIn hash hashes from end =
     (k : ℕ) → from ≤ k → k < end → slice_index hashes k ≢ hash
 
--- how many entries the list of a hash has
-abbrev pub entry_count : List EntryList → ℕ → ℕ
-entry_count ls hash = length (get_or (lists_entries ls) (table_number hash) [])
-
--- and how many the list holds without taking memory
-abbrev pub entry_room : List EntryList → ℕ → ℕ
-entry_room ls hash = get_or (map list_room ls) (table_number hash) 0
-
 -- no place passes this one
 abbrev pub AreWithin : ℕ → List (List WordPair) → Type 0
 AreWithin most lists = All (All (λ e. e.second ≤ most)) lists

@@ -20,7 +20,7 @@ use Rattle.cdb_make.specs.Stands.{Tells, AreGapsOf}
 use Rattle.cdb_make.specs.Survivors.{has_key, is_there, count_of, without, behind_first, put_list}
 use Rattle.cdb_make.specs.Survivors.{put_answer}
 use Rattle.cdb_make.specs.Unfinished.{KeepsHead}
-use Rattle.cdb_make.specs.Views.EntryList.{lists_entries}
+use Rattle.cdb_make.specs.Views.Lists.{all_entries}
 
 -- this holds where some byte list is an image
 pub record WhereHonest (images : List ℕ → Type 0) (P : Type 0) : Type 0 where
@@ -48,7 +48,7 @@ IsUsable m = m.broken ≡ false
 pub record HoldsIn {S L : Type 0} {s : Ghosts S} {l : Widths L} (m : Maker S L s l)
     (rs : List KeyValue) (b : List ℕ) : Type 0 where
   pub are : All IsRecord rs
-  pub stand : Tells l.WORD m.end (lists_entries m.lists.items) rs b
+  pub stand : Tells l.WORD m.end (all_entries m.lists) rs b
 
 -- it is whole, and holds these records in each image
 pub record Holds {S L : Type 0} {s : Ghosts S} {l : Widths L} (m : Maker S L s l)

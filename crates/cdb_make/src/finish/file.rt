@@ -8,14 +8,13 @@ ghost use Rattle.cdb_make.specs.declared.fault.MakeFault.TheVariants.{NoMemory, 
 ghost use Rattle.cdb_make.specs.Finished.{IsFinished, HeadIsLast};
 ghost use Rattle.cdb_make.specs.Parts.{tables_end};
 ghost use Rattle.cdb_make.specs.Runs.{AreEmpty};
-ghost use Rattle.cdb_make.specs.Views.EntryList.{lists_entries};
+ghost use Rattle.cdb_make.specs.Views.Lists.{all_entries};
 
 use crate::fault::MakeFault;
 use crate::finish::head::write_pointers;
 use crate::finish::table::EMPTY;
 use crate::finish::tables::write_tables;
-use crate::index::list::EntryList;
-use crate::index::lists::{count_all, longest};
+use crate::index::lists::Lists;
 use cdb_form::{Slot, Width, pair_size};
 use cdb_store::{Store, StoreFault};
 use std::alloc::Global;
@@ -26,31 +25,30 @@ use std::alloc::Global;
 /// `Device`: the bytes between the head and `end` stay.
 fn write_parts<S: Store, L: Width>(
     store: &mut S,
-    lists: &[EntryList],
+    lists: &Lists,
     end: u64,
     last: u64,
     slots: &mut [Slot],
     runs: &mut [usize],
     bytes: &mut [u8],
 ) -> Result<(), StoreFault>
-    requires long { length lists.now ≡ 256 }
     requires start { head_size L.WORD ≤ end }
     requires inside { end ≤ S.size store.old }
-    requires last { last ≡ tables_end L.WORD end (lists_entries lists.now) }
+    requires last { last ≡ tables_end L.WORD end (all_entries lists.now) }
     requires limit { last ≤ L.GREATEST }
     requires room { last ≤ S.room store.old }
-    requires slots { All (λ list. 2 * length list ≤ length slots.old) (lists_entries lists.now) }
+    requires slots { All (λ list. 2 * length list ≤ length slots.old) (all_entries lists.now) }
     requires runs { length slots.old ≤ length runs.old }
     requires bytes { length bytes.old ≡ pair_size L.WORD * length slots.old }
     requires empty { AreEmpty slots.old }
-    requires fits { All (All (λ e. e.second ≤ L.TOP)) (lists_entries lists.now) }
-    ensures file { OnOk result (IsFinished L.WORD end (lists_entries lists.now)
+    requires fits { All (All (λ e. e.second ≤ L.TOP)) (all_entries lists.now) }
+    ensures file { OnOk result (IsFinished L.WORD end (all_entries lists.now)
         (S.image store.old) (S.image store.new)) }
     ensures size { OnOk result (S.size store.new ≡ last) }
     ensures written { OnOk result
         (S.written store.new + end ≡ S.written store.old + (head_size L.WORD + last)) }
     ensures settled { OnOk result (S.settled store.new) }
-    ensures head_last { HeadIsLast L.WORD end (lists_entries lists.now) (S.image store.old)
+    ensures head_last { HeadIsLast L.WORD end (all_entries lists.now) (S.image store.old)
         (S.image store.new) }
     ensures kept { KeepsPart (head_size L.WORD) (end - head_size L.WORD)
         (S.image store.old) (S.image store.new) }
@@ -59,7 +57,7 @@ fn write_parts<S: Store, L: Width>(
     ensures memory { IsErrOf result Refused → ⊥ }
     ensures cause { HasCause (S.failures store.old) (S.failures store.new) result }
 {
-    write_tables::<S, L>(store, lists, end, slots, runs, bytes)?;
+    write_tables::<S, L>(store, &lists.each, end, slots, runs, bytes)?;
     write_pointers::<S, L>(store, lists, end)?;
     store.cut(last)?;
     store.flush()
@@ -74,22 +72,21 @@ fn write_parts<S: Store, L: Width>(
 pub(crate) fn finish<S: Store, L: Width>(
     alloc: Global,
     store: &mut S,
-    lists: &[EntryList],
+    lists: &Lists,
     end: u64,
 ) -> Result<(), MakeFault>
-    requires long { length lists.now ≡ 256 }
     requires start { head_size L.WORD ≤ end }
     requires inside { end ≤ S.size store.old }
-    requires limit { tables_end L.WORD end (lists_entries lists.now) ≤ L.GREATEST }
-    requires fits { All (All (λ e. e.second ≤ L.TOP)) (lists_entries lists.now) }
-    ensures file { OnOk result (IsFinished L.WORD end (lists_entries lists.now)
+    requires limit { tables_end L.WORD end (all_entries lists.now) ≤ L.GREATEST }
+    requires fits { All (All (λ e. e.second ≤ L.TOP)) (all_entries lists.now) }
+    ensures file { OnOk result (IsFinished L.WORD end (all_entries lists.now)
         (S.image store.old) (S.image store.new)) }
     ensures size { OnOk result
-        (S.size store.new ≡ tables_end L.WORD end (lists_entries lists.now)) }
+        (S.size store.new ≡ tables_end L.WORD end (all_entries lists.now)) }
     ensures written { OnOk result (S.written store.new + end ≡ S.written store.old
-        + (head_size L.WORD + tables_end L.WORD end (lists_entries lists.now))) }
+        + (head_size L.WORD + tables_end L.WORD end (all_entries lists.now))) }
     ensures settled { OnOk result (S.settled store.new) }
-    ensures head_last { HeadIsLast L.WORD end (lists_entries lists.now) (S.image store.old)
+    ensures head_last { HeadIsLast L.WORD end (all_entries lists.now) (S.image store.old)
         (S.image store.new) }
     ensures kept { KeepsPart (head_size L.WORD) (end - head_size L.WORD)
         (S.image store.old) (S.image store.new) }
@@ -102,11 +99,11 @@ pub(crate) fn finish<S: Store, L: Width>(
     ensures faults { IfErr result (λ f. (f ≡ NoMemory) ⊎ (f ≡ Writing)) }
     ensures failures { S.failures store.old ≤ S.failures store.new }
 {
-    let most = 2 * longest(lists);
+    let most = 2 * lists.longest();
     let mut slots = vec![in alloc; EMPTY; most]?;
     let mut runs = vec![in alloc; 0usize; most]?;
     let mut bytes = vec![in alloc; 0u8; pair_size::<L>() * most]?;
-    let last = end + 2 * pair_size::<L>() as u64 * count_all(lists);
+    let last = end + 2 * pair_size::<L>() as u64 * lists.count();
     store.reserve(last)?;
     write_parts::<S, L>(store, lists, end, last, &mut slots, &mut runs, &mut bytes)?;
     Ok(())

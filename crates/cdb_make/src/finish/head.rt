@@ -7,24 +7,23 @@ ghost use Rattle.cdb_form.specs.Format.Pair.{head_size};
 ghost use Rattle.cdb_form.specs.Format.Table.{slots_of};
 ghost use Rattle.cdb_form.specs.Views.Pairs.{head_pairs};
 ghost use Rattle.cdb_make.specs.Parts.{head_bytes, tables_end};
-ghost use Rattle.cdb_make.specs.Views.EntryList.{lists_entries};
+ghost use Rattle.cdb_make.specs.Views.Lists.{all_entries};
 
-use crate::index::list::EntryList;
+use crate::index::lists::Lists;
 use cdb_form::{GREATEST_HEAD, Head, Pointer, Width, head_size, pair_size, write_head};
 use cdb_store::{Store, StoreFault};
 
 /// The pointers to the tables of some lists of entries, the first of which begins at `end`.
-fn head_of<L: Width>(lists: &[EntryList], end: u64) -> Head
-    requires long { length lists.now ≡ 256 }
-    requires limit { tables_end L.WORD end (lists_entries lists.now) ≤ L.GREATEST }
+fn head_of<L: Width>(lists: &Lists, end: u64) -> Head
+    requires limit { tables_end L.WORD end (all_entries lists.now) ≤ L.GREATEST }
     ensures { head_pairs result
-        ≡ pointers_from L.WORD end (map slots_of (lists_entries lists.now)) }
+        ≡ pointers_from L.WORD end (map slots_of (all_entries lists.now)) }
 {
     let size = pair_size::<L>() as u64;
     let mut pointers = [Pointer { place: 0, slots: 0 }; 256];
     let mut place = end;
     for n in 0..256 {
-        let slots = 2 * lists[n].len() as u64;
+        let slots = 2 * lists.each[n].len() as u64;
         pointers[n] = Pointer { place, slots };
         place += size * slots;
     }
@@ -36,14 +35,13 @@ fn head_of<L: Width>(lists: &[EntryList], end: u64) -> Head
 /// `Device`: the head's bytes may be any, and those after it stay.
 pub(crate) fn write_pointers<S: Store, L: Width>(
     store: &mut S,
-    lists: &[EntryList],
+    lists: &Lists,
     end: u64,
 ) -> Result<(), StoreFault>
-    requires long { length lists.now ≡ 256 }
-    requires limit { tables_end L.WORD end (lists_entries lists.now) ≤ L.GREATEST }
+    requires limit { tables_end L.WORD end (all_entries lists.now) ≤ L.GREATEST }
     requires inside { head_size L.WORD ≤ S.size store.old }
     requires room { head_size L.WORD ≤ S.room store.old }
-    ensures ok { OnOk result (AfterWrite 0 (head_bytes L.WORD end (lists_entries lists.now))
+    ensures ok { OnOk result (AfterWrite 0 (head_bytes L.WORD end (all_entries lists.now))
         (S.image store.old) (S.image store.new)) }
     ensures torn { AfterTornWrite 0 (head_size L.WORD) (S.image store.old) (S.image store.new) }
     ensures size { S.size store.new ≡ S.size store.old }

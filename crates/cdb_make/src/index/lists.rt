@@ -1,27 +1,55 @@
 // The lists of all tables.
-ghost use Rattle.std.specs.Prelude.{◌≡◌, ◌+◌, ◌%◌, ◌<◌, ◌≤◌, ◌^◌, length, sum_by, All};
-ghost use Rattle.std.specs.Prelude.{get_or, true};
+ghost use Rattle.std.specs.Prelude.{◌≡◌, ◌+◌, ◌<◌, ◌≤◌, ◌^◌, ◌⊎◌, [], length, replicate, sum_by};
+ghost use Rattle.std.specs.Prelude.{All, get_or, vec_capacity, IfOk, OnOk, OnErr};
+ghost use Rattle.cdb_form.specs.Format.Hash.{table_number};
 ghost use Rattle.cdb_make.specs.Gaps.{AreApart};
-ghost use Rattle.cdb_make.specs.Views.EntryList.{entry_count, lists_entries, AreClosed, list_tops};
-ghost use Rattle.cdb_make.specs.Views.EntryList.{AreUnder};
+ghost use Rattle.cdb_make.specs.Views.EntryList.{list_entries, lists_entries, list_room};
+ghost use Rattle.cdb_make.specs.Views.EntryList.{list_tops, with_entry, AreUnder, IsMarked};
 
+use crate::index::close_lists::{GROUP, close_lists};
 use crate::index::list::EntryList;
-use crate::removal::gap::{Gap, first_place};
+use crate::removal::gap::Gap;
 use cdb_form::table_number;
+use std::alloc::{AllocError, Global};
 
-/// So many lists are passed over at once if the gaps reach none of them.
-pub(crate) const GROUP: usize = 16;
-
-/// How many entries the list of a hash has.
-pub(crate) fn entry_count(lists: &[EntryList], hash: u32) -> usize
-    requires { length lists.now ≡ 256 }
-    ensures { result ≡ entry_count lists.now hash }
-{
-    lists[table_number(u64::from(hash))].len()
+/// The entries of all tables, in a list for each of the 256.
+#[derive(Drop)]
+pub(crate) struct Lists {
+    pub(crate) each: Vec<EntryList>,
+    ghost all: { length each.items ≡ 256 },
+    ghost under: { AreUnder (list_tops each.items) (lists_entries each.items) },
 }
 
-/// How many entries all lists have.
-pub(crate) fn count_all(lists: &[EntryList]) -> u64
+/// Makes room for an entry in a list, and for a gap for each entry there. If memory is refused, the
+/// entries stay.
+#[cold]
+#[inline(never)]
+fn grow(list: &mut EntryList, gaps: &mut Vec<Gap>) -> Result<(), AllocError>
+    ensures entries { list_entries list.new ≡ list_entries list.old }
+    ensures top { list.new.top ≡ list.old.top }
+    ensures room { OnOk result (length (list_entries list.new) < list_room list.new) }
+    ensures spare { OnOk result (length (list_entries list.old) < vec_capacity gaps.new) }
+    ensures kept { vec_capacity gaps.old ≤ vec_capacity gaps.new }
+    ensures full { OnErr result
+        ((list_room list.old ≤ length (list_entries list.old))
+        ⊎ (vec_capacity gaps.old ≤ length (list_entries list.old))) }
+{
+    gaps.clear();
+    gaps.reserve(list.hashes().len() + 1)?;
+    list.reserve()
+}
+
+/// Marks the entries at some gaps.
+fn mark_each(list: &mut EntryList, gaps: &[Gap])
+    ensures { IsMarked gaps.now list.old list.new }
+{
+    for gap in gaps {
+        list.mark(gap.place);
+    }
+}
+
+/// How many entries some lists have.
+fn count_all(lists: &[EntryList]) -> u64
     requires { sum_by length (lists_entries lists.now) < 2 ^ 64 }
     ensures { result ≡ sum_by length (lists_entries lists.now) }
 {
@@ -32,8 +60,8 @@ pub(crate) fn count_all(lists: &[EntryList]) -> u64
     count
 }
 
-/// How many entries the longest list has.
-pub(crate) fn longest(lists: &[EntryList]) -> usize
+/// How many entries the longest of some lists has.
+fn longest(lists: &[EntryList]) -> usize
     ensures most { All (λ list. length list ≤ result) (lists_entries lists.now) }
     ensures within { result ≤ sum_by length (lists_entries lists.now) }
 {
@@ -44,36 +72,97 @@ pub(crate) fn longest(lists: &[EntryList]) -> usize
     most
 }
 
-/// Whether a group of lists begins at this number, and all their entries lie below a place.
-fn is_group_below(lists: &[EntryList], n: usize, place: u64) -> bool
-    requires { n < length lists.now }
-    ensures first { result ≡ true → n % 16 ≡ 0 }
-    ensures below { result ≡ true → get_or (list_tops lists.now) n 0 < place }
-{
-    n % GROUP == 0 && lists[n].top() < place
-}
+impl Lists {
+    ghost use Rattle.cdb_make.specs.Views.Lists.{all_entries, entry_count, entry_room};
+    ghost use Rattle.cdb_make.specs.Views.Lists.{AreAllClosed, AreAllMarked};
 
-/// Takes the entries at the gaps out of each list, lowers each other place by the gaps below it, and
-/// answers how many went. Each list's room stays.
-pub(crate) fn close_lists(lists: &mut [EntryList], gaps: &[Gap]) -> u64
-    requires all { length lists.old ≡ 256 }
-    requires apart { AreApart 0 gaps.now (2 ^ 63) }
-    requires few { sum_by length (lists_entries lists.old) < 2 ^ 64 }
-    requires under { AreUnder (list_tops lists.old) (lists_entries lists.old) }
-    ensures closed { AreClosed gaps.now lists.old lists.new }
-    ensures gone { sum_by length (lists_entries lists.new) + result
-        ≡ sum_by length (lists_entries lists.old) }
-{
-    let first = first_place(gaps, u64::MAX);
-    let mut gone = 0;
-    let mut n = 0;
-    while n < lists.len() {
-        if is_group_below(lists, n, first) {
-            n += GROUP;
-        } else {
-            gone += lists[n].close(gaps, first) as u64;
-            n += 1;
+    /// 256 lists without entries.
+    pub(crate) fn new(alloc: Global) -> Result<Lists, AllocError>
+        ensures { IfOk result (λ ls. all_entries ls ≡ replicate 256 []) }
+    {
+        let mut each = Vec::new(alloc);
+        for _ in 0..256usize {
+            each.push(EntryList::new(alloc))?;
         }
+        Ok(Lists { each })
     }
-    gone
+
+    /// The list of a hash.
+    pub(crate) fn of_hash(&self, hash: u32) -> &EntryList
+        ensures { result.now ≡ get_or self.now.each.items (table_number hash) result.now }
+    {
+        &self.each[table_number(u64::from(hash))]
+    }
+
+    /// How many entries there are.
+    pub(crate) fn count(&self) -> u64
+        requires { sum_by length (all_entries self.now) < 2 ^ 64 }
+        ensures { result ≡ sum_by length (all_entries self.now) }
+    {
+        count_all(&self.each)
+    }
+
+    /// How many entries the longest list has.
+    pub(crate) fn longest(&self) -> usize
+        ensures most { All (λ list. length list ≤ result) (all_entries self.now) }
+        ensures within { result ≤ sum_by length (all_entries self.now) }
+    {
+        longest(&self.each)
+    }
+
+    /// Makes room for an entry in the list of its hash, and for a gap for each entry there. If
+    /// memory is refused, the entries stay.
+    pub(crate) fn reserve_entry(&mut self, gaps: &mut Vec<Gap>, hash: u32) -> Result<(), AllocError>
+        ensures entries { all_entries self.new ≡ all_entries self.old }
+        ensures room { OnOk result (entry_count self.new hash < entry_room self.new hash) }
+        ensures spare { OnOk result (entry_count self.old hash < vec_capacity gaps.new) }
+        ensures kept { vec_capacity gaps.old ≤ vec_capacity gaps.new }
+        ensures full { OnErr result
+            ((entry_room self.old hash ≤ entry_count self.old hash)
+            ⊎ (vec_capacity gaps.old ≤ entry_count self.old hash)) }
+    {
+        let list = &mut self.each[table_number(u64::from(hash))];
+        if list.has_room() && list.len() < gaps.capacity() {
+            return Ok(());
+        }
+        grow(list, gaps)
+    }
+
+    /// Indexes the entries of the list of a hash, before a look for it.
+    pub(crate) fn catch_up(&mut self, hash: u32)
+        ensures room { entry_room self.old hash ≤ entry_room self.new hash }
+        ensures entries { all_entries self.new ≡ all_entries self.old }
+    {
+        self.each[table_number(u64::from(hash))].catch_up();
+    }
+
+    /// One more entry, for which there is room.
+    pub(crate) fn push_entry(&mut self, hash: u32, place: u64)
+        requires { entry_count self.old hash < entry_room self.old hash }
+        ensures { all_entries self.new
+            ≡ with_entry (all_entries self.old) (record { first = hash; second = place }) }
+    {
+        let table = table_number(u64::from(hash));
+        self.each[table].push(hash, place);
+        self.each[table / GROUP * GROUP].raise(place);
+    }
+
+    /// Marks the entries at some gaps of records of a hash.
+    pub(crate) fn mark(&mut self, hash: u32, gaps: &[Gap])
+        ensures { AreAllMarked hash gaps.now self.old self.new }
+    {
+        mark_each(&mut self.each[table_number(u64::from(hash))], gaps);
+    }
+
+    /// Takes the entries at the gaps out, lowers each other place by the gaps below it, and answers
+    /// how many went. Each list's room stays.
+    pub(crate) fn close(&mut self, gaps: &[Gap]) -> u64
+        requires apart { AreApart 0 gaps.now (2 ^ 63) }
+        requires few { sum_by length (all_entries self.old) < 2 ^ 64 }
+        ensures closed { AreAllClosed gaps.now self.old self.new }
+        ensures gone { sum_by length (all_entries self.new) + result
+            ≡ sum_by length (all_entries self.old) }
+    {
+        close_lists(&mut self.each, gaps)
+    }
 }

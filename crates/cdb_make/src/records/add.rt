@@ -9,14 +9,13 @@ ghost use Rattle.cdb_make.specs.Marks.{StandMarked};
 ghost use Rattle.cdb_make.specs.declared.fault.MakeFault.TheVariants.{Writing};
 ghost use Rattle.cdb_make.specs.Stands.{Stands};
 ghost use Rattle.cdb_make.specs.Unfinished.{KeepsHead};
-ghost use Rattle.cdb_make.specs.Views.EntryList.{lists_entries, entry_count, entry_room};
-ghost use Rattle.cdb_make.specs.Views.EntryList.{AreWithin, HasSpareGaps, list_tops, AreUnder};
+ghost use Rattle.cdb_make.specs.Views.Lists.{all_entries, entry_count, entry_room};
+ghost use Rattle.cdb_make.specs.Views.EntryList.{AreWithin, HasSpareGaps};
 ghost use Rattle.cdb_make.specs.Views.Adding.{AddFails};
 ghost use Rattle.cdb_make.specs.Views.Maker.{ComesFrom};
 
 use crate::fault::MakeFault;
-use crate::index::entries::{push_entry, reserve_entry};
-use crate::index::list::EntryList;
+use crate::index::lists::Lists;
 use crate::records::write::append_record;
 use crate::removal::gap::Gap;
 use cdb_form::{Width, pair_size};
@@ -28,42 +27,38 @@ use cdb_store::Store;
 /// entries then are what they were, and the bytes below `end` stay.
 pub(crate) fn add<S: Store, L: Width>(
     store: &mut S,
-    lists: &mut Vec<EntryList>,
+    lists: &mut Lists,
     gaps: &mut Vec<Gap>,
     end: u64,
     hash: u32,
     key: &[u8],
     value: &[u8],
 ) -> Result<u64, MakeFault>
-    requires all { length lists.old.items ≡ 256 }
     requires start { head_size L.WORD ≤ end }
     requires inside { end ≤ S.size store.old }
     requires fits { end + record_size L.WORD (record_of key.now value.now)
         ≤ L.GREATEST }
     requires hash { hash ≡ key_hash key.now }
     ensures stands { (rs : List KeyValue)
-        → Stands L.WORD end (lists_entries lists.old.items) rs (S.image store.old)
-        → IfOk result (λ last. Stands L.WORD last (lists_entries lists.new.items)
+        → Stands L.WORD end (all_entries lists.old) rs (S.image store.old)
+        → IfOk result (λ last. Stands L.WORD last (all_entries lists.new)
         (rs ++ record_of key.now value.now ∷ []) (S.image store.new)) }
     ensures marked { (marks : List Bool) (rs : List KeyValue) → length marks ≤ length rs
-        → StandMarked L.WORD end (lists_entries lists.old.items) marks rs (S.image store.old)
-        → IfOk result (λ last. StandMarked L.WORD last (lists_entries lists.new.items) marks
+        → StandMarked L.WORD end (all_entries lists.old) marks rs (S.image store.old)
+        → IfOk result (λ last. StandMarked L.WORD last (all_entries lists.new) marks
         (rs ++ record_of key.now value.now ∷ []) (S.image store.new)) }
     ensures end { IfOk result (λ last.
         last ≡ end + record_size L.WORD (record_of key.now value.now)) }
     ensures inside { IfOk result (λ last. last ≤ S.size store.new) }
     ensures written { OnOk result (S.written store.new ≡ S.written store.old
         + record_size L.WORD (record_of key.now value.now)) }
-    ensures one_more { OnOk result (sum_by length (lists_entries lists.new.items)
-        ≡ sum_by length (lists_entries lists.old.items) + 1) }
-    ensures placed { (most : ℕ) → end ≤ most → AreWithin most (lists_entries lists.old.items)
-        → AreWithin most (lists_entries lists.new.items) }
-    ensures spare { HasSpareGaps (lists_entries lists.old.items) (vec_capacity gaps.old)
-        → HasSpareGaps (lists_entries lists.new.items) (vec_capacity gaps.new) }
-    ensures under { AreUnder (list_tops lists.old.items) (lists_entries lists.old.items)
-        → AreUnder (list_tops lists.new.items) (lists_entries lists.new.items) }
-    ensures all { length lists.new.items ≡ 256 }
-    ensures entries { OnErr result (lists_entries lists.new.items ≡ lists_entries lists.old.items) }
+    ensures one_more { OnOk result (sum_by length (all_entries lists.new)
+        ≡ sum_by length (all_entries lists.old) + 1) }
+    ensures placed { (most : ℕ) → end ≤ most → AreWithin most (all_entries lists.old)
+        → AreWithin most (all_entries lists.new) }
+    ensures spare { HasSpareGaps (all_entries lists.old) (vec_capacity gaps.old)
+        → HasSpareGaps (all_entries lists.new) (vec_capacity gaps.new) }
+    ensures entries { OnErr result (all_entries lists.new ≡ all_entries lists.old) }
     ensures kept { OnErr result
         (KeepsPart (head_size L.WORD) (end - head_size L.WORD) (S.image store.old)
         (S.image store.new)) }
@@ -72,8 +67,8 @@ pub(crate) fn add<S: Store, L: Width>(
     ensures fails { IfErr result
         (AddFails (S.written store.old) (S.written store.new) (S.failures store.old)
         (S.failures store.new)
-        ((entry_room lists.old.items hash ≤ entry_count lists.old.items hash)
-        ⊎ (vec_capacity gaps.old ≤ entry_count lists.old.items hash))
+        ((entry_room lists.old hash ≤ entry_count lists.old hash)
+        ⊎ (vec_capacity gaps.old ≤ entry_count lists.old hash))
         (S.room store.old
         < end + record_size L.WORD (record_of key.now value.now))) }
     ensures longer { S.size store.old ≤ S.size store.new }
@@ -83,8 +78,8 @@ pub(crate) fn add<S: Store, L: Width>(
     ensures not_written { IfErr result
         (λ f. f ≡ Writing → S.unwritten store.old < S.unwritten store.new) }
 {
-    reserve_entry(lists, gaps, hash)?;
+    lists.reserve_entry(gaps, hash)?;
     append_record::<S, L>(store, end, key, value)?;
-    push_entry(lists, hash, end);
+    lists.push_entry(hash, end);
     Ok(end + pair_size::<L>() as u64 + key.len() as u64 + value.len() as u64)
 }

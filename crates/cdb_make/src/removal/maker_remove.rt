@@ -10,10 +10,9 @@ ghost use Rattle.cdb_form.specs.Format.Record.{KeyValue};
 ghost use Rattle.cdb_make.specs.Gaps.{AreApart, first_place};
 ghost use Rattle.cdb_make.specs.Marks.{AreMarked, fresh};
 ghost use Rattle.cdb_make.specs.Stands.{Stands, AreGapsOf, AreTakenOut, WritesSurvivors};
-ghost use Rattle.cdb_make.specs.Views.EntryList.{lists_entries, AreClosed};
+ghost use Rattle.cdb_make.specs.Views.Lists.{all_entries, AreAllClosed};
 
 use crate::fault::MakeFault;
-use crate::index::entries::catch_up;
 use crate::maker::Maker;
 use crate::removal::gap::all_sizes;
 use crate::removal::take_out;
@@ -39,8 +38,8 @@ impl<S: Store, L: Width> Maker<S, L> {
         ensures ok { OnOk result (WritesNothing self.old self.new) }
         ensures fails { IfErr result (FailsLooking self.old self.new) }
         ensures counts { SameCounts self.old self.new }
-        ensures entries { lists_entries self.new.lists.items
-            ≡ lists_entries self.old.lists.items }
+        ensures entries { all_entries self.new.lists
+            ≡ all_entries self.old.lists }
         ensures reads { OnlyReads S.Store self.old.store self.new.store }
         ensures ok_failures { OnOk result (HasNotFailed self.old self.new) }
         ensures fresh { (all : List KeyValue) (marks : List Bool) → Carries self.old all marks
@@ -57,7 +56,7 @@ impl<S: Store, L: Width> Maker<S, L> {
         if self.broken {
             return Err(MakeFault::Broken);
         }
-        catch_up(&mut self.lists, hash);
+        self.lists.catch_up(hash);
         let (store, gaps) = (&mut self.store, &mut self.gaps);
         match take_out::find::<S, L>(store, &self.lists, hash, key, self.end, gaps) {
             Ok(()) => Ok(self.gaps.len() as u64),
@@ -77,7 +76,7 @@ impl<S: Store, L: Width> Maker<S, L> {
         ensures stands { (rs : List KeyValue) (key : List ℕ)
             → Holds self.old rs
             → AreGapsOf L.WORD key self.old.gaps.items rs (S.image self.old.store)
-            → IfOk result (λ last. AreTakenOut L.WORD last (lists_entries self.new.lists.items)
+            → IfOk result (λ last. AreTakenOut L.WORD last (all_entries self.new.lists)
             key rs (S.image self.new.store)) }
         ensures written { (rs : List KeyValue) (key : List ℕ)
             → Holds self.old rs
@@ -87,10 +86,10 @@ impl<S: Store, L: Width> Maker<S, L> {
         ensures end { IfOk result (λ last.
             last + sum_by (λ g. g.size) self.old.gaps.items ≡ self.old.end) }
         ensures start { IfOk result (λ last. head_size L.WORD ≤ last) }
-        ensures left { OnOk result (sum_by length (lists_entries self.new.lists.items)
+        ensures left { OnOk result (sum_by length (all_entries self.new.lists)
             + length self.old.gaps.items ≡ self.old.count) }
         ensures lists { OnOk result
-            (AreClosed self.old.gaps.items self.old.lists.items self.new.lists.items) }
+            (AreAllClosed self.old.gaps.items self.old.lists self.new.lists) }
         ensures fails { (key : List ℕ) → IfErr result (FailsClosing self.old self.new key) }
         ensures broken { self.new.broken ≡ true }
         ensures counts { SameCounts self.old self.new }

@@ -3,12 +3,10 @@ ghost use Rattle.std.specs.Prelude.{◌≡◌, ℕ, ◌+◌, ◌≤◌, ◌++◌
 ghost use Rattle.cdb_form.specs.Format.Hash.{key_hash};
 ghost use Rattle.cdb_form.specs.Format.Record.{KeyValue};
 ghost use Rattle.cdb_make.specs.Marks.{AreMarked, fresh, with_key};
-ghost use Rattle.cdb_make.specs.Views.EntryList.{IsMarked};
 
-use crate::index::list::EntryList;
 use crate::maker::Maker;
 use crate::removal::gap::Gap;
-use cdb_form::{Width, table_number};
+use cdb_form::Width;
 use cdb_store::Store;
 
 /// Notes some gaps after others. There is room for them.
@@ -19,15 +17,6 @@ pub(crate) fn note(gone: &mut Vec<Gap>, gaps: &[Gap])
 {
     for gap in gaps {
         gone.push_reserved(*gap);
-    }
-}
-
-/// Marks the entries at some gaps.
-pub(crate) fn mark_each(list: &mut EntryList, gaps: &[Gap])
-    ensures { IsMarked gaps.now list.old list.new }
-{
-    for gap in gaps {
-        list.mark(gap.place);
     }
 }
 
@@ -54,6 +43,6 @@ impl<S: Store, L: Width> Maker<S, L> {
         ensures broken { self.new.broken ≡ self.old.broken }
         ensures counts { SameCounts self.old self.new }
     {
-        mark_each(&mut self.lists[table_number(u64::from(hash))], gaps);
+        self.lists.mark(hash, gaps);
     }
 }

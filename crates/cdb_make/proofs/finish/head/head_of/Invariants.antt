@@ -10,6 +10,6 @@ abbrev pub invariant-loop-n : goal.invariant-loop-n
 invariant-loop-n g l =
     record {
       long : length l.pointers ≡ 256;
-      place : l.place ≡ l.end + 4 * g.L.Width.WORD * sum_by length (lists_entries (take l.n l.lists));
-      so_far : map pointer_pair (take l.n l.pointers) ≡ pointers_from g.L.Width.WORD l.end (map slots_of (lists_entries (take l.n l.lists)));
+      place : l.place ≡ l.end + 4 * g.L.Width.WORD * sum_by length (lists_entries (take l.n l.lists.each.items));
+      so_far : map pointer_pair (take l.n l.pointers) ≡ pointers_from g.L.Width.WORD l.end (map slots_of (lists_entries (take l.n l.lists.each.items)));
     }

@@ -40,7 +40,7 @@ returns-in-Err-NoMemory-clause-fails g c = λ rs h found b is.
     let some : 0 < count_of c.args.key.now rs = omega (arith, (count_found found).each a.0 a.1, c.requires.some) in
     let why = add_wants _ _ _ _ _ _ c.in-Err-NoMemory.field-0 c.in-Err-NoMemory.field-0-is c.in-Err-NoMemory.ensures.fails in
     elim why [
-      | inl full ↦ room_left c.args.key.now a.0 z.0 m.all c.requires.hash e.lists was now some m.spare (room_same _ _ (ap (λ v. vec_capacity v) c.take_out.ensures.gaps) full)
+      | inl full ↦ room_left c.args.key.now m.lists c.take_out.new.self.lists a.0 z.0 c.requires.hash e.lists was now some m.spare (room_same _ _ (ap (λ v. vec_capacity v) c.take_out.ensures.gaps) full)
       | inr past ↦ omega (arith, past, c.requires.room, e.end, c.take_out.ensures.room)
     ]
 
@@ -81,9 +81,6 @@ returns-in-Err-clause-follows g c =
     let a = c.add.ensures in
     follows_then (follows_moved {s = g.S.Store} {l = g.L.Width} c.args.self.now c.take_out.new.self c.requires.apart t.torn t.counts t.room t.failures t.unwritten)
     (record { comes = a.comes; head = a.head; limit = refl; room = a.room; failures = a.failures; unwritten = a.unwritten })
-
-pub invariant_of-self-clause-under : goal.invariant_of-self-clause-under
-invariant_of-self-clause-under g c = c.add.ensures.under c.take_out.new.self.under
 
 pub invariant_of-self-clause-placed : goal.invariant_of-self-clause-placed
 invariant_of-self-clause-placed g c =

@@ -1,6 +1,6 @@
 use Rattle.std.proofs.Common.{refl, ap, sym, subst, ◌∙◌, ◌≡◌, List, Err, rules, arith}
 use Rattle.cdb_store.specs.Reads.{OnlyReads}
-use Rattle.cdb_make.specs.Views.EntryList.{lists_entries}
+use Rattle.cdb_make.specs.Views.Lists.{all_entries}
 use Rattle.cdb_make.proofs.Compare.{reads_fewer}
 use Rattle.cdb_form.specs.Format.Pair.{WordPair}
 use Rattle.cdb_make.specs.Looks.{NoNewImage}
@@ -16,7 +16,7 @@ returns-in-Ok-clause-ok g c = writes_looked c.if-self.false c.if-self.false refl
 pub returns-in-Err-clause-fails : goal.returns-in-Err-clause-fails
 returns-in-Err-clause-fails g c =
     let e = c.failed_look.ensures in
-    fails_looked {s = g.S.Store} {l = g.L.Width} _ _ c.find.new.store c.deref.result.now c.in-Err.fault _ (ap lists_entries c.deref.ensures.value ∙ c.catch_up.ensures.entries) e.fault c.if-self.false e.broken e.counts.end (ap (λ v. lists_entries v.items) e.lists ∙ c.catch_up.ensures.entries) e.store (reads_fewer c.find.ensures.reads) c.find.ensures.reads.written
+    fails_looked {s = g.S.Store} {l = g.L.Width} _ _ c.find.new.store c.catch_up.new.self c.in-Err.fault _ c.catch_up.ensures.entries e.fault c.if-self.false e.broken e.counts.end (ap all_entries e.lists ∙ c.catch_up.ensures.entries) e.store (reads_fewer c.find.ensures.reads) c.find.ensures.reads.written
     (λ h. c.find.ensures.failed (c.in-Err.is ∙ ap Err h)) (λ h. c.find.ensures.foreign (c.in-Err.is ∙ ap Err h))
 
 pub returns-in-Ok-clause-count : goal.returns-in-Ok-clause-count
@@ -34,7 +34,7 @@ returns-in-Ok-clause-few g c = grind (arith, common_steps)
 pub returns-in-Ok-clause-fresh : goal.returns-in-Ok-clause-fresh
 returns-in-Ok-clause-fresh g c = λ all marks h.
     let m = c.args.self.now in
-    let own : lists_entries c.deref.result.now ≡ lists_entries m.lists.items = ap lists_entries c.deref.ensures.value ∙ c.catch_up.ensures.entries in
+    let own : all_entries c.catch_up.new.self ≡ all_entries m.lists = c.catch_up.ensures.entries in
     c.in-Ok.ensures.fresh marks all (subst (λ (v : List (List WordPair)). StandMarked g.L.Width.WORD m.end v marks all (g.S.Store.image m.store)) (sym own) (carried_stand {s = g.S.Store} {l = g.L.Width} m all marks h))
 
 pub returns-in-Ok-clause-keeps : goal.returns-in-Ok-clause-keeps
@@ -45,10 +45,10 @@ returns-in-Err-clause-keeps g c = λ whole.
     let e = c.failed_look.ensures in
     let m = c.args.self.now in
     let few : NoNewImage (g.S.Store.image m.store) (g.S.Store.image c.failed_look.new.self.store) = subst (λ (v : _). NoNewImage (g.S.Store.image m.store) (g.S.Store.image v)) (sym e.store) (reads_fewer c.find.ensures.reads) in
-    carries_looked {s = g.S.Store} {l = g.L.Width} m _ whole e.counts.end (ap (λ v. lists_entries v.items) e.lists ∙ c.catch_up.ensures.entries) few
+    carries_looked {s = g.S.Store} {l = g.L.Width} m _ whole e.counts.end (ap all_entries e.lists ∙ c.catch_up.ensures.entries) few
 
 pub returns-in-Err-clause-none : goal.returns-in-Err-clause-none
 returns-in-Err-clause-none g c = λ was broken all marks h.
     let e = c.failed_look.ensures in
-    none_carried {s = g.S.Store} {l = g.L.Width} c.args.self.now c.failed_look.new.self c.find.new.store c.deref.result.now c.in-Err.fault (ap lists_entries c.deref.ensures.value ∙ c.catch_up.ensures.entries) e.broken e.store
+    none_carried {s = g.S.Store} {l = g.L.Width} c.args.self.now c.failed_look.new.self c.find.new.store c.catch_up.new.self c.in-Err.fault c.catch_up.ensures.entries e.broken e.store
     (λ k marks all st. c.find.ensures.none (c.in-Err.is ∙ ap Err k) marks all st) broken all marks h

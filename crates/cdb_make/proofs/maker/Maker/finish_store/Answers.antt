@@ -4,7 +4,7 @@ use Rattle.cdb_make.proofs.Finishes.{is_file, fails_finishing, on_fault_is}
 use Rattle.cdb_make.proofs.maker.Maker.finish_store.Goals as goal
 
 pub returns-clause-file : goal.returns-clause-file
-returns-clause-file g c = λ rs h. on_ok_weaker c.finish.result (λ finished. is_file {s = g.S.Store} {l = g.L.Width} c.args.self.now rs c.deref.result.now c.deref.ensures.value h finished) c.finish.ensures.file
+returns-clause-file g c = λ rs h. on_ok_weaker c.finish.result (λ finished. is_file {s = g.S.Store} {l = g.L.Width} c.args.self.now rs h finished) c.finish.ensures.file
 
 pub returns-clause-fails : goal.returns-clause-fails
 returns-clause-fails g c =

@@ -1,5 +1,5 @@
 use Rattle.std.proofs.Common.{refl, ap, sym, subst, ◌∙◌, ◌≡◌, List, Err, rules}
-use Rattle.cdb_make.specs.Views.EntryList.{lists_entries}
+use Rattle.cdb_make.specs.Views.Lists.{all_entries}
 use Rattle.cdb_make.proofs.Compare.{reads_fewer}
 use Rattle.cdb_form.specs.Format.Pair.{WordPair}
 use Rattle.cdb_make.specs.Looks.{NoNewImage}
@@ -15,7 +15,7 @@ pub returns-in-Err-clause-fails : goal.returns-in-Err-clause-fails
 returns-in-Err-clause-fails g c =
     let e = c.failed_look.ensures in
     let f = c.in-Err.fault in
-    fails_looked {s = g.S.Store} {l = g.L.Width} _ _ c.exists.new.store c.deref.result.now f _ (ap lists_entries c.deref.ensures.value ∙ c.catch_up.ensures.entries) e.fault c.if-self.false e.broken e.counts.end (ap (λ v. lists_entries v.items) e.lists ∙ c.catch_up.ensures.entries) e.store (reads_fewer c.exists.ensures.reads) c.exists.ensures.reads.written
+    fails_looked {s = g.S.Store} {l = g.L.Width} _ _ c.exists.new.store c.catch_up.new.self f _ c.catch_up.ensures.entries e.fault c.if-self.false e.broken e.counts.end (ap all_entries e.lists ∙ c.catch_up.ensures.entries) e.store (reads_fewer c.exists.ensures.reads) c.exists.ensures.reads.written
     (λ h. c.exists.ensures.failed (c.in-Err.is ∙ ap Err h)) (λ h. c.exists.ensures.foreign (c.in-Err.is ∙ ap Err h))
 
 pub exists-requires-clause-hash : goal.exists-requires-clause-hash
@@ -27,7 +27,7 @@ returns-in-Ok-clause-there g c = search rules
 pub returns-in-Ok-clause-one : goal.returns-in-Ok-clause-one
 returns-in-Ok-clause-one g c = λ all marks h.
     let m = c.args.self.now in
-    let own : lists_entries c.deref.result.now ≡ lists_entries m.lists.items = ap lists_entries c.deref.ensures.value ∙ c.catch_up.ensures.entries in
+    let own : all_entries c.catch_up.new.self ≡ all_entries m.lists = c.catch_up.ensures.entries in
     c.in-Ok.ensures.one marks all (subst (λ (v : List (List WordPair)). StandMarked g.L.Width.WORD m.end v marks all (g.S.Store.image m.store)) (sym own) (carried_stand {s = g.S.Store} {l = g.L.Width} m all marks h))
 
 pub returns-in-Ok-clause-keeps : goal.returns-in-Ok-clause-keeps
@@ -38,10 +38,10 @@ returns-in-Err-clause-keeps g c = λ whole.
     let e = c.failed_look.ensures in
     let m = c.args.self.now in
     let few : NoNewImage (g.S.Store.image m.store) (g.S.Store.image c.failed_look.new.self.store) = subst (λ (v : _). NoNewImage (g.S.Store.image m.store) (g.S.Store.image v)) (sym e.store) (reads_fewer c.exists.ensures.reads) in
-    carries_looked {s = g.S.Store} {l = g.L.Width} m _ whole e.counts.end (ap (λ v. lists_entries v.items) e.lists ∙ c.catch_up.ensures.entries) few
+    carries_looked {s = g.S.Store} {l = g.L.Width} m _ whole e.counts.end (ap all_entries e.lists ∙ c.catch_up.ensures.entries) few
 
 pub returns-in-Err-clause-none : goal.returns-in-Err-clause-none
 returns-in-Err-clause-none g c = λ was broken all marks h.
     let e = c.failed_look.ensures in
-    none_carried {s = g.S.Store} {l = g.L.Width} c.args.self.now c.failed_look.new.self c.exists.new.store c.deref.result.now c.in-Err.fault (ap lists_entries c.deref.ensures.value ∙ c.catch_up.ensures.entries) e.broken e.store
+    none_carried {s = g.S.Store} {l = g.L.Width} c.args.self.now c.failed_look.new.self c.exists.new.store c.catch_up.new.self c.in-Err.fault c.catch_up.ensures.entries e.broken e.store
     (λ k marks all st. c.exists.ensures.none (c.in-Err.is ∙ ap Err k) marks all st) broken all marks h

@@ -1,19 +1,12 @@
 use Rattle.std.proofs.Common.{refl, rules}
-use Rattle.cdb_make.proofs.Tops.{under_none}
-use Rattle.cdb_make.proofs.Finishes.{holds_none, lists_long, lists_counted, lists_within, lists_spare}
+use Rattle.cdb_make.proofs.Finishes.{holds_none, lists_counted, lists_within, lists_spare}
 use Rattle.cdb_make.proofs.maker.Maker.new.Goals as goal
-
-pub invariant_of-result-clause-all : goal.invariant_of-result-clause-all
-invariant_of-result-clause-all g c = lists_long _ c.in-Ok.ensures.lists
 
 pub invariant_of-result-clause-counted : goal.invariant_of-result-clause-counted
 invariant_of-result-clause-counted g c = λ whole. lists_counted _ c.in-Ok.ensures.lists
 
 pub invariant_of-result-clause-placed : goal.invariant_of-result-clause-placed
 invariant_of-result-clause-placed g c = lists_within _ _ c.in-Ok.ensures.lists
-
-pub invariant_of-result-clause-under : goal.invariant_of-result-clause-under
-invariant_of-result-clause-under g c = under_none _ _ c.in-Ok.ensures.lists
 
 pub invariant_of-result-clause-spare : goal.invariant_of-result-clause-spare
 invariant_of-result-clause-spare g c = lists_spare _ _ c.in-Ok.ensures.lists

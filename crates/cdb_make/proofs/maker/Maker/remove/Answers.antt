@@ -27,14 +27,12 @@ invariant_of-self g c =
     let m = c.take_out.new.self in
     let e = c.in_ok-self.ensures in
     record {
-      all = m.all;
       start = e.start;
       inside = omega (arith, m.inside, e.end, e.counts.end);
       within = fewer_within g.L.Width.WORD _ m.count _ m.end m.limit g.met.L.Width.four_or_eight (omega arith) (omega (arith, e.end, e.counts.end)) m.within;
       limited = m.limited;
       counted = λ whole. omega (arith, e.left, e.counts.count, c.in_ok-taken.ensures.count);
       placed = m.placed;
-      under = m.under;
       spare = m.spare;
     }
 

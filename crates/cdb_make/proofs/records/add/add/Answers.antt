@@ -5,7 +5,8 @@ use Rattle.cdb_form.specs.Format.Pair.{WordPair, head_size}
 use Rattle.cdb_form.specs.Format.Record.{KeyValue}
 use Rattle.cdb_form.proofs.Sizes.{length-record_bytes}
 use Rattle.std.proofs.lemmas.List.{length-map}
-use Rattle.cdb_make.specs.Views.EntryList.{list_entries, lists_entries, with_entry}
+use Rattle.cdb_make.specs.Views.EntryList.{list_entries, with_entry}
+use Rattle.cdb_make.specs.Views.Lists.{all_entries}
 use Rattle.cdb_make.proofs.Whole.{stand_marked, marked_stand}
 use Rattle.cdb_make.proofs.Added.{marked_stand_more, within_more, spare_more}
 use Rattle.cdb_make.proofs.Written.{on_any_err}
@@ -24,8 +25,8 @@ returns-clause-marked g c = λ ms rs few stands.
     let r : KeyValue = record { key = c.args.key.now; value = c.args.value.now } in
     let e : WordPair = record { first = c.args.hash; second = c.args.end } in
     let sized : AreSized (g.S.Store.size c.args.store.now) (g.S.Store.image c.args.store.now) = record { each = g.met.S.Store.image_size c.args.store.now } in
-    let added : lists_entries c.push_entry.new.lists.items ≡ with_entry (lists_entries c.args.lists.now.items) e =
-    c.push_entry.ensures.entries ∙ ap (λ (v : List (List WordPair)). with_entry v e) c.reserve_entry.ensures.entries in
+    let added : all_entries c.push_entry.new.self ≡ with_entry (all_entries c.args.lists.now) e =
+    c.push_entry.ensures ∙ ap (λ (v : List (List WordPair)). with_entry v e) c.reserve_entry.ensures.entries in
     marked_stand_more (g.S.Store.size c.args.store.now) _ c.args.hash r _ sized c.requires.inside c.requires.hash refl
     (omega (arith, c.pair_size.ensures)) added few c.in_ok-append_record.ensures.ok.images stands
 
@@ -35,17 +36,17 @@ returns-clause-stands g c = λ rs stands. marked_stand (returns-clause-marked g 
 pub returns-clause-placed : goal.returns-clause-placed
 returns-clause-placed g c = λ most below all.
     let e : WordPair = record { first = c.args.hash; second = c.args.end } in
-    let ls : List (List WordPair) = lists_entries c.args.lists.now.items in
-    let added : lists_entries c.push_entry.new.lists.items ≡ with_entry ls e =
-    c.push_entry.ensures.entries ∙ ap (λ (v : List (List WordPair)). with_entry v e) c.reserve_entry.ensures.entries in
-    within_more ls e most added (omega (arith, length-map c.args.lists.now.items list_entries, c.requires.all)) below all
+    let ls : List (List WordPair) = all_entries c.args.lists.now in
+    let added : all_entries c.push_entry.new.self ≡ with_entry ls e =
+    c.push_entry.ensures ∙ ap (λ (v : List (List WordPair)). with_entry v e) c.reserve_entry.ensures.entries in
+    within_more ls e most added (omega (arith, length-map c.args.lists.now.each.items list_entries, c.args.lists.now.all)) below all
 
 pub returns-clause-spare : goal.returns-clause-spare
 returns-clause-spare g c = λ all.
     let e : WordPair = record { first = c.args.hash; second = c.args.end } in
-    let ls : List (List WordPair) = lists_entries c.args.lists.now.items in
-    let added : lists_entries c.push_entry.new.lists.items ≡ with_entry ls e =
-    c.push_entry.ensures.entries ∙ ap (λ (v : List (List WordPair)). with_entry v e) c.reserve_entry.ensures.entries in
+    let ls : List (List WordPair) = all_entries c.args.lists.now in
+    let added : all_entries c.push_entry.new.self ≡ with_entry ls e =
+    c.push_entry.ensures ∙ ap (λ (v : List (List WordPair)). with_entry v e) c.reserve_entry.ensures.entries in
     spare_more ls e added c.in_ok-reserve_entry.ensures.spare c.reserve_entry.ensures.kept all
 
 pub returns-in_err-append_record-clause-comes : goal.returns-in_err-append_record-clause-comes

@@ -17,10 +17,10 @@ pub returns-then-is_empty-clause-written : goal.returns-then-is_empty-clause-wri
 returns-then-is_empty-clause-written g c = λ rs key stands found. let none : c.args.gaps.now ≡ [] = no_gaps c.args.gaps.now (search (rules, c.is_empty.ensures, c.if-is_empty.ensures)) in writes_none _ none found
 
 pub returns-then-is_empty-clause-lists : goal.returns-then-is_empty-clause-lists
-returns-then-is_empty-clause-lists g c = let none : c.args.gaps.now ≡ [] = no_gaps c.args.gaps.now (search (rules, c.is_empty.ensures, c.if-is_empty.ensures)) in lists_stay c.args.gaps.now c.args.lists.now none
+returns-then-is_empty-clause-lists g c = let none : c.args.gaps.now ≡ [] = no_gaps c.args.gaps.now (search (rules, c.is_empty.ensures, c.if-is_empty.ensures)) in lists_stay c.args.gaps.now c.args.lists.now.each.items none
 
-pub close_lists-gone-requires-clause-apart : goal.close_lists-gone-requires-clause-apart
-close_lists-gone-requires-clause-apart g c =
+pub close-gone-requires-clause-apart : goal.close-gone-requires-clause-apart
+close-gone-requires-clause-apart g c =
     let w : ℕ = g.L.Width.WORD in
     apart_lower 0 (head_size w) c.args.gaps.now (2 ^ 63) (omega arith) (apart_higher (head_size w) c.args.end (2 ^ 63) c.args.gaps.now (omega (arith, c.requires.fits, g.met.L.Width.greatest_fits.1)) c.requires.apart)
 
@@ -54,7 +54,7 @@ returns-clause-stands g c = λ rs key stands found.
     let above : 0 < g.L.Width.WORD = elim g.met.L.Width.four_or_eight [ inl four ↦ omega arith | inr eight ↦ omega arith ] in
     let closed : Closed (first_place gs end) gs end old new = subst (λ (v : ℕ). Closed v gs end old new) c.first_place-start.ensures c.in_ok-close_gaps.ensures.closed in
     let sized : AreSized (g.S.Store.size c.args.store.now) old = record { each = g.met.S.Store.image_size c.args.store.now } in
-    stands_after (g.S.Store.size c.args.store.now) (end - c.all_sizes.result) above c.requires.inside c.requires.all sized (ap (λ (v : ℕ). end - v) c.all_sizes.ensures) found stands closed c.close_lists-gone.ensures.closed
+    stands_after (g.S.Store.size c.args.store.now) (end - c.all_sizes.result) above c.requires.inside c.args.lists.now.all sized (ap (λ (v : ℕ). end - v) c.all_sizes.ensures) found stands closed c.close-gone.ensures.closed
 
 pub returns-clause-written : goal.returns-clause-written
 returns-clause-written g c = λ rs key stands found.
@@ -76,7 +76,7 @@ returns-clause-settles g c = λ ms rs stands found.
     let above : 0 < g.L.Width.WORD = elim g.met.L.Width.four_or_eight [ inl four ↦ omega arith | inr eight ↦ omega arith ] in
     let closed : Closed (first_place gs end) gs end old new = subst (λ (v : ℕ). Closed v gs end old new) c.first_place-start.ensures c.in_ok-close_gaps.ensures.closed in
     let sized : AreSized (g.S.Store.size c.args.store.now) old = record { each = g.met.S.Store.image_size c.args.store.now } in
-    stands_settled ms rs (g.S.Store.size c.args.store.now) (end - c.all_sizes.result) above c.requires.inside c.requires.all sized (ap (λ (v : ℕ). end - v) c.all_sizes.ensures) found stands closed c.close_lists-gone.ensures.closed
+    stands_settled ms rs (g.S.Store.size c.args.store.now) (end - c.all_sizes.result) above c.requires.inside c.args.lists.now.all sized (ap (λ (v : ℕ). end - v) c.all_sizes.ensures) found stands closed c.close-gone.ensures.closed
 
 pub returns-clause-moves : goal.returns-clause-moves
 returns-clause-moves g c = λ ms rs stands found.

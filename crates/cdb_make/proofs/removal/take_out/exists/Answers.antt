@@ -1,4 +1,4 @@
-use Rattle.std.proofs.Common.{arith, ap, ◌∙◌, ◌≡◌, ℕ, get_or, []}
+use Rattle.std.proofs.Common.{arith, ap, ◌≡◌, get_or, []}
 use Rattle.std.proofs.lemmas.Result.{IfOk-weaker}
 use Rattle.cdb_form.specs.Format.Hash.{table_number}
 use Rattle.cdb_make.proofs.Compare.{reads_fewer}
@@ -8,12 +8,10 @@ use Rattle.cdb_make.proofs.removal.take_out.exists.Goals as goal
 
 pub returns-clause-one : goal.returns-clause-one
 returns-clause-one g c = λ ms rs stands.
-    let d = c.index-lists-table_number.result in
-    let here : list_entries d ≡ list_entries (get_or c.args.lists.now (table_number c.args.hash) d) =
-    ap list_entries c.index-lists-table_number.is
-    ∙ ap (λ (n : ℕ). list_entries (get_or c.args.lists.now n d)) (c.table_number.ensures.number ∙ ap table_number c.from.ensures) in
+    let d = c.of_hash-list.result.now in
+    let here : list_entries d ≡ list_entries (get_or c.args.lists.now.each.items (table_number c.args.hash) d) = ap list_entries c.of_hash-list.ensures in
     IfOk-weaker c.some_has.result _ _
-    (λ there tells. there_found there g.L.Width.TOP c.args.end c.args.lists.now d ms rs g.met.L.Width.top_is (omega (arith, c.requires.fits, g.met.L.Width.greatest_fits.0)) c.requires.all c.requires.hash here (reads_fewer c.some_has.ensures.reads) stands tells)
+    (λ there tells. there_found there g.L.Width.TOP c.args.end c.args.lists.now.each.items d ms rs g.met.L.Width.top_is (omega (arith, c.requires.fits, g.met.L.Width.greatest_fits.0)) c.args.lists.now.all c.requires.hash here (reads_fewer c.some_has.ensures.reads) stands tells)
     c.some_has.ensures.tells
 
 pub returns-clause-there : goal.returns-clause-there
@@ -21,11 +19,9 @@ returns-clause-there g c = λ rs stands. returns-clause-one g c [] rs (stand_mar
 
 pub returns-clause-none : goal.returns-clause-none
 returns-clause-none g c = λ err ms rs stands.
-    let d = c.index-lists-table_number.result in
-    let here : list_entries d ≡ list_entries (get_or c.args.lists.now (table_number c.args.hash) d) =
-    ap list_entries c.index-lists-table_number.is
-    ∙ ap (λ (n : ℕ). list_entries (get_or c.args.lists.now n d)) (c.table_number.ensures.number ∙ ap table_number c.from.ensures) in
-    none_stands {start = 0} c.args.hash g.L.Width.TOP c.args.end c.args.lists.now d ms rs g.met.L.Width.top_is (omega (arith, c.requires.fits, g.met.L.Width.greatest_fits.0)) c.requires.all (omega arith) here (reads_fewer c.some_has.ensures.reads) stands (c.some_has.ensures.foreign err 0)
+    let d = c.of_hash-list.result.now in
+    let here : list_entries d ≡ list_entries (get_or c.args.lists.now.each.items (table_number c.args.hash) d) = ap list_entries c.of_hash-list.ensures in
+    none_stands {start = 0} c.args.hash g.L.Width.TOP c.args.end c.args.lists.now.each.items d ms rs g.met.L.Width.top_is (omega (arith, c.requires.fits, g.met.L.Width.greatest_fits.0)) c.args.lists.now.all (omega arith) here (reads_fewer c.some_has.ensures.reads) stands (c.some_has.ensures.foreign err 0)
 
 pub returns-clause-foreign : goal.returns-clause-foreign
 returns-clause-foreign g c = λ err rs stands. returns-clause-none g c err [] rs (stand_marked stands)

@@ -10,34 +10,32 @@ use Rattle.cdb_make.proofs.removal.take_out.find.Goals as goal
 
 pub find_gaps-requires-clause-room : goal.find_gaps-requires-clause-room
 find_gaps-requires-clause-room g c =
-    let d = c.index-lists-table_number.result in
-    let ls : List EntryList = c.args.lists.now in
+    let d = c.of_hash-list.result.now in
+    let ls : List EntryList = c.args.lists.now.each.items in
     let n : ℕ = table_number c.args.hash in
-    let lt : n < length ls = omega (arith, c.requires.all) in
+    let lt : n < length ls = omega (arith, c.args.lists.now.all) in
     let here : length (list_entries d) ≡ length (get_or (lists_entries ls) n []) =
-    ap (λ v. length (list_entries v)) (c.index-lists-table_number.is ∙ ap (λ (k : ℕ). get_or ls k d) (c.table_number.ensures.number ∙ ap table_number c.from.ensures))
+    ap (λ v. length (list_entries v)) c.of_hash-list.ensures
     ∙ ap length (sym (get_or-map list_entries ls n d [] lt)) in
     omega (arith, c.requires.room)
 
 pub returns-clause-few : goal.returns-clause-few
 returns-clause-few g c =
-    let d = c.index-lists-table_number.result in
-    let ls : List EntryList = c.args.lists.now in
+    let d = c.of_hash-list.result.now in
+    let ls : List EntryList = c.args.lists.now.each.items in
     let n : ℕ = table_number c.args.hash in
-    let lt : n < length ls = omega (arith, c.requires.all) in
+    let lt : n < length ls = omega (arith, c.args.lists.now.all) in
     let here : length (list_entries d) ≡ length (get_or (lists_entries ls) n []) =
-    ap (λ v. length (list_entries v)) (c.index-lists-table_number.is ∙ ap (λ (k : ℕ). get_or ls k d) (c.table_number.ensures.number ∙ ap table_number c.from.ensures))
+    ap (λ v. length (list_entries v)) c.of_hash-list.ensures
     ∙ ap length (sym (get_or-map list_entries ls n d [] lt)) in
     on_ok_weaker c.find_gaps.result (λ few. omega arith) c.find_gaps.ensures.few
 
 pub returns-clause-fresh : goal.returns-clause-fresh
 returns-clause-fresh g c = λ ms rs stands.
-    let d = c.index-lists-table_number.result in
-    let here : list_entries d ≡ list_entries (get_or c.args.lists.now (table_number c.args.hash) d) =
-    ap list_entries c.index-lists-table_number.is
-    ∙ ap (λ (n : ℕ). list_entries (get_or c.args.lists.now n d)) (c.table_number.ensures.number ∙ ap table_number c.from.ensures) in
+    let d = c.of_hash-list.result.now in
+    let here : list_entries d ≡ list_entries (get_or c.args.lists.now.each.items (table_number c.args.hash) d) = ap list_entries c.of_hash-list.ensures in
     on_ok_weaker c.find_gaps.result
-    (λ picks. gaps_found g.L.Width.TOP c.args.end c.args.lists.now d ms rs g.met.L.Width.top_is (omega (arith, c.requires.fits, g.met.L.Width.greatest_fits.0)) c.requires.all c.requires.hash here (reads_fewer c.find_gaps.ensures.reads) stands picks)
+    (λ picks. gaps_found g.L.Width.TOP c.args.end c.args.lists.now.each.items d ms rs g.met.L.Width.top_is (omega (arith, c.requires.fits, g.met.L.Width.greatest_fits.0)) c.args.lists.now.all c.requires.hash here (reads_fewer c.find_gaps.ensures.reads) stands picks)
     c.find_gaps.ensures.picks
 
 pub returns-clause-gaps : goal.returns-clause-gaps
@@ -48,11 +46,9 @@ returns-clause-count g c = λ rs stands. on_ok_weaker c.find_gaps.result (λ fou
 
 pub returns-clause-none : goal.returns-clause-none
 returns-clause-none g c = λ err ms rs stands.
-    let d = c.index-lists-table_number.result in
-    let here : list_entries d ≡ list_entries (get_or c.args.lists.now (table_number c.args.hash) d) =
-    ap list_entries c.index-lists-table_number.is
-    ∙ ap (λ (n : ℕ). list_entries (get_or c.args.lists.now n d)) (c.table_number.ensures.number ∙ ap table_number c.from.ensures) in
-    none_stands c.args.hash g.L.Width.TOP c.args.end c.args.lists.now d ms rs g.met.L.Width.top_is (omega (arith, c.requires.fits, g.met.L.Width.greatest_fits.0)) c.requires.all (omega (arith, c.head_size-start.ensures)) here (reads_fewer c.find_gaps.ensures.reads) stands (c.find_gaps.ensures.foreign err)
+    let d = c.of_hash-list.result.now in
+    let here : list_entries d ≡ list_entries (get_or c.args.lists.now.each.items (table_number c.args.hash) d) = ap list_entries c.of_hash-list.ensures in
+    none_stands c.args.hash g.L.Width.TOP c.args.end c.args.lists.now.each.items d ms rs g.met.L.Width.top_is (omega (arith, c.requires.fits, g.met.L.Width.greatest_fits.0)) c.args.lists.now.all (omega (arith, c.head_size-start.ensures)) here (reads_fewer c.find_gaps.ensures.reads) stands (c.find_gaps.ensures.foreign err)
 
 pub returns-clause-foreign : goal.returns-clause-foreign
 returns-clause-foreign g c = λ err rs stands. returns-clause-none g c err [] rs (stand_marked stands)

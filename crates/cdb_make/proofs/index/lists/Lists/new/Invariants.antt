@@ -1,7 +1,7 @@
 use Rattle.std.proofs.Common.{◌≡◌, replicate, []}
 use Rattle.cdb_make.specs.Views.EntryList.{lists_entries}
-use Rattle.cdb_make.proofs.index.entries.no_entries.Given as goal
+use Rattle.cdb_make.proofs.index.lists.Lists.new.Given as goal
 
 -- the lists so far
 abbrev pub invariant-loop : goal.invariant-loop
-invariant-loop l = lists_entries l.lists.items ≡ replicate l.counter []
+invariant-loop l = lists_entries l.each.items ≡ replicate l.counter []

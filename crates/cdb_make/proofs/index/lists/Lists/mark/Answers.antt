@@ -1,0 +1,26 @@
+use Rattle.std.proofs.Common.{arith, ap, ◌∙◌, ◌≡◌, ◌<◌, length, get_or, slice_set}
+use Rattle.std.proofs.lemmas.List.{length-set}
+use Rattle.cdb_form.specs.Format.Hash.{table_number}
+use Rattle.cdb_make.proofs.MarkedLists.{marked_under}
+use Rattle.cdb_make.proofs.index.lists.Lists.mark.Goals as goal
+
+pub invariant_of-self : goal.invariant_of-self
+invariant_of-self c =
+    let m = c.args.self.now in
+    let lt : c.table_number.result < length m.each.items = omega (arith, c.table_number.ensures.within, m.all) in
+    record {
+      all = simp length-set m.all;
+      under = marked_under c.args.gaps.now m.each.items c.table_number.result c.index_mut.result.now c.mark_each.new.list lt c.index_mut.ensures.value c.mark_each.ensures m.under;
+    }
+
+pub returns : goal.returns
+returns c =
+    let m = c.args.self.now in
+    let n : c.table_number.result ≡ table_number c.args.hash = c.table_number.ensures.number ∙ ap table_number c.from.ensures in
+    record {
+      list = c.index_mut.result.now;
+      turned = c.mark_each.new.list;
+      is = c.index_mut.ensures.value ∙ ap (λ (k : _). get_or m.each.items k c.index_mut.result.now) n;
+      marked = c.mark_each.ensures;
+      others = ap (λ (k : _). slice_set m.each.items k c.mark_each.new.list) n;
+    }
