@@ -49,8 +49,9 @@ pub struct Batch<S: Store, L: Width> {
 
 impl<S: Store, L: Width> Batch<S, L> {
     ghost use Rattle.cdb_make.specs.Views.Batch.{Holds, count_in, limit_of, SameCounts};
+    ghost use Rattle.cdb_make.specs.Views.Batch.{Follows, HasNotFailed, is_broken, maker_of, store_of};
     ghost use Rattle.cdb_make.specs.Views.Batch.{WritesNothing, FailsLooking, IsFull};
-    ghost use Rattle.cdb_make.specs.Views.Maker.{WhereHonest, Follows, HasNotFailed};
+    ghost use Rattle.cdb_make.specs.Views.Maker.{WhereHonest, limit_of as limit_in};
     ghost use Rattle.cdb_make.specs.Views.Maker.{Holds as Has};
 
     /// A batch of a file of at most `limit` bytes in a store, which is emptied.
@@ -62,12 +63,12 @@ impl<S: Store, L: Width> Batch<S, L> {
         requires words { limit ≤ L.GREATEST }
         ensures holds { IfOk result (λ m. Holds m []) }
         ensures limit { IfOk result (λ m. limit_of m ≡ limit) }
-        ensures head { IfOk result (λ m. IsUnfinished L.WORD (S.image m.maker.store)) }
-        ensures size { IfOk result (λ m. S.size m.maker.store ≡ head_size L.WORD) }
+        ensures head { IfOk result (λ m. IsUnfinished L.WORD (S.image (store_of m))) }
+        ensures size { IfOk result (λ m. S.size (store_of m) ≡ head_size L.WORD) }
         ensures written { IfOk result (λ m.
-            S.written m.maker.store ≡ S.written store + head_size L.WORD) }
-        ensures room { IfOk result (λ m. S.room store ≤ S.room m.maker.store) }
-        ensures failures { IfOk result (λ m. S.failures store ≤ S.failures m.maker.store) }
+            S.written (store_of m) ≡ S.written store + head_size L.WORD) }
+        ensures room { IfOk result (λ m. S.room store ≤ S.room (store_of m)) }
+        ensures failures { IfOk result (λ m. S.failures store ≤ S.failures (store_of m)) }
         ensures fails { IfErr result (λ r.
             MakingFault S.image S.size S.written S.failures store r.store r.fault) }
     {
@@ -80,8 +81,8 @@ impl<S: Store, L: Width> Batch<S, L> {
     /// A batch of the records that a maker holds, none of them marked.
     pub fn over(alloc: Global, maker: Maker<S, L>) -> Batch<S, L>
         ensures holds { (rs : List KeyValue) → Has maker rs → Holds result rs }
-        ensures maker { result.maker ≡ maker }
-        ensures limit { limit_of result ≡ maker.limit }
+        ensures maker { maker_of result ≡ maker }
+        ensures limit { limit_of result ≡ limit_in maker }
     {
         let gone = some_room(alloc);
         let most = gone.capacity();
@@ -98,7 +99,7 @@ impl<S: Store, L: Width> Batch<S, L> {
     /// In a broken batch it is what it was before the call that broke it.
     pub fn count(&self) -> u64
         ensures holds { (rs : List KeyValue) → Holds self.now rs
-            → WhereHonest (S.image self.now.maker.store) (result ≡ length rs) }
+            → WhereHonest (S.image (store_of self.now)) (result ≡ length rs) }
         ensures is { result ≡ count_in self.now }
     {
         self.maker.count.saturating_sub(self.gone.len() as u64)
@@ -107,21 +108,21 @@ impl<S: Store, L: Width> Batch<S, L> {
     /// Whether an earlier call broke it, or found that its store gave back other bytes than were
     /// written. Then every call that can fail answers `Broken`.
     pub fn is_broken(&self) -> bool
-        ensures { result ≡ self.now.maker.broken }
+        ensures { result ≡ is_broken self.now }
     {
         self.maker.is_broken()
     }
 
     /// Its store, to ask how long it is or how much was written.
     pub fn store(&self) -> &S
-        ensures { result.now ≡ self.now.maker.store }
+        ensures { result.now ≡ store_of self.now }
     {
         self.maker.store()
     }
 
     /// Its store, as it is.
     pub fn into_store(self) -> S
-        ensures { result ≡ self.maker.store }
+        ensures { result ≡ store_of self }
     {
         let Batch {
             maker,
@@ -183,12 +184,12 @@ impl<S: Store, L: Width> Batch<S, L> {
     /// written.
     pub fn exists(&mut self, key: &[u8]) -> Result<bool, MakeFault>
         ensures there { (rs : List KeyValue) → Holds self.old rs
-            → IfOk result (λ there. IsThere there key.now rs (S.image self.new.maker.store)) }
+            → IfOk result (λ there. IsThere there key.now rs (S.image (store_of self.new))) }
         ensures ok { OnOk result (WritesNothing self.old self.new) }
         ensures fails { IfErr result (FailsLooking self.old self.new) }
         ensures counts { SameCounts self.old self.new }
-        ensures follows { Follows self.old.maker self.new.maker }
-        ensures ok_failures { OnOk result (HasNotFailed self.old.maker self.new.maker) }
+        ensures follows { Follows self.old self.new }
+        ensures ok_failures { OnOk result (HasNotFailed self.old self.new) }
     {
         self.maker.look(hash(key), key)
     }

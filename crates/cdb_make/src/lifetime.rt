@@ -78,7 +78,7 @@ fn emptied<S: Store, L: Width>(alloc: Global, store: &mut S) -> Result<Lists, Ma
 
 impl<S: Store, L: Width> Maker<S, L> {
     ghost use Rattle.cdb_make.specs.Views.Maker.{Holds, limit_of, made_size, IsFile, FailsFinishing};
-    ghost use Rattle.cdb_make.specs.Views.Maker.{ComesFrom};
+    ghost use Rattle.cdb_make.specs.Views.Maker.{ComesFrom, PutsHeadLast, IsUsable, end_of, store_of};
 
     /// A maker of a file of at most `limit` bytes in a store, which is emptied.
     ///
@@ -92,12 +92,12 @@ impl<S: Store, L: Width> Maker<S, L> {
         requires words { limit ≤ L.GREATEST }
         ensures holds { IfOk result (λ m. Holds m []) }
         ensures limit { IfOk result (λ m. limit_of m ≡ limit) }
-        ensures head { IfOk result (λ m. IsUnfinished L.WORD (S.image m.store)) }
-        ensures size { IfOk result (λ m. S.size m.store ≡ head_size L.WORD) }
+        ensures head { IfOk result (λ m. IsUnfinished L.WORD (S.image (store_of m))) }
+        ensures size { IfOk result (λ m. S.size (store_of m) ≡ head_size L.WORD) }
         ensures written { IfOk result (λ m.
-            S.written m.store ≡ S.written store + head_size L.WORD) }
-        ensures room { IfOk result (λ m. S.room store ≤ S.room m.store) }
-        ensures failures { IfOk result (λ m. S.failures store ≤ S.failures m.store) }
+            S.written (store_of m) ≡ S.written store + head_size L.WORD) }
+        ensures room { IfOk result (λ m. S.room store ≤ S.room (store_of m)) }
+        ensures failures { IfOk result (λ m. S.failures store ≤ S.failures (store_of m)) }
         ensures fails { IfErr result (λ r.
             MakingFault S.image S.size S.written S.failures store r.store r.fault) }
     {
@@ -146,23 +146,24 @@ impl<S: Store, L: Width> Maker<S, L> {
     /// maker is handed back if that failed, and holds what it held: with `NoMemory` nothing was
     /// written, with `Writing` the store failed. `Broken`: an earlier call broke the maker.
     pub fn finish(mut self) -> Result<S, Unfinished<S, L>>
-        ensures whole { IfOk result (λ _. self.broken ≡ false) }
+        ensures whole { IfOk result (λ _. IsUsable self) }
         ensures file { (rs : List KeyValue) → Holds self rs
             → IfOk result (λ s. IsFile L.WORD rs (S.image s)) }
         ensures size { IfOk result (λ s. S.size s ≡ made_size self) }
         ensures written { IfOk result (λ s.
-            S.written s + self.end ≡ S.written self.store + (head_size L.WORD + made_size self)) }
+            S.written s + end_of self
+            ≡ S.written (store_of self) + (head_size L.WORD + made_size self)) }
         ensures settled { IfOk result S.settled }
-        ensures comes { IfOk result (λ s. ComesFrom (S.image self.store) (S.image s)) }
-        ensures failures { IfOk result (λ s. S.failures self.store ≤ S.failures s) }
+        ensures comes { IfOk result (λ s. ComesFrom (S.image (store_of self)) (S.image s)) }
+        ensures failures { IfOk result (λ s. S.failures (store_of self) ≤ S.failures s) }
         ensures fails { IfErr result (λ u. FailsFinishing self u.maker u.fault) }
         ensures fails_failures { IfErr result (λ u.
-            S.failures self.store ≤ S.failures u.maker.store) }
+            S.failures (store_of self) ≤ S.failures (store_of u.maker)) }
         // In each image the head is an old one, or all tables stand.
-        ensures head_last { IfErr result (λ u. HeadIsLast L.WORD self.end
-            (all_entries self.lists) (S.image self.store) (S.image u.maker.store)) }
+        ensures head_last { IfErr result (λ u.
+            PutsHeadLast self (S.image (store_of self)) (S.image (store_of u.maker))) }
         ensures fails_comes { IfErr result (λ u.
-            ComesFrom (S.image self.store) (S.image u.maker.store)) }
+            ComesFrom (S.image (store_of self)) (S.image (store_of u.maker))) }
     {
         match self.finish_store() {
             Ok(()) => Ok(self.into_store()),

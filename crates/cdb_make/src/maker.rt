@@ -56,6 +56,7 @@ pub struct Maker<S: Store, L: Width> {
 
 impl<S: Store, L: Width> Maker<S, L> {
     ghost use Rattle.cdb_make.specs.Views.Maker.{Holds, WhereHonest, made_size, StaysWhole};
+    ghost use Rattle.cdb_make.specs.Views.Maker.{store_of, count_in, limit_of, is_broken};
     ghost use Rattle.cdb_make.specs.Views.Maker.{FailsLooking, SameCounts, WritesNothing};
     ghost use Rattle.cdb_make.specs.Views.Maker.{look_fault, is_foreign, HasNotFailed};
     ghost use Rattle.cdb_make.specs.Views.Carrying.{Carries, KeepsCarrying, WantsMemory};
@@ -65,8 +66,8 @@ impl<S: Store, L: Width> Maker<S, L> {
     /// In a broken maker it is what it was before the call that broke it.
     pub fn count(&self) -> u64
         ensures holds { (rs : List KeyValue) → Holds self.now rs
-            → WhereHonest (S.image self.now.store) (result ≡ length rs) }
-        ensures is { result ≡ self.now.count }
+            → WhereHonest (S.image (store_of self.now)) (result ≡ length rs) }
+        ensures is { result ≡ count_in self.now }
     {
         self.count
     }
@@ -76,9 +77,9 @@ impl<S: Store, L: Width> Maker<S, L> {
     /// In a broken maker it is what it was before the call that broke it.
     pub fn size(&self) -> u64
         ensures holds { (rs : List KeyValue) → Holds self.now rs
-            → WhereHonest (S.image self.now.store) (result ≡ file_size L.WORD rs) }
+            → WhereHonest (S.image (store_of self.now)) (result ≡ file_size L.WORD rs) }
         ensures is { result ≡ made_size self.now }
-        ensures within { result ≤ self.now.limit }
+        ensures within { result ≤ limit_of self.now }
     {
         self.end + 2 * pair_size::<L>() as u64 * self.count
     }
@@ -86,21 +87,21 @@ impl<S: Store, L: Width> Maker<S, L> {
     /// Whether an earlier call broke it, or found that its store gave back other bytes than were
     /// written. Then every call that can fail answers `Broken`.
     pub fn is_broken(&self) -> bool
-        ensures { result ≡ self.now.broken }
+        ensures { result ≡ is_broken self.now }
     {
         self.broken
     }
 
     /// Its store, to ask how long it is or how much was written.
     pub fn store(&self) -> &S
-        ensures { result.now ≡ self.now.store }
+        ensures { result.now ≡ store_of self.now }
     {
         &self.store
     }
 
     /// Its store, as it is.
     pub fn into_store(self) -> S
-        ensures { result ≡ self.store }
+        ensures { result ≡ store_of self }
     {
         let Maker {
             alloc: _,
@@ -144,14 +145,14 @@ impl<S: Store, L: Width> Maker<S, L> {
     /// written.
     pub fn exists(&mut self, key: &[u8]) -> Result<bool, MakeFault>
         ensures there { (rs : List KeyValue) → Holds self.old rs
-            → IfOk result (λ there. IsThere there key.now rs (S.image self.new.store)) }
+            → IfOk result (λ there. IsThere there key.now rs (S.image (store_of self.new))) }
         ensures ok { OnOk result (WritesNothing self.old self.new) }
         ensures fails { IfErr result (FailsLooking self.old self.new) }
         ensures counts { SameCounts self.old self.new }
-        ensures images { NoNewImage (S.image self.old.store) (S.image self.new.store) }
-        ensures room { S.room self.old.store ≤ S.room self.new.store }
-        ensures failures { S.failures self.old.store ≤ S.failures self.new.store }
-        ensures unwritten { S.unwritten self.old.store ≤ S.unwritten self.new.store }
+        ensures images { NoNewImage (S.image (store_of self.old)) (S.image (store_of self.new)) }
+        ensures room { S.room (store_of self.old) ≤ S.room (store_of self.new) }
+        ensures failures { S.failures (store_of self.old) ≤ S.failures (store_of self.new) }
+        ensures unwritten { S.unwritten (store_of self.old) ≤ S.unwritten (store_of self.new) }
         ensures ok_failures { OnOk result (HasNotFailed self.old self.new) }
     {
         self.look(hash(key), key)

@@ -11,6 +11,7 @@ use Rattle.cdb_form.specs.Format.File.{file_size, whole_size}
 use Rattle.cdb_form.specs.Format.Pair.{head_size}
 use Rattle.cdb_form.specs.Format.Record.{KeyValue, record_size, records_end}
 use Rattle.cdb_make.specs.declared.batch.Batch.{Batch}
+use Rattle.cdb_make.specs.declared.maker.Maker.{Maker}
 use Rattle.cdb_make.specs.declared.fault.MakeFault.{MakeFault}
 use Rattle.cdb_make.specs.declared.fault.MakeFault.TheVariants.{Broken, Lookup, TooBig, NoMemory}
 use Rattle.cdb_make.specs.declared.fault.MakeFault.TheVariants.{Writing}
@@ -22,8 +23,9 @@ use Rattle.cdb_make.specs.Survivors.{has_key, is_there, count_of, without, behin
 use Rattle.cdb_make.specs.Survivors.{put_answer}
 use Rattle.cdb_make.specs.Views.Carrying.{Carries, WantsMemory}
 use Rattle.cdb_make.specs.Views.Maker.{WhereHonest, ComesFrom, put_bytes, made_size}
-use Rattle.cdb_make.specs.Views.Maker.{Holds as Has, HasStoreFailed, HasNotFailed, HasRoom}
+use Rattle.cdb_make.specs.Views.Maker.{Holds as Has, HasStoreFailed, HasRoom}
 use Rattle.cdb_make.specs.Views.Maker.{HasFailedToWrite}
+use Rattle.cdb_make.specs.Views.Maker as maker
 
 -- its store has these records, and those with a mark are to go: it has noted the bytes of each
 pub record Lies {S L : Type 0} {s : Ghosts S} {l : Widths L} (m : Batch S L s l)
@@ -46,6 +48,13 @@ pub record Holds {S L : Type 0} {s : Ghosts S} {l : Widths L} (m : Batch S L s l
   pub whole : m.maker.broken ≡ false
   pub held : WhereHonest (s.image m.maker.store) (Held m rs)
 
+-- its maker, and its store
+abbrev pub maker_of : {S L : Type 0} {s : Ghosts S} {l : Widths L} → Batch S L s l → Maker S L s l
+maker_of m = m.maker
+
+abbrev pub store_of : {S L : Type 0} {s : Ghosts S} {l : Widths L} → Batch S L s l → S
+store_of m = m.maker.store
+
 -- how many records it counts, the greatest size of its file, and whether a call broke it
 abbrev pub count_in : {S L : Type 0} {s : Ghosts S} {l : Widths L} → Batch S L s l → ℕ
 count_in m = m.maker.count - length m.gone.items
@@ -53,8 +62,20 @@ count_in m = m.maker.count - length m.gone.items
 abbrev pub limit_of : {S L : Type 0} {s : Ghosts S} {l : Widths L} → Batch S L s l → ℕ
 limit_of m = m.maker.limit
 
+abbrev pub is_broken : {S L : Type 0} {s : Ghosts S} {l : Widths L} → Batch S L s l → Bool
+is_broken m = m.maker.broken
+
 abbrev pub IsUsable : {S L : Type 0} {s : Ghosts S} {l : Widths L} → Batch S L s l → Type 0
 IsUsable m = m.maker.broken ≡ false
+
+-- its maker came of the other's, whatever the call answered; and no failure of its store was counted
+abbrev pub Follows : {S L : Type 0} {s : Ghosts S} {l : Widths L} → Batch S L s l → Batch S L s l
+    → Type 0
+Follows old new = maker.Follows old.maker new.maker
+
+abbrev pub HasNotFailed : {S L : Type 0} {s : Ghosts S} {l : Widths L} → Batch S L s l
+    → Batch S L s l → Type 0
+HasNotFailed old new = maker.HasNotFailed old.maker new.maker
 
 -- it stays whole, and holds what it held
 pub record StaysWhole {S L : Type 0} {s : Ghosts S} {l : Widths L} (old new : Batch S L s l)
@@ -239,10 +260,10 @@ FailsPutting old new mode r Lookup =
     × HasStoreFailed old.maker new.maker × (mode ≢ Add)
 FailsPutting old new mode r TooBig =
     StaysWhole old new × PassesAtMost old new (MaySettle old mode r)
-    × IsTooBig old new mode r × HasNotFailed old.maker new.maker
+    × IsTooBig old new mode r × HasNotFailed old new
 FailsPutting old new mode r NoMemory =
     StaysWhole old new × PassesAtMost old new (MaySettle old mode r)
-    × WantsRoom old new mode r × WouldPut old new mode r × HasNotFailed old.maker new.maker
+    × WantsRoom old new mode r × WouldPut old new mode r × HasNotFailed old new
 FailsPutting old new mode r Writing =
     (StaysWhole old new × HasFailedToWrite old.maker new.maker × WouldPut old new mode r)
     ⊎ IsTorn old new (HasGapsOr old r.key)
@@ -273,7 +294,7 @@ pub record Rests {S L : Type 0} {s : Ghosts S} {l : Widths L} (old new : Batch S
   pub comes : ComesFrom (s.image old.maker.store) (s.image new.maker.store)
   pub room : s.room old.maker.store ≤ s.room new.maker.store
   pub later : s.unwritten old.maker.store ≤ s.unwritten new.maker.store
-  pub fine : HasNotFailed old.maker new.maker
+  pub fine : HasNotFailed old new
 
 -- one record more, behind the others
 pub record Adds {S L : Type 0} {s : Ghosts S} {l : Widths L} (old new : Batch S L s l)
@@ -298,10 +319,10 @@ FailsAdding old new r Broken = IsBroken old new
 FailsAdding {s = s} {l = l} old new r TooBig =
     StaysWhole old new × PassesAtMost old new (λ rs. IsOver old r ⊎ WantsMemory old.maker r)
     × ((rs : List KeyValue) → Holds old rs → WhereHonest (s.image new.maker.store)
-    (limit_of old < file_size l.WORD (rs ++ r ∷ []))) × HasNotFailed old.maker new.maker
+    (limit_of old < file_size l.WORD (rs ++ r ∷ []))) × HasNotFailed old new
 FailsAdding old new r NoMemory =
     StaysWhole old new × PassesAtMost old new (λ rs. IsOver old r ⊎ WantsMemory old.maker r)
-    × FitsMore old new r × HasNotFailed old.maker new.maker
+    × FitsMore old new r × HasNotFailed old new
 FailsAdding old new r Writing =
     (StaysWhole old new × HasFailedToWrite old.maker new.maker × FitsMore old new r)
     ⊎ IsTorn old new (λ rs. HasGaps old)

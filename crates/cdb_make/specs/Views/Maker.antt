@@ -16,6 +16,7 @@ use Rattle.cdb_make.specs.declared.records.put.Put.{Put}
 use Rattle.cdb_make.specs.declared.records.put.Put.TheVariants.{Present}
 use Rattle.cdb_make.specs.declared.records.key_at.LookFault.{LookFault}
 use Rattle.cdb_make.specs.declared.records.key_at.LookFault.TheVariants.{Failed, Foreign}
+use Rattle.cdb_make.specs.Finished.{HeadIsLast}
 use Rattle.cdb_make.specs.Stands.{Tells, AreGapsOf}
 use Rattle.cdb_make.specs.Survivors.{has_key, is_there, count_of, without, behind_first, put_list}
 use Rattle.cdb_make.specs.Survivors.{put_answer}
@@ -30,6 +31,13 @@ pub record WhereHonest (images : List ℕ → Type 0) (P : Type 0) : Type 0 wher
 pub record ComesFrom (old new : List ℕ → Type 0) : Type 0 where
   pub each : (b : List ℕ) → new b → (a : List ℕ) × old a
 
+-- its store, and where its records end there
+abbrev pub store_of : {S L : Type 0} {s : Ghosts S} {l : Widths L} → Maker S L s l → S
+store_of m = m.store
+
+abbrev pub end_of : {S L : Type 0} {s : Ghosts S} {l : Widths L} → Maker S L s l → ℕ
+end_of m = m.end
+
 -- the greatest size that its file may have, and the size that it would have now
 abbrev pub limit_of : {S L : Type 0} {s : Ghosts S} {l : Widths L} → Maker S L s l → ℕ
 limit_of m = m.limit
@@ -40,6 +48,9 @@ made_size {l = l} m = m.end + 4 * l.WORD * m.count
 -- how many records it counts, and whether an earlier call broke it
 abbrev pub count_in : {S L : Type 0} {s : Ghosts S} {l : Widths L} → Maker S L s l → ℕ
 count_in m = m.count
+
+abbrev pub is_broken : {S L : Type 0} {s : Ghosts S} {l : Widths L} → Maker S L s l → Bool
+is_broken m = m.broken
 
 abbrev pub IsUsable : {S L : Type 0} {s : Ghosts S} {l : Widths L} → Maker S L s l → Type 0
 IsUsable m = m.broken ≡ false
@@ -264,6 +275,11 @@ FailsPutting old new mode r Writing =
 -- every image is the file of these records
 pub record IsFile (w : ℕ) (rs : List KeyValue) (images : List ℕ → Type 0) : Type 0 where
   pub each : (b : List ℕ) → images b → b ≡ file_bytes w rs
+
+-- in each image the head is an old one, or all tables of its records stand
+abbrev pub PutsHeadLast : {S L : Type 0} {s : Ghosts S} {l : Widths L} → Maker S L s l
+    → (old new : List ℕ → Type 0) → Type 0
+PutsHeadLast {l = l} m old new = HeadIsLast l.WORD m.end (all_entries m.lists) old new
 
 -- why a file was not finished, and what the maker is then
 abbrev pub FailsFinishing : {S L : Type 0} {s : Ghosts S} {l : Widths L} → Maker S L s l

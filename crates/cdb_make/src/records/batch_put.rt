@@ -32,8 +32,7 @@ fn taken_by(put: Put) -> u64 {
 
 impl<S: Store, L: Width> Batch<S, L> {
     ghost use Rattle.cdb_make.specs.Views.Batch.{SameCounts, Adds, FailsAdding, Puts, FailsPutting};
-    ghost use Rattle.cdb_make.specs.Views.Batch.{Exchanges, FailsExchanging, Waits};
-    ghost use Rattle.cdb_make.specs.Views.Maker.{Follows};
+    ghost use Rattle.cdb_make.specs.Views.Batch.{Exchanges, FailsExchanging, Follows, Waits};
 
     /// Whether a pass would mend why a record was not added.
     fn is_mended(&self, fault: MakeFault) -> bool
@@ -51,7 +50,7 @@ impl<S: Store, L: Width> Batch<S, L> {
             (Adds self.old self.new (record_of key.now value.now)) }
         ensures fails { IfErr result
             (FailsAdding self.old self.new (record_of key.now value.now)) }
-        ensures follows { Follows self.old.maker self.new.maker }
+        ensures follows { Follows self.old self.new }
         ensures counts { OnErr result (SameCounts self.old self.new) }
     {
         match self.maker.add(hash, key, value) {
@@ -85,7 +84,7 @@ impl<S: Store, L: Width> Batch<S, L> {
         ensures same { IfOk result (λ done. done ≡ false → SameCounts self.old self.new) }
         ensures fails { IfErr result
             (FailsExchanging self.old self.new (record_of key.now value.now)) }
-        ensures follows { Follows self.old.maker self.new.maker }
+        ensures follows { Follows self.old self.new }
         ensures counts { OnErr result (SameCounts self.old self.new) }
     {
         if !self.has_room(taken) {
@@ -116,7 +115,7 @@ impl<S: Store, L: Width> Batch<S, L> {
             (Puts self.old self.new Replace (record_of key.now value.now)) }
         ensures fails { IfErr result
             (FailsPutting self.old self.new Replace (record_of key.now value.now)) }
-        ensures follows { Follows self.old.maker self.new.maker }
+        ensures follows { Follows self.old self.new }
         ensures counts { OnErr result (SameCounts self.old self.new) }
     {
         let taken = self.maker.find(hash, key)?;
@@ -139,7 +138,7 @@ impl<S: Store, L: Width> Batch<S, L> {
             (Puts self.old self.new mode (record_of key.now value.now)) }
         ensures fails { IfErr result
             (FailsPutting self.old self.new mode (record_of key.now value.now)) }
-        ensures follows { Follows self.old.maker self.new.maker }
+        ensures follows { Follows self.old self.new }
         ensures counts { OnErr result (SameCounts self.old self.new) }
     {
         match mode {
@@ -179,7 +178,7 @@ impl<S: Store, L: Width> Batch<S, L> {
             (Puts self.old self.new mode (record_of key.now value.now)) }
         ensures fails { IfErr result
             (FailsPutting self.old self.new mode (record_of key.now value.now)) }
-        ensures follows { Follows self.old.maker self.new.maker }
+        ensures follows { Follows self.old self.new }
         ensures counts { OnErr result (SameCounts self.old self.new) }
     {
         let hash = hash(key);

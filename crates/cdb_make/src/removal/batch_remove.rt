@@ -9,15 +9,14 @@ use cdb_form::{Width, hash};
 use cdb_store::Store;
 
 impl<S: Store, L: Width> Batch<S, L> {
-    ghost use Rattle.cdb_make.specs.Views.Batch.{Removes, FailsRemoving, SameCounts};
-    ghost use Rattle.cdb_make.specs.Views.Maker.{Follows};
+    ghost use Rattle.cdb_make.specs.Views.Batch.{Removes, FailsRemoving, Follows, SameCounts};
 
     /// Marks the records of a key, or makes a pass and removes them.
     fn remove_by(&mut self, hash: u32, key: &[u8]) -> Result<u64, MakeFault>
         requires hash { hash ≡ key_hash key.now }
         ensures removes { IfOk result (Removes self.old self.new key.now) }
         ensures fails { IfErr result (FailsRemoving self.old self.new key.now) }
-        ensures follows { Follows self.old.maker self.new.maker }
+        ensures follows { Follows self.old self.new }
         ensures counts { OnErr result (SameCounts self.old self.new) }
     {
         let taken = self.maker.find(hash, key)?;
@@ -41,7 +40,7 @@ impl<S: Store, L: Width> Batch<S, L> {
     pub fn remove(&mut self, key: &[u8]) -> Result<u64, MakeFault>
         ensures removes { IfOk result (Removes self.old self.new key.now) }
         ensures fails { IfErr result (FailsRemoving self.old self.new key.now) }
-        ensures follows { Follows self.old.maker self.new.maker }
+        ensures follows { Follows self.old self.new }
         ensures counts { OnErr result (SameCounts self.old self.new) }
     {
         let hash = hash(key);

@@ -105,9 +105,9 @@ impl<S: Store, L: Width> Maker<S, L> {
 
 impl<S: Store, L: Width> Batch<S, L> {
     ghost use Rattle.cdb_make.specs.Views.Batch.{Holds, Lies, Settles, FailsSettling, SameCounts};
-    ghost use Rattle.cdb_make.specs.Views.Batch.{FailsFinishing, pass_bytes};
-    ghost use Rattle.cdb_make.specs.Views.Maker.{Follows, IsFile, WhereHonest, ComesFrom};
-    ghost use Rattle.cdb_make.specs.Views.Maker.{HasNotFailed};
+    ghost use Rattle.cdb_make.specs.Views.Batch.{FailsFinishing, Follows, HasNotFailed, IsUsable};
+    ghost use Rattle.cdb_make.specs.Views.Batch.{pass_bytes, store_of};
+    ghost use Rattle.cdb_make.specs.Views.Maker.{IsFile, WhereHonest, ComesFrom};
 
     /// Closes the gaps of all marked records. Then its store has the others and no more.
     ///
@@ -117,9 +117,9 @@ impl<S: Store, L: Width> Batch<S, L> {
     pub fn settle(&mut self) -> Result<(), MakeFault>
         ensures settles { OnOk result (Settles self.old self.new) }
         ensures fails { IfErr result (FailsSettling self.old self.new) }
-        ensures follows { Follows self.old.maker self.new.maker }
+        ensures follows { Follows self.old self.new }
         ensures counts { SameCounts self.old self.new }
-        ensures fine { OnOk result (HasNotFailed self.old.maker self.new.maker) }
+        ensures fine { OnOk result (HasNotFailed self.old self.new) }
     {
         if self.maker.broken {
             return Err(MakeFault::Broken);
@@ -140,23 +140,23 @@ impl<S: Store, L: Width> Batch<S, L> {
     /// the store failed; amid the pass that breaks the batch, else it holds what it held. `Broken`: an
     /// earlier call broke it, or the store gave back other bytes than were written.
     pub fn finish(mut self) -> Result<S, Unsettled<S, L>>
-        ensures whole { IfOk result (λ _. self.maker.broken ≡ false) }
+        ensures whole { IfOk result (λ _. IsUsable self) }
         ensures file { (rs : List KeyValue) → Holds self rs
             → IfOk result (λ s. IsFile L.WORD rs (S.image s)) }
         ensures written { (all : List KeyValue) (marks : List Bool) → Lies self all marks
             → IfOk result (λ s. WhereHonest (S.image s)
-            (S.written s + records_end L.WORD (unmarked marks all) ≡ S.written self.maker.store
+            (S.written s + records_end L.WORD (unmarked marks all) ≡ S.written (store_of self)
             + (pass_bytes L.WORD marks all
             + (head_size L.WORD + file_size L.WORD (unmarked marks all))))) }
         ensures settled { IfOk result S.settled }
-        ensures comes { IfOk result (λ s. ComesFrom (S.image self.maker.store) (S.image s)) }
-        ensures failures { IfOk result (λ s. S.failures self.maker.store ≤ S.failures s) }
+        ensures comes { IfOk result (λ s. ComesFrom (S.image (store_of self)) (S.image s)) }
+        ensures failures { IfOk result (λ s. S.failures (store_of self) ≤ S.failures s) }
         ensures fails { IfErr result (λ u. FailsFinishing self u.batch u.fault) }
         ensures counts { IfErr result (λ u. SameCounts self u.batch) }
         ensures fails_comes { IfErr result (λ u.
-            ComesFrom (S.image self.maker.store) (S.image u.batch.maker.store)) }
+            ComesFrom (S.image (store_of self)) (S.image (store_of u.batch))) }
         ensures fails_failures { IfErr result (λ u.
-            S.failures self.maker.store ≤ S.failures u.batch.maker.store) }
+            S.failures (store_of self) ≤ S.failures (store_of u.batch)) }
     {
         if let Err(fault) = self.settle() {
             return Err(Unsettled { batch: self, fault });
