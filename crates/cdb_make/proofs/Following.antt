@@ -1,5 +1,5 @@
 -- One maker that comes of another.
-use Rattle.std.proofs.Common.{◌≡◌, ◌≤◌, ◌-◌, ℕ, List, ap, subst, ◌∙◌, arith}
+use Rattle.std.proofs.Common.{◌≡◌, ◌≤◌, ◌-◌, ℕ, List, refl, ap, subst, ◌∙◌, arith}
 use Rattle.cdb_store.specs.Images.{TornWithin}
 use Rattle.cdb_store.specs.Reads.{OnlyReads}
 use Rattle.cdb_store.specs.declared.store.Store.{Ghosts}
@@ -25,6 +25,10 @@ follows_read {l = l} old new fewer limit room failures unwritten = record {
   failures = failures;
   unwritten = unwritten;
 }
+
+-- itself
+pub follows_same : {S L : Type 0} {s : Ghosts S} {l : Widths L} (m : Maker S L s l) → Follows {s = s} {l = l} m m
+follows_same m = follows_read m m (λ b is. is) refl (omega arith) (omega arith) (omega arith)
 
 pub follows_then : {S L : Type 0} {s : Ghosts S} {l : Widths L} {a b c : Maker S L s l} → Follows {s = s} {l = l} a b → Follows {s = s} {l = l} b c → Follows {s = s} {l = l} a c
 follows_then f g = record {

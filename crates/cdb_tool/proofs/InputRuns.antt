@@ -1,13 +1,14 @@
 -- A run over the items of one input.
-use Rattle.std.proofs.Common.{◌≤◌, ◌≡◌, ◌≢◌, ℕ, ◌+◌, inl, inr, List, [], ◌∷◌, ◌++◌, length, refl, sym, ap, subst, ◌∙◌, Option, Some, None, IfSome, is_some, Bool, map, arith, length-append}
+use Rattle.std.proofs.Common.{◌≡◌, ◌≢◌, ℕ, ◌+◌, inl, inr, List, [], ◌∷◌, ◌++◌, length, refl, sym, ap, subst, ◌∙◌, Option, Some, None, IfSome, is_some, Bool, map, arith, length-append}
 use Rattle.cdb_store.specs.declared.store.Store.{Ghosts}
 use Rattle.cdb_form.specs.declared.width.Width.{Ghosts as Widths}
 use Rattle.cdb_form.specs.Text.Amending.{Change}
 use Rattle.cdb_form.specs.declared.text.fault.TextFault.{TextFault}
 use Rattle.cdb_form.specs.declared.text.fault.TextFault.TheVariants as fault
-use Rattle.cdb_make.specs.Views.Maker.{WhereHonest, ComesFrom}
+use Rattle.cdb_make.specs.Views.Batch.{Follows}
+use Rattle.cdb_make.specs.Views.Maker.{WhereHonest}
 use Rattle.cdb_make.specs.declared.batch.Batch.{Batch}
-use Rattle.cdb_make.proofs.Puts.{comes_then}
+use Rattle.cdb_make.proofs.Following.{follows_same, follows_then}
 use Rattle.cdb_tool.specs.Views.Fault.{text_fault}
 use Rattle.cdb_tool.specs.Views.ItemReader.{form_of, Fails}
 use Rattle.cdb_tool.specs.Runs.Course.{Task, Incoming, from_inputs, Goes, StopsSo}
@@ -160,8 +161,7 @@ pub record PutSoFar {J I S L : Type 0} {s : Ghosts S} {l : Widths L} (g : ℕ) (
     pub number : done ≡ length read
     pub all : done + length left ≡ length inputs.turns.items
     pub course : (t : Task) (start : Option (List ℕ)) → t.options ≡ o → InCourse t [] start before old → InCourse t (from_inputs 1 read) start now new
-    pub comes : ComesFrom (s.image old.maker.store) (s.image new.maker.store)
-    pub failures : s.failures old.maker.store ≤ s.failures new.maker.store
+    pub follows : Follows {s = s} {l = l} old new
 
 pub put_none : {J I S L : Type 0} {s : Ghosts S} {l : Widths L} (g : ℕ) (own : J → Option (List ℕ)) (shared : I → Option (List ℕ)) (o : MakeOptions) (form : InputForm) (inputs : Inputs J I) (left : List (Turn J)) (now : Option (List ℕ)) (m : Batch S L s l) → left ≡ inputs.turns.items
     → PutSoFar g own shared o form inputs left (Unread inputs.shared) 0 now now m m
@@ -171,8 +171,7 @@ put_none g own shared o form inputs left now m e = record {
   number = refl;
   all = omega (arith, ap length e);
   course = λ t start same h. h;
-  comes = record { each = λ b is. (b, is) };
-  failures = omega arith;
+  follows = follows_same m.maker;
 }
 
 -- what the items of an input come to, whatever was done before
@@ -182,15 +181,14 @@ PutsInput g o form number one was left before now old new = (last : List Change)
 pub put_next : {J I S L : Type 0} {s : Ghosts S} {l : Widths L} (g : ℕ) (own : J → Option (List ℕ)) (shared : I → Option (List ℕ)) (o : MakeOptions) (form : InputForm) (inputs : Inputs J I) (left rest : List (Turn J)) (turn : Turn J) (reader further : SharedInput I) (done : ℕ)
     (before mid now : Option (List ℕ)) (old between new : Batch S L s l) → PutSoFar g own shared o form inputs left reader done before mid old between → left ≡ turn ∷ rest
     → PutsInput g o form (done + 1) (one_of own turn) (shared_bytes shared reader) (shared_bytes shared further) mid now between new
-    → ComesFrom (s.image between.maker.store) (s.image new.maker.store) → s.failures between.maker.store ≤ s.failures new.maker.store → PutSoFar g own shared o form inputs rest further (done + 1) before now old new
-put_next g own shared o form inputs left rest turn reader further done before mid now old between new h e one comes failures = record {
+    → Follows {s = s} {l = l} between new → PutSoFar g own shared o form inputs rest further (done + 1) before now old new
+put_next g own shared o form inputs left rest turn reader further done before mid now old between new h e one follows = record {
   read = h.read ++ one.0 ∷ [];
   are = inputs_next form g h.read one.0 (inputs_left own shared inputs) (left_now own shared left reader) (left_now own shared rest further) h.are (record { one = one_of own turn; first = ap (map (one_of own)) e; reads = one.1 });
   number = sym (length-append h.read (one.0 ∷ []) ∙ ap (λ (n : ℕ). n + 1) (sym h.number));
   all = omega (arith, h.all, ap length e);
   course = λ t start with c. one.2 t h.read start with (ap (λ (n : ℕ). n + 1) h.number) (h.course t start with c);
-  comes = comes_then h.comes comes;
-  failures = omega (arith, h.failures, failures);
+  follows = follows_then h.follows follows;
 }
 
 -- the form of the inputs of a run

@@ -3,7 +3,8 @@ ghost use Rattle.std.specs.Prelude.{◌≡◌, ◌+◌, ◌<◌, ◌≤◌, ℕ,
 ghost use Rattle.std.specs.Prelude.{length, IfOk, IfErr, OnOk};
 ghost use Rattle.cdb_form.specs.Format.Pair.{head_size};
 ghost use Rattle.cdb_form.specs.Text.Amending.{Change};
-ghost use Rattle.cdb_make.specs.Views.Maker.{WhereHonest, ComesFrom};
+ghost use Rattle.cdb_make.specs.Views.Batch.{Follows, store_of};
+ghost use Rattle.cdb_make.specs.Views.Maker.{WhereHonest};
 ghost use Rattle.cdb_tool.specs.Runs.Course.{Task, from_inputs};
 ghost use Rattle.cdb_tool.specs.Runs.Inputs.{AreAllInputs, ReadsOne, bytes_of, input_form, own_inputs};
 ghost use Rattle.cdb_tool.specs.Runs.Make.{InCourse, Runs, InputFails, InputsFail, IsOfStore, IsOfBase};
@@ -44,7 +45,7 @@ fn put_turn<L: Width, S: Store, J: Read + Drop, I: Read + Drop, E: Write>(
     ensures fails { (t : Task) (read : List (List Change)) (start : Option (List ℕ))
         → t.options ≡ options.now → is_some t.base ≡ amends → number ≡ length read + 1
         → InCourse t (from_inputs 1 read) start (E.contents errors.old) maker.old
-        → IfErr result (λ f. WhereHonest (S.image maker.new.maker.store)
+        → IfErr result (λ f. WhereHonest (S.image (store_of maker.new))
         (InputFails L.WORD L.GREATEST t read
         (bytes_of (one_of J.remaining turn) (shared_bytes I.remaining shared))
         start (E.contents errors.new) f)) }
@@ -55,10 +56,9 @@ fn put_turn<L: Width, S: Store, J: Read + Drop, I: Read + Drop, E: Write>(
         → StandsIn (input_form options.now.style amends) L.GREATEST t read
         (bytes_of (one_of J.remaining turn) (shared_bytes I.remaining shared))
         start (E.contents errors.new) maker.new) }
-    ensures comes { ComesFrom (S.image maker.old.maker.store) (S.image maker.new.maker.store) }
-    ensures failures { S.failures maker.old.maker.store ≤ S.failures maker.new.maker.store }
+    ensures follows { Follows maker.old maker.new }
     ensures failed { IfErr result
-        (λ f. IsOfStore f → S.failures maker.old.maker.store < S.failures maker.new.maker.store) }
+        (λ f. IsOfStore f → S.failures (store_of maker.old) < S.failures (store_of maker.new)) }
     ensures own { IfErr result (λ f. IsOfBase f → ⊥) }
 {
     match turn {
@@ -102,17 +102,16 @@ pub fn put_inputs<L: Width, S: Store, J: Read + Drop, I: Read + Drop, E: Write>(
     ensures fails { (t : Task) (start : Option (List ℕ)) → t.options ≡ options.now
         → is_some t.base ≡ amends
         → InCourse t [] start (E.contents errors.old) maker.old
-        → IfErr result (λ f. WhereHonest (S.image maker.new.maker.store)
+        → IfErr result (λ f. WhereHonest (S.image (store_of maker.new))
         (InputsFail L.WORD L.GREATEST t (inputs_left J.remaining I.remaining inputs)
         start (E.contents errors.new) f)) }
     ensures stands { (t : Task) (start : Option (List ℕ)) → t.options ≡ options.now
         → InCourse t [] start (E.contents errors.old) maker.old
         → IfErr result (λ f. IsHalt f → Stands (input_form options.now.style amends) L.GREATEST t
         (inputs_left J.remaining I.remaining inputs) start (E.contents errors.new) maker.new) }
-    ensures comes { ComesFrom (S.image maker.old.maker.store) (S.image maker.new.maker.store) }
-    ensures failures { S.failures maker.old.maker.store ≤ S.failures maker.new.maker.store }
+    ensures follows { Follows maker.old maker.new }
     ensures failed { IfErr result
-        (λ f. IsOfStore f → S.failures maker.old.maker.store < S.failures maker.new.maker.store) }
+        (λ f. IsOfStore f → S.failures (store_of maker.old) < S.failures (store_of maker.new)) }
     ensures own { IfErr result (λ f. IsOfBase f → ⊥) }
 {
     let Inputs { turns, shared } = inputs;
@@ -127,6 +126,14 @@ pub fn put_inputs<L: Width, S: Store, J: Read + Drop, I: Read + Drop, E: Write>(
     Ok(())
 }
 
+/// What a run hands back, and its answer.
+#[derive(Drop)]
+struct Made<S, B> {
+    store: S,
+    base: Option<B>,
+    answer: Result<(), Fault>,
+}
+
 /// Makes the database, whose lines the writer may keep in a buffer.
 fn make_unflushed<L: Width, S: Store, B: Store, J: Read + Drop, I: Read + Drop, E: Write>(
     alloc: Global,
@@ -135,39 +142,57 @@ fn make_unflushed<L: Width, S: Store, B: Store, J: Read + Drop, I: Read + Drop, 
     inputs: Inputs<J, I>,
     options: &MakeOptions,
     errors: &mut E,
-) -> (S, Option<B>, Result<(), Fault>)
+) -> Made<S, B>
     requires head { head_size L.WORD ≤ options.now.limit }
     requires words { options.now.limit ≤ L.GREATEST }
-    ensures runs { WhereHonest (S.image result.0) (OfBase B.Store result.1 (λ base.
+    ensures runs { WhereHonest (S.image result.store) (OfBase B.Store result.base (λ base.
         Runs L.WORD L.GREATEST options.now base (inputs_left J.remaining I.remaining inputs)
-        (S.image result.0) (E.contents errors.old) (E.contents errors.new) result.2)) }
-    ensures hands { HandsBack B.Store base result.1 }
-    ensures settled { OnOk result.2 (S.settled result.0) }
-    ensures failed { IfErr result.2
-        (λ f. IsOfStore f → S.failures store < S.failures result.0) }
-    ensures base_failed { IfErr result.2 (λ f. IsOfBase f → HasFailed B.Store base result.1) }
+        (S.image result.store) (E.contents errors.old) (E.contents errors.new) result.answer)) }
+    ensures hands { HandsBack B.Store base result.base }
+    ensures settled { OnOk result.answer (S.settled result.store) }
+    ensures failed { IfErr result.answer
+        (λ f. IsOfStore f → S.failures store < S.failures result.store) }
+    ensures base_failed { IfErr result.answer (λ f. IsOfBase f → HasFailed B.Store base result.base) }
 {
     let mut maker = match Maker::<S, L>::new(alloc, store, options.limit) {
         Ok(maker) => maker,
-        Err(refused) => return (refused.store, base, Err(Fault::from(refused.fault))),
+        Err(refused) => {
+            return Made {
+                store: refused.store,
+                base,
+                answer: Err(Fault::from(refused.fault)),
+            };
+        }
     };
     let amends = base.is_some();
     let (base, added) = add_base(alloc, &mut maker, base);
     if let Err(fault) = added {
-        return (maker.into_store(), base, Err(fault));
+        return Made {
+            store: maker.into_store(),
+            base,
+            answer: Err(fault),
+        };
     }
     let mut batch = Batch::over(alloc, maker);
     let put = put_inputs::<L, S, J, I, E>(alloc, &mut batch, options, amends, inputs, errors);
     if let Err(fault) = put {
-        return (batch.into_store(), base, Err(fault));
+        return Made {
+            store: batch.into_store(),
+            base,
+            answer: Err(fault),
+        };
     }
     match batch.finish() {
-        Ok(store) => (store, base, Ok(())),
-        Err(unfinished) => (
-            unfinished.batch.into_store(),
+        Ok(store) => Made {
+            store,
             base,
-            Err(Fault::from(unfinished.fault)),
-        ),
+            answer: Ok(()),
+        },
+        Err(unfinished) => Made {
+            store: unfinished.batch.into_store(),
+            base,
+            answer: Err(Fault::from(unfinished.fault)),
+        },
     }
 }
 
@@ -252,9 +277,7 @@ pub fn make_run_from<L: Width, S: Store, B: Store, J: Read + Drop, I: Read + Dro
         (λ f. IsOfStore f → S.failures store < S.failures result.0) }
     ensures base_failed { IfErr result.2 (λ f. IsOfBase f → HasFailed B.Store base result.1) }
 {
-    let (store, base, made) = make_unflushed::<L, S, B, J, I, E>(
-        alloc, store, base, inputs, &options, errors,
-    );
-    let answer = flushed(errors, made);
-    (store, base, answer)
+    let made = make_unflushed::<L, S, B, J, I, E>(alloc, store, base, inputs, &options, errors);
+    let answer = flushed(errors, made.answer);
+    (made.store, made.base, answer)
 }

@@ -3,7 +3,7 @@ ghost use Rattle.std.specs.Prelude.{◌≡◌, ◌<◌, ◌≤◌, ℕ, List, []
 ghost use Rattle.cdb_store.specs.Reads.{OnlyReads};
 ghost use Rattle.cdb_form.specs.Format.Record.{KeyValue};
 ghost use Rattle.cdb_form.specs.Format.Walk.{with_records};
-ghost use Rattle.cdb_make.specs.Views.Maker.{Holds, WhereHonest, ComesFrom, limit_of};
+ghost use Rattle.cdb_make.specs.Views.Maker.{Follows, Holds, WhereHonest, limit_of, store_of};
 ghost use Rattle.cdb_read.specs.Views.Walk.{left_of, bytes_left};
 ghost use Rattle.cdb_tool.specs.Runs.Base.{AddsNext, NotAdded};
 ghost use Rattle.cdb_tool.specs.Runs.Make.{BaseFails, HandsBack, HasFailed, IsOfStore};
@@ -56,14 +56,12 @@ fn add_next<L: Width, S: Store, B: Store>(
         maker.old maker.new more) }
     ensures fewer { IfOk result (λ more. more ≡ true → bytes_left records.new < bytes_left records.old) }
     ensures fails { IfErr result (λ f. (rs : List KeyValue) → Holds maker.old rs → (b : List ℕ)
-        → B.image records.new.reader.now.store b → WhereHonest (S.image maker.new.store)
+        → B.image records.new.reader.now.store b → WhereHonest (S.image (store_of maker.new))
         (NotAdded L.WORD (limit_of maker.old)
         (with_records rs (left_of L.WORD b records.old)) f)) }
-    ensures comes { ComesFrom (S.image maker.old.store) (S.image maker.new.store) }
-    ensures limit { limit_of maker.new ≡ limit_of maker.old }
-    ensures failures { S.failures maker.old.store ≤ S.failures maker.new.store }
+    ensures follows { Follows maker.old maker.new }
     ensures failed { IfErr result
-        (λ f. IsOfStore f → S.failures maker.old.store < S.failures maker.new.store) }
+        (λ f. IsOfStore f → S.failures (store_of maker.old) < S.failures (store_of maker.new)) }
     ensures base_failed { IfErr result (λ f. IsOfBase f
         → B.failures records.old.reader.now.store < B.failures records.new.reader.now.store) }
 {
@@ -92,13 +90,11 @@ fn add_records<L: Width, S: Store, B: Store>(
     ensures ok { Holds maker.old [] → OnOk result
         (AddsBase L.WORD (B.image reader.new.store) maker.new) }
     ensures fails { Holds maker.old [] → IfErr result (λ f. (b : List ℕ)
-        → B.image reader.new.store b → WhereHonest (S.image maker.new.store)
+        → B.image reader.new.store b → WhereHonest (S.image (store_of maker.new))
         (BaseFails L.WORD (limit_of maker.old) b f)) }
-    ensures comes { ComesFrom (S.image maker.old.store) (S.image maker.new.store) }
-    ensures limit { limit_of maker.new ≡ limit_of maker.old }
-    ensures failures { S.failures maker.old.store ≤ S.failures maker.new.store }
+    ensures follows { Follows maker.old maker.new }
     ensures failed { IfErr result
-        (λ f. IsOfStore f → S.failures maker.old.store < S.failures maker.new.store) }
+        (λ f. IsOfStore f → S.failures (store_of maker.old) < S.failures (store_of maker.new)) }
     ensures base_failed { IfErr result
         (λ f. IsOfBase f → B.failures reader.old.store < B.failures reader.new.store) }
 {
@@ -118,12 +114,10 @@ pub(crate) fn add_base<L: Width, S: Store, B: Store>(
     ensures ok { Holds maker.old [] → OnOk result.1
         (HoldsBase L.WORD B.Store result.0 maker.new) }
     ensures fails { Holds maker.old [] → IfErr result.1 (λ f.
-        BaseStopped L.WORD (limit_of maker.old) B.Store result.0 (S.image maker.new.store) f) }
-    ensures comes { ComesFrom (S.image maker.old.store) (S.image maker.new.store) }
-    ensures limit { limit_of maker.new ≡ limit_of maker.old }
-    ensures failures { S.failures maker.old.store ≤ S.failures maker.new.store }
+        BaseStopped L.WORD (limit_of maker.old) B.Store result.0 (S.image (store_of maker.new)) f) }
+    ensures follows { Follows maker.old maker.new }
     ensures failed { IfErr result.1
-        (λ f. IsOfStore f → S.failures maker.old.store < S.failures maker.new.store) }
+        (λ f. IsOfStore f → S.failures (store_of maker.old) < S.failures (store_of maker.new)) }
     ensures base_failed { IfErr result.1 (λ f. IsOfBase f → HasFailed B.Store base result.0) }
 {
     let Some(base) = base else {

@@ -6,7 +6,8 @@ ghost use Rattle.cdb_form.specs.Format.Record.{KeyValue};
 ghost use Rattle.cdb_form.specs.Text.Amending.{Change, Putting, Removing};
 ghost use Rattle.cdb_form.specs.Views.KnownBytes.{FromTo};
 ghost use Rattle.cdb_form.specs.Views.Pairs.{change_in};
-ghost use Rattle.cdb_make.specs.Views.Maker.{WhereHonest, ComesFrom};
+ghost use Rattle.cdb_make.specs.Views.Batch.{Follows, store_of};
+ghost use Rattle.cdb_make.specs.Views.Maker.{WhereHonest};
 ghost use Rattle.cdb_tool.specs.Views.ItemReader.{form_of, unread, IsNew};
 ghost use Rattle.cdb_tool.specs.Runs.Course.{Incoming, from_inputs, mode_of, meets_key, said};
 ghost use Rattle.cdb_tool.specs.Runs.Course.{Task, ends, TellFails};
@@ -99,7 +100,7 @@ fn put_record<L: Width, S: Store, E: Write>(
     ensures fails { (t : Task) (cs : List Incoming) (start : Option (List ℕ))
         → t.options ≡ options.now
         → InCourse t cs start (E.contents errors.old) maker.old
-        → IfErr result (λ f. WhereHonest (S.image maker.new.maker.store) (PutStops L.WORD t cs
+        → IfErr result (λ f. WhereHonest (S.image (store_of maker.new)) (PutStops L.WORD t cs
         (record { input = input; number = number; it = Putting (record { key = key.now; value = value.now }) })
         start (E.contents errors.new) f)) }
     ensures stands { (t : Task) (cs : List Incoming) (start : Option (List ℕ))
@@ -110,13 +111,12 @@ fn put_record<L: Width, S: Store, E: Write>(
     ensures takes { (t : Task) (cs : List Incoming) (start : Option (List ℕ))
         → t.options ≡ options.now
         → InCourse t cs start (E.contents errors.old) maker.old
-        → IfErr result (λ f. f ≡ NoMemory → WhereHonest (S.image maker.new.maker.store)
+        → IfErr result (λ f. f ≡ NoMemory → WhereHonest (S.image (store_of maker.new))
         (TakesNext L.WORD t cs
         (record { input = input; number = number; it = Putting (record { key = key.now; value = value.now }) }))) }
-    ensures comes { ComesFrom (S.image maker.old.maker.store) (S.image maker.new.maker.store) }
-    ensures failures { S.failures maker.old.maker.store ≤ S.failures maker.new.maker.store }
+    ensures follows { Follows maker.old maker.new }
     ensures failed { IfErr result
-        (λ f. IsOfStore f → S.failures maker.old.maker.store < S.failures maker.new.maker.store) }
+        (λ f. IsOfStore f → S.failures (store_of maker.old) < S.failures (store_of maker.new)) }
     ensures own { IfErr result (λ f. IsOfBase f → ⊥) }
 {
     let put = maker.put(put_mode(options), key, value)?;
@@ -132,15 +132,14 @@ fn remove_key<L: Width, S: Store>(maker: &mut Batch<S, L>, key: &[u8]) -> Result
         start now maker.new) }
     ensures fails { (t : Task) (cs : List Incoming) (start now : Option (List ℕ))
         → InCourse t cs start now maker.old
-        → IfErr result (λ f. WhereHonest (S.image maker.new.maker.store)
+        → IfErr result (λ f. WhereHonest (S.image (store_of maker.new))
         (StopsSo L.WORD t cs start now f)) }
     ensures stands { (t : Task) (cs : List Incoming) (start now : Option (List ℕ))
         → InCourse t cs start now maker.old
         → IfErr result (λ f. IsHalt f → StandsAt t cs start now maker.new) }
-    ensures comes { ComesFrom (S.image maker.old.maker.store) (S.image maker.new.maker.store) }
-    ensures failures { S.failures maker.old.maker.store ≤ S.failures maker.new.maker.store }
+    ensures follows { Follows maker.old maker.new }
     ensures failed { IfErr result
-        (λ f. IsOfStore f → S.failures maker.old.maker.store < S.failures maker.new.maker.store) }
+        (λ f. IsOfStore f → S.failures (store_of maker.old) < S.failures (store_of maker.new)) }
     ensures own { IfErr result (λ f. IsOfBase f → ⊥) }
 {
     maker.remove(key)?;
@@ -167,7 +166,7 @@ fn do_item<L: Width, S: Store, E: Write>(
     ensures fails { (t : Task) (cs : List Incoming) (start : Option (List ℕ))
         → t.options ≡ options.now
         → InCourse t cs start (E.contents errors.old) maker.old
-        → IfErr result (λ f. WhereHonest (S.image maker.new.maker.store) (PutStops L.WORD t cs
+        → IfErr result (λ f. WhereHonest (S.image (store_of maker.new)) (PutStops L.WORD t cs
         (record { input = input; number = number; it = change_in kind item.now })
         start (E.contents errors.new) f)) }
     ensures stands { (t : Task) (cs : List Incoming) (start : Option (List ℕ))
@@ -175,10 +174,9 @@ fn do_item<L: Width, S: Store, E: Write>(
         → InCourse t cs start (E.contents errors.old) maker.old
         → IfErr result (λ f. IsHalt f
         → StandsAt t cs start (E.contents errors.new) maker.new) }
-    ensures comes { ComesFrom (S.image maker.old.maker.store) (S.image maker.new.maker.store) }
-    ensures failures { S.failures maker.old.maker.store ≤ S.failures maker.new.maker.store }
+    ensures follows { Follows maker.old maker.new }
     ensures failed { IfErr result
-        (λ f. IsOfStore f → S.failures maker.old.maker.store < S.failures maker.new.maker.store) }
+        (λ f. IsOfStore f → S.failures (store_of maker.old) < S.failures (store_of maker.new)) }
     ensures own { IfErr result (λ f. IsOfBase f → ⊥) }
 {
     match kind {
@@ -215,7 +213,7 @@ pub(crate) fn put_input<L: Width, S: Store, R: Read + Drop, E: Write, A: AtHand<
         → t.options ≡ options.now → task_form t ≡ form_of items
         → input ≡ length read + 1
         → InCourse t (from_inputs 1 read) start (E.contents errors.old) maker.old
-        → IfErr result (λ f. WhereHonest (S.image maker.new.maker.store)
+        → IfErr result (λ f. WhereHonest (S.image (store_of maker.new))
         (InputFails L.WORD L.GREATEST t read (unread R.remaining items)
         start (E.contents errors.new) f)) }
     ensures stands { (t : Task) (read : List (List Change)) (start : Option (List ℕ))
@@ -223,10 +221,9 @@ pub(crate) fn put_input<L: Width, S: Store, R: Read + Drop, E: Write, A: AtHand<
         → InCourse t (from_inputs 1 read) start (E.contents errors.old) maker.old
         → IfErr result (λ f. IsHalt f → StandsIn (form_of items) L.GREATEST t read
         (unread R.remaining items) start (E.contents errors.new) maker.new) }
-    ensures comes { ComesFrom (S.image maker.old.maker.store) (S.image maker.new.maker.store) }
-    ensures failures { S.failures maker.old.maker.store ≤ S.failures maker.new.maker.store }
+    ensures follows { Follows maker.old maker.new }
     ensures failed { IfErr result
-        (λ f. IsOfStore f → S.failures maker.old.maker.store < S.failures maker.new.maker.store) }
+        (λ f. IsOfStore f → S.failures (store_of maker.old) < S.failures (store_of maker.new)) }
     ensures own { IfErr result (λ f. IsOfBase f → ⊥) }
 {
     let mut item = Record {

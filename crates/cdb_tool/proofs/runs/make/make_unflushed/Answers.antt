@@ -23,7 +23,7 @@ returns-in-Err-put-clause-runs g c =
     let over : IsOver {s = g.S.Store} {l = g.L.Width} c.add_base-base.new.maker c.over-batch.result = record { same = c.over-batch.ensures.maker; holds = c.over-batch.ensures.holds; limit = c.over-batch.ensures.limit } in
     rw c.into_store-in-Err-put.ensures
     (runs_stopped {s = g.S.Store} {l = g.L.Width} g.B.Store base g.L.Width.GREATEST c.args.options.now c.is_some-amends.result _ (g.E.Write.contents c.args.errors.now) _ c.add_base-base.new.maker c.over-batch.result _ c.in-Err-put.fault
-    holds (add.limit ∙ c.in-Ok.ensures.limit) over some c.put_inputs-put.ensures.comes
+    holds (add.follows.limit ∙ c.in-Ok.ensures.limit) over some c.put_inputs-put.ensures.follows.comes
     (λ k same based begins. c.in-Err-put.ensures.fails k _ same based begins))
 
 pub returns-in-Ok-finish-clause-runs : goal.returns-in-Ok-finish-clause-runs
@@ -36,7 +36,7 @@ returns-in-Ok-finish-clause-runs g c =
     let are = subst (λ (v : Bool). AreAllInputs (input_form c.args.options.now.style v) g.L.Width.GREATEST put.0 (inputs_left g.J.Read.remaining g.I.Read.remaining c.args.inputs)) (sym some) put.1 in
     let over : IsOver {s = g.S.Store} {l = g.L.Width} c.add_base-base.new.maker c.over-batch.result = record { same = c.over-batch.ensures.maker; holds = c.over-batch.ensures.holds; limit = c.over-batch.ensures.limit } in
     runs_whole {s = g.S.Store} {l = g.L.Width} g.B.Store base g.L.Width.GREATEST c.args.options.now _ put.0 (g.E.Write.contents c.args.errors.now) _ c.add_base-base.new.maker c.over-batch.result c.put_inputs-put.new.maker _
-    holds (add.limit ∙ c.in-Ok.ensures.limit) over are (λ k same begins. put.2 k _ same begins) c.put_inputs-put.ensures.comes c.in-Ok-finish.ensures.comes c.in-Ok-finish.ensures.file
+    holds (add.follows.limit ∙ c.in-Ok.ensures.limit) over are (λ k same begins. put.2 k _ same begins) c.put_inputs-put.ensures.follows.comes c.in-Ok-finish.ensures.comes c.in-Ok-finish.ensures.file
 
 pub returns-in-Err-finish-clause-runs : goal.returns-in-Err-finish-clause-runs
 returns-in-Err-finish-clause-runs g c =
@@ -50,7 +50,7 @@ returns-in-Err-finish-clause-runs g c =
     let over : IsOver {s = g.S.Store} {l = g.L.Width} c.add_base-base.new.maker c.over-batch.result = record { same = c.over-batch.ensures.maker; holds = c.over-batch.ensures.holds; limit = c.over-batch.ensures.limit } in
     rw (c.from-in-Err-finish.ensures, c.into_store-in-Err-finish.ensures)
     (runs_unfinished {s = g.S.Store} {l = g.L.Width} g.B.Store base g.L.Width.GREATEST c.args.options.now _ put.0 (g.E.Write.contents c.args.errors.now) _ c.add_base-base.new.maker c.over-batch.result c.put_inputs-put.new.maker c.in-Err-finish.unfinished.batch c.in-Err-finish.unfinished.fault
-    holds (add.limit ∙ c.in-Ok.ensures.limit) over are (λ k same begins. put.2 k _ same begins) c.put_inputs-put.ensures.comes e.fails_comes e.fails)
+    holds (add.follows.limit ∙ c.in-Ok.ensures.limit) over are (λ k same begins. put.2 k _ same begins) c.put_inputs-put.ensures.follows.comes e.fails_comes e.fails)
 
 pub returns-in-Err-finish-clause-base_failed : goal.returns-in-Err-finish-clause-base_failed
 returns-in-Err-finish-clause-base_failed g c = rw c.from-in-Err-finish.ensures (λ is. absurd (make_no_base c.in-Err-finish.unfinished.fault is))

@@ -1,5 +1,6 @@
 use Rattle.std.proofs.Common.{ap, ◌+◌, ℕ}
 use Rattle.std.proofs.lemmas.Result.{err_from_is_err_and}
+use Rattle.cdb_make.proofs.Following.{follows_then}
 use Rattle.cdb_tool.proofs.InputRuns.{put_none, put_next, inputs_fail, next_has, halted}
 use Rattle.cdb_tool.proofs.runs.make.put_inputs.Goals as goal
 
@@ -12,7 +13,7 @@ loop-turn-preserved g c =
     record {
       next = tt;
       finite = tt;
-      put = put_next {s = g.S.Store} {l = g.L.Width} _ g.J.Read.remaining g.I.Read.remaining _ _ _ _ _ _ _ _ _ _ _ _ _ _ _ c.loop-turn.invariant.put c.in-Some.ensures.steps.0 c.in_ok-shared.ensures.ok e.comes e.failures;
+      put = put_next {s = g.S.Store} {l = g.L.Width} _ g.J.Read.remaining g.I.Read.remaining _ _ _ _ _ _ _ _ _ _ _ _ _ _ _ c.loop-turn.invariant.put c.in-Some.ensures.steps.0 c.in_ok-shared.ensures.ok e.follows;
     }
 
 pub returns-in_err-shared-clause-fails : goal.returns-in_err-shared-clause-fails
@@ -30,3 +31,6 @@ returns-in_err-shared-clause-stands g c = λ t start same h.
     let stands = c.in_err-shared.ensures.stands t put.read start same (ap (λ (n : ℕ). n + 1) put.number) (put.course t start same h) in
     rw (p.1, p.2)
     (λ halt. halted {s = g.S.Store} {k = g.L.Width} _ _ t put.read _ _ _ start _ c.put_turn.new.maker put.are (next_has g.J.Read.remaining g.I.Read.remaining _ _ c.in-Some.turn c.loop-turn.shared c.in-Some.ensures.steps.0) (stands halt))
+
+pub returns-in_err-shared-clause-follows : goal.returns-in_err-shared-clause-follows
+returns-in_err-shared-clause-follows g c = follows_then c.loop-turn.invariant.put.follows c.put_turn.ensures.follows

@@ -1,7 +1,7 @@
-use Rattle.std.proofs.Common.{refl, ap, ◌∙◌, arith, rules}
+use Rattle.std.proofs.Common.{refl, ap, ◌∙◌, rules}
 use Rattle.std.proofs.lemmas.Result.{err_from_is_err_and}
 use Rattle.cdb_store.proofs.Reading.{reads_more, reads_nothing}
-use Rattle.cdb_make.proofs.Puts.{comes_then}
+use Rattle.cdb_make.proofs.Following.{follows_same, follows_then}
 use Rattle.cdb_read.specs.Views.Walk.{left_of}
 use Rattle.cdb_tool.proofs.BaseRecords.{added_none, added_next, added_all, added_not}
 use Rattle.cdb_tool.proofs.runs.make_base.add_records.Goals as goal
@@ -13,9 +13,7 @@ loop-room-init g c =
       same = refl;
       reads = reads_nothing {s = g.B.Store} _ _ (ap (λ r. r.store) e.reader);
       added = rw e.reader (added_none {s = g.S.Store} {l = g.L.Width} _ _ _ c.args.maker.now e.walks);
-      comes = record { each = λ b is. (b, is) };
-      limit = refl;
-      failures = omega arith;
+      follows = follows_same {s = g.S.Store} {l = g.L.Width} c.args.maker.now;
     }
 
 pub loop-room-preserved : goal.loop-room-preserved
@@ -26,16 +24,14 @@ loop-room-preserved g c =
       same = step.same_reader ∙ inv.same;
       reads = reads_more inv.reads step.reads;
       added = added_next {s = g.S.Store} {l = g.L.Width} _ _ _ _ (λ b. left_of g.L.Width.WORD b c.add_next.new.records) _ _ c.add_next.new.maker _ inv.added (λ b i. step.reads.images b i) c.in_ok-add_next.ensures.ok;
-      comes = comes_then inv.comes step.comes;
-      limit = step.limit ∙ inv.limit;
-      failures = omega (arith, inv.failures, step.failures);
+      follows = follows_then inv.follows step.follows;
     }
 
 pub returns-in_err-add_next-clause-fails : goal.returns-in_err-add_next-clause-fails
 returns-in_err-add_next-clause-fails g c = λ none.
     let p = err_from_is_err_and c.from_residual-in_err-add_next.result c.from_residual-in_err-add_next.ensures.1 in
     let inv = c.loop-room.invariant in
-    rw (p.1, p.2) (λ b i. added_not {s = g.S.Store} {l = g.L.Width} _ (g.B.Store.image c.add_next.new.records.reader.now.store) (λ b. left_of g.L.Width.WORD b c.loop-room.records) c.args.maker.now c.loop-room.maker c.add_next.new.maker _ inv.added (λ b i. c.add_next.ensures.reads.images b i) c.in_err-add_next.ensures.fails inv.limit none b (search rules))
+    rw (p.1, p.2) (λ b i. added_not {s = g.S.Store} {l = g.L.Width} _ (g.B.Store.image c.add_next.new.records.reader.now.store) (λ b. left_of g.L.Width.WORD b c.loop-room.records) c.args.maker.now c.loop-room.maker c.add_next.new.maker _ inv.added (λ b i. c.add_next.ensures.reads.images b i) c.in_err-add_next.ensures.fails inv.follows.limit none b (search rules))
 
 pub returns-clause-ok : goal.returns-clause-ok
 returns-clause-ok g c = λ none.
@@ -44,3 +40,9 @@ returns-clause-ok g c = λ none.
     let all = added_all {s = g.S.Store} {l = g.L.Width} _ (g.B.Store.image c.add_next.new.records.reader.now.store) (λ b. left_of g.L.Width.WORD b c.add_next.new.records) _ c.add_next.new.maker
     (added_next {s = g.S.Store} {l = g.L.Width} _ _ _ _ (λ b. left_of g.L.Width.WORD b c.add_next.new.records) _ _ c.add_next.new.maker _ inv.added (λ b i. c.add_next.ensures.reads.images b i) step) (step.ended (search rules)) none in
     search (all, rules)
+
+pub returns-in_err-add_next-clause-follows : goal.returns-in_err-add_next-clause-follows
+returns-in_err-add_next-clause-follows g c = follows_then c.loop-room.invariant.follows c.add_next.ensures.follows
+
+pub returns-clause-follows : goal.returns-clause-follows
+returns-clause-follows g c = follows_then c.loop-room.invariant.follows c.add_next.ensures.follows

@@ -1,6 +1,6 @@
-use Rattle.std.proofs.Common.{◌≡◌, ◌≤◌}
+use Rattle.std.proofs.Common.{◌≡◌}
 use Rattle.cdb_store.specs.Reads.{OnlyReads}
-use Rattle.cdb_make.specs.Views.Maker.{ComesFrom, limit_of}
+use Rattle.cdb_make.specs.Views.Maker.{Follows}
 use Rattle.cdb_read.specs.Views.Walk.{left_of, bytes_left}
 use Rattle.cdb_tool.proofs.BaseRecords.{AddedSoFar}
 use Rattle.cdb_tool.proofs.runs.make_base.add_records.Given as goal
@@ -12,9 +12,7 @@ invariant-loop-room g l =
       same : l.records.reader.ghost_name ≡ l.initial.records.reader.ghost_name;
       reads : OnlyReads g.B.Store l.fn.reader.store l.records.reader.now.store;
       added : AddedSoFar {s = g.S.Store} {l = g.L.Width} g.L.Width.WORD (g.B.Store.image l.records.reader.now.store) (λ b. left_of g.L.Width.WORD b l.records) l.fn.maker l.maker;
-      comes : ComesFrom (g.S.Store.image l.fn.maker.store) (g.S.Store.image l.maker.store);
-      limit : limit_of l.maker ≡ limit_of l.fn.maker;
-      failures : g.S.Store.failures l.fn.maker.store ≤ g.S.Store.failures l.maker.store;
+      follows : Follows {s = g.S.Store} {l = g.L.Width} l.fn.maker l.maker;
     }
 
 abbrev pub decreases-loop-room : goal.decreases-loop-room

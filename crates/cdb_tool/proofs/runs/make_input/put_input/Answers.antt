@@ -5,7 +5,7 @@ use Rattle.cdb_form.specs.Text.Amending.{Change, Putting}
 use Rattle.cdb_form.specs.Views.Prefix.{shown_by}
 use Rattle.cdb_form.specs.Views.KnownBytes.{FromTo}
 use Rattle.cdb_form.specs.Views.Pairs.{change_in}
-use Rattle.cdb_make.proofs.Puts.{comes_then}
+use Rattle.cdb_make.proofs.Following.{follows_same, follows_then}
 use Rattle.cdb_tool.specs.Runs.Inputs.{IsInputOf}
 use Rattle.cdb_tool.specs.Runs.Make.{InCourse, form_of as task_form}
 use Rattle.cdb_tool.specs.Views.ItemReader.{form_of, unread}
@@ -23,8 +23,7 @@ loop-peeked-init g c = record {
   number = refl;
   asks = omega (arith, c.requires.fresh.asks);
   course = λ t read start o n h. none_put {s = g.S.Store} {l = g.L.Width} t read start _ _ h;
-  comes = record { each = λ b is. (b, is) };
-  failures = omega arith;
+  follows = follows_same {s = g.S.Store} {l = g.L.Width} c.args.maker.now.maker;
 }
 
 pub returns-in-Err-clause-fails : goal.returns-in-Err-clause-fails
@@ -65,8 +64,7 @@ loop-peeked-preserved g c =
           subst (λ cs. InCourse {s = g.S.Store} {l = g.L.Width} t cs start (g.E.Write.contents c.do_item.new.errors) c.do_item.new.maker)
           (sym (came_more c.args.input (c.loop-peeked.number + 1) read inv.last item n (ap (λ (n : ℕ). n + 1) inv.number)))
           (c.in_ok-do_item.ensures.ok t _ start o (inv.course t read start o n h));
-      comes = comes_then inv.comes c.do_item.ensures.comes;
-      failures = omega (arith, inv.failures, c.do_item.ensures.failures);
+      follows = follows_then inv.follows c.do_item.ensures.follows;
     }
 
 pub loop-peeked-preserved-in-Continue-1 : goal.loop-peeked-preserved-in-Continue-1
@@ -88,8 +86,7 @@ loop-peeked-preserved-in-Continue-1 g c =
           subst (λ cs. InCourse {s = g.S.Store} {l = g.L.Width} t cs start (g.E.Write.contents c.put_record-put.new.errors) c.put_record-put.new.maker)
           (sym (came_more c.args.input (c.loop-peeked.number + 1) read inv.last item n (ap (λ (n : ℕ). n + 1) inv.number)))
           (c.in_ok-put.ensures.ok t _ start o (inv.course t read start o n h));
-      comes = comes_then inv.comes c.put_record-put.ensures.comes;
-      failures = omega (arith, inv.failures, c.put_record-put.ensures.failures);
+      follows = follows_then inv.follows c.put_record-put.ensures.follows;
     }
 
 pub returns-in_err-do_item-clause-fails : goal.returns-in_err-do_item-clause-fails
@@ -168,20 +165,14 @@ returns-in_err-put-clause-stands g c = λ t read start o n h.
     rw (p.1, p.2)
     (λ halt. halted_here {s = g.S.Store} {k = g.L.Width} _ _ greatest t read input inv.last start _ c.put_record-put.new.maker inv.form (items_first greatest remaining input c.loop-peeked.items inv.last inv.gave) (stands halt))
 
-pub returns-in_err-do_item-clause-comes : goal.returns-in_err-do_item-clause-comes
-returns-in_err-do_item-clause-comes g c = grind (arith, common_steps)
-
-pub returns-in_err-do_item-clause-failures : goal.returns-in_err-do_item-clause-failures
-returns-in_err-do_item-clause-failures g c = grind (arith, common_steps)
-
-pub returns-in-Err-clause-comes : goal.returns-in-Err-clause-comes
-returns-in-Err-clause-comes g c = grind (arith, common_steps)
-
 pub returns-in-Ok-None-clause-fails : goal.returns-in-Ok-None-clause-fails
 returns-in-Ok-None-clause-fails g c = grind (arith, common_steps)
 
 pub returns-in_err-do_item-clause-own : goal.returns-in_err-do_item-clause-own
 returns-in_err-do_item-clause-own g c = grind (arith, common_steps)
 
-pub returns-in-Ok-None-clause-comes : goal.returns-in-Ok-None-clause-comes
-returns-in-Ok-None-clause-comes g c = grind (arith, common_steps)
+pub returns-in_err-do_item-clause-follows : goal.returns-in_err-do_item-clause-follows
+returns-in_err-do_item-clause-follows g c = follows_then c.loop-peeked.invariant.follows c.do_item.ensures.follows
+
+pub returns-in_err-put-clause-follows : goal.returns-in_err-put-clause-follows
+returns-in_err-put-clause-follows g c = follows_then c.loop-peeked.invariant.follows c.put_record-put.ensures.follows
