@@ -4,8 +4,9 @@ use Rattle.std.proofs.lemmas.List.{map_push, take_more, take-append-drop, map-ap
 use Rattle.std.specs.Prelude.{OnOk}
 use Rattle.cdb_files.specs.Folder.{NameCalls}
 use Rattle.cdb_tool.specs.declared.inputs.Turn.{Turn}
-use Rattle.cdb.specs.Creating.{AsksEach, AsksOne}
-use Rattle.cdb.specs.Inputs.{OpensInput, OpensEach, StopsOpening, MissesInput}
+use Rattle.cdb_files.specs.declared.name_trace.NameCall.TheVariants as name_call
+use Rattle.cdb.specs.Creating.{AsksEach, AsksOne, FindsInput}
+use Rattle.cdb.specs.Inputs.{IsStandard, OpensInput, OpensEach, StopsOpening, MissesInput}
 use Rattle.cdb.specs.Opening.{OpenCalls}
 use Rattle.cdb.specs.declared.system.System.{Ghosts as Systems}
 
@@ -25,6 +26,11 @@ pub asks_more : (name : List ℕ) (files : List (List ℕ)) (file : List ℕ) (w
 asks_more name [] file was mid now e one = (now, subst (λ v. AsksOne name file v now) e one, refl)
 asks_more name (f ∷ files) file was mid now e one = (e.0, e.1, asks_more name files file e.0 mid now e.2 one)
 
+-- it is the file after them
+pub finds_more : (name : List ℕ) (files : List (List ℕ)) (file : List ℕ) (more : List (List ℕ)) (was mid now : NameCalls) → AsksEach name files was mid → (IsStandard file → ⊥) → now ≡ (name_call.One, name, file, []) ∷ mid → FindsInput name (files ++ file ∷ more) was now
+finds_more name [] file more was mid now e other is = inl (other, subst (λ v. now ≡ (name_call.One, name, file, []) ∷ v) e is)
+finds_more name (f ∷ files) file more was mid now e other is = inr (e.0, e.1, finds_more name files file more e.0 mid now e.2 other is)
+
 -- ---- the first names, and one more
 
 pub names_more : {A : Type 0} (f : A → List ℕ) (names : List A) (i : ℕ) (r : A) (name : List ℕ) → i < length names → r ≡ get_or names i r → name ≡ f r → map f (take i names) ++ name ∷ [] ≡ map f (take (i + 1) names)
@@ -36,6 +42,16 @@ names_more f names i r name lt is k =
 pub names_split : {A : Type 0} (f : A → List ℕ) (names : List A) (i : ℕ) → map f names ≡ map f (take i names) ++ map f (drop i names)
 names_split f names i = ap (map f) (sym (take-append-drop i names)) ∙ map-append f (take i names) (drop i names)
 
+-- a name and those after it
+names_from : {A : Type 0} (f : A → List ℕ) (names : List A) (i : ℕ) (r : A) → i < length names → r ≡ get_or names i r → map f (drop i names) ≡ f r ∷ map f (drop (i + 1) names)
+names_from f names i r lt is = ap (map f) (drop_more names i r lt ∙ ap (λ x. x ∷ drop (i + 1) names) (sym is))
+
+-- the names are the first ones, one, and the others
+pub names_at : {A : Type 0} (f : A → List ℕ) (names : List A) (i : ℕ) (r : A) (name : List ℕ) → i < length names → r ≡ get_or names i r → name ≡ f r → map f (take i names) ++ name ∷ map f (drop (i + 1) names) ≡ map f names
+names_at f names i r name lt is k =
+    ap (λ x. map f (take i names) ++ x ∷ map f (drop (i + 1) names)) k
+    ∙ sym (names_split f names i ∙ ap (λ v. map f (take i names) ++ v) (names_from f names i r lt is))
+
 -- an input was not opened
 pub stops_missed : {A F I M Y : Type 0} (y : Systems Y F I M) (f : A → List ℕ) (names : List A) (i : ℕ) (r : A) (name : List ℕ) (turns : List (Turn I)) (old mid new : OpenCalls) → i < length names → r ≡ get_or names i r → name ≡ f r → OpensEach y (map f (take i names)) turns old mid → MissesInput name mid new
     → StopsOpening y (map f names) old new
@@ -46,7 +62,7 @@ stops_missed y f names i r name turns old mid new lt is k opens misses = record 
   turns = turns;
   mid = mid;
   opens = opens;
-  last = inr (f r, map f (drop (i + 1) names), ap (map f) (drop_more names i r lt ∙ ap (λ x. x ∷ drop (i + 1) names) (sym is)), subst (λ v. MissesInput v mid new) k misses);
+  last = inr (f r, map f (drop (i + 1) names), names_from f names i r lt is, subst (λ v. MissesInput v mid new) k misses);
 }
 
 -- an allocation failed after some were

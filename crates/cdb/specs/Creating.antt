@@ -1,5 +1,5 @@
 -- What a create makes of what it reads, and under which names. The newest call comes first.
-use Rattle.std.specs.Prelude.{ℕ, ◌≡◌, ◌⊎◌, true, false, List, [], ◌∷◌, ◌++◌, map, Option, Some, None, Result}
+use Rattle.std.specs.Prelude.{ℕ, ◌≡◌, ◌⊎◌, List, [], ◌∷◌, ◌++◌, map, Option, Some, None, Result}
 use Rattle.std.specs.Prelude.{Ok, Err, OnOk, IfErr, codes}
 use Rattle.std.specs.Io.KnownBytes.{Keeps, Appends}
 use Rattle.cdb_command.specs.declared.options.MakeOptions.{MakeOptions}
@@ -112,10 +112,23 @@ abbrev pub AsksAll : (name : List ℕ) → (base : Option (List ℕ)) → (input
 AsksAll name base inputs was now =
     (mid : NameCalls) × AsksBase name base was mid × AsksEach name inputs mid now
 
--- the last answer was yes
-abbrev pub FindsOne : (name : List ℕ) → (now : NameCalls) → Type 0
-FindsOne name now =
-    (file : List ℕ) × (before : NameCalls) × (now ≡ (name_call.One, name, file, []) ∷ before)
+-- an input is it, and those before it are not, as was asked of each
+abbrev pub FindsInput : (name : List ℕ) → (files : List (List ℕ)) → (was now : NameCalls) → Type 0
+FindsInput name [] was now = ⊥
+FindsInput name (file ∷ files) was now =
+    ((IsStandard file → ⊥) × (now ≡ (name_call.One, name, file, []) ∷ was))
+    ⊎ ((mid : NameCalls) × AsksOne name file was mid × FindsInput name files mid now)
+
+abbrev pub FindsBase : (name : List ℕ) → Option (List ℕ) → (was now : NameCalls) → Type 0
+FindsBase name None was now = ⊥
+FindsBase name (Some file) was now = now ≡ (name_call.One, name, file, []) ∷ was
+
+-- the base is it; or an input is, and nothing before that is
+abbrev pub FindsOne : (name : List ℕ) → (base : Option (List ℕ)) → (inputs : List (List ℕ))
+    → (was now : NameCalls) → Type 0
+FindsOne name base inputs was now =
+    FindsBase name base was now
+    ⊎ ((mid : NameCalls) × AsksBase name base was mid × FindsInput name inputs mid now)
 
 -- ---- in place
 
@@ -134,7 +147,7 @@ abbrev pub MakesInPlace : {F I M Y : Type 0} → Systems Y F I M → Ghosts F �
     → (name : List ℕ) → (base : Option (List ℕ)) → (inputs : List (List ℕ)) → (old new : OpenCalls)
     → (was now : NameCalls) → (told said : Option (List ℕ)) → Result Unit Fault → Type 0
 MakesInPlace y f s m name base inputs old new was now told said result =
-    (FindsOne name now × (new ≡ old) × (result ≡ Err Open) × Keeps told said)
+    (FindsOne name base inputs was now × (new ≡ old) × (result ≡ Err Open) × Keeps told said)
     ⊎ (AsksAll name base inputs was now × (new ≡ (Emptied, name) ∷ old)
     × Empties y f s m name told said result)
 
@@ -171,7 +184,7 @@ abbrev pub MakesApart : {F R : Type 0} → Ghosts F → Raw R → Making F → (
     → (base : Option (List ℕ)) → (inputs : List (List ℕ)) → (old new : NameCalls)
     → (told said : Option (List ℕ)) → Result Unit Fault → Type 0
 MakesApart f r m temporary name base inputs old new told said result =
-    (FindsOne temporary new × (result ≡ Err Open) × Keeps told said)
+    (FindsOne temporary base inputs old new × (result ≡ Err Open) × Keeps told said)
     ⊎ ((mid : NameCalls) × AsksAll temporary base inputs old mid
     × Replaces f r m temporary name mid new told said result)
 

@@ -1,6 +1,9 @@
 // A database made under its name: in place, or in a temporary file that replaces it.
-ghost use Rattle.std.specs.Prelude.{◌≡◌, true, false, map, option_map, string_bytes};
-ghost use Rattle.cdb.specs.Creating.{AsksAll, AsksBase, AsksEach, AsksOne, FindsOne};
+ghost use Rattle.std.specs.Prelude.{◌≡◌, ◌∷◌, [], true, false, map, option_map, string_bytes};
+ghost use Rattle.cdb_files.specs.declared.name_trace.NameCall.TheVariants.{One};
+ghost use Rattle.cdb.specs.Creating.{AsksAll, AsksBase, AsksEach, AsksOne};
+ghost use Rattle.cdb.specs.Creating.{FindsBase, FindsInput, FindsOne};
+ghost use Rattle.cdb.specs.Inputs.{IsStandard};
 ghost use Rattle.cdb.specs.Creating.{MakesApart, MakesInPlace, answer_of};
 ghost use Rattle.cdb.specs.Contents.{making_of};
 
@@ -21,7 +24,8 @@ use std::marker::PhantomData;
 fn is_input<N: Names>(names: &mut N, name: &str, input: &str) -> bool
     ensures other { result ≡ false → AsksOne name.now input.now
         (N.calls names.old) (N.calls names.new) }
-    ensures found { result ≡ true → FindsOne name.now (N.calls names.new) }
+    ensures found { result ≡ true → (IsStandard input.now → ⊥)
+        × (N.calls names.new ≡ (One, name.now, input.now, []) ∷ N.calls names.old) }
 {
     if is_standard(input) {
         return false;
@@ -33,7 +37,8 @@ fn is_input<N: Names>(names: &mut N, name: &str, input: &str) -> bool
 fn is_one_of_inputs<N: Names>(names: &mut N, name: &str, inputs: &[String]) -> bool
     ensures others { result ≡ false → AsksEach name.now (map string_bytes inputs.now)
         (N.calls names.old) (N.calls names.new) }
-    ensures found { result ≡ true → FindsOne name.now (N.calls names.new) }
+    ensures found { result ≡ true → FindsInput name.now (map string_bytes inputs.now)
+        (N.calls names.old) (N.calls names.new) }
 {
     for input in inputs {
         if is_input(names, name, input.as_str()) {
@@ -47,7 +52,8 @@ fn is_one_of_inputs<N: Names>(names: &mut N, name: &str, inputs: &[String]) -> b
 fn is_base<N: Names>(names: &mut N, name: &str, base: &Option<String>) -> bool
     ensures other { result ≡ false → AsksBase name.now (option_map string_bytes base.now)
         (N.calls names.old) (N.calls names.new) }
-    ensures found { result ≡ true → FindsOne name.now (N.calls names.new) }
+    ensures found { result ≡ true → FindsBase name.now (option_map string_bytes base.now)
+        (N.calls names.old) (N.calls names.new) }
 {
     match base {
         Some(base) => names.is_file_of(name, base.as_str()),
@@ -60,7 +66,9 @@ fn is_read<N: Names>(names: &mut N, name: &str, creation: Creation<'_>) -> bool
     ensures others { result ≡ false → AsksAll name.now
         (option_map string_bytes creation.entry.base.now) (map string_bytes creation.entry.inputs.now)
         (N.calls names.old) (N.calls names.new) }
-    ensures found { result ≡ true → FindsOne name.now (N.calls names.new) }
+    ensures found { result ≡ true → FindsOne name.now
+        (option_map string_bytes creation.entry.base.now) (map string_bytes creation.entry.inputs.now)
+        (N.calls names.old) (N.calls names.new) }
 {
     if is_base(names, name, creation.base) {
         return true;
