@@ -5,6 +5,16 @@ use Rattle.cdb_store.specs.declared.buffered.BufferedStore.{BufferedStore}
 use Rattle.cdb_store.specs.Images.{Over}
 use Rattle.cdb_store.specs.Calls.{written_count}
 
+-- the store under it, how many bytes its buffer holds at most, and where the buffer's bytes belong
+abbrev pub inner_of : {S : Type 0} {inner : Ghosts S} → BufferedStore S inner → S
+inner_of f = f.inner
+
+abbrev pub capacity_of : {S : Type 0} {inner : Ghosts S} → BufferedStore S inner → ℕ
+capacity_of f = f.capacity
+
+abbrev pub start_of : {S : Type 0} {inner : Ghosts S} → BufferedStore S inner → ℕ
+start_of f = f.pos
+
 -- how many bytes it has collected
 abbrev pub held_of : {S : Type 0} {inner : Ghosts S} → BufferedStore S inner → ℕ
 held_of f = length f.buffer.items

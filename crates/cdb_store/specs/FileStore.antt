@@ -4,6 +4,13 @@ use Rattle.cdb_store.specs.declared.raw.RawFile.{Ghosts}
 use Rattle.cdb_store.specs.declared.file.FileStore.{FileStore}
 use Rattle.cdb_store.specs.Calls.{Calls, FileImage, failure_count, written_count}
 
+-- its file, and the length that it last had
+abbrev pub file_of : {F : Type 0} {file : Ghosts F} → FileStore F file → F
+file_of f = f.file
+
+abbrev pub len_of : {F : Type 0} {file : Ghosts F} → FileStore F file → ℕ
+len_of f = f.len
+
 -- the calls on its file
 abbrev pub calls_of : {F : Type 0} {file : Ghosts F} → FileStore F file → Calls
 calls_of {file = file} f = file.calls f.file

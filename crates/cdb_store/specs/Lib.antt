@@ -7,5 +7,6 @@ pub mod Fuse
 pub mod Laws
 pub mod Reads
 pub mod FileStore
+pub mod RealFile
 pub mod BufferedStore
 pub mod FuseStore

@@ -37,6 +37,7 @@ pub struct BufferedStore<S: Store> {
 
 impl<S: Store> BufferedStore<S> {
     ghost use Rattle.cdb_store.specs.BufferedStore.{held_of, size_of, images_of};
+    ghost use Rattle.cdb_store.specs.BufferedStore.{inner_of, capacity_of, start_of};
 
     /// A store over `inner` with a buffer of `capacity` bytes.
     ///
@@ -44,11 +45,11 @@ impl<S: Store> BufferedStore<S> {
     pub fn new(alloc: Global, inner: S, capacity: usize) -> Result<BufferedStore<S>, AllocFailed<S>>
         ensures images { IfOk result (λ f. SameImages (S.image inner) (images_of f)) }
         ensures size { IfOk result (λ f. size_of f ≡ S.size inner) }
-        ensures failures { IfOk result (λ f. S.failures f.inner ≡ S.failures inner) }
-        ensures unwritten { IfOk result (λ f. S.unwritten f.inner ≡ S.unwritten inner) }
-        ensures room { IfOk result (λ f. S.room f.inner ≡ S.room inner) }
-        ensures inner { IfOk result (λ f. f.inner ≡ inner) }
-        ensures capacity { IfOk result (λ f. f.capacity ≡ capacity) }
+        ensures failures { IfOk result (λ f. S.failures (inner_of f) ≡ S.failures inner) }
+        ensures unwritten { IfOk result (λ f. S.unwritten (inner_of f) ≡ S.unwritten inner) }
+        ensures room { IfOk result (λ f. S.room (inner_of f) ≡ S.room inner) }
+        ensures inner { IfOk result (λ f. inner_of f ≡ inner) }
+        ensures capacity { IfOk result (λ f. capacity_of f ≡ capacity) }
         ensures err { IfErr result (λ f. f.value ≡ inner) }
     {
         match Vec::with_capacity(alloc, capacity) {
@@ -69,16 +70,16 @@ impl<S: Store> BufferedStore<S> {
     pub fn into_inner(mut self) -> (S, Result<(), StoreFault>)
         ensures images { OnOk result.1 (SameImages (images_of self) (S.image result.0)) }
         ensures size { OnOk result.1 (S.size result.0 ≡ size_of self) }
-        ensures torn { AfterTornWrite self.pos (held_of self) (S.image self.inner)
+        ensures torn { AfterTornWrite (start_of self) (held_of self) (S.image (inner_of self))
             (S.image result.0) }
-        ensures no_shorter { S.size self.inner ≤ S.size result.0 }
+        ensures no_shorter { S.size (inner_of self) ≤ S.size result.0 }
         ensures no_longer { S.size result.0 ≤ size_of self }
-        ensures handed { OnOk result.1 (S.written result.0 ≡ S.written self.inner + held_of self) }
-        ensures at_most_handed { S.written result.0 ≤ S.written self.inner + held_of self }
-        ensures room { S.room self.inner ≤ S.room result.0 }
+        ensures handed { OnOk result.1 (S.written result.0 ≡ S.written (inner_of self) + held_of self) }
+        ensures at_most_handed { S.written result.0 ≤ S.written (inner_of self) + held_of self }
+        ensures room { S.room (inner_of self) ≤ S.room result.0 }
         ensures memory { IsErrOf result.1 NoMemory → ⊥ }
-        ensures cause { HasCause (S.failures self.inner) (S.failures result.0) result.1 }
-        ensures unwritten { HasCause (S.unwritten self.inner) (S.unwritten result.0) result.1 }
+        ensures cause { HasCause (S.failures (inner_of self)) (S.failures result.0) result.1 }
+        ensures unwritten { HasCause (S.unwritten (inner_of self)) (S.unwritten result.0) result.1 }
     {
         let answer = self.settle();
         let BufferedStore {
@@ -95,7 +96,7 @@ impl<S: Store> BufferedStore<S> {
 
     /// The inner store, as it is. What is left in the buffer is let go: after a flush that is nothing.
     pub fn discard(self) -> S
-        ensures { result ≡ self.inner }
+        ensures { result ≡ inner_of self }
     {
         let BufferedStore {
             inner,

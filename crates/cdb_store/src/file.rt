@@ -43,14 +43,14 @@ pub struct FileStore<F: RawFile = RealFile> {
 }
 
 impl FileStore {
-    ghost use Rattle.cdb_store.specs.FileStore.{images_of};
+    ghost use Rattle.cdb_store.specs.FileStore.{calls_of, images_of, len_of};
 
     /// Makes a file, or empties the one of that name, and reads and writes it.
     ///
     /// `Device`: it can't be opened so.
     pub fn create<R: Files<File = File>>(rt: &R, path: &str) -> Result<FileStore, StoreFault>
         ensures images { IfOk result (λ f. (b : List ℕ) → (images_of f b ↔ (b ≡ []))) }
-        ensures made { IfOk result (λ f. f.file.trace.events ≡ (Made, []) ∷ []) }
+        ensures made { IfOk result (λ f. calls_of f ≡ (Made, []) ∷ []) }
         ensures memory { IsErrOf result NoMemory → ⊥ }
     {
         let mut options = OpenOptions::new();
@@ -63,7 +63,7 @@ impl FileStore {
     /// `Device`: it can't be made, or something of that name is there already.
     pub fn create_new<R: Files<File = File>>(rt: &R, path: &str) -> Result<FileStore, StoreFault>
         ensures images { IfOk result (λ f. (b : List ℕ) → (images_of f b ↔ (b ≡ []))) }
-        ensures made { IfOk result (λ f. f.file.trace.events ≡ (Made, []) ∷ []) }
+        ensures made { IfOk result (λ f. calls_of f ≡ (Made, []) ∷ []) }
         ensures memory { IsErrOf result NoMemory → ⊥ }
     {
         let mut options = OpenOptions::new();
@@ -76,7 +76,7 @@ impl FileStore {
     /// `Device`: it can't be opened so, or the name is that of a link. What the link leads to stays.
     pub fn create_own<R: Files<File = File>>(rt: &R, path: &str) -> Result<FileStore, StoreFault>
         ensures images { IfOk result (λ f. (b : List ℕ) → (images_of f b ↔ (b ≡ []))) }
-        ensures made { IfOk result (λ f. f.file.trace.events ≡ (Made, []) ∷ []) }
+        ensures made { IfOk result (λ f. calls_of f ≡ (Made, []) ∷ []) }
         ensures memory { IsErrOf result NoMemory → ⊥ }
     {
         match RealFile::emptied(rt, path) {
@@ -105,8 +105,8 @@ impl FileStore {
     ///
     /// `Device`: it can't be opened, or has 2^63 bytes or more.
     pub fn open<R: Files<File = File>>(rt: &R, path: &str) -> Result<FileStore, StoreFault>
-        ensures images { IfOk result (λ f. (b : List ℕ) → (images_of f b ↔ (length b ≡ f.len))) }
-        ensures told { IfOk result (λ f. f.file.trace.events ≡ (Length f.len, []) ∷ []) }
+        ensures images { IfOk result (λ f. (b : List ℕ) → (images_of f b ↔ (length b ≡ len_of f))) }
+        ensures told { IfOk result (λ f. calls_of f ≡ (Length (len_of f), []) ∷ []) }
         ensures memory { IsErrOf result NoMemory → ⊥ }
     {
         match File::open(rt, path) {
@@ -134,25 +134,27 @@ impl<F: RawFile> FileStore<F> {
 }
 
 impl<F: RawFile> FileStore<F> {
+    ghost use Rattle.cdb_store.specs.FileStore.{file_of, len_of};
+
     /// A store in a raw file that was just made.
     pub fn made(file: F) -> FileStore<F>
         requires { F.calls file ≡ (Made, []) ∷ [] }
-        ensures size { result.len ≡ 0 }
-        ensures file { result.file ≡ file }
+        ensures size { len_of result ≡ 0 }
+        ensures file { file_of result ≡ file }
     {
         FileStore::empty(file)
     }
 
     /// Its raw file, to ask about it.
     pub fn file(&self) -> &F
-        ensures { result.now ≡ self.now.file }
+        ensures { result.now ≡ file_of self.now }
     {
         &self.file
     }
 
     /// Its raw file.
     pub fn into_file(self) -> F
-        ensures { result ≡ self.file }
+        ensures { result ≡ file_of self }
     {
         let FileStore {
             file,
@@ -186,15 +188,15 @@ impl<F: RawFile> FileStore<F> {
 }
 
 impl<F: RawFile + Drop> FileStore<F> {
-    ghost use Rattle.cdb_store.specs.FileStore.{images_of};
+    ghost use Rattle.cdb_store.specs.FileStore.{calls_of, images_of, len_of};
 
     /// A store in a raw file that was just opened, of the length that it reports.
     ///
     /// `Device`: it reports none, or 2^63 bytes or more.
     pub fn over(mut file: F) -> Result<FileStore<F>, StoreFault>
         requires { F.calls file ≡ [] }
-        ensures images { IfOk result (λ f. (b : List ℕ) → (images_of f b ↔ (length b ≡ f.len))) }
-        ensures told { IfOk result (λ f. F.calls f.file ≡ (Length f.len, []) ∷ []) }
+        ensures images { IfOk result (λ f. (b : List ℕ) → (images_of f b ↔ (length b ≡ len_of f))) }
+        ensures told { IfOk result (λ f. calls_of f ≡ (Length (len_of f), []) ∷ []) }
         ensures memory { IsErrOf result NoMemory → ⊥ }
     {
         match length_within(&mut file, 0, GREATEST_LENGTH) {

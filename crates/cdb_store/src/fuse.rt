@@ -26,15 +26,17 @@ pub struct FuseStore<S> {
 }
 
 impl<S: Store> FuseStore<S> {
+    ghost use Rattle.cdb_store.specs.FuseStore.{inner_of, limit_of, part_of, calls_of, counted_by};
+
     /// A fuse that passes `calls` calls and fails the next one; with `u64::MAX` it fails none.
     ///
     /// A write that it fails first writes its first `part` bytes, or all if it is shorter.
     pub fn new(inner: S, calls: u64, part: u64) -> FuseStore<S>
-        ensures inner { result.inner ≡ inner }
-        ensures limit { result.limit ≡ calls }
-        ensures part { result.part ≡ part }
-        ensures calls { result.calls ≡ 0 }
-        ensures written { result.written ≡ 0 }
+        ensures inner { inner_of result ≡ inner }
+        ensures limit { limit_of result ≡ calls }
+        ensures part { part_of result ≡ part }
+        ensures calls { calls_of result ≡ 0 }
+        ensures written { counted_by result ≡ 0 }
     {
         FuseStore {
             inner,
@@ -47,7 +49,7 @@ impl<S: Store> FuseStore<S> {
 
     /// The inner store, as it is.
     pub fn into_inner(self) -> S
-        ensures { result ≡ self.inner }
+        ensures { result ≡ inner_of self }
     {
         let FuseStore {
             inner,
@@ -61,14 +63,14 @@ impl<S: Store> FuseStore<S> {
 
     /// How many calls counted so far, the failed one too. It stops at `u64::MAX`.
     pub fn calls(&self) -> u64
-        ensures { result ≡ self.now.calls }
+        ensures { result ≡ calls_of self.now }
     {
         self.calls
     }
 
     /// How many bytes the inner store's writes that answered Ok wrote. It stops at `u64::MAX`.
     pub fn written(&self) -> u64
-        ensures { result ≡ self.now.written }
+        ensures { result ≡ counted_by self.now }
     {
         self.written
     }

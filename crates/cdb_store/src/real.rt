@@ -25,6 +25,8 @@ pub struct RealFile {
 }
 
 impl RealFile {
+    ghost use Rattle.cdb_store.specs.RealFile.{events_of, trace_of};
+
     /// A file that was just opened, of which nothing is known.
     pub(crate) fn opened(file: File) -> RealFile
         ensures { result.trace.events ≡ [] }
@@ -47,7 +49,7 @@ impl RealFile {
     /// Makes a file under a name that nothing has, and reads and writes it. It follows no link. The
     /// file gets these permission bits, less those that the umask takes.
     pub fn create_new<R: Files<File = File>>(rt: &R, path: &str, mode: u32) -> io::Result<RealFile>
-        ensures made { IfOk result (λ f. f.trace.events ≡ (Call.Made, []) ∷ []) }
+        ensures made { IfOk result (λ f. events_of f ≡ (Call.Made, []) ∷ []) }
     {
         let mut options = OpenOptions::new();
         options.create_new(true).mode(mode);
@@ -60,7 +62,7 @@ impl RealFile {
     ///
     /// A file that is no regular one, such as a device, has nothing that could be emptied.
     pub fn emptied<R: Files<File = File>>(rt: &R, path: &str) -> io::Result<RealFile>
-        ensures made { IfOk result (λ f. f.trace.events ≡ (Call.Made, []) ∷ []) }
+        ensures made { IfOk result (λ f. events_of f ≡ (Call.Made, []) ∷ []) }
     {
         match RealFile::create_new(rt, path, READ_AND_WRITTEN) {
             Err(error) if error.kind() == ErrorKind::AlreadyExists => {
@@ -93,7 +95,7 @@ impl RealFile {
 
     /// The calls on it, which only clauses read.
     pub fn trace(&self) -> &Trace
-        ensures { result.now ≡ self.now.trace }
+        ensures { result.now ≡ trace_of self.now }
     {
         &self.trace
     }
