@@ -1,10 +1,10 @@
 -- What the parser of a map text read, piece after piece.
-use Rattle.std.proofs.Common.{All, List, None, Option, Some, [], append_assoc, ap, arith, false, get_or, is_some, length-append, refl, subst, sym, take, true, ◌++◌, ◌+◌, ◌<◌, ◌∙◌, ◌∷◌, ◌≡◌, ◌≢◌, ◌≤◌, ℕ}
+use Rattle.std.proofs.Common.{All, List, None, Option, Some, [], append_assoc, ap, arith, false, get_or, is_some, length, length-append, refl, subst, sym, take, true, ◌++◌, ◌+◌, ◌<◌, ◌∙◌, ◌∷◌, ◌≡◌, ◌≢◌, ◌≤◌, ℕ}
 use Rattle.std.specs.List.{AllPass}
 use Rattle.std.specs.Prelude.{◌==◌}
 use Rattle.std.specs.Io.KnownBytes.{Consumes, IsAtEnd, Keeps}
 use Rattle.std.proofs.lemmas.Bool.{eqb-true}
-use Rattle.std.proofs.lemmas.List.{append-nil}
+use Rattle.std.proofs.lemmas.List.{append-nil, length-take}
 use Rattle.std.proofs.lemmas.List.Concat.{flat_map-append}
 use Rattle.std.proofs.lemmas.List.Elements.{All-append, All-nil, All-push}
 use Rattle.cdb_form.specs.Format.Record.{KeyValue}
@@ -328,3 +328,15 @@ lines_found remaining old mid new ignored line stop r so is reads = record {
   is = is;
   reads = to_ending_behind remaining old mid new (with_newlines ignored) line (with_newlines ignored ++ line) stop so.takes so.spends reads refl;
 }
+
+-- the line of the next record, by one step
+pub record_at_hand : {R : Type 0} (remaining : R → Option (List ℕ)) (old new : Source R) (bytes : List ℕ) (n : ℕ) (r : KeyValue) → BeginsWithLine bytes n r → Takes remaining old new (take n bytes)
+    → new.taken ≡ old.taken + n → old.asks ≡ new.asks + n → ReadsLinesOf remaining old new r (10 ∷ [])
+record_at_hand remaining old new bytes n r begins takes counted asked =
+    let line = line_at_hand remaining old new bytes n r begins takes counted asked in
+    let none : LinesSoFar remaining old old [] = record { are = All-nil _; takes = takes_none remaining old; asks = omega arith; spends = omega arith } in
+    lines_found remaining old old new [] line.0 (10 ∷ []) r none line.1 line.2
+
+-- it has a byte at least
+pub line_some : (bytes : List ℕ) (n : ℕ) (r : KeyValue) → BeginsWithLine bytes n r → 0 < n
+line_some bytes n r begins = omega (arith, ap (λ t. length t) begins.front, length-take n bytes, length-append begins.line (10 ∷ []))

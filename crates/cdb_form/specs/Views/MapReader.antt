@@ -4,7 +4,8 @@ use Rattle.cdb_form.specs.Format.Record.{KeyValue}
 use Rattle.cdb_form.specs.Text.Map.{IsIgnoredLine, IsLineOf, Lacks, is_newline, line_records}
 use Rattle.cdb_form.specs.Text.Map.{with_newlines}
 use Rattle.cdb_form.specs.Views.MapParser.{ReadsToEnding}
-use Rattle.cdb_form.specs.Views.Source.{LeavesAmid}
+use Rattle.cdb_form.specs.Views.PrefixLine.{BeginsWithLine}
+use Rattle.cdb_form.specs.Views.Source.{LeavesAmid, at_hand}
 use Rattle.cdb_form.specs.declared.text.fault.TextFault.{TextFault}
 use Rattle.cdb_form.specs.declared.text.going.Going.TheVariants.{AtEnd, Failed, On}
 use Rattle.cdb_form.specs.declared.text.map_parser.Entry.{Entry}
@@ -35,6 +36,12 @@ HasEnded t = t.going ≡ AtEnd
 -- it has answered this fault
 abbrev pub HasFailed : {R : Type 0} → MapReader R → TextFault → Type 0
 HasFailed t fault = t.going ≡ Failed fault
+
+-- the next line is that of a record and is whole at hand, n bytes there with its newline
+pub record HasPeeked {R : Type 0} (held : R → List ℕ) (t : MapReader R) (n : ℕ) (r : KeyValue) :
+    Type 0 where
+  pub going : IsGoing t
+  pub begins : BeginsWithLine (at_hand held t.source) n r
 
 -- ignored lines were read, and then the line of a record, which ends so
 pub record ReadsLinesOf {R : Type 0} (remaining : R → Option (List ℕ)) (old new : Source R)

@@ -15,7 +15,7 @@ use crate::record::Record;
 use crate::text::at_hand::AtHand;
 use crate::text::fault::TextFault;
 use crate::text::kind::Kind;
-use crate::text::prefix_line::prefix_line;
+use crate::text::prefix_line::copy_line;
 use crate::text::source::Source;
 use std::io::Read;
 
@@ -190,7 +190,7 @@ impl<R: Read> Source<R> {
         ensures leaves { IfErr result (LeavesAmid (Lacks is_newline)
             R.remaining self.old self.new) }
     {
-        let n = prefix_line(self.at_hand::<A>(), into)?;
+        let n = copy_line(self.at_hand::<A>(), into)?;
         if n == 0 {
             return self.line::<A>(into);
         }

@@ -1,5 +1,7 @@
 // Records out of a map text.
-ghost use Rattle.std.specs.Prelude.{◌≡◌, ◌^◌, ◌≤◌, false, IfOk, IfErr, MatchOption, MatchBool};
+ghost use Rattle.std.specs.Prelude.{◌≡◌, ◌^◌, ◌≤◌, false, IfOk, IfErr, IfSome, MatchOption, MatchBool};
+ghost use Rattle.cdb_form.specs.Format.Record.{KeyValue};
+ghost use Rattle.cdb_form.specs.Views.Prefix.{shown_by};
 ghost use Rattle.cdb_form.specs.Views.Pairs.{key_value};
 
 use crate::record::Record;
@@ -7,6 +9,8 @@ use crate::text::at_hand::{AtHand, NoneAtHand};
 use crate::text::fault::TextFault;
 use crate::text::going::Going;
 use crate::text::map_parser::Entry;
+use crate::text::prefix::PeekedRecord;
+use crate::text::prefix_line::prefix_line;
 use crate::text::source::Source;
 use std::alloc::Global;
 use std::io::Read;
@@ -25,8 +29,8 @@ pub struct MapReader<R> {
 
 impl<R: Read> MapReader<R> {
     ghost use Rattle.cdb_form.specs.Views.MapReader.{unread, taken_of, asks_left, IsGoing};
-    ghost use Rattle.cdb_form.specs.Views.MapReader.{HasEnded, HasFailed, GivesRecord, GivesEnd};
-    ghost use Rattle.cdb_form.specs.Views.MapReader.{Fails};
+    ghost use Rattle.cdb_form.specs.Views.MapReader.{HasEnded, HasFailed, HasPeeked, GivesRecord};
+    ghost use Rattle.cdb_form.specs.Views.MapReader.{GivesEnd, Fails};
     /// A reader of the text that `reader` gives, which may be asked 2^48 times.
     pub fn new(alloc: Global, reader: R) -> MapReader<R>
         ensures unread { unread R.remaining result ≡ R.remaining reader }
@@ -130,5 +134,27 @@ impl<R: Read> MapReader<R> {
                 Err(fault)
             }
         }
+    }
+
+    /// The next record, where it lies, if its line is whole at hand, with its newline, and no ignored
+    /// line precedes it. Nothing is taken: `take_peeked` does that.
+    #[inline(always)]
+    pub fn peek<A: AtHand<R>>(&self) -> Option<PeekedRecord<'_>>
+        ensures { IfSome result (λ f. HasPeeked A.held self.now f.len (shown_by f)) }
+    {
+        match self.going {
+            Going::On => prefix_line(self.source.at_hand::<A>()),
+            Going::AtEnd | Going::Failed(_) => None,
+        }
+    }
+
+    /// Takes the record that `peek` shows, whose `len` this is. Each of its bytes counts as an ask.
+    #[inline(always)]
+    pub fn take_peeked<A: AtHand<R>>(&mut self, len: usize)
+        requires { (r : KeyValue) × HasPeeked A.held self.old len r }
+        ensures { (r : KeyValue) → HasPeeked A.held self.old len r
+            → GivesRecord R.remaining self.old self.new r }
+    {
+        self.source.take_at_hand::<A>(len);
     }
 }

@@ -1,7 +1,8 @@
 // The record of a map text whose line some bytes begin with.
-ghost use Rattle.std.specs.Prelude.{◌≡◌, true, ℕ, ◌<◌, ◌≤◌, length, slice_index, IfOk};
+ghost use Rattle.std.specs.Prelude.{◌≡◌, true, ℕ, ◌<◌, ◌≤◌, length, slice_index, IfOk, IfSome};
 ghost use Rattle.std.specs.List.{prefix_len};
 ghost use Rattle.cdb_form.specs.Text.Map.{is_blank};
+ghost use Rattle.cdb_form.specs.Views.Prefix.{shown_by};
 ghost use Rattle.cdb_form.specs.Views.PrefixLine.{BeginsWithLine};
 ghost use Rattle.cdb_form.specs.Views.MapParser.{is_of};
 ghost use Rattle.cdb_form.specs.Views.Pairs.{key_value};
@@ -10,6 +11,7 @@ use crate::copying::copy_over;
 use crate::record::Record;
 use crate::text::kind::Kind;
 use crate::text::lanes::wide_run;
+use crate::text::prefix::PeekedRecord;
 use std::alloc::AllocError;
 
 /// How many bytes of a kind some bytes begin with, if so many are known to be. The others are
@@ -46,27 +48,43 @@ fn run(kind: Kind, bytes: &[u8]) -> usize
     run_past(wide_run(kind, bytes), kind, bytes)
 }
 
-/// Copies the record of the line that some bytes begin with over another one, and answers how many
-/// bytes the line has, with its newline. There are none if it has no newline or no record, and then
-/// the record holds anything.
+/// The record of the line that some bytes begin with, if the line has a newline and a record. The
+/// newline counts among the bytes that spell it.
 #[inline(always)]
-pub(crate) fn prefix_line(bytes: &[u8], into: &mut Record) -> Result<usize, AllocError>
-    ensures { IfOk result (λ n. 0 < n → BeginsWithLine bytes.now n (key_value into.new)) }
+pub(crate) fn prefix_line(bytes: &[u8]) -> Option<PeekedRecord<'_>>
+    ensures { IfSome result (λ f. BeginsWithLine bytes.now f.len (shown_by f)) }
 {
     let start = blanks(bytes);
     let words = &bytes[start..];
     let klen = run(Kind::InWord, words);
     if klen == 0 || words[0] == b'#' {
-        return Ok(0);
+        return None;
     }
     let behind = &words[klen..];
     let gap = blanks(behind);
     let rest = &behind[gap..];
     let vlen = run(Kind::InLine, rest);
     if vlen == rest.len() {
-        return Ok(0);
+        return None;
     }
-    copy_over(&words[..klen], &mut into.key)?;
-    copy_over(&rest[..vlen], &mut into.value)?;
-    Ok(start + klen + gap + vlen + 1)
+    Some(PeekedRecord {
+        key: &words[..klen],
+        value: &rest[..vlen],
+        len: start + klen + gap + vlen + 1,
+    })
+}
+
+/// Copies the record of the line that some bytes begin with over another one, and answers how many
+/// bytes the line has, with its newline. There are none if it has no newline or no record, and then
+/// the record holds anything.
+#[inline(always)]
+pub(crate) fn copy_line(bytes: &[u8], into: &mut Record) -> Result<usize, AllocError>
+    ensures { IfOk result (λ n. 0 < n → BeginsWithLine bytes.now n (key_value into.new)) }
+{
+    let Some(line) = prefix_line(bytes) else {
+        return Ok(0);
+    };
+    copy_over(line.key, &mut into.key)?;
+    copy_over(line.value, &mut into.value)?;
+    Ok(line.len)
 }

@@ -1,5 +1,5 @@
 use Rattle.std.proofs.lemmas.Grind.{common_steps}
-use Rattle.std.proofs.Common.{arith, drop, length, refl, take, ◌≡◌, ◌≢◌, ◌≤◌}
+use Rattle.std.proofs.Common.{arith, drop, length, refl, ◌≡◌, ◌≢◌, ◌≤◌}
 use Rattle.std.specs.List.{prefix_len}
 use Rattle.cdb_form.specs.Text.Map.{is_blank}
 use Rattle.cdb_form.specs.Views.MapParser.{is_of}
@@ -9,7 +9,7 @@ use Rattle.cdb_form.proofs.LinePrefix.{first_newline, line_prefix}
 use Rattle.cdb_form.proofs.text.prefix_line.prefix_line.Goals as goal
 
 pub returns : goal.returns
-returns c = λ _.
+returns c =
     let bytes = c.args.bytes.now in
     let start = c.blanks-start.result in
     let klen = c.run-klen.result in
@@ -26,9 +26,8 @@ returns c = λ _.
     let held : vlen ≤ length (drop gap tail) = rw rest at (rw behind at (rw words at c.run-vlen.ensures.within)) in
     let other : vlen ≢ length (drop gap tail) = rw rest at (rw behind at (rw words at c.if-vlen-rest.false)) in
     let newline = first_newline (drop gap tail) vlen vis (omega (arith, held, other)) in
-    let key : c.copy_over.new.into.items ≡ take klen line = rw words at c.in_ok-copy_over.ensures.holds in
-    let value : c.copy_over-2.new.into.items ≡ take vlen (drop gap tail) = rw rest at (rw behind at (rw words at c.in_ok-copy_over-2.ensures.holds)) in
-    line_prefix bytes start klen gap vlen _ c.blanks-start.ensures.is kis (omega arith) (rw words at c.if-words-eq35.false) gis newline key value
+    line_prefix bytes start klen gap vlen _ c.blanks-start.ensures.is kis (omega arith) (rw words at c.if-words-eq35.false) gis newline
+    (rw words refl) (rw words (rw behind (rw rest refl)))
 
 pub overflow_add-result-3 : goal.overflow_add-result-3
 overflow_add-result-3 c = grind (arith, common_steps)
