@@ -3,7 +3,7 @@ use Rattle.std.proofs.Common.{Bool, List, [], ap, append_assoc, arith, drop, fal
 use Rattle.std.specs.List.{AllPass, position_or_len, prefix_len}
 use Rattle.std.proofs.Math.Seq.{take-add}
 use Rattle.std.proofs.lemmas.Grind.{get_or_default_zero}
-use Rattle.std.proofs.lemmas.List.{get_or-drop, get_or-take, length-take, take_more}
+use Rattle.std.proofs.lemmas.List.{drop-drop, get_or-drop, get_or-take, length-take, take_more}
 use Rattle.std.proofs.lemmas.List.Sums.{position_or_len_is, prefix_len_is, prefix_len_passes, prefix_len_stops}
 use Rattle.cdb_form.specs.Format.Record.{KeyValue}
 use Rattle.cdb_form.specs.Text.Map.{BeginsOther, IsLineOf, Lacks, behind_blanks, is_blank, is_ignored, is_newline, line_pair}
@@ -11,7 +11,7 @@ use Rattle.cdb_form.specs.Views.PrefixLine.{BeginsWithLine}
 use Rattle.cdb_form.specs.Views.MapParser.{is_of}
 use Rattle.cdb_form.specs.declared.text.kind.Kind.TheVariants.{Blank, InLine, InWord}
 use Rattle.cdb_form.proofs.MapLines.{behind_blanks-run, kept_line, line_pair-key, no_blank_first}
-use Rattle.cdb_form.proofs.MapReads.{in_line_stop, lacks_append, other_than, run_lacks, word_lacks, word_stop}
+use Rattle.cdb_form.proofs.MapReads.{in_line_stop, lacks_append, other_than, run_lacks, word_lacks, word_no_blank, word_stop}
 
 -- the first newline of some bytes
 pub record FirstNewline (bytes : List ℕ) (place : ℕ) : Type 0 where
@@ -121,3 +121,46 @@ line_prefix bytes start klen gap vlen r sis kis some note gis newline key value 
       front = ap (λ (n : ℕ). take n bytes) count ∙ one ∙ join;
       within = omega (arith, within);
     }
+
+-- ---- a key, one space and a value
+
+-- no blank is before the key, and the key ends at the space
+pub record PlainKey (bytes : List ℕ) (klen : ℕ) : Type 0 where
+  pub each : (k : ℕ) → k < klen → is_of InWord (get_or bytes k 0) ≡ true
+  pub some : 0 < klen
+  pub space : get_or bytes klen 0 ≡ 32
+  pub other : is_blank (get_or bytes (klen + 1) 0) ≡ false
+  pub within : klen + 1 < length bytes
+
+plain_start : (bytes : List ℕ) (klen : ℕ) → PlainKey bytes klen → 0 ≡ prefix_len is_blank bytes
+plain_start bytes klen key = sym (prefix_len_is is_blank bytes 0 0 (omega arith) (λ k l. absurd (omega (arith, l))) (λ _. word_no_blank (get_or bytes 0 0) (key.each 0 key.some)))
+
+plain_word : (bytes : List ℕ) (klen : ℕ) → PlainKey bytes klen → klen ≡ prefix_len (is_of InWord) bytes
+plain_word bytes klen key = sym (prefix_len_is (is_of InWord) bytes klen 0 (omega (arith, key.within)) key.each (λ _. ap (is_of InWord) key.space))
+
+first_blank : (bytes : List ℕ) (klen k : ℕ) → PlainKey bytes klen → k < 1 → is_blank (get_or (drop klen bytes) k 0) ≡ true
+first_blank bytes klen k key l =
+    let at : klen + k ≡ klen = omega (arith, l) in
+    ap is_blank (get_or-drop klen bytes k 0 ∙ ap (λ (n : ℕ). get_or bytes n 0) at ∙ key.space)
+
+plain_gap : (bytes : List ℕ) (klen : ℕ) → PlainKey bytes klen → 1 ≡ prefix_len is_blank (drop klen bytes)
+plain_gap bytes klen key =
+    sym (prefix_len_is is_blank (drop klen bytes) 1 0 (omega (arith, key.within, length-drop klen bytes)) (λ k l. first_blank bytes klen k key l)
+    (λ _. ap is_blank (get_or-drop klen bytes 1 0) ∙ key.other))
+
+pub plain_prefix : (bytes : List ℕ) (klen vlen : ℕ) (r : KeyValue) → PlainKey bytes klen → get_or bytes 0 0 ≢ 35 → FirstNewline (drop (klen + 1) bytes) vlen
+    → r.key ≡ take klen bytes → r.value ≡ take vlen (drop (klen + 1) bytes) → BeginsWithLine bytes (klen + vlen + 2) r
+plain_prefix bytes klen vlen r key note newline key_is value_is =
+    let behind : drop (klen + 1) bytes ≡ drop 1 (drop klen bytes) = sym (drop-drop 1 klen bytes) in
+    let line = line_prefix bytes 0 klen 1 vlen r (plain_start bytes klen key) (plain_word bytes klen key) key.some note (plain_gap bytes klen key)
+    (subst (λ t. FirstNewline t vlen) behind newline) key_is (value_is ∙ ap (take vlen) behind) in
+    let count : 0 + klen + 1 + vlen + 1 ≡ klen + vlen + 2 = omega arith in
+    subst (λ (n : ℕ). BeginsWithLine bytes n r) count line
+
+-- a newline behind bytes of a line
+pub newline_behind : (bytes : List ℕ) (place : ℕ) → ((k : ℕ) → k < place → is_of InLine (get_or bytes k 0) ≡ true) → get_or bytes place 0 ≡ 10 → place < length bytes → FirstNewline bytes place
+newline_behind bytes place each is within = record {
+  before = λ k l. no_newline (get_or bytes k 0) (each k l);
+  is = is;
+  within = within;
+}

@@ -37,7 +37,7 @@ of_no_newline InLine c h = grind arith
 pub run_lacks : (kind : Kind) (bytes : List ℕ) → AllPass (is_of kind) bytes → Lacks is_newline bytes
 run_lacks kind bytes each k d l = of_no_newline kind (get_or bytes k d) (each k d l)
 
-word_no_blank : (c : ℕ) → is_of InWord c ≡ true → is_blank c ≡ false
+pub word_no_blank : (c : ℕ) → is_of InWord c ≡ true → is_blank c ≡ false
 word_no_blank c h = grind arith
 
 pub word_lacks : (bytes : List ℕ) → AllPass (is_of InWord) bytes → Lacks is_blank bytes

@@ -48,10 +48,32 @@ fn run(kind: Kind, bytes: &[u8]) -> usize
     run_past(wide_run(kind, bytes), kind, bytes)
 }
 
-/// The record of the line that some bytes begin with, if the line has a newline and a record. The
-/// newline counts among the bytes that spell it.
+/// The record of a line that has one space after its key and no other blank beside it, as most lines
+/// do. None is found near the end of the bytes.
 #[inline(always)]
-pub(crate) fn prefix_line(bytes: &[u8]) -> Option<PeekedRecord<'_>>
+fn plain_line(bytes: &[u8]) -> Option<PeekedRecord<'_>>
+    ensures { IfSome result (λ f. BeginsWithLine bytes.now f.len (shown_by f)) }
+{
+    let klen = wide_run(Kind::InWord, bytes);
+    if klen == 0 || bytes.len() - klen < 2 || bytes[0] == b'#' || bytes[klen] != b' ' {
+        return None;
+    }
+    let tail = &bytes[klen + 1..];
+    let vlen = wide_run(Kind::InLine, tail);
+    if vlen == tail.len() || tail[vlen] != b'\n' || Kind::Blank.has(tail[0]) {
+        return None;
+    }
+    Some(PeekedRecord {
+        key: &bytes[..klen],
+        value: &tail[..vlen],
+        len: klen + vlen + 2,
+    })
+}
+
+/// The record of a line, whatever its blanks.
+#[cold]
+#[inline(never)]
+fn spaced_line(bytes: &[u8]) -> Option<PeekedRecord<'_>>
     ensures { IfSome result (λ f. BeginsWithLine bytes.now f.len (shown_by f)) }
 {
     let start = blanks(bytes);
@@ -72,6 +94,18 @@ pub(crate) fn prefix_line(bytes: &[u8]) -> Option<PeekedRecord<'_>>
         value: &rest[..vlen],
         len: start + klen + gap + vlen + 1,
     })
+}
+
+/// The record of the line that some bytes begin with, if the line has a newline and a record. The
+/// newline counts among the bytes that spell it.
+#[inline(always)]
+pub(crate) fn prefix_line(bytes: &[u8]) -> Option<PeekedRecord<'_>>
+    ensures { IfSome result (λ f. BeginsWithLine bytes.now f.len (shown_by f)) }
+{
+    match plain_line(bytes) {
+        Some(line) => Some(line),
+        None => spaced_line(bytes),
+    }
 }
 
 /// Copies the record of the line that some bytes begin with over another one, and answers how many

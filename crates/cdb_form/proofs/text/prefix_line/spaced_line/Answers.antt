@@ -6,7 +6,7 @@ use Rattle.cdb_form.specs.Views.MapParser.{is_of}
 use Rattle.cdb_form.specs.declared.text.kind.Kind.TheVariants.{InLine, InWord}
 use Rattle.cdb_form.proofs.HeadLemmas.{rest_of}
 use Rattle.cdb_form.proofs.LinePrefix.{first_newline, line_prefix}
-use Rattle.cdb_form.proofs.text.prefix_line.prefix_line.Goals as goal
+use Rattle.cdb_form.proofs.text.prefix_line.spaced_line.Goals as goal
 
 pub returns : goal.returns
 returns c =
