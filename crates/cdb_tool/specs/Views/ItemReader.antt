@@ -50,7 +50,7 @@ pub record IsNew {R L : Type 0} (t : ItemReader R L) : Type 0 where
 -- the next item is a record that is whole at hand, spelled by n bytes there
 abbrev pub HasPeeked : {R L : Type 0} → (R → List ℕ) → ℕ → ItemReader R L → ℕ → KeyValue → Type 0
 HasPeeked held greatest (Native t) n r = native.HasPeeked held greatest t n r
-HasPeeked held greatest (Map t) n r = ⊥
+HasPeeked held greatest (Map t) n r = map.HasPeeked held t n r
 HasPeeked held greatest (Changes t) n r = changes.HasPeeked held greatest t n r
 
 -- a call gave an item, told the end, or answered a fault, as a reader of its form does

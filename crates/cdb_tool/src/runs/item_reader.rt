@@ -57,15 +57,14 @@ impl<R: Read, L: Width> ItemReader<R, L> {
         }
     }
 
-    /// The record that the next item puts, if it is whole at hand, where it is. Nothing is taken. Of a
-    /// map none is shown.
+    /// The record that the next item puts, if it is whole at hand, where it is. Nothing is taken.
     #[inline(always)]
     pub(crate) fn peek<A: AtHand<R>>(&self) -> Option<PeekedRecord<'_>>
         ensures { IfSome result (λ f. HasPeeked A.held L.GREATEST self.now f.len (shown_by f)) }
     {
         match self {
             ItemReader::Native(text) => text.peek::<A>(),
-            ItemReader::Map(_) => None,
+            ItemReader::Map(text) => text.peek::<A>(),
             ItemReader::Changes(items) => items.peek::<A>(),
         }
     }
@@ -79,7 +78,7 @@ impl<R: Read, L: Width> ItemReader<R, L> {
     {
         match self {
             ItemReader::Native(text) => text.take_peeked::<A>(len),
-            ItemReader::Map(_) => {}
+            ItemReader::Map(text) => text.take_peeked::<A>(len),
             ItemReader::Changes(items) => items.take_peeked::<A>(len),
         }
     }
