@@ -1,4 +1,4 @@
--- Runs of bytes that are looked at 32 at once.
+-- Runs of bytes that are looked at 16 or 32 at once.
 use Rattle.std.proofs.Common.{List, ap, arith, drop, false, get_or, inl, inr, length, map, not, sym, take, true, ◌+◌, ◌<◌, ◌∙◌, ◌≡◌, ◌≢◌, ◌≤◌, ℕ}
 use Rattle.std.specs.Int.Count.{count_trailing_zeros}
 use Rattle.std.specs.List.{prefix_len}
@@ -21,24 +21,24 @@ pub record WideRun (kind : Kind) (bytes : List ℕ) (place : ℕ) : Type 0 where
   pub within : place ≤ length bytes
   pub each : (k : ℕ) → k < place → is_of kind (get_or bytes k 0) ≡ true
 
--- and r more
-wide_more : (kind : Kind) (bytes : List ℕ) (place r : ℕ) → WideRun kind bytes place → place + 32 ≤ length bytes → r ≡ prefix_len (λ c. not (may_end kind c)) (take 32 (drop place bytes)) → WideRun kind bytes (place + r)
-wide_more kind bytes place r so room counted = record {
-  within = omega (arith, room, run_in_chunk_le (may_end kind) bytes place 32 r 0 room counted);
+-- and r more of n
+wide_more : (kind : Kind) (bytes : List ℕ) (place n r : ℕ) → WideRun kind bytes place → place + n ≤ length bytes → r ≡ prefix_len (λ c. not (may_end kind c)) (take n (drop place bytes)) → WideRun kind bytes (place + r)
+wide_more kind bytes place n r so room counted = record {
+  within = omega (arith, room, run_in_chunk_le (may_end kind) bytes place n r 0 room counted);
   each = λ k l. elim (cases_lt k place) [
     | inl before ↦ so.each k before
-    | inr from ↦ of_kind kind (get_or bytes k 0) (run_in_chunk_fails (may_end kind) bytes place 32 r 0 room counted k from l)
+    | inr from ↦ of_kind kind (get_or bytes k 0) (run_in_chunk_fails (may_end kind) bytes place n r 0 room counted k from l)
   ];
 }
 
--- up to the first of 32 bytes that may end it
-pub wide_stops : (kind : Kind) (bytes : List ℕ) (place ends : ℕ) → WideRun kind bytes place → place + 32 ≤ length bytes → ends ≡ mask_l (map (may_end kind) (take 32 (drop place bytes))) → ends ≢ 0 → WideRun kind bytes (place + count_trailing_zeros 64 ends)
-wide_stops kind bytes place ends so room is some =
-    let lanes = take 32 (drop place bytes) in
-    wide_more kind bytes place (count_trailing_zeros 64 ends) so room
-    (ap (count_trailing_zeros 64) is ∙ trailing_mask_l (may_end kind) 64 lanes (omega (arith, length-chunk place 32 bytes room)) (omega (arith, is, some)))
+-- up to the first of n bytes that may end it
+pub wide_stops : (kind : Kind) (bytes : List ℕ) (place n ends : ℕ) → n ≤ 64 → WideRun kind bytes place → place + n ≤ length bytes → ends ≡ mask_l (map (may_end kind) (take n (drop place bytes))) → ends ≢ 0 → WideRun kind bytes (place + count_trailing_zeros 64 ends)
+wide_stops kind bytes place n ends few so room is some =
+    let lanes = take n (drop place bytes) in
+    wide_more kind bytes place n (count_trailing_zeros 64 ends) so room
+    (ap (count_trailing_zeros 64) is ∙ trailing_mask_l (may_end kind) 64 lanes (omega (arith, few, length-chunk place n bytes room)) (omega (arith, is, some)))
 
--- or all 32
-pub wide_goes_on : (kind : Kind) (bytes : List ℕ) (place ends : ℕ) → WideRun kind bytes place → place + 32 ≤ length bytes → ends ≡ mask_l (map (may_end kind) (take 32 (drop place bytes))) → ends ≡ 0 → WideRun kind bytes (place + 32)
-wide_goes_on kind bytes place ends so room is none =
-    wide_more kind bytes place 32 so room (sym (leading_from_mask_l (may_end kind) (take 32 (drop place bytes)) (sym is ∙ none) ∙ length-chunk place 32 bytes room))
+-- or all n
+pub wide_goes_on : (kind : Kind) (bytes : List ℕ) (place n ends : ℕ) → WideRun kind bytes place → place + n ≤ length bytes → ends ≡ mask_l (map (may_end kind) (take n (drop place bytes))) → ends ≡ 0 → WideRun kind bytes (place + n)
+wide_goes_on kind bytes place n ends so room is none =
+    wide_more kind bytes place n n so room (sym (leading_from_mask_l (may_end kind) (take n (drop place bytes)) (sym is ∙ none) ∙ length-chunk place n bytes room))

@@ -164,3 +164,12 @@ newline_behind bytes place each is within = record {
   is = is;
   within = within;
 }
+
+-- a byte behind the blanks is none
+pub after_blanks : (c : ℕ) → 32 < c → is_blank c ≡ false
+after_blanks c h = grind arith
+
+-- what ends behind a byte that is no space is some
+pub some_word : (bytes : List ℕ) (n : ℕ) → 35 < get_or bytes 0 0 → get_or bytes n 0 ≡ 32 → 0 < n
+some_word bytes zero h space = absurd (omega (arith, h, space))
+some_word bytes (suc n) h space = omega arith

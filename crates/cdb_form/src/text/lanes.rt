@@ -1,8 +1,9 @@
-// Bytes that are looked at 32 at once.
+// Bytes that are looked at 16 or 32 at once.
 ghost use Rattle.std.specs.Prelude.{◌≡◌, true, ℕ, ◌<◌, ◌≤◌, length, map, slice_index};
 ghost use Rattle.std.specs.Simd.Lanes.{mask_l};
 ghost use Rattle.cdb_form.specs.Views.PrefixLine.{may_end};
 ghost use Rattle.cdb_form.specs.Views.MapParser.{is_of};
+ghost use Rattle.cdb_form.specs.declared.text.kind.Kind.TheVariants.{InWord};
 
 use crate::text::kind::Kind;
 use std::simd::prelude::*;
@@ -17,6 +18,31 @@ fn ends(kind: Kind, bytes: u8x32) -> u64
         Kind::InWord => bytes.simd_le(u8x32::splat(b' ')).to_bitmask(),
         Kind::InLine => bytes.simd_eq(u8x32::splat(b'\n')).to_bitmask(),
     }
+}
+
+/// Which of 16 bytes may end a word, a bit for each.
+#[inline(always)]
+fn word_ends(bytes: u8x16) -> u64
+    ensures { result ≡ mask_l (map (may_end InWord) bytes) }
+{
+    bytes.simd_le(u8x16::splat(b' ')).to_bitmask()
+}
+
+/// How many bytes of a word some bytes begin with, as far as whole 16 show it: most words are short.
+#[inline(always)]
+pub(crate) fn word_run(bytes: &[u8]) -> usize
+    ensures within { result ≤ length bytes.now }
+    ensures each { (k : ℕ) → k < result → is_of InWord (slice_index bytes.now k) ≡ true }
+{
+    let mut place = 0;
+    while 16 <= bytes.len() - place {
+        let ends = word_ends(u8x16::from_slice(&bytes[place..]));
+        if ends != 0 {
+            return place + ends.trailing_zeros() as usize;
+        }
+        place += 16;
+    }
+    place
 }
 
 /// How many bytes of a kind some bytes begin with, as far as whole 32 show it.

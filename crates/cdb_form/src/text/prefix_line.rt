@@ -10,7 +10,7 @@ ghost use Rattle.cdb_form.specs.Views.Pairs.{key_value};
 use crate::copying::copy_over;
 use crate::record::Record;
 use crate::text::kind::Kind;
-use crate::text::lanes::wide_run;
+use crate::text::lanes::{wide_run, word_run};
 use crate::text::prefix::PeekedRecord;
 use std::alloc::AllocError;
 
@@ -49,18 +49,19 @@ fn run(kind: Kind, bytes: &[u8]) -> usize
 }
 
 /// The record of a line that has one space after its key and no other blank beside it, as most lines
-/// do. None is found near the end of the bytes.
+/// do. None is found near the end of the bytes, nor if a byte up to `#` begins the key, or one up to
+/// a space the value.
 #[inline(always)]
 fn plain_line(bytes: &[u8]) -> Option<PeekedRecord<'_>>
     ensures { IfSome result (λ f. BeginsWithLine bytes.now f.len (shown_by f)) }
 {
-    let klen = wide_run(Kind::InWord, bytes);
-    if klen == 0 || bytes.len() - klen < 2 || bytes[0] == b'#' || bytes[klen] != b' ' {
+    let klen = word_run(bytes);
+    if klen == bytes.len() || bytes[0] <= b'#' || bytes[klen] != b' ' {
         return None;
     }
     let tail = &bytes[klen + 1..];
     let vlen = wide_run(Kind::InLine, tail);
-    if vlen == tail.len() || tail[vlen] != b'\n' || Kind::Blank.has(tail[0]) {
+    if vlen == tail.len() || tail[vlen] != b'\n' || tail[0] <= b' ' {
         return None;
     }
     Some(PeekedRecord {

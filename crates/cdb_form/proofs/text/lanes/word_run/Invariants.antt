@@ -1,0 +1,11 @@
+use Rattle.std.proofs.Common.{length, ◌-◌}
+use Rattle.cdb_form.specs.declared.text.kind.Kind.TheVariants.{InWord}
+use Rattle.cdb_form.proofs.LaneRuns.{WideRun}
+use Rattle.cdb_form.proofs.text.lanes.word_run.Given as goal
+
+-- the bytes so far are of a word
+abbrev pub invariant-loop-place : goal.invariant-loop-place
+invariant-loop-place l = WideRun InWord l.bytes l.place
+
+abbrev pub decreases-loop-place : goal.decreases-loop-place
+decreases-loop-place l = length l.bytes - l.place
