@@ -85,12 +85,14 @@ fn tell_put<E: Write>(
 fn put_record<L: Width, S: Store, E: Write>(
     maker: &mut Batch<S, L>,
     options: &MakeOptions,
+    mode: Mode,
     input: u64,
     number: u64,
     key: &[u8],
     value: &[u8],
     errors: &mut E,
 ) -> Result<(), Fault>
+    requires mode { mode ≡ mode_of options.now }
     ensures ok { (t : Task) (cs : List Incoming) (start : Option (List ℕ))
         → t.options ≡ options.now
         → InCourse t cs start (E.contents errors.old) maker.old
@@ -119,7 +121,7 @@ fn put_record<L: Width, S: Store, E: Write>(
         (λ f. IsOfStore f → S.failures (store_of maker.old) < S.failures (store_of maker.new)) }
     ensures own { IfErr result (λ f. IsOfBase f → ⊥) }
 {
-    let put = maker.put(put_mode(options), key, value)?;
+    let put = maker.put(mode, key, value)?;
     tell_put(options, input, number, put, errors)
 }
 
@@ -151,12 +153,14 @@ fn remove_key<L: Width, S: Store>(maker: &mut Batch<S, L>, key: &[u8]) -> Result
 fn do_item<L: Width, S: Store, E: Write>(
     maker: &mut Batch<S, L>,
     options: &MakeOptions,
+    mode: Mode,
     input: u64,
     number: u64,
     kind: ItemKind,
     item: &Record,
     errors: &mut E,
 ) -> Result<(), Fault>
+    requires mode { mode ≡ mode_of options.now }
     ensures ok { (t : Task) (cs : List Incoming) (start : Option (List ℕ))
         → t.options ≡ options.now
         → InCourse t cs start (E.contents errors.old) maker.old
@@ -183,6 +187,7 @@ fn do_item<L: Width, S: Store, E: Write>(
         ItemKind::Put => put_record(
             maker,
             options,
+            mode,
             input,
             number,
             &item.key,
@@ -230,6 +235,7 @@ pub(crate) fn put_input<L: Width, S: Store, R: Read + Drop, E: Write, A: AtHand<
         key: Vec::new(alloc),
         value: Vec::new(alloc),
     };
+    let mode = put_mode(options);
     let mut number = 0;
     loop {
         number += 1;
@@ -238,6 +244,7 @@ pub(crate) fn put_input<L: Width, S: Store, R: Read + Drop, E: Write, A: AtHand<
             let put = put_record(
                 maker,
                 options,
+                mode,
                 input,
                 number,
                 peeked.key,
@@ -252,7 +259,7 @@ pub(crate) fn put_input<L: Width, S: Store, R: Read + Drop, E: Write, A: AtHand<
                 Ok(None) => return Ok(items.into_reader()),
                 Ok(Some(kind)) => kind,
             };
-            do_item(maker, options, input, number, kind, &item, errors)?;
+            do_item(maker, options, mode, input, number, kind, &item, errors)?;
         }
     }
 }
