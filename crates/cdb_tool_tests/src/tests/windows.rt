@@ -1,13 +1,13 @@
 // Map texts through windows of all sizes, over readers that give a byte, two, or all.
 use cdb_form::{MapReader, Record};
 use cdb_tool::{InWindow, Input};
-use std::alloc::Global;
+use std::alloc::{AllocError, Global};
 use std::io::{self, Read};
 use std::prelude::*;
 use std::test::Fail;
 
 /// Texts, and their records as `<key|value>`.
-const RECORDS: [(&[u8], &[u8]); 22] = [
+const RECORDS: [(&[u8], &[u8]); 23] = [
     (
         b"  one Hello\n# note\n\n  # more\n \t\nkey\ntwo\t \tGood bye",
         b"<one|Hello><key|><two|Good bye>",
@@ -48,6 +48,11 @@ const RECORDS: [(&[u8], &[u8]); 22] = [
         b"\rone\r Hello\r\n\x0b \x0c\n\0 \0\n",
         b"<\rone\r|Hello\r><\x0b|\x0c><\0|\0>",
     ),
+    // Lines that are looked at 32 bytes at once, up to the last one's end.
+    (
+        b"k v\nkey  v\nkey\tv w\n#k v\nkey \nkey a value of more than thirty-two bytes\n",
+        b"<k|v><key|v><key|v w><key|><key|a value of more than thirty-two bytes>",
+    ),
     // Lines of 7 bytes and of 16, as long as a window.
     (
         b"one 12\nfive 6\nabcdef\nab    \n",
@@ -86,8 +91,37 @@ impl Read for Dripping<'_> {
     }
 }
 
-/// The records of a text that comes through a window, shown.
-fn shown(alloc: Global, text: &[u8], size: usize, most: usize) -> Result<Vec<u8>, Fail> {
+/// Puts a record as `<key|value>` behind others.
+fn show(key: &[u8], value: &[u8], shown: &mut Vec<u8>) -> Result<(), AllocError> {
+    for part in [b"<", key, b"|", value, b">"] {
+        shown.extend_from_slice(part)?;
+    }
+    Ok(())
+}
+
+/// Shows the next record where it lies, if it is whole at hand, and takes it.
+fn show_peeked<R: Read>(
+    maps: &mut MapReader<Input<R>>,
+    shown: &mut Vec<u8>,
+) -> Result<bool, AllocError> {
+    let Some(peeked) = maps.peek::<InWindow>() else {
+        return Ok(false);
+    };
+    let len = peeked.len;
+    show(peeked.key, peeked.value, shown)?;
+    maps.take_peeked::<InWindow>(len);
+    Ok(true)
+}
+
+/// The records of a text that comes through a window, shown: where they lie, if they are whole at
+/// hand and it peeks, and else as they are read.
+fn shown(
+    alloc: Global,
+    text: &[u8],
+    size: usize,
+    most: usize,
+    peeks: bool,
+) -> Result<Vec<u8>, Fail> {
     let mut reader = Dripping { text, most };
     let mut maps = MapReader::new(alloc, Input::new(alloc, &mut reader, size.max(1))?);
     let mut record = Record {
@@ -96,13 +130,13 @@ fn shown(alloc: Global, text: &[u8], size: usize, most: usize) -> Result<Vec<u8>
     };
     let mut shown = Vec::new(alloc);
     for _ in 0..1000 {
+        if peeks && show_peeked(&mut maps, &mut shown)? {
+            continue;
+        }
         if !maps.read_buffered::<InWindow>(&mut record)? {
             break;
         }
-        let parts: [&[u8]; 5] = [b"<", &record.key, b"|", &record.value, b">"];
-        for part in parts {
-            shown.extend_from_slice(part)?;
-        }
+        show(&record.key, &record.value, &mut shown)?;
     }
     Ok(shown)
 }
@@ -112,11 +146,13 @@ fn map_texts_through_windows(rt: HostRuntime) -> Result<(), Fail> {
     for &(text, records) in &RECORDS {
         for size in SIZES {
             for most in MOST {
-                let given = shown(rt.alloc(), text, size, most)?;
-                assert!(rt;
-                    given.as_slice() == records,
-                    "{text:?} by {size} and {most}"
-                );
+                for peeks in [false, true] {
+                    let given = shown(rt.alloc(), text, size, most, peeks)?;
+                    assert!(rt;
+                        given.as_slice() == records,
+                        "{text:?} by {size} and {most}, {peeks}"
+                    );
+                }
             }
         }
     }
