@@ -37,7 +37,7 @@ pub record Reads (w : ℕ) (bytes : List ℕ) (r : KeyValue) (rest : List ℕ) :
   pub rest_is : drop (record_size w r) bytes ≡ rest
   pub long : record_size w r + length rest ≡ length bytes
 
-same_record : (a b : KeyValue) → a.key ≡ b.key → a.value ≡ b.value → a ≡ b
+pub same_record : (a b : KeyValue) → a.key ≡ b.key → a.value ≡ b.value → a ≡ b
 same_record a b k v = ap (λ x. let p : KeyValue = record { key = x; value = a.value } in p) k ∙ ap (λ x. let p : KeyValue = record { key = b.key; value = x } in p) v
 
 pub prefix_reads : (w : ℕ) (bytes : List ℕ) (r : KeyValue) (rest : List ℕ) → Begins w bytes r rest → Reads w bytes r rest

@@ -1,15 +1,21 @@
 -- A record of a database file at the start of some bytes that are at hand.
-use Rattle.std.proofs.Common.{◌≡◌, ℕ, ◌+◌, ◌-◌, ◌*◌, ◌<◌, ◌≤◌, List, ◌++◌, length, take, drop, refl, sym, subst, ap, ◌∙◌, arith, Option, Some, None, append_assoc, length-append, length-drop}
+use Rattle.std.proofs.Common.{◌≡◌, ℕ, ◌+◌, ◌-◌, ◌*◌, ◌<◌, ◌≤◌, List, ◌++◌, length, take, drop, refl, sym, subst, ap, ◌∙◌, arith, Option, Some, None, append_assoc, length-append, length-drop, length-take}
 use Rattle.std.proofs.lemmas.List.{drop-drop, drop-take, length-take-le, take-append-drop, take-take, take_all}
 use Rattle.std.specs.Io.KnownBytes.{prepend_known, Consumes}
 use Rattle.cdb_form.specs.Format.Pair.{WordPair}
 use Rattle.cdb_form.specs.Format.Reading.{pair_at}
-use Rattle.cdb_form.specs.Format.Record.{record_size}
+use Rattle.cdb_form.specs.Format.Record.{KeyValue, record_size}
 use Rattle.cdb_form.specs.Format.Walk.{prefix_record, prefix_size, walk_from, with_first}
 use Rattle.cdb_form.specs.Views.KnownBytes.{FromTo}
 use Rattle.cdb_form.specs.Views.Pairs.{header_pair}
+use Rattle.cdb_form.specs.Views.Prefix.{IsStored}
 use Rattle.cdb_form.specs.Views.Reading.{ReadsFirst}
+use Rattle.cdb_form.specs.Views.RecordReader.{unread, GivesRecord, HasPeeked}
 use Rattle.cdb_form.specs.declared.header.Header.{Header}
+use Rattle.cdb_form.specs.declared.walk.record_area.Area.{Area}
+use Rattle.cdb_form.specs.declared.walk.record_reader.Progress.{Progress}
+use Rattle.cdb_form.specs.declared.walk.record_reader.Progress.TheVariants.{AtHead, At, AtEnd, Failed}
+use Rattle.cdb_form.specs.declared.walk.record_reader.RecordReader.{RecordReader}
 use Rattle.cdb_form.proofs.Prefixes.{lengths_of}
 use Rattle.cdb_form.proofs.ReadBack.{same_words}
 use Rattle.cdb_form.proofs.RecordReads.{record_cut, record_read}
@@ -91,3 +97,60 @@ stored_read w place end next old new bytes some read whole at room =
       record_read w place end next old mid new header r some one two parts.long parts.lengths behind room,
       record_cut w place end next old mid new header r some one two parts.long parts.lengths behind room,
     )
+
+-- so is one that was taken of the bytes that are at hand before the record end
+pub stored_taken : (w place end next n : ℕ) (old new : Option (List ℕ)) (held : List ℕ) (r : KeyValue) → 0 < w → place ≤ end → IsStored w (take (end - place) held) n r → Consumes old new (take n held) → next ≡ place + n
+    → (next ≡ place + record_size w r)
+    × FromTo old new (λ text rest. (walk_from w place end text ≡ with_first r (walk_from w next end rest)) × (rest ≡ drop (next - place) text))
+    × ReadsFirst r (walk_from w place end) (walk_from w next end) old new
+stored_taken w place end next n old new held r some ordered begins taken at =
+    let most = end - place in
+    let window = take most held in
+    let few : n ≤ most = omega (arith, begins.within, length-take most held) in
+    let same : take n window ≡ take n held = take-take n most held few in
+    let read = subst (Consumes old new) (sym same) taken in
+    let long = length-take-le n window begins.within in
+    let all = stored_read w place end next old new (take n window) some read (begins.whole ∙ sym long) (omega (arith, long)) (omega (arith, few)) in
+    subst (λ (q : KeyValue). (next ≡ place + record_size w q)
+    × FromTo old new (λ text rest. (walk_from w place end text ≡ with_first q (walk_from w next end rest)) × (rest ≡ drop (next - place) text))
+    × ReadsFirst q (walk_from w place end) (walk_from w next end) old new) begins.is all
+
+-- what the record reader goes on with
+abbrev area_in : Area → Progress → Area
+area_in other AtHead = other
+area_in other (At area) = area
+area_in other AtEnd = other
+area_in other (Failed fault) = other
+
+walk_part : (w place end next : ℕ) (old new : Option (List ℕ)) (r : KeyValue)
+    → FromTo old new (λ text rest. (walk_from w place end text ≡ with_first r (walk_from w next end rest)) × (rest ≡ drop (next - place) text))
+    → FromTo old new (λ text rest. walk_from w place end text ≡ with_first r (walk_from w next end rest))
+walk_part w place end next None new r h = tt
+walk_part w place end next (Some text) None r h = absurd h
+walk_part w place end next (Some text) (Some rest) r h = h.0
+
+behind_part : (w place end next : ℕ) (old new : Option (List ℕ)) (r : KeyValue) → place ≤ next → next ≤ end
+    → FromTo old new (λ text rest. (walk_from w place end text ≡ with_first r (walk_from w next end rest)) × (rest ≡ drop (next - place) text))
+    → FromTo old new (λ text rest. drop (end - next) rest ≡ drop (end - place) text)
+behind_part w place end next None new r later room h = tt
+behind_part w place end next (Some text) None r later room h = absurd h
+behind_part w place end next (Some text) (Some rest) r later room h =
+    let n : (next - place) + (end - next) ≡ end - place = omega arith in
+    ap (drop (end - next)) h.1 ∙ drop-drop (end - next) (next - place) text ∙ ap (λ (k : ℕ). drop k text) n
+
+-- a record that was shown was taken
+pub peeked_taken : {R L : Type 0} (w : ℕ) (remaining : R → Option (List ℕ)) (held : R → List ℕ) (old new : RecordReader R L) (now next : Area) (n : ℕ) (r : KeyValue) → 0 < w → HasPeeked w held old n r
+    → old.walking ≡ At now → new.walking ≡ At next → Consumes (unread remaining old) (unread remaining new) (take n (held old.reader)) → next.place ≡ now.place + n → next.end ≡ now.end → GivesRecord w remaining old new r
+peeked_taken w remaining held old new now next n r some peeked is becomes taken at end =
+    let same : peeked.area ≡ now = ap (area_in now) (sym peeked.going ∙ is) in
+    let begins = subst (λ (a : Area). IsStored w (take (a.end - a.place) (held old.reader)) n r) same peeked.begins in
+    let all = stored_taken w now.place now.end next.place n (unread remaining old) (unread remaining new) (held old.reader) r some now.ordered begins taken at in
+    let few : n ≤ now.end - now.place = omega (arith, begins.within, length-take (now.end - now.place) (held old.reader)) in
+    let most : 0 < n = omega (arith, begins.whole) in
+    rw (is, becomes) (record {
+      walk = subst (λ (e : ℕ). FromTo (unread remaining old) (unread remaining new) (λ text rest. walk_from w now.place now.end text ≡ with_first r (walk_from w next.place e rest))) (sym end) (walk_part w now.place now.end next.place _ _ r all.1);
+      cut = subst (λ (e : ℕ). ReadsFirst r (walk_from w now.place now.end) (walk_from w next.place e) (unread remaining old) (unread remaining new)) (sym end) all.2;
+      behind = subst (λ (e : ℕ). FromTo (unread remaining old) (unread remaining new) (λ text rest. drop (e - next.place) rest ≡ drop (now.end - now.place) text)) (sym end) (behind_part w now.place now.end next.place _ _ r (omega arith) (omega arith) all.1);
+      going = tt;
+      fewer = omega (arith, end);
+    })

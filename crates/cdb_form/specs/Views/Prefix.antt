@@ -44,12 +44,15 @@ pub record BeginsWithRecord (greatest : ℕ) (bytes : List ℕ) (n : ℕ) (r : K
 abbrev pub shown_by : PeekedRecord → KeyValue
 shown_by f = record { key = f.key.now; value = f.value.now }
 
--- n bytes that are a record of a database file, of which so much was kept
-pub record BeginsWithStored (w : ℕ) (keeping : Keeping) (bytes : List ℕ) (n : ℕ) (into : Record) :
-    Type 0 where
+-- n bytes that are a record of a database file
+pub record IsStored (w : ℕ) (bytes : List ℕ) (n : ℕ) (r : KeyValue) : Type 0 where
   pub whole : prefix_size w (take n bytes) ≡ n
-  pub kept : IsKept keeping into (prefix_record w (take n bytes))
+  pub is : prefix_record w (take n bytes) ≡ r
   pub within : n ≤ length bytes
+
+-- the same, of a record of which so much was kept
+abbrev pub BeginsWithStored : ℕ → Keeping → List ℕ → ℕ → Record → Type 0
+BeginsWithStored w keeping bytes n into = (r : KeyValue) × IsKept keeping into r × IsStored w bytes n r
 
 -- how many bytes the record at the start of some bytes has, where it is whole there
 abbrev pub PrefixTells : ℕ → List ℕ → Option ℕ → Type 0

@@ -1,15 +1,17 @@
 -- What a clause reads of a reader of the records of a file.
-use Rattle.std.specs.Prelude.{ℕ, ◌^◌, ◌+◌, ◌<◌, IfSome, List, drop, Option, ◌≡◌, ⊤, ◌-◌, max}
+use Rattle.std.specs.Prelude.{ℕ, ◌^◌, ◌+◌, ◌<◌, IfSome, List, drop, take, Option, ◌≡◌, ⊤, ◌-◌, max}
 use Rattle.cdb_form.specs.Format.Pair.{head_size, pair_size}
 use Rattle.cdb_form.specs.Format.Record.{KeyValue}
 use Rattle.cdb_form.specs.Format.Walk.{Walked, walk_of, walk_from, record_end, no_walk, with_first}
 use Rattle.cdb_form.specs.Format.Walk.{with_records}
 use Rattle.cdb_form.specs.Views.KnownBytes.{FromTo, StillFrom}
+use Rattle.cdb_form.specs.Views.Prefix.{IsStored}
 use Rattle.cdb_form.specs.Views.Reading.{ReadsNoFurther, ReadsNoRecord, ReadsFirst, IsKept}
 use Rattle.cdb_form.specs.Views.WalkFault.{IsDamage, stopped_by}
 use Rattle.cdb_form.specs.declared.record.Record.{Record}
 use Rattle.cdb_form.specs.declared.walk.keeping.Keeping.{Keeping}
 use Rattle.cdb_form.specs.declared.walk.fault.WalkFault.{WalkFault}
+use Rattle.cdb_form.specs.declared.walk.record_area.Area.{Area}
 use Rattle.cdb_form.specs.declared.walk.record_reader.RecordReader.{RecordReader}
 use Rattle.cdb_form.specs.declared.walk.record_reader.Progress.{Progress}
 use Rattle.cdb_form.specs.declared.walk.record_reader.Progress.TheVariants.{AtHead, At, AtEnd}
@@ -79,6 +81,13 @@ HasEnded t = t.walking ≡ AtEnd
 -- it has answered this fault
 abbrev pub HasFailed : {R L : Type 0} → RecordReader R L → WalkFault → Type 0
 HasFailed t fault = t.walking ≡ Failed fault
+
+-- the next record is whole at hand, as n bytes there, and ends before the record end or at it
+pub record HasPeeked {R L : Type 0} (w : ℕ) (held : R → List ℕ) (t : RecordReader R L) (n : ℕ)
+    (r : KeyValue) : Type 0 where
+  pub area : Area
+  pub going : t.walking ≡ At area
+  pub begins : IsStored w (take (area.end - area.place) (held t.reader)) n r
 
 -- what of a file stands behind its head and its records
 abbrev pub behind_records : ℕ → List ℕ → List ℕ

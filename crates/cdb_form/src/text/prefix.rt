@@ -24,7 +24,7 @@ pub(crate) struct PrefixNumeral {
 pub struct PeekedRecord<'a> {
     pub key: &'a [u8],
     pub value: &'a [u8],
-    /// How many bytes spell it.
+    /// How many bytes the reader has of it.
     pub len: usize,
 }
 

@@ -14,7 +14,7 @@ use crate::record::Record;
 use crate::text::at_hand::{AtHand, window_within};
 use crate::walk::fault::WalkFault;
 use crate::walk::keeping::Keeping;
-use crate::walk::prefix::prefix_stored;
+use crate::walk::prefix::copy_stored;
 use crate::walk::record_area::Area;
 use crate::walk::source::{record_body, record_header};
 use crate::width::Width;
@@ -100,7 +100,7 @@ pub(crate) fn read_record_buffered<R: Read, L: Width, A: AtHand<R>>(
         (R.remaining reader.old) (R.remaining reader.new)) }
 {
     let window = window_within::<R, A>(reader, area.end - area.place);
-    let n = prefix_stored::<L>(window, keeping, into)?;
+    let n = copy_stored::<L>(window, keeping, into)?;
     if n == 0 {
         return read_record::<R, L>(reader, into, area, keeping);
     }

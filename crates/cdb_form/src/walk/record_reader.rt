@@ -12,12 +12,15 @@ ghost use Rattle.cdb_form.specs.Format.Walk.{with_first};
 ghost use Rattle.cdb_form.specs.declared.walk.keeping.Keeping.TheVariants.{Key};
 ghost use Rattle.cdb_form.specs.Views.WalkFault.{IsDamage, stopped_by};
 ghost use Rattle.cdb_form.specs.Views.Pairs.{key_value};
+ghost use Rattle.cdb_form.specs.Views.Prefix.{shown_by};
 
 use crate::record::Record;
-use crate::text::at_hand::{AtHand, NoneAtHand};
+use crate::text::at_hand::{AtHand, NoneAtHand, window_within};
+use crate::text::prefix::PeekedRecord;
 use crate::walk::fault::WalkFault;
 use crate::walk::keeping::Keeping;
 use crate::walk::next_record::read_record_buffered;
+use crate::walk::prefix::stored_record;
 use crate::walk::record_area::{Area, read_area};
 use crate::width::Width;
 use std::alloc::Global;
@@ -49,7 +52,7 @@ impl<R: Read, L: Width> RecordReader<R, L> {
     ghost use Rattle.cdb_form.specs.Views.RecordReader.{unread, walk_left, behind_end, bytes_left};
     ghost use Rattle.cdb_form.specs.Views.RecordReader.{IsFresh, IsGoing, HasEnded, HasFailed};
     ghost use Rattle.cdb_form.specs.Views.RecordReader.{Between, GivesRecord, GivesEnd, Fails};
-    ghost use Rattle.cdb_form.specs.Views.RecordReader.{GivesKey, GivesKept};
+    ghost use Rattle.cdb_form.specs.Views.RecordReader.{GivesKey, GivesKept, HasPeeked};
     /// A reader of the records of the file that `reader` gives. Nothing is read yet.
     pub fn new(alloc: Global, reader: R) -> RecordReader<R, L>
         ensures unread { unread R.remaining result ≡ R.remaining reader }
@@ -148,6 +151,37 @@ impl<R: Read, L: Width> RecordReader<R, L> {
             (result ≡ Err fault) × (self.new ≡ self.old) }
     {
         self.read_kept::<A>(into, Keeping::Key)
+    }
+
+    /// The next record, where it lies, if it is whole at hand and ends before the record end or at it.
+    /// Nothing is taken: `take_peeked` does that. Before the head was read no record is shown.
+    #[inline(always)]
+    pub fn peek<A: AtHand<R>>(&self) -> Option<PeekedRecord<'_>>
+        ensures { IfSome result (λ f. HasPeeked L.WORD A.held self.now f.len (shown_by f)) }
+    {
+        match self.walking {
+            Progress::At(area) => {
+                let window = window_within::<R, A>(&self.reader, area.end - area.place);
+                stored_record::<L>(window)
+            }
+            Progress::AtHead | Progress::AtEnd | Progress::Failed(_) => None,
+        }
+    }
+
+    /// Takes the record that `peek` shows, whose `len` this is.
+    #[inline(always)]
+    pub fn take_peeked<A: AtHand<R>>(&mut self, len: usize)
+        requires { (r : KeyValue) × HasPeeked L.WORD A.held self.old len r }
+        ensures { (r : KeyValue) → HasPeeked L.WORD A.held self.old len r
+            → GivesRecord L.WORD R.remaining self.old self.new r }
+    {
+        if let Progress::At(area) = self.walking {
+            A::take(&mut self.reader, len);
+            self.walking = Progress::At(Area {
+                place: area.place + len as u64,
+                end: area.end,
+            });
+        }
     }
 
     /// Reads the next record, of which so much is kept, and notes what to do next.

@@ -1,12 +1,10 @@
 use Rattle.std.proofs.lemmas.Grind.{common_steps}
-use Rattle.std.proofs.lemmas.List.{length-take, length-take-le, take-take}
-use Rattle.std.proofs.Common.{[], ap, arith, inl, inr, length, subst, sym, take, ◌-◌, ◌∙◌, ◌≡◌, ◌≤◌}
+use Rattle.std.proofs.Common.{[], refl, arith, inl, inr, subst}
 use Rattle.std.proofs.lemmas.Result.{err_from_is_err_and}
-use Rattle.std.specs.Io.KnownBytes.{Consumes}
 use Rattle.cdb_form.proofs.RecordReads.{none_header}
 use Rattle.cdb_form.proofs.SourceLemmas.{nothing_lost}
-use Rattle.cdb_form.proofs.Stored.{stored_read}
-use Rattle.cdb_form.specs.Format.Walk.{prefix_record}
+use Rattle.cdb_form.proofs.Stored.{stored_taken}
+use Rattle.cdb_form.specs.Views.Prefix.{IsStored}
 use Rattle.cdb_form.proofs.walk.next_record.read_record_buffered.Goals as goal
 
 pub returns-in_err-n-clause-part : goal.returns-in_err-n-clause-part
@@ -21,20 +19,13 @@ returns-in_err-n-clause-part g c =
 pub returns-clause-record : goal.returns-clause-record
 returns-clause-record g c =
     let w = g.L.Width.WORD in
-    let n = c.in_ok-n.n in
-    let most = c.args.area.end - c.args.area.place in
-    let held = g.A.AtHand.held c.args.reader.now in
-    let window = c.window_within-window.result.now in
-    let within : window ≡ take most held = c.window_within-window.ensures in
+    let area = c.args.area in
     let begins = c.in_ok-n.ensures.whole (omega (arith, c.if-n-eq0.false)) in
-    let few : n ≤ most = omega (arith, begins.within, ap length within, length-take most held) in
-    let same : take n window ≡ take n held = ap (take n) within ∙ take-take n most held few in
-    let read = subst (λ t. Consumes (g.R.Read.remaining c.args.reader.now) (g.R.Read.remaining c.take.new.reader) t) (sym same) c.take.ensures in
-    let long = length-take-le n window begins.within in
-    let all = stored_read w c.args.area.place c.args.area.end _ _ _ (take n window) (elim g.met.L.Width.four_or_eight [ inl a ↦ omega arith | inr b ↦ omega arith ])
-    read (begins.whole ∙ sym long) (omega (arith, long)) (omega (arith, few)) in (
-      prefix_record w (take n window),
-      begins.kept,
+    let stored = subst (λ t. IsStored w t c.in_ok-n.n begins.0) c.window_within-window.ensures begins.2 in
+    let all = stored_taken w area.place area.end _ c.in_ok-n.n _ _ (g.A.AtHand.held c.args.reader.now) begins.0 (elim g.met.L.Width.four_or_eight [ inl a ↦ omega arith | inr b ↦ omega arith ])
+    area.ordered stored c.take.ensures refl in (
+      begins.0,
+      begins.1,
       all.0,
       all.1,
       all.2,

@@ -1,0 +1,8 @@
+use Rattle.std.proofs.Common.{arith, inl, inr, refl}
+use Rattle.cdb_form.proofs.Stored.{peeked_taken}
+use Rattle.cdb_form.proofs.walk.record_reader.RecordReader.take_peeked.Goals as goal
+
+pub returns-in-At : goal.returns-in-At
+returns-in-At g c = λ r peeked.
+    peeked_taken g.L.Width.WORD g.R.Read.remaining g.A.AtHand.held c.args.self.now _ c.in-At.area _ c.args.len r (elim g.met.L.Width.four_or_eight [ inl a ↦ omega arith | inr b ↦ omega arith ]) peeked
+    c.in-At.is refl c.take.ensures refl refl
