@@ -33,3 +33,4 @@ pub mod MapReads
 pub mod WholeMap
 mod LinePrefix
 mod LaneRuns
+mod NumeralLemmas

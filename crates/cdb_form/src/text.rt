@@ -7,6 +7,7 @@ mod form_reader;
 pub(crate) mod going;
 mod kind;
 mod lanes;
+pub(crate) mod line;
 pub(crate) mod list_writer;
 mod map_parser;
 pub(crate) mod map_reader;

@@ -5,12 +5,10 @@ ghost use Rattle.std.specs.Io.KnownBytes.{Appends, Keeps};
 ghost use Rattle.cdb_form.specs.Views.KnownBytes.{Writes};
 
 use crate::reading::RETRIES;
+use crate::text::line::LINE;
 use std::error::Error;
 use std::fmt;
 use std::io::{ErrorKind, Write};
-
-/// How many bytes pieces have at most that are written as one.
-const LINE: usize = 256;
 
 /// A writer failed, or took nothing, or said that it took more than it was offered.
 #[derive(Clone, Copy, Debug, PartialEq, Eq)]
@@ -83,7 +81,7 @@ fn joined(pieces: &[&[u8]], line: &mut [u8]) -> Option<usize>
 
 /// Writes one piece after the other, each by a call of the writer.
 #[inline(never)]
-fn write_each<W: Write>(w: &mut W, pieces: &[&[u8]]) -> Result<(), OutFault>
+pub(crate) fn write_each<W: Write>(w: &mut W, pieces: &[&[u8]]) -> Result<(), OutFault>
     ensures { Writes result (W.contents w.old) (W.contents w.new) (flat_map (λ p. p.now) pieces.now) }
 {
     for piece in pieces {

@@ -1,19 +1,53 @@
 // The texts of keys to a writer.
+ghost use Rattle.std.specs.Prelude.{◌≡◌, ◌+◌, ◌≤◌, length, take};
 ghost use Rattle.cdb_form.specs.Text.List.{key_line, list_line};
 ghost use Rattle.cdb_form.specs.Views.KnownBytes.{Writes};
 
-use crate::writing::{OutFault, write_pieces};
+use crate::text::line::{LINE, put_mark, put_number, put_piece};
+use crate::writing::{OutFault, write_each, write_pieces, write_whole};
 use itoa::Buffer;
 use std::io::Write;
 
-/// Writes a key of a list text, with its length in the shortest decimal. After an `OutFault` the
-/// writer holds a prefix of it.
-pub fn write_list_record<W: Write>(w: &mut W, key: &[u8]) -> Result<(), OutFault>
+/// How many bytes a key has at most of which a line has room, beside a numeral of 20 digits and three
+/// marks.
+const ROOM: usize = LINE - 23;
+
+/// Puts a key with its length into a line that has room for it, and answers the place after it.
+#[inline(always)]
+fn put_list_key(line: &mut [u8], key: &[u8]) -> usize
+    requires { 23 + length key.now ≤ length line.old }
+    ensures within { result ≤ length line.new }
+    ensures bytes { take result line.new ≡ list_line key.now }
+{
+    let plus = put_mark(line, 0, b'+');
+    let number = put_number(line, plus, key.len());
+    let colon = put_mark(line, number, b':');
+    let key = put_piece(line, colon, key);
+    put_mark(line, key, b'\n')
+}
+
+/// Writes a key of a list text piece by piece.
+#[inline(never)]
+fn write_long_key<W: Write>(w: &mut W, key: &[u8]) -> Result<(), OutFault>
     ensures { Writes result (W.contents w.old) (W.contents w.new) (list_line key.now) }
 {
     let mut klen = Buffer::new();
     let klen = klen.format(key.len()).as_bytes();
-    write_pieces(w, &[b"+", klen, b":", key, b"\n"])
+    write_each(w, &[b"+", klen, b":", key, b"\n"])
+}
+
+/// Writes a key of a list text, with its length in the shortest decimal. After an `OutFault` the
+/// writer holds a prefix of it.
+#[inline(always)]
+pub fn write_list_record<W: Write>(w: &mut W, key: &[u8]) -> Result<(), OutFault>
+    ensures { Writes result (W.contents w.old) (W.contents w.new) (list_line key.now) }
+{
+    if ROOM < key.len() {
+        return write_long_key(w, key);
+    }
+    let mut line = [0u8; LINE];
+    let end = put_list_key(&mut line, key);
+    write_whole(w, &line[..end])
 }
 
 /// Writes a key and a newline. After an `OutFault` the writer holds a prefix of them.
