@@ -6,7 +6,7 @@ use Rattle.std.proofs.lemmas.List.Concat.{flat_map-append}
 use Rattle.std.specs.Io.KnownBytes.{Appends, Keeps}
 use Rattle.cdb_form.specs.Views.KnownBytes.{FromTo, AppendsPrefix}
 use Rattle.cdb_form.specs.Views.Reading.{ReadsFirst, ReadsNoRecord}
-use Rattle.cdb_form.specs.Format.Record.{KeyValue}
+use Rattle.cdb_form.specs.Format.Record.{KeyValue, record_of}
 use Rattle.cdb_form.specs.Views.RecordReader.{unread, walk_left, size_of_rest, behind_end, behind_records, GaveSoFar, HasEnded, IsFresh}
 use Rattle.cdb_form.specs.Views.WalkFault.{IsDamage, stopped_by}
 use Rattle.cdb_form.specs.Format.Walk.{walk_of, no_walk, damaged, with_first, with_records}
@@ -19,8 +19,10 @@ use Rattle.cdb_form.proofs.WalkText.{walked, gave_more, gave_all, gave_before, g
 use Rattle.cdb_form.proofs.WritingLemmas.{appends_then, appends_kept, prefix_then}
 use Rattle.cdb_tool.specs.Views.Fault.{walk_fault}
 use Rattle.cdb_tool.specs.Runs.Flushed.{Flushed}
-use Rattle.cdb_tool.specs.Runs.Form.{Form}
+use Rattle.cdb_tool.specs.Runs.Form.{Form, IsHeld}
 use Rattle.cdb_tool.specs.Runs.WalkText.{closing, walk_text, Writes, WritesPrefix, WritesFirst, WritingFails, LeavesBehind, KeepsBehind, WritesWalk}
+use Rattle.cdb_tool.specs.declared.runs.content.Content.{Content}
+use Rattle.cdb_tool.specs.declared.runs.content.Content.TheVariants.{Records, Keys}
 use Rattle.cdb_tool.specs.declared.fault.Fault.{Fault}
 use Rattle.cdb_tool.specs.declared.fault.Fault.TheVariants.{Text, Make, Duplicate, Missing, Read, Walk, Output, Long, Open, Rename, NoMemory}
 use Rattle.cdb_tool.proofs.WholeRuns.{prefix_kept, whole_prefix, not_ok}
@@ -66,6 +68,15 @@ written_more w form remaining file t u old mid new r d one behind cut appended =
   read = read_more w remaining file t u d.records r d.read cut;
   appended = subst (Appends old new) (sym (texts_more form d.records r)) (appends_then old mid new (flat_map form.item d.records) (form.item r) d.appended appended);
 }
+
+-- what a text has of a record is in its key and value
+pub held_by : (content : Content) (key value : List ℕ) → IsHeld content key value (record_of key value)
+held_by Records key value = refl
+held_by Keys key value = refl
+
+-- and in the same bytes elsewhere
+pub held_in : (content : Content) (key value a b : List ℕ) (r : KeyValue) → a ≡ key → b ≡ value → IsHeld content key value r → IsHeld content a b r
+held_in content key value a b r k v held = subst (λ x. IsHeld content x b r) (sym k) (subst (λ x. IsHeld content key x r) (sym v) held)
 
 -- ---- how a text ends
 

@@ -1,11 +1,9 @@
 -- How the text of a file is formed, by its style: of its records, or of their keys alone.
 use Rattle.std.specs.Prelude.{ℕ, ◌≡◌, List, [], codes}
-use Rattle.cdb_form.specs.Format.Record.{KeyValue}
+use Rattle.cdb_form.specs.Format.Record.{KeyValue, record_of}
 use Rattle.cdb_form.specs.Text.Native.{spelling_of}
 use Rattle.cdb_form.specs.Text.Map.{map_line}
 use Rattle.cdb_form.specs.Text.List.{list_line, key_line}
-use Rattle.cdb_form.specs.Views.Pairs.{key_value}
-use Rattle.cdb_form.specs.declared.record.Record.{Record}
 use Rattle.cdb_command.specs.declared.style.Style.{Style}
 use Rattle.cdb_command.specs.declared.style.Style.TheVariants.{Native, Map}
 use Rattle.cdb_tool.specs.declared.runs.content.Content.{Content}
@@ -36,7 +34,7 @@ dump_form style = form_of Records style
 abbrev pub list_form : Style → Form
 list_form style = form_of Keys style
 
--- what a text has of this record is in memory
-abbrev pub IsHeld : Content → Record → KeyValue → Type 0
-IsHeld Records into r = r ≡ key_value into
-IsHeld Keys into r = r.key ≡ into.key.items
+-- what a text has of this record is in this key and this value
+abbrev pub IsHeld : Content → (key value : List ℕ) → KeyValue → Type 0
+IsHeld Records key value r = r ≡ record_of key value
+IsHeld Keys key value r = r.key ≡ key

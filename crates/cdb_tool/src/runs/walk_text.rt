@@ -19,41 +19,42 @@ use std::alloc::Global;
 use std::io::{Read, Write};
 
 /// Reads what the text has of the next record over another record. A value that it does not have is
-/// passed over, and takes no memory. A record that is at hand is not asked for.
-#[inline(always)]
-fn read_item<L: Width, R: Read, A: AtHand<R>>(
+/// passed over, and takes no memory.
+fn read_item<L: Width, R: Read>(
     records: &mut RecordReader<R, L>,
     content: Content,
     into: &mut Record,
 ) -> Result<bool, WalkFault>
     ensures gives { IfOk result (λ given. MatchBool given
-        ((r : KeyValue) × IsHeld content into.new r
+        ((r : KeyValue) × IsHeld content into.new.key.items into.new.value.items r
         × GivesRecord L.WORD R.remaining records.old records.new r)
         (GivesEnd L.WORD R.remaining records.old records.new)) }
     ensures value { content ≡ Keys → into.new.value ≡ into.old.value }
     ensures fails { IfErr result (Fails L.WORD R.remaining records.old records.new) }
 {
     match content {
-        Content::Records => records.read_buffered::<A>(into),
-        Content::Keys => records.read_key_buffered::<A>(into),
+        Content::Records => records.read_into(into),
+        Content::Keys => records.read_key(into),
     }
 }
 
 /// Writes what the text has of a record. After an `OutFault` the writer holds a prefix of it.
+#[inline(always)]
 fn write_item<W: Write>(
     w: &mut W,
     content: Content,
     style: Style,
-    held: &Record,
+    key: &[u8],
+    value: &[u8],
 ) -> Result<(), OutFault>
-    ensures { (r : KeyValue) → IsHeld content held.now r
+    ensures { (r : KeyValue) → IsHeld content key.now value.now r
         → Writes result (W.contents w.old) (W.contents w.new) (item_of content style r) }
 {
     match (content, style) {
-        (Content::Records, Style::Native) => write_record(w, &held.key, &held.value),
-        (Content::Records, Style::Map) => write_map_record(w, &held.key, &held.value),
-        (Content::Keys, Style::Native) => write_list_record(w, &held.key),
-        (Content::Keys, Style::Map) => write_map_key(w, &held.key),
+        (Content::Records, Style::Native) => write_record(w, key, value),
+        (Content::Records, Style::Map) => write_map_record(w, key, value),
+        (Content::Keys, Style::Native) => write_list_record(w, key),
+        (Content::Keys, Style::Map) => write_map_key(w, key),
     }
 }
 
@@ -67,7 +68,8 @@ fn write_last<W: Write>(w: &mut W, style: Style) -> Result<(), OutFault>
     }
 }
 
-/// Writes the text of a file, which the writer may keep in a buffer.
+/// Writes the text of a file, which the writer may keep in a buffer. A record that is whole at hand is
+/// written from where it lies.
 fn write_unflushed<L: Width, R: Read, W: Write, A: AtHand<R>>(
     alloc: Global,
     records: &mut RecordReader<R, L>,
@@ -83,11 +85,19 @@ fn write_unflushed<L: Width, R: Read, W: Write, A: AtHand<R>>(
         key: Vec::new(alloc),
         value: Vec::new(alloc),
     };
-    while read_item::<L, R, A>(records, content, &mut record)? {
-        write_item(w, content, style, &record)?;
+    loop {
+        if let Some(peeked) = records.peek::<A>() {
+            let len = peeked.len;
+            let written = write_item(w, content, style, peeked.key, peeked.value);
+            records.take_peeked::<A>(len);
+            written?;
+        } else if read_item(records, content, &mut record)? {
+            write_item(w, content, style, &record.key, &record.value)?;
+        } else {
+            write_last(w, style)?;
+            return Ok(());
+        }
     }
-    write_last(w, style)?;
-    Ok(())
 }
 
 /// Writes the text of a file, of which nothing was read yet, and flushes the writer, after a fault
