@@ -234,8 +234,8 @@ const ROWS: [Row; 16] = [
 ];
 
 /// Puts a record as `<key|value>` behind others.
-fn show(record: &Record, shown: &mut Vec<u8>) -> Result<(), AllocError> {
-    let parts: [&[u8]; 5] = [b"<", &record.key, b"|", &record.value, b">"];
+fn show(key: &[u8], value: &[u8], shown: &mut Vec<u8>) -> Result<(), AllocError> {
+    let parts: [&[u8]; 5] = [b"<", key, b"|", value, b">"];
     for part in parts {
         shown.extend_from_slice(part)?;
     }
@@ -247,6 +247,8 @@ fn show(record: &Record, shown: &mut Vec<u8>) -> Result<(), AllocError> {
 enum Keeping {
     Both,
     Key,
+    /// Both, which are not copied if the reader shows where they lie.
+    Shown,
 }
 
 /// The next record of a reader, or its key over the one of a record.
@@ -258,7 +260,30 @@ fn read_kept<L: Width, R: Read, A: AtHand<R>>(
     match keeping {
         Keeping::Both => records.read_buffered::<A>(record),
         Keeping::Key => records.read_key_buffered::<A>(record),
+        Keeping::Shown => records.read_into(record),
     }
+}
+
+/// Shows the next record of a reader, and answers whether there is one.
+fn show_next<L: Width, R: Read, A: AtHand<R>>(
+    records: &mut RecordReader<R, L>,
+    keeping: Keeping,
+    record: &mut Record,
+    shown: &mut Vec<u8>,
+) -> Result<bool, WalkFault> {
+    if let Keeping::Shown = keeping
+        && let Some(peeked) = records.peek::<A>()
+    {
+        let len = peeked.len;
+        show(peeked.key, peeked.value, shown)?;
+        records.take_peeked::<A>(len);
+        return Ok(true);
+    }
+    let given = read_kept::<L, R, A>(records, keeping, record)?;
+    if given {
+        show(&record.key, &record.value, shown)?;
+    }
+    Ok(given)
 }
 
 /// The fault of a file, whose records are shown. Where keys alone are kept the value stays.
@@ -274,8 +299,8 @@ fn walk<L: Width, R: Read + Drop, A: AtHand<R>>(
         value: b"kept".to_vec(alloc)?,
     };
     for _ in 0..100 {
-        match read_kept::<L, R, A>(&mut records, keeping, &mut record) {
-            Ok(true) => show(&record, shown)?,
+        match show_next::<L, R, A>(&mut records, keeping, &mut record, shown) {
+            Ok(true) => {}
             Ok(false) => return Ok(None),
             Err(fault) => return Ok(Some(fault)),
         }
@@ -308,7 +333,7 @@ fn walk_wide<R: Read + Drop, A: AtHand<R>>(
 /// What is wanted to be shown.
 fn shown_of(wanted: &Wanted, keeping: Keeping) -> &'static [u8] {
     match keeping {
-        Keeping::Both => wanted.records,
+        Keeping::Both | Keeping::Shown => wanted.records,
         Keeping::Key => wanted.keys,
     }
 }
@@ -360,7 +385,7 @@ fn is_walked_by_all(
     mosts: &[usize],
 ) -> Result<bool, Fail> {
     let mut is_same = true;
-    for keeping in [Keeping::Both, Keeping::Key] {
+    for keeping in [Keeping::Both, Keeping::Key, Keeping::Shown] {
         is_same = is_same && is_walked_plainly(alloc, file, wanted, keeping)?;
         for size in sizes {
             for most in mosts {
