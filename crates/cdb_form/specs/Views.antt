@@ -15,3 +15,4 @@ pub mod TextReader
 pub mod AmendReader
 pub mod MapReader
 pub mod RecordReader
+pub mod Repeats

@@ -4,6 +4,7 @@ ghost use Rattle.cdb_form.specs.Format.Record.{KeyValue};
 ghost use Rattle.cdb_form.specs.Text.Amending.{Putting};
 ghost use Rattle.cdb_form.specs.Views.Prefix.{shown_by};
 ghost use Rattle.cdb_form.specs.Views.Pairs.{change_in, change_of};
+ghost use Rattle.cdb_form.specs.Views.Repeats.{Repeats};
 
 use crate::item::{Item, ItemKind};
 use crate::record::Record;
@@ -70,10 +71,9 @@ impl<R: Read, L: Width> AmendReader<R, L> {
             (GivesEnd R.remaining self.old self.new)
             (λ item. GivesChange L.GREATEST R.remaining self.old self.new (change_of item))) }
         ensures fails { IfErr result (Fails L.GREATEST R.remaining self.old self.new) }
-        // After the end and after a fault nothing is read, and the answer stays.
-        ensures ended { HasEnded self.old → (result ≡ Ok None) × (self.new ≡ self.old) }
-        ensures failed { (fault : _) → HasFailed self.old fault →
-            (result ≡ Err fault) × (self.new ≡ self.old) }
+        ensures ended { HasEnded self.old → Repeats (Ok None) self.old self.new result }
+        ensures failed { (fault : _) → HasFailed self.old fault
+            → Repeats (Err fault) self.old self.new result }
     {
         let mut record = Record {
             key: Vec::new(self.alloc),
@@ -95,10 +95,9 @@ impl<R: Read, L: Width> AmendReader<R, L> {
             (λ kind. GivesChange L.GREATEST R.remaining self.old self.new
             (change_in kind into.new))) }
         ensures fails { IfErr result (Fails L.GREATEST R.remaining self.old self.new) }
-        // After the end and after a fault nothing is read, and the answer stays.
-        ensures ended { HasEnded self.old → (result ≡ Ok None) × (self.new ≡ self.old) }
-        ensures failed { (fault : _) → HasFailed self.old fault →
-            (result ≡ Err fault) × (self.new ≡ self.old) }
+        ensures ended { HasEnded self.old → Repeats (Ok None) self.old self.new result }
+        ensures failed { (fault : _) → HasFailed self.old fault
+            → Repeats (Err fault) self.old self.new result }
     {
         self.read_buffered::<NoneAtHand>(into)
     }
@@ -114,10 +113,9 @@ impl<R: Read, L: Width> AmendReader<R, L> {
             (λ kind. GivesChange L.GREATEST R.remaining self.old self.new
             (change_in kind into.new))) }
         ensures fails { IfErr result (Fails L.GREATEST R.remaining self.old self.new) }
-        // After the end and after a fault nothing is read, and the answer stays.
-        ensures ended { HasEnded self.old → (result ≡ Ok None) × (self.new ≡ self.old) }
-        ensures failed { (fault : _) → HasFailed self.old fault →
-            (result ≡ Err fault) × (self.new ≡ self.old) }
+        ensures ended { HasEnded self.old → Repeats (Ok None) self.old self.new result }
+        ensures failed { (fault : _) → HasFailed self.old fault
+            → Repeats (Err fault) self.old self.new result }
     {
         self.items.read_buffered::<A>(into, true)
     }

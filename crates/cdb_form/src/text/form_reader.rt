@@ -6,6 +6,7 @@ ghost use Rattle.cdb_form.specs.Text.Amending.{Putting, SpellsChange};
 ghost use Rattle.cdb_form.specs.Views.Prefix.{shown_by};
 ghost use Rattle.cdb_form.specs.Views.Pairs.{change_in};
 ghost use Rattle.cdb_form.specs.declared.item.ItemKind.TheVariants.{Remove};
+ghost use Rattle.cdb_form.specs.Views.Repeats.{Repeats};
 
 use crate::item::ItemKind;
 use crate::record::Record;
@@ -90,10 +91,9 @@ impl<R: Read, L: Width> FormReader<R, L> {
         ensures puts { removals ≡ false → IfOk result (λ found. found ≢ Some Remove) }
         ensures fails { IfErr result
             (FailsAs removals L.GREATEST R.remaining self.old self.new) }
-        // After the end and after a fault nothing is read, and the answer stays.
-        ensures ended { HasEnded self.old → (result ≡ Ok None) × (self.new ≡ self.old) }
-        ensures failed { (fault : _) → HasFailed self.old fault →
-            (result ≡ Err fault) × (self.new ≡ self.old) }
+        ensures ended { HasEnded self.old → Repeats (Ok None) self.old self.new result }
+        ensures failed { (fault : _) → HasFailed self.old fault
+            → Repeats (Err fault) self.old self.new result }
     {
         match self.going {
             Going::On => {}

@@ -3,6 +3,7 @@ ghost use Rattle.std.specs.Prelude.{◌≡◌, ◌^◌, ◌≤◌, false, IfOk, 
 ghost use Rattle.cdb_form.specs.Format.Record.{KeyValue};
 ghost use Rattle.cdb_form.specs.Views.Prefix.{shown_by};
 ghost use Rattle.cdb_form.specs.Views.Pairs.{key_value};
+ghost use Rattle.cdb_form.specs.Views.Repeats.{Repeats};
 
 use crate::record::Record;
 use crate::text::at_hand::{AtHand, NoneAtHand};
@@ -74,10 +75,9 @@ impl<R: Read> MapReader<R> {
             (GivesEnd R.remaining self.old self.new)
             (λ r. GivesRecord R.remaining self.old self.new (key_value r))) }
         ensures fails { IfErr result (Fails R.remaining self.old self.new) }
-        // After the end and after a fault nothing is read, and the answer stays.
-        ensures ended { HasEnded self.old → (result ≡ Ok None) × (self.new ≡ self.old) }
-        ensures failed { (fault : _) → HasFailed self.old fault →
-            (result ≡ Err fault) × (self.new ≡ self.old) }
+        ensures ended { HasEnded self.old → Repeats (Ok None) self.old self.new result }
+        ensures failed { (fault : _) → HasFailed self.old fault
+            → Repeats (Err fault) self.old self.new result }
     {
         let mut record = Record {
             key: Vec::new(self.alloc),
@@ -95,10 +95,9 @@ impl<R: Read> MapReader<R> {
             (GivesRecord R.remaining self.old self.new (key_value into.new))
             (GivesEnd R.remaining self.old self.new)) }
         ensures fails { IfErr result (Fails R.remaining self.old self.new) }
-        // After the end and after a fault nothing is read, and the answer stays.
-        ensures ended { HasEnded self.old → (result ≡ Ok false) × (self.new ≡ self.old) }
-        ensures failed { (fault : _) → HasFailed self.old fault →
-            (result ≡ Err fault) × (self.new ≡ self.old) }
+        ensures ended { HasEnded self.old → Repeats (Ok false) self.old self.new result }
+        ensures failed { (fault : _) → HasFailed self.old fault
+            → Repeats (Err fault) self.old self.new result }
     {
         self.read_buffered::<NoneAtHand>(into)
     }
@@ -109,10 +108,9 @@ impl<R: Read> MapReader<R> {
             (GivesRecord R.remaining self.old self.new (key_value into.new))
             (GivesEnd R.remaining self.old self.new)) }
         ensures fails { IfErr result (Fails R.remaining self.old self.new) }
-        // After the end and after a fault nothing is read, and the answer stays.
-        ensures ended { HasEnded self.old → (result ≡ Ok false) × (self.new ≡ self.old) }
-        ensures failed { (fault : _) → HasFailed self.old fault →
-            (result ≡ Err fault) × (self.new ≡ self.old) }
+        ensures ended { HasEnded self.old → Repeats (Ok false) self.old self.new result }
+        ensures failed { (fault : _) → HasFailed self.old fault
+            → Repeats (Err fault) self.old self.new result }
     {
         match self.going {
             Going::On => {}

@@ -13,6 +13,7 @@ ghost use Rattle.cdb_form.specs.declared.walk.keeping.Keeping.TheVariants.{Key};
 ghost use Rattle.cdb_form.specs.Views.WalkFault.{IsDamage, stopped_by};
 ghost use Rattle.cdb_form.specs.Views.Pairs.{key_value};
 ghost use Rattle.cdb_form.specs.Views.Prefix.{shown_by};
+ghost use Rattle.cdb_form.specs.Views.Repeats.{Repeats};
 
 use crate::record::Record;
 use crate::text::at_hand::{AtHand, NoneAtHand, window_within};
@@ -77,10 +78,9 @@ impl<R: Read, L: Width> RecordReader<R, L> {
             (GivesEnd L.WORD R.remaining self.old self.new)
             (λ r. GivesRecord L.WORD R.remaining self.old self.new (key_value r))) }
         ensures fails { IfErr result (Fails L.WORD R.remaining self.old self.new) }
-        // After the end and after a fault nothing is read, and the answer stays.
-        ensures ended { HasEnded self.old → (result ≡ Ok None) × (self.new ≡ self.old) }
-        ensures failed { (fault : _) → HasFailed self.old fault →
-            (result ≡ Err fault) × (self.new ≡ self.old) }
+        ensures ended { HasEnded self.old → Repeats (Ok None) self.old self.new result }
+        ensures failed { (fault : _) → HasFailed self.old fault
+            → Repeats (Err fault) self.old self.new result }
     {
         let mut record = Record {
             key: Vec::new(self.alloc),
@@ -98,10 +98,9 @@ impl<R: Read, L: Width> RecordReader<R, L> {
             (GivesRecord L.WORD R.remaining self.old self.new (key_value into.new))
             (GivesEnd L.WORD R.remaining self.old self.new)) }
         ensures fails { IfErr result (Fails L.WORD R.remaining self.old self.new) }
-        // After the end and after a fault nothing is read, and the answer stays.
-        ensures ended { HasEnded self.old → (result ≡ Ok false) × (self.new ≡ self.old) }
-        ensures failed { (fault : _) → HasFailed self.old fault →
-            (result ≡ Err fault) × (self.new ≡ self.old) }
+        ensures ended { HasEnded self.old → Repeats (Ok false) self.old self.new result }
+        ensures failed { (fault : _) → HasFailed self.old fault
+            → Repeats (Err fault) self.old self.new result }
     {
         self.read_buffered::<NoneAtHand>(into)
     }
@@ -113,10 +112,9 @@ impl<R: Read, L: Width> RecordReader<R, L> {
             (GivesRecord L.WORD R.remaining self.old self.new (key_value into.new))
             (GivesEnd L.WORD R.remaining self.old self.new)) }
         ensures fails { IfErr result (Fails L.WORD R.remaining self.old self.new) }
-        // After the end and after a fault nothing is read, and the answer stays.
-        ensures ended { HasEnded self.old → (result ≡ Ok false) × (self.new ≡ self.old) }
-        ensures failed { (fault : _) → HasFailed self.old fault →
-            (result ≡ Err fault) × (self.new ≡ self.old) }
+        ensures ended { HasEnded self.old → Repeats (Ok false) self.old self.new result }
+        ensures failed { (fault : _) → HasFailed self.old fault
+            → Repeats (Err fault) self.old self.new result }
     {
         self.read_kept::<A>(into, Keeping::Both)
     }
@@ -129,10 +127,9 @@ impl<R: Read, L: Width> RecordReader<R, L> {
             (GivesEnd L.WORD R.remaining self.old self.new)) }
         ensures value { into.new.value ≡ into.old.value }
         ensures fails { IfErr result (Fails L.WORD R.remaining self.old self.new) }
-        // After the end and after a fault nothing is read, and the answer stays.
-        ensures ended { HasEnded self.old → (result ≡ Ok false) × (self.new ≡ self.old) }
-        ensures failed { (fault : _) → HasFailed self.old fault →
-            (result ≡ Err fault) × (self.new ≡ self.old) }
+        ensures ended { HasEnded self.old → Repeats (Ok false) self.old self.new result }
+        ensures failed { (fault : _) → HasFailed self.old fault
+            → Repeats (Err fault) self.old self.new result }
     {
         self.read_key_buffered::<NoneAtHand>(into)
     }
@@ -145,10 +142,9 @@ impl<R: Read, L: Width> RecordReader<R, L> {
             (GivesEnd L.WORD R.remaining self.old self.new)) }
         ensures value { into.new.value ≡ into.old.value }
         ensures fails { IfErr result (Fails L.WORD R.remaining self.old self.new) }
-        // After the end and after a fault nothing is read, and the answer stays.
-        ensures ended { HasEnded self.old → (result ≡ Ok false) × (self.new ≡ self.old) }
-        ensures failed { (fault : _) → HasFailed self.old fault →
-            (result ≡ Err fault) × (self.new ≡ self.old) }
+        ensures ended { HasEnded self.old → Repeats (Ok false) self.old self.new result }
+        ensures failed { (fault : _) → HasFailed self.old fault
+            → Repeats (Err fault) self.old self.new result }
     {
         self.read_kept::<A>(into, Keeping::Key)
     }
@@ -196,9 +192,9 @@ impl<R: Read, L: Width> RecordReader<R, L> {
             (GivesEnd L.WORD R.remaining self.old self.new)) }
         ensures value { keeping ≡ Key → into.new.value ≡ into.old.value }
         ensures fails { IfErr result (Fails L.WORD R.remaining self.old self.new) }
-        ensures ended { HasEnded self.old → (result ≡ Ok false) × (self.new ≡ self.old) }
-        ensures failed { (fault : _) → HasFailed self.old fault →
-            (result ≡ Err fault) × (self.new ≡ self.old) }
+        ensures ended { HasEnded self.old → Repeats (Ok false) self.old self.new result }
+        ensures failed { (fault : _) → HasFailed self.old fault
+            → Repeats (Err fault) self.old self.new result }
     {
         let answer = match self.walking {
             Progress::AtHead => self.first::<A>(into, keeping),
