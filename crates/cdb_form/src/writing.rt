@@ -51,8 +51,9 @@ pub fn write_some<W: Write>(w: &mut W, bytes: &[u8]) -> Result<usize, OutFault>
     Err(OutFault)
 }
 
-/// Writes all the bytes. After an `OutFault` the writer holds a prefix of them.
-pub fn write_whole<W: Write>(w: &mut W, bytes: &[u8]) -> Result<(), OutFault>
+/// Writes all the bytes, by as many calls of the writer as it takes.
+#[inline(never)]
+fn write_rest<W: Write>(w: &mut W, bytes: &[u8]) -> Result<(), OutFault>
     ensures { Writes result (W.contents w.old) (W.contents w.new) bytes.now }
 {
     let mut done = 0;
@@ -60,6 +61,29 @@ pub fn write_whole<W: Write>(w: &mut W, bytes: &[u8]) -> Result<(), OutFault>
         done += write_some(w, &bytes[done..])?;
     }
     Ok(())
+}
+
+/// Does what `write_whole` does, where it is called.
+#[inline(always)]
+pub(crate) fn write_at_once<W: Write>(w: &mut W, bytes: &[u8]) -> Result<(), OutFault>
+    ensures { Writes result (W.contents w.old) (W.contents w.new) bytes.now }
+{
+    if bytes.is_empty() {
+        return Ok(());
+    }
+    // Most writers take all at once.
+    let done = write_some(w, bytes)?;
+    if done < bytes.len() {
+        return write_rest(w, &bytes[done..]);
+    }
+    Ok(())
+}
+
+/// Writes all the bytes. After an `OutFault` the writer holds a prefix of them.
+pub fn write_whole<W: Write>(w: &mut W, bytes: &[u8]) -> Result<(), OutFault>
+    ensures { Writes result (W.contents w.old) (W.contents w.new) bytes.now }
+{
+    write_at_once(w, bytes)
 }
 
 /// Joins pieces in a line, if it has room for them all, and answers how many bytes they have.

@@ -4,7 +4,7 @@ ghost use Rattle.cdb_form.specs.Text.List.{key_line, list_line};
 ghost use Rattle.cdb_form.specs.Views.KnownBytes.{Writes};
 
 use crate::text::line::{LINE, put_mark, put_number, put_piece};
-use crate::writing::{OutFault, write_each, write_pieces, write_whole};
+use crate::writing::{OutFault, write_at_once, write_each};
 use itoa::Buffer;
 use std::io::Write;
 
@@ -47,12 +47,29 @@ pub fn write_list_record<W: Write>(w: &mut W, key: &[u8]) -> Result<(), OutFault
     }
     let mut line = [0u8; LINE];
     let end = put_list_key(&mut line, key);
-    write_whole(w, &line[..end])
+    write_at_once(w, &line[..end])
+}
+
+/// Puts a key and a newline into a line that has room for them, and answers the place after them.
+#[inline(always)]
+fn put_map_key(line: &mut [u8], key: &[u8]) -> usize
+    requires { 1 + length key.now ≤ length line.old }
+    ensures within { result ≤ length line.new }
+    ensures bytes { take result line.new ≡ key_line key.now }
+{
+    let key = put_piece(line, 0, key);
+    put_mark(line, key, b'\n')
 }
 
 /// Writes a key and a newline. After an `OutFault` the writer holds a prefix of them.
+#[inline(always)]
 pub fn write_map_key<W: Write>(w: &mut W, key: &[u8]) -> Result<(), OutFault>
     ensures { Writes result (W.contents w.old) (W.contents w.new) (key_line key.now) }
 {
-    write_pieces(w, &[key, b"\n"])
+    if LINE <= key.len() {
+        return write_each(w, &[key, b"\n"]);
+    }
+    let mut line = [0u8; LINE];
+    let end = put_map_key(&mut line, key);
+    write_at_once(w, &line[..end])
 }

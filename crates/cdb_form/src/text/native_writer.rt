@@ -4,7 +4,7 @@ ghost use Rattle.cdb_form.specs.Text.Native.{spelling_of};
 ghost use Rattle.cdb_form.specs.Views.KnownBytes.{Writes};
 
 use crate::text::line::{LINE, put_mark, put_number, put_piece};
-use crate::writing::{OutFault, write_each, write_whole};
+use crate::writing::{OutFault, write_at_once, write_each, write_whole};
 use std::io::Write;
 
 /// How many bytes a line has at most before its key: two numerals of 20 digits, and three marks.
@@ -67,7 +67,7 @@ pub fn write_record<W: Write>(w: &mut W, key: &[u8], value: &[u8]) -> Result<(),
     // A short record goes as one, since each piece is a call of the writer.
     let mut line = [0u8; LINE];
     let end = put_record(&mut line, key, value);
-    write_whole(w, &line[..end])
+    write_at_once(w, &line[..end])
 }
 
 /// Writes the newline that ends a native text. After an `OutFault` the writer holds a prefix of it.
