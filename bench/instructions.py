@@ -22,21 +22,21 @@ from run import ALPHABET, SEED, tinycdb, write_text
 
 # A row: its name, the words, what is read from standard input, and the goal.
 CREATES = [
-    ("create", ["-c", "x", "text"], None, 0.75),
-    ("create from a map", ["-cm", "x", "map"], None, 1.0),
-    ("create by a pipe", ["-c", "x"], "text", 0.75),
-    ("-w, every tenth key again", ["-cw", "x", "again"], None, 0.5),
-    ("-u, the same", ["-cu", "x", "again"], None, 0.5),
+    ("create", ["-c", "x", "text"], None, 0.45),
+    ("create from a map", ["-cm", "x", "map"], None, 0.6),
+    ("create by a pipe", ["-c", "x"], "text", 0.45),
+    ("-w, every tenth key again", ["-cw", "x", "again"], None, 0.25),
+    ("-u, the same", ["-cu", "x", "again"], None, 0.25),
     ("records of one key", ["-c", "x", "same"], None, 0.75),
     ("the same with -r", ["-cr", "x", "same"], None, 1.0),
     ("the empty database", ["-c", "x", "none"], None, 1.5),
 ]
 READS = [
-    ("dump", ["-d", "db"], None, 0.5),
-    ("dump of a map", ["-dm", "db"], None, 0.6),
-    ("list", ["-l", "db"], None, 0.6),
-    ("list of a map", ["-lm", "db"], None, 0.6),
-    ("statistics", ["-s", "db"], None, 0.2),
+    ("dump", ["-d", "db"], None, 0.25),
+    ("dump of a map", ["-dm", "db"], None, 0.3),
+    ("list", ["-l", "db"], None, 0.2),
+    ("list of a map", ["-lm", "db"], None, 0.3),
+    ("statistics", ["-s", "db"], None, 0.15),
     ("one query", ["-q", "db", "KEY"], None, 1.3),
 ]
 # Records that are not of the usual kind: how long a key and a value are, and if they are of any bytes.

@@ -32,9 +32,6 @@ holds_none {l = l} m whole end lists = record {
   };
 }
 
-pub lists_long : (ls : List EntryList) → lists_entries ls ≡ replicate 256 [] → length ls ≡ 256
-lists_long ls e = sym (length-map ls list_entries) ∙ ap length e ∙ length-replicate {A = List WordPair} 256 []
-
 none_counted : (n : ℕ) → sum_by length (replicate {A = List WordPair} n []) ≡ 0
 none_counted n = sum_by-replicate length n [] ∙ omega arith
 

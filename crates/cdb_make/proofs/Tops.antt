@@ -60,15 +60,6 @@ under_closed {ls = ls} {new = new} closed under k =
           All-same (λ v. v.second ≤ get_or (list_tops new) m 0) _ _ is (λ j d lt. absurd (omega arith))
     ]
 
--- no entries
-pub under_none : (tops : List ℕ) (lists : List (List WordPair)) → lists ≡ replicate 256 [] → AreUnder tops lists
-under_none tops lists none k =
-    let is : get_or lists k [] ≡ [] = ap (λ v. get_or v k []) none ∙ elim (cases_lt k 256) [
-      | inl lt ↦ get_or-replicate {A = List WordPair} 256 k [] [] lt
-      | inr le ↦ get_or_past (replicate {A = List WordPair} 256 []) k [] (omega (arith, length-replicate {A = List WordPair} 256 []))
-    ] in
-    All-same (λ v. v.second ≤ get_or tops (k / 16 * 16) 0) _ _ is (λ j d lt. absurd (omega arith))
-
 -- one list changed, and neither its entries nor its top
 pub under_set : (ls : List EntryList) (n : ℕ) (new old : EntryList) → list_entries new ≡ list_entries old → new.top ≡ old.top → old ≡ get_or ls n old → AreUnder (list_tops ls) (lists_entries ls)
     → AreUnder (list_tops (slice_set ls n new)) (lists_entries (slice_set ls n new))
