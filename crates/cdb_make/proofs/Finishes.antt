@@ -1,7 +1,6 @@
 -- A maker at its start and at its end.
 use Rattle.std.proofs.Common.{◌≡◌, ℕ, ◌-◌, ◌<◌, ◌≤◌, ◌⊎◌, inl, inr, false, List, [], length, replicate, refl, sym, ap, subst, ◌∙◌, arith, sum_by}
 use Rattle.std.specs.Prelude.{All, Result, Ok, Err, IfErr}
-use Rattle.std.proofs.lemmas.List.{length-map, length-replicate}
 use Rattle.std.proofs.lemmas.List.Elements.{All-nil, All-replicate}
 use Rattle.std.proofs.lemmas.List.Folds.{sum_by-replicate}
 use Rattle.cdb_store.specs.declared.store.Store.{Ghosts}
@@ -14,7 +13,7 @@ use Rattle.cdb_make.specs.declared.fault.MakeFault.TheVariants.{NoMemory, Writin
 use Rattle.cdb_make.specs.declared.index.list.EntryList.{EntryList}
 use Rattle.cdb_make.specs.declared.maker.Maker.{Maker}
 use Rattle.cdb_make.specs.Finished.{IsFinished}
-use Rattle.cdb_make.specs.Views.EntryList.{list_entries, lists_entries, AreWithin, HasSpareGaps}
+use Rattle.cdb_make.specs.Views.EntryList.{lists_entries, AreWithin, HasSpareGaps}
 use Rattle.cdb_make.specs.Views.Lists.{all_entries}
 use Rattle.cdb_make.specs.Views.Maker.{Holds, IsFile, FailsFinishing, SameCounts, StaysWhole}
 use Rattle.cdb_make.proofs.EntryLists.{lists_none}

@@ -1,8 +1,7 @@
-use Rattle.std.proofs.Common.{sym, subst}
 use Rattle.std.proofs.lemmas.Result.{err_from_is_err_and}
 use Rattle.cdb_form.specs.Views.Prefix.{shown_by}
 use Rattle.cdb_tool.proofs.WholeTexts.{held_by, held_in, written_none, written_more, written_all, record_fails, end_fails, reader_fails}
-use Rattle.cdb_tool.specs.Runs.Form.{form_of, IsHeld}
+use Rattle.cdb_tool.specs.Runs.Form.{form_of}
 use Rattle.cdb_tool.proofs.runs.walk_text.write_unflushed.Goals as goal
 
 pub loop-peeked-init : goal.loop-peeked-init
