@@ -8,12 +8,14 @@ ghost use Rattle.cdb_store.specs.Images.{SameImages, AfterRead, AfterWrite, Afte
 ghost use Rattle.cdb_store.specs.Images.{AfterCut, HasCause};
 ghost use Rattle.cdb_store.specs.Calls.{lost, IsSynced, AreAtLeast, IsMeasured, failed_syncs};
 ghost use Rattle.cdb_store.specs.Lengths.{file_size};
+ghost use Rattle.std.specs.IoError.{error_kind};
 
 use crate::raw::RawFile;
 use crate::real::RealFile;
 use crate::transfer::{length_within, read_all, write_all};
 use crate::{Store, StoreFault};
 use std::fs::{File, OpenOptions};
+use std::io::{self, ErrorKind};
 use std::rt::Files;
 
 /// The greatest length of a file.
@@ -42,16 +44,26 @@ pub struct FileStore<F: RawFile = RealFile> {
     ghost long: { is_lost ≡ false → AreAtLeast len (F.calls file) },
 }
 
+/// Why a file was not opened or made: the system had no memory, or all else.
+fn open_fault(error: &io::Error) -> StoreFault
+    ensures { (result ≡ NoMemory) ↔ (error_kind error.now ≡ ErrorKind.OutOfMemory) }
+{
+    if error.kind() == ErrorKind::OutOfMemory {
+        StoreFault::NoMemory
+    } else {
+        StoreFault::Device
+    }
+}
+
 impl FileStore {
     ghost use Rattle.cdb_store.specs.FileStore.{calls_of, images_of, len_of};
 
     /// Makes a file, or empties the one of that name, and reads and writes it.
     ///
-    /// `Device`: it can't be opened so.
+    /// `NoMemory`: the system had none. `Device`: it can't be opened so.
     pub fn create<R: Files<File = File>>(rt: &R, path: &str) -> Result<FileStore, StoreFault>
         ensures images { IfOk result (λ f. (b : List ℕ) → (images_of f b ↔ (b ≡ []))) }
         ensures made { IfOk result (λ f. calls_of f ≡ (Made, []) ∷ []) }
-        ensures memory { IsErrOf result NoMemory → ⊥ }
     {
         let mut options = OpenOptions::new();
         options.create(true).truncate(true);
@@ -60,11 +72,11 @@ impl FileStore {
 
     /// Makes a file, and reads and writes it. It follows no link of that name.
     ///
-    /// `Device`: it can't be made, or something of that name is there already.
+    /// `NoMemory`: the system had none. `Device`: it can't be made, or something of that name is there
+    /// already.
     pub fn create_new<R: Files<File = File>>(rt: &R, path: &str) -> Result<FileStore, StoreFault>
         ensures images { IfOk result (λ f. (b : List ℕ) → (images_of f b ↔ (b ≡ []))) }
         ensures made { IfOk result (λ f. calls_of f ≡ (Made, []) ∷ []) }
-        ensures memory { IsErrOf result NoMemory → ⊥ }
     {
         let mut options = OpenOptions::new();
         options.create_new(true);
@@ -73,15 +85,15 @@ impl FileStore {
 
     /// Makes a file, or empties the one of that name, and reads and writes it. It follows no link.
     ///
-    /// `Device`: it can't be opened so, or the name is that of a link. What the link leads to stays.
+    /// `NoMemory`: the system had none. `Device`: it can't be opened so, or the name is that of a link.
+    /// What the link leads to stays.
     pub fn create_own<R: Files<File = File>>(rt: &R, path: &str) -> Result<FileStore, StoreFault>
         ensures images { IfOk result (λ f. (b : List ℕ) → (images_of f b ↔ (b ≡ []))) }
         ensures made { IfOk result (λ f. calls_of f ≡ (Made, []) ∷ []) }
-        ensures memory { IsErrOf result NoMemory → ⊥ }
     {
         match RealFile::emptied(rt, path) {
             Ok(file) => Ok(FileStore::empty(file)),
-            Err(_) => Err(StoreFault::Device),
+            Err(error) => Err(open_fault(&error)),
         }
     }
 
@@ -93,25 +105,23 @@ impl FileStore {
     ) -> Result<FileStore, StoreFault>
         ensures images { IfOk result (λ f. (b : List ℕ) → (images_of f b ↔ (b ≡ []))) }
         ensures made { IfOk result (λ f. f.file.trace.events ≡ (Made, []) ∷ []) }
-        ensures memory { IsErrOf result NoMemory → ⊥ }
     {
         match options.read(true).write(true).open(rt, path) {
             Ok(file) => Ok(FileStore::empty(RealFile::made(file))),
-            Err(_) => Err(StoreFault::Device),
+            Err(error) => Err(open_fault(&error)),
         }
     }
 
     /// Opens a file to read it. A write or a cut of it is `Device`.
     ///
-    /// `Device`: it can't be opened, or has 2^63 bytes or more.
+    /// `NoMemory`: the system had none. `Device`: it can't be opened, or has 2^63 bytes or more.
     pub fn open<R: Files<File = File>>(rt: &R, path: &str) -> Result<FileStore, StoreFault>
         ensures images { IfOk result (λ f. (b : List ℕ) → (images_of f b ↔ (length b ≡ len_of f))) }
         ensures told { IfOk result (λ f. calls_of f ≡ (Length (len_of f), []) ∷ []) }
-        ensures memory { IsErrOf result NoMemory → ⊥ }
     {
         match File::open(rt, path) {
             Ok(file) => FileStore::over(RealFile::opened(file)),
-            Err(_) => Err(StoreFault::Device),
+            Err(error) => Err(open_fault(&error)),
         }
     }
 }

@@ -57,6 +57,20 @@ impl RealFile {
         Ok(RealFile::made(file))
     }
 
+    /// Opens the regular file of a name to read and write it. It does not wait: a pipe that is opened
+    /// to read and write never makes a process wait, and it is given up then.
+    ///
+    /// `InvalidInput`: what was opened is no regular file.
+    pub fn open_regular<R: Files<File = File>>(rt: &R, path: &str) -> io::Result<RealFile>
+        ensures opened { IfOk result (λ f. events_of f ≡ []) }
+    {
+        let file = OpenOptions::new().read(true).write(true).open(rt, path)?;
+        if !file.metadata()?.is_file() {
+            return Err(io::Error::from(ErrorKind::InvalidInput));
+        }
+        Ok(RealFile::opened(file))
+    }
+
     /// Makes a file, or empties the one of this name, and reads and writes it. A link is not
     /// followed: it is a fault, and what it leads to stays.
     ///

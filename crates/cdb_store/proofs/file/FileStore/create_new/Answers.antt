@@ -4,6 +4,3 @@ use Rattle.cdb_store.proofs.file.FileStore.create_new.Goals as goal
 
 pub returns-clause-images : goal.returns-clause-images
 returns-clause-images g c = grind (arith, common_steps)
-
-pub returns-clause-memory : goal.returns-clause-memory
-returns-clause-memory g c = grind (arith, common_steps)

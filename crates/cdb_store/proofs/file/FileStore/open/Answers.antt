@@ -7,6 +7,3 @@ returns-in-Ok-clause-told g c = search rules
 
 pub returns-in-Ok-clause-images : goal.returns-in-Ok-clause-images
 returns-in-Ok-clause-images g c = grind (arith, common_steps)
-
-pub returns-in-Err-clause-memory : goal.returns-in-Err-clause-memory
-returns-in-Err-clause-memory g c = grind (arith, common_steps)

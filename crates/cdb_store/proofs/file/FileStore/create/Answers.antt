@@ -1,6 +1,0 @@
-use Rattle.std.proofs.lemmas.Grind.{common_steps}
-use Rattle.std.proofs.Common.{arith}
-use Rattle.cdb_store.proofs.file.FileStore.create.Goals as goal
-
-pub returns-clause-memory : goal.returns-clause-memory
-returns-clause-memory g c = grind (arith, common_steps)
