@@ -52,6 +52,7 @@ def parts_of(program, is_gate):
         Part("tests/cli/locked.py", (program,)),
         Part("tests/cli/permissions.py", (program,)),
         Part("tests/cli/amends.py", (program,)),
+        Part("tests/build/run.py"),
         Part("tests/package/version.py"),
         Part("tests/package/run.py", (program,), (package,)),
         Part("tests/faults/run.py", (program, REFUSE, "memory"), (c,), (REFUSE,)),

@@ -3,21 +3,31 @@
 
     tools/build.py CRATE TARGET
 
-Each library is proved and built as soon as those below it are: two at once if the machine has the
-processors and the memory for it. The program comes last; on a PC it is built for each processor of
-x86-64. As it goes, the command says how many functions are proved: on a terminal in one line that it
-rewrites, else in a line a minute. All that the checker says goes to the file build.log beside the target;
-if a step fails, the end of it is shown. The checker is the command in the environment's RT, else `rt`.
+Each crate is proved and built as soon as those below it are, as many at once as the machine has the
+processors and the memory for. The checker works alone in the folders of a crate and of those below it, so
+each gets a tree of its own: see trees.py. Of the crates that are ready the one that most work waits for
+comes first, and gets most jobs. The program comes last; on a PC it is built for each processor of x86-64.
+
+As it goes, the command says how many functions are proved: on a terminal in one line that it rewrites, else
+in a line a minute. All that the checker says goes to the file build.log beside the target; if a step fails,
+the end of it is shown. The checker is the command in the environment's RT, else `rt`.
 """
 
+import contextlib
 import os
 import platform
 import re
 import shutil
+import signal
 import subprocess
 import sys
 import threading
 import time
+
+from trees import KEPT, Trees, crates_below, read
+
+# What the last release took with nothing kept, and on which machine.
+TOOK = "23 minutes on 4 cores"
 
 # The checker proves a program, builds it and then runs it, with these words. By itself it would build
 # for the processors of 2009 and later.
@@ -31,13 +41,16 @@ COUNTED = re.compile(r"(?:checked .*, |so far: )(\d+) of (\d+)")
 WENT_WELL = re.compile(r"\w+ .*: proved$|checked |so far: |statements |logic |crate |rt: chose ")
 
 GIB = 1 << 30
-# How much memory a check takes at most, and how much disk all of them.
-CHECK_MEMORY = 4 * GIB
-DISK = 3 * GIB
-# A check keeps about two processors busy.
-CHECK_PROCESSORS = 2
+# How much memory a check takes at most, and one of its jobs, less what the kernel keeps of a machine's.
+CHECK_MEMORY = 4 * GIB * 9 // 10
+JOB_MEMORY = CHECK_MEMORY // 2
+# How much disk is kept of all crates. Without hard links, the libraries are there once more.
+DISK = 4_800_000_000
+COPIES = 4_000_000_000
 # How many seconds pass between two lines where no terminal is.
 QUIET_SECONDS = 60
+# How many seconds a build that is stopped waits for its trees.
+STOP_SECONDS = 10
 
 
 def checker():
@@ -45,39 +58,14 @@ def checker():
     return os.environ.get("RT") or "rt"
 
 
-def read(*path):
-    """The text of a file."""
-    with open(os.path.join(*path), encoding="utf-8") as file:
-        return file.read()
-
-
-def libraries_of(top):
-    """For each crate of the repository the crates that its line in crates.txt lists."""
-    listed = {}
-    for line in read(top, "crates.txt").splitlines():
-        head, colon, tail = line.split("#")[0].partition(":")
-        if colon:
-            listed[head.split()[0]] = tail.split()
-    return {crate: [it for it in below if it in listed] for crate, below in listed.items()}
-
-
-def crates_below(libraries, crate):
-    """A crate and all that it stands on, lowest first."""
-    found = []
-
-    def visit(name):
-        for below in libraries[name]:
-            visit(below)
-        if name not in found:
-            found.append(name)
-
-    visit(crate)
-    return found
-
-
 def memory():
     """How much memory the machine has, in bytes."""
     return os.sysconf("SC_PAGE_SIZE") * os.sysconf("SC_PHYS_PAGES")
+
+
+def processors():
+    """How many processors this process may use."""
+    return len(os.sched_getaffinity(0))
 
 
 def logic_of(version):
@@ -85,21 +73,21 @@ def logic_of(version):
     return version.strip().split(" logic ")[-1]
 
 
-def missing(top):
+def missing(trees, crates):
     """Why the machine cannot prove the program, in one line, or None if it can."""
     try:
         ran = subprocess.run([checker(), "version"], capture_output=True, text=True, check=False)
     except OSError:
         return f"the Rattle toolchain is not there: no command {checker()}"
-    named = re.search(r"^Proved with: `(.*)`\.$", read(top, "README.md"), re.MULTILINE)[1]
+    named = re.search(r"^Proved with: `(.*)`\.$", read(trees.top, "README.md"), re.MULTILINE)[1]
     if logic_of(ran.stdout) != logic_of(named):
         return f"the toolchain is {ran.stdout.strip() or 'unknown'}, and README.md names {named}"
-    # The kernel keeps some of the memory for itself.
-    if memory() < CHECK_MEMORY * 9 // 10:
+    if memory() < CHECK_MEMORY:
         return f"a proof takes 4 GB of memory, and this machine has {memory() / GIB:.1f}"
-    free = shutil.disk_usage(top).free
-    if free < DISK:
-        return f"the proofs take {DISK // GIB} GB of disk, and {free / GIB:.1f} are free"
+    free = shutil.disk_usage(trees.top).free
+    is_kept = all(os.path.isdir(os.path.join(trees.folder(it), KEPT)) for it in crates)
+    if free < DISK and not is_kept:
+        return f"the proofs take {DISK / 1e9:.1f} GB of disk, and {free / 1e9:.1f} are free"
     return None
 
 
@@ -146,78 +134,126 @@ class Progress:
             self.said = time.monotonic()
 
 
-class Proofs:
-    """The proofs of some crates, each begun when those below it have ended."""
+def work_of(folder):
+    """How much work a crate is, about: the size of its code."""
+    found = 0
+    for place, _, names in os.walk(os.path.join(folder, "src")):
+        found += sum(os.path.getsize(os.path.join(place, it)) for it in names)
+    return found
 
-    def __init__(self, top, libraries, crates, log):
-        self.top, self.libraries, self.log = top, libraries, log
+
+def in_order(trees, crates):
+    """The crates, first those that most work waits for, which is the longest chain that ends in them."""
+    waiting = {}
+    for crate in reversed(crates):
+        above = [waiting[it] for it in crates if crate in trees.libraries[it]]
+        waiting[crate] = work_of(trees.folder(crate)) + max(above, default=0)
+    return sorted(crates, key=lambda it: -waiting[it])
+
+
+class Proofs:
+    """The proofs of some crates, at most so many at once, each begun when those below it have ended."""
+
+    def __init__(self, trees, crates, log, most):
+        self.trees, self.log, self.most = trees, log, most
         self.program = crates[-1]
-        self.waiting = list(crates)
+        self.order = in_order(trees, crates)
+        self.waiting = list(self.order)
         self.proved = set()
         self.running = set()
+        # The checkers that were begun.
+        self.processes = []
         self.progress = Progress(len(crates))
         self.is_well = True
         self.changed = threading.Condition()
 
     def ready(self):
-        """The first crate that waits for no other, or None."""
-        for crate in self.waiting:
-            if self.proved.issuperset(self.libraries[crate]):
-                return crate
-        return None
+        """The crates that wait for no other, in order."""
+        return [it for it in self.waiting if self.proved.issuperset(self.trees.libraries[it])]
 
     def words(self, crate):
-        """The command for a crate: a crate beside another gets half of the processors."""
-        jobs = processors() if not self.running else max(1, processors() // CHECK_PROCESSORS)
+        """The command for a crate: as many jobs as processors if most work waits for it, else half."""
+        is_first = crate == next(it for it in self.order if it in self.running)
+        jobs = processors() if is_first else processors() // 2
+        beside = min(self.most, len(self.running) + len(self.ready()))
+        jobs = max(1, min(jobs, memory() // beside // JOB_MEMORY))
         words = [checker(), "run" if crate == self.program else "lib", "--jobs", str(jobs)]
         return words + (WORDS if crate == self.program else [])
 
+    def place_of(self, crate):
+        """Where a crate is proved: one that nothing runs beside needs no tree."""
+        if self.most == 1:
+            return contextlib.nullcontext(self.trees.folder(crate))
+        return self.trees.tree_of(crate)
+
     def prove(self, crate, words):
-        """Proves and builds a crate."""
-        said = []
-        how = {"stdin": subprocess.DEVNULL, "stdout": subprocess.PIPE, "stderr": subprocess.STDOUT}
-        folder = os.path.join(self.top, "crates", crate)
-        with subprocess.Popen(words, cwd=folder, **how) as process:
-            for line in process.stdout:
-                said.append(line)
-                counted = COUNTED.match(line.decode(errors="replace"))
-                if counted:
-                    self.progress.note(crate, int(counted[1]), int(counted[2]))
+        """Proves and builds a crate, and takes down how it went."""
+        said, is_proved = [], False
+        try:
+            with self.place_of(crate) as folder:
+                is_proved = self.check(crate, words, folder, said)
+        except OSError as error:
+            said.append(f"{crate}: {error}\n".encode())
         with self.changed:
             # A crate's lines stay together, and those of a failure come last.
             self.log.writelines(said)
             self.log.flush()
             self.running.remove(crate)
-            if process.returncode == 0:
+            if is_proved:
                 self.proved.add(crate)
                 self.progress.end(crate)
             else:
                 self.is_well = False
             self.changed.notify()
 
-    def run(self, most):
-        """Proves all crates, so many at once, and answers whether each is proved."""
+    def check(self, crate, words, folder, said):
+        """Runs the checker in a folder, takes down what it says, and answers whether the crate is proved."""
+        how = {"stdin": subprocess.DEVNULL, "stdout": subprocess.PIPE, "stderr": subprocess.STDOUT}
+        with self.changed:
+            if not self.is_well:
+                return False
+            process = subprocess.Popen(words, cwd=folder, **how)
+            self.processes.append(process)
+        with process:
+            for line in process.stdout:
+                said.append(line.replace(folder.encode(), self.trees.folder(crate).encode()))
+                counted = COUNTED.match(line.decode(errors="replace"))
+                if counted:
+                    self.progress.note(crate, int(counted[1]), int(counted[2]))
+        return process.returncode == 0
+
+    def begin(self, crate):
+        """Begins the proof of a crate."""
+        self.waiting.remove(crate)
+        self.running.add(crate)
+        words = self.words(crate)
+        threading.Thread(target=self.prove, args=(crate, words), daemon=True).start()
+
+    def run(self):
+        """Proves all crates, and answers whether each is proved."""
         with self.changed:
             while (self.is_well and self.waiting) or self.running:
-                crate = self.ready() if self.is_well and len(self.running) < most else None
-                if crate is None:
+                ready = self.ready() if self.is_well and len(self.running) < self.most else []
+                if ready:
+                    self.begin(ready[0])
+                else:
                     self.changed.wait()
-                    continue
-                words = self.words(crate)
-                self.waiting.remove(crate)
-                self.running.add(crate)
-                threading.Thread(target=self.prove, args=(crate, words), daemon=True).start()
         return self.is_well
 
+    def stop(self):
+        """Ends the checks that run, and waits until what they proved is back."""
+        with self.changed:
+            self.is_well = False
+            for process in self.processes:
+                process.terminate()
+            self.changed.wait_for(lambda: not self.running, STOP_SECONDS)
 
-def processors():
-    """How many processors this process may use."""
-    return len(os.sched_getaffinity(0))
 
-
-def most_at_once():
+def most_at_once(trees):
     """How many checks this machine can run side by side."""
-    return max(1, min(processors() // CHECK_PROCESSORS, memory() // CHECK_MEMORY))
+    most = max(1, min(processors(), memory() // CHECK_MEMORY))
+    has_disk = trees.has_links() or shutil.disk_usage(trees.place).free >= DISK + COPIES
+    return most if has_disk else 1
 
 
 def show_end(path):
@@ -229,31 +265,48 @@ def show_end(path):
         print(f"    {line}", end="", file=sys.stderr)
 
 
+def prove_all(trees, crates, path):
+    """Proves the crates, with a log at a path, and answers whether each is proved."""
+    trees.take_back_all()
+    with open(path, "wb") as log:
+        proofs = Proofs(trees, crates, log, most_at_once(trees))
+        try:
+            return proofs.run()
+        except KeyboardInterrupt:
+            proofs.stop()
+            sys.exit("\nThe build was stopped. What is proved so far is kept.")
+        finally:
+            trees.take_back_all()
+
+
+def interrupt(*_):
+    """Takes another signal for an interrupt."""
+    raise KeyboardInterrupt
+
+
 def main():
     if len(sys.argv) != 3:
         sys.exit(__doc__)
     crate, target = sys.argv[1:]
-    top = os.path.abspath(os.path.join(crate, "..", ".."))
-    why = missing(top)
+    beside = os.path.dirname(os.path.abspath(target))
+    trees = Trees(os.path.abspath(os.path.join(crate, "..", "..")), os.path.join(beside, "trees"))
+    crates = crates_below(trees.libraries, os.path.basename(os.path.normpath(crate)))
+    why = missing(trees, crates)
     if why is not None:
         sys.exit(f"cdb cannot be built: {why}")
     path = os.path.join(os.path.dirname(target), "build.log")
-    os.makedirs(os.path.dirname(target), exist_ok=True)
-    libraries = libraries_of(top)
-    crates = crates_below(libraries, os.path.basename(os.path.normpath(crate)))
+    os.makedirs(beside, exist_ok=True)
     print(f"Proves the {len(crates)} crates of the program and builds {target}.")
+    print(f"With nothing kept, the last release took {TOOK}, and {DISK / 1e9:.1f} GB of disk.")
     print(f"What is proved is kept. What the checker says goes to {path}.", flush=True)
     began = time.monotonic()
-    try:
-        with open(path, "wb") as log:
-            is_well = Proofs(top, libraries, crates, log).run(most_at_once())
-    except KeyboardInterrupt:
-        sys.exit("\nThe build was stopped. What is proved so far is kept.")
-    if not is_well:
+    for it in (signal.SIGTERM, signal.SIGHUP):
+        if signal.getsignal(it) is signal.SIG_DFL:
+            signal.signal(it, interrupt)
+    if not prove_all(trees, crates, path):
         show_end(path)
         sys.exit(1)
-    made = os.path.join(crate, "out", crates[-1])
-    shutil.copy(made, f"{target}.new")
+    shutil.copy(os.path.join(crate, KEPT, crates[-1]), f"{target}.new")
     os.replace(f"{target}.new", target)
     print(f"{target} is built: proved, in {time.monotonic() - began:.0f} s.")
 

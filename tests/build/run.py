@@ -1,0 +1,224 @@
+#!/usr/bin/env python3
+"""Builds a small repository with a checker that proves nothing, and compares what tools/build.py does:
+what it runs side by side, and what is left after a failure, an interrupt and a kill.
+
+    tests/build/run.py
+"""
+
+import errno
+import os
+import signal
+import subprocess
+import sys
+import tempfile
+import time
+from types import SimpleNamespace
+from unittest import mock
+
+HERE = os.path.dirname(os.path.abspath(__file__))
+TOOLS = os.path.join(HERE, "..", "..", "tools")
+sys.path.insert(0, TOOLS)
+import build  # noqa: E402
+import trees  # noqa: E402
+
+CRATES = """# Lowest first.
+low:
+other: byteorder
+left: low
+right: low other
+top: left right
+aside: low
+"""
+BUILT = ("low", "other", "left", "right", "top")
+# The longest code is that of `right`, so most work waits for `low`, and then for `right`.
+SIZES = {"low": 100, "other": 10, "left": 100, "right": 200, "top": 10, "aside": 900}
+IS_BESIDE = min(build.processors(), build.memory() // build.CHECK_MEMORY) > 1
+
+
+class Repository:
+    """A repository whose crates are not worth a proof."""
+
+    def __init__(self, top):
+        self.top = top
+        self.journal = os.path.join(top, "journal")
+        self.write("crates.txt", CRATES)
+        self.write("README.md", "Proved with: `a-kit logic 1234`.\n")
+        for crate, size in SIZES.items():
+            root = "main.rt" if crate == "top" else "lib.rt"
+            self.write(f"crates/{crate}/src/{root}", "/" * size)
+            self.write(f"crates/{crate}/must-fail/it.edit", "")
+
+    def write(self, name, text):
+        path = os.path.join(self.top, name)
+        os.makedirs(os.path.dirname(path), exist_ok=True)
+        with open(path, "w", encoding="utf-8") as file:
+            file.write(text)
+
+    def begin(self, processors=None, **environment):
+        """Begins a build, with these variables for the checker."""
+        self.write("journal", "")
+        checker = os.path.join(HERE, "checker.py")
+        words = {"RT": checker, "JOURNAL": self.journal, "PATH": os.environ["PATH"], **environment}
+        return subprocess.Popen(
+            [sys.executable, os.path.join(TOOLS, "build.py"), "crates/top", "bin/top"],
+            cwd=self.top,
+            env=words,
+            stdout=subprocess.PIPE,
+            stderr=subprocess.PIPE,
+            text=True,
+            preexec_fn=lambda: os.sched_setaffinity(0, processors or os.sched_getaffinity(0)),
+        )
+
+    def build(self, processors=None, **environment):
+        """Builds, and gives the status and what was said."""
+        with self.begin(processors, **environment) as process:
+            output, errors = process.communicate(timeout=60)
+        return process.returncode, output, errors
+
+    def noted(self, what):
+        """The crates of the journal's lines that begin with a word, in order."""
+        with open(self.journal, encoding="utf-8") as file:
+            return [line.split()[1] for line in file if line.split()[0] == what]
+
+    def jobs_of(self, crate):
+        """How many jobs a check was begun with."""
+        with open(self.journal, encoding="utf-8") as file:
+            words = next(line.split() for line in file if line.startswith(f"begins {crate} "))
+        return int(words[words.index("--jobs") + 1])
+
+    def kept(self):
+        """The crates of which the checker keeps something."""
+        return [it for it in SIZES if os.path.isdir(os.path.join(self.top, "crates", it, "out"))]
+
+    def has_trees(self):
+        return os.path.exists(os.path.join(self.top, "bin", "trees"))
+
+    def wait_for(self, *crates):
+        """Waits until these checks have begun."""
+        end = time.monotonic() + 20
+        while not set(crates).issubset(self.noted("begins")) and time.monotonic() < end:
+            time.sleep(0.01)
+
+
+def two(*crates):
+    """The crates that run side by side here, all if the machine runs two at once, else the first."""
+    return crates if IS_BESIDE else crates[:1]
+
+
+def side_by_side(it):
+    """Crates that share those below them are proved at once; the one most waited for gets more jobs."""
+    status, output, _ = it.build(MEET=" ".join(two("right", "left")))
+    begun = it.noted("begins")
+    yield "status", status == 0 and not it.noted("waits")
+    yield "crates", sorted(begun) == sorted(BUILT) and begun[-1] == "top"
+    made = trees.Trees(it.top, os.path.join(it.top, "bin", "trees"))
+    yield "order", build.in_order(made, BUILT) == ["low", "other", "right", "left", "top"]
+    yield "jobs", it.jobs_of("low") > it.jobs_of("other") or not IS_BESIDE
+    yield "program", os.path.isfile(os.path.join(it.top, "bin", "top"))
+    yield "trees", it.kept() == list(BUILT) and not it.has_trees()
+    yield "lines", "5 of 5 crates" in output and "GB of disk" in output
+
+
+def again(it):
+    """A second build begins with all that was kept, without a tree of its own."""
+    it.build()
+    status, _, _ = it.build()
+    yield "status", status == 0
+    yield "kept", sorted(it.noted("has")) == sorted(BUILT)
+
+
+def failing(it):
+    """A failure ends the build once what runs beside it has ended, and all is kept."""
+    status, _, errors = it.build(MEET=" ".join(two("right", "left")), FAIL="right")
+    place = os.path.join(it.top, "crates", "right", "src", "lib.rt:1:1: error: not so")
+    yield "status", status == 1 and place in errors
+    yield "kept", {"low", *two("right", "left")}.issubset(it.kept()) and not it.has_trees()
+    yield "no more", "top" not in it.noted("begins")
+    it.build()
+    yield "goes on", {"low", "right"}.issubset(it.noted("has"))
+
+
+def stopped(it):
+    """An interrupt ends what runs, and keeps what it has proved."""
+    for number in (signal.SIGINT, signal.SIGTERM):
+        with it.begin(HANG="right left") as process:
+            it.wait_for(*two("right", "left"))
+            process.send_signal(number)
+            _, errors = process.communicate(timeout=20)
+        yield "status", process.returncode == 1 and "What is proved so far is kept" in errors
+        yield "kept", {"low", *two("right", "left")}.issubset(it.kept()) and not it.has_trees()
+        yield "ended", not {"right", "left", "top"} & set(it.noted("ends"))
+
+
+def killed(it):
+    """The trees of a build that was killed are taken back by the next one."""
+    with it.begin(HANG="right left") as process:
+        it.wait_for(*two("right", "left"))
+        process.kill()
+        process.communicate(timeout=30)
+    yield "left", it.has_trees() or not IS_BESIDE
+    status, _, _ = it.build()
+    yield "status", status == 0 and not it.has_trees()
+    yield "kept", set(two("right", "left")).issubset(it.noted("has"))
+
+
+def alone(it):
+    """With one processor a crate is proved after the other, in its own folder."""
+    one = {next(iter(os.sched_getaffinity(0)))}
+    status, _, _ = it.build(one, MEET="low")
+    yield "status", status == 0 and not it.has_trees()
+    journal = [line.split()[:2] for line in open(it.journal, encoding="utf-8")]
+    pairs = list(zip(journal[::2], journal[1::2]))
+    yield "in turn", all(one == ["begins", two[1]] and two[0] == "ends" for one, two in pairs)
+
+
+def copied(it):
+    """A file system without hard links gets copies, or one crate after the other if the disk is small."""
+    made = trees.Trees(it.top, os.path.join(it.top, "bin", "trees"))
+    it.write("crates/low/out/rlib/library", "low")
+    it.write("crates/low/out/incremental/much", "")
+    it.write("crates/left/out/incremental/some", "")
+    code = os.path.join("src", "lib.rt")
+    for refusal in (None, OSError(errno.EXDEV, "no")):
+        with mock.patch("os.link", side_effect=refusal) if refusal else mock.MagicMock():
+            with made.tree_of("left") as folder:
+                low = os.path.join(folder, "..", "low")
+                is_link = os.path.samefile(os.path.join(low, code), os.path.join(it.top, "crates", "low", code))
+                yield "links", is_link == (refusal is None) == made.has_links()
+                yield "below", os.listdir(os.path.join(low, "out")) == ["rlib"]
+                yield "crates", trees.libraries_of(os.path.join(folder, "..", "..")) == {"low": [], "left": ["low"]}
+                yield "sources", not os.path.exists(os.path.join(folder, "must-fail"))
+                yield "kept", os.path.isfile(os.path.join(folder, "out", "incremental", "some"))
+            yield "back", it.kept() == ["low", "left"]
+            for free, is_one in ((1 << 40, not IS_BESIDE), (build.DISK, refusal is not None or not IS_BESIDE)):
+                with mock.patch("shutil.disk_usage", return_value=SimpleNamespace(free=free)):
+                    yield "at once", (build.most_at_once(made) == 1) == is_one
+
+
+def refused(it):
+    """A build that cannot end is not begun."""
+    made = trees.Trees(it.top, os.path.join(it.top, "bin", "trees"))
+    with mock.patch.dict(os.environ, {"RT": os.path.join(HERE, "checker.py"), "JOURNAL": it.journal}):
+        yield "well", build.missing(made, BUILT) is None
+        with mock.patch("shutil.disk_usage", return_value=SimpleNamespace(free=build.DISK - 1)):
+            yield "disk", "4.8 GB of disk" in build.missing(made, BUILT)
+        with mock.patch("build.memory", return_value=build.CHECK_MEMORY - 1):
+            yield "memory", "4 GB of memory" in build.missing(made, BUILT)
+        it.write("README.md", "Proved with: `a-kit logic 5678`.\n")
+        yield "logic", "README.md names" in build.missing(made, BUILT)
+
+
+def main():
+    passed = failed = 0
+    for part in (side_by_side, again, failing, stopped, killed, alone, copied, refused):
+        with tempfile.TemporaryDirectory() as top:
+            for what, is_well in part(Repository(top)):
+                passed, failed = passed + is_well, failed + (not is_well)
+                if not is_well:
+                    print(f"{part.__name__}: {what}")
+    print(f"{passed} passed, {failed} failed")
+    sys.exit(1 if failed else 0)
+
+
+if __name__ == "__main__":
+    main()

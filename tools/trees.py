@@ -1,0 +1,142 @@
+"""The trees in which crates are proved side by side.
+
+The checker works alone in the folder of a crate and in those of all crates below it. So each crate gets a
+tree of its own, a repository of the crate and of those below it: its sources are copied, and the sources
+and libraries of those below are hard links, or copies if the file system has none. The folder `out`, in
+which the checker keeps what it proved, moves into the tree and back.
+"""
+
+import contextlib
+import fcntl
+import os
+import shutil
+
+KEPT = "out"
+SOURCES = ("src", "specs", "proofs")
+# What the check of a crate reads of those below it.
+READ_BELOW = (*SOURCES, os.path.join(KEPT, "rlib"))
+
+
+def read(*path):
+    """The text of a file."""
+    with open(os.path.join(*path), encoding="utf-8") as file:
+        return file.read()
+
+
+def lines_of(top):
+    """The lines of crates.txt that list a crate, by the crate's name."""
+    lines = [line.split("#")[0] for line in read(top, "crates.txt").splitlines()]
+    return {line.split(":")[0].split()[0]: line for line in lines if ":" in line}
+
+
+def libraries_of(top):
+    """For each crate of the repository the crates that its line in crates.txt lists."""
+    listed = {crate: line.split(":")[1].split() for crate, line in lines_of(top).items()}
+    return {crate: [it for it in below if it in listed] for crate, below in listed.items()}
+
+
+def crates_below(libraries, crate):
+    """A crate and all that it stands on, lowest first."""
+    found = []
+    for below in libraries[crate]:
+        found += [it for it in crates_below(libraries, below) if it not in found]
+    return [*found, crate]
+
+
+def link(source, target):
+    """Gives a file a second name, or copies it if the file system cannot."""
+    try:
+        os.link(source, target)
+    except OSError:
+        shutil.copy2(source, target)
+
+
+@contextlib.contextmanager
+def alone_in(folder):
+    """Keeps the checker out of a crate's folder, as it keeps out others, once nobody works there."""
+    held = os.open(folder, os.O_RDONLY)
+    try:
+        # Some file systems have no locks.
+        with contextlib.suppress(OSError):
+            fcntl.flock(held, fcntl.LOCK_EX)
+        yield
+    finally:
+        os.close(held)
+
+
+class Trees:
+    """The trees of a repository's crates, in a folder of their own."""
+
+    def __init__(self, top, place):
+        self.top, self.place = top, place
+        self.lines, self.libraries = lines_of(top), libraries_of(top)
+
+    def folder(self, crate):
+        """A crate's folder in the repository."""
+        return os.path.join(self.top, "crates", crate)
+
+    def has_links(self):
+        """Whether a tree can have hard links of the repository's files."""
+        os.makedirs(self.place, exist_ok=True)
+        probe = os.path.join(self.place, "link")
+        with contextlib.suppress(FileNotFoundError):
+            os.remove(probe)
+        try:
+            os.link(os.path.join(self.top, "crates.txt"), probe)
+        except OSError:
+            return False
+        os.remove(probe)
+        return True
+
+    @contextlib.contextmanager
+    def tree_of(self, crate):
+        """Makes a crate's tree, gives the crate's folder there, and takes the tree back in the end."""
+        with alone_in(self.folder(crate)):
+            try:
+                yield self.make(crate)
+            finally:
+                self.take_back(crate)
+
+    def make(self, crate):
+        """Makes the tree of a crate, and answers the crate's folder there."""
+        tree = os.path.join(self.place, crate)
+        inside = os.path.join(tree, "crates", crate)
+        os.makedirs(inside)
+        crates = crates_below(self.libraries, crate)
+        with open(os.path.join(tree, "crates.txt"), "w", encoding="utf-8") as file:
+            file.writelines(f"{self.lines[it]}\n" for it in crates)
+        for below in crates[:-1]:
+            for part in READ_BELOW:
+                self.copy(below, part, tree, link)
+        for part in SOURCES:
+            self.copy(crate, part, tree, shutil.copy2)
+        # The words that the program is run on, which the checker reads too.
+        with contextlib.suppress(FileNotFoundError):
+            shutil.copy2(os.path.join(self.folder(crate), "args"), inside)
+        with contextlib.suppress(FileNotFoundError):
+            shutil.move(os.path.join(self.folder(crate), KEPT), os.path.join(inside, KEPT))
+        return inside
+
+    def copy(self, crate, part, tree, how):
+        """Copies a part of a crate into a tree."""
+        source = os.path.join(self.folder(crate), part)
+        if os.path.isdir(source):
+            shutil.copytree(source, os.path.join(tree, "crates", crate, part), copy_function=how)
+
+    def take_back(self, crate):
+        """Moves what the checker kept in a crate's tree to the crate, and removes the tree."""
+        tree = os.path.join(self.place, crate)
+        kept = os.path.join(tree, "crates", crate, KEPT)
+        if os.path.isdir(kept):
+            shutil.rmtree(os.path.join(self.folder(crate), KEPT), ignore_errors=True)
+            shutil.move(kept, os.path.join(self.folder(crate), KEPT))
+        shutil.rmtree(tree, ignore_errors=True)
+
+    def take_back_all(self):
+        """Takes back the trees that a build left that was killed, and removes their folder."""
+        for crate in os.listdir(self.place) if os.path.isdir(self.place) else []:
+            if crate in self.lines:
+                with alone_in(self.folder(crate)):
+                    self.take_back(crate)
+        with contextlib.suppress(OSError):
+            os.rmdir(self.place)
