@@ -8,24 +8,8 @@ import sys
 
 HERE = os.path.dirname(os.path.abspath(__file__))
 TOP = os.path.join(HERE, "..")
-
-
-def listed_in(top):
-    """For each crate of the repository the libraries that its line in crates.txt lists."""
-    with open(os.path.join(top, "crates.txt"), encoding="utf-8") as lines:
-        pairs = [line.split("#")[0].split(":") for line in lines]
-    return {pair[0].split()[0]: pair[1].split() for pair in pairs if len(pair) == 2}
-
-
-def crates_below(listed, libraries):
-    """The repository's crates that some libraries are or stand on."""
-    found = set()
-    waiting = [it for it in libraries if it in listed]
-    while waiting:
-        crate = waiting.pop()
-        found.add(crate)
-        waiting += [it for it in listed[crate] if it in listed and it not in found]
-    return found
+sys.path.insert(0, os.path.join(TOP, "tools"))
+from trees import Trees, crates_below  # noqa: E402
 
 
 def build(folder, source, libraries, words):
@@ -33,18 +17,15 @@ def build(folder, source, libraries, words):
     some words. Gives its path, and what it wrote.
     """
     name = f"{os.path.splitext(source)[0]}_bench"
-    crates, listed = os.path.join(folder, "crates"), listed_in(TOP)
-    below = crates_below(listed, libraries)
+    crates, trees = os.path.join(folder, "crates"), Trees(TOP, folder)
+    known = [it for it in libraries if it in trees.libraries]
+    below = {it for library in known for it in crates_below(trees.libraries, library)}
     os.makedirs(os.path.join(crates, name, "src"))
-    for crate in below:
-        left_out = shutil.ignore_patterns("must-fail", "*.store", "sealed")
-        shutil.copytree(os.path.join(TOP, "crates", crate), os.path.join(crates, crate), ignore=left_out)
+    trees.link(below, folder)
     shutil.copy(os.path.join(HERE, source), os.path.join(crates, name, "src", "main.rt"))
     shutil.copy(os.path.join(TOP, "HANDLES"), folder)
     with open(os.path.join(folder, "crates.txt"), "w", encoding="utf-8") as file:
-        for crate in listed:
-            if crate in below:
-                file.write(f"{crate}: {' '.join(listed[crate])}\n")
+        file.writelines(f"{trees.lines[it]}\n" for it in below)
         file.write(f"{name}: {' '.join(libraries)}\n")
     run = [os.environ.get("RT") or "rt", "run", "--", *words]
     ran = subprocess.run(run, cwd=os.path.join(crates, name), stdout=subprocess.PIPE, text=True, check=False)

@@ -194,6 +194,11 @@ class Proofs:
                 is_proved = self.check(crate, words, folder, said)
         except OSError as error:
             said.append(f"{crate}: {error}\n".encode())
+        finally:
+            self.end(crate, said, is_proved)
+
+    def end(self, crate, said, is_proved):
+        """Takes what was said of a crate, and whether it is proved."""
         with self.changed:
             # A crate's lines stay together, and those of a failure come last.
             self.log.writelines(said)

@@ -105,9 +105,7 @@ class Trees:
         crates = crates_below(self.libraries, crate)
         with open(os.path.join(tree, "crates.txt"), "w", encoding="utf-8") as file:
             file.writelines(f"{self.lines[it]}\n" for it in crates)
-        for below in crates[:-1]:
-            for part in READ_BELOW:
-                self.copy(below, part, tree, link)
+        self.link(crates[:-1], tree)
         for part in SOURCES:
             self.copy(crate, part, tree, shutil.copy2)
         # The words that the program is run on, which the checker reads too.
@@ -116,6 +114,12 @@ class Trees:
         with contextlib.suppress(FileNotFoundError):
             shutil.move(os.path.join(self.folder(crate), KEPT), os.path.join(inside, KEPT))
         return inside
+
+    def link(self, crates, tree):
+        """Links into a tree what the check of a crate above some crates reads of them."""
+        for crate in crates:
+            for part in READ_BELOW:
+                self.copy(crate, part, tree, link)
 
     def copy(self, crate, part, tree, how):
         """Copies a part of a crate into a tree."""
