@@ -122,6 +122,3 @@ fn words_of(rt: &HostRuntime) -> Result<Vec<String>, Usage> {
         Ok(args) => Ok(args.collect::<Vec<String>>(rt.alloc())?),
     }
 }
-
-#[cfg(test)]
-mod tests;
