@@ -30,8 +30,6 @@ CLIB_FLAGS := -std=c11 -O2 -Wall -Wextra -fPIC -fno-tree-slp-vectorize
 WERROR ?=
 CLIB_SOURCES := clib/libcdb.c clib/seeking.c clib/making.c
 CLIB_OBJECTS := $(CLIB_SOURCES:clib/%.c=bin/%.o)
-# The library runs on each processor of its architecture, as Debian wants it to.
-LIB_CPU := $(if $(filter x86_64,$(shell uname -m)),--cpu x86-64)
 # The version of tinycdb whose calls the library has, and what libraries of this name there are.
 INTERFACE = $(shell sed -n 's/^.define TINYCDB_VERSION //p' clib/cdb.h)
 OTHER_LIBRARIES = $(filter-out $(LIBDIR)/%,$(wildcard /usr/lib/libcdb.so.1 /usr/lib/*/libcdb.so.1))
@@ -74,10 +72,7 @@ bin/refuse.so: tests/faults/refuse.c
 clib: bin/libcdb.so.1 bin/libcdb.a
 
 bin/libcdb_c.a: $(SOURCES)
-	@mkdir -p bin
-	@echo 'Proves the look-ups of the C library.'
-	@cd crates/cdb_c && $(RT) lib $(LIB_CPU) > ../../bin/clib.log 2>&1 || { tail -n 40 ../../bin/clib.log; exit 1; }
-	@cp crates/cdb_c/out/libcdb_c.a $@
+	@RT='$(RT)' $(PYTHON) tools/build.py crates/cdb_c $@
 
 bin/%.o: clib/%.c clib/cdb.h
 	@mkdir -p bin

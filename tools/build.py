@@ -1,12 +1,13 @@
 #!/usr/bin/env python3
-"""Proves a program and the crates that it stands on, builds it, and copies it to where it is wanted.
+"""Proves a program or a static library and the crates that it stands on, builds it, and copies it to where it
+is wanted.
 
     tools/build.py CRATE TARGET
 
 Each crate is proved and built as soon as those below it are, as many at once as the machine has the
 processors and the memory for. The checker works alone in the folders of a crate and of those below it, so
 each gets a tree of its own: see trees.py. Of the crates that are ready the one that most work waits for
-comes first, and gets most jobs. The program comes last; on a PC it is built for each processor of x86-64.
+comes first, and gets most jobs. CRATE comes last; on a PC it is built for each processor of x86-64.
 
 As it goes, the command says how many functions are proved: on a terminal in one line that it rewrites, else
 in a line a minute. All that the checker says goes to the file build.log beside the target; if a step fails,
@@ -24,15 +25,13 @@ import sys
 import threading
 import time
 
-from trees import KEPT, Trees, crates_below, read
+from trees import KEPT, Trees, alone_in, crates_below, read
 
 # What the last release took with nothing kept, and on which machine.
 TOOK = "23 minutes on 4 cores"
 
-# The checker proves a program, builds it and then runs it, with these words. By itself it would build
-# for the processors of 2009 and later.
+# By itself the checker would build for the processors of 2009 and later.
 CPU = ["--cpu", "x86-64"] if platform.machine() == "x86_64" else []
-WORDS = [*CPU, "--", "-h"]
 SHOWN_LINES = 40
 
 # What the checker says of each function that it proves, and of a crate.
@@ -89,6 +88,11 @@ def missing(trees, crates):
     if free < DISK and not is_kept:
         return f"the proofs take {DISK / 1e9:.1f} GB of disk, and {free / 1e9:.1f} are free"
     return None
+
+
+def is_program(trees, crate):
+    """Whether a crate is a program."""
+    return os.path.isfile(os.path.join(trees.folder(crate), "src", "main.rt"))
 
 
 class Progress:
@@ -156,7 +160,7 @@ class Proofs:
 
     def __init__(self, trees, crates, log, most):
         self.trees, self.log, self.most = trees, log, most
-        self.program = crates[-1]
+        self.last = crates[-1]
         self.order = in_order(trees, crates)
         self.waiting = list(self.order)
         self.proved = set()
@@ -177,8 +181,11 @@ class Proofs:
         jobs = processors() if is_first else processors() // 2
         beside = min(self.most, len(self.running) + len(self.ready()))
         jobs = max(1, min(jobs, memory() // beside // JOB_MEMORY))
-        words = [checker(), "run" if crate == self.program else "lib", "--jobs", str(jobs)]
-        return words + (WORDS if crate == self.program else [])
+        words = ["--jobs", str(jobs), *(CPU if crate == self.last else [])]
+        if is_program(self.trees, crate):
+            # It is proved, built and then run, with the word after the hyphens.
+            return [checker(), "run", *words, "--", "-h"]
+        return [checker(), "lib", *words]
 
     def place_of(self, crate):
         """Where a crate is proved: one that nothing runs beside needs no tree."""
@@ -298,11 +305,11 @@ def main():
     crates = crates_below(trees.libraries, os.path.basename(os.path.normpath(crate)))
     why = missing(trees, crates)
     if why is not None:
-        sys.exit(f"cdb cannot be built: {why}")
+        sys.exit(f"{target} cannot be built: {why}")
     path = os.path.join(os.path.dirname(target), "build.log")
     os.makedirs(beside, exist_ok=True)
-    print(f"Proves the {len(crates)} crates of the program and builds {target}.")
-    print(f"With nothing kept, the last release took {TOOK}, and {DISK / 1e9:.1f} GB of disk.")
+    print(f"Proves {len(crates)} crates and builds {target}.")
+    print(f"With nothing kept, the program took {TOOK} at its last release, and {DISK / 1e9:.1f} GB of disk.")
     print(f"What is proved is kept. What the checker says goes to {path}.", flush=True)
     began = time.monotonic()
     for it in (signal.SIGTERM, signal.SIGHUP):
@@ -311,8 +318,10 @@ def main():
     if not prove_all(trees, crates, path):
         show_end(path)
         sys.exit(1)
-    shutil.copy(os.path.join(crate, KEPT, crates[-1]), f"{target}.new")
-    os.replace(f"{target}.new", target)
+    made = crates[-1] if is_program(trees, crates[-1]) else f"lib{crates[-1]}.a"
+    with alone_in(trees.folder(crates[-1])):
+        shutil.copy(os.path.join(crate, KEPT, made), f"{target}.new")
+        os.replace(f"{target}.new", target)
     print(f"{target} is built: proved, in {time.monotonic() - began:.0f} s.")
 
 

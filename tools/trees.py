@@ -52,13 +52,17 @@ def link(source, target):
 
 
 @contextlib.contextmanager
-def alone_in(folder):
-    """Keeps the checker out of a crate's folder, as it keeps out others, once nobody works there."""
+def alone_in(folder, how=fcntl.LOCK_EX):
+    """Keeps the checker and other builds out of a crate's folder, as the checker does, once none works there."""
     held = os.open(folder, os.O_RDONLY)
     try:
-        # Some file systems have no locks.
-        with contextlib.suppress(OSError):
-            fcntl.flock(held, fcntl.LOCK_EX)
+        try:
+            fcntl.flock(held, how)
+        except BlockingIOError:
+            raise
+        except OSError:
+            # Some file systems have no locks.
+            pass
         yield
     finally:
         os.close(held)
@@ -91,11 +95,15 @@ class Trees:
     @contextlib.contextmanager
     def tree_of(self, crate):
         """Makes a crate's tree, gives the crate's folder there, and takes the tree back in the end."""
-        with alone_in(self.folder(crate)):
-            try:
-                yield self.make(crate)
-            finally:
+        with contextlib.ExitStack() as held:
+            with contextlib.ExitStack() as below:
+                # In the order of the checker, so that it and this do not wait for each other.
+                for it in sorted(crates_below(self.libraries, crate)):
+                    (held if it == crate else below).enter_context(alone_in(self.folder(it)))
                 self.take_back(crate)
+                held.callback(self.take_back, crate)
+                inside = self.make(crate)
+            yield inside
 
     def make(self, crate):
         """Makes the tree of a crate, and answers the crate's folder there."""
@@ -137,10 +145,10 @@ class Trees:
         shutil.rmtree(tree, ignore_errors=True)
 
     def take_back_all(self):
-        """Takes back the trees that a build left that was killed, and removes their folder."""
-        for crate in os.listdir(self.place) if os.path.isdir(self.place) else []:
-            if crate in self.lines:
-                with alone_in(self.folder(crate)):
+        """Takes back the trees that a build left that was killed."""
+        left = os.listdir(self.place) if os.path.isdir(self.place) else []
+        for crate in [it for it in left if it in self.lines]:
+            # Another build may work in it.
+            with contextlib.suppress(BlockingIOError):
+                with alone_in(self.folder(crate), fcntl.LOCK_EX | fcntl.LOCK_NB):
                     self.take_back(crate)
-        with contextlib.suppress(OSError):
-            os.rmdir(self.place)

@@ -84,7 +84,7 @@ def prove(crate, words):
         print(f"{os.getcwd()}/src/lib.rt:1:1: error: not so")
         return 1
     os.makedirs(os.path.join("out", "rlib"), exist_ok=True)
-    for name in (os.path.join("rlib", "library"), crate):
+    for name in (os.path.join("rlib", "library"), crate, f"lib{crate}.a"):
         with open(os.path.join("out", name), "w", encoding="utf-8") as file:
             file.write(crate)
     note("ends", crate, len(held))

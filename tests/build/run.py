@@ -27,7 +27,7 @@ other: byteorder
 left: low
 right: low other
 top: left right
-aside: low
+aside staticlib: low
 """
 BUILT = ("low", "other", "left", "right", "top")
 # The longest code is that of `right`, so most work waits for `low`, and then for `right`.
@@ -54,13 +54,13 @@ class Repository:
         with open(path, "w", encoding="utf-8") as file:
             file.write(text)
 
-    def begin(self, processors=None, **environment):
+    def begin(self, processors=None, crate="top", target="bin/top", **environment):
         """Begins a build, with these variables for the checker."""
         self.write("journal", "")
         checker = os.path.join(HERE, "checker.py")
         words = {"RT": checker, "JOURNAL": self.journal, "PATH": os.environ["PATH"], **environment}
         return subprocess.Popen(
-            [sys.executable, os.path.join(TOOLS, "build.py"), "crates/top", "bin/top"],
+            [sys.executable, os.path.join(TOOLS, "build.py"), f"crates/{crate}", target],
             cwd=self.top,
             env=words,
             stdout=subprocess.PIPE,
@@ -69,9 +69,9 @@ class Repository:
             preexec_fn=lambda: os.sched_setaffinity(0, processors or os.sched_getaffinity(0)),
         )
 
-    def build(self, processors=None, **environment):
+    def build(self, *words, **named):
         """Builds, and gives the status and what was said."""
-        with self.begin(processors, **environment) as process:
+        with self.begin(*words, **named) as process:
             output, errors = process.communicate(timeout=60)
         return process.returncode, output, errors
 
@@ -91,7 +91,8 @@ class Repository:
         return [it for it in SIZES if os.path.isdir(os.path.join(self.top, "crates", it, "out"))]
 
     def has_trees(self):
-        return os.path.exists(os.path.join(self.top, "bin", "trees"))
+        place = os.path.join(self.top, "bin", "trees")
+        return os.path.isdir(place) and os.listdir(place) != []
 
     def wait_for(self, *crates):
         """Waits until these checks have begun."""
@@ -127,6 +128,15 @@ def again(it):
     yield "kept", sorted(it.noted("has")) == sorted(BUILT)
 
 
+def library(it):
+    """A static library is built as a program is, and not run."""
+    status, output, _ = it.build(crate="aside", target="bin/libaside.a")
+    yield "status", status == 0 and "bin/libaside.a is built" in output
+    yield "crates", it.noted("ends") == ["low", "aside"]
+    with open(os.path.join(it.top, "bin", "libaside.a"), encoding="utf-8") as file:
+        yield "archive", file.read() == "aside"
+
+
 def failing(it):
     """A failure ends the build once what runs beside it has ended, and all is kept."""
     status, _, errors = it.build(MEET=" ".join(two("right", "left")), FAIL="right")
@@ -156,10 +166,19 @@ def killed(it):
         it.wait_for(*two("right", "left"))
         process.kill()
         process.communicate(timeout=30)
-    yield "left", it.has_trees() or not IS_BESIDE
+    yield "left", it.has_trees() == IS_BESIDE
     status, _, _ = it.build()
     yield "status", status == 0 and not it.has_trees()
     yield "kept", set(two("right", "left")).issubset(it.noted("has"))
+
+
+def two_builds(it):
+    """Two builds of one repository share its trees, a crate after the other."""
+    builds = [it.begin(target="bin/top"), it.begin(target="bin/another")]
+    for process in builds:
+        process.communicate(timeout=60)
+    yield "status", [process.returncode for process in builds] == [0, 0]
+    yield "kept", it.kept() == list(BUILT) and not it.has_trees()
 
 
 def alone(it):
@@ -210,7 +229,7 @@ def refused(it):
 
 def main():
     passed = failed = 0
-    for part in (side_by_side, again, failing, stopped, killed, alone, copied, refused):
+    for part in (side_by_side, again, library, failing, stopped, killed, two_builds, alone, copied, refused):
         with tempfile.TemporaryDirectory() as top:
             for what, is_well in part(Repository(top)):
                 passed, failed = passed + is_well, failed + (not is_well)
