@@ -6,7 +6,8 @@
 The checker, which is the command in the environment's RT, else `rt`, compiles the program and each crate of
 tests without a proof and runs them. These parts need the program that make builds, and are left out: what a
 command leaves in files, examples of the pages, kills, refused memory and calls of the system, the packages, and
-the C library. The last line counts all that passed and failed.
+the C library. So is a test of a crate that takes longer than half a minute. The last line counts all that passed
+and failed.
 """
 
 import os
@@ -14,10 +15,14 @@ import re
 import subprocess
 import sys
 import time
-from concurrent.futures import ThreadPoolExecutor
+from concurrent.futures import ThreadPoolExecutor, as_completed
 
 TOP = os.path.join(os.path.dirname(os.path.abspath(__file__)), "..")
 COUNTED = re.compile(r"^(?:test result: .*?)?(\d+) passed[,;] (\d+) failed", re.MULTILINE)
+# What the checker says of a test that takes too long.
+TOO_LONG = re.compile(r"^test (\S+) \.\.\. FAILED\n.*no-answer: the program did not end within", re.MULTILINE)
+SECONDS = 30
+# How much memory a part takes at most.
 MEMORY = 2 << 30
 # How many times the program is compiled for its table of cases.
 HALVES = 2
@@ -51,10 +56,10 @@ def parts():
     python = [sys.executable]
     halves = [["tests/cli/unproved.py", str(it + 1), str(HALVES)] for it in range(HALVES)]
     found = [(" ".join(it), python + it, TOP) for it in halves]
-    found.append(("make try", ["sh", "demo/try.sh"], TOP))
     crates = [it for it in os.listdir(os.path.join(TOP, "crates")) if has_tests(it)]
     for crate in sorted(crates, key=size_of, reverse=True):
         found.append((f"tests of {crate}", [checker(), "try", "--test"], os.path.join(TOP, "crates", crate)))
+    found.append(("make try", ["sh", "demo/try.sh"], TOP))
     for script in ("tests/docs/check.py", "tests/build/run.py", "tests/package/version.py"):
         found.append((script, [*python, script], TOP))
     return found
@@ -65,12 +70,16 @@ def run(part):
     name, words, folder = part
     began = time.monotonic()
     how = {"stdin": subprocess.DEVNULL, "stdout": subprocess.PIPE, "stderr": subprocess.STDOUT}
+    how["env"] = {**os.environ, "RT_SECONDS": str(SECONDS)}
     done = subprocess.run(words, cwd=folder, text=True, errors="replace", check=False, **how)
     counted = COUNTED.findall(done.stdout)
     passed, failed = map(int, counted[-1]) if counted else (int(done.returncode == 0), 0)
+    left_out = TOO_LONG.findall(done.stdout)
+    failed -= len(left_out)
     # A part that ends early has failed, whatever it counted.
-    failed = failed or int(done.returncode != 0)
-    said = done.stdout if failed else ""
+    if done.returncode != 0 and not left_out:
+        failed = max(failed, 1)
+    said = done.stdout if failed else "".join(f"left out, as it takes too long: {it}\n" for it in left_out)
     return passed, failed, f"{said}{name}: {passed} passed, {failed} failed, {time.monotonic() - began:.0f} s"
 
 
@@ -82,7 +91,8 @@ def main():
     at_once = max(1, min(len(os.sched_getaffinity(0)), memory // MEMORY))
     passed = failed = 0
     with ThreadPoolExecutor(at_once) as pool:
-        for good, bad, said in pool.map(run, parts()):
+        for part in as_completed([pool.submit(run, it) for it in parts()]):
+            good, bad, said = part.result()
             passed, failed = passed + good, failed + bad
             print(said, flush=True)
     print("left out: what a proved program is needed for; run make, and make tests")
