@@ -2,7 +2,6 @@
 #![tactic(auto)]
 
 mod buffered;
-mod by_ref;
 mod bytes;
 mod file;
 mod fuse;

@@ -149,18 +149,8 @@ fn four_calls<S: Store>(store: &mut S) -> bool {
 #[test]
 fn each_call_is_passed_on_by_a_fuse(rt: HostRuntime) -> Result<(), Fail> {
     let inner = FuseStore::new(MemStore::new(rt.alloc()), u64::MAX, 0);
-    let mut outer = FuseStore::new(Box::new(rt.alloc(), inner)?, u64::MAX, 0);
+    let mut outer = FuseStore::new(inner, u64::MAX, 0);
     let is_right = four_calls(&mut outer) && outer.written() == 3;
     assert!(rt; is_right && outer.into_inner().calls() == 4);
-    Ok(())
-}
-
-#[test]
-fn each_call_is_passed_on(rt: HostRuntime) -> Result<(), Fail> {
-    let mut fuse = FuseStore::new(MemStore::new(rt.alloc()), u64::MAX, 0);
-    let by_reference = four_calls(&mut fuse) && four_calls(&mut &mut fuse) && fuse.calls() == 8;
-    let mut boxed = Box::new(rt.alloc(), fuse)?;
-    let in_a_box = four_calls(&mut boxed) && boxed.calls() == 12;
-    assert!(rt; by_reference && in_a_box);
     Ok(())
 }

@@ -103,14 +103,11 @@ fn rows_met<S: Store>(store: &mut S) -> usize {
 
 #[test]
 fn plain_stores_meet_each_row(rt: HostRuntime) -> Result<(), Fail> {
-    let mut boxed = Box::new(rt.alloc(), MemStore::new(rt.alloc()))?;
     let met = [
         rows_met(&mut MemStore::new(rt.alloc())),
         rows_met(&mut FileStore::create(&rt, "rows.store")?),
-        rows_met(&mut boxed),
-        rows_met(&mut &mut boxed),
     ];
-    assert!(rt; met == [ROWS.len(); 4], "{met:?}");
+    assert!(rt; met == [ROWS.len(); 2], "{met:?}");
     Ok(())
 }
 
