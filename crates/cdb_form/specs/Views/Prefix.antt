@@ -4,12 +4,9 @@ use Rattle.std.specs.Prelude.{Option, Some, None}
 use Rattle.cdb_form.specs.Format.Record.{KeyValue}
 use Rattle.cdb_form.specs.Format.Walk.{prefix_record, prefix_size}
 use Rattle.cdb_form.specs.Text.Native.{IsNumeral, Spells}
-use Rattle.cdb_form.specs.Views.Reading.{IsKept}
-use Rattle.cdb_form.specs.declared.record.Record.{Record}
 use Rattle.cdb_form.specs.declared.text.prefix.PrefixLengths.{PrefixLengths}
 use Rattle.cdb_form.specs.declared.text.prefix.PrefixNumeral.{PrefixNumeral}
 use Rattle.cdb_form.specs.declared.text.prefix.PeekedRecord.{PeekedRecord}
-use Rattle.cdb_form.specs.declared.walk.keeping.Keeping.{Keeping}
 
 -- a numeral with `stop` behind it
 pub record BeginsWithNumeral (stop : ℕ) (bytes : List ℕ) (n : PrefixNumeral) : Type 0 where
@@ -49,10 +46,6 @@ pub record IsStored (w : ℕ) (bytes : List ℕ) (n : ℕ) (r : KeyValue) : Type
   pub whole : prefix_size w (take n bytes) ≡ n
   pub is : prefix_record w (take n bytes) ≡ r
   pub within : n ≤ length bytes
-
--- the same, of a record of which so much was kept
-abbrev pub BeginsWithStored : ℕ → Keeping → List ℕ → ℕ → Record → Type 0
-BeginsWithStored w keeping bytes n into = (r : KeyValue) × IsKept keeping into r × IsStored w bytes n r
 
 -- how many bytes the record at the start of some bytes has, where it is whole there
 abbrev pub PrefixTells : ℕ → List ℕ → Option ℕ → Type 0

@@ -8,7 +8,7 @@ ghost use Rattle.cdb_form.specs.Views.Repeats.{Repeats};
 
 use crate::item::{Item, ItemKind};
 use crate::record::Record;
-use crate::text::at_hand::{AtHand, NoneAtHand};
+use crate::text::at_hand::AtHand;
 use crate::text::fault::TextFault;
 use crate::text::form_reader::FormReader;
 use crate::text::prefix::PeekedRecord;
@@ -99,25 +99,7 @@ impl<R: Read, L: Width> AmendReader<R, L> {
         ensures failed { (fault : _) → HasFailed self.old fault
             → Repeats (Err fault) self.old self.new result }
     {
-        self.read_buffered::<NoneAtHand>(into)
-    }
-
-    /// Does what `read_into` does, and takes a record that is at hand without an ask. Then each of
-    /// its bytes counts as an ask.
-    pub fn read_buffered<A: AtHand<R>>(
-        &mut self,
-        into: &mut Record,
-    ) -> Result<Option<ItemKind>, TextFault>
-        ensures gives { IfOk result (λ found. MatchOption found
-            (GivesEnd R.remaining self.old self.new)
-            (λ kind. GivesChange L.GREATEST R.remaining self.old self.new
-            (change_in kind into.new))) }
-        ensures fails { IfErr result (Fails L.GREATEST R.remaining self.old self.new) }
-        ensures ended { HasEnded self.old → Repeats (Ok None) self.old self.new result }
-        ensures failed { (fault : _) → HasFailed self.old fault
-            → Repeats (Err fault) self.old self.new result }
-    {
-        self.items.read_buffered::<A>(into, true)
+        self.items.read_into(into, true)
     }
 
     /// The record that the next item puts, where it lies, if it is whole at hand. Nothing is taken:

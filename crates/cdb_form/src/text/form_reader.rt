@@ -77,9 +77,9 @@ impl<R: Read, L: Width> FormReader<R, L> {
     }
 
     /// Reads the next item over a record, and answers its kind: none is at the newline that ends
-    /// the text. With no removals the text is a native one. One at hand is taken without an ask.
+    /// the text. With no removals the text is a native one.
     #[inline(always)]
-    pub(crate) fn read_buffered<A: AtHand<R>>(
+    pub(crate) fn read_into(
         &mut self,
         into: &mut Record,
         removals: bool,
@@ -100,7 +100,7 @@ impl<R: Read, L: Width> FormReader<R, L> {
             Going::AtEnd => return Ok(None),
             Going::Failed(fault) => return Err(fault),
         }
-        match self.source.entry_buffered::<A>(into, L::GREATEST, removals) {
+        match self.source.entry(into, L::GREATEST, removals) {
             Ok(Some(kind)) => Ok(Some(kind)),
             Ok(None) => {
                 self.going = Going::AtEnd;

@@ -16,9 +16,7 @@ ghost use Rattle.cdb_form.specs.declared.item.ItemKind.TheVariants.{Remove};
 
 use crate::item::ItemKind;
 use crate::record::Record;
-use crate::text::at_hand::AtHand;
 use crate::text::fault::TextFault;
-use crate::text::prefix::copy_prefix;
 use crate::text::source::Source;
 use std::io::Read;
 
@@ -203,38 +201,5 @@ impl<R: Read> Source<R> {
             }
             Some(_) => Err(TextFault::Syntax(start)),
         }
-    }
-
-    /// Takes the next item as `entry` does, a record that is at hand by one step. Then each of its
-    /// bytes counts as an ask.
-    #[inline(always)]
-    pub(crate) fn entry_buffered<A: AtHand<R>>(
-        &mut self,
-        into: &mut Record,
-        greatest: u64,
-        removals: bool,
-    ) -> Result<Option<ItemKind>, TextFault>
-        requires least { 9 ≤ greatest }
-        requires most { greatest < 2 ^ 63 }
-        ensures read { IfOk result (λ found. MatchOption found
-            (Consumes (R.remaining self.old.reader) (R.remaining self.new.reader) (codes "\n")
-            × (self.new.taken ≡ self.old.taken + 1))
-            (λ kind. ReadsItem SpellsChange greatest (R.remaining self.old.reader)
-            (R.remaining self.new.reader) self.old.taken self.new.taken
-            (change_in kind into.new))) }
-        ensures puts { removals ≡ false → IfOk result (λ found. found ≢ Some Remove) }
-        ensures fewer { OnOk result (self.new.asks < self.old.asks) }
-        ensures fails { IfErr result (FailsIn R.remaining self.old self.new
-            (FailsEntry removals greatest self.old.taken)) }
-        ensures later { self.old.taken ≤ self.new.taken }
-        ensures leaves { IfErr result (Leaves R.remaining self.old self.new) }
-        ensures spends { OnOk result (budget self.old ≤ budget self.new) }
-    {
-        let n = copy_prefix(self.at_hand::<A>(), greatest, into)?;
-        if n == 0 {
-            return self.entry(into, greatest, removals);
-        }
-        self.take_at_hand::<A>(n);
-        Ok(Some(ItemKind::Put))
     }
 }

@@ -6,7 +6,7 @@ ghost use Rattle.cdb_form.specs.Views.Pairs.{key_value};
 ghost use Rattle.cdb_form.specs.Views.Repeats.{Repeats};
 
 use crate::record::Record;
-use crate::text::at_hand::{AtHand, NoneAtHand};
+use crate::text::at_hand::AtHand;
 use crate::text::fault::TextFault;
 use crate::text::form_reader::FormReader;
 use crate::text::prefix::PeekedRecord;
@@ -94,21 +94,7 @@ impl<R: Read, L: Width> TextReader<R, L> {
         ensures failed { (fault : _) → HasFailed self.old fault
             → Repeats (Err fault) self.old self.new result }
     {
-        self.read_buffered::<NoneAtHand>(into)
-    }
-
-    /// Does what `read_into` does, and takes a record that is at hand without an ask. Then each of
-    /// its bytes counts as an ask.
-    pub fn read_buffered<A: AtHand<R>>(&mut self, into: &mut Record) -> Result<bool, TextFault>
-        ensures gives { IfOk result (λ given. MatchBool given
-            (GivesRecord L.GREATEST R.remaining self.old self.new (key_value into.new))
-            (GivesEnd R.remaining self.old self.new)) }
-        ensures fails { IfErr result (Fails L.GREATEST R.remaining self.old self.new) }
-        ensures ended { HasEnded self.old → Repeats (Ok false) self.old self.new result }
-        ensures failed { (fault : _) → HasFailed self.old fault
-            → Repeats (Err fault) self.old self.new result }
-    {
-        let found = self.items.read_buffered::<A>(into, false)?;
+        let found = self.items.read_into(into, false)?;
         Ok(found.is_some())
     }
 

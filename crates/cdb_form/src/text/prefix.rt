@@ -2,11 +2,6 @@
 ghost use Rattle.std.specs.Prelude.{◌≡◌, true, ◌+◌, ◌<◌, ◌≤◌, IfOk, IfSome};
 ghost use Rattle.cdb_form.specs.Views.Prefix.{BeginsWithBody, BeginsWithLengths, BeginsWithNumeral};
 ghost use Rattle.cdb_form.specs.Views.Prefix.{BeginsWithRecord, shown_by};
-ghost use Rattle.cdb_form.specs.Views.Pairs.{key_value};
-
-use crate::copying::copy_over;
-use crate::record::Record;
-use std::alloc::AllocError;
 
 /// A numeral from here on takes no further digit: so much is never at hand.
 const LONG: u64 = 100_000_000;
@@ -142,23 +137,4 @@ pub(crate) fn prefix_record(bytes: &[u8], greatest: u64) -> Option<PeekedRecord<
         value: &body[klen + 2..klen + 2 + vlen],
         len: lengths.end + (klen + vlen + 3),
     })
-}
-
-/// Copies the record that some bytes begin with over another one, and answers how many bytes spell
-/// it. There are none if no whole record is found, and then the record holds anything.
-#[inline(always)]
-pub(crate) fn copy_prefix(
-    bytes: &[u8],
-    greatest: u64,
-    into: &mut Record,
-) -> Result<usize, AllocError>
-    ensures { IfOk result (λ n. 0 < n →
-        BeginsWithRecord greatest bytes.now n (key_value into.new)) }
-{
-    let Some(front) = prefix_record(bytes, greatest) else {
-        return Ok(0);
-    };
-    copy_over(front.key, &mut into.key)?;
-    copy_over(front.value, &mut into.value)?;
-    Ok(front.len)
 }

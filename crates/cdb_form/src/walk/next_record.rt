@@ -11,10 +11,8 @@ ghost use Rattle.cdb_form.specs.Views.WalkFault.{IsDamage, stopped_by};
 
 use crate::pair::pair_size;
 use crate::record::Record;
-use crate::text::at_hand::{AtHand, window_within};
 use crate::walk::fault::WalkFault;
 use crate::walk::keeping::Keeping;
-use crate::walk::prefix::copy_stored;
 use crate::walk::record_area::Area;
 use crate::walk::source::{record_body, record_header};
 use crate::width::Width;
@@ -22,7 +20,7 @@ use std::io::Read;
 
 /// Reads the record at the next place, and says where those after it lie.
 #[inline(never)]
-fn read_record<R: Read, L: Width>(
+pub(crate) fn read_record<R: Read, L: Width>(
     reader: &mut R,
     into: &mut Record,
     area: Area,
@@ -65,48 +63,6 @@ fn read_record<R: Read, L: Width>(
     let place = area.place + size as u64 + header.klen + header.vlen;
     Ok(Area {
         place,
-        end: area.end,
-    })
-}
-
-/// Reads the record at the next place as `read_record` does, one that is at hand by one step.
-#[inline(always)]
-pub(crate) fn read_record_buffered<R: Read, L: Width, A: AtHand<R>>(
-    reader: &mut R,
-    into: &mut Record,
-    area: Area,
-    keeping: Keeping,
-) -> Result<Area, WalkFault>
-    requires { area.place < area.end }
-    ensures record { IfOk result (λ behind. (r : KeyValue) × IsKept keeping into.new r
-        × (behind.place ≡ area.place + record_size L.WORD r)
-        × FromTo (R.remaining reader.old) (R.remaining reader.new) (λ text rest.
-        (walk_from L.WORD area.place area.end text
-        ≡ with_first r (walk_from L.WORD behind.place area.end rest))
-        × (rest ≡ drop (behind.place - area.place) text))
-        × ReadsFirst r (walk_from L.WORD area.place area.end)
-        (walk_from L.WORD behind.place area.end) (R.remaining reader.old) (R.remaining reader.new)) }
-    ensures value { keeping ≡ Key → into.new.value ≡ into.old.value }
-    ensures place { IfOk result (λ behind. area.place < behind.place) }
-    ensures end { IfOk result (λ behind. behind.end ≡ area.end) }
-    ensures fails { IfErr result (λ f. IsDamage f → IfSome (R.remaining reader.old) (λ text.
-        walk_from L.WORD area.place area.end text ≡ stopped_by f)) }
-    ensures header { IfErr result (λ f.
-        IsDamage f → ReadsNoFurther (pair_size L.WORD) (R.remaining reader.old)
-        (R.remaining reader.new)) }
-    ensures loses { LosesAtMost (R.remaining reader.old)
-        (R.remaining reader.new) (area.end - area.place) }
-    ensures part { OnErr result (ReadsNoRecord (walk_from L.WORD area.place area.end)
-        (R.remaining reader.old) (R.remaining reader.new)) }
-{
-    let window = window_within::<R, A>(reader, area.end - area.place);
-    let n = copy_stored::<L>(window, keeping, into)?;
-    if n == 0 {
-        return read_record::<R, L>(reader, into, area, keeping);
-    }
-    A::take(reader, n);
-    Ok(Area {
-        place: area.place + n as u64,
         end: area.end,
     })
 }

@@ -16,11 +16,11 @@ ghost use Rattle.cdb_form.specs.Views.Prefix.{shown_by};
 ghost use Rattle.cdb_form.specs.Views.Repeats.{Repeats};
 
 use crate::record::Record;
-use crate::text::at_hand::{AtHand, NoneAtHand, window_within};
+use crate::text::at_hand::{AtHand, window_within};
 use crate::text::prefix::PeekedRecord;
 use crate::walk::fault::WalkFault;
 use crate::walk::keeping::Keeping;
-use crate::walk::next_record::read_record_buffered;
+use crate::walk::next_record::read_record;
 use crate::walk::prefix::stored_record;
 use crate::walk::record_area::{Area, read_area};
 use crate::width::Width;
@@ -102,21 +102,7 @@ impl<R: Read, L: Width> RecordReader<R, L> {
         ensures failed { (fault : _) → HasFailed self.old fault
             → Repeats (Err fault) self.old self.new result }
     {
-        self.read_buffered::<NoneAtHand>(into)
-    }
-
-    /// Does what `read_into` does, and takes a record that is at hand without asking for it.
-    #[inline(always)]
-    pub fn read_buffered<A: AtHand<R>>(&mut self, into: &mut Record) -> Result<bool, WalkFault>
-        ensures gives { IfOk result (λ given. MatchBool given
-            (GivesRecord L.WORD R.remaining self.old self.new (key_value into.new))
-            (GivesEnd L.WORD R.remaining self.old self.new)) }
-        ensures fails { IfErr result (Fails L.WORD R.remaining self.old self.new) }
-        ensures ended { HasEnded self.old → Repeats (Ok false) self.old self.new result }
-        ensures failed { (fault : _) → HasFailed self.old fault
-            → Repeats (Err fault) self.old self.new result }
-    {
-        self.read_kept::<A>(into, Keeping::Both)
+        self.read_kept(into, Keeping::Both)
     }
 
     /// Reads the key of the next record over another record. It passes over the value, which takes no
@@ -131,22 +117,7 @@ impl<R: Read, L: Width> RecordReader<R, L> {
         ensures failed { (fault : _) → HasFailed self.old fault
             → Repeats (Err fault) self.old self.new result }
     {
-        self.read_key_buffered::<NoneAtHand>(into)
-    }
-
-    /// Does what `read_key` does, and takes a record that is at hand without asking for it.
-    #[inline(always)]
-    pub fn read_key_buffered<A: AtHand<R>>(&mut self, into: &mut Record) -> Result<bool, WalkFault>
-        ensures gives { IfOk result (λ given. MatchBool given
-            (GivesKey L.WORD R.remaining self.old self.new into.new.key.items)
-            (GivesEnd L.WORD R.remaining self.old self.new)) }
-        ensures value { into.new.value ≡ into.old.value }
-        ensures fails { IfErr result (Fails L.WORD R.remaining self.old self.new) }
-        ensures ended { HasEnded self.old → Repeats (Ok false) self.old self.new result }
-        ensures failed { (fault : _) → HasFailed self.old fault
-            → Repeats (Err fault) self.old self.new result }
-    {
-        self.read_kept::<A>(into, Keeping::Key)
+        self.read_kept(into, Keeping::Key)
     }
 
     /// The next record, where it lies, if it is whole at hand and ends before the record end or at it.
@@ -182,11 +153,7 @@ impl<R: Read, L: Width> RecordReader<R, L> {
 
     /// Reads the next record, of which so much is kept, and notes what to do next.
     #[inline(always)]
-    fn read_kept<A: AtHand<R>>(
-        &mut self,
-        into: &mut Record,
-        keeping: Keeping,
-    ) -> Result<bool, WalkFault>
+    fn read_kept(&mut self, into: &mut Record, keeping: Keeping) -> Result<bool, WalkFault>
         ensures gives { IfOk result (λ given. MatchBool given
             (GivesKept L.WORD R.remaining self.old self.new keeping into.new)
             (GivesEnd L.WORD R.remaining self.old self.new)) }
@@ -197,8 +164,8 @@ impl<R: Read, L: Width> RecordReader<R, L> {
             → Repeats (Err fault) self.old self.new result }
     {
         let answer = match self.walking {
-            Progress::AtHead => self.first::<A>(into, keeping),
-            Progress::At(area) => self.record_at::<A>(into, area, keeping),
+            Progress::AtHead => self.first(into, keeping),
+            Progress::At(area) => self.record_at(into, area, keeping),
             Progress::AtEnd => return Ok(false),
             Progress::Failed(fault) => return Err(fault),
         };
@@ -212,11 +179,7 @@ impl<R: Read, L: Width> RecordReader<R, L> {
 
     /// Reads the head, and then the first record.
     #[inline(never)]
-    fn first<A: AtHand<R>>(
-        &mut self,
-        into: &mut Record,
-        keeping: Keeping,
-    ) -> Result<bool, WalkFault>
+    fn first(&mut self, into: &mut Record, keeping: Keeping) -> Result<bool, WalkFault>
         ensures record { IfOk result (λ given. OnTrue given
             ((r : KeyValue) × IsKept keeping into.new r
             × Between R.remaining self.old self.new (λ text rest.
@@ -249,12 +212,12 @@ impl<R: Read, L: Width> RecordReader<R, L> {
             (unread R.remaining self.old) (unread R.remaining self.new)) }
     {
         let area = read_area::<R, L>(&mut self.reader)?;
-        self.record_at::<A>(into, area, keeping)
+        self.record_at(into, area, keeping)
     }
 
     /// Reads the record at the next place, unless that is the record end.
     #[inline(always)]
-    fn record_at<A: AtHand<R>>(
+    fn record_at(
         &mut self,
         into: &mut Record,
         area: Area,
@@ -291,7 +254,7 @@ impl<R: Read, L: Width> RecordReader<R, L> {
         if area.place == area.end {
             return Ok(false);
         }
-        let behind = read_record_buffered::<R, L, A>(&mut self.reader, into, area, keeping)?;
+        let behind = read_record::<R, L>(&mut self.reader, into, area, keeping)?;
         self.walking = Progress::At(behind);
         Ok(true)
     }
