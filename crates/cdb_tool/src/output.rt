@@ -50,13 +50,6 @@ impl<W: Write> Output<W> {
         })
     }
 
-    /// Whether its writer has failed, to write or to flush.
-    pub fn has_failed(&self) -> bool
-        ensures { result ≡ self.now.failed }
-    {
-        self.failed
-    }
-
     /// Hands all bytes on to the writer. After a fault those that it did not take stay here.
     #[cold]
     #[inline(never)]

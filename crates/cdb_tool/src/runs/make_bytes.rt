@@ -9,7 +9,7 @@ ghost use Rattle.cdb_tool.specs.Runs.MakeBytes.{IsNewText, ReadsFitting, NotRead
 
 use crate::fault::Fault;
 use crate::runs::flushed::flushed;
-use cdb_form::{AtHand, NoneAtHand, Record, TextReader, Width, write_whole};
+use cdb_form::{Record, TextReader, Width, write_whole};
 use cdb_make::{Maker, Mode};
 use cdb_store::MemStore;
 use std::alloc::Global;
@@ -31,7 +31,7 @@ fn maker_in_memory<L: Width>(alloc: Global) -> Result<Maker<MemStore, L>, Fault>
 }
 
 /// The records of a text, up to its end, if their file isn't too large.
-fn fitting_records<L: Width, R: Read, A: AtHand<R>>(
+fn fitting_records<L: Width, R: Read>(
     alloc: Global,
     text: &mut TextReader<R, L>,
 ) -> Result<Maker<MemStore, L>, Fault>
@@ -48,7 +48,7 @@ fn fitting_records<L: Width, R: Read, A: AtHand<R>>(
         value: Vec::new(alloc),
     };
     loop {
-        match text.read_buffered::<A>(&mut record) {
+        match text.read_into(&mut record) {
             Err(fault) => return Err(Fault::of_text(INPUT, fault)),
             Ok(false) => return Ok(maker),
             Ok(true) => {}
@@ -71,7 +71,7 @@ fn file_in_memory<L: Width>(maker: Maker<MemStore, L>) -> Result<Vec<u8>, Fault>
 }
 
 /// Writes the file of a text, which the writer may keep in a buffer.
-fn make_bytes_unflushed<L: Width, R: Read, W: Write, A: AtHand<R>>(
+fn make_bytes_unflushed<L: Width, R: Read, W: Write>(
     alloc: Global,
     text: &mut TextReader<R, L>,
     w: &mut W,
@@ -80,44 +80,13 @@ fn make_bytes_unflushed<L: Width, R: Read, W: Write, A: AtHand<R>>(
     ensures { MakesBytes L.WORD L.GREATEST (unread R.remaining text.old) (unread R.remaining text.new)
         (W.contents w.old) (W.contents w.new) result }
 {
-    let maker = fitting_records::<L, R, A>(alloc, text)?;
+    let maker = fitting_records::<L, R>(alloc, text)?;
     let file = file_in_memory::<L>(maker)?;
     write_whole(w, &file)?;
     Ok(())
 }
 
-/// MakesBytes the database file of one native text, of which nothing was read yet, and flushes the writer
-/// last.
-fn make_text<L: Width, R: Read, W: Write, A: AtHand<R>>(
-    alloc: Global,
-    text: &mut TextReader<R, L>,
-    w: &mut W,
-) -> Result<(), Fault>
-    requires { IsNewText text.old }
-    ensures { MakesBytes L.WORD L.GREATEST (unread R.remaining text.old) (unread R.remaining text.new)
-        (W.contents w.old) (W.contents w.new) result }
-{
-    let made = make_bytes_unflushed::<L, R, W, A>(alloc, text, w);
-    flushed(w, made)
-}
-
-/// MakesBytes the database file of one native text, of which nothing was read yet.
-///
-/// It does what `make_bytes` does, and leaves in the reader of the text what it did not read: at Ok
-/// what follows the text, after a fault of the text what follows the byte at its place.
-pub fn make_from<L: Width, R: Read, W: Write>(
-    alloc: Global,
-    text: &mut TextReader<R, L>,
-    w: &mut W,
-) -> Result<(), Fault>
-    requires { IsNewText text.old }
-    ensures { MakesBytes L.WORD L.GREATEST (unread R.remaining text.old) (unread R.remaining text.new)
-        (W.contents w.old) (W.contents w.new) result }
-{
-    make_text::<L, R, W, NoneAtHand>(alloc, text, w)
-}
-
-/// MakesBytes the database file of one native text, in memory, and writes it whole.
+/// Makes the database file of one native text, in memory, and writes it whole.
 ///
 /// The text is read up to its end, and no further, before the first byte is written. Each of its
 /// records is added, so a key may have several. The faults, in their order:
@@ -137,18 +106,7 @@ pub fn make_bytes<L: Width, R: Read + Drop, W: Write>(
     ensures { (rest : Option (List ℕ)) × MakesBytes L.WORD L.GREATEST (R.remaining reader) rest
         (W.contents w.old) (W.contents w.new) result }
 {
-    make_bytes_buffered::<L, R, W, NoneAtHand>(alloc, reader, w)
-}
-
-/// Does what `make_bytes` does, and takes bytes at hand without an ask. Each counts as an ask.
-pub fn make_bytes_buffered<L: Width, R: Read + Drop, W: Write, A: AtHand<R>>(
-    alloc: Global,
-    reader: R,
-    w: &mut W,
-) -> Result<(), Fault>
-    ensures { (rest : Option (List ℕ)) × MakesBytes L.WORD L.GREATEST (R.remaining reader) rest
-        (W.contents w.old) (W.contents w.new) result }
-{
     let mut text = TextReader::<R, L>::new(alloc, reader);
-    make_text::<L, R, W, A>(alloc, &mut text, w)
+    let made = make_bytes_unflushed::<L, R, W>(alloc, &mut text, w);
+    flushed(w, made)
 }

@@ -1,6 +1,5 @@
 // A file made a text: a dump has its records, a list their keys.
 ghost use Rattle.std.specs.Prelude.{ℕ, List, Option};
-ghost use Rattle.cdb_form.specs.Views.RecordReader.{unread, IsFresh};
 ghost use Rattle.cdb_tool.specs.Runs.Form.{form_of, dump_form, list_form};
 ghost use Rattle.cdb_tool.specs.Runs.WalkText.{WritesWalk};
 
@@ -25,8 +24,7 @@ use std::io::{Read, Write};
 /// The writer is flushed last, after a fault too.
 ///
 /// The reader is dropped, and what it gave is not seen then. So of `Walk(Input)` and `NoMemory` the
-/// contract says that the texts of some first records of the file were written. `text_from`, whose
-/// caller keeps the reader, says that they are all those that it gave.
+/// contract says that the texts of some first records of the file were written.
 pub fn dump_run<L: Width, R: Read + Drop, W: Write>(
     alloc: Global,
     reader: R,
@@ -67,20 +65,4 @@ pub fn text_run_buffered<L: Width, R: Read + Drop, W: Write, A: AtHand<R>>(
 {
     let mut records = RecordReader::<R, L>::new(alloc, reader);
     write_walk::<L, R, W, A>(alloc, &mut records, content, style, w)
-}
-
-/// Does what `dump_run` or `list_run` does, of a reader of records that has read nothing yet, and
-/// leaves in it what it did not read: at Ok what follows the record end.
-pub fn text_from<L: Width, R: Read, W: Write>(
-    alloc: Global,
-    content: Content,
-    records: &mut RecordReader<R, L>,
-    style: Style,
-    w: &mut W,
-) -> Result<(), Fault>
-    requires { IsFresh records.old }
-    ensures { WritesWalk L.WORD (form_of content style) (unread R.remaining records.old)
-        (unread R.remaining records.new) (W.contents w.old) (W.contents w.new) result }
-{
-    write_walk::<L, R, W, NoneAtHand>(alloc, records, content, style, w)
 }

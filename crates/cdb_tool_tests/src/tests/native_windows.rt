@@ -114,16 +114,20 @@ fn is_same(one: &Outcome, other: &Outcome) -> bool {
         && one.rest.as_slice() == other.rest.as_slice()
 }
 
-/// Puts a record as `<key|value>` behind others, or a removal as `[key]`.
-fn show(kind: ItemKind, record: &Record, shown: &mut Vec<u8>) -> Result<(), AllocError> {
-    let parts: [&[u8]; 5] = match kind {
-        ItemKind::Put => [b"<", &record.key, b"|", &record.value, b">"],
-        ItemKind::Remove => [b"[", &record.key, b"]", b"", b""],
-    };
+/// Puts some parts behind others.
+fn append(parts: [&[u8]; 5], shown: &mut Vec<u8>) -> Result<(), AllocError> {
     for part in parts {
         shown.extend_from_slice(part)?;
     }
     Ok(())
+}
+
+/// Puts a record as `<key|value>` behind others, or a removal as `[key]`.
+fn show(kind: ItemKind, record: &Record, shown: &mut Vec<u8>) -> Result<(), AllocError> {
+    match kind {
+        ItemKind::Put => append([b"<", &record.key, b"|", &record.value, b">"], shown),
+        ItemKind::Remove => append([b"[", &record.key, b"]", b"", b""], shown),
+    }
 }
 
 /// An empty record.
@@ -132,6 +136,45 @@ fn no_record(alloc: Global) -> Record {
         key: Vec::new(alloc),
         value: Vec::new(alloc),
     }
+}
+
+/// Shows the next record of a native text, from where it lies if it is whole at hand, and answers
+/// whether there is one.
+fn show_native<L: Width, R: Read, A: AtHand<R>>(
+    texts: &mut TextReader<R, L>,
+    record: &mut Record,
+    shown: &mut Vec<u8>,
+) -> Result<bool, TextFault> {
+    if let Some(peeked) = texts.peek::<A>() {
+        let len = peeked.len;
+        append([b"<", peeked.key, b"|", peeked.value, b">"], shown)?;
+        texts.take_peeked::<A>(len);
+        return Ok(true);
+    }
+    let given = texts.read_into(record)?;
+    if given {
+        show(ItemKind::Put, record, shown)?;
+    }
+    Ok(given)
+}
+
+/// Shows the next item of an amending text likewise.
+fn show_amending<R: Read, A: AtHand<R>>(
+    changes: &mut AmendReader<R, Narrow>,
+    record: &mut Record,
+    shown: &mut Vec<u8>,
+) -> Result<bool, TextFault> {
+    if let Some(peeked) = changes.peek::<A>() {
+        let len = peeked.len;
+        append([b"<", peeked.key, b"|", peeked.value, b">"], shown)?;
+        changes.take_peeked::<A>(len);
+        return Ok(true);
+    }
+    let Some(kind) = changes.read_into(record)? else {
+        return Ok(false);
+    };
+    show(kind, record, shown)?;
+    Ok(true)
 }
 
 /// The records of a native text, shown, and the fault behind them.
@@ -143,8 +186,8 @@ fn read_native<L: Width, R: Read + Drop, A: AtHand<R>>(
     let mut texts: TextReader<R, L> = TextReader::new(alloc, reader);
     let mut record = no_record(alloc);
     for _ in 0..100 {
-        match texts.read_buffered::<A>(&mut record) {
-            Ok(true) => show(ItemKind::Put, &record, shown)?,
+        match show_native::<L, R, A>(&mut texts, &mut record, shown) {
+            Ok(true) => {}
             Ok(false) => return Ok(None),
             Err(fault) => return Ok(Some(fault)),
         }
@@ -161,9 +204,9 @@ fn read_amending<R: Read + Drop, A: AtHand<R>>(
     let mut changes: AmendReader<R, Narrow> = AmendReader::new(alloc, reader);
     let mut record = no_record(alloc);
     for _ in 0..100 {
-        match changes.read_buffered::<A>(&mut record) {
-            Ok(Some(kind)) => show(kind, &record, shown)?,
-            Ok(None) => return Ok(None),
+        match show_amending::<R, A>(&mut changes, &mut record, shown) {
+            Ok(true) => {}
+            Ok(false) => return Ok(None),
             Err(fault) => return Ok(Some(fault)),
         }
     }

@@ -252,15 +252,14 @@ enum Keeping {
 }
 
 /// The next record of a reader, or its key over the one of a record.
-fn read_kept<L: Width, R: Read, A: AtHand<R>>(
+fn read_kept<L: Width, R: Read>(
     records: &mut RecordReader<R, L>,
     keeping: Keeping,
     record: &mut Record,
 ) -> Result<bool, WalkFault> {
     match keeping {
-        Keeping::Both => records.read_buffered::<A>(record),
-        Keeping::Key => records.read_key_buffered::<A>(record),
-        Keeping::Shown => records.read_into(record),
+        Keeping::Both | Keeping::Shown => records.read_into(record),
+        Keeping::Key => records.read_key(record),
     }
 }
 
@@ -279,7 +278,7 @@ fn show_next<L: Width, R: Read, A: AtHand<R>>(
         records.take_peeked::<A>(len);
         return Ok(true);
     }
-    let given = read_kept::<L, R, A>(records, keeping, record)?;
+    let given = read_kept(records, keeping, record)?;
     if given {
         show(&record.key, &record.value, shown)?;
     }

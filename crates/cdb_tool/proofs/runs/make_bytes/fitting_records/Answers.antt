@@ -14,7 +14,7 @@ loop-fault-init g c = record { going = c.requires.going; so_far = holds_so_far_n
 pub returns-in-Err-clause-err : goal.returns-in-Err-clause-err
 returns-in-Err-clause-err g c =
     let inv = c.loop-fault.invariant in
-    rw c.of_text.ensures (text_not_read g.L.Width.WORD g.L.Width.GREATEST g.R.Read.remaining _ c.loop-fault.text c.read_buffered.new.self _ c.in-Err.fault inv.so_far (c.in-Err.ensures.fails.meets inv.going))
+    rw c.of_text.ensures (text_not_read g.L.Width.WORD g.L.Width.GREATEST g.R.Read.remaining _ c.loop-fault.text c.read_into.new.self _ c.in-Err.fault inv.so_far (c.in-Err.ensures.fails.meets inv.going))
 
 pub returns-in-Ok-false-clause-ok : goal.returns-in-Ok-false-clause-ok
 returns-in-Ok-false-clause-ok g c =
@@ -26,7 +26,7 @@ returns-in-Ok-false-clause-ok g c =
 pub loop-fault-preserved : goal.loop-fault-preserved
 loop-fault-preserved g c =
     let held = c.loop-fault.invariant.so_far in
-    let r : KeyValue = key_value c.read_buffered.new.into in
+    let r : KeyValue = key_value c.read_into.new.into in
     let one = rw c.in-Ok-true.field-0-test at c.in-Ok-true.ensures.gives in
     let m = c.put.new.self in
     let puts = c.in_ok-put.ensures.puts in
@@ -47,7 +47,7 @@ loop-fault-smaller g c =
 pub returns-in_err-put-clause-err : goal.returns-in_err-put-clause-err
 returns-in_err-put-clause-err g c =
     let held = c.loop-fault.invariant.so_far in
-    let r : KeyValue = key_value c.read_buffered.new.into in
+    let r : KeyValue = key_value c.read_into.new.into in
     let one = rw c.in-Ok-true.field-0-test at c.in-Ok-true.ensures.gives in
     let p = err_from_is_err_and c.from_residual-in_err-put.result c.from_residual-in_err-put.ensures.1 in
     let m = c.put.new.self in
@@ -55,4 +55,4 @@ returns-in_err-put-clause-err g c =
     let fails : FailsPutting c.loop-fault.maker m Add r f =
     subst (λ (v : List ℕ). FailsPutting c.loop-fault.maker m Add (record { key = v; value = r.value }) f) c.deref.ensures.value
     (subst (λ (v : List ℕ). FailsPutting c.loop-fault.maker m Add (record { key = c.deref.result.now; value = v }) f) c.deref-in-loop-fault.ensures.value c.in_err-put.ensures.fails) in
-    rw (p.1, p.2) (refused _ _ _ _ c.loop-fault.text c.read_buffered.new.self _ m r f m.store.bytes.items held one.reads refl (λ rose. omega arith) fails)
+    rw (p.1, p.2) (refused _ _ _ _ c.loop-fault.text c.read_into.new.self _ m r f m.store.bytes.items held one.reads refl (λ rose. omega arith) fails)
