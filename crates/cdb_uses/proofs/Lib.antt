@@ -1,6 +1,5 @@
 pub mod Asking
 pub mod Finishing
-pub mod Changing
 pub mod Checking
 pub mod Stepping
 pub mod Unfinishing

@@ -1,7 +1,6 @@
 -- What the callers promise.
 pub mod Asks
 pub mod Building
-pub mod Changes
 pub mod Examples
 pub mod FirstRecord
 pub mod Latest

@@ -13,7 +13,7 @@ mod steps;
 mod unfinished;
 
 pub use ask::{AskFault, write_finished};
-pub use changes::{Change, ChangedFile, change_and_ask};
+pub use changes::Change;
 pub use check::open_checked;
 pub use files::make_and_get;
 pub use form::first_record;

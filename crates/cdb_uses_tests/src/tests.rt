@@ -6,10 +6,11 @@ use cdb_make::{MakeFault, Maker, Mode};
 use cdb_read::ReadFault;
 use cdb_store::{FuseStore, MemStore};
 use cdb_uses::{
-    AskFault, Built, Change, ChangedFile, Step, build_and_ask, change_and_ask, file_of_latest,
-    first_record, make_and_get, open_checked, write_finished,
+    AskFault, Built, Change, Step, build_and_ask, file_of_latest, first_record, make_and_get,
+    open_checked, write_finished,
 };
 use std::alloc::Global;
+use std::io::Write;
 use std::prelude::*;
 use std::test::Fail;
 
@@ -99,15 +100,40 @@ fn pair(alloc: Global, key: &[u8], value: &[u8]) -> Result<Record, Fail> {
 }
 
 /// The changes of a table: a mode, a key and a value, or a key that is taken out.
-fn changes(alloc: Global, rows: &[(Option<Mode>, &[u8], &[u8])]) -> Result<Vec<Change>, Fail> {
-    let mut changes = Vec::new(alloc);
+fn changes(alloc: Global, rows: &[(Option<Mode>, &[u8], &[u8])]) -> Result<Vec<Step>, Fail> {
+    let mut steps = Vec::new(alloc);
     for (mode, key, value) in rows {
-        changes.push(match mode {
+        let change = match mode {
             Some(mode) => Change::Put(*mode, pair(alloc, key, value)?),
             None => Change::Remove(key.to_vec(alloc)?),
-        })?;
+        };
+        steps.push(Step::Change(change))?;
     }
-    Ok(changes)
+    Ok(steps)
+}
+
+/// A file made in memory by some steps, and why each was refused.
+#[derive(Drop)]
+struct Made {
+    file: Vec<u8>,
+    faults: Vec<Option<MakeFault>>,
+}
+
+/// The file that some steps make in memory. The values of a key are written.
+fn make_and_ask<L: Width, W: Write>(
+    alloc: Global,
+    limit: u64,
+    steps: &[Step],
+    key: &[u8],
+    w: &mut W,
+) -> Result<Made, AskFault> {
+    match build_and_ask::<_, L, W>(alloc, MemStore::new(alloc), limit, steps, key, w) {
+        Ok(Built { store, faults }) => Ok(Made {
+            file: store.into_vec(),
+            faults,
+        }),
+        Err(unbuilt) => Err(unbuilt.fault),
+    }
 }
 
 /// How a record is put, or that a key is removed.
@@ -131,7 +157,7 @@ const MIXED: [Row; 10] = [
 ];
 
 /// All modes, two removals, and a record that would pass a limit of 2160 bytes.
-fn mixed(alloc: Global) -> Result<Vec<Change>, Fail> {
+fn mixed(alloc: Global) -> Result<Vec<Step>, Fail> {
     changes(alloc, &MIXED)
 }
 
@@ -143,7 +169,7 @@ const LEFT: &[u8] = b"\x01\0\0\0\x01\0\0\0a1\x01\0\0\0\x01\0\0\0a2\x01\0\0\0\x01
 fn changes_are_made_and_a_key_is_asked_for(rt: HostRuntime) -> Result<(), Fail> {
     let alloc = rt.alloc();
     let mut out = Vec::new(alloc);
-    let made = change_and_ask::<Narrow, _>(alloc, 2160, &mixed(alloc)?, b"a", &mut out)?;
+    let made = make_and_ask::<Narrow, _>(alloc, 2160, &mixed(alloc)?, b"a", &mut out)?;
     assert!(rt; out.as_slice() == b"126".as_slice());
     assert!(rt; made.file.len() == 2152);
     assert!(rt; made.file.get(2048..2088) == Some(LEFT));
@@ -172,8 +198,8 @@ fn changes_leave_the_file_made_from_scratch(rt: HostRuntime) -> Result<(), Fail>
     let alloc = rt.alloc();
     let left = changes(alloc, &SCRATCH)?;
     let mut out = Vec::new(alloc);
-    let changed = change_and_ask::<Wide, _>(alloc, 4320, &mixed(alloc)?, b"b", &mut out)?;
-    let scratch = change_and_ask::<Wide, _>(alloc, Wide::GREATEST, &left, b"zzz", &mut out)?;
+    let changed = make_and_ask::<Wide, _>(alloc, 4320, &mixed(alloc)?, b"b", &mut out)?;
+    let scratch = make_and_ask::<Wide, _>(alloc, Wide::GREATEST, &left, b"zzz", &mut out)?;
     assert!(rt; out.as_slice() == b"5".as_slice());
     assert!(rt; scratch.file.len() == 4296);
     assert!(rt; changed.file.as_slice() == scratch.file.as_slice());
@@ -185,7 +211,7 @@ fn a_writer_that_fails_holds_a_prefix_of_the_values(rt: HostRuntime) -> Result<(
     let alloc = rt.alloc();
     let mut room = [0; 2];
     let mut left = room.as_mut_slice();
-    let made = change_and_ask::<Narrow, _>(alloc, 2160, &mixed(alloc)?, b"a", &mut left);
+    let made = make_and_ask::<Narrow, _>(alloc, 2160, &mixed(alloc)?, b"a", &mut left);
     assert!(rt; matches!(made, Err(AskFault::Read(ReadFault::Output))));
     assert!(rt; room.as_slice() == b"12".as_slice());
     Ok(())
@@ -214,13 +240,10 @@ fn a_file_is_opened_where_it_is_sound(rt: HostRuntime) -> Result<(), Fail> {
 
 /// A record, a finish, and another record of the same key.
 fn steps_round_a_finish(alloc: Global) -> Result<Vec<Step>, Fail> {
-    let mut steps = Vec::new(alloc);
-    for change in changes(alloc, &SCRATCH[..1])? {
-        steps.push(Step::Change(change))?;
-    }
+    let mut steps = changes(alloc, &SCRATCH[..1])?;
     steps.push(Step::Finish)?;
-    for change in changes(alloc, &SCRATCH[1..2])? {
-        steps.push(Step::Change(change))?;
+    for step in changes(alloc, &SCRATCH[1..2])? {
+        steps.push(step)?;
     }
     Ok(steps)
 }
