@@ -5,8 +5,10 @@
 
 Each link of a page leads to a file, and to a heading if it names one. Each path in backquotes is that
 of a file or a folder, each name is one of the sources, each `make TARGET` a target of the Makefile.
-The page CALLING.md of a crate names each public item and function of its library, and each function
-that it declares is one of the sources. docs/audit/PROMISES.md names each wrong body.
+The page CALLING.md of a crate names each public item and function of its library, each function that
+it declares is one of the sources, and so is each clause that it quotes. Something else than a test
+calls each public item, or public_items.py says why it is there. docs/audit/PROMISES.md names each
+wrong body.
 """
 
 import glob
@@ -15,7 +17,10 @@ import re
 import subprocess
 import sys
 
-TOP = os.path.normpath(os.path.join(os.path.dirname(os.path.abspath(__file__)), "..", ".."))
+from calling_clauses import definitions, wrong_clauses
+from public_items import wrong_items
+from sources import TOP, sources_of, text_of
+
 PROMISES = "docs/audit/PROMISES.md"
 # What is built or kept and no file of the repository; what stands for a name of the reader's own;
 # and words of other programs, of the system or of the checker's language.
@@ -27,12 +32,6 @@ FOREIGN = set(
     """.split()
 )
 SOURCES = (".rt", ".antt", ".py", ".c", ".h", ".map", ".sh", ".edit", ".1", ".3", ".5", ".rattle")
-
-
-def text_of(name):
-    """The text of a file, named from the top."""
-    with open(os.path.join(TOP, name), encoding="utf-8") as file:
-        return file.read()
 
 
 def files():
@@ -120,7 +119,7 @@ def public_of(crate):
     for names in re.findall(r"^pub use [\w:]+::(\{[^}]*\}|\w+);", library, re.M):
         items.update(re.findall(r"\w+", names))
     functions = set()
-    for path in glob.glob(f"crates/{crate}/src/**/*.rt", root_dir=TOP, recursive=True):
+    for path in sources_of(crate):
         functions.update(re.findall(r"^ *pub (?:const |unsafe )*fn (\w+)", text_of(path), re.M))
     return items, functions
 
@@ -170,10 +169,12 @@ def main():
         wrong += [*wrong_links(page, text), *wrong_names(page, text, names, targets)]
         count += 1
     sources = "\n".join(text_of(it) for it in listed if it.endswith(".rt"))
+    made = definitions()
     for path in sorted(glob.glob("crates/*/CALLING.md", root_dir=TOP)):
-        wrong += wrong_calling(path.split("/")[1], sources)
+        crate = path.split("/")[1]
+        wrong += [*wrong_calling(crate, sources), *wrong_clauses(crate, made)]
         count += 1
-    wrong += wrong_promises()
+    wrong += [*wrong_promises(), *wrong_items()]
     for it in wrong:
         print(it)
     failed = len({it.split(":")[0] for it in wrong})

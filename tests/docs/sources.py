@@ -1,0 +1,28 @@
+"""The sources of the crates, as the checks of the pages read them."""
+
+import glob
+import os
+import re
+
+TOP = os.path.normpath(os.path.join(os.path.dirname(os.path.abspath(__file__)), "..", ".."))
+
+
+def text_of(name):
+    """The text of a file, named from the top."""
+    with open(os.path.join(TOP, name), encoding="utf-8") as file:
+        return file.read()
+
+
+def sources_of(crate):
+    """The source files of a crate, named from the top."""
+    return sorted(glob.glob(f"crates/{crate}/src/**/*.rt", root_dir=TOP, recursive=True))
+
+
+def crates():
+    """The names of all crates."""
+    return sorted(path.split("/")[1] for path in glob.glob("crates/*/src", root_dir=TOP))
+
+
+def words_of(text):
+    """The names and other words in a text."""
+    return set(re.findall(r"\w+", text))
