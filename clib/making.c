@@ -11,7 +11,6 @@
 #include <stddef.h>
 #include <stdint.h>
 #include <string.h>
-#include <sys/stat.h>
 #include <unistd.h>
 #include "cdb.h"
 
@@ -119,19 +118,19 @@ static int write_all(int fd, const uint8_t *bytes, size_t size, uint64_t place)
   return 0;
 }
 
-/* Writes a head of all ones, whose tables are outside of any file. If the file has an older
- * content, that is damaged from then on. */
+/* Writes a head of all ones, whose tables are outside of any file. An older content is damaged from
+ * then on. In a new file, too, no other byte may reach the disk before: its head would be zeros, which
+ * are an empty database. */
 static int write_unfinished_head(int fd)
 {
-  struct stat file;
   uint8_t head[HEAD_SIZE];
   memset(head, 0xff, sizeof head);
-  if (fstat(fd, &file) < 0 || write_all(fd, head, sizeof head, 0) < 0) return -1;
-  return file.st_size > 0 ? fsync(fd) : 0;
+  return write_all(fd, head, sizeof head, 0) < 0 ? -1 : fsync(fd);
 }
 
-/* Writes the finished file to the descriptor, and the head last. Until then the file is damaged, so
- * a file that was torn is not taken for a database. */
+/* Writes the finished file to the descriptor, and the head last, each part on the disk before the
+ * next. Until the head is there the file is damaged, so a file that was torn is not taken for a
+ * database. */
 static int write_file(struct handle *handle, int fd)
 {
   uint8_t piece[PIECE_SIZE];
@@ -144,7 +143,7 @@ static int write_file(struct handle *handle, int fd)
   }
   if (ftruncate(fd, (off_t)place) < 0 || fsync(fd) < 0) return -1;
   size = cdb_c_make_piece(handle, 0, piece, HEAD_SIZE);
-  return write_all(fd, piece, size, 0);
+  return write_all(fd, piece, size, 0) < 0 ? -1 : fsync(fd);
 }
 
 /* Finishes the file, and frees the maker whatever the answer. */

@@ -17,6 +17,7 @@ import subprocess
 import sys
 import tempfile
 
+from crash import noted_calls, wrong_state
 from maker import NO_MAKER, Maker, drawn_script, file_of, text_of
 from model import HEAD, hash_of, walk
 
@@ -249,7 +250,8 @@ def fault_of(driver, old, done, allowed, may_do_without):
         return "no call says that it was refused"
     if maker.file is not None:
         return None if file == maker.file else "another file"
-    if file == old:
+    # Of a finish only the last flush may have failed.
+    if file in (old, file_of(maker.records)):
         return None
     return "a file that was not finished is a database" if is_database(file) else None
 
@@ -285,9 +287,13 @@ def refuse_calls(driver):
     return None
 
 
+# Which calls of the system of that script write: two start it, one flush lies between.
+WRITES = [3, 5, 6]
+
+
 def interrupt_writes(driver):
     """A write that is interrupted is made again; another call is that or reported."""
-    for first in range(4, 7):
+    for first in WRITES:
         driver.place([refused_script()])
         done = driver.run(first=first, last=first, calls=1, errno=errno.EINTR)
         fault = compare(driver, [refused_script()], done)
@@ -295,6 +301,28 @@ def interrupt_writes(driver):
             return f"request {first}: {fault}"
     return refuse_each(driver, [errno.EINTR], INTERRUPTED, may_do_without=True, calls=1,
                        errno=errno.EINTR)
+
+
+def lose_power(driver):
+    """A finish in a new file, in one of an older database, and in one that was longer: whatever part of
+    what was not flushed a loss of power takes, the file is read as it was, as the new one, or as damaged.
+    Once the finish has answered, it is the new one."""
+    new = [(b"%d" % n, b"new %d " % n * 400) for n in range(70)]
+    script = [("start",)] + [("add", *it) for it in new] + [("finish",)]
+    shorter = file_of([(key, b"old") for key, _ in new[::2]])
+    longer = file_of([(key, b"old %s" % key * 100) for key, _ in new])
+    for old in (b"", shorter, longer):
+        driver.place([script], old)
+        driver.run(notes=driver.path("notes"), calls=1)
+        with open(driver.path("notes"), "rb") as notes:
+            calls = noted_calls(notes.read())
+        fault = wrong_state(old, driver.file(0), calls, [key for key, _ in new])
+        if fault:
+            return fault
+        words = " ".join(word for word, _, _ in calls)
+        if not words.endswith("cut sync write sync") or calls[-2][1] != 0:
+            return f"the head is not flushed after all else: {words}"
+    return None
 
 
 def main(makes, refused, library):
@@ -310,6 +338,7 @@ def main(makes, refused, library):
         ("memory that is refused", refuse_memory, refused),
         ("calls of the system that are refused", refuse_calls, refused),
         ("calls of the system that are interrupted", interrupt_writes, refused),
+        ("a loss of power", lose_power, refused),
     ]
     sanitized = os.path.join(library, "sanitized")
     if os.path.exists(sanitized):

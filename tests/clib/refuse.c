@@ -4,7 +4,8 @@
  * environment, while the program is inside a call of the library. It refuses those from REFUSE_FIRST
  * to REFUSE_LAST; a call then fails with the number REFUSE_ERRNO. If REFUSE_SHORT is set, a read or a
  * write takes at most so many bytes. At its end the program writes to standard error how many it counted,
- * and how many blocks of memory it did not free.
+ * and how many blocks of memory it did not free. If REFUSE_NOTES names a file, each call that changes or
+ * flushes a file and succeeds is noted there: `write PLACE SIZE` and the bytes, `cut SIZE 0` or `sync 0 0`.
  */
 #define _GNU_SOURCE
 #include <errno.h>
@@ -23,7 +24,7 @@ extern void *__libc_realloc(void *old, size_t size);
 extern void __libc_free(void *block);
 
 static long counted, blocks, first, last, most;
-static int are_calls, error;
+static int are_calls, error, notes = -1;
 
 static long number(const char *name)
 {
@@ -38,6 +39,20 @@ __attribute__((constructor)) static void begin(void)
   last = number("REFUSE_LAST");
   most = number("REFUSE_SHORT");
   error = (int)number("REFUSE_ERRNO");
+  const char *path = getenv("REFUSE_NOTES");
+  if (path) notes = open(path, O_WRONLY | O_CREAT | O_TRUNC, 0666);
+}
+
+/* Notes a call, and answers what the system did. */
+static long noted(long answer, const char *what, off_t place, const void *bytes)
+{
+  char line[64];
+  if (!is_inside || notes < 0 || answer < 0) return answer;
+  size_t size = bytes ? (size_t)answer : 0;
+  int len = snprintf(line, sizeof line, "%s %lld %zu\n", what, (long long)place, size);
+  if (write(notes, line, (size_t)len) != len) _exit(99);
+  if (size && write(notes, bytes, size) != (ssize_t)size) _exit(99);
+  return answer;
 }
 
 __attribute__((destructor)) static void end(void) { fprintf(stderr, "%ld %ld\n", counted, blocks); }
@@ -75,7 +90,7 @@ ssize_t pwrite64(int fd, const void *bytes, size_t size, off_t place)
 {
   if (is_refused(1)) return -1;
   if (most && size > (size_t)most) size = (size_t)most;
-  return syscall(SYS_pwrite64, fd, bytes, size, place);
+  return noted(syscall(SYS_pwrite64, fd, bytes, size, place), "write", place, bytes);
 }
 
 ssize_t pread64(int fd, void *into, size_t size, off_t place)
@@ -92,10 +107,13 @@ void *mmap64(void *where, size_t size, int may, int how, int fd, off_t place)
 
 int ftruncate64(int fd, off_t size)
 {
-  return is_refused(1) ? -1 : (int)syscall(SYS_ftruncate, fd, size);
+  return is_refused(1) ? -1 : (int)noted(syscall(SYS_ftruncate, fd, size), "cut", size, NULL);
 }
 
-int fsync(int fd) { return is_refused(1) ? -1 : (int)syscall(SYS_fsync, fd); }
+int fsync(int fd)
+{
+  return is_refused(1) ? -1 : (int)noted(syscall(SYS_fsync, fd), "sync", 0, NULL);
+}
 
 off_t lseek64(int fd, off_t to, int from)
 {
