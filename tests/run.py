@@ -65,8 +65,9 @@ def parts_of(program, is_gate):
         parts.append(Part("tests/faults/calls.py", (REFUSE,), (c,), (REFUSE,)))
     library = ("bin/answers", "bin/libcdb.a", "WERROR=-Werror")
     parts.append(Part("tests/clib/run.py", ("bin/answers", "bin", program), (c,), library))
-    makers = ("bin/makes", "bin/refused", "bin/sanitized", "WERROR=-Werror")
-    parts.append(Part("tests/clib/making.py", ("bin/makes", "bin/refused", "bin"), (c,), makers))
+    drivers = ("bin/makes", "bin/refused", "bin/edges")
+    makers = (*drivers, "bin/sanitized", "WERROR=-Werror")
+    parts.append(Part("tests/clib/making.py", (*drivers, "bin"), (c,), makers))
     parts.append(Part("tests/clib/package.py", ("bin",), (c, package), library))
     return parts
 

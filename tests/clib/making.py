@@ -1,10 +1,10 @@
 #!/usr/bin/env python3
 """Compares the databases that the C library makes with plain ones, and what its calls answer.
 
-    tests/clib/making.py MAKES REFUSED FOLDER
+    tests/clib/making.py MAKES REFUSED EDGES FOLDER
 
 MAKES is makes.c, built with the shared library, which FOLDER has; REFUSED is the same with the static
-library and refuse.c. Scripts are drawn by chance. Each request for memory and each call of the system
+library and refuse.c; EDGES is edges.c. Scripts are drawn by chance. Each request for memory and each call of the system
 of one script is refused in turn: every call must then answer that, or do as if nothing was refused,
 and a file that is not finished must not be read as a database. If FOLDER has `sanitized`, the scripts
 are made with it too, and if valgrind or qemu is installed, some are made under it.
@@ -275,7 +275,7 @@ def refuse_each(driver, allowed, many=LAST, olds=OLD_FILES, may_do_without=False
 
 def refuse_memory(driver):
     """Each request for memory."""
-    return refuse_each(driver, [errno.ENOMEM], olds=OLD_FILES[1:2])
+    return refuse_each(driver, [errno.ENOMEM], olds=OLD_FILES[1:2], may_do_without=True)
 
 
 def refuse_calls(driver):
@@ -325,7 +325,14 @@ def lose_power(driver):
     return None
 
 
-def main(makes, refused, library):
+def call_at_edges(driver):
+    """The rows of edges.c."""
+    done = subprocess.run(driver.words[:1], cwd=driver.folder, capture_output=True, timeout=900,
+                          check=False)
+    return None if done.returncode == 0 else done.stdout.decode().strip().replace("\n", "; ")
+
+
+def main(makes, refused, edges, library):
     tests = [
         ("drawn scripts", compare_drawn, makes),
         ("drawn scripts by the static library", compare_drawn, refused),
@@ -339,6 +346,7 @@ def main(makes, refused, library):
         ("calls of the system that are refused", refuse_calls, refused),
         ("calls of the system that are interrupted", interrupt_writes, refused),
         ("a loss of power", lose_power, refused),
+        ("calls at the edges of the page", call_at_edges, edges),
     ]
     sanitized = os.path.join(library, "sanitized")
     if os.path.exists(sanitized):
@@ -362,6 +370,6 @@ def main(makes, refused, library):
 
 
 if __name__ == "__main__":
-    if len(sys.argv) != 4:
+    if len(sys.argv) != 5:
         sys.exit(__doc__)
     sys.exit(main(*sys.argv[1:]))

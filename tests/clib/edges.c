@@ -1,0 +1,377 @@
+/* Calls of the library at the edges of what its page says.
+ *
+ *     edges
+ *
+ * It makes its own files in the current folder. A row that does not hold is printed; the status is then
+ * 1. Each group of rows runs in a process of its own, so that a crash or a hang is that group's alone.
+ * The calls of the system that the library makes are counted here, and some are answered otherwise.
+ */
+#define _GNU_SOURCE
+#include <cdb.h>
+#include <errno.h>
+#include <fcntl.h>
+#include <limits.h>
+#include <signal.h>
+#include <stdint.h>
+#include <stdio.h>
+#include <stdlib.h>
+#include <string.h>
+#include <sys/mman.h>
+#include <sys/stat.h>
+#include <sys/syscall.h>
+#include <sys/time.h>
+#include <sys/wait.h>
+#include <unistd.h>
+
+#define HEAD 2048
+#define PIECE 65536
+/* How many seconds a group may take. */
+#define PATIENCE 60
+
+static int has_failed;
+
+static void want(int holds, const char *what)
+{
+  if (holds) return;
+  printf("%s\n", what);
+  has_failed = 1;
+}
+
+/* Whether a call answered this, and set errno so. */
+#define FAILS(call, answer, error) (errno = 0, (call) == (answer) && errno == (error))
+
+/* What the system is made to do: take nothing of a write, have no bytes to read, not move. */
+static int takes_nothing, has_no_bytes, does_not_move;
+static unsigned writes;
+
+ssize_t pwrite64(int fd, const void *bytes, size_t size, off_t place)
+{
+  writes++;
+  return takes_nothing ? 0 : syscall(SYS_pwrite64, fd, bytes, size, place);
+}
+
+ssize_t pread64(int fd, void *into, size_t size, off_t place)
+{
+  return has_no_bytes ? 0 : syscall(SYS_pread64, fd, into, size, place);
+}
+
+off_t lseek64(int fd, off_t to, int from)
+{
+  return does_not_move ? (errno = EIO, -1) : syscall(SYS_lseek, fd, to, from);
+}
+
+static int file_named(const char *name)
+{
+  int fd = open(name, O_RDWR | O_CREAT | O_TRUNC, 0666);
+  want(fd >= 0, "a file can't be made");
+  return fd;
+}
+
+/* Makes a file of three records: two values of a, and an empty one of b. */
+static int make(const char *name)
+{
+  struct cdb_make m;
+  int fd = file_named(name);
+  want(cdb_make_start(&m, fd) == 0 && cdb_make_add(&m, "a", 1, "1", 1) == 0 &&
+       cdb_make_add(&m, "a", 1, "22", 2) == 0 && cdb_make_add(&m, "b", 1, "", 0) == 0 &&
+       cdb_make_finish(&m) == 0, "a file is not made");
+  return fd;
+}
+
+static void overwrite(int fd, unsigned place, unsigned number)
+{
+  unsigned char word[4];
+  cdb_pack(number, word);
+  want(syscall(SYS_pwrite64, fd, word, 4, (off_t)place) == 4, "a word is not written");
+}
+
+static void bytes_inside(void)
+{
+  struct cdb c;
+  char buf[8];
+  int fd = make("x");
+  want(cdb_init(&c, fd) == 0, "cdb_init");
+  unsigned size = c.cdb_fsize;
+  want(FAILS(cdb_get(&c, 1, size), NULL, EPROTO), "cdb_get gives the byte after the file");
+  want(FAILS(cdb_get(&c, size + 1, 0), NULL, EPROTO), "cdb_get gives more than the file");
+  want(FAILS(cdb_get(&c, UINT_MAX, 2), NULL, EPROTO), "cdb_get takes an end that wraps");
+  want(FAILS(cdb_get(&c, 2, UINT_MAX), NULL, EPROTO), "cdb_get takes a place that wraps");
+  want(FAILS(cdb_read(&c, buf, 2, size - 1), -1, EPROTO), "cdb_read reads after the file");
+  want(cdb_get(&c, 0, size) != NULL, "cdb_get gives no bytes at the end");
+  want(cdb_get(&c, size, 0) == c.cdb_mem, "cdb_get does not give all bytes");
+  cdb_free(&c);
+}
+
+static void what_was_found(void)
+{
+  struct cdb c;
+  struct cdb_find search;
+  unsigned pos;
+  want(cdb_init(&c, make("x")) == 0 && cdb_findinit(&search, &c, "a", 1) == 1, "a search");
+  while (cdb_findnext(&search) > 0) continue;
+  want(cdb_datalen(&c) == 2 && !memcmp(cdb_getdata(&c), "22", 2),
+       "the end of a search changes what was found");
+  cdb_seqinit(&pos, &c);
+  while (cdb_seqnext(&pos, &c) > 0) continue;
+  want(cdb_keylen(&c) == 1 && *(const char *)cdb_getkey(&c) == 'b',
+       "the end of a walk changes what was found");
+  cdb_free(&c);
+}
+
+/* A slot of the second value leads outside the file. */
+static void damage_amid_a_search(void)
+{
+  struct cdb c;
+  struct cdb_find search;
+  int fd = make("x");
+  want(cdb_init(&c, fd) == 0 && cdb_findinit(&search, &c, "a", 1) == 1, "a search");
+  unsigned slots = (unsigned)(search.cdb_htend - search.cdb_htab) / 8;
+  unsigned at = (unsigned)(search.cdb_htp - search.cdb_htab) / 8;
+  unsigned table = (unsigned)(search.cdb_htab - c.cdb_mem);
+  overwrite(fd, table + 8 * ((at + 1) % slots) + 4, 0xfffffff0u);
+  want(cdb_findinit(&search, &c, "a", 1) == 1 && cdb_findnext(&search) == 1,
+       "the value before a damage is not found");
+  for (int n = 0; n < 2; n++)
+    want(FAILS(cdb_findnext(&search), -1, EPROTO), "a damaged search does not fail each time");
+  cdb_free(&c);
+}
+
+/* Both look-ups of `a` in a damaged file, by the mapping and by reads. */
+static void want_damaged(int fd, const char *mapped, const char *read)
+{
+  struct cdb c;
+  unsigned len = 7;
+  want(cdb_init(&c, fd) == 0, "cdb_init");
+  want(FAILS(cdb_find(&c, "a", 1), -1, EPROTO), mapped);
+  want(FAILS(cdb_seek(fd, "a", 1, &len), -1, EPROTO) && len == 7, read);
+  cdb_free(&c);
+}
+
+static void numbers_that_wrap(void)
+{
+  int fd = make("x");
+  overwrite(fd, HEAD, 1);
+  overwrite(fd, HEAD + 4, UINT_MAX);
+  want_damaged(fd, "cdb_find takes lengths that wrap", "cdb_seek takes lengths that wrap");
+  /* The key's own slot is in the file, and the end of the table is not. */
+  fd = make("x");
+  want(ftruncate(fd, 1 << 20) == 0, "a file is not made longer");
+  overwrite(fd, 8 * (cdb_hash("a", 1) % 256) + 4, (1u << 29) + 4);
+  want_damaged(fd, "cdb_find takes slots that wrap", "cdb_seek takes slots that wrap");
+}
+
+static void seek_without_a_value(void)
+{
+  unsigned len = 7;
+  int fd = make("x");
+  lseek(fd, 11, SEEK_SET);
+  want(cdb_seek(fd, "none", 4, &len) == 0 && len == 7 && lseek(fd, 0, SEEK_CUR) == 11,
+       "cdb_seek of a key with no value changes the length or the offset");
+  has_no_bytes = 1;
+  want(FAILS(cdb_seek(fd, "a", 1, &len), -1, EPROTO) && len == 7,
+       "cdb_seek in a file that is cut meanwhile");
+  has_no_bytes = 0;
+  does_not_move = 1;
+  want(FAILS(cdb_seek(fd, "a", 1, &len), -1, EIO) && len == 7,
+       "cdb_seek whose offset can't be moved changes the length");
+  does_not_move = 0;
+}
+
+/* How many mappings the process has, and of what kind that of an address is. */
+static int mappings(const void *at, char *kind)
+{
+  char line[1024];
+  int many = 0;
+  FILE *maps = fopen("/proc/self/maps", "r");
+  while (maps && fgets(line, sizeof line, maps)) {
+    many++;
+    if (at && strtoull(line, NULL, 16) == (uintptr_t)at) sscanf(line, "%*s %4s", kind);
+  }
+  if (maps) fclose(maps);
+  return many;
+}
+
+static void mapping(void)
+{
+  struct cdb c;
+  char kind[5] = "";
+  int fd = make("x"), large = file_named("large");
+  want(ftruncate(large, 1 << 20) == 0, "a file is not made longer");
+  want(cdb_init(&c, fd) == 0, "cdb_init");
+  mappings(c.cdb_mem, kind);
+  want(!strcmp(kind, "r--s"), "a database is not mapped to read alone, and shared");
+  cdb_free(&c);
+  int before = mappings(NULL, NULL);
+  for (int n = 0; n < 50; n++) {
+    want(cdb_init(&c, n % 2 ? fd : large) == 0, "cdb_init");
+    cdb_free(&c);
+  }
+  want(mappings(NULL, NULL) == before, "cdb_free leaves a mapping");
+}
+
+static void init_that_fails(void)
+{
+  struct cdb c, before;
+  memset(&before, 0xa5, sizeof before);
+  c = before;
+  want(FAILS(cdb_init(&c, -1), -1, EBADF), "cdb_init of no descriptor");
+  int fd = file_named("short");
+  want(ftruncate(fd, HEAD - 1) == 0 && FAILS(cdb_init(&c, fd), -1, EPROTO), "cdb_init of a short file");
+  want(!memcmp(&c, &before, sizeof c), "cdb_init that fails changes the struct");
+}
+
+static void file_above_4_gib(void)
+{
+  struct cdb c;
+  unsigned len = 0;
+  int fd = make("huge");
+  want(ftruncate(fd, (1ll << 32) + 1000) == 0, "there is no file of 4 GiB");
+  want(cdb_init(&c, fd) == 0 && c.cdb_fsize == UINT_MAX, "cdb_init above 4 GiB");
+  want(cdb_find(&c, "a", 1) == 1 && cdb_datalen(&c) == 1, "cdb_find above 4 GiB");
+  want(cdb_seek(fd, "a", 1, &len) == 1 && len == 1, "cdb_seek above 4 GiB");
+  /* A value whose end no place reaches. */
+  overwrite(fd, HEAD + 4, UINT_MAX - HEAD - 8);
+  want(FAILS(cdb_find(&c, "a", 1), -1, EPROTO), "cdb_find of a value that no place reaches");
+  want(FAILS(cdb_seek(fd, "a", 1, &len), -1, EPROTO), "cdb_seek of a value that no place reaches");
+  cdb_free(&c);
+  unlink("huge");
+}
+
+static void read_of_bytes(void)
+{
+  char buf[64];
+  int fd = make("x");
+  lseek(fd, -3, SEEK_END);
+  want(FAILS(cdb_bread(fd, buf, 4), -1, EIO), "cdb_bread reads after the end");
+  want(cdb_bread(fd, buf, 0) == 0, "cdb_bread of no bytes fails");
+  lseek(fd, 0, SEEK_SET);
+  want(cdb_bread(fd, buf, -1) == 0 && lseek(fd, 0, SEEK_CUR) == 0, "cdb_bread of less than nothing");
+}
+
+static void note_alarm(int number) { (void)number; }
+
+/* Sends pieces into a pipe, a little later each. */
+static int piped(int pieces, const char *piece)
+{
+  int ends[2];
+  want(pipe(ends) == 0, "no pipe");
+  if (fork() == 0) {
+    for (int n = 0; n < pieces; n++) {
+      usleep(100000);
+      if (write(ends[1], piece, strlen(piece)) < 0) _exit(1);
+    }
+    _exit(0);
+  }
+  return ends[0];
+}
+
+static void read_in_pieces(void)
+{
+  char buf[6];
+  struct sigaction to = { .sa_handler = note_alarm };
+  struct itimerval often = { { 0, 20000 }, { 0, 20000 } }, never = { { 0, 0 }, { 0, 0 } };
+  want(cdb_bread(piped(3, "ab"), buf, 6) == 0 && !memcmp(buf, "ababab", 6),
+       "cdb_bread of pieces reads one alone");
+  int fd = piped(1, "ab");
+  sigaction(SIGALRM, &to, NULL);
+  setitimer(ITIMER_REAL, &often, NULL);
+  want(cdb_bread(fd, buf, 2) == 0, "cdb_bread that is interrupted ends");
+  setitimer(ITIMER_REAL, &never, NULL);
+}
+
+/* premises.c sees that no export gets a null address. */
+static void null_addresses(void)
+{
+  struct cdb_make m;
+  struct cdb c;
+  struct cdb_find search;
+  int fd = file_named("null");
+  want(cdb_make_start(&m, fd) == 0 && cdb_make_add(&m, NULL, 0, NULL, 0) == 0, "a null key is not added");
+  want(cdb_make_put(&m, NULL, 0, NULL, 0, CDB_PUT_REPLACE) == 1, "a null key is not replaced");
+  want(cdb_make_exists(&m, NULL, 0) == 1, "a null key is not there");
+  want(cdb_make_find(&m, NULL, 0, CDB_FIND_REMOVE) == 1, "a null key is not removed");
+  want(cdb_make_add(&m, NULL, 0, NULL, 0) == 0 && cdb_make_finish(&m) == 0, "no finish");
+  want(cdb_init(&c, fd) == 0 && cdb_find(&c, NULL, 0) == 1, "a null key is not found");
+  want(cdb_findinit(&search, &c, NULL, 0) == 1 && cdb_findnext(&search) == 1, "nor searched");
+  want(cdb_hash(NULL, 0) == 5381, "a null key has no hash");
+  cdb_free(&c);
+}
+
+static void starts(void)
+{
+  struct cdb_make m;
+  int fd = make("x");
+  lseek(fd, 5, SEEK_SET);
+  want(cdb_make_start(&m, fd) == 0 && lseek(fd, 0, SEEK_CUR) == 0, "the offset is not moved to 0");
+  want(cdb_make_add(&m, "a", 1, "1", 1) == 0 && m.cdb_dpos == HEAD && m.cdb_rcnt == 0,
+       "the members that are not used change");
+  want(cdb_make_finish(&m) == 0, "no finish");
+  fd = open("x", O_RDWR | O_NONBLOCK);
+  want(cdb_make_start(&m, fd) == 0 && cdb_make_finish(&m) == 0, "a descriptor that does not wait");
+  memset(&m, 0xff, sizeof m);
+  want(FAILS(cdb_make_start(&m, -1), -1, EBADF), "a start on no descriptor");
+  want(FAILS(cdb_make_exists(&m, "a", 1), -1, EPROTO), "a look after a failed start");
+  want(FAILS(cdb_make_finish(&m), -1, EPROTO), "a finish after a failed start");
+}
+
+static void record_that_is_too_big(void)
+{
+  struct cdb_make m;
+  int fd = make("x");
+  void *value = mmap(NULL, UINT_MAX, PROT_READ, MAP_PRIVATE | MAP_ANONYMOUS | MAP_NORESERVE, -1, 0);
+  want(value != MAP_FAILED && cdb_make_start(&m, fd) == 0, "no value of 4 GiB");
+  want(FAILS(cdb_make_add(&m, "a", 1, value, UINT_MAX), -1, ENOMEM), "a record that is too big");
+  want(cdb_make_add(&m, "a", 1, "1", 1) == 0 && cdb_make_finish(&m) == 0, "the maker after it");
+}
+
+static void pieces_of_a_file(void)
+{
+  static char value[4 * PIECE];
+  struct cdb_make m;
+  int fd = file_named("pieces");
+  want(cdb_make_start(&m, fd) == 0 && cdb_make_add(&m, "a", 1, value, sizeof value) == 0, "an add");
+  writes = 0;
+  want(cdb_make_finish(&m) == 0, "no finish");
+  /* Two heads, the value, and a piece that has the rest. */
+  want(writes == 2 + 4 + 1, "a file is written by other pieces");
+  want(cdb_make_start(&m, fd) == 0, "a start");
+  takes_nothing = 1;
+  want(FAILS(cdb_make_finish(&m), -1, EIO), "a write that takes nothing is taken for done");
+  takes_nothing = 0;
+}
+
+static const struct { void (*rows)(void); const char *name; } GROUPS[] = {
+  { bytes_inside, "bytes inside the file" },
+  { what_was_found, "what was found" },
+  { damage_amid_a_search, "a damage amid a search" },
+  { numbers_that_wrap, "numbers that wrap" },
+  { seek_without_a_value, "a seek without a value" },
+  { mapping, "the mapping" },
+  { init_that_fails, "an init that fails" },
+  { file_above_4_gib, "a file above 4 GiB" },
+  { read_of_bytes, "cdb_bread" },
+  { read_in_pieces, "cdb_bread in pieces" },
+  { null_addresses, "null addresses" },
+  { starts, "starts" },
+  { record_that_is_too_big, "a record that is too big" },
+  { pieces_of_a_file, "pieces of a file" },
+};
+
+int main(void)
+{
+  int failed = 0;
+  for (size_t n = 0; n < sizeof GROUPS / sizeof *GROUPS; n++) {
+    int status;
+    pid_t child = fork();
+    if (child == 0) {
+      alarm(PATIENCE);
+      GROUPS[n].rows();
+      fflush(stdout);
+      _exit(has_failed);
+    }
+    waitpid(child, &status, 0);
+    if (!WIFEXITED(status)) printf("%s: a crash, or it hangs\n", GROUPS[n].name), fflush(stdout);
+    failed |= status != 0;
+  }
+  return failed;
+}

@@ -1,0 +1,105 @@
+/* Stops the program if the C of clib/ calls an export otherwise than its contract requires.
+ *
+ * The linker puts each __wrap_ function before the export of its name. Addresses are not null, a file
+ * has at least a head and less than 4 GiB, and what an export writes lies outside the file.
+ */
+#include <limits.h>
+#include <stdint.h>
+#include <stdio.h>
+#include <stdlib.h>
+
+#define HEAD 2048
+
+static void need(int holds, const char *export)
+{
+  if (holds) return;
+  printf("%s is called otherwise than its contract requires\n", export);
+  fflush(stdout);
+  abort();
+}
+
+static int is_file(const uint8_t *file, size_t size)
+{
+  return file && size >= HEAD && size <= UINT_MAX;
+}
+
+static int is_outside(const void *it, const uint8_t *file, size_t size)
+{
+  return it && ((const uint8_t *)it < file || (const uint8_t *)it >= file + size);
+}
+
+/* Declares an export, and the function before it. */
+#define EXPORT(type, name, words) \
+  type __real_##name words; \
+  type __wrap_##name words; \
+  type __wrap_##name words
+
+EXPORT(uint32_t, cdb_c_hash, (const uint8_t *key, size_t klen))
+{
+  need(key != NULL, "cdb_c_hash");
+  return __real_cdb_c_hash(key, klen);
+}
+
+EXPORT(int32_t, cdb_c_find, (const uint8_t *file, size_t size, const uint8_t *key, size_t klen, void *found))
+{
+  need(is_file(file, size) && key && is_outside(found, file, size), "cdb_c_find");
+  return __real_cdb_c_find(file, size, key, klen, found);
+}
+
+EXPORT(int32_t, cdb_c_begin, (const uint8_t *file, size_t size, const uint8_t *key, size_t klen, void *state))
+{
+  need(is_file(file, size) && key && is_outside(state, file, size), "cdb_c_begin");
+  return __real_cdb_c_begin(file, size, key, klen, state);
+}
+
+EXPORT(int32_t, cdb_c_next, (const uint8_t *file, size_t size, const uint8_t *key, size_t klen, void *state,
+                             void *found))
+{
+  need(is_file(file, size) && key && is_outside(state, file, size) && is_outside(found, file, size) &&
+       state != found, "cdb_c_next");
+  return __real_cdb_c_next(file, size, key, klen, state, found);
+}
+
+EXPORT(uint64_t, cdb_c_record_end, (const uint8_t *file, size_t size))
+{
+  need(is_file(file, size), "cdb_c_record_end");
+  return __real_cdb_c_record_end(file, size);
+}
+
+EXPORT(int32_t, cdb_c_next_record, (const uint8_t *file, size_t size, uint64_t end, void *place, void *found))
+{
+  need(is_file(file, size) && is_outside(place, file, size) && is_outside(found, file, size),
+       "cdb_c_next_record");
+  return __real_cdb_c_next_record(file, size, end, place, found);
+}
+
+EXPORT(int32_t, cdb_c_make_start, (void *handle))
+{
+  need(handle != NULL, "cdb_c_make_start");
+  return __real_cdb_c_make_start(handle);
+}
+
+EXPORT(int32_t, cdb_c_make_put, (void *handle, uint32_t mode, const uint8_t *key, size_t klen,
+                                 const uint8_t *value, size_t vlen))
+{
+  need(handle && key && value, "cdb_c_make_put");
+  return __real_cdb_c_make_put(handle, mode, key, klen, value, vlen);
+}
+
+EXPORT(int32_t, cdb_c_make_exists, (void *handle, const uint8_t *key, size_t klen))
+{
+  need(handle && key, "cdb_c_make_exists");
+  return __real_cdb_c_make_exists(handle, key, klen);
+}
+
+EXPORT(int32_t, cdb_c_make_remove, (void *handle, const uint8_t *key, size_t klen))
+{
+  need(handle && key, "cdb_c_make_remove");
+  return __real_cdb_c_make_remove(handle, key, klen);
+}
+
+EXPORT(size_t, cdb_c_make_piece, (void *handle, uint64_t place, uint8_t *into, size_t size))
+{
+  need(handle && into, "cdb_c_make_piece");
+  return __real_cdb_c_make_piece(handle, place, into, size);
+}
