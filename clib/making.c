@@ -67,7 +67,9 @@ int cdb_make_start(struct cdb_make *m, int fd)
   m->cdb_fd = fd;
   m->cdb_dpos = HEAD_SIZE;
   if (lseek(fd, 0, SEEK_SET) < 0 || (flags = fcntl(fd, F_GETFL)) < 0) return -1;
-  /* A descriptor that appends would write the head behind the tables. */
+  /* What only the finish would see: that nothing can be written, or that the head would be written
+   * behind the tables. */
+  if ((flags & O_ACCMODE) == O_RDONLY) return errno = EBADF, -1;
   if (flags & O_APPEND) return errno = EINVAL, -1;
   return answer(cdb_c_make_start(handle_of(m)), error_before);
 }

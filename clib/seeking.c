@@ -60,12 +60,13 @@ static int read_at(const struct file *f, unsigned char *into, size_t len, uint64
   return 0;
 }
 
-/* Measures a file, of which places reach the first 4 GiB. */
+/* Measures a file, of which places reach the first 4 GiB. One that has no head ends where its head is
+ * read, and a pipe cannot seek. */
 static int measure(struct file *f, int fd)
 {
   struct stat file;
   if (fstat(fd, &file) < 0) return -1;
-  if (file.st_size < HEAD_SIZE) return damaged();
+  if (file.st_size < HEAD_SIZE) return lseek(fd, 0, SEEK_CUR) < 0 ? -1 : (errno = EIO, -1);
   f->fd = fd;
   f->size = file.st_size < UINT_MAX ? (uint64_t)file.st_size : UINT_MAX;
   return 0;

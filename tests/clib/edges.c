@@ -55,6 +55,12 @@ ssize_t pread64(int fd, void *into, size_t size, off_t place)
   return has_no_bytes ? 0 : syscall(SYS_pread64, fd, into, size, place);
 }
 
+/* The same by a call that knows how large the buffer is. */
+ssize_t __pread64_chk(int fd, void *into, size_t size, off_t place, size_t room)
+{
+  return size <= room ? pread64(fd, into, size, place) : (abort(), -1);
+}
+
 off_t lseek64(int fd, off_t to, int from)
 {
   return does_not_move ? (errno = EIO, -1) : syscall(SYS_lseek, fd, to, from);
@@ -175,6 +181,18 @@ static void seek_without_a_value(void)
   want(FAILS(cdb_seek(fd, "a", 1, &len), -1, EIO) && len == 7,
        "cdb_seek whose offset can't be moved changes the length");
   does_not_move = 0;
+}
+
+/* Files in which no look-up can begin. */
+static void seek_without_a_head(void)
+{
+  int ends[2], fd = file_named("short");
+  unsigned len = 7;
+  want(ftruncate(fd, HEAD - 1) == 0 && lseek(fd, 3, SEEK_SET) == 3, "a short file");
+  want(FAILS(cdb_seek(fd, "a", 1, &len), -1, EIO) && len == 7, "cdb_seek of a short file");
+  want(lseek(fd, 0, SEEK_CUR) == 3, "cdb_seek of a short file moves its offset");
+  want(pipe(ends) == 0 && FAILS(cdb_seek(ends[0], "a", 1, &len), -1, ESPIPE), "cdb_seek of a pipe");
+  want(FAILS(cdb_seek(-1, "a", 1, &len), -1, EBADF), "cdb_seek of no descriptor");
 }
 
 /* How many mappings the process has, and of what kind that of an address is. */
@@ -346,6 +364,7 @@ static const struct { void (*rows)(void); const char *name; } GROUPS[] = {
   { damage_amid_a_search, "a damage amid a search" },
   { numbers_that_wrap, "numbers that wrap" },
   { seek_without_a_value, "a seek without a value" },
+  { seek_without_a_head, "a seek without a head" },
   { mapping, "the mapping" },
   { init_that_fails, "an init that fails" },
   { file_above_4_gib, "a file above 4 GiB" },

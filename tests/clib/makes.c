@@ -5,8 +5,9 @@
  * Each line of LIST names a script and a file. A line of a script is a call: `start`, `add KEY
  * VALUE`, `put MODE KEY VALUE`, `exists KEY`, `find MODE KEY`, `finish`; `read KEY` finds the first
  * value of a key in the finished file, `seek KEY` finds it without a struct, `search KEY` begins a
- * search of it and goes on once, `walk` counts the records, and `closed` looks at a closed database. `on pipe`, `on closed` and
- * `on append` start on a descriptor of this kind, and then try to put and to finish. Keys and values are in
+ * search of it and goes on once, `walk` counts the records, and `closed` looks at a closed database.
+ * `on pipe`, `on closed`, `on reading` and `on append` start on a descriptor of this kind, and then try
+ * to put and to finish. Keys and values are in
  * hexadecimal digits; `.` is an empty one. For each call it prints the answer and errno, which is
  * 999 before; for a value that was found its hash instead; for a script at last `end`.
  */
@@ -135,6 +136,7 @@ static void call_on_kind(const char *kind, const char *file)
 {
   int ends[2] = { -1, -1 };
   if (!strcmp(kind, "pipe")) want(pipe(ends) == 0, "no pipe");
+  if (!strcmp(kind, "reading")) ends[1] = open(file, O_RDONLY);
   if (!strcmp(kind, "append")) ends[1] = open(file, O_RDWR | O_APPEND);
   call_on(ends[1]);
   for (int n = 0; n < 2; n++)

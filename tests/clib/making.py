@@ -138,7 +138,8 @@ def compare_late(driver):
 def compare_starts(driver):
     """Starts on descriptors in which no database can be made, and calls after them."""
     script = [("start",), ("add", b"a", b"1"), ("finish",)]
-    errors = {"pipe": errno.ESPIPE, "closed": errno.EBADF, "append": errno.EINVAL}
+    errors = {"pipe": errno.ESPIPE, "closed": errno.EBADF, "reading": errno.EBADF,
+              "append": errno.EINVAL}
     driver.place([script + [("on", kind) for kind in errors]])
     said = split(driver.run().stdout)[0][len(script):]
     wanted = [it for error in errors.values() for it in ((-1, error), NO_MAKER, NO_MAKER)]
