@@ -9,7 +9,7 @@
 # make deb        builds it and the C library, and makes the three Debian packages in dist/
 # make install    installs cdb and its manual pages below $(DESTDIR)$(PREFIX)
 # make install-clib  installs the C library, its header and its manual page there
-# make uninstall  removes them
+# make uninstall  removes what these two installed, unless it is another's by now
 # make interop    builds it, and compares it with the cdb programs that are installed
 # make bench      times it beside tinycdb and freecdb, if they are installed
 # make clean      removes what was built, and the proofs that were kept
@@ -27,8 +27,10 @@ SOURCES := $(shell find crates \( -name out -o -name tests -o -name tests.rt \) 
 # How the C of the library is compiled. An export writes words, which a read of several at once
 # would wait for. The gate adds -Werror.
 CLIB_FLAGS := -std=c11 -O2 -Wall -Wextra -fPIC -fno-tree-slp-vectorize
+# Checks of the sizes of buffers, unless the flags that are set say how many.
+CLIB_FLAGS += $(if $(findstring _FORTIFY_SOURCE,$(CPPFLAGS) $(CFLAGS)),,-U_FORTIFY_SOURCE -D_FORTIFY_SOURCE=2)
 WERROR ?=
-CLIB_SOURCES := clib/libcdb.c clib/seeking.c clib/making.c
+CLIB_SOURCES := clib/hashing.c clib/libcdb.c clib/seeking.c clib/making.c
 CLIB_OBJECTS := $(CLIB_SOURCES:clib/%.c=bin/%.o)
 # The version of tinycdb whose calls the library has, and what libraries of this name there are.
 INTERFACE = $(shell sed -n 's/^.define TINYCDB_VERSION //p' clib/cdb.h)
@@ -76,17 +78,30 @@ bin/libcdb_c.a: $(SOURCES)
 
 bin/%.o: clib/%.c clib/cdb.h
 	@mkdir -p bin
-	$(CC) $(CLIB_FLAGS) $(WERROR) $(CPPFLAGS) $(CFLAGS) -c -o $@ $<
+	$(CC) $(CLIB_FLAGS) $(WERROR) $(CPPFLAGS) $(CFLAGS) -fno-lto -c -o $@ $<
 
-# All of it in one object, which keeps the names of cdb.h alone.
-bin/libcdb.a: $(CLIB_OBJECTS) bin/libcdb_c.a
-	$(LD) -r -o bin/libcdb_whole.o $(CLIB_OBJECTS) bin/libcdb_c.a $(HEAP)
-	objcopy -w -G 'cdb_[!c]*' bin/libcdb_whole.o
+# What each object of the static library has of cdb.h. An object keeps of the proved functions those that
+# these calls reach, under names that no other object sees, so a program may have names of its own.
+IN_words := cdb_pack cdb_unpack
+IN_hashing := cdb_hash
+IN_libcdb := cdb_init cdb_free cdb_find cdb_findinit cdb_findnext cdb_seqnext cdb_get cdb_read
+IN_seeking := cdb_seek cdb_bread
+IN_making := cdb_make_start cdb_make_add cdb_make_exists cdb_make_find cdb_make_put cdb_make_finish
+ARCHIVED := words hashing libcdb seeking making
+ARCHIVED_OBJECTS := $(ARCHIVED:%=bin/archived/%.o)
+
+bin/archived/%.o: $(CLIB_OBJECTS) bin/libcdb_c.a
+	@mkdir -p bin/archived
+	$(LD) -r --gc-sections $(IN_$*:%=-u %) -o $@ \
+		$(sort bin/hashing.o $(filter bin/$*.o,$(CLIB_OBJECTS))) bin/libcdb_c.a $(HEAP)
+	objcopy $(IN_$*:%=-G %) $@
+
+bin/libcdb.a: $(ARCHIVED_OBJECTS)
 	rm -f $@
-	$(AR) rc $@ bin/libcdb_whole.o
+	$(AR) rc $@ $(ARCHIVED_OBJECTS)
 
 bin/libcdb.so.1: $(CLIB_OBJECTS) bin/libcdb_c.a clib/libcdb.map
-	$(CC) -shared $(CFLAGS) $(LDFLAGS) -Wl,-soname,libcdb.so.1 -Wl,--version-script=clib/libcdb.map \
+	$(CC) -shared $(CFLAGS) $(LDFLAGS) -fno-lto -Wl,-soname,libcdb.so.1 -Wl,--version-script=clib/libcdb.map \
 		-Wl,--gc-sections -Wl,-z,relro,-z,now -o $@ $(CLIB_OBJECTS) bin/libcdb_c.a $(HEAP)
 
 bin/answers bin/makes: bin/%: tests/clib/%.c clib/cdb.h bin/libcdb.so.1
@@ -115,33 +130,38 @@ deb: bin/cdb clib
 	@$(PYTHON) tools/package.py deb bin/cdb dist
 	@$(PYTHON) tools/package.py clib bin dist
 
+# What is installed stands in lists, and `make uninstall` removes that and nothing else.
+LISTS := $(PREFIX)/share/pezundrix
+PROGRAM_FILES = $(PREFIX)/bin/cdb $(PREFIX)/share/man/man1/cdb.1 $(PREFIX)/share/man/man5/cdb.5
+CLIB_FILES = $(LIBDIR)/libcdb.so.1 $(LIBDIR)/libcdb.so $(LIBDIR)/libcdb.a $(LIBDIR)/libcdb_pic.a \
+	$(LIBDIR)/pkgconfig/libcdb.pc $(PREFIX)/include/cdb.h $(PREFIX)/share/man/man3/cdb.3
+
 install: bin/cdb
 	install -D -m 755 bin/cdb $(DESTDIR)$(PREFIX)/bin/cdb
 	install -D -m 644 man/cdb.1 $(DESTDIR)$(PREFIX)/share/man/man1/cdb.1
 	install -D -m 644 man/cdb.5 $(DESTDIR)$(PREFIX)/share/man/man5/cdb.5
+	@$(PYTHON) tools/installed.py note '$(DESTDIR)' $(LISTS)/program.list $(PROGRAM_FILES)
 
 # The loader may take this library for tinycdb's programs too, so a line says so.
 install-clib: clib
 	install -D -m 644 bin/libcdb.so.1 $(DESTDIR)$(LIBDIR)/libcdb.so.1
 	ln -sf libcdb.so.1 $(DESTDIR)$(LIBDIR)/libcdb.so
 	install -D -m 644 bin/libcdb.a $(DESTDIR)$(LIBDIR)/libcdb.a
+	ln -sf libcdb.a $(DESTDIR)$(LIBDIR)/libcdb_pic.a
 	install -D -m 644 clib/cdb.h $(DESTDIR)$(PREFIX)/include/cdb.h
 	install -D -m 644 man/cdb.3 $(DESTDIR)$(PREFIX)/share/man/man3/cdb.3
-	install -d $(DESTDIR)$(LIBDIR)/pkgconfig
 	sed -e 's|@PREFIX@|$(PREFIX)|' -e 's|@LIBDIR@|$(LIBDIR)|' -e 's|@VERSION@|$(INTERFACE)|' \
-		clib/libcdb.pc.in > $(DESTDIR)$(LIBDIR)/pkgconfig/libcdb.pc
+		clib/libcdb.pc.in > bin/libcdb.pc
+	install -D -m 644 bin/libcdb.pc $(DESTDIR)$(LIBDIR)/pkgconfig/libcdb.pc
+	@$(PYTHON) tools/installed.py note '$(DESTDIR)' $(LISTS)/clib.list $(CLIB_FILES)
+	@test -n '$(DESTDIR)' || echo 'Run ldconfig, so that the loader finds the library.'
 	@for other in $(OTHER_LIBRARIES); do \
 		echo "$$other is installed too: programs load the one whose folder the loader searches first"; \
 	done
 
 uninstall:
-	rm -f $(DESTDIR)$(PREFIX)/bin/cdb
-	rm -f $(DESTDIR)$(PREFIX)/share/man/man1/cdb.1
-	rm -f $(DESTDIR)$(PREFIX)/share/man/man5/cdb.5
-	rm -f $(DESTDIR)$(LIBDIR)/libcdb.so.1 $(DESTDIR)$(LIBDIR)/libcdb.so
-	rm -f $(DESTDIR)$(LIBDIR)/libcdb.a $(DESTDIR)$(LIBDIR)/pkgconfig/libcdb.pc
-	rm -f $(DESTDIR)$(PREFIX)/include/cdb.h
-	rm -f $(DESTDIR)$(PREFIX)/share/man/man3/cdb.3
+	@$(PYTHON) tools/installed.py remove '$(DESTDIR)' $(LISTS)/program.list $(LISTS)/clib.list
+	@rmdir $(DESTDIR)$(LISTS) 2> /dev/null || true
 
 interop: bin/cdb
 	$(PYTHON) tests/interop/run.py bin/cdb

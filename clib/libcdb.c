@@ -44,7 +44,6 @@ struct found { uint32_t place, len; };
 struct state { uint64_t hash, table, slots, slot, left; };
 struct placed { uint32_t place, key_place, key_len, value_place, value_len; };
 
-uint32_t cdb_c_hash(const uint8_t *key, size_t klen);
 int32_t cdb_c_find(const uint8_t *file, size_t size, const uint8_t *key, size_t klen,
                    struct found *found);
 int32_t cdb_c_begin(const uint8_t *file, size_t size, const uint8_t *key, size_t klen,
@@ -65,8 +64,6 @@ static const uint8_t *bytes_of(const void *key) { return key ? key : (const uint
 
 /* Whether a database is open, so that its head is mapped. After cdb_free it has no bytes. */
 static int is_open(const struct cdb *c) { return c->cdb_fsize >= HEAD_SIZE; }
-
-unsigned cdb_hash(const void *buf, unsigned len) { return cdb_c_hash(bytes_of(buf), len); }
 
 /* Maps a file, of which places reach the first 4 GiB. */
 static int map_file(struct cdb *c, int fd)

@@ -54,8 +54,8 @@ Multi-Arch: same
 Maintainer: {maintainer}
 Installed-Size: {size}
 {depends}Provides: libcdb1 (= {interface})
-Conflicts: libcdb1
-Replaces: libcdb1
+Conflicts: libcdb1:{architecture}
+Replaces: libcdb1:{architecture}
 Section: libs
 Priority: optional
 Description: library for constant databases (cdb)
@@ -231,6 +231,13 @@ def files_of(program, when):
     return controlled(files | notes_of(NAME, when) | pages_of(*PAGES), CONTROL, program)
 
 
+def symbols_of(package):
+    """The calls of the library, each with the version whose calls they are, for what is built with it."""
+    names = re.findall(r"^    (cdb_\w+);$", read("clib", "libcdb.map").decode(), re.M)
+    lines = [f"libcdb.so.1 {package} #MINVER# | libcdb1 #MINVER#"]
+    return "\n".join(lines + [f" {name}@Base {interface()}" for name in sorted(names)]) + "\n"
+
+
 def shared_files(library, when):
     """All files of the shared library's package."""
     package = f"{NAME}-libcdb1"
@@ -243,6 +250,7 @@ def shared_files(library, when):
     files = controlled(held | notes_of(package, when), SHARED_CONTROL, library)
     # What a package that is built with it depends on, and that the loader's cache is made anew.
     files["DEBIAN/shlibs"] = (0o644, f"libcdb 1 {package} | libcdb1\n".encode())
+    files["DEBIAN/symbols"] = (0o644, symbols_of(package).encode())
     files["DEBIAN/triggers"] = (0o644, b"activate-noawait ldconfig\n")
     return files
 
@@ -255,6 +263,8 @@ def building_files(library, archive, when):
         "usr/include/cdb.h": (0o644, read("clib", "cdb.h")),
         f"{where}/libcdb.a": (0o644, archive),
         f"{where}/libcdb.so": (0o777, "libcdb.so.1"),
+        # Its objects can be part of a shared library, too.
+        f"{where}/libcdb_pic.a": (0o777, "libcdb.a"),
         f"{where}/pkgconfig/libcdb.pc": (0o644, described.encode()),
     }
     notes = notes_of(f"{NAME}-libcdb-dev", when)

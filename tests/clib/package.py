@@ -4,7 +4,7 @@
     tests/clib/package.py FOLDER
 
 FOLDER has libcdb.so.1 and libcdb.a. The program is makes.c, built from the unpacked header with each
-library; it makes a drawn database. If `lintian` is installed it may find no error and warn of nothing. If
+library; it makes a drawn database. The library is installed into a folder too, and removed from there. If `lintian` is installed it may find no error and warn of nothing. If
 a C++ compiler is, the header is read by it too.
 """
 
@@ -72,11 +72,105 @@ def runs(tree, folder, library):
     return compare(driver, scripts, driver.run()) is None
 
 
-def replaces(package, name):
-    """Whether a package stands in for one of tinycdb."""
-    fields = [output_of(["dpkg-deb", "--field", package, it]).strip()
-              for it in ("Conflicts", "Replaces", "Provides")]
-    return fields[:2] == [name, name] and fields[2].startswith(f"{name} (= ")
+def field_of(package, field):
+    """A field of a package."""
+    return output_of(["dpkg-deb", "--field", package, field]).strip()
+
+
+def replaces(package, name, of_architecture=False):
+    """Whether a package stands in for one of tinycdb: for that of its own architecture alone, if those of
+    several can be installed."""
+    other = f"{name}:{field_of(package, 'Architecture')}" if of_architecture else name
+    fields = [field_of(package, it) for it in ("Conflicts", "Replaces", "Provides")]
+    return fields[:2] == [other, other] and fields[2].startswith(f"{name} (= ")
+
+
+def names_symbols(package, tree):
+    """Whether the package lists the names that its library has, and no others."""
+    listed = output_of(["dpkg-deb", "--info", package, "symbols"]).splitlines()
+    library = glob.glob(f"{tree}/usr/lib/*/libcdb.so.1")[0]
+    defined = output_of(["nm", "-D", "--defined-only", library]).split("\n")
+    names = sorted(line.split()[-1] for line in defined if line)
+    return listed[0].startswith("libcdb.so.1 pezundrix-libcdb1 #MINVER#") and names == [
+        line.split("@")[0].strip() for line in listed[1:]
+    ]
+
+
+# A program with names of its own that the library has too, and one that only hashes.
+OWN_NAMES = """
+#include <cdb.h>
+#include <stdio.h>
+unsigned cdb_hash(const void *b, unsigned n) { (void)b; return n & 1; }
+void cdb_pack(unsigned n, unsigned char b[4]) { b[0] = (unsigned char)n; }
+unsigned cdb_unpack(const unsigned char b[4]) { return b[0]; }
+int main(void)
+{
+  struct cdb_make m;
+  struct cdb c;
+  unsigned len = 0;
+  int fd = fileno(tmpfile());
+  if (cdb_make_start(&m, fd) || cdb_make_add(&m, "one", 3, "value", 5) || cdb_make_finish(&m)) return 1;
+  if (cdb_init(&c, fd) || cdb_find(&c, "one", 3) != 1 || cdb_seek(fd, "one", 3, &len) != 1) return 2;
+  return len == 5 && cdb_hash("one", 3) == 1 ? 0 : 3;
+}
+"""
+HASHES = """
+#include <cdb.h>
+int main(void) { return cdb_hash("a", 1) == 177604 ? 0 : 1; }
+"""
+# How much larger a program may be that hashes than one that does nothing, in bytes.
+HASH_SIZE = 4096
+
+
+def built(tree, folder, name, text):
+    """A program of some text with the static library."""
+    path = os.path.join(folder, name)
+    with open(path + ".c", "w", encoding="ascii") as to:
+        to.write(text)
+    archive = glob.glob(f"{tree}/usr/lib/*/libcdb.a")[0]
+    output_of([*COMPILER, "-I", f"{tree}/usr/include", "-o", path, path + ".c", archive])
+    return path
+
+
+def keeps_own_names(tree, folder):
+    """Whether a program may have names of the library, which then uses its own."""
+    return subprocess.run([built(tree, folder, "own", OWN_NAMES)], check=False).returncode == 0
+
+
+def takes_little(tree, folder):
+    """Whether a program that only hashes gets no more of the library."""
+    hashes = built(tree, folder, "hashes", HASHES)
+    nothing = built(tree, folder, "nothing", "int main(void) { return 0; }")
+    size = os.path.getsize(hashes) - os.path.getsize(nothing)
+    return subprocess.run([hashes], check=False).returncode == 0 and size <= HASH_SIZE
+
+
+def make(*words, **how):
+    """What make says."""
+    done = subprocess.run(["make", "-s", *words], cwd=TOP, capture_output=True, check=True, **how)
+    return done.stdout.decode()
+
+
+def is_not_optimized_late():
+    """Whether the library's objects are whole, also if the flags ask for the linker to optimize."""
+    words = make("-n", "-B", "bin/seeking.o", "CFLAGS=-O2 -flto").split()
+    return words.index("-fno-lto") > words.index("-flto")
+
+
+def installs_and_removes(folder):
+    """Whether what is installed has its permissions under any mask, and is removed again, and what is
+    another's by then stays."""
+    root = os.path.join(folder, "root")
+    words = (f"DESTDIR={root}", "PREFIX=/usr", "LIBDIR=/usr/lib/x")
+    make("install-clib", *words, preexec_fn=lambda: os.umask(0o077))
+    files = [os.path.join(path, name) for path, _, names in os.walk(root) for name in names]
+    modes = {os.stat(it).st_mode & 0o777 for it in files}
+    other = os.path.join(root, "usr/lib/x/libcdb.a")
+    with open(other, "wb") as to:
+        to.write(b"another's")
+    said = make("uninstall", *words)
+    left = [os.path.join(path, name) for path, _, names in os.walk(root) for name in names]
+    return len(files) == 8 and modes == {0o644} and left == [other] and other in said
 
 
 def has_no_error(packages):
@@ -96,10 +190,16 @@ def tests_of(library, folder):
     held = {
         "the packages have the same bytes each time": is_same,
         "the packages hold their files": holds(tree, SHARED) and holds(tree, BUILDING),
-        "the packages replace tinycdb's": replaces(packages[0], "libcdb1")
+        "the packages replace tinycdb's": replaces(packages[0], "libcdb1", of_architecture=True)
         and replaces(packages[1], "libcdb-dev"),
+        "the package lists the library's names": names_symbols(packages[0], tree),
+        "a program may have names of its own": keeps_own_names(tree, folder),
+        "a program that hashes gets no more": takes_little(tree, folder),
+        "no object waits for the linker": is_not_optimized_late(),
+        "what is installed is removed, and no more": installs_and_removes(folder),
         "a program runs on the shared library": runs(tree, folder, "libcdb.so"),
         "a program runs with the static library": runs(tree, folder, "libcdb.a"),
+        "a program runs with its other name": runs(tree, folder, "libcdb_pic.a"),
     }
     if shutil.which("c++"):
         words = ["c++", "-fsyntax-only", "-Wall", "-Werror", "-x", "c++", f"{tree}/usr/include/cdb.h"]

@@ -100,6 +100,12 @@ ssize_t pread64(int fd, void *into, size_t size, off_t place)
   return syscall(SYS_pread64, fd, into, size, place);
 }
 
+/* The same by a call that knows how large the buffer is. */
+ssize_t __pread64_chk(int fd, void *into, size_t size, off_t place, size_t room)
+{
+  return size <= room ? pread64(fd, into, size, place) : (abort(), -1);
+}
+
 void *mmap64(void *where, size_t size, int may, int how, int fd, off_t place)
 {
   return is_refused(1) ? MAP_FAILED : (void *)syscall(SYS_mmap, where, size, may, how, fd, place);
