@@ -1,9 +1,9 @@
 // The making calls.
 ghost use Rattle.cdb_form.specs.Format.Record.{record_of};
 ghost use Rattle.std.specs.Prelude.{◌≡◌, None, Err, IfOk, IfErr, negsuc};
-ghost use Rattle.cdb_make.specs.Views.Maker.{Puts, FailsPutting, Follows};
-ghost use Rattle.cdb_make.specs.Views.Maker.{Removes, FailsRemoving, FailsFinishing};
-ghost use Rattle.cdb_make.specs.Views.Maker.{WritesNothing, FailsLooking, SameCounts};
+ghost use Rattle.cdb_make.specs.Views.Batch.{Puts, FailsPutting, Follows};
+ghost use Rattle.cdb_make.specs.Views.Batch.{Removes, FailsRemoving, FailsFinishing};
+ghost use Rattle.cdb_make.specs.Views.Batch.{WritesNothing, FailsLooking, SameCounts};
 ghost use Rattle.cdb_make.specs.declared.fault.MakeFault.TheVariants.{Broken};
 ghost use Rattle.cdb_handle.specs.Kept.{kept_in};
 ghost use Rattle.cdb_handle.specs.Calls.{Between, HasNoMaker, HasNewMaker, IsFinished};

@@ -5,7 +5,7 @@ use Rattle.cdb_form.specs.Format.Record.{KeyValue}
 use Rattle.cdb_store.specs.Contents.{contents}
 use Rattle.cdb_form.specs.Format.File.{file_bytes}
 use Rattle.cdb_make.specs.Survivors.{is_there}
-use Rattle.cdb_make.specs.Views.Maker.{Holds, limit_of}
+use Rattle.cdb_make.specs.Views.Batch.{Holds, limit_of}
 use Rattle.cdb_handle.specs.declared.database.Database.{Database}
 use Rattle.cdb_handle.specs.declared.database.Database.TheVariants.{Open, Made, Lent}
 use Rattle.cdb_handle.specs.declared.database.Finished.{Finished}

@@ -1,12 +1,12 @@
 // A database that is being made, or is made.
 use cdb_form::Narrow;
-use cdb_make::Maker;
+use cdb_make::Batch;
 use cdb_store::MemStore;
 
-/// A maker of a file in memory.
+/// A maker of a file in memory, which closes the gaps of records that go in one pass.
 #[derive(Drop)]
 pub struct Making {
-    pub maker: Maker<MemStore, Narrow>,
+    pub maker: Batch<MemStore, Narrow>,
 }
 
 /// A finished file in memory.

@@ -1,7 +1,7 @@
 //! A maker of a database that a program in C holds between its calls.
 //!
 //! C holds a `Handle`: 16 bytes, of which zeros are no database. Each call takes the database out
-//! of the handle, makes the call of its `Maker`, and puts it back. The file is made in memory.
+//! of the handle, makes the call of its `Batch`, and puts it back. The file is made in memory.
 #![tactic(auto)]
 
 mod database;

@@ -2,9 +2,9 @@
 ghost use Rattle.cdb_form.specs.Format.Record.{record_of};
 ghost use Rattle.std.specs.Prelude.{◌≡◌, Some, None, Err, IfOk, IfErr, OnOk, OnErr};
 ghost use Rattle.cdb_make.specs.declared.fault.MakeFault.TheVariants.{Broken};
-ghost use Rattle.cdb_make.specs.Views.Maker.{Puts, FailsPutting, Follows};
-ghost use Rattle.cdb_make.specs.Views.Maker.{Removes, FailsRemoving, FailsFinishing};
-ghost use Rattle.cdb_make.specs.Views.Maker.{WritesNothing, FailsLooking, SameCounts};
+ghost use Rattle.cdb_make.specs.Views.Batch.{Puts, FailsPutting, Follows};
+ghost use Rattle.cdb_make.specs.Views.Batch.{Removes, FailsRemoving, FailsFinishing};
+ghost use Rattle.cdb_make.specs.Views.Batch.{WritesNothing, FailsLooking, SameCounts};
 ghost use Rattle.cdb_handle.specs.Kept.{kept_in};
 ghost use Rattle.cdb_handle.specs.Calls.{Between, HasNoMaker, HasNewMaker, IsFinished};
 ghost use Rattle.cdb_handle.specs.Calls.{FindsKey, GivesPiece};
@@ -12,7 +12,7 @@ ghost use Rattle.cdb_handle.specs.Calls.{FindsKey, GivesPiece};
 use crate::database::{Database, Finished, Making};
 use crate::handle::Handle;
 use cdb_form::{Narrow, Width};
-use cdb_make::{MakeFault, Maker, Mode, Put};
+use cdb_make::{Batch, MakeFault, Mode, Put};
 use cdb_store::MemStore;
 use std::alloc::Global;
 use std::mem::replace;
@@ -21,7 +21,7 @@ use std::mem::replace;
 fn begin(alloc: Global) -> Result<Box<Database>, MakeFault>
     ensures { IfOk result (λ b. HasNewMaker (Some b.value)) }
 {
-    match Maker::<MemStore, Narrow>::new(alloc, MemStore::new(alloc), Narrow::GREATEST) {
+    match Batch::<MemStore, Narrow>::new(alloc, MemStore::new(alloc), Narrow::GREATEST) {
         Ok(maker) => Ok(Box::new(alloc, Database::Open(Making { maker }))?),
         Err(refused) => Err(refused.fault),
     }
@@ -40,7 +40,7 @@ pub fn start(alloc: Global, handle: &mut Handle) -> Result<(), MakeFault>
     Ok(())
 }
 
-/// Puts a record, as `Maker::put` does. `Broken`: the handle has no maker, or a broken one.
+/// Puts a record, as `Batch::put` does. `Broken`: the handle has no maker, or a broken one.
 pub fn put(
     alloc: Global,
     handle: &mut Handle,
@@ -78,7 +78,7 @@ fn look(making: &mut Making, key: &[u8]) -> Result<bool, MakeFault>
     making.maker.exists(key)
 }
 
-/// Whether some record has a key, as `Maker::exists` says. `Broken`: the handle has no maker, or a
+/// Whether some record has a key, as `Batch::exists` says. `Broken`: the handle has no maker, or a
 /// broken one.
 pub fn exists(alloc: Global, handle: &mut Handle, key: &[u8]) -> Result<bool, MakeFault>
     ensures there { IfOk result (λ there. Between (kept_in handle.old) (kept_in handle.new)
@@ -102,7 +102,7 @@ pub fn exists(alloc: Global, handle: &mut Handle, key: &[u8]) -> Result<bool, Ma
     answer
 }
 
-/// Takes out every record of a key, as `Maker::remove` does. `Broken`: the handle has no maker, or
+/// Takes out every record of a key, as `Batch::remove` does. `Broken`: the handle has no maker, or
 /// a broken one.
 pub fn remove(alloc: Global, handle: &mut Handle, key: &[u8]) -> Result<u64, MakeFault>
     ensures removes { IfOk result (λ n. Between (kept_in handle.old) (kept_in handle.new) (λ m o.
@@ -135,7 +135,7 @@ fn finished(database: Database) -> (Database, Result<(), MakeFault>)
         Database::Open(making) => match making.maker.finish() {
             Ok(store) => (Database::Made(Finished { store }), Ok(())),
             Err(unfinished) => {
-                let maker = unfinished.maker;
+                let maker = unfinished.batch;
                 (Database::Open(Making { maker }), Err(unfinished.fault))
             }
         },
@@ -144,7 +144,7 @@ fn finished(database: Database) -> (Database, Result<(), MakeFault>)
     }
 }
 
-/// IsFileOf the file of its records, as `Maker::finish` does. `Broken`: an earlier call broke the
+/// Finishes the file of its records, as `Batch::finish` does. `Broken`: an earlier call broke the
 /// maker, or the handle has none.
 pub fn finish(alloc: Global, handle: &mut Handle) -> Result<(), MakeFault>
     ensures ok { OnOk result (IsFinished (kept_in handle.old) (kept_in handle.new)) }
