@@ -4,8 +4,9 @@
  *
  * FILE has RECORDS records with keys "k000000000" and on. JOB is find, which makes CALLS look-ups
  * in an order of no pattern, seek, which makes them by cdb_seek, all, which searches each key to its
- * end, walk, which makes CALLS walks, or keys, which makes the keys alone. The jobs add and insert make FILE, by cdb_make_add and
- * by cdb_make_put with CDB_PUT_INSERT. It prints the processor time of all calls in nanoseconds,
+ * end, walk, which makes CALLS walks, or keys, which makes the keys alone. The job add makes FILE by
+ * cdb_make_add; insert, warn, replace and replace0 make it by cdb_make_put with this mode, and each tenth
+ * record has a key that was put before. It prints the processor time of all calls in nanoseconds,
  * without opening, and the peak of memory in KiB.
  */
 #include <cdb.h>
@@ -37,22 +38,44 @@ static void say(double took)
   printf("%.0f %ld\n", took, used.ru_maxrss);
 }
 
-/* Makes a file of these records, whose keys come in order. */
-static void make(const char *file, unsigned records, int inserts)
+/* The next key in order. */
+static void count_up(char *key)
 {
-  char value[61], *keys = malloc((size_t)records * KEY + 8);
-  struct cdb_make m;
-  want(keys != NULL);
-  for (unsigned n = 0; n < records; n++) sprintf(keys + (size_t)n * KEY, "k%09u", n);
+  char *digit = key + KEY - 1;
+  while (*digit == '9') *digit-- = '0';
+  ++*digit;
+}
+
+/* The mode of a job that puts, or none. */
+static int mode_of(const char *job)
+{
+  static const char *const JOBS[] = { "add", "replace", "insert", "warn", "replace0" };
+  for (int mode = 0; mode < 5; mode++)
+    if (!strcmp(job, JOBS[mode])) return mode;
+  return -1;
+}
+
+/* Puts so many records, whose keys are made as they are needed: the peak is the library's. */
+static void put_records(struct cdb_make *m, unsigned records, int mode)
+{
+  char value[61], key[2 * KEY], again[2 * KEY];
+  sprintf(key, "k%09u", 0u);
   sprintf(value, "%060u", 7u);
+  for (unsigned n = 0; n < records; n++, count_up(key)) {
+    int is_again = mode && n % 10 == 9;
+    if (is_again) sprintf(again, "k%09u", n / 20 * 10);
+    want(mode ? cdb_make_put(m, is_again ? again : key, KEY, value, 60, (enum cdb_put_mode)mode) == is_again
+              : cdb_make_add(m, key, KEY, value, 60) == 0);
+  }
+}
+
+static void make(const char *file, unsigned records, int mode)
+{
+  struct cdb_make m;
   int fd = open(file, O_RDWR | O_CREAT | O_TRUNC, 0666);
   double begin = now();
   want(cdb_make_start(&m, fd) == 0);
-  for (unsigned n = 0; n < records; n++) {
-    const char *key = keys + (size_t)n * KEY;
-    want((inserts ? cdb_make_put(&m, key, KEY, value, 60, CDB_PUT_INSERT)
-                  : cdb_make_add(&m, key, KEY, value, 60)) == 0);
-  }
+  put_records(&m, records, mode);
   want(cdb_make_finish(&m) == 0);
   say(now() - begin);
 }
@@ -61,9 +84,8 @@ int main(int many, char **words)
 {
   want(many == 5);
   unsigned records = (unsigned)atoi(words[3]), calls = (unsigned)atoi(words[4]);
-  int inserts = !strcmp(words[1], "insert");
-  if (inserts || !strcmp(words[1], "add"))
-    return make(words[2], records, inserts), 0;
+  int mode = mode_of(words[1]);
+  if (mode >= 0) return make(words[2], records, mode), 0;
   struct cdb c;
   int fd = open(words[2], O_RDONLY);
   want(cdb_init(&c, fd) == 0);
