@@ -41,6 +41,11 @@ removed_code (Ok zero) = pos 0
 removed_code (Ok (suc n)) = pos 1
 removed_code (Err f) = fault_code f
 
+-- an append
+abbrev pub appended_code : Result ℕ MakeFault → ℤ
+appended_code (Ok n) = pos 0
+appended_code (Err f) = fault_code f
+
 -- an export answered the number of a result, which says one thing if it is a success and another
 -- if it is a fault
 pub record Answers {X : Type 0} (code : Result X MakeFault → ℤ) (answer : ℤ) (P : X → Type 0)

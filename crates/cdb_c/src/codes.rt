@@ -1,7 +1,7 @@
 // The numbers that C gets of the making calls, and those that it passes.
 ghost use Rattle.std.specs.Prelude.{◌≡◌};
 ghost use Rattle.cdb_c.specs.Codes.{fault_code, put_code, done_code, found_code, removed_code};
-ghost use Rattle.cdb_c.specs.Codes.{mode_of};
+ghost use Rattle.cdb_c.specs.Codes.{mode_of, appended_code};
 
 use cdb_form::Mode;
 use cdb_make::{MakeFault, Put};
@@ -36,6 +36,16 @@ pub(crate) fn put_code(answer: Result<Put, MakeFault>) -> i32
     match answer {
         Ok(Put::Added) => 0,
         Ok(Put::AddedAgain | Put::Present | Put::Replaced(_)) => 1,
+        Err(fault) => fault_code(fault),
+    }
+}
+
+/// The number of an append.
+pub(crate) fn appended_code(answer: Result<usize, MakeFault>) -> i32
+    ensures { result ≡ appended_code answer }
+{
+    match answer {
+        Ok(_) => 0,
         Err(fault) => fault_code(fault),
     }
 }

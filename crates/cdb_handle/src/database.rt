@@ -1,7 +1,13 @@
 // A database that is being made, or is made.
 use cdb_form::Narrow;
-use cdb_make::Batch;
+use cdb_make::{Batch, Maker};
 use cdb_store::MemStore;
+
+/// A maker of a file in memory, to which records were appended and nothing else was done.
+#[derive(Drop)]
+pub struct Beginning {
+    pub maker: Maker<MemStore, Narrow>,
+}
 
 /// A maker of a file in memory, which closes the gaps of records that go in one pass.
 #[derive(Drop)]
@@ -18,6 +24,8 @@ pub struct Finished {
 /// A database that is being made, or its finished file.
 #[derive(Drop)]
 pub enum Database {
+    /// Records are appended. The first other call makes it `Open`.
+    Begun(Beginning),
     /// Records are put and taken out.
     Open(Making),
     /// The file is finished.

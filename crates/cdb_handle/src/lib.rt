@@ -10,7 +10,7 @@ mod making;
 mod parts;
 mod slot;
 
-pub use database::{Database, Finished, Making};
+pub use database::{Beginning, Database, Finished, Making};
 pub use handle::Handle;
-pub use making::{close, exists, finish, piece, put, remove, start};
+pub use making::{append, close, count, exists, finish, piece, put, remove, start};
 pub use slot::Slot;
