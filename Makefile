@@ -117,8 +117,8 @@ bin/sanitized: tests/clib/makes.c $(CLIB_SOURCES) clib/cdb.h bin/libcdb_c.a
 		bin/libcdb_c.a $(HEAP)
 
 # Calls at the edges of the page, each of which reaches an export by way of premises.c.
-EXPORTS := hash find begin next record_end next_record make_start make_put make_exists make_remove \
-	make_piece
+EXPORTS := hash find begin next record_end next_record make_start make_put make_append make_count \
+	make_exists make_remove make_piece
 bin/edges: tests/clib/edges.c tests/clib/premises.c $(CLIB_OBJECTS) bin/libcdb_c.a
 	$(CC) -O2 -Wall -Wextra $(WERROR) -Iclib $(EXPORTS:%=-Wl,--wrap=cdb_c_%) -o $@ \
 		tests/clib/edges.c tests/clib/premises.c $(CLIB_OBJECTS) bin/libcdb_c.a $(HEAP)

@@ -76,7 +76,7 @@ struct cdb_make {
   int cdb_fd;                        /* the descriptor that was passed to cdb_make_start */
   unsigned cdb_dpos;                 /* 2048 */
   unsigned cdb_rcnt;                 /* 0 */
-  unsigned char cdb_buf[4096];       /* not used */
+  unsigned char cdb_buf[4096];       /* records that are not handed on yet */
   unsigned char *cdb_bpos;           /* not used */
   struct cdb_rl *cdb_rec[256];       /* the handle of the maker, and zeros */
 };

@@ -1,7 +1,8 @@
 /* The C functions that make a database, over the proved maker of crates/cdb_c.
  *
  * What each call does to the records is answered there, and the file is made there, in memory. Here
- * errno is set, and the finished file is written to the descriptor.
+ * errno is set, small records are put together before they are handed on, and the finished file is
+ * written to the descriptor.
  */
 #define _DEFAULT_SOURCE
 #define _FILE_OFFSET_BITS 64
@@ -28,12 +29,23 @@ static_assert(offsetof(struct cdb_make, cdb_bpos) == 4112, "cdb_bpos");
 static_assert(offsetof(struct cdb_make, cdb_rec) == 4120, "cdb_rec");
 static_assert(sizeof(struct handle) == 16, "size of a handle");
 #endif
-static_assert(sizeof(struct handle) <= sizeof(((struct cdb_make *)0)->cdb_rec), "it has room");
+
+/* What a maker keeps in cdb_rec. As long as records are added and no other call is made, those that fit
+ * into cdb_buf are put together there, and are handed on when it is full. */
+struct kept {
+  struct handle handle;
+  uint64_t end, count;  /* where the records end, and how many there are, with those in cdb_buf */
+  uint32_t held;        /* how many bytes of records are in cdb_buf */
+  _Bool is_adding;      /* whether no other call was made yet */
+};
+static_assert(sizeof(struct kept) <= sizeof(((struct cdb_make *)0)->cdb_rec), "it has room");
 
 /* The functions of crates/cdb_c. A slice is an address and a size. */
 int32_t cdb_c_make_start(struct handle *handle);
 int32_t cdb_c_make_put(struct handle *handle, uint32_t mode, const uint8_t *key, size_t klen,
                        const uint8_t *value, size_t vlen);
+int32_t cdb_c_make_append(struct handle *handle, const uint8_t *bytes, size_t size);
+uint64_t cdb_c_make_count(struct handle *handle);
 int32_t cdb_c_make_exists(struct handle *handle, const uint8_t *key, size_t klen);
 int32_t cdb_c_make_remove(struct handle *handle, const uint8_t *key, size_t klen);
 int32_t cdb_c_make_finish(struct handle *handle);
@@ -46,8 +58,14 @@ enum { TOO_BIG = -3, NO_MEMORY = -4 };
 
 #define HEAD_SIZE 2048
 #define PIECE_SIZE 65536
+#define GREATEST_SIZE 0xffffffff
+/* The lengths before a record, and the slots of one in its table. */
+#define LENGTHS_SIZE 8
+#define SLOTS_SIZE 16
 
-static struct handle *handle_of(struct cdb_make *m) { return (struct handle *)(void *)m->cdb_rec; }
+static struct kept *kept_of(struct cdb_make *m) { return (struct kept *)(void *)m->cdb_rec; }
+
+static struct handle *handle_of(struct cdb_make *m) { return &kept_of(m)->handle; }
 
 /* The bytes of a key or a value: a slice has no null address. */
 static const uint8_t *bytes_of(const void *b) { return b ? b : (const uint8_t *)""; }
@@ -71,30 +89,105 @@ int cdb_make_start(struct cdb_make *m, int fd)
    * behind the tables. */
   if ((flags & O_ACCMODE) == O_RDONLY) return errno = EBADF, -1;
   if (flags & O_APPEND) return errno = EINVAL, -1;
-  return answer(cdb_c_make_start(handle_of(m)), error_before);
+  int said = answer(cdb_c_make_start(handle_of(m)), error_before);
+  kept_of(m)->end = HEAD_SIZE;
+  kept_of(m)->is_adding = said == 0;
+  return said;
 }
 
-int cdb_make_put(struct cdb_make *m, const void *key, unsigned klen, const void *val,
-                 unsigned vlen, enum cdb_put_mode mode)
+/* How many bytes the record has that is in cdb_buf at a place. */
+static uint32_t size_at(const struct cdb_make *m, uint32_t place)
+{
+  const unsigned char *record = m->cdb_buf + place;
+  return LENGTHS_SIZE + cdb_unpack(record) + cdb_unpack(record + 4);
+}
+
+/* Takes out of cdb_buf the records that the maker has taken of them. */
+static void drop_taken(struct cdb_make *m)
+{
+  struct kept *k = kept_of(m);
+  uint64_t left = k->count - cdb_c_make_count(&k->handle), many = 0;
+  uint32_t place = 0;
+  for (uint32_t at = 0; at < k->held; at += size_at(m, at)) many++;
+  for (; many > left; many--) place += size_at(m, place);
+  k->held -= place;
+  memmove(m->cdb_buf, m->cdb_buf + place, k->held);
+}
+
+/* Hands the records in cdb_buf on: 0, or a fault, which leaves those there that the maker lacks. */
+static int32_t hand_on(struct cdb_make *m)
+{
+  struct kept *k = kept_of(m);
+  if (!k->held) return 0;
+  int32_t said = cdb_c_make_append(&k->handle, m->cdb_buf, k->held);
+  if (said < 0) drop_taken(m);
+  else k->held = 0;
+  return said;
+}
+
+/* Ends the adding, before another call: 0, or a fault. */
+static int32_t end_adding(struct cdb_make *m)
+{
+  int32_t said = hand_on(m);
+  if (said >= 0) kept_of(m)->is_adding = 0;
+  return said;
+}
+
+/* Puts a record by the maker. */
+static int put(struct cdb_make *m, const void *key, unsigned klen, const void *val, unsigned vlen,
+               uint32_t mode)
 {
   int error_before = errno;
-  if ((unsigned)mode > CDB_PUT_REPLACE0) return errno = EINVAL, -1;
-  int said = answer(cdb_c_make_put(handle_of(m), mode, bytes_of(key), klen, bytes_of(val), vlen),
-                    error_before);
+  int32_t said = end_adding(m);
+  if (said >= 0)
+    said = cdb_c_make_put(handle_of(m), mode, bytes_of(key), klen, bytes_of(val), vlen);
+  said = answer(said, error_before);
   if (said > 0 && mode == CDB_PUT_INSERT) errno = EEXIST;
   return said;
+}
+
+/* Puts a record together behind those in cdb_buf, where it has room. */
+static void compose(struct cdb_make *m, const void *key, unsigned klen, const void *val,
+                    unsigned vlen)
+{
+  struct kept *k = kept_of(m);
+  unsigned char *to = m->cdb_buf + k->held;
+  cdb_pack(klen, to);
+  cdb_pack(vlen, to + 4);
+  if (klen) memcpy(to + LENGTHS_SIZE, key, klen);
+  if (vlen) memcpy(to + LENGTHS_SIZE + klen, val, vlen);
+  k->held += LENGTHS_SIZE + klen + vlen;
+  k->end += LENGTHS_SIZE + klen + vlen;
+  k->count++;
 }
 
 int cdb_make_add(struct cdb_make *m, const void *key, unsigned klen, const void *val,
                  unsigned vlen)
 {
-  return cdb_make_put(m, key, klen, val, vlen, CDB_PUT_ADD);
+  struct kept *k = kept_of(m);
+  uint64_t size = LENGTHS_SIZE + (uint64_t)klen + vlen;
+  int error_before = errno;
+  if (!k->is_adding || size > sizeof m->cdb_buf) return put(m, key, klen, val, vlen, CDB_PUT_ADD);
+  if (k->end + size + SLOTS_SIZE * (k->count + 1) > GREATEST_SIZE) return answer(TOO_BIG, 0);
+  if (size > sizeof m->cdb_buf - k->held && answer(hand_on(m), error_before) < 0) return -1;
+  compose(m, key, klen, val, vlen);
+  return 0;
+}
+
+int cdb_make_put(struct cdb_make *m, const void *key, unsigned klen, const void *val,
+                 unsigned vlen, enum cdb_put_mode mode)
+{
+  if ((unsigned)mode > CDB_PUT_REPLACE0) return errno = EINVAL, -1;
+  if (mode == CDB_PUT_ADD) return cdb_make_add(m, key, klen, val, vlen);
+  return put(m, key, klen, val, vlen, mode);
 }
 
 int cdb_make_exists(struct cdb_make *m, const void *key, unsigned klen)
 {
   int error_before = errno;
-  return answer(cdb_c_make_exists(handle_of(m), bytes_of(key), klen), error_before);
+  int32_t said = end_adding(m);
+  if (said >= 0) said = cdb_c_make_exists(handle_of(m), bytes_of(key), klen);
+  return answer(said, error_before);
 }
 
 /* Another mode than these two only looks. */
@@ -102,7 +195,9 @@ int cdb_make_find(struct cdb_make *m, const void *key, unsigned klen, enum cdb_p
 {
   int error_before = errno;
   if (mode != CDB_FIND_REMOVE && mode != CDB_FIND_FILL0) return cdb_make_exists(m, key, klen);
-  return answer(cdb_c_make_remove(handle_of(m), bytes_of(key), klen), error_before);
+  int32_t said = end_adding(m);
+  if (said >= 0) said = cdb_c_make_remove(handle_of(m), bytes_of(key), klen);
+  return answer(said, error_before);
 }
 
 /* Writes bytes at a place of a file. */
@@ -152,9 +247,12 @@ static int write_file(struct handle *handle, int fd)
 int cdb_make_finish(struct cdb_make *m)
 {
   int error_before = errno;
-  int said = answer(cdb_c_make_finish(handle_of(m)), error_before);
+  int32_t handed = end_adding(m);
+  int said = answer(handed < 0 ? handed : cdb_c_make_finish(handle_of(m)), error_before);
   if (said == 0) said = write_file(handle_of(m), m->cdb_fd);
   int error = said < 0 ? errno : error_before;
   cdb_c_make_close(handle_of(m));
+  kept_of(m)->is_adding = 0;
+  kept_of(m)->held = 0;
   return errno = error, said;
 }

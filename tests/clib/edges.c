@@ -342,6 +342,32 @@ static void record_that_is_too_big(void)
   want(cdb_make_add(&m, "a", 1, "1", 1) == 0 && cdb_make_finish(&m) == 0, "the maker after it");
 }
 
+/* Two records that come to so many bytes, and what is found of them. */
+static void two_records_of(unsigned first, unsigned both)
+{
+  static char value[3 * 4096];
+  struct cdb_make m;
+  struct cdb c;
+  int fd = file_named("two");
+  unsigned second = both - first;
+  want(cdb_make_start(&m, fd) == 0 && cdb_make_add(&m, "a", 1, value, first - 9) == 0 &&
+       cdb_make_add(&m, "b", 1, value, second - 9) == 0 && cdb_make_finish(&m) == 0, "no two records");
+  want(cdb_init(&c, fd) == 0 && cdb_find(&c, "a", 1) == 1 && cdb_datalen(&c) == first - 9,
+       "the first of two records is another");
+  want(cdb_find(&c, "b", 1) == 1 && cdb_datalen(&c) == second - 9, "the second of two records is another");
+  cdb_free(&c);
+}
+
+static void records_that_fill_the_buffer(void)
+{
+  const unsigned room = sizeof(((struct cdb_make *)0)->cdb_buf);
+  for (unsigned both = room - 1; both <= room + 1; both++) {
+    two_records_of(4000, both);
+    two_records_of(9, 9 + both);
+    two_records_of(both, both + 9);
+  }
+}
+
 static void pieces_of_a_file(void)
 {
   static char value[4 * PIECE];
@@ -373,6 +399,7 @@ static const struct { void (*rows)(void); const char *name; } GROUPS[] = {
   { null_addresses, "null addresses" },
   { starts, "starts" },
   { record_that_is_too_big, "a record that is too big" },
+  { records_that_fill_the_buffer, "records that fill the buffer" },
   { pieces_of_a_file, "pieces of a file" },
 };
 

@@ -221,6 +221,13 @@ def refused_script():
     return script + [("find", 1, b"7"), ("exists", b"8"), ("finish",)]
 
 
+def added_script():
+    """A script that adds alone: small records, some that do not fit beside the others, and a large one."""
+    sizes = [10] * 300 + [1500] * 9 + [5000] + [10] * 300
+    script = [("add", b"%d" % (n % 70), b"v" * size) for n, size in enumerate(sizes)]
+    return [("start",), *script, ("finish",)]
+
+
 def follow(script, said, allowed):
     """What a script with refusals answered: calls that fail by an allowed number do nothing, the
     others are as ever. Answers the model, whether the file was finished, and what is wrong."""
@@ -236,13 +243,12 @@ def follow(script, said, allowed):
     return maker, refusals, None
 
 
-def fault_of(driver, old, done, allowed, may_do_without):
+def fault_of(driver, script, old, done, allowed, may_do_without):
     """What is wrong after a refusal, without which a call may do what it does."""
     if done.returncode:
         return f"status {done.returncode}"
     if done.stderr.split()[1] != b"0":
         return "memory is not freed"
-    script = refused_script()
     maker, refusals, fault = follow(script, split(done.stdout)[0], allowed)
     if fault:
         return fault
@@ -257,26 +263,33 @@ def fault_of(driver, old, done, allowed, may_do_without):
     return "a file that was not finished is a database" if is_database(file) else None
 
 
-def refuse_each(driver, allowed, many=LAST, olds=OLD_FILES, may_do_without=False, **refusing):
-    """Refuses each request of the script in turn: that one alone, and that one with so many more."""
+def refuse_each(driver, allowed, many=LAST, olds=OLD_FILES, may_do_without=False, script=None,
+                **refusing):
+    """Refuses each request of a script in turn: that one alone, and that one with so many more."""
+    script = script or refused_script()
     for old in olds:
-        driver.place([refused_script()], old or b"")
+        driver.place([script], old or b"")
         counted = int(driver.run(**refusing).stderr.split()[0])
         if counted < 4:
             return f"only {counted} requests were counted"
         for first in range(1, counted + 1):
             for last in (first, first + many):
-                driver.place([refused_script()], old or b"")
+                driver.place([script], old or b"")
                 done = driver.run(first=first, last=last, **refusing)
-                fault = fault_of(driver, old or b"", done, allowed, may_do_without)
+                fault = fault_of(driver, script, old or b"", done, allowed, may_do_without)
                 if fault:
                     return f"request {first} to {last} of {counted}: {fault}"
     return None
 
 
 def refuse_memory(driver):
-    """Each request for memory."""
-    return refuse_each(driver, [errno.ENOMEM], olds=OLD_FILES[1:2], may_do_without=True)
+    """Each request for memory, of a script of all calls and of one that adds alone."""
+    for script in (refused_script(), added_script()):
+        fault = refuse_each(driver, [errno.ENOMEM], olds=OLD_FILES[1:2], may_do_without=True,
+                            script=script)
+        if fault:
+            return fault
+    return None
 
 
 def refuse_calls(driver):

@@ -1,14 +1,18 @@
 /* Stops the program if the C of clib/ calls an export otherwise than its contract requires.
  *
  * The linker puts each __wrap_ function before the export of its name. Addresses are not null, a file
- * has at least a head and less than 4 GiB, and what an export writes lies outside the file.
+ * has at least a head and less than 4 GiB, and what an export writes lies outside the file. Records that
+ * are appended are whole.
  */
+#include <cdb.h>
 #include <limits.h>
 #include <stdint.h>
 #include <stdio.h>
 #include <stdlib.h>
 
 #define HEAD 2048
+/* How many bytes a maker puts together. */
+#define BUFFER sizeof(((struct cdb_make *)0)->cdb_buf)
 
 static void need(int holds, const char *export)
 {
@@ -84,6 +88,30 @@ EXPORT(int32_t, cdb_c_make_put, (void *handle, uint32_t mode, const uint8_t *key
 {
   need(handle && key && value, "cdb_c_make_put");
   return __real_cdb_c_make_put(handle, mode, key, klen, value, vlen);
+}
+
+/* Where the whole records at the start of some bytes end. */
+static size_t records_end(const uint8_t *bytes, size_t size)
+{
+  size_t end = 0;
+  while (size - end >= 8) {
+    uint64_t record = 8 + (uint64_t)cdb_unpack(bytes + end) + cdb_unpack(bytes + end + 4);
+    if (record > size - end) break;
+    end += record;
+  }
+  return end;
+}
+
+EXPORT(int32_t, cdb_c_make_append, (void *handle, const uint8_t *bytes, size_t size))
+{
+  need(handle && bytes && size <= BUFFER && records_end(bytes, size) == size, "cdb_c_make_append");
+  return __real_cdb_c_make_append(handle, bytes, size);
+}
+
+EXPORT(uint64_t, cdb_c_make_count, (void *handle))
+{
+  need(handle != NULL, "cdb_c_make_count");
+  return __real_cdb_c_make_count(handle);
 }
 
 EXPORT(int32_t, cdb_c_make_exists, (void *handle, const uint8_t *key, size_t klen))
