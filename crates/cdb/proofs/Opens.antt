@@ -4,8 +4,7 @@ use Rattle.std.proofs.lemmas.List.{map_push, take_more, take-append-drop, map-ap
 use Rattle.std.specs.Prelude.{OnOk}
 use Rattle.cdb_files.specs.Folder.{NameCalls}
 use Rattle.cdb_tool.specs.declared.inputs.Turn.{Turn}
-use Rattle.cdb_files.specs.declared.name_trace.NameCall.TheVariants as name_call
-use Rattle.cdb.specs.Creating.{AsksEach, AsksOne, FindsInput}
+use Rattle.cdb.specs.Creating.{AsksEach, AsksOne, FindsInput, MayBeOne}
 use Rattle.cdb.specs.Inputs.{IsStandard, OpensInput, OpensEach, StopsOpening, MissesInput}
 use Rattle.cdb.specs.Opening.{OpenCalls}
 use Rattle.cdb.specs.declared.system.System.{Ghosts as Systems}
@@ -27,8 +26,8 @@ asks_more name [] file was mid now e one = (now, subst (λ v. AsksOne name file 
 asks_more name (f ∷ files) file was mid now e one = (e.0, e.1, asks_more name files file e.0 mid now e.2 one)
 
 -- it is the file after them
-pub finds_more : (name : List ℕ) (files : List (List ℕ)) (file : List ℕ) (more : List (List ℕ)) (was mid now : NameCalls) → AsksEach name files was mid → (IsStandard file → ⊥) → now ≡ (name_call.One, name, file, []) ∷ mid → FindsInput name (files ++ file ∷ more) was now
-finds_more name [] file more was mid now e other is = inl (other, subst (λ v. now ≡ (name_call.One, name, file, []) ∷ v) e is)
+pub finds_more : (name : List ℕ) (files : List (List ℕ)) (file : List ℕ) (more : List (List ℕ)) (was mid now : NameCalls) → AsksEach name files was mid → (IsStandard file → ⊥) → MayBeOne name file mid now → FindsInput name (files ++ file ∷ more) was now
+finds_more name [] file more was mid now e other is = inl (other, subst (λ v. MayBeOne name file v now) e is)
 finds_more name (f ∷ files) file more was mid now e other is = inr (e.0, e.1, finds_more name files file more e.0 mid now e.2 other is)
 
 -- ---- the first names, and one more

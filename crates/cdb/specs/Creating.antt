@@ -1,16 +1,19 @@
 -- What a create makes of what it reads, and under which names. The newest call comes first.
-use Rattle.std.specs.Prelude.{ℕ, ◌≡◌, ◌⊎◌, List, [], ◌∷◌, ◌++◌, map, Option, Some, None, Result}
+use Rattle.std.specs.Prelude.{ℕ, ◌≡◌, ◌≢◌, ◌<◌, ◌⊎◌, IsOk, List, [], ◌∷◌, ◌++◌, map, Option, Some, None, Result}
 use Rattle.std.specs.Prelude.{Ok, Err, OnOk, IfErr, codes}
 use Rattle.std.specs.Io.KnownBytes.{Keeps, Appends}
 use Rattle.cdb_command.specs.declared.options.MakeOptions.{MakeOptions}
 use Rattle.cdb_files.specs.Folder.{NameCalls}
 use Rattle.cdb_files.specs.Replacing.{AreOfReplacing, AtEachMoment, EndsIn, IsRenamed, LeavesNew}
 use Rattle.cdb_files.specs.Replacing.{LeavesOldOrNew, Tells}
+use Rattle.cdb_files.specs.declared.answer.Answer.{Answer}
+use Rattle.cdb_files.specs.declared.answer.Answer.TheVariants as looks
 use Rattle.cdb_files.specs.declared.name_trace.NameCall.TheVariants as name_call
 use Rattle.cdb_files.specs.declared.replace.ReplaceFault.{ReplaceFault}
 use Rattle.cdb_files.specs.declared.replace.ReplaceFault.TheVariants as replace
 use Rattle.cdb_form.specs.Views.KnownBytes.{AppendsPrefix}
 use Rattle.cdb_store.specs.Contents.{contents}
+use Rattle.cdb_store.specs.Images.{SameImages}
 use Rattle.cdb_store.specs.contracts.memory.MemStoreStore.TheImpl.{ghosts as in_memory}
 use Rattle.cdb_store.specs.declared.memory.MemStore.{MemStore}
 use Rattle.cdb_store.specs.declared.raw.RawFile.{Ghosts as Raw}
@@ -20,6 +23,8 @@ use Rattle.cdb_tool.specs.Runs.Inputs.{InputsLeft}
 use Rattle.cdb_tool.specs.Runs.Make.{HandsBack, Makes, OfBase, Runs}
 use Rattle.cdb_tool.specs.declared.fault.Fault.{Fault}
 use Rattle.cdb_tool.specs.declared.fault.Fault.TheVariants.{Open, NoMemory, Output, Rename}
+use Rattle.cdb_tool.specs.declared.fault.Fault.TheVariants.{Make}
+use Rattle.cdb_make.specs.declared.fault.MakeFault.TheVariants.{Writing}
 use Rattle.cdb_tool.specs.declared.inputs.Turn.{Turn}
 use Rattle.cdb_tool.specs.Views.Inputs.{one_of}
 use Rattle.cdb.specs.Inputs.{IsStandard, MissesBase, OpensBase, OpensInputs, StopsOpening}
@@ -94,7 +99,7 @@ pub record MakesOnOutput {F : Type 0} (f : Ghosts F) (m : Making F)
 abbrev pub AsksOne : (name file : List ℕ) → (was now : NameCalls) → Type 0
 AsksOne name file was now =
     (IsStandard file × (now ≡ was))
-    ⊎ ((IsStandard file → ⊥) × (now ≡ (name_call.Apart, name, file, []) ∷ was))
+    ⊎ ((IsStandard file → ⊥) × (now ≡ (name_call.Same looks.No, name, file, []) ∷ was))
 
 -- of each input
 abbrev pub AsksEach : (name : List ℕ) → (files : List (List ℕ)) → (was now : NameCalls) → Type 0
@@ -104,26 +109,31 @@ AsksEach name (file ∷ files) was now =
 
 abbrev pub AsksBase : (name : List ℕ) → Option (List ℕ) → (was now : NameCalls) → Type 0
 AsksBase name None was now = now ≡ was
-AsksBase name (Some file) was now = now ≡ (name_call.Apart, name, file, []) ∷ was
+AsksBase name (Some file) was now = now ≡ (name_call.Same looks.No, name, file, []) ∷ was
 
--- of each file that is read, and no answer was yes
+-- of each file that is read, and each answer was no
 abbrev pub AsksAll : (name : List ℕ) → (base : Option (List ℕ)) → (inputs : List (List ℕ))
     → (was now : NameCalls) → Type 0
 AsksAll name base inputs was now =
     (mid : NameCalls) × AsksBase name base was mid × AsksEach name inputs mid now
 
--- an input is it, and those before it are not, as was asked of each
+-- a file may be it, as was asked: it is, or the system did not say
+abbrev pub MayBeOne : (name file : List ℕ) → (was now : NameCalls) → Type 0
+MayBeOne name file was now =
+    (said : Answer) × (said ≢ looks.No) × (now ≡ (name_call.Same said, name, file, []) ∷ was)
+
+-- an input may be it, and those before it are not, as was asked of each
 abbrev pub FindsInput : (name : List ℕ) → (files : List (List ℕ)) → (was now : NameCalls) → Type 0
 FindsInput name [] was now = ⊥
 FindsInput name (file ∷ files) was now =
-    ((IsStandard file → ⊥) × (now ≡ (name_call.One, name, file, []) ∷ was))
+    ((IsStandard file → ⊥) × MayBeOne name file was now)
     ⊎ ((mid : NameCalls) × AsksOne name file was mid × FindsInput name files mid now)
 
 abbrev pub FindsBase : (name : List ℕ) → Option (List ℕ) → (was now : NameCalls) → Type 0
 FindsBase name None was now = ⊥
-FindsBase name (Some file) was now = now ≡ (name_call.One, name, file, []) ∷ was
+FindsBase name (Some file) was now = MayBeOne name file was now
 
--- the base is it; or an input is, and nothing before that is
+-- the base may be it; or an input may, and nothing before that is it
 abbrev pub FindsOne : (name : List ℕ) → (base : Option (List ℕ)) → (inputs : List (List ℕ))
     → (was now : NameCalls) → Type 0
 FindsOne name base inputs was now =
@@ -132,6 +142,14 @@ FindsOne name base inputs was now =
 
 -- ---- in place
 
+-- a store was flushed after a run that succeeded; a flush that fails is a fault of writing
+pub record Syncs {M : Type 0} (s : Ghosts M) (built left : M) (made result : Result Unit Fault)
+    : Type 0 where
+  pub same : SameImages (s.image built) (s.image left)
+  pub answered : (result ≡ made)
+      ⊎ (IsOk made × (result ≡ Err (Make Writing)) × (s.failures built < s.failures left))
+  pub settled : OnOk result (s.settled left)
+
 -- the file of the name was not opened; or it was emptied, a run was made in it, and it has the
 -- database if the create succeeds
 abbrev pub Empties : {F I M Y : Type 0} → Systems Y F I M → Ghosts F → Ghosts M → Making F
@@ -139,10 +157,11 @@ abbrev pub Empties : {F I M Y : Type 0} → Systems Y F I M → Ghosts F → Gho
 Empties {M = M} y f s m name told said result =
     ((fault : Fault) × IsUnopened fault × (result ≡ Err fault) × Keeps told said)
     ⊎ ((store : M) × y.makes name store
-    × ((left : M) × IsBufferedRun f m (s.image left) told said result
-    × OnOk result (s.settled left × HasDatabase f m (s.image left))))
+    × ((built : M) × (left : M) × (made : Result Unit Fault)
+    × IsBufferedRun f m (s.image built) told said made × Syncs s built left made result
+    × OnOk result (HasDatabase f m (s.image left))))
 
--- a file that is read is the one of the name; or none is, as was asked of each, and it is emptied
+-- a file that is read may be the one of the name; or none is, as was asked of each, and it is emptied
 abbrev pub MakesInPlace : {F I M Y : Type 0} → Systems Y F I M → Ghosts F → Ghosts M → Making F
     → (name : List ℕ) → (base : Option (List ℕ)) → (inputs : List (List ℕ)) → (old new : OpenCalls)
     → (was now : NameCalls) → (told said : Option (List ℕ)) → Result Unit Fault → Type 0
@@ -157,6 +176,7 @@ MakesInPlace y f s m name base inputs old new was now told said result =
 abbrev pub fault_of : ReplaceFault Fault → Fault
 fault_of replace.Open = Open
 fault_of replace.NoMemory = NoMemory
+fault_of replace.Write = Make Writing
 fault_of replace.Rename = Rename
 fault_of (replace.Build fault) = fault
 
@@ -179,7 +199,7 @@ pub record Replaces {F R : Type 0} (f : Ghosts F) (r : Raw R) (m : Making F)
   pub lines : Tells r (λ before after images made. IsBufferedRun f m images before after made)
       temporary name old new told said answer
 
--- a file that is read has the temporary name; or none has, as was asked of each
+-- a file that is read may have the temporary name; or none has, as was asked of each
 abbrev pub MakesApart : {F R : Type 0} → Ghosts F → Raw R → Making F → (temporary name : List ℕ)
     → (base : Option (List ℕ)) → (inputs : List (List ℕ)) → (old new : NameCalls)
     → (told said : Option (List ℕ)) → Result Unit Fault → Type 0

@@ -26,6 +26,7 @@ use Rattle.cdb_tool.specs.Status.{exit_status}
 use Rattle.cdb_tool.specs.declared.fault.Fault.{Fault}
 use Rattle.cdb_tool.specs.declared.fault.Fault.TheVariants.{Output}
 use Rattle.cdb_files.specs.Folder.{NameCalls}
+use Rattle.cdb_files.specs.declared.answer.Answer.TheVariants as looks
 use Rattle.cdb.specs.Creating.{Creates}
 use Rattle.cdb.specs.Opening.{IsUnopened}
 use Rattle.cdb.specs.declared.open_trace.OpenCall.TheVariants.{AtPlaces, InTurn, Stream}
@@ -134,16 +135,17 @@ pub record OfStream {F I M Y : Type 0} (remaining : I → Option (List ℕ)) (y 
   pub came : y.reads name file
   pub takes : Takes most (remaining file) start end result done
 
--- that file alone is opened, once it was seen whether it is a stream; or none, if standard input is
--- read
+-- that file alone is opened, once it was seen whether it is a stream; or none, if the system did not
+-- say, or if standard input is read
 abbrev pub PerformsOn : {F I M Y : Type 0} → Ghosts F → (I → Option (List ℕ)) → Systems Y F I M
     → (most : ℕ) → (name : Option (List ℕ)) → (input : Option (List ℕ)) → (old new : Y)
     → (start end : Option (List ℕ)) → Result Unit Fault → (F → Type 0) → (MemStore → Type 0) → Type 0
 PerformsOn s remaining y most (Some name) input old new start end result file taken =
-    ((y.calls new ≡ (AtPlaces, name) ∷ (Stream false, name) ∷ y.calls old)
+    ((y.calls new ≡ (AtPlaces, name) ∷ (Stream looks.No, name) ∷ y.calls old)
     × (Refuses start end result ⊎ OfFile y name file))
-    ⊎ ((y.calls new ≡ (InTurn, name) ∷ (Stream true, name) ∷ y.calls old)
+    ⊎ ((y.calls new ≡ (InTurn, name) ∷ (Stream looks.Yes, name) ∷ y.calls old)
     × (Refuses start end result ⊎ OfStream remaining y name most start end result taken))
+    ⊎ ((y.calls new ≡ (Stream looks.Unknown, name) ∷ y.calls old) × Refuses start end result)
 PerformsOn s remaining y most None input old new start end result file taken =
     (new ≡ old) × Takes most input start end result taken
 

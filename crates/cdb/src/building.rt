@@ -3,7 +3,7 @@ ghost use Rattle.cdb.specs.Creating.{IsBufferedRun, IsDatabase, MakesIn};
 ghost use Rattle.cdb.specs.Contents.{making_of};
 
 use crate::contents::Contents;
-use cdb_files::Builder;
+use cdb_files::{Builder, Unsynced};
 use cdb_form::{PIPE, Width};
 use cdb_store::{BufferedStore, Store};
 use cdb_tool::{Fault, make_run_from};
@@ -76,14 +76,14 @@ where
             contents,
             ..
         } = self;
-        match BufferedStore::new(alloc, store, PIPE) {
+        match BufferedStore::new(alloc, Unsynced::over(store), PIPE) {
             Ok(buffered) => {
-                let (buffered, made) = make_in::<L, BufferedStore<S>, F, J, I, E>(
+                let (buffered, made) = make_in::<L, BufferedStore<Unsynced<S>>, F, J, I, E>(
                     alloc, buffered, contents, errors,
                 );
-                (buffered.discard(), made)
+                (buffered.discard().into_inner(), made)
             }
-            Err(failed) => (failed.value, Err(Fault::NoMemory)),
+            Err(failed) => (failed.value.into_inner(), Err(Fault::NoMemory)),
         }
     }
 }

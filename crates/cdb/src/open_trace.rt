@@ -3,6 +3,7 @@ ghost use Rattle.std.specs.Prelude.{◌≡◌, List, ℕ, [], ◌∷◌};
 ghost use Rattle.std.specs.Borrow.{ftrue};
 ghost use Rattle.cdb.specs.declared.open_trace.OpenCall.{OpenCall};
 
+use cdb_files::Answer;
 use std::marker::{Model, PhantomData};
 
 /// A call on the file of a name.
@@ -12,8 +13,8 @@ pub(crate) enum OpenCall {
     AtPlaces,
     /// It was opened, to be read from its start on.
     InTurn,
-    /// It is a stream, a pipe or a device, or it is not.
-    Stream(bool),
+    /// Whether it is a stream: a pipe or a device.
+    Stream(Answer),
     /// It was emptied or made, to be written.
     Emptied,
 }

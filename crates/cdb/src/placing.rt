@@ -1,10 +1,11 @@
 // A database made under its name: in place, or in a temporary file that replaces it.
 ghost use Rattle.std.specs.Prelude.{◌≡◌, ◌∷◌, [], true, false, map, option_map, string_bytes};
-ghost use Rattle.cdb_files.specs.declared.name_trace.NameCall.TheVariants.{One};
 ghost use Rattle.cdb.specs.Creating.{AsksAll, AsksBase, AsksEach, AsksOne};
-ghost use Rattle.cdb.specs.Creating.{FindsBase, FindsInput, FindsOne};
+ghost use Rattle.cdb.specs.Creating.{FindsBase, FindsInput, FindsOne, MayBeOne};
 ghost use Rattle.cdb.specs.Inputs.{IsStandard};
-ghost use Rattle.cdb.specs.Creating.{MakesApart, MakesInPlace, answer_of};
+ghost use Rattle.cdb.specs.Creating.{MakesApart, MakesInPlace, Syncs, answer_of};
+ghost use Rattle.cdb_files.specs.declared.answer.Answer.TheVariants.{No};
+ghost use Rattle.cdb_files.specs.declared.name_trace.NameCall.TheVariants.{Same};
 ghost use Rattle.cdb.specs.Contents.{making_of};
 
 use crate::building::Building;
@@ -12,57 +13,72 @@ use crate::contents::Contents;
 use crate::creating::Creation;
 use crate::inputs::is_standard;
 use crate::system::System;
-use cdb_files::{Builder, Names, ReplaceFault, replace_file};
+use cdb_files::{Answer, Builder, Names, ReplaceFault, replace_file};
 use cdb_form::Width;
+use cdb_make::MakeFault;
 use cdb_store::Store;
 use cdb_tool::Fault;
 use std::alloc::Global;
 use std::io::{Read, Write};
 use std::marker::PhantomData;
 
-/// Whether an input is the file of this name, which is not followed as a link.
-fn is_input<N: Names>(names: &mut N, name: &str, input: &str) -> bool
+/// Whether a file that is read may be the one of this name, which is not followed as a link: it is, or
+/// the system did not say.
+fn may_be_one<N: Names>(names: &mut N, name: &str, file: &str) -> bool
+    ensures other { result ≡ false
+        → N.calls names.new ≡ (Same No, name.now, file.now, []) ∷ N.calls names.old }
+    ensures found { result ≡ true → MayBeOne name.now file.now
+        (N.calls names.old) (N.calls names.new) }
+{
+    match names.is_file_of(name, file) {
+        Answer::No => false,
+        Answer::Yes | Answer::Unknown => true,
+    }
+}
+
+/// Whether an input may be, unless it is standard input.
+fn may_be_input<N: Names>(names: &mut N, name: &str, input: &str) -> bool
     ensures other { result ≡ false → AsksOne name.now input.now
         (N.calls names.old) (N.calls names.new) }
     ensures found { result ≡ true → (IsStandard input.now → ⊥)
-        × (N.calls names.new ≡ (One, name.now, input.now, []) ∷ N.calls names.old) }
+        × MayBeOne name.now input.now (N.calls names.old) (N.calls names.new) }
 {
     if is_standard(input) {
         return false;
     }
-    names.is_file_of(name, input)
+    may_be_one(names, name, input)
 }
 
-/// Whether one of the inputs is.
-fn is_one_of_inputs<N: Names>(names: &mut N, name: &str, inputs: &[String]) -> bool
+/// Whether one of the inputs may be.
+fn may_be_one_of_inputs<N: Names>(names: &mut N, name: &str, inputs: &[String]) -> bool
     ensures others { result ≡ false → AsksEach name.now (map string_bytes inputs.now)
         (N.calls names.old) (N.calls names.new) }
     ensures found { result ≡ true → FindsInput name.now (map string_bytes inputs.now)
         (N.calls names.old) (N.calls names.new) }
 {
     for input in inputs {
-        if is_input(names, name, input.as_str()) {
+        if may_be_input(names, name, input.as_str()) {
             return true;
         }
     }
     false
 }
 
-/// Whether the base is.
-fn is_base<N: Names>(names: &mut N, name: &str, base: &Option<String>) -> bool
+/// Whether the base may be.
+fn may_be_base<N: Names>(names: &mut N, name: &str, base: &Option<String>) -> bool
     ensures other { result ≡ false → AsksBase name.now (option_map string_bytes base.now)
         (N.calls names.old) (N.calls names.new) }
     ensures found { result ≡ true → FindsBase name.now (option_map string_bytes base.now)
         (N.calls names.old) (N.calls names.new) }
 {
     match base {
-        Some(base) => names.is_file_of(name, base.as_str()),
+        Some(base) => may_be_one(names, name, base.as_str()),
         None => false,
     }
 }
 
-/// Whether a file that is read is the one of this name, which is not followed as a link.
-fn is_read<N: Names>(names: &mut N, name: &str, creation: Creation<'_>) -> bool
+/// Whether the base or an input may be the file of this name, which is not followed as a link.
+fn may_be_read<N: Names>(names: &mut N, name: &str, creation: Creation<'_>) -> bool
     ensures others { result ≡ false → AsksAll name.now
         (option_map string_bytes creation.entry.base.now) (map string_bytes creation.entry.inputs.now)
         (N.calls names.old) (N.calls names.new) }
@@ -70,16 +86,16 @@ fn is_read<N: Names>(names: &mut N, name: &str, creation: Creation<'_>) -> bool
         (option_map string_bytes creation.entry.base.now) (map string_bytes creation.entry.inputs.now)
         (N.calls names.old) (N.calls names.new) }
 {
-    if is_base(names, name, creation.base) {
+    if may_be_base(names, name, creation.base) {
         return true;
     }
-    is_one_of_inputs(names, name, creation.inputs)
+    may_be_one_of_inputs(names, name, creation.inputs)
 }
 
 /// Makes it in the file of its name, which is emptied first.
 ///
-/// `Open`: the base or an input is that file, and would be lost; or the name is that of a link, or the
-/// file cannot be opened.
+/// `Open`: the base or an input is that file, and would be lost, or the system did not say whether it
+/// is; or the name is that of a link, or the file cannot be opened.
 #[inline(never)]
 pub(crate) fn make_in_place<L, F, J, M, Y, N, I, E>(
     alloc: Global,
@@ -105,7 +121,7 @@ where
         (Y.calls system.old) (Y.calls system.new) (N.calls names.old) (N.calls names.new)
         (E.contents errors.old) (E.contents errors.new) result }
 {
-    if is_read(names, creation.name, creation) {
+    if may_be_read(names, creation.name, creation) {
         return Err(Fault::Open);
     }
     let store = system.empty(creation.name)?;
@@ -114,12 +130,25 @@ where
         contents,
         errors: PhantomData,
     };
-    building.build(store, errors).1
+    let (mut store, built) = building.build(store, errors);
+    synced(&mut store, built)
+}
+
+/// What building a database in a store comes to once the store is flushed, unless it failed.
+fn synced<S: Store>(store: &mut S, built: Result<(), Fault>) -> Result<(), Fault>
+    ensures { Syncs S.Store store.old store.new built result }
+{
+    built?;
+    match store.flush() {
+        Ok(()) => Ok(()),
+        Err(_) => Err(Fault::Make(MakeFault::Writing)),
+    }
 }
 
 /// Makes it in a temporary file, which replaces the database once it is whole.
 ///
-/// If the temporary name refers to the base or to an input, nothing is removed and the call fails.
+/// If the temporary name refers to the base or to an input, or the system did not say whether it does,
+/// nothing is removed and the call fails.
 #[inline(never)]
 pub(crate) fn replace_database<L, F, J, N, I, E>(
     alloc: Global,
@@ -142,7 +171,7 @@ where
         (map string_bytes creation.entry.inputs.now) (N.calls names.old) (N.calls names.new)
         (E.contents errors.old) (E.contents errors.new) result }
 {
-    if is_read(names, temporary, creation) {
+    if may_be_read(names, temporary, creation) {
         return Err(Fault::Open);
     }
     let building = Building::<L, F, J, I, E> {
@@ -168,6 +197,7 @@ fn answer_to_program(answer: Result<(), ReplaceFault<Fault>>) -> Result<(), Faul
         Ok(()) => Ok(()),
         Err(ReplaceFault::Open) => Err(Fault::Open),
         Err(ReplaceFault::NoMemory) => Err(Fault::NoMemory),
+        Err(ReplaceFault::Write) => Err(Fault::Make(MakeFault::Writing)),
         Err(ReplaceFault::Rename) => Err(Fault::Rename),
         Err(ReplaceFault::Build(fault)) => Err(fault),
     }

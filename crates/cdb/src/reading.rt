@@ -9,6 +9,7 @@ ghost use Rattle.cdb.specs.Performs.{PerformsQuery, PerformsText, PerformsOn, Re
 ghost use Rattle.cdb.specs.Performs.{Takes, TellsStore, ChecksStore};
 
 use crate::system::System;
+use cdb_files::Answer;
 use cdb_form::{PIPE, Width};
 use cdb_store::{MemStore, Store};
 use cdb_tool::{
@@ -138,16 +139,19 @@ where
         (TellsStore L.WORD (O.contents output.old) (O.contents output.new) result F.Store)
         (TellsStore L.WORD (O.contents output.old) (O.contents output.new) result in_memory) }
 {
-    match name {
-        Some(name) if system.is_stream(name.as_str()) => {
+    let Some(name) = name else {
+        return stats_of_stream::<L, I, O>(alloc, input, output);
+    };
+    match system.is_stream(name.as_str()) {
+        Answer::Yes => {
             let file = system.open(name.as_str())?;
             stats_of_stream::<L, J, O>(alloc, file, output)
         }
-        Some(name) => {
+        Answer::No => {
             let store = system.open_store(name.as_str())?;
             stats_run::<L, F, O>(store, output).1
         }
-        None => stats_of_stream::<L, I, O>(alloc, input, output),
+        Answer::Unknown => Err(Fault::Open),
     }
 }
 
@@ -180,15 +184,18 @@ where
         result (ChecksStore L.WORD known known result F.Store)
         (ChecksStore L.WORD known known result in_memory) }
 {
-    match name {
-        Some(name) if system.is_stream(name.as_str()) => {
+    let Some(name) = name else {
+        return check_of_stream::<L, I>(alloc, input);
+    };
+    match system.is_stream(name.as_str()) {
+        Answer::Yes => {
             let file = system.open(name.as_str())?;
             check_of_stream::<L, J>(alloc, file)
         }
-        Some(name) => {
+        Answer::No => {
             let store = system.open_store(name.as_str())?;
             check_run::<L, F>(alloc, store).1
         }
-        None => check_of_stream::<L, I>(alloc, input),
+        Answer::Unknown => Err(Fault::Open),
     }
 }

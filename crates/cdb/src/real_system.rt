@@ -4,6 +4,7 @@ ghost use Rattle.cdb.specs.Opening.{IsUnopened};
 
 use crate::open_trace::{OpenCall, OpenTrace};
 use crate::system::System;
+use cdb_files::Answer;
 use cdb_store::{FileStore, StoreFault};
 use cdb_tool::Fault;
 use std::fs::{self, File, Metadata};
@@ -55,7 +56,7 @@ impl<'a, R: Files<File = File>> System<FileStore, File, FileStore> for RealSyste
 
     fn open_store(&mut self, name: &str) -> Result<FileStore, Fault> {
         self.trace.note(&OpenCall::AtPlaces, name.as_bytes());
-        if is_stream(self.rt, name) {
+        if is_stream(self.rt, name) != Answer::No {
             return Err(Fault::Open);
         }
         FileStore::open(self.rt, name).map_err(store_fault)
@@ -71,7 +72,7 @@ impl<'a, R: Files<File = File>> System<FileStore, File, FileStore> for RealSyste
         }
     }
 
-    fn is_stream(&mut self, name: &str) -> bool {
+    fn is_stream(&mut self, name: &str) -> Answer {
         let is = is_stream(self.rt, name);
         self.trace.note(&OpenCall::Stream(is), name.as_bytes());
         is
@@ -93,10 +94,13 @@ fn store_fault(fault: StoreFault) -> Fault
     }
 }
 
-/// Whether a name is that of a pipe or a device, which is read from its start to its end alone.
-fn is_stream<R: Files<File = File>>(rt: &R, name: &str) -> bool {
+/// Whether a name is that of a pipe or a device, which is read from its start to its end alone. A name
+/// that nothing has is not.
+fn is_stream<R: Files<File = File>>(rt: &R, name: &str) -> Answer {
     match fs::metadata(rt, name) {
-        Ok(found) => !found.is_file() && !found.is_dir(),
-        Err(_) => false,
+        Ok(found) if !found.is_file() && !found.is_dir() => Answer::Yes,
+        Ok(_) => Answer::No,
+        Err(error) if error.kind() == ErrorKind::NotFound => Answer::No,
+        Err(_) => Answer::Unknown,
     }
 }

@@ -4,6 +4,7 @@ ghost use Rattle.cdb.specs.Opening.{OpenCalls, IsUnopened};
 ghost use Rattle.cdb.specs.declared.open_trace.OpenCall.TheVariants.{AtPlaces, InTurn, Stream};
 ghost use Rattle.cdb.specs.declared.open_trace.OpenCall.TheVariants.{Emptied};
 
+use cdb_files::Answer;
 use cdb_store::Store;
 use cdb_tool::Fault;
 use std::io::Read;
@@ -37,7 +38,7 @@ pub(crate) trait System<F: Store, I: Read, M: Store> {
         ensures fails { IfErr result IsUnopened };
 
     /// Whether a name is that of a pipe or a device, which is read from its start to its end alone.
-    fn is_stream(&mut self, name: &str) -> bool
+    fn is_stream(&mut self, name: &str) -> Answer
         ensures calls { calls self.new ≡ (Stream result, name.now) ∷ calls self.old };
 
     /// Empties the file of a name, or makes one, to be read and written at places. `Open`: it cannot

@@ -1,3 +1,4 @@
 mod Replacing
 mod Failing
 mod Locking
+mod Stops

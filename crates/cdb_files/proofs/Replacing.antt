@@ -4,23 +4,25 @@ use Rattle.std.specs.List.{AllByRecursion}
 use Rattle.std.proofs.lemmas.Bool.{false≢true}
 use Rattle.cdb_store.specs.Calls.{Calls, IsSynced, FileImage}
 use Rattle.cdb_files.specs.declared.name_trace.NameCall.{NameCall}
-use Rattle.cdb_files.specs.declared.name_trace.NameCall.TheVariants.{Special, One, Apart, Free, Held, Made, NotMade, Allowed, NotAllowed}
+use Rattle.cdb_files.specs.declared.name_trace.NameCall.TheVariants.{Special, Same, Looked, Opened, NotOpened, Made, NotMade, Locked, Own, Bits, Allowed, NotAllowed}
 use Rattle.cdb_files.specs.declared.name_trace.NameCall.TheVariants.{Removed, NotRemoved, Renamed, NotRenamed, Synced, NotSynced}
-use Rattle.cdb_files.specs.Folder.{NameCalls, IsRemoval, IsCleared, MayHave, Has, LeavesFile, AreApart}
-use Rattle.cdb_files.specs.Replacing.{IsReady, IsOfReplacing, AreOfReplacing, AtEach, AtEachMoment, IsNew, IsTrueOf, LeavesOldOrNew, LeavesNew}
+use Rattle.cdb_files.specs.Folder.{NameCalls, IsRemoval, IsCleared, MayHave, Has, LeavesFile, AreApart, MayRemove, IsGuarded, EachIsGuarded, AreGuarded}
+use Rattle.cdb_files.specs.Replacing.{NameEvent, IsReady, IsOfReplacing, AreOfReplacing, EachIsStep, AreSteps, AtEach, AtEachMoment, IsNew, IsTrueOf, LeavesOldOrNew, LeavesNew}
 
--- one call
-abbrev pub NameEvent : Type 0
-NameEvent = NameCall × List ℕ × List ℕ × Calls
+-- ---- steps
 
-pub none_yet : {t n : List ℕ} {whole : List ℕ → Type 0} (calls : NameCalls) → AreOfReplacing t n whole calls calls
-none_yet calls = record { since = []; calls = refl; each = tt }
+pub no_step : {t n : List ℕ} {whole : List ℕ → Type 0} (calls : NameCalls) → AreSteps t n whole calls calls
+no_step calls = record { since = []; calls = refl; each = tt }
 
-pub one_more : {t n : List ℕ} {whole : List ℕ → Type 0} {old mid : NameCalls} (new : NameCalls) (call : NameEvent)
-    → AreOfReplacing t n whole old mid → new ≡ call ∷ mid → IsOfReplacing t n whole call
-    → AreOfReplacing t n whole old new
-one_more new call are is may =
-    record { since = call ∷ are.since; calls = is ∙ ap (λ cs. call ∷ cs) are.calls; each = (may, are.each) }
+pub step : {t n : List ℕ} {whole : List ℕ → Type 0} {old mid : NameCalls} (new : NameCalls) (call : NameEvent)
+    → AreSteps t n whole old mid → new ≡ call ∷ mid → IsOfReplacing t n whole call → IsGuarded n call mid
+    → AreSteps t n whole old new
+step {n = n} new call are is may guarded =
+    record {
+      since = call ∷ are.since;
+      calls = is ∙ ap (λ cs. call ∷ cs) are.calls;
+      each = (may, subst (λ (cs : NameCalls). IsGuarded n call cs) are.calls guarded, are.each);
+    }
 
 -- the same of a file known by its length and its calls
 pub of_file : {P : List ℕ → Type 0} (len n : ℕ) (calls file : Calls) → n ≡ len → file ≡ calls
@@ -38,39 +40,63 @@ weaker_one t n f (Made, one, other, file) r = r
 weaker_one t n f (Removed, one, other, file) r = r
 weaker_one t n f (NotRemoved, one, other, file) r = r
 weaker_one t n f (Special is, one, other, file) r = tt
-weaker_one t n f (Free, one, other, file) r = tt
-weaker_one t n f (Held, one, other, file) r = tt
-weaker_one t n f (Allowed, one, other, file) r = tt
-weaker_one t n f (NotAllowed, one, other, file) r = tt
-weaker_one t n f (One, one, other, file) r = tt
-weaker_one t n f (Apart, one, other, file) r = tt
+weaker_one t n f (Same is, one, other, file) r = tt
+weaker_one t n f (Looked is, one, other, file) r = tt
+weaker_one t n f (Opened, one, other, file) r = tt
+weaker_one t n f (NotOpened fault, one, other, file) r = tt
 weaker_one t n f (NotMade fault, one, other, file) r = tt
+weaker_one t n f (Locked lock, one, other, file) r = tt
+weaker_one t n f (Own is, one, other, file) r = tt
+weaker_one t n f (Bits bits, one, other, file) r = tt
+weaker_one t n f (Allowed bits, one, other, file) r = tt
+weaker_one t n f (NotAllowed, one, other, file) r = tt
 weaker_one t n f (Synced, one, other, file) r = tt
 weaker_one t n f (NotSynced, one, other, file) r = tt
 
-weaker_all : (t n : List ℕ) {P Q : List ℕ → Type 0} → ((b : List ℕ) → P b → Q b) → (since : NameCalls)
-    → AllByRecursion (IsOfReplacing t n P) since → AllByRecursion (IsOfReplacing t n Q) since
-weaker_all t n f [] all = tt
-weaker_all t n f (call ∷ since) all = (weaker_one t n f call all.0, weaker_all t n f since all.1)
+weaker_all : (t n : List ℕ) {P Q : List ℕ → Type 0} → ((b : List ℕ) → P b → Q b) → (since old : NameCalls)
+    → EachIsStep t n P since old → EachIsStep t n Q since old
+weaker_all t n f [] old all = tt
+weaker_all t n f (call ∷ since) old all = (weaker_one t n f call all.0, all.1, weaker_all t n f since old all.2)
 
-both : (P : NameEvent → Type 0) (xs ys : NameCalls) → AllByRecursion P xs → AllByRecursion P ys
-    → AllByRecursion P (xs ++ ys)
-both P [] ys all more = more
-both P (x ∷ xs) ys all more = (all.0, both P xs ys all.1 more)
+both : (t n : List ℕ) (P : List ℕ → Type 0) (more since old : NameCalls) → EachIsStep t n P more (since ++ old)
+    → EachIsStep t n P since old → EachIsStep t n P (more ++ since) old
+both t n P [] since old each before = before
+both t n P (call ∷ more) since old each before =
+    (each.0, subst (λ (cs : NameCalls). IsGuarded n call cs) (sym (append_assoc more since old)) each.1, both t n P more since old each.2 before)
 
 -- what a weaker claim allows is allowed, and what follows it is too
 pub go_on : {t n : List ℕ} {P Q : List ℕ → Type 0} {old mid new : NameCalls} → ((b : List ℕ) → P b → Q b)
-    → AreOfReplacing t n Q old mid → AreOfReplacing t n P mid new → AreOfReplacing t n Q old new
+    → AreSteps t n Q old mid → AreSteps t n P mid new → AreSteps t n Q old new
 go_on {t = t} {n = n} {Q = Q} {old = old} f are more =
     record {
       since = more.since ++ are.since;
       calls = more.calls ∙ ap (λ cs. more.since ++ cs) are.calls ∙ sym (append_assoc more.since are.since old);
-      each = both (IsOfReplacing t n Q) more.since are.since (weaker_all t n f more.since more.each) are.each;
+      each = both t n Q more.since are.since old (subst (λ (cs : NameCalls). EachIsStep t n Q more.since cs) are.calls (weaker_all t n f more.since _ more.each)) are.each;
     }
 
 pub weaker : {t n : List ℕ} {P Q : List ℕ → Type 0} {old new : NameCalls} → ((b : List ℕ) → P b → Q b)
-    → AreOfReplacing t n P old new → AreOfReplacing t n Q old new
-weaker {t = t} {n = n} f are = record { since = are.since; calls = are.calls; each = weaker_all t n f are.since are.each }
+    → AreSteps t n P old new → AreSteps t n Q old new
+weaker {t = t} {n = n} {old = old} f are = record { since = are.since; calls = are.calls; each = weaker_all t n f are.since old are.each }
+
+each_of_replacing : (t n : List ℕ) (P : List ℕ → Type 0) (since old : NameCalls) → EachIsStep t n P since old
+    → AllByRecursion (IsOfReplacing t n P) since
+each_of_replacing t n P [] old all = tt
+each_of_replacing t n P (call ∷ since) old all = (all.0, each_of_replacing t n P since old all.2)
+
+pub are_of_replacing : {t n : List ℕ} {P : List ℕ → Type 0} {old new : NameCalls} → AreSteps t n P old new
+    → AreOfReplacing t n P old new
+are_of_replacing {t = t} {n = n} {P = P} {old = old} are =
+    record { since = are.since; calls = are.calls; each = each_of_replacing t n P are.since old are.each }
+
+each_guarded : (t n : List ℕ) (P : List ℕ → Type 0) (since old : NameCalls) → EachIsStep t n P since old
+    → EachIsGuarded n since old
+each_guarded t n P [] old all = tt
+each_guarded t n P (call ∷ since) old all = (all.1, each_guarded t n P since old all.2)
+
+pub are_guarded : {t n : List ℕ} {P : List ℕ → Type 0} {old new : NameCalls} → AreSteps t n P old new
+    → AreGuarded n old new
+are_guarded {t = t} {n = n} {P = P} {old = old} are =
+    record { since = are.since; calls = are.calls; each = each_guarded t n P are.since old are.each }
 
 -- what the rename leaves under the name is the file, whole
 new_file : {t n : List ℕ} {whole : List ℕ → Type 0} {len : ℕ} {from to : List ℕ} {file : Calls}
@@ -101,13 +127,16 @@ keeps n place old now (NotRenamed len fault, from, to, file) may before first he
 keeps n place old now (NotRenamed len fault, from, to, file) may before first held (inr (inr was)) = before first held was
 keeps n place old now (Synced, one, other, file) may before first held is = before first held is.0
 keeps n place old now (Special is, one, other, file) may before first held was = before first held was
-keeps n place old now (Free, one, other, file) may before first held was = before first held was
-keeps n place old now (Held, one, other, file) may before first held was = before first held was
-keeps n place old now (Allowed, one, other, file) may before first held was = before first held was
-keeps n place old now (NotAllowed, one, other, file) may before first held was = before first held was
-keeps n place old now (One, one, other, file) may before first held was = before first held was
-keeps n place old now (Apart, one, other, file) may before first held was = before first held was
+keeps n place old now (Same is, one, other, file) may before first held was = before first held was
+keeps n place old now (Looked is, one, other, file) may before first held was = before first held was
+keeps n place old now (Opened, one, other, file) may before first held was = before first held was
+keeps n place old now (NotOpened fault, one, other, file) may before first held was = before first held was
 keeps n place old now (NotMade fault, one, other, file) may before first held was = before first held was
+keeps n place old now (Locked lock, one, other, file) may before first held was = before first held was
+keeps n place old now (Own is, one, other, file) may before first held was = before first held was
+keeps n place old now (Bits bits, one, other, file) may before first held was = before first held was
+keeps n place old now (Allowed bits, one, other, file) may before first held was = before first held was
+keeps n place old now (NotAllowed, one, other, file) may before first held was = before first held was
 keeps n place old now (NotSynced, one, other, file) may before first held was = before first held was
 
 all_keep : (t n : List ℕ) (whole : List ℕ → Type 0) (place : List ℕ → Bool) (old since : NameCalls)
@@ -174,30 +203,30 @@ pub weaker_sure : (n : List ℕ) {P Q : List ℕ → Type 0} (now : NameCalls) �
     → LeavesNew n Q now
 weaker_sure n now f leaves place leads before is first held may = weaker_new f held (leaves place leads before is first held may)
 
+-- ---- the calls of a replacement
+
 removal : (t n : List ℕ) (whole : List ℕ → Type 0) (call : NameCall) → IsRemoval call
     → IsOfReplacing t n whole (call, t, [], [])
 removal t n whole call (inl is) = subst (λ (g : NameCall). IsOfReplacing t n whole (g, t, [], [])) (sym is) refl
 removal t n whole call (inr is) = subst (λ (g : NameCall). IsOfReplacing t n whole (g, t, [], [])) (sym is) refl
 
-pub cleared : {t n : List ℕ} {whole : List ℕ → Type 0} {old mid : NameCalls} (new : NameCalls)
-    → AreOfReplacing t n whole old mid → IsCleared t mid new → AreOfReplacing t n whole old new
-cleared {t = t} {n = n} {whole = whole} new are is =
-    one_more new (is.0, t, [], []) are is.2 (removal t n whole is.0 is.1)
+removal_guarded : (t n : List ℕ) (mid : NameCalls) (call : NameCall) → IsRemoval call → MayRemove t n mid
+    → IsGuarded n (call, t, [], []) mid
+removal_guarded t n mid call (inl is) may = subst (λ (g : NameCall). IsGuarded n (g, t, [], []) mid) (sym is) may
+removal_guarded t n mid call (inr is) may = subst (λ (g : NameCall). IsGuarded n (g, t, [], []) mid) (sym is) may
 
-pub told : {t n : List ℕ} {whole : List ℕ → Type 0} {old mid : NameCalls} (new : NameCalls) (r : Bool)
-    → AreOfReplacing t n whole old mid → new ≡ (cond r One Apart, t, n, []) ∷ mid
-    → AreOfReplacing t n whole old new
-told {t = t} {n = n} new true are is = one_more new (One, t, n, []) are is tt
-told {t = t} {n = n} new false are is = one_more new (Apart, t, n, []) are is tt
+-- the name was taken from a file
+pub cleared : {t n : List ℕ} {whole : List ℕ → Type 0} {old mid : NameCalls} (new : NameCalls)
+    → AreSteps t n whole old mid → MayRemove t n mid → IsCleared t mid new → AreSteps t n whole old new
+cleared {t = t} {n = n} {whole = whole} {mid = mid} new are may is =
+    step new (is.0, t, [], []) are is.2 (removal t n whole is.0 is.1) (removal_guarded t n mid is.0 is.1 may)
 
 pub synced : {t n : List ℕ} {whole : List ℕ → Type 0} {old mid : NameCalls} (new : NameCalls) (r : Bool)
-    → AreOfReplacing t n whole old mid → new ≡ (cond r Synced NotSynced, n, [], []) ∷ mid
-    → AreOfReplacing t n whole old new
-synced {n = n} new true are is = one_more new (Synced, n, [], []) are is tt
-synced {n = n} new false are is = one_more new (NotSynced, n, [], []) are is tt
+    → AreSteps t n whole old mid → new ≡ (cond r Synced NotSynced, n, [], []) ∷ mid → AreSteps t n whole old new
+synced {n = n} new true are is = step new (Synced, n, [], []) are is tt tt
+synced {n = n} new false are is = step new (NotSynced, n, [], []) are is tt tt
 
-pub allowed : {t n : List ℕ} {whole : List ℕ → Type 0} {old mid : NameCalls} (new : NameCalls) (r : Bool)
-    → AreOfReplacing t n whole old mid → new ≡ (cond r Allowed NotAllowed, t, n, []) ∷ mid
-    → AreOfReplacing t n whole old new
-allowed {t = t} {n = n} new true are is = one_more new (Allowed, t, n, []) are is tt
-allowed {t = t} {n = n} new false are is = one_more new (NotAllowed, t, n, []) are is tt
+pub allowed : {t n : List ℕ} {whole : List ℕ → Type 0} {old mid : NameCalls} (new : NameCalls) (r : Bool) (bits : ℕ)
+    → AreSteps t n whole old mid → new ≡ (cond r (Allowed bits) NotAllowed, t, [], []) ∷ mid → AreSteps t n whole old new
+allowed {t = t} new true bits are is = step new (Allowed bits, t, [], []) are is tt tt
+allowed {t = t} new false bits are is = step new (NotAllowed, t, [], []) are is tt tt

@@ -4,7 +4,8 @@ use Rattle.cdb_make.specs.declared.fault.MakeFault.{MakeFault}
 use Rattle.cdb_make.specs.Views.MakeFault.{make_message}
 use Rattle.cdb_read.specs.Views.ReadFault.{read_display}
 use Rattle.cdb_files.specs.declared.fault.FileFault.{FileFault}
-use Rattle.cdb_files.specs.declared.fault.FileFault.TheVariants.{Open, NoMemory, Rename, Make, Read}
+use Rattle.cdb_files.specs.declared.fault.FileFault.TheVariants.{Open, NoMemory, Write}
+use Rattle.cdb_files.specs.declared.fault.FileFault.TheVariants.{Rename, Make, Read}
 use Rattle.cdb_files.specs.declared.replace.ReplaceFault.{ReplaceFault}
 use Rattle.cdb_files.specs.declared.replace.ReplaceFault.TheVariants as replacing
 
@@ -12,6 +13,7 @@ use Rattle.cdb_files.specs.declared.replace.ReplaceFault.TheVariants as replacin
 abbrev pub file_display : FileFault → List ℕ
 file_display Open = codes "file cannot be opened"
 file_display NoMemory = codes "no memory"
+file_display Write = codes "database cannot be read or written"
 file_display Rename = codes "database cannot be renamed"
 file_display (Make fault) = make_message fault
 file_display (Read fault) = read_display fault
@@ -20,5 +22,6 @@ file_display (Read fault) = read_display fault
 abbrev pub of_replace : ReplaceFault MakeFault → FileFault
 of_replace replacing.Open = Open
 of_replace replacing.NoMemory = NoMemory
+of_replace replacing.Write = Write
 of_replace replacing.Rename = Rename
 of_replace (replacing.Build fault) = Make fault

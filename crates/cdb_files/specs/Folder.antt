@@ -2,9 +2,12 @@
 use Rattle.std.specs.Prelude.{◌≡◌, ◌≢◌, ℕ, ◌⊎◌, List, [], ◌∷◌, ◌++◌, Option, None, Some}
 use Rattle.std.specs.Prelude.{Bool, true, false}
 use Rattle.cdb_store.specs.Calls.{Calls, IsSynced, FileImage}
+use Rattle.cdb_files.specs.declared.answer.Answer.TheVariants.{Yes, No}
+use Rattle.cdb_files.specs.declared.answer.Lock.TheVariants.{Held}
 use Rattle.cdb_files.specs.declared.name_trace.NameCall.{NameCall}
-use Rattle.cdb_files.specs.declared.name_trace.NameCall.TheVariants.{One, Apart, Made, Free, Held}
-use Rattle.cdb_files.specs.declared.name_trace.NameCall.TheVariants.{Removed, NotRemoved}
+use Rattle.cdb_files.specs.declared.name_trace.NameCall.TheVariants.{Special, Same, Opened, Made}
+use Rattle.cdb_files.specs.declared.name_trace.NameCall.TheVariants.{Locked, Own, Bits, Allowed}
+use Rattle.cdb_files.specs.declared.name_trace.NameCall.TheVariants.{NotAllowed, Removed, NotRemoved}
 use Rattle.cdb_files.specs.declared.name_trace.NameCall.TheVariants.{Renamed, NotRenamed, Synced}
 
 -- the calls, each with its name, its other name, and the calls on its file
@@ -72,42 +75,108 @@ MayHave place first ((Synced, synced, other, file) ∷ calls) held =
     MayHave place first calls held × (place synced ≡ true → Has place first calls held)
 MayHave place first ((_, one, other, file) ∷ calls) held = MayHave place first calls held
 
--- no other create holds the file that a name has: the newest call that says so took its lock
+-- this process holds the lock of the file of a name that it opened or made last, unless the file
+-- system knows no locks
 abbrev pub HasLock : (name : List ℕ) → NameCalls → Type 0
 HasLock name [] = ⊥
-HasLock name ((Free, one, other, file) ∷ calls) = (one ≡ name) ⊎ HasLock name calls
-HasLock name ((Held, one, other, file) ∷ calls) = (one ≢ name) × HasLock name calls
+HasLock name ((Locked Held, one, other, file) ∷ calls) = (one ≢ name) × HasLock name calls
+HasLock name ((Locked lock, one, other, file) ∷ calls) = (one ≡ name) ⊎ HasLock name calls
+HasLock name ((Opened, one, other, file) ∷ calls) = (one ≢ name) × HasLock name calls
 HasLock name ((Made, one, other, file) ∷ calls) = (one ≢ name) × HasLock name calls
 HasLock name ((Removed, one, other, file) ∷ calls) = (one ≢ name) × HasLock name calls
 HasLock name ((NotRemoved, one, other, file) ∷ calls) = (one ≢ name) × HasLock name calls
 HasLock name ((_, one, other, file) ∷ calls) = HasLock name calls
 
+-- a name was seen to have that file
+abbrev pub IsOwn : (name : List ℕ) → NameCalls → Type 0
+IsOwn name [] = ⊥
+IsOwn name ((Own Yes, one, other, file) ∷ calls) = (one ≡ name) ⊎ IsOwn name calls
+IsOwn name ((Own answer, one, other, file) ∷ calls) = (one ≢ name) × IsOwn name calls
+IsOwn name ((Opened, one, other, file) ∷ calls) = (one ≢ name) × IsOwn name calls
+IsOwn name ((Made, one, other, file) ∷ calls) = (one ≢ name) × IsOwn name calls
+IsOwn name ((Removed, one, other, file) ∷ calls) = (one ≢ name) × IsOwn name calls
+IsOwn name ((NotRemoved, one, other, file) ∷ calls) = (one ≢ name) × IsOwn name calls
+IsOwn name ((_, one, other, file) ∷ calls) = IsOwn name calls
+
 -- two names were seen to be of two files, and no file was made under the first since
 abbrev pub AreApart : (name other : List ℕ) → NameCalls → Type 0
 AreApart name other [] = ⊥
-AreApart name other ((Apart, one, two, file) ∷ calls) =
+AreApart name other ((Same No, one, two, file) ∷ calls) =
     ((one ≡ name) × (two ≡ other)) ⊎ AreApart name other calls
-AreApart name other ((One, one, two, file) ∷ calls) = (one ≢ name) × AreApart name other calls
+AreApart name other ((Same answer, one, two, file) ∷ calls) =
+    (one ≢ name) × AreApart name other calls
 AreApart name other ((Made, one, two, file) ∷ calls) = (one ≢ name) × AreApart name other calls
 AreApart name other ((_, one, two, file) ∷ calls) = AreApart name other calls
 
--- a call takes a name from a file, or was to, only if no other create holds that file; and it gives
--- the file another name only if the two were seen to be apart
-abbrev pub IsGuarded : NameCall × List ℕ × List ℕ × Calls → (before : NameCalls) → Type 0
-IsGuarded (Removed, gone, other, file) before = HasLock gone before
-IsGuarded (NotRemoved, gone, other, file) before = HasLock gone before
-IsGuarded (Renamed len, from, to, file) before = HasLock from before × AreApart from to before
-IsGuarded (NotRenamed len fault, from, to, file) before =
-    HasLock from before × AreApart from to before
-IsGuarded (call, one, other, file) before = Unit {0}
+-- a name was seen to lead to a regular file or to nothing
+abbrev pub IsPlain : (name : List ℕ) → NameCalls → Type 0
+IsPlain name [] = ⊥
+IsPlain name ((Special No, one, other, file) ∷ calls) = (one ≡ name) ⊎ IsPlain name calls
+IsPlain name ((Special answer, one, other, file) ∷ calls) = (one ≢ name) × IsPlain name calls
+IsPlain name ((_, one, other, file) ∷ calls) = IsPlain name calls
+
+-- these permission bits are those for a file that replaces that of a name, as the system said last
+abbrev pub AreBitsFor : (bits : ℕ) → (name : List ℕ) → NameCalls → Type 0
+AreBitsFor bits name [] = ⊥
+AreBitsFor bits name ((Bits (Some said), one, other, file) ∷ calls) =
+    ((one ≡ name) × (said ≡ bits)) ⊎ ((one ≢ name) × AreBitsFor bits name calls)
+AreBitsFor bits name ((Bits None, one, other, file) ∷ calls) =
+    (one ≢ name) × AreBitsFor bits name calls
+AreBitsFor bits name ((_, one, other, file) ∷ calls) = AreBitsFor bits name calls
+
+-- the file of a name got the permission bits for a file that replaces that of the other
+abbrev pub HasBits : (name other : List ℕ) → NameCalls → Type 0
+HasBits name other [] = ⊥
+HasBits name other ((Allowed bits, one, two, file) ∷ calls) =
+    ((one ≡ name) × AreBitsFor bits other calls) ⊎ ((one ≢ name) × HasBits name other calls)
+HasBits name other ((NotAllowed, one, two, file) ∷ calls) = (one ≢ name) × HasBits name other calls
+HasBits name other ((Made, one, two, file) ∷ calls) = (one ≢ name) × HasBits name other calls
+HasBits name other ((_, one, two, file) ∷ calls) = HasBits name other calls
+
+-- the file of a name may get the other one in place of what has it
+pub record MayReplace (from to : List ℕ) (before : NameCalls) : Type 0 where
+  pub lock : HasLock from before
+  pub own : IsOwn from before
+  pub apart : AreApart from to before
+  pub bits : HasBits from to before
+  pub plain : IsPlain to before
+
+-- the file of a name that was opened or made last was made
+abbrev pub HasMade : (name : List ℕ) → NameCalls → Type 0
+HasMade name [] = ⊥
+HasMade name ((Made, one, other, file) ∷ calls) = (one ≡ name) ⊎ HasMade name calls
+HasMade name ((Opened, one, other, file) ∷ calls) = (one ≢ name) × HasMade name calls
+HasMade name ((_, one, other, file) ∷ calls) = HasMade name calls
+
+-- this process made the file of a name, and holds its lock
+pub record MayUndo (gone : List ℕ) (before : NameCalls) : Type 0 where
+  pub lock : HasLock gone before
+  pub made : HasMade gone before
+
+-- a name may be taken from its file: this process holds the lock, and made the file, or saw that it is
+-- not the file of the name that is replaced
+pub record MayRemove (gone name : List ℕ) (before : NameCalls) : Type 0 where
+  pub lock : HasLock gone before
+  pub other : HasMade gone before ⊎ AreApart gone name before
+
+-- a replacement of the file of a name takes a name from a file, or tries to, only if it may; and gives
+-- the file another name only if it may get it
+abbrev pub IsGuarded : (name : List ℕ) → NameCall × List ℕ × List ℕ × Calls → (before : NameCalls)
+    → Type 0
+IsGuarded name (Removed, gone, other, file) before = MayRemove gone name before
+IsGuarded name (NotRemoved, gone, other, file) before = MayRemove gone name before
+IsGuarded name (Renamed len, from, to, file) before = MayReplace from to before
+IsGuarded name (NotRenamed len fault, from, to, file) before = MayReplace from to before
+IsGuarded name (call, one, other, file) before = Unit {0}
 
 -- each call since
-abbrev pub EachIsGuarded : (since old : NameCalls) → Type 0
-EachIsGuarded [] old = Unit {0}
-EachIsGuarded (call ∷ since) old = IsGuarded call (since ++ old) × EachIsGuarded since old
+abbrev pub EachIsGuarded : (name : List ℕ) → (since old : NameCalls) → Type 0
+EachIsGuarded name [] old = Unit {0}
+EachIsGuarded name (call ∷ since) old =
+    IsGuarded name call (since ++ old) × EachIsGuarded name since old
 
 -- each call since was so
-pub record AreGuarded (old new : NameCalls) : Type 0 where
+pub record AreGuarded (name : List ℕ) (old new : NameCalls) : Type 0 where
   pub since : NameCalls
   pub calls : new ≡ since ++ old
-  pub each : EachIsGuarded since old
+  pub each : EachIsGuarded name since old

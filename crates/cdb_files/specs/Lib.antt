@@ -4,3 +4,4 @@ pub mod FileFault
 pub mod Made
 pub mod Names
 pub mod Opening
+pub mod Unsynced

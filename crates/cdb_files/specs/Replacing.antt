@@ -1,22 +1,34 @@
 -- What a replacement of a file does to its name.
-use Rattle.std.specs.Prelude.{◌≡◌, ℕ, ◌+◌, ◌⊎◌, Bool, true, false, List, [], ◌∷◌, ◌++◌, Option}
+use Rattle.std.specs.Prelude.{◌≡◌, ◌≢◌, ℕ, ◌+◌, ◌<◌, ◌⊎◌, Bool, true, false, List, [], ◌∷◌, ◌++◌, Option}
 use Rattle.std.specs.Prelude.{None, Some, Result, Ok, Err, OnOk}
 use Rattle.std.specs.List.{AllByRecursion}
 use Rattle.cdb_store.specs.Calls.{Calls, IsSynced, FileImage}
-use Rattle.cdb_store.specs.FileStore.{calls_of, images_of}
+use Rattle.cdb_store.specs.FileStore.{calls_of, failures_of, images_of}
+use Rattle.cdb_store.specs.Images.{SameImages}
 use Rattle.cdb_store.specs.declared.file.FileStore.{FileStore}
 use Rattle.cdb_store.specs.declared.raw.RawFile.{Ghosts as Raw}
 use Rattle.cdb_store.specs.declared.trace.Call.TheVariants as file_call
 use Rattle.cdb_files.specs.declared.name_trace.NameCall.{NameCall}
 use Rattle.cdb_files.specs.declared.name_fault.NameFault.{NameFault}
 use Rattle.cdb_files.specs.declared.name_fault.NameFault.TheVariants as name_fault
-use Rattle.cdb_files.specs.declared.name_trace.NameCall.TheVariants.{Special, One, Free, Held, Made, NotMade}
-use Rattle.cdb_files.specs.declared.name_trace.NameCall.TheVariants.{NotAllowed}
-use Rattle.cdb_files.specs.declared.name_trace.NameCall.TheVariants.{Removed, NotRemoved, Renamed}
-use Rattle.cdb_files.specs.declared.name_trace.NameCall.TheVariants.{NotRenamed, Synced, NotSynced}
+use Rattle.cdb_files.specs.declared.answer.Answer.TheVariants as answer
+use Rattle.cdb_files.specs.declared.answer.Found.TheVariants as found
+use Rattle.cdb_files.specs.declared.answer.Lock.{Lock}
+use Rattle.cdb_files.specs.declared.answer.Lock.TheVariants as locking
+use Rattle.cdb_files.specs.declared.name_trace.NameCall.TheVariants.{Special, Same, Looked, Opened}
+use Rattle.cdb_files.specs.declared.name_trace.NameCall.TheVariants.{NotOpened, Made, NotMade}
+use Rattle.cdb_files.specs.declared.name_trace.NameCall.TheVariants.{Locked, Own, Bits, Allowed}
+use Rattle.cdb_files.specs.declared.name_trace.NameCall.TheVariants.{NotAllowed, Removed, NotRemoved}
+use Rattle.cdb_files.specs.declared.name_trace.NameCall.TheVariants.{Renamed, NotRenamed, Synced}
+use Rattle.cdb_files.specs.declared.name_trace.NameCall.TheVariants.{NotSynced}
 use Rattle.cdb_files.specs.declared.replace.ReplaceFault.{ReplaceFault}
-use Rattle.cdb_files.specs.declared.replace.ReplaceFault.TheVariants.{Open, NoMemory, Rename, Build}
-use Rattle.cdb_files.specs.Folder.{NameCalls, IsCleared, MayHave, AreApart}
+use Rattle.cdb_files.specs.declared.replace.ReplaceFault.TheVariants.{Open, NoMemory, Rename, Write}
+use Rattle.cdb_files.specs.declared.replace.ReplaceFault.TheVariants.{Build}
+use Rattle.cdb_files.specs.Folder.{NameCalls, IsCleared, MayHave, AreApart, IsGuarded, IsPlain}
+
+-- one call, with its name, its other name, and the calls on its file
+abbrev pub NameEvent : Type 0
+NameEvent = NameCall × List ℕ × List ℕ × Calls
 
 -- the file of the temporary name is to get the name: it was synced after its last change, and is
 -- whole
@@ -45,6 +57,20 @@ pub record AreOfReplacing (temporary name : List ℕ) (whole : List ℕ → Type
   pub since : NameCalls
   pub calls : new ≡ since ++ old
   pub each : AllByRecursion (IsOfReplacing temporary name whole) since
+
+-- and each was guarded
+abbrev pub EachIsStep : (temporary name : List ℕ) (whole : List ℕ → Type 0)
+    → (since old : NameCalls) → Type 0
+EachIsStep temporary name whole [] old = Unit {0}
+EachIsStep temporary name whole (call ∷ since) old = IsOfReplacing temporary name whole call
+    × IsGuarded name call (since ++ old) × EachIsStep temporary name whole since old
+
+-- each call since was one that a replacement may make, and guarded
+pub record AreSteps (temporary name : List ℕ) (whole : List ℕ → Type 0)
+    (old new : NameCalls) : Type 0 where
+  pub since : NameCalls
+  pub calls : new ≡ since ++ old
+  pub each : EachIsStep temporary name whole since old
 
 -- how often a file was renamed
 abbrev pub renames : NameCalls → ℕ
@@ -78,39 +104,124 @@ abbrev pub FailsRename : (temporary name : List ℕ) → NameCalls → NameFault
 FailsRename temporary name calls fault = (len : ℕ) × (file : Calls) × (before : NameCalls)
     × IsCleared temporary ((NotRenamed len fault, temporary, name, file) ∷ before) calls
 
--- no file was made: another create holds one of the temporary name, or that name and the other are
--- of one file, or the call failed, or the name was not seen to have the new file, or that did not
--- get its permissions
+-- an answer at which nothing was made: the system did not say what a name has; or the two names are
+-- of one file; or the temporary name has no regular file, or one that cannot be opened or that
+-- another process holds; or no file could be made there
+abbrev pub IsStop : (temporary name : List ℕ) → NameEvent → Type 0
+IsStop temporary name (Special answer.Unknown, one, other, file) = one ≡ name
+IsStop temporary name (Same answer.Yes, one, two, file) = (one ≡ temporary) × (two ≡ name)
+IsStop temporary name (Same answer.Unknown, one, two, file) = (one ≡ temporary) × (two ≡ name)
+IsStop temporary name (Looked found.Other, one, other, file) = one ≡ temporary
+IsStop temporary name (Looked found.Unknown, one, other, file) = one ≡ temporary
+IsStop temporary name (NotOpened name_fault.Failed, one, other, file) = one ≡ temporary
+IsStop temporary name (Locked locking.Held, one, other, file) = one ≡ temporary
+IsStop temporary name (NotMade name_fault.Failed, one, other, file) = one ≡ temporary
+IsStop temporary name (call, one, other, file) = ⊥
+
+-- an answer at which the file that was made is removed again: the temporary name was not seen to have
+-- it, or not seen to be of another file than the name
+abbrev pub IsUndone : (temporary name : List ℕ) → NameEvent → Type 0
+IsUndone temporary name (Own answer.No, one, other, file) = one ≡ temporary
+IsUndone temporary name (Own answer.Unknown, one, other, file) = one ≡ temporary
+IsUndone temporary name (Same answer.Yes, one, two, file) = (one ≡ temporary) × (two ≡ name)
+IsUndone temporary name (Same answer.Unknown, one, two, file) = (one ≡ temporary) × (two ≡ name)
+IsUndone temporary name (call, one, other, file) = ⊥
+
+-- no file was made, or it was removed again
 abbrev pub StopsMaking : (temporary name : List ℕ) → NameCalls → Type 0
-StopsMaking temporary name calls = (before : NameCalls)
-    × ((calls ≡ (One, temporary, name, []) ∷ before)
-    ⊎ (calls ≡ (Held, temporary, [], []) ∷ before)
-    ⊎ (calls ≡ (NotMade name_fault.Failed, temporary, [], []) ∷ before)
-    ⊎ IsCleared temporary ((Free, temporary, [], []) ∷ before) calls
-    ⊎ IsCleared temporary ((One, temporary, name, []) ∷ before) calls
-    ⊎ IsCleared temporary ((NotAllowed, temporary, name, []) ∷ before) calls)
+StopsMaking temporary name calls = (stop : NameEvent) × (before : NameCalls)
+    × ((IsStop temporary name stop × (calls ≡ stop ∷ before))
+    ⊎ (IsUndone temporary name stop × IsCleared temporary (stop ∷ before) calls))
+
+-- the system had no memory for the temporary file
+abbrev pub LacksMemory : (temporary : List ℕ) → NameCalls → Type 0
+LacksMemory temporary calls = (before : NameCalls)
+    × ((calls ≡ (NotOpened name_fault.NoMemory, temporary, [], []) ∷ before)
+    ⊎ (calls ≡ (NotMade name_fault.NoMemory, temporary, [], []) ∷ before))
+
+-- which calls end in this fault once the names were seen
+abbrev pub StopsAt : {E : Type 0} → (temporary name : List ℕ) → NameCalls → ReplaceFault E → Type 0
+StopsAt temporary name new Open = StopsMaking temporary name new
+StopsAt temporary name new NoMemory = LacksMemory temporary new
+StopsAt temporary name new fault = ⊥
 
 -- which calls end in this fault before anything is built
 abbrev pub StopsUnbuilt : {E : Type 0} → (temporary name : List ℕ) (old new : NameCalls)
     → ReplaceFault E → Type 0
 StopsUnbuilt temporary name old new Open =
     ((new ≡ old) × (IsNoName name ⊎ (temporary ≡ name))) ⊎ StopsMaking temporary name new
-StopsUnbuilt temporary name old new NoMemory =
-    (before : NameCalls) × (new ≡ (NotMade name_fault.NoMemory, temporary, [], []) ∷ before)
-StopsUnbuilt temporary name old new Rename = new ≡ (Special true, name, [], []) ∷ old
+StopsUnbuilt temporary name old new NoMemory = LacksMemory temporary new
+StopsUnbuilt temporary name old new Rename = new ≡ (Special answer.Yes, name, [], []) ∷ old
+StopsUnbuilt temporary name old new Write = ⊥
 StopsUnbuilt temporary name old new (Build fault) = ⊥
+
+-- the system did not say which permission bits the file is to have, or refused them
+abbrev pub LacksBits : (temporary name : List ℕ) → NameEvent → Type 0
+LacksBits temporary name (Bits None, one, other, file) = one ≡ name
+LacksBits temporary name (NotAllowed, one, other, file) = one ≡ temporary
+LacksBits temporary name (call, one, other, file) = ⊥
+
+-- the file that was built did not get its permission bits, or was not synced
+abbrev pub FailsToSeal : {E : Type 0} → (temporary name : List ℕ) → NameCalls → ReplaceFault E
+    → Type 0
+FailsToSeal temporary name calls Open =
+    (stop : NameEvent) × (before : NameCalls) × LacksBits temporary name stop
+    × (calls ≡ stop ∷ before)
+FailsToSeal temporary name calls Write = Unit {0}
+FailsToSeal temporary name calls fault = ⊥
+
+-- which calls end in this fault once the builder came to its end: the last one was to take the
+-- temporary name from the file
+abbrev pub EndsBuilt : {E : Type 0} → (temporary name : List ℕ) → NameCalls → ReplaceFault E
+    → Type 0
+EndsBuilt temporary name new NoMemory = FailsRename temporary name new name_fault.NoMemory
+EndsBuilt temporary name new Rename = FailsRename temporary name new name_fault.Failed
+EndsBuilt temporary name new Open =
+    (stop : NameEvent) × (before : NameCalls) × LacksBits temporary name stop
+    × IsCleared temporary (stop ∷ before) new
+EndsBuilt temporary name new Write = (before : NameCalls) × IsCleared temporary before new
+EndsBuilt temporary name new (Build fault) = (before : NameCalls) × IsCleared temporary before new
 
 -- which calls end in this fault
 abbrev pub EndsIn : {E : Type 0} → (temporary name : List ℕ) (old new : NameCalls)
     → ReplaceFault E → Type 0
-EndsIn temporary name old new Open =
-    ((new ≡ old) × (IsNoName name ⊎ (temporary ≡ name))) ⊎ StopsMaking temporary name new
-EndsIn temporary name old new NoMemory =
-    ((before : NameCalls) × (new ≡ (NotMade name_fault.NoMemory, temporary, [], []) ∷ before))
-    ⊎ FailsRename temporary name new name_fault.NoMemory
-EndsIn temporary name old new Rename = (new ≡ (Special true, name, [], []) ∷ old)
-    ⊎ FailsRename temporary name new name_fault.Failed
-EndsIn temporary name old new (Build fault) = (before : NameCalls) × IsCleared temporary before new
+EndsIn temporary name old new fault =
+    StopsUnbuilt temporary name old new fault ⊎ EndsBuilt temporary name new fault
+
+-- no other process held the lock of the file of a name
+pub record TakesLock (name : List ℕ) (old new : NameCalls) : Type 0 where
+  pub lock : Lock
+  pub free : lock ≢ locking.Held
+  pub are : new ≡ (Locked lock, name, [], []) ∷ old
+
+-- the last answer was one at which a file that was made is removed again
+abbrev pub IsUndoing : (temporary name : List ℕ) → NameCalls → Type 0
+IsUndoing temporary name calls =
+    (stop : NameEvent) × (before : NameCalls) × IsUndone temporary name stop
+    × (calls ≡ stop ∷ before)
+
+-- a file was made, its lock taken, its name seen to have it, and both names to be of two files
+pub record IsMadeApart (temporary name : List ℕ) (old new : NameCalls) : Type 0 where
+  pub locked : NameCalls
+  pub takes : TakesLock temporary ((Made, temporary, [], []) ∷ old) locked
+  pub are : new ≡ (Same answer.No, temporary, name, []) ∷ (Own answer.Yes, temporary, [], [])
+      ∷ locked
+
+-- and the name leads to a regular file or to nothing
+pub record IsReadyToBuild (temporary name : List ℕ) (calls : NameCalls) : Type 0 where
+  pub before : NameCalls
+  pub plain : IsPlain name before
+  pub made : IsMadeApart temporary name before calls
+
+-- the file of the temporary name got the permission bits for the name
+pub record GivesBits (temporary name : List ℕ) (old new : NameCalls) : Type 0 where
+  pub bits : ℕ
+  pub are : new ≡ (Allowed bits, temporary, [], []) ∷ (Bits (Some bits), name, [], []) ∷ old
+
+-- what a fault of an open is to the caller
+abbrev pub of_open : {E : Type 0} → NameFault → ReplaceFault E
+of_open name_fault.Failed = Open
+of_open name_fault.NoMemory = NoMemory
 
 -- what a fault of a name is to the caller
 abbrev pub of_name : {E : Type 0} → NameFault → ReplaceFault E
@@ -171,8 +282,8 @@ Answers (Ok done) (Ok all) = Unit {0}
 Answers (Ok done) (Err fault) = IsOfBuilder (λ _. ⊥) fault
 Answers (Err fault) result = result ≡ Err (Build fault)
 
--- a builder built a file, or failed to, and left this in what it writes to beside; if all went
--- well, that very file was renamed
+-- a builder built a file, or failed to, and left this in what it writes to beside; the file's bytes
+-- stayed as it was sealed; and if all went well, that very file was renamed
 pub record TellsOfFile {F T E : Type 0} (file : Raw F)
     (tells : T → T → (List ℕ → Type 0) → Result Unit E → Type 0) (temporary name : List ℕ)
     (calls : NameCalls) (told said : T) (result : Result Unit (ReplaceFault E)) : Type 0 where
@@ -180,7 +291,10 @@ pub record TellsOfFile {F T E : Type 0} (file : Raw F)
   pub built : Result Unit E
   pub tells_so : tells told said (images_of left) built
   pub answers : Answers built result
-  pub renamed : OnOk result (RenamesFile temporary name left.len (calls_of left) calls)
+  pub sealed : FileStore F file
+  pub same : SameImages (images_of left) (images_of sealed)
+  pub unsynced : result ≡ Err Write → failures_of left < failures_of sealed
+  pub renamed : OnOk result (RenamesFile temporary name sealed.len (calls_of sealed) calls)
 
 -- nothing was built, and it is as it was; or something was
 abbrev pub Tells : {F T E : Type 0} → Raw F

@@ -14,8 +14,10 @@ use std::fmt;
 pub enum FileFault {
     /// The file cannot be opened, or none can be made beside it.
     Open,
-    /// Memory ran out.
+    /// An allocation failed, or the system had no memory.
     NoMemory,
+    /// The file that was made cannot be synced.
+    Write,
     /// The file that was made cannot be given the name.
     Rename,
     /// The database was not made.
@@ -33,6 +35,7 @@ impl fmt::Display for FileFault {
             FileFault::Read(fault) => write!(f, "{fault}"),
             FileFault::Open => f.write_str("file cannot be opened"),
             FileFault::NoMemory => f.write_str("no memory"),
+            FileFault::Write => f.write_str("database cannot be read or written"),
             FileFault::Rename => f.write_str("database cannot be renamed"),
         }
     }
@@ -47,6 +50,7 @@ impl From<ReplaceFault<MakeFault>> for FileFault {
         match fault {
             ReplaceFault::Open => FileFault::Open,
             ReplaceFault::NoMemory => FileFault::NoMemory,
+            ReplaceFault::Write => FileFault::Write,
             ReplaceFault::Rename => FileFault::Rename,
             ReplaceFault::Build(fault) => FileFault::Make(fault),
         }

@@ -4,6 +4,7 @@ ghost use Rattle.std.specs.Borrow.{ftrue};
 ghost use Rattle.cdb_store.specs.Calls.{Calls};
 ghost use Rattle.cdb_files.specs.declared.name_trace.NameCall.{NameCall};
 
+use crate::answer::{Answer, Found, Lock};
 use crate::name_fault::NameFault;
 use cdb_store::Trace;
 use std::marker::{Model, PhantomData};
@@ -11,22 +12,28 @@ use std::marker::{Model, PhantomData};
 /// What a call on names answered.
 #[derive(Clone, Copy)]
 pub enum NameCall {
-    /// The name leads to something that is no regular file, or to a regular file or nothing.
-    Special(bool),
-    /// The file of the name is that of the other name too.
-    One,
-    /// The two names are of two files, or one of them has none.
-    Apart,
-    /// No other create holds the file of the name: its lock was taken, or it has none to take.
-    Free,
-    /// Another create holds it, or has taken the name from it.
-    Held,
+    /// Whether the name leads to something that is no regular file.
+    Special(Answer),
+    /// Whether the file of the name is that of the other name too.
+    Same(Answer),
+    /// What the name has.
+    Looked(Found),
+    /// The regular file of the name was opened.
+    Opened,
+    /// It was not.
+    NotOpened(NameFault),
     /// A new file was made under the name.
     Made,
     /// None was made.
     NotMade(NameFault),
-    /// The file of the name got the permission bits of the other name's file, if it has one.
-    Allowed,
+    /// What came of the request for the lock of the file that was opened or made last.
+    Locked(Lock),
+    /// Whether the name has that file.
+    Own(Answer),
+    /// The permission bits for a file that replaces that of the name, if the system said.
+    Bits(Option<u32>),
+    /// The file of the name got these permission bits.
+    Allowed(u32),
     /// It did not get them.
     NotAllowed,
     /// The name was taken from its file, or had none.

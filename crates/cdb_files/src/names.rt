@@ -1,16 +1,18 @@
 // Names in folders, by the calls on them.
-ghost use Rattle.std.specs.Prelude.{◌≡◌, ◌⊎◌, [], ◌∷◌, cond, true, false};
-ghost use Rattle.std.specs.Prelude.{IfOk, IfErr, OnOk};
+ghost use Rattle.std.specs.Prelude.{◌≡◌, [], ◌∷◌, IfOk, IfErr, OnOk};
 ghost use Rattle.cdb_store.specs.declared.trace.Call.TheVariants.{Made as FileMade};
-ghost use Rattle.cdb_files.specs.Folder.{IsCleared, NameCalls};
+ghost use Rattle.cdb_files.specs.Folder.{IsCleared, HasLock, NameCalls};
 ghost use Rattle.cdb_files.specs.declared.name_trace.NameCall.TheVariants.{
   Special,
-  One,
-  Apart,
-  Free,
-  Held,
+  Same,
+  Looked,
+  Opened,
+  NotOpened,
   Made,
   NotMade,
+  Locked,
+  Own,
+  Bits,
   Allowed,
   NotAllowed,
   Renamed,
@@ -18,7 +20,9 @@ ghost use Rattle.cdb_files.specs.declared.name_trace.NameCall.TheVariants.{
   Synced,
   NotSynced,
 };
+ghost use Rattle.std.specs.Prelude.{cond};
 
+use crate::answer::{Answer, Found, Lock};
 use crate::name_fault::NameFault;
 use cdb_store::RawFile;
 
@@ -32,64 +36,70 @@ pub struct Unrenamed<F> {
 }
 
 /// The names of files, by the calls on them, each of which notes what it answered in proof-only
-/// data.
+/// data. A call that failed never counts as an answer: who asks decides what follows from it.
 pub trait Names {
-    /// A file that was made.
+    /// A file that was opened or made.
     type File: RawFile + Drop;
 
     /// The calls, the newest first.
     ghost calls: { Self → NameCalls };
 
     /// Whether a name leads to something that is no regular file, and so is not to be replaced: a
-    /// folder, a device, a socket or a pipe.
-    fn is_special(&mut self, name: &str) -> bool
+    /// folder, a device, a socket or a pipe. A name that leads to nothing does not.
+    fn is_special(&mut self, name: &str) -> Answer
         ensures { calls self.new ≡ (Special result, name.now, [], []) ∷ calls self.old };
 
     /// Whether what has a name, be it a file or a link, has the other name too, or is the file that
     /// the other leads to as a link. So a file is known by another spelling of its name and by a
     /// link to it, and a link by another spelling.
-    fn is_file_of(&mut self, name: &str, other: &str) -> bool
-        ensures { calls self.new
-            ≡ (cond result One Apart, name.now, other.now, []) ∷ calls self.old };
+    fn is_file_of(&mut self, name: &str, other: &str) -> Answer
+        ensures { calls self.new ≡ (Same result, name.now, other.now, []) ∷ calls self.old };
 
-    /// Removes what has a name, if it is a link, or a file that no other create holds: its lock is
-    /// taken first, and the name must have that very file then. Answers false, and removes nothing,
-    /// if another create holds the file. Call it only after `is_file_of` answered no.
-    ///
-    /// If the file system knows no locks, no file counts as held.
-    fn remove_stale(&mut self, name: &str, other: &str) -> bool
-        requires { (before : NameCalls)
-            × (calls self.old ≡ (Apart, name.now, other.now, []) ∷ before) }
-        ensures free { result ≡ true → IsCleared name.now
-            ((Free, name.now, [], []) ∷ calls self.old) (calls self.new) }
-        ensures held { result ≡ false →
-            calls self.new ≡ (Held, name.now, [], []) ∷ calls self.old };
+    /// What a name has. A link is not followed.
+    fn look(&mut self, name: &str) -> Found
+        ensures { calls self.new ≡ (Looked result, name.now, [], []) ∷ calls self.old };
 
-    /// Makes a file under a name that nothing has, reads and writes it, and takes its lock. It
-    /// follows no link. If the other name has a regular file, only this user may open the new one.
-    ///
-    /// `Failed`: it cannot be made; or another create took its lock, and removes it; or the name is
-    /// not seen to have it, and is taken from it if it has.
-    fn make_new(&mut self, name: &str, other: &str) -> Result<Self::File, NameFault>
-        ensures ok { OnOk result (calls self.new
-            ≡ (Free, name.now, [], []) ∷ (Made, name.now, [], []) ∷ calls self.old) }
-        ensures err { IfErr result (λ f.
-            (calls self.new ≡ (NotMade f, name.now, [], []) ∷ calls self.old)
-            ⊎ (f ≡ NameFault.Failed) × ((calls self.new
-            ≡ (Held, name.now, [], []) ∷ (Made, name.now, [], []) ∷ calls self.old)
-            ⊎ IsCleared name.now ((Free, name.now, [], []) ∷ (Made, name.now, [], [])
-            ∷ calls self.old) (calls self.new))) }
+    /// Opens the regular file of a name to read and write it. It does not wait, whatever has the
+    /// name by now. `Failed`: it cannot be opened, or what was opened is no regular file.
+    fn open_old(&mut self, name: &str) -> Result<Self::File, NameFault>
+        ensures ok { OnOk result
+            (calls self.new ≡ (Opened, name.now, [], []) ∷ calls self.old) }
+        ensures err { IfErr result
+            (λ f. calls self.new ≡ (NotOpened f, name.now, [], []) ∷ calls self.old) };
+
+    /// Makes a file under a name that nothing has, reads and writes it, and follows no link. Only
+    /// this user may open it.
+    fn make_new(&mut self, name: &str) -> Result<Self::File, NameFault>
+        ensures ok { OnOk result (calls self.new ≡ (Made, name.now, [], []) ∷ calls self.old) }
+        ensures err { IfErr result
+            (λ f. calls self.new ≡ (NotMade f, name.now, [], []) ∷ calls self.old) }
         ensures file { IfOk result (λ f. Self.File.calls f ≡ (FileMade, []) ∷ []) };
 
-    /// Gives the file of a name the permission bits of the other name's file, if that is a regular
-    /// one, and answers whether it has them. The other name is not followed as a link. Owner and
-    /// group stay this user's, and bits beyond read, write and execute are not given.
-    fn allow(&mut self, name: &str, file: &Self::File, other: &str) -> bool
-        ensures { calls self.new
-            ≡ (cond result Allowed NotAllowed, name.now, other.now, []) ∷ calls self.old };
+    /// Requests the lock of an open file of a name, and does not wait for it.
+    fn lock(&mut self, name: &str, file: &Self::File) -> Lock
+        ensures { calls self.new ≡ (Locked result, name.now, [], []) ∷ calls self.old };
 
-    /// Takes a name from an open file, if the file still has it.
+    /// Whether a name has an open file. A link is not followed.
+    fn has_file(&mut self, name: &str, file: &Self::File) -> Answer
+        ensures { calls self.new ≡ (Own result, name.now, [], []) ∷ calls self.old };
+
+    /// The permission bits for a file that replaces what has a name: those of the regular file
+    /// there, which is not followed as a link. If there is none, those that the umask leaves of a
+    /// file that all may read and write, or those for this user alone if the system tells no umask.
+    /// `None`: the system did not say.
+    fn bits_for(&mut self, name: &str) -> Option<u32>
+        ensures { calls self.new ≡ (Bits result, name.now, [], []) ∷ calls self.old };
+
+    /// Gives an open file of a name these permission bits, whatever the umask, and answers whether
+    /// it has them. Owner and group stay this user's, and bits beyond read, write and execute are
+    /// not given.
+    fn allow(&mut self, name: &str, file: &Self::File, bits: u32) -> bool
+        ensures { calls self.new
+            ≡ (cond result (Allowed bits) NotAllowed, name.now, [], []) ∷ calls self.old };
+
+    /// Takes a name from an open file whose lock is held, if the file still has it.
     fn remove_own(&mut self, name: &str, file: &Self::File)
+        requires { HasLock name.now (calls self.old) }
         ensures { IsCleared name.now (calls self.old) (calls self.new) };
 
     /// Gives an open file, which is closed then, the other name in place of its own and of what had

@@ -1,16 +1,18 @@
 // The names of the system: the lines that call the system and note what it answered.
-ghost use Rattle.std.specs.Prelude.{◌≡◌, ◌⊎◌, [], ◌∷◌, IfErr, OnOk};
+ghost use Rattle.std.specs.Prelude.{◌≡◌, ◌⊎◌, ◌<◌, [], ◌∷◌, IfErr, IfSome, OnOk};
 ghost use Rattle.std.specs.Path.{path_parent};
 ghost use Rattle.cdb_files.specs.Names.{folder_from};
 ghost use Rattle.cdb_files.specs.declared.name_trace.NameCall.TheVariants.{Renamed, NotRenamed};
-ghost use Rattle.cdb_files.specs.Folder.{IsRemoval, IsCleared};
+ghost use Rattle.cdb_files.specs.Folder.{IsRemoval, HasLock, IsCleared};
 
+use crate::answer::{Answer, Found, Lock};
 use crate::name_fault::NameFault;
 use crate::name_trace::{NameCall, NameTrace};
 use crate::names::{Names, Unrenamed};
+use crate::umask::umask_in;
 use cdb_store::{READ_AND_WRITTEN, RealFile, Trace};
 use std::fs::{self, File, Metadata, Permissions, TryLockError};
-use std::io::{self, ErrorKind};
+use std::io::{self, ErrorKind, Read};
 use std::os::unix::fs::{MetadataExt, PermissionsExt};
 use std::path::Path;
 use std::rt::Files;
@@ -41,27 +43,49 @@ impl<'a, R: Files<File = File>> RealNames<'a, R> {
         self.trace
             .note(call, name.as_bytes(), other.as_bytes(), &Trace::new());
     }
+}
 
-    /// Removes a file or a link of a name, and notes whether it did.
-    fn remove_file(&mut self, name: &str)
-        ensures { IsCleared name.now self.old.trace.events self.new.trace.events }
-    {
-        let removed = match fs::symlink_metadata(self.rt, name) {
-            Ok(found) if found.is_file() || found.is_symlink() => {
-                fs::remove_file(self.rt, name).is_ok()
-            }
-            _ => false,
-        };
-        self.note(&removal(removed), name, "");
+/// What the system says of a name or of an open file.
+#[derive(Drop)]
+enum Look {
+    /// This.
+    There(Metadata),
+    /// That nothing is there.
+    Missing,
+    /// Nothing: the call failed.
+    Unknown,
+}
+
+/// What a look came to. Only "no such file" says that nothing is there.
+fn looked(answer: io::Result<Metadata>) -> Look {
+    match answer {
+        Ok(found) => Look::There(found),
+        Err(error) if error.kind() == ErrorKind::NotFound => Look::Missing,
+        Err(_) => Look::Unknown,
     }
 }
 
-/// Whether both are of one file.
-fn is_one(one: &io::Result<Metadata>, other: &io::Result<Metadata>) -> bool {
+/// Whether both are of one file: of one device and inode.
+fn is_one(one: &Look, other: &Look) -> Answer {
     match (one, other) {
-        (Ok(one), Ok(other)) => one.dev() == other.dev() && one.ino() == other.ino(),
-        _ => false,
+        (Look::There(one), Look::There(other)) => {
+            if one.dev() == other.dev() && one.ino() == other.ino() {
+                Answer::Yes
+            } else {
+                Answer::No
+            }
+        }
+        (Look::Unknown, _) | (_, Look::Unknown) => Answer::Unknown,
+        _ => Answer::No,
     }
+}
+
+/// Whether a name has an open file.
+fn has_name<R: Files<File = File>>(rt: &R, name: &str, file: &RealFile) -> Answer {
+    is_one(
+        &looked(fs::symlink_metadata(rt, name)),
+        &looked(file.metadata()),
+    )
 }
 
 /// The permission bits of a file that this user alone may read and write.
@@ -70,59 +94,54 @@ const PRIVATE: u32 = 0o600;
 /// The permission bits for all, of a file's mode.
 const FOR_ALL: u32 = 0o777;
 
-/// The permission bits of the regular file of a name, which is not followed as a link.
-fn mode_of<R: Files<File = File>>(rt: &R, name: &str) -> Option<u32> {
-    match fs::symlink_metadata(rt, name) {
-        Ok(found) if found.is_file() => Some(found.permissions().mode() & FOR_ALL),
-        _ => None,
+/// Where the system tells the umask of this process.
+const STATUS: &str = "/proc/self/status";
+
+/// How many of its first bytes have the line of the umask.
+const STATUS_HEAD: usize = 512;
+
+/// The permission bits of a new file, or `None` if the system did not say. If it has no such page,
+/// the file is for this user alone.
+fn new_bits<R: Files<File = File>>(rt: &R) -> Option<u32> {
+    let mut status = match File::open(rt, STATUS) {
+        Ok(status) => status,
+        Err(error) if error.kind() == ErrorKind::NotFound => return Some(PRIVATE),
+        Err(_) => return None,
+    };
+    let mut head = [0u8; STATUS_HEAD];
+    let n = status.read(&mut head).ok()?;
+    Some(READ_AND_WRITTEN & !umask_in(&head[..n.min(STATUS_HEAD)])?)
+}
+
+/// What came of the request for a lock. Only a file system that knows none says so: by `ENOLCK`,
+/// `ENOSYS` or `ENOTSUP`. Each other fault may hide a lock, as that of a file which was not opened
+/// to write does over NFS.
+fn lock_of(answer: Result<(), TryLockError>) -> Lock {
+    match answer {
+        Ok(()) => Lock::Taken,
+        Err(TryLockError::WouldBlock) => Lock::Held,
+        Err(TryLockError::Error(error)) => match error.raw_os_error() {
+            Some(ENOLCK | ENOSYS | ENOTSUP) => Lock::Unsupported,
+            _ => Lock::Held,
+        },
     }
 }
 
-/// What a name has that a create finds.
-#[derive(Drop)]
-enum Stale {
-    /// A link, which has no lock, or something that a removal leaves: nothing, or no file.
-    Unlocked,
-    /// A file whose lock this process holds, until it is closed.
-    Locked(File),
-    /// A file that another create holds, or that cannot be opened to see.
-    Held,
-}
+/// The system's number for "no locks available".
+const ENOLCK: i32 = 37;
 
-/// Whether a lock was taken, or the file system knows none.
-fn is_free(answer: Result<(), TryLockError>) -> bool {
-    !matches!(answer, Err(TryLockError::WouldBlock))
-}
+/// The system's number for "function not implemented".
+const ENOSYS: i32 = 38;
 
-/// What a name has, with the lock of its file.
-fn stale_of<R: Files<File = File>>(rt: &R, name: &str) -> Stale {
-    match fs::symlink_metadata(rt, name) {
-        Ok(found) if found.is_file() => {}
-        _ => return Stale::Unlocked,
-    }
-    // A lock needs an open file, for reading or for writing.
-    let opened = File::open(rt, name).or_else(|_| File::options().write(true).open(rt, name));
-    match opened {
-        Ok(file) => {
-            let is_own = is_free(file.try_lock())
-                && is_one(&fs::symlink_metadata(rt, name), &file.metadata());
-            if is_own {
-                Stale::Locked(file)
-            } else {
-                Stale::Held
-            }
-        }
-        Err(error) if error.kind() == ErrorKind::NotFound => Stale::Unlocked,
-        Err(_) => Stale::Held,
-    }
-}
+/// The system's number for "operation not supported".
+const ENOTSUP: i32 = 95;
 
-/// Has the system rename a file.
-fn renamed<R: Files<File = File>>(rt: &R, name: &str, other: &str) -> Result<(), NameFault> {
-    match fs::rename(rt, name, other) {
-        Ok(()) => Ok(()),
-        Err(error) if error.kind() == ErrorKind::OutOfMemory => Err(NameFault::NoMemory),
-        Err(_) => Err(NameFault::Failed),
+/// Why a call on a name did nothing.
+fn fault_of(error: &io::Error) -> NameFault {
+    if error.kind() == ErrorKind::OutOfMemory {
+        NameFault::NoMemory
+    } else {
+        NameFault::Failed
     }
 }
 
@@ -141,77 +160,104 @@ impl<'a, R: Files<File = File>> Names for RealNames<'a, R> {
 
     ghost calls = { λ n. n.trace.events };
 
-    fn is_special(&mut self, name: &str) -> bool {
-        let is = match fs::metadata(self.rt, name) {
-            Ok(found) => !found.is_file(),
-            Err(_) => false,
+    fn is_special(&mut self, name: &str) -> Answer {
+        let is = match looked(fs::metadata(self.rt, name)) {
+            Look::There(found) if !found.is_file() => Answer::Yes,
+            Look::There(_) | Look::Missing => Answer::No,
+            Look::Unknown => Answer::Unknown,
         };
         self.note(&NameCall::Special(is), name, "");
         is
     }
 
-    fn is_file_of(&mut self, name: &str, other: &str) -> bool {
-        let own = fs::symlink_metadata(self.rt, name);
-        let is = is_one(&own, &fs::metadata(self.rt, other))
-            || is_one(&own, &fs::symlink_metadata(self.rt, other));
-        self.note(
-            &if is { NameCall::One } else { NameCall::Apart },
-            name,
-            other,
-        );
+    fn is_file_of(&mut self, name: &str, other: &str) -> Answer {
+        let own = looked(fs::symlink_metadata(self.rt, name));
+        let is = match &own {
+            Look::Missing => Answer::No,
+            Look::Unknown => Answer::Unknown,
+            Look::There(_) => match is_one(&own, &looked(fs::metadata(self.rt, other))) {
+                Answer::No => is_one(&own, &looked(fs::symlink_metadata(self.rt, other))),
+                answer => answer,
+            },
+        };
+        self.note(&NameCall::Same(is), name, other);
         is
     }
 
-    fn remove_stale(&mut self, name: &str, _other: &str) -> bool {
-        // The lock is held until the file that has it is gone.
-        let stale = stale_of(self.rt, name);
-        if matches!(&stale, Stale::Held) {
-            self.note(&NameCall::Held, name, "");
-            return false;
-        }
-        self.note(&NameCall::Free, name, "");
-        self.remove_file(name);
-        true
+    fn look(&mut self, name: &str) -> Found {
+        let found = match looked(fs::symlink_metadata(self.rt, name)) {
+            Look::There(found) if found.is_file() => Found::File,
+            Look::There(_) => Found::Other,
+            Look::Missing => Found::Nothing,
+            Look::Unknown => Found::Unknown,
+        };
+        self.note(&NameCall::Looked(found), name, "");
+        found
     }
 
-    fn make_new(&mut self, name: &str, other: &str) -> Result<RealFile, NameFault> {
-        let mode = match mode_of(self.rt, other) {
-            Some(_) => PRIVATE,
-            None => READ_AND_WRITTEN,
-        };
-        let Ok(file) = RealFile::create_new(self.rt, name, mode) else {
-            self.note(&NameCall::NotMade(NameFault::Failed), name, "");
-            return Err(NameFault::Failed);
-        };
-        self.note(&NameCall::Made, name, "");
-        if !is_free(file.try_lock()) {
-            self.note(&NameCall::Held, name, "");
-            return Err(NameFault::Failed);
+    fn open_old(&mut self, name: &str) -> Result<RealFile, NameFault> {
+        match RealFile::open_regular(self.rt, name) {
+            Ok(file) => {
+                self.note(&NameCall::Opened, name, "");
+                Ok(file)
+            }
+            Err(error) => {
+                let fault = fault_of(&error);
+                self.note(&NameCall::NotOpened(fault), name, "");
+                Err(fault)
+            }
         }
-        self.note(&NameCall::Free, name, "");
-        if is_one(&fs::symlink_metadata(self.rt, name), &file.metadata()) {
-            return Ok(file);
-        }
-        self.remove_own(name, &file);
-        Err(NameFault::Failed)
     }
 
-    fn allow(&mut self, name: &str, file: &RealFile, other: &str) -> bool {
-        let is_allowed = match mode_of(self.rt, other) {
-            Some(mode) => file.set_permissions(Permissions::from_mode(mode)).is_ok(),
-            None => true,
+    fn make_new(&mut self, name: &str) -> Result<RealFile, NameFault> {
+        match RealFile::create_new(self.rt, name, PRIVATE) {
+            Ok(file) => {
+                self.note(&NameCall::Made, name, "");
+                Ok(file)
+            }
+            Err(error) => {
+                let fault = fault_of(&error);
+                self.note(&NameCall::NotMade(fault), name, "");
+                Err(fault)
+            }
+        }
+    }
+
+    fn lock(&mut self, name: &str, file: &RealFile) -> Lock {
+        let lock = lock_of(file.try_lock());
+        self.note(&NameCall::Locked(lock), name, "");
+        lock
+    }
+
+    fn has_file(&mut self, name: &str, file: &RealFile) -> Answer {
+        let is = has_name(self.rt, name, file);
+        self.note(&NameCall::Own(is), name, "");
+        is
+    }
+
+    fn bits_for(&mut self, name: &str) -> Option<u32> {
+        let bits = match looked(fs::symlink_metadata(self.rt, name)) {
+            Look::There(found) if found.is_file() => Some(found.permissions().mode() & FOR_ALL),
+            Look::There(_) | Look::Missing => new_bits(self.rt),
+            Look::Unknown => None,
         };
+        self.note(&NameCall::Bits(bits), name, "");
+        bits
+    }
+
+    fn allow(&mut self, name: &str, file: &RealFile, bits: u32) -> bool {
+        let is_allowed = file.set_permissions(Permissions::from_mode(bits)).is_ok();
         let call = if is_allowed {
-            NameCall::Allowed
+            NameCall::Allowed(bits)
         } else {
             NameCall::NotAllowed
         };
-        self.note(&call, name, other);
+        self.note(&call, name, "");
         is_allowed
     }
 
     fn remove_own(&mut self, name: &str, file: &RealFile) {
-        let is_own = is_one(&fs::symlink_metadata(self.rt, name), &file.metadata());
+        let is_own = has_name(self.rt, name, file) == Answer::Yes;
         let removed = is_own && fs::remove_file(self.rt, name).is_ok();
         self.note(&removal(removed), name, "");
     }
@@ -229,10 +275,11 @@ impl<'a, R: Files<File = File>> Names for RealNames<'a, R> {
             ≡ (NotRenamed len u.fault, name.now, other.now, file.trace.events)
             ∷ self.old.trace.events) }
     {
-        let found = file.metadata();
-        let is_whole = matches!(&found, Ok(found) if found.len() == len);
-        let answer = if is_whole && is_one(&fs::symlink_metadata(self.rt, name), &found) {
-            renamed(self.rt, name, other)
+        let found = looked(file.metadata());
+        let is_whole = matches!(&found, Look::There(found) if found.len() == len);
+        let is_own = is_one(&looked(fs::symlink_metadata(self.rt, name)), &found);
+        let answer = if is_whole && is_own == Answer::Yes {
+            fs::rename(self.rt, name, other).map_err(|error| fault_of(&error))
         } else {
             Err(NameFault::Failed)
         };

@@ -24,6 +24,7 @@ use crate::fault::FileFault;
 use crate::names::Names;
 use crate::real_names::RealNames;
 use crate::replace::{Builder, replace_file};
+use crate::unsynced::Unsynced;
 use cdb_form::{PIPE, Record, Width};
 use cdb_make::{MakeFault, Maker, Mode};
 use cdb_store::{BufferedStore, FileStore, Store};
@@ -113,12 +114,13 @@ impl<'a, S: Store, L: Width> Builder<S> for Records<'a, L> {
             records,
             width: _,
         } = self;
-        match BufferedStore::new(alloc, store, PIPE) {
+        match BufferedStore::new(alloc, Unsynced::over(store), PIPE) {
             Ok(buffered) => {
-                let (buffered, made) = put_all::<BufferedStore<S>, L>(alloc, buffered, records);
-                (buffered.discard(), made)
+                let (buffered, made) =
+                    put_all::<BufferedStore<Unsynced<S>>, L>(alloc, buffered, records);
+                (buffered.discard().into_inner(), made)
             }
-            Err(failed) => (failed.value, Err(MakeFault::NoMemory)),
+            Err(failed) => (failed.value.into_inner(), Err(MakeFault::NoMemory)),
         }
     }
 }
@@ -126,7 +128,7 @@ impl<'a, S: Store, L: Width> Builder<S> for Records<'a, L> {
 /// Makes the database of some records under a name, by way of a temporary name, in place of what
 /// has the name. Several records may have one key.
 ///
-/// What had the name keeps it until the new file is whole and flushed, and after a fault, unless a
+/// What had the name keeps it until the new file is whole and synced, and after a fault, unless a
 /// rename that answered a fault happened all the same.
 pub fn make_file_in<L: Width, N: Names>(
     names: &mut N,
@@ -138,9 +140,9 @@ pub fn make_file_in<L: Width, N: Names>(
     ensures ok { OnOk result (IsRenamed temporary.now name.now (N.calls names.new)) }
     ensures calls { AreOfReplacing temporary.now name.now (IsFileOf L.WORD records.now)
         (N.calls names.old) (N.calls names.new) }
-    // No call removes or renames a file that another create holds, and none renames a file that
-    // has both names.
-    ensures guarded { AreGuarded (N.calls names.old) (N.calls names.new) }
+    // A name is taken only from a file whose lock this create holds, and a file is renamed only if it
+    // may replace the other.
+    ensures guarded { AreGuarded name.now (N.calls names.old) (N.calls names.new) }
     ensures kept { OnErr result (renames (N.calls names.new) ≡ renames (N.calls names.old)) }
     ensures err { IfErr result
         (FailsMaking temporary.now name.now (N.calls names.old) (N.calls names.new)) }

@@ -1,32 +1,56 @@
 // A file is replaced under its name: at once, or not at all.
-ghost use Rattle.std.specs.Prelude.{◌≡◌, ◌≢◌, ℕ, ◌+◌, ◌↔◌, ◌⊎◌, ⊤, List, [], ◌∷◌, IsTrue};
-ghost use Rattle.std.specs.Prelude.{IfOk, IfErr, OnOk, OnErr, Result};
+ghost use Rattle.std.specs.Prelude.{◌≡◌, ◌≢◌, ℕ, ◌+◌, ◌<◌, ◌↔◌, ◌⊎◌, ⊤, List, [], ◌∷◌, IsTrue};
+ghost use Rattle.std.specs.Prelude.{IfOk, IfErr, OnOk, OnErr, Result, Ok, Err, true, false};
 ghost use Rattle.cdb_store.specs.Calls.{IsSynced, FileImage};
-ghost use Rattle.cdb_store.specs.FileStore.{calls_of};
+ghost use Rattle.cdb_store.specs.FileStore.{calls_of, failures_of, images_of};
+ghost use Rattle.cdb_store.specs.Images.{SameImages};
 ghost use Rattle.cdb_store.specs.declared.trace.Call.TheVariants.{Made as FileMade};
-ghost use Rattle.cdb_files.specs.Folder.{AreApart, AreGuarded, HasLock, NameCalls};
+ghost use Rattle.cdb_files.specs.Folder.{
+  AreApart,
+  AreGuarded,
+  IsPlain,
+  MayRemove,
+  MayReplace,
+  MayUndo,
+};
+ghost use Rattle.cdb_files.specs.declared.answer.Answer.TheVariants.{Yes, No};
+ghost use Rattle.cdb_files.specs.declared.answer.Lock.TheVariants.{Held};
+ghost use Rattle.cdb_files.specs.declared.name_trace.NameCall.TheVariants.{Same, Locked, Own};
 ghost use Rattle.cdb_files.specs.declared.name_fault.NameFault.{NameFault};
-ghost use Rattle.cdb_files.specs.declared.name_trace.NameCall.TheVariants.{NotMade};
-ghost use Rattle.cdb_files.specs.declared.replace.ReplaceFault.TheVariants.{Open, NoMemory, Rename};
+ghost use Rattle.cdb_files.specs.declared.replace.ReplaceFault.TheVariants.{
+  Open,
+  NoMemory,
+  Rename,
+  Write,
+};
 ghost use Rattle.cdb_files.specs.Replacing.{
   AreOfReplacing,
+  AreSteps,
   AtEachMoment,
   EndsIn,
   FailsRename,
   FailsToBuild,
+  FailsToSeal,
+  GivesBits,
+  IsMadeApart,
   IsNoName,
   IsOfBuilder,
+  IsReadyToBuild,
   IsRenamed,
+  IsUndoing,
   LeavesNew,
   LeavesOldOrNew,
   RenamesFile,
-  StopsMaking,
+  StopsAt,
   StopsUnbuilt,
+  TakesLock,
   Tells,
   of_name,
+  of_open,
   renames,
 };
 
+use crate::answer::{Answer, Found, Lock};
 use crate::name_fault::NameFault;
 use crate::names::{Names, Unrenamed};
 use cdb_store::{FileStore, Store};
@@ -51,10 +75,9 @@ pub trait Builder<S: Store> {
     ghost tells: { Self → Self.Told → Self.Told → (List ℕ → Type 0) → Result Unit Self.Fault
         → Type 0 };
 
-    /// Builds the file, and flushes the store after its last change. It hands the store back. After
-    /// a fault that may hold anything.
+    /// Builds the file, and hands the store back. It need not flush the store: the caller does, after
+    /// its own last change. After a fault the store may hold anything.
     fn build(self, store: S, told: &mut Self::Told) -> (S, Result<(), Self::Fault>)
-        ensures settled { OnOk result.1 (S.settled result.0) }
         ensures built { OnOk result.1 ((b : List ℕ) → S.image result.0 b → builds self b) }
         ensures fails { IfErr result.1 (fails self store result.0) }
         ensures tells { tells self told.old told.new (S.image result.0) result.1 };
@@ -63,11 +86,14 @@ pub trait Builder<S: Store> {
 /// Why a file was not replaced.
 #[derive(Clone, Copy, Debug, PartialEq, Eq)]
 pub enum ReplaceFault<E> {
-    /// The file's name is empty, ends in a slash or is the temporary name too, or another create
-    /// holds the temporary file, or none could be made, or not with the old file's permissions.
+    /// The file's name is empty, ends in a slash or is the temporary name too; or the temporary name
+    /// has something that is no regular file, or the file of another create; or no file could be
+    /// made, or not with the old file's permissions; or the system did not say what a name has.
     Open,
-    /// An allocation failed as the temporary file was made or renamed.
+    /// The system had no memory as the temporary file was opened, made or renamed.
     NoMemory,
+    /// The file was built, and could not be synced.
+    Write,
     /// The file's name leads to a folder, a device, a socket or a pipe, or the rename failed, or
     /// the temporary name was no longer that of the file that was made.
     Rename,
@@ -85,18 +111,29 @@ fn is_no_name(name: &str) -> bool
     }
 }
 
-/// Takes an old file or a link from the temporary name, unless it is the file to be replaced or
-/// another create holds it.
-fn clear<N: Names, E: Drop>(
+/// What the fault of an open is to the caller.
+fn open_fault<E>(fault: NameFault) -> ReplaceFault<E>
+    ensures { result ≡ of_open fault }
+{
+    match fault {
+        NameFault::Failed => ReplaceFault::Open,
+        NameFault::NoMemory => ReplaceFault::NoMemory,
+    }
+}
+
+/// Sees that the names can be those of a replacement: the name leads to a regular file or to
+/// nothing, and the two are of two files.
+fn see_names<N: Names, E: Drop>(
     names: &mut N,
     name: &str,
     temporary: &str,
 ) -> Result<(), ReplaceFault<E>>
     ensures apart { OnOk result (temporary.now ≢ name.now) }
     ensures one_name { (temporary.now ≢ name.now) ⊎ (N.calls names.new ≡ N.calls names.old) }
-    ensures calls { AreOfReplacing temporary.now name.now (λ _. ⊥) (N.calls names.old)
+    ensures steps { AreSteps temporary.now name.now (λ _. ⊥) (N.calls names.old)
         (N.calls names.new) }
-    ensures guarded { AreGuarded (N.calls names.old) (N.calls names.new) }
+    ensures plain { OnOk result (IsPlain name.now (N.calls names.new)) }
+    ensures seen { OnOk result (AreApart temporary.now name.now (N.calls names.new)) }
     ensures renames { renames (N.calls names.new) ≡ renames (N.calls names.old) }
     ensures err { IfErr result
         (StopsUnbuilt temporary.now name.now (N.calls names.old) (N.calls names.new)) }
@@ -108,49 +145,120 @@ fn clear<N: Names, E: Drop>(
     if temporary == name {
         return Err(ReplaceFault::Open);
     }
-    if names.is_special(name) {
-        return Err(ReplaceFault::Rename);
+    match names.is_special(name) {
+        Answer::No => {}
+        Answer::Yes => return Err(ReplaceFault::Rename),
+        Answer::Unknown => return Err(ReplaceFault::Open),
     }
-    if names.is_file_of(temporary, name) {
-        return Err(ReplaceFault::Open);
-    }
-    if names.remove_stale(temporary, name) {
-        Ok(())
-    } else {
-        Err(ReplaceFault::Open)
+    match names.is_file_of(temporary, name) {
+        Answer::No => Ok(()),
+        Answer::Yes => Err(ReplaceFault::Open),
+        Answer::Unknown => Err(ReplaceFault::Open),
     }
 }
 
-/// Makes a file under the temporary name, with the permissions of the file to be replaced. Two
-/// names can be of one file though none was there before, so that is seen once more.
+/// Takes the lock of an open file of a name, and answers whether no other process holds it then.
+fn is_locked<N: Names>(names: &mut N, name: &str, file: &N::File) -> bool
+    ensures free { result ≡ true → TakesLock name.now (N.calls names.old) (N.calls names.new) }
+    ensures held { result ≡ false
+        → N.calls names.new ≡ (Locked Held, name.now, [], []) ∷ N.calls names.old }
+{
+    match names.lock(name, file) {
+        Lock::Taken => true,
+        Lock::Unsupported => true,
+        Lock::Held => false,
+    }
+}
+
+/// Removes the old file of the temporary name, once its lock is taken: no other create holds it then.
+fn remove_old<N: Names, E: Drop>(names: &mut N, name: &str, temporary: &str) -> Result<(), ReplaceFault<E>>
+    requires seen { AreApart temporary.now name.now (N.calls names.old) }
+    ensures steps { AreSteps temporary.now name.now (λ _. ⊥) (N.calls names.old)
+        (N.calls names.new) }
+    ensures plain { IsPlain name.now (N.calls names.old) → IsPlain name.now (N.calls names.new) }
+    ensures renames { renames (N.calls names.new) ≡ renames (N.calls names.old) }
+    ensures err { IfErr result (StopsAt temporary.now name.now (N.calls names.new)) }
+    ensures not_built { IfErr result (IsOfBuilder (λ _. ⊥)) }
+{
+    let old = match names.open_old(temporary) {
+        Ok(old) => old,
+        Err(fault) => return Err(open_fault(fault)),
+    };
+    if !is_locked(names, temporary, &old) {
+        return Err(ReplaceFault::Open);
+    }
+    names.remove_own(temporary, &old);
+    Ok(())
+}
+
+/// Sees that nothing has the temporary name, or removes the old file that has it. If the look found
+/// nothing, nothing is removed: a file that is there by then is another create's.
+fn clear<N: Names, E: Drop>(names: &mut N, name: &str, temporary: &str) -> Result<(), ReplaceFault<E>>
+    requires seen { AreApart temporary.now name.now (N.calls names.old) }
+    ensures steps { AreSteps temporary.now name.now (λ _. ⊥) (N.calls names.old)
+        (N.calls names.new) }
+    ensures plain { IsPlain name.now (N.calls names.old) → IsPlain name.now (N.calls names.new) }
+    ensures renames { renames (N.calls names.new) ≡ renames (N.calls names.old) }
+    ensures err { IfErr result (StopsAt temporary.now name.now (N.calls names.new)) }
+    ensures not_built { IfErr result (IsOfBuilder (λ _. ⊥)) }
+{
+    match names.look(temporary) {
+        Found::Nothing => Ok(()),
+        Found::File => remove_old(names, name, temporary),
+        Found::Other => Err(ReplaceFault::Open),
+        Found::Unknown => Err(ReplaceFault::Open),
+    }
+}
+
+/// Whether the temporary name has the file that was made, and is of another file than the name. Both
+/// are seen once the file is locked: another create may have taken it for an old file before, and two
+/// names can be of one file though none was there.
+fn is_own_apart<N: Names>(names: &mut N, name: &str, temporary: &str, file: &N::File) -> bool
+    ensures seen { result ≡ true → N.calls names.new ≡ (Same No, temporary.now, name.now, [])
+        ∷ (Own Yes, temporary.now, [], []) ∷ N.calls names.old }
+    ensures undone { result ≡ false
+        → IsUndoing temporary.now name.now (N.calls names.new) }
+    ensures steps { AreSteps temporary.now name.now (λ _. ⊥) (N.calls names.old)
+        (N.calls names.new) }
+    ensures may { MayUndo temporary.now (N.calls names.old)
+        → MayUndo temporary.now (N.calls names.new) }
+    ensures renames { renames (N.calls names.new) ≡ renames (N.calls names.old) }
+{
+    match names.has_file(temporary, file) {
+        Answer::Yes => {}
+        Answer::No => return false,
+        Answer::Unknown => return false,
+    }
+    match names.is_file_of(temporary, name) {
+        Answer::No => true,
+        Answer::Yes => false,
+        Answer::Unknown => false,
+    }
+}
+
+/// Makes a file under the temporary name, which nothing has, for this user alone, and takes its lock.
 fn make_own<N: Names, E: Drop>(
     names: &mut N,
     name: &str,
     temporary: &str,
 ) -> Result<FileStore<N::File>, ReplaceFault<E>>
-    ensures calls { AreOfReplacing temporary.now name.now (λ _. ⊥) (N.calls names.old)
+    ensures steps { AreSteps temporary.now name.now (λ _. ⊥) (N.calls names.old)
         (N.calls names.new) }
-    ensures guarded { AreGuarded (N.calls names.old) (N.calls names.new) }
-    ensures lock { OnOk result (HasLock temporary.now (N.calls names.new)) }
-    ensures seen { OnOk result (AreApart temporary.now name.now (N.calls names.new)) }
+    ensures made { OnOk result
+        (IsMadeApart temporary.now name.now (N.calls names.old) (N.calls names.new)) }
     ensures renames { renames (N.calls names.new) ≡ renames (N.calls names.old) }
-    ensures err { IfErr result (λ e.
-        (e ≡ Open) × StopsMaking temporary.now name.now (N.calls names.new)
-        ⊎ (e ≡ NoMemory) × ((before : NameCalls) × (N.calls names.new
-        ≡ (NotMade NameFault.NoMemory, temporary.now, [], []) ∷ before))) }
+    ensures err { IfErr result (StopsAt temporary.now name.now (N.calls names.new)) }
+    ensures not_built { IfErr result (IsOfBuilder (λ _. ⊥)) }
     ensures empty { IfOk result (λ s. calls_of s ≡ (FileMade, []) ∷ []) }
 {
-    let file = match names.make_new(temporary, name) {
+    let file = match names.make_new(temporary) {
         Ok(file) => file,
-        Err(NameFault::Failed) => return Err(ReplaceFault::Open),
-        Err(NameFault::NoMemory) => return Err(ReplaceFault::NoMemory),
+        Err(fault) => return Err(open_fault(fault)),
     };
-    let is_database = names.is_file_of(temporary, name);
-    if is_database {
-        names.remove_own(temporary, &file);
+    if !is_locked(names, temporary, &file) {
         return Err(ReplaceFault::Open);
     }
-    if !names.allow(temporary, &file, name) {
+    if !is_own_apart(names, name, temporary, &file) {
         names.remove_own(temporary, &file);
         return Err(ReplaceFault::Open);
     }
@@ -166,19 +274,50 @@ fn make_temporary<N: Names, E: Drop>(
 ) -> Result<FileStore<N::File>, ReplaceFault<E>>
     ensures apart { OnOk result (temporary.now ≢ name.now) }
     ensures one_name { (temporary.now ≢ name.now) ⊎ (N.calls names.new ≡ N.calls names.old) }
-    ensures calls { AreOfReplacing temporary.now name.now (λ _. ⊥) (N.calls names.old)
+    ensures steps { AreSteps temporary.now name.now (λ _. ⊥) (N.calls names.old)
         (N.calls names.new) }
-    ensures guarded { AreGuarded (N.calls names.old) (N.calls names.new) }
-    ensures lock { OnOk result (HasLock temporary.now (N.calls names.new)) }
-    ensures seen { OnOk result (AreApart temporary.now name.now (N.calls names.new)) }
+    ensures made { OnOk result (IsReadyToBuild temporary.now name.now (N.calls names.new)) }
     ensures renames { renames (N.calls names.new) ≡ renames (N.calls names.old) }
     ensures err { IfErr result
         (StopsUnbuilt temporary.now name.now (N.calls names.old) (N.calls names.new)) }
     ensures empty { IfOk result (λ s. calls_of s ≡ (FileMade, []) ∷ []) }
     ensures not_built { IfErr result (IsOfBuilder (λ _. ⊥)) }
 {
+    see_names(names, name, temporary)?;
     clear(names, name, temporary)?;
     make_own(names, name, temporary)
+}
+
+/// Gives the file that was built the permission bits of the one that it replaces, and syncs it. The
+/// bits come last, so that what a create which is killed leaves is open to this user alone.
+fn seal<N: Names, E>(
+    names: &mut N,
+    store: &mut FileStore<N::File>,
+    name: &str,
+    temporary: &str,
+) -> Result<(), ReplaceFault<E>>
+    ensures steps { AreSteps temporary.now name.now (λ _. ⊥) (N.calls names.old)
+        (N.calls names.new) }
+    ensures ok { OnOk result (GivesBits temporary.now name.now (N.calls names.old)
+        (N.calls names.new)) }
+    ensures may { MayRemove temporary.now name.now (N.calls names.old)
+        → MayRemove temporary.now name.now (N.calls names.new) }
+    ensures renames { renames (N.calls names.new) ≡ renames (N.calls names.old) }
+    ensures err { IfErr result (λ f. FailsToSeal temporary.now name.now (N.calls names.new) f) }
+    ensures synced { OnOk result (IsSynced (calls_of store.new)) }
+    ensures images { SameImages (images_of store.old) (images_of store.new) }
+    ensures failed { result ≡ Err Write → failures_of store.old < failures_of store.new }
+{
+    let Some(bits) = names.bits_for(name) else {
+        return Err(ReplaceFault::Open);
+    };
+    if !names.allow(temporary, store.file(), bits) {
+        return Err(ReplaceFault::Open);
+    }
+    match store.flush() {
+        Ok(()) => Ok(()),
+        Err(_) => Err(ReplaceFault::Write),
+    }
 }
 
 /// What the fault of a rename is to the caller.
@@ -200,14 +339,12 @@ fn publish<N: Names, E: Drop>(
     temporary: &str,
 ) -> Result<(), ReplaceFault<E>>
     requires settled { IsSynced (N.File.calls file) }
-    requires lock { HasLock temporary.now (N.calls names.old) }
-    requires seen { AreApart temporary.now name.now (N.calls names.old) }
+    requires ready { MayReplace temporary.now name.now (N.calls names.old) }
     ensures ok { OnOk result (IsRenamed temporary.now name.now (N.calls names.new)) }
     ensures file { OnOk result
         (RenamesFile temporary.now name.now len (N.File.calls file) (N.calls names.new)) }
-    ensures calls { AreOfReplacing temporary.now name.now (FileImage len (N.File.calls file))
+    ensures steps { AreSteps temporary.now name.now (FileImage len (N.File.calls file))
         (N.calls names.old) (N.calls names.new) }
-    ensures guarded { AreGuarded (N.calls names.old) (N.calls names.new) }
     ensures sure { OnOk result (LeavesNew name.now (FileImage len (N.File.calls file))
         (N.calls names.new)) }
     ensures renames_ok { OnOk result
@@ -228,14 +365,18 @@ fn publish<N: Names, E: Drop>(
     }
 }
 
-/// Builds a file under a temporary name, and gives it the name once it is whole and flushed, in
+/// Builds a file under a temporary name, and gives it the name once it is whole and synced, in
 /// place of the file that had it.
 ///
-/// An old file of the temporary name, or a link, is removed first, unless it is the file to be
-/// replaced or another create holds it, so no link is followed and no file that is open is
-/// overwritten. The new file has the permission bits of the regular file that it replaces. It is
-/// locked until after the rename, so no other create takes it. After a fault the temporary name is
-/// taken from the file, if it still has it. A folder that cannot be synced is no fault.
+/// An old regular file of the temporary name is removed first, once its lock is taken, unless it is
+/// the file to be replaced or another create holds it. Whatever else has that name stays, a link
+/// too, and so does a file that came there after the look. The new file is made for this user alone
+/// and locked until after the rename, so no other create takes it. Once it is whole it gets the
+/// permission bits of the regular file that it replaces, and then it is synced. After a fault the
+/// temporary name is taken from the file, if it still has it. A folder that cannot be synced is no
+/// fault.
+///
+/// If the system did not say what a name has, nothing is touched: `Open`.
 ///
 /// What the builder writes to beside the file is passed on to it.
 pub fn replace_file<N: Names, B: Builder<FileStore<N::File>> + Drop>(
@@ -245,12 +386,13 @@ pub fn replace_file<N: Names, B: Builder<FileStore<N::File>> + Drop>(
     builder: B,
     told: &mut B::Told,
 ) -> Result<(), ReplaceFault<B::Fault>>
-    // Nothing but the rename touches the name, and it comes after a flush that no write follows.
+    // Nothing but the rename touches the name, and it comes after a sync that no write follows.
     ensures calls { AreOfReplacing temporary.now name.now (B.builds builder) (N.calls names.old)
         (N.calls names.new) }
-    // No call removes or renames a file that another create holds, and none renames a file that
-    // has both names.
-    ensures guarded { AreGuarded (N.calls names.old) (N.calls names.new) }
+    // A name is taken only from a file whose lock this create holds. A file is renamed only if its
+    // lock is held, its name was seen to have it, the two names were seen to be of two files, it got
+    // the permission bits for the name, and that led to a regular file or to nothing.
+    ensures guarded { AreGuarded name.now (N.calls names.old) (N.calls names.new) }
     ensures ok { OnOk result (IsRenamed temporary.now name.now (N.calls names.new)) }
     ensures renames_ok { OnOk result
         (renames (N.calls names.new) ≡ renames (N.calls names.old) + 1) }
@@ -273,15 +415,15 @@ pub fn replace_file<N: Names, B: Builder<FileStore<N::File>> + Drop>(
     ensures sure { OnOk result (LeavesNew name.now (B.builds builder) (N.calls names.new)) }
 {
     let empty = make_temporary(names, name, temporary)?;
-    let (store, built) = builder.build(empty, told);
-    match built {
-        Ok(()) => {
-            let len = store.len();
-            publish(names, store.into_file(), len, name, temporary)
-        }
-        Err(fault) => {
-            names.remove_own(temporary, store.file());
-            Err(ReplaceFault::Build(fault))
-        }
+    let (mut store, built) = builder.build(empty, told);
+    if let Err(fault) = built {
+        names.remove_own(temporary, store.file());
+        return Err(ReplaceFault::Build(fault));
     }
+    if let Err(fault) = seal(names, &mut store, name, temporary) {
+        names.remove_own(temporary, store.file());
+        return Err(fault);
+    }
+    let len = store.len();
+    publish(names, store.into_file(), len, name, temporary)
 }

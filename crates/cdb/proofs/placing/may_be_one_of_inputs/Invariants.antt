@@ -1,6 +1,6 @@
 use Rattle.std.proofs.Common.{map, string_bytes, take}
 use Rattle.cdb.specs.Creating.{AsksEach}
-use Rattle.cdb.proofs.placing.is_one_of_inputs.Given as goal
+use Rattle.cdb.proofs.placing.may_be_one_of_inputs.Given as goal
 
 -- the inputs so far are other files
 abbrev pub invariant-loop-input : goal.invariant-loop-input

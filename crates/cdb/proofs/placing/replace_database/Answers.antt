@@ -10,8 +10,8 @@ returns g c =
     let answer = c.replace_file-answer.result in
     let making = making_of g.L.Width.WORD g.L.Width.GREATEST g.J.Read.remaining g.I.Read.remaining c.args.contents in
     inr (
-      g.N.Names.calls c.is_read.new.names,
-      c.is_read.ensures.others (search rules),
+      g.N.Names.calls c.may_be_read.new.names,
+      c.may_be_read.ensures.others (search rules),
       record {
         answer = answer;
         answered = c.answer_to_program.ensures;

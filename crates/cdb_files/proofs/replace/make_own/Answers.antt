@@ -1,62 +1,46 @@
-use Rattle.std.proofs.Common.{refl, sym, ap, ◌∙◌, inl, inr, [], ◌∷◌, cond, subst}
-use Rattle.cdb_files.specs.Folder.{AreApart, IsCleared, NameCalls}
-use Rattle.cdb_files.specs.declared.name_trace.NameCall.TheVariants.{One, Apart, Allowed, NotAllowed}
-use Rattle.cdb_files.specs.declared.name_fault.NameFault.{NameFault}
-use Rattle.cdb_files.proofs.Replacing.{told, cleared, allowed}
-use Rattle.cdb_files.proofs.Locking.{NoneMade, none_made_calls, none_made_locked, none_made_stops, made_calls, made_locked, made_has, lock_told, lock_allowed, lock_cleared, keeps_told, keeps_allowed, apart_allowed}
+use Rattle.std.proofs.Common.{[], ◌∷◌, refl, subst}
+use Rattle.cdb_files.specs.declared.answer.Lock.TheVariants.{Held}
+use Rattle.cdb_files.specs.declared.name_trace.NameCall.TheVariants.{Locked, Made, NotMade}
+use Rattle.cdb_files.specs.Folder.{NameCalls}
+use Rattle.cdb_files.specs.Replacing.{TakesLock}
+use Rattle.cdb_files.proofs.Locking.{made_undoable, may_remove}
+use Rattle.cdb_files.proofs.Replacing.{no_step, step, go_on, cleared}
+use Rattle.cdb_files.proofs.Stops.{not_made, is_held, was_undone}
 use Rattle.cdb_files.proofs.replace.make_own.Goals as goal
 
-pub returns-in-Err-Failed-clause-calls : goal.returns-in-Err-Failed-clause-calls
-returns-in-Err-Failed-clause-calls g c = none_made_calls _ c.in-Err-Failed.field-0 c.in-Err-Failed.ensures.err
+pub returns-in-Err-clause-steps : goal.returns-in-Err-clause-steps
+returns-in-Err-clause-steps g c = step _ (NotMade c.in-Err.fault, c.args.temporary.now, [], []) (no_step _) c.in-Err.ensures.err tt tt
 
-pub returns-in-Err-Failed-clause-guarded : goal.returns-in-Err-Failed-clause-guarded
-returns-in-Err-Failed-clause-guarded g c = none_made_locked _ c.in-Err-Failed.field-0 c.in-Err-Failed.ensures.err
+pub returns-in-Err-clause-err : goal.returns-in-Err-clause-err
+returns-in-Err-clause-err g c = rw c.open_fault.ensures (not_made _ c.args.temporary.now c.args.name.now _ _ c.in-Err.fault c.in-Err.ensures.err)
 
-pub returns-in-Err-Failed-clause-err : goal.returns-in-Err-Failed-clause-err
-returns-in-Err-Failed-clause-err g c = inl (refl, none_made_stops _ _ (subst (λ (f : NameFault). NoneMade c.args.temporary.now (g.N.Names.calls c.args.names.now) (g.N.Names.calls c.make_new.new.self) f) c.in-Err-Failed.field-0-is c.in-Err-Failed.ensures.err))
+pub returns-then-not-is_locked-clause-steps : goal.returns-then-not-is_locked-clause-steps
+returns-then-not-is_locked-clause-steps g c =
+    step _ (Locked Held, c.args.temporary.now, [], []) (step _ (Made, c.args.temporary.now, [], []) (no_step _) c.in-Ok.ensures.ok refl tt) (c.is_locked.ensures.held c.if-not-is_locked.true) tt tt
 
-pub returns-in-Err-NoMemory-clause-calls : goal.returns-in-Err-NoMemory-clause-calls
-returns-in-Err-NoMemory-clause-calls g c = none_made_calls _ c.in-Err-NoMemory.field-0 c.in-Err-NoMemory.ensures.err
+pub returns-then-not-is_locked-clause-err : goal.returns-then-not-is_locked-clause-err
+returns-then-not-is_locked-clause-err g c = is_held c.args.temporary.now c.args.name.now _ _ (c.is_locked.ensures.held c.if-not-is_locked.true)
 
-pub returns-in-Err-NoMemory-clause-guarded : goal.returns-in-Err-NoMemory-clause-guarded
-returns-in-Err-NoMemory-clause-guarded g c = none_made_locked _ c.in-Err-NoMemory.field-0 c.in-Err-NoMemory.ensures.err
+pub returns-then-not-is_own_apart-clause-steps : goal.returns-then-not-is_own_apart-clause-steps
+returns-then-not-is_own_apart-clause-steps g c =
+    let takes = c.is_locked.ensures.free c.if-not-is_locked.false in
+    let may = c.is_own_apart.ensures.may (made_undoable c.args.temporary.now _ _ _ c.in-Ok.ensures.ok takes) in
+    cleared _ (go_on (λ b is. is) (step _ (Locked takes.lock, c.args.temporary.now, [], []) (step _ (Made, c.args.temporary.now, [], []) (no_step _) c.in-Ok.ensures.ok refl tt) takes.are tt tt) c.is_own_apart.ensures.steps) (may_remove c.args.temporary.now c.args.name.now _ may) c.remove_own.ensures
 
-pub returns-then-is_database-clause-calls : goal.returns-then-is_database-clause-calls
-returns-then-is_database-clause-calls g c =
-    cleared _ (told _ c.is_file_of-is_database.result (made_calls _ c.in-Ok.ensures.ok) c.is_file_of-is_database.ensures) c.remove_own.ensures
+pub returns-then-not-is_own_apart-clause-err : goal.returns-then-not-is_own_apart-clause-err
+returns-then-not-is_own_apart-clause-err g c =
+    was_undone c.args.temporary.now c.args.name.now _ _ (c.is_own_apart.ensures.undone c.if-not-is_own_apart.true) c.remove_own.ensures
 
-pub returns-then-is_database-clause-guarded : goal.returns-then-is_database-clause-guarded
-returns-then-is_database-clause-guarded g c =
-    lock_cleared _ (lock_told c.args.temporary.now c.args.name.now _ c.is_file_of-is_database.result (made_locked _ c.in-Ok.ensures.ok) c.is_file_of-is_database.ensures) (keeps_told c.args.temporary.now c.args.name.now c.args.temporary.now _ c.is_file_of-is_database.result (made_has _ c.in-Ok.ensures.ok) c.is_file_of-is_database.ensures) c.remove_own.ensures
+pub returns-clause-steps : goal.returns-clause-steps
+returns-clause-steps g c =
+    let takes = c.is_locked.ensures.free c.if-not-is_locked.false in
+    go_on (λ b is. is) (step _ (Locked takes.lock, c.args.temporary.now, [], []) (step _ (Made, c.args.temporary.now, [], []) (no_step _) c.in-Ok.ensures.ok refl tt) takes.are tt tt) c.is_own_apart.ensures.steps
 
-pub returns-then-is_database-clause-err : goal.returns-then-is_database-clause-err
-returns-then-is_database-clause-err g c =
-    let is = c.is_file_of-is_database.ensures ∙ ap (λ r. (cond r One Apart, c.args.temporary.now, c.args.name.now, []) ∷ g.N.Names.calls c.make_new.new.self) c.if-is_database.true in
-    inl (refl, (g.N.Names.calls c.make_new.new.self, inr (inr (inr (inr (inl (subst (λ (cs : NameCalls). IsCleared c.args.temporary.now cs (g.N.Names.calls c.remove_own.new.self)) is c.remove_own.ensures)))))))
-
-pub returns-then-not-allow-clause-calls : goal.returns-then-not-allow-clause-calls
-returns-then-not-allow-clause-calls g c =
-    cleared _ (allowed _ c.allow.result (told _ c.is_file_of-is_database.result (made_calls _ c.in-Ok.ensures.ok) c.is_file_of-is_database.ensures) c.allow.ensures) c.remove_own-then-not-allow.ensures
-
-pub returns-then-not-allow-clause-guarded : goal.returns-then-not-allow-clause-guarded
-returns-then-not-allow-clause-guarded g c =
-    lock_cleared _ (lock_allowed c.args.temporary.now c.args.name.now _ c.allow.result (lock_told c.args.temporary.now c.args.name.now _ c.is_file_of-is_database.result (made_locked _ c.in-Ok.ensures.ok) c.is_file_of-is_database.ensures) c.allow.ensures) (keeps_allowed c.args.temporary.now c.args.name.now c.args.temporary.now _ c.allow.result (keeps_told c.args.temporary.now c.args.name.now c.args.temporary.now _ c.is_file_of-is_database.result (made_has _ c.in-Ok.ensures.ok) c.is_file_of-is_database.ensures) c.allow.ensures) c.remove_own-then-not-allow.ensures
-
-pub returns-then-not-allow-clause-err : goal.returns-then-not-allow-clause-err
-returns-then-not-allow-clause-err g c =
-    let is = c.allow.ensures ∙ ap (λ r. (cond r Allowed NotAllowed, c.args.temporary.now, c.args.name.now, []) ∷ g.N.Names.calls c.is_file_of-is_database.new.self) c.if-not-allow.true in
-    inl (refl, (g.N.Names.calls c.is_file_of-is_database.new.self, inr (inr (inr (inr (inr (subst (λ (cs : NameCalls). IsCleared c.args.temporary.now cs (g.N.Names.calls c.remove_own-then-not-allow.new.self)) is c.remove_own-then-not-allow.ensures)))))))
-
-pub returns-clause-calls : goal.returns-clause-calls
-returns-clause-calls g c =
-    allowed _ c.allow.result (told _ c.is_file_of-is_database.result (made_calls _ c.in-Ok.ensures.ok) c.is_file_of-is_database.ensures) c.allow.ensures
-
-pub returns-clause-guarded : goal.returns-clause-guarded
-returns-clause-guarded g c =
-    lock_allowed c.args.temporary.now c.args.name.now _ c.allow.result (lock_told c.args.temporary.now c.args.name.now _ c.is_file_of-is_database.result (made_locked _ c.in-Ok.ensures.ok) c.is_file_of-is_database.ensures) c.allow.ensures
-
-pub returns-clause-seen : goal.returns-clause-seen
-returns-clause-seen g c =
-    let asked = g.N.Names.calls c.is_file_of-is_database.new.self in
-    let is = c.is_file_of-is_database.ensures ∙ ap (λ r. (cond r One Apart, c.args.temporary.now, c.args.name.now, []) ∷ g.N.Names.calls c.make_new.new.self) c.if-is_database.false in
-    apart_allowed c.args.temporary.now c.args.name.now _ c.allow.result (subst (λ (cs : NameCalls). AreApart c.args.temporary.now c.args.name.now cs) (sym is) (inl (refl, refl))) c.allow.ensures
+pub returns-clause-made : goal.returns-clause-made
+returns-clause-made g c =
+    let takes = c.is_locked.ensures.free c.if-not-is_locked.false in
+    record {
+      locked = g.N.Names.calls c.is_locked.new.names;
+      takes = subst (λ (cs : NameCalls). TakesLock c.args.temporary.now cs (g.N.Names.calls c.is_locked.new.names)) c.in-Ok.ensures.ok takes;
+      are = c.is_own_apart.ensures.seen c.if-not-is_own_apart.false;
+    }

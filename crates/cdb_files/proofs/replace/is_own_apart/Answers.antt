@@ -1,0 +1,19 @@
+use Rattle.std.proofs.Common.{[], refl, sym, subst}
+use Rattle.cdb_files.specs.declared.name_trace.NameCall.TheVariants.{Own, Same}
+use Rattle.cdb_files.proofs.Replacing.{no_step, step}
+use Rattle.cdb_files.proofs.replace.is_own_apart.Goals as goal
+
+pub returns-in-No-clause-steps : goal.returns-in-No-clause-steps
+returns-in-No-clause-steps g c = step _ (Own c.has_file.result, c.args.temporary.now, [], []) (no_step _) c.has_file.ensures tt tt
+
+pub returns-in-Unknown-clause-steps : goal.returns-in-Unknown-clause-steps
+returns-in-Unknown-clause-steps g c = step _ (Own c.has_file.result, c.args.temporary.now, [], []) (no_step _) c.has_file.ensures tt tt
+
+pub returns-in-No-is_file_of-clause-steps : goal.returns-in-No-is_file_of-clause-steps
+returns-in-No-is_file_of-clause-steps g c = step _ (Same c.is_file_of.result, c.args.temporary.now, c.args.name.now, []) (step _ (Own c.has_file.result, c.args.temporary.now, [], []) (no_step _) c.has_file.ensures tt tt) c.is_file_of.ensures tt tt
+
+pub returns-in-Yes-is_file_of-clause-steps : goal.returns-in-Yes-is_file_of-clause-steps
+returns-in-Yes-is_file_of-clause-steps g c = step _ (Same c.is_file_of.result, c.args.temporary.now, c.args.name.now, []) (step _ (Own c.has_file.result, c.args.temporary.now, [], []) (no_step _) c.has_file.ensures tt tt) c.is_file_of.ensures tt tt
+
+pub returns-in-Unknown-is_file_of-clause-steps : goal.returns-in-Unknown-is_file_of-clause-steps
+returns-in-Unknown-is_file_of-clause-steps g c = step _ (Same c.is_file_of.result, c.args.temporary.now, c.args.name.now, []) (step _ (Own c.has_file.result, c.args.temporary.now, [], []) (no_step _) c.has_file.ensures tt tt) c.is_file_of.ensures tt tt

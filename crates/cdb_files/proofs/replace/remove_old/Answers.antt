@@ -1,0 +1,25 @@
+use Rattle.std.proofs.Common.{[], refl}
+use Rattle.cdb_files.specs.declared.answer.Lock.TheVariants.{Held}
+use Rattle.cdb_files.specs.declared.name_trace.NameCall.TheVariants.{Locked, NotOpened, Opened}
+use Rattle.cdb_files.proofs.Locking.{old_removable}
+use Rattle.cdb_files.proofs.Replacing.{no_step, step, cleared}
+use Rattle.cdb_files.proofs.Stops.{not_opened, is_held}
+use Rattle.cdb_files.proofs.replace.remove_old.Goals as goal
+
+pub returns-in-Err-clause-steps : goal.returns-in-Err-clause-steps
+returns-in-Err-clause-steps g c = step _ (NotOpened c.in-Err.fault, c.args.temporary.now, [], []) (no_step _) c.in-Err.ensures.err tt tt
+
+pub returns-in-Err-clause-err : goal.returns-in-Err-clause-err
+returns-in-Err-clause-err g c = rw c.open_fault.ensures (not_opened _ c.args.temporary.now c.args.name.now _ _ c.in-Err.fault c.in-Err.ensures.err)
+
+pub returns-then-not-is_locked-clause-steps : goal.returns-then-not-is_locked-clause-steps
+returns-then-not-is_locked-clause-steps g c =
+    step _ (Locked Held, c.args.temporary.now, [], []) (step _ (Opened, c.args.temporary.now, [], []) (no_step _) c.in-Ok.ensures.ok tt tt) (c.is_locked.ensures.held c.if-not-is_locked.true) tt tt
+
+pub returns-then-not-is_locked-clause-err : goal.returns-then-not-is_locked-clause-err
+returns-then-not-is_locked-clause-err g c = is_held c.args.temporary.now c.args.name.now _ _ (c.is_locked.ensures.held c.if-not-is_locked.true)
+
+pub returns-clause-steps : goal.returns-clause-steps
+returns-clause-steps g c =
+    let takes = c.is_locked.ensures.free c.if-not-is_locked.false in
+    cleared _ (step _ (Locked takes.lock, c.args.temporary.now, [], []) (step _ (Opened, c.args.temporary.now, [], []) (no_step _) c.in-Ok.ensures.ok tt tt) takes.are tt tt) (old_removable c.args.temporary.now c.args.name.now _ _ _ c.requires.seen c.in-Ok.ensures.ok takes) c.remove_own.ensures
