@@ -75,6 +75,7 @@ building_below w greatest records before after pos bytes images Writing fails = 
 pub building_fault : (P Q : MakeFault → Type 0) (e : ReplaceFault MakeFault) → ((f : MakeFault) → P f → Q f) → IsOfBuilder P e → IsOfBuilding Q (of_replace e)
 building_fault P Q replacing.Open same h = tt
 building_fault P Q replacing.NoMemory same h = tt
+building_fault P Q replacing.Write same h = tt
 building_fault P Q replacing.Rename same h = tt
 building_fault P Q (replacing.Build f) same h = same f h
 

@@ -15,7 +15,7 @@ use Rattle.cdb_files.specs.declared.answer.Answer.TheVariants as answer
 use Rattle.cdb_files.specs.declared.answer.Found.TheVariants as found
 use Rattle.cdb_files.specs.declared.answer.Lock.{Lock}
 use Rattle.cdb_files.specs.declared.answer.Lock.TheVariants as locking
-use Rattle.cdb_files.specs.declared.name_trace.NameCall.TheVariants.{Special, Same, Looked, Opened}
+use Rattle.cdb_files.specs.declared.name_trace.NameCall.TheVariants.{Special, Same, Looked}
 use Rattle.cdb_files.specs.declared.name_trace.NameCall.TheVariants.{NotOpened, Made, NotMade}
 use Rattle.cdb_files.specs.declared.name_trace.NameCall.TheVariants.{Locked, Own, Bits, Allowed}
 use Rattle.cdb_files.specs.declared.name_trace.NameCall.TheVariants.{NotAllowed, Removed, NotRemoved}

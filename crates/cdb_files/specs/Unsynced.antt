@@ -1,5 +1,4 @@
 -- What a clause reads of a store whose flush is left to its owner.
-use Rattle.cdb_store.specs.declared.store.Store.{Ghosts}
 use Rattle.cdb_files.specs.declared.unsynced.Unsynced.{Unsynced}
 
 abbrev pub inner_of : {S : Type 0} → Unsynced S → S

@@ -116,8 +116,9 @@ impl<'a, S: Store, L: Width> Builder<S> for Records<'a, L> {
         } = self;
         match BufferedStore::new(alloc, Unsynced::over(store), PIPE) {
             Ok(buffered) => {
-                let (buffered, made) =
-                    put_all::<BufferedStore<Unsynced<S>>, L>(alloc, buffered, records);
+                let (buffered, made) = put_all::<BufferedStore<Unsynced<S>>, L>(
+                    alloc, buffered, records,
+                );
                 (buffered.discard().into_inner(), made)
             }
             Err(failed) => (failed.value.into_inner(), Err(MakeFault::NoMemory)),

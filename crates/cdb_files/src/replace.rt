@@ -171,7 +171,11 @@ fn is_locked<N: Names>(names: &mut N, name: &str, file: &N::File) -> bool
 }
 
 /// Removes the old file of the temporary name, once its lock is taken: no other create holds it then.
-fn remove_old<N: Names, E: Drop>(names: &mut N, name: &str, temporary: &str) -> Result<(), ReplaceFault<E>>
+fn remove_old<N: Names, E: Drop>(
+    names: &mut N,
+    name: &str,
+    temporary: &str,
+) -> Result<(), ReplaceFault<E>>
     requires seen { AreApart temporary.now name.now (N.calls names.old) }
     ensures steps { AreSteps temporary.now name.now (λ _. ⊥) (N.calls names.old)
         (N.calls names.new) }
@@ -193,7 +197,11 @@ fn remove_old<N: Names, E: Drop>(names: &mut N, name: &str, temporary: &str) -> 
 
 /// Sees that nothing has the temporary name, or removes the old file that has it. If the look found
 /// nothing, nothing is removed: a file that is there by then is another create's.
-fn clear<N: Names, E: Drop>(names: &mut N, name: &str, temporary: &str) -> Result<(), ReplaceFault<E>>
+fn clear<N: Names, E: Drop>(
+    names: &mut N,
+    name: &str,
+    temporary: &str,
+) -> Result<(), ReplaceFault<E>>
     requires seen { AreApart temporary.now name.now (N.calls names.old) }
     ensures steps { AreSteps temporary.now name.now (λ _. ⊥) (N.calls names.old)
         (N.calls names.new) }

@@ -1,4 +1,4 @@
-use Rattle.std.proofs.Common.{[], refl, inl, sym, subst}
+use Rattle.std.proofs.Common.{[], refl, inl}
 use Rattle.cdb_files.specs.declared.answer.Found.TheVariants.{Other, Unknown}
 use Rattle.cdb_files.specs.declared.name_trace.NameCall.TheVariants.{Looked}
 use Rattle.cdb_files.proofs.Replacing.{no_step, step, go_on}

@@ -1,4 +1,4 @@
-use Rattle.std.proofs.Common.{[], refl, sym, subst}
+use Rattle.std.proofs.Common.{[]}
 use Rattle.cdb_files.specs.declared.name_trace.NameCall.TheVariants.{Own, Same}
 use Rattle.cdb_files.proofs.Replacing.{no_step, step}
 use Rattle.cdb_files.proofs.replace.is_own_apart.Goals as goal

@@ -1,4 +1,4 @@
-use Rattle.std.proofs.Common.{[], refl}
+use Rattle.std.proofs.Common.{[]}
 use Rattle.cdb_files.specs.declared.answer.Lock.TheVariants.{Held}
 use Rattle.cdb_files.specs.declared.name_trace.NameCall.TheVariants.{Locked, NotOpened, Opened}
 use Rattle.cdb_files.proofs.Locking.{old_removable}

@@ -1,20 +1,69 @@
-use Rattle.std.proofs.Common.{inl, inr, ap, refl, sym, subst, ◌≡◌, List, ℕ, Result, Ok, Err}
+use Rattle.std.proofs.Common.{inr, ap, refl, sym, subst, ◌∙◌, ◌≡◌, List, ℕ, Result, Ok, Err}
 use Rattle.std.specs.Prelude.{IfErr, OnOk}
 use Rattle.cdb_store.specs.Calls.{Calls}
-use Rattle.cdb_files.specs.Replacing.{Answers, EndsIn, FailsRename, IsOfBuilder, RenamesFile, of_name}
+use Rattle.cdb_files.specs.Replacing.{Answers, EndsIn, FailsRename, FailsToSeal, IsOfBuilder, RenamesFile, of_name}
 use Rattle.cdb_files.specs.declared.name_fault.NameFault.{NameFault}
 use Rattle.cdb_files.specs.declared.name_fault.NameFault.TheVariants.{Failed, NoMemory}
 use Rattle.cdb_files.specs.Folder.{NameCalls}
 use Rattle.cdb_files.specs.declared.replace.ReplaceFault.{ReplaceFault}
-use Rattle.cdb_files.proofs.Locking.{built_removable, may_replace}
+use Rattle.cdb_files.specs.declared.replace.ReplaceFault.TheVariants.{Open, Build, Write}
+use Rattle.cdb_files.specs.declared.replace.ReplaceFault.TheVariants as replacing
+use Rattle.cdb_store.specs.Images.{SameImages}
+use Rattle.cdb_files.proofs.Locking.{built_removable}
 use Rattle.cdb_files.proofs.Replacing.{weaker, go_on, cleared, are_of_replacing, are_guarded, at_each_moment, weaker_sure, of_file}
-use Rattle.std.proofs.lemmas.Result.{on_ok_weaker, IfErr-weaker}
+use Rattle.std.proofs.lemmas.Result.{on_ok_weaker}
 use Rattle.cdb_files.proofs.replace.replace_file.Goals as goal
 
 ends_in : {E : Type 0} {t n : List ℕ} (old new : NameCalls) (e : ReplaceFault E)
     → ((fault : NameFault) × (e ≡ of_name fault) × FailsRename t n new fault) → EndsIn t n old new e
 ends_in {E = E} {t = t} {n = n} old new e (Failed, is, fails) = subst (λ (f : ReplaceFault E). EndsIn t n old new f) (sym is) (inr fails)
 ends_in {E = E} {t = t} {n = n} old new e (NoMemory, is, fails) = subst (λ (f : ReplaceFault E). EndsIn t n old new f) (sym is) (inr fails)
+
+-- an answer that the file could not be synced
+abbrev IsUnsynced : {E : Type 0} → Result Unit (ReplaceFault E) → Type 0
+IsUnsynced (Err Write) = Unit {0}
+IsUnsynced r = ⊥
+
+built_synced : (E : Type 0) (f : E) (r : Result Unit (ReplaceFault E)) → r ≡ Err (Build f) → r ≡ Err Write → ⊥
+built_synced E f r built is = subst (λ (q : Result Unit (ReplaceFault E)). IsUnsynced q) (sym is ∙ built) tt
+
+named_synced : (E : Type 0) (fault : NameFault) → IsUnsynced {E = E} (Err (of_name fault)) → ⊥
+named_synced E Failed is = is
+named_synced E NoMemory is = is
+
+-- a file that was not renamed was synced
+renames_synced : {E : Type 0} (t n : List ℕ) (calls : NameCalls) (r : Result Unit (ReplaceFault E))
+    → IfErr r (λ e. (fault : NameFault) × (e ≡ of_name fault) × FailsRename t n calls fault) → IsUnsynced r → ⊥
+renames_synced t n calls (Ok done) fails is = is
+renames_synced {E = E} t n calls (Err e) (fault, same, fails) is =
+    named_synced E fault (subst (λ (f : ReplaceFault E). IsUnsynced (Err f)) same is)
+
+no_build : (E : Type 0) (fault : NameFault) → IsOfBuilder (λ (e : E). ⊥) (of_name fault)
+no_build E Failed = tt
+no_build E NoMemory = tt
+
+-- a rename that failed is no fault of the builder
+renames_built : {E : Type 0} (t n : List ℕ) (calls : NameCalls) (r : Result Unit (ReplaceFault E))
+    → IfErr r (λ e. (fault : NameFault) × (e ≡ of_name fault) × FailsRename t n calls fault) → Answers (Ok tt) r
+renames_built t n calls (Ok done) fails = tt
+renames_built {E = E} t n calls (Err e) (fault, is, fails) = subst (λ (f : ReplaceFault E). IsOfBuilder (λ _. ⊥) f) (sym is) (no_build E fault)
+
+-- nor is a file that was not sealed
+seal_built : {E : Type 0} (t n : List ℕ) (calls : NameCalls) (fault : ReplaceFault E) → FailsToSeal t n calls fault → Answers (Ok tt) (Err fault)
+seal_built t n calls Open fails = tt
+seal_built t n calls Write fails = tt
+seal_built t n calls replacing.NoMemory fails = absurd fails
+seal_built t n calls replacing.Rename fails = absurd fails
+seal_built t n calls (Build f) fails = absurd fails
+
+-- the same of a file known by its length and its calls
+renames_same : {E : Type 0} (t n : List ℕ) (len m : ℕ) (calls file : Calls) (named : NameCalls) (r : Result Unit (ReplaceFault E)) → m ≡ len → file ≡ calls
+    → OnOk r (RenamesFile t n m file named) → OnOk r (RenamesFile t n len calls named)
+renames_same t n len m calls file named r same_len same is =
+    subst (λ (k : ℕ). OnOk r (RenamesFile t n k calls named)) same_len (subst (λ (cs : Calls). OnOk r (RenamesFile t n m cs named)) same is)
+
+same_images : (images : List ℕ → Type 0) → SameImages images images
+same_images images = record { no_other = λ b is. is; none_lost = λ b is. is }
 
 pub returns-in_err-empty-clause-calls : goal.returns-in_err-empty-clause-calls
 returns-in_err-empty-clause-calls g c = are_of_replacing (weaker (λ b none. absurd none) c.make_temporary.ensures.steps)
@@ -25,3 +74,93 @@ returns-in_err-empty-clause-guarded g c = are_guarded c.make_temporary.ensures.s
 pub returns-in_err-empty-clause-any_moment : goal.returns-in_err-empty-clause-any_moment
 returns-in_err-empty-clause-any_moment g c =
     at_each_moment (are_of_replacing (weaker (λ b none. absurd none) c.make_temporary.ensures.steps))
+
+-- ---- the builder failed
+
+pub returns-in-Err-clause-calls : goal.returns-in-Err-clause-calls
+returns-in-Err-clause-calls g c =
+    are_of_replacing (cleared _ (weaker (λ b none. absurd none) c.make_temporary.ensures.steps) (built_removable c.args.temporary.now c.args.name.now _ _ c.in_ok-empty.ensures.made.made) c.remove_own.ensures)
+
+pub returns-in-Err-clause-guarded : goal.returns-in-Err-clause-guarded
+returns-in-Err-clause-guarded g c =
+    are_guarded (cleared _ c.make_temporary.ensures.steps (built_removable c.args.temporary.now c.args.name.now _ _ c.in_ok-empty.ensures.made.made) c.remove_own.ensures)
+
+pub returns-in-Err-clause-any_moment : goal.returns-in-Err-clause-any_moment
+returns-in-Err-clause-any_moment g c =
+    at_each_moment (are_of_replacing (cleared _ (weaker (λ b none. absurd none) c.make_temporary.ensures.steps) (built_removable c.args.temporary.now c.args.name.now _ _ c.in_ok-empty.ensures.made.made) c.remove_own.ensures))
+
+pub returns-in-Err-clause-build : goal.returns-in-Err-clause-build
+returns-in-Err-clause-build g c =
+    record { empty = c.in_ok-empty.empty; left = c.build-store.result.0; made = c.in_ok-empty.ensures.empty; why = rw c.in-Err.is at c.build-store.ensures.fails }
+
+pub returns-in-Err-clause-told : goal.returns-in-Err-clause-told
+returns-in-Err-clause-told g c =
+    let store = c.build-store.result.0 in
+    inr (record {
+      left = store;
+      built = Err c.in-Err.fault;
+      tells_so = rw c.in-Err.is at c.build-store.ensures.tells;
+      answers = refl;
+      sealed = store;
+      same = same_images _;
+      unsynced = λ is. absurd (built_synced _ _ _ refl is);
+      renamed = tt;
+    })
+
+-- ---- the file was not sealed
+
+pub returns-in-Err-seal-clause-calls : goal.returns-in-Err-seal-clause-calls
+returns-in-Err-seal-clause-calls g c =
+    are_of_replacing (cleared _ (go_on (λ b none. absurd none) (weaker (λ b none. absurd none) c.make_temporary.ensures.steps) c.seal.ensures.steps) (c.seal.ensures.may (built_removable c.args.temporary.now c.args.name.now _ _ c.in_ok-empty.ensures.made.made)) c.remove_own-in-Err-seal.ensures)
+
+pub returns-in-Err-seal-clause-guarded : goal.returns-in-Err-seal-clause-guarded
+returns-in-Err-seal-clause-guarded g c =
+    are_guarded (cleared _ (go_on (λ b is. is) c.make_temporary.ensures.steps c.seal.ensures.steps) (c.seal.ensures.may (built_removable c.args.temporary.now c.args.name.now _ _ c.in_ok-empty.ensures.made.made)) c.remove_own-in-Err-seal.ensures)
+
+pub returns-in-Err-seal-clause-any_moment : goal.returns-in-Err-seal-clause-any_moment
+returns-in-Err-seal-clause-any_moment g c =
+    at_each_moment (are_of_replacing (cleared _ (go_on (λ b none. absurd none) (weaker (λ b none. absurd none) c.make_temporary.ensures.steps) c.seal.ensures.steps) (c.seal.ensures.may (built_removable c.args.temporary.now c.args.name.now _ _ c.in_ok-empty.ensures.made.made)) c.remove_own-in-Err-seal.ensures))
+
+pub returns-in-Err-seal-clause-told : goal.returns-in-Err-seal-clause-told
+returns-in-Err-seal-clause-told g c =
+    inr (record {
+      left = c.build-store.result.0;
+      built = Ok tt;
+      tells_so = rw c.in_default.is at c.build-store.ensures.tells;
+      answers = seal_built c.args.temporary.now c.args.name.now _ c.in-Err-seal.fault c.in-Err-seal.ensures.err;
+      sealed = c.seal.new.store;
+      same = c.seal.ensures.images;
+      unsynced = λ is. c.seal.ensures.failed (c.in-Err-seal.is ∙ is);
+      renamed = tt;
+    })
+
+-- ---- the file was built and sealed
+
+pub returns-clause-calls : goal.returns-clause-calls
+returns-clause-calls g c =
+    are_of_replacing (go_on (of_file _ _ _ _ c.len-len.ensures (ap g.N.File.RawFile.calls c.into_file.ensures) (λ b is. (rw c.in_default.is at c.build-store.ensures.built) b (c.seal.ensures.images.no_other b is))) (go_on (λ b none. absurd none) (weaker (λ b none. absurd none) c.make_temporary.ensures.steps) c.seal.ensures.steps) c.publish.ensures.steps)
+
+pub returns-clause-guarded : goal.returns-clause-guarded
+returns-clause-guarded g c =
+    are_guarded (go_on (of_file _ _ _ _ c.len-len.ensures (ap g.N.File.RawFile.calls c.into_file.ensures) (λ b is. (rw c.in_default.is at c.build-store.ensures.built) b (c.seal.ensures.images.no_other b is))) (go_on (λ b none. absurd none) (weaker (λ b none. absurd none) c.make_temporary.ensures.steps) c.seal.ensures.steps) c.publish.ensures.steps)
+
+pub returns-clause-any_moment : goal.returns-clause-any_moment
+returns-clause-any_moment g c =
+    at_each_moment (are_of_replacing (go_on (of_file _ _ _ _ c.len-len.ensures (ap g.N.File.RawFile.calls c.into_file.ensures) (λ b is. (rw c.in_default.is at c.build-store.ensures.built) b (c.seal.ensures.images.no_other b is))) (go_on (λ b none. absurd none) (weaker (λ b none. absurd none) c.make_temporary.ensures.steps) c.seal.ensures.steps) c.publish.ensures.steps))
+
+pub returns-clause-told : goal.returns-clause-told
+returns-clause-told g c =
+    inr (record {
+      left = c.build-store.result.0;
+      built = Ok tt;
+      tells_so = rw c.in_default.is at c.build-store.ensures.tells;
+      answers = renames_built _ _ _ c.publish.result c.publish.ensures.err;
+      sealed = c.seal.new.store;
+      same = c.seal.ensures.images;
+      unsynced = λ is. absurd (renames_synced _ _ _ c.publish.result c.publish.ensures.err (subst (λ (r : Result Unit (ReplaceFault g.row.B-Fault.Denot)). IsUnsynced r) (sym is) tt));
+      renamed = renames_same _ _ _ _ _ _ _ c.publish.result c.len-len.ensures (ap g.N.File.RawFile.calls c.into_file.ensures) c.publish.ensures.file;
+    })
+
+pub returns-clause-sure : goal.returns-clause-sure
+returns-clause-sure g c =
+    on_ok_weaker c.publish.result (weaker_sure c.args.name.now _ (of_file _ _ _ _ c.len-len.ensures (ap g.N.File.RawFile.calls c.into_file.ensures) (λ b is. (rw c.in_default.is at c.build-store.ensures.built) b (c.seal.ensures.images.no_other b is)))) c.publish.ensures.sure
