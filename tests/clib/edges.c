@@ -17,6 +17,7 @@
 #include <stdlib.h>
 #include <string.h>
 #include <sys/mman.h>
+#include <sys/resource.h>
 #include <sys/stat.h>
 #include <sys/syscall.h>
 #include <sys/time.h>
@@ -384,6 +385,72 @@ static void pieces_of_a_file(void)
   takes_nothing = 0;
 }
 
+/* A file that may not grow as the finish wants: the old one stays, or is damaged, and is not read. */
+static void limit_of_a_file(void)
+{
+  static char value[PIECE];
+  struct rlimit limit = { 4096, RLIM_INFINITY };
+  struct cdb_make m;
+  struct cdb c;
+  int fd = make("x");
+  want(signal(SIGXFSZ, SIG_IGN) != SIG_ERR && setrlimit(RLIMIT_FSIZE, &limit) == 0, "no limit");
+  want(cdb_make_start(&m, fd) == 0 && cdb_make_add(&m, "a", 1, value, sizeof value) == 0, "an add");
+  want(FAILS(cdb_make_finish(&m), -1, EFBIG), "a file above its limit is finished");
+  want(FAILS(cdb_make_finish(&m), -1, EPROTO), "a maker finishes twice");
+  want(cdb_init(&c, fd) == 0 && FAILS(cdb_find(&c, "a", 1), -1, EPROTO), "a file that was not finished");
+  cdb_free(&c);
+}
+
+/* A child goes on with its copy of a maker, and so does its parent: each finishes its own file. */
+static void fork_amid_a_make(void)
+{
+  struct cdb_make m;
+  struct cdb c;
+  int status, fd = file_named("parent"), other = file_named("child");
+  want(cdb_make_start(&m, fd) == 0 && cdb_make_add(&m, "a", 1, "1", 1) == 0, "an add");
+  pid_t child = fork();
+  if (child == 0) {
+    want(dup2(other, fd) == fd && cdb_make_add(&m, "b", 1, "22", 2) == 0 && cdb_make_finish(&m) == 0,
+         "the child does not finish");
+    _exit(has_failed);
+  }
+  want(waitpid(child, &status, 0) == child && status == 0, "the child fails");
+  want(cdb_make_add(&m, "c", 1, "333", 3) == 0 && cdb_make_finish(&m) == 0, "the parent does not finish");
+  want(cdb_init(&c, fd) == 0 && cdb_find(&c, "a", 1) == 1 && cdb_find(&c, "b", 1) == 0 &&
+       cdb_find(&c, "c", 1) == 1, "the file of the parent is another");
+  cdb_free(&c);
+  want(cdb_init(&c, other) == 0 && cdb_find(&c, "a", 1) == 1 && cdb_find(&c, "b", 1) == 1 &&
+       cdb_find(&c, "c", 1) == 0, "the file of the child is another");
+  cdb_free(&c);
+}
+
+#define MANY 200
+
+static void many_makers(void)
+{
+  static struct cdb_make makers[MANY];
+  char name[16];
+  for (unsigned n = 0; n < MANY; n++) {
+    sprintf(name, "many%u", n);
+    want(cdb_make_start(&makers[n], file_named(name)) == 0, "a start of many");
+  }
+  for (unsigned n = 0; n < 8 * MANY; n++) {
+    unsigned key = n / MANY;
+    struct cdb_make *m = &makers[n % MANY];
+    want((n % 2 ? cdb_make_add(m, &key, sizeof key, &n, sizeof n)
+                : cdb_make_put(m, &key, sizeof key, &n, sizeof n, CDB_PUT_REPLACE)) == 0, "a put of many");
+  }
+  for (unsigned n = 0; n < MANY; n++) {
+    struct cdb c;
+    unsigned key = 7, value = 0;
+    want(cdb_make_finish(&makers[n]) == 0 && cdb_init(&c, cdb_fileno(&makers[n])) == 0 &&
+         cdb_find(&c, &key, sizeof key) == 1 && cdb_readdata(&c, &value) == 0 && value == 7 * MANY + n,
+         "a file of many is another");
+    cdb_free(&c);
+    close(cdb_fileno(&makers[n]));
+  }
+}
+
 static const struct { void (*rows)(void); const char *name; } GROUPS[] = {
   { bytes_inside, "bytes inside the file" },
   { what_was_found, "what was found" },
@@ -401,6 +468,9 @@ static const struct { void (*rows)(void); const char *name; } GROUPS[] = {
   { record_that_is_too_big, "a record that is too big" },
   { records_that_fill_the_buffer, "records that fill the buffer" },
   { pieces_of_a_file, "pieces of a file" },
+  { limit_of_a_file, "the limit of a file" },
+  { fork_amid_a_make, "a fork amid a make" },
+  { many_makers, "many makers at once" },
 };
 
 int main(void)
