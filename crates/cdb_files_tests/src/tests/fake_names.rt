@@ -4,7 +4,7 @@ ghost use Rattle.cdb_files.specs.Folder.{IsCleared};
 ghost use Rattle.cdb_files.specs.declared.name_trace.NameCall.TheVariants.{Renamed, NotRenamed};
 
 use super::fake_file::FakeFile;
-use cdb_files::{NameCall, NameFault, NameTrace, Names, Unrenamed};
+use cdb_files::{Answer, Found, Lock, NameCall, NameFault, NameTrace, Names, Unrenamed};
 use cdb_store::Trace;
 use std::alloc::Global;
 
@@ -31,8 +31,12 @@ pub struct FakeNames {
     pub bytes: Vec<u8>,
     /// Whether the temporary name has a file.
     pub has_temporary: bool,
+    /// What it is, if it has one.
+    pub kind: Found,
     /// Whether another create holds it.
     pub is_held: bool,
+    /// Whether the new file got its permission bits.
+    pub is_open_to_all: bool,
     /// How many calls were made.
     pub calls: u64,
     alloc: Global,
@@ -52,7 +56,9 @@ impl FakeNames {
             database: Held::Old,
             bytes: Vec::new(alloc),
             has_temporary: true,
+            kind: Found::File,
             is_held: false,
+            is_open_to_all: false,
             calls: 0,
             alloc,
             first,
@@ -69,6 +75,17 @@ impl FakeNames {
         let call = self.calls;
         self.calls = call.saturating_add(1);
         call >= self.first && call - self.first < self.count
+    }
+
+    /// What a question is answered, if the call does not fail.
+    fn answer(&mut self, answer: Answer) -> Answer
+        ensures { self.new.trace ≡ self.old.trace }
+    {
+        if self.fails() {
+            Answer::Unknown
+        } else {
+            answer
+        }
     }
 
     /// Notes a call that is on no file.
@@ -102,48 +119,79 @@ impl Names for FakeNames {
 
     ghost calls = { λ n. n.trace.events };
 
-    fn is_special(&mut self, name: &str) -> bool {
-        let is = self.fails();
+    fn is_special(&mut self, name: &str) -> Answer {
+        let is = self.answer(Answer::No);
         self.note(&NameCall::Special(is), name, "");
         is
     }
 
-    fn is_file_of(&mut self, name: &str, other: &str) -> bool {
-        let is = self.fails();
-        let call = if is { NameCall::One } else { NameCall::Apart };
-        self.note(&call, name, other);
+    fn is_file_of(&mut self, name: &str, other: &str) -> Answer {
+        let is = self.answer(Answer::No);
+        self.note(&NameCall::Same(is), name, other);
         is
     }
 
-    fn remove_stale(&mut self, name: &str, _other: &str) -> bool {
-        if self.is_held {
-            self.note(&NameCall::Held, name, "");
-            return false;
-        }
-        self.note(&NameCall::Free, name, "");
-        self.take(name);
-        true
+    fn look(&mut self, name: &str) -> Found {
+        let found = match (self.fails(), self.has_temporary) {
+            (true, _) => Found::Unknown,
+            (false, true) => self.kind,
+            (false, false) => Found::Nothing,
+        };
+        self.note(&NameCall::Looked(found), name, "");
+        found
     }
 
-    fn make_new(&mut self, name: &str, _other: &str) -> Result<FakeFile, NameFault> {
+    fn open_old(&mut self, name: &str) -> Result<FakeFile, NameFault> {
+        if self.fails() {
+            self.note(&NameCall::NotOpened(NameFault::NoMemory), name, "");
+            return Err(NameFault::NoMemory);
+        }
+        self.note(&NameCall::Opened, name, "");
+        Ok(FakeFile::made(Vec::new(self.alloc), 1 << 40, 1))
+    }
+
+    fn make_new(&mut self, name: &str) -> Result<FakeFile, NameFault> {
         if self.fails() || self.has_temporary {
             self.note(&NameCall::NotMade(NameFault::Failed), name, "");
             return Err(NameFault::Failed);
         }
         self.has_temporary = true;
+        self.is_open_to_all = false;
         self.note(&NameCall::Made, name, "");
-        self.note(&NameCall::Free, name, "");
         Ok(FakeFile::made(Vec::new(self.alloc), self.file_first, self.count))
     }
 
-    fn allow(&mut self, name: &str, _file: &FakeFile, other: &str) -> bool {
+    fn lock(&mut self, name: &str, _file: &FakeFile) -> Lock {
+        let lock = if self.is_held || self.fails() {
+            Lock::Held
+        } else {
+            Lock::Taken
+        };
+        self.note(&NameCall::Locked(lock), name, "");
+        lock
+    }
+
+    fn has_file(&mut self, name: &str, _file: &FakeFile) -> Answer {
+        let is = self.answer(Answer::Yes);
+        self.note(&NameCall::Own(is), name, "");
+        is
+    }
+
+    fn bits_for(&mut self, name: &str) -> Option<u32> {
+        let bits = if self.fails() { None } else { Some(0o644) };
+        self.note(&NameCall::Bits(bits), name, "");
+        bits
+    }
+
+    fn allow(&mut self, name: &str, _file: &FakeFile, bits: u32) -> bool {
         let is_allowed = !self.fails();
         let call = if is_allowed {
-            NameCall::Allowed
+            NameCall::Allowed(bits)
         } else {
             NameCall::NotAllowed
         };
-        self.note(&call, name, other);
+        self.is_open_to_all |= is_allowed;
+        self.note(&call, name, "");
         is_allowed
     }
 
@@ -177,7 +225,7 @@ impl Names for FakeNames {
             return Err(Unrenamed { file, fault });
         }
         self.has_temporary = false;
-        self.database = if file.is_sure && file.bytes.len() as u64 == len {
+        self.database = if file.is_sure && self.is_open_to_all && file.bytes.len() as u64 == len {
             Held::New
         } else {
             Held::Torn

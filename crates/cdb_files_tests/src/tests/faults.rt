@@ -1,13 +1,13 @@
 // Each call on a name, and each on the file, fails in turn, alone and with all that come after it.
 use super::fake_names::{DATABASE, FakeNames, Held};
-use cdb_files::{FileFault, make_file_in};
+use cdb_files::{FileFault, Found, make_file_in};
 use cdb_form::{Narrow, Record};
 use std::alloc::Global;
 use std::test::Fail;
 
-/// How many calls on names a make takes that can fail: special, compare, remove, make, compare,
-/// allow, rename, sync.
-const NAME_CALLS: u64 = 8;
+/// How many calls on names a make takes that can fail: special, compare, look, open, lock, remove,
+/// make, lock, look at the own name, compare, bits, allow, rename, sync.
+const NAME_CALLS: u64 = 14;
 
 /// More calls than a make takes of the file.
 const FILE_CALLS: u64 = 40;
@@ -47,8 +47,15 @@ fn each_call_on_a_name_fails(rt: HostRuntime) -> Result<(), Fail> {
                 "db.tmp",
                 &records,
             );
-            assert!(rt; made.is_ok() == (first >= 7), "{first} {count}");
+            assert!(rt;
+                made.is_ok() == (first >= NAME_CALLS - 1),
+                "{first} {count}"
+            );
             assert!(rt; is_right(&names, made.is_ok()), "{first} {count}");
+            assert!(rt;
+                (made.err() == Some(FileFault::NoMemory)) == (first == 3),
+                "{first}"
+            );
         }
     }
     Ok(())
@@ -96,6 +103,23 @@ fn a_temporary_file_that_another_create_holds_is_left(rt: HostRuntime) -> Result
     let records = two_records(rt.alloc())?;
     let mut names = FakeNames::new(rt.alloc(), 1 << 40, 1, 1 << 40);
     names.is_held = true;
+    let made = make_file_in::<Narrow, FakeNames>(
+        &mut names,
+        rt.alloc(),
+        DATABASE,
+        "db.tmp",
+        &records,
+    );
+    assert!(rt; made.err() == Some(FileFault::Open));
+    assert!(rt; names.database == Held::Old && names.has_temporary);
+    Ok(())
+}
+
+#[test]
+fn what_is_no_regular_file_keeps_the_temporary_name(rt: HostRuntime) -> Result<(), Fail> {
+    let records = two_records(rt.alloc())?;
+    let mut names = FakeNames::new(rt.alloc(), 1 << 40, 1, 1 << 40);
+    names.kind = Found::Other;
     let made = make_file_in::<Narrow, FakeNames>(
         &mut names,
         rt.alloc(),

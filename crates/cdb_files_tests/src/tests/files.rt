@@ -51,14 +51,20 @@ fn a_file_that_is_not_there_is_not_opened(rt: HostRuntime) -> Result<(), Fail> {
 }
 
 #[test]
-fn a_link_of_the_temporary_name_is_not_followed(rt: HostRuntime) -> Result<(), Fail> {
+fn a_link_of_the_temporary_name_stays(rt: HostRuntime) -> Result<(), Fail> {
     fs::write(&rt, "other", "kept")?;
     symlink(&rt, "other", "link.cdb.tmp")?;
     let records = two_records(rt.alloc())?;
-    make_file::<Narrow, _>(&rt, "link.cdb", &records)?;
+    let made = make_file::<Narrow, _>(&rt, "link.cdb", &records);
+    assert!(rt; made.err() == Some(FileFault::Open), "a link is there");
     assert!(rt; fs::metadata(&rt, "other")?.len() == 4, "other");
+    assert!(rt;
+        fs::symlink_metadata(&rt, "link.cdb.tmp")?.is_symlink(),
+        "link"
+    );
+    assert!(rt; !fs::exists(&rt, "link.cdb")?, "made");
+    fs::remove_file(&rt, "link.cdb.tmp")?;
     fs::remove_file(&rt, "other")?;
-    fs::remove_file(&rt, "link.cdb")?;
     Ok(())
 }
 

@@ -1,5 +1,5 @@
 // Calls on names of the system, one by one: what they leave where another has the name.
-use cdb_files::{NameFault, Names, RealNames};
+use cdb_files::{Answer, Found, Lock, NameFault, Names, RealNames};
 use cdb_store::RealFile;
 use std::fs;
 use std::os::unix::fs::{MetadataExt, symlink};
@@ -7,7 +7,7 @@ use std::test::Fail;
 
 /// A file that is made under a name that nothing has.
 fn made(rt: &HostRuntime, name: &str) -> Result<RealFile, NameFault> {
-    RealNames::new(rt).make_new(name, "database")
+    RealNames::new(rt).make_new(name)
 }
 
 /// Whether a file of so many bytes is given another name.
@@ -56,16 +56,52 @@ fn a_file_of_its_length_is_renamed(rt: HostRuntime) -> Result<(), Fail> {
 }
 
 #[test]
-fn another_file_under_the_temporary_name_stays(rt: HostRuntime) -> Result<(), Fail> {
+fn another_file_under_the_temporary_name_is_not_renamed(rt: HostRuntime) -> Result<(), Fail> {
     let Ok(file) = made(&rt, "taken.tmp") else {
         return Err(Fail::new("no file"));
     };
     fs::remove_file(&rt, "taken.tmp")?;
     fs::write(&rt, "taken.tmp", "")?;
-    RealNames::new(&rt).remove_own("taken.tmp", &file);
-    assert!(rt; has_bytes(&rt, "taken.tmp", 0), "removed");
+    let own = RealNames::new(&rt).has_file("taken.tmp", &file);
+    assert!(rt; own == Answer::No, "another's");
     assert!(rt; !is_renamed(&rt, file, 0, "taken.tmp", "taken"), "renamed");
     assert!(rt; has_bytes(&rt, "taken.tmp", 0) && !fs::exists(&rt, "taken")?);
+    Ok(())
+}
+
+#[test]
+fn a_look_tells_what_a_name_has(rt: HostRuntime) -> Result<(), Fail> {
+    fs::write(&rt, "looked", "")?;
+    symlink(&rt, "looked", "pointing")?;
+    let rows = [
+        ("looked", Found::File),
+        ("pointing", Found::Other),
+        (".", Found::Other),
+        ("absent", Found::Nothing),
+        ("looked/under", Found::Unknown),
+    ];
+    for (name, wanted) in rows {
+        assert!(rt; RealNames::new(&rt).look(name) == wanted, "{name}");
+    }
+    Ok(())
+}
+
+#[test]
+fn a_locked_file_is_held(rt: HostRuntime) -> Result<(), Fail> {
+    let Ok(file) = made(&rt, "locked.tmp") else {
+        return Err(Fail::new("no file"));
+    };
+    let lock = RealNames::new(&rt).lock("locked.tmp", &file);
+    assert!(rt; lock == Lock::Taken, "the first");
+    let Ok(old) = RealNames::new(&rt).open_old("locked.tmp") else {
+        return Err(Fail::new("not opened"));
+    };
+    let lock = RealNames::new(&rt).lock("locked.tmp", &old);
+    assert!(rt; lock == Lock::Held, "the second");
+    drop(file);
+    let lock = RealNames::new(&rt).lock("locked.tmp", &old);
+    assert!(rt; lock == Lock::Taken, "the first is closed");
+    assert!(rt; RealNames::new(&rt).open_old(".").is_err(), "a folder");
     Ok(())
 }
 
@@ -89,7 +125,8 @@ fn files_of_two_devices_are_two(rt: HostRuntime) -> Result<(), Fail> {
                 continue;
             };
             let is_one = RealNames::new(&rt).is_file_of(name, other);
-            assert!(rt; is_one == (one == two), "{name} {other}");
+            let wanted = if one == two { Answer::Yes } else { Answer::No };
+            assert!(rt; is_one == wanted, "{name} {other}");
             if one.0 == two.0 && one.1 != two.1 {
                 compared = compared.saturating_add(1);
             }
@@ -107,13 +144,15 @@ fn a_link_to_a_file_is_not_the_file(rt: HostRuntime) -> Result<(), Fail> {
     symlink(&rt, "file", "link")?;
     fs::hard_link(&rt, "file", "again")?;
     let rows = [
-        ("file", "file", true),
-        ("again", "file", true),
-        ("./file", "file", true),
-        ("file", "link", true),
-        ("link", "file", false),
-        ("file", "missing", false),
-        ("missing", "missing", false),
+        ("file", "file", Answer::Yes),
+        ("again", "file", Answer::Yes),
+        ("./file", "file", Answer::Yes),
+        ("file", "link", Answer::Yes),
+        ("link", "file", Answer::No),
+        ("file", "missing", Answer::No),
+        ("missing", "missing", Answer::No),
+        ("file/under", "file", Answer::Unknown),
+        ("file", "file/under", Answer::Unknown),
     ];
     for (name, other, wanted) in rows {
         let is_one = RealNames::new(&rt).is_file_of(name, other);
