@@ -24,7 +24,7 @@ use Rattle.cdb_make.specs.declared.records.put.Put.TheVariants.{Added, Present, 
 use Rattle.cdb_make.specs.Gaps.{marked_gaps, unmarked, gaps_by}
 use Rattle.cdb_make.specs.Looks.{NoNewImage}
 use Rattle.cdb_make.specs.Marks.{AreMarked, fresh, with_key}
-use Rattle.cdb_make.specs.Stands.{AreGapsOf, gaps_of, IsThere}
+use Rattle.cdb_make.specs.Stands.{IsThere}
 use Rattle.cdb_make.specs.Survivors.{has_key, is_there, count_of, without, behind_first, put_list, put_answer}
 use Rattle.cdb_make.specs.Views.Batch.{Lies, Held, Holds, StaysWhole, WritesNothing, Rests, Settles, FailsSettling, PassesAtMost, IsFull, IsOver, taken_by, MustSettle, MaySettle, lone_bytes, pass_bytes, IsBroken, IsTorn, HasGaps, HasGapsOr, FailsLooking, Adds, FitsMore, FailsAdding, is_short, Exchanges, FailsExchanging, Waits, Puts, WouldPut, FailsPutting, Removes, FailsRemoving, FailsFinishing, limit_of}
 use Rattle.cdb_make.specs.Views.Carrying.{Carries, KeepsCarrying, WantsMemory}
@@ -575,11 +575,11 @@ pub just_lone : {S L : Type 0} {s : Ghosts S} {l : Widths L} (old mid : Batch S 
     → (rs : List KeyValue) → Holds old rs → WhereHonest (s.image mid.maker.store) (JustAdds l.WORD Replace r rs Added)
 just_lone {s = s} {l = l} old mid r none comes found rs h =
     let w : ℕ = l.WORD in
-    let gaps : AreGapsOf w r.key [] rs (s.image mid.maker.store) = record {
+    let gaps : AreMarked w [] (fresh r.key [] rs) rs (s.image mid.maker.store) = record {
       each = λ b is.
           let n = (found_counted old mid r.key comes found rs h).each b is in
           let m = length-gaps_by (has_key r.key) w (head_size w) rs in
-          sym (nil_from_length (gaps_of w r.key rs) (omega arith));
+          sym (nil_from_length (gaps_by (has_key r.key) w (head_size w) rs) (omega arith));
     } in
     just_replace rs r refl gaps
 

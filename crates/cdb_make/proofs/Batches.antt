@@ -18,11 +18,13 @@ use Rattle.cdb_make.specs.Gaps.{AreApart, marked_gaps, unmarked}
 use Rattle.cdb_make.specs.Looks.{NoNewImage}
 use Rattle.cdb_make.specs.Marks.{AreMarked, WritesPass}
 use Rattle.cdb_make.specs.Views.Batch.{Lies, Holds, WritesNothing, FailsLooking, Settles, FailsSettling, count_in}
-use Rattle.cdb_make.specs.Views.Carrying.{Carries, KeepsCarrying, PassFails}
+use Rattle.cdb_make.specs.Views.Carrying.{Carries, KeepsCarrying}
+use Rattle.cdb_make.specs.Views.Closing.{ClosingFails}
+use Rattle.cdb_make.specs.Views.Lists.{all_entries}
 use Rattle.cdb_make.specs.Views.Maker.{WhereHonest, ComesFrom}
 use Rattle.cdb_make.specs.Views.Maker.{Holds as Has, HoldsIn, FailsLooking as FailsIn, WritesNothing as WritesNone}
 use Rattle.cdb_make.proofs.Carrying.{held_carried, carried_stand, all_unmarked}
-use Rattle.cdb_make.proofs.Marks.{unmarked_count, sum_marked}
+use Rattle.cdb_make.proofs.Marks.{unmarked_count, sum_marked, among_self}
 use Rattle.cdb_make.proofs.SortedGaps.{sorted_gaps, marked_gaps_rise}
 use Rattle.cdb_make.proofs.Survive.{apart_marked}
 use Rattle.cdb_make.proofs.Whole.{marked_still}
@@ -79,7 +81,7 @@ held_rests {s = s} {l = l} m all marks none h =
       whole = h.carries.whole;
       each = λ b is. record {
         are = all_unmarked IsRecord marks all (h.carries.each b is).are;
-        stand = (marked_still refl found (carried_stand m.maker all marks h.carries)).each b is;
+        stand = (marked_still refl found (carried_stand m.maker all marks h.carries) (among_self w marks all)).each b is;
       };
     }
 
@@ -163,14 +165,14 @@ settles_closed {l = l} old new gaps pos moved sorted was whole none comes holds 
 
 -- and what one leaves that failed
 pub fails_pass : {S L : Type 0} {s : Ghosts S} {l : Widths L} (old new : Batch S L s l) (gaps : List Gap) (fault : MakeFault) → 0 < l.WORD → IsPermutation old.gone.items gaps → IsNonDecreasingBy (λ g. g.place) gaps → old.maker.broken ≡ false → new.maker.broken ≡ true → ComesFrom (s.image old.maker.store) (s.image new.maker.store)
-    → PassFails old.maker new.maker gaps fault → FailsSettling old new fault
-fails_pass old new gaps Broken pos moved sorted was broken comes fails = record {
+    → ClosingFails l.WORD old.maker.end gaps (all_entries old.maker.lists) (s.image old.maker.store) (s.image new.maker.store) (s.failures old.maker.store) (s.failures new.maker.store) fault → FailsSettling old new fault
+fails_pass {l = l} old new gaps Broken pos moved sorted was broken comes fails = record {
   broken = broken;
   same = λ already. absurd (let k : true ≡ false = sym already ∙ was in cc);
   cause = λ rs h b is.
       let a = comes.each b is in
       let k = h.held.each a.0 a.1 in
-      fails k.all k.marks k.lies.carries (sorted_marked old gaps k.all k.marks pos moved sorted k.lies) b is;
+      fails k.marks k.marks k.all (carried_stand old.maker k.all k.marks k.lies.carries) (sorted_marked old gaps k.all k.marks pos moved sorted k.lies) (among_self l.WORD k.marks k.all) b is;
 }
 fails_pass old new gaps Writing pos moved sorted was broken comes fails = record {
   was = was;

@@ -13,16 +13,13 @@ use Rattle.cdb_make.specs.declared.records.key_at.LookFault.{LookFault}
 use Rattle.cdb_make.specs.declared.records.key_at.LookFault.TheVariants.{Failed, Foreign}
 use Rattle.cdb_make.specs.declared.maker.Maker.{Maker}
 use Rattle.cdb_make.specs.Looks.{NoNewImage}
-use Rattle.cdb_form.proofs.Sizes.{sum_by-table_entries}
-use Rattle.cdb_make.specs.declared.removal.gap.Gap.{Gap}
-use Rattle.cdb_make.specs.Gaps.{marked_gaps, unmarked}
+use Rattle.cdb_make.specs.Gaps.{unmarked}
 use Rattle.cdb_make.specs.Stands.{Stands}
-use Rattle.cdb_make.specs.Marks.{StandMarked, AreMarked}
+use Rattle.cdb_make.specs.Marks.{StandMarked}
 use Rattle.cdb_make.specs.Views.Carrying.{Carries, CarriesIn, KeepsCarrying}
 use Rattle.cdb_make.specs.Views.Lists.{all_entries}
 use Rattle.cdb_make.specs.Views.Maker.{Holds, ComesFrom, is_foreign}
 use Rattle.cdb_make.proofs.Makers.{held_stand}
-use Rattle.cdb_make.proofs.Marks.{sum_marked, unmarked_count}
 use Rattle.cdb_make.proofs.Whole.{stand_marked}
 
 -- what it carries stands on its store
@@ -99,24 +96,11 @@ all_unmarked P (m ∷ ms) (r ∷ rs) all =
     let t : All P (unmarked ms rs) = all_unmarked P ms rs (All-tail P r rs all) in
     elim m as (λ b. All P (cond b (unmarked ms rs) (r ∷ unmarked ms rs))) [ true ↦ t | false ↦ All-cons P r (unmarked ms rs) (All-head P r rs all) t ]
 
-pub settled_holds : {S L : Type 0} {s : Ghosts S} {l : Widths L} (old new : Maker S L s l) (all : List KeyValue) (marks : List Bool) → new.broken ≡ false → Carries old all marks
-    → Stands l.WORD new.end (all_entries new.lists) (unmarked marks all) (s.image new.store) → ComesFrom (s.image old.store) (s.image new.store) → Holds new (unmarked marks all)
-settled_holds old new all marks whole h stands comes = record {
+pub settled_holds : {S L : Type 0} {s : Ghosts S} {l : Widths L} (old new : Maker S L s l) (all : List KeyValue) (marks goes : List Bool) → new.broken ≡ false → Carries old all marks
+    → Stands l.WORD new.end (all_entries new.lists) (unmarked goes all) (s.image new.store) → ComesFrom (s.image old.store) (s.image new.store) → Holds new (unmarked goes all)
+settled_holds old new all marks goes whole h stands comes = record {
   whole = whole;
   each = λ b is.
       let a = comes.each b is in
-      record { are = all_unmarked IsRecord marks all (h.each a.0 a.1).are; stand = stands.each b is };
+      record { are = all_unmarked IsRecord goes all (h.each a.0 a.1).are; stand = stands.each b is };
 }
-
--- as many entries went as there are gaps
-pub pass_counted : {S L : Type 0} {s : Ghosts S} {l : Widths L} (m : Maker S L s l) (gaps : List Gap) (all : List KeyValue) (marks : List Bool) (last : ℕ) (ls : Lists) {new : List ℕ → Type 0} → Carries m all marks
-    → AreMarked l.WORD gaps marks all (s.image m.store) → Stands l.WORD last (all_entries ls) (unmarked marks all) new → ComesFrom (s.image m.store) new
-    → (b : List ℕ) → new b → sum_by length (all_entries ls) + length gaps ≡ m.count
-pass_counted {l = l} m gaps all marks last ls h found stands comes b is =
-    let w : ℕ = l.WORD in
-    let a = comes.each b is in
-    let left : sum_by length (all_entries ls) ≡ length (unmarked marks all) = ap (sum_by length) (stands.each b is).entries ∙ sum_by-table_entries w (unmarked marks all) in
-    let count : m.count ≡ length all = sym (m.counted h.whole) ∙ ap (sum_by length) (h.each a.0 a.1).stand.entries ∙ sum_marked w marks all in
-    let gone : length gaps ≡ length (marked_gaps w (head_size w) marks all) = ap length (found.each a.0 a.1) in
-    let both = unmarked_count w (head_size w) marks all in
-    omega arith

@@ -1,14 +1,12 @@
 -- What closed lists keep of those that they were.
 use Rattle.std.proofs.Common.{◌≡◌, ℕ, suc, ◌+◌, ◌*◌, ◌<◌, ◌≤◌, ◌⊎◌, inl, inr, List, [], ◌∷◌, length, get_or, sym, ap, subst, arith, sum_by}
-use Rattle.std.specs.Prelude.{All, Result, Ok, Err, OnOk, OnErr}
+use Rattle.std.specs.Prelude.{All}
 use Rattle.std.proofs.lemmas.List.{get_or-map, length-map}
 use Rattle.std.proofs.lemmas.List.Sums.{sum_by-cons}
 use Rattle.cdb_form.specs.Format.Pair.{WordPair}
 use Rattle.cdb_make.specs.declared.removal.gap.Gap.{Gap}
 use Rattle.cdb_make.specs.declared.index.list.EntryList.{EntryList}
-use Rattle.cdb_make.specs.declared.index.lists.Lists.{Lists}
 use Rattle.cdb_make.specs.Views.EntryList.{list_entries, lists_entries, AreClosed, AreWithin, HasSpareGaps}
-use Rattle.cdb_make.specs.Views.Lists.{all_entries, AreAllClosed}
 
 -- the list at a place, in lists of which each is closed
 list_here : (ls : List EntryList) → 0 < length ls → EntryList
@@ -47,12 +45,3 @@ sum_fewer (x ∷ xs) (y ∷ ys) e h =
 pub count_small : (w count end limit : ℕ) → (w ≡ 4) ⊎ (w ≡ 8) → end + 4 * w * count ≤ limit → count ≤ limit
 count_small w count end limit (inl e) h = let k : 4 * w * count ≡ 16 * count = ap (λ (v : ℕ). 4 * v * count) e in omega arith
 count_small w count end limit (inr e) h = let k : 4 * w * count ≡ 32 * count = ap (λ (v : ℕ). 4 * v * count) e in omega arith
-
--- the same where they were closed, or stayed since that failed
-pub within_taken : {T F : Type 0} (most : ℕ) (gs : List Gap) (ls ls₁ : Lists) (r : Result T F) → OnOk r (AreAllClosed gs ls ls₁) → OnErr r (ls₁ ≡ ls) → AreWithin most (all_entries ls) → AreWithin most (all_entries ls₁)
-within_taken most gs ls ls₁ (Ok x) closed same all = within_closed most closed all
-within_taken most gs ls ls₁ (Err e) closed same all = subst (λ (v : Lists). AreWithin most (all_entries v)) (sym same) all
-
-pub spare_taken : {T F : Type 0} {room : ℕ} (gs : List Gap) (ls ls₁ : Lists) (r : Result T F) → OnOk r (AreAllClosed gs ls ls₁) → OnErr r (ls₁ ≡ ls) → HasSpareGaps (all_entries ls) room → HasSpareGaps (all_entries ls₁) room
-spare_taken gs ls ls₁ (Ok x) closed same all = spare_closed closed all
-spare_taken {room = room} gs ls ls₁ (Err e) closed same all = subst (λ (v : Lists). HasSpareGaps (all_entries v) room) (sym same) all

@@ -1,6 +1,6 @@
 -- A record in the place of those of its key.
 use Rattle.std.proofs.Common.{◌≡◌, ℕ, suc, ◌+◌, ◌<◌, ◌≤◌, ◌⊎◌, inl, inr, Bool, true, false, cond, not, List, [], ◌∷◌, ◌++◌, length, get_or, refl, sym, ap, subst, ◌∙◌, arith}
-use Rattle.std.specs.Prelude.{◌==◌}
+use Rattle.std.specs.Prelude.{◌==◌, sum_by}
 use Rattle.std.specs.List.{filter, count_by}
 use Rattle.std.proofs.lemmas.List.{get_or-map, length-map}
 use Rattle.std.proofs.lemmas.List.FromFn.{get_or-map-range_with_len}
@@ -20,14 +20,20 @@ use Rattle.cdb_make.specs.declared.removal.gap.Gap.{Gap}
 use Rattle.cdb_make.specs.declared.index.list.EntryList.{EntryList}
 use Rattle.cdb_make.specs.declared.index.lists.Lists.{Lists}
 use Rattle.cdb_make.specs.declared.maker.Maker.{Maker}
-use Rattle.cdb_make.specs.Stands.{Tells, Stands, WritesSurvivors}
+use Rattle.cdb_make.specs.Marks.{AreMarked, WritesPass, fresh}
+use Rattle.cdb_make.specs.Stands.{Tells, Stands}
 use Rattle.cdb_make.specs.Survivors.{has_key, count_of, without}
 use Rattle.cdb_make.specs.Views.Adding.{AddFails}
+use Rattle.cdb_make.specs.Views.Closing.{ClosingFails}
 use Rattle.cdb_make.specs.Views.EntryList.{list_entries, list_room, HasSpareGaps}
 use Rattle.cdb_make.specs.Views.Lists.{all_entries, entry_count, entry_room, AreAllClosed}
-use Rattle.cdb_make.specs.Views.Maker.{Holds, HoldsIn, WhereHonest, ComesFrom, put_bytes}
+use Rattle.cdb_make.specs.Views.Maker.{Holds, HoldsIn, WhereHonest, ComesFrom, FailsExchanging, put_bytes}
 use Rattle.cdb_form.specs.declared.mode.Mode.TheVariants.{Replace}
+use Rattle.cdb_make.proofs.Makers.{held_stand}
+use Rattle.cdb_make.proofs.Marks.{among_none}
 use Rattle.cdb_make.proofs.Sides.{length-entries_of}
+use Rattle.cdb_make.proofs.Survive.{behind_by}
+use Rattle.cdb_make.proofs.Whole.{stand_marked}
 
 -- how many records have a test, by their hashes
 entries_counted : (w n at : ℕ) (rs : List KeyValue) → length (filter (in_table n) (entries_from w at rs)) ≡ length (filter (λ r. table_number (key_hash r.key) == n) rs)
@@ -111,12 +117,13 @@ exchanged_holds old new r rs is_record whole h stands comes = record {
 }
 
 -- and its bytes are written behind theirs
-pub exchanged_written : (w was written now : ℕ) (r : KeyValue) (rs : List KeyValue) {between new : List ℕ → Type 0} → WritesSurvivors w r.key rs between was written → now ≡ written + record_size w r → ComesFrom between new
+pub exchanged_written : (w was written now : ℕ) (r : KeyValue) (rs : List KeyValue) {between new : List ℕ → Type 0} → WritesPass w (fresh r.key [] rs) rs between was written → now ≡ written + record_size w r → ComesFrom between new
     → WhereHonest new (now ≡ was + put_bytes w Replace r rs)
 exchanged_written w was written now r rs writes more comes = record {
   each = λ b is.
       let a = comes.each b is in
       let k = writes.each a.0 a.1 in
+      let moved = ap (sum_by (record_size w)) (behind_by (has_key r.key) rs) in
       omega arith;
 }
 
@@ -132,5 +139,12 @@ add_wants a b c d full past Lookup e fails = absurd fails
 add_wants a b c d full past TooBig e fails = absurd fails
 add_wants a b c d full past Writing e fails = absurd (subst IsWriting e tt)
 
-pub room_same : {A : Type 0} {n : ℕ} (old new : ℕ) → new ≡ old → A ⊎ (new ≤ n) → A ⊎ (old ≤ n)
-room_same {A = A} {n = n} old new e full = subst (λ (v : ℕ). A ⊎ (v ≤ n)) e full
+-- why the gaps were not closed, or the record was not written behind the others
+pub exchange_fails : {S L : Type 0} {s : Ghosts S} {l : Widths L} (old : Maker S L s l) (store : S) (gs : List Gap) (key : List ℕ) (fault : MakeFault) → gs ≡ old.gaps.items
+    → ClosingFails l.WORD old.end gs (all_entries old.lists) (s.image old.store) (s.image store) (s.failures old.store) (s.failures store) fault → FailsExchanging old store key fault
+exchange_fails {s = s} {l = l} old store gs key Broken same fails = λ rs h found.
+    fails [] (fresh key [] rs) rs (stand_marked (held_stand old rs h)) (subst (λ (v : List Gap). AreMarked l.WORD v (fresh key [] rs) rs (s.image old.store)) (sym same) found) (among_none l.WORD (fresh key [] rs) rs)
+exchange_fails old store gs key Writing same fails = fails.0
+exchange_fails old store gs key Lookup same fails = fails
+exchange_fails old store gs key TooBig same fails = fails
+exchange_fails old store gs key NoMemory same fails = fails

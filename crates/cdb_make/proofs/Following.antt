@@ -8,7 +8,8 @@ use Rattle.cdb_form.specs.Format.Pair.{head_size}
 use Rattle.cdb_make.specs.Gaps.{AreApart, first_place}
 use Rattle.cdb_make.specs.declared.removal.gap.Gap.{Gap}
 use Rattle.cdb_make.specs.declared.maker.Maker.{Maker}
-use Rattle.cdb_make.specs.Views.Maker.{Follows, SameCounts}
+use Rattle.cdb_make.specs.Unfinished.{KeepsHead}
+use Rattle.cdb_make.specs.Views.Maker.{ComesFrom, Follows, SameCounts}
 use Rattle.cdb_make.proofs.FinishedFile.{kept_then}
 use Rattle.cdb_make.proofs.KeptHeads.{head_looked, head_moved}
 use Rattle.cdb_make.proofs.Makers.{comes_torn}
@@ -56,11 +57,18 @@ follows_closed {l = l} old new gaps apart torn limit room failures unwritten = r
   unwritten = unwritten;
 }
 
--- those that it noted
-pub follows_moved : {S L : Type 0} {s : Ghosts S} {l : Widths L} (old new : Maker S L s l) → AreApart (head_size l.WORD) old.gaps.items old.end
-    → TornWithin (first_place old.gaps.items old.end) (old.end - first_place old.gaps.items old.end) (s.image old.store) (s.image new.store)
-    → SameCounts {s = s} {l = l} old new → s.room old.store ≤ s.room new.store → s.failures old.store ≤ s.failures new.store → s.unwritten old.store ≤ s.unwritten new.store → Follows {s = s} {l = l} old new
-follows_moved old new apart torn counts room failures unwritten = follows_closed old new old.gaps.items apart torn counts.limit room failures unwritten
+-- and then a record was written behind the others, or was to be
+pub follows_behind : {S L : Type 0} {s : Ghosts S} {l : Widths L} (old new : Maker S L s l) (gaps : List Gap) {between : List ℕ → Type 0} → AreApart (head_size l.WORD) gaps old.end
+    → TornWithin (first_place gaps old.end) (old.end - first_place gaps old.end) (s.image old.store) between → ComesFrom between (s.image new.store) → KeepsHead l.WORD between (s.image new.store)
+    → new.limit ≡ old.limit → s.room old.store ≤ s.room new.store → s.failures old.store ≤ s.failures new.store → s.unwritten old.store ≤ s.unwritten new.store → Follows {s = s} {l = l} old new
+follows_behind {l = l} old new gaps apart torn comes head limit room failures unwritten = record {
+  comes = comes_then (comes_torn torn) comes;
+  head = kept_then (head_moved l.WORD _ _ gaps apart torn) head;
+  limit = limit;
+  room = room;
+  failures = failures;
+  unwritten = unwritten;
+}
 
 -- whose store is the same
 pub follows_still : {S L : Type 0} {s : Ghosts S} {l : Widths L} (old new : Maker S L s l) → new.store ≡ old.store → SameCounts {s = s} {l = l} old new → Follows {s = s} {l = l} old new

@@ -39,5 +39,6 @@ pub mod Puts
 pub mod Following
 pub mod Appends
 pub mod Exchanged
+pub mod Removing
 pub mod Replacing
 pub mod Finishes

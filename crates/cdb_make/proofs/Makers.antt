@@ -1,32 +1,29 @@
 -- What a maker holds, from one call to the next.
-use Rattle.std.proofs.Common.{◌≡◌, ℕ, ◌+◌, ◌*◌, ◌<◌, ◌≤◌, true, false, not, List, [], length, refl, sym, ap, subst, ◌∙◌, arith, sum_by}
-use Rattle.std.specs.List.{filter}
-use Rattle.std.proofs.lemmas.List.{nil_from_length}
-use Rattle.std.proofs.lemmas.List.Sums.{length-filter}
-use Rattle.std.proofs.lemmas.List.Filters.{length-filter_both}
-use Rattle.std.proofs.lemmas.List.Elements.{All-filter}
+use Rattle.std.proofs.Common.{◌≡◌, ℕ, ◌+◌, ◌*◌, ◌<◌, ◌≤◌, Bool, true, false, List, [], length, refl, sym, ap, subst, ◌∙◌, arith, sum_by}
 use Rattle.cdb_store.specs.declared.store.Store.{Ghosts}
 use Rattle.cdb_store.specs.Laws.{HasNoImage}
 use Rattle.cdb_store.specs.Images.{TornWithin}
 use Rattle.cdb_form.specs.declared.width.Width.{Ghosts as Widths}
 use Rattle.cdb_form.specs.Format.Pair.{WordPair, head_size}
-use Rattle.cdb_form.specs.Format.Record.{KeyValue, IsRecord, record_size}
+use Rattle.cdb_form.specs.Format.Record.{KeyValue}
 use Rattle.cdb_form.specs.Format.File.{file_size}
 use Rattle.cdb_form.proofs.Sizes.{size_split, sum_by-table_entries}
 use Rattle.cdb_make.specs.declared.fault.MakeFault.{MakeFault}
-use Rattle.cdb_make.specs.declared.fault.MakeFault.TheVariants.{Broken, Lookup, TooBig, NoMemory, Writing}
+use Rattle.cdb_make.specs.declared.fault.MakeFault.TheVariants.{Broken, Lookup}
 use Rattle.cdb_make.specs.declared.removal.gap.Gap.{Gap}
 use Rattle.cdb_make.specs.declared.index.lists.Lists.{Lists}
 use Rattle.cdb_make.specs.declared.records.key_at.LookFault.{LookFault}
 use Rattle.cdb_make.specs.declared.records.key_at.LookFault.TheVariants.{Failed, Foreign}
 use Rattle.cdb_make.specs.declared.maker.Maker.{Maker}
 use Rattle.cdb_make.specs.Looks.{NoNewImage}
-use Rattle.cdb_make.specs.Stands.{Stands, AreGapsOf, WritesSurvivors, gaps_of}
-use Rattle.cdb_make.specs.Survivors.{has_key, is_there, without, behind_first}
+use Rattle.cdb_make.specs.Gaps.{gaps_by}
+use Rattle.cdb_make.specs.Marks.{StandMarked, AreMarked, fresh}
+use Rattle.cdb_make.specs.Stands.{Stands}
+use Rattle.cdb_make.specs.Survivors.{has_key, is_there}
 use Rattle.cdb_make.specs.Views.Lists.{all_entries}
-use Rattle.cdb_make.specs.Views.Maker.{Holds, HoldsIn, WhereHonest, ComesFrom, StaysWhole, WritesNothing, FailsLooking, look_fault, is_foreign, Removes, FailsRemoving, FailsClosing}
+use Rattle.cdb_make.specs.Views.Maker.{Holds, HoldsIn, WhereHonest, ComesFrom, StaysWhole, WritesNothing, FailsLooking, look_fault, is_foreign}
 use Rattle.cdb_make.proofs.Found.{some_gap}
-use Rattle.cdb_make.proofs.Whole.{count_found, stands_still, writes_none}
+use Rattle.cdb_make.proofs.Whole.{stand_marked}
 
 -- the records that it holds stand on its store
 pub held_stand : {S L : Type 0} {s : Ghosts S} {l : Widths L} (m : Maker S L s l) (rs : List KeyValue) → Holds m rs → Stands l.WORD m.end (all_entries m.lists) rs (s.image m.store)
@@ -72,7 +69,7 @@ writes_looked was whole end lists few written = record { stays = stays_looked wa
 -- what a look that failed leaves
 pub fails_looked : {S L : Type 0} {s : Ghosts S} {l : Widths L} (old new : Maker S L s l) (t : S) (ls : Lists) (look : LookFault) (fault : MakeFault) → all_entries ls ≡ all_entries old.lists → fault ≡ look_fault look → old.broken ≡ false → new.broken ≡ is_foreign look
     → new.end ≡ old.end → all_entries new.lists ≡ all_entries old.lists → new.store ≡ t → NoNewImage (s.image old.store) (s.image t) → s.written t ≡ s.written old.store
-    → (look ≡ Failed → s.failures old.store < s.failures t) → (look ≡ Foreign → (rs : List KeyValue) → Stands l.WORD old.end (all_entries ls) rs (s.image old.store) → HasNoImage (s.image t))
+    → (look ≡ Failed → s.failures old.store < s.failures t) → (look ≡ Foreign → (ms : List Bool) (rs : List KeyValue) → StandMarked l.WORD old.end (all_entries ls) ms rs (s.image old.store) → HasNoImage (s.image t))
     → FailsLooking old new fault
 fails_looked {s = s} old new t ls Failed fault own is was broken end lists same few written failed foreign =
     let images : NoNewImage (s.image old.store) (s.image new.store) = subst (λ (v : _). NoNewImage (s.image old.store) (s.image v)) (sym same) few in
@@ -82,98 +79,20 @@ fails_looked {s = s} {l = l} old new t ls Foreign fault own is was broken end li
     subst (λ (f : MakeFault). FailsLooking old new f) (sym is) (record {
       broken = broken;
       same = λ already. absurd (let k : true ≡ false = sym already ∙ was in cc);
-      cause = λ rs h. subst (λ (v : _). HasNoImage (s.image v)) (sym same) (foreign refl rs (subst (λ (v : List (List WordPair)). Stands l.WORD old.end v rs (s.image old.store)) (sym own) (held_stand old rs h)));
+      cause = λ rs h. subst (λ (v : _). HasNoImage (s.image v)) (sym same) (foreign refl [] rs (stand_marked (subst (λ (v : List (List WordPair)). Stands l.WORD old.end v rs (s.image old.store)) (sym own) (held_stand old rs h))));
     })
 
 -- images of a store of which a part was moved or written
 pub comes_torn : {at n : ℕ} {old new : List ℕ → Type 0} → TornWithin at n old new → ComesFrom old new
 comes_torn torn = record { each = λ b is. let h = torn.each b is in (h.0, h.1) }
 
--- the entries that are left and the gaps are as many as the records were
-pub left_counted : {S L : Type 0} {s : Ghosts S} {l : Widths L} (m : Maker S L s l) (rs : List KeyValue) (key : List ℕ) (last : ℕ) (ls : Lists) {new : List ℕ → Type 0} → Holds m rs
-    → AreGapsOf l.WORD key m.gaps.items rs (s.image m.store) → Stands l.WORD last (all_entries ls) (without key rs) new → ComesFrom (s.image m.store) new
-    → WhereHonest new (sum_by length (all_entries ls) + length m.gaps.items ≡ m.count)
-left_counted {l = l} m rs key last ls h found stands comes = record {
-  each = λ b is.
-      let a = comes.each b is in
-      let left : sum_by length (all_entries ls) ≡ length (without key rs) = ap (sum_by length) (stands.each b is).entries ∙ sum_by-table_entries l.WORD (without key rs) in
-      let gone : length m.gaps.items ≡ length (filter (has_key key) rs) = (count_found found).each a.0 a.1 ∙ sym (length-filter (has_key key) rs) in
-      let both = length-filter_both (has_key key) (λ r. not (has_key key r)) (λ r. refl) rs in
-      let all : m.count ≡ length rs = (held_count m rs h).each a.0 a.1 in
-      omega arith;
-}
-
--- where no gap was found nothing is taken out
-pub removes_none : {S L : Type 0} {s : Ghosts S} {l : Widths L} (old new : Maker S L s l) (key : List ℕ) (n : ℕ) → WritesNothing old new → n ≡ length new.gaps.items → n ≡ 0
-    → ((rs : List KeyValue) → Holds old rs → AreGapsOf l.WORD key new.gaps.items rs (s.image new.store)) → Removes old new key n
-removes_none {s = s} {l = l} old new key n stays count zero gaps =
-    let none : new.gaps.items ≡ [] = nil_from_length new.gaps.items (sym count ∙ zero) in
-    record {
-      was = stays.stays.was;
-      whole = stays.stays.whole;
-      holds = λ rs h.
-          let k : Holds new rs = stays.stays.holds rs h in
-          let st = stands_still none (gaps rs h) (held_stand new rs k) in
-          record { whole = k.whole; each = λ b is. record { are = All-filter (λ r. not (has_key key r)) IsRecord rs (k.each b is).are; stand = st.each b is } };
-      answer = λ rs h. record { each = λ b is. count ∙ (count_found (gaps rs h)).each b is };
-      written = λ rs h. record {
-        each = λ b is.
-            let k = (writes_none (s.written new.store) none (gaps rs h)).each b is in
-            k ∙ ap (λ (v : ℕ). v + sum_by (record_size l.WORD) (behind_first (has_key key) rs)) stays.written;
-      };
-    }
-
--- gaps were found, and closed
-pub removes_some : {S L : Type 0} {s : Ghosts S} {l : Widths L} (old mid new : Maker S L s l) (key : List ℕ) (n : ℕ) → WritesNothing old mid → n ≡ length mid.gaps.items → new.broken ≡ false
-    → ((rs : List KeyValue) → Holds old rs → AreGapsOf l.WORD key mid.gaps.items rs (s.image mid.store))
-    → ((rs : List KeyValue) → Holds mid rs → AreGapsOf l.WORD key mid.gaps.items rs (s.image mid.store) → Stands l.WORD new.end (all_entries new.lists) (without key rs) (s.image new.store))
-    → ((rs : List KeyValue) → Holds mid rs → AreGapsOf l.WORD key mid.gaps.items rs (s.image mid.store) → WritesSurvivors l.WORD key rs (s.image new.store) (s.written mid.store) (s.written new.store))
-    → ComesFrom (s.image mid.store) (s.image new.store) → Removes old new key n
-removes_some {s = s} {l = l} old mid new key n stays count whole gaps stands writes comes = record {
-  was = stays.stays.was;
-  whole = whole;
-  holds = λ rs h.
-      let k : Holds mid rs = stays.stays.holds rs h in
-      let st = stands rs k (gaps rs h) in
-      record {
-        whole = whole;
-        each = λ b is. let a = comes.each b is in
-            record { are = All-filter (λ r. not (has_key key r)) IsRecord rs (k.each a.0 a.1).are; stand = st.each b is };
-      };
-  answer = λ rs h. record { each = λ b is. let a = comes.each b is in count ∙ (count_found (gaps rs h)).each a.0 a.1 };
-  written = λ rs h. record {
-    each = λ b is.
-        let k = (writes rs (stays.stays.holds rs h) (gaps rs h)).each b is in
-        k ∙ ap (λ (v : ℕ). v + sum_by (record_size l.WORD) (behind_first (has_key key) rs)) stays.written;
-  };
-}
-
 -- some record has the key where there is a gap
-pub found_there : {w : ℕ} {k : List ℕ} {gs : List Gap} {rs : List KeyValue} {images : List ℕ → Type 0} → 0 < length gs → AreGapsOf w k gs rs images → WhereHonest images (is_there k rs ≡ true)
-found_there {w = w} {k = k} {gs = gs} {rs = rs} some found = record {
+pub found_there : {w : ℕ} (k : List ℕ) {gs : List Gap} {rs : List KeyValue} {images : List ℕ → Type 0} → 0 < length gs → AreMarked w gs (fresh k [] rs) rs images → WhereHonest images (is_there k rs ≡ true)
+found_there {w = w} k {gs = gs} {rs = rs} some found = record {
   each = λ b is.
-      let same : length gs ≡ length (gaps_of w k rs) = ap length (found.each b is) in
+      let same : length gs ≡ length (gaps_by (has_key k) w (head_size w) rs) = ap length (found.each b is) in
       (some_gap (has_key k) w (head_size w) rs).1 (omega arith);
 }
 
 pub honest_comes : {old new : List ℕ → Type 0} {P : Type 0} → ComesFrom old new → WhereHonest old P → WhereHonest new P
 honest_comes comes h = record { each = λ b is. let a = comes.each b is in h.each a.0 a.1 }
-
--- what closing that failed leaves
-pub fails_removing : {S L : Type 0} {s : Ghosts S} {l : Widths L} (old mid new : Maker S L s l) (key : List ℕ) (fault : MakeFault) → WritesNothing old mid → new.broken ≡ true → 0 < length mid.gaps.items
-    → s.failures old.store ≤ s.failures mid.store → ((rs : List KeyValue) → Holds old rs → AreGapsOf l.WORD key mid.gaps.items rs (s.image mid.store)) → ComesFrom (s.image mid.store) (s.image new.store)
-    → FailsClosing mid new key fault → FailsRemoving old new key fault
-fails_removing old mid new key Broken stays broken some later gaps comes fails = record {
-  broken = broken;
-  same = λ already. absurd (let k : true ≡ false = sym already ∙ stays.stays.was in cc);
-  cause = λ rs h. fails rs (stays.stays.holds rs h) (gaps rs h);
-}
-fails_removing old mid new key Lookup stays broken some later gaps comes fails = absurd fails
-fails_removing old mid new key TooBig stays broken some later gaps comes fails = absurd fails
-fails_removing old mid new key NoMemory stays broken some later gaps comes fails = absurd fails
-fails_removing {s = s} old mid new key Writing stays broken some later gaps comes fails = record {
-  was = stays.stays.was;
-  broken = broken;
-  failed = (let k : s.failures mid.store < s.failures new.store = fails in omega arith);
-  found = λ rs h. honest_comes comes (found_there some (gaps rs h));
-}

@@ -16,7 +16,7 @@ use Rattle.cdb_form.specs.Format.Table.{entries_from, in_table, table_entries}
 use Rattle.cdb_form.proofs.Sizes.{sum_by-table_entries}
 use Rattle.cdb_make.specs.declared.removal.gap.Gap.{Gap}
 use Rattle.cdb_make.specs.Gaps.{is_gap, closed_by, lowered, marked_gaps, unmarked, IsRising}
-use Rattle.cdb_make.specs.Marks.{turned, marked_entry, marked_from, marked_entries, fresh, with_key}
+use Rattle.cdb_make.specs.Marks.{turned, marked_entry, marked_from, marked_entries, fresh, with_key, AreAmong}
 use Rattle.cdb_make.specs.Survivors.{has_key, is_there, count_of, without}
 use Rattle.cdb_make.proofs.EntryLists.{located_append}
 use Rattle.cdb_make.proofs.Found.{length-gaps_by, some_gap}
@@ -103,11 +103,17 @@ closed_marked n w at s gs (m ∷ ms) (r ∷ rs) all =
           ]
     ] all
 
-pub marked_closed : (n w : ℕ) (ms : List Bool) (rs : List KeyValue) → 0 < w → closed_by 0 (marked_gaps w (head_size w) ms rs) (marked_entries w ms rs n) ≡ table_entries w (unmarked ms rs) n
+pub marked_closed : (n w : ℕ) (ms ns : List Bool) (rs : List KeyValue) → 0 < w → AreAmong w ms ns rs → closed_by 0 (marked_gaps w (head_size w) ns rs) (marked_entries w ms rs n) ≡ table_entries w (unmarked ns rs) n
 unfolding table_entries
-marked_closed n w ms rs pos =
-    let gs : List Gap = marked_gaps w (head_size w) ms rs in
-    closed_marked n w (head_size w) 0 gs ms rs (gaps_in gs) ∙ sym (table_closed n w ms rs pos)
+marked_closed n w ms ns rs pos among =
+    closed_marked n w (head_size w) 0 (marked_gaps w (head_size w) ns rs) ms rs among ∙ sym (table_closed n w ns rs pos)
+
+-- marks are among themselves, and none are among any
+pub among_self : (w : ℕ) (ms : List Bool) (rs : List KeyValue) → AreAmong w ms ms rs
+among_self w ms rs = gaps_in (marked_gaps w (head_size w) ms rs)
+
+pub among_none : (w : ℕ) (ns : List Bool) (rs : List KeyValue) → AreAmong w [] ns rs
+among_none w ns rs = All-nil (λ g. is_gap (marked_gaps w (head_size w) ns rs) g.place ≡ true)
 
 -- one record more, without a mark
 pub gaps_push : (w at : ℕ) (r : KeyValue) (ms : List Bool) (rs : List KeyValue) → length ms ≤ length rs → marked_gaps w at ms (rs ++ r ∷ []) ≡ marked_gaps w at ms rs

@@ -1,11 +1,12 @@
 -- The records of a key found and taken out.
 use Rattle.std.proofs.Common.{◌≡◌, ℕ, ◌+◌, ◌-◌, ◌<◌, ◌≤◌, ◌^◌, Bool, true, false, cond, not, List, [], ◌∷◌, length, map, flat_map, get_or, refl, sym, ap, subst, ◌∙◌, arith}
-use Rattle.std.specs.Prelude.{sum_by}
+use Rattle.std.specs.Prelude.{sum_by, All}
 use Rattle.std.specs.Bool.{Decides}
 use Rattle.std.specs.List.{filter, range_with_len}
 use Rattle.std.proofs.lemmas.Bool.Decides.{same_from_decides}
 use Rattle.std.proofs.lemmas.List.{get_or-map, length-map}
 use Rattle.std.proofs.lemmas.List.FromFn.{fill_by_all, get_or-map-range_with_len}
+use Rattle.std.proofs.lemmas.List.Elements.{All-head}
 use Rattle.std.proofs.lemmas.List.Sums.{sum_by-cons}
 use Rattle.cdb_store.specs.Images.{part, AreSized, Holds}
 use Rattle.cdb_store.specs.Laws.{HasNoImage}
@@ -13,20 +14,21 @@ use Rattle.cdb_form.specs.Format.Hash.{key_hash, table_number}
 use Rattle.cdb_form.specs.Format.Pair.{WordPair, head_size}
 use Rattle.cdb_form.specs.Format.Record.{KeyValue, record_bytes, record_size, records_end}
 use Rattle.cdb_form.specs.Format.Table.{entries_from, in_table, table_entries}
-use Rattle.cdb_form.proofs.Sizes.{length-records}
+use Rattle.cdb_form.proofs.Sizes.{length-records, sum_by-table_entries}
 use Rattle.cdb_make.specs.declared.removal.gap.Gap.{Gap}
 use Rattle.cdb_make.specs.declared.index.list.EntryList.{EntryList}
-use Rattle.cdb_make.specs.Gaps.{AreApart, IsRising, Closed, closed_by, gaps_by, marked_gaps, unmarked, first_place, kept_len}
+use Rattle.cdb_make.specs.Gaps.{AreApart, IsRising, Closed, closed_by, gaps_by, is_gap, marked_gaps, unmarked, first_place, kept_len}
 use Rattle.cdb_make.specs.Looks.{picked, Picks, TellsThere, NoNewImage, AreChained, NoneChained}
-use Rattle.cdb_make.specs.Marks.{TellsMarked, StandMarked, AreMarked, WritesPass, marked_entry, marked_from, marked_entries, fresh, behind_mark}
-use Rattle.cdb_make.specs.Stands.{Tells, Stands, AreGapsOf, IsCount, IsThere, WritesSurvivors}
-use Rattle.cdb_make.specs.Survivors.{has_key, is_there, without, behind_first}
+use Rattle.cdb_make.specs.Marks.{TellsMarked, StandMarked, AreMarked, AreAmong, WritesPass, marked_entry, marked_from, marked_entries, fresh, behind_mark}
+use Rattle.cdb_make.specs.Stands.{Tells, Stands, IsThere}
+use Rattle.cdb_make.specs.Survivors.{has_key, is_there, count_of, without}
 use Rattle.cdb_make.specs.Views.EntryList.{list_entries, lists_entries, AreClosed}
+use Rattle.cdb_make.specs.Views.Maker.{WhereHonest}
 use Rattle.cdb_make.proofs.Found.{length-gaps_by}
 use Rattle.cdb_make.proofs.MarkedLooks.{picked_marked, chained_marked}
-use Rattle.cdb_make.proofs.Marks.{marked_none, marked_rising, marked_closed, fresh_there, unmarked_sizes}
-use Rattle.cdb_make.proofs.Places.{table_closed, unmarked_by}
-use Rattle.cdb_make.proofs.Survive.{survivors_held, behind_count, behind_by}
+use Rattle.cdb_make.proofs.Marks.{marked_none, marked_rising, marked_closed, fresh_there, unmarked_sizes, sum_marked, unmarked_count}
+use Rattle.cdb_make.proofs.Places.{unmarked_by}
+use Rattle.cdb_make.proofs.Survive.{survivors_held, behind_count}
 
 map_same : {A B : Type 0} (f g : A → B) → ((a : A) → f a ≡ g a) → (xs : List A) → map f xs ≡ map g xs
 map_same f g same [] = refl
@@ -70,12 +72,9 @@ gaps_found {w = w} {h = h} {k = k} {gs = gs} {es = es} top end ls d ms rs words 
       ∙ picked_marked w top (head_size w) h k b ms rs words hashed (record_bytes_fit w top end rs t.ends fits) t.held;
 }
 
--- where none is marked they are those of the key
-pub gaps_of_key : {w : ℕ} {k : List ℕ} {gs : List Gap} {rs : List KeyValue} {images : List ℕ → Type 0} → AreMarked w gs (fresh k [] rs) rs images → AreGapsOf w k gs rs images
-gaps_of_key found = record { each = λ b is. found.each b is }
-
-pub count_found : {w : ℕ} {k : List ℕ} {gs : List Gap} {rs : List KeyValue} {images : List ℕ → Type 0} → AreGapsOf w k gs rs images → IsCount (length gs) k rs images
-count_found {w = w} {k = k} {rs = rs} found = record { each = λ b is. ap length (found.each b is) ∙ length-gaps_by (has_key k) w (head_size w) rs }
+-- where none is marked they are as many as the key's records
+pub count_found : {w : ℕ} (k : List ℕ) {gs : List Gap} {rs : List KeyValue} {images : List ℕ → Type 0} → AreMarked w gs (fresh k [] rs) rs images → WhereHonest images (length gs ≡ count_of k rs)
+count_found {w = w} k {rs = rs} found = record { each = λ b is. ap length (found.each b is) ∙ length-gaps_by (has_key k) w (head_size w) rs }
 
 -- whether one was found
 pub there_found : {w h : ℕ} {k : List ℕ} {es : List WordPair} {old new : List ℕ → Type 0} (there : Bool) (top end : ℕ) (ls : List EntryList) (d : EntryList) (ms : List Bool) (rs : List KeyValue)
@@ -137,13 +136,13 @@ lists_closed w ns ms gs ls ls₁ rs pos long same closed goes e =
     ∙ ap (closed_by 0 (marked_gaps w (head_size w) ns rs)) o
     ∙ goes n)
 
--- once the gaps of some records are closed, where their entries went
+-- once the gaps of some records are closed, of which those with a mark are
 pub stands_closed : {w end : ℕ} {gs : List Gap} {ls ls₁ : List EntryList} {rs : List KeyValue} {old new : List ℕ → Type 0} (ns ms : List Bool) (size last : ℕ)
     → 0 < w → end ≤ size → length ls ≡ 256 → AreSized size old → last ≡ end - sum_by (λ g. g.size) gs
-    → ((n : ℕ) → closed_by 0 (marked_gaps w (head_size w) ns rs) (marked_entries w ms rs n) ≡ table_entries w (unmarked ns rs) n) → AreMarked w gs ns rs old
+    → AreAmong w ms ns rs → AreMarked w gs ns rs old
     → StandMarked w end (lists_entries ls) ms rs old → Closed (first_place gs end) gs end old new → AreClosed gs ls ls₁
     → Stands w last (lists_entries ls₁) (unmarked ns rs) new
-stands_closed {w = w} {end = end} {gs = gs} {ls = ls} {ls₁ = ls₁} {rs = rs} {old = old} {new = new} ns ms size last pos inside long sized sum goes found stands closed lowered = record {
+stands_closed {w = w} {end = end} {gs = gs} {ls = ls} {ls₁ = ls₁} {rs = rs} {old = old} {new = new} ns ms size last pos inside long sized sum among found stands closed lowered = record {
   each = λ b is.
       let a : List ℕ = (closed.each b is).0 in
       let was : old a = (closed.each b is).1 in
@@ -161,29 +160,13 @@ stands_closed {w = w} {end = end} {gs = gs} {ls = ls} {ls₁ = ls₁} {rs = rs} 
       record {
         held = ap (λ v. part at v b) (sym (length-records w left)) ∙ h.each b is;
         ends = (let k : end ≡ at + sum_by (record_size w) rs = t.ends in omega arith);
-        entries = lists_closed w ns ms gs ls ls₁ rs pos long e lowered goes t.entries;
+        entries = lists_closed w ns ms gs ls ls₁ rs pos long e lowered (λ n. marked_closed n w ms ns rs pos among) t.entries;
       };
 }
 
--- the records of a key, of which none is marked
-pub stands_after : {w end : ℕ} {k : List ℕ} {gs : List Gap} {ls ls₁ : List EntryList} {rs : List KeyValue} {old new : List ℕ → Type 0} (size last : ℕ)
-    → 0 < w → end ≤ size → length ls ≡ 256 → AreSized size old → last ≡ end - sum_by (λ g. g.size) gs → AreGapsOf w k gs rs old
-    → Stands w end (lists_entries ls) rs old → Closed (first_place gs end) gs end old new → AreClosed gs ls ls₁
-    → Stands w last (lists_entries ls₁) (without k rs) new
-stands_after {w = w} {end = end} {k = k} {gs = gs} {ls = ls} {ls₁ = ls₁} {rs = rs} {old = old} {new = new} size last pos inside long sized sum found stands closed lowered =
-    let ns : List Bool = map (has_key k) rs in
-    subst (λ (v : List KeyValue). Stands w last (lists_entries ls₁) v new) (unmarked_by (has_key k) rs)
-    (stands_closed ns [] size last pos inside long sized sum
-    (λ n. ap (λ (f : ℕ → List WordPair). closed_by 0 (marked_gaps w (head_size w) ns rs) (f n)) (marked_none w rs) ∙ sym (table_closed n w ns rs pos))
-    (record { each = λ b is. found.each b is }) (stand_marked stands) closed lowered)
-
--- those that are marked
-pub stands_settled : {w end : ℕ} {gs : List Gap} {ls ls₁ : List EntryList} {old new : List ℕ → Type 0} (ms : List Bool) (rs : List KeyValue) (size last : ℕ)
-    → 0 < w → end ≤ size → length ls ≡ 256 → AreSized size old → last ≡ end - sum_by (λ g. g.size) gs → AreMarked w gs ms rs old
-    → StandMarked w end (lists_entries ls) ms rs old → Closed (first_place gs end) gs end old new → AreClosed gs ls ls₁
-    → Stands w last (lists_entries ls₁) (unmarked ms rs) new
-stands_settled {w = w} ms rs size last pos inside long sized sum found stands closed lowered =
-    stands_closed ms ms size last pos inside long sized sum (λ n. marked_closed n w ms rs pos) found stands closed lowered
+-- those of a key gone are those without it
+pub stands_without : {w end : ℕ} {ls : List (List WordPair)} {images : List ℕ → Type 0} (k : List ℕ) (rs : List KeyValue) → Stands w end ls (unmarked (fresh k [] rs) rs) images → Stands w end ls (without k rs) images
+stands_without {w = w} {end = end} {ls = ls} {images = images} k rs stands = subst (λ (v : List KeyValue). Stands w end ls v images) (unmarked_by (has_key k) rs) stands
 
 -- where there is no gap, nothing goes
 closed_none : (es : List WordPair) → closed_by 0 [] es ≡ es
@@ -204,43 +187,7 @@ lists_stay gs ls e = record {
   };
 }
 
-pub none_goes : (goes : KeyValue → Bool) (w at : ℕ) (rs : List KeyValue) → gaps_by goes w at rs ≡ [] → filter (λ r. not (goes r)) rs ≡ rs
-none_goes goes w at [] e = refl
-none_goes goes w at (r ∷ rs) e =
-    let n : ℕ = record_size w r in
-    let g : Gap = record { place = at; size = n } in
-    let gs : List Gap = gaps_by goes w (at + n) rs in
-    let fs : List KeyValue = filter (λ r. not (goes r)) rs in
-    let t : gs ≡ [] → fs ≡ rs = none_goes goes w (at + n) rs in
-    elim (goes r) as (λ v. cond v (g ∷ gs) gs ≡ [] → cond (not v) (r ∷ fs) fs ≡ r ∷ rs) [ true ↦ λ h. absurd (omega (arith, ap length h)) | false ↦ λ h. ap (λ v. r ∷ v) (t h) ] e
-
-pub none_behind : (goes : KeyValue → Bool) (w at : ℕ) (rs : List KeyValue) → gaps_by goes w at rs ≡ [] → behind_first goes rs ≡ []
-none_behind goes w at [] e = refl
-none_behind goes w at (r ∷ rs) e =
-    let n : ℕ = record_size w r in
-    let g : Gap = record { place = at; size = n } in
-    let gs : List Gap = gaps_by goes w (at + n) rs in
-    let fs : List KeyValue = filter (λ r. not (goes r)) rs in
-    let t : gs ≡ [] → behind_first goes rs ≡ [] = none_behind goes w (at + n) rs in
-    elim (goes r) as (λ v. cond v (g ∷ gs) gs ≡ [] → cond v fs (behind_first goes rs) ≡ []) [ true ↦ λ h. absurd (omega (arith, ap length h)) | false ↦ t ] e
-
-pub stands_still : {w end : ℕ} {k : List ℕ} {gs : List Gap} {ls : List (List WordPair)} {rs : List KeyValue} {images : List ℕ → Type 0} → gs ≡ [] → AreGapsOf w k gs rs images
-    → Stands w end ls rs images → Stands w end ls (without k rs) images
-stands_still {w = w} {end = end} {k = k} {ls = ls} {rs = rs} e found stands = record {
-  each = λ b is.
-      let same : without k rs ≡ rs = none_goes (has_key k) w (head_size w) rs (sym (found.each b is) ∙ e) in
-      subst (λ (v : List KeyValue). Tells w end ls v b) (sym same) (stands.each b is);
-}
-
-pub writes_none : {w : ℕ} {k : List ℕ} {gs : List Gap} {rs : List KeyValue} {images : List ℕ → Type 0} (n : ℕ) → gs ≡ [] → AreGapsOf w k gs rs images → WritesSurvivors w k rs images n n
-writes_none {w = w} {k = k} {rs = rs} n e found = record {
-  each = λ b is.
-      let none : sum_by (record_size w) (behind_first (has_key k) rs) ≡ 0 = ap (sum_by (record_size w)) (none_behind (has_key k) w (head_size w) rs (sym (found.each b is) ∙ e)) in
-      omega arith;
-}
-
--- of marked records too
-none_unmarked : (w at : ℕ) (ms : List Bool) (rs : List KeyValue) → marked_gaps w at ms rs ≡ [] → unmarked ms rs ≡ rs
+pub none_unmarked : (w at : ℕ) (ms : List Bool) (rs : List KeyValue) → marked_gaps w at ms rs ≡ [] → unmarked ms rs ≡ rs
 none_unmarked w at [] rs e = refl
 none_unmarked w at (m ∷ ms) [] e = refl
 none_unmarked w at (m ∷ ms) (r ∷ rs) e =
@@ -249,7 +196,7 @@ none_unmarked w at (m ∷ ms) (r ∷ rs) e =
     let us : List KeyValue = unmarked ms rs in
     elim m as (λ m. cond m (g ∷ gs) gs ≡ [] → cond m us (r ∷ us) ≡ r ∷ rs) [ true ↦ λ h. absurd (omega (arith, ap length h)) | false ↦ λ h. ap (λ v. r ∷ v) (none_unmarked w (at + record_size w r) ms rs h) ] e
 
-none_moved : (w at : ℕ) (ms : List Bool) (rs : List KeyValue) → marked_gaps w at ms rs ≡ [] → behind_mark ms rs ≡ []
+pub none_moved : (w at : ℕ) (ms : List Bool) (rs : List KeyValue) → marked_gaps w at ms rs ≡ [] → behind_mark ms rs ≡ []
 none_moved w at [] rs e = refl
 none_moved w at (m ∷ ms) [] e = refl
 none_moved w at (m ∷ ms) (r ∷ rs) e =
@@ -276,13 +223,19 @@ tables_unmarked : (w : ℕ) (ms : List Bool) (rs : List KeyValue) → marked_gap
 unfolding table_entries
 tables_unmarked w ms rs e = map_same (marked_entries w ms rs) (table_entries w rs) (λ n. none_marked n w (head_size w) ms rs e) (range_with_len 0 256)
 
-pub marked_still : {w end : ℕ} {gs : List Gap} {ls : List (List WordPair)} {ms : List Bool} {rs : List KeyValue} {images : List ℕ → Type 0} → gs ≡ [] → AreMarked w gs ms rs images
-    → StandMarked w end ls ms rs images → Stands w end ls (unmarked ms rs) images
-marked_still {w = w} {end = end} {ls = ls} {ms = ms} {rs = rs} e found stands = record {
+none_among : (xs : List Gap) → All (λ g. is_gap [] g.place ≡ true) xs → xs ≡ []
+none_among [] all = refl
+none_among (x ∷ xs) all = absurd (let k : false ≡ true = All-head (λ g. is_gap [] g.place ≡ true) x xs all in cc)
+
+pub marked_still : {w end : ℕ} {gs : List Gap} {ls : List (List WordPair)} {ms ns : List Bool} {rs : List KeyValue} {images : List ℕ → Type 0} → gs ≡ [] → AreMarked w gs ns rs images
+    → StandMarked w end ls ms rs images → AreAmong w ms ns rs → Stands w end ls (unmarked ns rs) images
+marked_still {w = w} {end = end} {ls = ls} {ms = ms} {ns = ns} {rs = rs} e found stands among = record {
   each = λ b is.
       let t : TellsMarked w end ls ms rs b = stands.each b is in
-      let none : marked_gaps w (head_size w) ms rs ≡ [] = sym (found.each b is) ∙ e in
-      subst (λ (v : List KeyValue). Tells w end ls v b) (sym (none_unmarked w (head_size w) ms rs none)) (record { held = t.held; ends = t.ends; entries = t.entries ∙ tables_unmarked w ms rs none });
+      let own : List Gap = marked_gaps w (head_size w) ms rs in
+      let none : marked_gaps w (head_size w) ns rs ≡ [] = sym (found.each b is) ∙ e in
+      let no : own ≡ [] = none_among own (subst (λ (v : List Gap). All (λ g. is_gap v g.place ≡ true) own) none among) in
+      subst (λ (v : List KeyValue). Tells w end ls v b) (sym (none_unmarked w (head_size w) ns rs none)) (record { held = t.held; ends = t.ends; entries = t.entries ∙ tables_unmarked w ms rs no });
 }
 
 pub marked_none_written : {w : ℕ} {gs : List Gap} {ms : List Bool} {rs : List KeyValue} {images : List ℕ → Type 0} (n : ℕ) → gs ≡ [] → AreMarked w gs ms rs images → WritesPass w ms rs images n n
@@ -301,18 +254,16 @@ writes_marked {w = w} {end = end} ns ms rs before now sum found stands closed b 
     let t = stands.each h.0 h.1 in
     sum ∙ ap (λ (v : List Gap). before + kept_len (first_place v end) v end) (found.each h.0 h.1) ∙ ap (λ v. before + v) (behind_count w (head_size w) end ns rs t.ends)
 
-pub writes_behind : {w end : ℕ} {k : List ℕ} {gs : List Gap} {ls : List (List WordPair)} {rs : List KeyValue} {old new : List ℕ → Type 0} (before now : ℕ)
-    → now ≡ before + kept_len (first_place gs end) gs end → AreGapsOf w k gs rs old → Stands w end ls rs old → Closed (first_place gs end) gs end old new → WritesSurvivors w k rs new before now
-writes_behind {w = w} {k = k} {rs = rs} before now sum found stands closed = record {
-  each = λ b is.
-      writes_marked (map (has_key k) rs) [] rs before now sum (record { each = λ b is. found.each b is }) (stand_marked stands) closed b is
-      ∙ ap (λ v. before + sum_by (record_size w) v) (behind_by (has_key k) rs);
-}
+-- as many entries went as there are gaps
+pub went_counted : {w end last : ℕ} {gs : List Gap} {ls ls₁ : List (List WordPair)} {old new : List ℕ → Type 0} (ms ns : List Bool) (rs : List KeyValue) → AreMarked w gs ns rs old → StandMarked w end ls ms rs old
+    → Stands w last ls₁ (unmarked ns rs) new → (a b : List ℕ) → old a → new b → sum_by length ls₁ + length gs ≡ sum_by length ls
+went_counted {w = w} {gs = gs} {ls = ls} {ls₁ = ls₁} ms ns rs found was stands a b was_is is =
+    let left : sum_by length ls₁ ≡ length (unmarked ns rs) = ap (sum_by length) (stands.each b is).entries ∙ sum_by-table_entries w (unmarked ns rs) in
+    let all : sum_by length ls ≡ length rs = ap (sum_by length) (was.each a was_is).entries ∙ sum_marked w ms rs in
+    let gone : length gs ≡ length (marked_gaps w (head_size w) ns rs) = ap length (found.each a was_is) in
+    let both = unmarked_count w (head_size w) ns rs in
+    omega arith
 
 pub no_gaps : (gs : List Gap) → length gs ≡ 0 → gs ≡ []
 no_gaps [] e = refl
 no_gaps (g ∷ gs) e = absurd (omega arith)
-
--- records that stood before a look stand after it: so what `find` gives is what `close` takes
-pub stands_fewer : {w end : ℕ} {ls : List (List WordPair)} {rs : List KeyValue} {old new : List ℕ → Type 0} → NoNewImage old new → Stands w end ls rs old → Stands w end ls rs new
-stands_fewer few stands = record { each = λ b is. stands.each b (few.no_other b is) }

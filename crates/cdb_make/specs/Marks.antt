@@ -1,6 +1,6 @@
 -- Records of which some are marked: these are to go, and no look finds them.
 use Rattle.std.specs.Prelude.{ℕ, ◌≡◌, ◌+◌, ◌-◌, ◌%◌, ◌==◌, Bool, true, false, cond, List, [], ◌∷◌}
-use Rattle.std.specs.Prelude.{map, flat_map, sum_by, filter}
+use Rattle.std.specs.Prelude.{map, flat_map, sum_by, filter, All}
 use Rattle.std.specs.List.{range_with_len}
 use Rattle.cdb_store.specs.Images.{part}
 use Rattle.cdb_form.specs.Format.Hash.{key_hash}
@@ -8,7 +8,7 @@ use Rattle.cdb_form.specs.Format.Pair.{WordPair, head_size}
 use Rattle.cdb_form.specs.Format.Record.{KeyValue, record_bytes, record_size, records_end}
 use Rattle.cdb_form.specs.Format.Table.{entries_from, in_table}
 use Rattle.cdb_make.specs.declared.removal.gap.Gap.{Gap}
-use Rattle.cdb_make.specs.Gaps.{marked_gaps, unmarked}
+use Rattle.cdb_make.specs.Gaps.{is_gap, marked_gaps, unmarked}
 use Rattle.cdb_make.specs.Survivors.{has_key}
 
 -- a hash with its lowest bit turned: it is the hash of no key of the same table
@@ -73,6 +73,11 @@ pub record StandMarked (w end : ℕ) (lists : List (List WordPair)) (marks : Lis
 pub record AreMarked (w : ℕ) (gaps : List Gap) (marks : List Bool) (rs : List KeyValue)
     (images : List ℕ → Type 0) : Type 0 where
   pub each : (b : List ℕ) → images b → gaps ≡ marked_gaps w (head_size w) marks rs
+
+-- each record with a mark of the first has one of the second
+abbrev pub AreAmong : ℕ → List Bool → List Bool → List KeyValue → Type 0
+AreAmong w marks goes rs = All (λ g. is_gap (marked_gaps w (head_size w) goes rs) g.place ≡ true)
+    (marked_gaps w (head_size w) marks rs)
 
 -- where they stood, the bytes written are those behind the first marked one that stay
 pub record WritesPass (w : ℕ) (marks : List Bool) (rs : List KeyValue) (images : List ℕ → Type 0)

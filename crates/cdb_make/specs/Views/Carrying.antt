@@ -1,17 +1,12 @@
 -- What a maker carries while some of its records are marked.
 use Rattle.std.specs.Prelude.{ℕ, ◌≡◌, ◌+◌, ◌<◌, ◌≤◌, ◌⊎◌, Bool, false, List, All, length, vec_capacity}
 use Rattle.cdb_store.specs.declared.store.Store.{Ghosts}
-use Rattle.cdb_store.specs.Laws.{HasNoImage}
 use Rattle.cdb_form.specs.declared.width.Width.{Ghosts as Widths}
 use Rattle.cdb_form.specs.Format.Hash.{key_hash}
 use Rattle.cdb_form.specs.Format.Record.{KeyValue, IsRecord, record_size}
 use Rattle.cdb_make.specs.declared.maker.Maker.{Maker}
-use Rattle.cdb_make.specs.declared.fault.MakeFault.{MakeFault}
-use Rattle.cdb_make.specs.declared.fault.MakeFault.TheVariants.{Broken, Writing}
-use Rattle.cdb_make.specs.declared.removal.gap.Gap.{Gap}
-use Rattle.cdb_make.specs.Marks.{AreMarked, TellsMarked}
+use Rattle.cdb_make.specs.Marks.{TellsMarked}
 use Rattle.cdb_make.specs.Views.Lists.{all_entries, entry_count, entry_room}
-use Rattle.cdb_make.specs.Views.Maker.{HasStoreFailed}
 
 -- in an image it has these records, from behind the head on, with these marks
 pub record CarriesIn {S L : Type 0} {s : Ghosts S} {l : Widths L} (m : Maker S L s l)
@@ -39,12 +34,3 @@ WantsMemory {s = s} {l = l} m r =
     ((entry_room m.lists (key_hash r.key) ≤ entry_count m.lists (key_hash r.key))
     ⊎ (vec_capacity m.gaps ≤ entry_count m.lists (key_hash r.key)))
     ⊎ (s.room m.store < m.end + record_size l.WORD r)
-
--- why the gaps of marked records were not closed
-abbrev pub PassFails : {S L : Type 0} {s : Ghosts S} {l : Widths L} → Maker S L s l
-    → Maker S L s l → List Gap → MakeFault → Type 0
-PassFails {s = s} {l = l} old new gaps Broken = (all : List KeyValue) (marks : List Bool)
-    → Carries old all marks → AreMarked l.WORD gaps marks all (s.image old.store)
-    → HasNoImage (s.image new.store)
-PassFails old new gaps Writing = HasStoreFailed old new × (0 < length gaps)
-PassFails old new gaps fault = ⊥

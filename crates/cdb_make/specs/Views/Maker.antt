@@ -17,7 +17,8 @@ use Rattle.cdb_make.specs.declared.records.put.Put.TheVariants.{Present}
 use Rattle.cdb_make.specs.declared.records.key_at.LookFault.{LookFault}
 use Rattle.cdb_make.specs.declared.records.key_at.LookFault.TheVariants.{Failed, Foreign}
 use Rattle.cdb_make.specs.Finished.{HeadIsLast}
-use Rattle.cdb_make.specs.Stands.{Tells, AreGapsOf}
+use Rattle.cdb_make.specs.Marks.{AreMarked, fresh}
+use Rattle.cdb_make.specs.Stands.{Tells}
 use Rattle.cdb_make.specs.Survivors.{has_key, is_there, count_of, without, behind_first, put_list}
 use Rattle.cdb_make.specs.Survivors.{put_answer}
 use Rattle.cdb_make.specs.Unfinished.{KeepsHead}
@@ -147,14 +148,6 @@ FailsLooking old new Broken = IsBroken old new
 FailsLooking old new Lookup = WritesNothing old new × HasStoreFailed old new
 FailsLooking old new fault = ⊥
 
--- what closing the gaps of a key leaves where it failed, a record behind the others or not
-abbrev pub FailsClosing : {S L : Type 0} {s : Ghosts S} {l : Widths L} → Maker S L s l
-    → Maker S L s l → List ℕ → MakeFault → Type 0
-FailsClosing {s = s} {l = l} old new key Broken = (rs : List KeyValue) → Holds old rs
-    → AreGapsOf l.WORD key old.gaps.items rs (s.image old.store) → HasNoImage (s.image new.store)
-FailsClosing old new key Writing = HasStoreFailed old new
-FailsClosing old new key fault = ⊥
-
 -- a removal of the records of a key that answered so many
 pub record Removes {S L : Type 0} {s : Ghosts S} {l : Widths L} (old new : Maker S L s l)
     (key : List ℕ) (count : ℕ) : Type 0 where
@@ -212,12 +205,22 @@ pub record Exchanges {S L : Type 0} {s : Ghosts S} {l : Widths L} (old new : Mak
     (r : KeyValue) : Type 0 where
   pub whole : new.broken ≡ false
   pub holds : (rs : List KeyValue) → Holds old rs
-      → AreGapsOf l.WORD r.key old.gaps.items rs (s.image old.store)
+      → AreMarked l.WORD old.gaps.items (fresh r.key [] rs) rs (s.image old.store)
       → Holds new (without r.key rs ++ r ∷ [])
   pub written : (rs : List KeyValue) → Holds old rs
-      → AreGapsOf l.WORD r.key old.gaps.items rs (s.image old.store)
+      → AreMarked l.WORD old.gaps.items (fresh r.key [] rs) rs (s.image old.store)
       → WhereHonest (s.image new.store) (s.written new.store
       ≡ s.written old.store + put_bytes l.WORD Replace r rs)
+
+-- they were not, since the store, which it is by then, failed or has given back other bytes than it
+-- was told to write
+abbrev pub FailsExchanging : {S L : Type 0} {s : Ghosts S} {l : Widths L} → Maker S L s l
+    → S → List ℕ → MakeFault → Type 0
+FailsExchanging {s = s} {l = l} old store key Broken = (rs : List KeyValue) → Holds old rs
+    → AreMarked l.WORD old.gaps.items (fresh key [] rs) rs (s.image old.store)
+    → HasNoImage (s.image store)
+FailsExchanging {s = s} old store key Writing = s.failures old.store < s.failures store
+FailsExchanging old store key fault = ⊥
 
 -- a put of a record that answered so
 pub record Puts {S L : Type 0} {s : Ghosts S} {l : Widths L} (old new : Maker S L s l)

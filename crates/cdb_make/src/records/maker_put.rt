@@ -14,12 +14,13 @@ use crate::maker::Maker;
 use crate::records::add::add;
 use crate::records::put::Put;
 use crate::removal::gap::all_sizes;
+use crate::removal::take_out::close;
 use cdb_form::{Mode, Width, hash, pair_size};
 use cdb_store::Store;
 
 impl<S: Store, L: Width> Maker<S, L> {
     ghost use Rattle.cdb_make.specs.Views.Maker.{SameCounts, Adds, FailsAdding, Puts, FailsPutting};
-    ghost use Rattle.cdb_make.specs.Views.Maker.{made_size, Exchanges, FailsClosing, Follows};
+    ghost use Rattle.cdb_make.specs.Views.Maker.{made_size, Exchanges, FailsExchanging, Follows};
     ghost use Rattle.cdb_make.specs.Views.Maker.{HasRoom};
     ghost use Rattle.cdb_make.specs.Views.Carrying.{Carries, KeepsCarrying, WantsMemory};
 
@@ -90,17 +91,18 @@ impl<S: Store, L: Width> Maker<S, L> {
             ≤ S.room self.old.store + sum_by (λ g. g.size) self.old.gaps.items }
         ensures ok { OnOk result
             (Exchanges self.old self.new (record_of key.now value.now)) }
-        ensures fails { IfErr result (FailsClosing self.old self.new key.now) }
+        ensures fails { IfErr result (FailsExchanging self.old self.new.store key.now) }
         ensures broken { OnErr result (self.new.broken ≡ true) }
         ensures follows { Follows self.old self.new }
         ensures counts { OnErr result (SameCounts self.old self.new) }
     {
-        let last = self.take_out()?;
+        self.broken = true;
         let (store, lists, gaps) = (&mut self.store, &mut self.lists, &mut self.gaps);
-        match add::<S, L>(store, lists, gaps, last, hash, key, value) {
+        let left = close::<S, L>(store, lists, gaps, self.end)?;
+        match add::<S, L>(store, lists, gaps, left.end, hash, key, value) {
             Ok(end) => {
                 self.end = end;
-                self.count = self.count - taken + 1;
+                self.count = self.count - left.gone + 1;
                 self.broken = false;
                 Ok(())
             }

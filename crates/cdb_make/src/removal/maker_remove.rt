@@ -1,27 +1,24 @@
 // The records of a key, taken out by a maker.
-ghost use Rattle.std.specs.Prelude.{◌≡◌, ℕ, ◌+◌, ◌<◌, ◌≤◌, true, false, List, Bool, length, sum_by, ◌-◌};
-ghost use Rattle.std.specs.Prelude.{IfOk, IfErr, OnOk, OnErr, vec_capacity};
-ghost use Rattle.cdb_store.specs.Images.{TornWithin};
+ghost use Rattle.std.specs.Prelude.{◌≡◌, ℕ, ◌≤◌, true, false, List, Bool, length};
+ghost use Rattle.std.specs.Prelude.{IfOk, IfErr, OnOk, OnErr};
 ghost use Rattle.cdb_store.specs.Laws.{HasNoImage};
 ghost use Rattle.cdb_store.specs.Reads.{OnlyReads};
 ghost use Rattle.cdb_form.specs.Format.Hash.{key_hash};
 ghost use Rattle.cdb_form.specs.Format.Pair.{head_size};
 ghost use Rattle.cdb_form.specs.Format.Record.{KeyValue};
-ghost use Rattle.cdb_make.specs.Gaps.{AreApart, first_place};
+ghost use Rattle.cdb_make.specs.Gaps.{AreApart};
 ghost use Rattle.cdb_make.specs.Marks.{AreMarked, fresh};
-ghost use Rattle.cdb_make.specs.Stands.{Stands, AreGapsOf, AreTakenOut, WritesSurvivors};
-ghost use Rattle.cdb_make.specs.Views.Lists.{all_entries, AreAllClosed};
+ghost use Rattle.cdb_make.specs.Views.Lists.{all_entries};
 
 use crate::fault::MakeFault;
 use crate::maker::Maker;
-use crate::removal::gap::all_sizes;
 use crate::removal::take_out;
 use cdb_form::{Width, hash};
 use cdb_store::Store;
 
 impl<S: Store, L: Width> Maker<S, L> {
-    ghost use Rattle.cdb_make.specs.Views.Maker.{Holds, Removes, FailsRemoving, FailsLooking};
-    ghost use Rattle.cdb_make.specs.Views.Maker.{SameCounts, WritesNothing, FailsClosing};
+    ghost use Rattle.cdb_make.specs.Views.Maker.{Removes, FailsRemoving, FailsLooking};
+    ghost use Rattle.cdb_make.specs.Views.Maker.{SameCounts, WritesNothing};
     ghost use Rattle.cdb_make.specs.Views.Maker.{Follows, HasNotFailed};
     ghost use Rattle.cdb_make.specs.Views.Carrying.{Carries, KeepsCarrying, WantsMemory};
 
@@ -30,9 +27,6 @@ impl<S: Store, L: Width> Maker<S, L> {
         requires hash { hash ≡ key_hash key.now }
         ensures count { IfOk result (λ n. n ≡ length self.new.gaps.items) }
         ensures few { IfOk result (λ n. n ≤ self.new.count) }
-        ensures gaps { (rs : List KeyValue) → Holds self.old rs
-            → OnOk result (AreGapsOf L.WORD key.now self.new.gaps.items rs
-            (S.image self.new.store)) }
         ensures apart { OnOk result
             (AreApart (head_size L.WORD) self.new.gaps.items self.new.end) }
         ensures ok { OnOk result (WritesNothing self.old self.new) }
@@ -64,52 +58,6 @@ impl<S: Store, L: Width> Maker<S, L> {
         }
     }
 
-    /// Closes the gaps that were noted, and answers where the records end then. The counts are the
-    /// caller's to mend: until then the maker is broken.
-    ///
-    /// `Broken`: the store gave back other bytes than were written.
-    pub(crate) fn take_out(&mut self) -> Result<u64, MakeFault>
-        requires whole { self.old.broken ≡ false }
-        requires apart { AreApart (head_size L.WORD) self.old.gaps.items self.old.end }
-        requires few { length self.old.gaps.items ≤ self.old.count }
-        requires some { 0 < length self.old.gaps.items }
-        ensures stands { (rs : List KeyValue) (key : List ℕ)
-            → Holds self.old rs
-            → AreGapsOf L.WORD key self.old.gaps.items rs (S.image self.old.store)
-            → IfOk result (λ last. AreTakenOut L.WORD last (all_entries self.new.lists)
-            key rs (S.image self.new.store)) }
-        ensures written { (rs : List KeyValue) (key : List ℕ)
-            → Holds self.old rs
-            → AreGapsOf L.WORD key self.old.gaps.items rs (S.image self.old.store)
-            → OnOk result (WritesSurvivors L.WORD key rs (S.image self.new.store)
-            (S.written self.old.store) (S.written self.new.store)) }
-        ensures end { IfOk result (λ last.
-            last + sum_by (λ g. g.size) self.old.gaps.items ≡ self.old.end) }
-        ensures start { IfOk result (λ last. head_size L.WORD ≤ last) }
-        ensures left { OnOk result (sum_by length (all_entries self.new.lists)
-            + length self.old.gaps.items ≡ self.old.count) }
-        ensures lists { OnOk result
-            (AreAllClosed self.old.gaps.items self.old.lists self.new.lists) }
-        ensures fails { (key : List ℕ) → IfErr result (FailsClosing self.old self.new key) }
-        ensures broken { self.new.broken ≡ true }
-        ensures counts { SameCounts self.old self.new }
-        ensures torn { TornWithin (first_place self.old.gaps.items self.old.end)
-            (self.old.end - first_place self.old.gaps.items self.old.end)
-            (S.image self.old.store) (S.image self.new.store) }
-        ensures gaps { self.new.gaps ≡ self.old.gaps }
-        ensures size { S.size self.new.store ≡ S.size self.old.store }
-        ensures room { S.room self.old.store ≤ S.room self.new.store }
-        ensures failures { S.failures self.old.store ≤ S.failures self.new.store }
-        ensures unwritten { S.unwritten self.old.store ≤ S.unwritten self.new.store }
-    {
-        self.broken = true;
-        let left = take_out::close::<S, L>(&mut self.store, &mut self.lists, &self.gaps, self.end)?;
-        if left.gone != self.gaps.len() as u64 {
-            return Err(MakeFault::Broken);
-        }
-        Ok(left.end)
-    }
-
     /// Takes out every record of a key, and answers how many they were.
     ///
     /// It takes no memory. `Lookup`: the store failed while it was read, and nothing has changed.
@@ -122,11 +70,12 @@ impl<S: Store, L: Width> Maker<S, L> {
         ensures counts { OnErr result (SameCounts self.old self.new) }
     {
         let taken = self.find(hash(key), key)?;
-        if taken > 0 {
-            self.end = self.take_out()?;
-            self.count -= taken;
-            self.broken = false;
-        }
+        self.broken = true;
+        let (store, lists) = (&mut self.store, &mut self.lists);
+        let left = take_out::close::<S, L>(store, lists, &self.gaps, self.end)?;
+        self.end = left.end;
+        self.count -= left.gone;
+        self.broken = false;
         Ok(taken)
     }
 }

@@ -7,6 +7,8 @@ ghost use Rattle.cdb_form.specs.Format.Pair.{head_size};
 ghost use Rattle.cdb_form.specs.Format.Record.{KeyValue, records_end};
 ghost use Rattle.cdb_make.specs.Gaps.{AreApart, unmarked};
 ghost use Rattle.cdb_make.specs.Marks.{AreMarked, WritesPass};
+ghost use Rattle.cdb_make.specs.Views.Closing.{ClosingFails};
+ghost use Rattle.cdb_make.specs.Views.Lists.{all_entries};
 
 use crate::batch::Batch;
 use crate::fault::MakeFault;
@@ -64,7 +66,7 @@ fn are_apart(gaps: &[Gap], start: u64, end: u64) -> bool
 }
 
 impl<S: Store, L: Width> Maker<S, L> {
-    ghost use Rattle.cdb_make.specs.Views.Carrying.{Carries, PassFails};
+    ghost use Rattle.cdb_make.specs.Views.Carrying.{Carries};
     ghost use Rattle.cdb_make.specs.Views.Maker.{Follows, HasNotFailed, SameCounts};
     ghost use Rattle.cdb_make.specs.Views.Maker.{Holds as Has};
 
@@ -84,7 +86,9 @@ impl<S: Store, L: Width> Maker<S, L> {
             (S.written self.old.store) (S.written self.new.store)) }
         ensures whole { OnOk result (self.new.broken ≡ false) }
         ensures fewer { OnOk result (self.new.count + length gaps.now ≡ self.old.count) }
-        ensures fails { IfErr result (PassFails self.old self.new gaps.now) }
+        ensures fails { IfErr result (ClosingFails L.WORD self.old.end gaps.now
+            (all_entries self.old.lists) (S.image self.old.store) (S.image self.new.store)
+            (S.failures self.old.store) (S.failures self.new.store)) }
         ensures broken { OnErr result (self.new.broken ≡ true) }
         ensures counts { OnErr result (SameCounts self.old self.new) }
         ensures follows { Follows self.old self.new }
@@ -93,9 +97,6 @@ impl<S: Store, L: Width> Maker<S, L> {
         self.broken = true;
         let (store, lists) = (&mut self.store, &mut self.lists);
         let left = take_out::close::<S, L>(store, lists, gaps, self.end)?;
-        if left.gone != gaps.len() as u64 {
-            return Err(MakeFault::Broken);
-        }
         self.end = left.end;
         self.count -= left.gone;
         self.broken = false;

@@ -17,7 +17,7 @@ pub returns-in-Err-clause-fails : goal.returns-in-Err-clause-fails
 returns-in-Err-clause-fails g c =
     let e = c.failed_look.ensures in
     fails_looked {s = g.S.Store} {l = g.L.Width} _ _ c.find.new.store c.catch_up.new.self c.in-Err.fault _ c.catch_up.ensures.entries e.fault c.if-self.false e.broken e.counts.end (ap all_entries e.lists ∙ c.catch_up.ensures.entries) e.store (reads_fewer c.find.ensures.reads) c.find.ensures.reads.written
-    (λ h. c.find.ensures.failed (c.in-Err.is ∙ ap Err h)) (λ h. c.find.ensures.foreign (c.in-Err.is ∙ ap Err h))
+    (λ h. c.find.ensures.failed (c.in-Err.is ∙ ap Err h)) (λ h. c.find.ensures.none (c.in-Err.is ∙ ap Err h))
 
 pub returns-in-Ok-clause-count : goal.returns-in-Ok-clause-count
 returns-in-Ok-clause-count g c = search rules

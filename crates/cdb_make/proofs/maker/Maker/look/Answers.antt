@@ -1,10 +1,10 @@
-use Rattle.std.proofs.Common.{refl, ap, sym, subst, ◌∙◌, ◌≡◌, List, Err, rules}
+use Rattle.std.proofs.Common.{refl, ap, sym, subst, ◌∙◌, ◌≡◌, List, [], Err, rules}
 use Rattle.cdb_make.specs.Views.Lists.{all_entries}
 use Rattle.cdb_make.proofs.Compare.{reads_fewer}
 use Rattle.cdb_form.specs.Format.Pair.{WordPair}
 use Rattle.cdb_make.specs.Looks.{NoNewImage}
 use Rattle.cdb_make.specs.Marks.{StandMarked}
-use Rattle.cdb_make.proofs.Carrying.{carried_stand, carries_looked, none_carried}
+use Rattle.cdb_make.proofs.Carrying.{carried_stand, carries_looked, held_carried, none_carried}
 use Rattle.cdb_make.proofs.Makers.{writes_looked, fails_looked}
 use Rattle.cdb_make.proofs.maker.Maker.look.Goals as goal
 
@@ -16,19 +16,19 @@ returns-in-Err-clause-fails g c =
     let e = c.failed_look.ensures in
     let f = c.in-Err.fault in
     fails_looked {s = g.S.Store} {l = g.L.Width} _ _ c.exists.new.store c.catch_up.new.self f _ c.catch_up.ensures.entries e.fault c.if-self.false e.broken e.counts.end (ap all_entries e.lists ∙ c.catch_up.ensures.entries) e.store (reads_fewer c.exists.ensures.reads) c.exists.ensures.reads.written
-    (λ h. c.exists.ensures.failed (c.in-Err.is ∙ ap Err h)) (λ h. c.exists.ensures.foreign (c.in-Err.is ∙ ap Err h))
+    (λ h. c.exists.ensures.failed (c.in-Err.is ∙ ap Err h)) (λ h. c.exists.ensures.none (c.in-Err.is ∙ ap Err h))
 
 pub exists-requires-clause-hash : goal.exists-requires-clause-hash
 exists-requires-clause-hash g c = search rules
-
-pub returns-in-Ok-clause-there : goal.returns-in-Ok-clause-there
-returns-in-Ok-clause-there g c = search rules
 
 pub returns-in-Ok-clause-one : goal.returns-in-Ok-clause-one
 returns-in-Ok-clause-one g c = λ all marks h.
     let m = c.args.self.now in
     let own : all_entries c.catch_up.new.self ≡ all_entries m.lists = c.catch_up.ensures.entries in
     c.in-Ok.ensures.one marks all (subst (λ (v : List (List WordPair)). StandMarked g.L.Width.WORD m.end v marks all (g.S.Store.image m.store)) (sym own) (carried_stand {s = g.S.Store} {l = g.L.Width} m all marks h))
+
+pub returns-in-Ok-clause-there : goal.returns-in-Ok-clause-there
+returns-in-Ok-clause-there g c = λ rs h. returns-in-Ok-clause-one g c rs [] (held_carried {s = g.S.Store} {l = g.L.Width} c.args.self.now rs h)
 
 pub returns-in-Ok-clause-keeps : goal.returns-in-Ok-clause-keeps
 returns-in-Ok-clause-keeps g c = λ whole. carries_looked {s = g.S.Store} {l = g.L.Width} c.args.self.now _ whole refl c.catch_up.ensures.entries (reads_fewer c.exists.ensures.reads)

@@ -11,6 +11,7 @@ use Rattle.cdb_make.specs.Gaps.{AreApart}
 use Rattle.cdb_make.proofs.Merge.{apart_lower}
 use Rattle.cdb_make.proofs.Picking.{apart_higher}
 use Rattle.cdb_make.proofs.Whole.{apart_sizes}
+use Rattle.cdb_make.proofs.Carrying.{held_carried}
 use Rattle.cdb_make.proofs.Makers.{honest_comes, writes_looked}
 use Rattle.cdb_make.proofs.Puts.{puts_added, fails_added, comes_same, comes_then, writes_then}
 use Rattle.cdb_make.proofs.Replacing.{just_replace, fewer_bytes, wants_memory, fails_too_big, would_replace, fails_wanting, fails_exchange, puts_exchanged, gaps_same}
@@ -22,13 +23,13 @@ returns-in_err-add-clause-fails g c =
     let p = err_from_is_err_and c.from_residual-in_err-add.result c.from_residual-in_err-add.ensures.1 in
     let e = c.in_ok-taken.ensures in
     let none : c.find.new.self.gaps.items ≡ [] = nil_from_length c.find.new.self.gaps.items (omega (arith, e.count, c.if-taken-eq0.true)) in
-    rw (p.1, p.2) (fails_added {s = g.S.Store} {l = g.L.Width} _ c.find.new.self _ Replace _ Added _ e.ok c.find.ensures.counts.limit e.ok_failures c.find.ensures.reads.unwritten c.add.ensures.follows.comes (λ rs h. just_replace rs _ none (e.gaps rs h)) c.in_err-add.ensures.fails)
+    rw (p.1, p.2) (fails_added {s = g.S.Store} {l = g.L.Width} _ c.find.new.self _ Replace _ Added _ e.ok c.find.ensures.counts.limit e.ok_failures c.find.ensures.reads.unwritten c.add.ensures.follows.comes (λ rs h. just_replace rs _ none (e.fresh rs [] (held_carried {s = g.S.Store} {l = g.L.Width} c.args.self.now rs h))) c.in_err-add.ensures.fails)
 
 pub returns-then-taken-eq0-clause-puts : goal.returns-then-taken-eq0-clause-puts
 returns-then-taken-eq0-clause-puts g c =
     let e = c.in_ok-taken.ensures in
     let none : c.find.new.self.gaps.items ≡ [] = nil_from_length c.find.new.self.gaps.items (omega (arith, e.count, c.if-taken-eq0.true)) in
-    puts_added {s = g.S.Store} {l = g.L.Width} _ c.find.new.self _ Replace _ Added e.ok c.in_ok-add.ensures.ok (λ rs h. just_replace rs _ none (e.gaps rs h))
+    puts_added {s = g.S.Store} {l = g.L.Width} _ c.find.new.self _ Replace _ Added e.ok c.in_ok-add.ensures.ok (λ rs h. just_replace rs _ none (e.fresh rs [] (held_carried {s = g.S.Store} {l = g.L.Width} c.args.self.now rs h)))
 
 pub all_sizes-gone-requires : goal.all_sizes-gone-requires
 all_sizes-gone-requires g c =
@@ -69,7 +70,7 @@ returns-then-not-has_room-clause-fails g c =
     let p : 2 * c.pair_size.result * t ≡ 4 * w * length m.gaps.items = ap (λ (v : ℕ). v * t) n ∙ ap (λ (v : ℕ). 4 * w * v) e.count in
     let q : 4 * w * t ≡ 4 * w * length m.gaps.items = ap (λ (v : ℕ). 4 * w * v) e.count in
     let few = fewer_bytes w t m.count g.met.L.Width.four_or_eight e.few in
-    fails_too_big {s = g.S.Store} {l = g.L.Width} _ m _ _ e.ok e.ok_failures c.find.ensures.counts.limit e.gaps (omega (arith, c.size.ensures.is)) (c.if-not-has_room.ensures.none refl)
+    fails_too_big {s = g.S.Store} {l = g.L.Width} _ m _ _ e.ok e.ok_failures c.find.ensures.counts.limit (λ rs h. e.fresh rs [] (held_carried {s = g.S.Store} {l = g.L.Width} c.args.self.now rs h)) (omega (arith, c.size.ensures.is)) (c.if-not-has_room.ensures.none refl)
 
 pub overflow_sub-self : goal.overflow_sub-self
 overflow_sub-self g c =
@@ -94,10 +95,10 @@ returns-in_err-reserve-clause-fails g c =
     let few = fewer_bytes w t m.count g.met.L.Width.four_or_eight e.few in
     let r : KeyValue = record { key = c.args.key.now; value = c.args.value.now } in
     let fit : m.end + 4 * w * m.count + whole_size w r ≤ m.limit + sum_by (λ (v : Gap). v.size) m.gaps.items + 4 * w * length m.gaps.items = omega (arith, c.size.ensures.is, c.if-not-has_room.ensures.room refl) in
-    let would = would_replace {s = g.S.Store} {l = g.L.Width} c.args.self.now m r e.ok c.find.ensures.counts.limit e.gaps fit in
+    let would = would_replace {s = g.S.Store} {l = g.L.Width} c.args.self.now m r e.ok c.find.ensures.counts.limit (λ rs h. e.fresh rs [] (held_carried {s = g.S.Store} {l = g.L.Width} c.args.self.now rs h)) fit in
     rw (p.1, p.2, fault)
     (fails_wanting {s = g.S.Store} {l = g.L.Width} _ m _ _ (m.end - c.all_sizes-gone.result) e.ok (writes_looked e.ok.stays.whole e.ok.stays.whole refl refl (record { no_other = c.reserve.ensures.images.no_other }) c.reserve.ensures.written)
-    (c.in_err-reserve.ensures.err_failures ∙ e.ok_failures) c.find.ensures.reads.room e.gaps (omega arith) (omega (arith, c.in_err-reserve.ensures.past_room, c.pair_size-2.ensures)) same
+    (c.in_err-reserve.ensures.err_failures ∙ e.ok_failures) c.find.ensures.reads.room (λ rs h. e.fresh rs [] (held_carried {s = g.S.Store} {l = g.L.Width} c.args.self.now rs h)) (omega arith) (omega (arith, c.in_err-reserve.ensures.past_room, c.pair_size-2.ensures)) same
     (λ rs h. honest_comes same (would rs h)))
 
 pub returns-in_err-exchange-clause-fails : goal.returns-in_err-exchange-clause-fails
@@ -114,9 +115,9 @@ returns-in_err-exchange-clause-fails g c =
     let few = fewer_bytes w t m.count g.met.L.Width.four_or_eight e.few in
     let r : KeyValue = record { key = c.args.key.now; value = c.args.value.now } in
     let fit : m.end + 4 * w * m.count + whole_size w r ≤ m.limit + sum_by (λ (v : Gap). v.size) m.gaps.items + 4 * w * length m.gaps.items = omega (arith, c.size.ensures.is, c.if-not-has_room.ensures.room refl) in
-    let would = would_replace {s = g.S.Store} {l = g.L.Width} c.args.self.now m r e.ok c.find.ensures.counts.limit e.gaps fit in
+    let would = would_replace {s = g.S.Store} {l = g.L.Width} c.args.self.now m r e.ok c.find.ensures.counts.limit (λ rs h. e.fresh rs [] (held_carried {s = g.S.Store} {l = g.L.Width} c.args.self.now rs h)) fit in
     rw (p.1, p.2)
-    (fails_exchange {s = g.S.Store} {l = g.L.Width} _ _ _ _ _ (writes_then _ m _ e.ok (writes_looked e.ok.stays.whole e.ok.stays.whole refl refl (record { no_other = c.reserve.ensures.images.no_other }) c.reserve.ensures.written)) (omega (arith, c.find.ensures.reads.failures, c.reserve.ensures.failures)) (λ rs h. gaps_same c.reserve.ensures.images (e.gaps rs h))
+    (fails_exchange {s = g.S.Store} {l = g.L.Width} _ _ _ _ _ (writes_then _ m _ e.ok (writes_looked e.ok.stays.whole e.ok.stays.whole refl refl (record { no_other = c.reserve.ensures.images.no_other }) c.reserve.ensures.written)) (omega (arith, c.find.ensures.reads.failures, c.reserve.ensures.failures)) (λ rs h. gaps_same c.args.key.now c.reserve.ensures.images (e.fresh rs [] (held_carried {s = g.S.Store} {l = g.L.Width} c.args.self.now rs h)))
     (omega (arith, c.if-taken-eq0.false, e.count)) c.in_err-exchange.ensures.broken c.exchange.ensures.follows.comes
     (λ rs h. honest_comes (comes_then (comes_same c.reserve.ensures.images) c.exchange.ensures.follows.comes) (would rs h)) c.in_err-exchange.ensures.fails)
 
@@ -124,7 +125,7 @@ pub returns-clause-puts : goal.returns-clause-puts
 returns-clause-puts g c =
     let m = c.find.new.self in
     let e = c.in_ok-taken.ensures in
-    puts_exchanged {s = g.S.Store} {l = g.L.Width} _ _ _ _ _ (writes_then _ m _ e.ok (writes_looked e.ok.stays.whole e.ok.stays.whole refl refl (record { no_other = c.reserve.ensures.images.no_other }) c.reserve.ensures.written)) (λ rs h. gaps_same c.reserve.ensures.images (e.gaps rs h)) e.count (omega (arith, c.if-taken-eq0.false)) c.exchange.ensures.follows.comes c.in_ok-exchange.ensures.ok
+    puts_exchanged {s = g.S.Store} {l = g.L.Width} _ _ _ _ _ (writes_then _ m _ e.ok (writes_looked e.ok.stays.whole e.ok.stays.whole refl refl (record { no_other = c.reserve.ensures.images.no_other }) c.reserve.ensures.written)) (λ rs h. gaps_same c.args.key.now c.reserve.ensures.images (e.fresh rs [] (held_carried {s = g.S.Store} {l = g.L.Width} c.args.self.now rs h))) e.count (omega (arith, c.if-taken-eq0.false)) c.exchange.ensures.follows.comes c.in_ok-exchange.ensures.ok
 
 pub invariant_of-self : goal.invariant_of-self
 invariant_of-self g c = grind (arith, common_steps)

@@ -1,20 +1,15 @@
-use Rattle.std.proofs.Common.{arith, rules, subst, inl, inr, ◌≡◌, ◌+◌, ◌-◌, ◌≤◌, ◌<◌, ◌^◌, ℕ, List, [], ap, ◌∙◌}
+use Rattle.std.proofs.Common.{arith, refl, rules, subst, inl, inr, ◌≡◌, ◌+◌, ◌-◌, ◌≤◌, ◌<◌, ◌^◌, ℕ, List, [], ap, ◌∙◌}
 use Rattle.std.specs.Prelude.{sum_by}
 use Rattle.cdb_store.specs.Images.{AreSized}
 use Rattle.cdb_form.specs.Format.Pair.{head_size}
 use Rattle.cdb_make.specs.declared.removal.gap.Gap.{Gap}
 use Rattle.cdb_make.specs.Gaps.{Closed, first_place, kept_len}
+use Rattle.cdb_make.proofs.ClosedAll.{within_closed, spare_closed}
 use Rattle.cdb_make.proofs.Merge.{apart_lower}
 use Rattle.cdb_make.proofs.Picking.{apart_higher}
-use Rattle.cdb_make.proofs.Whole.{no_gaps, apart_sizes, lists_stay, stands_still, stands_after, stands_settled, writes_none, writes_behind, writes_marked, marked_still, marked_none_written}
+use Rattle.cdb_make.proofs.Whole.{no_gaps, apart_sizes, lists_stay, stands_closed, went_counted, writes_marked, marked_still, marked_none_written}
 use Rattle.std.proofs.lemmas.Grind.{common_steps}
 use Rattle.cdb_make.proofs.removal.take_out.close.Goals as goal
-
-pub returns-then-is_empty-clause-stands : goal.returns-then-is_empty-clause-stands
-returns-then-is_empty-clause-stands g c = λ rs key stands found. let none : c.args.gaps.now ≡ [] = no_gaps c.args.gaps.now (search (rules, c.is_empty.ensures, c.if-is_empty.ensures)) in stands_still none found stands
-
-pub returns-then-is_empty-clause-written : goal.returns-then-is_empty-clause-written
-returns-then-is_empty-clause-written g c = λ rs key stands found. let none : c.args.gaps.now ≡ [] = no_gaps c.args.gaps.now (search (rules, c.is_empty.ensures, c.if-is_empty.ensures)) in writes_none _ none found
 
 pub returns-then-is_empty-clause-lists : goal.returns-then-is_empty-clause-lists
 returns-then-is_empty-clause-lists g c = let none : c.args.gaps.now ≡ [] = no_gaps c.args.gaps.now (search (rules, c.is_empty.ensures, c.if-is_empty.ensures)) in lists_stay c.args.gaps.now c.args.lists.now.each.items none
@@ -45,62 +40,67 @@ returns-clause-lower g c =
     let size : c.all_sizes.result ≡ sum_by (λ (v : Gap). v.size) c.args.gaps.now = c.all_sizes.ensures in
     omega arith
 
-pub returns-clause-stands : goal.returns-clause-stands
-returns-clause-stands g c = λ rs key stands found.
-    let gs : List Gap = c.args.gaps.now in
-    let end : ℕ = c.args.end in
-    let old : List ℕ → Type 0 = g.S.Store.image c.args.store.now in
-    let new : List ℕ → Type 0 = g.S.Store.image c.close_gaps.new.store in
-    let above : 0 < g.L.Width.WORD = elim g.met.L.Width.four_or_eight [ inl four ↦ omega arith | inr eight ↦ omega arith ] in
-    let closed : Closed (first_place gs end) gs end old new = subst (λ (v : ℕ). Closed v gs end old new) c.first_place-start.ensures c.in_ok-close_gaps.ensures.closed in
-    let sized : AreSized (g.S.Store.size c.args.store.now) old = record { each = g.met.S.Store.image_size c.args.store.now } in
-    stands_after (g.S.Store.size c.args.store.now) (end - c.all_sizes.result) above c.requires.inside c.args.lists.now.all sized (ap (λ (v : ℕ). end - v) c.all_sizes.ensures) found stands closed c.close-gone.ensures.closed
-
-pub returns-clause-written : goal.returns-clause-written
-returns-clause-written g c = λ rs key stands found.
-    let gs : List Gap = c.args.gaps.now in
-    let end : ℕ = c.args.end in
-    let old : List ℕ → Type 0 = g.S.Store.image c.args.store.now in
-    let new : List ℕ → Type 0 = g.S.Store.image c.close_gaps.new.store in
-    let closed : Closed (first_place gs end) gs end old new = subst (λ (v : ℕ). Closed v gs end old new) c.first_place-start.ensures c.in_ok-close_gaps.ensures.closed in
-    let sum : g.S.Store.written c.close_gaps.new.store ≡ g.S.Store.written c.args.store.now + kept_len (first_place gs end) gs end =
-    c.in_ok-close_gaps.ensures.written ∙ ap (λ (v : ℕ). g.S.Store.written c.args.store.now + kept_len v gs end) c.first_place-start.ensures in
-    writes_behind (g.S.Store.written c.args.store.now) (g.S.Store.written c.close_gaps.new.store) sum found stands closed
-
-pub returns-clause-settles : goal.returns-clause-settles
-returns-clause-settles g c = λ ms rs stands found.
-    let gs : List Gap = c.args.gaps.now in
-    let end : ℕ = c.args.end in
-    let old : List ℕ → Type 0 = g.S.Store.image c.args.store.now in
-    let new : List ℕ → Type 0 = g.S.Store.image c.close_gaps.new.store in
-    let above : 0 < g.L.Width.WORD = elim g.met.L.Width.four_or_eight [ inl four ↦ omega arith | inr eight ↦ omega arith ] in
-    let closed : Closed (first_place gs end) gs end old new = subst (λ (v : ℕ). Closed v gs end old new) c.first_place-start.ensures c.in_ok-close_gaps.ensures.closed in
-    let sized : AreSized (g.S.Store.size c.args.store.now) old = record { each = g.met.S.Store.image_size c.args.store.now } in
-    stands_settled ms rs (g.S.Store.size c.args.store.now) (end - c.all_sizes.result) above c.requires.inside c.args.lists.now.all sized (ap (λ (v : ℕ). end - v) c.all_sizes.ensures) found stands closed c.close-gone.ensures.closed
-
-pub returns-clause-moves : goal.returns-clause-moves
-returns-clause-moves g c = λ ms rs stands found.
-    let gs : List Gap = c.args.gaps.now in
-    let end : ℕ = c.args.end in
-    let old : List ℕ → Type 0 = g.S.Store.image c.args.store.now in
-    let new : List ℕ → Type 0 = g.S.Store.image c.close_gaps.new.store in
-    let closed : Closed (first_place gs end) gs end old new = subst (λ (v : ℕ). Closed v gs end old new) c.first_place-start.ensures c.in_ok-close_gaps.ensures.closed in
-    let sum : g.S.Store.written c.close_gaps.new.store ≡ g.S.Store.written c.args.store.now + kept_len (first_place gs end) gs end =
-    c.in_ok-close_gaps.ensures.written ∙ ap (λ (v : ℕ). g.S.Store.written c.args.store.now + kept_len v gs end) c.first_place-start.ensures in
-    record { each = writes_marked ms ms rs (g.S.Store.written c.args.store.now) (g.S.Store.written c.close_gaps.new.store) sum found stands closed }
-
-pub returns-then-is_empty-clause-settles : goal.returns-then-is_empty-clause-settles
-returns-then-is_empty-clause-settles g c = λ ms rs stands found.
-    let none : c.args.gaps.now ≡ [] = no_gaps c.args.gaps.now (search (rules, c.is_empty.ensures, c.if-is_empty.ensures)) in
-    marked_still none found stands
-
-pub returns-then-is_empty-clause-moves : goal.returns-then-is_empty-clause-moves
-returns-then-is_empty-clause-moves g c = λ ms rs stands found.
-    let none : c.args.gaps.now ≡ [] = no_gaps c.args.gaps.now (search (rules, c.is_empty.ensures, c.if-is_empty.ensures)) in
-    marked_none_written (g.S.Store.written c.args.store.now) none found
-
 pub returns-then-is_empty-clause-within : goal.returns-then-is_empty-clause-within
 returns-then-is_empty-clause-within g c = grind (arith, common_steps)
 
 pub returns-then-is_empty-clause-lower : goal.returns-then-is_empty-clause-lower
 returns-then-is_empty-clause-lower g c = grind (arith, common_steps)
+
+pub returns-clause-settles : goal.returns-clause-settles
+returns-clause-settles g c = λ ms ns rs stands found among.
+    let gs : List Gap = c.args.gaps.now in
+    let end : ℕ = c.args.end in
+    let old : List ℕ → Type 0 = g.S.Store.image c.args.store.now in
+    let new : List ℕ → Type 0 = g.S.Store.image c.close_gaps.new.store in
+    let above : 0 < g.L.Width.WORD = elim g.met.L.Width.four_or_eight [ inl four ↦ omega arith | inr eight ↦ omega arith ] in
+    let closed : Closed (first_place gs end) gs end old new = subst (λ (v : ℕ). Closed v gs end old new) c.first_place-start.ensures c.in_ok-close_gaps.ensures.closed in
+    let sized : AreSized (g.S.Store.size c.args.store.now) old = record { each = g.met.S.Store.image_size c.args.store.now } in
+    stands_closed ns ms (g.S.Store.size c.args.store.now) (end - c.all_sizes.result) above c.requires.inside c.args.lists.now.all sized (ap (λ (v : ℕ). end - v) c.all_sizes.ensures) among found stands closed c.close-gone.ensures.closed
+
+pub returns-clause-moves : goal.returns-clause-moves
+returns-clause-moves g c = λ ms ns rs stands found.
+    let gs : List Gap = c.args.gaps.now in
+    let end : ℕ = c.args.end in
+    let old : List ℕ → Type 0 = g.S.Store.image c.args.store.now in
+    let new : List ℕ → Type 0 = g.S.Store.image c.close_gaps.new.store in
+    let closed : Closed (first_place gs end) gs end old new = subst (λ (v : ℕ). Closed v gs end old new) c.first_place-start.ensures c.in_ok-close_gaps.ensures.closed in
+    let sum : g.S.Store.written c.close_gaps.new.store ≡ g.S.Store.written c.args.store.now + kept_len (first_place gs end) gs end =
+    c.in_ok-close_gaps.ensures.written ∙ ap (λ (v : ℕ). g.S.Store.written c.args.store.now + kept_len v gs end) c.first_place-start.ensures in
+    record { each = writes_marked ns ms rs (g.S.Store.written c.args.store.now) (g.S.Store.written c.close_gaps.new.store) sum found stands closed }
+
+pub returns-then-is_empty-clause-settles : goal.returns-then-is_empty-clause-settles
+returns-then-is_empty-clause-settles g c = λ ms ns rs stands found among.
+    let none : c.args.gaps.now ≡ [] = no_gaps c.args.gaps.now (search (rules, c.is_empty.ensures, c.if-is_empty.ensures)) in
+    marked_still none found stands among
+
+pub returns-then-is_empty-clause-moves : goal.returns-then-is_empty-clause-moves
+returns-then-is_empty-clause-moves g c = λ ms ns rs stands found.
+    let none : c.args.gaps.now ≡ [] = no_gaps c.args.gaps.now (search (rules, c.is_empty.ensures, c.if-is_empty.ensures)) in
+    marked_none_written (g.S.Store.written c.args.store.now) none found
+
+pub returns-then-gone-gaps-clause-fails : goal.returns-then-gone-gaps-clause-fails
+returns-then-gone-gaps-clause-fails g c = λ ms ns rs stands found among b is.
+    let gs : List Gap = c.args.gaps.now in
+    let end : ℕ = c.args.end in
+    let old : List ℕ → Type 0 = g.S.Store.image c.args.store.now in
+    let new : List ℕ → Type 0 = g.S.Store.image c.close_gaps.new.store in
+    let above : 0 < g.L.Width.WORD = elim g.met.L.Width.four_or_eight [ inl four ↦ omega arith | inr eight ↦ omega arith ] in
+    let closed : Closed (first_place gs end) gs end old new = subst (λ (v : ℕ). Closed v gs end old new) c.first_place-start.ensures c.in_ok-close_gaps.ensures.closed in
+    let sized : AreSized (g.S.Store.size c.args.store.now) old = record { each = g.met.S.Store.image_size c.args.store.now } in
+    let last : ℕ = end - sum_by (λ (v : Gap). v.size) gs in
+    let settled = stands_closed ns ms (g.S.Store.size c.args.store.now) last above c.requires.inside c.args.lists.now.all sized refl among found stands closed c.close-gone.ensures.closed in
+    let a = closed.each b is in
+    let went = went_counted ms ns rs found stands settled a.0 b a.1 is in
+    c.if-gone-gaps.true (omega (arith, went, c.close-gone.ensures.gone))
+
+pub returns-then-gone-gaps-clause-placed : goal.returns-then-gone-gaps-clause-placed
+returns-then-gone-gaps-clause-placed g c = λ most all. within_closed most c.close-gone.ensures.closed all
+
+pub returns-then-gone-gaps-clause-spare : goal.returns-then-gone-gaps-clause-spare
+returns-then-gone-gaps-clause-spare g c = λ room all. spare_closed c.close-gone.ensures.closed all
+
+pub returns-clause-placed : goal.returns-clause-placed
+returns-clause-placed g c = λ most all. within_closed most c.close-gone.ensures.closed all
+
+pub returns-clause-spare : goal.returns-clause-spare
+returns-clause-spare g c = λ room all. spare_closed c.close-gone.ensures.closed all

@@ -5,7 +5,7 @@ use Rattle.cdb_form.specs.Format.Hash.{table_number}
 use Rattle.cdb_make.proofs.Compare.{reads_fewer}
 use Rattle.cdb_make.specs.Views.EntryList.{list_entries, lists_entries}
 use Rattle.cdb_make.specs.declared.index.list.EntryList.{EntryList}
-use Rattle.cdb_make.proofs.Whole.{gaps_found, gaps_of_key, count_found, none_stands, stand_marked, stands_fewer}
+use Rattle.cdb_make.proofs.Whole.{gaps_found, none_stands}
 use Rattle.cdb_make.proofs.removal.take_out.find.Goals as goal
 
 pub find_gaps-requires-clause-room : goal.find_gaps-requires-clause-room
@@ -38,20 +38,8 @@ returns-clause-fresh g c = λ ms rs stands.
     (λ picks. gaps_found g.L.Width.TOP c.args.end c.args.lists.now.each.items d ms rs g.met.L.Width.top_is (omega (arith, c.requires.fits, g.met.L.Width.greatest_fits.0)) c.args.lists.now.all c.requires.hash here (reads_fewer c.find_gaps.ensures.reads) stands picks)
     c.find_gaps.ensures.picks
 
-pub returns-clause-gaps : goal.returns-clause-gaps
-returns-clause-gaps g c = λ rs stands. on_ok_weaker c.find_gaps.result (λ found. gaps_of_key found) (returns-clause-fresh g c [] rs (stand_marked stands))
-
-pub returns-clause-count : goal.returns-clause-count
-returns-clause-count g c = λ rs stands. on_ok_weaker c.find_gaps.result (λ found. count_found found) (returns-clause-gaps g c rs stands)
-
 pub returns-clause-none : goal.returns-clause-none
 returns-clause-none g c = λ err ms rs stands.
     let d = c.of_hash-list.result.now in
     let here : list_entries d ≡ list_entries (get_or c.args.lists.now.each.items (table_number c.args.hash) d) = ap list_entries c.of_hash-list.ensures in
     none_stands c.args.hash g.L.Width.TOP c.args.end c.args.lists.now.each.items d ms rs g.met.L.Width.top_is (omega (arith, c.requires.fits, g.met.L.Width.greatest_fits.0)) c.args.lists.now.all (omega (arith, c.head_size-start.ensures)) here (reads_fewer c.find_gaps.ensures.reads) stands (c.find_gaps.ensures.foreign err)
-
-pub returns-clause-foreign : goal.returns-clause-foreign
-returns-clause-foreign g c = λ err rs stands. returns-clause-none g c err [] rs (stand_marked stands)
-
-pub returns-clause-stands : goal.returns-clause-stands
-returns-clause-stands g c = λ rs stands. stands_fewer (reads_fewer c.find_gaps.ensures.reads) stands
