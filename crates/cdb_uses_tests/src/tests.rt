@@ -114,7 +114,7 @@ fn changes(alloc: Global, rows: &[(Option<Mode>, &[u8], &[u8])]) -> Result<Vec<S
 
 /// A file made in memory by some steps, and why each was refused.
 #[derive(Drop)]
-struct Made {
+struct MadeFile {
     file: Vec<u8>,
     faults: Vec<Option<MakeFault>>,
 }
@@ -126,9 +126,9 @@ fn make_and_ask<L: Width, W: Write>(
     steps: &[Step],
     key: &[u8],
     w: &mut W,
-) -> Result<Made, AskFault> {
+) -> Result<MadeFile, AskFault> {
     match build_and_ask::<_, L, W>(alloc, MemStore::new(alloc), limit, steps, key, w) {
-        Ok(Built { store, faults }) => Ok(Made {
+        Ok(Built { store, faults }) => Ok(MadeFile {
             file: store.into_vec(),
             faults,
         }),
