@@ -5,5 +5,5 @@ use Rattle.cdb_tool.proofs.runs.make_bytes.make_bytes.Goals as goal
 pub returns : goal.returns
 returns g c = (
   unread g.R.Read.remaining c.make_bytes_unflushed-made.new.text,
-  rw c.new-text.ensures.unread at makes_flushed _ _ _ _ _ _ _ _ _ c.make_bytes_unflushed-made.ensures c.flushed.ensures,
+  rw c.new-text.ensures.unread at (makes_flushed _ _ _ _ _ _ _ _ _ c.make_bytes_unflushed-made.ensures c.flushed.ensures),
 )
