@@ -54,6 +54,7 @@ impl<'a, R: Files<File = File>> System<FileStore, File, FileStore> for RealSyste
 
     ghost makes = { λ _ _. Unit {0} };
 
+    // Shown by tests/cli/cases.py and tests/faults/names.py.
     fn open_store(&mut self, name: &str) -> Result<FileStore, Fault> {
         self.trace.note(&OpenCall::AtPlaces, name.as_bytes());
         if is_stream(self.rt, name) != Answer::No {
@@ -62,6 +63,7 @@ impl<'a, R: Files<File = File>> System<FileStore, File, FileStore> for RealSyste
         FileStore::open(self.rt, name).map_err(store_fault)
     }
 
+    // Shown by tests/cli/cases.py and tests/faults/closed.py.
     /// The file is given up if it got the number of a standard stream that is closed.
     fn open(&mut self, name: &str) -> Result<File, Fault> {
         self.trace.note(&OpenCall::InTurn, name.as_bytes());
@@ -72,12 +74,14 @@ impl<'a, R: Files<File = File>> System<FileStore, File, FileStore> for RealSyste
         }
     }
 
+    // Shown by tests/cli/cases.py and tests/faults/names.py.
     fn is_stream(&mut self, name: &str) -> Answer {
         let is = is_stream(self.rt, name);
         self.trace.note(&OpenCall::Stream(is), name.as_bytes());
         is
     }
 
+    // Shown by tests/cli/cases.py and tests/faults/others.py.
     fn empty(&mut self, name: &str) -> Result<FileStore, Fault> {
         self.trace.note(&OpenCall::Emptied, name.as_bytes());
         FileStore::create_own(self.rt, name).map_err(store_fault)

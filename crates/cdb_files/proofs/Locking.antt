@@ -1,13 +1,13 @@
 -- What the calls of a replacement have seen, so that a file may be removed or renamed.
-use Rattle.std.proofs.Common.{◌≡◌, ◌≢◌, ℕ, inl, inr, List, [], ◌∷◌, Some, refl, sym, subst}
+use Rattle.std.proofs.Common.{◌≡◌, ◌≢◌, ℕ, inl, inr, List, [], ◌∷◌, refl, sym, subst}
 use Rattle.cdb_files.specs.declared.answer.Answer.TheVariants.{Yes, No}
 use Rattle.cdb_files.specs.declared.answer.Lock.{Lock}
 use Rattle.cdb_files.specs.declared.answer.Lock.TheVariants.{Taken, Unsupported, Held}
-use Rattle.cdb_files.specs.declared.name_trace.NameCall.TheVariants.{Same, Opened, Made, Locked, Own, Bits, Allowed, NotRenamed}
+use Rattle.cdb_files.specs.declared.name_trace.NameCall.TheVariants.{Same, Opened, Made, Locked, Own, NotRenamed}
 use Rattle.cdb_files.specs.declared.name_fault.NameFault.{NameFault}
 use Rattle.cdb_store.specs.Calls.{Calls}
-use Rattle.cdb_files.specs.Folder.{NameCalls, AreApart, HasLock, HasMade, IsPlain, MayRemove, MayReplace, MayUndo}
-use Rattle.cdb_files.specs.Replacing.{GivesBits, IsMadeApart, IsReadyToBuild, TakesLock}
+use Rattle.cdb_files.specs.Folder.{NameCalls, AreApart, HasLock, HasMade, MayRemove, MayUndo}
+use Rattle.cdb_files.specs.Replacing.{IsMadeApart, TakesLock}
 
 -- the lock of a file was taken
 has_lock : (t : List ℕ) (lock : Lock) (mid : NameCalls) → lock ≢ Held → HasLock t ((Locked lock, t, [], []) ∷ mid)
@@ -39,20 +39,6 @@ built_removable t n old new made =
     let may = made_undoable t old ((Made, t, [], []) ∷ old) made.locked refl made.takes in
     let all : MayRemove t n ((Same No, t, n, []) ∷ (Own Yes, t, [], []) ∷ made.locked) = record { lock = may.lock; other = inl may.made } in
     subst (λ (cs : NameCalls). MayRemove t n cs) (sym made.are) all
-
--- the file has its bits and may be renamed
-pub may_replace : (t n : List ℕ) (mid calls : NameCalls) → IsReadyToBuild t n mid → GivesBits t n mid calls → MayReplace t n calls
-may_replace t n mid calls ready gives =
-    let made = ready.made in
-    let apart = (Same No, t, n, []) ∷ (Own Yes, t, [], []) ∷ made.locked in
-    let may : MayReplace t n ((Allowed gives.bits, t, [], []) ∷ (Bits (Some gives.bits), n, [], []) ∷ apart) = record {
-      lock = (made_undoable t ready.before ((Made, t, [], []) ∷ ready.before) made.locked refl made.takes).lock;
-      own = inl refl;
-      apart = inl (refl, refl);
-      bits = inl (refl, inl (refl, refl));
-      plain = subst (λ (cs : NameCalls). IsPlain n cs) (sym made.takes.are) ready.plain;
-    } in
-    subst (λ (cs : NameCalls). MayReplace t n cs) (sym gives.are) (subst (λ (cs : NameCalls). MayReplace t n ((Allowed gives.bits, t, [], []) ∷ (Bits (Some gives.bits), n, [], []) ∷ cs)) (sym made.are) may)
 
 -- a rename that failed changes nothing of that
 pub may_after : (t n : List ℕ) (len : ℕ) (fault : NameFault) (file : Calls) (old new : NameCalls) → new ≡ (NotRenamed len fault, t, n, file) ∷ old → MayRemove t n old

@@ -155,11 +155,13 @@ fn folder_of(name: &str) -> &str
     }
 }
 
+// That these lines do what they note no proof says: each has its tests, which are named at it.
 impl<'a, R: Files<File = File>> Names for RealNames<'a, R> {
     type File = RealFile;
 
     ghost calls = { λ n. n.trace.events };
 
+    // Shown by tests/faults/names.py, and by the kinds of files in tests/cli/cases.py.
     fn is_special(&mut self, name: &str) -> Answer {
         let is = match looked(fs::metadata(self.rt, name)) {
             Look::There(found) if !found.is_file() => Answer::Yes,
@@ -170,6 +172,8 @@ impl<'a, R: Files<File = File>> Names for RealNames<'a, R> {
         is
     }
 
+    // Shown by tests/faults/names.py, and by the rows over links and two file systems of the tests
+    // crate.
     fn is_file_of(&mut self, name: &str, other: &str) -> Answer {
         let own = looked(fs::symlink_metadata(self.rt, name));
         let is = match &own {
@@ -184,6 +188,7 @@ impl<'a, R: Files<File = File>> Names for RealNames<'a, R> {
         is
     }
 
+    // Shown by tests/faults/names.py and others.py.
     fn look(&mut self, name: &str) -> Found {
         let found = match looked(fs::symlink_metadata(self.rt, name)) {
             Look::There(found) if found.is_file() => Found::File,
@@ -195,6 +200,7 @@ impl<'a, R: Files<File = File>> Names for RealNames<'a, R> {
         found
     }
 
+    // Shown by tests/faults/others.py: a pipe that takes the name makes no create wait.
     fn open_old(&mut self, name: &str) -> Result<RealFile, NameFault> {
         match RealFile::open_regular(self.rt, name) {
             Ok(file) => {
@@ -209,6 +215,7 @@ impl<'a, R: Files<File = File>> Names for RealNames<'a, R> {
         }
     }
 
+    // Shown by tests/cli/orders.py, permissions.py and tests/faults/killed.py.
     fn make_new(&mut self, name: &str) -> Result<RealFile, NameFault> {
         match RealFile::create_new(self.rt, name, PRIVATE) {
             Ok(file) => {
@@ -223,18 +230,21 @@ impl<'a, R: Files<File = File>> Names for RealNames<'a, R> {
         }
     }
 
+    // Shown by tests/cli/orders.py, locked.py and tests/faults/others.py.
     fn lock(&mut self, name: &str, file: &RealFile) -> Lock {
         let lock = lock_of(file.try_lock());
         self.note(&NameCall::Locked(lock), name, "");
         lock
     }
 
+    // Shown by tests/cli/orders.py and tests/faults/others.py.
     fn has_file(&mut self, name: &str, file: &RealFile) -> Answer {
         let is = has_name(self.rt, name, file);
         self.note(&NameCall::Own(is), name, "");
         is
     }
 
+    // Shown by tests/cli/permissions.py and tests/faults/names.py.
     fn bits_for(&mut self, name: &str) -> Option<u32> {
         let bits = match looked(fs::symlink_metadata(self.rt, name)) {
             Look::There(found) if found.is_file() => Some(found.permissions().mode() & FOR_ALL),
@@ -245,6 +255,7 @@ impl<'a, R: Files<File = File>> Names for RealNames<'a, R> {
         bits
     }
 
+    // Shown by tests/cli/permissions.py and tests/faults/names.py.
     fn allow(&mut self, name: &str, file: &RealFile, bits: u32) -> bool {
         let is_allowed = file.set_permissions(Permissions::from_mode(bits)).is_ok();
         let call = if is_allowed {
@@ -256,12 +267,14 @@ impl<'a, R: Files<File = File>> Names for RealNames<'a, R> {
         is_allowed
     }
 
+    // Shown by tests/cli/taken.py, orders.py and tests/faults/others.py.
     fn remove_own(&mut self, name: &str, file: &RealFile) {
         let is_own = has_name(self.rt, name, file) == Answer::Yes;
         let removed = is_own && fs::remove_file(self.rt, name).is_ok();
         self.note(&removal(removed), name, "");
     }
 
+    // Shown by tests/cli/taken.py, tests/faults/names.py and syncs.py.
     fn rename(
         &mut self,
         file: RealFile,
@@ -295,6 +308,7 @@ impl<'a, R: Files<File = File>> Names for RealNames<'a, R> {
         }
     }
 
+    // Shown by tests/faults/syncs.py.
     fn sync_folder(&mut self, name: &str) -> bool {
         let is_synced = match File::open(self.rt, folder_of(name)) {
             Ok(folder) => folder.sync_all().is_ok(),

@@ -147,15 +147,18 @@ fn part_of(answer: io::Result<usize>) -> Result<usize, RawFault>
     }
 }
 
+// That these lines do what they note no proof says: each has its tests, which are named at it.
 impl RawFile for RealFile {
     ghost calls = { λ f. f.trace.events };
 
+    // Shown by tests/faults/run.py, with short and interrupted calls.
     fn read_some(&mut self, pos: u64, into: &mut [u8]) -> Result<usize, RawFault> {
         let answer = part_of(self.file.read_at(into, pos));
         note_part(&mut self.trace, Call::Read(pos), Call::Failed, into, answer);
         answer
     }
 
+    // Shown by tests/faults/run.py, with short and interrupted calls.
     fn write_some(&mut self, pos: u64, bytes: &[u8]) -> Result<usize, RawFault> {
         let answer = part_of(self.file.write_at(bytes, pos));
         let failed = Call::NotWritten(pos, bytes.len() as u64);
@@ -163,6 +166,7 @@ impl RawFile for RealFile {
         answer
     }
 
+    // Shown by tests/faults/run.py.
     fn length(&mut self) -> Result<u64, RawFault> {
         match self.file.metadata() {
             Ok(metadata) => {
@@ -177,6 +181,7 @@ impl RawFile for RealFile {
         }
     }
 
+    // Shown by tests/faults/run.py.
     fn set_length(&mut self, len: u64) -> Result<(), RawFault> {
         match self.file.set_len(len) {
             Ok(()) => {
@@ -190,6 +195,7 @@ impl RawFile for RealFile {
         }
     }
 
+    // Shown by tests/faults/syncs.py, names.py and run.py.
     fn sync(&mut self) -> Result<(), RawFault> {
         match self.file.sync_all() {
             Ok(()) => {
