@@ -27,7 +27,7 @@ PROMISES = "docs/audit/PROMISES.md"
 BUILT = re.compile(r"(bin|out|dist|crates/NAME|crates/\*)/")
 FOREIGN = set(
     """
-    cdbmake cdbdump freecdb tinycdb postmap tinydns Exim rsync chmod umask chgrp flock callgrind
+    cdbmake cdbdump freecdb tinycdb postmap tinydns Exim rsync chmod umask chgrp setfacl flock callgrind
     valgrind sponge strace lintian apt dpkg mandoc libcdb1 posix_fallocate x NAME
     """.split()
 )

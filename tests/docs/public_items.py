@@ -7,7 +7,6 @@ from sources import crates, sources_of, text_of
 
 # These are there for callers of the libraries, of which the program is none.
 FOR_CALLERS = {
-    "cdb_store::into_inner": "what a buffer or a fuse was put before is had again",
     "cdb_form::write_removal": "an amending text can be written as well as read",
     "cdb_tool::make_run": "the program's inputs share one window: it calls make_run_from",
     "cdb_tool::dump_run": "the program has bytes at hand: it calls text_run_buffered",
