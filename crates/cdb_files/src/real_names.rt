@@ -100,8 +100,8 @@ const STATUS: &str = "/proc/self/status";
 /// How many of its first bytes have the line of the umask.
 const STATUS_HEAD: usize = 512;
 
-/// The permission bits of a new file, or `None` if the system did not say. If it has no such page,
-/// the file is for this user alone.
+/// The permission bits of a new file, or `None` if the system did not say. If it has no such page, or
+/// no umask on it, the file is for this user alone.
 fn new_bits<R: Files<File = File>>(rt: &R) -> Option<u32> {
     let mut status = match File::open(rt, STATUS) {
         Ok(status) => status,
@@ -110,7 +110,10 @@ fn new_bits<R: Files<File = File>>(rt: &R) -> Option<u32> {
     };
     let mut head = [0u8; STATUS_HEAD];
     let n = status.read(&mut head).ok()?;
-    Some(READ_AND_WRITTEN & !umask_in(&head[..n.min(STATUS_HEAD)])?)
+    match umask_in(&head[..n.min(STATUS_HEAD)]) {
+        Some(umask) => Some(READ_AND_WRITTEN & !umask),
+        None => Some(PRIVATE),
+    }
 }
 
 /// What came of the request for a lock. Only a file system that knows none says so: by `ENOLCK`,

@@ -144,6 +144,7 @@ impl<S: Store, L: Width> Batch<S, L> {
 
     /// After so many records of a hash were taken out: asks for memory to note more gaps, as many as
     /// there are and some. Without it, or if a pass is due, one is made before the next gap is noted.
+    #[inline(always)]
     pub(crate) fn make_room(&mut self, hash: u32, taken: u64)
         ensures maker { self.new.maker ≡ self.old.maker }
         ensures gone { self.new.gone.items ≡ self.old.gone.items }

@@ -95,6 +95,7 @@ impl<S: Store, L: Width> Reader<S, L> {
 
     /// Writes the bytes of a span, which lies inside the file. What was read ahead is not read
     /// again. After a fault the writer holds a prefix of them.
+    #[inline(always)]
     pub fn copy<W: Write>(&mut self, span: Span, w: &mut W) -> Result<(), ReadFault>
         requires inside { span.place + span.len ≤ S.size self.old.store }
         ensures reads { OnlyReads S.Store self.old.store self.new.store }

@@ -67,6 +67,7 @@ pub(crate) fn distance_of(slots: u64, hash: u64, n: u64) -> u64
 }
 
 /// A slot of a table. If the window lacks it, the store is read, for `ahead` bytes.
+#[inline(always)]
 pub(crate) fn slot_at<S: Store, L: Width>(
     store: &mut S,
     table: Pointer,

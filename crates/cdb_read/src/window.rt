@@ -74,6 +74,7 @@ impl Window {
 
     /// Covers so many bytes from a place on. If the window lacks them, the store is read, for
     /// `ahead` bytes.
+    #[inline(always)]
     pub(crate) fn cover<S: Store>(
         &mut self,
         store: &mut S,

@@ -15,6 +15,7 @@ use cdb_form::{Width, hash, hash_more};
 use cdb_store::Store;
 
 /// The hash of the bytes of a span, which are read in pieces. No memory is taken.
+#[inline(always)]
 fn span_hash<S: Store>(store: &mut S, window: &mut Window, span: Span) -> Result<u32, ReadFault>
     requires inside { span.place + span.len ≤ S.size store.old }
     requires fits { S.size store.old < 2 ^ 64 }

@@ -47,6 +47,7 @@ impl<S: Store, L: Width> Reader<S, L> {
     }
 
     /// The search of a key from a probe on, up to its next value. So many bytes are read at once.
+    #[inline(always)]
     fn next_met(&mut self, from: Probe, key: &[u8], ahead: usize) -> Result<Met, ReadFault>
         requires inside { ProbeInside L.WORD (S.size self.old.store) from }
         ensures meets { IfOk result (λ met.
@@ -67,6 +68,7 @@ impl<S: Store, L: Width> Reader<S, L> {
 
     /// The same. After a first value more bytes are read than are needed; if that failed, these
     /// alone are read again, so a bad place among the others spoils nothing.
+    #[inline(always)]
     fn met_from(&mut self, from: Probe, key: &[u8], has_given: bool) -> Result<Met, ReadFault>
         requires inside { ProbeInside L.WORD (S.size self.old.store) from }
         ensures meets { IfOk result (λ met.
@@ -108,6 +110,7 @@ impl<'a, S: Store, L: Width> Finder<'a, S, L> {
     ghost use Rattle.cdb_read.specs.declared.fault.ReadFault.TheVariants.{Table, Record};
 
     /// The next value. From the second on more bytes are read at once than it needs.
+    #[inline(always)]
     pub fn next(&mut self) -> Result<Option<Span>, ReadFault>
         ensures same_reader { self.new.reader.ghost_name ≡ self.old.reader.ghost_name }
         ensures key { self.new.key.now ≡ self.old.key.now }

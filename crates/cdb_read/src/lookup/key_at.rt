@@ -24,6 +24,7 @@ pub enum Look {
 }
 
 /// Whether a key's bytes are at a place. As many are read at once as a window has room for.
+#[inline(always)]
 fn key_is_at<S: Store>(
     store: &mut S,
     place: u64,

@@ -108,6 +108,7 @@ fn make_probe<S: Store, L: Width>(
 
 /// The search of a key from a probe on, up to its next value. Slots are read through one window and
 /// records through the other, `ahead` bytes at once if what is needed has fewer.
+#[inline(always)]
 pub(crate) fn next_met<S: Store, L: Width>(
     store: &mut S,
     from: Probe,

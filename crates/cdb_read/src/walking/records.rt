@@ -28,6 +28,7 @@ impl<'a, S: Store, L: Width> Walk<'a, S, L> {
     ghost use Rattle.cdb_read.specs.declared.fault.ReadFault.TheVariants.{Table, Record, Device};
 
     /// Where the next record lies, or `None` at the record end.
+    #[inline(always)]
     pub fn next(&mut self) -> Result<Option<Pair>, ReadFault>
         ensures same_reader { self.new.reader.ghost_name ≡ self.old.reader.ghost_name }
         ensures reads { OnlyReads S.Store self.old.reader.now.store self.new.reader.now.store }

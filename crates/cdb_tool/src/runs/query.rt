@@ -15,6 +15,7 @@ use std::io::Write;
 
 /// Writes a value that a finder gave, with a newline after it in lines. After a fault the writer
 /// holds a prefix of that.
+#[inline(always)]
 fn write_value<L: Width, S: Store, W: Write>(
     finder: &mut Finder<'_, S, L>,
     value: Span,
