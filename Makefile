@@ -71,6 +71,10 @@ bin/refuse.so: tests/faults/refuse.c
 	@mkdir -p bin
 	$(CC) -O2 -Wall -shared -fPIC -o $@ $<
 
+bin/orders: tests/cli/orders.c
+	@mkdir -p bin
+	$(CC) -O2 -Wall -Wextra -o $@ $<
+
 clib: bin/libcdb.so.1 bin/libcdb.a
 
 bin/libcdb_c.a: $(SOURCES)

@@ -20,6 +20,7 @@ from dataclasses import dataclass
 TOP = os.path.join(os.path.dirname(os.path.abspath(__file__)), "..")
 COUNTED = re.compile(r"^(\d+) passed, (\d+) failed", re.MULTILINE)
 REFUSE = "bin/refuse.so"
+ORDERS = "bin/orders"
 
 
 @dataclass
@@ -50,6 +51,7 @@ def parts_of(program, is_gate):
         Part("tests/cli/kills.py", (program,)),
         Part("tests/cli/taken.py", (program,)),
         Part("tests/cli/locked.py", (program,)),
+        Part("tests/cli/orders.py", (program, ORDERS), (c,), (ORDERS,)),
         Part("tests/cli/permissions.py", (program,)),
         Part("tests/cli/amends.py", (program,)),
         Part("tests/build/run.py"),
