@@ -1,20 +1,34 @@
 /* Refuses memory, or calls of the system, to a program into which this library is loaded ahead of the
  * C library.
  *
- * Asks for memory are counted from 1, from the time when the library is loaded on; or calls that open,
- * read, write, measure, cut, sync, rename or remove a file, where REFUSE_CALLS is set in the
- * environment. Refused are those from REFUSE_FIRST to REFUSE_LAST, where these are set there. The
- * count stands in the file that REFUSE_COUNT names, and after it how many bytes were asked for. The
- * file is mapped, so that both are there also after a crash. To the file that REFUSE_TRACE names, if it
- * is set, a line is added for each sync and each rename: which it was, the file's number in its file
- * system, and what it answered.
+ * Asks for memory are counted from 1, from the time when the library is loaded on; or calls on files,
+ * where REFUSE_CALLS is set in the environment: all of them, or those that REFUSE_ONLY names, and of
+ * these those on the name in REFUSE_NAME, if they are on a name. Refused are those from REFUSE_FIRST to
+ * REFUSE_LAST, where these are set there. The count stands in the file that REFUSE_COUNT names, and
+ * after it how many bytes were asked for. The file is mapped, so that both are there also after a crash.
+ *
+ * A call is refused with the error of the number in REFUSE_ERROR, else EIO. With REFUSE_ACT it is made,
+ * and more is done:
+ *
+ *   kill   the program is killed once the call is made
+ *   pipe   first a pipe replaces what has the name in REFUSE_NAME
+ *   take   first another file, which has a few bytes, replaces what has the name in REFUSE_NAME
+ *
+ * REFUSE_SHORT is the most bytes that a read or a write takes. With REFUSE_ALIKE all files have one
+ * inode, each on a device of its own.
+ *
+ * To the file that REFUSE_TRACE names, if it is set, a line is added for each call: which it was, the
+ * file's number in its file system, what it answered, its flags or mode or how many bytes it was for,
+ * and its name or the number of its file.
  */
 #define _GNU_SOURCE
 #include <errno.h>
 #include <fcntl.h>
+#include <signal.h>
 #include <stdarg.h>
 #include <stdio.h>
 #include <stdlib.h>
+#include <string.h>
 #include <sys/mman.h>
 #include <sys/stat.h>
 #include <sys/syscall.h>
@@ -27,11 +41,21 @@ extern void *__libc_realloc(void *old, size_t size);
 extern void *__libc_memalign(size_t alignment, size_t size);
 
 static unsigned long early[2], *asks = early;
-static unsigned long first, last;
-static int are_calls, trace = -1;
+static unsigned long first, last, most;
+static int are_calls, are_alike, error = EIO, trace = -1;
+static const char *only, *act, *named;
 
 /* A descriptor that the program does not get for a file of its own. */
 #define FAR 100
+
+/* A call of the system on a file, with what it is for. */
+struct call {
+	const char *what;
+	/* Its name, or NULL: it is on the open file. */
+	const char *name;
+	int file;
+	unsigned long detail;
+};
 
 static unsigned long number(const char *name)
 {
@@ -52,7 +76,14 @@ __attribute__((constructor)) static void begin(void)
 		_exit(99);
 	first = number("REFUSE_FIRST");
 	last = number("REFUSE_LAST");
+	most = number("REFUSE_SHORT");
 	are_calls = getenv("REFUSE_CALLS") != NULL;
+	are_alike = getenv("REFUSE_ALIKE") != NULL;
+	only = getenv("REFUSE_ONLY");
+	act = getenv("REFUSE_ACT");
+	named = getenv("REFUSE_NAME");
+	if (getenv("REFUSE_ERROR"))
+		error = number("REFUSE_ERROR");
 	asks = counted;
 	path = getenv("REFUSE_TRACE");
 	if (path) {
@@ -62,15 +93,29 @@ __attribute__((constructor)) static void begin(void)
 	}
 }
 
-/* Adds a call on a file to the trace, and gives back what it answered. */
-static long noted(const char *what, const struct stat *file, long answer)
+/* The number of a call's file in its file system, or 0. */
+static unsigned long inode(const struct call *call)
 {
-	char line[64];
+	struct stat found = { 0 };
+	if (trace < 0)
+		return 0;
+	if (call->name)
+		syscall(SYS_newfstatat, AT_FDCWD, call->name, &found, AT_SYMLINK_NOFOLLOW);
+	else
+		syscall(SYS_newfstatat, call->file, "", &found, AT_EMPTY_PATH);
+	return found.st_ino;
+}
+
+/* Adds a call to the trace. */
+static void note(const struct call *call, unsigned long file, long answer)
+{
+	char line[256], open[16];
+	snprintf(open, sizeof open, "%d", call->file);
 	if (trace >= 0) {
-		int size = snprintf(line, sizeof line, "%s %lu %ld\n", what, (unsigned long)file->st_ino, answer);
-		syscall(SYS_write, trace, line, size);
+		int size = snprintf(line, sizeof line, "%s %lu %ld %lu %s\n", call->what, file, answer,
+			call->detail, call->name ? call->name : open);
+		syscall(SYS_write, trace, line, size < (int)sizeof line ? size : (int)sizeof line - 1);
 	}
-	return answer;
 }
 
 static int is_among(void)
@@ -90,14 +135,66 @@ static int is_refused(size_t size)
 	return 1;
 }
 
-/* What a call of the system answers, unless it is refused. */
-static long answer(long number, long a, long b, long c, long d, long e)
+/* Whether a word is in a list of words with commas between them. */
+static int is_in(const char *list, const char *word)
 {
-	if (are_calls && is_among()) {
-		errno = EIO;
-		return -1;
+	size_t size = strlen(word);
+	for (const char *at = list; (at = strstr(at, word)); at += size)
+		if ((at == list || at[-1] == ',') && (at[size] == 0 || at[size] == ','))
+			return 1;
+	return 0;
+}
+
+static int is_counted(const struct call *call)
+{
+	if (!are_calls || (only && !is_in(only, call->what)))
+		return 0;
+	return !named || !call->name || strcmp(named, call->name) == 0;
+}
+
+static int acts(const char *how)
+{
+	return act && strcmp(act, how) == 0;
+}
+
+/* Puts a pipe, or a file of another program, in place of what has the name. */
+static void replace(void)
+{
+	syscall(SYS_unlinkat, AT_FDCWD, named, 0);
+	if (acts("pipe")) {
+		syscall(SYS_mknodat, AT_FDCWD, named, S_IFIFO | 0644, 0);
+	} else {
+		int file = syscall(SYS_openat, AT_FDCWD, named, O_WRONLY | O_CREAT | O_EXCL, 0644);
+		syscall(SYS_write, file, "another's", 9);
+		close(file);
 	}
-	return syscall(number, a, b, c, d, e);
+}
+
+/* What a call of the system answers, unless it is refused. */
+static long answer(const struct call *call, long number, long a, long b, long c, long d, long e)
+{
+	unsigned long file = inode(call);
+	int is_chosen = is_counted(call) && is_among();
+	long answered = -1;
+	if (is_chosen && !act) {
+		errno = error;
+	} else {
+		if (is_chosen && named && !acts("kill"))
+			replace();
+		answered = syscall(number, a, b, c, d, e);
+	}
+	int left = errno;
+	note(call, file, answered);
+	if (is_chosen && acts("kill"))
+		syscall(SYS_kill, getpid(), SIGKILL);
+	errno = left;
+	return answered;
+}
+
+/* How many of so many bytes a call takes. */
+static size_t taken(size_t size)
+{
+	return most && size > most ? most : size;
 }
 
 int open(const char *path, int flags, ...)
@@ -106,17 +203,20 @@ int open(const char *path, int flags, ...)
 	va_start(rest, flags);
 	int mode = flags & O_CREAT ? va_arg(rest, int) : 0;
 	va_end(rest);
-	return answer(SYS_openat, AT_FDCWD, (long)path, flags, mode, 0);
+	struct call call = { "open", path, -1, flags };
+	return answer(&call, SYS_openat, AT_FDCWD, (long)path, flags, mode, 0);
 }
 
 ssize_t read(int file, void *into, size_t size)
 {
-	return answer(SYS_read, file, (long)into, size, 0, 0);
+	struct call call = { "read", NULL, file, size };
+	return answer(&call, SYS_read, file, (long)into, taken(size), 0, 0);
 }
 
 ssize_t write(int file, const void *bytes, size_t size)
 {
-	return answer(SYS_write, file, (long)bytes, size, 0, 0);
+	struct call call = { "write", NULL, file, size };
+	return answer(&call, SYS_write, file, (long)bytes, taken(size), 0, 0);
 }
 
 ssize_t __write(int file, const void *bytes, size_t size)
@@ -126,41 +226,67 @@ ssize_t __write(int file, const void *bytes, size_t size)
 
 ssize_t pread(int file, void *into, size_t size, off_t place)
 {
-	return answer(SYS_pread64, file, (long)into, size, place, 0);
+	struct call call = { "pread", NULL, file, size };
+	return answer(&call, SYS_pread64, file, (long)into, taken(size), place, 0);
 }
 
 ssize_t pwrite(int file, const void *bytes, size_t size, off_t place)
 {
-	return answer(SYS_pwrite64, file, (long)bytes, size, place, 0);
+	struct call call = { "pwrite", NULL, file, size };
+	return answer(&call, SYS_pwrite64, file, (long)bytes, taken(size), place, 0);
 }
 
 int ftruncate(int file, off_t size)
 {
-	return answer(SYS_ftruncate, file, size, 0, 0, 0);
+	struct call call = { "cut", NULL, file, size };
+	return answer(&call, SYS_ftruncate, file, size, 0, 0, 0);
 }
 
 int fsync(int file)
 {
-	struct stat found = { 0 };
-	syscall(SYS_newfstatat, file, "", &found, AT_EMPTY_PATH);
-	return noted("sync", &found, answer(SYS_fsync, file, 0, 0, 0, 0));
+	struct call call = { "sync", NULL, file, 0 };
+	return answer(&call, SYS_fsync, file, 0, 0, 0, 0);
+}
+
+int fdatasync(int file)
+{
+	struct call call = { "datasync", NULL, file, 0 };
+	return answer(&call, SYS_fdatasync, file, 0, 0, 0, 0);
+}
+
+int flock(int file, int how)
+{
+	struct call call = { "lock", NULL, file, how };
+	return answer(&call, SYS_flock, file, how, 0, 0, 0);
+}
+
+int fchmod(int file, mode_t mode)
+{
+	struct call call = { "allow", NULL, file, mode };
+	return answer(&call, SYS_fchmod, file, mode, 0, 0, 0);
 }
 
 int rename(const char *from, const char *to)
 {
-	struct stat found = { 0 };
-	syscall(SYS_newfstatat, AT_FDCWD, from, &found, AT_SYMLINK_NOFOLLOW);
-	return noted("rename", &found, answer(SYS_rename, (long)from, (long)to, 0, 0, 0));
+	struct call call = { "rename", from, -1, 0 };
+	return answer(&call, SYS_renameat2, AT_FDCWD, (long)from, AT_FDCWD, (long)to, 0);
 }
 
 int unlink(const char *path)
 {
-	return answer(SYS_unlink, (long)path, 0, 0, 0, 0);
+	struct call call = { "remove", path, -1, 0 };
+	return answer(&call, SYS_unlinkat, AT_FDCWD, (long)path, 0, 0, 0);
 }
 
 int statx(int folder, const char *path, int flags, unsigned int mask, struct statx *into)
 {
-	return answer(SYS_statx, folder, (long)path, flags, mask, (long)into);
+	struct call call = { "look", flags & AT_EMPTY_PATH ? NULL : path, folder, flags };
+	int answered = answer(&call, SYS_statx, folder, (long)path, flags, mask, (long)into);
+	if (answered == 0 && are_alike) {
+		into->stx_dev_minor = into->stx_ino;
+		into->stx_ino = 1;
+	}
+	return answered;
 }
 
 void *malloc(size_t size)

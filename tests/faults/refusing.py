@@ -4,16 +4,39 @@ import os
 import struct
 import subprocess
 import tempfile
+from dataclasses import dataclass
+
+
+@dataclass
+class Call:
+    """A call of the system, as the library noted it."""
+
+    what: str
+    # The number of its file in the file system.
+    file: int
+    answer: int
+    # Its flags, or a mode, or for how many bytes it was.
+    detail: int
+    # Its name, or the number of its open file.
+    name: str
+
+
+def call_of(line):
+    """The call of a line of the trace."""
+    what, file, answer, detail, name = line.rstrip("\n").split(" ", 4)
+    return Call(what, int(file), int(answer), int(detail), name)
 
 
 class Refusing:
     """A program, with the library of refuse.c loaded ahead of it, by which asks for memory are
-    refused, or calls of the system."""
+    refused, or calls of the system. More of what the library reads in its environment may be set, such
+    as `ONLY` for REFUSE_ONLY."""
 
-    def __init__(self, program, library, what="memory"):
+    def __init__(self, program, library, what="memory", **settings):
         self.program = program
         self.library = library
         self.what = what
+        self.settings = settings
 
     def run(self, words, stdin, first=0, last=0, folder=None, closed=()):
         """What it left, with the asks from the first to the last refused, and how many it made. Some of
@@ -23,11 +46,27 @@ class Refusing:
         return done, asks
 
     def measure(self, words, stdin, first=0, last=0, folder=None, closed=()):
-        """What `run` gives, and for how many bytes of memory it asked.
+        """What `run` gives, and for how many bytes of memory it asked."""
+        with tempfile.NamedTemporaryFile() as count:
+            done = self.begun(count, words, stdin, first, last, folder, closed)
+            with open(count.name, "rb") as counted:
+                asks, size = struct.unpack("2L", counted.read())
+        return done, asks, size
+
+    def trace(self, words, stdin, first=0, last=0, folder=None, mask=0o022):
+        """What it left, and the calls that it made."""
+        with tempfile.NamedTemporaryFile() as count, tempfile.NamedTemporaryFile() as trace:
+            done = self.begun(count, words, stdin, first, last, folder, (), trace.name, mask)
+            with open(trace.name, encoding="utf-8") as lines:
+                calls = [call_of(line) for line in lines]
+        return done, calls
+
+    def begun(self, count, words, stdin, first, last, folder, closed, trace=None, mask=None):
+        """A run with a file that the library counts in.
 
         It reads a file and no pipe, so that each run reads as much at once.
         """
-        with tempfile.NamedTemporaryFile() as count, tempfile.TemporaryFile() as given:
+        with tempfile.TemporaryFile() as given:
             count.write(bytes(struct.calcsize("2L")))
             count.flush()
             given.write(stdin)
@@ -37,18 +76,25 @@ class Refusing:
                 "REFUSE_COUNT": count.name,
                 "REFUSE_FIRST": str(first),
                 "REFUSE_LAST": str(last),
+                **{f"REFUSE_{name}": str(what) for name, what in self.settings.items()},
             }
             if self.what == "calls":
                 refusing["REFUSE_CALLS"] = "1"
-            done = subprocess.run(
+            if trace is not None:
+                refusing["REFUSE_TRACE"] = trace
+
+            def prepare():
+                if mask is not None:
+                    os.umask(mask)
+                for number in closed:
+                    os.close(number)
+
+            return subprocess.run(
                 [self.program, *words],
                 cwd=folder,
                 env=refusing,
                 stdin=given,
                 capture_output=True,
-                preexec_fn=lambda: [os.close(number) for number in closed],
+                preexec_fn=prepare,
                 timeout=60,
             )
-            with open(count.name, "rb") as counted:
-                asks, size = struct.unpack("2L", counted.read())
-        return done, asks, size
