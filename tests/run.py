@@ -62,6 +62,7 @@ def parts_of(program, is_gate):
         Part("tests/faults/memory.py", (program, REFUSE), (c,), (REFUSE,)),
         Part("tests/faults/closed.py", (program, REFUSE), (c,), (REFUSE,)),
         Part("tests/faults/syncs.py", (program, REFUSE), (c,), (REFUSE,)),
+        Part("tests/faults/names.py", (program, REFUSE), (c,), (REFUSE,)),
     ]
     if is_gate:
         parts.append(Part("tests/faults/calls.py", (REFUSE,), (c,), (REFUSE,)))

@@ -101,7 +101,7 @@ def came_of(what, command, left, free, is_lasting):
     is_silenced_here = is_silenced(what, left.errors, free.errors)
     # The same answer, of which a line was not written, or a removal not done.
     if is_silenced_here and (left.status, left.output) == (free.status, free.output):
-        if left.files == free.files or stays(command, left, True):
+        if left.files == free.files or free.status != 0 and stays(command, left, True):
             return DONE
     ends = left.status == STATUS and free.output.startswith(left.output)
     if ends and (is_told or is_silenced_here) and stays(command, left, is_lasting):
