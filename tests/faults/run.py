@@ -9,7 +9,8 @@ once with nothing refused, which counts its asks. Then it is made twice for each
 ask refused alone, and with that one and all later ones. It must end as with nothing refused, where
 the ask was not needed; or else by the status 111 and the line of a fault, with a front of its output
 and of its lines, the old database as it was, and no temporary file, unless that could not be
-removed. Where the writing of a line is refused, the line may be missing.
+removed or locked. The line of an ask that is refused alone is one of its own kind. Where the writing
+of a line is refused, the line may be missing.
 """
 
 import os
@@ -22,16 +23,27 @@ from commands import COMMANDS
 from refusing import Refusing
 
 NO_MEMORY = b"cdb: no memory\n"
+NO_FILE = b"cdb: file cannot be opened\n"
+NO_DATABASE = b"cdb: database cannot be read or written\n"
+NO_NAME = b"cdb: database cannot be renamed\n"
+NO_OUTPUT = b"cdb: output cannot be written\n"
+NO_INPUTS = {b"cdb: input %d: cannot be read\n" % number for number in (1, 2, 3)}
 # The lines that a call of the system which fails can leave.
 CALL_LINES = {
-    b"cdb: file cannot be opened\n",
-    b"cdb: database cannot be read or written\n",
-    b"cdb: database cannot be renamed\n",
-    b"cdb: output cannot be written\n",
-    b"cdb: input 1: cannot be read\n",
-    b"cdb: input 2: cannot be read\n",
-    b"cdb: input 3: cannot be read\n",
+    "open": {NO_FILE},
+    "look": {NO_FILE, NO_NAME},
+    "lock": {NO_FILE},
+    "allow": {NO_FILE},
+    "remove": {NO_FILE},
+    "read": {NO_DATABASE, *NO_INPUTS},
+    "pread": {NO_DATABASE},
+    "write": {NO_OUTPUT},
+    "pwrite": {NO_DATABASE},
+    "cut": {NO_DATABASE},
+    "sync": {NO_DATABASE},
+    "rename": {NO_NAME},
 }
+EACH_LINE = set().union(*CALL_LINES.values())
 STATUS = 111
 # What may come of a refusal.
 TOLD = "told"
@@ -42,14 +54,17 @@ LAST = 2**63 - 1
 class Left:
     """What a run left."""
 
-    def __init__(self, done, files, asks):
+    def __init__(self, done, files, asks, calls):
         self.status, self.output, self.errors = done.returncode, done.stdout, done.stderr
         self.files = files
         self.asks = asks
+        # Which calls of the system it made, if they are what it asks.
+        self.calls = calls
 
     def is_as(self, other):
         """Whether another run left the same."""
-        return vars(self) | {"asks": 0} == vars(other) | {"asks": 0}
+        made = {"asks": 0, "calls": []}
+        return vars(self) | made == vars(other) | made
 
 
 def run(program, command, first=0, last=0):
@@ -58,25 +73,29 @@ def run(program, command, first=0, last=0):
         for name, what in command.files.items():
             with open(os.path.join(folder, name), "wb") as file:
                 file.write(what)
-        done, asks = program.run(command.words, command.stdin, first, last, folder)
+        if program.what == "calls":
+            done, calls = program.trace(command.words, command.stdin, first, last, folder)
+            asks = len(calls)
+        else:
+            done, asks = program.run(command.words, command.stdin, first, last, folder)
+            calls = []
         files = {}
         for name in os.listdir(folder):
             with open(os.path.join(folder, name), "rb") as file:
                 files[name] = file.read()
-    return Left(done, files, asks)
+    return Left(done, files, asks, [it.what for it in calls])
 
 
-def is_fault_line(what, line):
-    """Whether a line tells a refusal: that of memory has its line alone."""
-    return line == NO_MEMORY if what == "memory" else line in CALL_LINES
+def lines_of(left, first, last):
+    """The lines that can tell a refusal: that of memory has its line alone."""
+    if not left.calls:
+        return {NO_MEMORY}
+    return CALL_LINES[left.calls[first - 1]] if last == first else EACH_LINE
 
 
-def tells(what, errors, free):
+def tells(lines, errors, free):
     """Whether standard error has a front of the lines of a run, and the line of a fault."""
-    return any(
-        errors.startswith(free[:end]) and is_fault_line(what, errors[end:])
-        for end in range(len(free) + 1)
-    )
+    return any(errors.startswith(free[:end]) and errors[end:] in lines for end in range(len(free) + 1))
 
 
 def is_silenced(what, errors, free):
@@ -87,24 +106,25 @@ def is_silenced(what, errors, free):
 
 def stays(command, left, may_stay):
     """Whether a fault left the files as they were. A temporary file that was there before may be
-    removed, and one may stay whose removal was refused."""
+    removed, and one may stay whose removal or lock was refused."""
     before, after = dict(command.files), dict(left.files)
     old, temporary = before.pop("x.tmp", None), after.pop("x.tmp", None)
     return after == before and (may_stay or temporary in (None, old))
 
 
-def came_of(what, command, left, free, is_lasting):
+def came_of(what, command, left, free, first, last):
     """What came of a refusal, or what is wrong."""
     if left.is_as(free):
         return DONE
-    is_told = tells(what, left.errors, free.errors)
+    is_told = tells(lines_of(left, first, last), left.errors, free.errors)
     is_silenced_here = is_silenced(what, left.errors, free.errors)
     # The same answer, of which a line was not written, or a removal not done.
     if is_silenced_here and (left.status, left.output) == (free.status, free.output):
         if left.files == free.files or free.status != 0 and stays(command, left, True):
             return DONE
     ends = left.status == STATUS and free.output.startswith(left.output)
-    if ends and (is_told or is_silenced_here) and stays(command, left, is_lasting):
+    may_stay = what == "calls" and (last != first or left.calls[first - 1] == "lock")
+    if ends and (is_told or is_silenced_here) and stays(command, left, may_stay):
         return TOLD
     return f"{left.status} {left.output!r:.100} {left.errors!r:.200} {sorted(left.files)}"
 
@@ -120,8 +140,7 @@ def refuse_each(program, name):
             if left.asks < first:
                 came.append((how, f"only {left.asks} asks were made"))
             else:
-                is_lasting = last == LAST and program.what == "calls"
-                came.append((how, came_of(program.what, command, left, free, is_lasting)))
+                came.append((how, came_of(program.what, command, left, free, first, last)))
     return came
 
 
