@@ -63,6 +63,9 @@ def parts_of(program, is_gate):
         Part("tests/faults/closed.py", (program, REFUSE), (c,), (REFUSE,)),
         Part("tests/faults/syncs.py", (program, REFUSE), (c,), (REFUSE,)),
         Part("tests/faults/names.py", (program, REFUSE), (c,), (REFUSE,)),
+        Part("tests/faults/killed.py", (program, REFUSE), (c,), (REFUSE,)),
+        Part("tests/faults/others.py", (program, REFUSE), (c,), (REFUSE,)),
+        Part("tests/faults/parts.py", (program, REFUSE), (c,), (REFUSE,)),
     ]
     if is_gate:
         parts.append(Part("tests/faults/calls.py", (REFUSE,), (c,), (REFUSE,)))

@@ -12,10 +12,12 @@
  *
  *   kill   the program is killed once the call is made
  *   pipe   first a pipe replaces what has the name in REFUSE_NAME
- *   take   first another file, which has a few bytes, replaces what has the name in REFUSE_NAME
+ *   link   first a link to y replaces it
+ *   take   first another file, which has a few bytes, replaces it
  *
  * REFUSE_SHORT is the most bytes that a read or a write takes. With REFUSE_ALIKE all files have one
- * inode, each on a device of its own.
+ * inode, each on a device of its own. With REFUSE_REMOTE a file must be opened to write to be locked, as
+ * over NFS.
  *
  * To the file that REFUSE_TRACE names, if it is set, a line is added for each call: which it was, the
  * file's number in its file system, what it answered, its flags or mode or how many bytes it was for,
@@ -42,7 +44,7 @@ extern void *__libc_memalign(size_t alignment, size_t size);
 
 static unsigned long early[2], *asks = early;
 static unsigned long first, last, most;
-static int are_calls, are_alike, error = EIO, trace = -1;
+static int are_calls, are_alike, are_remote, error = EIO, trace = -1;
 static const char *only, *act, *named;
 
 /* A descriptor that the program does not get for a file of its own. */
@@ -79,6 +81,7 @@ __attribute__((constructor)) static void begin(void)
 	most = number("REFUSE_SHORT");
 	are_calls = getenv("REFUSE_CALLS") != NULL;
 	are_alike = getenv("REFUSE_ALIKE") != NULL;
+	are_remote = getenv("REFUSE_REMOTE") != NULL;
 	only = getenv("REFUSE_ONLY");
 	act = getenv("REFUSE_ACT");
 	named = getenv("REFUSE_NAME");
@@ -157,12 +160,14 @@ static int acts(const char *how)
 	return act && strcmp(act, how) == 0;
 }
 
-/* Puts a pipe, or a file of another program, in place of what has the name. */
+/* Puts a pipe, a link or a file of another program in place of what has the name. */
 static void replace(void)
 {
 	syscall(SYS_unlinkat, AT_FDCWD, named, 0);
 	if (acts("pipe")) {
 		syscall(SYS_mknodat, AT_FDCWD, named, S_IFIFO | 0644, 0);
+	} else if (acts("link")) {
+		syscall(SYS_symlinkat, "y", AT_FDCWD, named);
 	} else {
 		int file = syscall(SYS_openat, AT_FDCWD, named, O_WRONLY | O_CREAT | O_EXCL, 0644);
 		syscall(SYS_write, file, "another's", 9);
@@ -257,6 +262,10 @@ int fdatasync(int file)
 int flock(int file, int how)
 {
 	struct call call = { "lock", NULL, file, how };
+	if (are_remote && (fcntl(file, F_GETFL) & O_ACCMODE) == O_RDONLY) {
+		errno = EBADF;
+		return -1;
+	}
 	return answer(&call, SYS_flock, file, how, 0, 0, 0);
 }
 

@@ -1,0 +1,180 @@
+#!/usr/bin/env python3
+"""Looks at what a create does as other programs change a name beside it, and as the system knows no
+locks, or locks of another kind.
+
+    tests/faults/others.py PROGRAM LIBRARY
+
+The library is refuse.c, built to be loaded ahead of the C library. In the rows of MEETS another program
+puts something in place of a name just before one call of the create. It must stay, and the create must
+end by the status 111 and its line, with the database as it was. In LOCKS the locks are refused. A file
+that may be another create's stays. With FREE errors there are no locks, and the database is made.
+"""
+
+import errno
+import fcntl
+import os
+import stat
+import subprocess
+import sys
+import tempfile
+
+import commands
+from files import ONE_FILE, TWO_FILE, TWO_TEXT
+from names import CREATES, LAST, NO_FILE, NO_NAME, found_in, made_of, place, run
+from refusing import Refusing
+
+OTHER = b"another's"
+KEPT = {"x": ONE_FILE, "y": b"kept"}
+STALE = {**KEPT, "x.tmp": b"old"}
+PLAIN = ["-c", "x"]
+IN_PLACE = ["-c", "-t", "-", "x"]
+# What there is before, the words, what another program does before which call on which name, the line
+# of the create, and what has the name then.
+MEETS = {
+    "a pipe, as the old file is opened": (STALE, PLAIN, "pipe", "open", 1, "x.tmp", NO_FILE),
+    "a link, as the old file is opened": (STALE, PLAIN, "link", "open", 1, "x.tmp", NO_FILE),
+    "a file, as the old file is opened": (STALE, PLAIN, "take", "lock", 1, "x.tmp", NO_FILE),
+    "a file, as the old file is removed": (STALE, PLAIN, "take", "open", 2, "x.tmp", NO_FILE),
+    "a file, as the new one is made": (KEPT, PLAIN, "take", "open", 1, "x.tmp", NO_FILE),
+    "a link, as the new one is made": (KEPT, PLAIN, "link", "open", 1, "x.tmp", NO_FILE),
+    "a file, as the new one is locked": (KEPT, PLAIN, "take", "lock", 1, "x.tmp", NO_FILE),
+    "a link, as the new one is locked": (KEPT, PLAIN, "link", "lock", 1, "x.tmp", NO_FILE),
+    "a file, as the new one is locked after an old one": (STALE, PLAIN, "take", "lock", 2, "x.tmp", NO_FILE),
+    "a file, as the new one gets its permissions": (KEPT, PLAIN, "take", "allow", 1, "x.tmp", NO_NAME),
+    "a file, as the new one is synced": (KEPT, PLAIN, "take", "sync", 1, "x.tmp", NO_NAME),
+    "a link, as the new one is synced": (KEPT, PLAIN, "link", "sync", 1, "x.tmp", NO_NAME),
+    "a link, as a database in place is opened": (KEPT, IN_PLACE, "link", "open", 2, "x", NO_FILE),
+}
+FREE = (errno.ENOTSUP, errno.ENOSYS, errno.ENOLCK)
+HELD = (errno.EBADF, errno.EAGAIN, errno.EIO, errno.EINTR, errno.EINVAL, errno.ENOMEM, errno.EACCES, errno.EPERM)
+# Creates that are done, each with its files.
+DONE = {name: it for name, it in CREATES.items() if it.made is not None}
+
+
+def has(path, act):
+    """Whether a name has what another program put there."""
+    mode = os.lstat(path).st_mode if os.path.lexists(path) else 0
+    if act == "pipe":
+        return stat.S_ISFIFO(mode)
+    if act == "link":
+        return stat.S_ISLNK(mode) and os.readlink(path) == "y"
+    if not stat.S_ISREG(mode):
+        return False
+    with open(path, "rb") as file:
+        return file.read() == OTHER
+
+
+def meets(path, library, row):
+    """What is wrong as another program meets the create of a row, or None."""
+    files, words, act, call, number, name, line = row
+    with tempfile.TemporaryDirectory() as folder:
+        place(folder, files)
+        meeting = Refusing(path, library, "calls", ACT=act, ONLY=call, NAME=name)
+        done, _ = meeting.trace(words, TWO_TEXT, number, number, folder)
+        if not has(os.path.join(folder, name), act):
+            return f"what another program put there is gone, status {done.returncode}"
+        os.remove(os.path.join(folder, name))
+        left = {name: what[0] for name, what in found_in(folder).items()}
+    kept = {it: what for it, what in files.items() if it not in (name, "x.tmp")}
+    if (done.returncode, done.stderr, left) != (111, line, kept):
+        return f"{done.returncode} {done.stderr}, {sorted(left)}"
+    return None
+
+
+def refused(path, library, files, error, first, last):
+    """What a create leaves to which these locks are refused by an error: its status, its line and the files."""
+    with tempfile.TemporaryDirectory() as folder:
+        place(folder, files)
+        before = found_in(folder)
+        locking = Refusing(path, library, "calls", ONLY="lock", ERROR=error)
+        done, _ = locking.trace(PLAIN, TWO_TEXT, first, last, folder)
+        return done.returncode, done.stderr, found_in(folder), before
+
+
+def held(path, library, error):
+    """What is wrong with a create to which the lock of an old file is refused, or None: the old file may be
+    that of another create."""
+    status, line, left, before = refused(path, library, STALE, error, 1, 1)
+    return None if (status, line, left) == (111, NO_FILE, before) else f"{status} {line}, {sorted(left)}"
+
+
+def free(path, library, error):
+    """What is wrong with a create of a file system that knows no locks, or None."""
+    status, line, left, before = refused(path, library, STALE, error, 1, LAST)
+    made = {**before, "x": (TWO_FILE, before["x"][1])}
+    del made["x.tmp"]
+    return None if (status, line, left) == (0, b"", made) else f"{status} {line}, {sorted(left)}"
+
+
+def remote(path, library, is_held):
+    """What is wrong with a create beside an old file, which another may hold, where a file must be opened to
+    write to be locked."""
+    with tempfile.TemporaryDirectory() as folder:
+        place(folder, STALE)
+        with open(os.path.join(folder, "x.tmp"), "r+b") as file:
+            if is_held:
+                fcntl.flock(file, fcntl.LOCK_EX)
+            done, _ = Refusing(path, library, "calls", REMOTE=1).trace(PLAIN, TWO_TEXT, folder=folder)
+        left = {name: what[0] for name, what in found_in(folder).items()}
+    wanted = (111, NO_FILE, STALE) if is_held else (0, b"", {**KEPT, "x": TWO_FILE})
+    return None if (done.returncode, done.stderr, left) == wanted else f"{done.returncode} {done.stderr}, {sorted(left)}"
+
+
+def alike(path, library, create):
+    """What is wrong with a create all whose files have one inode, each on a device of its own, or None."""
+    before, done, _, left = run(Refusing(path, library, "calls", ALIKE=1), create)
+    return None if (done.returncode, left) == (0, made_of(create, before)) else f"{done.returncode} {done.stderr}"
+
+
+def flags(path, library, command):
+    """What is wrong with how a command opens its files, or None. No program that it became would have them;
+    it waits for a pipe's writer; and it empties none and makes none that is there."""
+    with tempfile.TemporaryDirectory() as folder:
+        place(folder, command.files)
+        _, calls = Refusing(path, library, "calls").trace(command.words, command.stdin, folder=folder)
+    opens = [it for it in calls if it.what == "open"]
+    for it in opens:
+        is_made = it.detail & os.O_CREAT
+        if not it.detail & os.O_CLOEXEC or it.detail & (os.O_NONBLOCK | os.O_TRUNC | os.O_APPEND):
+            return f"{it.name} is opened by {it.detail:o}"
+        if is_made and not it.detail & os.O_EXCL:
+            return f"{it.name} is made by {it.detail:o}"
+    return None if opens else "nothing is opened"
+
+
+def checks():
+    """Each check: its name, its function, and what that is given."""
+    yield from ((name, meets, row) for name, row in MEETS.items())
+    yield from ((f"a lock refused by {errno.errorcode[it]}", held, it) for it in HELD)
+    yield from ((f"each lock refused by {errno.errorcode[it]}", free, it) for it in FREE)
+    yield "an old file over NFS", remote, False
+    yield "the file of another create over NFS", remote, True
+    yield from ((f"{name}, inodes alike", alike, it) for name, it in DONE.items())
+    yield from ((f"{name}, its opens", flags, it) for name, it in commands.COMMANDS.items())
+    yield from ((f"{name}, its opens", flags, command_of(it)) for name, it in CREATES.items())
+
+
+def command_of(create):
+    """A create as a command."""
+    return commands.Command(["-c", *create.words], b"", create.files)
+
+
+def main():
+    if len(sys.argv) != 3:
+        sys.exit(__doc__)
+    path, library = map(os.path.abspath, sys.argv[1:])
+    passed = failed = 0
+    for name, check, given in checks():
+        try:
+            fault = check(path, library, given)
+        except subprocess.TimeoutExpired:
+            fault = "it does not end"
+        passed, failed = passed + (fault is None), failed + (fault is not None)
+        if fault is not None:
+            print(f"{name}: {fault:.300}")
+    print(f"{passed} passed, {failed} failed")
+    sys.exit(1 if failed else 0)
+
+
+if __name__ == "__main__":
+    main()
