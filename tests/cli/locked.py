@@ -17,6 +17,7 @@ import tempfile
 import time
 
 from files import TWO_FILE, TWO_TEXT, file_of, text_of
+from waiting import waits
 
 OPEN = b"cdb: file cannot be opened\n"
 OLD = file_of([(b"old", b"database")])
@@ -37,14 +38,10 @@ def read(path):
 
 
 def started(program, folder):
-    """A create that waits for its text, once its temporary file is there."""
+    """A create that waits for its text, once its temporary file is there and locked."""
     process = subprocess.Popen([program, "-c", "x"], cwd=folder, **PIPED)
-    path = os.path.join(folder, "x.tmp")
-    for _ in range(1000):
-        # The permissions are given after the lock is taken.
-        if os.path.exists(path) and os.stat(path).st_mode & 0o777 == 0o644:
-            return process
-        time.sleep(0.01)
+    if waits(process, os.path.join(folder, "x.tmp")):
+        return process
     process.kill()
     raise TimeoutError("no temporary file")
 

@@ -3,8 +3,9 @@
 
     tests/cli/permissions.py PROGRAM
 
-A database that replaces a regular file has its permission bits, and so has the temporary file before
-its first byte. If none is replaced, or a link, the umask decides. In place nothing changes.
+The temporary file is open to this user alone until it is whole. A database that replaces a regular file
+then has its permission bits. If none is replaced, or a link, the umask decides. In place nothing
+changes. An old temporary file has no part in it.
 """
 
 import itertools
@@ -12,12 +13,13 @@ import os
 import subprocess
 import sys
 import tempfile
-import time
 
 from files import TWO_FILE, TWO_TEXT
+from waiting import waits
 
-MODES = (0o400, 0o600, 0o640, 0o644, 0o664)
-MASKS = (0o002, 0o022, 0o077)
+MODES = (0o400, 0o444, 0o600, 0o640, 0o644, 0o664, 0o666, 0o755)
+MASKS = (0o000, 0o002, 0o022, 0o027, 0o077)
+PRIVATE = 0o600
 
 
 def mode_of(path):
@@ -30,17 +32,23 @@ def while_waiting(program, folder, mask, words):
     how = dict(cwd=folder, stdin=subprocess.PIPE, preexec_fn=lambda: os.umask(mask) and None)
     temporary = os.path.join(folder, "x.tmp")
     with subprocess.Popen([program, *words], **how) as process:
-        # It is made and gets its permissions before the first read of the text.
-        time.sleep(0.05)
+        file = os.path.join(folder, "x") if "-t" in words else temporary
+        if not waits(process, file):
+            process.kill()
+            return None, None
         mode = mode_of(temporary) if os.path.exists(temporary) else None
         process.communicate(TWO_TEXT, timeout=60)
         return mode, process.returncode
 
 
-def left_by(program, mask, old, words=("-c", "x")):
-    """The bits of the temporary file and of the database, and whether the database is whole."""
+def left_by(program, mask, old, words=("-c", "x"), stale=None):
+    """The bits of the temporary file and of the database, and whether the database is whole. An old
+    temporary file may be there, of these bits."""
     with tempfile.TemporaryDirectory() as folder:
         path = os.path.join(folder, "x")
+        if stale is not None:
+            with open(path + ".tmp", "wb"):
+                os.chmod(path + ".tmp", stale)
         if old == "link":
             with open(os.path.join(folder, "y"), "wb"):
                 os.chmod(os.path.join(folder, "y"), 0o600)
@@ -49,9 +57,10 @@ def left_by(program, mask, old, words=("-c", "x")):
             with open(path, "wb"):
                 os.chmod(path, old)
         temporary, status = while_waiting(program, folder, mask, words)
+        if status != 0:
+            return temporary, status, False
         with open(path, "rb") as file:
-            is_whole = status == 0 and file.read() == TWO_FILE
-        return temporary, mode_of(path), is_whole
+            return temporary, mode_of(path), file.read() == TWO_FILE
 
 
 def main():
@@ -60,10 +69,13 @@ def main():
     program = os.path.abspath(sys.argv[1])
     came = []
     for mask, mode in itertools.product(MASKS, MODES):
-        came.append((f"{mode:o} by {mask:o}", left_by(program, mask, mode), (mode, mode, True)))
+        came.append((f"{mode:o} by {mask:o}", left_by(program, mask, mode), (PRIVATE, mode, True)))
     for mask, old in itertools.product(MASKS, (None, "link")):
         made = 0o666 & ~mask
-        came.append((f"{old} by {mask:o}", left_by(program, mask, old), (made, made, True)))
+        came.append((f"{old} by {mask:o}", left_by(program, mask, old), (PRIVATE, made, True)))
+    for stale in MODES:
+        left = left_by(program, 0o022, 0o640, stale=stale)
+        came.append((f"an old temporary file of {stale:o}", left, (PRIVATE, 0o640, True)))
     in_place = ("-c", "-t", "-", "x")
     came.append(("in place", left_by(program, 0o022, 0o600, in_place), (None, 0o600, True)))
     wrong = [it for it in came if it[1] != it[2]]

@@ -11,9 +11,9 @@ import os
 import subprocess
 import sys
 import tempfile
-import time
 
 from files import TWO_FILE, TWO_TEXT
+from waiting import waits
 
 RENAME = b"cdb: database cannot be renamed\n"
 FAULT = b"cdb: input 1: byte 34: not a record\n"
@@ -26,15 +26,6 @@ def write(path, what):
         file.write(what)
 
 
-def is_there(path):
-    """Waits until a name is there."""
-    for _ in range(1000):
-        if os.path.exists(path):
-            return True
-        time.sleep(0.01)
-    return False
-
-
 def left_by(program, text, takes):
     """What a create leaves from which the temporary file is taken once it is made."""
     with tempfile.TemporaryDirectory() as folder:
@@ -42,7 +33,7 @@ def left_by(program, text, takes):
         write(name, b"old")
         how = dict(cwd=folder, stdin=subprocess.PIPE, stderr=subprocess.PIPE)
         with subprocess.Popen([program, "-c", "x"], **how) as process:
-            if not is_there(temporary):
+            if not waits(process, temporary):
                 process.kill()
                 return None
             takes(temporary)
