@@ -46,6 +46,7 @@ def parts_of(program, is_gate):
     parts = [
         Part("tests/docs/check.py"),
         Part("tests/cli/run.py", (program,)),
+        Part("tests/cli/large.py", (program,)),
         Part("tests/cli/pages.py", (program,)),
         Part("tests/cli/examples.py", (program,)),
         Part("tests/cli/kills.py", (program,)),

@@ -28,6 +28,7 @@ from files import (
     UNFINISHED_FILE,
     WIDE_FILE,
     file_of,
+    hash_of,
     text_of,
     two_with,
     wide_words,
@@ -215,6 +216,12 @@ MAP_TEXT = b"  one Hello\n# note\n\n  # more\n \t\nkey\ntwo\t \tGood bye"
 MAP_FILE = file_of([(b"one", b"Hello"), (b"key", b""), (b"two", b"Good bye")])
 # The two records in words of 8 bytes.
 WIDE_TWO = file_of([(b"one", b"Hello"), (b"two", b"Goodbye")], wide_words)
+# Many values of one key, of which the 78th is in another place; its slot is the 78th from the key's first.
+MANY_OF_A = of_a(*(b"%d" % number for number in range(1, 81)))
+SLOT_78 = len(MANY_OF_A) - 8 * (160 - (hash_of(b"a") >> 8) % 160 - 77)
+MANY_DAMAGED = MANY_OF_A[:SLOT_78] + words(hash_of(b"a"), 4294967295) + MANY_OF_A[SLOT_78 + 8:]
+# A text whose next record begins with a length that is too large, whose line is a long one.
+LAST_TEXT = text_of([(b"a", bytes(10_000_000))])[:-1] + b"+429496729"
 # Records of a key that looks like an option, of an empty key, and of any bytes.
 ODD = [(b"-k", b"hyphen"), (b"", b"empty"), (b"a\nb", b"c\0d\ne"), (b"\xc3\xa9", b"\xff")]
 ODD_FILE = file_of(ODD)
@@ -382,9 +389,14 @@ CASES = {
     "in place, a database that is a link to an input": keeps(
         ["-cm", "-t", "-", "x", "in"], NO_FILE, b"", {"in": b"a b\n", "x": Link("in")}
     ),
-    "a temporary file that is a link to an input": case(
-        ["-c", "x", "in"], files={"in": TWO_TEXT, "x.tmp": Link("in")},
-        left={"in": TWO_TEXT, "x": TWO_FILE},
+    "a temporary file that is a link to an input": keeps(
+        ["-c", "x", "in"], NO_FILE, files={"in": TWO_TEXT, "x.tmp": Link("in")}
+    ),
+    "a temporary file that is a link to the database": keeps(
+        ["-c", "x"], NO_FILE, TWO_TEXT, {"x.tmp": Link("x")}
+    ),
+    "a temporary file that is a link to nothing": keeps(
+        ["-c", "x"], NO_FILE, TWO_TEXT, {"x.tmp": Link("y")}
     ),
     "replacing on output, one key twice": case(
         ["-cr", "-"], text_of([(b"a", b"1"), (b"a", b"2")]), file_of([(b"a", b"2")])
@@ -421,11 +433,23 @@ CASES = {
     ),
     "an old temporary file": creates(["-c", "x"], TWO_FILE, TWO_TEXT)
     | dict(files={"x": ONE_FILE, "x.tmp": b"old"}, left={"x": TWO_FILE}),
-    "a temporary file that is a link": creates(["-c", "x"], TWO_FILE, TWO_TEXT)
-    | dict(files={"x": ONE_FILE, "x.tmp": Link("y"), "y": b"kept"}, left={"x": TWO_FILE, "y": b"kept"}),
-    "a fault, and a temporary file that is a link": keeps(
-        ["-c", "x"], f"input 1: byte 0: {NO_RECORD}", b"*",
-        {"x.tmp": Link("y"), "y": b"kept"}, {"y": b"kept"},
+    "a fault, and an old temporary file": keeps(
+        ["-c", "x"], f"input 1: byte 0: {NO_RECORD}", b"*", {"x.tmp": b"old"}, {}
+    ),
+    "a temporary file that is a link": keeps(
+        ["-c", "x"], NO_FILE, TWO_TEXT, {"x.tmp": Link("y"), "y": b"kept"}
+    ),
+    "a temporary file that is a link, and a faulty text": keeps(
+        ["-c", "x"], NO_FILE, b"*", {"x.tmp": Link("y"), "y": b"kept"}
+    ),
+    "a database whose name ends as that of a temporary file": case(
+        ["-c", "x.tmp"], TWO_TEXT, files={"x": ONE_FILE}, left={"x": ONE_FILE, "x.tmp": TWO_FILE}
+    ),
+    "a database with blanks around its name": case(
+        ["-c", " x "], TWO_TEXT, files={"x": ONE_FILE}, left={"x": ONE_FILE, " x ": TWO_FILE}
+    ),
+    "an input with blanks around its name": creates(
+        ["-c", "x", " in "], TWO_FILE, inputs={" in ": TWO_TEXT, "in": FIRST_TEXT + b"\n"}
     ),
     "an input that is the temporary file": case(
         ["-c", "x", "x.tmp"], b"", b"", NO_FILE, 111, {"x.tmp": TWO_TEXT}
@@ -453,6 +477,10 @@ CASES = {
     "a faulty second input": keeps(
         ["-c", "x", "a", "b"], f"input 2: byte 0: {NO_RECORD}", files={"a": TWO_TEXT, "b": b"x"}
     ),
+    "a fault far behind in the last of many inputs": case(
+        ["-c", "x", *["in"] * 999, "last"], b"", b"", f"input 1000: byte {len(LAST_TEXT)}: {LARGE_LENGTH}", 111,
+        {"in": b"\n", "last": LAST_TEXT + b"6,0:"}, space=LITTLE,
+    ),
     "a length above the greatest": keeps(["-c", "x"], f"input 1: byte 10: {LARGE_LENGTH}", b"+4294967296,0:"),
     "a device that is full": keeps(["-c", "x"], NO_DATABASE, LARGE_TEXT, most=100000),
     "a device that is full at the end": keeps(["-c", "x"], NO_DATABASE, LARGE_TEXT, most=len(LARGE_FILE) - 1),
@@ -470,6 +498,9 @@ CASES = {
     "the first of four": asks(["-n", "1", "x", "a"], b"1", FOUR_FILE),
     "the last of four": asks(["-n4", "x", "a"], b"4", FOUR_FILE),
     "the third in a line": asks(["-mn", "3", "x", "a"], b"3\n", FOUR_FILE),
+    "the 77th of many": asks(["-n", "77", "x", "a"], b"77", MANY_OF_A),
+    "the 77th, where the next is damaged": asks(["-n", "77", "x", "a"], b"77", MANY_DAMAGED),
+    "the 78th, which is damaged": asks(["-n", "78", "x", "a"], b"", MANY_DAMAGED, not_whole(4294967295), 111),
     "leading zeros of a number": asks(["-n", "002", "x", "a"], b"2", FOUR_FILE),
     "more than there are": misses("-n", "5", "x", "a", file=FOUR_FILE),
     "the greatest number": misses("-n", "4294967295", "x", "a", file=FOUR_FILE),
@@ -480,6 +511,12 @@ CASES = {
     "an empty key": asks(["x", ""], b"empty", ODD_FILE),
     "a key and a value with newlines": asks(["x", "a\nb"], b"c\0d\ne", ODD_FILE),
     "a key of two bytes in one letter": asks(["x", "\u00e9"], b"\xff", ODD_FILE),
+    "a query of a name with a blank": asks([" x", "one"], b"Hello") | dict(
+        files={" x": TWO_FILE, "x": FOUR_FILE}
+    ),
+    "a query of a name that ends as that of a temporary file": asks(["x.tmp", "one"], b"Hello") | dict(
+        files={"x.tmp": TWO_FILE, "x": FOUR_FILE}
+    ),
     "a key that is no text": case(["-q", "x", b"\xff"], line=BAD_WORDS, status=2, files={"x": TWO_FILE}),
     "a key that is another one's front": misses("x", "on"),
     "a query of another program's file": asks(["x", "a"], b"1", FOREIGN_FILE),
@@ -538,6 +575,12 @@ CASES = {
     ),
     "statistics of a table outside": case(["-s"], two_with(56, words(2114, 1)), b"", outside(7), 111),
     "statistics of a value too long": case(["-s"], two_with(2068, b"\x08"), b"", not_whole(2064), 111),
+    "statistics of a name with a table outside": reads(
+        ["-s", "x"], two_with(56, words(2114, 1)), b"", outside(7), 111
+    ),
+    "statistics of a name with a value too long": reads(
+        ["-s", "x"], two_with(2068, b"\x08"), b"", not_whole(2064), 111
+    ),
     "statistics of a wrong slot": case(["-s"], two_with(2086, b"\x11"), TWO_STATISTICS),
     "statistics to a full device": not_written(["-s"], TWO_FILE, "/dev/full"),
     "statistics to a pipe that nobody reads": not_written(["-s"], TWO_FILE, UNREAD),
@@ -585,6 +628,10 @@ CASES = {
         ["-cW", "-"], b"+9223372036854775808,0:", b"", f"input 1: byte 19: {LARGE_LENGTH}", 111
     ),
     "a wide value": case(["-qW", "x", "two"], b"", b"Goodbye", files={"x": WIDE_TWO}),
+    "a wide query of a record far outside": case(
+        ["-qW", "x", "one"], b"", b"", not_whole(12345678901), 111,
+        {"x": WIDE_FILE[:-8] + wide_words(12345678901)[:8]},
+    ),
     "a wide dump": reads(["-dW", "x"], WIDE_TWO, TWO_TEXT),
     "a wide list": case(["-W", "-l"], WIDE_TWO, b"+3:one\n+3:two\n\n"),
     "wide statistics": case(["-sW"], WIDE_TWO, TWO_STATISTICS),

@@ -9,6 +9,7 @@ import os
 import resource
 import shutil
 import signal
+import socket
 import stat
 import subprocess
 import sys
@@ -91,8 +92,21 @@ def prepared(case, closed):
     return prepare
 
 
+def lines_from(end):
+    """What was written to the other end of a socket, write by write."""
+    end.setblocking(False)
+    writes = []
+    while True:
+        try:
+            writes.append(end.recv(1 << 20))
+        except BlockingIOError:
+            return writes
+        if not writes[-1]:
+            return writes[:-1]
+
+
 def run(program, case, folder):
-    """Status, output and errors."""
+    """Status, output and errors, write by write."""
     stdin, stdout = case["stdin"], case["stdout"]
     how = {"stdout": subprocess.PIPE, "input": stdin}
     with contextlib.ExitStack() as streams:
@@ -103,16 +117,19 @@ def run(program, case, folder):
             how["stdout"] = opened(stdout, os.O_WRONLY, streams)
         places = (stdin, stdout, case["stderr"])
         closed = [number for number, it in enumerate(places) if it is CLOSED]
-        done = subprocess.run(
-            [program, *case["words"]],
-            cwd=folder,
-            env={},
-            timeout=60,
-            stderr=subprocess.PIPE,
-            preexec_fn=prepared(case, closed),
-            **how,
-        )
-        return done.returncode, done.stdout, done.stderr
+        # A socket that keeps the writes apart.
+        here, there = socket.socketpair(socket.AF_UNIX, socket.SOCK_SEQPACKET)
+        with here, there:
+            done = subprocess.run(
+                [program, *case["words"]],
+                cwd=folder,
+                env={},
+                timeout=60,
+                stderr=there,
+                preexec_fn=prepared(case, closed),
+                **how,
+            )
+            return done.returncode, done.stdout, lines_from(here)
 
 
 def short(what):
@@ -128,16 +145,23 @@ def wrong_with(program, case):
         before, _ = found_in(folder)
         if case["sealed"]:
             os.chmod(folder, 0o555)
-        status, output, errors = run(program, case, folder)
+        try:
+            status, output, writes = run(program, case, folder)
+        except subprocess.TimeoutExpired:
+            os.chmod(folder, 0o755)
+            return ["it does not end"]
         files, modes = found_in(folder)
         os.chmod(folder, 0o755)
     wanted = case["stdout"] if isinstance(case["stdout"], bytes) else None
     left = before if case["left"] is None else case["left"]
+    lines = case["errors"].splitlines(keepends=True)
     new = {name: modes[name] for name in files if name not in before}
     found = [
         ("status", status, case["status"]),
         ("output", output, wanted),
-        ("errors", errors, case["errors"]),
+        ("errors", b"".join(writes), case["errors"]),
+        # The last line, which is that of a fault, is written at once: the lines of duplicates come before.
+        ("last write", writes[-1:], lines[-1:] if status == 111 else writes[-1:]),
         ("files", sorted(files), sorted(left)),
         *((name, files.get(name), what) for name, what in left.items()),
         *((f"permissions of {name}", mode, MADE) for name, mode in new.items()),
