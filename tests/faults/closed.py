@@ -1,12 +1,12 @@
 #!/usr/bin/env python3
-"""Closes standard streams of a create that warns, where folders cannot be opened to hold their places.
+"""Closes standard streams of a create that warns, where nothing can be opened to hold their places.
 
     tests/faults/closed.py PROGRAM LIBRARY
 
 The library is refuse.c, built to be loaded ahead of the C library. The first calls of the program open
-`/`, then the current folder, then the null device; so many of them are refused. The database must be the
-old one or the new one, whatever the streams: a file that got the number of a stream would have the
-warnings in it.
+`/`, then the current folder, then the null device; so many of them are refused, and those that follow.
+The database must be the old one or the new one, whatever the streams: a file that got the number of a
+stream would have the warnings in it.
 """
 
 import itertools
@@ -20,39 +20,54 @@ from refusing import Refusing
 
 PUT = [(b"a", b"1"), (b"b", b"2"), (b"a", b"3")]
 OLD, NEW = TWO_FILE, file_of(PUT)
-# `/` and the current folder.
+# `/` and the current folder, of which one is enough to hold a place; and most opens that are refused.
 FOLDERS = 2
+MOST = 5
+WARNING = b"cdb: input 1: record 3: duplicate key\n"
+NO_INPUT = b"cdb: input 1: cannot be read\n"
 
 
 def left_by(program, closed, refused):
-    """The status, the database and the names that a create leaves."""
+    """The status, the lines, the database and the names that a create leaves."""
     with tempfile.TemporaryDirectory() as folder:
         path = os.path.join(folder, "x")
         with open(path, "wb") as file:
             file.write(OLD)
         done, _ = program.run(["-cw", "x"], text_of(PUT), 1, refused, folder, closed)
         with open(path, "rb") as file:
-            return done.returncode, file.read(), os.listdir(folder)
+            return done.returncode, done.stderr, file.read(), os.listdir(folder)
 
 
 def wanted(closed):
     """What is to be left: without its text, or a place for its warning, the old database."""
-    return (0, NEW, ["x"]) if not {0, 2} & set(closed) else (111, OLD, ["x"])
+    if 2 in closed:
+        return 111, b"", OLD, ["x"]
+    return (111, NO_INPUT, OLD, ["x"]) if 0 in closed else (0, WARNING, NEW, ["x"])
+
+
+def is_right(closed, refused, left):
+    """Whether a create may leave this. If no place could be held, it may end by any fault."""
+    if refused <= FOLDERS or left[0] == 0:
+        return left == wanted(closed)
+    status, lines, *files = left
+    is_told = lines == b"" if 2 in closed else lines.startswith(b"cdb: ") and lines.count(b"\n") == 1
+    return status == 111 and is_told and files == [OLD, ["x"]]
 
 
 def main():
     if len(sys.argv) != 3:
         sys.exit(__doc__)
-    program = Refusing(os.path.abspath(sys.argv[1]), os.path.abspath(sys.argv[2]), "calls")
+    path, library = map(os.path.abspath, sys.argv[1:])
+    program = Refusing(path, library, "calls", ONLY="open")
     passed = failed = 0
     sets = itertools.chain.from_iterable(itertools.combinations(range(3), n) for n in range(4))
-    for closed, refused in itertools.product(list(sets), range(FOLDERS + 1)):
+    for closed, refused in itertools.product(list(sets), range(MOST + 1)):
         left = left_by(program, closed, refused)
-        if left == wanted(closed):
+        if is_right(closed, refused, left):
             passed += 1
         else:
             failed += 1
-            print(f"closed {closed}, {refused} calls refused: {left!r:.200}")
+            print(f"closed {closed}, {refused} opens refused: {left!r:.200}")
     print(f"{passed} passed, {failed} failed")
     sys.exit(1 if failed else 0)
 

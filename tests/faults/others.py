@@ -46,7 +46,7 @@ MEETS = {
     "a link, as a database in place is opened": (KEPT, IN_PLACE, "link", "open", 2, "x", NO_FILE),
 }
 FREE = (errno.ENOTSUP, errno.ENOSYS, errno.ENOLCK)
-HELD = (errno.EBADF, errno.EAGAIN, errno.EIO, errno.EINTR, errno.EINVAL, errno.ENOMEM, errno.EACCES, errno.EPERM)
+HELD = (errno.EBADF, errno.EAGAIN, errno.EIO, errno.EINVAL, errno.ENOMEM, errno.EACCES, errno.EPERM)
 # Creates that are done, each with its files.
 DONE = {name: it for name, it in CREATES.items() if it.made is not None}
 
