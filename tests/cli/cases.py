@@ -374,6 +374,10 @@ CASES = {
     "a database that is a link to a folder": keeps(
         ["-c", "x"], NO_NAME, TWO_TEXT, {"f": FOLDER, "x": Link("f")}
     ),
+    "a database that is a link to a device": keeps(
+        ["-c", "x"], NO_NAME, TWO_TEXT, {"x": Link("/dev/null")}
+    ),
+    "in place, a device": case(["-c", "-t", "-", "/dev/null"], TWO_TEXT, b"", NO_DATABASE, 111),
     "a database that is a link": case(
         ["-c", "x"], TWO_TEXT, files={"y": b"kept", "x": Link("y")}, left={"y": b"kept", "x": TWO_FILE}
     ),

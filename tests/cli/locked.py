@@ -49,7 +49,7 @@ def started(program, folder):
 def created(program, folder, text):
     """The status and the errors of a create."""
     words = [program, "-c", "x"]
-    done = subprocess.run(words, cwd=folder, input=text, stderr=subprocess.PIPE, check=False)
+    done = subprocess.run(words, cwd=folder, input=text, stderr=subprocess.PIPE, timeout=60, check=False)
     return done.returncode, done.stderr
 
 

@@ -27,7 +27,7 @@ NOBODY = 65534
 
 def mode_of(path):
     """The permission bits of a path, which is not followed as a link."""
-    return os.lstat(path).st_mode & 0o777
+    return os.lstat(path).st_mode & 0o7777
 
 
 def while_waiting(program, folder, mask, words, is_bound):
@@ -88,6 +88,9 @@ def looks(program):
     for stale in MODES:
         left = left_by(program, 0o022, 0o640, stale=stale)
         came.append((f"an old temporary file of {stale:o}", left, (PRIVATE, 0o640, True)))
+    # Bits beyond those for all are not given.
+    left = left_by(program, 0o022, 0o4755)
+    came.append(("a program that runs as its owner", left, (PRIVATE, 0o755, True)))
     in_place = ("-c", "-t", "-", "x")
     came.append(("in place", left_by(program, 0o022, 0o600, in_place), (None, 0o600, True)))
     return came

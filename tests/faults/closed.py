@@ -54,6 +54,17 @@ def is_right(closed, refused, left):
     return status == 111 and is_told and files == [OLD, ["x"]]
 
 
+def reads_as_stream(program):
+    """Whether standard input that is closed is never an input, though that could get its number."""
+    with tempfile.TemporaryDirectory() as folder:
+        for name, what in (("x", OLD), ("in", text_of(PUT) + text_of(PUT))):
+            with open(os.path.join(folder, name), "wb") as file:
+                file.write(what)
+        done, _ = program.run(["-c", "x", "in", "-"], b"", 1, FOLDERS + 1, folder, (0,))
+        with open(os.path.join(folder, "x"), "rb") as file:
+            return (done.returncode, file.read(), done.stderr.count(b"\n")) == (111, OLD, 1)
+
+
 def main():
     if len(sys.argv) != 3:
         sys.exit(__doc__)
@@ -68,6 +79,11 @@ def main():
         else:
             failed += 1
             print(f"closed {closed}, {refused} opens refused: {left!r:.200}")
+    if reads_as_stream(program):
+        passed += 1
+    else:
+        failed += 1
+        print("an input is read as standard input")
     print(f"{passed} passed, {failed} failed")
     sys.exit(1 if failed else 0)
 

@@ -6,8 +6,9 @@ locks, or locks of another kind.
 
 The library is refuse.c, built to be loaded ahead of the C library. In the rows of MEETS another program
 puts something in place of a name just before one call of the create. It must stay, and the create must
-end by the status 111 and its line, with the database as it was. In LOCKS the locks are refused. A file
-that may be another create's stays. With FREE errors there are no locks, and the database is made.
+end by the status 111 and its line, with the database as it was. With the errors of HELD the lock of an
+old file is refused: it may be another create's, and stays. With those of FREE there are no locks, and
+the database is made.
 """
 
 import errno
@@ -20,7 +21,7 @@ import tempfile
 
 import commands
 from files import ONE_FILE, TWO_FILE, TWO_TEXT
-from names import CREATES, LAST, NO_FILE, NO_NAME, found_in, made_of, place, run
+from names import CREATES, LAST, NO_DATABASE, NO_FILE, NO_NAME, found_in, made_of, place, run
 from refusing import Refusing
 
 OTHER = b"another's"
@@ -47,6 +48,12 @@ MEETS = {
 }
 FREE = (errno.ENOTSUP, errno.ENOSYS, errno.ENOLCK)
 HELD = (errno.EBADF, errno.EAGAIN, errno.EIO, errno.EINVAL, errno.ENOMEM, errno.EACCES, errno.EPERM)
+# What a command is that makes a call which answers 0, its output and its line.
+IDLE = {
+    "a write of a file": (PLAIN, "pwrite", b"", NO_DATABASE),
+    "a read of a file": (["-q", "x", "one"], "pread", b"", NO_DATABASE),
+    "a write of the output": (["-q", "x", "one"], "write", b"Hello", b"cdb: output cannot be written\n"),
+}
 # Creates that are done, each with its files.
 DONE = {name: it for name, it in CREATES.items() if it.made is not None}
 
@@ -120,6 +127,56 @@ def remote(path, library, is_held):
     return None if (done.returncode, done.stderr, left) == wanted else f"{done.returncode} {done.stderr}, {sorted(left)}"
 
 
+def longer(path, library, call):
+    """What is wrong with a create to whose file another program adds a byte just before a call, or None."""
+    with tempfile.TemporaryDirectory() as folder:
+        place(folder, KEPT)
+        before = found_in(folder)
+        growing = Refusing(path, library, "calls", ACT="grow", ONLY=call, NAME="x.tmp")
+        done, _ = growing.trace(PLAIN, TWO_TEXT, 1, 1, folder)
+        left = found_in(folder)
+    is_right = (done.returncode, done.stderr, left) == (111, NO_NAME, before)
+    return None if is_right else f"{done.returncode} {done.stderr}, {sorted(left)}"
+
+
+def idle(path, library, row):
+    """What is wrong with a command one of whose calls answers that it took no byte, or None."""
+    words, call, output, line = row
+    with tempfile.TemporaryDirectory() as folder:
+        place(folder, KEPT)
+        before = found_in(folder)
+        taking = Refusing(path, library, "calls", ACT="none", ONLY=call)
+        done, _ = taking.trace(words, TWO_TEXT, 1, 1, folder)
+        left = found_in(folder)
+    # The program may try once more as it ends.
+    is_right = (done.returncode, done.stderr, left) == (111, line, before) and output.startswith(done.stdout)
+    return None if is_right else f"{done.returncode} {done.stderr}, {sorted(left)}"
+
+
+def unmasked(path, library, error):
+    """What is wrong with a create of a new database where the system does not open its page of the umask, or
+    None. If it has none, the file is for this user alone."""
+    with tempfile.TemporaryDirectory() as folder:
+        hiding = Refusing(path, library, "calls", ONLY="open", NAME="/proc/self/status", ERROR=error)
+        done, calls = hiding.trace(PLAIN, TWO_TEXT, 1, 1, folder)
+        left = found_in(folder)
+    wanted = (0, b"", {"x": (TWO_FILE, 0o600)}) if error == errno.ENOENT else (111, NO_FILE, {})
+    is_right = (done.returncode, done.stderr, left) == wanted and "/proc/self/status" in [it.name for it in calls]
+    return None if is_right else f"{done.returncode} {done.stderr}, {left}"
+
+
+def unread(path, library, error):
+    """The same where that page is not read, which the last read is."""
+    with tempfile.TemporaryDirectory() as folder:
+        _, calls = Refusing(path, library, "calls", ONLY="read").trace(PLAIN, TWO_TEXT, folder=folder)
+        os.remove(os.path.join(folder, "x"))
+        reads = sum(1 for it in calls if it.what == "read")
+        hiding = Refusing(path, library, "calls", ONLY="read", ERROR=error)
+        done, _ = hiding.trace(PLAIN, TWO_TEXT, reads, reads, folder)
+        left = found_in(folder)
+    return None if (done.returncode, done.stderr, left) == (111, NO_FILE, {}) else f"{done.returncode} {done.stderr}, {left}"
+
+
 def alike(path, library, create):
     """What is wrong with a create all whose files have one inode, each on a device of its own, or None."""
     before, done, _, left = run(Refusing(path, library, "calls", ALIKE=1), create)
@@ -147,6 +204,12 @@ def checks():
     yield from ((name, meets, row) for name, row in MEETS.items())
     yield from ((f"a lock refused by {errno.errorcode[it]}", held, it) for it in HELD)
     yield from ((f"each lock refused by {errno.errorcode[it]}", free, it) for it in FREE)
+    yield "a byte more, before its permissions are given", longer, "allow"
+    yield "a byte more, before it is synced", longer, "sync"
+    yield from ((f"{name} that takes no byte", idle, row) for name, row in IDLE.items())
+    yield "no page of the umask", unmasked, errno.ENOENT
+    yield "a page of the umask that is not opened", unmasked, errno.EIO
+    yield "a page of the umask that is not read", unread, errno.EIO
     yield "an old file over NFS", remote, False
     yield "the file of another create over NFS", remote, True
     yield from ((f"{name}, inodes alike", alike, it) for name, it in DONE.items())

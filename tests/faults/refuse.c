@@ -14,6 +14,8 @@
  *   pipe   first a pipe replaces what has the name in REFUSE_NAME
  *   link   first a link to y replaces it
  *   take   first another file, which has a few bytes, replaces it
+ *   grow   first a byte is added to the file that has the name in REFUSE_NAME
+ *   none   it is not made, and answers 0
  *
  * REFUSE_SHORT is the most bytes that a read or a write takes. With REFUSE_ALIKE all files have one
  * inode, each on a device of its own. With REFUSE_REMOTE a file must be opened to write to be locked, as
@@ -175,6 +177,14 @@ static void replace(void)
 	}
 }
 
+/* Adds a byte to what has the name. */
+static void grow(void)
+{
+	int file = syscall(SYS_openat, AT_FDCWD, named, O_WRONLY | O_APPEND);
+	syscall(SYS_write, file, "*", 1);
+	close(file);
+}
+
 /* What a call of the system answers, unless it is refused. */
 static long answer(const struct call *call, long number, long a, long b, long c, long d, long e)
 {
@@ -183,8 +193,12 @@ static long answer(const struct call *call, long number, long a, long b, long c,
 	long answered = -1;
 	if (is_chosen && !act) {
 		errno = error;
+	} else if (is_chosen && acts("none")) {
+		answered = 0;
 	} else {
-		if (is_chosen && named && !acts("kill"))
+		if (is_chosen && acts("grow"))
+			grow();
+		else if (is_chosen && named && !acts("kill"))
 			replace();
 		answered = syscall(number, a, b, c, d, e);
 	}
