@@ -1,5 +1,5 @@
 -- What a store has once a run over it succeeded, and what a run says whose lines were handed on.
-use Rattle.std.proofs.Common.{ℕ, List, Option, Some, None, Result, Ok, Err, ◌≡◌, ◌∙◌, ap, inl, inr}
+use Rattle.std.proofs.Common.{ℕ, List, Option, Some, None, Result, Ok, Err, ◌≡◌, ◌∙◌, ap, inl, inr, subst, sym}
 use Rattle.std.specs.Prelude.{OnOk}
 use Rattle.std.specs.Io.KnownBytes.{Keeps}
 use Rattle.std.proofs.KnownBytes.{Keeps-trans}
@@ -16,7 +16,7 @@ use Rattle.cdb_tool.specs.Runs.Make.{HandsBack, OfBase, Makes}
 use Rattle.cdb_tool.specs.Runs.Make as run
 use Rattle.cdb_tool.specs.declared.fault.Fault.{Fault}
 use Rattle.cdb_tool.proofs.WholeRuns.{prefix_kept}
-use Rattle.cdb.specs.Creating.{Making, HasDatabase, IsBufferedRun, IsRun}
+use Rattle.cdb.specs.Creating.{Making, HasDatabase, IsBufferedRun, IsDatabase, IsRun, Syncs}
 use Rattle.cdb.specs.Performs.{Says, Runs, usage_line}
 use Rattle.cdb.specs.declared.system.System.{Ghosts as Systems}
 
@@ -58,7 +58,22 @@ pub of_contents : {F R T : Type 0} (contents : T → Option (List ℕ)) (f : Gho
     → Tells r (λ before after images made. IsBufferedRun f m images (contents before) (contents after) made) t n old new told said answer
     → Tells r (λ before after images made. IsBufferedRun f m images before after made) t n old new (contents told) (contents said) answer
 of_contents contents f r m t n old new told said answer (inl none) = inl (ap contents none.0, none.1, none.2, none.3)
-of_contents contents f r m t n old new told said answer (inr some) = inr (record { left = some.left; built = some.built; tells_so = some.tells_so; answers = some.answers; renamed = some.renamed })
+of_contents contents f r m t n old new told said answer (inr some) = inr (record { left = some.left; built = some.built; tells_so = some.tells_so; answers = some.answers; sealed = some.sealed; same = some.same; unsynced = some.unsynced; renamed = some.renamed })
+
+-- ---- a store that was flushed
+
+abbrev IsDone : Result Unit Fault → Type 0
+IsDone (Ok done) = Unit {0}
+IsDone (Err fault) = ⊥
+
+-- the database that a run made is there once the store was flushed
+pub database_synced : {F M : Type 0} (f : Ghosts F) (s : Ghosts M) (m : Making F) (built left : M) (made result : Result Unit Fault) → Syncs s built left made result
+    → OnOk made (HasDatabase f m (s.image built)) → OnOk result (HasDatabase f m (s.image left))
+database_synced f s m built left made (Err fault) syncs has = tt
+database_synced f s m built left made (Ok done) syncs has = λ b is. elim syncs.answered as (λ _. IsDatabase f m b) [
+  | inl same ↦ subst (λ r. OnOk r (HasDatabase f m (s.image built))) (sym same) has b (syncs.same.no_other b is)
+  | inr failed ↦ absurd (subst IsDone failed.1 tt)
+]
 
 -- ---- the lines that were handed on
 

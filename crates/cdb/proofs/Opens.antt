@@ -5,6 +5,8 @@ use Rattle.std.specs.Prelude.{OnOk}
 use Rattle.cdb_files.specs.Folder.{NameCalls}
 use Rattle.cdb_tool.specs.declared.inputs.Turn.{Turn}
 use Rattle.cdb.specs.Creating.{AsksEach, AsksOne, FindsInput, MayBeOne}
+use Rattle.cdb_tool.specs.declared.fault.Fault.{Fault}
+use Rattle.cdb_tool.specs.declared.fault.Fault.TheVariants.{NoMemory}
 use Rattle.cdb.specs.Inputs.{IsStandard, OpensInput, OpensEach, StopsOpening, MissesInput}
 use Rattle.cdb.specs.Opening.{OpenCalls}
 use Rattle.cdb.specs.declared.system.System.{Ghosts as Systems}
@@ -52,20 +54,20 @@ names_at f names i r name lt is k =
     ∙ sym (names_split f names i ∙ ap (λ v. map f (take i names) ++ v) (names_from f names i r lt is))
 
 -- an input was not opened
-pub stops_missed : {A F I M Y : Type 0} (y : Systems Y F I M) (f : A → List ℕ) (names : List A) (i : ℕ) (r : A) (name : List ℕ) (turns : List (Turn I)) (old mid new : OpenCalls) → i < length names → r ≡ get_or names i r → name ≡ f r → OpensEach y (map f (take i names)) turns old mid → MissesInput name mid new
-    → StopsOpening y (map f names) old new
-stops_missed y f names i r name turns old mid new lt is k opens misses = record {
+pub stops_missed : {A F I M Y : Type 0} (y : Systems Y F I M) (f : A → List ℕ) (names : List A) (i : ℕ) (r : A) (name : List ℕ) (turns : List (Turn I)) (old mid new : OpenCalls) (fault : Fault) → i < length names → r ≡ get_or names i r → name ≡ f r → OpensEach y (map f (take i names)) turns old mid → MissesInput name mid new fault
+    → StopsOpening y (map f names) old new fault
+stops_missed y f names i r name turns old mid new fault lt is k opens misses = record {
   opened = map f (take i names);
   left = map f (drop i names);
   are = names_split f names i;
   turns = turns;
   mid = mid;
   opens = opens;
-  last = inr (f r, map f (drop (i + 1) names), names_from f names i r lt is, subst (λ v. MissesInput v mid new) k misses);
+  last = inr (f r, map f (drop (i + 1) names), names_from f names i r lt is, subst (λ v. MissesInput v mid new fault) k misses);
 }
 
 -- an allocation failed after some were
-pub stops_after : {A F I M Y : Type 0} (y : Systems Y F I M) (f : A → List ℕ) (names : List A) (i : ℕ) (turns : List (Turn I)) (old new : OpenCalls) → OpensEach y (map f (take i names)) turns old new → StopsOpening y (map f names) old new
+pub stops_after : {A F I M Y : Type 0} (y : Systems Y F I M) (f : A → List ℕ) (names : List A) (i : ℕ) (turns : List (Turn I)) (old new : OpenCalls) → OpensEach y (map f (take i names)) turns old new → StopsOpening y (map f names) old new NoMemory
 stops_after y f names i turns old new opens = record {
   opened = map f (take i names);
   left = map f (drop i names);
@@ -73,5 +75,5 @@ stops_after y f names i turns old new opens = record {
   turns = turns;
   mid = new;
   opens = opens;
-  last = inl refl;
+  last = inl (refl, refl);
 }

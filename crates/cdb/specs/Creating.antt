@@ -28,7 +28,7 @@ use Rattle.cdb_make.specs.declared.fault.MakeFault.TheVariants.{Writing}
 use Rattle.cdb_tool.specs.declared.inputs.Turn.{Turn}
 use Rattle.cdb_tool.specs.Views.Inputs.{one_of}
 use Rattle.cdb.specs.Inputs.{IsStandard, MissesBase, OpensBase, OpensInputs, StopsOpening}
-use Rattle.cdb.specs.Opening.{IsUnopened, OpenCalls}
+use Rattle.cdb.specs.Opening.{Misses, OpenCalls}
 use Rattle.cdb.specs.declared.open_trace.OpenCall.TheVariants.{Emptied}
 use Rattle.cdb.specs.declared.system.System.{Ghosts as Systems}
 
@@ -150,25 +150,24 @@ pub record Syncs {M : Type 0} (s : Ghosts M) (built left : M) (made result : Res
       ⊎ (IsOk made × (result ≡ Err (Make Writing)) × (s.failures built < s.failures left))
   pub settled : OnOk result (s.settled left)
 
--- the file of the name was not opened; or it was emptied, a run was made in it, and it has the
--- database if the create succeeds
+-- a run was made in the store that came, and it has the database if the create succeeds
 abbrev pub Empties : {F I M Y : Type 0} → Systems Y F I M → Ghosts F → Ghosts M → Making F
     → (name : List ℕ) → (told said : Option (List ℕ)) → Result Unit Fault → Type 0
 Empties {M = M} y f s m name told said result =
-    ((fault : Fault) × IsUnopened fault × (result ≡ Err fault) × Keeps told said)
-    ⊎ ((store : M) × y.makes name store
-    × ((built : M) × (left : M) × (made : Result Unit Fault)
+    (store : M) × y.makes name store × (built : M) × (left : M) × (made : Result Unit Fault)
     × IsBufferedRun f m (s.image built) told said made × Syncs s built left made result
-    × OnOk result (HasDatabase f m (s.image left))))
+    × OnOk result (HasDatabase f m (s.image left))
 
--- a file that is read may be the one of the name; or none is, as was asked of each, and it is emptied
+-- a file that is read may be the one of the name; or none is, as was asked of each, and then the file of
+-- the name is not opened, or emptied
 abbrev pub MakesInPlace : {F I M Y : Type 0} → Systems Y F I M → Ghosts F → Ghosts M → Making F
     → (name : List ℕ) → (base : Option (List ℕ)) → (inputs : List (List ℕ)) → (old new : OpenCalls)
     → (was now : NameCalls) → (told said : Option (List ℕ)) → Result Unit Fault → Type 0
 MakesInPlace y f s m name base inputs old new was now told said result =
     (FindsOne name base inputs was now × (new ≡ old) × (result ≡ Err Open) × Keeps told said)
-    ⊎ (AsksAll name base inputs was now × (new ≡ (Emptied, name) ∷ old)
-    × Empties y f s m name told said result)
+    ⊎ (AsksAll name base inputs was now
+    × (((fault : Fault) × Misses name old new fault × (result ≡ Err fault) × Keeps told said)
+    ⊎ ((new ≡ (Emptied, name) ∷ old) × Empties y f s m name told said result)))
 
 -- ---- in a temporary file
 
@@ -249,9 +248,8 @@ pub record NotOpened {F I M Y : Type 0} (y : Systems Y F I M) (base : Option (Li
     (inputs : List (List ℕ)) (old new : OpenCalls) (result : Result Unit Fault) : Type 0 where
   pub fault : Fault
   pub is : result ≡ Err fault
-  pub unopened : IsUnopened fault
-  pub calls : MissesBase base old new ⊎ ((file : Option F) × (mid : OpenCalls)
-      × OpensBase y base file old mid × StopsOpening y inputs mid new)
+  pub calls : MissesBase base old new fault ⊎ ((file : Option F) × (mid : OpenCalls)
+      × OpensBase y base file old mid × StopsOpening y inputs mid new fault)
 
 -- the database is made, on standard output or under its name, where standard output stays as it is
 abbrev pub MakesAt : {F I M R Y : Type 0} → Systems Y F I M → Ghosts F → Ghosts M → Raw R

@@ -2,7 +2,9 @@
 use Rattle.std.specs.Prelude.{ℕ, ◌≡◌, ◌⊎◌, List, [], ◌∷◌, ◌++◌, Option, Some, None, codes}
 use Rattle.cdb_tool.specs.declared.inputs.Turn.{Turn}
 use Rattle.cdb_tool.specs.declared.inputs.Turn.TheVariants.{Own, Shared}
-use Rattle.cdb.specs.Opening.{OpenCalls}
+use Rattle.cdb_tool.specs.declared.fault.Fault.{Fault}
+use Rattle.cdb_tool.specs.declared.fault.Fault.TheVariants.{NoMemory}
+use Rattle.cdb.specs.Opening.{OpenCalls, Misses}
 use Rattle.cdb.specs.declared.open_trace.OpenCall.TheVariants.{AtPlaces, InTurn}
 use Rattle.cdb.specs.declared.system.System.{Ghosts as Systems}
 
@@ -19,9 +21,9 @@ OpensBase y (Some name) (Some file) old new =
 OpensBase y name file old new = ⊥
 
 -- or it was not
-abbrev pub MissesBase : Option (List ℕ) → (old new : OpenCalls) → Type 0
-MissesBase None old new = ⊥
-MissesBase (Some name) old new = new ≡ (AtPlaces, name) ∷ old
+abbrev pub MissesBase : Option (List ℕ) → (old new : OpenCalls) → Fault → Type 0
+MissesBase None old new fault = ⊥
+MissesBase (Some name) old new fault = Misses name old new fault
 
 -- an input is standard input, for which nothing is opened, or the file that came for its name
 abbrev pub OpensInput : {F I M Y : Type 0} → Systems Y F I M → List ℕ → Turn I
@@ -45,17 +47,18 @@ OpensInputs y [] turns old new = (turns ≡ Shared ∷ []) × (new ≡ old)
 OpensInputs y (name ∷ names) turns old new = OpensEach y (name ∷ names) turns old new
 
 -- the file of an input was not opened
-abbrev pub MissesInput : List ℕ → (old new : OpenCalls) → Type 0
-MissesInput name old new = (IsStandard name → ⊥) × (new ≡ (InTurn, name) ∷ old)
+abbrev pub MissesInput : List ℕ → (old new : OpenCalls) → Fault → Type 0
+MissesInput name old new fault = (IsStandard name → ⊥) × Misses name old new fault
 
 -- the first of them were opened, and then one was not, or an allocation failed
 pub record StopsOpening {F I M Y : Type 0} (y : Systems Y F I M) (names : List (List ℕ))
-    (old new : OpenCalls) : Type 0 where
+    (old new : OpenCalls) (fault : Fault) : Type 0 where
   pub opened : List (List ℕ)
   pub left : List (List ℕ)
   pub are : names ≡ opened ++ left
   pub turns : List (Turn I)
   pub mid : OpenCalls
   pub opens : OpensEach y opened turns old mid
-  pub last : (new ≡ mid) ⊎ ((name : List ℕ) × (more : List (List ℕ)) × (left ≡ name ∷ more)
-      × MissesInput name mid new)
+  pub last : ((new ≡ mid) × (fault ≡ NoMemory))
+      ⊎ ((name : List ℕ) × (more : List (List ℕ)) × (left ≡ name ∷ more)
+      × MissesInput name mid new fault)

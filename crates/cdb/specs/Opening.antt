@@ -1,6 +1,9 @@
 -- The calls on files, and why one is not opened. The newest call comes first.
-use Rattle.std.specs.Prelude.{ℕ, ◌≡◌, ◌⊎◌, List}
+use Rattle.std.specs.Prelude.{ℕ, ◌≡◌, List, ◌∷◌}
+use Rattle.cdb_files.specs.declared.name_fault.NameFault.{NameFault}
+use Rattle.cdb_files.specs.declared.name_fault.NameFault.TheVariants as why
 use Rattle.cdb.specs.declared.open_trace.OpenCall.{OpenCall}
+use Rattle.cdb.specs.declared.open_trace.OpenCall.TheVariants.{Unopened}
 use Rattle.cdb_tool.specs.declared.fault.Fault.{Fault}
 use Rattle.cdb_tool.specs.declared.fault.Fault.TheVariants.{Open, NoMemory}
 
@@ -8,6 +11,13 @@ use Rattle.cdb_tool.specs.declared.fault.Fault.TheVariants.{Open, NoMemory}
 abbrev pub OpenCalls : Type 0
 OpenCalls = List (OpenCall × List ℕ)
 
--- why a file is not opened
-abbrev pub IsUnopened : Fault → Type 0
-IsUnopened fault = (fault ≡ Open) ⊎ (fault ≡ NoMemory)
+-- the fault of a file that was not opened
+abbrev pub unopened : NameFault → Fault
+unopened why.Failed = Open
+unopened why.NoMemory = NoMemory
+
+-- the file of a name was not opened, which is this fault
+pub record Misses (name : List ℕ) (old new : OpenCalls) (fault : Fault) : Type 0 where
+  pub why : NameFault
+  pub is : fault ≡ unopened why
+  pub calls : new ≡ (Unopened why, name) ∷ old

@@ -24,20 +24,25 @@ use Rattle.cdb_tool.specs.Runs.WalkText.{WritesWalk}
 use Rattle.cdb_tool.specs.Message.{fault_line}
 use Rattle.cdb_tool.specs.Status.{exit_status}
 use Rattle.cdb_tool.specs.declared.fault.Fault.{Fault}
-use Rattle.cdb_tool.specs.declared.fault.Fault.TheVariants.{Output}
+use Rattle.cdb_tool.specs.declared.fault.Fault.TheVariants.{Open, NoMemory as NoRoom, Output}
 use Rattle.cdb_files.specs.Folder.{NameCalls}
 use Rattle.cdb_files.specs.declared.answer.Answer.TheVariants as looks
 use Rattle.cdb.specs.Creating.{Creates}
-use Rattle.cdb.specs.Opening.{IsUnopened}
+use Rattle.cdb.specs.Opening.{Misses, OpenCalls}
 use Rattle.cdb.specs.declared.open_trace.OpenCall.TheVariants.{AtPlaces, InTurn, Stream}
 use Rattle.cdb.specs.declared.system.System.{Ghosts as Systems}
 
--- the file was not opened, and nothing was written
-pub record Refuses (start end : Option (List ℕ)) (result : Result Unit Fault) : Type 0 where
+-- the file of the name was not opened, and nothing was written
+pub record Refuses (name : List ℕ) (old new : OpenCalls) (start end : Option (List ℕ))
+    (result : Result Unit Fault) : Type 0 where
   pub fault : Fault
   pub is : result ≡ Err fault
-  pub unopened : IsUnopened fault
+  pub misses : Misses name old new fault
   pub kept : Keeps start end
+
+-- an allocation failed, and nothing was written
+abbrev pub LacksMemory : (start end : Option (List ℕ)) → Result Unit Fault → Type 0
+LacksMemory start end result = (result ≡ Err NoRoom) × Keeps start end
 
 -- ---- query
 
@@ -53,8 +58,9 @@ pub record QueriesFile {F I M Y : Type 0} (w : ℕ) (s : Ghosts F) (y : Systems 
 abbrev pub PerformsQuery : {F I M Y : Type 0} → ℕ → Ghosts F → Systems Y F I M → (name : List ℕ)
     → Query → (old new : Y) → (start end : Option (List ℕ)) → Result Unit Fault → Type 0
 PerformsQuery w s y name q old new start end result =
-    (y.calls new ≡ (AtPlaces, name) ∷ y.calls old)
-    × (Refuses start end result ⊎ QueriesFile w s y name q start end result)
+    Refuses name (y.calls old) (y.calls new) start end result
+    ⊎ ((y.calls new ≡ (AtPlaces, name) ∷ y.calls old)
+    × QueriesFile w s y name q start end result)
 
 -- ---- dump and list
 
@@ -78,10 +84,11 @@ abbrev pub PerformsText : {F I M Y : Type 0} → ℕ → (I → Option (List ℕ
     → Option (List ℕ) → (input : Option (List ℕ)) → (old new : Y) → (start end : Option (List ℕ))
     → Result Unit Fault → Type 0
 PerformsText w remaining y form (Some name) input old new start end result =
-    (y.calls new ≡ (InTurn, name) ∷ y.calls old)
-    × (Refuses start end result ⊎ WritesFile w remaining y form name start end result)
+    Refuses name (y.calls old) (y.calls new) start end result
+    ⊎ ((y.calls new ≡ (InTurn, name) ∷ y.calls old)
+    × (LacksMemory start end result ⊎ WritesFile w remaining y form name start end result))
 PerformsText w remaining y form None input old new start end result =
-    (new ≡ old) × (Refuses start end result ⊎ WritesText w form input start end result)
+    (new ≡ old) × (LacksMemory start end result ⊎ WritesText w form input start end result)
 
 -- ---- statistics and check
 
@@ -141,11 +148,14 @@ abbrev pub PerformsOn : {F I M Y : Type 0} → Ghosts F → (I → Option (List 
     → (most : ℕ) → (name : Option (List ℕ)) → (input : Option (List ℕ)) → (old new : Y)
     → (start end : Option (List ℕ)) → Result Unit Fault → (F → Type 0) → (MemStore → Type 0) → Type 0
 PerformsOn s remaining y most (Some name) input old new start end result file taken =
-    ((y.calls new ≡ (AtPlaces, name) ∷ (Stream looks.No, name) ∷ y.calls old)
-    × (Refuses start end result ⊎ OfFile y name file))
+    Refuses name ((Stream looks.No, name) ∷ y.calls old) (y.calls new) start end result
+    ⊎ ((y.calls new ≡ (AtPlaces, name) ∷ (Stream looks.No, name) ∷ y.calls old)
+    × OfFile y name file)
+    ⊎ Refuses name ((Stream looks.Yes, name) ∷ y.calls old) (y.calls new) start end result
     ⊎ ((y.calls new ≡ (InTurn, name) ∷ (Stream looks.Yes, name) ∷ y.calls old)
-    × (Refuses start end result ⊎ OfStream remaining y name most start end result taken))
-    ⊎ ((y.calls new ≡ (Stream looks.Unknown, name) ∷ y.calls old) × Refuses start end result)
+    × OfStream remaining y name most start end result taken)
+    ⊎ ((y.calls new ≡ (Stream looks.Unknown, name) ∷ y.calls old) × (result ≡ Err Open)
+    × Keeps start end)
 PerformsOn s remaining y most None input old new start end result file taken =
     (new ≡ old) × Takes most input start end result taken
 

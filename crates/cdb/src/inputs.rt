@@ -1,7 +1,6 @@
 // What a create reads: its base and its inputs, which are opened before anything is made.
 ghost use Rattle.std.specs.Prelude.{◌≡◌, ◌≢◌, ◌↔◌, [], map, option_map, string_bytes, codes};
 ghost use Rattle.std.specs.Prelude.{IfOk, IfErr, IsTrue};
-ghost use Rattle.cdb.specs.Opening.{IsUnopened};
 ghost use Rattle.cdb.specs.Inputs.{IsStandard, OpensBase, MissesBase, OpensInput, OpensEach};
 ghost use Rattle.cdb.specs.Inputs.{OpensInputs, StopsOpening, MissesInput};
 
@@ -28,9 +27,8 @@ pub(crate) fn open_base<F: Store + Drop, J: Read, M: Store, Y: System<F, J, M>>(
 ) -> Result<Option<F>, Fault>
     ensures ok { IfOk result (λ base. OpensBase Y.System (option_map string_bytes name.now) base
         (Y.calls system.old) (Y.calls system.new)) }
-    ensures missed { IfErr result (λ f. MissesBase (option_map string_bytes name.now)
+    ensures missed { IfErr result (MissesBase (option_map string_bytes name.now)
         (Y.calls system.old) (Y.calls system.new)) }
-    ensures fails { IfErr result IsUnopened }
 {
     match name {
         Some(name) => Ok(Some(system.open_store(name.as_str())?)),
@@ -45,9 +43,8 @@ fn open_input<F: Store, J: Read + Drop, M: Store, Y: System<F, J, M>>(
 ) -> Result<Turn<J>, Fault>
     ensures ok { IfOk result (λ turn. OpensInput Y.System name.now turn
         (Y.calls system.old) (Y.calls system.new)) }
-    ensures missed { IfErr result (λ f. MissesInput name.now
+    ensures missed { IfErr result (MissesInput name.now
         (Y.calls system.old) (Y.calls system.new)) }
-    ensures fails { IfErr result IsUnopened }
 {
     if is_standard(name) {
         return Ok(Turn::Shared);
@@ -63,9 +60,8 @@ fn open_each<F: Store, J: Read + Drop, M: Store, Y: System<F, J, M>>(
 ) -> Result<Vec<Turn<J>>, Fault>
     ensures ok { IfOk result (λ turns. OpensEach Y.System (map string_bytes names.now) turns.items
         (Y.calls system.old) (Y.calls system.new)) }
-    ensures stops { IfErr result (λ f. StopsOpening Y.System (map string_bytes names.now)
+    ensures stops { IfErr result (StopsOpening Y.System (map string_bytes names.now)
         (Y.calls system.old) (Y.calls system.new)) }
-    ensures fails { IfErr result IsUnopened }
 {
     let mut turns = Vec::new(alloc);
     for name in names {
@@ -85,9 +81,8 @@ pub(crate) fn open_inputs<F: Store, J: Read + Drop, M: Store, Y: System<F, J, M>
     ensures ok { IfOk result (λ i. OpensInputs Y.System (map string_bytes names.now) i.turns.items
         (Y.calls system.old) (Y.calls system.new)) }
     ensures shared { IfOk result (λ i. i.shared ≡ input) }
-    ensures stops { IfErr result (λ f. StopsOpening Y.System (map string_bytes names.now)
+    ensures stops { IfErr result (StopsOpening Y.System (map string_bytes names.now)
         (Y.calls system.old) (Y.calls system.new)) }
-    ensures fails { IfErr result IsUnopened }
 {
     let mut turns = open_each::<F, J, M, Y>(alloc, system, names)?;
     if names.is_empty() {

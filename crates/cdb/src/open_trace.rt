@@ -3,7 +3,7 @@ ghost use Rattle.std.specs.Prelude.{◌≡◌, List, ℕ, [], ◌∷◌};
 ghost use Rattle.std.specs.Borrow.{ftrue};
 ghost use Rattle.cdb.specs.declared.open_trace.OpenCall.{OpenCall};
 
-use cdb_files::Answer;
+use cdb_files::{Answer, NameFault};
 use std::marker::{Model, PhantomData};
 
 /// A call on the file of a name.
@@ -17,6 +17,8 @@ pub(crate) enum OpenCall {
     Stream(Answer),
     /// It was emptied or made, to be written.
     Emptied,
+    /// It was not opened.
+    Unopened(NameFault),
 }
 
 /// A list of calls, the newest first, each with its name. It takes no memory, and its methods do

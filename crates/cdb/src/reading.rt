@@ -5,7 +5,7 @@ ghost use Rattle.cdb_store.specs.contracts.memory.MemStoreStore.TheImpl.{ghosts 
 ghost use Rattle.cdb_store.specs.Contents.{contents};
 ghost use Rattle.cdb_tool.specs.Runs.Form.{form_of};
 ghost use Rattle.cdb_tool.specs.Runs.Load.{IsNotLoaded};
-ghost use Rattle.cdb.specs.Performs.{PerformsQuery, PerformsText, PerformsOn, Refuses, WritesText};
+ghost use Rattle.cdb.specs.Performs.{PerformsQuery, PerformsText, PerformsOn, LacksMemory, WritesText};
 ghost use Rattle.cdb.specs.Performs.{Takes, TellsStore, ChecksStore};
 
 use crate::system::System;
@@ -53,7 +53,7 @@ fn write_text<L: Width, I: Read + Drop, O: Write>(
     input: I,
     output: &mut O,
 ) -> Result<(), Fault>
-    ensures { Refuses (O.contents output.old) (O.contents output.new) result
+    ensures { LacksMemory (O.contents output.old) (O.contents output.new) result
         ⊎ WritesText L.WORD (form_of content style) (I.remaining input)
         (O.contents output.old) (O.contents output.new) result }
 {

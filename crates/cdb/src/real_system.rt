@@ -1,16 +1,16 @@
 // The system's files: the lines that open them, and note it.
-ghost use Rattle.std.specs.Prelude.{◌≡◌, []};
-ghost use Rattle.cdb.specs.Opening.{IsUnopened};
+ghost use Rattle.std.specs.Prelude.{◌≡◌, [], ◌∷◌};
+ghost use Rattle.cdb.specs.Opening.{unopened};
+ghost use Rattle.cdb.specs.declared.open_trace.OpenCall.TheVariants.{Unopened};
 
 use crate::open_trace::{OpenCall, OpenTrace};
 use crate::system::System;
-use cdb_files::Answer;
+use cdb_files::{Answer, NameFault};
 use cdb_store::{FileStore, StoreFault};
 use cdb_tool::Fault;
-use std::fs::{self, File, Metadata};
-use std::io::{self, ErrorKind};
+use std::fs::{self, File};
+use std::io::ErrorKind;
 use std::os::fd::AsRawFd;
-use std::os::unix::fs::MetadataExt;
 use std::rt::Files;
 
 /// The greatest number of a standard stream.
@@ -33,16 +33,18 @@ impl<'a, R: Files<File = File>> RealSystem<'a, R> {
             trace: OpenTrace::new(),
         }
     }
-}
 
-/// Why a file was not opened.
-fn open_fault(error: &io::Error) -> Fault
-    ensures { IsUnopened result }
-{
-    if error.kind() == ErrorKind::OutOfMemory {
-        return Fault::NoMemory;
+    /// Notes that the file of a name was not opened, and answers which fault that is.
+    fn refused(&mut self, why: NameFault, name: &str) -> Fault
+        ensures fault { result ≡ unopened why }
+        ensures trace { self.new.trace.events ≡ (Unopened why, name.now) ∷ self.old.trace.events }
+    {
+        self.trace.note(&OpenCall::Unopened(why), name.as_bytes());
+        match why {
+            NameFault::Failed => Fault::Open,
+            NameFault::NoMemory => Fault::NoMemory,
+        }
     }
-    Fault::Open
 }
 
 impl<'a, R: Files<File = File>> System<FileStore, File, FileStore> for RealSystem<'a, R> {
@@ -56,21 +58,24 @@ impl<'a, R: Files<File = File>> System<FileStore, File, FileStore> for RealSyste
 
     // Shown by tests/cli/cases.py and tests/faults/names.py.
     fn open_store(&mut self, name: &str) -> Result<FileStore, Fault> {
-        self.trace.note(&OpenCall::AtPlaces, name.as_bytes());
-        if is_stream(self.rt, name) != Answer::No {
-            return Err(Fault::Open);
+        match opened_at_places(self.rt, name) {
+            Ok(store) => {
+                self.trace.note(&OpenCall::AtPlaces, name.as_bytes());
+                Ok(store)
+            }
+            Err(why) => Err(self.refused(why, name)),
         }
-        FileStore::open(self.rt, name).map_err(store_fault)
     }
 
     // Shown by tests/cli/cases.py and tests/faults/closed.py.
     /// The file is given up if it got the number of a standard stream that is closed.
     fn open(&mut self, name: &str) -> Result<File, Fault> {
-        self.trace.note(&OpenCall::InTurn, name.as_bytes());
-        match File::open(self.rt, name) {
-            Ok(file) if file.as_raw_fd() <= LAST_STANDARD => Err(Fault::Open),
-            Ok(file) => Ok(file),
-            Err(error) => Err(open_fault(&error)),
+        match opened_in_turn(self.rt, name) {
+            Ok(file) => {
+                self.trace.note(&OpenCall::InTurn, name.as_bytes());
+                Ok(file)
+            }
+            Err(why) => Err(self.refused(why, name)),
         }
     }
 
@@ -83,18 +88,39 @@ impl<'a, R: Files<File = File>> System<FileStore, File, FileStore> for RealSyste
 
     // Shown by tests/cli/cases.py and tests/faults/others.py.
     fn empty(&mut self, name: &str) -> Result<FileStore, Fault> {
-        self.trace.note(&OpenCall::Emptied, name.as_bytes());
-        FileStore::create_own(self.rt, name).map_err(store_fault)
+        match FileStore::create_own(self.rt, name) {
+            Ok(store) => {
+                self.trace.note(&OpenCall::Emptied, name.as_bytes());
+                Ok(store)
+            }
+            Err(fault) => Err(self.refused(of_store(fault), name)),
+        }
+    }
+}
+
+/// Opens the file of a name at places. It has none if it is a pipe or a device.
+fn opened_at_places<R: Files<File = File>>(rt: &R, name: &str) -> Result<FileStore, NameFault> {
+    if is_stream(rt, name) != Answer::No {
+        return Err(NameFault::Failed);
+    }
+    FileStore::open(rt, name).map_err(of_store)
+}
+
+/// Opens the file of a name from its start on, unless it gets the number of a standard stream.
+fn opened_in_turn<R: Files<File = File>>(rt: &R, name: &str) -> Result<File, NameFault> {
+    match File::open(rt, name) {
+        Ok(file) if file.as_raw_fd() <= LAST_STANDARD => Err(NameFault::Failed),
+        Ok(file) => Ok(file),
+        Err(error) if error.kind() == ErrorKind::OutOfMemory => Err(NameFault::NoMemory),
+        Err(_) => Err(NameFault::Failed),
     }
 }
 
 /// Why a store was not opened.
-fn store_fault(fault: StoreFault) -> Fault
-    ensures { IsUnopened result }
-{
+fn of_store(fault: StoreFault) -> NameFault {
     match fault {
-        StoreFault::Device => Fault::Open,
-        StoreFault::NoMemory => Fault::NoMemory,
+        StoreFault::Device => NameFault::Failed,
+        StoreFault::NoMemory => NameFault::NoMemory,
     }
 }
 

@@ -1,6 +1,6 @@
 // The files of a system, by their names and the calls on them.
-ghost use Rattle.std.specs.Prelude.{◌≡◌, ◌∷◌, ℕ, List, IfOk, IfErr};
-ghost use Rattle.cdb.specs.Opening.{OpenCalls, IsUnopened};
+ghost use Rattle.std.specs.Prelude.{◌≡◌, ◌∷◌, ℕ, List, IfOk, IfErr, OnOk};
+ghost use Rattle.cdb.specs.Opening.{OpenCalls, Misses};
 ghost use Rattle.cdb.specs.declared.open_trace.OpenCall.TheVariants.{AtPlaces, InTurn, Stream};
 ghost use Rattle.cdb.specs.declared.open_trace.OpenCall.TheVariants.{Emptied};
 
@@ -27,15 +27,15 @@ pub(crate) trait System<F: Store, I: Read, M: Store> {
     /// Opens the file of a name, to be read at places. `Open`: it cannot be opened, or it is a pipe
     /// or a device, which has no places to be read at.
     fn open_store(&mut self, name: &str) -> Result<F, Fault>
-        ensures calls { calls self.new ≡ (AtPlaces, name.now) ∷ calls self.old }
+        ensures calls { OnOk result (calls self.new ≡ (AtPlaces, name.now) ∷ calls self.old) }
         ensures gives { IfOk result (gives name.now) }
-        ensures fails { IfErr result IsUnopened };
+        ensures fails { IfErr result (Misses name.now (calls self.old) (calls self.new)) };
 
     /// Opens the file of a name, to be read from its start on. `Open`: it cannot be opened.
     fn open(&mut self, name: &str) -> Result<I, Fault>
-        ensures calls { calls self.new ≡ (InTurn, name.now) ∷ calls self.old }
+        ensures calls { OnOk result (calls self.new ≡ (InTurn, name.now) ∷ calls self.old) }
         ensures reads { IfOk result (reads name.now) }
-        ensures fails { IfErr result IsUnopened };
+        ensures fails { IfErr result (Misses name.now (calls self.old) (calls self.new)) };
 
     /// Whether a name is that of a pipe or a device, which is read from its start to its end alone.
     fn is_stream(&mut self, name: &str) -> Answer
@@ -44,7 +44,7 @@ pub(crate) trait System<F: Store, I: Read, M: Store> {
     /// Empties the file of a name, or makes one, to be read and written at places. `Open`: it cannot
     /// be opened, or the name is that of a link, which is not followed.
     fn empty(&mut self, name: &str) -> Result<M, Fault>
-        ensures calls { calls self.new ≡ (Emptied, name.now) ∷ calls self.old }
+        ensures calls { OnOk result (calls self.new ≡ (Emptied, name.now) ∷ calls self.old) }
         ensures makes { IfOk result (makes name.now) }
-        ensures fails { IfErr result IsUnopened };
+        ensures fails { IfErr result (Misses name.now (calls self.old) (calls self.new)) };
 }
