@@ -22,6 +22,7 @@ import tempfile
 import commands
 from files import ONE_FILE, TWO_FILE, TWO_TEXT
 from names import CREATES, LAST, NO_DATABASE, NO_FILE, NO_NAME, found_in, made_of, place, run
+from places import Link
 from refusing import Refusing
 
 OTHER = b"another's"
@@ -177,6 +178,18 @@ def unread(path, library, error):
     return None if (done.returncode, done.stderr, left) == (111, NO_FILE, {}) else f"{done.returncode} {done.stderr}, {left}"
 
 
+def unopened(path, library, target):
+    """What is wrong with a create whose temporary name has a link, or None. What it leads to is not opened."""
+    files = {**KEPT, "x.tmp": Link(target)}
+    with tempfile.TemporaryDirectory() as folder:
+        place(folder, files)
+        before = found_in(folder)
+        done, calls = Refusing(path, library, "calls").trace(PLAIN, TWO_TEXT, folder=folder)
+        is_same = (done.returncode, done.stderr, found_in(folder)) == (111, NO_FILE, before)
+    opens = [it.name for it in calls if it.what == "open" and it.name == "x.tmp"]
+    return None if is_same and not opens else f"{done.returncode} {done.stderr}, opened: {opens}"
+
+
 def alike(path, library, create):
     """What is wrong with a create all whose files have one inode, each on a device of its own, or None."""
     before, done, _, left = run(Refusing(path, library, "calls", ALIKE=1), create)
@@ -210,6 +223,8 @@ def checks():
     yield "no page of the umask", unmasked, errno.ENOENT
     yield "a page of the umask that is not opened", unmasked, errno.EIO
     yield "a page of the umask that is not read", unread, errno.EIO
+    yield "a link to a file", unopened, "y"
+    yield "a link to the database", unopened, "x"
     yield "an old file over NFS", remote, False
     yield "the file of another create over NFS", remote, True
     yield from ((f"{name}, inodes alike", alike, it) for name, it in DONE.items())
