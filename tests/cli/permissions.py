@@ -5,13 +5,11 @@
 
 The temporary file is open to this user alone until it is whole. A database that replaces a regular file
 then has its permission bits. If none is replaced, or a link, the umask decides. In place nothing
-changes. An old temporary file has no part in it, whatever its permissions: a create that was killed after
-it gave them left it so. That is tried as a user whom permissions bind.
+changes. An old temporary file has no part in it.
 """
 
 import itertools
 import os
-import shutil
 import subprocess
 import sys
 import tempfile
@@ -22,7 +20,6 @@ from waiting import waits
 MODES = (0o400, 0o444, 0o600, 0o640, 0o644, 0o664, 0o666, 0o755)
 MASKS = (0o000, 0o002, 0o022, 0o027, 0o077)
 PRIVATE = 0o600
-NOBODY = 65534
 
 
 def mode_of(path):
@@ -30,16 +27,9 @@ def mode_of(path):
     return os.lstat(path).st_mode & 0o7777
 
 
-def while_waiting(program, folder, mask, words, is_bound):
+def while_waiting(program, folder, mask, words):
     """The bits of the temporary file while the create waits for its text, and its status."""
-
-    def prepare():
-        os.umask(mask)
-        if is_bound:
-            os.setgid(NOBODY)
-            os.setuid(NOBODY)
-
-    how = dict(cwd=folder, stdin=subprocess.PIPE, stderr=subprocess.DEVNULL, preexec_fn=prepare)
+    how = dict(cwd=folder, stdin=subprocess.PIPE, preexec_fn=lambda: os.umask(mask) and None)
     temporary = os.path.join(folder, "x.tmp")
     with subprocess.Popen([program, *words], **how) as process:
         file = os.path.join(folder, "x") if "-t" in words else temporary
@@ -53,8 +43,7 @@ def while_waiting(program, folder, mask, words, is_bound):
 
 def left_by(program, mask, old, words=("-c", "x"), stale=None):
     """The bits of the temporary file and of the database, and whether the database is whole. An old
-    temporary file may be there, of these bits: then nobody makes the database, if this is root."""
-    is_bound = stale is not None and os.getuid() == 0
+    temporary file may be there, of these bits."""
     with tempfile.TemporaryDirectory() as folder:
         path = os.path.join(folder, "x")
         if stale is not None:
@@ -67,18 +56,17 @@ def left_by(program, mask, old, words=("-c", "x"), stale=None):
         elif old is not None:
             with open(path, "wb"):
                 os.chmod(path, old)
-        if is_bound:
-            for it in (folder, path, path + ".tmp"):
-                os.chown(it, NOBODY, NOBODY)
-        temporary, status = while_waiting(program, folder, mask, words, is_bound)
+        temporary, status = while_waiting(program, folder, mask, words)
         if status != 0:
             return temporary, status, False
         with open(path, "rb") as file:
             return temporary, mode_of(path), file.read() == TWO_FILE
 
 
-def looks(program):
-    """What each create left, and what it is to leave."""
+def main():
+    if len(sys.argv) != 2:
+        sys.exit(__doc__)
+    program = os.path.abspath(sys.argv[1])
     came = []
     for mask, mode in itertools.product(MASKS, MODES):
         came.append((f"{mode:o} by {mask:o}", left_by(program, mask, mode), (PRIVATE, mode, True)))
@@ -93,16 +81,6 @@ def looks(program):
     came.append(("a program that runs as its owner", left, (PRIVATE, 0o755, True)))
     in_place = ("-c", "-t", "-", "x")
     came.append(("in place", left_by(program, 0o022, 0o600, in_place), (None, 0o600, True)))
-    return came
-
-
-def main():
-    if len(sys.argv) != 2:
-        sys.exit(__doc__)
-    with tempfile.TemporaryDirectory() as folder:
-        # A copy that nobody may run too, wherever the program is.
-        os.chmod(folder, 0o755)
-        came = looks(shutil.copy(sys.argv[1], os.path.join(folder, "cdb")))
     wrong = [it for it in came if it[1] != it[2]]
     for what, got, wanted in wrong:
         print(f"{what}: {got} and not {wanted}")
