@@ -122,10 +122,15 @@ fn append(parts: [&[u8]; 5], shown: &mut Vec<u8>) -> Result<(), AllocError> {
     Ok(())
 }
 
+/// Puts a record as `<key|value>` behind others.
+fn show_record(key: &[u8], value: &[u8], shown: &mut Vec<u8>) -> Result<(), AllocError> {
+    append([b"<", key, b"|", value, b">"], shown)
+}
+
 /// Puts a record as `<key|value>` behind others, or a removal as `[key]`.
 fn show(kind: ItemKind, record: &Record, shown: &mut Vec<u8>) -> Result<(), AllocError> {
     match kind {
-        ItemKind::Put => append([b"<", &record.key, b"|", &record.value, b">"], shown),
+        ItemKind::Put => show_record(&record.key, &record.value, shown),
         ItemKind::Remove => append([b"[", &record.key, b"]", b"", b""], shown),
     }
 }
@@ -147,7 +152,7 @@ fn show_native<L: Width, R: Read, A: AtHand<R>>(
 ) -> Result<bool, TextFault> {
     if let Some(peeked) = texts.peek::<A>() {
         let len = peeked.len;
-        append([b"<", peeked.key, b"|", peeked.value, b">"], shown)?;
+        show_record(peeked.key, peeked.value, shown)?;
         texts.take_peeked::<A>(len);
         return Ok(true);
     }
@@ -166,7 +171,7 @@ fn show_amending<R: Read, A: AtHand<R>>(
 ) -> Result<bool, TextFault> {
     if let Some(peeked) = changes.peek::<A>() {
         let len = peeked.len;
-        append([b"<", peeked.key, b"|", peeked.value, b">"], shown)?;
+        show_record(peeked.key, peeked.value, shown)?;
         changes.take_peeked::<A>(len);
         return Ok(true);
     }
