@@ -173,6 +173,12 @@ def line_of(call, error, is_sealed):
     return NO_DATABASE if call.what == "sync" else NO_FILE
 
 
+def is_of_open(calls, number):
+    """Whether a call is a look at a file that was just opened, which is a part of its open."""
+    before = [it.what for it in calls[: number - 1] if it.what != "look"]
+    return calls[number - 1].what == "look" and before[-1:] == ["open"]
+
+
 def told(files):
     """What is in a folder, in a few words: how long each file is, and its permissions."""
     return {name: (len(it[0]), oct(it[1])) if isinstance(it, tuple) else it for name, it in files.items()}
@@ -190,6 +196,8 @@ def wrong_with(create, number, error, is_lasting, free, refused):
     else:
         line = line_of(call, error, "allow" in names)
     lines = {line} if not is_lasting else {*LINES, NO_MEMORY if error == errno.ENOMEM else NO_FILE}
+    if error == errno.ENOMEM and is_of_open(calls, number):
+        lines |= {NO_MEMORY}
     if done.returncode == 0:
         if free.returncode or line is not None and not is_lasting or done.stderr or left != made_of(create, before):
             return f"status 0, and {told(left)}"
