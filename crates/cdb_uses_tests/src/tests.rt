@@ -1,4 +1,7 @@
 // Each caller once.
+ghost use Rattle.std.specs.Prelude.{◌≤◌};
+ghost use Rattle.cdb_form.specs.Format.Pair.{head_size};
+
 mod drawn;
 
 use cdb_form::{Narrow, Record, Wide, Width};
@@ -126,7 +129,10 @@ fn make_and_ask<L: Width, W: Write>(
     steps: &[Step],
     key: &[u8],
     w: &mut W,
-) -> Result<MadeFile, AskFault> {
+) -> Result<MadeFile, AskFault>
+    requires head { head_size L.WORD ≤ limit }
+    requires words { limit ≤ L.GREATEST }
+{
     match build_and_ask::<_, L, W>(alloc, MemStore::new(alloc), limit, steps, key, w) {
         Ok(Built { store, faults }) => Ok(MadeFile {
             file: store.into_vec(),
