@@ -6,7 +6,7 @@
 The checker, which is the command in the environment's RT, else `rt`, compiles the program and each crate of
 tests without a proof and runs them. These parts need the program that make builds, and are left out: what a
 command leaves in files, examples of the pages, kills, refused memory and calls of the system, the packages, and
-the C library. So is a test of a crate that takes longer than half a minute. The last line counts all that passed
+the C library. So is a test of a crate that takes longer than a quarter of a minute. The last line counts all that passed
 and failed.
 """
 
@@ -21,7 +21,7 @@ TOP = os.path.join(os.path.dirname(os.path.abspath(__file__)), "..")
 COUNTED = re.compile(r"^(?:test result: .*?)?(\d+) passed[,;] (\d+) failed", re.MULTILINE)
 # What the checker says of a test that takes too long.
 TOO_LONG = re.compile(r"^test (\S+) \.\.\. FAILED\n.*no-answer: the program did not end within", re.MULTILINE)
-SECONDS = 30
+SECONDS = 15
 # How much memory a part takes at most.
 MEMORY = 2 << 30
 # How many times the program is compiled for its table of cases.
@@ -54,13 +54,15 @@ def has_tests(crate):
 def parts():
     """The parts, the long ones first: a name, the words, and the folder to run them in."""
     python = [sys.executable]
+    # It waits more than it works.
+    found = [("tests/build/run.py", [*python, "tests/build/run.py"], TOP)]
     halves = [["tests/cli/unproved.py", str(it + 1), str(HALVES)] for it in range(HALVES)]
-    found = [(" ".join(it), python + it, TOP) for it in halves]
+    found += [(" ".join(it), python + it, TOP) for it in halves]
     crates = [it for it in os.listdir(os.path.join(TOP, "crates")) if has_tests(it)]
     for crate in sorted(crates, key=size_of, reverse=True):
         found.append((f"tests of {crate}", [checker(), "try", "--test"], os.path.join(TOP, "crates", crate)))
     found.append(("make try", ["sh", "demo/try.sh"], TOP))
-    for script in ("tests/docs/check.py", "tests/build/run.py", "tests/package/version.py"):
+    for script in ("tests/docs/check.py", "tests/package/version.py"):
         found.append((script, [*python, script], TOP))
     return found
 

@@ -5,6 +5,7 @@ what it runs side by side, and what is left after a failure, an interrupt and a 
     tests/build/run.py
 """
 
+import contextlib
 import errno
 import os
 import signal
@@ -33,6 +34,12 @@ BUILT = ("low", "other", "left", "right", "top")
 # The longest code is that of `right`, so most work waits for `low`, and then for `right`.
 SIZES = {"low": 100, "other": 10, "left": 100, "right": 200, "top": 10, "aside": 900}
 IS_BESIDE = min(build.processors(), build.memory() // build.CHECK_MEMORY) > 1
+
+
+def begin_afresh(processors):
+    """What a build begins with: these processors, and an interrupt, which a shell in the background ignores."""
+    signal.signal(signal.SIGINT, signal.SIG_DFL)
+    os.sched_setaffinity(0, processors or os.sched_getaffinity(0))
 
 
 class Repository:
@@ -66,12 +73,21 @@ class Repository:
             stdout=subprocess.PIPE,
             stderr=subprocess.PIPE,
             text=True,
-            preexec_fn=lambda: os.sched_setaffinity(0, processors or os.sched_getaffinity(0)),
+            preexec_fn=lambda: begin_afresh(processors),
         )
+
+    @contextlib.contextmanager
+    def running(self, *words, **named):
+        """Begins a build, and ends one that hangs."""
+        with self.begin(*words, **named) as process:
+            try:
+                yield process
+            finally:
+                process.kill()
 
     def build(self, *words, **named):
         """Builds, and gives the status and what was said."""
-        with self.begin(*words, **named) as process:
+        with self.running(*words, **named) as process:
             output, errors = process.communicate(timeout=60)
         return process.returncode, output, errors
 
@@ -151,7 +167,7 @@ def failing(it):
 def stopped(it):
     """An interrupt ends what runs, and keeps what it has proved."""
     for number in (signal.SIGINT, signal.SIGTERM):
-        with it.begin(HANG="right left") as process:
+        with it.running(HANG="right left") as process:
             it.wait_for(*two("right", "left"))
             process.send_signal(number)
             _, errors = process.communicate(timeout=20)
@@ -162,7 +178,7 @@ def stopped(it):
 
 def killed(it):
     """The trees of a build that was killed are taken back by the next one."""
-    with it.begin(HANG="right left") as process:
+    with it.running(HANG="right left") as process:
         it.wait_for(*two("right", "left"))
         process.kill()
         process.communicate(timeout=30)
