@@ -3,10 +3,10 @@ use Rattle.std.specs.Prelude.{ℕ, ℤ, pos, negsuc, zero, suc, ◌≡◌}
 use Rattle.cdb_form.specs.declared.damage.Damage.{Damage}
 use Rattle.cdb_form.specs.Format.Walk.{Walked, damaged}
 use Rattle.cdb_read.specs.Lookup.{Found as Looked, found_damaged}
-use Rattle.cdb_read.specs.declared.span.Pair.{Pair}
+use Rattle.cdb_read.specs.declared.span.PlacedRecord.{PlacedRecord}
 use Rattle.cdb_read.specs.declared.span.Span.{Span}
 use Rattle.cdb_memory.specs.declared.search.Search.{Search}
-use Rattle.cdb_memory.specs.declared.walk.Rest.{Rest}
+use Rattle.cdb_memory.specs.declared.walk.RecordArea.{RecordArea}
 use Rattle.cdb_c.specs.declared.finding.Found.{Found}
 use Rattle.cdb_c.specs.declared.finding.State.{State}
 use Rattle.cdb_c.specs.declared.walking.Placed.{Placed}
@@ -23,7 +23,7 @@ Says (negsuc (suc n)) found none damage = ⊥
 abbrev pub span_of : Found → Span
 span_of f = record { place = f.place; len = f.len }
 
-abbrev pub pair_of : Placed → Pair
+abbrev pub pair_of : Placed → PlacedRecord
 pair_of p = record {
   place = p.place;
   key = record { place = p.key_place; len = p.key_len };
@@ -33,7 +33,7 @@ pair_of p = record {
 abbrev pub search_of : State → Search
 search_of s = record { hash = s.hash; table = s.table; slots = s.slots; slot = s.slot; left = s.left }
 
-abbrev pub rest_at : ℕ → ℕ → Rest
+abbrev pub rest_at : ℕ → ℕ → RecordArea
 rest_at place end = record { place = place; end = end }
 
 -- nothing but a damage

@@ -15,7 +15,7 @@ ghost use Rattle.cdb_c.specs.Codes.{put_code, done_code, found_code, removed_cod
 ghost use Rattle.cdb_c.specs.Codes.{Answers, appended_code};
 
 use crate::codes::{appended_code, done_code, found_code, mode_of, put_code, removed_code};
-use cdb_handle::{Handle, append, close, count, exists, finish, piece, put, remove, start};
+use cdb_handle::{Handle, append, count, exists, finish, piece, put, release, remove, start};
 use cdb_make::{MakeFault, Put};
 use std::alloc::Global;
 
@@ -162,5 +162,5 @@ pub extern "C" fn cdb_c_make_piece(
 pub extern "C" fn cdb_c_make_close(alloc: Global, handle: &mut Handle)
     ensures { kept_in handle.new ≡ None }
 {
-    close(alloc, handle)
+    release(alloc, handle)
 }

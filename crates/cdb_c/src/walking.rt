@@ -4,11 +4,11 @@ ghost use Rattle.cdb_form.specs.Format.Pair.{head_size};
 ghost use Rattle.cdb_form.specs.Format.Walk.{walk_of, damaged};
 ghost use Rattle.cdb_form.specs.declared.damage.Damage.TheVariants.{Record};
 ghost use Rattle.cdb_read.specs.Views.Walking.{behind, LiesAt};
-ghost use Rattle.cdb_memory.specs.Walks.{rest_of, Begins, GivesPair};
+ghost use Rattle.cdb_memory.specs.Walks.{rest_of, Begins, GivesRecord};
 ghost use Rattle.cdb_c.specs.Answers.{Says, IsWalkDamaged, pair_of, rest_at};
 
 use cdb_form::Narrow;
-use cdb_memory::{Pair, Rest, first_record, next_record};
+use cdb_memory::{PlacedRecord, RecordArea, first_record, next_record};
 
 /// Where a record of a walk is.
 #[repr(C)]
@@ -26,7 +26,7 @@ pub struct Placed {
 
 impl Placed {
     /// A pair that ends before 4 GiB.
-    fn of(pair: Pair) -> Placed
+    fn of(pair: PlacedRecord) -> Placed
         requires lies { LiesAt 4 pair.place pair }
         requires narrow { behind pair ≤ 4294967295 }
         ensures { pair_of result ≡ pair }
@@ -69,7 +69,7 @@ pub extern "C" fn cdb_c_next_record(
 ) -> i32
     requires { length file.now ≤ 4294967295 }
     ensures gives { head_size 4 ≤ end → Says result
-        (GivesPair 4 file.now (rest_at place.old end) (rest_at place.new end) (pair_of found.new))
+        (GivesRecord 4 file.now (rest_at place.old end) (rest_at place.new end) (pair_of found.new))
         (end ≤ place.old)
         (rest_of 4 file.now (rest_at place.old end) ≡ damaged (Record place.old)) }
     ensures ended { head_size 4 ≤ end → end ≤ place.old → result ≡ pos 0 }
@@ -80,7 +80,7 @@ pub extern "C" fn cdb_c_next_record(
     if end < 2048 {
         return -1;
     }
-    let mut rest = Rest {
+    let mut rest = RecordArea {
         place: u64::from(*place),
         end,
     };

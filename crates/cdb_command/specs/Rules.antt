@@ -39,13 +39,13 @@ only_letter (x ∷ y ∷ more) = Err usage.TwoCommands
 -- ---- and options that it takes
 
 -- the name `-` is a standard stream
-abbrev pub is_stream : Text → Bool
-is_stream name = bytes_eq name (codes "-")
+abbrev pub is_hyphen : Text → Bool
+is_hyphen name = bytes_eq name (codes "-")
 
 -- whether a create writes the database to standard output, where no file is built
 abbrev pub writes_out : List Text → Bool
 writes_out [] = false
-writes_out (name ∷ inputs) = is_stream name
+writes_out (name ∷ inputs) = is_hyphen name
 
 -- whether the file in which a create builds has this name; it is the database's name and `.tmp`
 -- where none is given
@@ -57,7 +57,7 @@ is_built_in None (name ∷ inputs) file = bytes_eq (name ++ codes ".tmp") file
 -- whether a create takes this base: not where it builds in place by `-t -`, and not where it would
 -- build in the base
 abbrev pub takes_base : Given → Text → Bool
-takes_base g base = not (unwrap_or (option_map is_stream g.temporary) false)
+takes_base g base = not (unwrap_or (option_map is_hyphen g.temporary) false)
     && (writes_out g.names || not (is_built_in g.temporary g.names base))
 
 abbrev pub taken_by : Letter → Given → Text
@@ -105,7 +105,7 @@ number_in (Some text) = decimal_in text >>= λ n. Ok (Some n)
 
 -- the name `-` is standard input
 abbrev pub file_named : Text → Option Text
-file_named name = if is_stream name then None else Some name
+file_named name = if is_hyphen name then None else Some name
 
 -- and so is no name
 abbrev pub one_name : List Text → Result (Option Text) Usage

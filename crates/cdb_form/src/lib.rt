@@ -11,7 +11,7 @@ mod copying;
 mod damage;
 mod head;
 mod header;
-mod item;
+mod change;
 mod key_hash;
 pub mod laws;
 mod mode;
@@ -30,7 +30,7 @@ pub use head::{
     GREATEST_HEAD, Head, Pointer, head_size, read_head, read_pointer, write_head, write_pointer,
 };
 pub use header::{Header, read_header, write_header};
-pub use item::{Item, ItemKind};
+pub use change::{Change, ChangeKind};
 pub use key_hash::{hash, hash_more, home_slot, table_number};
 pub use mode::Mode;
 pub use pair::{GREATEST_PAIR, pair_size};

@@ -5,4 +5,4 @@ use Rattle.cdb_handle.specs.declared.handle.Handle.{Handle}
 
 -- its database, if it has one
 abbrev pub kept_in : Handle → Option Database
-kept_in h = h.slot.kept
+kept_in h = h.address.kept

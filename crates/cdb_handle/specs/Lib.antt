@@ -1,4 +1,4 @@
 -- What a program in C holds, and what each call makes of it.
-pub mod Slots
+pub mod Addresses
 pub mod Kept
 pub mod Calls

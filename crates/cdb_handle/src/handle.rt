@@ -1,10 +1,10 @@
 // What a program in C holds of a database.
 ghost use Rattle.std.specs.Prelude.{◌≡◌, Some, None, MatchOption};
-ghost use Rattle.cdb_handle.specs.Slots.{is_kept};
+ghost use Rattle.cdb_handle.specs.Addresses.{is_kept};
 
 use crate::database::Database;
 use crate::parts::Parts;
-use crate::slot::Slot;
+use crate::address::BoxAddress;
 use std::alloc::Global;
 use std::mem::replace;
 
@@ -13,8 +13,8 @@ use std::mem::replace;
 #[derive(Drop)]
 pub struct Handle {
     is_full: bool,
-    slot: Slot,
-    ghost agrees: { is_full ≡ is_kept slot.kept },
+    address: BoxAddress,
+    ghost agrees: { is_full ≡ is_kept address.kept },
 }
 
 impl Handle {
@@ -26,7 +26,7 @@ impl Handle {
     {
         Handle {
             is_full: false,
-            slot: Slot::empty(alloc),
+            address: BoxAddress::empty(alloc),
         }
     }
 
@@ -36,7 +36,7 @@ impl Handle {
     {
         Handle {
             is_full: true,
-            slot: Slot::of_parts(Parts::of(database)),
+            address: BoxAddress::of_parts(Parts::of(database)),
         }
     }
 
@@ -46,9 +46,9 @@ impl Handle {
             (λ b. kept_in self.old ≡ Some b.value) }
         ensures left { kept_in self.new ≡ None }
     {
-        let Handle { is_full, slot } = replace(self, Handle::empty(alloc));
+        let Handle { is_full, address } = replace(self, Handle::empty(alloc));
         if is_full {
-            Some(slot.into_parts().into_box())
+            Some(address.into_parts().into_box())
         } else {
             None
         }

@@ -8,9 +8,9 @@ mod database;
 mod handle;
 mod making;
 mod parts;
-mod slot;
+mod address;
 
 pub use database::{Beginning, Database, Finished, Making};
 pub use handle::Handle;
-pub use making::{append, close, count, exists, finish, piece, put, remove, start};
-pub use slot::Slot;
+pub use making::{append, count, exists, finish, piece, put, release, remove, start};
+pub use address::BoxAddress;

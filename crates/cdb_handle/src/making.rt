@@ -319,7 +319,7 @@ pub fn piece(alloc: Global, handle: &mut Handle, place: u64, into: &mut [u8]) ->
 }
 
 /// Frees what a handle holds.
-pub fn close(alloc: Global, handle: &mut Handle)
+pub fn release(alloc: Global, handle: &mut Handle)
     ensures { kept_in handle.new ≡ None }
 {
     drop(handle.take(alloc));

@@ -13,15 +13,15 @@ use Rattle.cdb_form.specs.Format.Reading.{pair_at, nth_pair, head_at}
 use Rattle.cdb_form.specs.Views.Pairs.{header_pair}
 use Rattle.cdb_form.specs.declared.header.Header.{Header}
 use Rattle.cdb_read.specs.Lookup.{found_by, lookup_of}
-use Rattle.cdb_read.specs.Views.Search.{TellsSame, probe_slot, StepsFrom, Meets}
+use Rattle.cdb_read.specs.Views.Search.{TellsSame, probe_slot, ProbedFrom, Meets}
 use Rattle.cdb_read.specs.Views.Probing.{ProbeInside, next_probe}
-use Rattle.cdb_read.specs.declared.lookup.search.Step.TheVariants as step
+use Rattle.cdb_read.specs.declared.lookup.search.Probed.TheVariants as step
 use Rattle.cdb_read.specs.declared.lookup.search.Met.TheVariants as met
 use Rattle.cdb_read.specs.declared.span.Span.{Span}
 use Rattle.cdb_read.specs.declared.lookup.probe.Probe.{Probe}
-use Rattle.cdb_read.proofs.Headers.{HasLengths, has_lengths, prefix_pair}
-use Rattle.cdb_read.proofs.Searches.{IsProbeSlot, SameAhead}
-use Rattle.cdb_read.proofs.LookupLaws.{lookup_of-is}
+use Rattle.cdb_read.proofs.Searching.Headers.{HasLengths, has_lengths, prefix_pair}
+use Rattle.cdb_read.proofs.Searching.Searches.{IsProbeSlot, SameAhead}
+use Rattle.cdb_read.proofs.WholeFiles.LookupLaws.{lookup_of-is}
 
 pub slot_here : {w : ℕ} {probe : Probe} {slot : WordPair} (file : List ℕ) → slot ≡ probe_slot w file probe → IsProbeSlot w probe slot (λ b. b ≡ file)
 slot_here {w = w} {probe = probe} file e = record { each = λ b is. e ∙ ap (λ k. probe_slot w k probe) (sym is) }
@@ -69,17 +69,17 @@ looked_up w {n = n} {size = size} {hash = hash} file key p long number is read =
     ap (found_by w file key) at ∙ sym (lookup_of-is w file key)
 
 -- what a probe tells, after probes that passed
-pub meets_empty : {w : ℕ} {key : List ℕ} {from probe : Probe} {images : List ℕ → Type 0} → SameAhead w key from probe images → StepsFrom w key probe step.Empty images → Meets w key from met.End images
+pub meets_empty : {w : ℕ} {key : List ℕ} {from probe : Probe} {images : List ℕ → Type 0} → SameAhead w key from probe images → ProbedFrom w key probe step.Empty images → Meets w key from met.End images
 meets_empty same steps = record { each = λ b is. same.each b is ∙ steps.each b is }
 
-pub meets_broken : {w : ℕ} {key : List ℕ} {from probe : Probe} {images : List ℕ → Type 0} (place : ℕ) → SameAhead w key from probe images → StepsFrom w key probe (step.Broken place) images → Meets w key from (met.Broken place) images
+pub meets_broken : {w : ℕ} {key : List ℕ} {from probe : Probe} {images : List ℕ → Type 0} (place : ℕ) → SameAhead w key from probe images → ProbedFrom w key probe (step.Broken place) images → Meets w key from (met.Broken place) images
 meets_broken place same steps = record { each = λ b is. same.each b is ∙ steps.each b is }
 
-pub meets_value : {w : ℕ} {key : List ℕ} {from probe then : Probe} {images : List ℕ → Type 0} (span : Span) → then ≡ next_probe probe → SameAhead w key from probe images → StepsFrom w key probe (step.Value span) images → Meets w key from (met.Value span then) images
+pub meets_value : {w : ℕ} {key : List ℕ} {from probe then : Probe} {images : List ℕ → Type 0} (span : Span) → then ≡ next_probe probe → SameAhead w key from probe images → ProbedFrom w key probe (step.Value span) images → Meets w key from (met.Value span then) images
 meets_value {w = w} {key = key} {from = from} {probe = probe} {then = then} {images = images} span is same steps =
     subst (λ t. Meets w key from (met.Value span t) images) (sym is) (record { each = λ b here. same.each b here ∙ steps.each b here })
 
-pub same_next : {w : ℕ} {key : List ℕ} {from probe then : Probe} {images : List ℕ → Type 0} → then ≡ next_probe probe → SameAhead w key from probe images → StepsFrom w key probe step.Passed images → SameAhead w key from then images
+pub same_next : {w : ℕ} {key : List ℕ} {from probe then : Probe} {images : List ℕ → Type 0} → then ≡ next_probe probe → SameAhead w key from probe images → ProbedFrom w key probe step.Passed images → SameAhead w key from then images
 same_next {w = w} {key = key} {from = from} {probe = probe} {then = then} {images = images} is same steps =
     subst (λ t. SameAhead w key from t images) (sym is) (record { each = λ b here. same.each b here ∙ steps.each b here })
 

@@ -2,12 +2,12 @@
 ghost use Rattle.std.specs.Prelude.{◌≡◌, ◌<◌, ◌≤◌, length};
 ghost use Rattle.cdb_form.specs.Format.Hash.{key_hash};
 ghost use Rattle.cdb_form.specs.Views.Pairs.{slot_pair};
-ghost use Rattle.cdb_read.specs.Views.Search.{probe_slot, StepsFrom, StepWithin};
+ghost use Rattle.cdb_read.specs.Views.Search.{probe_slot, ProbedFrom, ProbedWithin};
 ghost use Rattle.cdb_read.specs.Views.Search.{Meets, MetWithin, LooksAt, LookWithin};
 ghost use Rattle.cdb_read.specs.Views.Probing.{ProbeInside};
 
 use cdb_form::{Slot, Width, head_size, pair_size, read_header, read_slot};
-use cdb_read::{Look, Met, Probe, Step, has_bytes, spans};
+use cdb_read::{Look, Met, Probe, Probed, has_bytes, spans};
 
 /// The record at a place, as far as a search of a key needs it.
 fn look_at<L: Width>(file: &[u8], place: u64, key: &[u8]) -> Look
@@ -45,24 +45,24 @@ fn slot_at<L: Width>(file: &[u8], probe: Probe) -> Slot
 }
 
 /// One probe of the search of a key by a hash.
-fn make_probe<L: Width>(file: &[u8], probe: Probe, key: &[u8], hash: u64) -> Step
+fn make_probe<L: Width>(file: &[u8], probe: Probe, key: &[u8], hash: u64) -> Probed
     requires inside { ProbeInside L.WORD (length file.now) probe }
     requires left { 0 < probe.left }
     ensures steps { hash ≡ key_hash key.now
-        → StepsFrom L.WORD key.now probe result (λ b. b ≡ file.now) }
-    ensures within { StepWithin (length file.now) result }
+        → ProbedFrom L.WORD key.now probe result (λ b. b ≡ file.now) }
+    ensures within { ProbedWithin (length file.now) result }
 {
     let slot = slot_at::<L>(file, probe);
     if slot.place == 0 {
-        return Step::Empty;
+        return Probed::Empty;
     }
     if slot.hash != hash {
-        return Step::Passed;
+        return Probed::Passed;
     }
     match look_at::<L>(file, slot.place, key) {
-        Look::Broken => Step::Broken(slot.place),
-        Look::Other => Step::Passed,
-        Look::Value(span) => Step::Value(span),
+        Look::Broken => Probed::Broken(slot.place),
+        Look::Other => Probed::Passed,
+        Look::Value(span) => Probed::Value(span),
     }
 }
 
@@ -76,10 +76,10 @@ pub(crate) fn meet<L: Width>(file: &[u8], from: Probe, key: &[u8], hash: u64) ->
     let mut probe = from;
     while probe.left > 0 {
         match make_probe::<L>(file, probe, key, hash) {
-            Step::Empty => return Met::End,
-            Step::Passed => probe = probe.next(),
-            Step::Value(span) => return Met::Value(span, probe.next()),
-            Step::Broken(place) => return Met::Broken(place),
+            Probed::Empty => return Met::End,
+            Probed::Passed => probe = probe.next(),
+            Probed::Value(span) => return Met::Value(span, probe.next()),
+            Probed::Broken(place) => return Met::Broken(place),
         }
     }
     Met::End

@@ -3,14 +3,14 @@ ghost use Rattle.std.specs.Prelude.{◌≡◌, ◌+◌, ◌<◌, ◌≤◌, leng
 ghost use Rattle.cdb_form.specs.Format.Pair.{head_size};
 ghost use Rattle.cdb_form.specs.Format.Walk.{walk_of, walk_from, damaged};
 ghost use Rattle.cdb_form.specs.declared.damage.Damage.TheVariants.{Record};
-ghost use Rattle.cdb_memory.specs.Walks.{rest_of, Begins, StandsPair, GivesPair};
+ghost use Rattle.cdb_memory.specs.Walks.{rest_of, Begins, StandsRecord, GivesRecord};
 
 use cdb_form::{Damage, Width, head_size, pair_size, read_head, read_header};
-use cdb_read::{Pair, has_bytes, spans};
+use cdb_read::{PlacedRecord, has_bytes, spans};
 
 /// Where the records lie that a walk has left.
 #[derive(Clone, Copy, Debug, PartialEq, Eq)]
-pub struct Rest {
+pub struct RecordArea {
     /// The place of the next record, in bytes from the file's start.
     pub place: u64,
     /// The record end.
@@ -19,11 +19,11 @@ pub struct Rest {
 
 /// Where the key and the value of the record at a place lie, if it is whole before the record end
 /// and inside the file.
-fn pair_at<L: Width>(file: &[u8], place: u64, end: u64) -> Option<Pair>
+fn record_at<L: Width>(file: &[u8], place: u64, end: u64) -> Option<PlacedRecord>
     requires { place < end }
     ensures { MatchOption result
         (walk_from L.WORD place end (drop place file.now) ≡ damaged (Record place))
-        (StandsPair L.WORD file.now place end) }
+        (StandsRecord L.WORD file.now place end) }
 {
     let size = file.len() as u64;
     let limit = size.min(end);
@@ -37,7 +37,7 @@ fn pair_at<L: Width>(file: &[u8], place: u64, end: u64) -> Option<Pair>
 }
 
 /// Begins a walk over the records of a file, which has at least a head.
-pub fn first_record<L: Width>(file: &[u8]) -> Result<Rest, Damage>
+pub fn first_record<L: Width>(file: &[u8]) -> Result<RecordArea, Damage>
     requires { head_size L.WORD ≤ length file.now }
     ensures begins { IfOk result (Begins L.WORD file.now) }
     ensures first { IfOk result (λ r. r.place ≡ head_size L.WORD) }
@@ -49,7 +49,7 @@ pub fn first_record<L: Width>(file: &[u8]) -> Result<Rest, Damage>
     if end < place as u64 {
         return Err(Damage::Table(head.first_table_at(end) as u64));
     }
-    Ok(Rest {
+    Ok(RecordArea {
         place: place as u64,
         end,
     })
@@ -60,10 +60,10 @@ pub fn first_record<L: Width>(file: &[u8]) -> Result<Rest, Damage>
 ///
 /// A state that `first_record` or `next_record` didn't leave is safe to pass: the record lies
 /// inside the file. One that has passed its record end has ended.
-pub fn next_record<L: Width>(file: &[u8], rest: &mut Rest) -> Result<Option<Pair>, Damage>
+pub fn next_record<L: Width>(file: &[u8], rest: &mut RecordArea) -> Result<Option<PlacedRecord>, Damage>
     ensures gives { IfOk result (λ found. MatchOption found
         (rest.old.end ≤ rest.old.place)
-        (GivesPair L.WORD file.now rest.old rest.new)) }
+        (GivesRecord L.WORD file.now rest.old rest.new)) }
     ensures damaged { IfErr result (λ d.
         (rest_of L.WORD file.now rest.old ≡ damaged d) × (d ≡ Record rest.old.place)
         × (rest.new ≡ rest.old)) }
@@ -74,7 +74,7 @@ pub fn next_record<L: Width>(file: &[u8], rest: &mut Rest) -> Result<Option<Pair
     if rest.end <= place {
         return Ok(None);
     }
-    match pair_at::<L>(file, place, rest.end) {
+    match record_at::<L>(file, place, rest.end) {
         None => Err(Damage::Record(place)),
         Some(pair) => {
             rest.place = pair.value.place + pair.value.len;

@@ -7,7 +7,7 @@ use Rattle.cdb_form.specs.declared.width.Width.{Ghosts as Widths}
 use Rattle.cdb_form.specs.Format.File.{file_size}
 use Rattle.cdb_form.specs.Format.Record.{KeyValue}
 use Rattle.cdb_form.specs.Format.Walk.{Walked, walk_of, whole_records, damaged, no_walk, with_first, with_records}
-use Rattle.cdb_form.proofs.WalkSteps.{walk_of-short}
+use Rattle.cdb_form.proofs.Files.WalkSteps.{walk_of-short}
 use Rattle.cdb_form.specs.declared.text.fault.TextFault.{TextFault}
 use Rattle.cdb_form.specs.declared.text.fault.TextFault.TheVariants as text
 use Rattle.cdb_form.specs.declared.damage.Damage.{Damage}
@@ -19,8 +19,8 @@ use Rattle.cdb_make.specs.declared.fault.MakeFault.TheVariants as make
 use Rattle.cdb_make.specs.declared.maker.Maker.{Maker}
 use Rattle.cdb_form.specs.declared.mode.Mode.TheVariants.{Add}
 use Rattle.cdb_make.specs.declared.records.put.Put.{Put}
-use Rattle.cdb_make.proofs.EntryLists.{size_push}
-use Rattle.cdb_make.proofs.Makers.{held_size}
+use Rattle.cdb_make.proofs.Entries.EntryLists.{size_push}
+use Rattle.cdb_make.proofs.Making.Makers.{held_size}
 use Rattle.cdb_read.specs.Lookup.{bytes_of}
 use Rattle.cdb_read.specs.Views.Reads.{OpeningFails}
 use Rattle.cdb_read.specs.Views.Walk.{left_of, WalkingFails}

@@ -11,7 +11,7 @@ use Rattle.cdb_form.specs.Format.Record.{KeyValue}
 use Rattle.cdb_form.specs.Format.File.{file_size}
 use Rattle.cdb_form.specs.Text.Amending.{Change, Putting, Removing}
 use Rattle.cdb_form.specs.Views.KnownBytes.{AppendsPrefix}
-use Rattle.cdb_form.proofs.WritingLemmas.{appends_then, prefix_then}
+use Rattle.cdb_form.proofs.Bytes.WritingLemmas.{appends_then, prefix_then}
 use Rattle.cdb_make.specs.Survivors.{put_list, put_answer, fits}
 use Rattle.cdb_make.specs.Views.Batch.{Holds, Held, StaysWhole, Puts, WouldPut, FailsPutting, Removes, FailsRemoving, limit_of, count_in, IsUsable}
 use Rattle.cdb_make.specs.Views.Maker.{WhereHonest, ComesFrom}
@@ -21,8 +21,8 @@ use Rattle.cdb_make.specs.declared.batch.Batch.{Batch}
 use Rattle.cdb_form.specs.declared.mode.Mode.{Mode}
 use Rattle.cdb_make.specs.declared.records.put.Put.{Put}
 use Rattle.cdb_make.specs.declared.records.put.Put.TheVariants.{Added, AddedAgain, Present, Replaced}
-use Rattle.cdb_make.proofs.Batches.{holds_count}
-use Rattle.cdb_make.proofs.BatchPuts.{holds_fits}
+use Rattle.cdb_make.proofs.Making.Batches.{holds_count}
+use Rattle.cdb_make.proofs.Making.BatchPuts.{holds_fits}
 use Rattle.cdb_tool.specs.Views.Fault.{make_fault}
 use Rattle.cdb_tool.specs.Runs.Course.{Task, Incoming, Course, from_input, from_inputs, mode_of, said, ends, is_going, with_put, with_change, with_next, at_start, course_of, TellFails, Goes, StopsSo}
 use Rattle.cdb_tool.specs.Runs.Make.{InCourse, PutStops, IsOfStore, StandsAt, IsHalt, TakesNext}

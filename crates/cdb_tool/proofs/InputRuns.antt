@@ -8,7 +8,7 @@ use Rattle.cdb_form.specs.declared.text.fault.TextFault.TheVariants as fault
 use Rattle.cdb_make.specs.Views.Batch.{Follows}
 use Rattle.cdb_make.specs.Views.Maker.{WhereHonest}
 use Rattle.cdb_make.specs.declared.batch.Batch.{Batch}
-use Rattle.cdb_make.proofs.Following.{follows_same, follows_then}
+use Rattle.cdb_make.proofs.Making.Following.{follows_same, follows_then}
 use Rattle.cdb_tool.specs.Views.Fault.{text_fault}
 use Rattle.cdb_tool.specs.Views.ItemReader.{form_of, Fails}
 use Rattle.cdb_tool.specs.Runs.Course.{Task, Incoming, from_inputs, Goes, StopsSo}

@@ -18,9 +18,9 @@ use Rattle.cdb_form.specs.declared.text.fault.TextFault.TheVariants.{Syntax, End
 use Rattle.cdb_form.specs.declared.text.fault.TextFault.TheVariants as fault
 use Rattle.cdb_form.specs.declared.text.native_reader.TextReader.{TextReader}
 use Rattle.cdb_form.specs.declared.text.source.Source.{Source}
-use Rattle.cdb_form.proofs.WholeMap.{GaveAll, GaveSoFar, gave_so_far_amid, gave_so_far_none, gave_so_far_rest, going_on}
-use Rattle.cdb_form.proofs.WholeMap.{Gave as GaveLines, gave_more as gave_lines_more, gave_all as gave_lines_all}
-use Rattle.cdb_form.proofs.WholeText.{SoFar, so_far_none, so_far_more}
+use Rattle.cdb_form.proofs.MapTexts.WholeMap.{GaveAll, GaveSoFar, gave_so_far_amid, gave_so_far_none, gave_so_far_rest, going_on}
+use Rattle.cdb_form.proofs.MapTexts.WholeMap.{Gave as GaveLines, gave_more as gave_lines_more, gave_all as gave_lines_all}
+use Rattle.cdb_form.proofs.NativeTexts.WholeText.{SoFar, so_far_none, so_far_more}
 use Rattle.cdb_tool.specs.Runs.Inputs.{HasFaultBehind, IsInput, BeginsWith, HasInputFault}
 use Rattle.cdb_command.specs.declared.style.Style.TheVariants as style
 use Rattle.cdb_tool.proofs.NativeInputs.{fault_of_text, fault_of_part}

@@ -12,7 +12,7 @@ use Rattle.cdb_form.specs.declared.text.amend_reader.AmendReader.{AmendReader}
 use Rattle.cdb_form.specs.declared.text.fault.TextFault.{TextFault}
 use Rattle.cdb_form.specs.declared.text.fault.TextFault.TheVariants.{Ended}
 use Rattle.cdb_form.specs.declared.text.fault.TextFault.TheVariants as fault
-use Rattle.cdb_form.proofs.WholeChanges.{SoFar, so_far_none, so_far_more, so_far_fault, so_far_part}
+use Rattle.cdb_form.proofs.NativeTexts.WholeChanges.{SoFar, so_far_none, so_far_more, so_far_fault, so_far_part}
 use Rattle.cdb_tool.specs.Runs.Course.{Task}
 use Rattle.cdb_tool.specs.Runs.Inputs.{InputForm, input_form, HasFaultBehind, HasItemFault, IsInput, BeginsWith, IsInputOf, BeginsWithItems}
 use Rattle.cdb_tool.specs.Runs.Inputs as form

@@ -9,7 +9,7 @@ use Rattle.cdb_form.specs.Views.TextReader.{StopsAmid}
 use Rattle.cdb_form.specs.Views.TextFault.{IsOfText, IsReadFault}
 use Rattle.cdb_form.specs.Views.KnownBytes.{Took}
 use Rattle.cdb_form.specs.Text.Native.{Spells, Spelled, HasFault, HasNoRecord}
-use Rattle.cdb_form.proofs.WholeText.{SoFar, so_far_fault, fault_behind}
+use Rattle.cdb_form.proofs.NativeTexts.WholeText.{SoFar, so_far_fault, fault_behind}
 use Rattle.cdb_tool.specs.Runs.Inputs.{HasFaultBehind}
 
 pub some_weaker : {A : Type 0} {P Q : A → Type 0} (o : Option A) → ((a : A) → P a → Q a) → IfSome o P → IfSome o Q

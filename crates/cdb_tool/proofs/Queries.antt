@@ -11,8 +11,8 @@ use Rattle.cdb_form.specs.declared.damage.Damage.{Damage}
 use Rattle.cdb_form.specs.declared.damage.Damage.TheVariants as damage
 use Rattle.cdb_form.specs.Format.Pair.{head_size}
 use Rattle.cdb_form.specs.Views.KnownBytes.{AppendsPrefix}
-use Rattle.cdb_form.proofs.WritingLemmas.{appends_then, prefix_then}
-use Rattle.cdb_form.proofs.WritingLemmas.{prefix_last}
+use Rattle.cdb_form.proofs.Bytes.WritingLemmas.{appends_then, prefix_then}
+use Rattle.cdb_form.proofs.Bytes.WritingLemmas.{prefix_last}
 use Rattle.cdb_read.specs.Lookup.{Found, bytes_of, lookup_of, with_spans}
 use Rattle.cdb_read.specs.Views.Finder.{left_in, GivesSpan, FindingFails}
 use Rattle.cdb_store.specs.Reads.{OnlyReads}

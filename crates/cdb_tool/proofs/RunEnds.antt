@@ -10,7 +10,7 @@ use Rattle.cdb_form.specs.Format.File.{file_size}
 use Rattle.cdb_form.specs.Format.Walk.{walk_of}
 use Rattle.cdb_form.specs.Text.Amending.{Change}
 use Rattle.cdb_form.specs.Views.KnownBytes.{AppendsPrefix}
-use Rattle.cdb_form.proofs.WritingLemmas.{appends_kept}
+use Rattle.cdb_form.proofs.Bytes.WritingLemmas.{appends_kept}
 use Rattle.cdb_make.specs.Views.Batch as batch
 use Rattle.cdb_make.specs.Views.Maker.{Holds, WhereHonest, ComesFrom, IsFile, limit_of}
 use Rattle.cdb_make.specs.Views.Making.{MakingFault}
@@ -18,7 +18,7 @@ use Rattle.cdb_make.specs.declared.fault.MakeFault.{MakeFault}
 use Rattle.cdb_make.specs.declared.fault.MakeFault.TheVariants as make
 use Rattle.cdb_make.specs.declared.batch.Batch.{Batch}
 use Rattle.cdb_make.specs.declared.maker.Maker.{Maker}
-use Rattle.cdb_make.proofs.Makers.{held_size}
+use Rattle.cdb_make.proofs.Making.Makers.{held_size}
 use Rattle.cdb_tool.specs.Views.Fault.{make_fault}
 use Rattle.cdb_tool.specs.Runs.Flushed.{Flushed}
 use Rattle.cdb_tool.specs.Runs.Course.{Task, task_of, Incoming, from_inputs, course_of, Goes, EndsSo, StopsSo}

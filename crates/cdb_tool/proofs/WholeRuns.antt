@@ -13,8 +13,8 @@ use Rattle.cdb_form.specs.Views.KnownBytes.{AppendsPrefix, FromTo, Took}
 use Rattle.cdb_form.specs.declared.text.native_reader.TextReader.{TextReader}
 use Rattle.cdb_form.specs.Text.Native.{Spelled, Reads, HasFault, HasNoRecord}
 use Rattle.cdb_form.specs.Views.TextFault.{IsOfText, IsReadFault}
-use Rattle.cdb_form.proofs.WholeText.{SoFar, so_far_none, so_far_more}
-use Rattle.cdb_form.proofs.WritingLemmas.{appends_kept}
+use Rattle.cdb_form.proofs.NativeTexts.WholeText.{SoFar, so_far_none, so_far_more}
+use Rattle.cdb_form.proofs.Bytes.WritingLemmas.{appends_kept}
 use Rattle.cdb_store.specs.declared.store.Store.{Ghosts}
 use Rattle.cdb_form.specs.declared.width.Width.{Ghosts as Widths}
 use Rattle.cdb_make.specs.Views.Maker.{Holds, FailsPutting, limit_of}

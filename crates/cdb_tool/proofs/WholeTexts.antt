@@ -15,8 +15,8 @@ use Rattle.cdb_form.specs.declared.damage.Damage.{Damage}
 use Rattle.cdb_form.specs.declared.damage.Damage.TheVariants as file_damage
 use Rattle.cdb_form.specs.declared.walk.fault.WalkFault.{WalkFault}
 use Rattle.cdb_form.specs.declared.walk.fault.WalkFault.TheVariants as walk
-use Rattle.cdb_form.proofs.WalkText.{walked, gave_more, gave_all, gave_before, gave_prefix, from_then, gave_none, ReadSoFar, read_none, read_more, read_all}
-use Rattle.cdb_form.proofs.WritingLemmas.{appends_then, appends_kept, prefix_then}
+use Rattle.cdb_form.proofs.RecordReading.WalkText.{walked, gave_more, gave_all, gave_before, gave_prefix, from_then, gave_none, ReadSoFar, read_none, read_more, read_all}
+use Rattle.cdb_form.proofs.Bytes.WritingLemmas.{appends_then, appends_kept, prefix_then}
 use Rattle.cdb_tool.specs.Views.Fault.{walk_fault}
 use Rattle.cdb_tool.specs.Runs.Flushed.{Flushed}
 use Rattle.cdb_tool.specs.Runs.Form.{Form, IsHeld}

@@ -11,11 +11,11 @@ use Rattle.cdb_form.specs.Format.Record.{KeyValue, IsRecord}
 use Rattle.cdb_form.specs.Views.KnownBytes.{AppendsPrefix}
 use Rattle.cdb_form.specs.declared.damage.Damage.{Damage}
 use Rattle.cdb_form.specs.declared.width.Width.{Ghosts as Widths}
-use Rattle.cdb_form.proofs.WritingLemmas.{appends_then, prefix_then}
+use Rattle.cdb_form.proofs.Bytes.WritingLemmas.{appends_then, prefix_then}
 use Rattle.cdb_make.specs.Views.Maker.{Holds, IsFile}
 use Rattle.cdb_make.specs.declared.maker.Maker.{Maker}
-use Rattle.cdb_make.proofs.Makers.{held_size}
-use Rattle.cdb_read.proofs.LookupLaws.{finds_values}
+use Rattle.cdb_make.proofs.Making.Makers.{held_size}
+use Rattle.cdb_read.proofs.WholeFiles.LookupLaws.{finds_values}
 use Rattle.cdb_read.specs.Laws.{FindsValues}
 use Rattle.cdb_read.specs.Lookup.{Found, nothing_found, found_damaged, with_span, with_spans, bytes_of, lookup_of}
 use Rattle.cdb_read.specs.Values.{values_of}

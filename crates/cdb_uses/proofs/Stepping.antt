@@ -21,7 +21,7 @@ use Rattle.cdb_make.specs.declared.fault.MakeFault.{MakeFault}
 use Rattle.cdb_make.specs.declared.fault.MakeFault.TheVariants.{Broken, Lookup, TooBig, NoMemory, Writing}
 use Rattle.cdb_make.specs.declared.maker.Maker.{Maker}
 use Rattle.cdb_make.specs.declared.records.put.Put.{Put}
-use Rattle.cdb_make.proofs.Makers.{held_size}
+use Rattle.cdb_make.proofs.Making.Makers.{held_size}
 use Rattle.cdb_uses.specs.Steps.{HoldsWhole, Meets, MeetsStep, Runs, Stage, Tries, TriesCall, TriesStep, after, answers_of, answered, left_by, stage_of, takes_out, whole}
 use Rattle.cdb_uses.specs.declared.steps.Step.{Step}
 use Rattle.cdb_uses.specs.declared.steps.Step.TheVariants as kind

@@ -15,15 +15,15 @@ use Rattle.cdb_form.specs.Format.Record.{KeyValue, record_size}
 use Rattle.cdb_form.specs.Format.Walk.{Walked, prefix_record, prefix_size, has_slots, least_place, record_end, walk_from, walk_of, whole_records}
 use Rattle.cdb_form.specs.Views.Pairs.{PairFits}
 use Rattle.cdb_form.specs.declared.damage.Damage.TheVariants.{Table}
-use Rattle.cdb_form.proofs.Prefixes.{all_records, fits_prefix}
-use Rattle.cdb_form.proofs.ReadBack.{map-nth_pair, nth_pair-flat_map}
-use Rattle.cdb_form.proofs.WalkSteps.{walk_from-is, walk_of-records, walk_with}
+use Rattle.cdb_form.proofs.Files.Prefixes.{all_records, fits_prefix}
+use Rattle.cdb_form.proofs.Bytes.ReadBack.{map-nth_pair, nth_pair-flat_map}
+use Rattle.cdb_form.proofs.Files.WalkSteps.{walk_from-is, walk_of-records, walk_with}
 use Rattle.cdb_make.specs.Unfinished.{unfinished_head}
 use Rattle.cdb_read.specs.Faults.{first_fault, first_of, table_fault, fault_if, slots_fault, entry_fault}
 use Rattle.cdb_read.specs.Lookup.{found_by, lookup_of, is_inside, found_damaged}
 use Rattle.cdb_read.specs.Sound.{walk_entries}
-use Rattle.cdb_read.proofs.LookupLaws.{lookup_of-is}
-use Rattle.cdb_read.proofs.FaultSteps.{first_of-cons}
+use Rattle.cdb_read.proofs.WholeFiles.LookupLaws.{lookup_of-is}
+use Rattle.cdb_read.proofs.Checks.FaultSteps.{first_of-cons}
 use Rattle.cdb_uses.specs.Unfinished.{IsDamaged, broken_off}
 
 -- the pointer whose bytes are all ones

@@ -8,7 +8,7 @@ use Rattle.cdb_make.specs.Survivors.{survivors}
 use Rattle.cdb_make.specs.Survivors.Call.{Putting, Removing}
 use Rattle.cdb_make.specs.declared.fault.MakeFault.TheVariants.{NoMemory, TooBig, Writing}
 use Rattle.cdb_form.specs.declared.mode.Mode.TheVariants.{Add, Insert, Replace}
-use Rattle.cdb_make.proofs.Puts.{not_present}
+use Rattle.cdb_make.proofs.Making.Puts.{not_present}
 use Rattle.cdb_uses.specs.Steps.{Answers, answer_of, whole}
 
 -- a record of one byte each

@@ -15,8 +15,8 @@ use Rattle.cdb_make.specs.declared.fault.MakeFault.TheVariants.{Broken, Lookup, 
 use Rattle.cdb_make.specs.declared.fault.MakeFault.TheVariants.{Writing}
 use Rattle.cdb_make.specs.declared.maker.Maker.{Maker}
 use Rattle.cdb_make.specs.declared.records.put.Put.TheVariants.{Present}
-use Rattle.cdb_uses.specs.declared.changes.Change.{Change}
-use Rattle.cdb_uses.specs.declared.changes.Change.TheVariants.{Put, Remove}
+use Rattle.cdb_uses.specs.declared.edits.Edit.{Edit}
+use Rattle.cdb_uses.specs.declared.edits.Edit.TheVariants.{Put, Remove}
 use Rattle.cdb_uses.specs.declared.steps.Step.{Step}
 use Rattle.cdb_uses.specs.declared.steps.Step.TheVariants as kind
 
@@ -31,7 +31,7 @@ abbrev pub whole : ℕ → Stage
 whole failures = record { broken = false; failures = failures }
 
 -- the call of a maker that makes a change
-abbrev pub call_of : Change → Call
+abbrev pub call_of : Edit → Call
 call_of (Put mode r) = Putting mode (key_value r)
 call_of (Remove key) = Removing key.items
 
@@ -81,7 +81,7 @@ Refuses (Some Writing) n new = (n < new.failures) × (new.broken ≡ false)
 Refuses fault n new = ⊥
 
 abbrev pub AnswersStep : ℕ → ℕ → List KeyValue → Step → Option MakeFault → ℕ → Stage → Type 0
-AnswersStep w limit rs (kind.Change change) fault n new =
+AnswersStep w limit rs (kind.Edit change) fault n new =
     Answers w limit rs (call_of change) fault n new
 AnswersStep w limit rs kind.Finish fault n new = Refuses fault n new
 
@@ -108,7 +108,7 @@ answer_of call fault = record { call = call; done = is_done fault }
 
 -- the call of a step; a finish that is refused is none
 abbrev pub answers_of : Step → Option MakeFault → List Answered
-answers_of (kind.Change change) fault = answer_of (call_of change) fault ∷ []
+answers_of (kind.Edit change) fault = answer_of (call_of change) fault ∷ []
 answers_of kind.Finish fault = []
 
 -- the calls of the steps that were made

@@ -3,7 +3,7 @@
 #![tactic(auto)]
 
 mod ask;
-mod changes;
+mod edits;
 mod check;
 mod files;
 mod form;
@@ -13,7 +13,7 @@ mod steps;
 mod unfinished;
 
 pub use ask::{AskFault, write_finished};
-pub use changes::Change;
+pub use changes::Edit;
 pub use check::open_checked;
 pub use files::make_and_get;
 pub use form::first_record;

@@ -9,7 +9,7 @@ ghost use Rattle.cdb_uses.specs.Steps.{HoldsWhole, left_by};
 ghost use Rattle.cdb_uses.specs.declared.ask.AskFault.TheVariants.{Make};
 
 use crate::ask::AskFault;
-use crate::changes::{Change, make_change};
+use crate::edits::{Edit, make_edit};
 use crate::read::write_values;
 use cdb_form::Width;
 use cdb_make::{MakeFault, Maker};
@@ -22,7 +22,7 @@ use std::io::Write;
 #[derive(Debug, Drop)]
 pub enum Step {
     /// Its records are changed.
-    Change(Change),
+    Edit(Edit),
     /// It is finished. If that succeeds, the steps after it are not made.
     Finish,
 }
@@ -63,8 +63,8 @@ fn make_step<S: Store, L: Width>(maker: Maker<S, L>, step: &Step) -> Stepped<S, 
 {
     let mut maker = maker;
     match step {
-        Step::Change(change) => {
-            let fault = make_change(&mut maker, change);
+        Step::Edit(change) => {
+            let fault = make_edit(&mut maker, change);
             Stepped::GoesOn(maker, fault)
         }
         Step::Finish => match maker.finish() {

@@ -9,7 +9,7 @@ use cdb_make::{MakeFault, Maker, Mode};
 use cdb_read::ReadFault;
 use cdb_store::{FuseStore, MemStore};
 use cdb_uses::{
-    AskFault, Built, Change, Step, build_and_ask, file_of_latest, first_record, make_and_get,
+    AskFault, Built, Edit, Step, build_and_ask, file_of_latest, first_record, make_and_get,
     open_checked, write_finished,
 };
 use std::alloc::Global;
@@ -107,10 +107,10 @@ fn changes(alloc: Global, rows: &[(Option<Mode>, &[u8], &[u8])]) -> Result<Vec<S
     let mut steps = Vec::new(alloc);
     for (mode, key, value) in rows {
         let change = match mode {
-            Some(mode) => Change::Put(*mode, pair(alloc, key, value)?),
-            None => Change::Remove(key.to_vec(alloc)?),
+            Some(mode) => Edit::Put(*mode, pair(alloc, key, value)?),
+            None => Edit::Remove(key.to_vec(alloc)?),
         };
-        steps.push(Step::Change(change))?;
+        steps.push(Step::Edit(change))?;
     }
     Ok(steps)
 }

@@ -1,10 +1,10 @@
 // Whether a create takes a base.
 ghost use Rattle.std.specs.Prelude.{◌≡◌, ◌++◌, codes, bytes_eq, option_map, unwrap_or, true, false};
 ghost use Rattle.cdb_command.specs.Line.{names_in, given_in};
-ghost use Rattle.cdb_command.specs.Rules.{is_stream, writes_out, is_built_in, takes_base};
+ghost use Rattle.cdb_command.specs.Rules.{is_hyphen, writes_out, is_built_in, takes_base};
 
 use crate::line::Line;
-use crate::rules::names::is_stream;
+use crate::rules::names::is_hyphen;
 
 /// Whether a file has the name of the temporary file that is made if none is given.
 fn is_default(name: &str, file: &str) -> bool
@@ -21,7 +21,7 @@ fn writes_out(names: Option<&[&str]>) -> bool
     ensures { result ≡ writes_out (names_in names.entry) }
 {
     match names {
-        Some([name, ..]) => is_stream(name),
+        Some([name, ..]) => is_hyphen(name),
         _ => false,
     }
 }
@@ -43,7 +43,7 @@ fn takes(line: &Line<'_, '_>, base: &str) -> bool
     ensures { result ≡ takes_base (given_in line.now) base.now }
 {
     if let Some(temporary) = line.temporary
-        && is_stream(temporary)
+        && is_hyphen(temporary)
     {
         return false;
     }

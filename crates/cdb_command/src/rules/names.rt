@@ -2,7 +2,7 @@
 ghost use Rattle.std.specs.Prelude.{◌≡◌, map, option_map};
 ghost use Rattle.cdb_command.specs.Line.{names_in};
 ghost use Rattle.cdb_command.specs.Asked.{map_ok};
-ghost use Rattle.cdb_command.specs.Rules.{is_stream, two_names, file_named, one_name, first_name};
+ghost use Rattle.cdb_command.specs.Rules.{is_hyphen, two_names, file_named, one_name, first_name};
 
 use crate::usage::Usage;
 
@@ -17,8 +17,8 @@ pub(crate) fn two_names<'a>(names: Option<&[&'a str]>) -> Result<(&'a str, &'a s
 }
 
 /// Whether a name is that of a standard stream.
-pub(crate) fn is_stream(name: &str) -> bool
-    ensures { result ≡ is_stream name.now }
+pub(crate) fn is_hyphen(name: &str) -> bool
+    ensures { result ≡ is_hyphen name.now }
 {
     name == "-"
 }
@@ -27,7 +27,7 @@ pub(crate) fn is_stream(name: &str) -> bool
 fn file_named(name: &str) -> Option<&str>
     ensures { option_map (λ s. s.now) result ≡ file_named name.entry.now }
 {
-    if is_stream(name) { None } else { Some(name) }
+    if is_hyphen(name) { None } else { Some(name) }
 }
 
 /// The file to be read: standard input if there is no name. `Names` if there are several.

@@ -11,7 +11,7 @@ use Rattle.cdb_form.specs.Views.WalkFault.{IsDamage, stopped_by}
 use Rattle.cdb_form.specs.declared.record.Record.{Record}
 use Rattle.cdb_form.specs.declared.walk.keeping.Keeping.{Keeping}
 use Rattle.cdb_form.specs.declared.walk.fault.WalkFault.{WalkFault}
-use Rattle.cdb_form.specs.declared.walk.record_area.Area.{Area}
+use Rattle.cdb_form.specs.declared.walk.record_area.RecordArea.{RecordArea}
 use Rattle.cdb_form.specs.declared.walk.record_reader.RecordReader.{RecordReader}
 use Rattle.cdb_form.specs.declared.walk.record_reader.Progress.{Progress}
 use Rattle.cdb_form.specs.declared.walk.record_reader.Progress.TheVariants.{AtHead, At, AtEnd}
@@ -85,7 +85,7 @@ HasFailed t fault = t.walking ≡ Failed fault
 -- the next record is whole at hand, as n bytes there, and ends before the record end or at it
 pub record HasPeeked {R L : Type 0} (w : ℕ) (held : R → List ℕ) (t : RecordReader R L) (n : ℕ)
     (r : KeyValue) : Type 0 where
-  pub area : Area
+  pub area : RecordArea
   pub going : t.walking ≡ At area
   pub begins : IsStored w (take (area.end - area.place) (held t.reader)) n r
 

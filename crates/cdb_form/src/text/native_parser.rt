@@ -12,9 +12,9 @@ ghost use Rattle.cdb_form.specs.Views.NativeParser.{FailsEntry, FailsItem, Reads
 ghost use Rattle.cdb_form.specs.Views.NativeParser.{Leaves};
 ghost use Rattle.cdb_form.specs.Views.Source.{budget};
 ghost use Rattle.cdb_form.specs.Views.Pairs.{change_in, key_value};
-ghost use Rattle.cdb_form.specs.declared.item.ItemKind.TheVariants.{Remove};
+ghost use Rattle.cdb_form.specs.declared.change.ChangeKind.TheVariants.{Remove};
 
-use crate::item::ItemKind;
+use crate::change::ChangeKind;
 use crate::record::Record;
 use crate::text::fault::TextFault;
 use crate::text::source::Source;
@@ -170,7 +170,7 @@ impl<R: Read> Source<R> {
         into: &mut Record,
         greatest: u64,
         removals: bool,
-    ) -> Result<Option<ItemKind>, TextFault>
+    ) -> Result<Option<ChangeKind>, TextFault>
         requires least { 9 ≤ greatest }
         requires most { greatest < 2 ^ 63 }
         ensures read { IfOk result (λ found. MatchOption found
@@ -193,11 +193,11 @@ impl<R: Read> Source<R> {
             Some(b'\n') => Ok(None),
             Some(b'+') => {
                 self.record(into, greatest)?;
-                Ok(Some(ItemKind::Put))
+                Ok(Some(ChangeKind::Put))
             }
             Some(b'-') if removals => {
                 self.removal(into, greatest)?;
-                Ok(Some(ItemKind::Remove))
+                Ok(Some(ChangeKind::Remove))
             }
             Some(_) => Err(TextFault::Syntax(start)),
         }

@@ -13,7 +13,7 @@ use crate::pair::pair_size;
 use crate::record::Record;
 use crate::walk::fault::WalkFault;
 use crate::walk::keeping::Keeping;
-use crate::walk::record_area::Area;
+use crate::walk::record_area::RecordArea;
 use crate::walk::source::{record_body, record_header};
 use crate::width::Width;
 use std::io::Read;
@@ -23,9 +23,9 @@ use std::io::Read;
 pub(crate) fn read_record<R: Read, L: Width>(
     reader: &mut R,
     into: &mut Record,
-    area: Area,
+    area: RecordArea,
     keeping: Keeping,
-) -> Result<Area, WalkFault>
+) -> Result<RecordArea, WalkFault>
     requires { area.place < area.end }
     ensures record { IfOk result (λ behind. (r : KeyValue) × IsKept keeping into.new r
         × (behind.place ≡ area.place + record_size L.WORD r)
@@ -61,7 +61,7 @@ pub(crate) fn read_record<R: Read, L: Width>(
     }
     record_body(reader, into, header, keeping, early)?;
     let place = area.place + size as u64 + header.klen + header.vlen;
-    Ok(Area {
+    Ok(RecordArea {
         place,
         end: area.end,
     })

@@ -15,14 +15,14 @@ use std::io::Read;
 
 /// Where the records lie that weren't given yet: from the next place to the record end.
 #[derive(Clone, Copy)]
-pub(crate) struct Area {
+pub(crate) struct RecordArea {
     pub(crate) place: u64,
     pub(crate) end: u64,
     pub(crate) ghost ordered: { place ≤ end },
 }
 
 /// Reads the head, which says where the records end.
-pub(crate) fn read_area<R: Read, L: Width>(reader: &mut R) -> Result<Area, WalkFault>
+pub(crate) fn read_area<R: Read, L: Width>(reader: &mut R) -> Result<RecordArea, WalkFault>
     ensures area { IfOk result (λ area.
         FromTo (R.remaining reader.old) (R.remaining reader.new) (λ text rest.
         (walk_of L.WORD text ≡ walk_from L.WORD area.place area.end rest)
@@ -43,5 +43,5 @@ pub(crate) fn read_area<R: Read, L: Width>(reader: &mut R) -> Result<Area, WalkF
     if end < place {
         return Err(WalkFault::Table(head.first_table_at(end) as u64));
     }
-    Ok(Area { place, end })
+    Ok(RecordArea { place, end })
 }

@@ -22,7 +22,7 @@ use crate::walk::fault::WalkFault;
 use crate::walk::keeping::Keeping;
 use crate::walk::next_record::read_record;
 use crate::walk::prefix::stored_record;
-use crate::walk::record_area::{Area, read_area};
+use crate::walk::record_area::{RecordArea, read_area};
 use crate::width::Width;
 use std::alloc::Global;
 use std::io::Read;
@@ -32,7 +32,7 @@ use std::marker::PhantomData;
 #[derive(Clone, Copy)]
 pub(crate) enum Progress {
     AtHead,
-    At(Area),
+    At(RecordArea),
     AtEnd,
     Failed(WalkFault),
 }
@@ -144,7 +144,7 @@ impl<R: Read, L: Width> RecordReader<R, L> {
     {
         if let Progress::At(area) = self.walking {
             A::take(&mut self.reader, len);
-            self.walking = Progress::At(Area {
+            self.walking = Progress::At(RecordArea {
                 place: area.place + len as u64,
                 end: area.end,
             });
@@ -220,7 +220,7 @@ impl<R: Read, L: Width> RecordReader<R, L> {
     fn record_at(
         &mut self,
         into: &mut Record,
-        area: Area,
+        area: RecordArea,
         keeping: Keeping,
     ) -> Result<bool, WalkFault>
         ensures record { IfOk result (λ given. OnTrue given

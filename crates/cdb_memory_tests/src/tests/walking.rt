@@ -1,19 +1,19 @@
 // Walks: records in order, damage, and states that nobody left.
 use super::files::{changed, four_file, two_file, wide_file};
 use cdb_form::{Damage, Narrow, Wide, Width, head_size};
-use cdb_memory::{Pair, Rest, Span, first_record, next_record};
+use cdb_memory::{PlacedRecord, RecordArea, Span, first_record, next_record};
 use std::prelude::*;
 use std::test::Fail;
 
 /// What a call of `next_record` answers.
-type Answer = Result<Option<Pair>, Damage>;
+type Answer = Result<Option<PlacedRecord>, Damage>;
 
 /// That the walk has ended.
 const NONE: Answer = Ok(None);
 
 /// A record: its place, the place and the length of its key, and those of its value.
 fn pair(place: u64, key: (u64, u64), value: (u64, u64)) -> Answer {
-    Ok(Some(Pair {
+    Ok(Some(PlacedRecord {
         place,
         key: Span {
             place: key.0,
@@ -109,7 +109,7 @@ fn a_damage_ends_a_walk_and_stays(rt: HostRuntime) -> Result<(), Fail> {
 #[test]
 fn a_made_up_walk_is_inside_or_damage(rt: HostRuntime) -> Result<(), Fail> {
     let file = two_file(rt.alloc())?;
-    let far = Rest {
+    let far = RecordArea {
         place: u64::MAX - 1,
         end: u64::MAX,
     };
@@ -119,12 +119,12 @@ fn a_made_up_walk_is_inside_or_damage(rt: HostRuntime) -> Result<(), Fail> {
         answer == Err(Damage::Record(u64::MAX - 1)) && rest == far,
         "far away"
     );
-    let mut rest = Rest { place: 9, end: 3 };
+    let mut rest = RecordArea { place: 9, end: 3 };
     assert!(rt;
         next_record::<Narrow>(&file, &mut rest) == NONE,
         "past its end"
     );
-    let mut rest = Rest {
+    let mut rest = RecordArea {
         place: 2064,
         end: u64::MAX,
     };

@@ -16,8 +16,8 @@ use Rattle.cdb_read.specs.declared.lookup.key_at.Look.{Look}
 use Rattle.cdb_read.specs.declared.lookup.key_at.Look.TheVariants as look
 use Rattle.cdb_read.specs.declared.lookup.search.Met.{Met}
 use Rattle.cdb_read.specs.declared.lookup.search.Met.TheVariants as met
-use Rattle.cdb_read.specs.declared.lookup.search.Step.{Step}
-use Rattle.cdb_read.specs.declared.lookup.search.Step.TheVariants as step
+use Rattle.cdb_read.specs.declared.lookup.search.Probed.{Probed}
+use Rattle.cdb_read.specs.declared.lookup.search.Probed.TheVariants as step
 use Rattle.cdb_read.specs.declared.lookup.probe.Searching.{Searching}
 use Rattle.cdb_read.specs.declared.lookup.probe.Searching.TheVariants.{At, AtEnd, NoTable, NoRecord}
 use Rattle.cdb_read.specs.declared.lookup.probe.Probe.{Probe}
@@ -62,7 +62,7 @@ LookWithin size (look.Value span) = span.place + span.len ≤ size
 LookWithin size _ = Unit {0}
 
 -- what a probe tells of what is left of the look-up
-abbrev pub StepTells : ℕ → List ℕ → Probe → Step → List ℕ → Type 0
+abbrev pub StepTells : ℕ → List ℕ → Probe → Probed → List ℕ → Type 0
 StepTells w key probe step.Empty b = found_ahead w b key (At probe) ≡ nothing_found
 StepTells w key probe step.Passed b =
     found_ahead w b key (At probe) ≡ found_ahead w b key (At (next_probe probe))
@@ -71,13 +71,13 @@ StepTells w key probe (step.Value span) b =
 StepTells w key probe (step.Broken place) b =
     found_ahead w b key (At probe) ≡ found_damaged (damage.Record place)
 
-pub record StepsFrom (w : ℕ) (key : List ℕ) (probe : Probe) (step : Step) (images : List ℕ → Type 0)
+pub record ProbedFrom (w : ℕ) (key : List ℕ) (probe : Probe) (step : Probed) (images : List ℕ → Type 0)
     : Type 0 where
   pub each : (b : List ℕ) → images b → StepTells w key probe step b
 
-abbrev pub StepWithin : ℕ → Step → Type 0
-StepWithin size (step.Value span) = span.place + span.len ≤ size
-StepWithin size other = Unit {0}
+abbrev pub ProbedWithin : ℕ → Probed → Type 0
+ProbedWithin size (step.Value span) = span.place + span.len ≤ size
+ProbedWithin size other = Unit {0}
 
 -- what some probes tell
 abbrev pub MetTells : ℕ → List ℕ → Probe → Met → List ℕ → Type 0

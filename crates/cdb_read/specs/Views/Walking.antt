@@ -8,17 +8,17 @@ use Rattle.cdb_form.specs.Format.Walk.{Walked, walk_from, no_walk, damaged, with
 use Rattle.cdb_form.specs.Format.Walk.{whole_records}
 use Rattle.cdb_store.specs.Images.{part}
 use Rattle.cdb_read.specs.Lookup.{bytes_of}
-use Rattle.cdb_read.specs.declared.walking.state.Rest.{Rest}
+use Rattle.cdb_read.specs.declared.walking.state.RecordArea.{RecordArea}
 use Rattle.cdb_read.specs.declared.walking.state.Walking.{Walking}
 use Rattle.cdb_read.specs.declared.walking.state.Walking.TheVariants.{At, AtEnd, NoTable, NoRecord}
-use Rattle.cdb_read.specs.declared.span.Pair.{Pair}
+use Rattle.cdb_read.specs.declared.span.PlacedRecord.{PlacedRecord}
 
 -- the record of a pair
-abbrev pub record_in : List ℕ → Pair → KeyValue
+abbrev pub record_in : List ℕ → PlacedRecord → KeyValue
 record_in b pair = record { key = bytes_of b pair.key; value = bytes_of b pair.value }
 
 -- the place behind it
-abbrev pub behind : Pair → ℕ
+abbrev pub behind : PlacedRecord → ℕ
 behind pair = pair.value.place + pair.value.len
 
 -- what a walk gives from where it stands
@@ -41,32 +41,32 @@ size_ahead (At rest) = rest.end - rest.place
 size_ahead other = 0
 
 -- the key lies behind the header at a place, and the value behind the key
-pub record LiesAt (w place : ℕ) (pair : Pair) : Type 0 where
+pub record LiesAt (w place : ℕ) (pair : PlacedRecord) : Type 0 where
   pub here : pair.place ≡ place
   pub key : pair.key.place ≡ pair.place + pair_size w
   pub value : pair.value.place ≡ pair.key.place + pair.key.len
 
 -- what a look at the next place tells of some bytes
-abbrev pub StandsTells : ℕ → Rest → Option Pair → List ℕ → Type 0
+abbrev pub StandsTells : ℕ → RecordArea → Option PlacedRecord → List ℕ → Type 0
 StandsTells w rest None b =
     walk_from w rest.place rest.end (drop rest.place b) ≡ damaged (damage.Record rest.place)
 StandsTells w rest (Some pair) b =
     walk_from w rest.place rest.end (drop rest.place b)
     ≡ with_first (record_in b pair) (walk_from w (behind pair) rest.end (drop (behind pair) b))
 
-pub record StandsAt (w : ℕ) (rest : Rest) (found : Option Pair) (images : List ℕ → Type 0)
+pub record StandsAt (w : ℕ) (rest : RecordArea) (found : Option PlacedRecord) (images : List ℕ → Type 0)
     : Type 0 where
   pub each : (b : List ℕ) → images b → StandsTells w rest found b
 
 -- a record that was found lies there, before the record end and inside a file of so many bytes
-pub record PairWithin (w : ℕ) (rest : Rest) (size : ℕ) (pair : Pair) : Type 0 where
+pub record RecordWithin (w : ℕ) (rest : RecordArea) (size : ℕ) (pair : PlacedRecord) : Type 0 where
   pub lies : LiesAt w rest.place pair
   pub before : behind pair ≤ rest.end
   pub inside : behind pair ≤ size
 
-abbrev pub StandsWithin : ℕ → Rest → ℕ → Option Pair → Type 0
+abbrev pub StandsWithin : ℕ → RecordArea → ℕ → Option PlacedRecord → Type 0
 StandsWithin w rest size None = Unit {0}
-StandsWithin w rest size (Some pair) = PairWithin w rest size pair
+StandsWithin w rest size (Some pair) = RecordWithin w rest size pair
 
 -- the bytes of whole records, at most m bytes, that are at the start of some bytes
 abbrev pub records_length : ℕ → ℕ → List ℕ → ℕ
@@ -74,7 +74,7 @@ records_length w m bytes = sum_by (record_size w) (whole_records w m (take m byt
 
 -- the first n bytes of some are whole records from the next place on, before the record end, and all
 -- that are whole within as many bytes
-pub record RecordsAhead (w : ℕ) (rest : Rest) (bytes : List ℕ) (images : List ℕ → Type 0) (n : ℕ)
+pub record RecordsAhead (w : ℕ) (rest : RecordArea) (bytes : List ℕ) (images : List ℕ → Type 0) (n : ℕ)
     : Type 0 where
   pub few : n ≤ length bytes
   pub room : n ≤ rest.end - rest.place

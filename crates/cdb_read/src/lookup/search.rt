@@ -4,7 +4,7 @@ ghost use Rattle.cdb_form.specs.Format.Hash.{key_hash};
 ghost use Rattle.cdb_form.specs.Views.Pairs.{slot_pair};
 ghost use Rattle.cdb_store.specs.Reads.{OnlyReads};
 ghost use Rattle.cdb_read.specs.Views.Reads.{StoreFails};
-ghost use Rattle.cdb_read.specs.Views.Search.{probe_slot, StepsFrom, StepWithin, Meets, MetWithin};
+ghost use Rattle.cdb_read.specs.Views.Search.{probe_slot, ProbedFrom, ProbedWithin, Meets, MetWithin};
 ghost use Rattle.cdb_read.specs.Views.Probing.{ProbeInside};
 ghost use Rattle.cdb_read.specs.Views.Window.{Shows};
 
@@ -22,7 +22,7 @@ const SLOTS_AHEAD: usize = 64;
 
 /// What one probe of a search comes to.
 #[derive(Clone, Copy)]
-pub enum Step {
+pub enum Probed {
     /// The slot is empty, and ends the search.
     Empty,
     /// Its record has another key.
@@ -78,7 +78,7 @@ fn make_probe<S: Store, L: Width>(
     slots: &mut Window,
     window: &mut Window,
     ahead: usize,
-) -> Result<Step, ReadFault>
+) -> Result<Probed, ReadFault>
     requires inside { ProbeInside L.WORD (S.size store.old) probe }
     requires left { 0 < probe.left }
     requires hash { hash ≡ key_hash key.now }
@@ -87,22 +87,22 @@ fn make_probe<S: Store, L: Width>(
     requires slots { Shows slots.old (S.image store.old) }
     ensures shows { Shows window.new (S.image store.new) }
     ensures slots { Shows slots.new (S.image store.new) }
-    ensures steps { IfOk result (λ step. StepsFrom L.WORD key.now probe step (S.image store.new)) }
-    ensures within { IfOk result (StepWithin (S.size store.new)) }
+    ensures steps { IfOk result (λ step. ProbedFrom L.WORD key.now probe step (S.image store.new)) }
+    ensures within { IfOk result (ProbedWithin (S.size store.new)) }
     ensures reads { OnlyReads S.Store store.old store.new }
     ensures fails { IfErr result (StoreFails S.Store store.old store.new) }
 {
     let slot = read_probe::<S, L>(store, probe, slots, ahead)?;
     if slot.place == 0 {
-        return Ok(Step::Empty);
+        return Ok(Probed::Empty);
     }
     if slot.hash != hash {
-        return Ok(Step::Passed);
+        return Ok(Probed::Passed);
     }
     match look_at::<S, L>(store, slot.place, key, window, ahead)? {
-        Look::Broken => Ok(Step::Broken(slot.place)),
-        Look::Other => Ok(Step::Passed),
-        Look::Value(span) => Ok(Step::Value(span)),
+        Look::Broken => Ok(Probed::Broken(slot.place)),
+        Look::Other => Ok(Probed::Passed),
+        Look::Value(span) => Ok(Probed::Value(span)),
     }
 }
 
@@ -132,10 +132,10 @@ pub(crate) fn next_met<S: Store, L: Width>(
     let mut probe = from;
     while probe.left > 0 {
         match make_probe::<S, L>(store, probe, key, hash, slots, window, ahead)? {
-            Step::Empty => return Ok(Met::End),
-            Step::Passed => probe = probe.next(),
-            Step::Value(span) => return Ok(Met::Value(span, probe.next())),
-            Step::Broken(place) => return Ok(Met::Broken(place)),
+            Probed::Empty => return Ok(Met::End),
+            Probed::Passed => probe = probe.next(),
+            Probed::Value(span) => return Ok(Met::Value(span, probe.next())),
+            Probed::Broken(place) => return Ok(Met::Broken(place)),
         }
     }
     Ok(Met::End)

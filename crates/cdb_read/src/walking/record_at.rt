@@ -6,19 +6,19 @@ ghost use Rattle.cdb_read.specs.Views.Walking.{StandsAt, StandsWithin};
 ghost use Rattle.cdb_read.specs.Views.Window.{Shows};
 
 use crate::fault::ReadFault;
-use crate::span::{Pair, has_bytes, spans};
-use crate::walking::state::Rest;
+use crate::span::{PlacedRecord, has_bytes, spans};
+use crate::walking::state::RecordArea;
 use crate::window::{WINDOW, Window};
 use cdb_form::{Width, pair_size, read_header};
 use cdb_store::Store;
 
 /// Where the key and the value of the next record lie, if it is whole before the record end and
 /// before the end of the file.
-pub(crate) fn pair_at<S: Store, L: Width>(
+pub(crate) fn record_at<S: Store, L: Width>(
     store: &mut S,
     window: &mut Window,
-    rest: Rest,
-) -> Result<Option<Pair>, ReadFault>
+    rest: RecordArea,
+) -> Result<Option<PlacedRecord>, ReadFault>
     requires before { rest.place < rest.end }
     requires shows { Shows window.old (S.image store.old) }
     ensures stands { IfOk result (λ found. StandsAt L.WORD rest found (S.image store.new)) }

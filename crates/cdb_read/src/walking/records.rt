@@ -7,8 +7,8 @@ ghost use Rattle.cdb_read.specs.Views.Reads.{ValueFails};
 
 use crate::fault::ReadFault;
 use crate::reader::Reader;
-use crate::span::{Pair, Span};
-use crate::walking::state::{Rest, Walking};
+use crate::span::{PlacedRecord, Span};
+use crate::walking::state::{RecordArea, Walking};
 use cdb_form::Width;
 use cdb_store::Store;
 use std::alloc::Global;
@@ -23,19 +23,19 @@ pub struct Walk<'a, S: Store, L: Width> {
 }
 
 impl<'a, S: Store, L: Width> Walk<'a, S, L> {
-    ghost use Rattle.cdb_read.specs.Views.Walk.{GivesPair, GivesNoPair, WalkingFails};
+    ghost use Rattle.cdb_read.specs.Views.Walk.{GivesRecord, GivesNoRecord, WalkingFails};
     ghost use Rattle.cdb_read.specs.Views.Walk.{HasWalked, HasNoTable, HasNoRecord, GivesRecords};
     ghost use Rattle.cdb_read.specs.declared.fault.ReadFault.TheVariants.{Table, Record, Device};
 
     /// Where the next record lies, or `None` at the record end.
     #[inline(always)]
-    pub fn next(&mut self) -> Result<Option<Pair>, ReadFault>
+    pub fn next(&mut self) -> Result<Option<PlacedRecord>, ReadFault>
         ensures same_reader { self.new.reader.ghost_name ≡ self.old.reader.ghost_name }
         ensures reads { OnlyReads S.Store self.old.reader.now.store self.new.reader.now.store }
         ensures head { self.new.reader.now.head ≡ self.old.reader.now.head }
         ensures gives { IfOk result (λ found. MatchOption found
-            (GivesNoPair L.WORD self.old self.new)
-            (GivesPair L.WORD self.old self.new)) }
+            (GivesNoRecord L.WORD self.old self.new)
+            (GivesRecord L.WORD self.old self.new)) }
         ensures fails { IfErr result (WalkingFails L.WORD self.old self.new) }
         // After the end and after a damage nothing is read, and the answer stays.
         ensures ended { HasWalked self.old → (result ≡ Ok None) × (self.new ≡ self.old) }
@@ -54,11 +54,11 @@ impl<'a, S: Store, L: Width> Walk<'a, S, L> {
             self.walking = Walking::AtEnd;
             return Ok(None);
         }
-        match self.reader.next_pair(rest)? {
+        match self.reader.next_record(rest)? {
             Some(pair) => {
                 let place = pair.value.place + pair.value.len;
                 let end = rest.end;
-                self.walking = Walking::At(Rest { place, end });
+                self.walking = Walking::At(RecordArea { place, end });
                 Ok(Some(pair))
             }
             None => {
@@ -89,7 +89,7 @@ impl<'a, S: Store, L: Width> Walk<'a, S, L> {
             return Ok(0);
         };
         let n = self.reader.read_records(rest, into)?;
-        self.walking = Walking::At(Rest {
+        self.walking = Walking::At(RecordArea {
             place: rest.place + n as u64,
             end: rest.end,
         });

@@ -10,10 +10,10 @@ ghost use Rattle.cdb_read.specs.Views.Walk.{left_of, place_of};
 
 use crate::fault::ReadFault;
 use crate::reader::Reader;
-use crate::span::{Pair, Span};
-use crate::walking::record_at::pair_at;
+use crate::span::{PlacedRecord, Span};
+use crate::walking::record_at::record_at;
 use crate::walking::records::Walk;
-use crate::walking::state::{Rest, Walking};
+use crate::walking::state::{RecordArea, Walking};
 use cdb_form::{Width, head_size};
 use cdb_store::Store;
 
@@ -29,11 +29,11 @@ impl<S: Store, L: Width> Reader<S, L> {
         if end < place {
             return Walking::NoTable(self.head.first_table_at(end) as u64);
         }
-        Walking::At(Rest { place, end })
+        Walking::At(RecordArea { place, end })
     }
 
     /// Where the next record of a walk lies, if it is whole.
-    pub(crate) fn next_pair(&mut self, rest: Rest) -> Result<Option<Pair>, ReadFault>
+    pub(crate) fn next_record(&mut self, rest: RecordArea) -> Result<Option<PlacedRecord>, ReadFault>
         requires before { rest.place < rest.end }
         ensures stands { IfOk result (λ found.
             StandsAt L.WORD rest found (S.image self.new.store)) }
@@ -42,7 +42,7 @@ impl<S: Store, L: Width> Reader<S, L> {
         ensures reads { OnlyReads S.Store self.old.store self.new.store }
         ensures fails { IfErr result (StoreFails S.Store self.old.store self.new.store) }
     {
-        pair_at::<S, L>(&mut self.store, &mut self.window, rest)
+        record_at::<S, L>(&mut self.store, &mut self.window, rest)
     }
 
     /// Reads the bytes of a span, which lies inside the file, over a vector. The store is read

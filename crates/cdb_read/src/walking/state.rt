@@ -3,7 +3,7 @@ ghost use Rattle.std.specs.Prelude.{◌≤◌};
 
 /// Where the records lie that a walk has left: from the next place to the record end.
 #[derive(Clone, Copy)]
-pub(crate) struct Rest {
+pub(crate) struct RecordArea {
     /// The place of the next record, in bytes from the file's start.
     pub(crate) place: u64,
     /// The record end.
@@ -15,7 +15,7 @@ pub(crate) struct Rest {
 #[derive(Clone, Copy)]
 pub(crate) enum Walking {
     /// It looks at the next place.
-    At(Rest),
+    At(RecordArea),
     /// Nothing is left.
     AtEnd,
     /// The table of this number lies before the record area.

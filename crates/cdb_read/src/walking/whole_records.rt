@@ -9,7 +9,7 @@ ghost use Rattle.cdb_read.specs.Views.Walking.{RecordsAhead};
 use crate::fault::ReadFault;
 use crate::pieces::read_part;
 use crate::reader::Reader;
-use crate::walking::state::Rest;
+use crate::walking::state::RecordArea;
 use cdb_form::{Width, record_len};
 use cdb_store::Store;
 
@@ -29,7 +29,7 @@ fn whole_len<L: Width>(bytes: &[u8]) -> usize
 impl<S: Store, L: Width> Reader<S, L> {
     /// Reads the next whole records of a walk over the start of `into`, and answers how many bytes
     /// they have. The store is not read if no byte is left before the record end.
-    pub(crate) fn read_records(&mut self, rest: Rest, into: &mut [u8]) -> Result<usize, ReadFault>
+    pub(crate) fn read_records(&mut self, rest: RecordArea, into: &mut [u8]) -> Result<usize, ReadFault>
         ensures ahead { IfOk result
             (RecordsAhead L.WORD rest into.new (S.image self.new.store)) }
         ensures head { self.new.head ≡ self.old.head }

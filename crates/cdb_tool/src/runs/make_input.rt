@@ -22,7 +22,7 @@ use crate::fault::Fault;
 use crate::message::write_duplicate;
 use crate::runs::item_reader::ItemReader;
 use cdb_command::MakeOptions;
-use cdb_form::{AtHand, ItemKind, Record, Width};
+use cdb_form::{AtHand, ChangeKind, Record, Width};
 use cdb_make::{Batch, Mode, Put};
 use cdb_store::Store;
 use std::alloc::Global;
@@ -156,7 +156,7 @@ fn do_item<L: Width, S: Store, E: Write>(
     mode: Mode,
     input: u64,
     number: u64,
-    kind: ItemKind,
+    kind: ChangeKind,
     item: &Record,
     errors: &mut E,
 ) -> Result<(), Fault>
@@ -184,7 +184,7 @@ fn do_item<L: Width, S: Store, E: Write>(
     ensures own { IfErr result (λ f. IsOfBase f → ⊥) }
 {
     match kind {
-        ItemKind::Put => put_record(
+        ChangeKind::Put => put_record(
             maker,
             options,
             mode,
@@ -194,7 +194,7 @@ fn do_item<L: Width, S: Store, E: Write>(
             &item.value,
             errors,
         ),
-        ItemKind::Remove => remove_key(maker, &item.key),
+        ChangeKind::Remove => remove_key(maker, &item.key),
     }
 }
 

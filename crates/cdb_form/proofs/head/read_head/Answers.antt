@@ -7,7 +7,7 @@ use Rattle.cdb_form.specs.Format.Pair.{WordPair}
 use Rattle.cdb_form.specs.Format.Reading.{head_at, nth_pair}
 use Rattle.cdb_form.specs.Views.Pairs.{pointer_pair, PairFits}
 use Rattle.cdb_form.specs.declared.head.Pointer.{Pointer}
-use Rattle.cdb_form.proofs.WordLemmas.{pair_at_part, span_of}
+use Rattle.cdb_form.proofs.Bytes.WordLemmas.{pair_at_part, span_of}
 use Rattle.cdb_form.proofs.head.read_head.Goals as goal
 
 blank : Pointer

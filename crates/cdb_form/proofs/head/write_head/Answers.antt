@@ -5,7 +5,7 @@ use Rattle.cdb_form.specs.Format.Pair.{pair_bytes}
 use Rattle.cdb_form.specs.Format.Table.{empty_slot}
 use Rattle.cdb_form.specs.Views.Pairs.{pointer_pair, PairFits}
 use Rattle.cdb_form.specs.declared.head.Pointer.{Pointer}
-use Rattle.cdb_form.proofs.ReadBack.{head_at-flat_map}
+use Rattle.cdb_form.proofs.Bytes.ReadBack.{head_at-flat_map}
 use Rattle.std.proofs.lemmas.Grind.{common_steps}
 use Rattle.cdb_form.proofs.head.write_head.Goals as goal
 

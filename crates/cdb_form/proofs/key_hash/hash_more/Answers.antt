@@ -1,7 +1,7 @@
 use Rattle.std.proofs.Common.{◌≡◌, ◌/◌, ◌*◌, ◌∙◌, ap, arith, drop, fold, length, sym, ℕ, []}
 use Rattle.std.proofs.Math.ListN.{drop_of_length-le}
 use Rattle.cdb_form.specs.Format.Hash.{hash_step}
-use Rattle.cdb_form.proofs.HashLemmas.{fold_all}
+use Rattle.cdb_form.proofs.Bytes.HashLemmas.{fold_all}
 use Rattle.cdb_form.proofs.key_hash.hash_more.Goals as goal
 
 pub returns : goal.returns

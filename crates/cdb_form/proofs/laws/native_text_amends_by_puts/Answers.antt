@@ -1,4 +1,4 @@
-use Rattle.cdb_form.proofs.TextLaws.{amends_by_puts}
+use Rattle.cdb_form.proofs.NativeTexts.TextLaws.{amends_by_puts}
 use Rattle.cdb_form.proofs.laws.native_text_amends_by_puts.Goals as goal
 
 pub returns : goal.returns

@@ -2,8 +2,8 @@ use Rattle.std.proofs.Common.{arith}
 use Rattle.std.proofs.lemmas.List.Elements.{recursion_from_All}
 use Rattle.cdb_form.specs.Laws.Text.{LengthsFit}
 use Rattle.cdb_form.specs.Views.Pairs.{key_values}
-use Rattle.cdb_form.proofs.RecordLemmas.{are_records}
-use Rattle.cdb_form.proofs.TextLaws.{text_reads_back as law}
+use Rattle.cdb_form.proofs.NativeTexts.RecordLemmas.{are_records}
+use Rattle.cdb_form.proofs.NativeTexts.TextLaws.{text_reads_back as law}
 use Rattle.cdb_form.proofs.laws.text_reads_back.Goals as goal
 
 pub returns : goal.returns

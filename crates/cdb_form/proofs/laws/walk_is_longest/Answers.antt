@@ -1,5 +1,5 @@
 use Rattle.std.proofs.Common.{◌<◌, arith, inl, inr}
-use Rattle.cdb_form.proofs.WalkLaws.{walk_of-IsWalk}
+use Rattle.cdb_form.proofs.Files.WalkLaws.{walk_of-IsWalk}
 use Rattle.cdb_form.proofs.laws.walk_is_longest.Goals as goal
 
 pub returns : goal.returns

@@ -3,7 +3,7 @@ use Rattle.std.proofs.lemmas.List.{length-take-le}
 use Rattle.std.specs.Io.KnownBytes.{Consumes}
 use borrow.Rule.Slice.PartMut.{put_mid, same_len_mid}
 use Rattle.cdb_form.specs.Format.Record.{AreBytes}
-use Rattle.cdb_form.proofs.AskingLemmas.{take_read, read_more}
+use Rattle.cdb_form.proofs.Sources.AskingLemmas.{take_read, read_more}
 use Rattle.std.proofs.lemmas.Grind.{common_steps}
 use Rattle.cdb_form.proofs.reading.all_bytes.Goals as goal
 

@@ -1,7 +1,7 @@
 use Rattle.std.proofs.Common.{◌≡◌, ◌+◌, ◌-◌, ◌≤◌, ◌++◌, length, length-drop, take, drop, arith, ap, ◌∙◌, rules}
 use Rattle.std.proofs.lemmas.List.{length-take, length-take-le}
-use Rattle.cdb_form.proofs.ByteLemmas.{AreBytes-take}
-use Rattle.cdb_form.proofs.AskingLemmas.{same_prefix, came_behind}
+use Rattle.cdb_form.proofs.Bytes.ByteLemmas.{AreBytes-take}
+use Rattle.cdb_form.proofs.Sources.AskingLemmas.{same_prefix, came_behind}
 use Rattle.std.proofs.lemmas.Grind.{common_steps}
 use Rattle.cdb_form.proofs.reading.some_behind.Goals as goal
 

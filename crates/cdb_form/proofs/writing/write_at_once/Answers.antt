@@ -1,7 +1,7 @@
 use Rattle.std.proofs.Common.{◌∙◌, ap, length, refl, sym, take, ◌++◌}
 use Rattle.std.proofs.lemmas.List.{take-append-drop}
-use Rattle.cdb_form.proofs.HeadLemmas.{rest_of}
-use Rattle.cdb_form.proofs.WritingLemmas.{writes_last}
+use Rattle.cdb_form.proofs.Bytes.HeadLemmas.{rest_of}
+use Rattle.cdb_form.proofs.Bytes.WritingLemmas.{writes_last}
 use Rattle.cdb_form.proofs.writing.write_at_once.Goals as goal
 
 pub returns-then-done-bytes : goal.returns-then-done-bytes

@@ -1,7 +1,7 @@
 use Rattle.std.proofs.Common.{sym, arith, inl, inr, ◌<◌}
 use Rattle.cdb_form.specs.Format.Pair.{head_size}
 use Rattle.cdb_form.specs.Views.Pairs.{key_values}
-use Rattle.cdb_make.proofs.Places.{entries_closed, table_closed}
+use Rattle.cdb_make.proofs.Gaps.Places.{entries_closed, table_closed}
 use Rattle.cdb_make.proofs.laws.taken_out.Goals as goal
 
 pub returns : goal.returns

@@ -1,6 +1,6 @@
 use Rattle.std.proofs.Common.{arith, sym}
 use Rattle.cdb_form.specs.Views.Pairs.{head_pairs}
-use Rattle.cdb_read.proofs.Walks.{walks_nowhere, walks_from}
+use Rattle.cdb_read.proofs.Walked.Walks.{walks_nowhere, walks_from}
 use Rattle.cdb_memory.proofs.Bytes.{head_here}
 use Rattle.cdb_memory.proofs.walk.first_record.Goals as goal
 

@@ -1,5 +1,5 @@
 use Rattle.std.proofs.Common.{◌<◌, arith, inl, inr}
-use Rattle.cdb_read.proofs.FaultLaws.{sound_is_no_damage as law}
+use Rattle.cdb_read.proofs.WholeFiles.FaultLaws.{sound_is_no_damage as law}
 use Rattle.cdb_read.proofs.laws.sound_is_no_damage.Goals as goal
 
 pub returns : goal.returns

@@ -1,5 +1,5 @@
 use Rattle.std.proofs.Common.{◌<◌, arith, inl, inr}
-use Rattle.cdb_read.proofs.SoundLookups.{finds_walked}
+use Rattle.cdb_read.proofs.WholeFiles.SoundLookups.{finds_walked}
 use Rattle.cdb_read.proofs.laws.sound_lookup.Goals as goal
 
 pub returns : goal.returns

@@ -1,7 +1,7 @@
 use Rattle.std.proofs.Common.{rules, arith, ◌≡◌, ◌+◌, ◌-◌, ℕ, length, length-append, length-drop, refl}
 use Rattle.std.proofs.lemmas.Result.{err_from_is_err_and}
-use Rattle.cdb_form.proofs.WritingLemmas.{writes_prefix}
-use Rattle.cdb_read.proofs.PieceReads.{reads_more, copied_prefix, copied_piece, copied_more}
+use Rattle.cdb_form.proofs.Bytes.WritingLemmas.{writes_prefix}
+use Rattle.cdb_read.proofs.Bytes.PieceReads.{reads_more, copied_prefix, copied_piece, copied_more}
 use Rattle.cdb_read.proofs.pieces.copy_span.Goals as goal
 
 pub returns-in_err-read_part-clause-copies : goal.returns-in_err-read_part-clause-copies

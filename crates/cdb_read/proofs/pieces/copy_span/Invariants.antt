@@ -1,6 +1,6 @@
 use Rattle.std.proofs.Common.{◌-◌, ◌≡◌, ◌≤◌, length}
 use Rattle.cdb_store.specs.Reads.{OnlyReads}
-use Rattle.cdb_read.proofs.PieceReads.{HasCopied}
+use Rattle.cdb_read.proofs.Bytes.PieceReads.{HasCopied}
 use Rattle.cdb_read.proofs.pieces.copy_span.Given as goal
 
 abbrev pub invariant-loop-done : goal.invariant-loop-done

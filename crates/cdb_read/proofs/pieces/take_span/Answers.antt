@@ -1,5 +1,5 @@
 use Rattle.std.proofs.Common.{rules, arith, ◌≡◌, ◌+◌, length, length-append, length-drop, refl, subst, sym}
-use Rattle.cdb_read.proofs.PieceReads.{HasTaken, reads_more, taken_more}
+use Rattle.cdb_read.proofs.Bytes.PieceReads.{HasTaken, reads_more, taken_more}
 use Rattle.cdb_read.proofs.pieces.take_span.Goals as goal
 
 pub loop-done-preserved : goal.loop-done-preserved

@@ -1,6 +1,6 @@
 use Rattle.std.proofs.Common.{◌-◌, ◌≡◌, ◌≤◌, length}
 use Rattle.cdb_store.specs.Reads.{OnlyReads}
-use Rattle.cdb_read.proofs.PieceReads.{HasTaken}
+use Rattle.cdb_read.proofs.Bytes.PieceReads.{HasTaken}
 use Rattle.cdb_read.proofs.pieces.take_span.Given as goal
 
 abbrev pub invariant-loop-done : goal.invariant-loop-done

@@ -4,8 +4,8 @@ use Rattle.cdb_form.specs.Format.Reading.{pair_at}
 use Rattle.cdb_form.specs.Views.Pairs.{pointer_pair, slot_pair}
 use Rattle.cdb_read.specs.Statistics.{slot_of}
 use Rattle.cdb_read.specs.Views.Counting.{Counts}
-use Rattle.cdb_read.proofs.PieceReads.{reads_more}
-use Rattle.cdb_read.proofs.SlotCounts.{all_before, counts_used, counts_empty, some_slots, distances_before}
+use Rattle.cdb_read.proofs.Bytes.PieceReads.{reads_more}
+use Rattle.cdb_read.proofs.Counting.SlotCounts.{all_before, counts_used, counts_empty, some_slots, distances_before}
 use Rattle.cdb_read.proofs.tables.count_table.Goals as goal
 use Rattle.cdb_read.proofs.tables.count_table.Goals.{then-slot-ne0, else-slot-ne0}
 

@@ -2,9 +2,9 @@ use Rattle.std.proofs.Common.{ap, sym, subst, map, arith}
 use Rattle.cdb_form.specs.Views.Pairs.{pointer_pair}
 use Rattle.cdb_read.specs.Statistics.{distances_of}
 use Rattle.cdb_read.specs.Views.Counting.{Counts}
-use Rattle.cdb_read.proofs.PieceReads.{reads_more}
-use Rattle.cdb_read.proofs.SlotCounts.{tables_more_at, tables_before, all_tables}
-use Rattle.cdb_read.proofs.TableChecks.{stands_at}
+use Rattle.cdb_read.proofs.Bytes.PieceReads.{reads_more}
+use Rattle.cdb_read.proofs.Counting.SlotCounts.{tables_more_at, tables_before, all_tables}
+use Rattle.cdb_read.proofs.Checks.TableChecks.{stands_at}
 use Rattle.cdb_read.proofs.tables.count_tables.Goals as goal
 
 pub count_table-requires-clause-inside : goal.count_table-requires-clause-inside

@@ -3,7 +3,7 @@ use Rattle.cdb_form.specs.Views.Pairs.{pointer_pair}
 use Rattle.cdb_read.specs.Views.Counting.{Counts}
 use Rattle.cdb_store.specs.Reads.{OnlyReads}
 use Rattle.cdb_read.specs.Views.Window.{Shows}
-use Rattle.cdb_read.proofs.SlotCounts.{tables_before}
+use Rattle.cdb_read.proofs.Counting.SlotCounts.{tables_before}
 use Rattle.cdb_read.proofs.tables.count_tables.Given as goal
 
 -- the used slots of the tables so far were counted

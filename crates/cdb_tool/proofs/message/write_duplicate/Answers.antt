@@ -1,6 +1,6 @@
 use Rattle.std.proofs.Common.{◌≡◌, ◌∙◌, ◌++◌, [], List, ℕ, sym, ap, append_assoc}
 use Rattle.std.specs.Prelude.{codes, decimal}
-use Rattle.cdb_form.proofs.WritingLemmas.{same_writes}
+use Rattle.cdb_form.proofs.Bytes.WritingLemmas.{same_writes}
 use Rattle.cdb_tool.specs.Message.{duplicate_line, numbered}
 use Rattle.cdb_tool.proofs.message.write_duplicate.Goals as goal
 

@@ -1,6 +1,6 @@
 use Rattle.std.proofs.Common.{refl, codes}
 use Rattle.std.proofs.lemmas.Result.{err_from_is_err_and}
-use Rattle.cdb_form.proofs.WritingLemmas.{prefix_in, writes_prefix, writes_last}
+use Rattle.cdb_form.proofs.Bytes.WritingLemmas.{prefix_in, writes_prefix, writes_last}
 use Rattle.cdb_tool.specs.Message.{numbered}
 use Rattle.cdb_tool.proofs.message.write_place.Goals as goal
 

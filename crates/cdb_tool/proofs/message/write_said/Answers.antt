@@ -1,7 +1,7 @@
 use Rattle.std.proofs.Common.{◌≡◌, ◌∙◌, refl, ◌++◌, ap, append_assoc}
 use Rattle.std.proofs.lemmas.Result.{err_from_is_err_and}
 use Rattle.std.specs.Prelude.{codes}
-use Rattle.cdb_form.proofs.WritingLemmas.{appends_then, prefix_then, prefix_in, same_prefix, same_appends, same_writes, writes_prefix, writes_last}
+use Rattle.cdb_form.proofs.Bytes.WritingLemmas.{appends_then, prefix_then, prefix_in, same_prefix, same_appends, same_writes, writes_prefix, writes_last}
 use Rattle.cdb_tool.specs.Message.{said_place, fault_place, fault_message, said_line}
 use Rattle.cdb_tool.specs.declared.fault.Fault.{Fault}
 use Rattle.cdb_tool.proofs.message.write_said.Goals as goal

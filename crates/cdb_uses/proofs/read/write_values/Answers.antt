@@ -3,7 +3,7 @@ use Rattle.cdb_read.specs.Views.Reads.{CopyingFails}
 use Rattle.cdb_read.specs.Lookup.{with_span}
 use Rattle.std.proofs.Common.{rules, ap, ◌∙◌, refl}
 use Rattle.std.proofs.lemmas.Result.{err_from_is_err_and}
-use Rattle.cdb_form.proofs.WritingLemmas.{writes_prefix}
+use Rattle.cdb_form.proofs.Bytes.WritingLemmas.{writes_prefix}
 use Rattle.cdb_store.proofs.Reading.{reads_more}
 use Rattle.cdb_uses.proofs.Asking.{asked_none, asked_more, asked_all, asked_prefix, copied_prefix, finds_within, finder_fails, reads_none, same_left}
 use Rattle.cdb_uses.proofs.read.write_values.Goals as goal

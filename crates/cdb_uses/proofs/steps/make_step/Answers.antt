@@ -2,8 +2,8 @@ use Rattle.cdb_uses.proofs.Finishing.{finishes}
 use Rattle.cdb_uses.proofs.Stepping.{finish_tried}
 use Rattle.cdb_uses.proofs.steps.make_step.Goals as goal
 
-pub returns-in-Change : goal.returns-in-Change
-returns-in-Change g c = λ rs h. rw c.in-Change.is (c.make_change-fault.ensures rs h)
+pub returns-in-Edit : goal.returns-in-Edit
+returns-in-Edit g c = λ rs h. rw c.in-Edit.is (c.make_edit-fault.ensures rs h)
 
 pub returns-in-Err : goal.returns-in-Err
 returns-in-Err g c = λ rs h.

@@ -1,6 +1,6 @@
 use Rattle.std.proofs.Common.{◌≡◌, ℕ, length, arith, ap, ◌∙◌, sym}
 use Rattle.std.specs.Prelude.{unwrap_or}
-use Rattle.cdb_form.proofs.TableLemmas.{first_used}
+use Rattle.cdb_form.proofs.Files.TableLemmas.{first_used}
 use Rattle.cdb_form.proofs.head.Head.first_table_at.Goals as goal
 
 pub returns : goal.returns

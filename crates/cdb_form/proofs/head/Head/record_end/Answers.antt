@@ -2,7 +2,7 @@ use Rattle.std.proofs.Common.{ℕ, ap, ◌∙◌, map}
 use Rattle.std.specs.Prelude.{unwrap_or}
 use Rattle.cdb_form.specs.Format.Walk.{least_place}
 use Rattle.cdb_form.specs.Views.Pairs.{pointer_pair}
-use Rattle.cdb_form.proofs.TableLemmas.{least_used}
+use Rattle.cdb_form.proofs.Files.TableLemmas.{least_used}
 use Rattle.cdb_form.proofs.head.Head.record_end.Goals as goal
 
 pub returns : goal.returns

@@ -1,5 +1,5 @@
 use Rattle.std.proofs.Common.{arith}
-use Rattle.cdb_form.proofs.LaneRuns.{wide_goes_on, wide_stops}
+use Rattle.cdb_form.proofs.Bytes.LaneRuns.{wide_goes_on, wide_stops}
 use Rattle.cdb_form.proofs.text.lanes.wide_run.Goals as goal
 
 pub returns-then-ends-ne0-clause-within : goal.returns-then-ends-ne0-clause-within

@@ -1,5 +1,5 @@
 use Rattle.std.proofs.Common.{length, ◌-◌}
-use Rattle.cdb_form.proofs.LaneRuns.{WideRun}
+use Rattle.cdb_form.proofs.Bytes.LaneRuns.{WideRun}
 use Rattle.cdb_form.proofs.text.lanes.wide_run.Given as goal
 
 -- the bytes so far are of the kind

@@ -1,6 +1,6 @@
 use Rattle.std.proofs.Common.{length, ◌-◌}
 use Rattle.cdb_form.specs.declared.text.kind.Kind.TheVariants.{InWord}
-use Rattle.cdb_form.proofs.LaneRuns.{WideRun}
+use Rattle.cdb_form.proofs.Bytes.LaneRuns.{WideRun}
 use Rattle.cdb_form.proofs.text.lanes.word_run.Given as goal
 
 -- the bytes so far are of a word

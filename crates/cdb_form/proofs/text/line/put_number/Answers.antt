@@ -1,5 +1,5 @@
 use Rattle.std.proofs.Common.{arith, take}
-use Rattle.cdb_form.proofs.NumeralLemmas.{last_digit}
+use Rattle.cdb_form.proofs.Bytes.NumeralLemmas.{last_digit}
 use Rattle.cdb_form.proofs.text.line.put_number.Goals as goal
 
 pub returns-clause-bytes : goal.returns-clause-bytes

@@ -1,5 +1,5 @@
 use Rattle.std.proofs.Common.{◌/◌, arith, take}
-use Rattle.cdb_form.proofs.NumeralLemmas.{last_digit, one_digit}
+use Rattle.cdb_form.proofs.Bytes.NumeralLemmas.{last_digit, one_digit}
 use Rattle.cdb_form.proofs.text.line.put_tens.Goals as goal
 
 pub returns-then-n-lt10-clause-bytes : goal.returns-then-n-lt10-clause-bytes

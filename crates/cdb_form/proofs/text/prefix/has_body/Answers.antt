@@ -1,6 +1,6 @@
 use Rattle.std.proofs.Common.{arith}
 use Rattle.std.proofs.lemmas.Bool.{eqb-true}
-use Rattle.cdb_form.proofs.PrefixLemmas.{body_prefix}
+use Rattle.cdb_form.proofs.NativeTexts.PrefixLemmas.{body_prefix}
 use Rattle.cdb_form.proofs.text.prefix.has_body.Goals as goal
 
 pub returns : goal.returns

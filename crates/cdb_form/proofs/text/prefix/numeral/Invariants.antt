@@ -1,5 +1,5 @@
 use Rattle.std.proofs.Common.{length, ◌-◌, ◌<◌}
-use Rattle.cdb_form.proofs.PrefixLemmas.{PrefixDigits}
+use Rattle.cdb_form.proofs.NativeTexts.PrefixLemmas.{PrefixDigits}
 use Rattle.cdb_form.proofs.text.prefix.numeral.Given as goal
 
 -- the digits so far

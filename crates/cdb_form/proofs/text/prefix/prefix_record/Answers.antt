@@ -1,9 +1,9 @@
 use Rattle.std.proofs.Common.{ℕ, ◌≡◌, ◌+◌, ◌-◌, ap, arith, drop, length, refl, subst, take, ◌∙◌}
 use Rattle.cdb_form.specs.Views.Prefix.{BeginsWithBody}
-use Rattle.cdb_form.proofs.ByteLemmas.{AreBytes-take}
-use Rattle.cdb_form.proofs.PrefixLemmas.{record_prefix}
-use Rattle.cdb_form.proofs.HeadLemmas.{rest_of}
-use Rattle.cdb_form.proofs.Standing.{AreBytes-drop}
+use Rattle.cdb_form.proofs.Bytes.ByteLemmas.{AreBytes-take}
+use Rattle.cdb_form.proofs.NativeTexts.PrefixLemmas.{record_prefix}
+use Rattle.cdb_form.proofs.Bytes.HeadLemmas.{rest_of}
+use Rattle.cdb_form.proofs.Files.Standing.{AreBytes-drop}
 use Rattle.cdb_form.proofs.text.prefix.prefix_record.Goals as goal
 
 pub returns : goal.returns

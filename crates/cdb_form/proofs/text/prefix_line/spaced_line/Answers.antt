@@ -4,8 +4,8 @@ use Rattle.std.specs.List.{prefix_len}
 use Rattle.cdb_form.specs.Text.Map.{is_blank}
 use Rattle.cdb_form.specs.Views.MapParser.{is_of}
 use Rattle.cdb_form.specs.declared.text.kind.Kind.TheVariants.{InLine, InWord}
-use Rattle.cdb_form.proofs.HeadLemmas.{rest_of}
-use Rattle.cdb_form.proofs.LinePrefix.{first_newline, line_prefix}
+use Rattle.cdb_form.proofs.Bytes.HeadLemmas.{rest_of}
+use Rattle.cdb_form.proofs.MapTexts.LinePrefix.{first_newline, line_prefix}
 use Rattle.cdb_form.proofs.text.prefix_line.spaced_line.Goals as goal
 
 pub returns : goal.returns

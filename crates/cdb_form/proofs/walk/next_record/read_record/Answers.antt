@@ -3,8 +3,8 @@ use Rattle.std.proofs.Common.{[], ◌+◌, arith, ◌∙◌, sym, subst, inl, in
 use Rattle.std.proofs.lemmas.Result.{err_from_is_err_and}
 use Rattle.std.proofs.lemmas.List.{append-nil}
 use Rattle.std.specs.Io.KnownBytes.{Consumes}
-use Rattle.cdb_form.proofs.ReadBack.{same_words}
-use Rattle.cdb_form.proofs.RecordReads.{prefix_told, no_room, header_early, body_no_room, body_early, record_read, record_cut, loses_then, none_no_room, none_header, none_body_no_room, none_body}
+use Rattle.cdb_form.proofs.Bytes.ReadBack.{same_words}
+use Rattle.cdb_form.proofs.RecordReading.RecordReads.{prefix_told, no_room, header_early, body_no_room, body_early, record_read, record_cut, loses_then, none_no_room, none_header, none_body_no_room, none_body}
 use Rattle.cdb_form.proofs.walk.next_record.read_record.Goals.{then-left-header-via-then-left-header, then-left-header-via-else-left-header+then-left-header-2}
 use Rattle.cdb_form.proofs.walk.next_record.read_record.Goals as goal
 

@@ -1,7 +1,7 @@
 use Rattle.std.proofs.Common.{ℕ, ◌≡◌, ◌+◌, ◌-◌, ap, arith, drop, length, refl, sym, take, ◌∙◌}
-use Rattle.cdb_form.proofs.HeadLemmas.{rest_of}
-use Rattle.cdb_form.proofs.Prefixes.{same_record}
-use Rattle.cdb_form.proofs.Stored.{stored_prefix}
+use Rattle.cdb_form.proofs.Bytes.HeadLemmas.{rest_of}
+use Rattle.cdb_form.proofs.Files.Prefixes.{same_record}
+use Rattle.cdb_form.proofs.RecordReading.Stored.{stored_prefix}
 use Rattle.cdb_form.proofs.walk.prefix.stored_record.Goals as goal
 
 pub returns : goal.returns

@@ -1,8 +1,8 @@
 use Rattle.std.proofs.lemmas.Grind.{common_steps}
 use Rattle.std.proofs.Common.{refl, arith, ◌+◌}
 use Rattle.std.proofs.lemmas.Result.{on_ok_weaker, on_err_weaker}
-use Rattle.cdb_form.proofs.SourceLemmas.{consumes_then}
-use Rattle.cdb_form.proofs.RecordReads.{loses_then, fewer_then}
+use Rattle.cdb_form.proofs.Sources.SourceLemmas.{consumes_then}
+use Rattle.cdb_form.proofs.RecordReading.RecordReads.{loses_then, fewer_then}
 use Rattle.cdb_form.proofs.walk.source.record_body.Goals as goal
 
 pub returns-clause-read : goal.returns-clause-read

@@ -3,7 +3,7 @@ use Rattle.std.proofs.lemmas.Result.{err_from_is_err_and}
 use Rattle.std.proofs.lemmas.List.{take_at}
 use Rattle.cdb_form.specs.Format.Reading.{pair_at}
 use Rattle.cdb_form.specs.Views.Reading.{ReadsShort}
-use Rattle.cdb_form.proofs.AreaLemmas.{pair_fits}
+use Rattle.cdb_form.proofs.RecordReading.RecordAreas.{pair_fits}
 use Rattle.std.proofs.lemmas.Grind.{common_steps}
 use Rattle.cdb_form.proofs.walk.source.record_header.Goals as goal
 

@@ -6,7 +6,7 @@ use Rattle.cdb_form.specs.Views.KnownBytes.{FromTo}
 use Rattle.cdb_form.specs.Views.MapReader.{ReadAmid}
 use Rattle.cdb_form.specs.Views.Pairs.{key_value, key_values}
 use Rattle.cdb_form.specs.declared.record.Record.{Record}
-use Rattle.cdb_form.proofs.WholeMap.{Gave, gave_all, gave_amid, gave_more, gave_ended, gave_rest, gave_so_far_none}
+use Rattle.cdb_form.proofs.MapTexts.WholeMap.{Gave, gave_all, gave_amid, gave_more, gave_ended, gave_rest, gave_so_far_none}
 use Rattle.cdb_form_tests.proofs.tests.maps.next_records.Goals as goal
 
 some_given : (old new : Option (List ℕ)) (rs : List KeyValue) → FromTo old new (λ text rest. ReadAmid text rest rs) → FromTo old new (λ text rest. (given : List KeyValue) × ReadAmid text rest given)

@@ -1,6 +1,6 @@
 use Rattle.cdb_form.specs.Views.MapReader.{unread}
 use Rattle.cdb_form.specs.Views.Pairs.{key_values}
-use Rattle.cdb_form.proofs.WholeMap.{Gave}
+use Rattle.cdb_form.proofs.MapTexts.WholeMap.{Gave}
 use Rattle.cdb_form_tests.proofs.tests.maps.next_records.Given as goal
 
 -- the records so far are the first ones of the text

@@ -1,11 +1,11 @@
 use Rattle.std.proofs.Common.{arith, refl, ap, ◌∙◌, Err}
 use Rattle.std.proofs.lemmas.Result.{err_from_is_err_and, on_ok_weaker, on_err_weaker}
 use Rattle.cdb_form.specs.Format.Record.{KeyValue}
-use Rattle.cdb_make.proofs.Batches.{same_batch, with_maker}
-use Rattle.cdb_make.proofs.BatchPuts.{adds_lone, adds_settled, fails_lone, fails_settled, fails_amid, none_short, rests_short, due_short, settles_rested}
-use Rattle.cdb_make.proofs.Finishes.{on_fault_is}
-use Rattle.cdb_make.proofs.Following.{follows_then}
-use Rattle.cdb_make.proofs.Written.{on_any_err}
+use Rattle.cdb_make.proofs.Making.Batches.{same_batch, with_maker}
+use Rattle.cdb_make.proofs.Making.BatchPuts.{adds_lone, adds_settled, fails_lone, fails_settled, fails_amid, none_short, rests_short, due_short, settles_rested}
+use Rattle.cdb_make.proofs.Making.Finishes.{on_fault_is}
+use Rattle.cdb_make.proofs.Making.Following.{follows_then}
+use Rattle.cdb_make.proofs.Bytes.Written.{on_any_err}
 use Rattle.cdb_make.proofs.batch.Batch.add.Goals as goal
 
 pub returns-in-Ok-clause-ok : goal.returns-in-Ok-clause-ok

@@ -1,5 +1,5 @@
 use Rattle.std.proofs.Common.{arith}
-use Rattle.cdb_make.proofs.Batches.{holds_count}
+use Rattle.cdb_make.proofs.Making.Batches.{holds_count}
 use Rattle.cdb_make.proofs.batch.Batch.count.Goals as goal
 
 pub returns-clause-holds : goal.returns-clause-holds

@@ -3,8 +3,8 @@ use Rattle.std.proofs.lemmas.List.{take_at}
 use Rattle.cdb_form.specs.Format.Record.{KeyValue}
 use Rattle.cdb_make.specs.declared.batch.Batch.{Batch}
 use Rattle.cdb_make.specs.declared.removal.gap.Gap.{Gap}
-use Rattle.cdb_make.proofs.BatchPuts.{exchanges_noted, noted_last, waits_short, waits_full, fails_noted}
-use Rattle.cdb_make.proofs.Following.{follows_then, follows_still}
+use Rattle.cdb_make.proofs.Making.BatchPuts.{exchanges_noted, noted_last, waits_short, waits_full, fails_noted}
+use Rattle.cdb_make.proofs.Making.Following.{follows_then, follows_still}
 use Rattle.cdb_make.proofs.batch.Batch.exchange.Goals as goal
 
 pub returns-then-not-has_room-clause-waits : goal.returns-then-not-has_room-clause-waits

@@ -1,8 +1,8 @@
 use Rattle.std.proofs.Common.{refl}
 use Rattle.std.proofs.lemmas.Result.{on_ok_weaker}
-use Rattle.cdb_make.proofs.Batches.{writes_nothing, fails_look, same_batch}
-use Rattle.cdb_make.proofs.BatchPuts.{there_told}
-use Rattle.cdb_make.proofs.Finishes.{on_fault_is}
+use Rattle.cdb_make.proofs.Making.Batches.{writes_nothing, fails_look, same_batch}
+use Rattle.cdb_make.proofs.Making.BatchPuts.{there_told}
+use Rattle.cdb_make.proofs.Making.Finishes.{on_fault_is}
 use Rattle.cdb_make.proofs.batch.Batch.exists.Goals as goal
 
 pub returns-clause-ok : goal.returns-clause-ok

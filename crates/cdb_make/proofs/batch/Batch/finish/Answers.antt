@@ -1,5 +1,5 @@
-use Rattle.cdb_make.proofs.BatchPuts.{finished_file, finished_written, fails_finish_amid, fails_finish_settled}
-use Rattle.cdb_make.proofs.Puts.{comes_then}
+use Rattle.cdb_make.proofs.Making.BatchPuts.{finished_file, finished_written, fails_finish_amid, fails_finish_settled}
+use Rattle.cdb_make.proofs.Making.Puts.{comes_then}
 use Rattle.cdb_make.proofs.batch.Batch.finish.Goals as goal
 
 pub returns-in-Err-clause-fails : goal.returns-in-Err-clause-fails

@@ -1,4 +1,4 @@
-use Rattle.cdb_make.proofs.Batches.{rests_held}
+use Rattle.cdb_make.proofs.Making.Batches.{rests_held}
 use Rattle.cdb_make.proofs.batch.Batch.over.Goals as goal
 
 pub returns-clause-holds : goal.returns-clause-holds

@@ -1,5 +1,5 @@
 use Rattle.std.proofs.lemmas.Result.{err_from_is_err_and}
-use Rattle.cdb_make.proofs.BatchPuts.{puts_roomier}
+use Rattle.cdb_make.proofs.Making.BatchPuts.{puts_roomier}
 use Rattle.cdb_make.proofs.batch.Batch.put.Goals as goal
 
 pub returns-in_err-put-clause-fails : goal.returns-in_err-put-clause-fails

@@ -2,11 +2,11 @@ use Rattle.std.proofs.Common.{refl, sym, ap, ◌∙◌, ◌≡◌, arith, cond}
 use Rattle.std.proofs.lemmas.Result.{err_from_is_err_and}
 use Rattle.cdb_form.specs.declared.mode.Mode.TheVariants.{Add, Warn, Insert}
 use Rattle.cdb_make.specs.declared.records.put.Put.TheVariants.{Added, AddedAgain}
-use Rattle.cdb_make.proofs.Batches.{fails_look, same_batch, with_maker, writes_nothing}
-use Rattle.cdb_make.proofs.BatchPuts.{puts_added, fails_added, puts_present, fails_put_looking, rests_looked, rests_same, lone_add_fails, there_held}
-use Rattle.cdb_make.proofs.Following.{follows_read, follows_then}
-use Rattle.cdb_make.proofs.Puts.{just_add, just_warn, just_insert}
-use Rattle.cdb_make.proofs.Written.{on_any_err}
+use Rattle.cdb_make.proofs.Making.Batches.{fails_look, same_batch, with_maker, writes_nothing}
+use Rattle.cdb_make.proofs.Making.BatchPuts.{puts_added, fails_added, puts_present, fails_put_looking, rests_looked, rests_same, lone_add_fails, there_held}
+use Rattle.cdb_make.proofs.Making.Following.{follows_read, follows_then}
+use Rattle.cdb_make.proofs.Making.Puts.{just_add, just_warn, just_insert}
+use Rattle.cdb_make.proofs.Bytes.Written.{on_any_err}
 use Rattle.cdb_make.proofs.batch.Batch.put_by.Goals as goal
 
 pub returns-in_err-add-in-Add-clause-fails : goal.returns-in_err-add-in-Add-clause-fails

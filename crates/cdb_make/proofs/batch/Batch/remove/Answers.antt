@@ -1,5 +1,5 @@
 use Rattle.std.proofs.lemmas.Result.{err_from_is_err_and}
-use Rattle.cdb_make.proofs.BatchPuts.{removes_roomier}
+use Rattle.cdb_make.proofs.Making.BatchPuts.{removes_roomier}
 use Rattle.cdb_make.proofs.batch.Batch.remove.Goals as goal
 
 pub returns-in_err-taken-clause-fails : goal.returns-in_err-taken-clause-fails

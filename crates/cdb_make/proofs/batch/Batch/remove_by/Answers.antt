@@ -1,12 +1,12 @@
 use Rattle.std.proofs.Common.{arith, refl, ap, ◌∙◌, ◌≡◌, ◌++◌, ℕ, List}
 use Rattle.std.proofs.lemmas.Result.{err_from_is_err_and, IfOk-weaker, on_err_weaker}
 use Rattle.cdb_make.specs.declared.removal.gap.Gap.{Gap}
-use Rattle.cdb_make.proofs.Batches.{fails_look, same_batch, with_maker}
-use Rattle.cdb_make.proofs.BatchPuts.{rests_looked, noted_last, removes_noted, removes_settled, fails_remove_settled, fails_remove_amid, fails_remove_looking}
-use Rattle.cdb_make.proofs.Compare.{reads_fewer}
-use Rattle.cdb_make.proofs.Finishes.{on_fault_is}
-use Rattle.cdb_make.proofs.Following.{follows_looked, follows_still, follows_then}
-use Rattle.cdb_make.proofs.Written.{on_any_err}
+use Rattle.cdb_make.proofs.Making.Batches.{fails_look, same_batch, with_maker}
+use Rattle.cdb_make.proofs.Making.BatchPuts.{rests_looked, noted_last, removes_noted, removes_settled, fails_remove_settled, fails_remove_amid, fails_remove_looking}
+use Rattle.cdb_make.proofs.Bytes.Compare.{reads_fewer}
+use Rattle.cdb_make.proofs.Making.Finishes.{on_fault_is}
+use Rattle.cdb_make.proofs.Making.Following.{follows_looked, follows_still, follows_then}
+use Rattle.cdb_make.proofs.Bytes.Written.{on_any_err}
 use Rattle.cdb_make.proofs.batch.Batch.remove_by.Goals as goal
 
 pub returns-in_err-taken-clause-fails : goal.returns-in_err-taken-clause-fails

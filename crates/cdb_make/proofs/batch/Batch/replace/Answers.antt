@@ -3,12 +3,12 @@ use Rattle.std.proofs.lemmas.Result.{err_from_is_err_and, IfOk-weaker, on_err_we
 use Rattle.cdb_form.specs.Format.Record.{KeyValue}
 use Rattle.cdb_form.specs.declared.mode.Mode.TheVariants.{Add, Replace}
 use Rattle.cdb_make.specs.declared.records.put.Put.TheVariants.{Added}
-use Rattle.cdb_make.proofs.Batches.{fails_look, same_batch, with_maker}
-use Rattle.cdb_make.proofs.BatchPuts.{rests_looked, rests_then, just_lone, puts_added, fails_added, fails_put_looking, fails_exchange, puts_exchanged, fails_put_amid, puts_settled, fails_put_settled}
-use Rattle.cdb_make.proofs.Compare.{reads_fewer}
-use Rattle.cdb_make.proofs.Finishes.{on_fault_is}
-use Rattle.cdb_make.proofs.Following.{follows_looked, follows_then}
-use Rattle.cdb_make.proofs.Written.{on_any_err}
+use Rattle.cdb_make.proofs.Making.Batches.{fails_look, same_batch, with_maker}
+use Rattle.cdb_make.proofs.Making.BatchPuts.{rests_looked, rests_then, just_lone, puts_added, fails_added, fails_put_looking, fails_exchange, puts_exchanged, fails_put_amid, puts_settled, fails_put_settled}
+use Rattle.cdb_make.proofs.Bytes.Compare.{reads_fewer}
+use Rattle.cdb_make.proofs.Making.Finishes.{on_fault_is}
+use Rattle.cdb_make.proofs.Making.Following.{follows_looked, follows_then}
+use Rattle.cdb_make.proofs.Bytes.Written.{on_any_err}
 use Rattle.cdb_make.proofs.batch.Batch.replace.Goals as goal
 
 pub returns-in_err-taken-clause-fails : goal.returns-in_err-taken-clause-fails

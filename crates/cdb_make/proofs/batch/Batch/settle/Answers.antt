@@ -3,7 +3,7 @@ use Rattle.std.specs.List.Sorted.{IsPermutation, IsNonDecreasingBy}
 use Rattle.std.proofs.lemmas.List.Sorted.{length_permutation}
 use Rattle.std.proofs.lemmas.Result.{err_from_is_err_and}
 use Rattle.cdb_make.specs.declared.removal.gap.Gap.{Gap}
-use Rattle.cdb_make.proofs.Batches.{none_apart, settles_closed, fails_pass}
+use Rattle.cdb_make.proofs.Making.Batches.{none_apart, settles_closed, fails_pass}
 use Rattle.cdb_make.proofs.batch.Batch.settle.Goals as goal
 
 pub returns-clause-settles : goal.returns-clause-settles

@@ -4,7 +4,7 @@ use Rattle.cdb_store.specs.Images.{SameImages}
 use Rattle.cdb_store.proofs.Moves.{kept_same}
 use Rattle.cdb_form.specs.Format.Pair.{WordPair}
 use Rattle.cdb_make.specs.Finished.{IsFinished}
-use Rattle.cdb_make.proofs.FinishedFile.{kept_then, head_kept, head_then}
+use Rattle.cdb_make.proofs.Making.FinishedFile.{kept_then, head_kept, head_then}
 use Rattle.cdb_make.proofs.finish.file.finish.Goals as goal
 
 -- room that is made first changes no image

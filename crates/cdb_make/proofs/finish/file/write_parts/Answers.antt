@@ -11,9 +11,9 @@ use Rattle.cdb_make.specs.declared.index.list.EntryList.{EntryList}
 use Rattle.cdb_make.specs.Parts.{table_bytes}
 use Rattle.cdb_make.specs.Views.EntryList.{lists_entries}
 use Rattle.cdb_make.specs.Views.Lists.{all_entries}
-use Rattle.cdb_make.proofs.TableBytes.{length-tables}
-use Rattle.cdb_make.proofs.FinishedFile.{finished, kept_then, head_kept, tables_held}
-use Rattle.cdb_make.proofs.Written.{on_any_ok}
+use Rattle.cdb_make.proofs.Slots.TableBytes.{length-tables}
+use Rattle.cdb_make.proofs.Making.FinishedFile.{finished, kept_then, head_kept, tables_held}
+use Rattle.cdb_make.proofs.Bytes.Written.{on_any_ok}
 use Rattle.cdb_make.proofs.finish.file.write_parts.Goals as goal
 
 pub returns-in_err-write_tables-clause-kept : goal.returns-in_err-write_tables-clause-kept

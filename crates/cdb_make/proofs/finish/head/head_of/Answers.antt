@@ -1,7 +1,7 @@
 use Rattle.std.proofs.Common.{refl, arith, length, ◌*◌, length-set}
-use Rattle.cdb_form.proofs.Sizes.{slots_within}
+use Rattle.cdb_form.proofs.Files.Sizes.{slots_within}
 use Rattle.cdb_make.specs.Views.EntryList.{list_entries}
-use Rattle.cdb_make.proofs.HeadPointers.{pointers_none, pointers_next, sums_within, sums_more, table_size}
+use Rattle.cdb_make.proofs.Slots.HeadPointers.{pointers_none, pointers_next, sums_within, sums_more, table_size}
 use Rattle.std.proofs.lemmas.Grind.{common_steps}
 use Rattle.cdb_make.proofs.finish.head.head_of.Goals as goal
 

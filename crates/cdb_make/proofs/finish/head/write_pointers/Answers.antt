@@ -1,7 +1,7 @@
 use Rattle.std.proofs.Common.{◌+◌, ◌*◌, ◌≤◌, length, sum_by, arith}
 use Rattle.std.proofs.lemmas.List.Elements.{All-same}
 use Rattle.cdb_form.specs.Views.Pairs.{PairFits}
-use Rattle.cdb_form.proofs.Sizes.{pointers_fit}
+use Rattle.cdb_form.proofs.Files.Sizes.{pointers_fit}
 use Rattle.cdb_make.specs.Views.Lists.{all_entries}
 use Rattle.cdb_make.proofs.finish.head.write_pointers.Goals as goal
 

@@ -1,7 +1,7 @@
 use Rattle.std.proofs.Common.{arith, rules, subst, sym}
 use Rattle.cdb_form.specs.Views.Pairs.{slot_pair, PairFits}
 use Rattle.cdb_form.specs.declared.slot.Slot.{Slot}
-use Rattle.cdb_make.proofs.Written.{slot_fits}
+use Rattle.cdb_make.proofs.Bytes.Written.{slot_fits}
 use Rattle.cdb_make.proofs.finish.table.encode_slots.Goals as goal
 
 pub write_slot-requires-clause-fits : goal.write_slot-requires-clause-fits

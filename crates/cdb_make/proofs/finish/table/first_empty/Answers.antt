@@ -1,4 +1,4 @@
-use Rattle.cdb_make.proofs.Filling.{first_behind_slots, first_before_slots}
+use Rattle.cdb_make.proofs.Slots.Filling.{first_behind_slots, first_before_slots}
 use Rattle.cdb_make.proofs.finish.table.first_empty.Goals as goal
 
 pub returns-then-behind-slots-clause-first : goal.returns-then-behind-slots-clause-first

@@ -1,5 +1,5 @@
 use Rattle.std.proofs.Common.{arith}
-use Rattle.cdb_make.proofs.RunLemmas.{all_zero}
+use Rattle.cdb_make.proofs.Slots.RunLemmas.{all_zero}
 use Rattle.cdb_make.proofs.finish.table.forget.Goals as goal
 
 pub returns : goal.returns

@@ -1,7 +1,7 @@
 use Rattle.std.proofs.Common.{arith, map, length, ◌<◌}
 use Rattle.std.proofs.lemmas.List.{length-set}
 use Rattle.cdb_form.specs.Views.Pairs.{slot_pair}
-use Rattle.cdb_make.proofs.RunLemmas.{runs_passed, run_noted}
+use Rattle.cdb_make.proofs.Slots.RunLemmas.{runs_passed, run_noted}
 use Rattle.cdb_make.proofs.finish.table.next_empty.Goals as goal
 
 pub overflow_add-joined : goal.overflow_add-joined

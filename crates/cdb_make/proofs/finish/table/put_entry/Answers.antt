@@ -1,8 +1,8 @@
 use Rattle.std.proofs.Common.{arith, refl, map, subst, sym, slice_set}
 use Rattle.cdb_form.specs.Views.Pairs.{slot_pair}
 use Rattle.cdb_make.specs.Runs.{AreRuns}
-use Rattle.cdb_make.proofs.Filling.{entry_put}
-use Rattle.cdb_make.proofs.RunLemmas.{filled_kept, runs_unknown}
+use Rattle.cdb_make.proofs.Slots.Filling.{entry_put}
+use Rattle.cdb_make.proofs.Slots.RunLemmas.{filled_kept, runs_unknown}
 use Rattle.cdb_make.proofs.finish.table.put_entry.Goals.{then-slots-place-eq0, else-slots-place-eq0}
 use Rattle.cdb_make.proofs.finish.table.put_entry.Goals as goal
 

@@ -1,6 +1,6 @@
 use Rattle.std.proofs.Common.{map}
 use Rattle.cdb_form.specs.Views.Pairs.{slot_pair}
-use Rattle.cdb_make.proofs.RunLemmas.{slot_used, run_some, none_empty, none_past}
+use Rattle.cdb_make.proofs.Slots.RunLemmas.{slot_used, run_some, none_empty, none_past}
 use Rattle.cdb_make.proofs.finish.table.run_at.Goals.{else-at-slots-via-then-at-slots+else-slots-at-ne0, else-at-slots-via-else-at-slots}
 use Rattle.cdb_make.proofs.finish.table.run_at.Goals as goal
 

@@ -5,8 +5,8 @@ use Rattle.cdb_form.specs.Format.Pair.{WordPair}
 use Rattle.cdb_form.specs.Format.Table.{empty_slot, filled_slots}
 use Rattle.cdb_form.specs.Views.Pairs.{slot_pair}
 use Rattle.cdb_make.specs.Views.EntryList.{list_entries}
-use Rattle.cdb_make.proofs.Filling.{all_empty, filled_nothing, filled_next}
-use Rattle.cdb_make.proofs.RunLemmas.{runs_none}
+use Rattle.cdb_make.proofs.Slots.Filling.{all_empty, filled_nothing, filled_next}
+use Rattle.cdb_make.proofs.Slots.RunLemmas.{runs_none}
 use Rattle.cdb_make.proofs.finish.tables.fill_table_of.Goals as goal
 
 pub loop-n-init : goal.loop-n-init

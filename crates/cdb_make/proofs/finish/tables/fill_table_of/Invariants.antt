@@ -2,7 +2,7 @@ use Rattle.std.proofs.Common.{◌≡◌, ◌*◌, length, map, take}
 use Rattle.cdb_form.specs.Format.Table.{filled_slots}
 use Rattle.cdb_form.specs.Views.Pairs.{slot_pair}
 use Rattle.cdb_make.specs.Views.EntryList.{list_entries}
-use Rattle.cdb_make.proofs.TableBytes.{HaveHashes}
+use Rattle.cdb_make.proofs.Slots.TableBytes.{HaveHashes}
 use Rattle.cdb_make.specs.Runs.{AreRuns}
 use Rattle.cdb_make.proofs.finish.tables.fill_table_of.Given as goal
 

@@ -3,8 +3,8 @@ use Rattle.std.proofs.lemmas.List.Elements.{All-same}
 use Rattle.cdb_form.specs.Format.Pair.{WordPair}
 use Rattle.cdb_form.specs.Views.Pairs.{PairFits}
 use Rattle.cdb_make.specs.Views.EntryList.{list_entries}
-use Rattle.cdb_make.proofs.Written.{top_fits, table_fits}
-use Rattle.cdb_make.proofs.TableBytes.{hashed_fit, nothing_written}
+use Rattle.cdb_make.proofs.Bytes.Written.{top_fits, table_fits}
+use Rattle.cdb_make.proofs.Slots.TableBytes.{hashed_fit, nothing_written}
 use Rattle.std.proofs.lemmas.Grind.{common_steps}
 use Rattle.cdb_make.proofs.finish.tables.write_table.Goals as goal
 

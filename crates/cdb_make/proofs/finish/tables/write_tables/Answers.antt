@@ -7,8 +7,8 @@ use Rattle.cdb_form.specs.Format.Table.{empty_slot}
 use Rattle.cdb_form.specs.Views.Pairs.{slot_pair}
 use Rattle.cdb_make.specs.Parts.{table_bytes}
 use Rattle.cdb_make.specs.Views.EntryList.{list_entries, lists_entries}
-use Rattle.cdb_make.proofs.HeadPointers.{sums_more}
-use Rattle.cdb_make.proofs.TableBytes.{table_room, tables_next, length-tables}
+use Rattle.cdb_make.proofs.Slots.HeadPointers.{sums_more}
+use Rattle.cdb_make.proofs.Slots.TableBytes.{table_room, tables_next, length-tables}
 use Rattle.std.proofs.lemmas.Grind.{common_steps}
 use Rattle.cdb_make.proofs.finish.tables.write_tables.Goals as goal
 

@@ -1,7 +1,7 @@
 use Rattle.std.proofs.Common.{arith, ℕ, ◌<◌, List, length, get_or}
 use Rattle.cdb_make.specs.declared.index.list.EntryList.{EntryList}
 use Rattle.cdb_make.specs.Views.EntryList.{IsClosed}
-use Rattle.cdb_make.proofs.ClosedLists.{closed_more, closed_past, sum_gone}
+use Rattle.cdb_make.proofs.Gaps.ClosedLists.{closed_more, closed_past, sum_gone}
 use Rattle.cdb_make.proofs.index.close_lists.close_lists.Goals as goal
 
 pub loop-n-preserved-then-is_group_below : goal.loop-n-preserved-then-is_group_below

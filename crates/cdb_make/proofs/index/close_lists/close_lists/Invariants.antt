@@ -1,6 +1,6 @@
 use Rattle.std.proofs.Common.{◌≡◌, ◌+◌, ◌-◌, ◌≤◌, length, sum_by}
 use Rattle.cdb_make.specs.Views.EntryList.{lists_entries}
-use Rattle.cdb_make.proofs.ClosedLists.{ClosedBelow}
+use Rattle.cdb_make.proofs.Gaps.ClosedLists.{ClosedBelow}
 use Rattle.cdb_make.proofs.index.close_lists.close_lists.Given as goal
 
 abbrev pub invariant-loop-n : goal.invariant-loop-n

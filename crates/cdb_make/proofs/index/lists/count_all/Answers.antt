@@ -1,7 +1,7 @@
 use Rattle.std.proofs.Common.{arith, ap, ◌∙◌, length, sum_by}
 use Rattle.std.proofs.lemmas.List.{take_all}
 use Rattle.cdb_make.specs.Views.EntryList.{list_entries, lists_entries}
-use Rattle.cdb_make.proofs.HeadPointers.{sums_within, sums_more}
+use Rattle.cdb_make.proofs.Slots.HeadPointers.{sums_within, sums_more}
 use Rattle.cdb_make.proofs.index.lists.count_all.Goals as goal
 
 pub overflow_add-count : goal.overflow_add-count

@@ -1,7 +1,7 @@
 use Rattle.std.proofs.Common.{arith, ap, length, inl, inr}
 use Rattle.std.proofs.lemmas.Result.{on_ok_weaker, on_err_weaker}
-use Rattle.cdb_make.proofs.Sides.{list_long}
-use Rattle.cdb_make.proofs.Written.{on_any_err}
+use Rattle.cdb_make.proofs.Entries.Sides.{list_long}
+use Rattle.cdb_make.proofs.Bytes.Written.{on_any_err}
 use Rattle.cdb_make.proofs.index.lists.grow.Goals as goal
 
 pub returns-in_err-reserve-clause-full : goal.returns-in_err-reserve-clause-full

@@ -4,7 +4,7 @@ use Rattle.std.proofs.lemmas.List.{take_all, get_or-map, length-map}
 use Rattle.std.proofs.lemmas.List.Elements.{All-more, All-weaker, All-same}
 use Rattle.cdb_form.specs.Format.Pair.{WordPair}
 use Rattle.cdb_make.specs.Views.EntryList.{list_entries, lists_entries}
-use Rattle.cdb_make.proofs.HeadPointers.{sums_within}
+use Rattle.cdb_make.proofs.Slots.HeadPointers.{sums_within}
 use Rattle.cdb_make.proofs.index.lists.longest.Goals as goal
 
 pub loop-list-preserved : goal.loop-list-preserved

@@ -1,6 +1,6 @@
 use Rattle.std.proofs.Common.{◌≤◌, take, length, sum_by}
 use Rattle.cdb_make.specs.Views.EntryList.{lists_entries}
-use Rattle.cdb_make.proofs.ClosedLists.{NoneLonger}
+use Rattle.cdb_make.proofs.Gaps.ClosedLists.{NoneLonger}
 use Rattle.cdb_make.proofs.index.lists.longest.Given as goal
 
 -- no list so far is longer, and all of them together are at least as long

@@ -1,4 +1,4 @@
-use Rattle.cdb_make.proofs.Hashes.{marked_more}
+use Rattle.cdb_make.proofs.Marked.Hashes.{marked_more}
 use Rattle.cdb_make.proofs.index.lists.mark_each.Goals as goal
 
 pub loop-gap-preserved : goal.loop-gap-preserved

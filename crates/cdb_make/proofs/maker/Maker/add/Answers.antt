@@ -2,9 +2,9 @@ use Rattle.std.proofs.Common.{arith, refl, rules}
 use Rattle.std.proofs.lemmas.Result.{err_from_is_err_and}
 use Rattle.cdb_form.specs.Format.Record.{KeyValue}
 use Rattle.cdb_make.specs.Views.Maker.{HasRoom}
-use Rattle.cdb_make.proofs.Carrying.{carried_stand, carries_kept, carries_more}
-use Rattle.cdb_make.proofs.Puts.{adds_more, adds_none}
-use Rattle.cdb_make.proofs.Written.{on_any_err}
+use Rattle.cdb_make.proofs.Making.Carrying.{carried_stand, carries_kept, carries_more}
+use Rattle.cdb_make.proofs.Making.Puts.{adds_more, adds_none}
+use Rattle.cdb_make.proofs.Bytes.Written.{on_any_err}
 use Rattle.std.proofs.lemmas.Grind.{common_steps}
 use Rattle.cdb_make.proofs.maker.Maker.add.Goals as goal
 

@@ -6,8 +6,8 @@ use Rattle.cdb_form.specs.Format.File.{whole_size}
 use Rattle.cdb_form.specs.Format.Record.{KeyValue}
 use Rattle.cdb_form.specs.Format.Walk.{prefix_record}
 use Rattle.cdb_make.specs.Views.Appending.{FailsAppending, PassesLimit, records_at}
-use Rattle.cdb_make.proofs.Appends.{appends_until, fails_wider, passes_limit}
-use Rattle.cdb_make.proofs.Fitting.{next_fits, next_splits}
+use Rattle.cdb_make.proofs.Making.Appends.{appends_until, fails_wider, passes_limit}
+use Rattle.cdb_make.proofs.Bytes.Fitting.{next_fits, next_splits}
 use Rattle.cdb_make.proofs.maker.Maker.append.Goals as goal
 
 pub returns-in_err-append_first-clause-fails : goal.returns-in_err-append_first-clause-fails

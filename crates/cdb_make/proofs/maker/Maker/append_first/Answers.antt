@@ -5,10 +5,10 @@ use Rattle.cdb_store.specs.Images.{Holds as Stored}
 use Rattle.cdb_form.specs.Format.File.{whole_size}
 use Rattle.cdb_form.specs.Format.Record.{KeyValue, record_size}
 use Rattle.cdb_form.specs.Format.Walk.{prefix_record}
-use Rattle.cdb_form.proofs.Sizes.{size_split}
+use Rattle.cdb_form.proofs.Files.Sizes.{size_split}
 use Rattle.cdb_make.specs.Views.Appending.{AreFirst, FailsAppending, KeepsLimit, records_at}
-use Rattle.cdb_make.proofs.Appends.{appends_all, fails_behind, fails_writing, keeps_limit}
-use Rattle.cdb_make.proofs.Fitting.{first_none, next_fits, next_of, next_splits, sum_take}
+use Rattle.cdb_make.proofs.Making.Appends.{appends_all, fails_behind, fails_writing, keeps_limit}
+use Rattle.cdb_make.proofs.Bytes.Fitting.{first_none, next_fits, next_of, next_splits, sum_take}
 use Rattle.cdb_make.proofs.maker.Maker.append_first.Goals as goal
 
 pub write_behind-requires-clause-fits : goal.write_behind-requires-clause-fits

@@ -1,10 +1,10 @@
 use Rattle.std.proofs.Common.{arith, refl, ◌≡◌, ◌≤◌, true, false}
-use Rattle.cdb_make.proofs.ClosedAll.{count_small}
-use Rattle.cdb_make.proofs.Carrying.{carried_stand, settled_holds}
-use Rattle.cdb_make.proofs.Following.{follows_closed}
-use Rattle.cdb_make.proofs.Makers.{comes_torn}
-use Rattle.cdb_make.proofs.Marks.{among_self}
-use Rattle.cdb_make.proofs.Replacing.{fewer_within}
+use Rattle.cdb_make.proofs.Entries.ClosedAll.{count_small}
+use Rattle.cdb_make.proofs.Making.Carrying.{carried_stand, settled_holds}
+use Rattle.cdb_make.proofs.Making.Following.{follows_closed}
+use Rattle.cdb_make.proofs.Making.Makers.{comes_torn}
+use Rattle.cdb_make.proofs.Marked.Marks.{among_self}
+use Rattle.cdb_make.proofs.Making.Replacing.{fewer_within}
 use Rattle.cdb_make.proofs.maker.Maker.close.Goals as goal
 
 pub close-requires-clause-few : goal.close-requires-clause-few

@@ -1,4 +1,4 @@
-use Rattle.cdb_make.proofs.Makers.{held_count}
+use Rattle.cdb_make.proofs.Making.Makers.{held_count}
 use Rattle.cdb_make.proofs.maker.Maker.count.Goals as goal
 
 pub returns-clause-holds : goal.returns-clause-holds

@@ -5,10 +5,10 @@ use Rattle.std.proofs.lemmas.List.{length-map}
 use Rattle.cdb_form.specs.Format.Pair.{WordPair}
 use Rattle.cdb_make.specs.Views.EntryList.{list_entries, with_entry}
 use Rattle.cdb_make.specs.Views.Lists.{all_entries}
-use Rattle.cdb_make.proofs.Added.{spare_more, within_more}
-use Rattle.cdb_make.proofs.Appends.{entered_holds}
-use Rattle.cdb_make.proofs.Makers.{stays_looked}
-use Rattle.cdb_make.proofs.Written.{on_any_err}
+use Rattle.cdb_make.proofs.Making.Added.{spare_more, within_more}
+use Rattle.cdb_make.proofs.Making.Appends.{entered_holds}
+use Rattle.cdb_make.proofs.Making.Makers.{stays_looked}
+use Rattle.cdb_make.proofs.Bytes.Written.{on_any_err}
 use Rattle.cdb_make.proofs.maker.Maker.enter.Goals as goal
 
 -- an entry more, among those that stayed when room was made for it

@@ -5,12 +5,12 @@ use Rattle.cdb_form.specs.Format.File.{whole_size}
 use Rattle.cdb_form.specs.Format.Hash.{key_hash}
 use Rattle.cdb_form.specs.Format.Record.{AreBytes, KeyValue, record_bytes, record_size}
 use Rattle.cdb_form.specs.Format.Walk.{prefix_record, prefix_size}
-use Rattle.cdb_form.proofs.HeadLemmas.{rest_of}
-use Rattle.cdb_form.proofs.Standing.{AreBytes-drop}
+use Rattle.cdb_form.proofs.Bytes.HeadLemmas.{rest_of}
+use Rattle.cdb_form.proofs.Files.Standing.{AreBytes-drop}
 use Rattle.cdb_make.specs.Views.Appending.{Enters, first_size, records_at}
-use Rattle.cdb_make.proofs.Appends.{entered_size, enters_more, stops_entering}
-use Rattle.cdb_make.proofs.Fitting.{first_more, prefix_is_record, prefix_sized, next_fits, next_of, next_splits, next_stored, next_sums, next_within, sum_take}
-use Rattle.cdb_make.proofs.Written.{on_any_err}
+use Rattle.cdb_make.proofs.Making.Appends.{entered_size, enters_more, stops_entering}
+use Rattle.cdb_make.proofs.Bytes.Fitting.{first_more, prefix_is_record, prefix_sized, next_fits, next_of, next_splits, next_stored, next_sums, next_within, sum_take}
+use Rattle.cdb_make.proofs.Bytes.Written.{on_any_err}
 use Rattle.cdb_make.proofs.maker.Maker.enter_all.Goals as goal
 
 -- the place behind a record, by its size

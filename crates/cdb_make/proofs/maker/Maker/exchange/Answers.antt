@@ -6,13 +6,13 @@ use Rattle.cdb_make.specs.declared.removal.gap.Gap.{Gap}
 use Rattle.cdb_make.specs.Gaps.{AreApart}
 use Rattle.cdb_make.specs.Marks.{AreMarked, fresh}
 use Rattle.cdb_make.specs.Survivors.{without, count_of}
-use Rattle.cdb_make.proofs.ClosedAll.{count_small}
-use Rattle.cdb_make.proofs.Exchanged.{exchanged_holds, exchanged_written, exchange_fails, room_left, add_wants}
-use Rattle.cdb_make.proofs.Following.{follows_behind, follows_closed}
-use Rattle.cdb_make.proofs.Makers.{comes_torn, held_stand}
-use Rattle.cdb_make.proofs.Marks.{among_none}
-use Rattle.cdb_make.proofs.Puts.{comes_then}
-use Rattle.cdb_make.proofs.Whole.{count_found, stand_marked, stands_without}
+use Rattle.cdb_make.proofs.Entries.ClosedAll.{count_small}
+use Rattle.cdb_make.proofs.Making.Exchanged.{exchanged_holds, exchanged_written, exchange_fails, room_left, add_wants}
+use Rattle.cdb_make.proofs.Making.Following.{follows_behind, follows_closed}
+use Rattle.cdb_make.proofs.Making.Makers.{comes_torn, held_stand}
+use Rattle.cdb_make.proofs.Marked.Marks.{among_none}
+use Rattle.cdb_make.proofs.Making.Puts.{comes_then}
+use Rattle.cdb_make.proofs.Marked.Whole.{count_found, stand_marked, stands_without}
 use Rattle.std.proofs.lemmas.Grind.{common_steps}
 use Rattle.cdb_make.proofs.maker.Maker.exchange.Goals as goal
 

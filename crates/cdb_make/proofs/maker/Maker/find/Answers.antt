@@ -1,12 +1,12 @@
 use Rattle.std.proofs.Common.{refl, ap, sym, subst, ◌∙◌, ◌≡◌, List, Err, rules, arith}
 use Rattle.cdb_store.specs.Reads.{OnlyReads}
 use Rattle.cdb_make.specs.Views.Lists.{all_entries}
-use Rattle.cdb_make.proofs.Compare.{reads_fewer}
+use Rattle.cdb_make.proofs.Bytes.Compare.{reads_fewer}
 use Rattle.cdb_form.specs.Format.Pair.{WordPair}
 use Rattle.cdb_make.specs.Looks.{NoNewImage}
 use Rattle.cdb_make.specs.Marks.{StandMarked}
-use Rattle.cdb_make.proofs.Carrying.{carried_stand, carries_looked, none_carried}
-use Rattle.cdb_make.proofs.Makers.{writes_looked, fails_looked}
+use Rattle.cdb_make.proofs.Making.Carrying.{carried_stand, carries_looked, none_carried}
+use Rattle.cdb_make.proofs.Making.Makers.{writes_looked, fails_looked}
 use Rattle.std.proofs.lemmas.Grind.{common_steps}
 use Rattle.cdb_make.proofs.maker.Maker.find.Goals as goal
 

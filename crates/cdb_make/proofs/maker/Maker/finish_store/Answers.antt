@@ -1,6 +1,6 @@
 use Rattle.std.proofs.Common.{refl, ap, ◌∙◌, Err, rules}
 use Rattle.std.proofs.lemmas.Result.{on_ok_weaker}
-use Rattle.cdb_make.proofs.Finishes.{is_file, fails_finishing, on_fault_is}
+use Rattle.cdb_make.proofs.Making.Finishes.{is_file, fails_finishing, on_fault_is}
 use Rattle.cdb_make.proofs.maker.Maker.finish_store.Goals as goal
 
 pub returns-clause-file : goal.returns-clause-file

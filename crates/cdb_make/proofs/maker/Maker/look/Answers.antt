@@ -1,11 +1,11 @@
 use Rattle.std.proofs.Common.{refl, ap, sym, subst, ◌∙◌, ◌≡◌, List, [], Err, rules}
 use Rattle.cdb_make.specs.Views.Lists.{all_entries}
-use Rattle.cdb_make.proofs.Compare.{reads_fewer}
+use Rattle.cdb_make.proofs.Bytes.Compare.{reads_fewer}
 use Rattle.cdb_form.specs.Format.Pair.{WordPair}
 use Rattle.cdb_make.specs.Looks.{NoNewImage}
 use Rattle.cdb_make.specs.Marks.{StandMarked}
-use Rattle.cdb_make.proofs.Carrying.{carried_stand, carries_looked, held_carried, none_carried}
-use Rattle.cdb_make.proofs.Makers.{writes_looked, fails_looked}
+use Rattle.cdb_make.proofs.Making.Carrying.{carried_stand, carries_looked, held_carried, none_carried}
+use Rattle.cdb_make.proofs.Making.Makers.{writes_looked, fails_looked}
 use Rattle.cdb_make.proofs.maker.Maker.look.Goals as goal
 
 pub returns-in-Ok-clause-ok : goal.returns-in-Ok-clause-ok

@@ -1,7 +1,7 @@
 use Rattle.std.proofs.Common.{arith, inl, inr, ap, ◌∙◌, ◌<◌, length-append, vec_capacity}
 use Rattle.cdb_form.specs.Format.Hash.{table_number}
-use Rattle.cdb_make.proofs.MarkedLists.{all_counted, all_within, all_spare, all_marked}
-use Rattle.cdb_make.proofs.Marks.{key_long}
+use Rattle.cdb_make.proofs.Marked.MarkedLists.{all_counted, all_within, all_spare, all_marked}
+use Rattle.cdb_make.proofs.Marked.Marks.{key_long}
 use Rattle.cdb_make.proofs.maker.Maker.mark.Goals as goal
 
 pub invariant_of-self-clause-counted : goal.invariant_of-self-clause-counted

@@ -1,5 +1,5 @@
 use Rattle.std.proofs.Common.{refl, rules}
-use Rattle.cdb_make.proofs.Finishes.{holds_none, lists_counted, lists_within, lists_spare}
+use Rattle.cdb_make.proofs.Making.Finishes.{holds_none, lists_counted, lists_within, lists_spare}
 use Rattle.cdb_make.proofs.maker.Maker.new.Goals as goal
 
 pub invariant_of-result-clause-counted : goal.invariant_of-result-clause-counted

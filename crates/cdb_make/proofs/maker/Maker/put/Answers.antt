@@ -2,7 +2,7 @@ use Rattle.std.proofs.Common.{refl, sym, ap, cond}
 use Rattle.std.proofs.lemmas.Result.{err_from_is_err_and}
 use Rattle.cdb_form.specs.declared.mode.Mode.TheVariants.{Add, Warn, Insert}
 use Rattle.cdb_make.specs.declared.records.put.Put.TheVariants.{Added, AddedAgain}
-use Rattle.cdb_make.proofs.Puts.{puts_added, fails_added, fails_add, puts_present, just_add, just_warn, just_insert, writes_same}
+use Rattle.cdb_make.proofs.Making.Puts.{puts_added, fails_added, fails_add, puts_present, just_add, just_warn, just_insert, writes_same}
 use Rattle.cdb_make.proofs.maker.Maker.put.Goals as goal
 
 pub returns-in_err-add-in-Add-clause-fails : goal.returns-in_err-add-in-Add-clause-fails

@@ -7,14 +7,14 @@ use Rattle.cdb_make.specs.Gaps.{AreApart}
 use Rattle.cdb_make.specs.Marks.{AreMarked, StandMarked, fresh}
 use Rattle.cdb_make.specs.Views.Lists.{all_entries}
 use Rattle.cdb_make.specs.Views.Maker.{Holds}
-use Rattle.cdb_make.proofs.Carrying.{held_carried}
-use Rattle.cdb_make.proofs.ClosedAll.{count_small}
-use Rattle.cdb_make.proofs.Following.{follows_closed, follows_looked, follows_then}
-use Rattle.cdb_make.proofs.Makers.{comes_torn, held_stand}
-use Rattle.cdb_make.proofs.Marks.{among_none}
-use Rattle.cdb_make.proofs.Removing.{fails_closed, removes_closed}
-use Rattle.cdb_make.proofs.Replacing.{fewer_within}
-use Rattle.cdb_make.proofs.Whole.{stand_marked}
+use Rattle.cdb_make.proofs.Making.Carrying.{held_carried}
+use Rattle.cdb_make.proofs.Entries.ClosedAll.{count_small}
+use Rattle.cdb_make.proofs.Making.Following.{follows_closed, follows_looked, follows_then}
+use Rattle.cdb_make.proofs.Making.Makers.{comes_torn, held_stand}
+use Rattle.cdb_make.proofs.Marked.Marks.{among_none}
+use Rattle.cdb_make.proofs.Making.Removing.{fails_closed, removes_closed}
+use Rattle.cdb_make.proofs.Making.Replacing.{fewer_within}
+use Rattle.cdb_make.proofs.Marked.Whole.{stand_marked}
 use Rattle.cdb_make.proofs.maker.Maker.remove.Goals as goal
 
 pub close-requires-clause-few : goal.close-requires-clause-few

@@ -8,13 +8,13 @@ use Rattle.cdb_make.specs.declared.removal.gap.Gap.{Gap}
 use Rattle.cdb_form.specs.declared.mode.Mode.TheVariants.{Replace}
 use Rattle.cdb_make.specs.declared.records.put.Put.TheVariants.{Added}
 use Rattle.cdb_make.specs.Gaps.{AreApart}
-use Rattle.cdb_make.proofs.Merge.{apart_lower}
-use Rattle.cdb_make.proofs.Picking.{apart_higher}
-use Rattle.cdb_make.proofs.Whole.{apart_sizes}
-use Rattle.cdb_make.proofs.Carrying.{held_carried}
-use Rattle.cdb_make.proofs.Makers.{honest_comes, writes_looked}
-use Rattle.cdb_make.proofs.Puts.{puts_added, fails_added, comes_same, comes_then, writes_then}
-use Rattle.cdb_make.proofs.Replacing.{just_replace, fewer_bytes, wants_memory, fails_too_big, would_replace, fails_wanting, fails_exchange, puts_exchanged, gaps_same}
+use Rattle.cdb_make.proofs.Gaps.Merge.{apart_lower}
+use Rattle.cdb_make.proofs.Gaps.Picking.{apart_higher}
+use Rattle.cdb_make.proofs.Marked.Whole.{apart_sizes}
+use Rattle.cdb_make.proofs.Making.Carrying.{held_carried}
+use Rattle.cdb_make.proofs.Making.Makers.{honest_comes, writes_looked}
+use Rattle.cdb_make.proofs.Making.Puts.{puts_added, fails_added, comes_same, comes_then, writes_then}
+use Rattle.cdb_make.proofs.Making.Replacing.{just_replace, fewer_bytes, wants_memory, fails_too_big, would_replace, fails_wanting, fails_exchange, puts_exchanged, gaps_same}
 use Rattle.std.proofs.lemmas.Grind.{common_steps}
 use Rattle.cdb_make.proofs.maker.Maker.replace.Goals as goal
 

@@ -1,5 +1,5 @@
 use Rattle.std.proofs.Common.{◌≡◌, ◌*◌, ap, arith, ℕ}
-use Rattle.cdb_make.proofs.Makers.{held_size}
+use Rattle.cdb_make.proofs.Making.Makers.{held_size}
 use Rattle.cdb_make.proofs.maker.Maker.size.Goals as goal
 
 pub returns-clause-holds : goal.returns-clause-holds

@@ -2,8 +2,8 @@ use Rattle.std.proofs.Common.{arith, refl, ◌-◌, ℕ, inl}
 use Rattle.cdb_store.specs.Images.{AreSized, KeepsPart}
 use Rattle.cdb_store.proofs.Moves.{kept_torn}
 use Rattle.cdb_form.specs.Format.Pair.{head_size}
-use Rattle.cdb_make.proofs.Added.{stored_written}
-use Rattle.cdb_make.proofs.Puts.{comes_write, stays_kept}
+use Rattle.cdb_make.proofs.Making.Added.{stored_written}
+use Rattle.cdb_make.proofs.Making.Puts.{comes_write, stays_kept}
 use Rattle.cdb_make.proofs.maker.Maker.write_behind.Goals as goal
 
 pub write_at-requires-clause-end : goal.write_at-requires-clause-end

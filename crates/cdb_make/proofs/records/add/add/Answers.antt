@@ -3,14 +3,14 @@ use Rattle.cdb_store.specs.Images.{AreSized}
 use Rattle.cdb_store.proofs.Moves.{kept_torn}
 use Rattle.cdb_form.specs.Format.Pair.{WordPair, head_size}
 use Rattle.cdb_form.specs.Format.Record.{KeyValue}
-use Rattle.cdb_form.proofs.Sizes.{length-record_bytes}
+use Rattle.cdb_form.proofs.Files.Sizes.{length-record_bytes}
 use Rattle.std.proofs.lemmas.List.{length-map}
 use Rattle.cdb_make.specs.Views.EntryList.{list_entries, with_entry}
 use Rattle.cdb_make.specs.Views.Lists.{all_entries}
-use Rattle.cdb_make.proofs.Whole.{stand_marked, marked_stand}
-use Rattle.cdb_make.proofs.Added.{marked_stand_more, within_more, spare_more}
-use Rattle.cdb_make.proofs.Written.{on_any_err}
-use Rattle.cdb_make.proofs.Puts.{comes_write}
+use Rattle.cdb_make.proofs.Marked.Whole.{stand_marked, marked_stand}
+use Rattle.cdb_make.proofs.Making.Added.{marked_stand_more, within_more, spare_more}
+use Rattle.cdb_make.proofs.Bytes.Written.{on_any_err}
+use Rattle.cdb_make.proofs.Making.Puts.{comes_write}
 use Rattle.std.proofs.lemmas.Grind.{common_steps}
 use Rattle.cdb_make.proofs.records.add.add.Goals as goal
 

@@ -2,7 +2,7 @@ use Rattle.std.proofs.Common.{ℕ, ◌≡◌, ◌<◌, ◌≤◌, List, Some, No
 use Rattle.std.proofs.lemmas.List.{take_rest}
 use Rattle.cdb_form.specs.Format.Walk.{prefix_size}
 use Rattle.cdb_form.specs.Views.Prefix.{PrefixTells}
-use Rattle.cdb_make.proofs.Fitting.{first_more, next_splits, next_sums, no_next}
+use Rattle.cdb_make.proofs.Bytes.Fitting.{first_more, next_splits, next_sums, no_next}
 use Rattle.cdb_make.proofs.records.append.measure.Goals as goal
 use Rattle.cdb_make.proofs.records.append.measure.Goals.{then-left-slots-via-then-left-slots, then-left-slots-via-else-left-slots+then-left-slots-2}
 

@@ -1,7 +1,7 @@
 use Rattle.std.proofs.Common.{rules, arith, ◌≡◌, ◌∙◌, length, length-append, length-drop}
 use Rattle.cdb_store.specs.Reads.{OnlyReads}
 use Rattle.cdb_store.proofs.Reading.{reads_more}
-use Rattle.cdb_make.proofs.Compare.{differs, agrees, agrees_piece, tells_other}
+use Rattle.cdb_make.proofs.Bytes.Compare.{differs, agrees, agrees_piece, tells_other}
 use Rattle.std.proofs.lemmas.Grind.{common_steps}
 use Rattle.cdb_make.proofs.records.key_at.is_read_at.Goals as goal
 

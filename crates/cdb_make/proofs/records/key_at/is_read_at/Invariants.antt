@@ -1,6 +1,6 @@
 use Rattle.std.proofs.Common.{◌-◌, ◌≡◌, ◌≤◌, length, take}
 use Rattle.cdb_store.specs.Reads.{OnlyReads}
-use Rattle.cdb_make.proofs.Compare.{AgreesSoFar}
+use Rattle.cdb_make.proofs.Bytes.Compare.{AgreesSoFar}
 use Rattle.cdb_make.proofs.records.key_at.is_read_at.Given as goal
 
 abbrev pub invariant-loop-done : goal.invariant-loop-done

@@ -1,7 +1,7 @@
 use Rattle.std.proofs.Common.{rules, arith, ap, ◌∙◌, ◌≡◌, ◌*◌, ◌≤◌, length, take}
 use Rattle.cdb_form.specs.Format.Reading.{pair_at}
 use Rattle.cdb_form.specs.Views.Pairs.{header_pair}
-use Rattle.cdb_make.proofs.Headers.{has_lengths, held_behind}
+use Rattle.cdb_make.proofs.Bytes.Headers.{has_lengths, held_behind}
 use Rattle.cdb_make.proofs.records.key_at.read_prefix.Goals as goal
 
 pub returns-clause-lengths : goal.returns-clause-lengths

@@ -3,9 +3,9 @@ use Rattle.cdb_store.specs.declared.store.StoreFault.TheVariants.{NoMemory}
 use Rattle.cdb_store.specs.Images.{AfterWrite, AfterTornWrite, AreSized}
 use Rattle.cdb_store.proofs.Moves.{same_refl, torn_same, write_between, torn_between, torn_behind, torn_wider, write_more}
 use Rattle.cdb_form.specs.Format.Record.{KeyValue, record_bytes}
-use Rattle.cdb_form.proofs.HeadLemmas.{length-pair_bytes}
-use Rattle.cdb_form.proofs.Sizes.{length-record_bytes}
-use Rattle.cdb_make.proofs.Written.{pieces_are, on_ok_of}
+use Rattle.cdb_form.proofs.Bytes.HeadLemmas.{length-pair_bytes}
+use Rattle.cdb_form.proofs.Files.Sizes.{length-record_bytes}
+use Rattle.cdb_make.proofs.Bytes.Written.{pieces_are, on_ok_of}
 use Rattle.cdb_make.proofs.records.write.append_parts.Goals as goal
 
 pub returns-in_err-reserve-clause-within : goal.returns-in_err-reserve-clause-within

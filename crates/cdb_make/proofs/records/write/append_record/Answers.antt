@@ -2,8 +2,8 @@ use Rattle.std.proofs.Common.{arith, ◌≡◌, ℕ, List, length, ap, subst, �
 use Rattle.cdb_store.specs.Images.{AfterWrite}
 use Rattle.cdb_store.proofs.Moves.{torn_wider}
 use Rattle.cdb_form.specs.Format.Record.{KeyValue, record_size}
-use Rattle.cdb_form.proofs.Sizes.{length-record_bytes}
-use Rattle.cdb_make.proofs.Written.{on_ok_of}
+use Rattle.cdb_form.proofs.Files.Sizes.{length-record_bytes}
+use Rattle.cdb_make.proofs.Bytes.Written.{on_ok_of}
 use Rattle.cdb_make.proofs.records.write.append_record.Goals as goal
 
 pub returns-clause-ok : goal.returns-clause-ok

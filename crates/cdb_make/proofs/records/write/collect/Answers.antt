@@ -1,6 +1,6 @@
 use Rattle.std.proofs.Common.{ℕ, List, length, ◌++◌, refl, ap, ◌∙◌}
 use Rattle.cdb_form.specs.Format.Record.{KeyValue}
-use Rattle.cdb_make.proofs.Written.{pieces_are}
+use Rattle.cdb_make.proofs.Bytes.Written.{pieces_are}
 use Rattle.cdb_make.proofs.records.write.collect.Goals as goal
 
 pub returns : goal.returns

@@ -3,8 +3,8 @@ use Rattle.std.proofs.lemmas.Result.{on_ok_weaker}
 use Rattle.cdb_store.specs.Images.{AreSized}
 use Rattle.cdb_make.specs.declared.removal.gap.Gap.{Gap}
 use Rattle.cdb_make.specs.Gaps.{kept_len}
-use Rattle.cdb_make.proofs.Apart.{next_gap, last_gap, apart_next, apart_end, NextApart}
-use Rattle.cdb_make.proofs.Squeeze.{Squeezing, squeezing_more, squeezing_all, torn_more}
+use Rattle.cdb_make.proofs.Gaps.Apart.{next_gap, last_gap, apart_next, apart_end, NextApart}
+use Rattle.cdb_make.proofs.Gaps.Squeeze.{Squeezing, squeezing_more, squeezing_all, torn_more}
 use Rattle.std.proofs.lemmas.Grind.{common_steps}
 use Rattle.cdb_make.proofs.removal.close.close_gaps.Goals as goal
 

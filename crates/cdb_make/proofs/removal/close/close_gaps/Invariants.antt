@@ -1,7 +1,7 @@
 use Rattle.std.proofs.Common.{◌≡◌, ◌+◌, ◌-◌, ◌≤◌, drop}
 use Rattle.cdb_store.specs.Images.{TornWithin}
 use Rattle.cdb_make.specs.Gaps.{AreApart, kept_len}
-use Rattle.cdb_make.proofs.Squeeze.{Squeezing}
+use Rattle.cdb_make.proofs.Gaps.Squeeze.{Squeezing}
 use Rattle.cdb_make.proofs.removal.close.close_gaps.Given as goal
 
 abbrev pub invariant-loop-gap : goal.invariant-loop-gap

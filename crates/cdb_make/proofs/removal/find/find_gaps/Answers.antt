@@ -7,9 +7,9 @@ use Rattle.cdb_make.specs.declared.records.key_at.LookFault.TheVariants.{Foreign
 use Rattle.cdb_make.specs.Gaps.{AreApart}
 use Rattle.cdb_make.specs.Looks.{LooksAt, SizeWithin}
 use Rattle.cdb_make.specs.Views.EntryList.{entries_of}
-use Rattle.cdb_make.proofs.Compare.{reads_fewer}
-use Rattle.cdb_make.proofs.Sides.{entry_at, list_long}
-use Rattle.cdb_make.proofs.Picking.{PicksSoFar, Noted, noted_none, noted_one, entries_over, picks_until, picks_all, picks_done, chains_none, chains_back, chains_until, chains_all, apart_higher}
+use Rattle.cdb_make.proofs.Bytes.Compare.{reads_fewer}
+use Rattle.cdb_make.proofs.Entries.Sides.{entry_at, list_long}
+use Rattle.cdb_make.proofs.Gaps.Picking.{PicksSoFar, Noted, noted_none, noted_one, entries_over, picks_until, picks_all, picks_done, chains_none, chains_back, chains_until, chains_all, apart_higher}
 use Rattle.cdb_make.proofs.removal.find.find_gaps.Goals.{in-Some+else-place-last, in_default}
 use Rattle.std.proofs.lemmas.Grind.{common_steps}
 use Rattle.cdb_make.proofs.removal.find.find_gaps.Goals as goal

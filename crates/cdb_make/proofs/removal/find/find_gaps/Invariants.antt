@@ -3,7 +3,7 @@ use Rattle.std.specs.Prelude.{slice_index}
 use Rattle.cdb_store.specs.Reads.{OnlyReads}
 use Rattle.cdb_make.specs.Gaps.{AreApart}
 use Rattle.cdb_make.specs.Views.EntryList.{entries_of}
-use Rattle.cdb_make.proofs.Picking.{PicksSoFar, ChainsOn}
+use Rattle.cdb_make.proofs.Gaps.Picking.{PicksSoFar, ChainsOn}
 use Rattle.cdb_make.proofs.removal.find.find_gaps.Given as goal
 
 abbrev pub invariant-loop-next : goal.invariant-loop-next

@@ -5,9 +5,9 @@ use Rattle.cdb_make.specs.declared.records.key_at.LookFault.{LookFault}
 use Rattle.cdb_make.specs.declared.records.key_at.LookFault.TheVariants.{Foreign}
 use Rattle.cdb_make.specs.Looks.{LooksAt, size_at}
 use Rattle.cdb_make.specs.Views.EntryList.{entries_of}
-use Rattle.cdb_make.proofs.Compare.{reads_fewer}
-use Rattle.cdb_make.proofs.Sides.{entry_at, list_long}
-use Rattle.cdb_make.proofs.Picking.{skip_key, take_entry, entries_over, picks_skip, picks_until, picks_all, chains_skip, chains_none, chains_until, chains_low, tells_none, tells_some, has_it, has_it_not}
+use Rattle.cdb_make.proofs.Bytes.Compare.{reads_fewer}
+use Rattle.cdb_make.proofs.Entries.Sides.{entry_at, list_long}
+use Rattle.cdb_make.proofs.Gaps.Picking.{skip_key, take_entry, entries_over, picks_skip, picks_until, picks_all, chains_skip, chains_none, chains_until, chains_low, tells_none, tells_some, has_it, has_it_not}
 use Rattle.cdb_make.proofs.removal.find.some_has.Goals as goal
 
 pub bounds-places-next : goal.bounds-places-next

@@ -2,7 +2,7 @@ use Rattle.std.proofs.Common.{◌≡◌, ◌<◌, ◌≤◌, ◌-◌, [], ℕ, d
 use Rattle.std.specs.Prelude.{slice_index}
 use Rattle.cdb_store.specs.Reads.{OnlyReads}
 use Rattle.cdb_make.specs.Views.EntryList.{entries_of}
-use Rattle.cdb_make.proofs.Picking.{PicksSoFar, ChainsOn}
+use Rattle.cdb_make.proofs.Gaps.Picking.{PicksSoFar, ChainsOn}
 use Rattle.cdb_make.proofs.removal.find.some_has.Given as goal
 
 abbrev pub invariant-loop-next : goal.invariant-loop-next

@@ -1,8 +1,8 @@
 use Rattle.std.proofs.Common.{arith, ◌≡◌, ◌+◌, ◌^◌, ℕ, List, ◌∷◌, get_or, drop}
 use Rattle.std.proofs.lemmas.Grind.{common_steps}
 use Rattle.cdb_make.specs.declared.removal.gap.Gap.{Gap}
-use Rattle.cdb_make.proofs.Apart.{next_gap, apart_next, NextApart}
-use Rattle.cdb_make.proofs.Merge.{apart_lower}
+use Rattle.cdb_make.proofs.Gaps.Apart.{next_gap, apart_next, NextApart}
+use Rattle.cdb_make.proofs.Gaps.Merge.{apart_lower}
 use Rattle.cdb_make.proofs.removal.gap.all_sizes.Goals as goal
 
 pub overflow_add-sizes : goal.overflow_add-sizes

@@ -2,8 +2,8 @@ use Rattle.std.proofs.Common.{◌≡◌, ◌+◌, ◌≤◌, ℕ, List, ◌∷�
 use Rattle.std.proofs.lemmas.List.{take_more, take_all}
 use Rattle.cdb_make.specs.declared.removal.gap.Gap.{Gap}
 use Rattle.cdb_make.specs.Gaps.{AreApart}
-use Rattle.cdb_make.proofs.Apart.{next_gap, apart_end, apart_next}
-use Rattle.cdb_make.proofs.Picking.{apart_push, apart_higher}
+use Rattle.cdb_make.proofs.Gaps.Apart.{next_gap, apart_end, apart_next}
+use Rattle.cdb_make.proofs.Gaps.Picking.{apart_push, apart_higher}
 use Rattle.cdb_make.proofs.removal.settle.are_apart.Goals.{then-gap-last-via-then-gap-last, then-gap-last-via-else-gap-last+then-end-gap, then-gap-last-via-else-gap-last+else-end-gap+then-end-gap-2}
 use Rattle.cdb_make.proofs.removal.settle.are_apart.Goals as goal
 

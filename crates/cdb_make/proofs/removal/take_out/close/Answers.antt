@@ -4,10 +4,10 @@ use Rattle.cdb_store.specs.Images.{AreSized}
 use Rattle.cdb_form.specs.Format.Pair.{head_size}
 use Rattle.cdb_make.specs.declared.removal.gap.Gap.{Gap}
 use Rattle.cdb_make.specs.Gaps.{Closed, first_place, kept_len}
-use Rattle.cdb_make.proofs.ClosedAll.{within_closed, spare_closed}
-use Rattle.cdb_make.proofs.Merge.{apart_lower}
-use Rattle.cdb_make.proofs.Picking.{apart_higher}
-use Rattle.cdb_make.proofs.Whole.{no_gaps, apart_sizes, lists_stay, stands_closed, went_counted, writes_marked, marked_still, marked_none_written}
+use Rattle.cdb_make.proofs.Entries.ClosedAll.{within_closed, spare_closed}
+use Rattle.cdb_make.proofs.Gaps.Merge.{apart_lower}
+use Rattle.cdb_make.proofs.Gaps.Picking.{apart_higher}
+use Rattle.cdb_make.proofs.Marked.Whole.{no_gaps, apart_sizes, lists_stay, stands_closed, went_counted, writes_marked, marked_still, marked_none_written}
 use Rattle.std.proofs.lemmas.Grind.{common_steps}
 use Rattle.cdb_make.proofs.removal.take_out.close.Goals as goal
 

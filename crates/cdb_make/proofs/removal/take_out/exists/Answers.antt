@@ -1,9 +1,9 @@
 use Rattle.std.proofs.Common.{arith, ap, ◌≡◌, get_or, []}
 use Rattle.std.proofs.lemmas.Result.{IfOk-weaker}
 use Rattle.cdb_form.specs.Format.Hash.{table_number}
-use Rattle.cdb_make.proofs.Compare.{reads_fewer}
+use Rattle.cdb_make.proofs.Bytes.Compare.{reads_fewer}
 use Rattle.cdb_make.specs.Views.EntryList.{list_entries}
-use Rattle.cdb_make.proofs.Whole.{there_found, none_stands}
+use Rattle.cdb_make.proofs.Marked.Whole.{there_found, none_stands}
 use Rattle.cdb_make.proofs.removal.take_out.exists.Goals as goal
 
 pub returns-clause-one : goal.returns-clause-one

@@ -2,10 +2,10 @@ use Rattle.std.proofs.Common.{arith, sym, ap, ◌<◌, ◌∙◌, ◌≡◌, ℕ
 use Rattle.std.proofs.lemmas.List.{get_or-map}
 use Rattle.std.proofs.lemmas.Result.{on_ok_weaker}
 use Rattle.cdb_form.specs.Format.Hash.{table_number}
-use Rattle.cdb_make.proofs.Compare.{reads_fewer}
+use Rattle.cdb_make.proofs.Bytes.Compare.{reads_fewer}
 use Rattle.cdb_make.specs.Views.EntryList.{list_entries, lists_entries}
 use Rattle.cdb_make.specs.declared.index.list.EntryList.{EntryList}
-use Rattle.cdb_make.proofs.Whole.{gaps_found, none_stands}
+use Rattle.cdb_make.proofs.Marked.Whole.{gaps_found, none_stands}
 use Rattle.cdb_make.proofs.removal.take_out.find.Goals as goal
 
 pub find_gaps-requires-clause-room : goal.find_gaps-requires-clause-room

@@ -1,9 +1,9 @@
 use Rattle.std.proofs.Common.{◌≤◌, refl, sym, ap, ◌∙◌, subst, rules, arith}
 use Rattle.cdb_read.specs.Views.Walk.{place_of}
 use Rattle.cdb_read.specs.Views.Walking.{behind, walk_ahead, next_place}
-use Rattle.cdb_read.proofs.EnteredWalk.{EnteredSoFar, entered_none, entered_more, entered_all}
-use Rattle.cdb_read.proofs.PieceReads.{reads_more}
-use Rattle.cdb_read.proofs.WalkedLengths.{reads_nothing, some_word}
+use Rattle.cdb_read.proofs.Checks.EnteredWalk.{EnteredSoFar, entered_none, entered_more, entered_all}
+use Rattle.cdb_read.proofs.Bytes.PieceReads.{reads_more}
+use Rattle.cdb_read.proofs.Walked.WalkedLengths.{reads_nothing, some_word}
 use Rattle.std.proofs.lemmas.Grind.{common_steps}
 use Rattle.cdb_read.proofs.checking.collected.walk_entries.Goals as goal
 

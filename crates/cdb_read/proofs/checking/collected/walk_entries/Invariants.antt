@@ -1,7 +1,7 @@
 use Rattle.std.proofs.Common.{◌≡◌, ℕ, List, length}
 use Rattle.cdb_store.specs.Reads.{OnlyReads}
 use Rattle.cdb_read.specs.Views.Walk.{left_of, place_of, bytes_left}
-use Rattle.cdb_read.proofs.EnteredWalk.{EnteredSoFar}
+use Rattle.cdb_read.proofs.Checks.EnteredWalk.{EnteredSoFar}
 use Rattle.cdb_read.proofs.checking.collected.walk_entries.Given as goal
 
 -- the records so far are kept

@@ -3,8 +3,8 @@ use Rattle.std.proofs.lemmas.List.Sums.{fold-append}
 use Rattle.cdb_store.proofs.Parts.{part_add}
 use Rattle.cdb_store.specs.Images.{part, Holds}
 use Rattle.cdb_form.specs.Format.Hash.{hash_step}
-use Rattle.cdb_read.proofs.PieceReads.{reads_more}
-use Rattle.cdb_read.proofs.Windows.{holds_shown}
+use Rattle.cdb_read.proofs.Bytes.PieceReads.{reads_more}
+use Rattle.cdb_read.proofs.Bytes.Windows.{holds_shown}
 use Rattle.cdb_read.proofs.checking.key_hash.span_hash.Goals as goal
 
 pub loop-done-preserved : goal.loop-done-preserved

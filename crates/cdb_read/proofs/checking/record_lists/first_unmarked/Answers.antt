@@ -1,5 +1,5 @@
 use Rattle.std.proofs.Common.{◌+◌, sym, subst, arith}
-use Rattle.cdb_read.proofs.Earliest.{IsFirstOf, first_none, first_more, first_all}
+use Rattle.cdb_read.proofs.Checks.Earliest.{IsFirstOf, first_none, first_more, first_all}
 use Rattle.cdb_read.proofs.checking.record_lists.first_unmarked.Goals as goal
 
 pub loop-list-init : goal.loop-list-init

@@ -1,4 +1,4 @@
-use Rattle.cdb_read.proofs.Earliest.{IsFirstOf}
+use Rattle.cdb_read.proofs.Checks.Earliest.{IsFirstOf}
 use Rattle.cdb_read.proofs.checking.record_lists.first_unmarked.Given as goal
 
 -- the first one of the lists so far

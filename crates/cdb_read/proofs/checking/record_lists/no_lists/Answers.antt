@@ -3,7 +3,7 @@ use Rattle.std.proofs.Common.{[], List, sym, subst, arith}
 use Rattle.std.proofs.lemmas.List.Elements.{All-push}
 use Rattle.cdb_read.specs.Views.TableRecords.{Marks}
 use Rattle.cdb_read.specs.declared.checking.table_records.TableRecords.{TableRecords}
-use Rattle.cdb_read.proofs.ListMarks.{marks_nothing, lists_none}
+use Rattle.cdb_read.proofs.Checks.ListMarks.{marks_nothing, lists_none}
 use Rattle.cdb_read.proofs.checking.record_lists.no_lists.Goals as goal
 
 pub loop-preserved : goal.loop-preserved

@@ -2,10 +2,10 @@ use Rattle.std.proofs.Common.{ap, sym, ◌∙◌, arith, refl, take}
 use Rattle.cdb_form.specs.Views.Pairs.{pointer_pair, slot_pair}
 use Rattle.cdb_read.specs.Lookup.{slots_at}
 use Rattle.cdb_read.specs.SlotRuns.{run_of}
-use Rattle.cdb_read.proofs.PieceReads.{reads_more}
-use Rattle.cdb_read.proofs.WalkedLengths.{reads_nothing}
-use Rattle.cdb_read.proofs.RunEnds.{run_of-none}
-use Rattle.cdb_read.proofs.SlotChecks.{slot_read, slots_more, slots_all}
+use Rattle.cdb_read.proofs.Bytes.PieceReads.{reads_more}
+use Rattle.cdb_read.proofs.Walked.WalkedLengths.{reads_nothing}
+use Rattle.cdb_read.proofs.FilledTables.RunEnds.{run_of-none}
+use Rattle.cdb_read.proofs.Checks.SlotChecks.{slot_read, slots_more, slots_all}
 use Rattle.cdb_read.proofs.checking.slot_runs.last_run.Goals as goal
 
 pub loop-i-init : goal.loop-i-init

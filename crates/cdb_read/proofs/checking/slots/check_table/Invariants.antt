@@ -4,7 +4,7 @@ use Rattle.cdb_read.specs.Lookup.{slots_at}
 use Rattle.cdb_read.specs.SlotRuns.{run_of}
 use Rattle.cdb_store.specs.Reads.{OnlyReads}
 use Rattle.cdb_read.specs.Views.Window.{Shows}
-use Rattle.cdb_read.proofs.SlotChecks.{IsClearTo}
+use Rattle.cdb_read.proofs.Checks.SlotChecks.{IsClearTo}
 use Rattle.cdb_read.proofs.checking.slots.check_table.Given as goal
 
 -- the slots so far have no fault, and the run before the next is known

@@ -3,11 +3,11 @@ use Rattle.std.proofs.lemmas.Result.{err_from_is_err_and}
 use Rattle.cdb_form.specs.Views.Pairs.{pointer_pair}
 use Rattle.cdb_read.specs.Views.Check.{ReadTells}
 use Rattle.cdb_read.specs.Views.Checked.{TableHas, TablesHave}
-use Rattle.cdb_read.proofs.AllTables.{are_clear_none, are_clear_more, are_clear_all, fault_in}
-use Rattle.cdb_read.proofs.PieceReads.{reads_more}
-use Rattle.cdb_read.proofs.TableChecks.{stands_at}
-use Rattle.cdb_read.proofs.Tells.{read_tells}
-use Rattle.cdb_read.proofs.WalkedLengths.{reads_nothing}
+use Rattle.cdb_read.proofs.Checks.AllTables.{are_clear_none, are_clear_more, are_clear_all, fault_in}
+use Rattle.cdb_read.proofs.Bytes.PieceReads.{reads_more}
+use Rattle.cdb_read.proofs.Checks.TableChecks.{stands_at}
+use Rattle.cdb_read.proofs.Checks.Tells.{read_tells}
+use Rattle.cdb_read.proofs.Walked.WalkedLengths.{reads_nothing}
 use Rattle.cdb_read.proofs.checking.slots.check_tables.Goals as goal
 
 pub loop-n-init : goal.loop-n-init

@@ -1,7 +1,7 @@
 use Rattle.std.proofs.Common.{◌≡◌, ℕ, List, length}
 use Rattle.cdb_store.specs.Reads.{OnlyReads}
 use Rattle.cdb_read.specs.Views.Window.{Shows}
-use Rattle.cdb_read.proofs.AllTables.{AreClearTo}
+use Rattle.cdb_read.proofs.Checks.AllTables.{AreClearTo}
 use Rattle.cdb_read.proofs.checking.slots.check_tables.Given as goal
 
 -- the tables so far have no fault

@@ -7,9 +7,9 @@ use Rattle.cdb_read.specs.Views.Check.{CheckFails, IsFirst}
 use Rattle.cdb_read.specs.Views.Checked.{HasEntries, WalkHas, TablesAreClear, TablesHave}
 use Rattle.cdb_read.specs.Views.Inside.{StandsInside}
 use Rattle.cdb_read.specs.declared.checking.table_records.TableRecords.{TableRecords}
-use Rattle.cdb_read.proofs.CheckLaws.{IsWhole, first_is_table, first_in_walk, first_in_slots, first_is_lost, sound_is}
-use Rattle.cdb_read.proofs.Tells.{read_tells, check_tells, check_tells_more}
-use Rattle.cdb_read.proofs.WalkedLengths.{some_word}
+use Rattle.cdb_read.proofs.Checks.CheckLaws.{IsWhole, first_is_table, first_in_walk, first_in_slots, first_is_lost, sound_is}
+use Rattle.cdb_read.proofs.Checks.Tells.{read_tells, check_tells, check_tells_more}
+use Rattle.cdb_read.proofs.Walked.WalkedLengths.{some_word}
 use Rattle.std.proofs.lemmas.Grind.{common_steps}
 use Rattle.cdb_read.proofs.checking.sound.check.Goals as goal
 

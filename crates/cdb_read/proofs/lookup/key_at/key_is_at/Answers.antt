@@ -1,8 +1,8 @@
 use Rattle.std.proofs.Common.{arith, ◌+◌}
 use Rattle.cdb_store.specs.Images.{Holds}
-use Rattle.cdb_read.proofs.Compare.{differs, agrees, agrees_piece, tells_other}
-use Rattle.cdb_read.proofs.PieceReads.{reads_more}
-use Rattle.cdb_read.proofs.Windows.{holds_shown}
+use Rattle.cdb_read.proofs.Bytes.Compare.{differs, agrees, agrees_piece, tells_other}
+use Rattle.cdb_read.proofs.Bytes.PieceReads.{reads_more}
+use Rattle.cdb_read.proofs.Bytes.Windows.{holds_shown}
 use Rattle.std.proofs.lemmas.Grind.{common_steps}
 use Rattle.cdb_read.proofs.lookup.key_at.key_is_at.Goals as goal
 

@@ -1,7 +1,7 @@
 use Rattle.std.proofs.Common.{◌-◌, ◌≤◌, length, take}
 use Rattle.cdb_store.specs.Reads.{OnlyReads}
 use Rattle.cdb_read.specs.Views.Window.{Shows}
-use Rattle.cdb_read.proofs.Compare.{AgreesSoFar}
+use Rattle.cdb_read.proofs.Bytes.Compare.{AgreesSoFar}
 use Rattle.cdb_read.proofs.lookup.key_at.key_is_at.Given as goal
 
 abbrev pub invariant-loop-done : goal.invariant-loop-done

@@ -1,6 +1,6 @@
 use Rattle.std.proofs.Common.{◌++◌, ap, ◌∙◌}
 use Rattle.std.proofs.lemmas.Bool.{OnTrue_at}
-use Rattle.cdb_read.proofs.Windows.{shown_is}
+use Rattle.cdb_read.proofs.Bytes.Windows.{shown_is}
 use Rattle.cdb_read.proofs.reader.Reader.shown_into.Goals as goal
 
 pub returns-then-covers-clause-is : goal.returns-then-covers-clause-is

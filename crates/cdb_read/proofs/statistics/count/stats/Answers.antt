@@ -5,7 +5,7 @@ use Rattle.cdb_read.specs.Statistics.{statistics_damage, table_sizes}
 use Rattle.cdb_read.specs.Views.Counting.{Spreads}
 use Rattle.cdb_form.specs.Views.Pairs.{head_pairs}
 use Rattle.cdb_read.specs.Views.Stats.{StatsFail}
-use Rattle.cdb_read.proofs.StatsLaws.{damage_outside, damage_walk, walk_fails, slots_fail, still_inside, stats_are}
+use Rattle.cdb_read.proofs.Counting.StatsLaws.{damage_outside, damage_walk, walk_fails, slots_fail, still_inside, stats_are}
 use Rattle.cdb_read.proofs.statistics.count.stats.Goals as goal
 
 pub returns-in-Some-clause-fails : goal.returns-in-Some-clause-fails

@@ -1,7 +1,7 @@
 use Rattle.std.proofs.Common.{◌≡◌, ◌≤◌, ℕ, List}
 use Rattle.cdb_store.specs.Reads.{OnlyReads}
 use Rattle.cdb_read.specs.Views.Walk.{left_of, place_of, bytes_left}
-use Rattle.cdb_read.proofs.WalkedLengths.{WalkedSoFar}
+use Rattle.cdb_read.proofs.Walked.WalkedLengths.{WalkedSoFar}
 use Rattle.cdb_read.proofs.statistics.lengths.walk_lengths.Given as goal
 
 -- the records so far were counted

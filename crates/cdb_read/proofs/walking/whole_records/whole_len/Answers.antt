@@ -2,8 +2,8 @@ use Rattle.std.proofs.Common.{◌≡◌, ℕ, ◌+◌, ◌≤◌, List, Some, No
 use Rattle.std.proofs.lemmas.List.{drop-drop, take_rest}
 use Rattle.cdb_form.specs.Format.Walk.{prefix_size}
 use Rattle.cdb_form.specs.Views.Prefix.{PrefixTells}
-use Rattle.cdb_read.proofs.WalkedLengths.{some_word}
-use Rattle.cdb_read.proofs.AheadRecords.{all_size, size_step, size_end}
+use Rattle.cdb_read.proofs.Walked.WalkedLengths.{some_word}
+use Rattle.cdb_read.proofs.Walked.AheadRecords.{all_size, size_step, size_end}
 use Rattle.cdb_read.proofs.walking.whole_records.whole_len.Goals as goal
 
 pub loop-len-preserved : goal.loop-len-preserved

@@ -1,5 +1,5 @@
 use Rattle.std.proofs.Common.{◌≡◌, ◌+◌, ◌-◌, ◌≤◌, length, drop}
-use Rattle.cdb_read.proofs.AheadRecords.{all_size}
+use Rattle.cdb_read.proofs.Walked.AheadRecords.{all_size}
 use Rattle.cdb_read.proofs.walking.whole_records.whole_len.Given as goal
 
 abbrev pub invariant-loop-len : goal.invariant-loop-len

@@ -1,6 +1,6 @@
 use Rattle.std.proofs.Common.{ap, ◌+◌, ℕ}
 use Rattle.std.proofs.lemmas.Result.{err_from_is_err_and}
-use Rattle.cdb_make.proofs.Following.{follows_then}
+use Rattle.cdb_make.proofs.Making.Following.{follows_then}
 use Rattle.cdb_tool.proofs.InputRuns.{put_none, put_next, inputs_fail, next_has, halted}
 use Rattle.cdb_tool.proofs.runs.make.put_inputs.Goals as goal
 

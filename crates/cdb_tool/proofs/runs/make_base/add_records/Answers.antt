@@ -1,7 +1,7 @@
 use Rattle.std.proofs.Common.{refl, ap, ◌∙◌, rules}
 use Rattle.std.proofs.lemmas.Result.{err_from_is_err_and}
 use Rattle.cdb_store.proofs.Reading.{reads_more, reads_nothing}
-use Rattle.cdb_make.proofs.Following.{follows_same, follows_then}
+use Rattle.cdb_make.proofs.Making.Following.{follows_same, follows_then}
 use Rattle.cdb_read.specs.Views.Walk.{left_of}
 use Rattle.cdb_tool.proofs.BaseRecords.{added_none, added_next, added_all, added_not}
 use Rattle.cdb_tool.proofs.runs.make_base.add_records.Goals as goal

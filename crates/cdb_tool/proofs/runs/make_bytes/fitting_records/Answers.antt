@@ -2,7 +2,7 @@ use Rattle.std.proofs.Common.{arith, ◌++◌, ◌∷◌, [], List, ℕ, refl, s
 use Rattle.cdb_form.specs.Format.Record.{KeyValue}
 use Rattle.cdb_make.specs.Views.Maker.{Holds, FailsPutting}
 use Rattle.cdb_form.specs.declared.mode.Mode.TheVariants.{Add}
-use Rattle.cdb_make.proofs.Makers.{held_size}
+use Rattle.cdb_make.proofs.Making.Makers.{held_size}
 use Rattle.std.proofs.lemmas.Result.{err_from_is_err_and}
 use Rattle.cdb_form.specs.Views.Pairs.{key_value}
 use Rattle.cdb_tool.proofs.WholeRuns.{holds_so_far_none, holds_so_far_more, reads_fitting, text_not_read, refused}

@@ -1,6 +1,6 @@
 use Rattle.std.proofs.Common.{◌∙◌}
 use Rattle.std.proofs.lemmas.Result.{err_from_is_err_and}
-use Rattle.cdb_form.proofs.WritingLemmas.{same_prefix, same_appends}
+use Rattle.cdb_form.proofs.Bytes.WritingLemmas.{same_prefix, same_appends}
 use Rattle.cdb_tool.proofs.WholeRuns.{nothing_made, file_made, file_fails}
 use Rattle.cdb_tool.proofs.runs.make_bytes.make_bytes_unflushed.Goals as goal
 

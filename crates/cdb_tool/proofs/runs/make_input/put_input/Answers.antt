@@ -5,7 +5,7 @@ use Rattle.cdb_form.specs.Text.Amending.{Change, Putting}
 use Rattle.cdb_form.specs.Views.Prefix.{shown_by}
 use Rattle.cdb_form.specs.Views.KnownBytes.{FromTo}
 use Rattle.cdb_form.specs.Views.Pairs.{change_in}
-use Rattle.cdb_make.proofs.Following.{follows_same, follows_then}
+use Rattle.cdb_make.proofs.Making.Following.{follows_same, follows_then}
 use Rattle.cdb_tool.specs.Runs.Inputs.{IsInputOf}
 use Rattle.cdb_tool.specs.Runs.Make.{InCourse, form_of as task_form}
 use Rattle.cdb_tool.specs.Views.ItemReader.{form_of, unread}

@@ -1,6 +1,6 @@
 use Rattle.std.proofs.Common.{refl}
 use Rattle.std.proofs.lemmas.Result.{err_from_is_err_and}
-use Rattle.cdb_form.proofs.WritingLemmas.{prefix_in, writes_prefix}
+use Rattle.cdb_form.proofs.Bytes.WritingLemmas.{prefix_in, writes_prefix}
 use Rattle.cdb_tool.specs.Runs.StatsText.{records_line, keys_line, values_line, tables_line, sizes_line, distance_lines}
 use Rattle.cdb_tool.proofs.StatsTexts.{amid_prefix, amid_last, behind_records, behind_keys, behind_values, behind_tables, first_line, after_records, after_keys, after_values, after_tables, after_sizes}
 use Rattle.cdb_tool.proofs.runs.stats_text.write_stats.Goals as goal

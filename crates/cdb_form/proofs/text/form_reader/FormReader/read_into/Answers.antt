@@ -1,5 +1,5 @@
 use Rattle.std.proofs.Common.{refl}
-use Rattle.cdb_form.proofs.FormReads.{fails_as}
+use Rattle.cdb_form.proofs.NativeTexts.FormReads.{fails_as}
 use Rattle.cdb_form.proofs.text.form_reader.FormReader.read_into.Goals as goal
 
 pub returns-in-Err-clause-fails : goal.returns-in-Err-clause-fails

@@ -1,5 +1,5 @@
 use Rattle.std.proofs.Common.{[], arith, ◌∷◌}
-use Rattle.cdb_form.proofs.MapReads.{line_some, record_at_hand}
+use Rattle.cdb_form.proofs.MapTexts.MapReads.{line_some, record_at_hand}
 use Rattle.cdb_form.proofs.text.map_reader.MapReader.take_peeked.Goals as goal
 
 pub returns : goal.returns

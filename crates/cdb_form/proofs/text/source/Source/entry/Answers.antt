@@ -1,9 +1,9 @@
 use Rattle.std.proofs.Common.{◌≡◌, ℕ, [], true, false, arith, sym, subst, ◌∙◌, rules}
 use Rattle.std.proofs.lemmas.Result.{err_from_is_err_and}
-use Rattle.cdb_form.proofs.SourceLemmas.{kept_consumes, part_seen, seen_past, leaves_past}
+use Rattle.cdb_form.proofs.Sources.SourceLemmas.{kept_consumes, part_seen, seen_past, leaves_past}
 use Rattle.cdb_form.specs.Views.NativeParser.{FailsEntry}
 use Rattle.cdb_form.specs.declared.text.fault.TextFault.TheVariants.{Ended}
-use Rattle.cdb_form.proofs.Stops.{ended_first, syntax_first, mark_first, nothing_read}
+use Rattle.cdb_form.proofs.NativeTexts.Stops.{ended_first, syntax_first, mark_first, nothing_read}
 use Rattle.std.proofs.lemmas.Grind.{common_steps}
 use Rattle.cdb_form.proofs.text.source.Source.entry.Goals as goal
 

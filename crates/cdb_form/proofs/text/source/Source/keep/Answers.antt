@@ -3,8 +3,8 @@ use Rattle.std.proofs.Common.{[], ◌++◌, ◌∷◌, ◌≡◌, ◌<◌, arith
 use Rattle.std.proofs.lemmas.Result.{err_from_is_err_and}
 use Rattle.cdb_form.specs.Format.Record.{AreBytes}
 use Rattle.cdb_form.specs.Views.MapParser.{is_of}
-use Rattle.cdb_form.proofs.ByteLemmas.{AreBytes-append, AreBytes-push}
-use Rattle.cdb_form.proofs.MapReads.{kept_at_hand, kept_more, read_fault_outside, run_at_hand, run_ended, run_failed, run_more, run_stopped}
+use Rattle.cdb_form.proofs.Bytes.ByteLemmas.{AreBytes-append, AreBytes-push}
+use Rattle.cdb_form.proofs.MapTexts.MapReads.{kept_at_hand, kept_more, read_fault_outside, run_at_hand, run_ended, run_failed, run_more, run_stopped}
 use Rattle.cdb_form.proofs.text.source.Source.keep.Goals as goal
 
 pub loop-self-preserved : goal.loop-self-preserved

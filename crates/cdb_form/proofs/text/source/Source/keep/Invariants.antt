@@ -1,6 +1,6 @@
 use Rattle.std.proofs.Common.{List, ℕ, ◌∷◌, ◌≡◌}
 use Rattle.cdb_form.specs.Format.Record.{AreBytes}
-use Rattle.cdb_form.proofs.MapReads.{RunSoFar}
+use Rattle.cdb_form.proofs.MapTexts.MapReads.{RunSoFar}
 use Rattle.cdb_form.proofs.text.source.Source.keep.Given as goal
 
 -- the bytes so far are of the kind, and kept

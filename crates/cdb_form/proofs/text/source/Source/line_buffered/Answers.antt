@@ -1,5 +1,5 @@
 use Rattle.std.proofs.Common.{arith}
-use Rattle.cdb_form.proofs.MapReads.{line_at_hand}
+use Rattle.cdb_form.proofs.MapTexts.MapReads.{line_at_hand}
 use Rattle.cdb_form.proofs.text.source.Source.line_buffered.Goals as goal
 
 pub returns-clause-reads : goal.returns-clause-reads

@@ -1,5 +1,5 @@
 use Rattle.std.proofs.Common.{List, ℕ}
-use Rattle.cdb_form.proofs.MapReads.{LinesSoFar}
+use Rattle.cdb_form.proofs.MapTexts.MapReads.{LinesSoFar}
 use Rattle.cdb_form.proofs.text.source.Source.map_entry.Given as goal
 
 -- the lines so far are ignored

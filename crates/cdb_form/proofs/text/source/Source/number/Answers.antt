@@ -1,6 +1,6 @@
 use Rattle.std.proofs.Common.{◌≡◌, ◌+◌, ◌*◌, ap, ◌∙◌, arith, rules}
 use Rattle.std.specs.Char.{digit_value}
-use Rattle.cdb_form.proofs.SourceLemmas.{digit_more, digits_leave}
+use Rattle.cdb_form.proofs.Sources.SourceLemmas.{digit_more, digits_leave}
 use Rattle.std.proofs.lemmas.Grind.{common_steps}
 use Rattle.cdb_form.proofs.text.source.Source.number.Goals as goal
 

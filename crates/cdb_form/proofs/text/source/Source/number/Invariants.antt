@@ -1,6 +1,6 @@
 use Rattle.std.proofs.Common.{◌≡◌, ◌≤◌}
 use Rattle.cdb_form.specs.Views.Source.{budget}
-use Rattle.cdb_form.proofs.SourceLemmas.{DigitsSoFar}
+use Rattle.cdb_form.proofs.Sources.SourceLemmas.{DigitsSoFar}
 use Rattle.cdb_form.proofs.text.source.Source.number.Given as goal
 
 -- the digits so far

@@ -5,7 +5,7 @@ use Rattle.cdb_form.specs.Text.Map.{Lacks, is_newline}
 use Rattle.cdb_form.specs.Views.MapParser.{ReadsPair, ReadsValue, line_end}
 use Rattle.cdb_form.specs.Views.Source.{LeavesAmid}
 use Rattle.cdb_form.specs.declared.text.kind.Kind.TheVariants.{InWord}
-use Rattle.cdb_form.proofs.MapReads.{leaves_past, other_than, pair_is, pair_none, pair_value, run_to_end, run_to_newline}
+use Rattle.cdb_form.proofs.MapTexts.MapReads.{leaves_past, other_than, pair_is, pair_none, pair_value, run_to_end, run_to_newline}
 use Rattle.cdb_form.proofs.text.source.Source.pair.Goals as goal
 
 pub returns-in_default-clause-reads : goal.returns-in_default-clause-reads

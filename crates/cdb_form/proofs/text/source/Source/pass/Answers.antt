@@ -1,6 +1,6 @@
 use Rattle.std.proofs.Common.{[], ◌++◌, ◌∷◌, ◌≡◌, arith, true, rules}
 use Rattle.cdb_form.specs.Views.MapParser.{is_of}
-use Rattle.cdb_form.proofs.MapReads.{run_more}
+use Rattle.cdb_form.proofs.MapTexts.MapReads.{run_more}
 use Rattle.std.proofs.lemmas.Grind.{common_steps}
 use Rattle.cdb_form.proofs.text.source.Source.pass.Goals as goal
 

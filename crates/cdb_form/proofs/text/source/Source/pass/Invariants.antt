@@ -1,5 +1,5 @@
 use Rattle.std.proofs.Common.{List, ℕ}
-use Rattle.cdb_form.proofs.MapReads.{RunSoFar}
+use Rattle.cdb_form.proofs.MapTexts.MapReads.{RunSoFar}
 use Rattle.cdb_form.proofs.text.source.Source.pass.Given as goal
 
 -- the bytes so far are of the kind

@@ -1,7 +1,7 @@
 use Rattle.std.proofs.Common.{[], arith, rules}
 use Rattle.std.proofs.lemmas.Result.{err_from_is_err_and}
-use Rattle.cdb_form.proofs.SourceLemmas.{record_behind, seen_past, leaves_past}
-use Rattle.cdb_form.proofs.Stops.{record_fails, lift_klen, lift_vlen, lift_key, lift_angle, base_klen, base_vlen, base_key, base_angle, base_value}
+use Rattle.cdb_form.proofs.Sources.SourceLemmas.{record_behind, seen_past, leaves_past}
+use Rattle.cdb_form.proofs.NativeTexts.Stops.{record_fails, lift_klen, lift_vlen, lift_key, lift_angle, base_klen, base_vlen, base_key, base_angle, base_value}
 use Rattle.std.proofs.lemmas.Grind.{common_steps}
 use Rattle.cdb_form.proofs.text.source.Source.record.Goals as goal
 

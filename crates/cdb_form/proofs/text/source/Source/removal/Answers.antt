@@ -1,8 +1,8 @@
 use Rattle.std.proofs.lemmas.Grind.{common_steps}
 use Rattle.std.proofs.Common.{arith, rules}
 use Rattle.std.proofs.lemmas.Result.{err_from_is_err_and}
-use Rattle.cdb_form.proofs.SourceLemmas.{removal_behind, seen_past, leaves_past}
-use Rattle.cdb_form.proofs.Stops.{removal_fails, lift_length, base_length, base_value}
+use Rattle.cdb_form.proofs.Sources.SourceLemmas.{removal_behind, seen_past, leaves_past}
+use Rattle.cdb_form.proofs.NativeTexts.Stops.{removal_fails, lift_length, base_length, base_value}
 use Rattle.cdb_form.proofs.text.source.Source.removal.Goals as goal
 
 pub returns-clause-read : goal.returns-clause-read

@@ -1,7 +1,7 @@
 use Rattle.std.proofs.lemmas.Grind.{common_steps}
 use Rattle.std.proofs.Common.{◌≢◌, arith, rules}
 use Rattle.std.proofs.lemmas.Result.{err_from_is_err_and}
-use Rattle.cdb_form.proofs.MapReads.{leaves_past, other_than, value_some}
+use Rattle.cdb_form.proofs.MapTexts.MapReads.{leaves_past, other_than, value_some}
 use Rattle.cdb_form.proofs.text.source.Source.value.Goals as goal
 
 pub returns-in_err-stop-clause-leaves : goal.returns-in_err-stop-clause-leaves

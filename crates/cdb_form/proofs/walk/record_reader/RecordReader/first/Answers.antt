@@ -4,8 +4,8 @@ use Rattle.std.specs.Prelude.{max}
 use Rattle.std.proofs.lemmas.Result.{err_from_is_err_and, on_err_weaker, IfErr-weaker, IfOk-weaker}
 use Rattle.cdb_form.specs.Format.Pair.{head_size, pair_size}
 use Rattle.cdb_form.specs.Format.Walk.{record_end}
-use Rattle.cdb_form.proofs.StreamLemmas.{loses_still, still_then, no_further_then, true_weaker, first_then}
-use Rattle.cdb_form.proofs.AreaLemmas.{none_behind_head, first_behind_head}
+use Rattle.cdb_form.proofs.RecordReading.StreamLemmas.{loses_still, still_then, no_further_then, true_weaker, first_then}
+use Rattle.cdb_form.proofs.RecordReading.RecordAreas.{none_behind_head, first_behind_head}
 use Rattle.cdb_form.specs.Views.RecordReader.{walk_left, behind_end}
 use Rattle.cdb_form.proofs.walk.record_reader.RecordReader.first.Goals as goal
 

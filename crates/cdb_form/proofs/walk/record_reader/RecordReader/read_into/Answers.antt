@@ -1,5 +1,5 @@
 use Rattle.std.proofs.lemmas.Result.{IfOk-weaker}
-use Rattle.cdb_form.proofs.StreamLemmas.{kept_both, match_weaker}
+use Rattle.cdb_form.proofs.RecordReading.StreamLemmas.{kept_both, match_weaker}
 use Rattle.cdb_form.proofs.walk.record_reader.RecordReader.read_into.Goals as goal
 
 pub returns-clause-gives : goal.returns-clause-gives

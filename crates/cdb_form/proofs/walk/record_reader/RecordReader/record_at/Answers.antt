@@ -1,6 +1,6 @@
 use Rattle.std.proofs.Common.{◌-◌, arith, refl, rules}
 use Rattle.std.proofs.lemmas.Result.{err_from_is_err_and}
-use Rattle.cdb_form.proofs.StreamLemmas.{known_end, loses_still}
+use Rattle.cdb_form.proofs.RecordReading.StreamLemmas.{known_end, loses_still}
 use Rattle.std.proofs.lemmas.Grind.{common_steps}
 use Rattle.cdb_form.proofs.walk.record_reader.RecordReader.record_at.Goals as goal
 

@@ -1,5 +1,5 @@
 use Rattle.std.proofs.Common.{arith, inl, inr, refl}
-use Rattle.cdb_form.proofs.Stored.{peeked_taken}
+use Rattle.cdb_form.proofs.RecordReading.Stored.{peeked_taken}
 use Rattle.cdb_form.proofs.walk.record_reader.RecordReader.take_peeked.Goals as goal
 
 pub returns-in-At : goal.returns-in-At

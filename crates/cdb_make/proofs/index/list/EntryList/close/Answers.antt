@@ -1,5 +1,5 @@
 use Rattle.std.proofs.Common.{arith, ◌-◌, ◌^◌}
-use Rattle.cdb_make.proofs.Merge.{closed_below}
+use Rattle.cdb_make.proofs.Gaps.Merge.{closed_below}
 use Rattle.cdb_make.proofs.index.list.EntryList.close.Goals as goal
 
 pub returns-then-is_below-clause-entries : goal.returns-then-is_below-clause-entries

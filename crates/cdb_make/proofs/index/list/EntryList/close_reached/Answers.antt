@@ -5,9 +5,9 @@ use Rattle.std.proofs.lemmas.List.Elements.{All-same, All-take}
 use Rattle.cdb_form.specs.Format.Pair.{WordPair}
 use Rattle.cdb_make.specs.Gaps.{IsRising, closed_by}
 use Rattle.cdb_make.specs.Views.EntryList.{entries_of}
-use Rattle.cdb_make.proofs.Sides.{entries_of-take, length-entries_of, places_below, entries_below}
+use Rattle.cdb_make.proofs.Entries.Sides.{entries_of-take, length-entries_of, places_below, entries_below}
 use Rattle.cdb_make.specs.Rings.{AreLinked}
-use Rattle.cdb_make.proofs.Rings.{linked_prefix}
+use Rattle.cdb_make.proofs.Entries.Rings.{linked_prefix}
 use Rattle.cdb_make.proofs.index.list.EntryList.close_reached.Goals.{then-kept-linked, else-kept-linked}
 use Rattle.cdb_make.proofs.index.list.EntryList.close_reached.Goals as goal
 

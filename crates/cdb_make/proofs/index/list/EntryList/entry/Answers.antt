@@ -1,7 +1,7 @@
 use Rattle.std.proofs.Common.{◌≡◌, ◌<◌, ℕ, List, length, get_or, sym, ◌∙◌, arith}
 use Rattle.cdb_form.specs.Format.Pair.{WordPair}
-use Rattle.cdb_form.proofs.ReadBack.{same_words}
-use Rattle.cdb_make.proofs.Sides.{length-entries_of, get_or-entries_of}
+use Rattle.cdb_form.proofs.Bytes.ReadBack.{same_words}
+use Rattle.cdb_make.proofs.Entries.Sides.{length-entries_of, get_or-entries_of}
 use Rattle.cdb_make.proofs.index.list.EntryList.entry.Goals as goal
 
 pub index-requires : goal.index-requires

@@ -1,6 +1,6 @@
 use Rattle.std.proofs.Common.{arith}
 use Rattle.std.proofs.lemmas.Bool.Decides.{nat_tests}
-use Rattle.cdb_make.proofs.Sides.{length-entries_of}
+use Rattle.cdb_make.proofs.Entries.Sides.{length-entries_of}
 use Rattle.cdb_make.proofs.index.list.EntryList.has_room.Goals as goal
 
 pub returns : goal.returns

@@ -1,7 +1,7 @@
 use Rattle.std.proofs.Common.{arith, ◌<◌, ◌-◌, get_or}
 use Rattle.std.proofs.lemmas.Bool.Decides.{nat_tests}
 use Rattle.std.proofs.lemmas.Grind.{get_or_default_zero}
-use Rattle.cdb_make.proofs.Merge.{below_last}
+use Rattle.cdb_make.proofs.Gaps.Merge.{below_last}
 use Rattle.cdb_make.proofs.index.list.EntryList.is_below.Goals as goal
 
 pub returns-else-count-eq0 : goal.returns-else-count-eq0

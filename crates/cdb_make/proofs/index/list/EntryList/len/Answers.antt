@@ -1,5 +1,5 @@
 use Rattle.std.proofs.Common.{arith}
-use Rattle.cdb_make.proofs.Sides.{length-entries_of}
+use Rattle.cdb_make.proofs.Entries.Sides.{length-entries_of}
 use Rattle.cdb_make.proofs.index.list.EntryList.len.Goals as goal
 
 pub returns : goal.returns

@@ -6,8 +6,8 @@ use Rattle.cdb_make.specs.Marks.{turned}
 use Rattle.cdb_make.specs.Rings.{AreLinked}
 use Rattle.cdb_make.specs.Views.EntryList.{entries_of}
 use Rattle.cdb_make.specs.Views.Index.{index_room}
-use Rattle.cdb_make.proofs.Hashes.{entry_turned, none_turned, not_there, linked_turned}
-use Rattle.cdb_make.proofs.Merge.{not_falling}
+use Rattle.cdb_make.proofs.Marked.Hashes.{entry_turned, none_turned, not_there, linked_turned}
+use Rattle.cdb_make.proofs.Gaps.Merge.{not_falling}
 use Rattle.cdb_make.proofs.index.list.EntryList.mark.Goals.{else-n-len-via-then-n-len+else-index-place, else-n-len-via-else-n-len}
 use Rattle.cdb_make.proofs.index.list.EntryList.mark.Goals as goal
 

@@ -1,8 +1,8 @@
 use Rattle.std.proofs.Common.{ℕ, ◌≡◌, ◌+◌, List, [], ◌∷◌, ◌++◌, length, length-append, ap, sym, subst, ◌∙◌, arith}
 use Rattle.cdb_make.specs.Rings.{AreLinked}
-use Rattle.cdb_make.proofs.Rings.{linked_push}
+use Rattle.cdb_make.proofs.Entries.Rings.{linked_push}
 use Rattle.cdb_make.specs.Views.EntryList.{entries_of}
-use Rattle.cdb_make.proofs.Sides.{length-entries_of, entries_of-push}
+use Rattle.cdb_make.proofs.Entries.Sides.{length-entries_of, entries_of-push}
 use Rattle.cdb_make.proofs.index.list.EntryList.push.Goals as goal
 
 pub push_reserved-requires : goal.push_reserved-requires

@@ -1,6 +1,6 @@
 use Rattle.std.proofs.Common.{arith, ◌≡◌, length, ap}
 use Rattle.cdb_store.proofs.Answered.{held_on_err}
-use Rattle.cdb_make.proofs.Sides.{length-entries_of}
+use Rattle.cdb_make.proofs.Entries.Sides.{length-entries_of}
 use Rattle.cdb_make.proofs.index.list.EntryList.reserve.Goals as goal
 
 pub returns-in_err-reserve-clause-full : goal.returns-in_err-reserve-clause-full

@@ -2,7 +2,7 @@ use Rattle.std.proofs.Common.{arith, sym, ap, subst, ◌∙◌, ◌≡◌, List,
 use Rattle.std.proofs.lemmas.List.{take_at}
 use Rattle.cdb_make.specs.declared.index.list.EntryList.{EntryList}
 use Rattle.cdb_make.specs.Views.EntryList.{lists_entries, list_tops, AreUnder}
-use Rattle.cdb_make.proofs.Tops.{under_closed}
+use Rattle.cdb_make.proofs.Slots.Tops.{under_closed}
 use Rattle.cdb_make.proofs.index.lists.Lists.close.Goals as goal
 
 pub close_lists-requires-clause-all : goal.close_lists-requires-clause-all

@@ -1,7 +1,7 @@
 use Rattle.std.proofs.Common.{arith, ap, ◌∙◌, ◌≡◌, ◌<◌, length, get_or, slice_set}
 use Rattle.std.proofs.lemmas.List.{length-set}
 use Rattle.cdb_form.specs.Format.Hash.{table_number}
-use Rattle.cdb_make.proofs.MarkedLists.{marked_under}
+use Rattle.cdb_make.proofs.Marked.MarkedLists.{marked_under}
 use Rattle.cdb_make.proofs.index.lists.Lists.mark.Goals as goal
 
 pub invariant_of-self : goal.invariant_of-self

@@ -5,8 +5,8 @@ use Rattle.cdb_form.specs.Format.Hash.{table_number}
 use Rattle.cdb_form.specs.Format.Pair.{WordPair}
 use Rattle.cdb_make.specs.declared.index.list.EntryList.{EntryList}
 use Rattle.cdb_make.specs.Views.EntryList.{AreUnder, list_entries, lists_entries, list_tops, with_entry}
-use Rattle.cdb_make.proofs.Entering.{list_added}
-use Rattle.cdb_make.proofs.Tops.{under_more}
+use Rattle.cdb_make.proofs.Entries.Entering.{list_added}
+use Rattle.cdb_make.proofs.Slots.Tops.{under_more}
 use Rattle.cdb_make.proofs.index.lists.Lists.push_entry.Goals as goal
 
 -- the lists have one entry more

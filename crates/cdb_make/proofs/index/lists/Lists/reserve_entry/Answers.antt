@@ -3,8 +3,8 @@ use Rattle.std.proofs.Math.Seq.{map-set_same}
 use Rattle.std.proofs.lemmas.Result.{on_ok_weaker}
 use Rattle.cdb_form.specs.Format.Hash.{table_number}
 use Rattle.cdb_make.specs.Views.EntryList.{list_entries, list_room}
-use Rattle.cdb_make.proofs.Tops.{under_set}
-use Rattle.cdb_make.proofs.Entering.{told_of_set}
+use Rattle.cdb_make.proofs.Slots.Tops.{under_set}
+use Rattle.cdb_make.proofs.Entries.Entering.{told_of_set}
 use Rattle.cdb_make.proofs.index.lists.Lists.reserve_entry.Goals as goal
 
 pub returns-clause-entries : goal.returns-clause-entries

@@ -1,7 +1,7 @@
 use Rattle.std.proofs.Common.{◌≡◌, ℕ, List, length, arith, ap, sym, subst}
 use Rattle.std.proofs.lemmas.List.{take_at}
 use Rattle.cdb_make.specs.Rings.{AreLinked}
-use Rattle.cdb_make.proofs.Rings.{linked_none}
+use Rattle.cdb_make.proofs.Entries.Rings.{linked_none}
 use Rattle.cdb_make.proofs.index.rings.Index.clear.Goals as goal
 
 pub returns-clause-linked : goal.returns-clause-linked

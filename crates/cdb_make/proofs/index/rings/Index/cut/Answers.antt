@@ -1,6 +1,6 @@
 use Rattle.std.proofs.Common.{◌≡◌, ℕ, List, length, arith, sym, subst}
 use Rattle.cdb_make.specs.Rings.{AreCut, AreLinked}
-use Rattle.cdb_make.proofs.Rings.{cut_all}
+use Rattle.cdb_make.proofs.Entries.Rings.{cut_all}
 use Rattle.cdb_make.proofs.index.rings.Index.cut.Goals as goal
 
 pub returns-clause-linked : goal.returns-clause-linked

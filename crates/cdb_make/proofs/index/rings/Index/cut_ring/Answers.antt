@@ -2,7 +2,7 @@ use Rattle.std.proofs.Common.{◌≡◌, ℕ, ◌+◌, ◌-◌, ◌<◌, List, l
 use Rattle.std.specs.Prelude.{slice_index}
 use Rattle.std.proofs.lemmas.Grind.{get_or_default_zero}
 use Rattle.cdb_make.specs.Rings.{bucket_of, IsFree, IsRing, AreCut}
-use Rattle.cdb_make.proofs.Rings.{GoesUp, goes_up, goes_round, cut_ring_at, cut_whole, cut_part}
+use Rattle.cdb_make.proofs.Entries.Rings.{GoesUp, goes_up, goes_round, cut_ring_at, cut_whole, cut_part}
 use Rattle.cdb_make.proofs.index.rings.Index.cut_ring.Goals.{then-kept-gt0, else-kept-gt0}
 use Rattle.cdb_make.proofs.index.rings.Index.cut_ring.Goals as goal
 

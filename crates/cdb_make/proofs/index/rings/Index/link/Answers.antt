@@ -2,7 +2,7 @@ use Rattle.std.proofs.Common.{◌≡◌, ℕ, ◌+◌, ◌-◌, ◌<◌, List, [
 use Rattle.std.specs.Prelude.{slice_index}
 use Rattle.std.proofs.lemmas.Grind.{get_or_default_zero}
 use Rattle.cdb_make.specs.Rings.{AreLinked, bucket_of}
-use Rattle.cdb_make.proofs.Rings.{linked_begun, linked_grown, lowest_some}
+use Rattle.cdb_make.proofs.Entries.Rings.{linked_begun, linked_grown, lowest_some}
 use Rattle.cdb_make.proofs.index.rings.Index.link.Goals.{then-end-eq0, else-end-eq0}
 use Rattle.cdb_make.proofs.index.rings.Index.link.Goals as goal
 

@@ -3,8 +3,8 @@ use Rattle.std.specs.Prelude.{slice_index}
 use Rattle.std.proofs.lemmas.Bool.{cases_eq, cases_lt}
 use Rattle.cdb_make.specs.Rings.{bucket_of}
 use Rattle.cdb_make.specs.Views.EntryList.{IsNowhereIn}
-use Rattle.cdb_make.proofs.Nowhere.{nowhere_behind}
-use Rattle.cdb_make.proofs.Rings.{Above, next_above}
+use Rattle.cdb_make.proofs.Entries.Nowhere.{nowhere_behind}
+use Rattle.cdb_make.proofs.Entries.Rings.{Above, next_above}
 use Rattle.cdb_make.proofs.index.rings.Index.next_place.Goals.{else-from-at-via-then-from-at+else-hashes-at, else-from-at-via-else-from-at}
 use Rattle.cdb_make.proofs.index.rings.Index.next_place.Goals as goal
 

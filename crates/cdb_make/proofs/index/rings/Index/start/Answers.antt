@@ -2,7 +2,7 @@ use Rattle.std.proofs.Common.{◌≡◌, ℕ, List, length, get_or, ◌-◌, ◌
 use Rattle.std.specs.Prelude.{slice_index}
 use Rattle.std.proofs.lemmas.Grind.{get_or_default_zero}
 use Rattle.cdb_make.specs.Rings.{AreLinked, bucket_of}
-use Rattle.cdb_make.proofs.Rings.{Above, Lowest, next_above, lowest_some, nowhere_free}
+use Rattle.cdb_make.proofs.Entries.Rings.{Above, Lowest, next_above, lowest_some, nowhere_free}
 use Rattle.cdb_make.proofs.index.rings.Index.start.Goals as goal
 
 -- the entry after one with the hash

@@ -1,6 +1,6 @@
 use Rattle.std.proofs.Common.{◌≡◌, ap, ◌∙◌, ◌∷◌, [], ◌++◌, List, ℕ, Bool, false, arith}
 use Rattle.cdb_read.specs.Views.TableRecords.{entries_of}
-use Rattle.cdb_read.proofs.Entered.{entries_of-push}
+use Rattle.cdb_read.proofs.Checks.Entered.{entries_of-push}
 use Rattle.std.proofs.lemmas.Grind.{common_steps}
 use Rattle.cdb_read.proofs.checking.table_records.TableRecords.add.Goals as goal
 

@@ -4,7 +4,7 @@ use Rattle.std.proofs.lemmas.Bool.{cases_eq, cases_lt}
 use Rattle.std.proofs.lemmas.List.{get_or_default}
 use Rattle.std.proofs.lemmas.List.Sorted.{searched}
 use Rattle.cdb_form.specs.Views.Pairs.{slot_pair}
-use Rattle.cdb_read.proofs.Entered.{record_nowhere, rising_from, rising_apart}
+use Rattle.cdb_read.proofs.Checks.Entered.{record_nowhere, rising_from, rising_apart}
 use Rattle.cdb_read.proofs.checking.table_records.TableRecords.find.Goals as goal
 
 pub returns-else-from-slot-clause-finds : goal.returns-else-from-slot-clause-finds

@@ -1,7 +1,7 @@
 use Rattle.std.proofs.Common.{refl, ap, arith, rules}
 use Rattle.cdb_read.specs.declared.walking.state.Walking.TheVariants.{At}
-use Rattle.cdb_read.proofs.WalkedLengths.{some_word}
-use Rattle.cdb_read.proofs.AheadRecords.{gives_none, nothing_ahead, gives_records, same_rest}
+use Rattle.cdb_read.proofs.Walked.WalkedLengths.{some_word}
+use Rattle.cdb_read.proofs.Walked.AheadRecords.{gives_none, nothing_ahead, gives_records, same_rest}
 use Rattle.cdb_read.proofs.walking.records.Walk.records_into.Goals as goal
 
 pub returns-in_default : goal.returns-in_default

@@ -1,0 +1,9 @@
+-- Bytes, words and what is written of them.
+pub mod ByteLemmas
+pub mod HashLemmas
+pub mod HeadLemmas
+pub mod WordLemmas
+pub mod ReadBack
+pub mod WritingLemmas
+pub mod LaneRuns
+pub mod NumeralLemmas

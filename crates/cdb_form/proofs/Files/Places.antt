@@ -1,0 +1,55 @@
+-- Where the parts of a file stand.
+use Rattle.std.proofs.Common.{◌≡◌, ℕ, ◌*◌, List, [], ◌∷◌, ◌++◌, length, drop, map, flat_map, ap, ◌∙◌, arith, append_assoc}
+use Rattle.std.specs.List.{range_with_len}
+use Rattle.std.specs.Prelude.{sum_by}
+use Rattle.std.proofs.lemmas.List.{drop_at, length-map}
+use Rattle.std.proofs.lemmas.List.Sums.{sum_by-cons}
+use Rattle.std.proofs.lemmas.List.FromFn.{length-map-range_with_len}
+use Rattle.cdb_form.specs.Format.Record.{KeyValue, record_bytes, records_end}
+use Rattle.cdb_form.specs.Format.Pair.{WordPair, pair_bytes, head_size}
+use Rattle.cdb_form.specs.Format.Table.{table_entries, slots_of, file_tables}
+use Rattle.cdb_form.specs.Format.File.{file_pointers, file_bytes}
+use Rattle.cdb_form.proofs.Bytes.HeadLemmas.{length-flat_map_words}
+use Rattle.cdb_form.proofs.Files.Sizes.{length-slots_of, length-pointers_from, sum_by-table_entries, tables_are}
+
+-- how many slots some tables have
+abbrev pub slot_count : List (List WordPair) → ℕ
+slot_count ts = sum_by length ts
+
+twice_entries : (ls : List (List WordPair)) → slot_count (map slots_of ls) ≡ 2 * sum_by length ls
+twice_entries [] = omega arith
+twice_entries (l ∷ ls) =
+    let ih = twice_entries ls in
+    let one = length-slots_of l in
+    let s = sum_by-cons length (slots_of l) (map slots_of ls) in
+    let t = sum_by-cons length l ls in
+    omega arith
+
+-- each record has two slots
+pub slot_count-file_tables : (w : ℕ) (rs : List KeyValue) → slot_count (file_tables w rs) ≡ 2 * length rs
+slot_count-file_tables w rs =
+    ap slot_count (tables_are w rs) ∙ twice_entries (map (table_entries w rs) (range_with_len 0 256)) ∙ ap (λ (n : ℕ). 2 * n) (sum_by-table_entries w rs)
+
+pub length-file_pointers : (w : ℕ) (rs : List KeyValue) → length (file_pointers w rs) ≡ 256
+unfolding file_pointers
+length-file_pointers w rs =
+    length-pointers_from w (records_end w rs) (file_tables w rs) ∙ ap length (tables_are w rs)
+    ∙ length-map (map (table_entries w rs) (range_with_len 0 256)) slots_of ∙ length-map-range_with_len (table_entries w rs) 0 256
+
+-- the head and the tables as bytes
+abbrev pub head_bytes : ℕ → List KeyValue → List ℕ
+head_bytes w rs = flat_map (pair_bytes w) (file_pointers w rs)
+
+abbrev pub tables_bytes : ℕ → List KeyValue → List ℕ
+tables_bytes w rs = flat_map (flat_map (pair_bytes w)) (file_tables w rs)
+
+length-head_bytes : (w : ℕ) (rs : List KeyValue) → length (head_bytes w rs) ≡ head_size w
+length-head_bytes w rs = length-flat_map_words w (file_pointers w rs) ∙ ap (λ (n : ℕ). 2 * w * n) (length-file_pointers w rs) ∙ omega arith
+
+pub file_of_is : (w : ℕ) (rs : List KeyValue) → file_bytes w rs ≡ head_bytes w rs ++ (flat_map (record_bytes w) rs ++ tables_bytes w rs)
+unfolding file_bytes
+file_of_is w rs = append_assoc (head_bytes w rs) (flat_map (record_bytes w) rs) (tables_bytes w rs)
+
+-- what stands behind the head
+pub drop-head : (w : ℕ) (rs : List KeyValue) → drop (head_size w) (file_bytes w rs) ≡ flat_map (record_bytes w) rs ++ tables_bytes w rs
+drop-head w rs = ap (drop (head_size w)) (file_of_is w rs) ∙ drop_at (head_bytes w rs) (flat_map (record_bytes w) rs ++ tables_bytes w rs) (head_size w) (length-head_bytes w rs)

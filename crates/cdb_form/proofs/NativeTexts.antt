@@ -1,0 +1,11 @@
+-- Native and amending texts.
+pub mod Grammar
+pub mod Spelling
+pub mod WholeForm
+pub mod WholeChanges
+pub mod Stops
+pub mod TextLaws
+pub mod RecordLemmas
+pub mod WholeText
+pub mod FormReads
+pub mod PrefixLemmas

@@ -1,0 +1,6 @@
+-- Records read one after the other.
+pub mod RecordAreas
+pub mod RecordReads
+pub mod Stored
+pub mod StreamLemmas
+pub mod WalkText

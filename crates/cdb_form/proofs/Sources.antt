@@ -1,0 +1,3 @@
+-- What a source read, piece after piece.
+pub mod SourceLemmas
+pub mod AskingLemmas

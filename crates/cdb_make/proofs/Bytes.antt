@@ -1,0 +1,5 @@
+-- What writers and readers of pieces hold.
+pub mod Written
+pub mod Compare
+pub mod Headers
+pub mod Fitting

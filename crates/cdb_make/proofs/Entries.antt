@@ -1,0 +1,7 @@
+-- The lists of entries, and the rings through them.
+pub mod EntryLists
+pub mod Sides
+pub mod Nowhere
+pub mod Rings
+pub mod Entering
+pub mod ClosedAll

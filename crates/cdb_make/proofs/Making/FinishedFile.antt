@@ -1,0 +1,109 @@
+-- What a store holds once the tables and the head are written and the rest is cut: the whole file.
+use Rattle.std.proofs.Common.{inl, inr, ◌≡◌, ℕ, ◌+◌, ◌-◌, ◌*◌, ◌≤◌, List, ◌++◌, length, take, drop, map, flat_map, sym, ap, ◌∙◌, arith, append_assoc, length-append, sum_by}
+use Rattle.std.specs.List.{range_with_len}
+use Rattle.std.proofs.lemmas.List.{drop-append-le, length-take-le, take_at, drop-take, length-map}
+use Rattle.cdb_store.specs.Images.{overwrite, part, AfterWrite, AfterCut, AreSized, KeepsPart}
+use Rattle.cdb_store.proofs.Parts.{length-part}
+use Rattle.cdb_form.specs.Format.Pair.{WordPair, head_size, pair_bytes}
+use Rattle.cdb_form.specs.Format.File.{file_bytes, file_pointers, pointers_from}
+use Rattle.cdb_form.specs.Format.Record.{KeyValue, record_bytes, record_size, records_end}
+use Rattle.cdb_form.specs.Format.Table.{file_tables, slots_of, table_entries}
+use Rattle.cdb_form.proofs.Bytes.HeadLemmas.{length-flat_map_words}
+use Rattle.cdb_form.proofs.Files.Sizes.{length-pointers_from, tables_are}
+use Rattle.cdb_store.specs.Images.{Holds, SameImages}
+use Rattle.cdb_make.specs.Finished.{IsFinished, HeadIsLast}
+use Rattle.cdb_make.specs.Parts.{head_bytes, table_bytes, tables_end}
+use Rattle.cdb_make.specs.Stands.{Tells, Stands}
+use Rattle.cdb_make.proofs.Slots.TableBytes.{length-tables}
+use Rattle.cdb_make.proofs.Bytes.Written.{flat_map-map}
+
+pub length-head_bytes : (w end : ℕ) (ls : List (List WordPair)) → length ls ≡ 256 → length (head_bytes w end ls) ≡ head_size w
+length-head_bytes w end ls long =
+    length-flat_map_words w (pointers_from w end (map slots_of ls)) ∙ ap (λ (n : ℕ). 2 * w * n) (length-pointers_from w end (map slots_of ls) ∙ length-map ls slots_of ∙ long) ∙ omega arith
+
+-- a list with bytes over its end and others over its start, cut behind the first
+both_written : (first end last : ℕ) (a head tables : List ℕ) → length head ≡ first → first ≤ end → end ≤ length a → last ≡ end + length tables
+    → take last (overwrite (overwrite a end tables) 0 head) ≡ (head ++ part first (end - first) a) ++ tables
+both_written first end last a head tables eh le inside el =
+    let rest : List ℕ = drop (end + length tables) a in
+    let middle : List ℕ = part first (end - first) a in
+    let front : length (take end a) ≡ end = length-take-le end a inside in
+    let e : first + (end - first) ≡ end = omega arith in
+    let cut : drop first (take end a) ≡ middle = ap (λ (n : ℕ). drop first (take n a)) (sym e) ∙ drop-take first (end - first) a in
+    let zero : 0 + length head ≡ first = omega arith in
+    let behind : drop (0 + length head) (overwrite a end tables) ≡ middle ++ (tables ++ rest) =
+    ap (λ (n : ℕ). drop n (overwrite a end tables)) zero ∙ drop-append-le first (take end a) (tables ++ rest) (omega arith) ∙ ap (λ v. v ++ (tables ++ rest)) cut in
+    let whole : overwrite (overwrite a end tables) 0 head ≡ ((head ++ middle) ++ tables) ++ rest =
+    ap (λ v. head ++ v) behind ∙ sym (append_assoc head middle (tables ++ rest)) ∙ sym (append_assoc (head ++ middle) tables rest) in
+    let m : length middle ≡ end - first = length-part first (end - first) a (omega arith) in
+    let len : length ((head ++ middle) ++ tables) ≡ last = omega (arith, length-append (head ++ middle) tables, length-append head middle) in
+    ap (take last) whole ∙ take_at ((head ++ middle) ++ tables) rest last len
+
+pub finished : {w end last size : ℕ} {ls : List (List WordPair)} {i j k l : List ℕ → Type 0} → length ls ≡ 256 → head_size w ≤ end → end ≤ size → last ≡ tables_end w end ls → AreSized size i
+    → AfterWrite end (flat_map (table_bytes w) ls) i j → AfterWrite 0 (head_bytes w end ls) j k → AfterCut last k l → IsFinished w end ls i l
+finished {w = w} {end = end} {last = last} {ls = ls} long start inside behind sized tables head cut = record {
+  each = λ b is.
+      let c = cut.no_other b is in
+      let h = head.no_other c.0 c.1 in
+      let t = tables.no_other h.0 h.1 in
+      let len : length t.0 ≡ _ = sized.each t.0 t.1 in
+      let bytes = length-tables w ls in (
+        t.0,
+        t.1,
+        c.2 ∙ ap (take last) (h.2 ∙ ap (λ v. overwrite v 0 (head_bytes w end ls)) t.2)
+            ∙ both_written (head_size w) end last t.0 (head_bytes w end ls) (flat_map (table_bytes w) ls) (length-head_bytes w end ls long) start (omega arith) (omega (arith, bytes)),
+      );
+}
+
+pub head_kept : {w end : ℕ} {ls : List (List WordPair)} {i j : List ℕ → Type 0} → KeepsPart 0 (head_size w) i j → HeadIsLast w end ls i j
+head_kept k = record { each = λ b is. inl (k.each b is) }
+
+pub tables_held : {w end : ℕ} {ls : List (List WordPair)} {i j : List ℕ → Type 0} → Holds end (flat_map (table_bytes w) ls) j → HeadIsLast w end ls i j
+tables_held h = record { each = λ b is. inr (h.each b is) }
+
+pub head_then : {w end : ℕ} {ls : List (List WordPair)} {i j k : List ℕ → Type 0} → SameImages i j → HeadIsLast w end ls j k → HeadIsLast w end ls i k
+head_then same h = record { each = λ b is. elim (h.each b is) [ inl a ↦ inl (a.0, same.no_other a.0 a.1, a.2) | inr t ↦ inr t ] }
+
+pub kept_then : {pos n : ℕ} {i j k : List ℕ → Type 0} → KeepsPart pos n i j → KeepsPart pos n j k → KeepsPart pos n i k
+kept_then p q = record { each = λ b is. let h = q.each b is in let o = p.each h.0 h.1 in (o.0, o.1, h.2 ∙ o.2) }
+
+-- the head, the records and the tables of the records' entries are the file
+pub file_of_parts : (w end : ℕ) (bytes : List ℕ) (ls : List (List WordPair)) (rs : List KeyValue) → end ≡ records_end w rs → bytes ≡ flat_map (record_bytes w) rs → ls ≡ map (table_entries w rs) (range_with_len 0 256)
+    → (head_bytes w end ls ++ bytes) ++ flat_map (table_bytes w) ls ≡ file_bytes w rs
+unfolding file_bytes file_pointers
+file_of_parts w end bytes ls rs e held entries =
+    let ts : List (List WordPair) = map slots_of ls in
+    let t : ts ≡ file_tables w rs = ap (map slots_of) entries ∙ sym (tables_are w rs) in
+    let tables : flat_map (table_bytes w) ls ≡ flat_map (flat_map (pair_bytes w)) (file_tables w rs) =
+    sym (flat_map-map (flat_map (pair_bytes w)) slots_of ls) ∙ ap (flat_map (flat_map (pair_bytes w))) t in
+    ap (λ (n : ℕ). (flat_map (pair_bytes w) (pointers_from w n ts) ++ bytes) ++ flat_map (table_bytes w) ls) e
+    ∙ ap (λ v. (flat_map (pair_bytes w) (pointers_from w (records_end w rs) v) ++ bytes) ++ flat_map (table_bytes w) ls) t
+    ∙ ap (λ v. (flat_map (pair_bytes w) (pointers_from w (records_end w rs) (file_tables w rs)) ++ v) ++ flat_map (table_bytes w) ls) held
+    ∙ ap (λ v. (flat_map (pair_bytes w) (pointers_from w (records_end w rs) (file_tables w rs)) ++ flat_map (record_bytes w) rs) ++ v) tables
+
+-- a finished image, where the records stood, is their file
+pub finished_file : {w end : ℕ} {ls : List (List WordPair)} {rs : List KeyValue} {a b : List ℕ} → Tells w end ls rs a
+    → b ≡ (head_bytes w end ls ++ part (head_size w) (end - head_size w) a) ++ flat_map (table_bytes w) ls → b ≡ file_bytes w rs
+finished_file {w = w} {end = end} {ls = ls} {rs = rs} {a = a} t e =
+    let at : end ≡ head_size w + sum_by (record_size w) rs = t.ends in
+    let n : end - head_size w ≡ sum_by (record_size w) rs = omega arith in
+    e ∙ file_of_parts w end (part (head_size w) (end - head_size w) a) ls rs t.ends (ap (λ (k : ℕ). part (head_size w) k a) n ∙ t.held) t.entries
+
+pub all_finished : {w end : ℕ} {ls : List (List WordPair)} {rs : List KeyValue} {old new : List ℕ → Type 0} → Stands w end ls rs old → IsFinished w end ls old new
+    → (b : List ℕ) → new b → b ≡ file_bytes w rs
+all_finished stands finished = λ b is. let h = finished.each b is in finished_file (stands.each h.0 h.1) h.2
+
+-- records stand where their bytes stay
+pub stands_kept : {w end : ℕ} {ls : List (List WordPair)} {rs : List KeyValue} {old new : List ℕ → Type 0} → KeepsPart (head_size w) (end - head_size w) old new → Stands w end ls rs old → Stands w end ls rs new
+stands_kept {w = w} {end = end} {ls = ls} {rs = rs} keeps stands = record {
+  each = λ b is.
+      let h = keeps.each b is in
+      let t : Tells w end ls rs h.0 = stands.each h.0 h.1 in
+      let at : end ≡ head_size w + sum_by (record_size w) rs = t.ends in
+      let n : end - head_size w ≡ sum_by (record_size w) rs = omega arith in
+      record {
+        held = ap (λ (k : ℕ). part (head_size w) k b) (sym n) ∙ h.2 ∙ ap (λ (k : ℕ). part (head_size w) k h.0) n ∙ t.held;
+        ends = t.ends;
+        entries = t.entries;
+      };
+}

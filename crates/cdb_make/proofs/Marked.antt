@@ -1,0 +1,9 @@
+-- Records of which some are marked.
+pub mod Found
+pub mod Marks
+pub mod MarkedLooks
+pub mod Turning
+pub mod SortedGaps
+pub mod Hashes
+pub mod Whole
+pub mod MarkedLists

@@ -1,0 +1,6 @@
+-- Tables, slot by slot, and their pointers.
+pub mod Filling
+pub mod RunLemmas
+pub mod Tops
+pub mod HeadPointers
+pub mod TableBytes

@@ -1,0 +1,63 @@
+-- How records that stand in some bytes are read there.
+use Rattle.std.proofs.Common.{◌≡◌, ℕ, ◌+◌, ◌*◌, ◌^◌, ◌≤◌, true, List, [], ◌∷◌, ◌++◌, length, take, drop, flat_map, sym, ap, ◌∙◌, subst, arith, append_assoc}
+use Rattle.std.specs.Prelude.{All, sum_by}
+use Rattle.std.proofs.lemmas.List.{drop-drop, drop_at}
+use Rattle.std.proofs.lemmas.List.Elements.{All-nil, All-cons}
+use Rattle.std.proofs.lemmas.List.Sums.{sum_by-cons}
+use Rattle.std.proofs.lemmas.Bool.{le-leb, and_from}
+use Rattle.cdb_form.specs.Format.Pair.{WordPair, head_size}
+use Rattle.cdb_form.specs.Format.Reading.{pair_at}
+use Rattle.cdb_form.specs.Format.Record.{KeyValue, record_bytes, record_size}
+use Rattle.cdb_form.specs.Format.Table.{entries_from}
+use Rattle.cdb_form.specs.Format.Walk.{prefix_size, prefix_record}
+use Rattle.cdb_form.specs.Views.Pairs.{PairFits}
+use Rattle.cdb_form.proofs.Files.Prefixes.{lengths_of, Begins, prefix_reads}
+use Rattle.cdb_form.proofs.Files.Sizes.{length-record_bytes}
+use Rattle.cdb_form.proofs.Files.Standing.{Begins-record_bytes}
+use Rattle.cdb_read.specs.Lookup.{bytes_of, is_whole, value_span}
+
+-- how a record that stands at a place reads
+pub record ReadsAt (w : ℕ) (bytes : List ℕ) (at : ℕ) (r : KeyValue) : Type 0 where
+  pub whole : is_whole w bytes at ≡ true
+  pub key : (prefix_record w (drop at bytes)).key ≡ r.key
+  pub value : bytes_of bytes (value_span w bytes at) ≡ r.value
+
+reads_at : (w top : ℕ) (bytes : List ℕ) (at : ℕ) (r : KeyValue) (rest : List ℕ) → top + 1 ≡ 256 ^ w → PairFits top (lengths_of r) → drop at bytes ≡ record_bytes w r ++ rest → head_size w ≤ at → at + record_size w r ≤ length bytes → ReadsAt w bytes at r
+reads_at w top bytes at r rest top_is fit here low high =
+    let begins : Begins w (drop at bytes) r rest = subst (λ b. Begins w b r rest) (sym here) (Begins-record_bytes w top r rest top_is fit) in
+    let reads = prefix_reads w (drop at bytes) r rest begins in
+    let size = reads.size in
+    let p = pair_at w (drop at bytes) in
+    let sum : at + (2 * w + p.first) ≡ at + 2 * w + p.first = omega arith in
+    let there : drop (2 * w + p.first) (drop at bytes) ≡ drop (at + 2 * w + p.first) bytes = drop-drop (2 * w + p.first) at bytes ∙ ap (λ n. drop n bytes) sum in
+    record {
+      whole = and_from _ _ (le-leb (head_size w) at low) (le-leb (at + prefix_size w (drop at bytes)) (length bytes) (omega arith));
+      key = ap (λ (q : KeyValue). q.key) reads.is;
+      value = ap (take p.second) (sym there) ∙ ap (λ (q : KeyValue). q.value) reads.is;
+    }
+
+-- and how some that stand one behind the other do
+abbrev pub AllRead : ℕ → List ℕ → ℕ → List KeyValue → Type 0
+AllRead w bytes at [] = Unit {0}
+AllRead w bytes at (r ∷ rs) = ReadsAt w bytes at r × AllRead w bytes (at + record_size w r) rs
+
+pub all_read : (w top : ℕ) (bytes : List ℕ) (at : ℕ) (rs : List KeyValue) (rest : List ℕ) → top + 1 ≡ 256 ^ w → drop at bytes ≡ flat_map (record_bytes w) rs ++ rest → head_size w ≤ at → at + sum_by (record_size w) rs ≤ length bytes → at + sum_by (record_size w) rs ≤ top → AllRead w bytes at rs
+all_read w top bytes at [] rest top_is here low high fits = tt
+all_read w top bytes at (r ∷ rs) rest top_is here low high fits =
+    let both = sum_by-cons (record_size w) r rs in
+    let others = flat_map (record_bytes w) rs ++ rest in
+    let fit : PairFits top (lengths_of r) = record { first = omega arith; second = omega arith } in
+    let first = here ∙ append_assoc (record_bytes w r) (flat_map (record_bytes w) rs) rest in
+    let behind : drop (at + record_size w r) bytes ≡ others = sym (drop-drop (record_size w r) at bytes) ∙ ap (drop (record_size w r)) first ∙ drop_at (record_bytes w r) others (record_size w r) (length-record_bytes w r) in (
+      reads_at w top bytes at r others top_is fit first low (omega arith),
+      all_read w top bytes (at + record_size w r) rs rest top_is behind (omega arith) (omega arith) (omega arith),
+    )
+
+-- their entries tell places of whole records
+abbrev pub TellsWhole : ℕ → List ℕ → WordPair → Type 0
+TellsWhole w bytes e = is_whole w bytes e.second ≡ true
+
+pub entries_whole : (w : ℕ) (bytes : List ℕ) (at : ℕ) (rs : List KeyValue) → AllRead w bytes at rs → All (TellsWhole w bytes) (entries_from w at rs)
+unfolding entries_from
+entries_whole w bytes at [] all = All-nil (TellsWhole w bytes)
+entries_whole w bytes at (r ∷ rs) all = All-cons (TellsWhole w bytes) _ (entries_from w (at + record_size w r) rs) all.0.whole (entries_whole w bytes (at + record_size w r) rs all.1)

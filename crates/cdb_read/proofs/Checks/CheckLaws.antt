@@ -1,0 +1,110 @@
+-- What the parts of a check come to.
+use Rattle.std.proofs.Common.{◌≡◌, ℕ, ◌<◌, ◌≤◌, true, false, List, length, map, get_or, refl, sym, ap, ◌∙◌, arith}
+use Rattle.std.specs.Prelude.{All, Option, Some, None, option_map, position}
+use Rattle.std.specs.List.{range_with_len}
+use Rattle.std.specs.Option.{option_or}
+use Rattle.std.proofs.lemmas.Bool.{cond-true, cond-false}
+use Rattle.std.proofs.lemmas.List.{get_or-map, length-map}
+use Rattle.std.proofs.lemmas.List.Quantifiers.{position-Some}
+use Rattle.std.proofs.lemmas.List.Elements.{All-get_or}
+use Rattle.cdb_form.specs.Format.Pair.{WordPair, head_size}
+use Rattle.cdb_form.specs.Format.Reading.{nth_pair, head_at}
+use Rattle.cdb_form.specs.Format.Walk.{walk_of}
+use Rattle.cdb_form.specs.Views.Pairs.{pointer_pair}
+use Rattle.cdb_form.specs.declared.damage.Damage.{Damage}
+use Rattle.cdb_form.specs.declared.damage.Damage.TheVariants.{Table, Unindexed}
+use Rattle.cdb_form.specs.declared.head.Pointer.{Pointer}
+use Rattle.cdb_read.specs.Faults.{first_of, first_fault, table_fault, lost_fault, entry_fault, slots_fault}
+use Rattle.cdb_read.specs.Sound.{IsSound, all_slots, walk_entries}
+use Rattle.cdb_read.specs.Statistics.{is_outside}
+use Rattle.cdb_read.specs.Views.Check.{IsFirst}
+use Rattle.cdb_read.specs.Views.Checked.{HasEntries, WalkHas, TablesAreClear, TablesHave}
+use Rattle.cdb_read.specs.Views.Inside.{StandsInside}
+use Rattle.cdb_read.specs.Views.RecordLists.{ListsMark}
+use Rattle.cdb_read.specs.declared.checking.table_records.TableRecords.{TableRecords}
+use Rattle.cdb_read.proofs.Searching.Beginnings.{pointer_known}
+use Rattle.cdb_read.proofs.WholeFiles.FaultLaws.{first_fault-whole, none_of-all, all_numbers, sound_is_no_damage}
+use Rattle.cdb_read.proofs.Checks.FaultSteps.{first_next}
+use Rattle.cdb_read.proofs.Checks.TableChecks.{not_outside}
+
+-- table n, as its pointer tells it
+pointer_at : (w n : ℕ) (b : List ℕ) (ps : List Pointer) → length ps ≡ 256 → head_at w b ≡ map pointer_pair ps → n < 256 → get_or (map pointer_pair ps) n (record { first = 0; second = 0 }) ≡ nth_pair w b n
+pointer_at w n b ps many known l =
+    let d : Pointer = record { place = 0; slots = 0 } in
+    get_or-map pointer_pair ps n d (record { first = 0; second = 0 }) (omega arith) ∙ sym (pointer_known w b ps n d known l)
+
+outside_fault : (w n : ℕ) (b : List ℕ) → is_outside w b (nth_pair w b n) ≡ true → table_fault w b n ≡ Some (Table n)
+outside_fault w n b h = cond-true (is_outside w b (nth_pair w b n)) (Some (Table n)) None h
+
+inside_fault : (w n : ℕ) (b : List ℕ) → is_outside w b (nth_pair w b n) ≡ false → table_fault w b n ≡ None
+inside_fault w n b h = cond-false (is_outside w b (nth_pair w b n)) (Some (Table n)) None h
+
+-- the first table outside the file is the first one with a fault
+table_first : (w n : ℕ) (b : List ℕ) (ps : List Pointer) → length ps ≡ 256 → head_at w b ≡ map pointer_pair ps → position (is_outside w b) (map pointer_pair ps) ≡ Some n → first_of (table_fault w b) (range_with_len 0 256) ≡ Some (Table n)
+table_first w n b ps many known is =
+    let q : WordPair = record { first = 0; second = 0 } in
+    let long = length-map ps pointer_pair in
+    let found = position-Some (is_outside w b) (map pointer_pair ps) n q is in
+    let low : n < 256 = omega (arith, found.0) in
+    first_next (table_fault w b) n 256 (Table n) low
+    (none_of-all (table_fault w b) (range_with_len 0 n) (all_numbers (λ k. table_fault w b k ≡ None) n (λ k l.
+    inside_fault w k b (ap (is_outside w b) (sym (pointer_at w k b ps many known (omega arith))) ∙ found.2 k l))))
+    (outside_fault w n b (ap (is_outside w b) (sym (pointer_at w n b ps many known low)) ∙ found.1))
+
+tables_inside : (w : ℕ) (b : List ℕ) (ps : List Pointer) → length ps ≡ 256 → head_at w b ≡ map pointer_pair ps → All (StandsInside w (length b)) (map pointer_pair ps) → first_of (table_fault w b) (range_with_len 0 256) ≡ None
+tables_inside w b ps many known inside =
+    let q : WordPair = record { first = 0; second = 0 } in
+    let long = length-map ps pointer_pair in
+    none_of-all (table_fault w b) (range_with_len 0 256) (all_numbers (λ k. table_fault w b k ≡ None) 256 (λ k l.
+    inside_fault w k b (ap (is_outside w b) (sym (pointer_at w k b ps many known l)) ∙ not_outside w (length b) b (get_or (map pointer_pair ps) k q) refl (All-get_or (StandsInside w (length b)) (map pointer_pair ps) k q (omega arith) inside))))
+
+-- what is known once the tables lie inside a file with a whole head
+pub record IsWhole (w : ℕ) (b : List ℕ) (ps : List Pointer) : Type 0 where
+  pub head : head_size w ≤ length b
+  pub many : length ps ≡ 256
+  pub known : head_at w b ≡ map pointer_pair ps
+
+-- a fault, or none, by the parts of a file in turn
+pub first_is_table : (w n : ℕ) (b : List ℕ) (ps : List Pointer) → IsWhole w b ps → Some n ≡ position (is_outside w b) (map pointer_pair ps) → IsFirst w b (Table n)
+first_is_table w n b ps whole is =
+    first_fault-whole w b whole.head
+    ∙ ap (λ x. option_or x (option_or (walk_of w b).damage (option_or (first_of (slots_fault w b (walk_entries w b)) (range_with_len 0 256)) (first_of (entry_fault w b) (walk_entries w b))))) (table_first w n b ps whole.many whole.known (sym is))
+
+behind_tables : (w : ℕ) (b : List ℕ) (ps : List Pointer) → IsWhole w b ps → All (StandsInside w (length b)) (map pointer_pair ps)
+    → first_fault w b ≡ option_or (walk_of w b).damage (option_or (first_of (slots_fault w b (walk_entries w b)) (range_with_len 0 256)) (first_of (entry_fault w b) (walk_entries w b)))
+behind_tables w b ps whole inside =
+    first_fault-whole w b whole.head
+    ∙ ap (λ x. option_or x (option_or (walk_of w b).damage (option_or (first_of (slots_fault w b (walk_entries w b)) (range_with_len 0 256)) (first_of (entry_fault w b) (walk_entries w b))))) (tables_inside w b ps whole.many whole.known inside)
+
+pub first_in_walk : (w : ℕ) (b : List ℕ) (ps : List Pointer) (d : Damage) → IsWhole w b ps → All (StandsInside w (length b)) (map pointer_pair ps) → WalkHas w b d → IsFirst w b d
+first_in_walk w b ps d whole inside has =
+    behind_tables w b ps whole inside
+    ∙ ap (λ x. option_or x (option_or (first_of (slots_fault w b (walk_entries w b)) (range_with_len 0 256)) (first_of (entry_fault w b) (walk_entries w b)))) has
+
+behind_walk : (w : ℕ) (b : List ℕ) (ps : List Pointer) (kept : List TableRecords) → IsWhole w b ps → All (StandsInside w (length b)) (map pointer_pair ps) → HasEntries w b kept
+    → first_fault w b ≡ option_or (first_of (slots_fault w b (walk_entries w b)) (range_with_len 0 256)) (first_of (entry_fault w b) (walk_entries w b))
+behind_walk w b ps kept whole inside has =
+    behind_tables w b ps whole inside
+    ∙ ap (λ x. option_or x (option_or (first_of (slots_fault w b (walk_entries w b)) (range_with_len 0 256)) (first_of (entry_fault w b) (walk_entries w b)))) has.whole
+
+pub first_in_slots : (w : ℕ) (b : List ℕ) (ps : List Pointer) (kept : List TableRecords) (d : Damage) → IsWhole w b ps → All (StandsInside w (length b)) (map pointer_pair ps) → HasEntries w b kept → TablesHave w kept b d → IsFirst w b d
+first_in_slots w b ps kept d whole inside has slots =
+    behind_walk w b ps kept whole inside has
+    ∙ ap (λ x. option_or x (first_of (entry_fault w b) (walk_entries w b))) (slots (walk_entries w b) has.marks)
+
+behind_slots : (w : ℕ) (b : List ℕ) (ps : List Pointer) (kept marked : List TableRecords) (lost : Option ℕ) → IsWhole w b ps → All (StandsInside w (length b)) (map pointer_pair ps) → HasEntries w b kept → TablesAreClear w b kept marked
+    → ((entries slots : List WordPair) → ListsMark marked entries slots → option_map (λ place. Unindexed place) lost ≡ first_of (lost_fault slots) entries) → first_fault w b ≡ option_map (λ place. Unindexed place) lost
+behind_slots w b ps kept marked lost whole inside has clear unmarked =
+    behind_walk w b ps kept whole inside has
+    ∙ ap (λ x. option_or x (first_of (entry_fault w b) (walk_entries w b))) (clear.none (walk_entries w b) has.marks)
+    ∙ sym (unmarked (walk_entries w b) (all_slots w b) (clear.marks (walk_entries w b) has.marks))
+
+pub first_is_lost : (w place : ℕ) (b : List ℕ) (ps : List Pointer) (kept marked : List TableRecords) (lost : Option ℕ) → lost ≡ Some place → IsWhole w b ps → All (StandsInside w (length b)) (map pointer_pair ps) → HasEntries w b kept → TablesAreClear w b kept marked
+    → ((entries slots : List WordPair) → ListsMark marked entries slots → option_map (λ place. Unindexed place) lost ≡ first_of (lost_fault slots) entries) → IsFirst w b (Unindexed place)
+first_is_lost w place b ps kept marked lost e whole inside has clear unmarked =
+    behind_slots w b ps kept marked lost whole inside has clear unmarked ∙ ap (option_map (λ place. Unindexed place)) e
+
+pub sound_is : (w : ℕ) (b : List ℕ) (ps : List Pointer) (kept marked : List TableRecords) (lost : Option ℕ) → lost ≡ None → 0 < w → IsWhole w b ps → All (StandsInside w (length b)) (map pointer_pair ps) → HasEntries w b kept → TablesAreClear w b kept marked
+    → ((entries slots : List WordPair) → ListsMark marked entries slots → option_map (λ place. Unindexed place) lost ≡ first_of (lost_fault slots) entries) → IsSound w b
+sound_is w b ps kept marked lost e some whole inside has clear unmarked =
+    (sound_is_no_damage w b some).1 (behind_slots w b ps kept marked lost whole inside has clear unmarked ∙ ap (option_map (λ place. Unindexed place)) e)

@@ -1,0 +1,4 @@
+-- Statistics.
+pub mod Counters
+pub mod SlotCounts
+pub mod StatsLaws

@@ -1,0 +1,5 @@
+-- Lists of slots and entries.
+pub mod Counts
+pub mod Apart
+pub mod Meeting
+pub mod Rising

@@ -1,0 +1,6 @@
+-- A search, probe by probe.
+pub mod Probes
+pub mod Beginnings
+pub mod Headers
+pub mod Searches
+pub mod PlacedRecords

@@ -1,0 +1,131 @@
+-- What a header that was read says of the record at its place.
+use Rattle.std.proofs.Common.{◌≡◌, ◌≢◌, ℕ, ◌+◌, ◌*◌, ◌<◌, ◌≤◌, Bool, true, false, List, length, take, drop, refl, sym, ap, ◌∙◌, arith, inl, inr}
+use Rattle.std.specs.Prelude.{bytes_eq, nat_le}
+use Rattle.std.proofs.lemmas.Bool.{le-leb, leb-true, and_from, cases_Bool, cases_lt, both_ways}
+use Rattle.std.specs.Bool.{Decides}
+use Rattle.std.proofs.lemmas.List.{drop-drop}
+use Rattle.std.proofs.lemmas.Slice.Eq.{bytes_eq-Decides}
+use Rattle.cdb_store.specs.Images.{part, Holds}
+use Rattle.cdb_store.proofs.Parts.{length-part}
+use Rattle.cdb_form.specs.Format.Pair.{WordPair, head_size}
+use Rattle.cdb_form.specs.Format.Reading.{pair_at}
+use Rattle.cdb_form.specs.Format.Walk.{prefix_size, prefix_record}
+use Rattle.cdb_form.specs.Views.Pairs.{header_pair}
+use Rattle.cdb_form.specs.declared.header.Header.{Header}
+use Rattle.cdb_form.proofs.Bytes.WordLemmas.{pair_at-take}
+use Rattle.cdb_read.proofs.Searching.Beginnings.{and_true}
+use Rattle.cdb_read.specs.Lookup.{is_whole, value_span}
+use Rattle.cdb_read.specs.Views.Search.{TellsSame, LooksAt}
+use Rattle.cdb_read.specs.declared.lookup.key_at.Look.TheVariants as look
+use Rattle.cdb_read.specs.declared.span.Span.{Span}
+
+-- in each image, of n bytes, the record at a place has lengths k and v
+pub record HasLengths (w p k v n : ℕ) (images : List ℕ → Type 0) : Type 0 where
+  pub size : (b : List ℕ) → images b → prefix_size w (drop p b) ≡ 2 * w + k + v
+  pub key : (b : List ℕ) → images b → (prefix_record w (drop p b)).key ≡ part (p + 2 * w) k b
+  pub value : (b : List ℕ) → images b → value_span w b p ≡ record { place = p + 2 * w + k; len = v }
+  pub long : (b : List ℕ) → images b → length b ≡ n
+
+pub prefix_pair : (w n : ℕ) (xs : List ℕ) → n ≡ 2 * w → pair_at w (take n xs) ≡ pair_at w xs
+prefix_pair w n xs e =
+    let m : n ≡ w + w = omega arith in
+    ap (λ k. pair_at w (take k xs)) m ∙ pair_at-take w xs
+
+-- the pair that was read at a place
+pub pair_read : {bytes : List ℕ} {images : List ℕ → Type 0} (w at : ℕ) (p : WordPair) → length bytes ≡ 2 * w → p ≡ pair_at w bytes → Holds at bytes images → (b : List ℕ) → images b → pair_at w (drop at b) ≡ p
+pair_read {bytes = bytes} w at p l e held b is = sym (prefix_pair w (length bytes) (drop at b) l) ∙ ap (pair_at w) (held.each b is) ∙ sym e
+
+pub has_lengths : {w p n : ℕ} {bytes : List ℕ} {images : List ℕ → Type 0} (h : Header) → length bytes ≡ 2 * w → header_pair h ≡ pair_at w bytes → Holds p bytes images → ((b : List ℕ) → images b → length b ≡ n) → HasLengths w p h.klen h.vlen n images
+has_lengths {w = w} {p = p} {bytes = bytes} h l e r long =
+    let same : (b : List ℕ) → _ → pair_at w (drop p b) ≡ header_pair h = pair_read w p (header_pair h) l e r in
+    record {
+      size = λ b is. ap (λ (q : WordPair). 2 * w + q.first + q.second) (same b is);
+      key = λ b is. ap (λ (q : WordPair). take q.first (drop (2 * w) (drop p b))) (same b is) ∙ ap (take h.klen) (drop-drop (2 * w) p b);
+      value = λ b is. ap (λ (q : WordPair). let s : Span = record { place = p + 2 * w + q.first; len = q.second } in s) (same b is);
+      long = long;
+    }
+
+pub fewer_lengths : {w p k v n : ℕ} {old new : List ℕ → Type 0} → ((b : List ℕ) → new b → old b) → HasLengths w p k v n old → HasLengths w p k v n new
+fewer_lengths few h = record {
+  size = λ b is. h.size b (few b is);
+  key = λ b is. h.key b (few b is);
+  value = λ b is. h.value b (few b is);
+  long = λ b is. h.long b (few b is);
+}
+
+size_least : (w : ℕ) (b : List ℕ) → 2 * w ≤ prefix_size w b
+size_least w b =
+    let least : (m n : ℕ) → 2 * w ≤ 2 * w + m + n = λ m n. omega arith in
+    least (pair_at w b).first (pair_at w b).second
+
+unequal : (xs ys : List ℕ) → xs ≢ ys → bytes_eq xs ys ≡ false
+unequal xs ys h =
+    let d = bytes_eq-Decides xs ys in
+    let f : (v : Bool) → (v ≡ true → xs ≡ ys) → v ≡ false = λ v. elim v as (λ v. (v ≡ true → xs ≡ ys) → v ≡ false) [ true ↦ λ k. absurd (h (k refl)) | false ↦ λ k. refl ] in
+    f (bytes_eq xs ys) d.0
+
+not_whole : (w : ℕ) (b : List ℕ) (p : ℕ) → (head_size w ≤ p → p + prefix_size w (drop p b) ≤ length b → ⊥) → is_whole w b p ≡ false
+not_whole w b p none = elim (cases_Bool (is_whole w b p)) [
+  | inl t ↦
+      (let both = and_true (nat_le (head_size w) p) (nat_le (p + prefix_size w (drop p b)) (length b)) t in
+      absurd (none (leb-true (head_size w) p both.0) (leb-true (p + prefix_size w (drop p b)) (length b) both.1)))
+  | inr f ↦ f
+]
+
+whole : (w : ℕ) (b : List ℕ) (p : ℕ) → head_size w ≤ p → p + prefix_size w (drop p b) ≤ length b → is_whole w b p ≡ true
+whole w b p low high = and_from _ _ (le-leb (head_size w) p low) (le-leb (p + prefix_size w (drop p b)) (length b) high)
+
+-- what an answer denies
+pub passes : (answer : Bool) (m n : ℕ) → Decides answer (m ≤ n) → answer ≡ false → n < m
+passes answer m n decides denied = elim (cases_lt n m) [
+  | inl lt ↦ lt
+  | inr ge ↦ absurd (both_ways answer denied (decides.1 ge))
+]
+
+-- a place within the head, or with no room for a header
+pub no_header : {w p n : ℕ} {images : List ℕ → Type 0} (key : List ℕ) → ((b : List ℕ) → images b → length b ≡ n) → (head_size w ≤ p → p + 2 * w ≤ n → ⊥) → LooksAt w key p look.Broken images
+no_header {w = w} {p = p} key long none = record {
+  each = λ b is. not_whole w b p (λ low high. none low (let l = size_least w (drop p b) in let m = long b is in omega arith));
+}
+
+-- with no room for the record
+pub no_room : {w p k v n : ℕ} {images : List ℕ → Type 0} (key : List ℕ) → HasLengths w p k v n images → n < p + (2 * w + k + v) → LooksAt w key p look.Broken images
+no_room {w = w} {p = p} key h lt = record {
+  each = λ b is. not_whole w b p (λ low high. let m = h.long b is in let s = h.size b is in omega arith);
+}
+
+whole_here : {w p k v n : ℕ} {images : List ℕ → Type 0} → HasLengths w p k v n images → head_size w ≤ p → p + (2 * w + k + v) ≤ n → (b : List ℕ) → images b → is_whole w b p ≡ true
+whole_here {w = w} {p = p} h low fits b is = whole w b p low (let m = h.long b is in let s = h.size b is in omega arith)
+
+-- another length, another key
+pub other_length : {w p k v n : ℕ} {images : List ℕ → Type 0} (key : List ℕ) → HasLengths w p k v n images → head_size w ≤ p → p + (2 * w + k + v) ≤ n → k ≢ length key → LooksAt w key p look.Other images
+other_length {w = w} {p = p} {k = k} key h low fits ne = record {
+  each = λ b is.
+      let l = h.long b is in (
+        whole_here h low fits b is,
+        unequal ((prefix_record w (drop p b)).key) key
+            (λ same.
+            let y : length (part (p + 2 * w) k b) ≡ k = length-part (p + 2 * w) k b (omega arith) in
+            ne (sym y ∙ ap length (sym (h.key b is) ∙ same))),
+      );
+}
+
+pub other_key : {w p k v n : ℕ} {images : List ℕ → Type 0} (place : ℕ) (key : List ℕ) → place ≡ p + 2 * w → k ≡ length key → HasLengths w p k v n images → head_size w ≤ p → p + (2 * w + k + v) ≤ n → TellsSame false place key images → LooksAt w key p look.Other images
+other_key {w = w} {p = p} {k = k} place key at same h low fits tells = record {
+  each = λ b is. (
+    whole_here h low fits b is,
+    unequal ((prefix_record w (drop p b)).key) key
+        (λ eq.
+        let both = (tells.each b is).1 (ap (λ v. part v (length key) b) at ∙ ap (λ v. part (p + 2 * w) v b) (sym same) ∙ sym (h.key b is) ∙ eq) in
+        cc),
+  );
+}
+
+pub same_key : {w p k v n : ℕ} {images : List ℕ → Type 0} (place : ℕ) (key : List ℕ) (span : Span) → place ≡ p + 2 * w → span.place ≡ p + 2 * w + k → span.len ≡ v → k ≡ length key → HasLengths w p k v n images → head_size w ≤ p → p + (2 * w + k + v) ≤ n → TellsSame true place key images → LooksAt w key p (look.Value span) images
+same_key {w = w} {p = p} {k = k} place key span at here long same h low fits tells = record {
+  each = λ b is. (
+    whole_here h low fits b is,
+    (bytes_eq-Decides ((prefix_record w (drop p b)).key) key).1 (h.key b is ∙ ap (λ v. part (p + 2 * w) v b) same ∙ ap (λ v. part v (length key) b) (sym at) ∙ (tells.each b is).0 refl),
+    ap (λ q. let s : Span = record { place = q; len = span.len } in s) here ∙ ap (λ q. let s : Span = record { place = p + 2 * w + k; len = q } in s) long ∙ sym (h.value b is),
+  );
+}

@@ -1,0 +1,5 @@
+-- Laws of whole files.
+pub mod SoundFiles
+pub mod FaultLaws
+pub mod LookupLaws
+pub mod SoundLookups
