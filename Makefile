@@ -43,7 +43,7 @@ HEAP = $(dir $(shell $(RT) doc))c/liblibc_c.a
 all: bin/cdb
 
 bin/cdb: $(SOURCES)
-	@RT='$(RT)' $(PYTHON) tools/build.py crates/cdb bin/cdb
+	@RT='$(RT)' CC='$(CC)' $(PYTHON) tools/build.py crates/cdb bin/cdb
 
 try:
 	@RT='$(RT)' sh demo/try.sh
@@ -60,8 +60,8 @@ demo:
 # trees in bin, whose crates the gate would take for the repository's.
 test:
 	@rm -rf bin/trees
-	@began=$$(date +%s) && $(RT) ci && \
-		RT='$(RT)' CC='$(CC)' $(PYTHON) tests/run.py crates/cdb/out/cdb --gate "$$began"
+	@began=$$(date +%s) && $(RT) ci && RT='$(RT)' CC='$(CC)' $(PYTHON) tools/link.py crates/cdb bin/cdb && \
+		RT='$(RT)' CC='$(CC)' $(PYTHON) tests/run.py bin/cdb --gate "$$began"
 
 tests:
 	@test -x '$(BIN)' || { echo '$(BIN) is not built: run make first'; exit 1; }

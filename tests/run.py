@@ -21,6 +21,7 @@ TOP = os.path.join(os.path.dirname(os.path.abspath(__file__)), "..")
 COUNTED = re.compile(r"^(\d+) passed, (\d+) failed", re.MULTILINE)
 REFUSE = "bin/refuse.so"
 ORDERS = "bin/orders"
+LOADED = "crates/cdb/out/cdb"
 
 
 @dataclass
@@ -39,8 +40,18 @@ def compiler():
     return (os.environ.get("CC") or "cc").split()[0]
 
 
+def is_dynamic(program):
+    """Whether a program is loaded with the C library, so that another library can be loaded ahead of it."""
+    with open(program, "rb") as file:
+        head = file.read(1 << 12)
+    # The type of each part of the program that its head lists: 3 names the loader.
+    start, size, count = (int.from_bytes(head[at : at + width], "little") for at, width in ((32, 8), (54, 2), (56, 2)))
+    return any(head[start + size * it] == 3 for it in range(count))
+
+
 def parts_of(program, is_gate):
-    """The parts, in order."""
+    """The parts, in order. What refuses calls of the C library needs the program as the checker links it."""
+    loaded = program if is_dynamic(program) else os.path.join(TOP, LOADED)
     c = ("C compiler", compiler())
     package = ("command dpkg-deb", "dpkg-deb")
     parts = [
@@ -58,15 +69,15 @@ def parts_of(program, is_gate):
         Part("tests/build/run.py"),
         Part("tests/package/version.py"),
         Part("tests/package/run.py", (program,), (package,)),
-        Part("tests/faults/run.py", (program, REFUSE, "memory"), (c,), (REFUSE,)),
-        Part("tests/faults/run.py", (program, REFUSE, "calls"), (c,), (REFUSE,)),
-        Part("tests/faults/memory.py", (program, REFUSE), (c,), (REFUSE,)),
-        Part("tests/faults/closed.py", (program, REFUSE), (c,), (REFUSE,)),
-        Part("tests/faults/syncs.py", (program, REFUSE), (c,), (REFUSE,)),
-        Part("tests/faults/names.py", (program, REFUSE), (c,), (REFUSE,)),
-        Part("tests/faults/killed.py", (program, REFUSE), (c,), (REFUSE,)),
-        Part("tests/faults/others.py", (program, REFUSE), (c,), (REFUSE,)),
-        Part("tests/faults/parts.py", (program, REFUSE), (c,), (REFUSE,)),
+        Part("tests/faults/run.py", (loaded, REFUSE, "memory"), (c,), (REFUSE,)),
+        Part("tests/faults/run.py", (loaded, REFUSE, "calls"), (c,), (REFUSE,)),
+        Part("tests/faults/memory.py", (loaded, REFUSE), (c,), (REFUSE,)),
+        Part("tests/faults/closed.py", (loaded, REFUSE), (c,), (REFUSE,)),
+        Part("tests/faults/syncs.py", (loaded, REFUSE), (c,), (REFUSE,)),
+        Part("tests/faults/names.py", (loaded, REFUSE), (c,), (REFUSE,)),
+        Part("tests/faults/killed.py", (loaded, REFUSE), (c,), (REFUSE,)),
+        Part("tests/faults/others.py", (loaded, REFUSE), (c,), (REFUSE,)),
+        Part("tests/faults/parts.py", (loaded, REFUSE), (c,), (REFUSE,)),
     ]
     if is_gate:
         parts.append(Part("tests/faults/calls.py", (REFUSE,), (c,), (REFUSE,)))

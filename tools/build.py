@@ -25,6 +25,7 @@ import sys
 import threading
 import time
 
+from link import link
 from trees import KEPT, Trees, alone_in, crates_below, read
 
 # What the last release took with nothing kept, and on which machine.
@@ -291,6 +292,15 @@ def prove_all(trees, crates, path):
             trees.take_back_all()
 
 
+def put(trees, crate, target):
+    """Puts what was made of a crate where it is wanted, and answers what is to be said of it."""
+    if is_program(trees, crate):
+        return f"; {link(trees.folder(crate), target)}"
+    shutil.copy(os.path.join(trees.folder(crate), KEPT, f"lib{crate}.a"), f"{target}.new")
+    os.replace(f"{target}.new", target)
+    return ""
+
+
 def interrupt(*_):
     """Takes another signal for an interrupt."""
     raise KeyboardInterrupt
@@ -318,11 +328,9 @@ def main():
     if not prove_all(trees, crates, path):
         show_end(path)
         sys.exit(1)
-    made = crates[-1] if is_program(trees, crates[-1]) else f"lib{crates[-1]}.a"
     with alone_in(trees.folder(crates[-1])):
-        shutil.copy(os.path.join(crate, KEPT, made), f"{target}.new")
-        os.replace(f"{target}.new", target)
-    print(f"{target} is built: proved, in {time.monotonic() - began:.0f} s.")
+        how = put(trees, crates[-1], target)
+    print(f"{target} is built: proved, in {time.monotonic() - began:.0f} s{how}.")
 
 
 if __name__ == "__main__":

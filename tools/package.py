@@ -310,9 +310,11 @@ def make_package(package, files, architecture, folder):
 
 
 def make_deb(path, folder):
-    """Makes the package of a program, and answers its name."""
+    """Makes the package of a static program, and answers its name."""
     with open(path, "rb") as file:
         program = file.read()
+    if depends_of(program):
+        sys.exit(f"{path} is not static: with a C compiler and a static C library, `make` links it so")
     files = files_of(program, release_time())
     return [make_package(NAME, files, architecture_of(program), folder)]
 

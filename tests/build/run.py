@@ -8,6 +8,7 @@ what it runs side by side, and what is left after a failure, an interrupt and a 
 import contextlib
 import errno
 import os
+import shutil
 import signal
 import subprocess
 import sys
@@ -20,6 +21,7 @@ HERE = os.path.dirname(os.path.abspath(__file__))
 TOOLS = os.path.join(HERE, "..", "..", "tools")
 sys.path.insert(0, TOOLS)
 import build  # noqa: E402
+import link  # noqa: E402
 import trees  # noqa: E402
 
 CRATES = """# Lowest first.
@@ -243,9 +245,25 @@ def refused(it):
         yield "logic", "README.md names" in build.missing(made, BUILT)
 
 
+def linked(it):
+    """A program is linked statically of its object, if there are one and a C compiler."""
+    crate, target = os.path.join(it.top, "crates", "top"), os.path.join(it.top, "it")
+    it.write("crates/top/out/top", "loaded")
+    yield "no object", link.link(crate, target).startswith("dynamic") and os.path.getsize(target) == len("loaded")
+    if shutil.which(link.compiler()[0]) is None:
+        return
+    it.write("it.c", "int main(void) { return 7; }")
+    made = os.path.join(crate, "out", "top.o")
+    subprocess.run([*link.compiler(), "-c", "-o", made, os.path.join(it.top, "it.c")], check=True)
+    with mock.patch("link.archives", return_value=[]):
+        yield "static", link.link(crate, target) == "static" and subprocess.run([target], check=False).returncode == 7
+        with mock.patch.dict(os.environ, {"CC": "no-such-compiler"}):
+            yield "no compiler", link.link(crate, target).startswith("dynamic")
+
+
 def main():
     passed = failed = 0
-    for part in (side_by_side, again, library, failing, stopped, killed, two_builds, alone, copied, refused):
+    for part in (side_by_side, again, library, failing, stopped, killed, two_builds, alone, copied, refused, linked):
         with tempfile.TemporaryDirectory() as top:
             for what, is_well in part(Repository(top)):
                 passed, failed = passed + is_well, failed + (not is_well)

@@ -6,8 +6,7 @@
 The library is refuse.c, built to be loaded ahead of the C library. The first calls of the program open
 `/`, then the current folder, then the null device; so many of them are refused, and those that follow.
 The database must be the old one or the new one, whatever the streams: a file that got the number of a
-stream would have the warnings in it. Left out are creates whose standard error is closed if neither a
-folder nor the null device can be opened: nothing can hold its place then.
+stream would have the warnings in it.
 """
 
 import itertools
@@ -79,8 +78,6 @@ def main():
     passed = failed = 0
     sets = itertools.chain.from_iterable(itertools.combinations(range(3), n) for n in range(4))
     for closed, refused in itertools.product(list(sets), range(MOST + 1)):
-        if 2 in closed and refused > FOLDERS:
-            continue
         left = left_by(program, closed, refused)
         if is_right(closed, refused, left):
             passed += 1

@@ -14,9 +14,10 @@ mod steps;
 mod system;
 mod telling;
 
-use crate::real_system::{LAST_STANDARD, RealSystem};
+use crate::real_system::RealSystem;
 use cdb_files::RealNames;
 use cdb_form::PIPE;
+use cdb_store::LAST_STANDARD;
 use cdb_tool::{Output, Usage};
 use std::fs::File;
 use std::io::{ErrorKind, Stderr, Stdout};

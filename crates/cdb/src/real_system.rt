@@ -6,15 +6,12 @@ ghost use Rattle.cdb.specs.declared.open_trace.OpenCall.TheVariants.{Unopened};
 use crate::open_trace::{OpenCall, OpenTrace};
 use crate::system::System;
 use cdb_files::{Answer, NameFault};
-use cdb_store::{FileStore, StoreFault};
+use cdb_store::{FileStore, LAST_STANDARD, StoreFault};
 use cdb_tool::Fault;
 use std::fs::{self, File};
 use std::io::ErrorKind;
 use std::os::fd::AsRawFd;
 use std::rt::Files;
-
-/// The greatest number of a standard stream.
-pub(crate) const LAST_STANDARD: i32 = 2;
 
 /// The files of the system, by their names.
 #[derive(Drop)]

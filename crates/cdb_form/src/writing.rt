@@ -80,6 +80,7 @@ pub(crate) fn write_at_once<W: Write>(w: &mut W, bytes: &[u8]) -> Result<(), Out
 }
 
 /// Writes all the bytes. After an `OutFault` the writer holds a prefix of them.
+#[inline(always)]
 pub fn write_whole<W: Write>(w: &mut W, bytes: &[u8]) -> Result<(), OutFault>
     ensures { Writes result (W.contents w.old) (W.contents w.new) bytes.now }
 {

@@ -241,6 +241,7 @@ impl<S: Store> Store for BufferedStore<S> {
         self.inner.read_at(pos, into)
     }
 
+    #[inline(always)]
     fn write_at(&mut self, pos: u64, bytes: &[u8]) -> Result<(), StoreFault> {
         self.inner.reserve(pos + bytes.len() as u64)?;
         if bytes.len() > self.capacity {

@@ -18,6 +18,6 @@ pub use file::FileStore;
 pub use fuse::FuseStore;
 pub use memory::MemStore;
 pub use raw::{RawFault, RawFile, note_part};
-pub use real::{READ_AND_WRITTEN, RealFile};
+pub use real::{LAST_STANDARD, READ_AND_WRITTEN, RealFile};
 pub use store::{Store, StoreFault};
 pub use trace::{Call, Trace};

@@ -6,11 +6,24 @@ use crate::raw::{RawFault, RawFile, note_part};
 use crate::trace::{Call, Trace};
 use std::fs::{self, File, Metadata, OpenOptions, Permissions, TryLockError};
 use std::io::{self, ErrorKind};
+use std::os::fd::AsRawFd;
 use std::os::unix::fs::{FileExt, MetadataExt, OpenOptionsExt};
 use std::rt::Files;
 
 /// The permission bits of a file that all may read and write, of which the umask takes some.
 pub const READ_AND_WRITTEN: u32 = 0o666;
+
+/// The greatest number of a standard stream.
+pub const LAST_STANDARD: i32 = 2;
+
+/// A file that was opened, unless it has the number of a standard stream, which is closed then: what is
+/// meant for that stream would be written into the file.
+fn apart(file: File) -> io::Result<File> {
+    if file.as_raw_fd() <= LAST_STANDARD {
+        return Err(io::Error::from(ErrorKind::InvalidInput));
+    }
+    Ok(file)
+}
 
 /// Whether both are of one file.
 fn is_one(one: &Metadata, other: &Metadata) -> bool {
@@ -54,17 +67,24 @@ impl RealFile {
         let mut options = OpenOptions::new();
         options.create_new(true).mode(mode);
         let file = options.read(true).write(true).open(rt, path)?;
-        Ok(RealFile::made(file))
+        match apart(file) {
+            Ok(file) => Ok(RealFile::made(file)),
+            Err(error) => {
+                // It was just made. If it stays, a later create takes it away.
+                let _ = fs::remove_file(rt, path);
+                Err(error)
+            }
+        }
     }
 
     /// Opens the regular file of a name to read and write it. It does not wait: a pipe that is opened
     /// to read and write never makes a process wait, and it is given up then.
     ///
-    /// `InvalidInput`: what was opened is no regular file.
+    /// `InvalidInput`: what was opened is no regular file, or it got the number of a standard stream.
     pub fn open_regular<R: Files<File = File>>(rt: &R, path: &str) -> io::Result<RealFile>
         ensures opened { IfOk result (λ f. events_of f ≡ []) }
     {
-        let file = OpenOptions::new().read(true).write(true).open(rt, path)?;
+        let file = apart(OpenOptions::new().read(true).write(true).open(rt, path)?)?;
         if !file.metadata()?.is_file() {
             return Err(io::Error::from(ErrorKind::InvalidInput));
         }
@@ -81,7 +101,7 @@ impl RealFile {
         match RealFile::create_new(rt, path, READ_AND_WRITTEN) {
             Err(error) if error.kind() == ErrorKind::AlreadyExists => {
                 let mut options = OpenOptions::new();
-                let file = options.read(true).write(true).open(rt, path)?;
+                let file = apart(options.read(true).write(true).open(rt, path)?)?;
                 let found = file.metadata()?;
                 // The name is looked at after the file was opened: a link has a file of its own.
                 if !is_one(&found, &fs::symlink_metadata(rt, path)?) {

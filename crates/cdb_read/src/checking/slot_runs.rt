@@ -26,7 +26,10 @@ pub(crate) fn run_with(run: u64, slot: Slot) -> u64
     if slot.place == 0 { 0 } else { run + 1 }
 }
 
-/// How many used slots in a row end a table. Many are read at once.
+/// How many slots are read at once, up to the one that is looked at: a window of wide ones.
+const SLOTS_BEHIND: u64 = 256;
+
+/// How many used slots in a row end a table. The last are looked at first, and many are read at once.
 pub(crate) fn last_run<S: Store, L: Width>(
     store: &mut S,
     table: Pointer,
@@ -42,10 +45,15 @@ pub(crate) fn last_run<S: Store, L: Width>(
     ensures reads { OnlyReads S.Store store.old store.new }
     ensures fails { IfErr result (StoreFails S.Store store.old store.new) }
 {
-    let mut run = 0;
-    for i in 0..table.slots {
+    for run in 0..table.slots {
+        let i = table.slots - 1 - run;
+        if run % SLOTS_BEHIND == 0 {
+            slot_at::<S, L>(store, table, i.saturating_sub(SLOTS_BEHIND - 1), window, WINDOW)?;
+        }
         let slot = slot_at::<S, L>(store, table, i, window, WINDOW)?;
-        run = run_with(run, slot);
+        if slot.place == 0 {
+            return Ok(run);
+        }
     }
-    Ok(run)
+    Ok(table.slots)
 }

@@ -9,6 +9,7 @@ ghost use Rattle.cdb_read.specs.Views.Inside.{StandsInside};
 ghost use Rattle.cdb_store.specs.Reads.{OnlyReads};
 ghost use Rattle.cdb_read.specs.Views.Window.{Shows};
 
+use crate::checking::directory::Directory;
 use crate::checking::slot_runs::{last_run, run_with};
 use crate::checking::table_records::TableRecords;
 use crate::fault::ReadFault;
@@ -16,11 +17,13 @@ use crate::tables::{distance_of, slot_at};
 use crate::window::{WINDOW, Window};
 use cdb_form::{Pointer, Slot, Width, table_number};
 use cdb_store::Store;
+use std::alloc::Global;
 
 /// Checks used slot `i` of table `n`, of which is known whether a search comes to it. Its record is
 /// marked if the slot is right.
 fn check_slot(
     entries: &mut TableRecords,
+    directory: &Directory,
     n: u64,
     i: u64,
     slot: Slot,
@@ -34,7 +37,7 @@ fn check_slot(
     if table_number(slot.hash) as u64 != n || !is_reached {
         return Err(ReadFault::Slot(n, i));
     }
-    let Some(k) = entries.find(slot) else {
+    let Some(k) = entries.find(directory, slot) else {
         return Err(ReadFault::Slot(n, i));
     };
     if entries.is_marked(k) {
@@ -47,6 +50,7 @@ fn check_slot(
 /// Checks the slots of table `n` against the records of its list, and marks these. The run of used
 /// slots before each slot is known as the slots pass, so no way to a slot is gone twice.
 fn check_table<S: Store, L: Width>(
+    alloc: Global,
     store: &mut S,
     n: u64,
     table: Pointer,
@@ -63,12 +67,13 @@ fn check_table<S: Store, L: Width>(
     ensures fails { IfErr result (ReadTells S.Store
         (TableHas L.WORD n (pointer_pair table) entries.old) store.old store.new) }
 {
+    let directory = entries.directory(alloc);
     let mut run = last_run::<S, L>(store, table, window)?;
     for i in 0..table.slots {
         let slot = slot_at::<S, L>(store, table, i, window, WINDOW)?;
         if slot.place != 0 {
             let is_reached = distance_of(table.slots, slot.hash, i) <= run;
-            check_slot(entries, n, i, slot, is_reached)?;
+            check_slot(entries, &directory, n, i, slot, is_reached)?;
         }
         run = run_with(run, slot);
     }
@@ -77,6 +82,7 @@ fn check_table<S: Store, L: Width>(
 
 /// Checks the slots of all tables, each against the records of its list alone, and marks these.
 pub(crate) fn check_tables<S: Store, L: Width>(
+    alloc: Global,
     store: &mut S,
     tables: &[Pointer],
     window: &mut Window,
@@ -97,7 +103,7 @@ pub(crate) fn check_tables<S: Store, L: Width>(
         (ReadTells S.Store (TablesHave L.WORD lists.old) store.old store.new) }
 {
     for n in 0..tables.len() {
-        check_table::<S, L>(store, n as u64, tables[n], window, &mut lists[n])?;
+        check_table::<S, L>(alloc, store, n as u64, tables[n], window, &mut lists[n])?;
     }
     Ok(())
 }

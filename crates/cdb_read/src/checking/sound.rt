@@ -21,7 +21,7 @@ use std::alloc::Global;
 impl<S: Store, L: Width> Reader<S, L> {
     /// Checks the slots of all tables, which lie inside the file if they have slots, and marks
     /// their records.
-    fn check_slots(&mut self, lists: &mut [TableRecords]) -> Result<(), ReadFault>
+    fn check_slots(&mut self, alloc: Global, lists: &mut [TableRecords]) -> Result<(), ReadFault>
         requires many { length lists.old ≡ 256 }
         requires inside { All (StandsInside L.WORD (S.size self.old.store))
             (map pointer_pair self.old.head.pointers) }
@@ -32,6 +32,7 @@ impl<S: Store, L: Width> Reader<S, L> {
             (ReadTells S.Store (TablesHave L.WORD lists.old) self.old.store self.new.store) }
     {
         check_tables::<S, L>(
+            alloc,
             &mut self.store,
             &self.head.pointers,
             &mut self.window,
@@ -51,7 +52,7 @@ impl<S: Store, L: Width> Reader<S, L> {
 /// record that no slot has. `NoMemory` and `Device` come if memory ran out or the store failed.
 ///
 /// The walk, and then the slots, are read through the window, 4096 bytes at once. It takes 13 bytes
-/// of memory a record, and time in order n log n. Whatever it answers, the reader stays as usable
+/// of memory a record and 2 more for those of one table, and time in order n log n. Whatever it answers, the reader stays as usable
 /// as it was.
 pub fn check<L: Width, S: Store>(alloc: Global, reader: &mut Reader<S, L>) -> Result<(), ReadFault>
     ensures reads { OnlyReads S.Store reader.old.store reader.new.store }
@@ -65,7 +66,7 @@ pub fn check<L: Width, S: Store>(alloc: Global, reader: &mut Reader<S, L>) -> Re
         return Err(ReadFault::Table(n));
     }
     let mut lists = walk_entries(alloc, reader)?;
-    reader.check_slots(&mut lists)?;
+    reader.check_slots(alloc, &mut lists)?;
     match first_unmarked(&lists) {
         Some(place) => Err(ReadFault::Unindexed(place)),
         None => Ok(()),

@@ -2,6 +2,7 @@
 ghost use Rattle.std.specs.Prelude.{◌≡◌, ◌<◌, ◌≤◌, [], OnOk, IfSome, MatchOption, length};
 ghost use Rattle.std.specs.Prelude.{get_or, slice_set, true, false, List, option_map};
 
+use crate::checking::directory::Directory;
 use cdb_form::Slot;
 use std::alloc::{AllocError, Global};
 
@@ -55,15 +56,22 @@ impl TableRecords {
         Ok(())
     }
 
+    /// A directory of the places.
+    pub(crate) fn directory(&self, alloc: Global) -> Directory {
+        Directory::of(alloc, &self.places)
+    }
+
     /// The number of the record that has the place and the hash of a slot.
-    pub(crate) fn find(&self, slot: Slot) -> Option<usize>
+    pub(crate) fn find(&self, directory: &Directory, slot: Slot) -> Option<usize>
         ensures within { IfSome result (λ k. k < length self.now.places.items) }
         ensures finds { IsStrictlyIncreasing self.now.places.items → MatchOption result
             (list_any (is_same (slot_pair slot)) (entry_pairs self.now) ≡ false)
             (HasEntry self.now slot) }
     {
-        match self.places.binary_search(&slot.place) {
-            Ok(k) => {
+        let between = directory.between(&self.places, slot.place);
+        match self.places[between.from..between.to].binary_search(&slot.place) {
+            Ok(at) => {
+                let k = between.from + at;
                 if u64::from(self.hashes[k]) == slot.hash {
                     Some(k)
                 } else {
