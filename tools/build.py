@@ -7,7 +7,7 @@ is wanted.
 Each crate is proved and built as soon as those below it are, as many at once as the machine has the
 processors and the memory for. The checker works alone in the folders of a crate and of those below it, so
 each gets a tree of its own: see trees.py. Of the crates that are ready the one that most work waits for
-comes first, and gets most jobs. CRATE comes last; on a PC it is built for each processor of x86-64.
+comes first, and gets the processors that the others leave. CRATE comes last; on a PC it is built for each processor of x86-64.
 
 As it goes, the command says how many functions are proved: on a terminal in one line that it rewrites, else
 in a line a minute. All that the checker says goes to the file build.log beside the target; if a step fails,
@@ -177,10 +177,11 @@ class Proofs:
         return [it for it in self.waiting if self.proved.issuperset(self.trees.libraries[it])]
 
     def words(self, crate):
-        """The command for a crate: as many jobs as processors if most work waits for it, else half."""
+        """The command for a crate. Each that runs beside gets a processor, and that one the others for which most
+        work waits: more jobs than processors take more of their time."""
         is_first = crate == next(it for it in self.order if it in self.running)
-        jobs = processors() if is_first else processors() // 2
         beside = min(self.most, len(self.running) + len(self.ready()))
+        jobs = processors() - beside + 1 if is_first else 1
         jobs = max(1, min(jobs, memory() // beside // JOB_MEMORY))
         words = ["--jobs", str(jobs), *(CPU if crate == self.last else [])]
         if is_program(self.trees, crate):

@@ -132,7 +132,8 @@ def side_by_side(it):
     yield "crates", sorted(begun) == sorted(BUILT) and begun[-1] == "top"
     made = trees.Trees(it.top, os.path.join(it.top, "bin", "trees"))
     yield "order", build.in_order(made, BUILT) == ["low", "other", "right", "left", "top"]
-    yield "jobs", it.jobs_of("low") > it.jobs_of("other") or not IS_BESIDE
+    jobs = [it.jobs_of("low"), it.jobs_of("other")]
+    yield "jobs", jobs[0] >= jobs[1] and (sum(jobs) <= build.processors() or not IS_BESIDE)
     yield "program", os.path.isfile(os.path.join(it.top, "bin", "top"))
     yield "trees", it.kept() == list(BUILT) and not it.has_trees()
     yield "lines", "5 of 5 crates" in output and "GB of disk" in output

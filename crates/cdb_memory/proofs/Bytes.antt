@@ -4,7 +4,7 @@ use Rattle.std.specs.Prelude.{bytes_eq, not}
 use Rattle.std.proofs.lemmas.Slice.Eq.{bytes_eq-Decides}
 use Rattle.std.proofs.lemmas.List.{take-append-drop, length-take-le}
 use Rattle.std.proofs.Math.Nat.{mod-lt}
-use Rattle.cdb_form.proofs.AreaLemmas.{head_at-append}
+use Rattle.cdb_form.proofs.RecordReading.RecordAreas.{head_at-append}
 use Rattle.cdb_store.specs.Images.{part, Holds}
 use Rattle.cdb_store.proofs.Parts.{length-part}
 use Rattle.cdb_form.specs.Format.Hash.{key_hash, table_number}
@@ -19,8 +19,8 @@ use Rattle.cdb_read.specs.declared.lookup.search.Probed.TheVariants as step
 use Rattle.cdb_read.specs.declared.lookup.search.Met.TheVariants as met
 use Rattle.cdb_read.specs.declared.span.Span.{Span}
 use Rattle.cdb_read.specs.declared.lookup.probe.Probe.{Probe}
-use Rattle.cdb_read.proofs.Searching.Headers.{HasLengths, has_lengths, prefix_pair}
-use Rattle.cdb_read.proofs.Searching.Searches.{IsProbeSlot, SameAhead}
+use Rattle.cdb_read.proofs.Probing.Headers.{HasLengths, has_lengths, prefix_pair}
+use Rattle.cdb_read.proofs.Probing.Searches.{IsProbeSlot, SameAhead}
 use Rattle.cdb_read.proofs.WholeFiles.LookupLaws.{lookup_of-is}
 
 pub slot_here : {w : ℕ} {probe : Probe} {slot : WordPair} (file : List ℕ) → slot ≡ probe_slot w file probe → IsProbeSlot w probe slot (λ b. b ≡ file)

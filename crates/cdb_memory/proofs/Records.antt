@@ -12,8 +12,8 @@ use Rattle.cdb_read.specs.Views.Spans.{HasSpans}
 use Rattle.cdb_read.specs.Views.Walking.{behind, LiesAt}
 use Rattle.cdb_read.specs.declared.walking.state.RecordArea.{RecordArea}
 use Rattle.cdb_read.specs.declared.span.PlacedRecord.{PlacedRecord}
-use Rattle.cdb_read.proofs.Searching.Headers.{prefix_pair}
-use Rattle.cdb_read.proofs.Searching.PlacedRecords.{HeaderTells, either, least_below, no_header, no_body, stands}
+use Rattle.cdb_read.proofs.Probing.Headers.{prefix_pair}
+use Rattle.cdb_read.proofs.Probing.PlacedRecords.{HeaderTells, either, least_below, no_header, no_body, stands}
 use Rattle.cdb_memory.specs.Walks.{StandsRecord}
 
 abbrev rest_at : (place end : ℕ) → place < end → RecordArea

@@ -2,6 +2,7 @@
 pub mod TableChecks
 pub mod FaultSteps
 pub mod Entered
+pub mod Buckets
 pub mod Tells
 pub mod SlotChecks
 pub mod ListMarks

@@ -3,6 +3,6 @@ pub mod Lists
 pub mod Walked
 pub mod FilledTables
 pub mod WholeFiles
-pub mod Searching
+pub mod Probing
 pub mod Counting
 pub mod Checks

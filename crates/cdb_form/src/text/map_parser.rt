@@ -172,7 +172,7 @@ impl<R: Read> Source<R> {
             Some(first) => {
                 let newline = self.pair::<A>(first, into)?;
                 if newline {
-                    Ok(LineRead::Record)
+                    Ok(LineRead::Pair)
                 } else {
                     Ok(LineRead::LastPair)
                 }
@@ -195,7 +195,7 @@ impl<R: Read> Source<R> {
             return self.line::<A>(into);
         }
         self.take_at_hand::<A>(n);
-        Ok(LineRead::Record)
+        Ok(LineRead::Pair)
     }
 
     /// Takes lines up to the first record's, and answers whether there is one, and how it ends.
@@ -209,7 +209,7 @@ impl<R: Read> Source<R> {
             match self.line_buffered::<A>(into)? {
                 LineRead::Ignored => {}
                 LineRead::Last => return Ok(Entry::End),
-                LineRead::Record => return Ok(Entry::Closed),
+                LineRead::Pair => return Ok(Entry::Closed),
                 LineRead::LastPair => return Ok(Entry::Last),
             }
         }

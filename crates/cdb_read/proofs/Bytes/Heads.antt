@@ -4,7 +4,7 @@ use Rattle.std.proofs.lemmas.List.{take-append-drop}
 use Rattle.cdb_store.specs.Images.{AfterRead}
 use Rattle.cdb_form.specs.Format.Pair.{WordPair, head_size}
 use Rattle.cdb_form.specs.Format.Reading.{head_at}
-use Rattle.cdb_form.proofs.AreaLemmas.{head_at-append}
+use Rattle.cdb_form.proofs.RecordReading.RecordAreas.{head_at-append}
 
 pub head_known : (w : ℕ) (bytes : List ℕ) (pointers : List WordPair) (old new : List ℕ → Type 0) (b : List ℕ) → length bytes ≡ head_size w → AfterRead 0 bytes old new → head_at w bytes ≡ pointers → new b → head_at w b ≡ pointers
 head_known w bytes pointers old new b long read is image =

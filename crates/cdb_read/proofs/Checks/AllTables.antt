@@ -18,7 +18,7 @@ use Rattle.cdb_read.specs.Views.Checked.{TableIsClear, TableHas, TablesAreClear,
 use Rattle.cdb_read.specs.Views.TableRecords.{Marks}
 use Rattle.cdb_read.specs.Views.RecordLists.{ListsMark}
 use Rattle.cdb_read.specs.declared.checking.table_records.TableRecords.{TableRecords}
-use Rattle.cdb_read.proofs.Searching.Beginnings.{pointer_known}
+use Rattle.cdb_read.proofs.Probing.Beginnings.{pointer_known}
 use Rattle.cdb_read.proofs.Checks.Elsewhere.{faults_in, marks_elsewhere}
 use Rattle.cdb_read.proofs.Checks.FaultSteps.{range_split, first_of-nil, none_next, first_next}
 

@@ -22,7 +22,7 @@ use Rattle.cdb_read.specs.Views.Checked.{HasEntries, WalkHas, TablesAreClear, Ta
 use Rattle.cdb_read.specs.Views.Inside.{StandsInside}
 use Rattle.cdb_read.specs.Views.RecordLists.{ListsMark}
 use Rattle.cdb_read.specs.declared.checking.table_records.TableRecords.{TableRecords}
-use Rattle.cdb_read.proofs.Searching.Beginnings.{pointer_known}
+use Rattle.cdb_read.proofs.Probing.Beginnings.{pointer_known}
 use Rattle.cdb_read.proofs.WholeFiles.FaultLaws.{first_fault-whole, none_of-all, all_numbers, sound_is_no_damage}
 use Rattle.cdb_read.proofs.Checks.FaultSteps.{first_next}
 use Rattle.cdb_read.proofs.Checks.TableChecks.{not_outside}

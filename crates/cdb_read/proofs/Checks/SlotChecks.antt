@@ -16,7 +16,7 @@ use Rattle.cdb_read.specs.Views.TableRecords.{Marks}
 use Rattle.cdb_read.specs.declared.checking.table_records.TableRecords.{TableRecords}
 use Rattle.cdb_read.proofs.Checks.Entered.{marks_unused}
 use Rattle.cdb_read.proofs.Checks.FaultSteps.{first_of-nil, none_next, first_next}
-use Rattle.cdb_read.proofs.Searching.Probes.{slot_is, length-slots_at}
+use Rattle.cdb_read.proofs.Probing.Probes.{slot_is, length-slots_at}
 
 -- the slot that was read
 pub slot_read : (w : ℕ) (b : List ℕ) (p : WordPair) (i : ℕ) (s : WordPair) → i < p.second → s ≡ pair_at w (drop (p.first + 2 * w * i) b) → nth_slot (slots_at w b p) i ≡ s

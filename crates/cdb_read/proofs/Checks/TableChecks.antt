@@ -12,7 +12,7 @@ use Rattle.cdb_form.specs.declared.head.Pointer.{Pointer}
 use Rattle.cdb_read.specs.Lookup.{is_inside}
 use Rattle.cdb_read.specs.Statistics.{is_outside}
 use Rattle.cdb_read.specs.Views.Inside.{LiesInside, StandsInside}
-use Rattle.cdb_read.proofs.Searching.Beginnings.{is_inside-lies}
+use Rattle.cdb_read.proofs.Probing.Beginnings.{is_inside-lies}
 
 lies_is_inside : (w size : ℕ) (b : List ℕ) (p : WordPair) → length b ≡ size → LiesInside w size p → is_inside w b p ≡ true
 lies_is_inside w size b p long lies =

@@ -1,5 +1,5 @@
 // Where among rising places a place may be.
-ghost use Rattle.std.specs.Prelude.{◌≡◌, ℕ, ◌<◌, ◌≤◌, length, get_or};
+ghost use Rattle.std.specs.Prelude.{◌≡◌, ℕ, ◌<◌, ◌≤◌, length, get_or, true};
 ghost use Rattle.std.specs.List.Sorted.{IsStrictlyIncreasing};
 
 use std::alloc::{AllocError, Global};
@@ -17,29 +17,29 @@ pub(crate) struct Between {
 #[derive(Drop)]
 pub(crate) struct Directory {
     /// The number of the first place that lies in the bucket or after it, and at the end that of all.
-    firsts: Vec<u32>,
+    firsts: Vec<usize>,
     /// A bucket has 2 to the power of this many bytes.
     shift: u32,
     ghost short: { shift < 64 },
 }
 
 /// The first place of each bucket.
-fn firsts_of(alloc: Global, places: &[u64], shift: u32) -> Result<Vec<u32>, AllocError>
+fn firsts_of(alloc: Global, places: &[u64], shift: u32) -> Result<Vec<usize>, AllocError>
     requires { shift < 64 }
 {
     let mut firsts = Vec::new(alloc);
     for k in 0..places.len() {
         let buckets = ((places[k] >> shift) as usize).saturating_add(1);
         if firsts.len() < buckets {
-            firsts.resize(buckets, k as u32)?;
+            firsts.resize(buckets, k)?;
         }
     }
-    firsts.push(places.len() as u32)?;
+    firsts.push(places.len())?;
     Ok(firsts)
 }
 
 impl Directory {
-    /// The directory of some places: 2 bytes a place. If they are spread evenly, a bucket has two to
+    /// The directory of some places: 4 bytes a place. If they are spread evenly, a bucket has two to
     /// four of them. If an allocation fails the directory is empty, and a search goes through all places.
     pub(crate) fn of(alloc: Global, places: &[u64]) -> Directory {
         let most = places.last().copied().unwrap_or(0);
@@ -60,8 +60,8 @@ impl Directory {
     {
         let bucket = (place >> self.shift) as usize;
         if bucket < self.firsts.len() && self.firsts.len() - bucket > 1 {
-            let from = self.firsts[bucket] as usize;
-            let to = self.firsts[bucket + 1] as usize;
+            let from = self.firsts[bucket];
+            let to = self.firsts[bucket + 1];
             if from <= to && is_below(places, from, place) && is_above(places, to, place) {
                 return Between { from, to };
             }

@@ -48,7 +48,13 @@ pub(crate) fn last_run<S: Store, L: Width>(
     for run in 0..table.slots {
         let i = table.slots - 1 - run;
         if run % SLOTS_BEHIND == 0 {
-            slot_at::<S, L>(store, table, i.saturating_sub(SLOTS_BEHIND - 1), window, WINDOW)?;
+            slot_at::<S, L>(
+                store,
+                table,
+                i.saturating_sub(SLOTS_BEHIND - 1),
+                window,
+                WINDOW,
+            )?;
         }
         let slot = slot_at::<S, L>(store, table, i, window, WINDOW)?;
         if slot.place == 0 {

@@ -52,7 +52,7 @@ impl<S: Store, L: Width> Reader<S, L> {
 /// record that no slot has. `NoMemory` and `Device` come if memory ran out or the store failed.
 ///
 /// The walk, and then the slots, are read through the window, 4096 bytes at once. It takes 13 bytes
-/// of memory a record and 2 more for those of one table, and time in order n log n. Whatever it answers, the reader stays as usable
+/// of memory a record and 4 more for those of one table, and time in order n log n. Whatever it answers, the reader stays as usable
 /// as it was.
 pub fn check<L: Width, S: Store>(alloc: Global, reader: &mut Reader<S, L>) -> Result<(), ReadFault>
     ensures reads { OnlyReads S.Store reader.old.store reader.new.store }

@@ -33,7 +33,10 @@ impl<S: Store, L: Width> Reader<S, L> {
     }
 
     /// Where the next record of a walk lies, if it is whole.
-    pub(crate) fn next_record(&mut self, rest: RecordArea) -> Result<Option<PlacedRecord>, ReadFault>
+    pub(crate) fn next_record(
+        &mut self,
+        rest: RecordArea,
+    ) -> Result<Option<PlacedRecord>, ReadFault>
         requires before { rest.place < rest.end }
         ensures stands { IfOk result (λ found.
             StandsAt L.WORD rest found (S.image self.new.store)) }

@@ -29,7 +29,11 @@ fn whole_len<L: Width>(bytes: &[u8]) -> usize
 impl<S: Store, L: Width> Reader<S, L> {
     /// Reads the next whole records of a walk over the start of `into`, and answers how many bytes
     /// they have. The store is not read if no byte is left before the record end.
-    pub(crate) fn read_records(&mut self, rest: RecordArea, into: &mut [u8]) -> Result<usize, ReadFault>
+    pub(crate) fn read_records(
+        &mut self,
+        rest: RecordArea,
+        into: &mut [u8],
+    ) -> Result<usize, ReadFault>
         ensures ahead { IfOk result
             (RecordsAhead L.WORD rest into.new (S.image self.new.store)) }
         ensures head { self.new.head ≡ self.old.head }

@@ -1,8 +1,8 @@
 use Rattle.std.proofs.Common.{◌≡◌, ◌+◌, ◌*◌, ◌≤◌, length, sym, ◌∙◌, arith}
 use Rattle.cdb_form.specs.Format.Pair.{head_size}
 use Rattle.cdb_read.specs.Views.Spans.{HasSpans}
-use Rattle.cdb_read.proofs.Searching.Headers.{HasLengths, no_room, other_length, other_key, same_key}
-use Rattle.cdb_read.proofs.Searching.PlacedRecords.{spans_fit}
+use Rattle.cdb_read.proofs.Probing.Headers.{HasLengths, no_room, other_length, other_key, same_key}
+use Rattle.cdb_read.proofs.Probing.PlacedRecords.{spans_fit}
 use Rattle.cdb_memory.proofs.Bytes.{header_here, tells_not, tells_so}
 use Rattle.cdb_memory.proofs.meeting.look_at.Goals as goal
 

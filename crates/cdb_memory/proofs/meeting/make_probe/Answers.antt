@@ -1,7 +1,7 @@
 use Rattle.std.proofs.Common.{sym, ◌∙◌}
 use Rattle.cdb_form.specs.Views.Pairs.{slot_pair}
 use Rattle.cdb_memory.proofs.Bytes.{slot_here}
-use Rattle.cdb_read.proofs.Searching.Searches.{step_empty, step_other, step_broken, step_passed, step_value}
+use Rattle.cdb_read.proofs.Probing.Searches.{step_empty, step_other, step_broken, step_passed, step_value}
 use Rattle.cdb_memory.proofs.meeting.make_probe.Goals as goal
 
 pub returns-then-slot-eq0-clause-steps : goal.returns-then-slot-eq0-clause-steps

@@ -1,5 +1,5 @@
 use Rattle.std.proofs.Common.{◌≡◌, arith}
-use Rattle.cdb_read.proofs.Searching.Searches.{meets_none}
+use Rattle.cdb_read.proofs.Probing.Searches.{meets_none}
 use Rattle.cdb_memory.proofs.Bytes.{meets_empty, meets_value, meets_broken, same_next, next_inside, next_fewer}
 use Rattle.cdb_memory.proofs.meeting.meet.Goals as goal
 

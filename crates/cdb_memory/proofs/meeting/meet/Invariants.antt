@@ -1,7 +1,7 @@
 use Rattle.std.proofs.Common.{◌≡◌, ◌≤◌, length}
 use Rattle.cdb_form.specs.Format.Hash.{key_hash}
 use Rattle.cdb_read.specs.Views.Probing.{ProbeInside}
-use Rattle.cdb_read.proofs.Searching.Searches.{SameAhead}
+use Rattle.cdb_read.proofs.Probing.Searches.{SameAhead}
 use Rattle.cdb_memory.proofs.meeting.meet.Given as goal
 
 abbrev pub invariant-loop-probe : goal.invariant-loop-probe

@@ -4,7 +4,7 @@ use Rattle.cdb_read.specs.Views.Search.{found_ahead}
 use Rattle.cdb_read.specs.Views.Probing.{ProbeInside}
 use Rattle.cdb_read.specs.declared.lookup.probe.Searching.TheVariants.{At}
 use Rattle.cdb_read.specs.declared.lookup.probe.Probe.{Probe}
-use Rattle.cdb_read.proofs.Searching.Searches.{none_left}
+use Rattle.cdb_read.proofs.Probing.Searches.{none_left}
 use Rattle.cdb_memory.proofs.search.begin.Goals as goal
 
 pub returns-in-AtEnd-clause-begins : goal.returns-in-AtEnd-clause-begins

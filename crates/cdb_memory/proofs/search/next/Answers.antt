@@ -3,7 +3,7 @@ use Rattle.cdb_read.specs.Lookup.{with_span}
 use Rattle.cdb_read.specs.Views.Search.{found_ahead}
 use Rattle.cdb_read.specs.declared.lookup.probe.Searching.TheVariants.{At}
 use Rattle.cdb_read.specs.declared.lookup.probe.Probe.{Probe}
-use Rattle.cdb_read.proofs.Searching.Searches.{none_left}
+use Rattle.cdb_read.proofs.Probing.Searches.{none_left}
 use Rattle.cdb_memory.specs.Searches.{probe_of}
 use Rattle.cdb_memory.proofs.search.next.Goals as goal
 

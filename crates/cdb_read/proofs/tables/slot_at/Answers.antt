@@ -2,7 +2,7 @@ use Rattle.std.proofs.Common.{◌≡◌, ℕ, ◌+◌, ◌*◌, length, drop, sy
 use Rattle.cdb_store.specs.Images.{Holds}
 use Rattle.cdb_form.specs.Format.Reading.{pair_at}
 use Rattle.cdb_form.specs.Views.Pairs.{slot_pair}
-use Rattle.cdb_read.proofs.Searching.Headers.{pair_read}
+use Rattle.cdb_read.proofs.Probing.Headers.{pair_read}
 use Rattle.cdb_read.proofs.Bytes.Windows.{holds_shown}
 use Rattle.cdb_read.proofs.tables.slot_at.Goals as goal
 

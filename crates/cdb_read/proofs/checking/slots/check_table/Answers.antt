@@ -12,7 +12,7 @@ use Rattle.cdb_read.proofs.Bytes.PieceReads.{reads_more}
 use Rattle.cdb_read.proofs.FilledTables.RunEnds.{reached_by_run}
 use Rattle.cdb_read.proofs.Checks.SlotChecks.{IsClearTo, slot_read, slots_more, clear_to_none, clear_to_used, clear_to_empty, clear_to_all, fault_at}
 use Rattle.cdb_read.proofs.Checks.Tells.{fault_tells}
-use Rattle.cdb_read.proofs.Searching.Probes.{length-slots_at}
+use Rattle.cdb_read.proofs.Probing.Probes.{length-slots_at}
 use Rattle.cdb_read.proofs.checking.slots.check_table.Goals.{then-slot-ne0+in_ok-check_slot, else-slot-ne0}
 use Rattle.std.proofs.lemmas.Grind.{common_steps}
 use Rattle.cdb_read.proofs.checking.slots.check_table.Goals as goal

@@ -2,10 +2,10 @@ use Rattle.std.proofs.Common.{rules, subst, arith, ◌≡◌, ◌+◌, ◌*◌, 
 use Rattle.cdb_form.specs.Format.Pair.{head_size}
 use Rattle.cdb_read.specs.Views.Search.{TellsSame}
 use Rattle.cdb_read.specs.Views.Spans.{HasSpans}
-use Rattle.cdb_read.proofs.Searching.PlacedRecords.{spans_fit}
+use Rattle.cdb_read.proofs.Probing.PlacedRecords.{spans_fit}
 use Rattle.cdb_store.specs.Images.{Holds}
 use Rattle.cdb_read.proofs.Bytes.Windows.{holds_shown}
-use Rattle.cdb_read.proofs.Searching.Headers.{HasLengths, has_lengths, fewer_lengths, no_room, other_length, other_key, same_key}
+use Rattle.cdb_read.proofs.Probing.Headers.{HasLengths, has_lengths, fewer_lengths, no_room, other_length, other_key, same_key}
 use Rattle.cdb_read.proofs.lookup.key_at.look_at.Goals.{then-record-key-via-then-record-key, then-record-key-via-else-record-key+in_ok-key_is_at+then-not-branch}
 use Rattle.cdb_read.proofs.lookup.key_at.look_at.Goals as goal
 

@@ -2,7 +2,7 @@ use Rattle.std.proofs.Common.{ap, ◌∙◌, refl}
 use Rattle.std.proofs.lemmas.Bool.{both_ways}
 use Rattle.cdb_form.specs.Format.Hash.{table_number}
 use Rattle.cdb_form.specs.Views.Pairs.{pointer_pair}
-use Rattle.cdb_read.proofs.Searching.Beginnings.{begins_nowhere, begins_outside, begins_at}
+use Rattle.cdb_read.proofs.Probing.Beginnings.{begins_nowhere, begins_outside, begins_at}
 use Rattle.cdb_read.proofs.lookup.probe.first_probe.Goals as goal
 
 pub returns-then-table-eq0-clause-finds : goal.returns-then-table-eq0-clause-finds

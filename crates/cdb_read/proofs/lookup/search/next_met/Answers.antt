@@ -1,5 +1,5 @@
 use Rattle.std.proofs.Common.{◌≡◌, arith, rules}
-use Rattle.cdb_read.proofs.Searching.Searches.{meets_none}
+use Rattle.cdb_read.proofs.Probing.Searches.{meets_none}
 use Rattle.std.proofs.lemmas.Grind.{common_steps}
 use Rattle.cdb_read.proofs.lookup.search.next_met.Goals as goal
 

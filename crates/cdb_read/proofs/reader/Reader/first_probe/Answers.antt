@@ -1,7 +1,7 @@
 use Rattle.std.proofs.Common.{ℕ, ap, subst, sym, ◌∙◌}
 use Rattle.cdb_form.specs.Format.Hash.{table_number}
 use Rattle.cdb_read.specs.Views.Probing.{IsSearchInside}
-use Rattle.cdb_read.proofs.Searching.Beginnings.{looks_by}
+use Rattle.cdb_read.proofs.Probing.Beginnings.{looks_by}
 use Rattle.cdb_read.proofs.reader.Reader.first_probe.Goals as goal
 
 pub returns-clause-finds : goal.returns-clause-finds

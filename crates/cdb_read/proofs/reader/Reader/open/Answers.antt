@@ -1,7 +1,7 @@
 use Rattle.std.proofs.Common.{ap, ◌∙◌, sym, rules, arith}
 use Rattle.std.proofs.lemmas.List.{take_at}
 use Rattle.cdb_form.specs.Format.Reading.{head_at}
-use Rattle.cdb_form.proofs.AreaLemmas.{head_fits}
+use Rattle.cdb_form.proofs.RecordReading.RecordAreas.{head_fits}
 use Rattle.cdb_read.proofs.Bytes.Heads.{head_known}
 use Rattle.std.proofs.lemmas.Grind.{common_steps}
 use Rattle.cdb_read.proofs.reader.Reader.open.Goals as goal

@@ -18,7 +18,7 @@ use Rattle.cdb_read.specs.declared.lookup.probe.Searching.TheVariants.{At}
 use Rattle.cdb_read.specs.declared.lookup.probe.Probe.{Probe}
 use Rattle.cdb_read.proofs.WholeFiles.LookupLaws.{found_at-has, found_at-other, found_at-none}
 use Rattle.cdb_read.proofs.Lists.Meeting.{met as met_of}
-use Rattle.cdb_read.proofs.Searching.Probes.{met_ahead, next_slot, met_ahead-none, met_ahead-empty, met_ahead-other, met_ahead-hash, found_at-broken}
+use Rattle.cdb_read.proofs.Probing.Probes.{met_ahead, next_slot, met_ahead-none, met_ahead-empty, met_ahead-other, met_ahead-hash, found_at-broken}
 
 -- what is found from a slot on, of a table
 abbrev found_from : ℕ → List ℕ → List ℕ → WordPair → ℕ → ℕ → Found

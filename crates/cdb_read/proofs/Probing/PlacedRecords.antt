@@ -13,7 +13,7 @@ use Rattle.cdb_form.specs.Views.Pairs.{header_pair}
 use Rattle.cdb_form.specs.declared.header.Header.{Header}
 use Rattle.cdb_form.proofs.Files.Prefixes.{Begins}
 use Rattle.cdb_form.proofs.Files.WalkSteps.{walk_from-more, walk_from-no_header, walk_from-no_body}
-use Rattle.cdb_read.proofs.Searching.Headers.{prefix_pair, pair_read}
+use Rattle.cdb_read.proofs.Probing.Headers.{prefix_pair, pair_read}
 use Rattle.cdb_read.specs.Views.Spans.{HasSpans}
 use Rattle.cdb_read.specs.Views.Walking.{record_in, behind, LiesAt, StandsAt, StandsWithin}
 use Rattle.cdb_read.specs.declared.walking.state.RecordArea.{RecordArea}

@@ -20,7 +20,7 @@ use Rattle.cdb_read.specs.declared.lookup.probe.Searching.TheVariants.{At}
 use Rattle.cdb_read.specs.declared.lookup.probe.Probe.{Probe}
 use Rattle.cdb_read.proofs.FilledTables.Filled.{length-slots_from}
 use Rattle.cdb_read.proofs.WholeFiles.LookupLaws.{lookup_of-is}
-use Rattle.cdb_read.proofs.Searching.Probes.{length-slots_at}
+use Rattle.cdb_read.proofs.Probing.Probes.{length-slots_at}
 
 pub and_true : (x y : Bool) → (x && y) ≡ true → (x ≡ true) × (y ≡ true)
 and_true true y e = (refl, e)

@@ -13,7 +13,7 @@ use Rattle.cdb_form.specs.Format.Walk.{prefix_size, prefix_record}
 use Rattle.cdb_form.specs.Views.Pairs.{header_pair}
 use Rattle.cdb_form.specs.declared.header.Header.{Header}
 use Rattle.cdb_form.proofs.Bytes.WordLemmas.{pair_at-take}
-use Rattle.cdb_read.proofs.Searching.Beginnings.{and_true}
+use Rattle.cdb_read.proofs.Probing.Beginnings.{and_true}
 use Rattle.cdb_read.specs.Lookup.{is_whole, value_span}
 use Rattle.cdb_read.specs.Views.Search.{TellsSame, LooksAt}
 use Rattle.cdb_read.specs.declared.lookup.key_at.Look.TheVariants as look
