@@ -1,6 +1,6 @@
 # make            builds the proved program, bin/cdb
 # make try        runs the program unproved, in a minute: makes a small database, bin/try.cdb, and queries it
-# make quick      runs the tests that need no proof, on what is compiled without one, in 6 to 11 minutes
+# make quick      runs the tests that need no proof, on what is compiled without one, in 5 to 8 minutes
 # make demo       builds it, and shows it at work on a small alias map
 # make test       the gate: proves everything from nothing and runs every test
 # make tests BIN=bin/cdb  runs all tests that need no proof on a program that is built

@@ -109,7 +109,7 @@ CHANGELOG = """\
 
 # The program is packed as it was proved and built: dpkg-deb is all that the package needs, so nothing
 # strips it.
-OVERRIDES = "{name}: unstripped-binary-or-object\n"
+OVERRIDES = "{name}: unstripped-binary-or-object\n{name}: statically-linked-binary\n"
 # The library keeps the name by which programs load tinycdb's, and the package has one of its own.
 SHARED_OVERRIDES = "{name}-libcdb1: package-name-doesnt-match-sonames libcdb1\n"
 
