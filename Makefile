@@ -177,6 +177,7 @@ bench: bin/cdb
 	$(PYTHON) bench/run.py --cdb bin/cdb
 	$(PYTHON) bench/jobs.py --cdb bin/cdb
 	$(PYTHON) bench/goals.py --cdb bin/cdb
+	$(PYTHON) bench/growth.py --cdb bin/cdb
 	$(PYTHON) bench/instructions.py --cdb bin/cdb
 	$(PYTHON) bench/stores.py
 	$(PYTHON) bench/makers.py
