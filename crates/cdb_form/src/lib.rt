@@ -7,11 +7,11 @@
 //! definitions, for words of 4 bytes (`Narrow`) and of 8 bytes (`Wide`).
 #![tactic(auto)]
 
+mod change;
 mod copying;
 mod damage;
 mod head;
 mod header;
-mod change;
 mod key_hash;
 pub mod laws;
 mod mode;
@@ -25,12 +25,12 @@ mod walk;
 mod width;
 mod writing;
 
+pub use change::{Change, ChangeKind};
 pub use damage::Damage;
 pub use head::{
     GREATEST_HEAD, Head, Pointer, head_size, read_head, read_pointer, write_head, write_pointer,
 };
 pub use header::{Header, read_header, write_header};
-pub use change::{Change, ChangeKind};
 pub use key_hash::{hash, hash_more, home_slot, table_number};
 pub use mode::Mode;
 pub use pair::{GREATEST_PAIR, pair_size};

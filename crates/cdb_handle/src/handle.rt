@@ -2,9 +2,9 @@
 ghost use Rattle.std.specs.Prelude.{◌≡◌, Some, None, MatchOption};
 ghost use Rattle.cdb_handle.specs.Addresses.{is_kept};
 
+use crate::address::BoxAddress;
 use crate::database::Database;
 use crate::parts::Parts;
-use crate::address::BoxAddress;
 use std::alloc::Global;
 use std::mem::replace;
 

@@ -4,13 +4,13 @@
 //! of the handle, makes the call of its `Batch`, and puts it back. The file is made in memory.
 #![tactic(auto)]
 
+mod address;
 mod database;
 mod handle;
 mod making;
 mod parts;
-mod address;
 
+pub use address::BoxAddress;
 pub use database::{Beginning, Database, Finished, Making};
 pub use handle::Handle;
 pub use making::{append, count, exists, finish, piece, put, release, remove, start};
-pub use address::BoxAddress;

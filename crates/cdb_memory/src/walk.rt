@@ -60,7 +60,10 @@ pub fn first_record<L: Width>(file: &[u8]) -> Result<RecordArea, Damage>
 ///
 /// A state that `first_record` or `next_record` didn't leave is safe to pass: the record lies
 /// inside the file. One that has passed its record end has ended.
-pub fn next_record<L: Width>(file: &[u8], rest: &mut RecordArea) -> Result<Option<PlacedRecord>, Damage>
+pub fn next_record<L: Width>(
+    file: &[u8],
+    rest: &mut RecordArea,
+) -> Result<Option<PlacedRecord>, Damage>
     ensures gives { IfOk result (λ found. MatchOption found
         (rest.old.end ≤ rest.old.place)
         (GivesRecord L.WORD file.now rest.old rest.new)) }

@@ -3,8 +3,8 @@
 #![tactic(auto)]
 
 mod ask;
-mod edits;
 mod check;
+mod edits;
 mod files;
 mod form;
 mod make;
