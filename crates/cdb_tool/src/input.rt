@@ -7,6 +7,9 @@ use cdb_form::{AtHand, PIPE};
 use std::alloc::{AllocError, Global};
 use std::io::{self, ErrorKind, Read};
 
+/// How many bytes a window has that may grow.
+const FIRST: usize = 4096;
+
 /// Gives the bytes of a reader, which is asked for many at once.
 #[derive(Drop)]
 pub struct Input<R> {
@@ -14,6 +17,8 @@ pub struct Input<R> {
     window: Vec<u8>,
     start: usize,
     end: usize,
+    /// How many bytes the window has once a read has filled it.
+    most: usize,
     ghost some: { 0 < vec_len window },
     ghost ordered: { start ≤ end },
     ghost within: { end ≤ vec_len window },
@@ -37,7 +42,38 @@ impl<R: Read> Input<R> {
             window,
             start: 0,
             end: 0,
+            most: size,
         })
+    }
+
+    /// An input over a reader, with a short window, which is empty yet. Once a read has filled it, the
+    /// window is as long as a pipe, if there is memory for that.
+    pub fn growing(alloc: Global, reader: R) -> Result<Input<R>, AllocError>
+    where
+        R: Drop,
+        ensures bytes { IfOk result (λ i. input_bytes R.remaining i ≡ R.remaining reader) }
+        ensures empty { IfOk result (λ i. window_of i ≡ []) }
+    {
+        let mut input = Input::new(alloc, reader, FIRST)?;
+        input.most = PIPE;
+        Ok(input)
+    }
+
+    /// Makes the empty window as long as it may become.
+    #[cold]
+    #[inline(never)]
+    fn grow(&mut self)
+        requires { self.old.start ≡ self.old.end }
+        ensures bytes { Keeps (input_bytes R.remaining self.old)
+            (input_bytes R.remaining self.new) }
+        ensures empty { self.new.start ≡ self.new.end }
+    {
+        self.start = 0;
+        self.end = 0;
+        if self.window.len() < self.most {
+            // Without memory the window stays as it is.
+            let _ = self.window.resize(self.most, 0);
+        }
     }
 
     /// Fills the empty window, by one ask of the reader.
@@ -51,6 +87,9 @@ impl<R: Read> Input<R> {
             (self.new.start ≡ self.new.end → IsAtEnd (input_bytes R.remaining self.new)) }
         ensures empty { OnErr result (self.new.start ≡ self.new.end) }
     {
+        if self.end == self.window.len() {
+            self.grow();
+        }
         match self.reader.read(&mut self.window) {
             Ok(n) => {
                 self.start = 0;

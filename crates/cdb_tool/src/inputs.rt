@@ -5,7 +5,6 @@ ghost use Rattle.cdb_tool.specs.Views.Input.{input_bytes};
 ghost use Rattle.cdb_tool.specs.Views.Inputs.{shared_bytes, one_of};
 
 use crate::input::Input;
-use cdb_form::PIPE;
 use std::alloc::{AllocError, Global};
 use std::io::Read;
 
@@ -64,7 +63,7 @@ impl<I: Read> SharedInput<I> {
             input_bytes I.remaining input ≡ shared_bytes I.remaining self) }
     {
         match self {
-            SharedInput::Unread(reader) => Input::new(alloc, reader, PIPE),
+            SharedInput::Unread(reader) => Input::growing(alloc, reader),
             SharedInput::InHand(input) => Ok(input),
         }
     }

@@ -20,7 +20,7 @@ use crate::runs::item_reader::ItemReader;
 use crate::runs::make_base::add_base;
 use crate::runs::make_input::put_input;
 use cdb_command::MakeOptions;
-use cdb_form::{PIPE, Width};
+use cdb_form::Width;
 use cdb_make::{Batch, Maker};
 use cdb_store::Store;
 use std::alloc::Global;
@@ -63,7 +63,7 @@ fn put_turn<L: Width, S: Store, J: Read + Drop, I: Read + Drop, E: Write>(
 {
     match turn {
         Turn::Own(reader) => {
-            let input = Input::new(alloc, reader, PIPE)?;
+            let input = Input::growing(alloc, reader)?;
             let items = ItemReader::new(alloc, options.style, amends, input);
             put_input::<L, S, _, E, InWindow>(alloc, maker, options, number, items, errors)?;
             Ok(shared)
