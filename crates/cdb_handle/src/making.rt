@@ -1,7 +1,7 @@
 // The calls of a maker whose handle a program in C holds.
 ghost use Rattle.cdb_form.specs.Format.Record.{record_of};
 ghost use Rattle.std.specs.Prelude.{◌≡◌, Some, None, Err, IfOk, IfErr, OnOk, OnErr, MatchOption, length};
-ghost use Rattle.cdb_make.specs.declared.fault.MakeFault.TheVariants.{Broken};
+ghost use Rattle.cdb_make.specs.declared.fault.MakeFault.TheVariants.{Broken, NoMemory};
 ghost use Rattle.cdb_make.specs.Views.Batch.{Puts, FailsPutting, Follows};
 ghost use Rattle.cdb_make.specs.Views.Batch.{Removes, FailsRemoving, FailsFinishing};
 ghost use Rattle.cdb_make.specs.Views.Batch.{WritesNothing, FailsLooking, SameCounts};
@@ -22,7 +22,8 @@ use std::mem::replace;
 
 /// A new maker on the heap, of a file in memory of less than 4 GiB.
 fn begin(alloc: Global) -> Result<Box<Database>, MakeFault>
-    ensures { IfOk result (λ b. HasNewMaker (Some b.value)) }
+    ensures new { IfOk result (λ b. HasNewMaker (Some b.value)) }
+    ensures fault { IfErr result (λ f. f ≡ NoMemory) }
 {
     match Maker::<MemStore, Narrow>::new(alloc, MemStore::new(alloc), Narrow::GREATEST) {
         Ok(maker) => Ok(Box::new(alloc, Database::Begun(Beginning { maker }))?),
@@ -32,13 +33,14 @@ fn begin(alloc: Global) -> Result<Box<Database>, MakeFault>
 
 /// Begins a database. What the handle held before is freed.
 ///
-/// If that fails, for which `NoMemory` is the cause, the handle keeps what it held.
+/// `NoMemory`: an allocation failed, and the handle keeps what it held. It has no other fault.
 pub fn start(alloc: Global, handle: &mut Handle) -> Result<(), MakeFault>
     ensures ok { OnOk result (HasNewMaker (kept_in handle.new)) }
     ensures err { OnErr result (kept_in handle.new ≡ kept_in handle.old) }
+    ensures fault { IfErr result (λ f. f ≡ NoMemory) }
 {
     let database = begin(alloc)?;
-    close(alloc, handle);
+    release(alloc, handle);
     *handle = Handle::of(database);
     Ok(())
 }

@@ -13,8 +13,8 @@ mod steps;
 mod unfinished;
 
 pub use ask::{AskFault, write_finished};
-pub use changes::Edit;
 pub use check::open_checked;
+pub use edits::Edit;
 pub use files::make_and_get;
 pub use form::first_record;
 pub use make::file_of_latest;

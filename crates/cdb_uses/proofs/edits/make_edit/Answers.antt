@@ -1,6 +1,6 @@
 use Rattle.std.proofs.Common.{sym}
 use Rattle.cdb_uses.proofs.Stepping.{put_tried, removal_tried}
-use Rattle.cdb_uses.proofs.changes.make_edit.Goals as goal
+use Rattle.cdb_uses.proofs.edits.make_edit.Goals as goal
 
 pub returns-in-Put : goal.returns-in-Put
 returns-in-Put g c = λ rs h.
