@@ -5,6 +5,7 @@ pub mod EntryList
 pub mod Lists
 pub mod Maker
 pub mod Carrying
+pub mod Foreseen
 pub mod Closing
 pub mod Batch
 pub mod Adding

@@ -1,5 +1,5 @@
 // A maker that closes its gaps later, all in one pass.
-ghost use Rattle.std.specs.Prelude.{◌≡◌, ℕ, ◌+◌, ◌-◌, ◌<◌, ◌≤◌, true, false, [], List, length};
+ghost use Rattle.std.specs.Prelude.{◌≡◌, ℕ, ◌+◌, ◌-◌, ◌<◌, ◌≤◌, ◌⊎◌, true, false, [], List, length};
 ghost use Rattle.std.specs.Prelude.{vec_capacity, IfOk, IfErr, OnOk};
 ghost use Rattle.cdb_form.specs.Format.Pair.{head_size};
 ghost use Rattle.cdb_form.specs.Format.Record.{KeyValue};
@@ -51,6 +51,7 @@ impl<S: Store, L: Width> Batch<S, L> {
     ghost use Rattle.cdb_make.specs.Views.Batch.{Holds, count_in, limit_of, SameCounts};
     ghost use Rattle.cdb_make.specs.Views.Batch.{Follows, HasNotFailed, is_broken, maker_of, store_of};
     ghost use Rattle.cdb_make.specs.Views.Batch.{WritesNothing, FailsLooking, IsFull};
+    ghost use Rattle.cdb_make.specs.Views.Batch.{HasPace, Paces, IsCostly};
     ghost use Rattle.cdb_make.specs.Views.Maker.{WhereHonest, limit_of as limit_in};
     ghost use Rattle.cdb_make.specs.Views.Maker.{Holds as Has};
 
@@ -83,6 +84,7 @@ impl<S: Store, L: Width> Batch<S, L> {
         ensures holds { (rs : List KeyValue) → Has maker rs → Holds result rs }
         ensures maker { maker_of result ≡ maker }
         ensures limit { limit_of result ≡ limit_in maker }
+        ensures pace { HasPace result }
     {
         let gone = some_room(alloc);
         let most = gone.capacity();
@@ -148,6 +150,7 @@ impl<S: Store, L: Width> Batch<S, L> {
     pub(crate) fn make_room(&mut self, hash: u32, taken: u64)
         ensures maker { self.new.maker ≡ self.old.maker }
         ensures gone { self.new.gone.items ≡ self.old.gone.items }
+        ensures paces { Paces self.old self.new taken }
     {
         if taken == 0 {
             return;
@@ -168,6 +171,10 @@ impl<S: Store, L: Width> Batch<S, L> {
     fn is_due(&mut self, hash: u32, taken: u64) -> bool
         ensures maker { self.new.maker ≡ self.old.maker }
         ensures gone { self.new.gone ≡ self.old.gone }
+        ensures due { result ≡ true → IsCostly self.new }
+        ensures start { (self.new.pace.start ≡ self.old.pace.start)
+            ⊎ ((length self.new.gone.items ≤ taken)
+            × (self.new.pace.start ≡ self.new.maker.end)) }
     {
         let marked = self.gone.len() as u64;
         if marked <= taken {

@@ -5,7 +5,7 @@ ghost use Rattle.cdb_form.specs.Format.Pair.{head_size};
 ghost use Rattle.cdb_form.specs.Format.Record.{KeyValue};
 ghost use Rattle.cdb_form.specs.Format.File.{file_size};
 ghost use Rattle.cdb_form.specs.Format.Hash.{key_hash};
-ghost use Rattle.cdb_store.specs.Laws.{HasNoImage};
+ghost use Rattle.cdb_store.specs.Reads.{OnlyReads};
 ghost use Rattle.cdb_make.specs.Gaps.{unmarked};
 ghost use Rattle.cdb_make.specs.Looks.{NoNewImage};
 ghost use Rattle.cdb_make.specs.Stands.{IsThere};
@@ -59,7 +59,7 @@ impl<S: Store, L: Width> Maker<S, L> {
     ghost use Rattle.cdb_make.specs.Views.Maker.{store_of, count_in, limit_of, is_broken};
     ghost use Rattle.cdb_make.specs.Views.Maker.{FailsLooking, SameCounts, WritesNothing};
     ghost use Rattle.cdb_make.specs.Views.Maker.{look_fault, is_foreign, HasNotFailed};
-    ghost use Rattle.cdb_make.specs.Views.Carrying.{Carries, KeepsCarrying, WantsMemory};
+    ghost use Rattle.cdb_make.specs.Views.Carrying.{Carries, Rests, WantsMemory, FailsSeeking};
 
     /// How many records it holds.
     ///
@@ -161,26 +161,17 @@ impl<S: Store, L: Width> Maker<S, L> {
     /// Whether some record has a key of this hash that is not marked, as `exists` says it.
     pub(crate) fn look(&mut self, hash: u32, key: &[u8]) -> Result<bool, MakeFault>
         requires hash { hash ≡ key_hash key.now }
-        ensures there { (rs : List KeyValue) → Holds self.old rs
-            → IfOk result (λ there. IsThere there key.now rs (S.image self.new.store)) }
-        ensures ok { OnOk result (WritesNothing self.old self.new) }
-        ensures fails { IfErr result (FailsLooking self.old self.new) }
-        ensures counts { SameCounts self.old self.new }
-        ensures images { NoNewImage (S.image self.old.store) (S.image self.new.store) }
-        ensures room { S.room self.old.store ≤ S.room self.new.store }
-        ensures failures { S.failures self.old.store ≤ S.failures self.new.store }
-        ensures unwritten { S.unwritten self.old.store ≤ S.unwritten self.new.store }
-        ensures ok_failures { OnOk result (HasNotFailed self.old self.new) }
-        ensures one { (all : List KeyValue) (marks : List Bool) → Carries self.old all marks
+        ensures there { (all : List KeyValue) (marks : List Bool) → Carries self.new all marks
             → IfOk result (λ there. IsThere there key.now (unmarked marks all)
             (S.image self.new.store)) }
-        ensures keeps { self.new.broken ≡ false → KeepsCarrying self.old self.new }
-        ensures none { self.old.broken ≡ false → self.new.broken ≡ true
-            → (all : List KeyValue) (marks : List Bool) → Carries self.old all marks
-            → HasNoImage (S.image self.new.store) }
+        ensures rests { OnOk result (Rests self.old self.new) }
         ensures wants { OnOk result ((value : List ℕ)
             → WantsMemory self.new (record { key = key.now; value = value })
             → WantsMemory self.old (record { key = key.now; value = value })) }
+        ensures fails { IfErr result (FailsSeeking self.old self.new) }
+        ensures reads { OnlyReads S.Store self.old.store self.new.store }
+        ensures counts { SameCounts self.old self.new }
+        ensures ok_failures { OnOk result (HasNotFailed self.old self.new) }
     {
         if self.broken {
             return Err(MakeFault::Broken);

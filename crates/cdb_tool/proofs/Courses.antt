@@ -182,7 +182,7 @@ refused_store old new mode r make.Broken x is = absurd is
 refused_store old new mode r make.Lookup x is = x.2
 refused_store old new mode r make.TooBig x is = absurd is
 refused_store old new mode r make.NoMemory x is = absurd is
-refused_store old new mode r make.Writing x is = elim x [ inl stays ↦ stays.1.failed | inr torn ↦ torn.failed ]
+refused_store old new mode r make.Writing x is = elim x [ inl stays ↦ stays.1.failed | inr torn ↦ torn.0.failed ]
 
 -- ---- where a run came to that was halted
 
@@ -213,7 +213,7 @@ put_halted t cs r start mid old new make.TooBig h x comes count is = absurd is
 put_halted t cs r start mid old new make.NoMemory h x comes count is = stands_whole t cs start mid old new h comes count x.0
 put_halted t cs r start mid old new make.Writing h x comes count is = elim x [
   | inl stays ↦ stands_whole t cs start mid old new h comes count stays.0
-  | inr torn ↦ stands_broken t cs start mid old new h comes count torn.broken
+  | inr torn ↦ stands_broken t cs start mid old new h comes count torn.0.broken
 ]
 
 pub put_halted_so : {S L : Type 0} {s : Ghosts S} {l : Widths L} (t : Task) (o : MakeOptions) (cs : List Incoming) (r : KeyValue) (start mid : Option (List ℕ)) (old new : Batch S L s l) (f : MakeFault) → t.options ≡ o → InCourse t cs start mid old → FailsPutting old new (mode_of o) r f

@@ -1,11 +1,13 @@
 -- What a batch holds, from one call to the next.
 use Rattle.std.proofs.Common.{◌≡◌, ℕ, ◌+◌, ◌<◌, ◌≤◌, Bool, true, false, List, [], length, vec_capacity, refl, sym, ap, subst, ◌∙◌, arith, sum_by}
 use native.Mathlib.Bridge.{le_prop}
+use Rattle.std.specs.Prelude.{Result, Ok, Err, OnOk, IfOk}
 use Rattle.std.specs.List.Sorted.{IsPermutation, IsNonDecreasingBy}
 use Rattle.std.proofs.lemmas.List.{nil_from_length}
 use Rattle.std.proofs.lemmas.List.Sorted.{IsPermutation-refl, length_permutation}
 use Rattle.cdb_store.specs.declared.store.Store.{Ghosts}
 use Rattle.cdb_store.specs.Laws.{HasNoImage}
+use Rattle.cdb_store.specs.Reads.{OnlyReads}
 use Rattle.cdb_form.specs.declared.width.Width.{Ghosts as Widths}
 use Rattle.cdb_form.specs.Format.Pair.{head_size}
 use Rattle.cdb_form.specs.Format.Record.{KeyValue, IsRecord}
@@ -15,14 +17,15 @@ use Rattle.cdb_make.specs.declared.fault.MakeFault.TheVariants.{Broken, Lookup, 
 use Rattle.cdb_make.specs.declared.removal.gap.Gap.{Gap}
 use Rattle.cdb_make.specs.declared.maker.Maker.{Maker}
 use Rattle.cdb_make.specs.Gaps.{AreApart, marked_gaps, unmarked}
-use Rattle.cdb_make.specs.Looks.{NoNewImage}
 use Rattle.cdb_make.specs.Marks.{AreMarked, WritesPass}
-use Rattle.cdb_make.specs.Views.Batch.{Lies, Holds, WritesNothing, FailsLooking, Settles, FailsSettling, count_in}
-use Rattle.cdb_make.specs.Views.Carrying.{Carries, KeepsCarrying}
+use Rattle.cdb_make.specs.Stands.{IsThere}
+use Rattle.cdb_make.specs.Survivors.{is_there}
+use Rattle.cdb_make.specs.Views.Batch.{Lies, Holds, StaysWhole, WritesNothing, FailsLooking, Settles, FailsSettling, SameCounts, count_in}
+use Rattle.cdb_make.specs.Views.Carrying.{Carries, KeepsCarrying, Stays, Rests, FailsSeeking}
 use Rattle.cdb_make.specs.Views.Closing.{ClosingFails}
 use Rattle.cdb_make.specs.Views.Lists.{all_entries}
 use Rattle.cdb_make.specs.Views.Maker.{WhereHonest, ComesFrom}
-use Rattle.cdb_make.specs.Views.Maker.{Holds as Has, HoldsIn, FailsLooking as FailsIn, WritesNothing as WritesNone}
+use Rattle.cdb_make.specs.Views.Maker.{Holds as Has, HoldsIn, SameCounts as CountsIn}
 use Rattle.cdb_make.proofs.Making.Carrying.{held_carried, carried_stand, all_unmarked}
 use Rattle.cdb_make.proofs.Marked.Marks.{unmarked_count, sum_marked, among_self}
 use Rattle.cdb_make.proofs.Marked.SortedGaps.{sorted_gaps, marked_gaps_rise}
@@ -85,21 +88,30 @@ held_rests {s = s} {l = l} m all marks none h =
       };
     }
 
--- a look leaves what it holds
-pub lies_looked : {S L : Type 0} {s : Ghosts S} {l : Widths L} (old new : Batch S L s l) → new.gone.items ≡ old.gone.items → NoNewImage (s.image old.maker.store) (s.image new.maker.store) → KeepsCarrying old.maker new.maker
+-- what it has noted stays, where its maker carries what it carried
+pub lies_kept : {S L : Type 0} {s : Ghosts S} {l : Widths L} (old new : Batch S L s l) → new.gone.items ≡ old.gone.items → KeepsCarrying old.maker new.maker → ComesFrom (s.image old.maker.store) (s.image new.maker.store)
     → (all : List KeyValue) (marks : List Bool) → Lies old all marks → Lies new all marks
-lies_looked {l = l} old new same few keeps all marks h = record {
+lies_kept {l = l} old new same keeps comes all marks h = record {
   carries = keeps all marks h.carries;
-  gaps = λ b is. subst (λ (v : List Gap). IsPermutation v (marked_gaps l.WORD (head_size l.WORD) marks all)) (sym same) (h.gaps b (few.no_other b is));
+  gaps = λ b is. let a = comes.each b is in subst (λ (v : List Gap). IsPermutation v (marked_gaps l.WORD (head_size l.WORD) marks all)) (sym same) (h.gaps a.0 a.1);
 }
 
-pub writes_nothing : {S L : Type 0} {s : Ghosts S} {l : Widths L} (old new : Batch S L s l) → new.gone.items ≡ old.gone.items → NoNewImage (s.image old.maker.store) (s.image new.maker.store) → (new.maker.broken ≡ false → KeepsCarrying old.maker new.maker)
-    → WritesNone old.maker new.maker → WritesNothing old new
-writes_nothing old new same few keeps writes = record {
-  was = writes.stays.was;
-  whole = writes.stays.whole;
-  lies = lies_looked old new same few (keeps writes.stays.whole);
-  written = writes.written;
+pub stays_kept : {S L : Type 0} {s : Ghosts S} {l : Widths L} (old new : Batch S L s l) → new.gone.items ≡ old.gone.items → ComesFrom (s.image old.maker.store) (s.image new.maker.store) → Stays old.maker new.maker → StaysWhole old new
+stays_kept old new same comes stays = record {
+  was = stays.was;
+  whole = stays.whole;
+  holds = λ rs h. record {
+    whole = stays.whole;
+    held = record { each = λ b is. let a = comes.each b is in let k = h.held.each a.0 a.1 in record { all = k.all; marks = k.marks; lies = lies_kept old new same stays.keeps comes k.all k.marks k.lies; left = k.left } };
+  };
+}
+
+pub writes_nothing : {S L : Type 0} {s : Ghosts S} {l : Widths L} (old new : Batch S L s l) → new.gone.items ≡ old.gone.items → Rests old.maker new.maker → WritesNothing old new
+writes_nothing old new same rests = record {
+  was = rests.stays.was;
+  whole = rests.stays.whole;
+  lies = lies_kept old new same rests.stays.keeps rests.comes;
+  written = rests.written;
 }
 
 -- a batch with another maker, and the same where that is the same
@@ -111,19 +123,35 @@ same_batch {S = S} {L = L} {s = s} {l = l} old m spare within e =
     ap (λ (v : Maker S L s l). with_maker old v spare within) e ∙ ap (λ (q : length old.gone.items ≤ old.most). with_maker old old.maker q within) (le_prop spare old.spare)
     ∙ ap (λ (q : old.most ≤ vec_capacity old.gone). with_maker old old.maker old.spare q) (le_prop within old.within)
 
--- and what one that failed leaves
-pub fails_look : {S L : Type 0} {s : Ghosts S} {l : Widths L} (old new : Batch S L s l) (fault : MakeFault) → new.gone.items ≡ old.gone.items → (new.maker ≡ old.maker → new ≡ old) → NoNewImage (s.image old.maker.store) (s.image new.maker.store)
-    → (new.maker.broken ≡ false → KeepsCarrying old.maker new.maker)
-    → (old.maker.broken ≡ false → new.maker.broken ≡ true → (all : List KeyValue) (marks : List Bool) → Carries old.maker all marks → HasNoImage (s.image new.maker.store)) → FailsIn old.maker new.maker fault → FailsLooking old new fault
-fails_look old new Broken same is few keeps none fails = record {
+-- and what a look leaves that failed
+pub fails_look : {S L : Type 0} {s : Ghosts S} {l : Widths L} (old new : Batch S L s l) (fault : MakeFault) → new.gone.items ≡ old.gone.items → (new.maker ≡ old.maker → new ≡ old) → OnlyReads s old.maker.store new.maker.store → FailsSeeking old.maker new.maker fault → FailsLooking old new fault
+fails_look old new Broken same is reads fails = record {
   broken = fails.broken;
   same = λ already. is (fails.same already);
-  cause = λ rs h b is. (let k = h.held.each b (few.no_other b is) in none h.whole fails.broken k.all k.marks k.lies.carries b is);
+  cause = λ rs h b at. (let k = h.held.each b (reads.images b at) in fails.none k.all k.marks k.lies.carries b at);
 }
-fails_look old new Lookup same is few keeps none fails = (writes_nothing old new same few keeps fails.0, fails.1)
-fails_look old new TooBig same is few keeps none fails = absurd fails
-fails_look old new NoMemory same is few keeps none fails = absurd fails
-fails_look old new Writing same is few keeps none fails = absurd fails
+fails_look old new Lookup same is reads fails = (writes_nothing old new same fails.0, fails.1)
+fails_look old new TooBig same is reads fails = absurd fails
+fails_look old new NoMemory same is reads fails = absurd fails
+fails_look old new Writing same is reads fails = absurd fails
+
+-- its counts, from one step to the next
+pub counts_looked : {S L : Type 0} {s : Ghosts S} {l : Widths L} (old new : Batch S L s l) → CountsIn old.maker new.maker → new.gone.items ≡ old.gone.items → SameCounts old new
+counts_looked old new counts same = let n = ap length same in record { count = omega (arith, counts.count); limit = counts.limit }
+
+pub counts_then : {S L : Type 0} {s : Ghosts S} {l : Widths L} {a b c : Batch S L s l} → SameCounts a b → SameCounts b c → SameCounts a c
+counts_then f g = record { count = g.count ∙ f.count; limit = g.limit ∙ f.limit }
+
+-- whether a record of the key is there that has no mark
+pub there_told : {S L : Type 0} {s : Ghosts S} {l : Widths L} (old : Batch S L s l) (new : Maker S L s l) (r : Result Bool MakeFault) (key : List ℕ) → OnOk r (Rests old.maker new)
+    → ((all : List KeyValue) (marks : List Bool) → Carries new all marks → IfOk r (λ there. IsThere there key (unmarked marks all) (s.image new.store))) → (rs : List KeyValue) → Holds old rs → IfOk r (λ there. IsThere there key rs (s.image new.store))
+there_told old new (Ok there) key rests tells rs h = record {
+  each = λ b is.
+      let a = rests.comes.each b is in
+      let k = h.held.each a.0 a.1 in
+      (tells k.all k.marks (rests.stays.keeps k.all k.marks k.lies.carries)).each b is ∙ ap (is_there key) (sym k.left);
+}
+there_told old new (Err fault) key rests tells rs h = tt
 
 -- the gaps in the order of their places
 pub sorted_marked : {S L : Type 0} {s : Ghosts S} {l : Widths L} (m : Batch S L s l) (gaps : List Gap) (all : List KeyValue) (marks : List Bool) → 0 < l.WORD → IsPermutation m.gone.items gaps → IsNonDecreasingBy (λ g. g.place) gaps
@@ -174,12 +202,10 @@ fails_pass {l = l} old new gaps Broken pos moved sorted was broken comes fails =
       let k = h.held.each a.0 a.1 in
       fails k.marks k.marks k.all (carried_stand old.maker k.all k.marks k.lies.carries) (sorted_marked old gaps k.all k.marks pos moved sorted k.lies) (among_self l.WORD k.marks k.all) b is;
 }
-fails_pass old new gaps Writing pos moved sorted was broken comes fails = record {
-  was = was;
-  broken = broken;
-  failed = fails.0;
-  found = λ rs h. record { each = λ b is. (let long = length_permutation old.gone.items gaps moved in let some : 0 < length gaps = fails.1 in omega arith) };
-}
+fails_pass old new gaps Writing pos moved sorted was broken comes fails = (
+  (let long = length_permutation old.gone.items gaps moved in let some : 0 < length gaps = fails.1 in omega arith),
+  record { was = was; broken = broken; failed = fails.0; found = λ rs h. record { each = λ b is. tt } },
+)
 fails_pass old new gaps Lookup pos moved sorted was broken comes fails = absurd fails
 fails_pass old new gaps TooBig pos moved sorted was broken comes fails = absurd fails
 fails_pass old new gaps NoMemory pos moved sorted was broken comes fails = absurd fails

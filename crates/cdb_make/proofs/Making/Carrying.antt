@@ -1,26 +1,29 @@
 -- What a maker carries, from one call to the next.
-use Rattle.std.proofs.Common.{◌≡◌, ℕ, ◌+◌, ◌-◌, ◌≤◌, Bool, true, false, List, [], ◌∷◌, ◌++◌, length, refl, sym, ap, subst, ◌∙◌, arith, length-append}
-use Rattle.std.specs.Prelude.{sum_by, All, cond}
+use Rattle.std.proofs.Common.{◌≡◌, ℕ, ◌+◌, ◌-◌, ◌≤◌, Bool, true, false, List, [], ◌∷◌, ◌++◌, ◌<◌, length, refl, sym, ap, subst, ◌∙◌, arith, length-append}
+use Rattle.std.specs.Prelude.{sum_by, All, cond, Result, Ok, Err, OnOk, IfOk}
 use Rattle.std.proofs.lemmas.List.Elements.{All-append, All-cons, All-nil, All-head, All-tail}
 use Rattle.cdb_store.specs.declared.store.Store.{Ghosts}
 use Rattle.cdb_store.specs.Images.{KeepsPart, part}
 use Rattle.cdb_store.specs.Laws.{HasNoImage}
+use Rattle.cdb_store.specs.Reads.{OnlyReads}
 use Rattle.cdb_form.specs.declared.width.Width.{Ghosts as Widths}
-use Rattle.cdb_form.specs.Format.Pair.{WordPair, head_size}
+use Rattle.cdb_form.specs.Format.Pair.{head_size}
 use Rattle.cdb_form.specs.Format.Record.{KeyValue, IsRecord, record_size}
+use Rattle.cdb_make.specs.declared.fault.MakeFault.{MakeFault}
 use Rattle.cdb_make.specs.declared.index.lists.Lists.{Lists}
 use Rattle.cdb_make.specs.declared.records.key_at.LookFault.{LookFault}
 use Rattle.cdb_make.specs.declared.records.key_at.LookFault.TheVariants.{Failed, Foreign}
 use Rattle.cdb_make.specs.declared.maker.Maker.{Maker}
 use Rattle.cdb_make.specs.Looks.{NoNewImage}
 use Rattle.cdb_make.specs.Gaps.{unmarked}
-use Rattle.cdb_make.specs.Stands.{Stands}
+use Rattle.cdb_make.specs.Stands.{Stands, IsThere}
 use Rattle.cdb_make.specs.Marks.{StandMarked}
-use Rattle.cdb_make.specs.Views.Carrying.{Carries, CarriesIn, KeepsCarrying}
+use Rattle.cdb_make.specs.Views.Carrying.{Carries, CarriesIn, KeepsCarrying, Rests, FailsSeeking}
 use Rattle.cdb_make.specs.Views.Lists.{all_entries}
-use Rattle.cdb_make.specs.Views.Maker.{Holds, ComesFrom, is_foreign}
+use Rattle.cdb_make.specs.Views.Maker.{Holds, ComesFrom, SameCounts, look_fault, is_foreign}
+use Rattle.cdb_make.proofs.Bytes.Compare.{reads_fewer}
 use Rattle.cdb_make.proofs.Making.Makers.{held_stand}
-use Rattle.cdb_make.proofs.Marked.Whole.{stand_marked}
+use Rattle.cdb_make.proofs.Marked.Whole.{stand_marked, marked_stand}
 
 -- what it carries stands on its store
 pub carried_stand : {S L : Type 0} {s : Ghosts S} {l : Widths L} (m : Maker S L s l) (all : List KeyValue) (marks : List Bool) → Carries m all marks → StandMarked l.WORD m.end (all_entries m.lists) marks all (s.image m.store)
@@ -34,7 +37,14 @@ held_carried m rs h = record {
   each = λ b is. record { are = (h.each b is).are; stand = (stand_marked (held_stand m rs h)).each b is };
 }
 
--- a look leaves it all
+-- and so the other way round
+pub carried_held : {S L : Type 0} {s : Ghosts S} {l : Widths L} (m : Maker S L s l) (rs : List KeyValue) → Carries m rs [] → Holds m rs
+carried_held m rs h = record {
+  whole = h.whole;
+  each = λ b is. record { are = (h.each b is).are; stand = (marked_stand (carried_stand m rs [] h)).each b is };
+}
+
+-- images that go take nothing with them
 pub carries_looked : {S L : Type 0} {s : Ghosts S} {l : Widths L} (old new : Maker S L s l) → new.broken ≡ false → new.end ≡ old.end → all_entries new.lists ≡ all_entries old.lists
     → NoNewImage (s.image old.store) (s.image new.store) → KeepsCarrying old new
 carries_looked old new whole end lists few = λ all marks h. record {
@@ -79,14 +89,42 @@ carries_more old new r all marks is_record whole h stands comes = record {
       };
 }
 
--- where the store gave back other bytes
-pub none_carried : {S L : Type 0} {s : Ghosts S} {l : Widths L} (old new : Maker S L s l) (t : S) (ls : Lists) (look : LookFault) → all_entries ls ≡ all_entries old.lists → new.broken ≡ is_foreign look → new.store ≡ t
-    → (look ≡ Foreign → (marks : List Bool) (all : List KeyValue) → StandMarked l.WORD old.end (all_entries ls) marks all (s.image old.store) → HasNoImage (s.image t))
-    → new.broken ≡ true → (all : List KeyValue) (marks : List Bool) → Carries old all marks → HasNoImage (s.image new.store)
-none_carried old new t ls Failed own is same foreign broken all marks h = absurd (let k : true ≡ false = sym broken ∙ is in cc)
-none_carried {s = s} {l = l} old new t ls Foreign own is same foreign broken all marks h =
-    subst (λ (v : _). HasNoImage (s.image v)) (sym same)
-    (foreign refl marks all (subst (λ (v : List (List WordPair)). StandMarked l.WORD old.end v marks all (s.image old.store)) (sym own) (carried_stand old all marks h)))
+-- a look leaves it all
+pub rests_looked : {S L : Type 0} {s : Ghosts S} {l : Widths L} (old new : Maker S L s l) → old.broken ≡ false → new.broken ≡ false → all_entries new.lists ≡ all_entries old.lists → SameCounts old new → OnlyReads s old.store new.store → Rests old new
+rests_looked old new was whole lists counts reads = record {
+  stays = record { was = was; whole = whole; keeps = carries_looked old new whole counts.end lists (reads_fewer reads) };
+  comes = record { each = λ b is. (b, reads.images b is) };
+  written = reads.written;
+  counts = counts;
+  room = reads.room;
+  later = reads.unwritten;
+}
+
+pub rests_same : {S L : Type 0} {s : Ghosts S} {l : Widths L} (m : Maker S L s l) → m.broken ≡ false → Rests m m
+rests_same m whole = record {
+  stays = record { was = whole; whole = whole; keeps = λ all marks h. h };
+  comes = record { each = λ b is. (b, is) };
+  written = refl;
+  counts = record { end = refl; count = refl; limit = refl };
+  room = omega arith;
+  later = omega arith;
+}
+
+-- and what one that failed leaves
+pub fails_sought : {S L : Type 0} {s : Ghosts S} {l : Widths L} (old new : Maker S L s l) (t : S) (ls : Lists) (look : LookFault) (fault : MakeFault) → all_entries ls ≡ all_entries old.lists → fault ≡ look_fault look → old.broken ≡ false → new.broken ≡ is_foreign look
+    → SameCounts old new → all_entries new.lists ≡ all_entries old.lists → new.store ≡ t → OnlyReads s old.store t → (look ≡ Failed → s.failures old.store < s.failures t)
+    → (look ≡ Foreign → (marks : List Bool) (all : List KeyValue) → StandMarked l.WORD old.end (all_entries ls) marks all (s.image t) → HasNoImage (s.image t)) → FailsSeeking old new fault
+fails_sought {s = s} old new t ls Failed fault own is was broken counts lists same reads failed foreign =
+    subst (λ (f : MakeFault). FailsSeeking old new f) (sym is)
+    (rests_looked old new was broken lists counts (subst (OnlyReads s old.store) (sym same) reads), subst (λ (n : ℕ). s.failures old.store < n) (sym (ap s.failures same)) (failed refl))
+fails_sought {s = s} {l = l} old new t ls Foreign fault own is was broken counts lists same reads failed foreign =
+    subst (λ (f : MakeFault). FailsSeeking old new f) (sym is) (record {
+      broken = broken;
+      same = λ already. absurd (let k : true ≡ false = sym already ∙ was in cc);
+      none = λ all marks h. subst (λ (v : _). HasNoImage (s.image v)) (sym same) (foreign refl marks all (record {
+        each = λ b at. let o = (h.each b (reads.images b at)).stand in record { held = o.held; ends = o.ends; entries = own ∙ o.entries };
+      }));
+    })
 
 -- once the gaps of marked records are closed it holds the others
 pub all_unmarked : (P : KeyValue → Type 0) (ms : List Bool) (rs : List KeyValue) → All P rs → All P (unmarked ms rs)
@@ -104,3 +142,9 @@ settled_holds old new all marks goes whole h stands comes = record {
       let a = comes.each b is in
       record { are = all_unmarked IsRecord goes all (h.each a.0 a.1).are; stand = stands.each b is };
 }
+
+-- whether some record has a key, of those that it holds
+pub there_held : {S L : Type 0} {s : Ghosts S} {l : Widths L} (old new : Maker S L s l) (r : Result Bool MakeFault) (key : List ℕ) → OnOk r (Rests old new)
+    → ((all : List KeyValue) (marks : List Bool) → Carries new all marks → IfOk r (λ there. IsThere there key (unmarked marks all) (s.image new.store))) → (rs : List KeyValue) → Holds old rs → IfOk r (λ there. IsThere there key rs (s.image new.store))
+there_held old new (Ok there) key rests tells rs h = tells rs [] (rests.stays.keeps rs [] (held_carried old rs h))
+there_held old new (Err fault) key rests tells rs h = tt

@@ -1,10 +1,9 @@
 -- A record in the place of those of its key.
-use Rattle.std.proofs.Common.{◌≡◌, ℕ, suc, ◌+◌, ◌<◌, ◌≤◌, ◌⊎◌, inl, inr, Bool, true, false, cond, not, List, [], ◌∷◌, ◌++◌, length, get_or, refl, sym, ap, subst, ◌∙◌, arith}
-use Rattle.std.specs.Prelude.{◌==◌, sum_by}
+use Rattle.std.proofs.Common.{◌≡◌, ℕ, suc, ◌+◌, ◌<◌, ◌≤◌, ◌⊎◌, inl, inr, Bool, true, false, cond, not, List, [], ◌∷◌, ◌++◌, length, get_or, vec_capacity, refl, sym, ap, subst, ◌∙◌, arith}
+use Rattle.std.specs.Prelude.{◌==◌}
 use Rattle.std.specs.List.{filter, count_by}
 use Rattle.std.proofs.lemmas.List.{get_or-map, length-map}
 use Rattle.std.proofs.lemmas.List.FromFn.{get_or-map-range_with_len}
-use Rattle.std.proofs.lemmas.List.Elements.{All-filter, All-append, All-cons, All-nil}
 use Rattle.std.proofs.lemmas.List.Sums.{sum_by-cons}
 use Rattle.std.proofs.lemmas.Slice.Eq.{bytes_eq-Decides}
 use Rattle.std.proofs.lemmas.Bool.Decides.{nat_tests}
@@ -12,7 +11,8 @@ use Rattle.cdb_store.specs.declared.store.Store.{Ghosts}
 use Rattle.cdb_form.specs.declared.width.Width.{Ghosts as Widths}
 use Rattle.cdb_form.specs.Format.Hash.{key_hash, table_number}
 use Rattle.cdb_form.specs.Format.Pair.{WordPair, head_size}
-use Rattle.cdb_form.specs.Format.Record.{KeyValue, IsRecord, record_size}
+use Rattle.cdb_form.specs.Format.File.{whole_size}
+use Rattle.cdb_form.specs.Format.Record.{KeyValue, record_size}
 use Rattle.cdb_form.specs.Format.Table.{entries_from, in_table, table_entries}
 use Rattle.cdb_make.specs.declared.fault.MakeFault.{MakeFault}
 use Rattle.cdb_make.specs.declared.fault.MakeFault.TheVariants.{Broken, Lookup, TooBig, NoMemory, Writing}
@@ -20,20 +20,19 @@ use Rattle.cdb_make.specs.declared.removal.gap.Gap.{Gap}
 use Rattle.cdb_make.specs.declared.index.list.EntryList.{EntryList}
 use Rattle.cdb_make.specs.declared.index.lists.Lists.{Lists}
 use Rattle.cdb_make.specs.declared.maker.Maker.{Maker}
-use Rattle.cdb_make.specs.Marks.{AreMarked, WritesPass, fresh}
-use Rattle.cdb_make.specs.Stands.{Tells, Stands}
-use Rattle.cdb_make.specs.Survivors.{has_key, count_of, without}
-use Rattle.cdb_make.specs.Views.Adding.{AddFails}
-use Rattle.cdb_make.specs.Views.Closing.{ClosingFails}
+use Rattle.cdb_make.specs.declared.records.put.Put.TheVariants.{Added, Replaced}
+use Rattle.cdb_make.specs.Stands.{Tells}
+use Rattle.cdb_make.specs.Survivors.{has_key, is_there, count_of, without}
+use Rattle.cdb_make.specs.Views.Carrying.{Adds, FailsAdding, WantsMemory}
+use Rattle.cdb_make.specs.Views.Foreseen.{HasFound}
 use Rattle.cdb_make.specs.Views.EntryList.{list_entries, list_room, HasSpareGaps}
 use Rattle.cdb_make.specs.Views.Lists.{all_entries, entry_count, entry_room, AreAllClosed}
-use Rattle.cdb_make.specs.Views.Maker.{Holds, HoldsIn, WhereHonest, ComesFrom, FailsExchanging, put_bytes}
-use Rattle.cdb_form.specs.declared.mode.Mode.TheVariants.{Replace}
-use Rattle.cdb_make.proofs.Making.Makers.{held_stand}
-use Rattle.cdb_make.proofs.Marked.Marks.{among_none}
+use Rattle.cdb_make.specs.Views.Maker.{Holds, ComesFrom, Follows, HasNotFailed, HasRoom, Puts, WouldPut, FailsPutting, Removes, FailsRemoving, made_size, torn_fault}
+use Rattle.cdb_form.specs.declared.mode.Mode.TheVariants.{Add, Replace}
+use Rattle.cdb_make.proofs.Making.Carrying.{carried_held, held_carried}
+use Rattle.cdb_make.proofs.Making.Makers.{found_there, honest_comes}
+use Rattle.cdb_make.proofs.Making.Puts.{comes_then, held_found, if_counted}
 use Rattle.cdb_make.proofs.Entries.Sides.{length-entries_of}
-use Rattle.cdb_make.proofs.Gaps.Survive.{behind_by}
-use Rattle.cdb_make.proofs.Marked.Whole.{stand_marked}
 
 -- how many records have a test, by their hashes
 entries_counted : (w n at : ℕ) (rs : List KeyValue) → length (filter (in_table n) (entries_from w at rs)) ≡ length (filter (λ r. table_number (key_hash r.key) == n) rs)
@@ -102,49 +101,62 @@ room_left {w = w} {h = h} {room = room} k lists lists₁ {rs = rs} a b hashed cl
     let within = list_within (get_or ls n d) in
     elim full [ inl f ↦ omega (arith, one.room) | inr f ↦ omega arith ]
 
--- the record stands behind those of other keys
-pub exchanged_holds : {S L : Type 0} {s : Ghosts S} {l : Widths L} (old new : Maker S L s l) (r : KeyValue) (rs : List KeyValue) → IsRecord r → new.broken ≡ false → Holds old rs
-    → Stands l.WORD new.end (all_entries new.lists) (without r.key rs ++ r ∷ []) (s.image new.store) → ComesFrom (s.image old.store) (s.image new.store) → Holds new (without r.key rs ++ r ∷ [])
-exchanged_holds old new r rs is_record whole h stands comes = record {
-  whole = whole;
-  each = λ b is.
-      let a = comes.each b is in
-      let o : HoldsIn old rs a.0 = h.each a.0 a.1 in
-      record {
-        are = All-append IsRecord (without r.key rs) (r ∷ []) (All-filter (λ v. not (has_key r.key v)) IsRecord rs o.are) (All-cons IsRecord r [] is_record (All-nil IsRecord));
-        stand = stands.each b is;
-      };
+-- so no memory is wanted for a record of its key, if there is room on the store
+wants_none : {S L : Type 0} {s : Ghosts S} {l : Widths L} (old set : Maker S L s l) (r : KeyValue) (rs : List KeyValue) (n : ℕ) → Removes old set r.key n → HasFound old r.key n → 0 < n → ComesFrom (s.image old.store) (s.image set.store) → AreAllClosed old.gaps.items old.lists set.lists → set.gaps ≡ old.gaps
+    → set.end + record_size l.WORD r ≤ s.room set.store → Holds old rs → WantsMemory set r → (b : List ℕ) → s.image set.store b → ⊥
+wants_none {s = s} {l = l} old set r rs n removes found some comes closed gaps room h wants b is =
+    let a = comes.each b is in
+    let there : 0 < count_of r.key rs = omega (arith, (removes.answer rs h).each b is) in
+    let spare : HasSpareGaps (all_entries old.lists) (vec_capacity set.gaps) = subst (λ (v : _). HasSpareGaps (all_entries old.lists) (vec_capacity v)) (sym gaps) old.spare in
+    elim wants [
+      | inl full ↦ room_left r.key old.lists set.lists a.0 b refl closed ((h.each a.0 a.1).stand) (((removes.holds rs h).each b is).stand) there spare full
+      | inr past ↦ omega arith
+    ]
+
+-- why the record was not added, once they were taken out
+pub fails_exchanged : {S L : Type 0} {s : Ghosts S} {l : Widths L} (old set last new : Maker S L s l) (r : KeyValue) (n : ℕ) (fault : MakeFault) → Removes old set r.key n → HasFound old r.key n → 0 < n → Follows old set → HasNotFailed old set → AreAllClosed old.gaps.items old.lists set.lists → set.gaps ≡ old.gaps
+    → set.end + record_size l.WORD r ≤ s.room set.store → HasRoom set r → WouldPut old old Replace r → ComesFrom (s.image set.store) (s.image last.store) → new.broken ≡ true → new.store ≡ last.store → FailsAdding set last r fault → FailsPutting old new Replace r (torn_fault fault)
+fails_exchanged old set last new r n Broken removes found some follows fine closed gaps room fits would comes broken same fails = absurd fails
+fails_exchanged old set last new r n Lookup removes found some follows fine closed gaps room fits would comes broken same fails = absurd fails
+fails_exchanged {l = l} old set last new r n TooBig removes found some follows fine closed gaps room fits would comes broken same fails =
+    absurd (let large : set.limit < made_size set + whole_size l.WORD r = fails.2 in let k : made_size set + whole_size l.WORD r ≤ set.limit = fits in omega arith)
+fails_exchanged {s = s} old set last new r n NoMemory removes found some follows fine closed gaps room fits would comes broken same fails = record {
+  broken = broken;
+  same = λ already. absurd (let k : true ≡ false = sym already ∙ removes.was in cc);
+  cause = λ rs h b is. (let a = comes.each b (subst (λ (v : _). s.image v b) same is) in wants_none old set r rs n removes found some follows.comes closed gaps room h fails.3 a.0 a.1);
 }
+fails_exchanged {s = s} old set last new r n Writing removes found some follows fine closed gaps room fits would comes broken same fails =
+    let back : ComesFrom (s.image old.store) (s.image new.store) = comes_then follows.comes (record { each = λ b is. comes.each b (subst (λ (v : _). s.image v b) same is) }) in (
+      inr (
+        record {
+          was = removes.was;
+          broken = broken;
+          failed = (let k : s.failures set.store < s.failures last.store = fails.1.failed in let e : s.failures set.store ≡ s.failures old.store = fine in omega (arith, ap s.failures same));
+          found = λ rs h. honest_comes back (found_there r.key (omega (arith, found.many)) (held_found old old.gaps.items r.key n refl found rs h));
+        },
+        refl,
+      ),
+      λ rs h. honest_comes back (would rs h),
+    )
 
--- and its bytes are written behind theirs
-pub exchanged_written : (w was written now : ℕ) (r : KeyValue) (rs : List KeyValue) {between new : List ℕ → Type 0} → WritesPass w (fresh r.key [] rs) rs between was written → now ≡ written + record_size w r → ComesFrom between new
-    → WhereHonest new (now ≡ was + put_bytes w Replace r rs)
-exchanged_written w was written now r rs writes more comes = record {
-  each = λ b is.
-      let a = comes.each b is in
-      let k = writes.each a.0 a.1 in
-      let moved = ap (sum_by (record_size w)) (behind_by (has_key r.key) rs) in
-      omega arith;
+-- or they were not taken out
+pub fails_unexchanged : {S L : Type 0} {s : Ghosts S} {l : Widths L} (old new : Maker S L s l) (r : KeyValue) (fault : MakeFault) → WouldPut old old Replace r → ComesFrom (s.image old.store) (s.image new.store) → FailsRemoving old new r.key fault → FailsPutting old new Replace r fault
+fails_unexchanged old new r Broken would comes fails = fails
+fails_unexchanged old new r Lookup would comes fails = (fails.0, fails.1, λ e. absurd (let k : Replace ≡ Add = e in cc))
+fails_unexchanged old new r TooBig would comes fails = absurd fails
+fails_unexchanged old new r NoMemory would comes fails = absurd fails
+fails_unexchanged old new r Writing would comes fails = (inr (fails, refl), λ rs h. honest_comes comes (would rs h))
+
+pub puts_exchanged : {S L : Type 0} {s : Ghosts S} {l : Widths L} (old set new : Maker S L s l) (r : KeyValue) (n : ℕ) → Removes old set r.key n → 0 < n → Adds set new r → Puts old new Replace r (Replaced n)
+puts_exchanged {s = s} {l = l} old set new r n removes some adds = record {
+  was = removes.was;
+  whole = adds.whole;
+  holds = λ rs h. carried_held new (without r.key rs ++ r ∷ []) (adds.carries (without r.key rs) [] (held_carried set (without r.key rs) (removes.holds rs h)));
+  answers = λ rs h. honest_comes adds.comes (record {
+    each = λ b is.
+        let taken : n ≡ count_of r.key rs = (removes.answer rs h).each b is in
+        let there : is_there r.key rs ≡ true = (if_counted r.key rs).0 (omega arith) in
+        ap (λ (v : ℕ). Replaced v) taken ∙ sym (ap (λ (v : Bool). cond v (Replaced (count_of r.key rs)) Added) there);
+  });
+  written = λ rs h. record { each = λ b is. (let a = adds.comes.each b is in let k = (removes.written rs h).each a.0 a.1 in omega (arith, adds.written)) };
 }
-
-abbrev IsWriting : MakeFault → Type 0
-IsWriting Writing = Unit {0}
-IsWriting fault = ⊥
-
--- why memory was wanted
-pub add_wants : (written written₁ failures failures₁ : ℕ) (full past : Type 0) (fault : MakeFault) → fault ≡ NoMemory → AddFails written written₁ failures failures₁ full past fault → full ⊎ past
-add_wants a b c d full past NoMemory e fails = fails.1
-add_wants a b c d full past Broken e fails = absurd fails
-add_wants a b c d full past Lookup e fails = absurd fails
-add_wants a b c d full past TooBig e fails = absurd fails
-add_wants a b c d full past Writing e fails = absurd (subst IsWriting e tt)
-
--- why the gaps were not closed, or the record was not written behind the others
-pub exchange_fails : {S L : Type 0} {s : Ghosts S} {l : Widths L} (old : Maker S L s l) (store : S) (gs : List Gap) (key : List ℕ) (fault : MakeFault) → gs ≡ old.gaps.items
-    → ClosingFails l.WORD old.end gs (all_entries old.lists) (s.image old.store) (s.image store) (s.failures old.store) (s.failures store) fault → FailsExchanging old store key fault
-exchange_fails {s = s} {l = l} old store gs key Broken same fails = λ rs h found.
-    fails [] (fresh key [] rs) rs (stand_marked (held_stand old rs h)) (subst (λ (v : List Gap). AreMarked l.WORD v (fresh key [] rs) rs (s.image old.store)) (sym same) found) (among_none l.WORD (fresh key [] rs) rs)
-exchange_fails old store gs key Writing same fails = fails.0
-exchange_fails old store gs key Lookup same fails = fails
-exchange_fails old store gs key TooBig same fails = fails
-exchange_fails old store gs key NoMemory same fails = fails

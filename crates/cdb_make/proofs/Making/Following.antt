@@ -57,19 +57,6 @@ follows_closed {l = l} old new gaps apart torn limit room failures unwritten = r
   unwritten = unwritten;
 }
 
--- and then a record was written behind the others, or was to be
-pub follows_behind : {S L : Type 0} {s : Ghosts S} {l : Widths L} (old new : Maker S L s l) (gaps : List Gap) {between : List ℕ → Type 0} → AreApart (head_size l.WORD) gaps old.end
-    → TornWithin (first_place gaps old.end) (old.end - first_place gaps old.end) (s.image old.store) between → ComesFrom between (s.image new.store) → KeepsHead l.WORD between (s.image new.store)
-    → new.limit ≡ old.limit → s.room old.store ≤ s.room new.store → s.failures old.store ≤ s.failures new.store → s.unwritten old.store ≤ s.unwritten new.store → Follows {s = s} {l = l} old new
-follows_behind {l = l} old new gaps apart torn comes head limit room failures unwritten = record {
-  comes = comes_then (comes_torn torn) comes;
-  head = kept_then (head_moved l.WORD _ _ gaps apart torn) head;
-  limit = limit;
-  room = room;
-  failures = failures;
-  unwritten = unwritten;
-}
-
 -- whose store is the same
 pub follows_still : {S L : Type 0} {s : Ghosts S} {l : Widths L} (old new : Maker S L s l) → new.store ≡ old.store → SameCounts {s = s} {l = l} old new → Follows {s = s} {l = l} old new
 follows_still {s = s} old new same counts = follows_read old new (λ b is. subst (λ (v : _). s.image v b) same is) counts.limit (omega (arith, ap s.room same)) (omega (arith, ap s.failures same)) (omega (arith, ap s.unwritten same))

@@ -1,12 +1,10 @@
 -- A put that replaces.
-use Rattle.std.proofs.Common.{◌≡◌, ℕ, ◌+◌, ◌*◌, ◌<◌, ◌≤◌, ◌⊎◌, inl, inr, Bool, true, false, cond, not, List, [], ◌∷◌, ◌++◌, length, refl, sym, ap, ◌∙◌, arith, sum_by}
+use Rattle.std.proofs.Common.{◌≡◌, ℕ, ◌+◌, ◌*◌, ◌<◌, ◌≤◌, ◌⊎◌, inl, inr, not, List, [], length, refl, sym, ap, ◌∙◌, arith, sum_by}
 use Rattle.std.specs.List.{filter}
 use Rattle.std.specs.Prelude.{Err, IsErrOf}
 use Rattle.std.proofs.lemmas.List.Sums.{length-filter, sum_by_push}
 use Rattle.std.proofs.lemmas.List.Filters.{length-filter_both}
-use Rattle.std.proofs.lemmas.Bool.{false_from_ne_true}
 use Rattle.cdb_store.specs.declared.store.Store.{Ghosts}
-use Rattle.cdb_store.specs.Images.{SameImages}
 use Rattle.cdb_store.specs.declared.store.StoreFault.{StoreFault}
 use Rattle.cdb_store.specs.declared.store.StoreFault.TheVariants.{Device, NoMemory as Refused}
 use Rattle.cdb_form.specs.declared.width.Width.{Ghosts as Widths}
@@ -14,42 +12,18 @@ use Rattle.cdb_form.specs.Format.Pair.{head_size}
 use Rattle.cdb_form.specs.Format.Record.{KeyValue, record_size}
 use Rattle.cdb_form.specs.Format.File.{file_size, whole_size}
 use Rattle.cdb_form.proofs.Files.Sizes.{size_split}
-use Rattle.cdb_make.specs.declared.fault.MakeFault.{MakeFault}
-use Rattle.cdb_make.specs.declared.fault.MakeFault.TheVariants.{Broken, Lookup, TooBig, NoMemory, Writing}
-use Rattle.cdb_make.specs.declared.removal.gap.Gap.{Gap}
+use Rattle.cdb_make.specs.declared.fault.MakeFault.TheVariants.{TooBig, NoMemory}
 use Rattle.cdb_make.specs.declared.maker.Maker.{Maker}
 use Rattle.cdb_form.specs.declared.mode.Mode.TheVariants.{Replace}
-use Rattle.cdb_make.specs.declared.records.put.Put.TheVariants.{Added, Replaced}
 use Rattle.cdb_make.specs.Gaps.{gaps_by}
 use Rattle.cdb_make.specs.Marks.{AreMarked, fresh}
-use Rattle.cdb_make.specs.Survivors.{has_key, is_there, count_of, without, behind_first, put_list}
-use Rattle.cdb_make.specs.Views.Maker.{Holds, WhereHonest, ComesFrom, WritesNothing, Exchanges, FailsExchanging, Puts, WouldPut, FailsPutting, made_size}
+use Rattle.cdb_make.specs.Survivors.{has_key, is_there, count_of, without, put_list}
+use Rattle.cdb_make.specs.Views.Maker.{Holds, WhereHonest, ComesFrom, WritesNothing, WouldPut, FailsPutting, made_size}
 use Rattle.cdb_make.specs.Views.MakeFault.{fault_of}
 use Rattle.cdb_make.proofs.Entries.EntryLists.{size_push}
-use Rattle.cdb_make.proofs.Marked.Found.{some_gap}
-use Rattle.cdb_make.proofs.Making.Makers.{held_size, found_there, honest_comes}
-use Rattle.cdb_make.proofs.Gaps.Places.{unmarked_by}
-use Rattle.cdb_make.proofs.Making.Puts.{JustAdds, writes_then, not_present}
-use Rattle.cdb_make.proofs.Gaps.Survive.{behind_by}
-use Rattle.cdb_make.proofs.Marked.Whole.{count_found, gaps_sum, none_unmarked, none_moved}
-
--- where no gap was found the record is only added
-pub just_replace : {w : ℕ} {gs : List Gap} {images : List ℕ → Type 0} (rs : List KeyValue) (r : KeyValue) → gs ≡ [] → AreMarked w gs (fresh r.key [] rs) rs images → WhereHonest images (JustAdds w Replace r rs Added)
-just_replace {w = w} {gs = gs} rs r none found = record {
-  each = λ b is.
-      let k : List ℕ = r.key in
-      let gaps : gaps_by (has_key k) w (head_size w) rs ≡ [] = sym (found.each b is) ∙ none in
-      let no : is_there k rs ≡ true → ⊥ = λ yes. let n : 0 < length (gaps_by (has_key k) w (head_size w) rs) = (some_gap (has_key k) w (head_size w) rs).0 yes in absurd (omega (arith, ap length gaps)) in
-      let absent : is_there k rs ≡ false = false_from_ne_true (is_there k rs) no in
-      let behind : sum_by (record_size w) (behind_first (has_key k) rs) ≡ 0 = ap (sum_by (record_size w)) (sym (behind_by (has_key k) rs) ∙ none_moved w (head_size w) (fresh k [] rs) rs gaps) in
-      record {
-        list = ap (λ (v : List KeyValue). v ++ r ∷ []) (sym (unmarked_by (has_key k) rs) ∙ none_unmarked w (head_size w) (fresh k [] rs) rs gaps);
-        answers = sym (ap (λ (v : Bool). cond v (Replaced (count_of k rs)) Added) absent);
-        bytes = omega arith;
-        absent = λ e yes. no yes;
-        takes = λ e. not_present (is_there k rs) (count_of k rs) e;
-      };
-}
+use Rattle.cdb_make.proofs.Making.Makers.{held_size, honest_comes}
+use Rattle.cdb_make.proofs.Making.Puts.{writes_then, not_present}
+use Rattle.cdb_make.proofs.Marked.Whole.{count_found, gaps_sum}
 
 -- the size of the file of the others, and of the record
 left_size : {S L : Type 0} {s : Ghosts S} {l : Widths L} (m : Maker S L s l) (rs : List KeyValue) (r : KeyValue) → Holds m rs → AreMarked l.WORD m.gaps.items (fresh r.key [] rs) rs (s.image m.store)
@@ -108,50 +82,6 @@ fails_wanting {s = s} {l = l} old mid new r last stays same fine room gaps low p
   would,
   fine,
 )
-
-pub fails_exchange : {S L : Type 0} {s : Ghosts S} {l : Widths L} (old mid new : Maker S L s l) (r : KeyValue) (fault : MakeFault) → WritesNothing old mid → s.failures old.store ≤ s.failures mid.store
-    → ((rs : List KeyValue) → Holds old rs → AreMarked l.WORD mid.gaps.items (fresh r.key [] rs) rs (s.image mid.store)) → 0 < length mid.gaps.items → new.broken ≡ true → ComesFrom (s.image mid.store) (s.image new.store)
-    → WouldPut old new Replace r → FailsExchanging mid new.store r.key fault → FailsPutting old new Replace r fault
-fails_exchange old mid new r Broken stays later gaps some broken comes would fails = record {
-  broken = broken;
-  same = λ already. absurd (let k : true ≡ false = sym already ∙ stays.stays.was in cc);
-  cause = λ rs h. fails rs (stays.stays.holds rs h) (gaps rs h);
-}
-fails_exchange old mid new r Lookup stays later gaps some broken comes would fails = absurd fails
-fails_exchange old mid new r TooBig stays later gaps some broken comes would fails = absurd fails
-fails_exchange old mid new r NoMemory stays later gaps some broken comes would fails = absurd fails
-fails_exchange {s = s} old mid new r Writing stays later gaps some broken comes would fails = (
-  inr (
-    record {
-      was = stays.stays.was;
-      broken = broken;
-      failed = (let k : s.failures mid.store < s.failures new.store = fails in omega arith);
-      found = λ rs h. honest_comes comes (found_there r.key some (gaps rs h));
-    },
-    refl,
-  ),
-  would,
-)
-
-pub puts_exchanged : {S L : Type 0} {s : Ghosts S} {l : Widths L} (old mid new : Maker S L s l) (r : KeyValue) (n : ℕ) → WritesNothing old mid
-    → ((rs : List KeyValue) → Holds old rs → AreMarked l.WORD mid.gaps.items (fresh r.key [] rs) rs (s.image mid.store)) → n ≡ length mid.gaps.items → 0 < n → ComesFrom (s.image mid.store) (s.image new.store)
-    → Exchanges mid new r → Puts old new Replace r (Replaced n)
-puts_exchanged {s = s} {l = l} old mid new r n stays gaps count some comes exchanges = record {
-  was = stays.stays.was;
-  whole = exchanges.whole;
-  holds = λ rs h. exchanges.holds rs (stays.stays.holds rs h) (gaps rs h);
-  answers = λ rs h. honest_comes comes (record {
-    each = λ b is.
-        let there : is_there r.key rs ≡ true = (found_there r.key (omega arith) (gaps rs h)).each b is in
-        let taken : n ≡ count_of r.key rs = count ∙ (count_found r.key (gaps rs h)).each b is in
-        ap (λ (v : ℕ). Replaced v) taken ∙ sym (ap (λ (v : Bool). cond v (Replaced (count_of r.key rs)) Added) there);
-  });
-  written = λ rs h. record { each = λ b is. (let k = (exchanges.written rs (stays.stays.holds rs h) (gaps rs h)).each b is in omega (arith, stays.written)) };
-}
-
--- where room was made the gaps are the same
-pub gaps_same : {w : ℕ} (k : List ℕ) {gs : List Gap} {rs : List KeyValue} {old new : List ℕ → Type 0} → SameImages old new → AreMarked w gs (fresh k [] rs) rs old → AreMarked w gs (fresh k [] rs) rs new
-gaps_same k same found = record { each = λ b is. found.each b (same.no_other b is) }
 
 -- fewer entries take no more bytes
 pub fewer_bytes : (w taken count : ℕ) → (w ≡ 4) ⊎ (w ≡ 8) → taken ≤ count → 4 * w * taken ≤ 4 * w * count

@@ -18,7 +18,7 @@ use Rattle.cdb_form.proofs.Files.Sizes.{length-records, sum_by-table_entries}
 use Rattle.cdb_make.specs.declared.removal.gap.Gap.{Gap}
 use Rattle.cdb_make.specs.declared.index.list.EntryList.{EntryList}
 use Rattle.cdb_make.specs.Gaps.{AreApart, IsRising, Closed, closed_by, gaps_by, is_gap, marked_gaps, unmarked, first_place, kept_len}
-use Rattle.cdb_make.specs.Looks.{picked, Picks, TellsThere, NoNewImage, AreChained, NoneChained}
+use Rattle.cdb_make.specs.Looks.{picked, Picks, TellsThere, AreChained, NoneChained}
 use Rattle.cdb_make.specs.Marks.{TellsMarked, StandMarked, AreMarked, AreAmong, WritesPass, marked_entry, marked_from, marked_entries, fresh, behind_mark}
 use Rattle.cdb_make.specs.Stands.{Tells, Stands, IsThere}
 use Rattle.cdb_make.specs.Survivors.{has_key, is_there, count_of, without}
@@ -59,12 +59,12 @@ record_bytes_fit : (w top end : ℕ) (rs : List KeyValue) → end ≡ records_en
 record_bytes_fit w top end rs e le = let k : end ≡ head_size w + sum_by (record_size w) rs = e in omega arith
 
 -- the gaps that were found are those of the key's records that have no mark
-pub gaps_found : {w h : ℕ} {k : List ℕ} {gs : List Gap} {es : List WordPair} {old new : List ℕ → Type 0} (top end : ℕ) (ls : List EntryList) (d : EntryList) (ms : List Bool) (rs : List KeyValue)
+pub gaps_found : {w h : ℕ} {k : List ℕ} {gs : List Gap} {es : List WordPair} {images : List ℕ → Type 0} (top end : ℕ) (ls : List EntryList) (d : EntryList) (ms : List Bool) (rs : List KeyValue)
     → top + 1 ≡ 256 ^ w → end ≤ top → length ls ≡ 256 → h ≡ key_hash k → es ≡ list_entries (get_or ls (table_number h) d)
-    → NoNewImage old new → StandMarked w end (lists_entries ls) ms rs old → Picks w h k gs es new → AreMarked w gs (fresh k ms rs) rs new
-gaps_found {w = w} {h = h} {k = k} {gs = gs} {es = es} top end ls d ms rs words fits long hashed here few stands picks = record {
+    → StandMarked w end (lists_entries ls) ms rs images → Picks w h k gs es images → AreMarked w gs (fresh k ms rs) rs images
+gaps_found {w = w} {h = h} {k = k} {gs = gs} {es = es} top end ls d ms rs words fits long hashed here stands picks = record {
   each = λ b is.
-      let t : TellsMarked w end (lists_entries ls) ms rs b = stands.each b (few.no_other b is) in
+      let t : TellsMarked w end (lists_entries ls) ms rs b = stands.each b is in
       let small : table_number h < 256 = omega arith in
       let whole : es ≡ marked_entries w ms rs (table_number h) = here ∙ list_of_table (marked_entries w ms rs) (table_number h) ls d long small t.entries in
       picks.each b is
@@ -77,12 +77,12 @@ pub count_found : {w : ℕ} (k : List ℕ) {gs : List Gap} {rs : List KeyValue} 
 count_found {w = w} k {rs = rs} found = record { each = λ b is. ap length (found.each b is) ∙ length-gaps_by (has_key k) w (head_size w) rs }
 
 -- whether one was found
-pub there_found : {w h : ℕ} {k : List ℕ} {es : List WordPair} {old new : List ℕ → Type 0} (there : Bool) (top end : ℕ) (ls : List EntryList) (d : EntryList) (ms : List Bool) (rs : List KeyValue)
+pub there_found : {w h : ℕ} {k : List ℕ} {es : List WordPair} {images : List ℕ → Type 0} (there : Bool) (top end : ℕ) (ls : List EntryList) (d : EntryList) (ms : List Bool) (rs : List KeyValue)
     → top + 1 ≡ 256 ^ w → end ≤ top → length ls ≡ 256 → h ≡ key_hash k → es ≡ list_entries (get_or ls (table_number h) d)
-    → NoNewImage old new → StandMarked w end (lists_entries ls) ms rs old → TellsThere w h k there es new → IsThere there k (unmarked ms rs) new
-there_found {w = w} {h = h} {k = k} {es = es} there top end ls d ms rs words fits long hashed here few stands tells = record {
+    → StandMarked w end (lists_entries ls) ms rs images → TellsThere w h k there es images → IsThere there k (unmarked ms rs) images
+there_found {w = w} {h = h} {k = k} {es = es} there top end ls d ms rs words fits long hashed here stands tells = record {
   each = λ b is.
-      let t : TellsMarked w end (lists_entries ls) ms rs b = stands.each b (few.no_other b is) in
+      let t : TellsMarked w end (lists_entries ls) ms rs b = stands.each b is in
       let small : table_number h < 256 = omega arith in
       let whole : es ≡ marked_entries w ms rs (table_number h) = here ∙ list_of_table (marked_entries w ms rs) (table_number h) ls d long small t.entries in
       let same : picked w h k b es ≡ marked_gaps w (head_size w) (fresh k ms rs) rs =
@@ -92,11 +92,11 @@ there_found {w = w} {h = h} {k = k} {es = es} there top end ls d ms rs words fit
 }
 
 -- where they aren't chained, they didn't stand
-pub none_stands : {w start : ℕ} {es : List WordPair} {old new : List ℕ → Type 0} (h top end : ℕ) (ls : List EntryList) (d : EntryList) (ms : List Bool) (rs : List KeyValue)
+pub none_stands : {w start : ℕ} {es : List WordPair} {images : List ℕ → Type 0} (h top end : ℕ) (ls : List EntryList) (d : EntryList) (ms : List Bool) (rs : List KeyValue)
     → top + 1 ≡ 256 ^ w → end ≤ top → length ls ≡ 256 → start ≤ head_size w → es ≡ list_entries (get_or ls (table_number h) d)
-    → NoNewImage old new → StandMarked w end (lists_entries ls) ms rs old → NoneChained w start es end new → HasNoImage new
-none_stands {w = w} {start = start} {es = es} h top end ls d ms rs words fits long low here few stands none b is =
-    let t : TellsMarked w end (lists_entries ls) ms rs b = stands.each b (few.no_other b is) in
+    → StandMarked w end (lists_entries ls) ms rs images → NoneChained w start es end images → HasNoImage images
+none_stands {w = w} {start = start} {es = es} h top end ls d ms rs words fits long low here stands none b is =
+    let t : TellsMarked w end (lists_entries ls) ms rs b = stands.each b is in
     let small : table_number h < 256 = omega arith in
     let whole : es ≡ marked_entries w ms rs (table_number h) = here ∙ list_of_table (marked_entries w ms rs) (table_number h) ls d long small t.entries in
     none.each b is
@@ -163,10 +163,6 @@ stands_closed {w = w} {end = end} {gs = gs} {ls = ls} {ls₁ = ls₁} {rs = rs} 
         entries = lists_closed w ns ms gs ls ls₁ rs pos long e lowered (λ n. marked_closed n w ms ns rs pos among) t.entries;
       };
 }
-
--- those of a key gone are those without it
-pub stands_without : {w end : ℕ} {ls : List (List WordPair)} {images : List ℕ → Type 0} (k : List ℕ) (rs : List KeyValue) → Stands w end ls (unmarked (fresh k [] rs) rs) images → Stands w end ls (without k rs) images
-stands_without {w = w} {end = end} {ls = ls} {images = images} k rs stands = subst (λ (v : List KeyValue). Stands w end ls v images) (unmarked_by (has_key k) rs) stands
 
 -- where there is no gap, nothing goes
 closed_none : (es : List WordPair) → closed_by 0 [] es ≡ es

@@ -1,6 +1,6 @@
 -- What a batch holds, and what its calls leave.
-use Rattle.std.specs.Prelude.{ℕ, ◌≡◌, ◌≢◌, ◌+◌, ◌-◌, ◌<◌, ◌≤◌, ◌⊎◌, ⊤, Bool, true, false, cond, List, [], ◌∷◌}
-use Rattle.std.specs.Prelude.{◌++◌, length, sum_by}
+use Rattle.std.specs.Prelude.{ℕ, ◌≡◌, ◌≢◌, ◌+◌, ◌-◌, ◌<◌, ◌≤◌, ◌⊎◌, ⊤, Bool, true, false, cond, List, []}
+use Rattle.std.specs.Prelude.{length, sum_by, vec_capacity, ◌*◌}
 use Rattle.std.specs.List.Sorted.{IsPermutation}
 use Rattle.cdb_store.specs.declared.store.Store.{Ghosts}
 use Rattle.cdb_store.specs.Laws.{HasNoImage}
@@ -18,12 +18,13 @@ use Rattle.cdb_make.specs.declared.fault.MakeFault.TheVariants.{Writing}
 use Rattle.cdb_make.specs.declared.records.put.Put.{Put}
 use Rattle.cdb_make.specs.declared.records.put.Put.TheVariants.{Present}
 use Rattle.cdb_make.specs.Gaps.{marked_gaps, unmarked}
-use Rattle.cdb_make.specs.Marks.{AreMarked, behind_mark, fresh, with_key}
+use Rattle.cdb_make.specs.Marks.{behind_mark}
 use Rattle.cdb_make.specs.Survivors.{has_key, is_there, count_of, without, behind_first, put_list}
 use Rattle.cdb_make.specs.Survivors.{put_answer}
-use Rattle.cdb_make.specs.Views.Carrying.{Carries, WantsMemory}
+use Rattle.cdb_make.specs.Views.Carrying.{Carries, WantsMemory, Rests as RestsIn}
+use Rattle.cdb_make.specs.Views.Foreseen.{Foresees, taken_of}
 use Rattle.cdb_make.specs.Views.Maker.{WhereHonest, ComesFrom, put_bytes, made_size}
-use Rattle.cdb_make.specs.Views.Maker.{Holds as Has, HasStoreFailed, HasRoom}
+use Rattle.cdb_make.specs.Views.Maker.{Holds as Has, HasStoreFailed}
 use Rattle.cdb_make.specs.Views.Maker.{HasFailedToWrite}
 use Rattle.cdb_make.specs.Views.Maker as maker
 
@@ -106,6 +107,35 @@ pass_bytes w marks all = sum_by (record_size w) (behind_mark marks all)
 abbrev pub IsFull : {S L : Type 0} {s : Ghosts S} {l : Widths L} → Batch S L s l → ℕ → Type 0
 IsFull m n = m.most < length m.gone.items + n
 
+-- a pass is worth what it moves: so many records are marked that looks at one key cost as much, or
+-- the records take twice the bytes that they took after the last pass, and 4 MiB
+abbrev pub IsCostly : {S L : Type 0} {s : Ghosts S} {l : Widths L} → Batch S L s l → Type 0
+IsCostly m =
+    (16 * m.maker.count < length m.gone.items * length m.gone.items)
+    ⊎ (2 * m.pace.start + 4194304 < m.maker.end)
+
+-- it has room to note 32 gaps more, or an eighth of the records are marked, or a pass is worth what
+-- it moves, or no memory was given to note so many
+abbrev pub HasPace : {S L : Type 0} {s : Ghosts S} {l : Widths L} → Batch S L s l → Type 0
+HasPace m =
+    ((length m.gone.items + 32 ≤ m.most) ⊎ (m.maker.count ≤ 8 * length m.gone.items))
+    ⊎ (IsCostly m ⊎ (vec_capacity m.gone ≤ length m.gone.items + 32))
+
+-- what the next pass waits for, after a call that took so many records out. The bytes after the last
+-- pass are those at the first mark since
+pub record Paces {S L : Type 0} {s : Ghosts S} {l : Widths L} (old new : Batch S L s l)
+    (taken : ℕ) : Type 0 where
+  pub pace : 0 < taken → HasPace new
+  pub most : taken ≡ 0 → new.most ≡ old.most
+  pub start : (new.pace.start ≡ old.pace.start)
+      ⊎ ((length new.gone.items ≤ taken) × (new.pace.start ≡ new.maker.end))
+
+-- a step of a call leaves what the next pass waits for
+pub record KeepsPace {S L : Type 0} {s : Ghosts S} {l : Widths L} (old new : Batch S L s l)
+    : Type 0 where
+  pub most : new.most ≡ old.most
+  pub pace : new.pace ≡ old.pace
+
 -- with the record the file of all records, marked ones too, would pass the limit
 abbrev pub IsOver : {S L : Type 0} {s : Ghosts S} {l : Widths L} → Batch S L s l → KeyValue
     → Type 0
@@ -187,7 +217,7 @@ pub record Settles {S L : Type 0} {s : Ghosts S} {l : Widths L} (old new : Batch
 abbrev pub FailsSettling : {S L : Type 0} {s : Ghosts S} {l : Widths L} → Batch S L s l
     → Batch S L s l → MakeFault → Type 0
 FailsSettling old new Broken = IsBroken old new
-FailsSettling old new Writing = IsTorn old new (λ rs. HasGaps old)
+FailsSettling old new Writing = HasGaps old × IsTorn old new (λ rs. ⊤)
 FailsSettling old new fault = ⊥
 
 -- what a look that failed leaves
@@ -266,7 +296,7 @@ FailsPutting old new mode r NoMemory =
     × WantsRoom old new mode r × WouldPut old new mode r × HasNotFailed old new
 FailsPutting old new mode r Writing =
     (StaysWhole old new × HasFailedToWrite old.maker new.maker × WouldPut old new mode r)
-    ⊎ IsTorn old new (HasGapsOr old r.key)
+    ⊎ (IsTorn old new (HasGapsOr old r.key) × (HasGaps old ⊎ (mode ≡ Replace)))
 
 -- why a file was not finished, and what the batch is then
 abbrev pub FailsFinishing : {S L : Type 0} {s : Ghosts S} {l : Widths L} → Batch S L s l
@@ -275,7 +305,7 @@ FailsFinishing old new Broken = IsBroken old new
 FailsFinishing old new NoMemory = Settles old new
 FailsFinishing old new Writing =
     (StaysWhole old new × HasStoreFailed old.maker new.maker)
-    ⊎ IsTorn old new (λ rs. HasGaps old)
+    ⊎ (HasGaps old × IsTorn old new (λ rs. ⊤))
 FailsFinishing old new fault = ⊥
 
 -- whether a pass could mend why a record was not added
@@ -284,70 +314,27 @@ is_short TooBig = true
 is_short NoMemory = true
 is_short fault = false
 
--- a look was made and no more: what its conditions speak of stays
+-- a look was made and no more, and the same records are marked
 pub record Rests {S L : Type 0} {s : Ghosts S} {l : Widths L} (old new : Batch S L s l) : Type 0 where
-  pub nothing : WritesNothing old new
-  pub size : made_size new.maker ≡ made_size old.maker
-  pub limit : limit_of new ≡ limit_of old
+  pub maker : RestsIn old.maker new.maker
   pub gone : new.gone.items ≡ old.gone.items
   pub most : new.most ≡ old.most
-  pub comes : ComesFrom (s.image old.maker.store) (s.image new.maker.store)
-  pub room : s.room old.maker.store ≤ s.room new.maker.store
-  pub later : s.unwritten old.maker.store ≤ s.unwritten new.maker.store
-  pub fine : HasNotFailed old new
 
--- one record more, behind the others
-pub record Adds {S L : Type 0} {s : Ghosts S} {l : Widths L} (old new : Batch S L s l)
-    (r : KeyValue) : Type 0 where
-  pub was : old.maker.broken ≡ false
-  pub whole : new.maker.broken ≡ false
-  pub holds : (rs : List KeyValue) → Holds old rs → Holds new (rs ++ r ∷ [])
-  pub written : Writes old new (λ rs. IsOver old r → ⊥) (λ rs. IsOver old r ⊎ WantsMemory old.maker r)
-      (λ rs. record_size l.WORD r) (λ rs. record_size l.WORD r)
-  pub comes : ComesFrom (s.image old.maker.store) (s.image new.maker.store)
-
--- the file with it keeps the limit
-abbrev pub FitsMore : {S L : Type 0} {s : Ghosts S} {l : Widths L} → Batch S L s l → Batch S L s l
-    → KeyValue → Type 0
-FitsMore {s = s} {l = l} old new r = (rs : List KeyValue) → Holds old rs
-    → WhereHonest (s.image new.maker.store) (file_size l.WORD (rs ++ r ∷ []) ≤ limit_of old)
-
--- none more, and why
-abbrev pub FailsAdding : {S L : Type 0} {s : Ghosts S} {l : Widths L} → Batch S L s l
-    → Batch S L s l → KeyValue → MakeFault → Type 0
-FailsAdding old new r Broken = IsBroken old new
-FailsAdding {s = s} {l = l} old new r TooBig =
-    StaysWhole old new × PassesAtMost old new (λ rs. IsOver old r ⊎ WantsMemory old.maker r)
-    × ((rs : List KeyValue) → Holds old rs → WhereHonest (s.image new.maker.store)
-    (limit_of old < file_size l.WORD (rs ++ r ∷ []))) × HasNotFailed old new
-FailsAdding old new r NoMemory =
-    StaysWhole old new × PassesAtMost old new (λ rs. IsOver old r ⊎ WantsMemory old.maker r)
-    × FitsMore old new r × HasNotFailed old new
-FailsAdding old new r Writing =
-    (StaysWhole old new × HasFailedToWrite old.maker new.maker × FitsMore old new r)
-    ⊎ IsTorn old new (λ rs. HasGaps old)
-FailsAdding old new r Lookup = ⊥
-
--- the records of a key were marked, whose gaps were noted, and one was added behind the others
-pub record Exchanges {S L : Type 0} {s : Ghosts S} {l : Widths L} (old new : Batch S L s l)
-    (r : KeyValue) : Type 0 where
-  pub whole : new.maker.broken ≡ false
-  pub lies : (all : List KeyValue) (marks : List Bool) → Lies old all marks
-      → AreMarked l.WORD old.maker.gaps.items (fresh r.key marks all) all (s.image old.maker.store)
-      → Lies new (all ++ r ∷ []) (with_key r.key marks all)
-  pub written : s.written new.maker.store ≡ s.written old.maker.store + record_size l.WORD r
-  pub comes : ComesFrom (s.image old.maker.store) (s.image new.maker.store)
-  pub lone : (IsFull old (length old.maker.gaps.items) ⊎ IsOver old r) → ⊥
-
--- they were not, since its store failed
-abbrev pub FailsExchanging : {S L : Type 0} {s : Ghosts S} {l : Widths L} → Batch S L s l
-    → Batch S L s l → KeyValue → MakeFault → Type 0
-FailsExchanging old new r Writing =
-    StaysWhole old new × HasFailedToWrite old.maker new.maker × HasRoom old.maker r
-FailsExchanging old new r fault = ⊥
-
--- they were not, since a pass has to be made first
+-- nothing was done, since a pass has to be made first
 pub record Waits {S L : Type 0} {s : Ghosts S} {l : Widths L} (old new : Batch S L s l)
-    (r : KeyValue) : Type 0 where
+    (r : KeyValue) (put : Put) : Type 0 where
   pub rests : Rests old new
-  pub due : (IsFull old (length old.maker.gaps.items) ⊎ IsOver old r) ⊎ WantsMemory old.maker r
+  pub fine : HasNotFailed old new
+  pub takes : put ≢ Present
+  pub due : (IsFull old (taken_of put) ⊎ IsOver old r) ⊎ WantsMemory old.maker r
+
+-- what was foreseen of a put was done without a pass
+abbrev pub Enters : {S L : Type 0} {s : Ghosts S} {l : Widths L} → Batch S L s l → Batch S L s l
+    → KeyValue → Put → Type 0
+Enters old new r put = (mode : Mode) → Foresees old.maker mode r put → Puts old new mode r put
+
+-- or it failed
+abbrev pub FailsEntering : {S L : Type 0} {s : Ghosts S} {l : Widths L} → Batch S L s l
+    → Batch S L s l → KeyValue → Put → MakeFault → Type 0
+FailsEntering old new r put fault =
+    (mode : Mode) → Foresees old.maker mode r put → FailsPutting old new mode r fault

@@ -17,7 +17,6 @@ use Rattle.cdb_make.specs.declared.records.put.Put.TheVariants.{Present}
 use Rattle.cdb_make.specs.declared.records.key_at.LookFault.{LookFault}
 use Rattle.cdb_make.specs.declared.records.key_at.LookFault.TheVariants.{Failed, Foreign}
 use Rattle.cdb_make.specs.Finished.{HeadIsLast}
-use Rattle.cdb_make.specs.Marks.{AreMarked, fresh}
 use Rattle.cdb_make.specs.Stands.{Tells}
 use Rattle.cdb_make.specs.Survivors.{has_key, is_there, count_of, without, behind_first, put_list}
 use Rattle.cdb_make.specs.Survivors.{put_answer}
@@ -168,29 +167,10 @@ FailsRemoving old new key Lookup = WritesNothing old new × HasStoreFailed old n
 FailsRemoving old new key Writing = IsTorn old new key
 FailsRemoving old new key fault = ⊥
 
--- one record more, behind the others
-pub record Adds {S L : Type 0} {s : Ghosts S} {l : Widths L} (old new : Maker S L s l)
-    (r : KeyValue) : Type 0 where
-  pub was : old.broken ≡ false
-  pub whole : new.broken ≡ false
-  pub holds : (rs : List KeyValue) → Holds old rs → Holds new (rs ++ r ∷ [])
-  pub written : s.written new.store ≡ s.written old.store + record_size l.WORD r
-  pub comes : ComesFrom (s.image old.store) (s.image new.store)
-
 -- the file with a record more keeps the limit
 abbrev pub HasRoom : {S L : Type 0} {s : Ghosts S} {l : Widths L} → Maker S L s l → KeyValue
     → Type 0
 HasRoom {l = l} m r = made_size m + whole_size l.WORD r ≤ m.limit
-
--- none more, and why
-abbrev pub FailsAdding : {S L : Type 0} {s : Ghosts S} {l : Widths L} → Maker S L s l
-    → Maker S L s l → KeyValue → MakeFault → Type 0
-FailsAdding old new r Broken = (old.broken ≡ true) × (new ≡ old)
-FailsAdding {s = s} {l = l} old new r TooBig =
-    (new ≡ old) × (old.broken ≡ false) × (old.limit < made_size old + whole_size l.WORD r)
-FailsAdding old new r NoMemory = WritesNothing old new × HasRoom old r × HasNotFailed old new
-FailsAdding old new r Writing = StaysWhole old new × HasFailedToWrite old new × HasRoom old r
-FailsAdding old new r Lookup = ⊥
 
 -- how many bytes a put writes: the records that it moves, and its own
 abbrev pub put_bytes : ℕ → Mode → KeyValue → List KeyValue → ℕ
@@ -200,27 +180,10 @@ put_bytes w Insert r rs = cond (is_there r.key rs) 0 (record_size w r)
 put_bytes w Replace r rs =
     sum_by (record_size w) (behind_first (has_key r.key) rs) + record_size w r
 
--- the records of a key were taken out, and one was added behind the others
-pub record Exchanges {S L : Type 0} {s : Ghosts S} {l : Widths L} (old new : Maker S L s l)
-    (r : KeyValue) : Type 0 where
-  pub whole : new.broken ≡ false
-  pub holds : (rs : List KeyValue) → Holds old rs
-      → AreMarked l.WORD old.gaps.items (fresh r.key [] rs) rs (s.image old.store)
-      → Holds new (without r.key rs ++ r ∷ [])
-  pub written : (rs : List KeyValue) → Holds old rs
-      → AreMarked l.WORD old.gaps.items (fresh r.key [] rs) rs (s.image old.store)
-      → WhereHonest (s.image new.store) (s.written new.store
-      ≡ s.written old.store + put_bytes l.WORD Replace r rs)
-
--- they were not, since the store, which it is by then, failed or has given back other bytes than it
--- was told to write
-abbrev pub FailsExchanging : {S L : Type 0} {s : Ghosts S} {l : Widths L} → Maker S L s l
-    → S → List ℕ → MakeFault → Type 0
-FailsExchanging {s = s} {l = l} old store key Broken = (rs : List KeyValue) → Holds old rs
-    → AreMarked l.WORD old.gaps.items (fresh key [] rs) rs (s.image old.store)
-    → HasNoImage (s.image store)
-FailsExchanging {s = s} old store key Writing = s.failures old.store < s.failures store
-FailsExchanging old store key fault = ⊥
+-- what a fault of an addition is to a put that has taken records out
+abbrev pub torn_fault : MakeFault → MakeFault
+torn_fault Writing = Writing
+torn_fault fault = Broken
 
 -- a put of a record that answered so
 pub record Puts {S L : Type 0} {s : Ghosts S} {l : Widths L} (old new : Maker S L s l)

@@ -1,9 +1,11 @@
 // A record, put by a batch.
 ghost use Rattle.std.specs.Prelude.{◌≡◌, ◌⊎◌, [], true, false, length, IfOk, IfErr, OnOk, OnErr};
 ghost use Rattle.cdb_form.specs.Format.Hash.{key_hash};
-ghost use Rattle.cdb_form.specs.Format.Record.{record_of, KeyValue};
-ghost use Rattle.cdb_form.specs.declared.mode.Mode.TheVariants.{Replace};
+ghost use Rattle.cdb_form.specs.Format.Record.{record_of};
+ghost use Rattle.cdb_make.specs.declared.records.put.Put.{Put};
+ghost use Rattle.cdb_make.specs.declared.records.put.Put.TheVariants.{Replaced};
 ghost use Rattle.cdb_make.specs.Views.Batch.{is_short};
+ghost use Rattle.cdb_make.specs.Views.Foreseen.{IsAdded, HasFound, Finds, taken_of};
 
 use crate::batch::Batch;
 use crate::fault::MakeFault;
@@ -23,7 +25,9 @@ fn is_short(fault: MakeFault) -> bool
 }
 
 /// How many records a put took out.
-fn taken_by(put: Put) -> u64 {
+fn taken_by(put: Put) -> u64
+    ensures { result ≡ taken_of put }
+{
     match put {
         Put::Replaced(taken) => taken,
         Put::Added | Put::AddedAgain | Put::Present => 0,
@@ -31,8 +35,8 @@ fn taken_by(put: Put) -> u64 {
 }
 
 impl<S: Store, L: Width> Batch<S, L> {
-    ghost use Rattle.cdb_make.specs.Views.Batch.{SameCounts, Adds, FailsAdding, Puts, FailsPutting};
-    ghost use Rattle.cdb_make.specs.Views.Batch.{Exchanges, FailsExchanging, Follows, Waits};
+    ghost use Rattle.cdb_make.specs.Views.Batch.{SameCounts, Puts, FailsPutting, Follows, Waits};
+    ghost use Rattle.cdb_make.specs.Views.Batch.{Enters, FailsEntering, KeepsPace, Paces};
 
     /// Whether a pass would mend why a record was not added.
     fn is_mended(&self, fault: MakeFault) -> bool
@@ -42,27 +46,32 @@ impl<S: Store, L: Width> Batch<S, L> {
         !self.gone.is_empty() && is_short(fault)
     }
 
-    /// One more record, after the others. If there is no room for it, a pass is made first.
+    /// One more record, after the others. Or none, since a pass has to be made first.
     #[inline(always)]
-    fn add(&mut self, hash: u32, key: &[u8], value: &[u8]) -> Result<(), MakeFault>
+    fn add(&mut self, hash: u32, key: &[u8], value: &[u8]) -> Result<bool, MakeFault>
         requires hash { hash ≡ key_hash key.now }
-        ensures ok { OnOk result
-            (Adds self.old self.new (record_of key.now value.now)) }
-        ensures fails { IfErr result
-            (FailsAdding self.old self.new (record_of key.now value.now)) }
+        requires whole { self.old.maker.broken ≡ false }
+        ensures done { (put : Put) → IsAdded put → IfOk result (λ done. done ≡ true
+            → Enters self.old self.new (record_of key.now value.now) put) }
+        ensures waits { (put : Put) → IsAdded put → IfOk result (λ done. done ≡ false
+            → Waits self.old self.new (record_of key.now value.now) put) }
+        ensures same { IfOk result (λ done. done ≡ false → SameCounts self.old self.new) }
+        ensures fails { (put : Put) → IsAdded put → IfErr result
+            (FailsEntering self.old self.new (record_of key.now value.now) put) }
         ensures follows { Follows self.old self.new }
         ensures counts { OnErr result (SameCounts self.old self.new) }
+        ensures pace { KeepsPace self.old self.new }
     {
         match self.maker.add(hash, key, value) {
-            Ok(()) => return Ok(()),
+            Ok(()) => Ok(true),
             Err(fault) => {
-                if !self.is_mended(fault) {
-                    return Err(fault);
+                if self.is_mended(fault) {
+                    Ok(false)
+                } else {
+                    Err(fault)
                 }
             }
         }
-        self.settle()?;
-        self.maker.add(hash, key, value)
     }
 
     /// Marks the records whose gaps are noted, so many, and adds one after the others. Or it does
@@ -75,17 +84,18 @@ impl<S: Store, L: Width> Batch<S, L> {
         value: &[u8],
     ) -> Result<bool, MakeFault>
         requires hash { hash ≡ key_hash key.now }
-        requires taken { taken ≡ length self.old.maker.gaps.items }
         requires whole { self.old.maker.broken ≡ false }
+        requires found { HasFound self.old.maker key.now taken }
         ensures done { IfOk result (λ done. done ≡ true
-            → Exchanges self.old self.new (record_of key.now value.now)) }
+            → Enters self.old self.new (record_of key.now value.now) (Replaced taken)) }
         ensures waits { IfOk result (λ done. done ≡ false
-            → Waits self.old self.new (record_of key.now value.now)) }
+            → Waits self.old self.new (record_of key.now value.now) (Replaced taken)) }
         ensures same { IfOk result (λ done. done ≡ false → SameCounts self.old self.new) }
         ensures fails { IfErr result
-            (FailsExchanging self.old self.new (record_of key.now value.now)) }
+            (FailsEntering self.old self.new (record_of key.now value.now) (Replaced taken)) }
         ensures follows { Follows self.old self.new }
         ensures counts { OnErr result (SameCounts self.old self.new) }
+        ensures pace { KeepsPace self.old self.new }
     {
         if !self.has_room(taken) {
             return Ok(false);
@@ -108,30 +118,34 @@ impl<S: Store, L: Width> Batch<S, L> {
         }
     }
 
-    /// The record instead of those of its key.
-    fn replace(&mut self, hash: u32, key: &[u8], value: &[u8]) -> Result<Put, MakeFault>
+    /// Does what was foreseen of a put. Or nothing, since a pass has to be made first.
+    #[inline(always)]
+    fn enter(&mut self, put: Put, hash: u32, key: &[u8], value: &[u8]) -> Result<bool, MakeFault>
         requires hash { hash ≡ key_hash key.now }
-        ensures puts { IfOk result
-            (Puts self.old self.new Replace (record_of key.now value.now)) }
+        requires whole { self.old.maker.broken ≡ false }
+        requires found { Finds self.old.maker key.now put }
+        ensures done { IfOk result (λ done. done ≡ true
+            → Enters self.old self.new (record_of key.now value.now) put) }
+        ensures waits { IfOk result (λ done. done ≡ false
+            → Waits self.old self.new (record_of key.now value.now) put) }
+        ensures same { IfOk result (λ done. done ≡ false → SameCounts self.old self.new) }
         ensures fails { IfErr result
-            (FailsPutting self.old self.new Replace (record_of key.now value.now)) }
+            (FailsEntering self.old self.new (record_of key.now value.now) put) }
         ensures follows { Follows self.old self.new }
         ensures counts { OnErr result (SameCounts self.old self.new) }
+        ensures pace { KeepsPace self.old self.new }
     {
-        let taken = self.maker.find(hash, key)?;
-        if taken == 0 {
-            self.add(hash, key, value)?;
-            return Ok(Put::Added);
+        match put {
+            Put::Present => Ok(true),
+            Put::Added => self.add(hash, key, value),
+            Put::AddedAgain => self.add(hash, key, value),
+            Put::Replaced(taken) => self.exchange(taken, hash, key, value),
         }
-        if self.exchange(taken, hash, key, value)? {
-            return Ok(Put::Replaced(taken));
-        }
-        self.settle()?;
-        self.maker.replace(hash, key, value)
     }
 
     /// Puts a record as `put` says it.
     #[inline(always)]
+    #[tactic(auto, using(crate::proofs::Making::Following::follows_looked, crate::proofs::Making::Following::follows_then, crate::proofs::Making::Batches::counts_looked, crate::proofs::Making::Batches::counts_then))]
     fn put_by(&mut self, mode: Mode, hash: u32, key: &[u8], value: &[u8]) -> Result<Put, MakeFault>
         requires hash { hash ≡ key_hash key.now }
         ensures puts { IfOk result
@@ -140,25 +154,14 @@ impl<S: Store, L: Width> Batch<S, L> {
             (FailsPutting self.old self.new mode (record_of key.now value.now)) }
         ensures follows { Follows self.old self.new }
         ensures counts { OnErr result (SameCounts self.old self.new) }
+        ensures pace { KeepsPace self.old self.new }
     {
-        match mode {
-            Mode::Add => self.add(hash, key, value)?,
-            Mode::Warn => {
-                let there = self.maker.look(hash, key)?;
-                self.add(hash, key, value)?;
-                if there {
-                    return Ok(Put::AddedAgain);
-                }
-            }
-            Mode::Insert => {
-                if self.maker.look(hash, key)? {
-                    return Ok(Put::Present);
-                }
-                self.add(hash, key, value)?;
-            }
-            Mode::Replace => return self.replace(hash, key, value),
+        let put = self.maker.meet(mode, hash, key)?;
+        if self.enter(put, hash, key, value)? {
+            return Ok(put);
         }
-        Ok(Put::Added)
+        self.settle()?;
+        self.maker.put(mode, key, value)
     }
 
     /// Puts a record: the mode says what is done if its key is there already.
@@ -180,6 +183,7 @@ impl<S: Store, L: Width> Batch<S, L> {
             (FailsPutting self.old self.new mode (record_of key.now value.now)) }
         ensures follows { Follows self.old self.new }
         ensures counts { OnErr result (SameCounts self.old self.new) }
+        ensures paces { IfOk result (λ put. Paces self.old self.new (taken_of put)) }
     {
         let hash = hash(key);
         let put = self.put_by(mode, hash, key, value)?;

@@ -1,28 +1,42 @@
 // A record, put by a maker.
-ghost use Rattle.std.specs.Prelude.{◌≡◌, ℕ, ◌+◌, ◌*◌, ◌<◌, ◌≤◌, ◌++◌, ◌∷◌, [], true, false, List, Bool, length};
+ghost use Rattle.std.specs.Prelude.{◌≡◌, ◌≢◌, ℕ, ◌+◌, ◌*◌, ◌<◌, ◌≤◌, true, false, List, length};
 ghost use Rattle.std.specs.Prelude.{sum_by, IfOk, IfErr, OnOk, OnErr};
 ghost use Rattle.cdb_form.specs.Format.Hash.{key_hash};
-ghost use Rattle.cdb_form.specs.Format.Pair.{head_size};
 ghost use Rattle.cdb_form.specs.Format.File.{whole_size};
-ghost use Rattle.cdb_form.specs.Format.Record.{record_of, KeyValue, record_size};
-ghost use Rattle.cdb_form.specs.declared.mode.Mode.TheVariants.{Replace};
-ghost use Rattle.cdb_make.specs.Gaps.{AreApart};
-ghost use Rattle.cdb_make.specs.declared.fault.MakeFault.TheVariants.{NoMemory};
+ghost use Rattle.cdb_form.specs.Format.Record.{record_of, record_size};
+ghost use Rattle.cdb_store.specs.Reads.{OnlyReads};
+ghost use Rattle.cdb_form.specs.declared.mode.Mode.TheVariants.{Add, Replace};
+ghost use Rattle.cdb_make.specs.declared.records.put.Put.TheVariants.{Replaced};
+ghost use Rattle.cdb_make.specs.Views.Maker.{torn_fault};
+ghost use Rattle.cdb_make.specs.declared.fault.MakeFault.TheVariants.{Lookup};
 
 use crate::fault::MakeFault;
 use crate::maker::Maker;
 use crate::records::add::add;
 use crate::records::put::Put;
 use crate::removal::gap::all_sizes;
-use crate::removal::take_out::close;
 use cdb_form::{Mode, Width, hash, pair_size};
 use cdb_store::Store;
 
+/// What a fault of an addition is to a put that has taken records out. An entry of the same list
+/// went, and the store's room was made: so if memory is wanted, the records didn't stand.
+fn torn_fault(fault: MakeFault) -> MakeFault
+    ensures { result ≡ torn_fault fault }
+{
+    match fault {
+        MakeFault::Writing => MakeFault::Writing,
+        MakeFault::Broken | MakeFault::Lookup | MakeFault::TooBig | MakeFault::NoMemory => {
+            MakeFault::Broken
+        }
+    }
+}
+
 impl<S: Store, L: Width> Maker<S, L> {
-    ghost use Rattle.cdb_make.specs.Views.Maker.{SameCounts, Adds, FailsAdding, Puts, FailsPutting};
-    ghost use Rattle.cdb_make.specs.Views.Maker.{made_size, Exchanges, FailsExchanging, Follows};
-    ghost use Rattle.cdb_make.specs.Views.Maker.{HasRoom};
-    ghost use Rattle.cdb_make.specs.Views.Carrying.{Carries, KeepsCarrying, WantsMemory};
+    ghost use Rattle.cdb_make.specs.Views.Maker.{SameCounts, Puts, FailsPutting, Follows};
+    ghost use Rattle.cdb_make.specs.Views.Maker.{made_size, HasNotFailed};
+    ghost use Rattle.cdb_make.specs.Views.Carrying.{Adds, FailsAdding, Rests, WantsMemory};
+    ghost use Rattle.cdb_make.specs.Views.Carrying.{FailsSeeking};
+    ghost use Rattle.cdb_make.specs.Views.Foreseen.{Foresees, HasFound};
 
     /// Whether a file of so many bytes, within the limit, has room for a record more.
     fn has_room(&self, size: u64, key: &[u8], value: &[u8]) -> bool
@@ -40,28 +54,63 @@ impl<S: Store, L: Width> Maker<S, L> {
         words <= left && klen <= left - words && vlen <= left - words - klen
     }
 
+    /// Looks at the key of a record that is to be put, and answers what the put will answer unless
+    /// it fails. The gaps of records that are to be taken out are noted.
+    #[inline(always)]
+    pub(crate) fn meet(&mut self, mode: Mode, hash: u32, key: &[u8]) -> Result<Put, MakeFault>
+        requires hash { hash ≡ key_hash key.now }
+        ensures foresees { (value : List ℕ) → IfOk result (λ put.
+            Foresees self.new mode (record { key = key.now; value = value }) put) }
+        ensures rests { OnOk result (Rests self.old self.new) }
+        ensures wants { OnOk result ((value : List ℕ)
+            → WantsMemory self.new (record { key = key.now; value = value })
+            → WantsMemory self.old (record { key = key.now; value = value })) }
+        ensures fails { IfErr result (FailsSeeking self.old self.new) }
+        ensures looks { IfErr result (λ fault. fault ≡ Lookup → mode ≢ Add) }
+        ensures reads { OnlyReads S.Store self.old.store self.new.store }
+        ensures counts { SameCounts self.old self.new }
+        ensures ok_failures { OnOk result (HasNotFailed self.old self.new) }
+    {
+        match mode {
+            Mode::Add => {
+                if self.broken {
+                    return Err(MakeFault::Broken);
+                }
+                Ok(Put::Added)
+            }
+            Mode::Warn => {
+                if self.look(hash, key)? {
+                    return Ok(Put::AddedAgain);
+                }
+                Ok(Put::Added)
+            }
+            Mode::Insert => {
+                if self.look(hash, key)? {
+                    return Ok(Put::Present);
+                }
+                Ok(Put::Added)
+            }
+            Mode::Replace => {
+                let taken = self.find(hash, key)?;
+                if taken == 0 {
+                    return Ok(Put::Added);
+                }
+                Ok(Put::Replaced(taken))
+            }
+        }
+    }
+
     /// One more record, after the others. The hash is that of its key.
     pub(crate) fn add(&mut self, hash: u32, key: &[u8], value: &[u8]) -> Result<(), MakeFault>
         requires hash { hash ≡ key_hash key.now }
-        ensures ok { OnOk result
-            (Adds self.old self.new (record_of key.now value.now)) }
+        requires whole { self.old.broken ≡ false }
+        ensures adds { OnOk result (Adds self.old self.new (record_of key.now value.now)) }
         ensures fails { IfErr result
             (FailsAdding self.old self.new (record_of key.now value.now)) }
         ensures follows { Follows self.old self.new }
         ensures counts { OnErr result (SameCounts self.old self.new) }
-        ensures more { OnOk result (self.new.count ≡ self.old.count + 1) }
-        ensures carries { (all : List KeyValue) (marks : List Bool) → Carries self.old all marks
-            → OnOk result (Carries self.new
-            (all ++ record_of key.now value.now ∷ []) marks) }
-        ensures fits { OnOk result
-            (HasRoom self.old (record_of key.now value.now)) }
-        ensures keeps { OnErr result (KeepsCarrying self.old self.new) }
-        ensures wants { result ≡ Err NoMemory
-            → WantsMemory self.old (record_of key.now value.now) }
+        ensures longer { S.size self.old.store ≤ S.size self.new.store }
     {
-        if self.broken {
-            return Err(MakeFault::Broken);
-        }
         if !self.has_room(self.size(), key, value) {
             return Err(MakeFault::TooBig);
         }
@@ -71,17 +120,13 @@ impl<S: Store, L: Width> Maker<S, L> {
         Ok(())
     }
 
-    /// Takes out the records whose gaps are noted, so many, and adds one after the others. There
-    /// is room for it in the store.
-    ///
-    /// `Broken`: the store gave back other bytes than were written.
+    /// Takes out the records of a key whose gaps are noted, so many, and adds one after the others.
+    /// There is room for it.
     fn exchange(&mut self, taken: u64, hash: u32, key: &[u8], value: &[u8]) -> Result<(), MakeFault>
         requires hash { hash ≡ key_hash key.now }
-        requires taken { taken ≡ length self.old.gaps.items }
         requires whole { self.old.broken ≡ false }
-        requires apart { AreApart (head_size L.WORD) self.old.gaps.items self.old.end }
-        requires few { length self.old.gaps.items ≤ self.old.count }
-        requires some { 0 < length self.old.gaps.items }
+        requires some { 0 < taken }
+        requires found { HasFound self.old key.now taken }
         requires fits { made_size self.old
             + whole_size L.WORD (record_of key.now value.now)
             ≤ self.old.limit + sum_by (λ g. g.size) self.old.gaps.items
@@ -89,44 +134,39 @@ impl<S: Store, L: Width> Maker<S, L> {
         requires room { self.old.end
             + record_size L.WORD (record_of key.now value.now)
             ≤ S.room self.old.store + sum_by (λ g. g.size) self.old.gaps.items }
-        ensures ok { OnOk result
-            (Exchanges self.old self.new (record_of key.now value.now)) }
-        ensures fails { IfErr result (FailsExchanging self.old self.new.store key.now) }
-        ensures broken { OnErr result (self.new.broken ≡ true) }
-        ensures follows { Follows self.old self.new }
-        ensures counts { OnErr result (SameCounts self.old self.new) }
-    {
-        self.broken = true;
-        let (store, lists, gaps) = (&mut self.store, &mut self.lists, &mut self.gaps);
-        let left = close::<S, L>(store, lists, gaps, self.end)?;
-        match add::<S, L>(store, lists, gaps, left.end, hash, key, value) {
-            Ok(end) => {
-                self.end = end;
-                self.count = self.count - left.gone + 1;
-                self.broken = false;
-                Ok(())
-            }
-            // An entry was taken out of the list, and the store's room was made.
-            Err(MakeFault::NoMemory) => Err(MakeFault::Broken),
-            Err(fault) => Err(fault),
-        }
-    }
-
-    /// The record instead of those of its key.
-    pub(crate) fn replace(&mut self, hash: u32, key: &[u8], value: &[u8]) -> Result<Put, MakeFault>
-        requires hash { hash ≡ key_hash key.now }
-        ensures puts { IfOk result
-            (Puts self.old self.new Replace (record_of key.now value.now)) }
+        ensures puts { OnOk result
+            (Puts self.old self.new Replace (record_of key.now value.now) (Replaced taken)) }
         ensures fails { IfErr result
             (FailsPutting self.old self.new Replace (record_of key.now value.now)) }
         ensures follows { Follows self.old self.new }
         ensures counts { OnErr result (SameCounts self.old self.new) }
     {
-        let taken = self.find(hash, key)?;
-        if taken == 0 {
-            self.add(hash, key, value)?;
-            return Ok(Put::Added);
+        let (end, count) = (self.end, self.count);
+        self.take_out()?;
+        match self.add(hash, key, value) {
+            Ok(()) => Ok(()),
+            Err(fault) => {
+                self.broken = true;
+                self.end = end;
+                self.count = count;
+                Err(torn_fault(fault))
+            }
         }
+    }
+
+    /// The record instead of those of its key, whose gaps are noted, so many.
+    fn replace(&mut self, taken: u64, hash: u32, key: &[u8], value: &[u8]) -> Result<(), MakeFault>
+        requires hash { hash ≡ key_hash key.now }
+        requires whole { self.old.broken ≡ false }
+        requires some { 0 < taken }
+        requires found { HasFound self.old key.now taken }
+        ensures puts { OnOk result
+            (Puts self.old self.new Replace (record_of key.now value.now) (Replaced taken)) }
+        ensures fails { IfErr result
+            (FailsPutting self.old self.new Replace (record_of key.now value.now)) }
+        ensures follows { Follows self.old self.new }
+        ensures counts { OnErr result (SameCounts self.old self.new) }
+    {
         let gone = all_sizes(&self.gaps);
         let left = self.size() - gone - 2 * pair_size::<L>() as u64 * taken;
         if !self.has_room(left, key, value) {
@@ -135,7 +175,7 @@ impl<S: Store, L: Width> Maker<S, L> {
         let size = pair_size::<L>() as u64 + key.len() as u64 + value.len() as u64;
         self.store.reserve(self.end - gone + size)?;
         self.exchange(taken, hash, key, value)?;
-        Ok(Put::Replaced(taken))
+        Ok(())
     }
 
     /// Puts a record: the mode says what is done if its key is there already.
@@ -154,23 +194,13 @@ impl<S: Store, L: Width> Maker<S, L> {
         ensures counts { OnErr result (SameCounts self.old self.new) }
     {
         let hash = hash(key);
-        match mode {
-            Mode::Add => self.add(hash, key, value)?,
-            Mode::Warn => {
-                let there = self.look(hash, key)?;
-                self.add(hash, key, value)?;
-                if there {
-                    return Ok(Put::AddedAgain);
-                }
-            }
-            Mode::Insert => {
-                if self.look(hash, key)? {
-                    return Ok(Put::Present);
-                }
-                self.add(hash, key, value)?;
-            }
-            Mode::Replace => return self.replace(hash, key, value),
+        let put = self.meet(mode, hash, key)?;
+        match put {
+            Put::Present => {}
+            Put::Added => self.add(hash, key, value)?,
+            Put::AddedAgain => self.add(hash, key, value)?,
+            Put::Replaced(taken) => self.replace(taken, hash, key, value)?,
         }
-        Ok(Put::Added)
+        Ok(put)
     }
 }

@@ -10,14 +10,17 @@ use cdb_store::Store;
 
 impl<S: Store, L: Width> Batch<S, L> {
     ghost use Rattle.cdb_make.specs.Views.Batch.{Removes, FailsRemoving, Follows, SameCounts};
+    ghost use Rattle.cdb_make.specs.Views.Batch.{KeepsPace, Paces};
 
     /// Marks the records of a key, or makes a pass and removes them.
+    #[tactic(auto, using(crate::proofs::Making::Following::follows_looked, crate::proofs::Making::Following::follows_then, crate::proofs::Making::Batches::counts_looked, crate::proofs::Making::Batches::counts_then))]
     fn remove_by(&mut self, hash: u32, key: &[u8]) -> Result<u64, MakeFault>
         requires hash { hash ≡ key_hash key.now }
         ensures removes { IfOk result (Removes self.old self.new key.now) }
         ensures fails { IfErr result (FailsRemoving self.old self.new key.now) }
         ensures follows { Follows self.old self.new }
         ensures counts { OnErr result (SameCounts self.old self.new) }
+        ensures pace { KeepsPace self.old self.new }
     {
         let taken = self.maker.find(hash, key)?;
         if self.has_room(taken) {
@@ -42,6 +45,7 @@ impl<S: Store, L: Width> Batch<S, L> {
         ensures fails { IfErr result (FailsRemoving self.old self.new key.now) }
         ensures follows { Follows self.old self.new }
         ensures counts { OnErr result (SameCounts self.old self.new) }
+        ensures paces { IfOk result (λ taken. Paces self.old self.new taken) }
     {
         let hash = hash(key);
         let taken = self.remove_by(hash, key)?;

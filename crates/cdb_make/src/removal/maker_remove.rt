@@ -1,14 +1,10 @@
 // The records of a key, taken out by a maker.
-ghost use Rattle.std.specs.Prelude.{◌≡◌, ℕ, ◌≤◌, true, false, List, Bool, length};
-ghost use Rattle.std.specs.Prelude.{IfOk, IfErr, OnOk, OnErr};
-ghost use Rattle.cdb_store.specs.Laws.{HasNoImage};
+ghost use Rattle.std.specs.Prelude.{◌≡◌, ◌+◌, ℕ, false, List, length, sum_by, IfOk, IfErr, OnOk, OnErr};
 ghost use Rattle.cdb_store.specs.Reads.{OnlyReads};
 ghost use Rattle.cdb_form.specs.Format.Hash.{key_hash};
 ghost use Rattle.cdb_form.specs.Format.Pair.{head_size};
-ghost use Rattle.cdb_form.specs.Format.Record.{KeyValue};
 ghost use Rattle.cdb_make.specs.Gaps.{AreApart};
-ghost use Rattle.cdb_make.specs.Marks.{AreMarked, fresh};
-ghost use Rattle.cdb_make.specs.Views.Lists.{all_entries};
+ghost use Rattle.cdb_make.specs.Views.Lists.{AreAllClosed};
 
 use crate::fault::MakeFault;
 use crate::maker::Maker;
@@ -17,35 +13,23 @@ use cdb_form::{Width, hash};
 use cdb_store::Store;
 
 impl<S: Store, L: Width> Maker<S, L> {
-    ghost use Rattle.cdb_make.specs.Views.Maker.{Removes, FailsRemoving, FailsLooking};
-    ghost use Rattle.cdb_make.specs.Views.Maker.{SameCounts, WritesNothing};
+    ghost use Rattle.cdb_make.specs.Views.Maker.{Removes, FailsRemoving, SameCounts};
     ghost use Rattle.cdb_make.specs.Views.Maker.{Follows, HasNotFailed};
-    ghost use Rattle.cdb_make.specs.Views.Carrying.{Carries, KeepsCarrying, WantsMemory};
+    ghost use Rattle.cdb_make.specs.Views.Carrying.{Rests, WantsMemory, FailsSeeking};
+    ghost use Rattle.cdb_make.specs.Views.Foreseen.{HasFound};
 
     /// How many records have a key of this hash, whose gaps are noted.
     pub(crate) fn find(&mut self, hash: u32, key: &[u8]) -> Result<u64, MakeFault>
         requires hash { hash ≡ key_hash key.now }
-        ensures count { IfOk result (λ n. n ≡ length self.new.gaps.items) }
-        ensures few { IfOk result (λ n. n ≤ self.new.count) }
-        ensures apart { OnOk result
-            (AreApart (head_size L.WORD) self.new.gaps.items self.new.end) }
-        ensures ok { OnOk result (WritesNothing self.old self.new) }
-        ensures fails { IfErr result (FailsLooking self.old self.new) }
-        ensures counts { SameCounts self.old self.new }
-        ensures entries { all_entries self.new.lists
-            ≡ all_entries self.old.lists }
-        ensures reads { OnlyReads S.Store self.old.store self.new.store }
-        ensures ok_failures { OnOk result (HasNotFailed self.old self.new) }
-        ensures fresh { (all : List KeyValue) (marks : List Bool) → Carries self.old all marks
-            → OnOk result (AreMarked L.WORD self.new.gaps.items (fresh key.now marks all) all
-            (S.image self.new.store)) }
-        ensures keeps { self.new.broken ≡ false → KeepsCarrying self.old self.new }
-        ensures none { self.old.broken ≡ false → self.new.broken ≡ true
-            → (all : List KeyValue) (marks : List Bool) → Carries self.old all marks
-            → HasNoImage (S.image self.new.store) }
+        ensures found { IfOk result (λ n. HasFound self.new key.now n) }
+        ensures rests { OnOk result (Rests self.old self.new) }
         ensures wants { OnOk result ((value : List ℕ)
             → WantsMemory self.new (record { key = key.now; value = value })
             → WantsMemory self.old (record { key = key.now; value = value })) }
+        ensures fails { IfErr result (FailsSeeking self.old self.new) }
+        ensures reads { OnlyReads S.Store self.old.store self.new.store }
+        ensures counts { SameCounts self.old self.new }
+        ensures ok_failures { OnOk result (HasNotFailed self.old self.new) }
     {
         if self.broken {
             return Err(MakeFault::Broken);
@@ -58,11 +42,43 @@ impl<S: Store, L: Width> Maker<S, L> {
         }
     }
 
+    /// Closes the gaps that were noted last, and holds the other records. It takes no memory.
+    ///
+    /// `Writing`: the store failed. `Broken`: it gave back other bytes than were written. Both break
+    /// the maker.
+    pub(crate) fn take_out(&mut self) -> Result<(), MakeFault>
+        requires whole { self.old.broken ≡ false }
+        requires apart { AreApart (head_size L.WORD) self.old.gaps.items self.old.end }
+        ensures removes { (key : List ℕ) (n : ℕ) → HasFound self.old key n
+            → OnOk result (Removes self.old self.new key n) }
+        ensures fails { (key : List ℕ) (n : ℕ) → HasFound self.old key n
+            → IfErr result (FailsRemoving self.old self.new key) }
+        ensures follows { Follows self.old self.new }
+        ensures counts { OnErr result (SameCounts self.old self.new) }
+        ensures fine { OnOk result (HasNotFailed self.old self.new) }
+        ensures end { OnOk result
+            (self.new.end + sum_by (λ g. g.size) self.old.gaps.items ≡ self.old.end) }
+        ensures fewer { OnOk result (self.new.count + length self.old.gaps.items ≡ self.old.count) }
+        ensures lists { OnOk result
+            (AreAllClosed self.old.gaps.items self.old.lists self.new.lists) }
+        ensures gaps { self.new.gaps ≡ self.old.gaps }
+        ensures size { S.size self.new.store ≡ S.size self.old.store }
+    {
+        self.broken = true;
+        let (store, lists) = (&mut self.store, &mut self.lists);
+        let left = take_out::close::<S, L>(store, lists, &self.gaps, self.end)?;
+        self.end = left.end;
+        self.count -= left.gone;
+        self.broken = false;
+        Ok(())
+    }
+
     /// Takes out every record of a key, and answers how many they were.
     ///
     /// It takes no memory. `Lookup`: the store failed while it was read, and nothing has changed.
     /// `Writing`: it failed amid a move, and the maker is broken. `Broken`: an earlier call broke
     /// it, or the store gave back other bytes than were written.
+    #[tactic(auto, using(crate::proofs::Making::Following::follows_looked, crate::proofs::Making::Following::follows_then, crate::proofs::Making::Removing::fails_remove_sought))]
     pub fn remove(&mut self, key: &[u8]) -> Result<u64, MakeFault>
         ensures removes { IfOk result (Removes self.old self.new key.now) }
         ensures fails { IfErr result (FailsRemoving self.old self.new key.now) }
@@ -70,12 +86,7 @@ impl<S: Store, L: Width> Maker<S, L> {
         ensures counts { OnErr result (SameCounts self.old self.new) }
     {
         let taken = self.find(hash(key), key)?;
-        self.broken = true;
-        let (store, lists) = (&mut self.store, &mut self.lists);
-        let left = take_out::close::<S, L>(store, lists, &self.gaps, self.end)?;
-        self.end = left.end;
-        self.count -= left.gone;
-        self.broken = false;
+        self.take_out()?;
         Ok(taken)
     }
 }

@@ -1,4 +1,5 @@
 // How often a batch makes a pass.
+ghost use Rattle.std.specs.Prelude.{◌≡◌, ◌+◌, ◌*◌, ◌<◌, ◌⊎◌, true};
 
 /// So many bytes more than it had after the last pass a store has twice over, before the next.
 const SPARE: u64 = 4 * 1024 * 1024;
@@ -32,7 +33,9 @@ impl Pace {
     }
 
     /// Notes the first record that is marked after a pass, where the records end now.
-    pub(crate) fn begin(&mut self, hash: u32, end: u64) {
+    pub(crate) fn begin(&mut self, hash: u32, end: u64)
+        ensures { self.new.start ≡ end }
+    {
         *self = Pace {
             start: end,
             seen: hash,
@@ -44,13 +47,17 @@ impl Pace {
     ///
     /// It is due if the store has twice the bytes that it had after the last pass, and 4 MiB. Or if
     /// so many records of one hash were marked that looks cost as much as a pass over all records.
-    pub(crate) fn is_due(&mut self, hash: u32, marked: u64, count: u64, end: u64) -> bool {
+    pub(crate) fn is_due(&mut self, hash: u32, marked: u64, count: u64, end: u64) -> bool
+        ensures start { self.new.start ≡ self.old.start }
+        ensures due { result ≡ true → (16 * count < marked * marked)
+            ⊎ (2 * self.old.start + 4194304 < end) }
+    {
         if marked % TURN == 0 {
             self.seen = hash;
         } else if self.seen == hash {
             self.again = self.again.saturating_add(1);
         }
-        let again = u64::from(self.again);
+        let again = u64::from(self.again).min(marked);
         LOOKS.saturating_mul(count) < again.saturating_mul(again)
             || self.start.saturating_mul(2).saturating_add(SPARE) < end
     }

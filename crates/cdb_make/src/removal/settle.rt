@@ -107,7 +107,7 @@ impl<S: Store, L: Width> Maker<S, L> {
 impl<S: Store, L: Width> Batch<S, L> {
     ghost use Rattle.cdb_make.specs.Views.Batch.{Holds, Lies, Settles, FailsSettling, SameCounts};
     ghost use Rattle.cdb_make.specs.Views.Batch.{FailsFinishing, Follows, HasNotFailed, IsUsable};
-    ghost use Rattle.cdb_make.specs.Views.Batch.{pass_bytes, store_of};
+    ghost use Rattle.cdb_make.specs.Views.Batch.{pass_bytes, store_of, KeepsPace};
     ghost use Rattle.cdb_make.specs.Views.Maker.{IsFile, WhereHonest, ComesFrom};
 
     /// Closes the gaps of all marked records. Then its store has the others and no more.
@@ -121,6 +121,7 @@ impl<S: Store, L: Width> Batch<S, L> {
         ensures follows { Follows self.old self.new }
         ensures counts { SameCounts self.old self.new }
         ensures fine { OnOk result (HasNotFailed self.old self.new) }
+        ensures pace { KeepsPace self.old self.new }
     {
         if self.maker.broken {
             return Err(MakeFault::Broken);

@@ -43,13 +43,13 @@ pub(crate) fn find<S: Store, L: Width>(
     requires room { entry_count lists.now hash ≤ vec_capacity gaps.old }
     requires hash { hash ≡ key_hash key.now }
     ensures fresh { (marks : List Bool) (rs : List KeyValue)
-        → StandMarked L.WORD end (all_entries lists.now) marks rs (S.image store.old)
+        → StandMarked L.WORD end (all_entries lists.now) marks rs (S.image store.new)
         → OnOk result (AreMarked L.WORD gaps.new.items (fresh key.now marks rs) rs
         (S.image store.new)) }
     ensures apart { OnOk result (AreApart (head_size L.WORD) gaps.new.items end) }
     ensures few { OnOk result (length gaps.new.items ≤ entry_count lists.now hash) }
     ensures none { result ≡ Err Foreign → (marks : List Bool) (rs : List KeyValue)
-        → StandMarked L.WORD end (all_entries lists.now) marks rs (S.image store.old)
+        → StandMarked L.WORD end (all_entries lists.now) marks rs (S.image store.new)
         → HasNoImage (S.image store.new) }
     ensures ok_failures { OnOk result (S.failures store.new ≡ S.failures store.old) }
     ensures failed { result ≡ Err Failed → S.failures store.old < S.failures store.new }
@@ -75,10 +75,10 @@ pub(crate) fn exists<S: Store, L: Width>(
     requires fits { end ≤ L.GREATEST }
     requires hash { hash ≡ key_hash key.now }
     ensures one { (marks : List Bool) (rs : List KeyValue)
-        → StandMarked L.WORD end (all_entries lists.now) marks rs (S.image store.old)
+        → StandMarked L.WORD end (all_entries lists.now) marks rs (S.image store.new)
         → IfOk result (λ there. IsThere there key.now (unmarked marks rs) (S.image store.new)) }
     ensures none { result ≡ Err Foreign → (marks : List Bool) (rs : List KeyValue)
-        → StandMarked L.WORD end (all_entries lists.now) marks rs (S.image store.old)
+        → StandMarked L.WORD end (all_entries lists.now) marks rs (S.image store.new)
         → HasNoImage (S.image store.new) }
     ensures ok_failures { OnOk result (S.failures store.new ≡ S.failures store.old) }
     ensures failed { result ≡ Err Failed → S.failures store.old < S.failures store.new }

@@ -1,4 +1,4 @@
-//! How often a batch makes a pass by itself, of which no contract says more than that it may.
+//! A batch makes its passes in time, which no contract says.
 use super::batches::{all_come_to_it, batch_in, file_of};
 use super::drawn::{digits, slices_of};
 use super::scripts::{add, expected, long, replace};

@@ -1,153 +1,71 @@
-use Rattle.std.proofs.Common.{refl, sym, ap, ◌∙◌, ◌≡◌, arith, cond}
-use Rattle.std.proofs.lemmas.Result.{err_from_is_err_and}
-use Rattle.cdb_form.specs.declared.mode.Mode.TheVariants.{Add, Warn, Insert}
-use Rattle.cdb_make.specs.declared.records.put.Put.TheVariants.{Added, AddedAgain}
-use Rattle.cdb_make.proofs.Making.Batches.{fails_look, same_batch, with_maker, writes_nothing}
-use Rattle.cdb_make.proofs.Making.BatchPuts.{puts_added, fails_added, puts_present, fails_put_looking, rests_looked, rests_same, lone_add_fails, there_held}
-use Rattle.cdb_make.proofs.Making.Following.{follows_read, follows_then}
-use Rattle.cdb_make.proofs.Making.Puts.{just_add, just_warn, just_insert}
+use Rattle.std.proofs.Common.{arith, refl, ◌∙◌}
+use Rattle.std.proofs.lemmas.Result.{err_from_is_err_and, IfOk-weaker, on_err_weaker}
+use Rattle.cdb_form.specs.Format.Record.{KeyValue}
+use Rattle.cdb_make.proofs.Making.Batches.{same_batch, with_maker}
+use Rattle.cdb_make.proofs.Making.BatchPuts.{fails_put_amid, fails_put_looking, fails_put_passed, fails_put_rested, passes_waited, puts_passed, puts_rested}
+use Rattle.cdb_make.proofs.Making.Finishes.{on_fault_is}
+use Rattle.cdb_make.proofs.Making.Following.{follows_looked, follows_then}
 use Rattle.cdb_make.proofs.Bytes.Written.{on_any_err}
 use Rattle.cdb_make.proofs.batch.Batch.put_by.Goals as goal
 
-pub returns-in_err-add-in-Add-clause-fails : goal.returns-in_err-add-in-Add-clause-fails
-returns-in_err-add-in-Add-clause-fails g c =
+pub returns-in_err-put-clause-fails : goal.returns-in_err-put-clause-fails
+returns-in_err-put-clause-fails g c =
     let p = err_from_is_err_and c.from_residual.result c.from_residual.ensures.1 in
-    rw (p.1, p.2, c.in-Add.is) (lone_add_fails {s = g.S.Store} {l = g.L.Width} c.args.self.now _ _ _ c.add.ensures.follows.comes c.in_err-add-in-Add.ensures.fails)
-
-pub returns-in_ok-add-in-Add-clause-puts : goal.returns-in_ok-add-in-Add-clause-puts
-returns-in_ok-add-in-Add-clause-puts g c =
     let m = c.args.self.now in
-    let e = c.in_ok-add-in-Add.ensures.ok in
-    rw (c.in-Add.is) (puts_added {s = g.S.Store} {l = g.L.Width} m m _ Add _ Added (rests_same {s = g.S.Store} {l = g.L.Width} m e.was) (λ h. h) e (λ rs h. just_add _ rs _))
+    let e = c.meet.ensures in
+    rw (p.1, p.2)
+    (fails_put_looking {s = g.S.Store} {l = g.L.Width} m _ _ (record { key = c.args.key.now; value = c.args.value.now }) _ c.in_err-put.ensures.looks (follows_looked {s = g.S.Store} {l = g.L.Width} m.maker c.meet.new.self e.reads e.counts).comes refl
+    (same_batch {s = g.S.Store} {l = g.L.Width} m c.meet.new.self _ _) e.reads c.in_err-put.ensures.fails)
 
-pub returns-in_err-there-in-Warn-clause-fails : goal.returns-in_err-there-in-Warn-clause-fails
-returns-in_err-there-in-Warn-clause-fails g c =
-    let p = err_from_is_err_and c.from_residual-in_err-there-in-Warn.result c.from_residual-in_err-there-in-Warn.ensures.1 in
+pub returns-in_err-enter-clause-fails : goal.returns-in_err-enter-clause-fails
+returns-in_err-enter-clause-fails g c =
+    let p = err_from_is_err_and c.from_residual-in_err-enter.result c.from_residual-in_err-enter.ensures.1 in
     let m = c.args.self.now in
-    let e = c.look.ensures in
-    rw (p.1, p.2, c.in-Warn.is)
-    (fails_put_looking {s = g.S.Store} {l = g.L.Width} m _ Warn _ _ (λ e. absurd (let k : Warn ≡ Add = e in cc)) (record { each = λ b is. (b, e.images.no_other b is) })
-    (fails_look {s = g.S.Store} {l = g.L.Width} m _ _ refl (same_batch {s = g.S.Store} {l = g.L.Width} m c.look.new.self _ _) e.images e.keeps e.none c.in_err-there-in-Warn.ensures.fails))
-
-pub returns-in_err-there-in-Warn-clause-follows : goal.returns-in_err-there-in-Warn-clause-follows
-returns-in_err-there-in-Warn-clause-follows g c = let e = c.look.ensures in follows_read {s = g.S.Store} {l = g.L.Width} c.args.self.now.maker c.look.new.self e.images.no_other e.counts.limit e.room e.failures e.unwritten
-
-pub returns-in_err-there-in-Warn-clause-counts : goal.returns-in_err-there-in-Warn-clause-counts
-returns-in_err-there-in-Warn-clause-counts g c =
-    let e = c.look.ensures.counts in
-    on_any_err c.from_residual-in_err-there-in-Warn.result (record { count = omega (arith, e.count); limit = e.limit })
-
-pub returns-in_err-add-in-Warn-clause-fails : goal.returns-in_err-add-in-Warn-clause-fails
-returns-in_err-add-in-Warn-clause-fails g c =
-    let p = err_from_is_err_and c.from_residual-in_err-add-in-Warn.result c.from_residual-in_err-add-in-Warn.ensures.1 in
-    let m = c.args.self.now in
-    let e = c.look.ensures in
-    let f = c.in_ok-there-in-Warn.ensures in
-    let there = c.in_ok-there-in-Warn.there in
-    rw (p.1, p.2, c.in-Warn.is)
-    (fails_added {s = g.S.Store} {l = g.L.Width} m (with_maker m c.look.new.self _ _) _ Warn _ _ _ (rests_looked {s = g.S.Store} {l = g.L.Width} m c.look.new.self _ _ f.ok e.keeps e.images e.room e.counts f.ok_failures e.unwritten) (f.wants c.args.value.now) c.add-in-Warn.ensures.follows.comes
-    (λ rs h. just_warn there _ rs _ refl (there_held {s = g.S.Store} {l = g.L.Width} m there c.args.key.now (record { each = λ b is. (b, e.images.no_other b is) }) f.one rs h)) c.in_err-add-in-Warn.ensures.fails)
-
-pub returns-in_err-add-in-Warn-clause-follows : goal.returns-in_err-add-in-Warn-clause-follows
-returns-in_err-add-in-Warn-clause-follows g c = let e = c.look.ensures in follows_then (follows_read {s = g.S.Store} {l = g.L.Width} c.args.self.now.maker c.look.new.self e.images.no_other e.counts.limit e.room e.failures e.unwritten) c.add-in-Warn.ensures.follows
-
-pub returns-in_err-add-in-Warn-clause-counts : goal.returns-in_err-add-in-Warn-clause-counts
-returns-in_err-add-in-Warn-clause-counts g c =
-    let e = c.look.ensures.counts in
-    let k = c.in_err-add-in-Warn.ensures.counts in
-    on_any_err c.from_residual-in_err-add-in-Warn.result (record { count = omega (arith, e.count, k.count); limit = k.limit ∙ e.limit })
-
-pub returns-then-there-clause-puts : goal.returns-then-there-clause-puts
-returns-then-there-clause-puts g c =
-    let m = c.args.self.now in
-    let e = c.look.ensures in
-    let f = c.in_ok-there-in-Warn.ensures in
-    let there = c.in_ok-there-in-Warn.there in
-    rw (c.in-Warn.is)
-    (puts_added {s = g.S.Store} {l = g.L.Width} m (with_maker m c.look.new.self _ _) _ Warn _ AddedAgain (rests_looked {s = g.S.Store} {l = g.L.Width} m c.look.new.self _ _ f.ok e.keeps e.images e.room e.counts f.ok_failures e.unwritten) (f.wants c.args.value.now) c.in_ok-add-in-Warn.ensures.ok
-    (λ rs h. just_warn there AddedAgain rs _ (ap (λ v. cond v AddedAgain Added) (sym c.if-there.true)) (there_held {s = g.S.Store} {l = g.L.Width} m there c.args.key.now (record { each = λ b is. (b, e.images.no_other b is) }) f.one rs h)))
-
-pub returns-then-there-clause-follows : goal.returns-then-there-clause-follows
-returns-then-there-clause-follows g c = let e = c.look.ensures in follows_then (follows_read {s = g.S.Store} {l = g.L.Width} c.args.self.now.maker c.look.new.self e.images.no_other e.counts.limit e.room e.failures e.unwritten) c.add-in-Warn.ensures.follows
-
-pub returns-else-there-clause-puts : goal.returns-else-there-clause-puts
-returns-else-there-clause-puts g c =
-    let m = c.args.self.now in
-    let e = c.look.ensures in
-    let f = c.in_ok-there-in-Warn.ensures in
-    let there = c.in_ok-there-in-Warn.there in
-    rw (c.in-Warn.is)
-    (puts_added {s = g.S.Store} {l = g.L.Width} m (with_maker m c.look.new.self _ _) _ Warn _ Added (rests_looked {s = g.S.Store} {l = g.L.Width} m c.look.new.self _ _ f.ok e.keeps e.images e.room e.counts f.ok_failures e.unwritten) (f.wants c.args.value.now) c.in_ok-add-in-Warn.ensures.ok
-    (λ rs h. just_warn there Added rs _ (ap (λ v. cond v AddedAgain Added) (sym c.if-there.false)) (there_held {s = g.S.Store} {l = g.L.Width} m there c.args.key.now (record { each = λ b is. (b, e.images.no_other b is) }) f.one rs h)))
-
-pub returns-else-there-clause-follows : goal.returns-else-there-clause-follows
-returns-else-there-clause-follows g c = let e = c.look.ensures in follows_then (follows_read {s = g.S.Store} {l = g.L.Width} c.args.self.now.maker c.look.new.self e.images.no_other e.counts.limit e.room e.failures e.unwritten) c.add-in-Warn.ensures.follows
-
-pub returns-in_err-look-in-Insert-clause-fails : goal.returns-in_err-look-in-Insert-clause-fails
-returns-in_err-look-in-Insert-clause-fails g c =
-    let p = err_from_is_err_and c.from_residual-in_err-look-in-Insert.result c.from_residual-in_err-look-in-Insert.ensures.1 in
-    let m = c.args.self.now in
-    let e = c.look-in-Insert.ensures in
-    rw (p.1, p.2, c.in-Insert.is)
-    (fails_put_looking {s = g.S.Store} {l = g.L.Width} m _ Insert _ _ (λ e. absurd (let k : Insert ≡ Add = e in cc)) (record { each = λ b is. (b, e.images.no_other b is) })
-    (fails_look {s = g.S.Store} {l = g.L.Width} m _ _ refl (same_batch {s = g.S.Store} {l = g.L.Width} m c.look-in-Insert.new.self _ _) e.images e.keeps e.none c.in_err-look-in-Insert.ensures.fails))
-
-pub returns-in_err-look-in-Insert-clause-follows : goal.returns-in_err-look-in-Insert-clause-follows
-returns-in_err-look-in-Insert-clause-follows g c = let e = c.look-in-Insert.ensures in follows_read {s = g.S.Store} {l = g.L.Width} c.args.self.now.maker c.look-in-Insert.new.self e.images.no_other e.counts.limit e.room e.failures e.unwritten
-
-pub returns-in_err-look-in-Insert-clause-counts : goal.returns-in_err-look-in-Insert-clause-counts
-returns-in_err-look-in-Insert-clause-counts g c =
-    let e = c.look-in-Insert.ensures.counts in
-    on_any_err c.from_residual-in_err-look-in-Insert.result (record { count = omega (arith, e.count); limit = e.limit })
+    let e = c.in_ok-put.ensures in
+    rw (p.1, p.2)
+    (fails_put_rested {s = g.S.Store} {l = g.L.Width} m (with_maker m c.meet.new.self _ _) _ _ _ _ (record { maker = e.rests; gone = refl; most = refl }) e.ok_failures (e.wants c.args.value.now) (c.in_err-enter.ensures.fails c.args.mode (e.foresees c.args.value.now)))
 
 pub returns-then-branch-clause-puts : goal.returns-then-branch-clause-puts
 returns-then-branch-clause-puts g c =
     let m = c.args.self.now in
-    let e = c.look-in-Insert.ensures in
-    let f = c.in_ok-look-in-Insert.ensures in
-    let there = c.in_ok-look-in-Insert.field-0 in
-    rw (c.in-Insert.is)
-    (puts_present {s = g.S.Store} {l = g.L.Width} m _ _ there (writes_nothing {s = g.S.Store} {l = g.L.Width} m _ refl e.images e.keeps f.ok) (record { each = λ b is. (b, e.images.no_other b is) }) c.if-branch.true
-    (λ rs h. there_held {s = g.S.Store} {l = g.L.Width} m there c.args.key.now (record { each = λ b is. (b, e.images.no_other b is) }) f.one rs h))
+    let e = c.in_ok-put.ensures in
+    puts_rested {s = g.S.Store} {l = g.L.Width} m (with_maker m c.meet.new.self _ _) _ _ _ _ (record { maker = e.rests; gone = refl; most = refl }) (e.wants c.args.value.now) (c.in_ok-enter.ensures.done c.if-branch.true c.args.mode (e.foresees c.args.value.now))
 
-pub returns-then-branch-clause-follows : goal.returns-then-branch-clause-follows
-returns-then-branch-clause-follows g c = let e = c.look-in-Insert.ensures in follows_read {s = g.S.Store} {l = g.L.Width} c.args.self.now.maker c.look-in-Insert.new.self e.images.no_other e.counts.limit e.room e.failures e.unwritten
-
-pub returns-in_err-add-in-Insert-clause-fails : goal.returns-in_err-add-in-Insert-clause-fails
-returns-in_err-add-in-Insert-clause-fails g c =
-    let p = err_from_is_err_and c.from_residual-in_err-add-in-Insert.result c.from_residual-in_err-add-in-Insert.ensures.1 in
+pub returns-in_err-settle-clause-fails : goal.returns-in_err-settle-clause-fails
+returns-in_err-settle-clause-fails g c =
+    let p = err_from_is_err_and c.from_residual-in_err-settle.result c.from_residual-in_err-settle.ensures.1 in
     let m = c.args.self.now in
-    let e = c.look-in-Insert.ensures in
-    let f = c.in_ok-look-in-Insert.ensures in
-    let there = c.in_ok-look-in-Insert.field-0 in
-    rw (p.1, p.2, c.in-Insert.is)
-    (fails_added {s = g.S.Store} {l = g.L.Width} m (with_maker m c.look-in-Insert.new.self _ _) _ Insert _ Added _ (rests_looked {s = g.S.Store} {l = g.L.Width} m c.look-in-Insert.new.self _ _ f.ok e.keeps e.images e.room e.counts f.ok_failures e.unwritten) (f.wants c.args.value.now) c.add-in-Insert.ensures.follows.comes
-    (λ rs h. just_insert there rs _ c.if-branch.false (there_held {s = g.S.Store} {l = g.L.Width} m there c.args.key.now (record { each = λ b is. (b, e.images.no_other b is) }) f.one rs h)) c.in_err-add-in-Insert.ensures.fails)
+    let e = c.in_ok-put.ensures in
+    let waits = c.in_ok-enter.ensures.waits c.if-branch.false in
+    rw (p.1, p.2)
+    (fails_put_rested {s = g.S.Store} {l = g.L.Width} m (with_maker m c.meet.new.self _ _) _ _ (record { key = c.args.key.now; value = c.args.value.now }) _ (record { maker = e.rests; gone = refl; most = refl }) e.ok_failures (e.wants c.args.value.now)
+    (fails_put_amid {s = g.S.Store} {l = g.L.Width} (with_maker m c.meet.new.self _ _) c.enter.new.self _ c.args.mode (record { key = c.args.key.now; value = c.args.value.now }) _ waits.rests waits.fine c.in_err-settle.ensures.fails))
 
-pub returns-in_err-add-in-Insert-clause-follows : goal.returns-in_err-add-in-Insert-clause-follows
-returns-in_err-add-in-Insert-clause-follows g c = let e = c.look-in-Insert.ensures in follows_then (follows_read {s = g.S.Store} {l = g.L.Width} c.args.self.now.maker c.look-in-Insert.new.self e.images.no_other e.counts.limit e.room e.failures e.unwritten) c.add-in-Insert.ensures.follows
-
-pub returns-in_err-add-in-Insert-clause-counts : goal.returns-in_err-add-in-Insert-clause-counts
-returns-in_err-add-in-Insert-clause-counts g c =
-    let e = c.look-in-Insert.ensures.counts in
-    let k = c.in_err-add-in-Insert.ensures.counts in
-    on_any_err c.from_residual-in_err-add-in-Insert.result (record { count = omega (arith, e.count, k.count); limit = k.limit ∙ e.limit })
-
-pub returns-in_ok-add-in-Insert-clause-puts : goal.returns-in_ok-add-in-Insert-clause-puts
-returns-in_ok-add-in-Insert-clause-puts g c =
+pub returns-clause-puts : goal.returns-clause-puts
+returns-clause-puts g c =
     let m = c.args.self.now in
-    let e = c.look-in-Insert.ensures in
-    let f = c.in_ok-look-in-Insert.ensures in
-    let there = c.in_ok-look-in-Insert.field-0 in
-    rw (c.in-Insert.is)
-    (puts_added {s = g.S.Store} {l = g.L.Width} m (with_maker m c.look-in-Insert.new.self _ _) _ Insert _ Added (rests_looked {s = g.S.Store} {l = g.L.Width} m c.look-in-Insert.new.self _ _ f.ok e.keeps e.images e.room e.counts f.ok_failures e.unwritten) (f.wants c.args.value.now) c.in_ok-add-in-Insert.ensures.ok
-    (λ rs h. just_insert there rs _ c.if-branch.false (there_held {s = g.S.Store} {l = g.L.Width} m there c.args.key.now (record { each = λ b is. (b, e.images.no_other b is) }) f.one rs h)))
+    let e = c.in_ok-put.ensures in
+    let k = c.in_ok-settle.ensures in
+    let waits = c.in_ok-enter.ensures.waits c.if-branch.false in
+    let r : KeyValue = record { key = c.args.key.now; value = c.args.value.now } in
+    IfOk-weaker c.put.result _ _
+    (λ answer puts. puts_rested {s = g.S.Store} {l = g.L.Width} m (with_maker m c.meet.new.self _ _) _ _ r answer (record { maker = e.rests; gone = refl; most = refl }) (e.wants c.args.value.now)
+    (puts_passed {s = g.S.Store} {l = g.L.Width} (with_maker m c.meet.new.self _ _) c.settle.new.self _ c.args.mode r answer
+    (passes_waited {s = g.S.Store} {l = g.L.Width} (with_maker m c.meet.new.self _ _) c.enter.new.self c.settle.new.self c.args.mode r c.in_ok-put.put (e.foresees c.args.value.now) waits c.enter.ensures.follows k.settles c.settle.ensures.follows k.fine) k.settles.none c.put.ensures.follows.comes puts))
+    c.put.ensures.puts
 
-pub returns-in_ok-add-in-Insert-clause-follows : goal.returns-in_ok-add-in-Insert-clause-follows
-returns-in_ok-add-in-Insert-clause-follows g c = let e = c.look-in-Insert.ensures in follows_then (follows_read {s = g.S.Store} {l = g.L.Width} c.args.self.now.maker c.look-in-Insert.new.self e.images.no_other e.counts.limit e.room e.failures e.unwritten) c.add-in-Insert.ensures.follows
+pub returns-clause-fails : goal.returns-clause-fails
+returns-clause-fails g c =
+    let m = c.args.self.now in
+    let e = c.in_ok-put.ensures in
+    let k = c.in_ok-settle.ensures in
+    let waits = c.in_ok-enter.ensures.waits c.if-branch.false in
+    let r : KeyValue = record { key = c.args.key.now; value = c.args.value.now } in
+    on_fault_is c.put.result
+    (λ fault is fails. fails_put_rested {s = g.S.Store} {l = g.L.Width} m (with_maker m c.meet.new.self _ _) _ _ r fault (record { maker = e.rests; gone = refl; most = refl }) e.ok_failures (e.wants c.args.value.now)
+    (fails_put_passed {s = g.S.Store} {l = g.L.Width} (with_maker m c.meet.new.self _ _) c.settle.new.self _ c.args.mode r fault
+    (passes_waited {s = g.S.Store} {l = g.L.Width} (with_maker m c.meet.new.self _ _) c.enter.new.self c.settle.new.self c.args.mode r c.in_ok-put.put (e.foresees c.args.value.now) waits c.enter.ensures.follows k.settles c.settle.ensures.follows k.fine) k.settles.none c.put.ensures.follows.comes fails))
+    c.put.ensures.fails
 
-pub returns-in-Replace-clause-puts : goal.returns-in-Replace-clause-puts
-returns-in-Replace-clause-puts g c = rw (c.in-Replace.is) c.replace.ensures.puts
-
-pub returns-in-Replace-clause-fails : goal.returns-in-Replace-clause-fails
-returns-in-Replace-clause-fails g c = rw (c.in-Replace.is) c.replace.ensures.fails
+pub enter-requires-clause-found : goal.enter-requires-clause-found
+enter-requires-clause-found g c = (c.in_ok-put.ensures.foresees c.args.value.now).found

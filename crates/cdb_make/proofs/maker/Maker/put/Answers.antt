@@ -1,62 +1,78 @@
-use Rattle.std.proofs.Common.{refl, sym, ap, cond}
+use Rattle.std.proofs.Common.{[], subst}
 use Rattle.std.proofs.lemmas.Result.{err_from_is_err_and}
-use Rattle.cdb_form.specs.declared.mode.Mode.TheVariants.{Add, Warn, Insert}
-use Rattle.cdb_make.specs.declared.records.put.Put.TheVariants.{Added, AddedAgain}
-use Rattle.cdb_make.proofs.Making.Puts.{puts_added, fails_added, fails_add, puts_present, just_add, just_warn, just_insert, writes_same}
+use Rattle.cdb_form.specs.Format.Record.{KeyValue}
+use Rattle.cdb_form.specs.declared.mode.Mode.TheVariants.{Replace}
+use Rattle.cdb_make.specs.declared.records.put.Put.{Put}
+use Rattle.cdb_make.specs.declared.records.put.Put.TheVariants.{Present, Added, AddedAgain}
+use Rattle.cdb_make.specs.Views.Foreseen.{Foresees, Finds}
+use Rattle.cdb_make.proofs.Making.Puts.{fails_added, fails_put_rested, fails_sought_for, puts_added, puts_present, puts_rested}
 use Rattle.cdb_make.proofs.maker.Maker.put.Goals as goal
 
-pub returns-in_err-add-in-Add-clause-fails : goal.returns-in_err-add-in-Add-clause-fails
-returns-in_err-add-in-Add-clause-fails g c =
+pub returns-in_err-put-clause-fails : goal.returns-in_err-put-clause-fails
+returns-in_err-put-clause-fails g c =
     let p = err_from_is_err_and c.from_residual.result c.from_residual.ensures.1 in
-    rw (p.1, p.2, c.in-Add.is) (fails_add {s = g.S.Store} {l = g.L.Width} _ _ _ _ c.add.ensures.follows.comes c.in_err-add-in-Add.ensures.fails)
+    rw (p.1, p.2) (fails_sought_for {s = g.S.Store} {l = g.L.Width} _ _ _ _ _ c.in_err-put.ensures.looks c.in_err-put.ensures.fails)
 
-pub returns-in_ok-add-in-Add-clause-puts : goal.returns-in_ok-add-in-Add-clause-puts
-returns-in_ok-add-in-Add-clause-puts g c =
+pub returns-in-Present-clause-puts : goal.returns-in-Present-clause-puts
+returns-in-Present-clause-puts g c =
     let m = c.args.self.now in
-    let e = c.in_ok-add-in-Add.ensures.ok in
-    rw (c.in-Add.is) (puts_added {s = g.S.Store} {l = g.L.Width} _ m _ Add _ Added (writes_same m e.was) e (λ rs h. just_add _ rs _))
+    let e = c.in_ok-put.ensures in
+    let r : KeyValue = record { key = c.args.key.now; value = c.args.value.now } in
+    rw (c.in-Present.is) (puts_rested {s = g.S.Store} {l = g.L.Width} m c.meet.new.self _ _ r Present e.rests (puts_present {s = g.S.Store} {l = g.L.Width} c.meet.new.self c.args.mode r (subst (λ (p : Put). Foresees {s = g.S.Store} {l = g.L.Width} c.meet.new.self c.args.mode r p) c.in-Present.is (e.foresees c.args.value.now))))
 
-pub returns-in_err-add-in-Warn-clause-fails : goal.returns-in_err-add-in-Warn-clause-fails
-returns-in_err-add-in-Warn-clause-fails g c =
-    let p = err_from_is_err_and c.from_residual-in_err-add-in-Warn.result c.from_residual-in_err-add-in-Warn.ensures.1 in
-    let e = c.in_ok-there-in-Warn.ensures in
-    rw (p.1, p.2, c.in-Warn.is)
-    (fails_added {s = g.S.Store} {l = g.L.Width} _ c.look.new.self _ Warn _ _ _ e.ok c.look.ensures.counts.limit e.ok_failures c.look.ensures.unwritten c.add-in-Warn.ensures.follows.comes
-    (λ rs h. just_warn c.in_ok-there-in-Warn.there _ rs _ refl (e.there rs h)) c.in_err-add-in-Warn.ensures.fails)
+pub returns-in_ok-add-in-Added-clause-puts : goal.returns-in_ok-add-in-Added-clause-puts
+returns-in_ok-add-in-Added-clause-puts g c =
+    let m = c.args.self.now in
+    let e = c.in_ok-put.ensures in
+    let r : KeyValue = record { key = c.args.key.now; value = c.args.value.now } in
+    rw (c.in-Added.is) (puts_rested {s = g.S.Store} {l = g.L.Width} m c.meet.new.self _ _ r Added e.rests
+    (puts_added {s = g.S.Store} {l = g.L.Width} c.meet.new.self _ c.args.mode r Added tt (subst (λ (p : Put). Foresees {s = g.S.Store} {l = g.L.Width} c.meet.new.self c.args.mode r p) c.in-Added.is (e.foresees c.args.value.now)) c.in_ok-add-in-Added.ensures.adds))
 
-pub returns-then-there-clause-puts : goal.returns-then-there-clause-puts
-returns-then-there-clause-puts g c =
-    let e = c.in_ok-there-in-Warn.ensures in
-    rw (c.in-Warn.is)
-    (puts_added {s = g.S.Store} {l = g.L.Width} _ c.look.new.self _ Warn _ AddedAgain e.ok c.in_ok-add-in-Warn.ensures.ok
-    (λ rs h. just_warn c.in_ok-there-in-Warn.there AddedAgain rs _ (ap (λ v. cond v AddedAgain Added) (sym c.if-there.true)) (e.there rs h)))
+pub returns-in_ok-add-in-AddedAgain-clause-puts : goal.returns-in_ok-add-in-AddedAgain-clause-puts
+returns-in_ok-add-in-AddedAgain-clause-puts g c =
+    let m = c.args.self.now in
+    let e = c.in_ok-put.ensures in
+    let r : KeyValue = record { key = c.args.key.now; value = c.args.value.now } in
+    rw (c.in-AddedAgain.is) (puts_rested {s = g.S.Store} {l = g.L.Width} m c.meet.new.self _ _ r AddedAgain e.rests
+    (puts_added {s = g.S.Store} {l = g.L.Width} c.meet.new.self _ c.args.mode r AddedAgain tt (subst (λ (p : Put). Foresees {s = g.S.Store} {l = g.L.Width} c.meet.new.self c.args.mode r p) c.in-AddedAgain.is (e.foresees c.args.value.now)) c.in_ok-add-in-AddedAgain.ensures.adds))
 
-pub returns-else-there-clause-puts : goal.returns-else-there-clause-puts
-returns-else-there-clause-puts g c =
-    let e = c.in_ok-there-in-Warn.ensures in
-    rw (c.in-Warn.is)
-    (puts_added {s = g.S.Store} {l = g.L.Width} _ c.look.new.self _ Warn _ Added e.ok c.in_ok-add-in-Warn.ensures.ok
-    (λ rs h. just_warn c.in_ok-there-in-Warn.there Added rs _ (ap (λ v. cond v AddedAgain Added) (sym c.if-there.false)) (e.there rs h)))
+pub returns-in_err-add-in-Added-clause-fails : goal.returns-in_err-add-in-Added-clause-fails
+returns-in_err-add-in-Added-clause-fails g c =
+    let p = err_from_is_err_and c.from_residual-in_err-add-in-Added.result c.from_residual-in_err-add-in-Added.ensures.1 in
+    let m = c.args.self.now in
+    let e = c.in_ok-put.ensures in
+    let r : KeyValue = record { key = c.args.key.now; value = c.args.value.now } in
+    rw (p.1, p.2) (fails_put_rested {s = g.S.Store} {l = g.L.Width} m c.meet.new.self _ _ r _ e.rests e.ok_failures
+    (fails_added {s = g.S.Store} {l = g.L.Width} c.meet.new.self _ c.args.mode r Added _ tt (subst (λ (p : Put). Foresees {s = g.S.Store} {l = g.L.Width} c.meet.new.self c.args.mode r p) c.in-Added.is (e.foresees c.args.value.now)) c.add.ensures.follows.comes c.in_err-add-in-Added.ensures.fails))
 
-pub returns-then-branch-clause-puts : goal.returns-then-branch-clause-puts
-returns-then-branch-clause-puts g c =
-    let e = c.in_ok-look-in-Insert.ensures in
-    rw (c.in-Insert.is) (puts_present {s = g.S.Store} {l = g.L.Width} _ _ _ c.in_ok-look-in-Insert.field-0 e.ok c.if-branch.true e.there)
+pub returns-in_err-add-in-AddedAgain-clause-fails : goal.returns-in_err-add-in-AddedAgain-clause-fails
+returns-in_err-add-in-AddedAgain-clause-fails g c =
+    let p = err_from_is_err_and c.from_residual-in_err-add-in-AddedAgain.result c.from_residual-in_err-add-in-AddedAgain.ensures.1 in
+    let m = c.args.self.now in
+    let e = c.in_ok-put.ensures in
+    let r : KeyValue = record { key = c.args.key.now; value = c.args.value.now } in
+    rw (p.1, p.2) (fails_put_rested {s = g.S.Store} {l = g.L.Width} m c.meet.new.self _ _ r _ e.rests e.ok_failures
+    (fails_added {s = g.S.Store} {l = g.L.Width} c.meet.new.self _ c.args.mode r AddedAgain _ tt (subst (λ (p : Put). Foresees {s = g.S.Store} {l = g.L.Width} c.meet.new.self c.args.mode r p) c.in-AddedAgain.is (e.foresees c.args.value.now)) c.add-in-AddedAgain.ensures.follows.comes c.in_err-add-in-AddedAgain.ensures.fails))
 
-pub returns-in_err-add-in-Insert-clause-fails : goal.returns-in_err-add-in-Insert-clause-fails
-returns-in_err-add-in-Insert-clause-fails g c =
-    let p = err_from_is_err_and c.from_residual-in_err-add-in-Insert.result c.from_residual-in_err-add-in-Insert.ensures.1 in
-    let e = c.in_ok-look-in-Insert.ensures in
-    rw (p.1, p.2, c.in-Insert.is)
-    (fails_added {s = g.S.Store} {l = g.L.Width} _ c.look-in-Insert.new.self _ Insert _ Added _ e.ok c.look-in-Insert.ensures.counts.limit e.ok_failures c.look-in-Insert.ensures.unwritten c.add-in-Insert.ensures.follows.comes
-    (λ rs h. just_insert c.in_ok-look-in-Insert.field-0 rs _ c.if-branch.false (e.there rs h)) c.in_err-add-in-Insert.ensures.fails)
+pub replace-requires-clause-some : goal.replace-requires-clause-some
+replace-requires-clause-some g c = (subst (λ (p : Put). Finds {s = g.S.Store} {l = g.L.Width} c.meet.new.self c.args.key.now p) c.in-Replaced.is (c.in_ok-put.ensures.foresees []).found).0
 
-pub returns-in_ok-add-in-Insert-clause-puts : goal.returns-in_ok-add-in-Insert-clause-puts
-returns-in_ok-add-in-Insert-clause-puts g c =
-    let e = c.in_ok-look-in-Insert.ensures in
-    rw (c.in-Insert.is)
-    (puts_added {s = g.S.Store} {l = g.L.Width} _ c.look-in-Insert.new.self _ Insert _ Added e.ok c.in_ok-add-in-Insert.ensures.ok
-    (λ rs h. just_insert c.in_ok-look-in-Insert.field-0 rs _ c.if-branch.false (e.there rs h)))
+pub replace-requires-clause-found : goal.replace-requires-clause-found
+replace-requires-clause-found g c = (subst (λ (p : Put). Finds {s = g.S.Store} {l = g.L.Width} c.meet.new.self c.args.key.now p) c.in-Replaced.is (c.in_ok-put.ensures.foresees []).found).1
 
-pub returns-in-Replace-clause-fails : goal.returns-in-Replace-clause-fails
-returns-in-Replace-clause-fails g c = rw (c.in-Replace.is) c.replace.ensures.fails
+pub returns-in_ok-replace-in-Replaced-clause-puts : goal.returns-in_ok-replace-in-Replaced-clause-puts
+returns-in_ok-replace-in-Replaced-clause-puts g c =
+    let m = c.args.self.now in
+    let e = c.in_ok-put.ensures in
+    let r : KeyValue = record { key = c.args.key.now; value = c.args.value.now } in
+    let f = subst (λ (p : Put). Foresees {s = g.S.Store} {l = g.L.Width} c.meet.new.self c.args.mode r p) c.in-Replaced.is (e.foresees c.args.value.now) in
+    rw (f.replaces) (puts_rested {s = g.S.Store} {l = g.L.Width} m c.meet.new.self _ Replace r _ e.rests c.in_ok-replace-in-Replaced.ensures.puts)
+
+pub returns-in_err-replace-in-Replaced-clause-fails : goal.returns-in_err-replace-in-Replaced-clause-fails
+returns-in_err-replace-in-Replaced-clause-fails g c =
+    let p = err_from_is_err_and c.from_residual-in_err-replace-in-Replaced.result c.from_residual-in_err-replace-in-Replaced.ensures.1 in
+    let m = c.args.self.now in
+    let e = c.in_ok-put.ensures in
+    let r : KeyValue = record { key = c.args.key.now; value = c.args.value.now } in
+    let f = subst (λ (p : Put). Foresees {s = g.S.Store} {l = g.L.Width} c.meet.new.self c.args.mode r p) c.in-Replaced.is (e.foresees c.args.value.now) in
+    rw (p.1, p.2, f.replaces) (fails_put_rested {s = g.S.Store} {l = g.L.Width} m c.meet.new.self _ Replace r _ e.rests e.ok_failures c.in_err-replace-in-Replaced.ensures.fails)

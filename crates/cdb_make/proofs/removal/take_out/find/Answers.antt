@@ -2,7 +2,6 @@ use Rattle.std.proofs.Common.{arith, sym, ap, ◌<◌, ◌∙◌, ◌≡◌, ℕ
 use Rattle.std.proofs.lemmas.List.{get_or-map}
 use Rattle.std.proofs.lemmas.Result.{on_ok_weaker}
 use Rattle.cdb_form.specs.Format.Hash.{table_number}
-use Rattle.cdb_make.proofs.Bytes.Compare.{reads_fewer}
 use Rattle.cdb_make.specs.Views.EntryList.{list_entries, lists_entries}
 use Rattle.cdb_make.specs.declared.index.list.EntryList.{EntryList}
 use Rattle.cdb_make.proofs.Marked.Whole.{gaps_found, none_stands}
@@ -35,11 +34,11 @@ returns-clause-fresh g c = λ ms rs stands.
     let d = c.of_hash-list.result.now in
     let here : list_entries d ≡ list_entries (get_or c.args.lists.now.each.items (table_number c.args.hash) d) = ap list_entries c.of_hash-list.ensures in
     on_ok_weaker c.find_gaps.result
-    (λ picks. gaps_found g.L.Width.TOP c.args.end c.args.lists.now.each.items d ms rs g.met.L.Width.top_is (omega (arith, c.requires.fits, g.met.L.Width.greatest_fits.0)) c.args.lists.now.all c.requires.hash here (reads_fewer c.find_gaps.ensures.reads) stands picks)
+    (λ picks. gaps_found g.L.Width.TOP c.args.end c.args.lists.now.each.items d ms rs g.met.L.Width.top_is (omega (arith, c.requires.fits, g.met.L.Width.greatest_fits.0)) c.args.lists.now.all c.requires.hash here stands picks)
     c.find_gaps.ensures.picks
 
 pub returns-clause-none : goal.returns-clause-none
 returns-clause-none g c = λ err ms rs stands.
     let d = c.of_hash-list.result.now in
     let here : list_entries d ≡ list_entries (get_or c.args.lists.now.each.items (table_number c.args.hash) d) = ap list_entries c.of_hash-list.ensures in
-    none_stands c.args.hash g.L.Width.TOP c.args.end c.args.lists.now.each.items d ms rs g.met.L.Width.top_is (omega (arith, c.requires.fits, g.met.L.Width.greatest_fits.0)) c.args.lists.now.all (omega (arith, c.head_size-start.ensures)) here (reads_fewer c.find_gaps.ensures.reads) stands (c.find_gaps.ensures.foreign err)
+    none_stands c.args.hash g.L.Width.TOP c.args.end c.args.lists.now.each.items d ms rs g.met.L.Width.top_is (omega (arith, c.requires.fits, g.met.L.Width.greatest_fits.0)) c.args.lists.now.all (omega (arith, c.head_size-start.ensures)) here stands (c.find_gaps.ensures.foreign err)
