@@ -1,13 +1,14 @@
 -- What a store has once a run over it succeeded, and what a run says whose lines were handed on.
-use Rattle.std.proofs.Common.{ℕ, List, Option, Some, None, Result, Ok, Err, ◌≡◌, ◌∙◌, ap, inl, inr, subst, sym}
-use Rattle.std.specs.Prelude.{OnOk}
+use Rattle.std.proofs.Common.{ℕ, Bool, true, List, Option, Some, None, Result, Ok, Err, ◌≡◌, ◌∙◌, ap, inl, inr, subst, sym}
+use Rattle.std.specs.Prelude.{OnOk, OnErr}
 use Rattle.std.specs.Io.KnownBytes.{Keeps}
-use Rattle.std.proofs.KnownBytes.{Keeps-trans}
+use Rattle.std.proofs.KnownBytes.{Appends-kept, Keeps-trans}
 use Rattle.cdb_command.specs.Asked.{Asked}
 use Rattle.cdb_command.specs.declared.usage.Usage.{Usage}
 use Rattle.cdb_files.specs.Folder.{NameCalls}
 use Rattle.cdb_files.specs.Replacing.{Tells}
 use Rattle.cdb_files.specs.declared.replace.ReplaceFault.{ReplaceFault}
+use Rattle.cdb_form.specs.Views.KnownBytes.{AppendsPrefix, Writes}
 use Rattle.cdb_store.specs.declared.raw.RawFile.{Ghosts as Raw}
 use Rattle.cdb_store.specs.declared.store.Store.{Ghosts}
 use Rattle.cdb_make.specs.Views.Maker.{WhereHonest}
@@ -15,9 +16,10 @@ use Rattle.cdb_tool.specs.Message.{fault_line}
 use Rattle.cdb_tool.specs.Runs.Make.{HandsBack, OfBase, Makes}
 use Rattle.cdb_tool.specs.Runs.Make as run
 use Rattle.cdb_tool.specs.declared.fault.Fault.{Fault}
-use Rattle.cdb_tool.proofs.WholeRuns.{prefix_kept}
+use Rattle.cdb_tool.proofs.WholeRuns.{prefix_kept, whole_prefix}
 use Rattle.cdb.specs.Creating.{Making, HasDatabase, IsBufferedRun, IsDatabase, IsRun, Syncs}
-use Rattle.cdb.specs.Performs.{Says, Runs, usage_line}
+use Rattle.cdb.specs.Performs.{Says, SaysLine, Runs, usage_line}
+use Rattle.cdb.specs.declared.left.Left.{Left}
 use Rattle.cdb.specs.declared.system.System.{Ghosts as Systems}
 
 of_weaker : {F : Type 0} (f : Ghosts F) (base : Option F) (P Q : Option (List ℕ) → Type 0) → ((x : Option (List ℕ)) → P x → Q x) → OfBase f base P → OfBase f base Q
@@ -31,10 +33,10 @@ made_here m images told said b is x runs =
     record { based = runs.ok.based; made = record { read = made.read; are = made.are; goes = made.goes; file = record { each = λ c e. e ∙ made.file.each b is } } }
 
 pub database_made : {F : Type 0} (f : Ghosts F) (m : Making F) (back : Option F) (images inner : List ℕ → Type 0) (told said : Option (List ℕ)) (made : Result Unit Fault) → HandsBack f m.base back
-    → WhereHonest images (OfBase f back (λ x. run.Runs m.word m.greatest m.options x m.inputs images told said made)) → OnOk made ((b : List ℕ) → inner b → images b) → OnOk made (HasDatabase f m inner)
+    → WhereHonest images (OfBase f back (λ x. run.Runs m.word m.greatest m.options x m.inputs images told said made)) → OnOk made ((b : List ℕ) → inner b → images b) → OnOk made (HasDatabase f m back inner)
 database_made f m back images inner told said (Ok done) hands runs in_image = λ b is.
     let at : images b = in_image b is in
-    record { back = back; hands = hands; told = told; said = said; is = of_weaker f back _ _ (made_here m images told said b at) (runs.each b at) }
+    record { hands = hands; told = told; said = said; is = of_weaker f back _ _ (made_here m images told said b at) (runs.each b at) }
 database_made f m back images inner told said (Err fault) hands runs in_image = tt
 
 runs_under : {F : Type 0} (m : Making F) (images inner : List ℕ → Type 0) (told said : Option (List ℕ)) (made : Result Unit Fault) → OnOk made ((b : List ℕ) → inner b → images b) → (x : Option (List ℕ)) → run.Runs m.word m.greatest m.options x m.inputs images told said made
@@ -45,20 +47,20 @@ runs_under m images inner told said (Ok done) in_image x runs =
 runs_under m images inner told said (Err fault) in_image x runs = record { ok = tt; err = runs.err }
 
 -- a run in a store over another one is one of the other's images too
-pub run_under : {F : Type 0} (f : Ghosts F) (m : Making F) (images inner : List ℕ → Type 0) (told said : Option (List ℕ)) (made : Result Unit Fault) → IsRun f m images told said made
-    → ((b : List ℕ) → inner b → (a : List ℕ) × images a) → OnOk made ((b : List ℕ) → inner b → images b) → IsRun f m inner told said made
-run_under f m images inner told said made ran over in_image = record {
-  back = ran.back;
+pub run_under : {F : Type 0} (f : Ghosts F) (m : Making F) (back : Option F) (images inner : List ℕ → Type 0) (told said : Option (List ℕ)) (made : Result Unit Fault) → IsRun f m back images told said made
+    → ((b : List ℕ) → inner b → (a : List ℕ) × images a) → OnOk made ((b : List ℕ) → inner b → images b) → IsRun f m back inner told said made
+run_under f m back images inner told said made ran over in_image = record {
   hands = ran.hands;
-  runs = record { each = λ b is. of_weaker f ran.back _ _ (runs_under m images inner told said made in_image) (ran.runs.each (over b is).0 (over b is).1) };
+  base_failed = ran.base_failed;
+  runs = record { each = λ b is. of_weaker f back _ _ (runs_under m images inner told said made in_image) (ran.runs.each (over b is).0 (over b is).1) };
 }
 
 -- what is said of a writer is said of what it has
-pub of_contents : {F R T : Type 0} (contents : T → Option (List ℕ)) (f : Ghosts F) (r : Raw R) (m : Making F) (t n : List ℕ) (old new : NameCalls) (told said : T) (answer : Result Unit (ReplaceFault Fault))
-    → Tells r (λ before after images made. IsBufferedRun f m images (contents before) (contents after) made) t n old new told said answer
-    → Tells r (λ before after images made. IsBufferedRun f m images before after made) t n old new (contents told) (contents said) answer
-of_contents contents f r m t n old new told said answer (inl none) = inl (ap contents none.0, none.1, none.2, none.3)
-of_contents contents f r m t n old new told said answer (inr some) = inr (record { left = some.left; built = some.built; tells_so = some.tells_so; answers = some.answers; sealed = some.sealed; same = some.same; unsynced = some.unsynced; renamed = some.renamed })
+pub of_contents : {F R T : Type 0} (contents : T → Option (List ℕ)) (f : Ghosts F) (r : Raw R) (m : Making F) (t n : List ℕ) (old new : NameCalls) (handed : Option (Option F)) (told said : T) (answer : Result Unit (ReplaceFault Fault))
+    → Tells r (λ base before after images made. IsBufferedRun f m base images (contents before) (contents after) made) t n old new handed told said answer
+    → Tells r (λ base before after images made. IsBufferedRun f m base images before after made) t n old new handed (contents told) (contents said) answer
+of_contents contents f r m t n old new handed told said answer (inl none) = inl (none.0, ap contents none.1, none.2, none.3, none.4)
+of_contents contents f r m t n old new handed told said answer (inr some) = inr (record { back = some.back; is_handed = some.is_handed; left = some.left; built = some.built; tells_so = some.tells_so; answers = some.answers; sealed = some.sealed; same = some.same; unsynced = some.unsynced; renamed = some.renamed })
 
 -- ---- a store that was flushed
 
@@ -67,24 +69,42 @@ IsDone (Ok done) = Unit {0}
 IsDone (Err fault) = ⊥
 
 -- the database that a run made is there once the store was flushed
-pub database_synced : {F M : Type 0} (f : Ghosts F) (s : Ghosts M) (m : Making F) (built left : M) (made result : Result Unit Fault) → Syncs s built left made result
-    → OnOk made (HasDatabase f m (s.image built)) → OnOk result (HasDatabase f m (s.image left))
-database_synced f s m built left made (Err fault) syncs has = tt
-database_synced f s m built left made (Ok done) syncs has = λ b is. elim syncs.answered as (λ _. IsDatabase f m b) [
-  | inl same ↦ subst (λ r. OnOk r (HasDatabase f m (s.image built))) (sym same) has b (syncs.same.no_other b is)
+pub database_synced : {F M : Type 0} (f : Ghosts F) (s : Ghosts M) (m : Making F) (back : Option F) (built left : M) (made result : Result Unit Fault) → Syncs s built left made result
+    → OnOk made (HasDatabase f m back (s.image built)) → OnOk result (HasDatabase f m back (s.image left))
+database_synced f s m back built left made (Err fault) syncs has = tt
+database_synced f s m back built left made (Ok done) syncs has = λ b is. elim syncs.answered as (λ _. IsDatabase f m back b) [
+  | inl same ↦ subst (λ r. OnOk r (HasDatabase f m back (s.image built))) (sym same) has b (syncs.same.no_other b is)
   | inr failed ↦ absurd (subst IsDone failed.1 tt)
 ]
 
 -- ---- the lines that were handed on
 
-says_kept : (result : Result Unit Fault) (told mid said : Option (List ℕ)) → Says result told mid → Keeps mid said → Says result told said
-says_kept (Ok done) told mid said h k = Keeps-trans told mid said h k
-says_kept (Err fault) told mid said h k = prefix_kept told mid said (fault_line fault) h k
+-- an output that failed has failed for good
+pub failed_stays : {T E : Type 0} (r : Result T E) (old new : Bool) → OnOk r (new ≡ old) → OnErr r (new ≡ true) → old ≡ true → new ≡ true
+failed_stays (Ok done) old new same failed is = same ∙ is
+failed_stays (Err e) old new same failed is = failed
 
-pub run_kept : {F I M R Y : Type 0} (s : Ghosts F) (m : Ghosts M) (r : Raw R) (remaining : I → Option (List ℕ)) (y : Systems Y F I M) (planned : Result Asked Usage) (input : Option (List ℕ)) (old new : Y) (was now : NameCalls) (start end final told mid said : Option (List ℕ)) (status : ℕ)
-    → Runs s m r remaining y planned input old new was now start end final told mid status → Keeps mid said → Runs s m r remaining y planned input old new was now start end final told said status
-run_kept s m r remaining y planned input old new was now start end final told mid said status h k = elim h as (λ _. Runs s m r remaining y planned input old new was now start end final told said status) [
-  | inl none ↦ inl (record { usage = none.usage; why = none.why; line = prefix_kept told mid said (usage_line none.usage) none.line k; untouched = none.untouched; same = none.same; kept = none.kept; is_status = none.is_status })
+-- a line was written, or its writer failed
+pub says_line : {T E : Type 0} (r : Result T E) (told said : Option (List ℕ)) (line : List ℕ) (unsaid : Type 0) → Writes r told said line → OnErr r unsaid → SaysLine line told said unsaid
+says_line (Ok done) told said line unsaid w failed = inl w.ok
+says_line (Err e) told said line unsaid w failed = inr (w.err, failed)
+
+pub prefix_written : {T E : Type 0} (r : Result T E) (told said : Option (List ℕ)) (line : List ℕ) → Writes r told said line → AppendsPrefix told said line
+prefix_written (Ok done) told said line w = whole_prefix told said line w.ok
+prefix_written (Err e) told said line w = w.err
+
+line_kept : (line : List ℕ) (told mid said : Option (List ℕ)) (was is : Type 0) → (was → is) → SaysLine line told mid was → Keeps mid said → SaysLine line told said is
+line_kept line told mid said was is stays (inl whole) k = inl (Appends-kept told mid said line whole k)
+line_kept line told mid said was is stays (inr part) k = inr (prefix_kept told mid said line part.0 k, stays part.1)
+
+says_kept : (result : Result Unit Fault) (told mid said : Option (List ℕ)) (was is : Type 0) → (was → is) → Says result told mid was → Keeps mid said → Says result told said is
+says_kept (Ok done) told mid said was is stays h k = Keeps-trans told mid said h k
+says_kept (Err fault) told mid said was is stays h k = line_kept (fault_line fault) told mid said was is stays h k
+
+pub run_kept : {F I M R Y : Type 0} (s : Ghosts F) (m : Ghosts M) (r : Raw R) (remaining : I → Option (List ℕ)) (y : Systems Y F I M) (planned : Result Asked Usage) (input : Option (List ℕ)) (old new : Y) (was now : NameCalls) (left : Left F M) (start end final told mid said : Option (List ℕ)) (unwritten before after : Type 0) (status : ℕ)
+    → Runs s m r remaining y planned input old new was now left start end final told mid unwritten before status → (before → after) → Keeps mid said → Runs s m r remaining y planned input old new was now left start end final told said unwritten after status
+run_kept s m r remaining y planned input old new was now left start end final told mid said unwritten before after status h stays k = elim h as (λ _. Runs s m r remaining y planned input old new was now left start end final told said unwritten after status) [
+  | inl none ↦ inl (record { usage = none.usage; why = none.why; line = line_kept (usage_line none.usage) told mid said before after stays none.line k; untouched = none.untouched; none = none.none; same = none.same; kept = none.kept; is_status = none.is_status })
   | inr some ↦
       inr (record {
         command = some.command;
@@ -94,7 +114,7 @@ run_kept s m r remaining y planned input old new was now start end final told mi
         does = some.does;
         silent = some.silent;
         same = some.same;
-        says = says_kept some.result some.before mid said some.says k;
+        says = says_kept some.result some.before mid said before after stays some.says k;
         is_status = some.is_status;
       })
 ]

@@ -1,11 +1,11 @@
 -- What a create makes of what it reads, and under which names. The newest call comes first.
 use Rattle.std.specs.Prelude.{ℕ, ◌≡◌, ◌≢◌, ◌<◌, ◌⊎◌, IsOk, List, [], ◌∷◌, ◌++◌, map, Option, Some, None, Result}
-use Rattle.std.specs.Prelude.{Ok, Err, OnOk, IfErr, codes}
+use Rattle.std.specs.Prelude.{Ok, Err, OnOk, OnErr, IfErr, codes}
 use Rattle.std.specs.Io.KnownBytes.{Keeps, Appends}
 use Rattle.cdb_command.specs.declared.options.MakeOptions.{MakeOptions}
 use Rattle.cdb_files.specs.Folder.{NameCalls}
-use Rattle.cdb_files.specs.Replacing.{AreOfReplacing, AtEachMoment, EndsIn, IsRenamed, LeavesNew}
-use Rattle.cdb_files.specs.Replacing.{LeavesOldOrNew, Tells}
+use Rattle.cdb_files.specs.Replacing.{AreOfReplacing, AtEachMoment, BuiltWith, EndsIn, IsRenamed, LeavesNew}
+use Rattle.cdb_files.specs.Replacing.{FailsToBuild, IsOfBuilder, LeavesOldOrNew, Tells}
 use Rattle.cdb_files.specs.declared.answer.Answer.{Answer}
 use Rattle.cdb_files.specs.declared.answer.Answer.TheVariants as looks
 use Rattle.cdb_files.specs.declared.name_trace.NameCall.TheVariants as name_call
@@ -13,6 +13,7 @@ use Rattle.cdb_files.specs.declared.replace.ReplaceFault.{ReplaceFault}
 use Rattle.cdb_files.specs.declared.replace.ReplaceFault.TheVariants as replace
 use Rattle.cdb_form.specs.Views.KnownBytes.{AppendsPrefix}
 use Rattle.cdb_store.specs.Contents.{contents}
+use Rattle.cdb_store.specs.FileStore.{failures_of}
 use Rattle.cdb_store.specs.Images.{SameImages}
 use Rattle.cdb_store.specs.contracts.memory.MemStoreStore.TheImpl.{ghosts as in_memory}
 use Rattle.cdb_store.specs.declared.memory.MemStore.{MemStore}
@@ -20,7 +21,7 @@ use Rattle.cdb_store.specs.declared.raw.RawFile.{Ghosts as Raw}
 use Rattle.cdb_store.specs.declared.store.Store.{Ghosts}
 use Rattle.cdb_make.specs.Views.Maker.{WhereHonest}
 use Rattle.cdb_tool.specs.Runs.Inputs.{InputsLeft}
-use Rattle.cdb_tool.specs.Runs.Make.{HandsBack, Makes, OfBase, Runs}
+use Rattle.cdb_tool.specs.Runs.Make.{HandsBack, HasFailed, IsOfBase, IsOfStore, Makes, OfBase, Runs}
 use Rattle.cdb_tool.specs.declared.fault.Fault.{Fault}
 use Rattle.cdb_tool.specs.declared.fault.Fault.TheVariants.{Open, NoMemory, Output, Rename}
 use Rattle.cdb_tool.specs.declared.fault.Fault.TheVariants.{Make}
@@ -28,7 +29,8 @@ use Rattle.cdb_make.specs.declared.fault.MakeFault.TheVariants.{Writing}
 use Rattle.cdb_tool.specs.declared.inputs.Turn.{Turn}
 use Rattle.cdb_tool.specs.Views.Inputs.{one_of}
 use Rattle.cdb.specs.Inputs.{IsStandard, MissesBase, OpensBase, OpensInputs, StopsOpening}
-use Rattle.cdb.specs.Opening.{Misses, OpenCalls}
+use Rattle.cdb.specs.Opening.{Misses, OpenCalls, none_left}
+use Rattle.cdb.specs.declared.left.Left.{Left}
 use Rattle.cdb.specs.declared.open_trace.OpenCall.TheVariants.{Emptied}
 use Rattle.cdb.specs.declared.system.System.{Ghosts as Systems}
 
@@ -43,9 +45,9 @@ pub record Making (F : Type 0) : Type 0 where
   pub base : Option F
   pub inputs : InputsLeft
 
--- these bytes are the database of them
-pub record IsDatabase {F : Type 0} (f : Ghosts F) (m : Making F) (b : List ℕ) : Type 0 where
-  pub back : Option F
+-- these bytes are the database of them, of which the base is left so
+pub record IsDatabase {F : Type 0} (f : Ghosts F) (m : Making F) (back : Option F) (b : List ℕ)
+    : Type 0 where
   pub hands : HandsBack f m.base back
   pub told : Option (List ℕ)
   pub said : Option (List ℕ)
@@ -53,28 +55,38 @@ pub record IsDatabase {F : Type 0} (f : Ghosts F) (m : Making F) (b : List ℕ) 
       (λ x. Makes m.word m.greatest m.options x m.inputs (λ c. c ≡ b) told said)
 
 -- a store has it
-abbrev pub HasDatabase : {F : Type 0} → Ghosts F → Making F → (List ℕ → Type 0) → Type 0
-HasDatabase f m images = (b : List ℕ) → images b → IsDatabase f m b
+abbrev pub HasDatabase : {F : Type 0} → Ghosts F → Making F → Option F → (List ℕ → Type 0)
+    → Type 0
+HasDatabase f m back images = (b : List ℕ) → images b → IsDatabase f m back b
 
--- a run made it, or failed to: the images that are left, the lines that were said, and the answer
-pub record IsRun {F : Type 0} (f : Ghosts F) (m : Making F) (images : List ℕ → Type 0)
-    (told said : Option (List ℕ)) (made : Result Unit Fault) : Type 0 where
-  pub back : Option F
-  pub hands : HandsBack f m.base back
-  pub runs : WhereHonest images (OfBase f back (λ x.
-      Runs m.word m.greatest m.options x m.inputs images told said made))
+-- a fault of the store that is built in comes only if that store failed
+abbrev pub HasCause : {S : Type 0} → Ghosts S → (store left : S) → Result Unit Fault → Type 0
+HasCause s store left made =
+    IfErr made (λ fault. IsOfStore fault → s.failures store < s.failures left)
+
+-- a run made it, or failed to: the base as it is then, the images that are left, the lines that were
+-- said, and the answer. A fault of the base's store comes only if that store failed
+pub record IsRun {F : Type 0} (f : Ghosts F) (m : Making F) (back : Option F)
+    (images : List ℕ → Type 0) (told said : Option (List ℕ)) (made : Result Unit Fault) : Type 0
+  where
+    pub hands : HandsBack f m.base back
+    pub base_failed : IfErr made (λ fault. IsOfBase fault → HasFailed f m.base back)
+    pub runs : WhereHonest images (OfBase f back (λ x.
+        Runs m.word m.greatest m.options x m.inputs images told said made))
 
 -- one did in a store, which has this then
-pub record MakesIn {S F : Type 0} (s : Ghosts S) (f : Ghosts F) (m : Making F) (left : S)
-    (told said : Option (List ℕ)) (made : Result Unit Fault) : Type 0 where
-  pub run : IsRun f m (s.image left) told said made
+pub record MakesIn {S F : Type 0} (s : Ghosts S) (f : Ghosts F) (m : Making F) (store left : S)
+    (back : Option F) (told said : Option (List ℕ)) (made : Result Unit Fault) : Type 0 where
+  pub run : IsRun f m back (s.image left) told said made
+  pub failed : HasCause s store left made
   pub settled : OnOk made (s.settled left)
 
 -- one did through a buffer; or memory for that was refused, and no line was said
-abbrev pub IsBufferedRun : {F : Type 0} → Ghosts F → Making F → (images : List ℕ → Type 0)
-    → (told said : Option (List ℕ)) → Result Unit Fault → Type 0
-IsBufferedRun f m images told said made =
-    IsRun f m images told said made ⊎ ((made ≡ Err NoMemory) × Keeps told said)
+abbrev pub IsBufferedRun : {F : Type 0} → Ghosts F → Making F → (back : Option F)
+    → (images : List ℕ → Type 0) → (told said : Option (List ℕ)) → Result Unit Fault → Type 0
+IsBufferedRun f m back images told said made =
+    IsRun f m back images told said made
+    ⊎ ((back ≡ m.base) × (made ≡ Err NoMemory) × Keeps told said)
 
 -- ---- on standard output
 
@@ -85,11 +97,12 @@ pub record WritesAll (start end : Option (List ℕ)) (bytes : List ℕ) (result 
   pub err : IfErr result (λ fault. (fault ≡ Output) × AppendsPrefix start end bytes)
 
 -- it is made in memory and written; or it is not made, and nothing is written
-pub record MakesOnOutput {F : Type 0} (f : Ghosts F) (m : Making F)
+pub record MakesOnOutput {F : Type 0} (f : Ghosts F) (m : Making F) (back : Option F)
     (start end told said : Option (List ℕ)) (result : Result Unit Fault) : Type 0 where
+  pub empty : MemStore
   pub store : MemStore
   pub made : Result Unit Fault
-  pub makes : MakesIn in_memory f m store told said made
+  pub makes : MakesIn in_memory f m empty store back told said made
   pub written : OnOk made (WritesAll start end (contents store) result)
   pub failed : IfErr made (λ fault. (result ≡ Err fault) × Keeps start end)
 
@@ -142,32 +155,43 @@ FindsOne name base inputs was now =
 
 -- ---- in place
 
--- a store was flushed after a run that succeeded; a flush that fails is a fault of writing
+-- a store was flushed after a run that succeeded; a flush that fails is a fault of writing. After a
+-- fault it is left as it is
 pub record Syncs {M : Type 0} (s : Ghosts M) (built left : M) (made result : Result Unit Fault)
     : Type 0 where
+  pub kept : OnErr made (left ≡ built)
   pub same : SameImages (s.image built) (s.image left)
   pub answered : (result ≡ made)
       ⊎ (IsOk made × (result ≡ Err (Make Writing)) × (s.failures built < s.failures left))
   pub settled : OnOk result (s.settled left)
 
--- a run was made in the store that came, and it has the database if the create succeeds
-abbrev pub Empties : {F I M Y : Type 0} → Systems Y F I M → Ghosts F → Ghosts M → Making F
-    → (name : List ℕ) → (told said : Option (List ℕ)) → Result Unit Fault → Type 0
-Empties {M = M} y f s m name told said result =
-    (store : M) × y.makes name store × (built : M) × (left : M) × (made : Result Unit Fault)
-    × IsBufferedRun f m (s.image built) told said made × Syncs s built left made result
-    × OnOk result (HasDatabase f m (s.image left))
+-- a run was made in the store that came, and it has the database if the create succeeds. It is left so
+pub record Empties {F I M Y : Type 0} (y : Systems Y F I M) (f : Ghosts F) (s : Ghosts M)
+    (m : Making F) (name : List ℕ) (left : Left F M) (told said : Option (List ℕ))
+    (result : Result Unit Fault) : Type 0 where
+  pub store : M
+  pub came : y.makes name store
+  pub built : M
+  pub made : Result Unit Fault
+  pub last : M
+  pub is_last : left.made ≡ Some last
+  pub run : IsBufferedRun f m left.read (s.image built) told said made
+  pub cause : HasCause s store built made
+  pub syncs : Syncs s built last made result
+  pub has : OnOk result (HasDatabase f m left.read (s.image last))
 
 -- a file that is read may be the one of the name; or none is, as was asked of each, and then the file of
 -- the name is not opened, or emptied
 abbrev pub MakesInPlace : {F I M Y : Type 0} → Systems Y F I M → Ghosts F → Ghosts M → Making F
     → (name : List ℕ) → (base : Option (List ℕ)) → (inputs : List (List ℕ)) → (old new : OpenCalls)
-    → (was now : NameCalls) → (told said : Option (List ℕ)) → Result Unit Fault → Type 0
-MakesInPlace y f s m name base inputs old new was now told said result =
-    (FindsOne name base inputs was now × (new ≡ old) × (result ≡ Err Open) × Keeps told said)
+    → (was now : NameCalls) → Left F M → (told said : Option (List ℕ)) → Result Unit Fault → Type 0
+MakesInPlace y f s m name base inputs old new was now left told said result =
+    (FindsOne name base inputs was now × (new ≡ old) × (left ≡ none_left) × (result ≡ Err Open)
+    × Keeps told said)
     ⊎ (AsksAll name base inputs was now
-    × (((fault : Fault) × Misses name old new fault × (result ≡ Err fault) × Keeps told said)
-    ⊎ ((new ≡ (Emptied, name) ∷ old) × Empties y f s m name told said result)))
+    × (((fault : Fault) × Misses name old new fault × (left ≡ none_left) × (result ≡ Err fault)
+    × Keeps told said)
+    ⊎ ((new ≡ (Emptied, name) ∷ old) × Empties y f s m name left told said result)))
 
 -- ---- in a temporary file
 
@@ -184,28 +208,41 @@ abbrev pub answer_of : Result Unit (ReplaceFault Fault) → Result Unit Fault
 answer_of (Ok done) = Ok done
 answer_of (Err fault) = Err (fault_of fault)
 
+-- the base that a build handed back, if there was a build
+abbrev pub base_of : {F : Type 0} → Option (Option F) → Option F
+base_of None = None
+base_of (Some back) = back
+
 -- a file with the database replaces the one of the name, at once or not at all; the lines are those
 -- of the run that was made in it
 pub record Replaces {F R : Type 0} (f : Ghosts F) (r : Raw R) (m : Making F)
-    (temporary name : List ℕ) (old new : NameCalls) (told said : Option (List ℕ))
-    (result : Result Unit Fault) : Type 0 where
+    (temporary name : List ℕ) (old new : NameCalls) (back : Option F)
+    (told said : Option (List ℕ)) (result : Result Unit Fault) : Type 0 where
+  pub handed : Option (Option F)
+  pub is_back : back ≡ base_of handed
   pub answer : Result Unit (ReplaceFault Fault)
   pub answered : result ≡ answer_of answer
-  pub calls : AreOfReplacing temporary name (IsDatabase f m) old new
-  pub moments : AtEachMoment (LeavesOldOrNew temporary name (IsDatabase f m) old) old new
-  pub ok : OnOk answer (IsRenamed temporary name new × LeavesNew name (IsDatabase f m) new)
+  pub calls : AreOfReplacing temporary name (BuiltWith (IsDatabase f m) handed) old new
+  pub moments : AtEachMoment
+      (LeavesOldOrNew temporary name (BuiltWith (IsDatabase f m) handed) old) old new
+  pub ok : OnOk answer
+      (IsRenamed temporary name new × LeavesNew name (BuiltWith (IsDatabase f m) handed) new)
   pub err : IfErr answer (EndsIn temporary name old new)
-  pub lines : Tells r (λ before after images made. IsBufferedRun f m images before after made)
-      temporary name old new told said answer
+  pub build : IfErr answer (IsOfBuilder (FailsToBuild {file = r}
+      (λ store left fault. IsOfStore fault → failures_of store < failures_of left)))
+  pub lines : Tells r
+      (λ base before after images made. IsBufferedRun f m base images before after made)
+      temporary name old new handed told said answer
 
 -- a file that is read may have the temporary name; or none has, as was asked of each
 abbrev pub MakesApart : {F R : Type 0} → Ghosts F → Raw R → Making F → (temporary name : List ℕ)
     → (base : Option (List ℕ)) → (inputs : List (List ℕ)) → (old new : NameCalls)
-    → (told said : Option (List ℕ)) → Result Unit Fault → Type 0
-MakesApart f r m temporary name base inputs old new told said result =
-    (FindsOne temporary base inputs old new × (result ≡ Err Open) × Keeps told said)
+    → (back : Option F) → (told said : Option (List ℕ)) → Result Unit Fault → Type 0
+MakesApart f r m temporary name base inputs old new back told said result =
+    (FindsOne temporary base inputs old new × (back ≡ None) × (result ≡ Err Open)
+    × Keeps told said)
     ⊎ ((mid : NameCalls) × AsksAll temporary base inputs old mid
-    × Replaces f r m temporary name mid new told said result)
+    × Replaces f r m temporary name mid new back told said result)
 
 -- ---- under a name
 
@@ -222,14 +259,15 @@ temporary_of name (Some temporary) = temporary
 -- it is made in place; or in a temporary file, unless the allocation of its name failed
 abbrev pub MakesNamed : {F I M R Y : Type 0} → Systems Y F I M → Ghosts F → Ghosts M → Raw R
     → Making F → (name : List ℕ) → (base : Option (List ℕ)) → (inputs : List (List ℕ))
-    → (temporary : Option (List ℕ)) → (old new : OpenCalls) → (was now : NameCalls)
+    → (temporary : Option (List ℕ)) → (old new : OpenCalls) → (was now : NameCalls) → Left F M
     → (told said : Option (List ℕ)) → Result Unit Fault → Type 0
-MakesNamed y f s r m name base inputs temporary old new was now told said result =
+MakesNamed y f s r m name base inputs temporary old new was now left told said result =
     (IsInPlace name temporary
-    × MakesInPlace y f s m name base inputs old new was now told said result)
-    ⊎ ((IsInPlace name temporary → ⊥) × (new ≡ old)
-    × (((now ≡ was) × (result ≡ Err NoMemory) × Keeps told said)
-    ⊎ MakesApart f r m (temporary_of name temporary) name base inputs was now told said result))
+    × MakesInPlace y f s m name base inputs old new was now left told said result)
+    ⊎ ((IsInPlace name temporary → ⊥) × (new ≡ old) × (left.made ≡ None)
+    × (((now ≡ was) × (left.read ≡ None) × (result ≡ Err NoMemory) × Keeps told said)
+    ⊎ MakesApart f r m (temporary_of name temporary) name base inputs was now left.read told said
+    result))
 
 -- ---- a create
 
@@ -254,24 +292,27 @@ pub record NotOpened {F I M Y : Type 0} (y : Systems Y F I M) (base : Option (Li
 -- the database is made, on standard output or under its name, where standard output stays as it is
 abbrev pub MakesAt : {F I M R Y : Type 0} → Systems Y F I M → Ghosts F → Ghosts M → Raw R
     → Making F → (name : List ℕ) → (base : Option (List ℕ)) → (inputs : List (List ℕ))
-    → (temporary : Option (List ℕ)) → (old new : OpenCalls) → (was now : NameCalls)
+    → (temporary : Option (List ℕ)) → (old new : OpenCalls) → (was now : NameCalls) → Left F M
     → (start end told said : Option (List ℕ)) → Result Unit Fault → Type 0
-MakesAt y f s r m name base inputs temporary old new was now start end told said result =
-    (IsStandard name × (new ≡ old) × (now ≡ was) × MakesOnOutput f m start end told said result)
+MakesAt y f s r m name base inputs temporary old new was now left start end told said result =
+    (IsStandard name × (new ≡ old) × (now ≡ was) × (left.made ≡ None)
+    × MakesOnOutput f m left.read start end told said result)
     ⊎ ((IsStandard name → ⊥) × Keeps start end
-    × MakesNamed y f s r m name base inputs temporary old new was now told said result)
+    × MakesNamed y f s r m name base inputs temporary old new was now left told said result)
 
--- all that is read is opened, and then the database is made of it; or nothing is made
+-- all that is read is opened, and then the database is made of it; or nothing is made. What is left
+-- open is handed back
 abbrev pub Creates : {F I M R Y : Type 0} → (w greatest : ℕ) → Systems Y F I M → Ghosts F → Ghosts M
     → Raw R → (I → Option (List ℕ)) → MakeOptions → (name : List ℕ) → (base : Option (List ℕ))
     → (inputs : List (List ℕ)) → (temporary : Option (List ℕ)) → (standard : Option (List ℕ))
-    → (old new : OpenCalls) → (was now : NameCalls) → (start end told said : Option (List ℕ))
-    → Result Unit Fault → Type 0
+    → (old new : OpenCalls) → (was now : NameCalls) → Left F M
+    → (start end told said : Option (List ℕ)) → Result Unit Fault → Type 0
 Creates {F = F} w greatest y f s r remaining o name base inputs temporary standard old new was now
-    start end told said result =
-    (NotOpened y base inputs old new result × (now ≡ was) × Keeps start end × Keeps told said)
-    ⊎ ((file : Option F) × (left : InputsLeft) × (mid : OpenCalls)
-    × OpensAll y remaining base inputs standard old mid file left
+    left start end told said result =
+    (NotOpened y base inputs old new result × (now ≡ was) × (left ≡ none_left)
+    × Keeps start end × Keeps told said)
+    ⊎ ((file : Option F) × (items : InputsLeft) × (mid : OpenCalls)
+    × OpensAll y remaining base inputs standard old mid file items
     × MakesAt y f s r
-    (record { word = w; greatest = greatest; options = o; base = file; inputs = left }) name base
-    inputs temporary mid new was now start end told said result)
+    (record { word = w; greatest = greatest; options = o; base = file; inputs = items }) name base
+    inputs temporary mid new was now left start end told said result)

@@ -1,7 +1,8 @@
 -- The calls on files, and why one is not opened. The newest call comes first.
-use Rattle.std.specs.Prelude.{ℕ, ◌≡◌, List, ◌∷◌}
+use Rattle.std.specs.Prelude.{ℕ, ◌≡◌, List, ◌∷◌, None, Some}
 use Rattle.cdb_files.specs.declared.name_fault.NameFault.{NameFault}
 use Rattle.cdb_files.specs.declared.name_fault.NameFault.TheVariants as why
+use Rattle.cdb.specs.declared.left.Left.{Left}
 use Rattle.cdb.specs.declared.open_trace.OpenCall.{OpenCall}
 use Rattle.cdb.specs.declared.open_trace.OpenCall.TheVariants.{Unopened}
 use Rattle.cdb_tool.specs.declared.fault.Fault.{Fault}
@@ -21,3 +22,10 @@ pub record Misses (name : List ℕ) (old new : OpenCalls) (fault : Fault) : Type
   pub why : NameFault
   pub is : fault ≡ unopened why
   pub calls : new ≡ (Unopened why, name) ∷ old
+
+-- no file is handed back; or one that was read
+abbrev pub none_left : {F M : Type 0} → Left F M
+none_left = record { read = None; made = None }
+
+abbrev pub read_left : {F M : Type 0} → F → Left F M
+read_left file = record { read = Some file; made = None }

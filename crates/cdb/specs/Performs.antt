@@ -28,7 +28,8 @@ use Rattle.cdb_tool.specs.declared.fault.Fault.TheVariants.{Open, NoMemory as No
 use Rattle.cdb_files.specs.Folder.{NameCalls}
 use Rattle.cdb_files.specs.declared.answer.Answer.TheVariants as looks
 use Rattle.cdb.specs.Creating.{Creates}
-use Rattle.cdb.specs.Opening.{Misses, OpenCalls}
+use Rattle.cdb.specs.Opening.{Misses, OpenCalls, none_left, read_left}
+use Rattle.cdb.specs.declared.left.Left.{Left}
 use Rattle.cdb.specs.declared.open_trace.OpenCall.TheVariants.{AtPlaces, InTurn, Stream}
 use Rattle.cdb.specs.declared.system.System.{Ghosts as Systems}
 
@@ -46,21 +47,23 @@ LacksMemory start end result = (result ≡ Err NoRoom) × Keeps start end
 
 -- ---- query
 
--- the values of a key of the file that came
+-- the values of a key of the file that came, which is left so
 pub record QueriesFile {F I M Y : Type 0} (w : ℕ) (s : Ghosts F) (y : Systems Y F I M) (name : List ℕ)
-    (q : Query) (start end : Option (List ℕ)) (result : Result Unit Fault) : Type 0 where
+    (q : Query) (left : Left F M) (start end : Option (List ℕ)) (result : Result Unit Fault)
+    : Type 0 where
   pub file : F
-  pub left : F
   pub came : y.gives name file
-  pub queries : Queries w s q file left start end result
+  pub last : F
+  pub is_last : left ≡ read_left last
+  pub queries : Queries w s q file last start end result
 
 -- that file alone is opened
 abbrev pub PerformsQuery : {F I M Y : Type 0} → ℕ → Ghosts F → Systems Y F I M → (name : List ℕ)
-    → Query → (old new : Y) → (start end : Option (List ℕ)) → Result Unit Fault → Type 0
-PerformsQuery w s y name q old new start end result =
-    Refuses name (y.calls old) (y.calls new) start end result
+    → Query → (old new : Y) → Left F M → (start end : Option (List ℕ)) → Result Unit Fault → Type 0
+PerformsQuery w s y name q old new left start end result =
+    ((left ≡ none_left) × Refuses name (y.calls old) (y.calls new) start end result)
     ⊎ ((y.calls new ≡ (AtPlaces, name) ∷ y.calls old)
-    × QueriesFile w s y name q start end result)
+    × QueriesFile w s y name q left start end result)
 
 -- ---- dump and list
 
@@ -93,15 +96,13 @@ PerformsText w remaining y form None input old new start end result =
 -- ---- statistics and check
 
 -- its statistics are written
-pub record TellsStore {S : Type 0} (w : ℕ) (start end : Option (List ℕ)) (result : Result Unit Fault)
-    (s : Ghosts S) (store : S) : Type 0 where
-  pub left : S
-  pub tells : TellsStats w s store left start end result
+abbrev pub TellsStore : {S : Type 0} → ℕ → (start end : Option (List ℕ)) → Result Unit Fault
+    → Ghosts S → (store left : S) → Type 0
+TellsStore w start end result s store left = TellsStats w s store left start end result
 
 -- it is checked, and nothing is written
 pub record ChecksStore {S : Type 0} (w : ℕ) (start end : Option (List ℕ))
-    (result : Result Unit Fault) (s : Ghosts S) (store : S) : Type 0 where
-  pub left : S
+    (result : Result Unit Fault) (s : Ghosts S) (store left : S) : Type 0 where
   pub kept : Keeps start end
   pub reads : OnlyReads s store left
   pub sound : OnOk result (FindsSound w s left)
@@ -116,28 +117,32 @@ pub record IsNotTaken (most : ℕ) (file start end : Option (List ℕ)) (result 
   pub kept : Keeps start end
 
 -- they are, and this is done with them
-pub record IsTaken (most : ℕ) (file : Option (List ℕ)) (done : MemStore → Type 0) : Type 0 where
+pub record IsTaken (most : ℕ) (file : Option (List ℕ)) (done : MemStore → MemStore → Type 0)
+    : Type 0 where
   pub store : MemStore
   pub whole : IfSome file (λ f. contents store ≡ f)
   pub few : length (contents store) ≤ most
-  pub does : done store
+  pub left : MemStore
+  pub does : done store left
 
-abbrev pub Takes : ℕ → (file start end : Option (List ℕ)) → Result Unit Fault → (MemStore → Type 0)
-    → Type 0
+abbrev pub Takes : ℕ → (file start end : Option (List ℕ)) → Result Unit Fault
+    → (MemStore → MemStore → Type 0) → Type 0
 Takes most file start end result done =
     IsNotTaken most file start end result ⊎ IsTaken most file done
 
--- the file that came is read at places
-pub record OfFile {F I M Y : Type 0} (y : Systems Y F I M) (name : List ℕ) (done : F → Type 0) : Type 0
-  where
-    pub file : F
-    pub came : y.gives name file
-    pub does : done file
+-- the file that came is read at places, and is left so
+pub record OfFile {F I M Y : Type 0} (y : Systems Y F I M) (name : List ℕ) (left : Left F M)
+    (done : F → F → Type 0) : Type 0 where
+  pub file : F
+  pub came : y.gives name file
+  pub last : F
+  pub is_last : left ≡ read_left last
+  pub does : done file last
 
 -- it is taken into memory
 pub record OfStream {F I M Y : Type 0} (remaining : I → Option (List ℕ)) (y : Systems Y F I M)
     (name : List ℕ) (most : ℕ) (start end : Option (List ℕ)) (result : Result Unit Fault)
-    (done : MemStore → Type 0) : Type 0 where
+    (done : MemStore → MemStore → Type 0) : Type 0 where
   pub file : I
   pub came : y.reads name file
   pub takes : Takes most (remaining file) start end result done
@@ -145,19 +150,22 @@ pub record OfStream {F I M Y : Type 0} (remaining : I → Option (List ℕ)) (y 
 -- that file alone is opened, once it was seen whether it is a stream; or none, if the system did not
 -- say, or if standard input is read
 abbrev pub PerformsOn : {F I M Y : Type 0} → Ghosts F → (I → Option (List ℕ)) → Systems Y F I M
-    → (most : ℕ) → (name : Option (List ℕ)) → (input : Option (List ℕ)) → (old new : Y)
-    → (start end : Option (List ℕ)) → Result Unit Fault → (F → Type 0) → (MemStore → Type 0) → Type 0
-PerformsOn s remaining y most (Some name) input old new start end result file taken =
-    Refuses name ((Stream looks.No, name) ∷ y.calls old) (y.calls new) start end result
+    → (most : ℕ) → (name : Option (List ℕ)) → (input : Option (List ℕ)) → (old new : Y) → Left F M
+    → (start end : Option (List ℕ)) → Result Unit Fault → (F → F → Type 0)
+    → (MemStore → MemStore → Type 0) → Type 0
+PerformsOn s remaining y most (Some name) input old new left start end result file taken =
+    ((left ≡ none_left)
+    × Refuses name ((Stream looks.No, name) ∷ y.calls old) (y.calls new) start end result)
     ⊎ ((y.calls new ≡ (AtPlaces, name) ∷ (Stream looks.No, name) ∷ y.calls old)
-    × OfFile y name file)
-    ⊎ Refuses name ((Stream looks.Yes, name) ∷ y.calls old) (y.calls new) start end result
+    × OfFile y name left file)
+    ⊎ ((left ≡ none_left)
+    × Refuses name ((Stream looks.Yes, name) ∷ y.calls old) (y.calls new) start end result)
     ⊎ ((y.calls new ≡ (InTurn, name) ∷ (Stream looks.Yes, name) ∷ y.calls old)
-    × OfStream remaining y name most start end result taken)
-    ⊎ ((y.calls new ≡ (Stream looks.Unknown, name) ∷ y.calls old) × (result ≡ Err Open)
-    × Keeps start end)
-PerformsOn s remaining y most None input old new start end result file taken =
-    (new ≡ old) × Takes most input start end result taken
+    × (left ≡ none_left) × OfStream remaining y name most start end result taken)
+    ⊎ ((y.calls new ≡ (Stream looks.Unknown, name) ∷ y.calls old) × (left ≡ none_left)
+    × (result ≡ Err Open) × Keeps start end)
+PerformsOn s remaining y most None input old new left start end result file taken =
+    (new ≡ old) × (left ≡ none_left) × Takes most input start end result taken
 
 -- ---- help
 
@@ -166,65 +174,72 @@ pub record WritesUsage (start end : Option (List ℕ)) (result : Result Unit Fau
   pub ok : OnOk result (Appends start end usage_text)
   pub err : IfErr result (λ fault. (fault ≡ Output) × AppendsPrefix start end usage_text)
 
--- ---- each command, in words of w bytes of files of at most so many
+-- ---- each command, in words of w bytes of files of at most so many; what is left open is handed back
 abbrev pub Performs : {F I M R Y : Type 0} → (w most : ℕ) → Ghosts F → Ghosts M → Raw R
     → (I → Option (List ℕ)) → Systems Y F I M → Asked → (input : Option (List ℕ)) → (old new : Y)
-    → (was now : NameCalls) → (start end told said : Option (List ℕ)) → Result Unit Fault → Type 0
+    → (was now : NameCalls) → Left F M → (start end told said : Option (List ℕ))
+    → Result Unit Fault → Type 0
 Performs w most s m r remaining y (asked.Query name key number lines wide) input old new was now
-    start end told said result =
-    PerformsQuery w s y name (record { key = key; number = number; lines = lines }) old new start end
-    result
-Performs w most s m r remaining y (asked.Dump name style wide) input old new was now start end told
-    said result =
-    PerformsText w remaining y (dump_form style) name input old new start end result
-Performs w most s m r remaining y (asked.Listing name style wide) input old new was now start end
+    left start end told said result =
+    PerformsQuery w s y name (record { key = key; number = number; lines = lines }) old new left
+    start end result
+Performs w most s m r remaining y (asked.Dump name style wide) input old new was now left start end
     told said result =
-    PerformsText w remaining y (list_form style) name input old new start end result
-Performs w most s m r remaining y (asked.Stats name wide) input old new was now start end told said
-    result =
-    PerformsOn s remaining y most name input old new start end result
+    (left ≡ none_left)
+    × PerformsText w remaining y (dump_form style) name input old new start end result
+Performs w most s m r remaining y (asked.Listing name style wide) input old new was now left start
+    end told said result =
+    (left ≡ none_left)
+    × PerformsText w remaining y (list_form style) name input old new start end result
+Performs w most s m r remaining y (asked.Stats name wide) input old new was now left start end told
+    said result =
+    PerformsOn s remaining y most name input old new left start end result
     (TellsStore w start end result s) (TellsStore w start end result in_memory)
-Performs w most s m r remaining y (asked.Check name wide) input old new was now start end told said
-    result =
-    PerformsOn s remaining y most name input old new start end result
+Performs w most s m r remaining y (asked.Check name wide) input old new was now left start end told
+    said result =
+    PerformsOn s remaining y most name input old new left start end result
     (ChecksStore w start end result s) (ChecksStore w start end result in_memory)
 Performs w most s m r remaining y (asked.Create name base inputs temporary options wide) input old new
-    was now start end told said result =
+    was now left start end told said result =
     Creates w most y s m r remaining options name base inputs temporary input (y.calls old)
-    (y.calls new) was now start end told said result
-Performs w most s m r remaining y asked.Help input old new was now start end told said result =
-    (new ≡ old) × WritesUsage start end result
+    (y.calls new) was now left start end told said result
+Performs w most s m r remaining y asked.Help input old new was now left start end told said result =
+    (new ≡ old) × (left ≡ none_left) × WritesUsage start end result
 
 -- in words of 8 bytes or of 4
 abbrev pub PerformsIn : {F I M R Y : Type 0} → (wide : Bool) → Ghosts F → Ghosts M → Raw R
     → (I → Option (List ℕ)) → Systems Y F I M → Asked → (input : Option (List ℕ)) → (old new : Y)
-    → (was now : NameCalls) → (start end told said : Option (List ℕ)) → Result Unit Fault → Type 0
-PerformsIn true s m r remaining y command input old new was now start end told said result =
-    Performs 8 9223372036854775807 s m r remaining y command input old new was now start end told
-    said result
-PerformsIn false s m r remaining y command input old new was now start end told said result =
-    Performs 4 4294967295 s m r remaining y command input old new was now start end told said result
+    → (was now : NameCalls) → Left F M → (start end told said : Option (List ℕ))
+    → Result Unit Fault → Type 0
+PerformsIn true s m r remaining y command input old new was now left start end told said result =
+    Performs 8 9223372036854775807 s m r remaining y command input old new was now left start end
+    told said result
+PerformsIn false s m r remaining y command input old new was now left start end told said result =
+    Performs 4 4294967295 s m r remaining y command input old new was now left start end told said
+    result
 
 -- ---- the end of a command
 
--- what is written reaches the output, all of it if the command succeeds; a flush that fails is a
--- fault if no other came
-pub record HandsOn (end final : Option (List ℕ)) (answer result : Result Unit Fault) : Type 0 where
+-- what is written reaches the output, all of it if the command succeeds; an output that failed,
+-- which is then left unwritten, is a fault if no other came
+pub record HandsOn (end final : Option (List ℕ)) (unwritten : Type 0)
+    (answer result : Result Unit Fault) : Type 0 where
   pub held : List ℕ
   pub all : Keeps end (append_known final held)
   pub handed : OnOk result (held ≡ [])
-  pub answered : (result ≡ answer) ⊎ (IsOk answer × (result ≡ Err Output))
+  pub answered : (result ≡ answer) ⊎ (IsOk answer × (result ≡ Err Output) × unwritten)
 
 -- the command was performed, and what it wrote was handed on
 pub record Does {F I M R Y : Type 0} (s : Ghosts F) (m : Ghosts M) (r : Raw R)
     (remaining : I → Option (List ℕ)) (y : Systems Y F I M) (command : Asked)
-    (input : Option (List ℕ)) (old new : Y) (was now : NameCalls)
-    (start final told said : Option (List ℕ)) (result : Result Unit Fault) : Type 0 where
+    (input : Option (List ℕ)) (old new : Y) (was now : NameCalls) (left : Left F M)
+    (start final told said : Option (List ℕ)) (unwritten : Type 0) (result : Result Unit Fault)
+    : Type 0 where
   pub end : Option (List ℕ)
   pub answer : Result Unit Fault
   pub performs : PerformsIn (has_wide_words command) s m r remaining y command input old new was now
-      start end told said answer
-  pub hands : HandsOn end final answer result
+      left start end told said answer
+  pub hands : HandsOn end final unwritten answer result
 
 -- ---- only a create calls anything on names, and says anything before it ends: its duplicates
 abbrev pub IsUntouched : {T : Type 0} → Asked → (old new : T) → Type 0
@@ -237,10 +252,14 @@ IsUntouched command old new = new ≡ old
 abbrev pub usage_line : Usage → List ℕ
 usage_line usage = codes "cdb: " ++ (usage_message usage ++ codes "\n")
 
--- the line of a fault is said, as far as standard error takes it, and nothing of a success
-abbrev pub Says : Result Unit Fault → (told said : Option (List ℕ)) → Type 0
-Says (Ok done) told said = Keeps told said
-Says (Err fault) told said = AppendsPrefix told said (fault_line fault)
+-- a line is said; or standard error failed, and has a prefix of it
+abbrev pub SaysLine : (line : List ℕ) → (told said : Option (List ℕ)) → (unsaid : Type 0) → Type 0
+SaysLine line told said unsaid = Appends told said line ⊎ (AppendsPrefix told said line × unsaid)
+
+-- the line of a fault is said, and nothing of a success
+abbrev pub Says : Result Unit Fault → (told said : Option (List ℕ)) → (unsaid : Type 0) → Type 0
+Says (Ok done) told said unsaid = Keeps told said
+Says (Err fault) told said unsaid = SaysLine (fault_line fault) told said unsaid
 
 -- ---- the program
 
@@ -254,12 +273,14 @@ status_of command (Ok done) = 0
 status_of command (Err fault) = exit_status command fault
 
 -- the words ask for nothing, or memory for them was refused
-pub record AsksNothing {Y : Type 0} (planned : Result Asked Usage) (old new : Y)
-    (was now : NameCalls) (start end told said : Option (List ℕ)) (status : ℕ) : Type 0 where
+pub record AsksNothing {F M Y : Type 0} (planned : Result Asked Usage) (old new : Y)
+    (was now : NameCalls) (left : Left F M) (start end told said : Option (List ℕ)) (unsaid : Type 0) (status : ℕ)
+    : Type 0 where
   pub usage : Usage
   pub why : (usage ≡ NoMemory) ⊎ (planned ≡ Err usage)
-  pub line : AppendsPrefix told said (usage_line usage)
+  pub line : SaysLine (usage_line usage) told said unsaid
   pub untouched : new ≡ old
+  pub none : left ≡ none_left
   pub same : now ≡ was
   pub kept : Keeps start end
   pub is_status : status ≡ usage_status usage
@@ -267,25 +288,29 @@ pub record AsksNothing {Y : Type 0} (planned : Result Asked Usage) (old new : Y)
 -- the command that they ask for was performed, and then its fault was said
 pub record AsksFor {F I M R Y : Type 0} (s : Ghosts F) (m : Ghosts M) (r : Raw R)
     (remaining : I → Option (List ℕ)) (y : Systems Y F I M) (planned : Result Asked Usage)
-    (input : Option (List ℕ)) (old new : Y) (was now : NameCalls)
-    (start final told said : Option (List ℕ)) (status : ℕ) : Type 0 where
-  pub command : Command
-  pub asks : planned ≡ Ok (asked_in command)
-  pub result : Result Unit Fault
-  pub before : Option (List ℕ)
-  pub does : Does s m r remaining y (asked_in command) input old new was now start final told before
-      result
-  pub silent : IsUntouched (asked_in command) told before
-  pub same : IsUntouched (asked_in command) was now
-  pub says : Says result before said
-  pub is_status : status ≡ status_of command result
+    (input : Option (List ℕ)) (old new : Y) (was now : NameCalls) (left : Left F M)
+    (start final told said : Option (List ℕ)) (unwritten unsaid : Type 0) (status : ℕ) : Type 0
+  where
+    pub command : Command
+    pub asks : planned ≡ Ok (asked_in command)
+    pub result : Result Unit Fault
+    pub before : Option (List ℕ)
+    pub does : Does s m r remaining y (asked_in command) input old new was now left start final told
+        before unwritten result
+    pub silent : IsUntouched (asked_in command) told before
+    pub same : IsUntouched (asked_in command) was now
+    pub says : Says result before said unsaid
+    pub is_status : status ≡ status_of command result
 
 -- from its words to its exit status: what was written, what standard output has of it, and what is
--- said on standard error
+-- said on standard error; whether the one failed, or the other; and which files are handed back
 abbrev pub Runs : {F I M R Y : Type 0} → Ghosts F → Ghosts M → Raw R → (I → Option (List ℕ))
     → Systems Y F I M → (planned : Result Asked Usage) → (input : Option (List ℕ))
-    → (old new : Y) → (was now : NameCalls) → (start end final told said : Option (List ℕ))
-    → (status : ℕ) → Type 0
-Runs s m r remaining y planned input old new was now start end final told said status =
-    AsksNothing planned old new was now start end told said status
-    ⊎ AsksFor s m r remaining y planned input old new was now start final told said status
+    → (old new : Y) → (was now : NameCalls) → Left F M
+    → (start end final told said : Option (List ℕ)) → (unwritten unsaid : Type 0) → (status : ℕ)
+    → Type 0
+Runs s m r remaining y planned input old new was now left start end final told said unwritten unsaid
+    status =
+    AsksNothing planned old new was now left start end told said unsaid status
+    ⊎ AsksFor s m r remaining y planned input old new was now left start final told said unwritten
+    unsaid status

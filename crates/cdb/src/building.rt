@@ -1,4 +1,6 @@
 // What builds the database of what was opened.
+ghost use Rattle.std.specs.Prelude.{◌<◌};
+ghost use Rattle.cdb_tool.specs.Runs.Make.{IsOfStore};
 ghost use Rattle.cdb.specs.Creating.{IsBufferedRun, IsDatabase, MakesIn};
 ghost use Rattle.cdb.specs.Contents.{making_of};
 
@@ -11,13 +13,13 @@ use std::alloc::Global;
 use std::io::{Read, Write};
 use std::marker::PhantomData;
 
-/// Makes it in a store, which is handed back.
+/// Makes it in a store, which is handed back, and the base too.
 pub(crate) fn make_in<L, S, F, J, I, E>(
     alloc: Global,
     store: S,
     contents: Contents<L, F, J, I>,
     errors: &mut E,
-) -> (S, Result<(), Fault>)
+) -> (S, Option<F>, Result<(), Fault>)
 where
     L: Width,
     S: Store,
@@ -26,7 +28,7 @@ where
     I: Read + Drop,
     E: Write,
     ensures { MakesIn S.Store F.Store (making_of L.WORD L.GREATEST J.remaining I.remaining contents)
-        result.0 (E.contents errors.old) (E.contents errors.new) result.1 }
+        store result.0 result.1 (E.contents errors.old) (E.contents errors.new) result.2 }
 {
     let Contents {
         base,
@@ -34,10 +36,7 @@ where
         options,
         width: _,
     } = contents;
-    let (store, _, made) = make_run_from::<L, S, F, J, I, E>(
-        alloc, store, base, inputs, options, errors,
-    );
-    (store, made)
+    make_run_from::<L, S, F, J, I, E>(alloc, store, base, inputs, options, errors)
 }
 
 /// Builds the database in a file that is empty, through a buffer.
@@ -63,14 +62,18 @@ where
 
     type Told = E;
 
+    type Back = Option<F>;
+
     ghost builds = { λ b. IsDatabase F.Store
         (making_of L.WORD L.GREATEST J.remaining I.remaining b.contents) };
 
-    ghost tells = { λ b told said images made. IsBufferedRun F.Store
-        (making_of L.WORD L.GREATEST J.remaining I.remaining b.contents) images
+    ghost fails = { λ _ old new fault. IsOfStore fault → S.failures old < S.failures new };
+
+    ghost tells = { λ b back told said images made. IsBufferedRun F.Store
+        (making_of L.WORD L.GREATEST J.remaining I.remaining b.contents) back images
         (E.contents told) (E.contents said) made };
 
-    fn build(self, store: S, errors: &mut E) -> (S, Result<(), Fault>) {
+    fn build(self, store: S, errors: &mut E) -> (S, Option<F>, Result<(), Fault>) {
         let Building {
             alloc,
             contents,
@@ -78,12 +81,15 @@ where
         } = self;
         match BufferedStore::new(alloc, Unsynced::over(store), PIPE) {
             Ok(buffered) => {
-                let (buffered, made) = make_in::<L, BufferedStore<Unsynced<S>>, F, J, I, E>(
+                let (buffered, base, made) = make_in::<L, BufferedStore<Unsynced<S>>, F, J, I, E>(
                     alloc, buffered, contents, errors,
                 );
-                (buffered.discard().into_inner(), made)
+                (buffered.discard().into_inner(), base, made)
             }
-            Err(failed) => (failed.value.into_inner(), Err(Fault::NoMemory)),
+            Err(failed) => {
+                let Contents { base, .. } = contents;
+                (failed.value.into_inner(), base, Err(Fault::NoMemory))
+            }
         }
     }
 }

@@ -10,6 +10,7 @@ ghost use Rattle.cdb.specs.Contents.{making_of};
 use crate::building::make_in;
 use crate::contents::Contents;
 use crate::inputs::{is_standard, open_base, open_inputs};
+use crate::left::{Left, none_left};
 use crate::placing::{make_in_place, replace_database};
 use crate::system::System;
 use cdb_files::Names;
@@ -39,7 +40,8 @@ pub(crate) struct Creation<'a> {
 }
 
 /// Makes a database, on standard output or under its name: in place, or in a temporary file. The
-/// base and then all inputs are opened before anything is made.
+/// base and then all inputs are opened before anything is made. The base is handed back, and a file
+/// that was made in place.
 #[inline(never)]
 pub(crate) fn create<L, F, J, M, Y, N, I, O, E>(
     alloc: Global,
@@ -49,7 +51,7 @@ pub(crate) fn create<L, F, J, M, Y, N, I, O, E>(
     input: I,
     output: &mut O,
     errors: &mut E,
-) -> Result<(), Fault>
+) -> (Left<F, M>, Result<(), Fault>)
 where
     L: Width,
     F: Store + Drop,
@@ -66,28 +68,36 @@ where
         creation.entry.options creation.entry.name.now
         (option_map string_bytes creation.entry.base.now) (map string_bytes creation.entry.inputs.now)
         (option_map string_bytes creation.entry.temporary.now) (I.remaining input)
-        (Y.calls system.old) (Y.calls system.new) (N.calls names.old) (N.calls names.new)
+        (Y.calls system.old) (Y.calls system.new) (N.calls names.old) (N.calls names.new) result.0
         (O.contents output.old) (O.contents output.new)
-        (E.contents errors.old) (E.contents errors.new) result }
+        (E.contents errors.old) (E.contents errors.new) result.1 }
 {
-    let contents = open_all::<L, F, J, M, Y, I>(alloc, system, creation, input)?;
+    let contents = match open_all::<L, F, J, M, Y, I>(alloc, system, creation, input) {
+        Ok(contents) => contents,
+        Err(fault) => return (none_left(), Err(fault)),
+    };
     if is_standard(creation.name) {
-        return make_on_output::<L, F, J, I, O, E>(alloc, contents, output, errors);
+        let (read, made) = make_on_output::<L, F, J, I, O, E>(alloc, contents, output, errors);
+        return (Left { read, made: None }, made);
     }
     if is_in_place(creation.name, creation.temporary) {
         return make_in_place::<L, F, J, M, Y, N, I, E>(
             alloc, system, names, creation, contents, errors,
         );
     }
-    let temporary = temporary_name(alloc, creation.name, creation.temporary)?;
-    replace_database::<L, F, J, N, I, E>(
+    let temporary = match temporary_name(alloc, creation.name, creation.temporary) {
+        Ok(temporary) => temporary,
+        Err(_) => return (none_left(), Err(Fault::NoMemory)),
+    };
+    let (read, made) = replace_database::<L, F, J, N, I, E>(
         alloc,
         names,
         temporary.as_str(),
         creation,
         contents,
         errors,
-    )
+    );
+    (Left { read, made: None }, made)
 }
 
 /// Opens what is read: the base, and then all inputs.
@@ -132,7 +142,7 @@ fn make_on_output<L, F, J, I, O, E>(
     contents: Contents<L, F, J, I>,
     output: &mut O,
     errors: &mut E,
-) -> Result<(), Fault>
+) -> (Option<F>, Result<(), Fault>)
 where
     L: Width,
     F: Store + Drop,
@@ -141,18 +151,16 @@ where
     O: Write,
     E: Write,
     ensures { MakesOnOutput F.Store
-        (making_of L.WORD L.GREATEST J.remaining I.remaining contents)
+        (making_of L.WORD L.GREATEST J.remaining I.remaining contents) result.0
         (O.contents output.old) (O.contents output.new)
-        (E.contents errors.old) (E.contents errors.new) result }
+        (E.contents errors.old) (E.contents errors.new) result.1 }
 {
-    let (store, made) = make_in::<L, MemStore, F, J, I, E>(
-        alloc,
-        MemStore::new(alloc),
-        contents,
-        errors,
-    );
-    made?;
-    write_bytes(store.bytes(), output)
+    let empty = MemStore::new(alloc);
+    let (store, base, made) = make_in::<L, MemStore, F, J, I, E>(alloc, empty, contents, errors);
+    match made {
+        Ok(()) => (base, write_bytes(store.bytes(), output)),
+        Err(fault) => (base, Err(fault)),
+    }
 }
 
 /// Writes bytes, and flushes the output.

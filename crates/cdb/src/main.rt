@@ -5,6 +5,7 @@ mod building;
 mod contents;
 mod creating;
 mod inputs;
+mod left;
 mod open_trace;
 mod performing;
 mod placing;
@@ -24,7 +25,8 @@ use std::io::{ErrorKind, Stderr, Stdout};
 use std::os::fd::AsRawFd;
 use std::process::ExitCode;
 
-/// How many bytes of lines on standard error are held before they are written.
+/// How many bytes of lines on standard error are held before they are written. A line that finds room
+/// is written at once, so that no other program's line comes between.
 const LINES: usize = 4096;
 
 /// The device that takes all and gives nothing.
@@ -42,7 +44,7 @@ fn main(rt: HostRuntime) -> ExitCode {
             let mut system = RealSystem::new(&rt);
             let mut names = RealNames::new(&rt);
             let (alloc, input) = (rt.alloc(), rt.stdin());
-            steps::run(
+            let (_, status) = steps::run(
                 alloc,
                 &mut system,
                 &mut names,
@@ -50,9 +52,10 @@ fn main(rt: HostRuntime) -> ExitCode {
                 input,
                 &mut output,
                 &mut errors,
-            )
+            );
+            status
         }
-        Err(usage) => telling::refuse(&usage, &mut rt.stderr()),
+        Err(usage) => telling::refuse_unbuffered(&usage, &mut rt.stderr()),
     };
     ExitCode::from(status)
 }

@@ -4,6 +4,7 @@ ghost use Rattle.cdb_form.specs.Format.Pair.{head_size};
 ghost use Rattle.cdb.specs.Performs.{IsUntouched, Performs, WritesUsage};
 
 use crate::creating::{Creation, create};
+use crate::left::{Left, none_left};
 use crate::reading::{check, query, stats, text};
 use crate::system::System;
 use cdb_files::Names;
@@ -21,7 +22,7 @@ fn help<O: Write>(output: &mut O) -> Result<(), Fault>
     flushed(output, written.map_err(Fault::from))
 }
 
-/// Performs a command, with words as wide as `L` says.
+/// Performs a command, with words as wide as `L` says, and hands back what it leaves open.
 pub(crate) fn perform_in<L, F, J, M, Y, N, I, O, E>(
     alloc: Global,
     system: &mut Y,
@@ -30,7 +31,7 @@ pub(crate) fn perform_in<L, F, J, M, Y, N, I, O, E>(
     input: I,
     output: &mut O,
     errors: &mut E,
-) -> Result<(), Fault>
+) -> (Left<F, M>, Result<(), Fault>)
 where
     L: Width,
     F: Store + Drop,
@@ -44,8 +45,9 @@ where
     requires { FitsIn (head_size L.WORD) L.GREATEST (asked_in command.now) }
     ensures performs { Performs L.WORD L.GREATEST F.Store M.Store N.File.RawFile J.remaining
         Y.System (asked_in command.now) (I.remaining input) system.old system.new
-        (N.calls names.old) (N.calls names.new) (O.contents output.old) (O.contents output.new)
-        (E.contents errors.old) (E.contents errors.new) result }
+        (N.calls names.old) (N.calls names.new) result.0
+        (O.contents output.old) (O.contents output.new)
+        (E.contents errors.old) (E.contents errors.new) result.1 }
     ensures silent { IsUntouched (asked_in command.now)
         (E.contents errors.old) (E.contents errors.new) }
     ensures same { IsUntouched (asked_in command.now) (N.calls names.old) (N.calls names.new) }
@@ -66,18 +68,18 @@ where
             output,
         ),
         Command::Dump { name, style, .. } => {
-            text::<L, F, J, M, Y, I, O>(
-                alloc,
-                system,
-                Content::Records,
-                name,
-                *style,
-                input,
-                output,
-            )
+            let content = Content::Records;
+            let answer = text::<L, F, J, M, Y, I, O>(
+                alloc, system, content, name, *style, input, output,
+            );
+            (none_left(), answer)
         }
         Command::List { name, style, .. } => {
-            text::<L, F, J, M, Y, I, O>(alloc, system, Content::Keys, name, *style, input, output)
+            let content = Content::Keys;
+            let answer = text::<L, F, J, M, Y, I, O>(
+                alloc, system, content, name, *style, input, output,
+            );
+            (none_left(), answer)
         }
         Command::Stats { name, .. } => {
             stats::<L, F, J, M, Y, I, O>(alloc, system, name, input, output)
@@ -102,6 +104,6 @@ where
                 alloc, system, names, creation, input, output, errors,
             )
         }
-        Command::Help => help(output),
+        Command::Help => (none_left(), help(output)),
     }
 }

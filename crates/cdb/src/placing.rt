@@ -3,7 +3,7 @@ ghost use Rattle.std.specs.Prelude.{◌≡◌, ◌∷◌, [], true, false, map, 
 ghost use Rattle.cdb.specs.Creating.{AsksAll, AsksBase, AsksEach, AsksOne};
 ghost use Rattle.cdb.specs.Creating.{FindsBase, FindsInput, FindsOne, MayBeOne};
 ghost use Rattle.cdb.specs.Inputs.{IsStandard};
-ghost use Rattle.cdb.specs.Creating.{MakesApart, MakesInPlace, Syncs, answer_of};
+ghost use Rattle.cdb.specs.Creating.{MakesApart, MakesInPlace, Syncs, answer_of, base_of};
 ghost use Rattle.cdb_files.specs.declared.answer.Answer.TheVariants.{No};
 ghost use Rattle.cdb_files.specs.declared.name_trace.NameCall.TheVariants.{Same};
 ghost use Rattle.cdb.specs.Contents.{making_of};
@@ -12,6 +12,7 @@ use crate::building::Building;
 use crate::contents::Contents;
 use crate::creating::Creation;
 use crate::inputs::is_standard;
+use crate::left::{Left, none_left};
 use crate::system::System;
 use cdb_files::{Answer, Builder, Names, ReplaceFault, replace_file};
 use cdb_form::Width;
@@ -96,6 +97,8 @@ fn may_be_read<N: Names>(names: &mut N, name: &str, creation: Creation<'_>) -> b
 ///
 /// `Open`: the base or an input is that file, and would be lost, or the system did not say whether it
 /// is; or the name is that of a link, or the file cannot be opened.
+///
+/// The file is handed back, and the base.
 #[inline(never)]
 pub(crate) fn make_in_place<L, F, J, M, Y, N, I, E>(
     alloc: Global,
@@ -104,7 +107,7 @@ pub(crate) fn make_in_place<L, F, J, M, Y, N, I, E>(
     creation: Creation<'_>,
     contents: Contents<L, F, J, I>,
     errors: &mut E,
-) -> Result<(), Fault>
+) -> (Left<F, M>, Result<(), Fault>)
 where
     L: Width,
     F: Store + Drop,
@@ -118,20 +121,25 @@ where
         (making_of L.WORD L.GREATEST J.remaining I.remaining contents)
         creation.entry.name.now (option_map string_bytes creation.entry.base.now)
         (map string_bytes creation.entry.inputs.now)
-        (Y.calls system.old) (Y.calls system.new) (N.calls names.old) (N.calls names.new)
-        (E.contents errors.old) (E.contents errors.new) result }
+        (Y.calls system.old) (Y.calls system.new) (N.calls names.old) (N.calls names.new) result.0
+        (E.contents errors.old) (E.contents errors.new) result.1 }
 {
     if may_be_read(names, creation.name, creation) {
-        return Err(Fault::Open);
+        return (none_left(), Err(Fault::Open));
     }
-    let store = system.empty(creation.name)?;
+    let store = match system.empty(creation.name) {
+        Ok(store) => store,
+        Err(fault) => return (none_left(), Err(fault)),
+    };
     let building = Building::<L, F, J, I, E> {
         alloc,
         contents,
         errors: PhantomData,
     };
-    let (mut store, built) = building.build(store, errors);
-    synced(&mut store, built)
+    let (mut store, read, built) = building.build(store, errors);
+    let answer = synced(&mut store, built);
+    let made = Some(store);
+    (Left { read, made }, answer)
 }
 
 /// What building a database in a store comes to once the store is flushed, unless it failed.
@@ -148,7 +156,7 @@ fn synced<S: Store>(store: &mut S, built: Result<(), Fault>) -> Result<(), Fault
 /// Makes it in a temporary file, which replaces the database once it is whole.
 ///
 /// If the temporary name refers to the base or to an input, or the system did not say whether it does,
-/// nothing is removed and the call fails.
+/// nothing is removed and the call fails. The base is handed back if there was a build.
 #[inline(never)]
 pub(crate) fn replace_database<L, F, J, N, I, E>(
     alloc: Global,
@@ -157,7 +165,7 @@ pub(crate) fn replace_database<L, F, J, N, I, E>(
     creation: Creation<'_>,
     contents: Contents<L, F, J, I>,
     errors: &mut E,
-) -> Result<(), Fault>
+) -> (Option<F>, Result<(), Fault>)
 where
     L: Width,
     F: Store + Drop,
@@ -168,25 +176,35 @@ where
     ensures { MakesApart F.Store N.File.RawFile
         (making_of L.WORD L.GREATEST J.remaining I.remaining contents)
         temporary.now creation.entry.name.now (option_map string_bytes creation.entry.base.now)
-        (map string_bytes creation.entry.inputs.now) (N.calls names.old) (N.calls names.new)
-        (E.contents errors.old) (E.contents errors.new) result }
+        (map string_bytes creation.entry.inputs.now) (N.calls names.old) (N.calls names.new) result.0
+        (E.contents errors.old) (E.contents errors.new) result.1 }
 {
     if may_be_read(names, temporary, creation) {
-        return Err(Fault::Open);
+        return (None, Err(Fault::Open));
     }
     let building = Building::<L, F, J, I, E> {
         alloc,
         contents,
         errors: PhantomData,
     };
-    let answer = replace_file::<N, Building<L, F, J, I, E>>(
+    let (handed, answer) = replace_file::<N, Building<L, F, J, I, E>>(
         names,
         creation.name,
         temporary,
         building,
         errors,
     );
-    answer_to_program(answer)
+    (handed_base(handed), answer_to_program(answer))
+}
+
+/// The base that a build handed back, if there was a build.
+fn handed_base<F: Drop>(handed: Option<Option<F>>) -> Option<F>
+    ensures { result ≡ base_of handed }
+{
+    match handed {
+        Some(base) => base,
+        None => None,
+    }
 }
 
 /// What the answer of a replacement is to the program.

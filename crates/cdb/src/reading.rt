@@ -8,6 +8,7 @@ ghost use Rattle.cdb_tool.specs.Runs.Load.{IsNotLoaded};
 ghost use Rattle.cdb.specs.Performs.{PerformsQuery, PerformsText, PerformsOn, LacksMemory, WritesText};
 ghost use Rattle.cdb.specs.Performs.{Takes, TellsStore, ChecksStore};
 
+use crate::left::{Left, none_left, read_left};
 use crate::system::System;
 use cdb_files::Answer;
 use cdb_form::{PIPE, Width};
@@ -28,7 +29,7 @@ pub(crate) fn query<L, F, J, M, Y, O>(
     number: Option<u64>,
     lines: bool,
     output: &mut O,
-) -> Result<(), Fault>
+) -> (Left<F, M>, Result<(), Fault>)
 where
     L: Width,
     F: Store + Drop,
@@ -38,11 +39,22 @@ where
     O: Write,
     requires { IfSome number (λ n. 1 ≤ n) }
     ensures { PerformsQuery L.WORD F.Store Y.System name.now
-        (record { key = key.now; number = number; lines = lines })
-        system.old system.new (O.contents output.old) (O.contents output.new) result }
+        (record { key = key.now; number = number; lines = lines }) system.old system.new result.0
+        (O.contents output.old) (O.contents output.new) result.1 }
 {
-    let store = system.open_store(name)?;
-    query_run::<L, F, O>(store, key.as_bytes(), number, lines, output).1
+    match system.open_store(name) {
+        Ok(store) => {
+            let (store, answer) = query_run::<L, F, O>(
+                store,
+                key.as_bytes(),
+                number,
+                lines,
+                output,
+            );
+            (read_left(store), answer)
+        }
+        Err(fault) => (none_left(), Err(fault)),
+    }
 }
 
 /// Writes the records of a database that is read in one pass, or their keys.
@@ -124,7 +136,7 @@ pub(crate) fn stats<L, F, J, M, Y, I, O>(
     name: &Option<String>,
     input: I,
     output: &mut O,
-) -> Result<(), Fault>
+) -> (Left<F, M>, Result<(), Fault>)
 where
     L: Width,
     F: Store + Drop,
@@ -134,24 +146,30 @@ where
     I: Read + Drop,
     O: Write,
     ensures { PerformsOn F.Store J.remaining Y.System L.GREATEST
-        (option_map string_bytes name.now) (I.remaining input) system.old system.new
-        (O.contents output.old) (O.contents output.new) result
-        (TellsStore L.WORD (O.contents output.old) (O.contents output.new) result F.Store)
-        (TellsStore L.WORD (O.contents output.old) (O.contents output.new) result in_memory) }
+        (option_map string_bytes name.now) (I.remaining input) system.old system.new result.0
+        (O.contents output.old) (O.contents output.new) result.1
+        (TellsStore L.WORD (O.contents output.old) (O.contents output.new) result.1 F.Store)
+        (TellsStore L.WORD (O.contents output.old) (O.contents output.new) result.1 in_memory) }
 {
     let Some(name) = name else {
-        return stats_of_stream::<L, I, O>(alloc, input, output);
+        return (
+            none_left(),
+            stats_of_stream::<L, I, O>(alloc, input, output),
+        );
     };
     match system.is_stream(name.as_str()) {
-        Answer::Yes => {
-            let file = system.open(name.as_str())?;
-            stats_of_stream::<L, J, O>(alloc, file, output)
-        }
-        Answer::No => {
-            let store = system.open_store(name.as_str())?;
-            stats_run::<L, F, O>(store, output).1
-        }
-        Answer::Unknown => Err(Fault::Open),
+        Answer::Yes => match system.open(name.as_str()) {
+            Ok(file) => (none_left(), stats_of_stream::<L, J, O>(alloc, file, output)),
+            Err(fault) => (none_left(), Err(fault)),
+        },
+        Answer::No => match system.open_store(name.as_str()) {
+            Ok(store) => {
+                let (store, answer) = stats_run::<L, F, O>(store, output);
+                (read_left(store), answer)
+            }
+            Err(fault) => (none_left(), Err(fault)),
+        },
+        Answer::Unknown => (none_left(), Err(Fault::Open)),
     }
 }
 
@@ -171,7 +189,7 @@ pub(crate) fn check<L, F, J, M, Y, I>(
     system: &mut Y,
     name: &Option<String>,
     input: I,
-) -> Result<(), Fault>
+) -> (Left<F, M>, Result<(), Fault>)
 where
     L: Width,
     F: Store + Drop,
@@ -180,22 +198,25 @@ where
     Y: System<F, J, M>,
     I: Read + Drop,
     ensures { (known : Option (List ℕ)) → PerformsOn F.Store J.remaining Y.System L.GREATEST
-        (option_map string_bytes name.now) (I.remaining input) system.old system.new known known
-        result (ChecksStore L.WORD known known result F.Store)
-        (ChecksStore L.WORD known known result in_memory) }
+        (option_map string_bytes name.now) (I.remaining input) system.old system.new result.0
+        known known result.1 (ChecksStore L.WORD known known result.1 F.Store)
+        (ChecksStore L.WORD known known result.1 in_memory) }
 {
     let Some(name) = name else {
-        return check_of_stream::<L, I>(alloc, input);
+        return (none_left(), check_of_stream::<L, I>(alloc, input));
     };
     match system.is_stream(name.as_str()) {
-        Answer::Yes => {
-            let file = system.open(name.as_str())?;
-            check_of_stream::<L, J>(alloc, file)
-        }
-        Answer::No => {
-            let store = system.open_store(name.as_str())?;
-            check_run::<L, F>(alloc, store).1
-        }
-        Answer::Unknown => Err(Fault::Open),
+        Answer::Yes => match system.open(name.as_str()) {
+            Ok(file) => (none_left(), check_of_stream::<L, J>(alloc, file)),
+            Err(fault) => (none_left(), Err(fault)),
+        },
+        Answer::No => match system.open_store(name.as_str()) {
+            Ok(store) => {
+                let (store, answer) = check_run::<L, F>(alloc, store);
+                (read_left(store), answer)
+            }
+            Err(fault) => (none_left(), Err(fault)),
+        },
+        Answer::Unknown => (none_left(), Err(Fault::Open)),
     }
 }

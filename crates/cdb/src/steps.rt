@@ -1,9 +1,10 @@
 // What the program does: the command of its words, and its exit status.
 ghost use Rattle.std.specs.Prelude.{◌≡◌, [], map, string_bytes};
 ghost use Rattle.cdb_tool.specs.Command.{asked_in, has_wide_words, IsInRange, plan_of};
-ghost use Rattle.cdb_tool.specs.Views.Output.{output_bytes, held_by, HasHandedOn};
+ghost use Rattle.cdb_tool.specs.Views.Output.{output_bytes, held_by, HasHandedOn, OutputFailed};
 ghost use Rattle.cdb.specs.Performs.{Does, HandsOn, IsUntouched, Runs};
 
+use crate::left::{Left, none_left};
 use crate::performing::perform_in;
 use crate::system::System;
 use crate::telling::{refuse, tell};
@@ -14,8 +15,8 @@ use cdb_tool::{Command, DONE, Fault, Output, plan, status_of};
 use std::alloc::Global;
 use std::io::{Read, Write};
 
-/// Does what the words ask for, of which the first is the program's name, and answers the exit
-/// status. A fault has its line on `errors`, as far as that takes it.
+/// Does what the words ask for, of which the first is the program's name, hands back what it leaves
+/// open, and answers the exit status. A fault has its line on `errors`, unless that fails.
 pub(crate) fn run<F, J, M, Y, N, I, O, E>(
     alloc: Global,
     system: &mut Y,
@@ -24,7 +25,7 @@ pub(crate) fn run<F, J, M, Y, N, I, O, E>(
     input: I,
     output: &mut Output<O>,
     errors: &mut Output<E>,
-) -> u8
+) -> (Left<F, M>, u8)
 where
     F: Store + Drop,
     J: Read + Drop,
@@ -36,17 +37,18 @@ where
     E: Write,
     ensures runs { Runs F.Store M.Store N.File.RawFile J.remaining Y.System
         (plan_of (map string_bytes words.items)) (I.remaining input) system.old system.new
-        (N.calls names.old) (N.calls names.new) (output_bytes O.contents output.old)
+        (N.calls names.old) (N.calls names.new) result.0 (output_bytes O.contents output.old)
         (output_bytes O.contents output.new) (O.contents output.new.writer)
-        (output_bytes E.contents errors.old) (output_bytes E.contents errors.new) result }
+        (output_bytes E.contents errors.old) (output_bytes E.contents errors.new)
+        (OutputFailed output.new) (OutputFailed errors.new) result.1 }
     ensures handed { held_by output.old ≡ [] → HasHandedOn output.new }
     ensures said { HasHandedOn errors.new }
 {
-    let status = answer::<F, J, M, Y, N, I, O, Output<E>>(
+    let (left, status) = answer::<F, J, M, Y, N, I, O, E>(
         alloc, system, names, words, input, output, errors,
     );
     let _ = errors.flush();
-    status
+    (left, status)
 }
 
 /// Does what the words ask for, and answers the exit status. What is said stays where `errors` holds
@@ -58,8 +60,8 @@ fn answer<F, J, M, Y, N, I, O, E>(
     words: Vec<String>,
     input: I,
     output: &mut Output<O>,
-    errors: &mut E,
-) -> u8
+    errors: &mut Output<E>,
+) -> (Left<F, M>, u8)
 where
     F: Store + Drop,
     J: Read + Drop,
@@ -71,20 +73,24 @@ where
     E: Write,
     ensures runs { Runs F.Store M.Store N.File.RawFile J.remaining Y.System
         (plan_of (map string_bytes words.items)) (I.remaining input) system.old system.new
-        (N.calls names.old) (N.calls names.new) (output_bytes O.contents output.old)
+        (N.calls names.old) (N.calls names.new) result.0 (output_bytes O.contents output.old)
         (output_bytes O.contents output.new) (O.contents output.new.writer)
-        (E.contents errors.old) (E.contents errors.new) result }
+        (output_bytes E.contents errors.old) (output_bytes E.contents errors.new)
+        (OutputFailed output.new) (OutputFailed errors.new) result.1 }
     ensures handed { held_by output.old ≡ [] → HasHandedOn output.new }
 {
     let command = match plan(alloc, words) {
         Ok(command) => command,
-        Err(usage) => return refuse(&usage, errors),
+        Err(usage) => return (none_left(), refuse(&usage, errors)),
     };
-    match perform::<F, J, M, Y, N, I, O, E>(alloc, system, names, &command, input, output, errors) {
-        Ok(()) => DONE,
+    let (left, performed) = perform::<F, J, M, Y, N, I, O, Output<E>>(
+        alloc, system, names, &command, input, output, errors,
+    );
+    match performed {
+        Ok(()) => (left, DONE),
         Err(fault) => {
             tell(&fault, errors);
-            status_of(&command, &fault)
+            (left, status_of(&command, &fault))
         }
     }
 }
@@ -98,7 +104,7 @@ fn perform<F, J, M, Y, N, I, O, E>(
     input: I,
     output: &mut Output<O>,
     errors: &mut E,
-) -> Result<(), Fault>
+) -> (Left<F, M>, Result<(), Fault>)
 where
     F: Store + Drop,
     J: Read + Drop,
@@ -110,15 +116,15 @@ where
     E: Write,
     requires { IsInRange (asked_in command.now) }
     ensures does { Does F.Store M.Store N.File.RawFile J.remaining Y.System (asked_in command.now)
-        (I.remaining input) system.old system.new (N.calls names.old) (N.calls names.new)
+        (I.remaining input) system.old system.new (N.calls names.old) (N.calls names.new) result.0
         (output_bytes O.contents output.old) (O.contents output.new.writer)
-        (E.contents errors.old) (E.contents errors.new) result }
+        (E.contents errors.old) (E.contents errors.new) (OutputFailed output.new) result.1 }
     ensures silent { IsUntouched (asked_in command.now)
         (E.contents errors.old) (E.contents errors.new) }
     ensures same { IsUntouched (asked_in command.now) (N.calls names.old) (N.calls names.new) }
     ensures handed { HasHandedOn output.new }
 {
-    let answer = if is_wide(command) {
+    let performed = if is_wide(command) {
         perform_in::<Wide, F, J, M, Y, N, I, Output<O>, E>(
             alloc, system, names, command, input, output, errors,
         )
@@ -127,14 +133,15 @@ where
             alloc, system, names, command, input, output, errors,
         )
     };
-    handed_on(output, answer)
+    let (left, answer) = performed;
+    (left, handed_on(output, answer))
 }
 
 /// Hands on what the output of a command still holds, after a fault too. A flush that fails is
 /// `Output` if no other fault came.
 fn handed_on<O: Write>(output: &mut Output<O>, answer: Result<(), Fault>) -> Result<(), Fault>
-    ensures hands { HandsOn (output_bytes O.contents output.old) (O.contents output.new.writer) answer
-        result }
+    ensures hands { HandsOn (output_bytes O.contents output.old) (O.contents output.new.writer)
+        (OutputFailed output.new) answer result }
     ensures handed { HasHandedOn output.new }
 {
     match (answer, output.flush()) {

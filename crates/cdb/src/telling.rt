@@ -2,48 +2,52 @@
 ghost use Rattle.std.specs.Prelude.{◌≡◌};
 ghost use Rattle.cdb_form.specs.Views.KnownBytes.{AppendsPrefix};
 ghost use Rattle.cdb_tool.specs.Message.{fault_line};
-ghost use Rattle.cdb.specs.Performs.{usage_line, usage_status};
+ghost use Rattle.cdb_tool.specs.Views.Output.{output_bytes, OutputFailed};
+ghost use Rattle.cdb.specs.Performs.{SaysLine, usage_line, usage_status};
 
-use arrayvec::ArrayVec;
-use cdb_form::{write_pieces, write_whole};
-use cdb_tool::{BAD_USAGE, FAILED, Fault, Usage, write_fault};
+use cdb_form::write_pieces;
+use cdb_tool::{BAD_USAGE, FAILED, Fault, Output, Usage, write_fault};
 use std::io::Write;
 
-/// A line before it is written. It needs no memory, and has room for that of each fault.
-type Line = ArrayVec<u8, 256>;
-
-/// Writes a line at once, so that no other program's line comes between, as far as `errors` takes
-/// it.
-fn write_line<E: Write>(line: &Line, errors: &mut E)
-    ensures { AppendsPrefix (E.contents errors.old) (E.contents errors.new) line.now.items }
-{
-    let _ = write_whole(errors, line.as_slice());
-}
-
-/// Says what a fault is.
+/// Says what a fault is, unless `errors` fails.
 #[cold]
 #[inline(never)]
-pub(crate) fn tell<E: Write>(fault: &Fault, errors: &mut E)
-    ensures { AppendsPrefix (E.contents errors.old) (E.contents errors.new) (fault_line fault.now) }
+pub(crate) fn tell<E: Write>(fault: &Fault, errors: &mut Output<E>)
+    ensures { SaysLine (fault_line fault.now) (output_bytes E.contents errors.old)
+        (output_bytes E.contents errors.new) (OutputFailed errors.new) }
 {
-    let mut line = Line::new();
-    let _ = write_fault(fault, &mut line);
-    write_line(&line, errors);
+    let _ = write_fault(fault, errors);
 }
 
-/// Says why the words ask for nothing, and answers the exit status.
-#[cold]
-#[inline(never)]
-pub(crate) fn refuse<E: Write>(usage: &Usage, errors: &mut E) -> u8
-    ensures line { AppendsPrefix (E.contents errors.old) (E.contents errors.new)
-        (usage_line usage.now) }
-    ensures status { result ≡ usage_status usage.now }
+/// The exit status of words that ask for nothing.
+fn refused_status(usage: &Usage) -> u8
+    ensures { result ≡ usage_status usage.now }
 {
-    let mut line = Line::new();
-    let _ = write_pieces(&mut line, &[b"cdb: ", usage.message().as_bytes(), b"\n"]);
-    write_line(&line, errors);
     match usage {
         Usage::NoMemory => FAILED,
         _ => BAD_USAGE,
     }
+}
+
+/// Says why the words ask for nothing, unless `errors` fails, and answers the exit status.
+#[cold]
+#[inline(never)]
+pub(crate) fn refuse<E: Write>(usage: &Usage, errors: &mut Output<E>) -> u8
+    ensures line { SaysLine (usage_line usage.now) (output_bytes E.contents errors.old)
+        (output_bytes E.contents errors.new) (OutputFailed errors.new) }
+    ensures status { result ≡ usage_status usage.now }
+{
+    let _ = errors.take_pieces(&[b"cdb: ", usage.message().as_bytes(), b"\n"]);
+    refused_status(usage)
+}
+
+/// Says why the program cannot begin, at once, as far as `errors` takes it, and answers the exit
+/// status.
+pub(crate) fn refuse_unbuffered<E: Write>(usage: &Usage, errors: &mut E) -> u8
+    ensures line { AppendsPrefix (E.contents errors.old) (E.contents errors.new)
+        (usage_line usage.now) }
+    ensures status { result ≡ usage_status usage.now }
+{
+    let _ = write_pieces(errors, &[b"cdb: ", usage.message().as_bytes(), b"\n"]);
+    refused_status(usage)
 }

@@ -276,6 +276,11 @@ abbrev pub IsOfBuilder : {E : Type 0} → (E → Type 0) → ReplaceFault E → 
 IsOfBuilder P (Build fault) = P fault
 IsOfBuilder P fault = Unit {0}
 
+-- what a builder built that handed this back, if it built anything
+abbrev pub BuiltWith : {B : Type 0} → (B → List ℕ → Type 0) → Option B → List ℕ → Type 0
+BuiltWith builds None b = ⊥
+BuiltWith builds (Some back) b = builds back b
+
 -- what a replacement answers whose builder answered so: a fault is told, and a rename may fail
 abbrev pub Answers : {E : Type 0} → Result Unit E → Result Unit (ReplaceFault E) → Type 0
 Answers (Ok done) (Ok all) = Unit {0}
@@ -284,12 +289,15 @@ Answers (Err fault) result = result ≡ Err (Build fault)
 
 -- a builder built a file, or failed to, and left this in what it writes to beside; the file's bytes
 -- stayed as it was sealed; and if all went well, that very file was renamed
-pub record TellsOfFile {F T E : Type 0} (file : Raw F)
-    (tells : T → T → (List ℕ → Type 0) → Result Unit E → Type 0) (temporary name : List ℕ)
-    (calls : NameCalls) (told said : T) (result : Result Unit (ReplaceFault E)) : Type 0 where
+pub record TellsOfFile {F B T E : Type 0} (file : Raw F)
+    (tells : B → T → T → (List ℕ → Type 0) → Result Unit E → Type 0) (temporary name : List ℕ)
+    (calls : NameCalls) (handed : Option B) (told said : T)
+    (result : Result Unit (ReplaceFault E)) : Type 0 where
+  pub back : B
+  pub is_handed : handed ≡ Some back
   pub left : FileStore F file
   pub built : Result Unit E
-  pub tells_so : tells told said (images_of left) built
+  pub tells_so : tells back told said (images_of left) built
   pub answers : Answers built result
   pub sealed : FileStore F file
   pub same : SameImages (images_of left) (images_of sealed)
@@ -297,10 +305,11 @@ pub record TellsOfFile {F T E : Type 0} (file : Raw F)
   pub renamed : OnOk result (RenamesFile temporary name sealed.len (calls_of sealed) calls)
 
 -- nothing was built, and it is as it was; or something was
-abbrev pub Tells : {F T E : Type 0} → Raw F
-    → (T → T → (List ℕ → Type 0) → Result Unit E → Type 0) → (temporary name : List ℕ)
-    → (old new : NameCalls) → (told said : T) → Result Unit (ReplaceFault E) → Type 0
-Tells {E = E} file tells temporary name old new told said result =
-    ((said ≡ told) × (fault : ReplaceFault E) × (result ≡ Err fault)
+abbrev pub Tells : {F B T E : Type 0} → Raw F
+    → (B → T → T → (List ℕ → Type 0) → Result Unit E → Type 0) → (temporary name : List ℕ)
+    → (old new : NameCalls) → (handed : Option B) → (told said : T)
+    → Result Unit (ReplaceFault E) → Type 0
+Tells {E = E} file tells temporary name old new handed told said result =
+    ((handed ≡ None) × (said ≡ told) × (fault : ReplaceFault E) × (result ≡ Err fault)
     × StopsUnbuilt temporary name old new fault)
-    ⊎ TellsOfFile file tells temporary name new told said result
+    ⊎ TellsOfFile file tells temporary name new handed told said result

@@ -22,16 +22,13 @@ ghost use Rattle.cdb_files.specs.Replacing.{
 
 use crate::fault::FileFault;
 use crate::names::Names;
-use crate::real_names::RealNames;
 use crate::replace::{Builder, replace_file};
 use crate::unsynced::Unsynced;
 use cdb_form::{PIPE, Record, Width};
 use cdb_make::{MakeFault, Maker, Mode};
-use cdb_store::{BufferedStore, FileStore, Store};
+use cdb_store::{BufferedStore, Store};
 use std::alloc::Global;
-use std::fs::File;
 use std::marker::PhantomData;
-use std::rt::Files;
 
 /// Builds the database of some records, in their order.
 #[derive(Drop)]
@@ -101,14 +98,16 @@ impl<'a, S: Store, L: Width> Builder<S> for Records<'a, L> {
 
     type Told = ();
 
-    ghost builds = { λ r. IsFileOf L.WORD r.records.now };
+    type Back = ();
+
+    ghost builds = { λ r _. IsFileOf L.WORD r.records.now };
 
     ghost fails = { λ r old new. FailsBuilding L.WORD L.GREATEST r.records.now
         (S.failures old) (S.failures new) (S.image new) };
 
-    ghost tells = { λ _ _ _ _ _. ⊤ };
+    ghost tells = { λ _ _ _ _ _ _. ⊤ };
 
-    fn build(self, store: S, _told: &mut ()) -> (S, Result<(), MakeFault>) {
+    fn build(self, store: S, _told: &mut ()) -> (S, (), Result<(), MakeFault>) {
         let Records {
             alloc,
             records,
@@ -119,9 +118,9 @@ impl<'a, S: Store, L: Width> Builder<S> for Records<'a, L> {
                 let (buffered, made) = put_all::<BufferedStore<Unsynced<S>>, L>(
                     alloc, buffered, records,
                 );
-                (buffered.discard().into_inner(), made)
+                (buffered.discard().into_inner(), (), made)
             }
-            Err(failed) => (failed.value.into_inner(), Err(MakeFault::NoMemory)),
+            Err(failed) => (failed.value.into_inner(), (), Err(MakeFault::NoMemory)),
         }
     }
 }
@@ -159,30 +158,11 @@ pub fn make_file_in<L: Width, N: Names>(
         (LeavesNew name.now (IsFileOf L.WORD records.now) (N.calls names.new)) }
 {
     let builder = Records::<L>::new(alloc, records);
-    match replace_file::<N, Records<L>>(names, name, temporary, builder, &mut ()) {
+    let (_, replaced) = replace_file::<N, Records<L>>(names, name, temporary, builder, &mut ());
+    match replaced {
         Ok(()) => Ok(()),
         Err(fault) => Err(FileFault::from(fault)),
     }
-}
-
-/// Makes the database of some records under a name, by way of the name with `.tmp` after it.
-fn make_beside<L: Width, N: Names>(
-    names: &mut N,
-    alloc: Global,
-    name: &str,
-    records: &[Record],
-) -> Result<(), FileFault>
-    ensures ok { OnOk result
-        (IsRenamed (name.now ++ codes ".tmp") name.now (N.calls names.new)) }
-    ensures calls { AreOfReplacing (name.now ++ codes ".tmp") name.now
-        (IsFileOf L.WORD records.now) (N.calls names.old) (N.calls names.new) }
-    ensures err { IfErr result (FailsBeside (name.now ++ codes ".tmp") name.now
-        (N.calls names.old) (N.calls names.new)) }
-{
-    let Ok(temporary) = format!(in alloc; "{name}.tmp") else {
-        return Err(FileFault::NoMemory);
-    };
-    make_file_in::<L, N>(names, alloc, name, temporary.as_str(), records)
 }
 
 /// Makes the database of some records under a name, by way of the name with `.tmp` after it.
@@ -193,11 +173,34 @@ fn make_beside<L: Width, N: Names>(
 ///
 /// What had the name has it still after each fault, unless a rename that answered a fault happened
 /// all the same.
-pub fn make_file<L: Width, R: Files<File = File> + AllocGlobal>(
-    rt: &R,
+pub fn make_file<L: Width, N: Names>(
+    names: &mut N,
+    alloc: Global,
     name: &str,
     records: &[Record],
-) -> Result<(), FileFault> {
-    let mut names = RealNames::new(rt);
-    make_beside::<L, RealNames<R>>(&mut names, rt.alloc(), name, records)
+) -> Result<(), FileFault>
+    ensures ok { OnOk result
+        (IsRenamed (name.now ++ codes ".tmp") name.now (N.calls names.new)) }
+    ensures calls { AreOfReplacing (name.now ++ codes ".tmp") name.now
+        (IsFileOf L.WORD records.now) (N.calls names.old) (N.calls names.new) }
+    ensures guarded { AreGuarded name.now (N.calls names.old) (N.calls names.new) }
+    ensures kept { OnErr result (renames (N.calls names.new) ≡ renames (N.calls names.old)) }
+    ensures err { IfErr result (FailsBeside (name.now ++ codes ".tmp") name.now
+        (N.calls names.old) (N.calls names.new)) }
+    // The fault of the maker is the one that it answered.
+    ensures build { IfErr result
+        (IsOfBuilding (FailsToMake N.File.RawFile L.WORD L.GREATEST records.now)) }
+    // A crash at any moment leaves the old file or the database of the records, if the names are of
+    // two files.
+    ensures any_moment { AtEachMoment (LeavesOldOrNew (name.now ++ codes ".tmp") name.now
+        (IsFileOf L.WORD records.now) (N.calls names.old)) (N.calls names.old)
+        (N.calls names.new) }
+    // Once the folder was synced, a crash leaves the database of the records.
+    ensures sure { OnOk result
+        (LeavesNew name.now (IsFileOf L.WORD records.now) (N.calls names.new)) }
+{
+    let Ok(temporary) = format!(in alloc; "{name}.tmp") else {
+        return Err(FileFault::NoMemory);
+    };
+    make_file_in::<L, N>(names, alloc, name, temporary.as_str(), records)
 }

@@ -27,6 +27,7 @@ ghost use Rattle.cdb_files.specs.Replacing.{
   AreOfReplacing,
   AreSteps,
   AtEachMoment,
+  BuiltWith,
   EndsIn,
   FailsRename,
   FailsToBuild,
@@ -63,24 +64,28 @@ pub trait Builder<S: Store> {
     /// What it writes to beside the store, as for lines of warnings: `()` if there is nothing.
     type Told;
 
-    /// The files that it may build.
-    ghost builds: { Self → List ℕ → Type 0 };
+    /// What it hands back beside the store, such as what it read: `()` if there is nothing.
+    type Back;
+
+    /// The files that it may build if it hands this back.
+    ghost builds: { Self → Self.Back → List ℕ → Type 0 };
 
     /// Why it may not have built one in a store, as that was and as it is then. A builder that does
     /// not say may fail for any reason.
     ghost fails: { Self → S → S → Self.Fault → Type 0 } = { λ _ _ _ _. ⊤ };
 
-    /// What it leaves in what it writes to beside, as that was and as it is then, with the images
-    /// of the store and the answer.
-    ghost tells: { Self → Self.Told → Self.Told → (List ℕ → Type 0) → Result Unit Self.Fault
-        → Type 0 };
+    /// What it hands back, and what it leaves in what it writes to beside, as that was and as it is
+    /// then, with the images of the store and the answer.
+    ghost tells: { Self → Self.Back → Self.Told → Self.Told → (List ℕ → Type 0)
+        → Result Unit Self.Fault → Type 0 };
 
     /// Builds the file, and hands the store back. It need not flush the store: the caller does, after
     /// its own last change. After a fault the store may hold anything.
-    fn build(self, store: S, told: &mut Self::Told) -> (S, Result<(), Self::Fault>)
-        ensures built { OnOk result.1 ((b : List ℕ) → S.image result.0 b → builds self b) }
-        ensures fails { IfErr result.1 (fails self store result.0) }
-        ensures tells { tells self told.old told.new (S.image result.0) result.1 };
+    fn build(self, store: S, told: &mut Self::Told) -> (S, Self::Back, Result<(), Self::Fault>)
+        ensures built { OnOk result.2
+            ((b : List ℕ) → S.image result.0 b → builds self result.1 b) }
+        ensures fails { IfErr result.2 (fails self store result.0) }
+        ensures tells { tells self result.1 told.old told.new (S.image result.0) result.2 };
 }
 
 /// Why a file was not replaced.
@@ -386,52 +391,60 @@ fn publish<N: Names, E: Drop>(
 ///
 /// If the system did not say what a name has, nothing is touched: `Open`.
 ///
-/// What the builder writes to beside the file is passed on to it.
+/// What the builder writes to beside the file is passed on to it. What it handed back is handed on:
+/// `None` if nothing was built.
 pub fn replace_file<N: Names, B: Builder<FileStore<N::File>> + Drop>(
     names: &mut N,
     name: &str,
     temporary: &str,
     builder: B,
     told: &mut B::Told,
-) -> Result<(), ReplaceFault<B::Fault>>
+) -> (Option<B::Back>, Result<(), ReplaceFault<B::Fault>>)
     // Nothing but the rename touches the name, and it comes after a sync that no write follows.
-    ensures calls { AreOfReplacing temporary.now name.now (B.builds builder) (N.calls names.old)
-        (N.calls names.new) }
+    ensures calls { AreOfReplacing temporary.now name.now (BuiltWith (B.builds builder) result.0)
+        (N.calls names.old) (N.calls names.new) }
     // A name is taken only from a file whose lock this create holds. A file is renamed only if its
     // lock is held, its name was seen to have it, the two names were seen to be of two files, it got
     // the permission bits for the name, and that led to a regular file or to nothing.
     ensures guarded { AreGuarded name.now (N.calls names.old) (N.calls names.new) }
-    ensures ok { OnOk result (IsRenamed temporary.now name.now (N.calls names.new)) }
-    ensures renames_ok { OnOk result
+    ensures ok { OnOk result.1 (IsRenamed temporary.now name.now (N.calls names.new)) }
+    ensures renames_ok { OnOk result.1
         (renames (N.calls names.new) ≡ renames (N.calls names.old) + 1) }
-    ensures renames_err { OnErr result (renames (N.calls names.new) ≡ renames (N.calls names.old)) }
-    ensures err { IfErr result
+    ensures renames_err { OnErr result.1
+        (renames (N.calls names.new) ≡ renames (N.calls names.old)) }
+    ensures err { IfErr result.1
         (EndsIn temporary.now name.now (N.calls names.old) (N.calls names.new)) }
     // The fault of the builder is the one that it answered.
-    ensures build { IfErr result (IsOfBuilder (FailsToBuild (B.fails builder))) }
+    ensures build { IfErr result.1 (IsOfBuilder (FailsToBuild (B.fails builder))) }
     // If nothing was built, what the builder writes to beside is as it was. Else it is as the
     // builder left it, and at Ok the file that it built then was renamed.
     ensures told { Tells N.File.RawFile (B.tells builder) temporary.now name.now
-        (N.calls names.old) (N.calls names.new) told.old told.new result }
+        (N.calls names.old) (N.calls names.new) result.0 told.old told.new result.1 }
     // With one text for both names nothing is done.
     ensures one_name { (temporary.now ≢ name.now) ⊎ (N.calls names.new ≡ N.calls names.old) }
     // A crash at any moment leaves the old file or the new one, whole, if the names are of two files.
     // A rename comes only after the system answered so.
-    ensures any_moment { AtEachMoment (LeavesOldOrNew temporary.now name.now (B.builds builder)
-        (N.calls names.old)) (N.calls names.old) (N.calls names.new) }
+    ensures any_moment { AtEachMoment (LeavesOldOrNew temporary.now name.now
+        (BuiltWith (B.builds builder) result.0) (N.calls names.old)) (N.calls names.old)
+        (N.calls names.new) }
     // Once the folder was synced, a crash leaves the new one.
-    ensures sure { OnOk result (LeavesNew name.now (B.builds builder) (N.calls names.new)) }
+    ensures sure { OnOk result.1
+        (LeavesNew name.now (BuiltWith (B.builds builder) result.0) (N.calls names.new)) }
 {
-    let empty = make_temporary(names, name, temporary)?;
-    let (mut store, built) = builder.build(empty, told);
+    let empty = match make_temporary(names, name, temporary) {
+        Ok(empty) => empty,
+        Err(fault) => return (None, Err(fault)),
+    };
+    let (mut store, back, built) = builder.build(empty, told);
     if let Err(fault) = built {
         names.remove_own(temporary, store.file());
-        return Err(ReplaceFault::Build(fault));
+        return (Some(back), Err(ReplaceFault::Build(fault)));
     }
     if let Err(fault) = seal(names, &mut store, name, temporary) {
         names.remove_own(temporary, store.file());
-        return Err(fault);
+        return (Some(back), Err(fault));
     }
     let len = store.len();
-    publish(names, store.into_file(), len, name, temporary)
+    let published = publish(names, store.into_file(), len, name, temporary);
+    (Some(back), published)
 }

@@ -1,12 +1,14 @@
 // What is said of a fault.
-ghost use Rattle.std.specs.Prelude.{◌≡◌, [], ◌++◌, Some, codes};
+ghost use Rattle.std.specs.Prelude.{◌≡◌, [], ◌++◌, OnErr, Some, codes};
 ghost use Rattle.cdb_form.specs.Views.KnownBytes.{Writes};
 ghost use Rattle.cdb_tool.specs.Message.{fault_message, numbered, said_place, fault_place};
 ghost use Rattle.cdb_tool.specs.Message.{read_place};
 ghost use Rattle.cdb_tool.specs.Message.{fault_text, said_line, fault_line, duplicate_line};
+ghost use Rattle.cdb_tool.specs.Views.Output.{output_bytes, OutputFailed};
 
 use crate::fault::Fault;
-use cdb_form::{OutFault, TextFault, WalkFault, write_pieces, write_whole};
+use crate::output::Output;
+use cdb_form::{OutFault, TextFault, WalkFault, write_pieces};
 use cdb_make::MakeFault;
 use cdb_read::ReadFault;
 use itoa::Buffer;
@@ -101,17 +103,25 @@ impl fmt::Display for Fault {
 impl Error for Fault {}
 
 /// Writes what is named by a number.
-fn write_numbered<E: Write>(part: &[u8], number: u64, errors: &mut E) -> Result<(), OutFault>
-    ensures { Writes result (E.contents errors.old) (E.contents errors.new) (numbered part.now number) }
+fn write_numbered<E: Write>(
+    part: &[u8],
+    number: u64,
+    errors: &mut Output<E>,
+) -> Result<(), OutFault>
+    ensures writes { Writes result (output_bytes E.contents errors.old)
+        (output_bytes E.contents errors.new) (numbered part.now number) }
+    ensures failed { OnErr result (OutputFailed errors.new) }
 {
     let mut digits = Buffer::new();
     let number = digits.format(number).as_bytes();
-    write_pieces(errors, &[part, number, b": "])
+    errors.take_pieces(&[part, number, b": "])
 }
 
 /// Writes where a fault is.
-fn write_place<E: Write>(place: Place, errors: &mut E) -> Result<(), OutFault>
-    ensures { Writes result (E.contents errors.old) (E.contents errors.new) (said_place place) }
+fn write_place<E: Write>(place: Place, errors: &mut Output<E>) -> Result<(), OutFault>
+    ensures writes { Writes result (output_bytes E.contents errors.old)
+        (output_bytes E.contents errors.new) (said_place place) }
+    ensures failed { OnErr result (OutputFailed errors.new) }
 {
     match place {
         Place::Nowhere => Ok(()),
@@ -130,18 +140,23 @@ fn write_place<E: Write>(place: Place, errors: &mut E) -> Result<(), OutFault>
 }
 
 /// Writes where a fault is and what it is, in a line.
-fn write_said<E: Write>(fault: &Fault, errors: &mut E) -> Result<(), OutFault>
-    ensures { Writes result (E.contents errors.old) (E.contents errors.new) (said_line fault.now) }
+fn write_said<E: Write>(fault: &Fault, errors: &mut Output<E>) -> Result<(), OutFault>
+    ensures writes { Writes result (output_bytes E.contents errors.old)
+        (output_bytes E.contents errors.new) (said_line fault.now) }
+    ensures failed { OnErr result (OutputFailed errors.new) }
 {
-    write_whole(errors, b"cdb: ")?;
+    errors.take_all(b"cdb: ")?;
     write_place(fault.place(), errors)?;
-    write_pieces(errors, &[fault.message().as_bytes(), b"\n"])
+    errors.take_pieces(&[fault.message().as_bytes(), b"\n"])
 }
 
 /// Writes the line that says what a fault is, with its newline. A value that is missing has no
-/// line. After an `OutFault` the writer holds a prefix of it.
-pub fn write_fault<E: Write>(fault: &Fault, errors: &mut E) -> Result<(), OutFault>
-    ensures { Writes result (E.contents errors.old) (E.contents errors.new) (fault_line fault.now) }
+/// line. After an `OutFault` the output took a prefix of it, and has failed. The output is not
+/// flushed.
+pub fn write_fault<E: Write>(fault: &Fault, errors: &mut Output<E>) -> Result<(), OutFault>
+    ensures writes { Writes result (output_bytes E.contents errors.old)
+        (output_bytes E.contents errors.new) (fault_line fault.now) }
+    ensures failed { OnErr result (OutputFailed errors.new) }
 {
     match *fault {
         Fault::Missing => Ok(()),

@@ -1,8 +1,9 @@
 // Output through a buffer, from which many bytes go at once.
 ghost use Rattle.std.specs.Prelude.{◌≡◌, ℕ, ◌+◌, ◌<◌, ◌≤◌, [], ◌-◌, length, take, min, true, false};
-ghost use Rattle.std.specs.Prelude.{IfOk, OnOk, OnErr, vec_len};
+ghost use Rattle.std.specs.Prelude.{IfOk, OnOk, OnErr, flat_map, vec_len};
 ghost use Rattle.std.specs.Io.{WritesAtMost};
 ghost use Rattle.std.specs.Io.KnownBytes.{Keeps, Appends, WriteAppends};
+ghost use Rattle.cdb_form.specs.Views.KnownBytes.{Writes};
 
 use cdb_form::{OutFault, write_some};
 use std::alloc::{AllocError, Global};
@@ -20,7 +21,7 @@ pub struct Output<W> {
     buffer: Vec<u8>,
     start: usize,
     size: usize,
-    /// The writer has failed.
+    /// The writer has failed, or an allocation for it has.
     failed: bool,
     ghost some: { 0 < size },
     ghost within: { start ≤ vec_len buffer },
@@ -104,6 +105,34 @@ impl<W: Write> Output<W> {
         self.buffer.extend_from_slice(&bytes[..n])?;
         Ok(n)
     }
+
+    /// Takes all of some bytes. After a fault it took a prefix of them, and has failed.
+    pub fn take_all(&mut self, bytes: &[u8]) -> Result<(), OutFault>
+        ensures writes { Writes result (output_bytes W.contents self.old)
+            (output_bytes W.contents self.new) bytes.now }
+        ensures failed { OnErr result (self.new.failed ≡ true) }
+    {
+        let mut done = 0;
+        while done < bytes.len() {
+            match self.write(&bytes[done..]) {
+                Ok(n) => done += n,
+                Err(_) => return Err(OutFault),
+            }
+        }
+        Ok(())
+    }
+
+    /// Takes one piece after the other. After a fault it took a prefix of them all, and has failed.
+    pub fn take_pieces(&mut self, pieces: &[&[u8]]) -> Result<(), OutFault>
+        ensures writes { Writes result (output_bytes W.contents self.old)
+            (output_bytes W.contents self.new) (flat_map (λ p. p.now) pieces.now) }
+        ensures failed { OnErr result (self.new.failed ≡ true) }
+    {
+        for piece in pieces {
+            self.take_all(piece)?;
+        }
+        Ok(())
+    }
 }
 
 impl<W: Write> Write for Output<W> {
@@ -119,6 +148,7 @@ impl<W: Write> Write for Output<W> {
         // Some bytes are taken if there are any.
         ensures some { IfOk result (λ n. 0 < length buf.now → 0 < n) }
         ensures sound { OnOk result (self.new.failed ≡ self.old.failed) }
+        ensures failed { OnErr result (self.new.failed ≡ true) }
     {
         // More than the buffer has room for isn't copied.
         if self.size < buf.len() {
@@ -132,7 +162,9 @@ impl<W: Write> Write for Output<W> {
                 return Err(io::Error::from(ErrorKind::Other));
             };
         }
-        Ok(self.take(buf)?)
+        let taken = self.take(buf);
+        self.failed |= taken.is_err();
+        Ok(taken?)
     }
 
     fn flush(&mut self) -> io::Result<()>

@@ -1,5 +1,5 @@
 // A caller of cdb_files: a database is made under its name, opened, and asked for a value.
-use cdb_files::{FileFault, make_file, open_file};
+use cdb_files::{FileFault, RealNames, make_file, open_file};
 use cdb_form::{Narrow, Record};
 use std::fs::File;
 use std::rt::Files;
@@ -14,7 +14,8 @@ pub fn make_and_get<R: Files<File = File> + AllocGlobal>(
     records: &[Record],
     key: &[u8],
 ) -> Result<Option<Vec<u8>>, FileFault> {
-    make_file::<Narrow, R>(rt, name, records)?;
+    let mut names = RealNames::new(rt);
+    make_file::<Narrow, RealNames<R>>(&mut names, rt.alloc(), name, records)?;
     let mut reader = open_file::<Narrow, R>(rt, name)?;
     Ok(reader.get(rt.alloc(), key)?)
 }

@@ -9,7 +9,7 @@ use std::test::Fail;
 #[test]
 fn a_file_is_made_and_asked(rt: HostRuntime) -> Result<(), Fail> {
     let records = two_records(rt.alloc())?;
-    make_file::<Narrow, _>(&rt, "made.cdb", &records)?;
+    make_file::<Narrow, _>(&mut RealNames::new(&rt), rt.alloc(), "made.cdb", &records)?;
     let mut reader = open_file::<Narrow, _>(&rt, "made.cdb")?;
     for record in &records {
         match reader.get(rt.alloc(), &record.key)? {
@@ -31,7 +31,7 @@ fn the_first_value_is_given(rt: HostRuntime) -> Result<(), Fail> {
         record.value = Vec::from_slice(rt.alloc(), b"later")?;
         records.push(record)?;
     }
-    make_file::<Wide, _>(&rt, "first.cdb", &records)?;
+    make_file::<Wide, _>(&mut RealNames::new(&rt), rt.alloc(), "first.cdb", &records)?;
     let mut reader = open_file::<Wide, _>(&rt, "first.cdb")?;
     match reader.get(rt.alloc(), b"one")? {
         Some(value) => assert!(rt; value.as_slice() == b"Hello".as_slice(), "value"),
@@ -55,7 +55,7 @@ fn a_link_of_the_temporary_name_stays(rt: HostRuntime) -> Result<(), Fail> {
     fs::write(&rt, "other", "kept")?;
     symlink(&rt, "other", "link.cdb.tmp")?;
     let records = two_records(rt.alloc())?;
-    let made = make_file::<Narrow, _>(&rt, "link.cdb", &records);
+    let made = make_file::<Narrow, _>(&mut RealNames::new(&rt), rt.alloc(), "link.cdb", &records);
     assert!(rt; made.err() == Some(FileFault::Open), "a link is there");
     assert!(rt; fs::metadata(&rt, "other")?.len() == 4, "other");
     assert!(rt;

@@ -11,6 +11,10 @@ held_by o = drop o.start o.buffer.items
 abbrev pub output_bytes : {W : Type 0} → (W → Option (List ℕ)) → Output W → Option (List ℕ)
 output_bytes contents o = append_known (contents o.writer) (held_by o)
 
+-- the writer failed, or an allocation for it
+abbrev pub OutputFailed : {W : Type 0} → Output W → Type 0
+OutputFailed o = o.failed ≡ true
+
 -- the writer has all that was taken, or it failed
 abbrev pub HasHandedOn : {W : Type 0} → Output W → Type 0
-HasHandedOn o = (held_by o ≡ []) ⊎ (o.failed ≡ true)
+HasHandedOn o = (held_by o ≡ []) ⊎ OutputFailed o

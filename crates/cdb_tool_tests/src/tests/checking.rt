@@ -1,9 +1,9 @@
 // check_run, over worked, damaged and foreign files, and over a store that fails.
 use super::worked::{File, with_bytes};
-use cdb_form::{Narrow, Wide, Width};
+use cdb_form::{Narrow, Wide, Width, flush_whole};
 use cdb_read::ReadFault;
 use cdb_store::{FuseStore, MemStore};
-use cdb_tool::{Fault, check_run, write_fault};
+use cdb_tool::{Fault, Output, check_run, write_fault};
 use std::alloc::{AllocError, Global};
 use std::prelude::*;
 use std::test::Fail;
@@ -143,7 +143,9 @@ fn says(alloc: Global, said: &Said) -> Result<bool, Fault> {
     let (file, place, new, line) = *said;
     let mut written = Vec::new(alloc);
     if let Err(fault) = answer::<Narrow>(alloc, file.changed(alloc, place, new)?) {
-        write_fault(&fault, &mut written)?;
+        let mut output = Output::new(alloc, &mut written, 64)?;
+        write_fault(&fault, &mut output)?;
+        flush_whole(&mut output)?;
     }
     Ok(written.as_slice() == line)
 }

@@ -1,4 +1,4 @@
-use Rattle.std.proofs.Common.{inr, rules}
+use Rattle.std.proofs.Common.{inr, refl, rules}
 use Rattle.cdb.specs.Contents.{making_of}
 use Rattle.cdb.proofs.Databases.{database_synced}
 use Rattle.cdb.proofs.placing.make_in_place.Goals as goal
@@ -7,7 +7,24 @@ pub returns : goal.returns
 returns g c =
     let making = making_of g.L.Width.WORD g.L.Width.GREATEST g.J.Read.remaining g.I.Read.remaining c.args.contents in
     let built = c.build-store.result.0 in
-    let left = c.synced.new.store in
-    let made = c.build-store.result.1 in
-    let has = database_synced g.F.Store g.M.Store making built left made c.synced.result c.synced.ensures c.build-store.ensures.built in
-    inr (c.may_be_read.ensures.others (search rules), inr (c.in_ok-store.ensures.calls, (c.in_ok-store.store, c.in_ok-store.ensures.makes, built, left, made, c.build-store.ensures.tells, c.synced.ensures, has)))
+    let back = c.build-store.result.1 in
+    let made = c.build-store.result.2 in
+    let last = c.synced-answer.new.store in
+    inr (
+      c.may_be_read.ensures.others (search rules),
+      inr (
+        c.in-Ok.ensures.calls,
+        record {
+          store = c.in-Ok.store;
+          came = c.in-Ok.ensures.makes;
+          built = built;
+          made = made;
+          last = last;
+          is_last = refl;
+          run = c.build-store.ensures.tells;
+          cause = c.build-store.ensures.fails;
+          syncs = c.synced-answer.ensures;
+          has = database_synced g.F.Store g.M.Store making back built last made c.synced-answer.result c.synced-answer.ensures c.build-store.ensures.built;
+        },
+      ),
+    )

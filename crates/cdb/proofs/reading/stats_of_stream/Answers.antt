@@ -6,5 +6,6 @@ returns g c = inr (record {
   store = c.in_ok-store.store;
   whole = c.in_ok-store.ensures.ok;
   few = c.in_ok-store.ensures.few;
-  does = record { left = c.stats_run.result.0; tells = c.stats_run.ensures };
+  left = c.stats_run.result.0;
+  does = c.stats_run.ensures;
 })

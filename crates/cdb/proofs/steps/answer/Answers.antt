@@ -1,5 +1,6 @@
 use Rattle.std.proofs.Common.{inl, inr, refl, Ok, Err}
 use Rattle.std.proofs.KnownBytes.{Keeps-refl}
+use Rattle.cdb_tool.specs.Views.Output.{output_bytes}
 use Rattle.cdb.proofs.steps.answer.Goals as goal
 
 pub returns-in-Err-clause-runs : goal.returns-in-Err-clause-runs
@@ -8,20 +9,21 @@ returns-in-Err-clause-runs g c = inl (record {
   why = c.in-Err.ensures.exact;
   line = c.refuse.ensures.line;
   untouched = refl;
+  none = c.none_left.ensures;
   same = refl;
   kept = Keeps-refl _;
   is_status = c.refuse.ensures.status;
 })
 
-pub returns-in-Ok-perform-clause-runs : goal.returns-in-Ok-perform-clause-runs
-returns-in-Ok-perform-clause-runs g c = inr (record {
+pub returns-in-Ok-performed-clause-runs : goal.returns-in-Ok-performed-clause-runs
+returns-in-Ok-performed-clause-runs g c = inr (record {
   command = c.in-Ok.command;
   asks = c.in-Ok.ensures.exact;
-  result = Ok c.in-Ok-perform.field-0;
-  before = g.E.Write.contents c.perform.new.errors;
-  does = c.in-Ok-perform.ensures.does;
-  silent = c.in-Ok-perform.ensures.silent;
-  same = c.in-Ok-perform.ensures.same;
+  result = Ok c.in-Ok-performed.field-0;
+  before = output_bytes g.E.Write.contents c.perform-left.new.errors;
+  does = rw c.in-Ok-performed.is at c.perform-left.ensures.does;
+  silent = c.perform-left.ensures.silent;
+  same = c.perform-left.ensures.same;
   says = Keeps-refl _;
   is_status = refl;
 })
@@ -30,11 +32,11 @@ pub returns-clause-runs : goal.returns-clause-runs
 returns-clause-runs g c = inr (record {
   command = c.in-Ok.command;
   asks = c.in-Ok.ensures.exact;
-  result = Err c.in-Err-perform.fault;
-  before = g.E.Write.contents c.perform.new.errors;
-  does = c.in-Err-perform.ensures.does;
-  silent = c.in-Err-perform.ensures.silent;
-  same = c.in-Err-perform.ensures.same;
+  result = Err c.in-Err-performed.fault;
+  before = output_bytes g.E.Write.contents c.perform-left.new.errors;
+  does = rw c.in-Err-performed.is at c.perform-left.ensures.does;
+  silent = c.perform-left.ensures.silent;
+  same = c.perform-left.ensures.same;
   says = c.tell.ensures;
   is_status = c.status_of.ensures;
 })

@@ -65,41 +65,43 @@ renames_same t n len m calls file named r same_len same is =
 same_images : (images : List ℕ → Type 0) → SameImages images images
 same_images images = record { no_other = λ b is. is; none_lost = λ b is. is }
 
-pub returns-in_err-empty-clause-calls : goal.returns-in_err-empty-clause-calls
-returns-in_err-empty-clause-calls g c = are_of_replacing (weaker (λ b none. absurd none) c.make_temporary.ensures.steps)
+pub returns-in-Err-clause-calls : goal.returns-in-Err-clause-calls
+returns-in-Err-clause-calls g c = are_of_replacing (weaker (λ b none. absurd none) c.make_temporary.ensures.steps)
 
-pub returns-in_err-empty-clause-guarded : goal.returns-in_err-empty-clause-guarded
-returns-in_err-empty-clause-guarded g c = are_guarded c.make_temporary.ensures.steps
+pub returns-in-Err-clause-guarded : goal.returns-in-Err-clause-guarded
+returns-in-Err-clause-guarded g c = are_guarded c.make_temporary.ensures.steps
 
-pub returns-in_err-empty-clause-any_moment : goal.returns-in_err-empty-clause-any_moment
-returns-in_err-empty-clause-any_moment g c =
+pub returns-in-Err-clause-any_moment : goal.returns-in-Err-clause-any_moment
+returns-in-Err-clause-any_moment g c =
     at_each_moment (are_of_replacing (weaker (λ b none. absurd none) c.make_temporary.ensures.steps))
 
 -- ---- the builder failed
 
-pub returns-in-Err-clause-calls : goal.returns-in-Err-clause-calls
-returns-in-Err-clause-calls g c =
-    are_of_replacing (cleared _ (weaker (λ b none. absurd none) c.make_temporary.ensures.steps) (built_removable c.args.temporary.now c.args.name.now _ _ c.in_ok-empty.ensures.made.made) c.remove_own.ensures)
+pub returns-in-Err-built-clause-calls : goal.returns-in-Err-built-clause-calls
+returns-in-Err-built-clause-calls g c =
+    are_of_replacing (cleared _ (weaker (λ b none. absurd none) c.make_temporary.ensures.steps) (built_removable c.args.temporary.now c.args.name.now _ _ c.in-Ok.ensures.made.made) c.remove_own.ensures)
 
-pub returns-in-Err-clause-guarded : goal.returns-in-Err-clause-guarded
-returns-in-Err-clause-guarded g c =
-    are_guarded (cleared _ c.make_temporary.ensures.steps (built_removable c.args.temporary.now c.args.name.now _ _ c.in_ok-empty.ensures.made.made) c.remove_own.ensures)
+pub returns-in-Err-built-clause-guarded : goal.returns-in-Err-built-clause-guarded
+returns-in-Err-built-clause-guarded g c =
+    are_guarded (cleared _ c.make_temporary.ensures.steps (built_removable c.args.temporary.now c.args.name.now _ _ c.in-Ok.ensures.made.made) c.remove_own.ensures)
 
-pub returns-in-Err-clause-any_moment : goal.returns-in-Err-clause-any_moment
-returns-in-Err-clause-any_moment g c =
-    at_each_moment (are_of_replacing (cleared _ (weaker (λ b none. absurd none) c.make_temporary.ensures.steps) (built_removable c.args.temporary.now c.args.name.now _ _ c.in_ok-empty.ensures.made.made) c.remove_own.ensures))
+pub returns-in-Err-built-clause-any_moment : goal.returns-in-Err-built-clause-any_moment
+returns-in-Err-built-clause-any_moment g c =
+    at_each_moment (are_of_replacing (cleared _ (weaker (λ b none. absurd none) c.make_temporary.ensures.steps) (built_removable c.args.temporary.now c.args.name.now _ _ c.in-Ok.ensures.made.made) c.remove_own.ensures))
 
-pub returns-in-Err-clause-build : goal.returns-in-Err-clause-build
-returns-in-Err-clause-build g c =
-    record { empty = c.in_ok-empty.empty; left = c.build-store.result.0; made = c.in_ok-empty.ensures.empty; why = rw c.in-Err.is at c.build-store.ensures.fails }
+pub returns-in-Err-built-clause-build : goal.returns-in-Err-built-clause-build
+returns-in-Err-built-clause-build g c =
+    record { empty = c.in-Ok.empty; left = c.build-store.result.0; made = c.in-Ok.ensures.empty; why = rw c.in-Err-built.is at c.build-store.ensures.fails }
 
-pub returns-in-Err-clause-told : goal.returns-in-Err-clause-told
-returns-in-Err-clause-told g c =
+pub returns-in-Err-built-clause-told : goal.returns-in-Err-built-clause-told
+returns-in-Err-built-clause-told g c =
     let store = c.build-store.result.0 in
     inr (record {
+      back = c.build-store.result.1;
+      is_handed = refl;
       left = store;
-      built = Err c.in-Err.fault;
-      tells_so = rw c.in-Err.is at c.build-store.ensures.tells;
+      built = Err c.in-Err-built.fault;
+      tells_so = rw c.in-Err-built.is at c.build-store.ensures.tells;
       answers = refl;
       sealed = store;
       same = same_images _;
@@ -111,19 +113,21 @@ returns-in-Err-clause-told g c =
 
 pub returns-in-Err-seal-clause-calls : goal.returns-in-Err-seal-clause-calls
 returns-in-Err-seal-clause-calls g c =
-    are_of_replacing (cleared _ (go_on (λ b none. absurd none) (weaker (λ b none. absurd none) c.make_temporary.ensures.steps) c.seal.ensures.steps) (c.seal.ensures.may (built_removable c.args.temporary.now c.args.name.now _ _ c.in_ok-empty.ensures.made.made)) c.remove_own-in-Err-seal.ensures)
+    are_of_replacing (cleared _ (go_on (λ b none. absurd none) (weaker (λ b none. absurd none) c.make_temporary.ensures.steps) c.seal.ensures.steps) (c.seal.ensures.may (built_removable c.args.temporary.now c.args.name.now _ _ c.in-Ok.ensures.made.made)) c.remove_own-in-Err-seal.ensures)
 
 pub returns-in-Err-seal-clause-guarded : goal.returns-in-Err-seal-clause-guarded
 returns-in-Err-seal-clause-guarded g c =
-    are_guarded (cleared _ (go_on (λ b is. is) c.make_temporary.ensures.steps c.seal.ensures.steps) (c.seal.ensures.may (built_removable c.args.temporary.now c.args.name.now _ _ c.in_ok-empty.ensures.made.made)) c.remove_own-in-Err-seal.ensures)
+    are_guarded (cleared _ (go_on (λ b is. is) c.make_temporary.ensures.steps c.seal.ensures.steps) (c.seal.ensures.may (built_removable c.args.temporary.now c.args.name.now _ _ c.in-Ok.ensures.made.made)) c.remove_own-in-Err-seal.ensures)
 
 pub returns-in-Err-seal-clause-any_moment : goal.returns-in-Err-seal-clause-any_moment
 returns-in-Err-seal-clause-any_moment g c =
-    at_each_moment (are_of_replacing (cleared _ (go_on (λ b none. absurd none) (weaker (λ b none. absurd none) c.make_temporary.ensures.steps) c.seal.ensures.steps) (c.seal.ensures.may (built_removable c.args.temporary.now c.args.name.now _ _ c.in_ok-empty.ensures.made.made)) c.remove_own-in-Err-seal.ensures))
+    at_each_moment (are_of_replacing (cleared _ (go_on (λ b none. absurd none) (weaker (λ b none. absurd none) c.make_temporary.ensures.steps) c.seal.ensures.steps) (c.seal.ensures.may (built_removable c.args.temporary.now c.args.name.now _ _ c.in-Ok.ensures.made.made)) c.remove_own-in-Err-seal.ensures))
 
 pub returns-in-Err-seal-clause-told : goal.returns-in-Err-seal-clause-told
 returns-in-Err-seal-clause-told g c =
     inr (record {
+      back = c.build-store.result.1;
+      is_handed = refl;
       left = c.build-store.result.0;
       built = Ok tt;
       tells_so = rw c.in_default.is at c.build-store.ensures.tells;
@@ -138,29 +142,31 @@ returns-in-Err-seal-clause-told g c =
 
 pub returns-clause-calls : goal.returns-clause-calls
 returns-clause-calls g c =
-    are_of_replacing (go_on (of_file _ _ _ _ c.len-len.ensures (ap g.N.File.RawFile.calls c.into_file.ensures) (λ b is. (rw c.in_default.is at c.build-store.ensures.built) b (c.seal.ensures.images.no_other b is))) (go_on (λ b none. absurd none) (weaker (λ b none. absurd none) c.make_temporary.ensures.steps) c.seal.ensures.steps) c.publish.ensures.steps)
+    are_of_replacing (go_on (of_file _ _ _ _ c.len-len.ensures (ap g.N.File.RawFile.calls c.into_file.ensures) (λ b is. (rw c.in_default.is at c.build-store.ensures.built) b (c.seal.ensures.images.no_other b is))) (go_on (λ b none. absurd none) (weaker (λ b none. absurd none) c.make_temporary.ensures.steps) c.seal.ensures.steps) c.publish-published.ensures.steps)
 
 pub returns-clause-guarded : goal.returns-clause-guarded
 returns-clause-guarded g c =
-    are_guarded (go_on (of_file _ _ _ _ c.len-len.ensures (ap g.N.File.RawFile.calls c.into_file.ensures) (λ b is. (rw c.in_default.is at c.build-store.ensures.built) b (c.seal.ensures.images.no_other b is))) (go_on (λ b none. absurd none) (weaker (λ b none. absurd none) c.make_temporary.ensures.steps) c.seal.ensures.steps) c.publish.ensures.steps)
+    are_guarded (go_on (of_file _ _ _ _ c.len-len.ensures (ap g.N.File.RawFile.calls c.into_file.ensures) (λ b is. (rw c.in_default.is at c.build-store.ensures.built) b (c.seal.ensures.images.no_other b is))) (go_on (λ b none. absurd none) (weaker (λ b none. absurd none) c.make_temporary.ensures.steps) c.seal.ensures.steps) c.publish-published.ensures.steps)
 
 pub returns-clause-any_moment : goal.returns-clause-any_moment
 returns-clause-any_moment g c =
-    at_each_moment (are_of_replacing (go_on (of_file _ _ _ _ c.len-len.ensures (ap g.N.File.RawFile.calls c.into_file.ensures) (λ b is. (rw c.in_default.is at c.build-store.ensures.built) b (c.seal.ensures.images.no_other b is))) (go_on (λ b none. absurd none) (weaker (λ b none. absurd none) c.make_temporary.ensures.steps) c.seal.ensures.steps) c.publish.ensures.steps))
+    at_each_moment (are_of_replacing (go_on (of_file _ _ _ _ c.len-len.ensures (ap g.N.File.RawFile.calls c.into_file.ensures) (λ b is. (rw c.in_default.is at c.build-store.ensures.built) b (c.seal.ensures.images.no_other b is))) (go_on (λ b none. absurd none) (weaker (λ b none. absurd none) c.make_temporary.ensures.steps) c.seal.ensures.steps) c.publish-published.ensures.steps))
 
 pub returns-clause-told : goal.returns-clause-told
 returns-clause-told g c =
     inr (record {
+      back = c.build-store.result.1;
+      is_handed = refl;
       left = c.build-store.result.0;
       built = Ok tt;
       tells_so = rw c.in_default.is at c.build-store.ensures.tells;
-      answers = renames_built _ _ _ c.publish.result c.publish.ensures.err;
+      answers = renames_built _ _ _ c.publish-published.result c.publish-published.ensures.err;
       sealed = c.seal.new.store;
       same = c.seal.ensures.images;
-      unsynced = λ is. absurd (renames_synced _ _ _ c.publish.result c.publish.ensures.err (subst (λ (r : Result Unit (ReplaceFault g.row.B-Fault.Denot)). IsUnsynced r) (sym is) tt));
-      renamed = renames_same _ _ _ _ _ _ _ c.publish.result c.len-len.ensures (ap g.N.File.RawFile.calls c.into_file.ensures) c.publish.ensures.file;
+      unsynced = λ is. absurd (renames_synced _ _ _ c.publish-published.result c.publish-published.ensures.err (subst (λ (r : Result Unit (ReplaceFault g.row.B-Fault.Denot)). IsUnsynced r) (sym is) tt));
+      renamed = renames_same _ _ _ _ _ _ _ c.publish-published.result c.len-len.ensures (ap g.N.File.RawFile.calls c.into_file.ensures) c.publish-published.ensures.file;
     })
 
 pub returns-clause-sure : goal.returns-clause-sure
 returns-clause-sure g c =
-    on_ok_weaker c.publish.result (weaker_sure c.args.name.now _ (of_file _ _ _ _ c.len-len.ensures (ap g.N.File.RawFile.calls c.into_file.ensures) (λ b is. (rw c.in_default.is at c.build-store.ensures.built) b (c.seal.ensures.images.no_other b is)))) c.publish.ensures.sure
+    on_ok_weaker c.publish-published.result (weaker_sure c.args.name.now _ (of_file _ _ _ _ c.len-len.ensures (ap g.N.File.RawFile.calls c.into_file.ensures) (λ b is. (rw c.in_default.is at c.build-store.ensures.built) b (c.seal.ensures.images.no_other b is)))) c.publish-published.ensures.sure

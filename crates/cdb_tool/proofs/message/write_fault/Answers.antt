@@ -1,5 +1,5 @@
 use Rattle.std.proofs.Common.{rules}
 use Rattle.cdb_tool.proofs.message.write_fault.Goals as goal
 
-pub returns-in-Missing : goal.returns-in-Missing
-returns-in-Missing g c = search rules
+pub returns-in-Missing-clause-writes : goal.returns-in-Missing-clause-writes
+returns-in-Missing-clause-writes g c = search rules

@@ -1,5 +1,5 @@
-use Rattle.std.proofs.Common.{ap, inl, refl, ◌∙◌}
-use Rattle.std.proofs.lemmas.Result.{on_ok_weaker}
+use Rattle.std.proofs.Common.{ap, arith, inl, refl, ◌∙◌, ◌≡◌, ◌<◌}
+use Rattle.std.proofs.lemmas.Result.{IfErr-weaker, on_ok_weaker}
 use Rattle.cdb_store.specs.Images.{overwrite}
 use Rattle.cdb_store.proofs.OverLemmas.{over_emptied}
 use Rattle.cdb_files.specs.Unsynced.{inner_of}
@@ -12,13 +12,22 @@ returns-in-Ok-clause-built g c =
     let e = c.make_in-buffered.ensures in
     let left = c.make_in-buffered.result.0 in
     rw (c.into_inner.ensures ∙ ap inner_of c.discard.ensures)
-    (database_made g.F.Store (making_of g.L.Width.WORD g.L.Width.GREATEST g.J.Read.remaining g.I.Read.remaining c.args.self.contents) e.run.back _ (g.S.Store.image left.inner.inner) _ _ c.make_in-buffered.result.1 e.run.hands e.run.runs
-    (on_ok_weaker c.make_in-buffered.result.1 (λ settled. (over_emptied left.pos left.buffer.items (g.S.Store.image left.inner.inner) settled.0).no_other) e.settled))
+    (database_made g.F.Store (making_of g.L.Width.WORD g.L.Width.GREATEST g.J.Read.remaining g.I.Read.remaining c.args.self.contents) c.make_in-buffered.result.1 _ (g.S.Store.image left.inner.inner) _ _ c.make_in-buffered.result.2 e.run.hands e.run.runs
+    (on_ok_weaker c.make_in-buffered.result.2 (λ settled. (over_emptied left.pos left.buffer.items (g.S.Store.image left.inner.inner) settled.0).no_other) e.settled))
+
+pub returns-in-Ok-clause-fails : goal.returns-in-Ok-clause-fails
+returns-in-Ok-clause-fails g c =
+    let left = c.make_in-buffered.result.0 in
+    let over : g.S.Store.failures (inner_of c.over.result) ≡ g.S.Store.failures c.args.store = ap g.S.Store.failures c.over.ensures in
+    rw (c.into_inner.ensures ∙ ap inner_of c.discard.ensures)
+    (IfErr-weaker c.make_in-buffered.result.2 _ _ (λ f fails is.
+    let rose : g.S.Store.failures c.in-Ok.buffered.inner.inner < g.S.Store.failures left.inner.inner = fails is in
+    omega (arith, rose, c.in-Ok.ensures.failures, over)) c.make_in-buffered.ensures.failed)
 
 pub returns-in-Ok-clause-tells : goal.returns-in-Ok-clause-tells
 returns-in-Ok-clause-tells g c =
     let e = c.make_in-buffered.ensures in
     let left = c.make_in-buffered.result.0 in
     rw (c.into_inner.ensures ∙ ap inner_of c.discard.ensures)
-    (inl (run_under g.F.Store (making_of g.L.Width.WORD g.L.Width.GREATEST g.J.Read.remaining g.I.Read.remaining c.args.self.contents) _ (g.S.Store.image left.inner.inner) _ _ c.make_in-buffered.result.1 e.run (λ b is. (overwrite b left.pos left.buffer.items, (b, is, refl)))
-    (on_ok_weaker c.make_in-buffered.result.1 (λ settled. (over_emptied left.pos left.buffer.items (g.S.Store.image left.inner.inner) settled.0).no_other) e.settled)))
+    (inl (run_under g.F.Store (making_of g.L.Width.WORD g.L.Width.GREATEST g.J.Read.remaining g.I.Read.remaining c.args.self.contents) c.make_in-buffered.result.1 _ (g.S.Store.image left.inner.inner) _ _ c.make_in-buffered.result.2 e.run (λ b is. (overwrite b left.pos left.buffer.items, (b, is, refl)))
+    (on_ok_weaker c.make_in-buffered.result.2 (λ settled. (over_emptied left.pos left.buffer.items (g.S.Store.image left.inner.inner) settled.0).no_other) e.settled)))

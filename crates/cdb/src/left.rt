@@ -1,0 +1,33 @@
+// What a command hands back.
+ghost use Rattle.std.specs.Prelude.{◌≡◌};
+ghost use Rattle.cdb.specs.Opening.{none_left, read_left};
+
+/// The files that a command opened and has not closed, as they are at its end. A clause says what was
+/// read of them, or made.
+#[derive(Drop)]
+pub(crate) struct Left<F, M> {
+    /// The file that was read at places, which is the base of a create.
+    pub(crate) read: Option<F>,
+    /// The file that was made in place.
+    pub(crate) made: Option<M>,
+}
+
+/// No file is handed back.
+pub(crate) fn none_left<F: Drop, M: Drop>() -> Left<F, M>
+    ensures { result ≡ none_left }
+{
+    Left {
+        read: None,
+        made: None,
+    }
+}
+
+/// A file that was read is handed back.
+pub(crate) fn read_left<F: Drop, M: Drop>(file: F) -> Left<F, M>
+    ensures { result ≡ read_left file }
+{
+    Left {
+        read: Some(file),
+        made: None,
+    }
+}
