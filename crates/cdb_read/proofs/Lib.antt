@@ -6,3 +6,7 @@ pub mod WholeFiles
 pub mod Probing
 pub mod Counting
 pub mod Checks
+pub mod Differences
+pub mod DifferenceBytes
+pub mod InOrderFiles
+pub mod FirstKeys

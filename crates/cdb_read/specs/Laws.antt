@@ -1,9 +1,10 @@
--- Laws of look-ups and of sound files.
-use Rattle.std.specs.Prelude.{ℕ, ◌≡◌, ◌↔◌, List, map, None}
+-- Laws of look-ups, of sound files and of differences.
+use Rattle.std.specs.Prelude.{ℕ, ◌≡◌, ◌↔◌, List, [], map, None}
 use Rattle.std.specs.List.Sorted.{IsPermutation}
 use Rattle.cdb_form.specs.Format.File.{file_bytes}
 use Rattle.cdb_form.specs.Format.Record.{KeyValue}
 use Rattle.cdb_form.specs.Format.Walk.{walk_of}
+use Rattle.cdb_read.specs.Difference.{amended, difference}
 use Rattle.cdb_read.specs.Faults.{first_fault}
 use Rattle.cdb_read.specs.Lookup.{bytes_of, lookup_of}
 use Rattle.cdb_read.specs.Sound.{IsSound}
@@ -25,3 +26,18 @@ pub record FindsWalked (w : ℕ) (bytes key : List ℕ) : Type 0 where
 -- a file is sound exactly where it has no first fault
 abbrev pub SoundIsNoDamage : ℕ → List ℕ → Type 0
 SoundIsNoDamage w bytes = IsSound w bytes ↔ (first_fault w bytes ≡ None)
+
+-- the records that stand after the difference of rs and ss was done to rs
+abbrev pub brought_up : List KeyValue → List KeyValue → List KeyValue
+brought_up rs ss = amended rs (difference rs ss)
+
+-- a look-up in a file finds the values that the key has in some records, in order, and meets no
+-- damage
+pub record FindsAsIn (w : ℕ) (bytes key : List ℕ) (rs : List KeyValue) : Type 0 where
+  pub values : map (bytes_of bytes) (lookup_of w bytes key).spans ≡ values_of key rs
+  pub sound : (lookup_of w bytes key).damage ≡ None
+
+-- nothing differs exactly where every key has the same values in both
+abbrev pub EmptyIsSame : List KeyValue → List KeyValue → Type 0
+EmptyIsSame rs ss =
+    (difference rs ss ≡ []) ↔ ((key : List ℕ) → values_of key rs ≡ values_of key ss)

@@ -4,8 +4,11 @@ pub mod Values
 pub mod Sound
 pub mod Faults
 pub mod SlotRuns
+pub mod Difference
+pub mod InOrder
 pub mod Laws
 pub mod Statistics
 pub mod Views
 pub mod Examples
 pub mod FaultExamples
+pub mod DifferenceExamples

@@ -1,10 +1,14 @@
-//! Laws of look-ups and of sound files. Each is the contract of a function whose parameters are
+//! Laws of look-ups, of sound files and of differences. Each is the contract of a function whose parameters are
 //! what it ranges over.
-ghost use Rattle.std.specs.Prelude.{◌≤◌};
+ghost use Rattle.std.specs.Prelude.{◌≡◌, ◌≤◌, []};
 ghost use Rattle.cdb_form.specs.Format.File.{file_bytes, file_size};
 ghost use Rattle.cdb_form.specs.Views.Pairs.{key_values};
+ghost use Rattle.cdb_read.specs.Difference.{difference};
+ghost use Rattle.cdb_read.specs.InOrder.{FindsInOrder};
 ghost use Rattle.cdb_read.specs.Laws.{FindsValues, FindsWalked, SoundIsNoDamage};
+ghost use Rattle.cdb_read.specs.Laws.{brought_up, EmptyIsSame, FindsAsIn};
 ghost use Rattle.cdb_read.specs.Sound.{IsSound};
+ghost use Rattle.cdb_read.specs.Values.{values_of};
 
 use cdb_form::{Record, Width};
 
@@ -30,4 +34,37 @@ pub fn sound_lookup<L: Width>(_bytes: &[u8], _key: &[u8])
 /// A file is sound exactly if it has no first fault.
 pub fn sound_is_no_damage<L: Width>(_bytes: &[u8])
     ensures { SoundIsNoDamage L.WORD _bytes.now }
+{}
+
+/// The look-ups in the file of some records, if its size fits, give each key its records in the order
+/// of the walk.
+pub fn file_finds_in_order<L: Width>(_records: &[Record])
+    ensures { file_size L.WORD (key_values _records.now) ≤ L.GREATEST →
+        FindsInOrder L.WORD (file_bytes L.WORD (key_values _records.now)) }
+{}
+
+/// The records that are left after the difference of two lists was done to the first give every key
+/// the values that it has in the second.
+pub fn difference_brings_up(_old: &[Record], _new: &[Record], _key: &[u8])
+    ensures { values_of _key.now (brought_up (key_values _old.now) (key_values _new.now))
+        ≡ values_of _key.now (key_values _new.now) }
+{}
+
+/// Nothing differs exactly if every key has the same values in both.
+pub fn difference_is_empty(_old: &[Record], _new: &[Record])
+    ensures { EmptyIsSame (key_values _old.now) (key_values _new.now) }
+{}
+
+/// The file of these records, if its size fits, answers each key as the second list does.
+pub fn lookup_of_brought_up<L: Width>(_old: &[Record], _new: &[Record], _key: &[u8])
+    ensures { file_size L.WORD (brought_up (key_values _old.now) (key_values _new.now)) ≤ L.GREATEST →
+        FindsAsIn L.WORD
+        (file_bytes L.WORD (brought_up (key_values _old.now) (key_values _new.now)))
+        _key.now (key_values _new.now) }
+{}
+
+/// And nothing differs any more.
+pub fn brought_up_does_not_differ(_old: &[Record], _new: &[Record])
+    ensures { difference (brought_up (key_values _old.now) (key_values _new.now))
+        (key_values _new.now) ≡ [] }
 {}

@@ -23,5 +23,6 @@ pub use reader::{Reader, Unread};
 pub use span::{PlacedRecord, Span, has_bytes, spans};
 pub use statistics::count::stats;
 pub use statistics::stats::Stats;
+pub use walking::bookmark::{Bookmark, walk_on};
 pub use walking::records::Walk;
 pub use walking::start::walk;

@@ -1,4 +1,5 @@
 // A key is looked up.
+pub(crate) mod bytes_at;
 pub(crate) mod finder;
 pub(crate) mod first_value;
 pub(crate) mod key_at;

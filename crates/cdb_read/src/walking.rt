@@ -1,4 +1,5 @@
 // The records of a database, one after the other.
+pub(crate) mod bookmark;
 pub(crate) mod record_at;
 pub(crate) mod records;
 pub(crate) mod start;

@@ -27,7 +27,7 @@ use Rattle.cdb_tool.specs.Views.Fault.{make_fault}
 use Rattle.cdb_tool.specs.Runs.Course.{Task, Incoming, Course, from_input, from_inputs, mode_of, said, ends, is_going, with_put, with_change, with_next, at_start, course_of, TellFails, Goes, StopsSo}
 use Rattle.cdb_tool.specs.Runs.Make.{InCourse, PutStops, IsOfStore, StandsAt, IsHalt, TakesNext}
 use Rattle.cdb_tool.specs.declared.fault.Fault.{Fault}
-use Rattle.cdb_tool.specs.declared.fault.Fault.TheVariants.{Text, Make, Duplicate, Missing, Read, Walk, Output, Long, Open, Rename, NoMemory}
+use Rattle.cdb_tool.specs.declared.fault.Fault.TheVariants.{Text, Make, Duplicate, Missing, Read, Walk, Output, Long, Open, Rename, NoMemory, Old, New}
 use Rattle.cdb_command.specs.declared.options.MakeOptions.{MakeOptions}
 
 -- ---- the course over one item more
@@ -114,6 +114,8 @@ told_so t cs i n r start mid end m put (Read f) b p x = absurd x
 told_so t cs i n r start mid end m put Long b p x = absurd x
 told_so t cs i n r start mid end m put Open b p x = absurd x
 told_so t cs i n r start mid end m put Rename b p x = absurd x
+told_so t cs i n r start mid end m put (Old side) b p x = absurd x
+told_so t cs i n r start mid end m put (New side) b p x = absurd x
 told_so t cs i n r start mid end m put NoMemory b p x = absurd x
 told_so {l = l} t cs i n r start mid end m put Output b p x =
     subst (λ s. AppendsPrefix start end s.lines) (sym p.is) (prefix_then start mid end (course_of l.WORD t cs).lines (said t.options i n (Ok put)) [] _ p.goes.lines x (ap (λ u. (course_of l.WORD t cs).lines ++ u) (sym (append-nil _))))
@@ -140,6 +142,8 @@ told_store o i j put old new (Read f) x is = absurd is
 told_store o i j put old new Long x is = absurd is
 told_store o i j put old new Open x is = absurd is
 told_store o i j put old new Rename x is = absurd is
+told_store o i j put old new (Old side) x is = absurd is
+told_store o i j put old new (New side) x is = absurd is
 told_store o i j put old new NoMemory x is = absurd is
 told_store o i j put old new Output x is = absurd is
 told_store o i j put old new Duplicate x is = absurd is
@@ -238,6 +242,8 @@ told_halts o i j put old new (Read f) x is = absurd is
 told_halts o i j put old new Long x is = absurd is
 told_halts o i j put old new Open x is = absurd is
 told_halts o i j put old new Rename x is = absurd is
+told_halts o i j put old new (Old side) x is = absurd is
+told_halts o i j put old new (New side) x is = absurd is
 told_halts o i j put old new NoMemory x is = absurd x
 told_halts o i j put old new Output x is = absurd is
 told_halts o i j put old new Duplicate x is = absurd is

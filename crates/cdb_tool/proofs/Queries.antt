@@ -26,7 +26,7 @@ use Rattle.cdb_store.proofs.Reading.{reads_more}
 use Rattle.cdb_tool.specs.Views.Fault.{read_fault}
 use Rattle.cdb_tool.specs.Runs.Query.{Query, asked_of, value_text, values_text, spans_text, query_text, has_asked, why_missing, found_answer, query_answer, Answers, WritesPrefix, QueryFails, Queries, WritesAll, in_hand, WritesSome, WritesEach, LeftFails}
 use Rattle.cdb_tool.specs.declared.fault.Fault.{Fault}
-use Rattle.cdb_tool.specs.declared.fault.Fault.TheVariants.{Text, Make, Duplicate, Missing, Read, Walk, Output, Long, Open, Rename, NoMemory}
+use Rattle.cdb_tool.specs.declared.fault.Fault.TheVariants.{Text, Make, Duplicate, Missing, Read, Walk, Output, Long, Open, Rename, NoMemory, Old, New}
 use Rattle.cdb_tool.proofs.Courses.{appends_none}
 
 -- ---- reading
@@ -276,6 +276,8 @@ module _ {S L : Type 0} {s : Ghosts S} {l : Widths L} (w : ℕ) (key : List ℕ)
   left_fault Long h = absurd h
   left_fault Open h = absurd h
   left_fault Rename h = absurd h
+  left_fault (Old side) h = absurd h
+  left_fault (New side) h = absurd h
   left_fault NoMemory h = absurd h
 
   pub queries_left : (result : Result Unit Fault) → OnOk result (WritesEach w lines t u start now) → IfErr result (LeftFails w lines t u start now) → Queries w s (all_of key lines) old u.reader.now.store start now result

@@ -12,7 +12,7 @@ use Rattle.cdb_tool.specs.Views.Fault.{read_fault}
 use Rattle.cdb_tool.specs.Runs.Flushed.{Flushed}
 use Rattle.cdb_tool.specs.Runs.Query.{Query, query_text, Answers, WritesPrefix, QueryFails, Queries}
 use Rattle.cdb_tool.specs.declared.fault.Fault.{Fault}
-use Rattle.cdb_tool.specs.declared.fault.Fault.TheVariants.{Text, Make, Duplicate, Missing, Read, Walk, Output, Long, Open, Rename, NoMemory}
+use Rattle.cdb_tool.specs.declared.fault.Fault.TheVariants.{Text, Make, Duplicate, Missing, Read, Walk, Output, Long, Open, Rename, NoMemory, Old, New}
 use Rattle.cdb_tool.proofs.Courses.{appends_none}
 use Rattle.cdb_tool.proofs.Queries.{reads_none, none_prefix}
 use Rattle.cdb_tool.proofs.WholeRuns.{keeps_self, keeps_then, prefix_kept, whole_prefix, not_ok}
@@ -58,6 +58,8 @@ fault_kept w s q old new start mid now (Walk f) h k = absurd h
 fault_kept w s q old new start mid now Long h k = absurd h
 fault_kept w s q old new start mid now Open h k = absurd h
 fault_kept w s q old new start mid now Rename h k = absurd h
+fault_kept w s q old new start mid now (Old side) h k = absurd h
+fault_kept w s q old new start mid now (New side) h k = absurd h
 fault_kept w s q old new start mid now NoMemory h k = absurd h
 
 query_kept : {S : Type 0} (w : ℕ) (s : Ghosts S) (q : Query) (old new : S) (start mid now : Option (List ℕ)) (r : Result Unit Fault) → Queries w s q old new start mid r → Keeps mid now → Queries w s q old new start now r

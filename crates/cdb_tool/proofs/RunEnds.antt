@@ -26,7 +26,7 @@ use Rattle.cdb_tool.specs.Runs.Inputs.{InputForm, InputsLeft, OneInput, AreAllIn
 use Rattle.cdb_tool.specs.Runs.Inputs as form
 use Rattle.cdb_tool.specs.Runs.Make.{InCourse, Stops, InputsFail, RunFails, Runs, came, form_of, records_of, OfBase, HoldsBase, BaseStopped, HandsBack, IsBase, IsSomeBase, BaseFails}
 use Rattle.cdb_tool.specs.declared.fault.Fault.{Fault}
-use Rattle.cdb_tool.specs.declared.fault.Fault.TheVariants.{Text, Make, Duplicate, Missing, Read, Walk, Output, Long, Open, Rename, NoMemory}
+use Rattle.cdb_tool.specs.declared.fault.Fault.TheVariants.{Text, Make, Duplicate, Missing, Read, Walk, Output, Long, Open, Rename, NoMemory, Old, New}
 use Rattle.cdb_command.specs.declared.options.MakeOptions.{MakeOptions}
 use Rattle.cdb_tool.proofs.WholeRuns.{prefix_kept, whole_prefix, not_ok}
 use Rattle.cdb_tool.proofs.InputRuns.{begins_none}
@@ -216,6 +216,8 @@ stops_kept w o cs old mid new (Read f) h k = absurd h
 stops_kept w o cs old mid new Long h k = absurd h
 stops_kept w o cs old mid new Open h k = absurd h
 stops_kept w o cs old mid new Rename h k = absurd h
+stops_kept w o cs old mid new (Old side) h k = absurd h
+stops_kept w o cs old mid new (New side) h k = absurd h
 
 stop_kept : (w g : ℕ) (o : Task) (inputs : InputsLeft) (old mid new : Option (List ℕ)) (f : Fault) → Stops w g o inputs old mid f → Keeps mid new → Stops w g o inputs old new f
 stop_kept w g o inputs old mid new f h k = record { read = h.read; last = h.last; rest = h.rest; are = h.are; begins = h.begins; stops = stops_kept w o (came h.read h.last) old mid new f h.stops k }
@@ -232,6 +234,8 @@ fails_kept w g o inputs old mid new (Read f) h k = stop_kept w g o inputs old mi
 fails_kept w g o inputs old mid new Long h k = stop_kept w g o inputs old mid new Long h k
 fails_kept w g o inputs old mid new Open h k = stop_kept w g o inputs old mid new Open h k
 fails_kept w g o inputs old mid new Rename h k = stop_kept w g o inputs old mid new Rename h k
+fails_kept w g o inputs old mid new (Old side) h k = stop_kept w g o inputs old mid new (Old side) h k
+fails_kept w g o inputs old mid new (New side) h k = stop_kept w g o inputs old mid new (New side) h k
 fails_kept w g o inputs old mid new NoMemory h k = stop_kept w g o inputs old mid new NoMemory h k
 
 run_kept : (w g : ℕ) (o : MakeOptions) (x : Option (List ℕ)) (inputs : InputsLeft) (old mid new : Option (List ℕ)) (f : Fault) → RunFails w g o x inputs old mid f → Keeps mid new → RunFails w g o x inputs old new f

@@ -24,7 +24,7 @@ use Rattle.cdb_tool.specs.Runs.WalkText.{closing, walk_text, Writes, WritesPrefi
 use Rattle.cdb_tool.specs.declared.runs.content.Content.{Content}
 use Rattle.cdb_tool.specs.declared.runs.content.Content.TheVariants.{Records, Keys}
 use Rattle.cdb_tool.specs.declared.fault.Fault.{Fault}
-use Rattle.cdb_tool.specs.declared.fault.Fault.TheVariants.{Text, Make, Duplicate, Missing, Read, Walk, Output, Long, Open, Rename, NoMemory}
+use Rattle.cdb_tool.specs.declared.fault.Fault.TheVariants.{Text, Make, Duplicate, Missing, Read, Walk, Output, Long, Open, Rename, NoMemory, Old, New}
 use Rattle.cdb_tool.proofs.WholeRuns.{prefix_kept, whole_prefix, not_ok}
 
 -- a weaker relation
@@ -216,6 +216,8 @@ fails_kept w form file rest old mid new (Read f) d k = absurd d
 fails_kept w form file rest old mid new Long d k = absurd d
 fails_kept w form file rest old mid new Open d k = absurd d
 fails_kept w form file rest old mid new Rename d k = absurd d
+fails_kept w form file rest old mid new (Old side) d k = absurd d
+fails_kept w form file rest old mid new (New side) d k = absurd d
 
 runs_kept : (w : ℕ) (form : Form) (file rest old mid new : Option (List ℕ)) (r : Result Unit Fault) → WritesWalk w form file rest old mid r → Keeps mid new → WritesWalk w form file rest old new r
 runs_kept w form file rest old mid new (Ok u) d k = record { ok = (writes_kept w form file None old mid new d.ok.0 k, d.ok.1); err = tt; behind = d.behind }

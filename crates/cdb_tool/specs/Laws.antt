@@ -1,12 +1,16 @@
 -- Laws of the runs, as propositions.
-use Rattle.std.specs.Prelude.{ℕ, ◌≡◌, List, []}
+use Rattle.std.specs.Prelude.{ℕ, ◌≡◌, List, [], ◌∷◌, None, Some}
 use Rattle.cdb_form.specs.Laws.Text.{TextReadsBack}
 use Rattle.cdb_form.specs.Format.Record.{KeyValue}
 use Rattle.cdb_form.specs.Format.File.{file_bytes}
 use Rattle.cdb_form.specs.Format.Walk.{walk_of}
 use Rattle.cdb_form.specs.Text.Native.{text_of}
+use Rattle.cdb_read.specs.Difference.{difference}
+use Rattle.cdb_read.specs.Laws.{brought_up}
+use Rattle.cdb_tool.specs.Runs.Course.{course_of, from_inputs, task_of}
 use Rattle.cdb_tool.specs.Runs.Form.{dump_form}
 use Rattle.cdb_tool.specs.Runs.WalkText.{walk_text}
+use Rattle.cdb_command.specs.declared.options.MakeOptions.{MakeOptions}
 use Rattle.cdb_command.specs.declared.style.Style.TheVariants.{Native}
 
 -- the dump of the file of some records is their text, and that is read as these records and as no
@@ -14,3 +18,11 @@ use Rattle.cdb_command.specs.declared.style.Style.TheVariants.{Native}
 pub record Restores (w greatest : ℕ) (records : List KeyValue) : Type 0 where
   pub dump : walk_text (dump_form Native) (walk_of w (file_bytes w records)) ≡ text_of records
   pub text : TextReadsBack greatest records []
+
+-- a run whose base has the records rs, and whose one input says the difference of rs and ss, does all
+-- of it
+pub record HoldsAll (w : ℕ) (options : MakeOptions) (rs ss : List KeyValue) : Type 0 where
+  pub records : (course_of w (task_of options (Some rs))
+      (from_inputs 1 (difference rs ss ∷ []))).records ≡ brought_up rs ss
+  pub going : (course_of w (task_of options (Some rs))
+      (from_inputs 1 (difference rs ss ∷ []))).ended ≡ None

@@ -17,7 +17,7 @@ use Rattle.cdb_tool.specs.declared.message.Place.TheVariants.{Slot}
 use Rattle.cdb_tool.specs.declared.fault.Fault.{Fault}
 use Rattle.cdb_tool.specs.declared.fault.Fault.TheVariants.{Text, Make, Read, Walk, Output}
 use Rattle.cdb_tool.specs.declared.fault.Fault.TheVariants.{Duplicate, Missing, Long, Open, Rename}
-use Rattle.cdb_tool.specs.declared.fault.Fault.TheVariants.{NoMemory}
+use Rattle.cdb_tool.specs.declared.fault.Fault.TheVariants.{NoMemory, Old, New}
 
 -- what a fault is
 abbrev pub fault_message : Fault → List ℕ
@@ -32,6 +32,8 @@ fault_message Long = make_message TooBig
 fault_message Open = codes "file cannot be opened"
 fault_message Rename = codes "database cannot be renamed"
 fault_message NoMemory = codes "no memory"
+fault_message (Old fault) = read_message fault
+fault_message (New fault) = read_message fault
 
 -- a part of what is named by its number
 abbrev pub numbered : List ℕ → ℕ → List ℕ
@@ -74,11 +76,19 @@ abbrev pub fault_place : Fault → Place
 fault_place (Text input fault) = text_place input fault
 fault_place (Read fault) = read_place fault
 fault_place (Walk fault) = walk_place fault
+fault_place (Old fault) = read_place fault
+fault_place (New fault) = read_place fault
 fault_place fault = Nowhere
+
+-- of two databases, which one it is
+abbrev pub fault_side : Fault → List ℕ
+fault_side (Old fault) = codes "old database: "
+fault_side (New fault) = codes "new database: "
+fault_side fault = []
 
 -- where a fault is and what it is
 abbrev pub fault_text : Fault → List ℕ
-fault_text fault = said_place (fault_place fault) ++ fault_message fault
+fault_text fault = fault_side fault ++ said_place (fault_place fault) ++ fault_message fault
 
 -- the line that says it
 abbrev pub said_line : Fault → List ℕ

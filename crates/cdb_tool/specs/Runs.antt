@@ -12,3 +12,4 @@ pub mod Stats
 pub mod Base
 pub mod Check
 pub mod Flushed
+pub mod Difference

@@ -4,3 +4,6 @@ pub mod Input
 pub mod Inputs
 pub mod Output
 pub mod ItemReader
+pub mod Stop
+pub mod Comparing
+pub mod NextKey

@@ -1,7 +1,7 @@
 // Why a run stopped.
 ghost use Rattle.std.specs.Prelude.{◌≡◌};
 ghost use Rattle.cdb_tool.specs.Views.Fault.{fault_number, text_fault, walk_fault, make_fault};
-ghost use Rattle.cdb_tool.specs.Views.Fault.{in_fault, read_fault};
+ghost use Rattle.cdb_tool.specs.Views.Fault.{in_fault, new_fault, old_fault, read_fault};
 
 use cdb_form::{InFault, OutFault, TextFault, WalkFault};
 use cdb_make::MakeFault;
@@ -33,6 +33,10 @@ pub enum Fault {
     Rename,
     /// Memory ran out.
     NoMemory,
+    /// Of two databases in stores the old one was not read.
+    Old(ReadFault),
+    /// Of two databases in stores the new one was not read.
+    New(ReadFault),
 }
 
 impl Fault {
@@ -52,6 +56,8 @@ impl Fault {
             Fault::Open => 9,
             Fault::Rename => 10,
             Fault::NoMemory => 11,
+            Fault::Old(_) => 12,
+            Fault::New(_) => 13,
         }
     }
 
@@ -63,6 +69,31 @@ impl Fault {
         match fault {
             TextFault::NoMemory => Fault::NoMemory,
             _ => Fault::Text(input, fault),
+        }
+    }
+}
+
+impl Fault {
+    /// The fault of a run that reads an old and a new database, if the old one was not read. Lack of
+    /// memory is the run's own, and so is a writer that failed.
+    pub(crate) fn of_old(fault: ReadFault) -> Fault
+        ensures { result ≡ old_fault fault }
+    {
+        match fault {
+            ReadFault::NoMemory => Fault::NoMemory,
+            ReadFault::Output => Fault::Output,
+            _ => Fault::Old(fault),
+        }
+    }
+
+    /// The same, if the new one was not read.
+    pub(crate) fn of_new(fault: ReadFault) -> Fault
+        ensures { result ≡ new_fault fault }
+    {
+        match fault {
+            ReadFault::NoMemory => Fault::NoMemory,
+            ReadFault::Output => Fault::Output,
+            _ => Fault::New(fault),
         }
     }
 }

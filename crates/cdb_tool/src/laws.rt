@@ -1,9 +1,13 @@
 //! Laws of the runs. Each is the contract of a function whose parameters are what it ranges over.
-ghost use Rattle.std.specs.Prelude.{◌≤◌};
+ghost use Rattle.std.specs.Prelude.{◌≡◌, ◌≤◌};
 ghost use Rattle.cdb_form.specs.Format.File.{file_size};
 ghost use Rattle.cdb_form.specs.Views.Pairs.{key_values};
-ghost use Rattle.cdb_tool.specs.Laws.{Restores};
+ghost use Rattle.cdb_form.specs.declared.mode.Mode.TheVariants.{Add};
+ghost use Rattle.cdb_read.specs.Laws.{brought_up};
+ghost use Rattle.cdb_tool.specs.Laws.{HoldsAll, Restores};
+ghost use Rattle.cdb_tool.specs.Runs.Course.{mode_of};
 
+use cdb_command::MakeOptions;
 use cdb_form::{Record, Width};
 
 /// A dump made again is the same file: what `dump_run` writes of the file of some records, if
@@ -11,4 +15,13 @@ use cdb_form::{Record, Width};
 pub fn dump_and_make_restore<L: Width>(_records: &[Record])
     ensures { file_size L.WORD (key_values _records.now) ≤ L.GREATEST
         → Restores L.WORD L.GREATEST (key_values _records.now) }
+{}
+
+/// A run that makes a database from a base, whose records these are, and does the difference of the
+/// base and the new records to it, holds records that answer each key as the new ones do, if their
+/// file fits: `lookup_of_brought_up` of `cdb_read` says so of the file.
+pub fn difference_amends_base<L: Width>(_options: MakeOptions, _base: &[Record], _new: &[Record])
+    ensures { mode_of _options ≡ Add
+        → file_size L.WORD (brought_up (key_values _base.now) (key_values _new.now)) ≤ _options.limit
+        → HoldsAll L.WORD _options (key_values _base.now) (key_values _new.now) }
 {}

@@ -1,7 +1,7 @@
 // What is said of a fault.
 ghost use Rattle.std.specs.Prelude.{◌≡◌, [], ◌++◌, OnErr, Some, codes};
 ghost use Rattle.cdb_form.specs.Views.KnownBytes.{Writes};
-ghost use Rattle.cdb_tool.specs.Message.{fault_message, numbered, said_place, fault_place};
+ghost use Rattle.cdb_tool.specs.Message.{fault_message, fault_side, numbered, said_place, fault_place};
 ghost use Rattle.cdb_tool.specs.Message.{read_place};
 ghost use Rattle.cdb_tool.specs.Message.{fault_text, said_line, fault_line, duplicate_line};
 ghost use Rattle.cdb_tool.specs.Views.Output.{output_bytes, OutputFailed};
@@ -49,6 +49,19 @@ impl Fault {
             Fault::Open => "file cannot be opened",
             Fault::Rename => "database cannot be renamed",
             Fault::NoMemory => "no memory",
+            Fault::Old(fault) => fault.message(),
+            Fault::New(fault) => fault.message(),
+        }
+    }
+
+    /// Of two databases, which one the fault is of.
+    fn side(&self) -> &'static str
+        ensures { result.now ≡ fault_side self.now }
+    {
+        match *self {
+            Fault::Old(_) => "old database: ",
+            Fault::New(_) => "new database: ",
+            _ => "",
         }
     }
 
@@ -65,6 +78,8 @@ impl Fault {
             Fault::Read(fault) => read_place(fault),
             Fault::Walk(WalkFault::Table(n)) => Place::Table(n),
             Fault::Walk(WalkFault::Record(place)) => Place::Record(place),
+            Fault::Old(fault) => read_place(fault),
+            Fault::New(fault) => read_place(fault),
             _ => Place::Nowhere,
         }
     }
@@ -84,18 +99,28 @@ fn read_place(fault: ReadFault) -> Place
     }
 }
 
+impl fmt::Display for Place {
+    ghost output = { λ place. Some (said_place place) };
+
+    fn fmt<W: fmt::Write>(&self, f: &mut fmt::Formatter<W>) -> fmt::Result {
+        match *self {
+            Place::Nowhere => Ok(()),
+            Place::Input(input) => write!(f, "input {input}: "),
+            Place::Byte(input, at) => write!(f, "input {input}: byte {at}: "),
+            Place::Table(n) => write!(f, "table {n}: "),
+            Place::Record(at) => write!(f, "record at {at}: "),
+            Place::Slot(n, i) => write!(f, "table {n}: slot {i}: "),
+        }
+    }
+}
+
 impl fmt::Display for Fault {
     ghost output = { λ f. Some (fault_text f) };
 
     fn fmt<W: fmt::Write>(&self, f: &mut fmt::Formatter<W>) -> fmt::Result {
-        match self.place() {
-            Place::Nowhere => {}
-            Place::Input(input) => write!(f, "input {input}: ")?,
-            Place::Byte(input, at) => write!(f, "input {input}: byte {at}: ")?,
-            Place::Table(n) => write!(f, "table {n}: ")?,
-            Place::Record(at) => write!(f, "record at {at}: ")?,
-            Place::Slot(n, i) => write!(f, "table {n}: slot {i}: ")?,
-        }
+        let place = self.place();
+        f.write_str(self.side())?;
+        write!(f, "{place}")?;
         f.write_str(self.message())
     }
 }
@@ -145,7 +170,7 @@ fn write_said<E: Write>(fault: &Fault, errors: &mut Output<E>) -> Result<(), Out
         (output_bytes E.contents errors.new) (said_line fault.now) }
     ensures failed { OnErr result (OutputFailed errors.new) }
 {
-    errors.take_all(b"cdb: ")?;
+    errors.take_pieces(&[b"cdb: ", fault.side().as_bytes()])?;
     write_place(fault.place(), errors)?;
     errors.take_pieces(&[fault.message().as_bytes(), b"\n"])
 }

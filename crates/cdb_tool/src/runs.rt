@@ -1,6 +1,7 @@
 // What the program is asked to do, a run each.
 pub mod check;
 pub mod content;
+pub mod difference;
 pub(crate) mod flushed;
 mod item_reader;
 pub mod load;

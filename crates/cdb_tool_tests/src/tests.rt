@@ -5,6 +5,7 @@ mod bad_bytes;
 mod bad_file;
 mod checking;
 mod counting;
+mod differing;
 mod dumping;
 mod fakes;
 mod halting;

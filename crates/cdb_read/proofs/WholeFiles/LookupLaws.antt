@@ -176,7 +176,7 @@ lookup_of-inside w bytes key p pointer inside =
     ]
 
 -- in a file these are the entries of the hash, in order
-lookup_of-file_bytes : (w top : ℕ) (rs : List KeyValue) (key : List ℕ) → Fit w top rs → lookup_of w (file_bytes w rs) key ≡ found_at w (file_bytes w rs) key (places_of (filter (has_hash (key_hash key)) (file_entries w rs)))
+pub lookup_of-file_bytes : (w top : ℕ) (rs : List KeyValue) (key : List ℕ) → Fit w top rs → lookup_of w (file_bytes w rs) key ≡ found_at w (file_bytes w rs) key (places_of (filter (has_hash (key_hash key)) (file_entries w rs)))
 lookup_of-file_bytes w top rs key f =
     let h = key_hash key in
     let n = table_number h in

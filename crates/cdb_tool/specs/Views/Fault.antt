@@ -13,7 +13,7 @@ use Rattle.cdb_read.specs.declared.fault.ReadFault.TheVariants as read
 use Rattle.cdb_tool.specs.declared.fault.Fault.{Fault}
 use Rattle.cdb_tool.specs.declared.fault.Fault.TheVariants.{Text, Make, Read, Walk, Output}
 use Rattle.cdb_tool.specs.declared.fault.Fault.TheVariants.{Duplicate, Missing, Long, Open, Rename}
-use Rattle.cdb_tool.specs.declared.fault.Fault.TheVariants.{NoMemory}
+use Rattle.cdb_tool.specs.declared.fault.Fault.TheVariants.{NoMemory, Old, New}
 
 abbrev pub fault_number : Fault → ℕ
 fault_number (Text input fault) = 1
@@ -27,6 +27,8 @@ fault_number Long = 8
 fault_number Open = 9
 fault_number Rename = 10
 fault_number NoMemory = 11
+fault_number (Old fault) = 12
+fault_number (New fault) = 13
 
 -- the fault of a run, from that of an input: want of memory is the run's own
 abbrev pub text_fault : ℕ → TextFault → Fault
@@ -38,6 +40,17 @@ abbrev pub read_fault : ReadFault → Fault
 read_fault read.NoMemory = NoMemory
 read_fault read.Output = Output
 read_fault fault = Read fault
+
+-- from that of one of two databases
+abbrev pub old_fault : ReadFault → Fault
+old_fault read.NoMemory = NoMemory
+old_fault read.Output = Output
+old_fault fault = Old fault
+
+abbrev pub new_fault : ReadFault → Fault
+new_fault read.NoMemory = NoMemory
+new_fault read.Output = Output
+new_fault fault = New fault
 
 -- from that of a walk of a file
 abbrev pub walk_fault : WalkFault → Fault

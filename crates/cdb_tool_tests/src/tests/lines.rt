@@ -10,7 +10,7 @@ use std::prelude::*;
 use std::test::Fail;
 
 /// Faults, their numbers and their lines.
-const SAID: [(Fault, u8, &str); 31] = [
+const SAID: [(Fault, u8, &str); 34] = [
     (
         Fault::Text(1, TextFault::Syntax(7)),
         1,
@@ -126,6 +126,21 @@ const SAID: [(Fault, u8, &str); 31] = [
     (Fault::Open, 9, "cdb: file cannot be opened\n"),
     (Fault::Rename, 10, "cdb: database cannot be renamed\n"),
     (Fault::NoMemory, 11, "cdb: no memory\n"),
+    (
+        Fault::Old(ReadFault::Record(2122)),
+        12,
+        "cdb: old database: record at 2122: not whole\n",
+    ),
+    (
+        Fault::New(ReadFault::Table(7)),
+        13,
+        "cdb: new database: table 7: outside the file\n",
+    ),
+    (
+        Fault::New(ReadFault::Short),
+        13,
+        "cdb: new database: database shorter than its head\n",
+    ),
 ];
 
 /// Whether a writer takes the line of a fault, which an output of four bytes hands on.

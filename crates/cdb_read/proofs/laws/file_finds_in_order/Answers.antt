@@ -1,0 +1,15 @@
+use Rattle.std.proofs.Common.{arith}
+use Rattle.cdb_form.specs.Views.Pairs.{key_values}
+use Rattle.cdb_form.proofs.NativeTexts.RecordLemmas.{are_records}
+use Rattle.cdb_read.proofs.InOrderFiles.{finds_in_order}
+use Rattle.cdb_read.proofs.laws.file_finds_in_order.Goals as goal
+
+pub returns : goal.returns
+returns g c = λ room.
+    let laws = g.met.L.Width.greatest_fits in
+    finds_in_order g.L.Width.WORD g.L.Width.TOP (key_values c.args._records.now) (record {
+      width = g.met.L.Width.four_or_eight;
+      top_is = g.met.L.Width.top_is;
+      records = are_records c.args._records.now;
+      room = omega (arith, laws.0, room);
+    })

@@ -1,0 +1,6 @@
+// What changed between two databases.
+mod changed;
+mod changes;
+mod pass;
+pub(crate) mod run;
+pub(crate) mod stop;
