@@ -18,7 +18,7 @@ unfoldable pub first_keys : List KeyValue → List (List ℕ)
 first_keys [] = []
 first_keys (r ∷ rs) = r.key ∷ filter (λ k. not (bytes_eq k r.key)) (first_keys rs)
 
--- whether a key has others values in ss than in rs; and the keys of rs that have
+-- whether a key has other values in ss than in rs; and the keys of rs that have
 abbrev pub is_changed : List KeyValue → List KeyValue → List ℕ → Bool
 is_changed rs ss key = not (values_eq (values_of key rs) (values_of key ss))
 
