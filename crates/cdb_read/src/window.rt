@@ -1,5 +1,5 @@
 // Bytes of a store that were read ahead.
-ghost use Rattle.std.specs.Prelude.{◌≡◌, ◌+◌, ◌-◌, ◌≤◌, length, min, IfErr, OnOk};
+ghost use Rattle.std.specs.Prelude.{◌≡◌, ◌+◌, ◌-◌, ◌<◌, ◌≤◌, ◌^◌, length, min, IfErr, OnOk};
 ghost use Rattle.std.specs.Bool.{OnTrue};
 ghost use Rattle.cdb_store.specs.Images.{part};
 ghost use Rattle.cdb_store.specs.Reads.{OnlyReads};
@@ -94,5 +94,31 @@ impl Window {
             return Ok(());
         }
         self.fill(store, place, n.max(ahead))
+    }
+
+    /// Covers so many bytes from a place on. If the window lacks them, the store is read up to their
+    /// end: as many bytes before them as the window has room for, from `least` on.
+    pub(crate) fn cover_back<S: Store>(
+        &mut self,
+        store: &mut S,
+        place: u64,
+        n: usize,
+        least: u64,
+    ) -> Result<(), ReadFault>
+        requires short { n ≤ 4096 }
+        requires inside { place + n ≤ S.size store.old }
+        requires fits { S.size store.old < 2 ^ 64 }
+        requires shows { Shows self.old (S.image store.old) }
+        ensures covers { OnOk result (Covers self.new place n) }
+        ensures shows { Shows self.new (S.image store.new) }
+        ensures reads { OnlyReads S.Store store.old store.new }
+        ensures fails { IfErr result (StoreFails S.Store store.old store.new) }
+    {
+        if self.covers(place, n as u64) {
+            return Ok(());
+        }
+        let end = place + n as u64;
+        let from = end.saturating_sub(WINDOW as u64).max(least).min(place);
+        self.fill(store, from, WINDOW)
     }
 }

@@ -36,7 +36,7 @@ fn records_of(alloc: Global, keys: &[&[u8]], len: usize) -> Result<Vec<Record>, 
 fn calls_for(alloc: Global, keys: &[&[u8]]) -> Result<(u64, usize), Fail> {
     let records = records_of(alloc, keys, LONG)?;
     let store = FuseStore::new(MemStore::new(alloc), u64::MAX, 0);
-    let (store, built) = Records::<Narrow>::new(alloc, &records).build(store, &mut ());
+    let (store, (), built) = Records::<Narrow>::new(alloc, &records).build(store, &mut ());
     if built.is_err() {
         return Err(Fail::new("not built"));
     }

@@ -11,8 +11,8 @@ ghost use Rattle.cdb_read.specs.Views.Reads.{StoreFails};
 ghost use Rattle.cdb_read.specs.Views.Window.{Shows};
 
 use crate::fault::ReadFault;
-use crate::tables::slot_at;
-use crate::window::{WINDOW, Window};
+use crate::tables::slot_before;
+use crate::window::Window;
 use cdb_form::{Pointer, Slot, Width};
 use cdb_store::Store;
 
@@ -25,9 +25,6 @@ pub(crate) fn run_with(run: u64, slot: Slot) -> u64
 {
     if slot.place == 0 { 0 } else { run + 1 }
 }
-
-/// How many slots are read at once, up to the one that is looked at: a window of wide ones.
-const SLOTS_BEHIND: u64 = 256;
 
 /// How many used slots in a row end a table. The last are looked at first, and many are read at once.
 pub(crate) fn last_run<S: Store, L: Width>(
@@ -46,17 +43,7 @@ pub(crate) fn last_run<S: Store, L: Width>(
     ensures fails { IfErr result (StoreFails S.Store store.old store.new) }
 {
     for run in 0..table.slots {
-        let i = table.slots - 1 - run;
-        if run % SLOTS_BEHIND == 0 {
-            slot_at::<S, L>(
-                store,
-                table,
-                i.saturating_sub(SLOTS_BEHIND - 1),
-                window,
-                WINDOW,
-            )?;
-        }
-        let slot = slot_at::<S, L>(store, table, i, window, WINDOW)?;
+        let slot = slot_before::<S, L>(store, table, table.slots - 1 - run, window)?;
         if slot.place == 0 {
             return Ok(run);
         }

@@ -310,9 +310,9 @@ const FULL: [(u32, usize, &[u8], Answer); 5] = [
 #[test]
 fn a_full_table_is_checked(rt: HostRuntime) -> Result<(), Fail> {
     for &(first, at, bytes, wanted) in &FULL {
-        // The head, the records with some slots, the other slots, and all slots once more.
+        // The head, the records with some slots, and all slots.
         let told = of_full(rt.alloc(), first, at, bytes)?;
-        assert!(rt; told == (wanted, 4), "from slot {first} on, and {at}");
+        assert!(rt; told == (wanted, 3), "from slot {first} on, and {at}");
     }
     Ok(())
 }

@@ -1,14 +1,12 @@
-use Rattle.std.proofs.Common.{◌≡◌, ◌+◌, ◌-◌, ◌∙◌, ℕ, List, ap, sym, subst, arith, refl, take}
+use Rattle.std.proofs.Common.{◌≡◌, ◌+◌, ◌-◌, ◌∙◌, ap, sym, arith, refl, take}
 use Rattle.std.proofs.lemmas.Bool.{eq-eqb, ne_eqb, not_from_true, not_from_false}
 use Rattle.cdb_form.specs.Views.Pairs.{pointer_pair, slot_pair}
-use Rattle.cdb_store.specs.Reads.{OnlyReads}
 use Rattle.cdb_read.specs.Lookup.{slots_at}
 use Rattle.cdb_read.specs.SlotRuns.{run_of}
 use Rattle.cdb_read.proofs.Bytes.PieceReads.{reads_more}
 use Rattle.cdb_read.proofs.Walked.WalkedLengths.{reads_nothing}
 use Rattle.cdb_read.proofs.FilledTables.RunEnds.{run_of-none, run_of-used, run_of-unused}
 use Rattle.cdb_read.proofs.Checks.SlotChecks.{slot_read, slots_more, slots_all}
-use Rattle.cdb_read.proofs.checking.slot_runs.last_run.Goals.{then-run-eq0+in_ok-slot_at, else-run-eq0}
 use Rattle.cdb_read.proofs.checking.slot_runs.last_run.Goals as goal
 
 pub loop-run-init : goal.loop-run-init
@@ -25,25 +23,12 @@ returns-then-slot-eq0-clause-run g c = λ b is.
     let s = slot_pair c.in_ok-slot.slot in
     let i = c.args.table.slots - 1 - c.loop-run.run in
     let next : c.args.table.slots - c.loop-run.run ≡ i + 1 = omega (arith, c.loop-run-test.true) in
-    let ahead : OnlyReads g.S.Store c.loop-run.store c.if-run-eq0.store = elim c.if-run-eq0.branch [
-      | then-run-eq0+in_ok-slot_at v ↦ subst (λ e. OnlyReads g.S.Store c.loop-run.store e) (sym v.store-is) v.slot_at.ensures.reads
-      | else-run-eq0 v ↦ subst (λ e. OnlyReads g.S.Store c.loop-run.store e) (sym v.store-is) (reads_nothing {s = g.S.Store} _ _ refl)
-    ] in
-    let was = ahead.images b (c.slot_at-in-loop-run.ensures.reads.images b is) in
     let here = slot_read w b p i s (omega (arith, c.loop-run-test.true)) (c.in_ok-slot.ensures.read b is) in
     let none : run_of (take (c.args.table.slots - c.loop-run.run) (slots_at w b p)) ≡ 0 =
     ap (λ n. run_of (take n (slots_at w b p))) next ∙ ap run_of (slots_more w b p i s (omega (arith, c.loop-run-test.true)) here)
     ∙ run_of-unused (take i (slots_at w b p)) s (not_from_true _ (eq-eqb c.in_ok-slot.slot.place 0 c.if-slot-eq0.true)) in
-    let all = c.loop-run.invariant.run b was in
+    let all = c.loop-run.invariant.run b (c.slot_before.ensures.reads.images b is) in
     omega arith
-
-pub returns-then-slot-eq0-clause-reads : goal.returns-then-slot-eq0-clause-reads
-returns-then-slot-eq0-clause-reads g c =
-    let ahead : OnlyReads g.S.Store c.loop-run.store c.if-run-eq0.store = elim c.if-run-eq0.branch [
-      | then-run-eq0+in_ok-slot_at v ↦ subst (λ e. OnlyReads g.S.Store c.loop-run.store e) (sym v.store-is) v.slot_at.ensures.reads
-      | else-run-eq0 v ↦ subst (λ e. OnlyReads g.S.Store c.loop-run.store e) (sym v.store-is) (reads_nothing {s = g.S.Store} _ _ refl)
-    ] in
-    reads_more (reads_more c.loop-run.invariant.reads ahead) c.slot_at-in-loop-run.ensures.reads
 
 pub loop-run-preserved : goal.loop-run-preserved
 loop-run-preserved g c =
@@ -52,22 +37,17 @@ loop-run-preserved g c =
     let s = slot_pair c.in_ok-slot.slot in
     let i = c.args.table.slots - 1 - c.loop-run.run in
     let next : c.args.table.slots - c.loop-run.run ≡ i + 1 = omega (arith, c.loop-run-test.true) in
-    let ahead : OnlyReads g.S.Store c.loop-run.store c.if-run-eq0.store = elim c.if-run-eq0.branch [
-      | then-run-eq0+in_ok-slot_at v ↦ subst (λ e. OnlyReads g.S.Store c.loop-run.store e) (sym v.store-is) v.slot_at.ensures.reads
-      | else-run-eq0 v ↦ subst (λ e. OnlyReads g.S.Store c.loop-run.store e) (sym v.store-is) (reads_nothing {s = g.S.Store} _ _ refl)
-    ] in
     record {
-      shows = c.slot_at-in-loop-run.ensures.shows;
-      reads = reads_more (reads_more c.loop-run.invariant.reads ahead) c.slot_at-in-loop-run.ensures.reads;
+      shows = c.slot_before.ensures.shows;
+      reads = reads_more c.loop-run.invariant.reads c.slot_before.ensures.reads;
       run = λ b is.
-          let was = ahead.images b (c.slot_at-in-loop-run.ensures.reads.images b is) in
           let here = slot_read w b p i s (omega (arith, c.loop-run-test.true)) (c.in_ok-slot.ensures.read b is) in
           let more : run_of (take (c.args.table.slots - c.loop-run.run) (slots_at w b p)) ≡ run_of (take i (slots_at w b p)) + 1 =
           ap (λ n. run_of (take n (slots_at w b p))) next ∙ ap run_of (slots_more w b p i s (omega (arith, c.loop-run-test.true)) here)
           ∙ run_of-used (take i (slots_at w b p)) s (not_from_false _ (ne_eqb c.in_ok-slot.slot.place 0 c.if-slot-eq0.false)) in
           let less : run_of (take (c.args.table.slots - (c.loop-run.run + 1)) (slots_at w b p)) ≡ run_of (take i (slots_at w b p)) =
           (let down : c.args.table.slots - (c.loop-run.run + 1) ≡ i = omega arith in ap (λ n. run_of (take n (slots_at w b p))) down) in
-          let all = c.loop-run.invariant.run b was in
+          let all = c.loop-run.invariant.run b (c.slot_before.ensures.reads.images b is) in
           omega arith;
     }
 
