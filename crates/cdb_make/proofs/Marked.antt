@@ -2,7 +2,7 @@
 pub mod Found
 pub mod Marks
 pub mod MarkedLooks
-pub mod Turning
+pub mod Flipping
 pub mod SortedGaps
 pub mod Hashes
 pub mod Whole

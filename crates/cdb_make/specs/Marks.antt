@@ -11,13 +11,13 @@ use Rattle.cdb_make.specs.declared.removal.gap.Gap.{Gap}
 use Rattle.cdb_make.specs.Gaps.{is_gap, marked_gaps, unmarked}
 use Rattle.cdb_make.specs.Survivors.{has_key}
 
--- a hash with its lowest bit turned: it is the hash of no key of the same table
-abbrev pub turned : ℕ → ℕ
-turned h = cond (h % 2 == 0) (h + 1) (h - 1)
+-- a hash with its lowest bit flipped: it is the hash of no key of the same table
+abbrev pub flipped : ℕ → ℕ
+flipped h = cond (h % 2 == 0) (h + 1) (h - 1)
 
 -- the entry of a record, whose hash a mark turns
 abbrev pub marked_entry : Bool → WordPair → WordPair
-marked_entry m e = record { first = cond m (turned e.first) e.first; second = e.second }
+marked_entry m e = record { first = cond m (flipped e.first) e.first; second = e.second }
 
 -- the entries of table n, where the first record is at `at`; records past the marks have none
 abbrev pub marked_from : ℕ → ℕ → ℕ → List Bool → List KeyValue → List WordPair
@@ -31,14 +31,14 @@ marked_from n w at (m ∷ ms) (r ∷ rs) =
 abbrev pub marked_entries : ℕ → List Bool → List KeyValue → ℕ → List WordPair
 marked_entries w ms rs n = marked_from n w (head_size w) ms rs
 
--- an entry at a place with its hash turned, and so at the place of each gap
-abbrev pub turn_at : ℕ → List WordPair → List WordPair
-turn_at p [] = []
-turn_at p (e ∷ es) = marked_entry (e.second == p) e ∷ turn_at p es
+-- an entry at a place with its hash flipped, and so at the place of each gap
+abbrev pub flip_at : ℕ → List WordPair → List WordPair
+flip_at p [] = []
+flip_at p (e ∷ es) = marked_entry (e.second == p) e ∷ flip_at p es
 
-abbrev pub turn_each : List Gap → List WordPair → List WordPair
-turn_each [] es = es
-turn_each (g ∷ gs) es = turn_each gs (turn_at g.place es)
+abbrev pub flip_each : List Gap → List WordPair → List WordPair
+flip_each [] es = es
+flip_each (g ∷ gs) es = flip_each gs (flip_at g.place es)
 
 -- marks for the records of a key that have none yet, and all marks with these
 abbrev pub fresh : List ℕ → List Bool → List KeyValue → List Bool

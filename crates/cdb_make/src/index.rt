@@ -1,6 +1,6 @@
 // The entries of the records: table by table, and found by their hashes.
-pub(crate) mod close_lists;
 pub(crate) mod list;
 pub(crate) mod lists;
+pub(crate) mod repair_lists;
 pub(crate) mod rings;
 pub(crate) mod scan;

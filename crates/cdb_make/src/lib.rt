@@ -18,4 +18,4 @@ pub use fault::MakeFault;
 pub use lifetime::{Refused, Unfinished};
 pub use maker::Maker;
 pub use records::put::Put;
-pub use removal::settle::Unsettled;
+pub use removal::close_all::UnfinishedBatch;

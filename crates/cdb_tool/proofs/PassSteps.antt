@@ -10,7 +10,7 @@ use Rattle.cdb_form.specs.declared.change.ChangeKind.{ChangeKind}
 use Rattle.cdb_form.proofs.Bytes.WritingLemmas.{appends_then, same_appends}
 use Rattle.cdb_read.specs.Lookup.{bytes_of}
 use Rattle.cdb_read.specs.Views.Walking.{LiesAt, behind, record_in}
-use Rattle.cdb_read.specs.declared.span.Pair.{Pair}
+use Rattle.cdb_read.specs.declared.span.PlacedRecord.{PlacedRecord}
 use Rattle.cdb_tool.specs.Runs.Difference.{changes_at, changes_text, is_first_changed, WritesPass, WritesPassPrefix}
 use Rattle.cdb_tool.proofs.Courses.{appends_none}
 use Rattle.cdb_tool.proofs.Passes.{PassList, pass_all, pass_more, pass_none, pass_prefix, pass_so_far, text_append}
@@ -25,7 +25,7 @@ pub so_far_none : (w : ℕ) (kind : ChangeKind) (b c : List ℕ) (left : Walked)
 so_far_none w kind b c left place start is here = record { changes = []; listed = pass_none w kind b c left place is here; written = appends_none start }
 
 -- one key more, of which this was said
-module _ (w : ℕ) (kind : ChangeKind) (b c : List ℕ) (old new : Walked) (place next : ℕ) (pair : Pair) (key : List ℕ) (start mid now : Option (List ℕ)) (some : 0 < w) (so_far : PassSoFar w kind b c old place start mid) (first : old ≡ with_first (record_in b pair) new)
+module _ (w : ℕ) (kind : ChangeKind) (b c : List ℕ) (old new : Walked) (place next : ℕ) (pair : PlacedRecord) (key : List ℕ) (start mid now : Option (List ℕ)) (some : 0 < w) (so_far : PassSoFar w kind b c old place start mid) (first : old ≡ with_first (record_in b pair) new)
     (lies : LiesAt w place pair) (ends : next ≡ behind pair) (inside : behind pair ≤ length b) (key_is : key ≡ bytes_of b pair.key) where
   pub unchanged : false ≡ is_first_changed w b c key pair.value.place → PassSoFar w kind b c new next start mid
   unchanged is = record {

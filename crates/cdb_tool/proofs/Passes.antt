@@ -22,7 +22,7 @@ use Rattle.cdb_read.specs.InOrder.{FindsInOrder, spans_from}
 use Rattle.cdb_read.specs.Lookup.{bytes_of, lookup_of}
 use Rattle.cdb_read.specs.Values.{values_of}
 use Rattle.cdb_read.specs.Views.Walking.{LiesAt, behind, record_in}
-use Rattle.cdb_read.specs.declared.span.Pair.{Pair}
+use Rattle.cdb_read.specs.declared.span.PlacedRecord.{PlacedRecord}
 use Rattle.cdb_read.proofs.Differences.{there}
 use Rattle.cdb_read.proofs.FirstKeys.{chosen_push, first_keys_more}
 use Rattle.cdb_read.proofs.InOrderFiles.{spans_has, spans_other}
@@ -90,7 +90,7 @@ one_key kind w b key true order = changes_are kind w b key order ∙ sym (append
 one_key kind w b key false order = refl
 
 -- one record more, and what was said of it
-pub pass_more : (w : ℕ) (kind : ChangeKind) (b c : List ℕ) (old new : Walked) (place next : ℕ) (changes said : List Change) (pair : Pair) (key : List ℕ) (changed : Bool) → 0 < w → PassList w kind b c old place changes → old ≡ with_first (record_in b pair) new → LiesAt w place pair → next ≡ behind pair → behind pair ≤ length b
+pub pass_more : (w : ℕ) (kind : ChangeKind) (b c : List ℕ) (old new : Walked) (place next : ℕ) (changes said : List Change) (pair : PlacedRecord) (key : List ℕ) (changed : Bool) → 0 < w → PassList w kind b c old place changes → old ≡ with_first (record_in b pair) new → LiesAt w place pair → next ≡ behind pair → behind pair ≤ length b
     → key ≡ bytes_of b pair.key → changed ≡ is_first_changed w b c key pair.value.place → said ≡ cond changed (changes_at kind w b key) [] → PassList w kind b c new next (changes ++ said)
 pass_more w kind b c old new place next changes said pair key changed some so_far first lies ends inside key_is changed_is said_is =
     let r = record_in b pair in

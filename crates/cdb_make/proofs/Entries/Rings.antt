@@ -63,7 +63,7 @@ ring_begun count b hs next new long here self ring = record {
 ring_grown : (count b : ℕ) (hs next new : List ℕ) (long end : ℕ) → bucket_of count (slice_index hs long) ≡ b → 0 < end
     → slice_index new (end - 1) ≡ long → slice_index new long ≡ slice_index next (end - 1) → ((n : ℕ) → n < long → n ≢ end - 1 → slice_index new n ≡ slice_index next n)
     → IsRing count b hs next long end → IsRing count b hs new (long + 1) (long + 1)
-ring_grown count b hs next new long end here some turned round kept ring =
+ring_grown count b hs next new long end here some flipped round kept ring =
     let within : end ≤ long = ring.within in
     let at : bucket_of count (slice_index hs (end - 1)) ≡ b = ring.last some in
     let last = ring.steps (end - 1) (omega arith) at in
@@ -88,7 +88,7 @@ ring_grown count b hs next new long end here some turned round kept ring =
             }
         | inr apart ↦ elim (cases_eq n (end - 1)) [
           | inl is ↦
-              let m : slice_index new n ≡ long = ap (slice_index new) is ∙ turned in
+              let m : slice_index new n ≡ long = ap (slice_index new) is ∙ flipped in
               record {
                 within = omega arith;
                 same = ap (λ (k : ℕ). bucket_of count (slice_index hs k)) m ∙ here;
@@ -342,7 +342,7 @@ goes_round count b hs next long end some ring =
 ring_cut : (count b : ℕ) (hs next new : List ℕ) (from long end kept : ℕ) → from < end → kept ≤ from → (0 < kept → bucket_of count (slice_index hs (kept - 1)) ≡ b) → IsFree count b hs kept from
     → (0 < kept → slice_index new (kept - 1) ≡ slice_index next (end - 1)) → ((n : ℕ) → n < from → n + 1 ≢ kept → slice_index new n ≡ slice_index next n)
     → IsRing count b hs next long end → IsRing count b hs new from kept
-ring_cut count b hs next new from long end kept reach le last none turned same_next ring =
+ring_cut count b hs next new from long end kept reach le last none flipped same_next ring =
     let within : end ≤ long = ring.within in
     let round = goes_round count b hs next long end (omega arith) ring in
     record {
@@ -357,7 +357,7 @@ ring_cut count b hs next new from long end kept reach le last none turned same_n
           elim (cases_eq (n + 1) kept) [
             | inl is ↦
                 let e : kept - 1 ≡ n = omega arith in
-                let m : slice_index new n ≡ slice_index next (end - 1) = ap (slice_index new) (sym e) ∙ turned (omega arith) in
+                let m : slice_index new n ≡ slice_index next (end - 1) = ap (slice_index new) (sym e) ∙ flipped (omega arith) in
                 let first : slice_index next (end - 1) ≤ n = elim (cases_lt n (slice_index next (end - 1))) [
                   | inl up ↦ absurd (round.free n (omega arith) up same)
                   | inr down ↦ down

@@ -26,7 +26,7 @@ use Rattle.cdb_make.specs.declared.records.put.Put.TheVariants.{Added, AddedAgai
 use Rattle.cdb_make.specs.Gaps.{marked_gaps, unmarked, gaps_by}
 use Rattle.cdb_make.specs.Marks.{AreMarked, fresh, with_key}
 use Rattle.cdb_make.specs.Survivors.{has_key, is_there, count_of, without, behind_first, put_list, put_answer}
-use Rattle.cdb_make.specs.Views.Batch.{Lies, Holds, StaysWhole, Writes, Rests, Settles, FailsSettling, PassesAtMost, IsFull, IsOver, taken_by, MustSettle, MaySettle, lone_bytes, pass_bytes, IsBroken, IsTorn, HasGaps, HasGapsOr, HasNotFailed, is_short, Waits, Puts, WouldPut, FailsPutting, Removes, FailsRemoving, FailsFinishing, limit_of, KeepsPace, Paces}
+use Rattle.cdb_make.specs.Views.Batch.{Lies, Holds, StaysWhole, Writes, Rests, ClosesAll, FailsClosingAll, PassesAtMost, IsFull, IsOver, taken_by, MustCloseAll, MayCloseAll, lone_bytes, pass_bytes, IsBroken, IsTorn, HasGaps, HasGapsOr, HasNotFailed, is_short, Waits, Puts, WouldPut, FailsPutting, Removes, FailsRemoving, FailsFinishing, limit_of, KeepsPace, Paces}
 use Rattle.cdb_make.specs.Views.Carrying.{Carries, WantsMemory, Adds, FailsAdding, FailsSeeking}
 use Rattle.cdb_make.specs.Views.Foreseen.{Foresees, HasFound, IsAdded, IsOfMode, taken_of}
 use Rattle.cdb_make.specs.Views.Maker.{WhereHonest, ComesFrom, Follows, HasRoom, put_bytes, made_size}
@@ -109,7 +109,7 @@ over_rests {l = l} old mid r rests =
     let made : made_size mid.maker ≡ made_size old.maker = ap (λ (n : ℕ). n + 4 * l.WORD * mid.maker.count) c.end ∙ ap (λ (n : ℕ). old.maker.end + 4 * l.WORD * n) c.count in
     (λ over. omega (arith, c.limit), λ over. omega (arith, c.limit))
 
-must_rested : {S L : Type 0} {s : Ghosts S} {l : Widths L} (old mid : Batch S L s l) (mode : Mode) (r : KeyValue) (rs : List KeyValue) → Rests old mid → (MustSettle old mode r rs → MustSettle mid mode r rs) × (MustSettle mid mode r rs → MustSettle old mode r rs)
+must_rested : {S L : Type 0} {s : Ghosts S} {l : Widths L} (old mid : Batch S L s l) (mode : Mode) (r : KeyValue) (rs : List KeyValue) → Rests old mid → (MustCloseAll old mode r rs → MustCloseAll mid mode r rs) × (MustCloseAll mid mode r rs → MustCloseAll old mode r rs)
 must_rested old mid mode r rs rests =
     let full = full_rests old mid (taken_by mode r rs) rests in
     let over = over_rests old mid r rests in (
@@ -117,7 +117,7 @@ must_rested old mid mode r rs rests =
       λ must. (must.0, elim must.1 [ inl a ↦ inl (full.1 a) | inr b ↦ inr (over.1 b) ]),
     )
 
-may_rested : {S L : Type 0} {s : Ghosts S} {l : Widths L} (old mid : Batch S L s l) (mode : Mode) (r : KeyValue) (rs : List KeyValue) → Rests old mid → (WantsMemory mid.maker r → WantsMemory old.maker r) → MaySettle mid mode r rs → MaySettle old mode r rs
+may_rested : {S L : Type 0} {s : Ghosts S} {l : Widths L} (old mid : Batch S L s l) (mode : Mode) (r : KeyValue) (rs : List KeyValue) → Rests old mid → (WantsMemory mid.maker r → WantsMemory old.maker r) → MayCloseAll mid mode r rs → MayCloseAll old mode r rs
 may_rested old mid mode r rs rests wants may = elim may [ inl must ↦ inl ((must_rested old mid mode r rs rests).1 must) | inr memory ↦ inr (wants memory) ]
 
 pub writes_rested : {S L : Type 0} {s : Ghosts S} {l : Widths L} (old mid new : Batch S L s l) {none none₁ pass pass₁ : List KeyValue → Type 0} {lone more : List KeyValue → ℕ} → Rests old mid → ((rs : List KeyValue) → none₁ rs → none rs) → ((rs : List KeyValue) → pass₁ rs → pass rs) → Writes mid new none₁ pass₁ lone more → Writes old new none pass lone more
@@ -363,7 +363,7 @@ fails_entered old new mode r put Broken wide takes short same comes fails f = ab
 fails_entered old new mode r put Lookup wide takes short same comes fails f = absurd fails
 fails_entered {l = l} old new mode r put TooBig wide takes short same comes fails f = (
   stays_kept old new same comes fails.0.stays,
-  passes_none old new (MaySettle old mode r) fails.0.written,
+  passes_none old new (MayCloseAll old mode r) fails.0.written,
   λ rs h. honest_comes comes (record {
     each = λ b at.
         let k = h.held.each b at in
@@ -378,7 +378,7 @@ fails_entered {l = l} old new mode r put TooBig wide takes short same comes fail
 )
 fails_entered {l = l} old new mode r put NoMemory wide takes short same comes fails f = (
   stays_kept old new same comes fails.0.stays,
-  passes_none old new (MaySettle old mode r) fails.0.written,
+  passes_none old new (MayCloseAll old mode r) fails.0.written,
   λ rs h replaces. honest_comes comes (record { each = λ b is there. absurd ((just_adds l.WORD mode r rs put (short refl).0 ((foreseen_held old mode r put f rs h).each b is)).absent replaces there) }),
   would_enter old new mode r put wide takes comes fails.2 f,
   fails.1,
@@ -399,7 +399,7 @@ waits_short old new r put NoMemory takes short same most fails = record { rests 
 pub waits_full : {S L : Type 0} {s : Ghosts S} {l : Widths L} (m : Batch S L s l) (r : KeyValue) (put : Put) → m.maker.broken ≡ false → put ≢ Present → IsFull m (taken_of put) → Waits m m r put
 waits_full m r put whole takes full = record { rests = record { maker = rests_same m.maker whole; gone = refl; most = refl }; fine = refl; takes = takes; due = inl (inl full) }
 
-waits_may : {S L : Type 0} {s : Ghosts S} {l : Widths L} (old new : Batch S L s l) (mode : Mode) (r : KeyValue) (put : Put) → Waits old new r put → Foresees old.maker mode r put → (rs : List KeyValue) → Holds old rs → WhereHonest (s.image old.maker.store) (MaySettle old mode r rs)
+waits_may : {S L : Type 0} {s : Ghosts S} {l : Widths L} (old new : Batch S L s l) (mode : Mode) (r : KeyValue) (put : Put) → Waits old new r put → Foresees old.maker mode r put → (rs : List KeyValue) → Holds old rs → WhereHonest (s.image old.maker.store) (MayCloseAll old mode r rs)
 waits_may old new mode r put waits f rs h = record {
   each = λ b is.
       let answer = (foreseen_held old mode r put f rs h).each b is in
@@ -413,21 +413,21 @@ waits_may old new mode r put waits f rs h = record {
 -- ---- a pass, in such a case
 
 pub record Passes {S L : Type 0} {s : Ghosts S} {l : Widths L} (old set : Batch S L s l) (due : List KeyValue → Type 0) : Type 0 where
-  pub settles : Settles old set
+  pub closes_all : ClosesAll old set
   pub follows : Follows old.maker set.maker
   pub fine : HasNotFailed old set
   pub why : (rs : List KeyValue) → Holds old rs → WhereHonest (s.image old.maker.store) (due rs)
 
-pub passes_rested : {S L : Type 0} {s : Ghosts S} {l : Widths L} (old mid set : Batch S L s l) (due : List KeyValue → Type 0) → Rests old mid → HasNotFailed old mid → Follows old.maker mid.maker → Settles mid set → Follows mid.maker set.maker → HasNotFailed mid set
+pub passes_rested : {S L : Type 0} {s : Ghosts S} {l : Widths L} (old mid set : Batch S L s l) (due : List KeyValue → Type 0) → Rests old mid → HasNotFailed old mid → Follows old.maker mid.maker → ClosesAll mid set → Follows mid.maker set.maker → HasNotFailed mid set
     → ((rs : List KeyValue) → Holds old rs → WhereHonest (s.image old.maker.store) (due rs)) → Passes old set due
-passes_rested {l = l} old mid set due rests fine follows settles follows₁ fine₁ is = record {
-  settles = record {
+passes_rested {l = l} old mid set due rests fine follows closes_all follows₁ fine₁ is = record {
+  closes_all = record {
     was = rests.maker.stays.was;
-    whole = settles.whole;
-    none = settles.none;
-    stands = λ rs h. settles.stands rs (rests_holds old mid rs rests h);
+    whole = closes_all.whole;
+    none = closes_all.none;
+    stands = λ rs h. closes_all.stands rs (rests_holds old mid rs rests h);
     moved = λ all marks h. record {
-      each = λ b at. (settles.moved all marks (lies_rested old mid rests all marks h)).each b at ∙ ap (λ (n : ℕ). n + pass_bytes l.WORD marks all) rests.maker.written;
+      each = λ b at. (closes_all.moved all marks (lies_rested old mid rests all marks h)).each b at ∙ ap (λ (n : ℕ). n + pass_bytes l.WORD marks all) rests.maker.written;
     };
   };
   follows = follows_then follows follows₁;
@@ -435,11 +435,11 @@ passes_rested {l = l} old mid set due rests fine follows settles follows₁ fine
   why = is;
 }
 
-pub passes_waited : {S L : Type 0} {s : Ghosts S} {l : Widths L} (old late set : Batch S L s l) (mode : Mode) (r : KeyValue) (put : Put) → Foresees old.maker mode r put → Waits old late r put → Follows old.maker late.maker → Settles late set → Follows late.maker set.maker → HasNotFailed late set → Passes old set (MaySettle old mode r)
-passes_waited old late set mode r put f waits follows settles follows₁ fine = passes_rested old late set (MaySettle old mode r) waits.rests waits.fine follows settles follows₁ fine (waits_may old late mode r put waits f)
+pub passes_waited : {S L : Type 0} {s : Ghosts S} {l : Widths L} (old late set : Batch S L s l) (mode : Mode) (r : KeyValue) (put : Put) → Foresees old.maker mode r put → Waits old late r put → Follows old.maker late.maker → ClosesAll late set → Follows late.maker set.maker → HasNotFailed late set → Passes old set (MayCloseAll old mode r)
+passes_waited old late set mode r put f waits follows closes_all follows₁ fine = passes_rested old late set (MayCloseAll old mode r) waits.rests waits.fine follows closes_all follows₁ fine (waits_may old late mode r put waits f)
 
 stays_passed : {S L : Type 0} {s : Ghosts S} {l : Widths L} (old set new : Batch S L s l) (due : List KeyValue → Type 0) → Passes old set due → new.gone.items ≡ [] → new.maker.broken ≡ false → ((rs : List KeyValue) → Has set.maker rs → Has new.maker rs) → StaysWhole old new
-stays_passed old set new due p none whole keeps = record { was = p.settles.was; whole = whole; holds = λ rs h. rests_held new rs none (keeps rs (p.settles.stands rs h)) }
+stays_passed old set new due p none whole keeps = record { was = p.closes_all.was; whole = whole; holds = λ rs h. rests_held new rs none (keeps rs (p.closes_all.stands rs h)) }
 
 -- so many bytes were written after it
 writes_passed : {S L : Type 0} {s : Ghosts S} {l : Widths L} (old set new : Batch S L s l) {due none : List KeyValue → Type 0} {lone : List KeyValue → ℕ} (more : List KeyValue → ℕ) → Passes old set due → ComesFrom (s.image set.maker.store) (s.image new.maker.store)
@@ -450,8 +450,8 @@ writes_passed old set new more p comes writes = record {
         let held : Holds old (unmarked marks all) = lies_held old all marks h in
         let a = comes.each b is in
         let z = p.follows.comes.each a.0 a.1 in
-        let moved = (p.settles.moved all marks h).each a.0 a.1 in
-        let put = (writes (unmarked marks all) (p.settles.stands (unmarked marks all) held)).each b is in
+        let moved = (p.closes_all.moved all marks h).each a.0 a.1 in
+        let put = (writes (unmarked marks all) (p.closes_all.stands (unmarked marks all) held)).each b is in
         inr ((p.why (unmarked marks all) held).each z.0 z.1, omega arith);
   };
 }
@@ -462,62 +462,62 @@ none_passed old set new due p comes same = writes_passed old set new (λ rs. 0) 
 broken_passed : {S L : Type 0} {s : Ghosts S} {l : Widths L} (old set new : Batch S L s l) (due : List KeyValue → Type 0) → Passes old set due → new.maker.broken ≡ true → ((rs : List KeyValue) → Has set.maker rs → HasNoImage (s.image new.maker.store)) → IsBroken old new
 broken_passed old set new due p broken cause = record {
   broken = broken;
-  same = λ already. absurd (let k : true ≡ false = sym already ∙ p.settles.was in cc);
-  cause = λ rs h. cause rs (p.settles.stands rs h);
+  same = λ already. absurd (let k : true ≡ false = sym already ∙ p.closes_all.was in cc);
+  cause = λ rs h. cause rs (p.closes_all.stands rs h);
 }
 
 torn_passed : {S L : Type 0} {s : Ghosts S} {l : Widths L} (old set new : Batch S L s l) (key : List ℕ) (due : List KeyValue → Type 0) → Passes old set due → TornIn set.maker new.maker key → IsTorn old new (HasGapsOr old key)
 torn_passed old set new key due p torn = record {
-  was = p.settles.was;
+  was = p.closes_all.was;
   broken = torn.broken;
   failed = failed_later old set new p.fine torn.failed;
-  found = λ rs h. record { each = λ b is. inr ((torn.found rs (p.settles.stands rs h)).each b is) };
+  found = λ rs h. record { each = λ b is. inr ((torn.found rs (p.closes_all.stands rs h)).each b is) };
 }
 
-pub puts_passed : {S L : Type 0} {s : Ghosts S} {l : Widths L} (old set new : Batch S L s l) (mode : Mode) (r : KeyValue) (put : Put) → Passes old set (MaySettle old mode r) → new.gone.items ≡ [] → ComesFrom (s.image set.maker.store) (s.image new.maker.store) → PutsIn set.maker new.maker mode r put → Puts old new mode r put
+pub puts_passed : {S L : Type 0} {s : Ghosts S} {l : Widths L} (old set new : Batch S L s l) (mode : Mode) (r : KeyValue) (put : Put) → Passes old set (MayCloseAll old mode r) → new.gone.items ≡ [] → ComesFrom (s.image set.maker.store) (s.image new.maker.store) → PutsIn set.maker new.maker mode r put → Puts old new mode r put
 puts_passed {l = l} old set new mode r put p none comes puts = record {
-  was = p.settles.was;
+  was = p.closes_all.was;
   whole = puts.whole;
-  holds = λ rs h. rests_held new (put_list mode r rs) none (puts.holds rs (p.settles.stands rs h));
-  answers = λ rs h. puts.answers rs (p.settles.stands rs h);
+  holds = λ rs h. rests_held new (put_list mode r rs) none (puts.holds rs (p.closes_all.stands rs h));
+  answers = λ rs h. puts.answers rs (p.closes_all.stands rs h);
   written = writes_passed old set new (put_bytes l.WORD mode r) p comes puts.written;
 }
 
 would_passed : {S L : Type 0} {s : Ghosts S} {l : Widths L} (old set new : Batch S L s l) (mode : Mode) (r : KeyValue) (due : List KeyValue → Type 0) → Passes old set due → WouldIn set.maker new.maker mode r → WouldPut old new mode r
-would_passed old set new mode r due p would = λ rs h. record { each = λ b is. (let k = (would rs (p.settles.stands rs h)).each b is in (k.0, omega (arith, p.follows.limit, k.1))) }
+would_passed old set new mode r due p would = λ rs h. record { each = λ b is. (let k = (would rs (p.closes_all.stands rs h)).each b is in (k.0, omega (arith, p.follows.limit, k.1))) }
 
-pub fails_put_passed : {S L : Type 0} {s : Ghosts S} {l : Widths L} (old set new : Batch S L s l) (mode : Mode) (r : KeyValue) (fault : MakeFault) → Passes old set (MaySettle old mode r) → new.gone.items ≡ [] → ComesFrom (s.image set.maker.store) (s.image new.maker.store) → FailsPuttingIn set.maker new.maker mode r fault → FailsPutting old new mode r fault
-fails_put_passed old set new mode r Broken p none comes fails = broken_passed old set new (MaySettle old mode r) p fails.broken fails.cause
+pub fails_put_passed : {S L : Type 0} {s : Ghosts S} {l : Widths L} (old set new : Batch S L s l) (mode : Mode) (r : KeyValue) (fault : MakeFault) → Passes old set (MayCloseAll old mode r) → new.gone.items ≡ [] → ComesFrom (s.image set.maker.store) (s.image new.maker.store) → FailsPuttingIn set.maker new.maker mode r fault → FailsPutting old new mode r fault
+fails_put_passed old set new mode r Broken p none comes fails = broken_passed old set new (MayCloseAll old mode r) p fails.broken fails.cause
 fails_put_passed old set new mode r Lookup p none comes fails = (
-  stays_passed old set new (MaySettle old mode r) p none fails.0.stays.whole fails.0.stays.holds,
-  none_passed old set new (MaySettle old mode r) p comes fails.0.written,
+  stays_passed old set new (MayCloseAll old mode r) p none fails.0.stays.whole fails.0.stays.holds,
+  none_passed old set new (MayCloseAll old mode r) p comes fails.0.written,
   failed_later old set new p.fine fails.1,
   fails.2,
 )
 fails_put_passed old set new mode r TooBig p none comes fails = (
-  stays_passed old set new (MaySettle old mode r) p none fails.0.stays.whole fails.0.stays.holds,
-  none_passed old set new (MaySettle old mode r) p comes fails.0.written,
-  λ rs h. record { each = λ b is. (let k = (fails.1 rs (p.settles.stands rs h)).each b is in omega (arith, p.follows.limit)) },
+  stays_passed old set new (MayCloseAll old mode r) p none fails.0.stays.whole fails.0.stays.holds,
+  none_passed old set new (MayCloseAll old mode r) p comes fails.0.written,
+  λ rs h. record { each = λ b is. (let k = (fails.1 rs (p.closes_all.stands rs h)).each b is in omega (arith, p.follows.limit)) },
   fails.2 ∙ p.fine,
 )
 fails_put_passed old set new mode r NoMemory p none comes fails = (
-  stays_passed old set new (MaySettle old mode r) p none fails.0.stays.whole fails.0.stays.holds,
-  none_passed old set new (MaySettle old mode r) p comes fails.0.written,
-  λ rs h replaces. record { each = λ b is there. (let k = (fails.1 rs (p.settles.stands rs h) replaces).each b is there in omega (arith, p.follows.room)) },
-  would_passed old set new mode r (MaySettle old mode r) p fails.2,
+  stays_passed old set new (MayCloseAll old mode r) p none fails.0.stays.whole fails.0.stays.holds,
+  none_passed old set new (MayCloseAll old mode r) p comes fails.0.written,
+  λ rs h replaces. record { each = λ b is there. (let k = (fails.1 rs (p.closes_all.stands rs h) replaces).each b is there in omega (arith, p.follows.room)) },
+  would_passed old set new mode r (MayCloseAll old mode r) p fails.2,
   fails.3 ∙ p.fine,
 )
 fails_put_passed {s = s} old set new mode r Writing p none comes fails = elim fails.0 [
   | inl plain ↦ inl (
-    stays_passed old set new (MaySettle old mode r) p none plain.0.whole plain.0.holds,
+    stays_passed old set new (MayCloseAll old mode r) p none plain.0.whole plain.0.holds,
     failed_behind old.maker set.maker new.maker p.follows.failures p.follows.unwritten plain.1,
-    would_passed old set new mode r (MaySettle old mode r) p fails.1,
+    would_passed old set new mode r (MayCloseAll old mode r) p fails.1,
   )
-  | inr torn ↦ inr (torn_passed old set new r.key (MaySettle old mode r) p torn.0, inr torn.1)
+  | inr torn ↦ inr (torn_passed old set new r.key (MayCloseAll old mode r) p torn.0, inr torn.1)
 ]
 
 -- or it failed itself, after a look
-pub fails_put_amid : {S L : Type 0} {s : Ghosts S} {l : Widths L} (old mid new : Batch S L s l) (mode : Mode) (r : KeyValue) (fault : MakeFault) → Rests old mid → HasNotFailed old mid → FailsSettling mid new fault → FailsPutting old new mode r fault
+pub fails_put_amid : {S L : Type 0} {s : Ghosts S} {l : Widths L} (old mid new : Batch S L s l) (mode : Mode) (r : KeyValue) (fault : MakeFault) → Rests old mid → HasNotFailed old mid → FailsClosingAll mid new fault → FailsPutting old new mode r fault
 fails_put_amid old mid new mode r Broken rests fine fails = broken_rested old mid new rests fails
 fails_put_amid old mid new mode r Lookup rests fine fails = absurd fails
 fails_put_amid old mid new mode r TooBig rests fine fails = absurd fails
@@ -532,7 +532,7 @@ pub fails_put_looking : {S L : Type 0} {s : Ghosts S} {l : Widths L} (old new : 
 fails_put_looking old new mode r Broken looks comes gone is reads fails = fails_look old new Broken gone is reads fails
 fails_put_looking old new mode r Lookup looks comes gone is reads fails = (
   stays_kept old new gone comes fails.0.stays,
-  passes_none old new (MaySettle old mode r) fails.0.written,
+  passes_none old new (MayCloseAll old mode r) fails.0.written,
   fails.1,
   looks refl,
 )
@@ -663,16 +663,16 @@ removes_marked {s = s} {l = l} old new key n h gaps was found room whole same no
 
 pub removes_passed : {S L : Type 0} {s : Ghosts S} {l : Widths L} (old set new : Batch S L s l) (key : List ℕ) (n : ℕ) → Passes old set (λ rs. IsFull old (count_of key rs)) → new.gone.items ≡ [] → ComesFrom (s.image set.maker.store) (s.image new.maker.store) → RemovesIn set.maker new.maker key n → Removes old new key n
 removes_passed {l = l} old set new key n p none comes removes = record {
-  was = p.settles.was;
+  was = p.closes_all.was;
   whole = removes.whole;
-  holds = λ rs h. rests_held new (without key rs) none (removes.holds rs (p.settles.stands rs h));
-  answer = λ rs h. removes.answer rs (p.settles.stands rs h);
+  holds = λ rs h. rests_held new (without key rs) none (removes.holds rs (p.closes_all.stands rs h));
+  answer = λ rs h. removes.answer rs (p.closes_all.stands rs h);
   written = writes_passed old set new (λ rs. sum_by (record_size l.WORD) (behind_first (has_key key) rs)) p comes removes.written;
 }
 
-pub passes_full : {S L : Type 0} {s : Ghosts S} {l : Widths L} (old set : Batch S L s l) (key : List ℕ) (n : ℕ) → old.maker.broken ≡ false → HasFound old.maker key n → IsFull old n → Settles old set → Follows old.maker set.maker → HasNotFailed old set → Passes old set (λ rs. IsFull old (count_of key rs))
-passes_full old set key n whole found full settles follows fine = record {
-  settles = settles;
+pub passes_full : {S L : Type 0} {s : Ghosts S} {l : Widths L} (old set : Batch S L s l) (key : List ℕ) (n : ℕ) → old.maker.broken ≡ false → HasFound old.maker key n → IsFull old n → ClosesAll old set → Follows old.maker set.maker → HasNotFailed old set → Passes old set (λ rs. IsFull old (count_of key rs))
+passes_full old set key n whole found full closes_all follows fine = record {
+  closes_all = closes_all;
   follows = follows;
   fine = fine;
   why = λ rs h. record { each = λ b is. (let many = (found_counted old key n found rs h).each b is in omega arith) };
@@ -689,7 +689,7 @@ fails_remove_passed old set new key TooBig p none comes fails = absurd fails
 fails_remove_passed old set new key NoMemory p none comes fails = absurd fails
 fails_remove_passed old set new key Writing p none comes fails = torn_passed old set new key (λ rs. IsFull old (count_of key rs)) p fails
 
-pub fails_remove_amid : {S L : Type 0} {s : Ghosts S} {l : Widths L} (old new : Batch S L s l) (key : List ℕ) (fault : MakeFault) → FailsSettling old new fault → FailsRemoving old new key fault
+pub fails_remove_amid : {S L : Type 0} {s : Ghosts S} {l : Widths L} (old new : Batch S L s l) (key : List ℕ) (fault : MakeFault) → FailsClosingAll old new fault → FailsRemoving old new key fault
 fails_remove_amid old new key Broken fails = fails
 fails_remove_amid old new key Lookup fails = absurd fails
 fails_remove_amid old new key TooBig fails = absurd fails
@@ -727,50 +727,50 @@ fails_remove_rested old mid new key Writing rests fine fails = torn_rested old m
 
 -- ---- the finish
 
-stays_settled : {S L : Type 0} {s : Ghosts S} {l : Widths L} (old mid new : Batch S L s l) → Settles old mid → new.gone.items ≡ [] → new.maker.broken ≡ false → ((rs : List KeyValue) → Has mid.maker rs → Has new.maker rs) → StaysWhole old new
-stays_settled old mid new settles none whole keeps = record { was = settles.was; whole = whole; holds = λ rs h. rests_held new rs none (keeps rs (settles.stands rs h)) }
+stays_settled : {S L : Type 0} {s : Ghosts S} {l : Widths L} (old mid new : Batch S L s l) → ClosesAll old mid → new.gone.items ≡ [] → new.maker.broken ≡ false → ((rs : List KeyValue) → Has mid.maker rs → Has new.maker rs) → StaysWhole old new
+stays_settled old mid new closes_all none whole keeps = record { was = closes_all.was; whole = whole; holds = λ rs h. rests_held new rs none (keeps rs (closes_all.stands rs h)) }
 
-pub finished_file : {S L : Type 0} {s : Ghosts S} {l : Widths L} (old mid : Batch S L s l) (rs : List KeyValue) {new : List ℕ → Type 0} → Settles old mid → ((rs : List KeyValue) → Has mid.maker rs → IsFile l.WORD rs new) → Holds old rs → IsFile l.WORD rs new
-finished_file old mid rs settles file h = file rs (settles.stands rs h)
+pub finished_file : {S L : Type 0} {s : Ghosts S} {l : Widths L} (old mid : Batch S L s l) (rs : List KeyValue) {new : List ℕ → Type 0} → ClosesAll old mid → ((rs : List KeyValue) → Has mid.maker rs → IsFile l.WORD rs new) → Holds old rs → IsFile l.WORD rs new
+finished_file old mid rs closes_all file h = file rs (closes_all.stands rs h)
 
-pub finished_written : {S L : Type 0} {s : Ghosts S} {l : Widths L} (old mid : Batch S L s l) (all : List KeyValue) (marks : List Bool) (t : S) → Settles old mid → ComesFrom (s.image mid.maker.store) (s.image t)
+pub finished_written : {S L : Type 0} {s : Ghosts S} {l : Widths L} (old mid : Batch S L s l) (all : List KeyValue) (marks : List Bool) (t : S) → ClosesAll old mid → ComesFrom (s.image mid.maker.store) (s.image t)
     → s.written t + mid.maker.end ≡ s.written mid.maker.store + (head_size l.WORD + made_size mid.maker) → Lies old all marks
     → WhereHonest (s.image t) (s.written t + records_end l.WORD (unmarked marks all) ≡ s.written old.maker.store + (pass_bytes l.WORD marks all + (head_size l.WORD + file_size l.WORD (unmarked marks all))))
-finished_written {l = l} old mid all marks t settles comes written h = record {
+finished_written {l = l} old mid all marks t closes_all comes written h = record {
   each = λ b is.
       let rs : List KeyValue = unmarked marks all in
       let a = comes.each b is in
-      let moved = (settles.moved all marks h).each a.0 a.1 in
-      let has : Has mid.maker rs = settles.stands rs (lies_held old all marks h) in
+      let moved = (closes_all.moved all marks h).each a.0 a.1 in
+      let has : Has mid.maker rs = closes_all.stands rs (lies_held old all marks h) in
       let made : made_size mid.maker ≡ file_size l.WORD rs = (held_size mid.maker rs (made_size mid.maker) refl has).each a.0 a.1 in
       let end : mid.maker.end ≡ records_end l.WORD rs = (has.each a.0 a.1).stand.ends in
       omega arith;
 }
 
 -- what one leaves that failed
-pub fails_finish_amid : {S L : Type 0} {s : Ghosts S} {l : Widths L} (old new : Batch S L s l) (fault : MakeFault) → FailsSettling old new fault → FailsFinishing old new fault
+pub fails_finish_amid : {S L : Type 0} {s : Ghosts S} {l : Widths L} (old new : Batch S L s l) (fault : MakeFault) → FailsClosingAll old new fault → FailsFinishing old new fault
 fails_finish_amid old new Broken fails = fails
 fails_finish_amid old new Writing fails = inr fails
 fails_finish_amid old new Lookup fails = absurd fails
 fails_finish_amid old new TooBig fails = absurd fails
 fails_finish_amid old new NoMemory fails = absurd fails
 
-pub fails_finish_settled : {S L : Type 0} {s : Ghosts S} {l : Widths L} (old mid new : Batch S L s l) (fault : MakeFault) → Settles old mid → HasNotFailed old mid → new.gone.items ≡ [] → ComesFrom (s.image mid.maker.store) (s.image new.maker.store) → FailsFinishingIn mid.maker new.maker fault
+pub fails_finish_settled : {S L : Type 0} {s : Ghosts S} {l : Widths L} (old mid new : Batch S L s l) (fault : MakeFault) → ClosesAll old mid → HasNotFailed old mid → new.gone.items ≡ [] → ComesFrom (s.image mid.maker.store) (s.image new.maker.store) → FailsFinishingIn mid.maker new.maker fault
     → FailsFinishing old new fault
-fails_finish_settled old mid new Broken settles fine none comes fails = absurd (let k : true ≡ false = sym fails.0 ∙ settles.whole in cc)
-fails_finish_settled {s = s} {l = l} old mid new NoMemory settles fine none comes fails = record {
-  was = settles.was;
+fails_finish_settled old mid new Broken closes_all fine none comes fails = absurd (let k : true ≡ false = sym fails.0 ∙ closes_all.whole in cc)
+fails_finish_settled {s = s} {l = l} old mid new NoMemory closes_all fine none comes fails = record {
+  was = closes_all.was;
   whole = fails.0.stays.whole;
   none = none;
-  stands = λ rs h. fails.0.stays.holds rs (settles.stands rs h);
-  moved = λ all marks h. record { each = λ b is. (let a = comes.each b is in fails.0.written ∙ (settles.moved all marks h).each a.0 a.1) };
+  stands = λ rs h. fails.0.stays.holds rs (closes_all.stands rs h);
+  moved = λ all marks h. record { each = λ b is. (let a = comes.each b is in fails.0.written ∙ (closes_all.moved all marks h).each a.0 a.1) };
 }
-fails_finish_settled {s = s} old mid new Writing settles fine none comes fails = inl (
-  stays_settled old mid new settles none fails.0.whole fails.0.holds,
+fails_finish_settled {s = s} old mid new Writing closes_all fine none comes fails = inl (
+  stays_settled old mid new closes_all none fails.0.whole fails.0.holds,
   (let k : s.failures mid.maker.store < s.failures new.maker.store = fails.2 in let e : s.failures mid.maker.store ≡ s.failures old.maker.store = fine in omega arith),
 )
-fails_finish_settled old mid new Lookup settles fine none comes fails = absurd fails
-fails_finish_settled old mid new TooBig settles fine none comes fails = absurd fails
+fails_finish_settled old mid new Lookup closes_all fine none comes fails = absurd fails
+fails_finish_settled old mid new TooBig closes_all fine none comes fails = absurd fails
 
 -- ---- with room for more gaps a batch is what it was
 

@@ -20,7 +20,7 @@ use Rattle.cdb_make.specs.Gaps.{AreApart, marked_gaps, unmarked}
 use Rattle.cdb_make.specs.Marks.{AreMarked, WritesPass}
 use Rattle.cdb_make.specs.Stands.{IsThere}
 use Rattle.cdb_make.specs.Survivors.{is_there}
-use Rattle.cdb_make.specs.Views.Batch.{Lies, Holds, StaysWhole, WritesNothing, FailsLooking, Settles, FailsSettling, SameCounts, count_in}
+use Rattle.cdb_make.specs.Views.Batch.{Lies, Holds, StaysWhole, WritesNothing, FailsLooking, ClosesAll, FailsClosingAll, SameCounts, count_in}
 use Rattle.cdb_make.specs.Views.Carrying.{Carries, KeepsCarrying, Stays, Rests, FailsSeeking}
 use Rattle.cdb_make.specs.Views.Closing.{ClosingFails}
 use Rattle.cdb_make.specs.Views.Lists.{all_entries}
@@ -175,7 +175,7 @@ none_apart {s = s} {l = l} m gaps start rs t begins pos moved sorted overlap sam
 pub settles_closed : {S L : Type 0} {s : Ghosts S} {l : Widths L} (old new : Batch S L s l) (gaps : List Gap) → 0 < l.WORD → IsPermutation old.gone.items gaps → IsNonDecreasingBy (λ g. g.place) gaps → old.maker.broken ≡ false → new.maker.broken ≡ false → new.gone.items ≡ [] → ComesFrom (s.image old.maker.store) (s.image new.maker.store)
     → ((all : List KeyValue) (marks : List Bool) → Carries old.maker all marks → AreMarked l.WORD gaps marks all (s.image old.maker.store) → Has new.maker (unmarked marks all))
     → ((all : List KeyValue) (marks : List Bool) → Carries old.maker all marks → AreMarked l.WORD gaps marks all (s.image old.maker.store) → WritesPass l.WORD marks all (s.image new.maker.store) (s.written old.maker.store) (s.written new.maker.store))
-    → Settles old new
+    → ClosesAll old new
 settles_closed {l = l} old new gaps pos moved sorted was whole none comes holds writes = record {
   was = was;
   whole = whole;
@@ -193,7 +193,7 @@ settles_closed {l = l} old new gaps pos moved sorted was whole none comes holds 
 
 -- and what one leaves that failed
 pub fails_pass : {S L : Type 0} {s : Ghosts S} {l : Widths L} (old new : Batch S L s l) (gaps : List Gap) (fault : MakeFault) → 0 < l.WORD → IsPermutation old.gone.items gaps → IsNonDecreasingBy (λ g. g.place) gaps → old.maker.broken ≡ false → new.maker.broken ≡ true → ComesFrom (s.image old.maker.store) (s.image new.maker.store)
-    → ClosingFails l.WORD old.maker.end gaps (all_entries old.maker.lists) (s.image old.maker.store) (s.image new.maker.store) (s.failures old.maker.store) (s.failures new.maker.store) fault → FailsSettling old new fault
+    → ClosingFails l.WORD old.maker.end gaps (all_entries old.maker.lists) (s.image old.maker.store) (s.image new.maker.store) (s.failures old.maker.store) (s.failures new.maker.store) fault → FailsClosingAll old new fault
 fails_pass {l = l} old new gaps Broken pos moved sorted was broken comes fails = record {
   broken = broken;
   same = λ already. absurd (let k : true ≡ false = sym already ∙ was in cc);

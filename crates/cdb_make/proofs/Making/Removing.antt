@@ -28,14 +28,14 @@ use Rattle.cdb_make.proofs.Marked.Whole.{count_found, stand_marked}
 pub removes_closed : {S L : Type 0} {s : Ghosts S} {l : Widths L} (old new : Maker S L s l) (gs : List Gap) (key : List ℕ) (n : ℕ) → old.broken ≡ false → new.broken ≡ false → gs ≡ old.gaps.items → HasFound old key n → ComesFrom (s.image old.store) (s.image new.store)
     → ((marks goes : List Bool) (rs : List KeyValue) → StandMarked l.WORD old.end (all_entries old.lists) marks rs (s.image old.store) → AreMarked l.WORD gs goes rs (s.image old.store) → AreAmong l.WORD marks goes rs → Stands l.WORD new.end (all_entries new.lists) (unmarked goes rs) (s.image new.store))
     → ((marks goes : List Bool) (rs : List KeyValue) → StandMarked l.WORD old.end (all_entries old.lists) marks rs (s.image old.store) → AreMarked l.WORD gs goes rs (s.image old.store) → WritesPass l.WORD goes rs (s.image new.store) (s.written old.store) (s.written new.store)) → Removes old new key n
-removes_closed {s = s} {l = l} old new gs key n was whole noted found comes settles moves =
+removes_closed {s = s} {l = l} old new gs key n was whole noted found comes closes_all moves =
     let stand : (rs : List KeyValue) → Holds old rs → StandMarked l.WORD old.end (all_entries old.lists) [] rs (s.image old.store) = λ rs h. stand_marked (held_stand old rs h) in
     record {
       was = was;
       whole = whole;
       holds = λ rs h.
           subst (λ (v : List KeyValue). Holds new v) (unmarked_by (has_key key) rs)
-          (settled_holds old new rs [] (fresh key [] rs) whole (held_carried old rs h) (settles [] (fresh key [] rs) rs (stand rs h) (held_found old gs key n noted found rs h) (among_none l.WORD (fresh key [] rs) rs)) comes);
+          (settled_holds old new rs [] (fresh key [] rs) whole (held_carried old rs h) (closes_all [] (fresh key [] rs) rs (stand rs h) (held_found old gs key n noted found rs h) (among_none l.WORD (fresh key [] rs) rs)) comes);
       answer = λ rs h. honest_comes comes (record { each = λ b is. found.many ∙ ap length (sym noted) ∙ (count_found key (held_found old gs key n noted found rs h)).each b is });
       written = λ rs h. record {
         each = λ b is.

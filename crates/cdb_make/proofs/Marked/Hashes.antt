@@ -1,4 +1,4 @@
--- The hash of one entry of a list is turned.
+-- The hash of one entry of a list is flipped.
 use Rattle.std.proofs.Common.{◌≡◌, ℕ, zero, suc, true, ◌+◌, ◌-◌, ◌%◌, ◌<◌, ◌≤◌, List, [], ◌∷◌, length, get_or, set, take, refl, sym, ap, subst, ◌∙◌, arith, inl, inr}
 use Rattle.std.specs.Prelude.{slice_index, ◌≢◌}
 use Rattle.std.specs.List.Sorted.{IsNonDecreasing}
@@ -8,35 +8,35 @@ use Rattle.cdb_form.specs.Format.Pair.{WordPair}
 use Rattle.cdb_make.specs.Gaps.{IsRising}
 use Rattle.cdb_make.specs.declared.removal.gap.Gap.{Gap}
 use Rattle.cdb_make.specs.declared.index.list.EntryList.{EntryList}
-use Rattle.cdb_make.specs.Marks.{turned, marked_entry, turn_at, turn_each}
+use Rattle.cdb_make.specs.Marks.{flipped, marked_entry, flip_at, flip_each}
 use Rattle.cdb_make.specs.Rings.{bucket_of, IsFree, AreLinked}
 use Rattle.cdb_make.specs.Views.EntryList.{entries_of, list_entries, list_room, IsMarked}
-use Rattle.cdb_make.proofs.Marked.Marks.{turned_bucket}
+use Rattle.cdb_make.proofs.Marked.Marks.{flipped_bucket}
 use Rattle.cdb_make.proofs.Gaps.Merge.{rising_least}
-use Rattle.cdb_make.proofs.Marked.Turning.{turn_here, turn_other, turn_above, turn_more, rising_turned}
+use Rattle.cdb_make.proofs.Marked.Flipping.{flip_here, flip_other, flip_above, flip_more, rising_flipped}
 
 -- the entry at the place
-pub entry_turned : (hs ps : List ℕ) (p n place : ℕ) → length hs ≡ length ps → n < length ps → get_or ps n 0 ≡ place → IsRising p (entries_of hs ps)
-    → entries_of (set hs n (turned (get_or hs n 0))) ps ≡ turn_at place (entries_of hs ps)
-entry_turned [] [] p n place e lt at rise = absurd (omega arith)
-entry_turned [] (q ∷ ps) p n place e lt at rise = absurd (omega arith)
-entry_turned (h ∷ hs) [] p n place e lt at rise = absurd (omega arith)
-entry_turned (h ∷ hs) (q ∷ ps) p zero place e lt at rise =
+pub entry_flipped : (hs ps : List ℕ) (p n place : ℕ) → length hs ≡ length ps → n < length ps → get_or ps n 0 ≡ place → IsRising p (entries_of hs ps)
+    → entries_of (set hs n (flipped (get_or hs n 0))) ps ≡ flip_at place (entries_of hs ps)
+entry_flipped [] [] p n place e lt at rise = absurd (omega arith)
+entry_flipped [] (q ∷ ps) p n place e lt at rise = absurd (omega arith)
+entry_flipped (h ∷ hs) [] p n place e lt at rise = absurd (omega arith)
+entry_flipped (h ∷ hs) (q ∷ ps) p zero place e lt at rise =
     let x : WordPair = record { first = h; second = q } in
     let es : List WordPair = entries_of hs ps in
-    sym (turn_here place x es at ∙ ap (λ v. marked_entry true x ∷ v) (turn_above place (q + 1) es (omega arith) rise.1))
-entry_turned (h ∷ hs) (q ∷ ps) p (suc n) place e lt at rise =
+    sym (flip_here place x es at ∙ ap (λ v. marked_entry true x ∷ v) (flip_above place (q + 1) es (omega arith) rise.1))
+entry_flipped (h ∷ hs) (q ∷ ps) p (suc n) place e lt at rise =
     let x : WordPair = record { first = h; second = q } in
     let least : q + 1 ≤ get_or ps n 0 = rising_least (q + 1) n 0 hs ps (omega arith) rise.1 (omega arith) in
-    ap (λ v. x ∷ v) (entry_turned hs ps (q + 1) n place (omega arith) (omega arith) at rise.1) ∙ sym (turn_other place x (entries_of hs ps) (λ same. omega arith))
+    ap (λ v. x ∷ v) (entry_flipped hs ps (q + 1) n place (omega arith) (omega arith) at rise.1) ∙ sym (flip_other place x (entries_of hs ps) (λ same. omega arith))
 
 -- no entry is there
-pub none_turned : (hs ps : List ℕ) (place : ℕ) → length hs ≡ length ps → ((k : ℕ) → k < length ps → get_or ps k 0 ≢ place) → entries_of hs ps ≡ turn_at place (entries_of hs ps)
-none_turned [] ps place e none = refl
-none_turned (h ∷ hs) [] place e none = refl
-none_turned (h ∷ hs) (q ∷ ps) place e none =
+pub none_flipped : (hs ps : List ℕ) (place : ℕ) → length hs ≡ length ps → ((k : ℕ) → k < length ps → get_or ps k 0 ≢ place) → entries_of hs ps ≡ flip_at place (entries_of hs ps)
+none_flipped [] ps place e none = refl
+none_flipped (h ∷ hs) [] place e none = refl
+none_flipped (h ∷ hs) (q ∷ ps) place e none =
     let x : WordPair = record { first = h; second = q } in
-    ap (λ v. x ∷ v) (none_turned hs ps place (omega arith) (λ k lt. none (suc k) (omega arith))) ∙ sym (turn_other place x (entries_of hs ps) (none 0 (omega arith)))
+    ap (λ v. x ∷ v) (none_flipped hs ps place (omega arith) (λ k lt. none (suc k) (omega arith))) ∙ sym (flip_other place x (entries_of hs ps) (none 0 (omega arith)))
 
 -- where a search for it ended, since the places rise
 pub not_there : (ps : List ℕ) (n place : ℕ) → IsNonDecreasing ps → ((k : ℕ) → k < n → slice_index ps k < place) → ((k : ℕ) → n ≤ k → k < length ps → place ≤ slice_index ps k)
@@ -53,12 +53,12 @@ not_there ps n place sorted below above other k lt = λ same. elim (cases_lt k n
 ]
 
 -- the rings go by the buckets alone
-bucket_turned : (count : ℕ) (hs : List ℕ) (n k : ℕ) → n < length hs → bucket_of count (slice_index (set hs n (turned (slice_index hs n))) k) ≡ bucket_of count (slice_index hs k)
-bucket_turned count hs n k lt = elim (cases_eq k n) [
+bucket_flipped : (count : ℕ) (hs : List ℕ) (n k : ℕ) → n < length hs → bucket_of count (slice_index (set hs n (flipped (slice_index hs n))) k) ≡ bucket_of count (slice_index hs k)
+bucket_flipped count hs n k lt = elim (cases_eq k n) [
   | inl here ↦
-      let is : slice_index (set hs n (turned (slice_index hs n))) k ≡ turned (slice_index hs n) = ap (slice_index (set hs n (turned (slice_index hs n)))) here ∙ get_or-set_same hs n (turned (slice_index hs n)) 0 lt in
-      ap (bucket_of count) is ∙ ap (λ (v : ℕ). v % count) (turned_bucket (slice_index hs n)) ∙ ap (λ (j : ℕ). bucket_of count (slice_index hs j)) (sym here)
-  | inr apart ↦ ap (bucket_of count) (get_or-set_other hs n k (turned (slice_index hs n)) 0 apart)
+      let is : slice_index (set hs n (flipped (slice_index hs n))) k ≡ flipped (slice_index hs n) = ap (slice_index (set hs n (flipped (slice_index hs n)))) here ∙ get_or-set_same hs n (flipped (slice_index hs n)) 0 lt in
+      ap (bucket_of count) is ∙ ap (λ (v : ℕ). v % count) (flipped_bucket (slice_index hs n)) ∙ ap (λ (j : ℕ). bucket_of count (slice_index hs j)) (sym here)
+  | inr apart ↦ ap (bucket_of count) (get_or-set_other hs n k (flipped (slice_index hs n)) 0 apart)
 ]
 
 free_same : (count b : ℕ) (hs gs : List ℕ) (from end : ℕ) → ((k : ℕ) → bucket_of count (slice_index gs k) ≡ bucket_of count (slice_index hs k)) → IsFree count b hs from end → IsFree count b gs from end
@@ -86,25 +86,25 @@ linked_same ends next hs gs long same linked = record {
       };
 }
 
-pub linked_turned : (ends next hs : List ℕ) (n : ℕ) → n < length hs → AreLinked ends next hs → AreLinked ends next (set hs n (turned (slice_index hs n)))
-linked_turned ends next hs n lt linked =
-    linked_same ends next hs (set hs n (turned (slice_index hs n))) (length-set hs n (turned (slice_index hs n))) (λ k. bucket_turned (length ends) hs n k lt) linked
+pub linked_flipped : (ends next hs : List ℕ) (n : ℕ) → n < length hs → AreLinked ends next hs → AreLinked ends next (set hs n (flipped (slice_index hs n)))
+linked_flipped ends next hs n lt linked =
+    linked_same ends next hs (set hs n (flipped (slice_index hs n))) (length-set hs n (flipped (slice_index hs n))) (λ k. bucket_flipped (length ends) hs n k lt) linked
 
 -- gap after gap
-rising_each : (gs : List Gap) (q : ℕ) (es : List WordPair) → IsRising q es → IsRising q (turn_each gs es)
+rising_each : (gs : List Gap) (q : ℕ) (es : List WordPair) → IsRising q es → IsRising q (flip_each gs es)
 rising_each [] q es h = h
-rising_each (g ∷ gs) q es h = rising_each gs q (turn_at g.place es) (rising_turned g.place q es h)
+rising_each (g ∷ gs) q es h = rising_each gs q (flip_at g.place es) (rising_flipped g.place q es h)
 
 pub marked_more : (all : List Gap) (i : ℕ) (d : Gap) (old mid new : EntryList) → i < length all → IsMarked (take i all) old mid
-    → (IsRising 0 (list_entries mid) → list_entries new ≡ turn_at (get_or all i d).place (list_entries mid)) → new.places.items ≡ mid.places.items → new.top ≡ mid.top → list_room new ≡ list_room mid
+    → (IsRising 0 (list_entries mid) → list_entries new ≡ flip_at (get_or all i d).place (list_entries mid)) → new.places.items ≡ mid.places.items → new.top ≡ mid.top → list_room new ≡ list_room mid
     → IsMarked (take (i + 1) all) old new
 marked_more all i d old mid new lt marked one places top room = record {
   entries = λ rise.
-      let was : list_entries mid ≡ turn_each (take i all) (list_entries old) = marked.entries rise in
+      let was : list_entries mid ≡ flip_each (take i all) (list_entries old) = marked.entries rise in
       let still : IsRising 0 (list_entries mid) = subst (IsRising 0) (sym was) (rising_each (take i all) 0 (list_entries old) rise) in
       one still
-      ∙ ap (turn_at (get_or all i d).place) was
-      ∙ sym (ap (λ (v : List Gap). turn_each v (list_entries old)) (take_more all i d lt) ∙ turn_more (take i all) (get_or all i d ∷ []) (list_entries old));
+      ∙ ap (flip_at (get_or all i d).place) was
+      ∙ sym (ap (λ (v : List Gap). flip_each v (list_entries old)) (take_more all i d lt) ∙ flip_more (take i all) (get_or all i d ∷ []) (list_entries old));
   places = places ∙ marked.places;
   top = top ∙ marked.top;
   room = room ∙ marked.room;

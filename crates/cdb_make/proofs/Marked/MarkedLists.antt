@@ -15,13 +15,13 @@ use Rattle.cdb_make.specs.declared.removal.gap.Gap.{Gap}
 use Rattle.cdb_make.specs.declared.index.list.EntryList.{EntryList}
 use Rattle.cdb_make.specs.declared.index.lists.Lists.{Lists}
 use Rattle.cdb_make.specs.Gaps.{marked_gaps, IsRising}
-use Rattle.cdb_make.specs.Marks.{marked_entries, turn_each, fresh, with_key}
+use Rattle.cdb_make.specs.Marks.{marked_entries, flip_each, fresh, with_key}
 use Rattle.cdb_make.specs.Views.EntryList.{list_entries, lists_entries, list_tops, AreUnder, AreWithin, HasSpareGaps, IsMarked}
 use Rattle.cdb_make.specs.Views.Lists.{all_entries, AreAllMarked}
 use Rattle.cdb_make.proofs.Gaps.ClosedLists.{sum_gone}
 use Rattle.cdb_make.proofs.Marked.Marks.{marked_rising}
 use Rattle.cdb_make.proofs.Entries.Sides.{list_long, places_below, entries_below}
-use Rattle.cdb_make.proofs.Marked.Turning.{key_turned_all, other_turned_all}
+use Rattle.cdb_make.proofs.Marked.Flipping.{key_flipped_all, other_flipped_all}
 use Rattle.cdb_make.proofs.Marked.Whole.{list_of_table}
 
 -- a list whose hashes alone changed: as many entries, at the same places
@@ -81,33 +81,33 @@ lists_marked w gs ls t old new k ms xs ys pos long tab is marked few found e =
     let g : ℕ → List WordPair = marked_entries w (with_key k ms xs) (xs ++ ys) in
     let own : list_entries old ≡ f t = ap list_entries is ∙ list_of_table f t ls old long lt e in
     let rise : IsRising 0 (list_entries old) = subst (IsRising 0) (sym own) (marked_rising t w 0 at pos (omega arith) ms (xs ++ ys)) in
-    let turned : list_entries new ≡ g t =
-    marked.entries rise ∙ ap (turn_each gs) own ∙ ap (λ (v : List Gap). turn_each v (f t)) found ∙ key_turned_all t w at k pos tab ms xs ys few in
+    let flipped : list_entries new ≡ g t =
+    marked.entries rise ∙ ap (flip_each gs) own ∙ ap (λ (v : List Gap). flip_each v (f t)) found ∙ key_flipped_all t w at k pos tab ms xs ys few in
     map-set list_entries ls t new
     ∙ fill_by_all g (slice_set all t (list_entries new)) 256 [] (length-set all t (list_entries new) ∙ length-map ls list_entries ∙ long) (λ n low. elim (cases_eq n t) as (λ s. get_or (slice_set all t (list_entries new)) n [] ≡ g n) [
-      | inl here ↦ get_or-set_at all t n (list_entries new) [] here (omega (arith, length-map ls list_entries)) ∙ turned ∙ ap g (sym here)
+      | inl here ↦ get_or-set_at all t n (list_entries new) [] here (omega (arith, length-map ls list_entries)) ∙ flipped ∙ ap g (sym here)
       | inr apart ↦
           get_or-set_other all t n (list_entries new) [] apart
           ∙ ap (λ v. get_or v n []) e
           ∙ get_or-map-range_with_len f 0 256 n n [] low (omega arith)
-          ∙ sym (other_turned_all n w at k (λ same. apart (same ∙ sym tab)) ms xs ys few)
+          ∙ sym (other_flipped_all n w at k (λ same. apart (same ∙ sym tab)) ms xs ys few)
     ])
 
 -- ---- the lists of all tables
 
 pub all_counted : {hash : ℕ} {gs : List Gap} {old new : Lists} → AreAllMarked hash gs old new → sum_by length (all_entries new) ≡ sum_by length (all_entries old)
-all_counted {hash = hash} {gs = gs} {old = old} m = ap (λ v. sum_by length (lists_entries v)) m.others ∙ marked_counted gs old.each.items (table_number hash) m.list m.turned (omega (arith, old.all)) m.is m.marked
+all_counted {hash = hash} {gs = gs} {old = old} m = ap (λ v. sum_by length (lists_entries v)) m.others ∙ marked_counted gs old.each.items (table_number hash) m.list m.flipped (omega (arith, old.all)) m.is m.marked
 
 pub all_within : {hash : ℕ} {gs : List Gap} {old new : Lists} (most : ℕ) → AreAllMarked hash gs old new → AreWithin most (all_entries old) → AreWithin most (all_entries new)
 all_within {hash = hash} {gs = gs} {old = old} most m all =
-    subst (λ (v : List EntryList). AreWithin most (lists_entries v)) (sym m.others) (marked_within gs old.each.items (table_number hash) m.list m.turned most (omega (arith, old.all)) m.is m.marked all)
+    subst (λ (v : List EntryList). AreWithin most (lists_entries v)) (sym m.others) (marked_within gs old.each.items (table_number hash) m.list m.flipped most (omega (arith, old.all)) m.is m.marked all)
 
 pub all_spare : {hash : ℕ} {gs : List Gap} {old new : Lists} (room : ℕ) → AreAllMarked hash gs old new → HasSpareGaps (all_entries old) room → HasSpareGaps (all_entries new) room
 all_spare {hash = hash} {gs = gs} {old = old} room m all =
-    subst (λ (v : List EntryList). HasSpareGaps (lists_entries v) room) (sym m.others) (marked_spare gs old.each.items (table_number hash) m.list m.turned room (omega (arith, old.all)) m.is m.marked all)
+    subst (λ (v : List EntryList). HasSpareGaps (lists_entries v) room) (sym m.others) (marked_spare gs old.each.items (table_number hash) m.list m.flipped room (omega (arith, old.all)) m.is m.marked all)
 
 pub all_marked : {hash : ℕ} {gs : List Gap} {old new : Lists} (w : ℕ) (k : List ℕ) (ms : List Bool) (xs ys : List KeyValue) → 0 < w → table_number hash ≡ table_number (key_hash k) → AreAllMarked hash gs old new
     → length ms ≤ length xs → gs ≡ marked_gaps w (head_size w) (fresh k ms xs) xs → all_entries old ≡ map (marked_entries w ms (xs ++ ys)) (range_with_len 0 256)
     → all_entries new ≡ map (marked_entries w (with_key k ms xs) (xs ++ ys)) (range_with_len 0 256)
 all_marked {hash = hash} {gs = gs} {old = old} w k ms xs ys pos tab m few found e =
-    ap lists_entries m.others ∙ lists_marked w gs old.each.items (table_number hash) m.list m.turned k ms xs ys pos old.all tab m.is m.marked few found e
+    ap lists_entries m.others ∙ lists_marked w gs old.each.items (table_number hash) m.list m.flipped k ms xs ys pos old.all tab m.is m.marked few found e

@@ -13,7 +13,7 @@ use Rattle.cdb_make.specs.Looks.{picked, AreChained}
 use Rattle.cdb_make.specs.Marks.{marked_entry, marked_from, fresh}
 use Rattle.cdb_make.specs.Survivors.{has_key}
 use Rattle.cdb_make.proofs.Marked.Found.{HeldFirst, held_first, picked_step, picked_is, chained_is}
-use Rattle.cdb_make.proofs.Marked.Marks.{turned_table}
+use Rattle.cdb_make.proofs.Marked.Marks.{flipped_table}
 use Rattle.cdb_make.proofs.Gaps.Picking.{skip_hash}
 
 same_number : (m n : ℕ) → (m == n) ≡ true → m ≡ n
@@ -27,7 +27,7 @@ picked_marked_step w h at k b r es gs ih =
     elim (in_table (table_number h) x) as (λ t. in_table (table_number h) x ≡ t → picked w h k b (cond t (marked_entry true x ∷ es) es) ≡ gs) [
       | true ↦ λ tab.
           let here : table_number (key_hash r.key) ≡ table_number h = same_number (table_number (key_hash r.key)) (table_number h) tab in
-          skip_hash w h k b (marked_entry true x) es (λ same. turned_table (key_hash r.key) (ap table_number same ∙ sym here)) ∙ ih
+          skip_hash w h k b (marked_entry true x) es (λ same. flipped_table (key_hash r.key) (ap table_number same ∙ sym here)) ∙ ih
       | false ↦ λ tab. ih
     ] refl
 

@@ -16,30 +16,30 @@ use Rattle.cdb_form.specs.Format.Table.{entries_from, in_table, table_entries}
 use Rattle.cdb_form.proofs.Files.Sizes.{sum_by-table_entries}
 use Rattle.cdb_make.specs.declared.removal.gap.Gap.{Gap}
 use Rattle.cdb_make.specs.Gaps.{is_gap, closed_by, lowered, marked_gaps, unmarked, IsRising}
-use Rattle.cdb_make.specs.Marks.{turned, marked_entry, marked_from, marked_entries, fresh, with_key, AreAmong}
+use Rattle.cdb_make.specs.Marks.{flipped, marked_entry, marked_from, marked_entries, fresh, with_key, AreAmong}
 use Rattle.cdb_make.specs.Survivors.{has_key, is_there, count_of, without}
 use Rattle.cdb_make.proofs.Entries.EntryLists.{located_append}
 use Rattle.cdb_make.proofs.Marked.Found.{length-gaps_by, some_gap}
 use Rattle.cdb_make.proofs.Gaps.Places.{size_above, gap_here, rising_lower, rising_entries, rising_filter, table_closed, unmarked_by}
 
--- a turned hash has another table
-turned_even : (h : ℕ) → h % 2 ≡ 0 → turned h ≡ h + 1
-turned_even h e = grind (arith, nat_tests)
+-- a flipped hash has another table
+flipped_even : (h : ℕ) → h % 2 ≡ 0 → flipped h ≡ h + 1
+flipped_even h e = grind (arith, nat_tests)
 
-turned_odd : (h : ℕ) → (h % 2 ≡ 0 → ⊥) → turned h ≡ h - 1
-turned_odd h e = grind (arith, nat_tests)
+flipped_odd : (h : ℕ) → (h % 2 ≡ 0 → ⊥) → flipped h ≡ h - 1
+flipped_odd h e = grind (arith, nat_tests)
 
-pub turned_table : (h : ℕ) → table_number (turned h) ≡ table_number h → ⊥
-turned_table h same = elim (cases_eq (h % 2) 0) [
-  | inl even ↦ let t : table_number (h + 1) ≡ table_number h = ap table_number (sym (turned_even h even)) ∙ same in omega arith
-  | inr odd ↦ let t : table_number (h - 1) ≡ table_number h = ap table_number (sym (turned_odd h odd)) ∙ same in omega arith
+pub flipped_table : (h : ℕ) → table_number (flipped h) ≡ table_number h → ⊥
+flipped_table h same = elim (cases_eq (h % 2) 0) [
+  | inl even ↦ let t : table_number (h + 1) ≡ table_number h = ap table_number (sym (flipped_even h even)) ∙ same in omega arith
+  | inr odd ↦ let t : table_number (h - 1) ≡ table_number h = ap table_number (sym (flipped_odd h odd)) ∙ same in omega arith
 ]
 
 -- and the same bucket
-pub turned_bucket : (h : ℕ) → turned h / 256 ≡ h / 256
-turned_bucket h = elim (cases_eq (h % 2) 0) [
-  | inl even ↦ let t : turned h ≡ h + 1 = turned_even h even in omega arith
-  | inr odd ↦ let t : turned h ≡ h - 1 = turned_odd h odd in omega arith
+pub flipped_bucket : (h : ℕ) → flipped h / 256 ≡ h / 256
+flipped_bucket h = elim (cases_eq (h % 2) 0) [
+  | inl even ↦ let t : flipped h ≡ h + 1 = flipped_even h even in omega arith
+  | inr odd ↦ let t : flipped h ≡ h - 1 = flipped_odd h odd in omega arith
 ]
 
 -- without marks they are the entries of the records

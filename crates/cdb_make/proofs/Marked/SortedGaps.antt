@@ -11,7 +11,7 @@ use Rattle.cdb_form.specs.Format.Record.{KeyValue, record_size}
 use Rattle.cdb_make.specs.declared.removal.gap.Gap.{Gap}
 use Rattle.cdb_make.specs.Gaps.{marked_gaps}
 use Rattle.cdb_make.proofs.Gaps.Places.{size_above}
-use Rattle.cdb_make.proofs.Marked.Turning.{gaps_above}
+use Rattle.cdb_make.proofs.Marked.Flipping.{gaps_above}
 
 -- whether two gaps are one, as a number
 same_gap : Gap → Gap → ℕ

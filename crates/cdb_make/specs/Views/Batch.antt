@@ -147,14 +147,14 @@ taken_by Replace r rs = count_of r.key rs
 taken_by mode r rs = 0
 
 -- a put that adds its record makes a pass first if it has to, or if memory could be wanted
-abbrev pub MustSettle : {S L : Type 0} {s : Ghosts S} {l : Widths L} → Batch S L s l → Mode
+abbrev pub MustCloseAll : {S L : Type 0} {s : Ghosts S} {l : Widths L} → Batch S L s l → Mode
     → KeyValue → List KeyValue → Type 0
-MustSettle m mode r rs =
+MustCloseAll m mode r rs =
     (put_answer mode r rs ≢ Present) × (IsFull m (taken_by mode r rs) ⊎ IsOver m r)
 
-abbrev pub MaySettle : {S L : Type 0} {s : Ghosts S} {l : Widths L} → Batch S L s l → Mode
+abbrev pub MayCloseAll : {S L : Type 0} {s : Ghosts S} {l : Widths L} → Batch S L s l → Mode
     → KeyValue → List KeyValue → Type 0
-MaySettle m mode r rs = MustSettle m mode r rs ⊎ WantsMemory m.maker r
+MayCloseAll m mode r rs = MustCloseAll m mode r rs ⊎ WantsMemory m.maker r
 
 -- how many bytes a put writes that makes no pass
 abbrev pub lone_bytes : ℕ → Mode → KeyValue → List KeyValue → ℕ
@@ -203,7 +203,7 @@ abbrev pub HasGapsOr : {S L : Type 0} {s : Ghosts S} {l : Widths L} → Batch S 
 HasGapsOr m key rs = HasGaps m ⊎ (is_there key rs ≡ true)
 
 -- a pass was made: no record is marked, and its store has the others alone
-pub record Settles {S L : Type 0} {s : Ghosts S} {l : Widths L} (old new : Batch S L s l)
+pub record ClosesAll {S L : Type 0} {s : Ghosts S} {l : Widths L} (old new : Batch S L s l)
     : Type 0 where
   pub was : old.maker.broken ≡ false
   pub whole : new.maker.broken ≡ false
@@ -214,11 +214,11 @@ pub record Settles {S L : Type 0} {s : Ghosts S} {l : Widths L} (old new : Batch
       ≡ s.written old.maker.store + pass_bytes l.WORD marks all)
 
 -- what a pass that failed leaves
-abbrev pub FailsSettling : {S L : Type 0} {s : Ghosts S} {l : Widths L} → Batch S L s l
+abbrev pub FailsClosingAll : {S L : Type 0} {s : Ghosts S} {l : Widths L} → Batch S L s l
     → Batch S L s l → MakeFault → Type 0
-FailsSettling old new Broken = IsBroken old new
-FailsSettling old new Writing = HasGaps old × IsTorn old new (λ rs. ⊤)
-FailsSettling old new fault = ⊥
+FailsClosingAll old new Broken = IsBroken old new
+FailsClosingAll old new Writing = HasGaps old × IsTorn old new (λ rs. ⊤)
+FailsClosingAll old new fault = ⊥
 
 -- what a look that failed leaves
 abbrev pub FailsLooking : {S L : Type 0} {s : Ghosts S} {l : Widths L} → Batch S L s l
@@ -257,7 +257,7 @@ pub record Puts {S L : Type 0} {s : Ghosts S} {l : Widths L} (old new : Batch S 
   pub holds : (rs : List KeyValue) → Holds old rs → Holds new (put_list mode r rs)
   pub answers : (rs : List KeyValue) → Holds old rs
       → WhereHonest (s.image new.maker.store) (answer ≡ put_answer mode r rs)
-  pub written : Writes old new (λ rs. MustSettle old mode r rs → ⊥) (MaySettle old mode r)
+  pub written : Writes old new (λ rs. MustCloseAll old mode r rs → ⊥) (MayCloseAll old mode r)
       (lone_bytes l.WORD mode r) (put_bytes l.WORD mode r)
 
 -- the file of the records would pass the limit with the record
@@ -286,13 +286,13 @@ abbrev pub FailsPutting : {S L : Type 0} {s : Ghosts S} {l : Widths L} → Batch
     → Batch S L s l → Mode → KeyValue → MakeFault → Type 0
 FailsPutting old new mode r Broken = IsBroken old new
 FailsPutting old new mode r Lookup =
-    StaysWhole old new × PassesAtMost old new (MaySettle old mode r)
+    StaysWhole old new × PassesAtMost old new (MayCloseAll old mode r)
     × HasStoreFailed old.maker new.maker × (mode ≢ Add)
 FailsPutting old new mode r TooBig =
-    StaysWhole old new × PassesAtMost old new (MaySettle old mode r)
+    StaysWhole old new × PassesAtMost old new (MayCloseAll old mode r)
     × IsTooBig old new mode r × HasNotFailed old new
 FailsPutting old new mode r NoMemory =
-    StaysWhole old new × PassesAtMost old new (MaySettle old mode r)
+    StaysWhole old new × PassesAtMost old new (MayCloseAll old mode r)
     × WantsRoom old new mode r × WouldPut old new mode r × HasNotFailed old new
 FailsPutting old new mode r Writing =
     (StaysWhole old new × HasFailedToWrite old.maker new.maker × WouldPut old new mode r)
@@ -302,7 +302,7 @@ FailsPutting old new mode r Writing =
 abbrev pub FailsFinishing : {S L : Type 0} {s : Ghosts S} {l : Widths L} → Batch S L s l
     → Batch S L s l → MakeFault → Type 0
 FailsFinishing old new Broken = IsBroken old new
-FailsFinishing old new NoMemory = Settles old new
+FailsFinishing old new NoMemory = ClosesAll old new
 FailsFinishing old new Writing =
     (StaysWhole old new × HasStoreFailed old.maker new.maker)
     ⊎ (HasGaps old × IsTorn old new (λ rs. ⊤))

@@ -6,7 +6,7 @@ use Rattle.cdb_form.specs.Format.Pair.{WordPair}
 use Rattle.cdb_make.specs.declared.removal.gap.Gap.{Gap}
 use Rattle.cdb_make.specs.declared.index.list.EntryList.{EntryList}
 use Rattle.cdb_make.specs.Gaps.{IsRising, closed_by}
-use Rattle.cdb_make.specs.Marks.{turn_each}
+use Rattle.cdb_make.specs.Marks.{flip_each}
 use Rattle.cdb_make.specs.Views.Index.{index_room}
 
 -- hashes and places side by side
@@ -44,10 +44,10 @@ pub record AreClosed (gaps : List Gap) (old new : List EntryList) : Type 0 where
   pub each : (k : ℕ) (d : EntryList) → k < length old
       → IsClosed gaps (get_or old k d) (get_or new k d)
 
--- a list is the old one with the hashes at some gaps turned
+-- a list is the old one with the hashes at some gaps flipped
 pub record IsMarked (gaps : List Gap) (old new : EntryList) : Type 0 where
   pub entries : IsRising 0 (list_entries old)
-      → list_entries new ≡ turn_each gaps (list_entries old)
+      → list_entries new ≡ flip_each gaps (list_entries old)
   pub places : new.places.items ≡ old.places.items
   pub top : new.top ≡ old.top
   pub room : list_room new ≡ list_room old

@@ -23,11 +23,11 @@ entry_room ls hash = get_or (map list_room ls.each.items) (table_number hash) 0
 abbrev pub AreAllClosed : List Gap → Lists → Lists → Type 0
 AreAllClosed gaps old new = AreClosed gaps old.each.items new.each.items
 
--- the list of a hash is the old one with the hashes at some gaps turned, and the others are as they
+-- the list of a hash is the old one with the hashes at some gaps flipped, and the others are as they
 -- were
 pub record AreAllMarked (hash : ℕ) (gaps : List Gap) (old new : Lists) : Type 0 where
   pub list : EntryList
-  pub turned : EntryList
+  pub flipped : EntryList
   pub is : list ≡ get_or old.each.items (table_number hash) list
-  pub marked : IsMarked gaps list turned
-  pub others : new.each.items ≡ slice_set old.each.items (table_number hash) turned
+  pub marked : IsMarked gaps list flipped
+  pub others : new.each.items ≡ slice_set old.each.items (table_number hash) flipped

@@ -1,19 +1,19 @@
 // The entries of one table, as a maker keeps them.
 ghost use Rattle.std.specs.Prelude.{◌≡◌, ℕ, ◌<◌, ◌≤◌, ◌^◌, ◌+◌, ◌-◌, [], ◌∷◌, ◌++◌, length, get_or, All};
 ghost use Rattle.std.specs.Prelude.{true, OnOk, OnErr, max, slice_index, vec_capacity};
-ghost use Rattle.cdb_make.specs.Marks.{turned};
+ghost use Rattle.cdb_make.specs.Marks.{flipped};
 ghost use Rattle.cdb_make.specs.Rings.{AreLinked};
 ghost use Rattle.cdb_make.specs.Views.Index.{index_room};
 
 use crate::index::rings::Index;
-use crate::removal::close_entries::{below, close_entries, entry_at};
 use crate::removal::gap::Gap;
+use crate::removal::repair_entries::{below, entry_at, repair_entries};
 use cdb_form::Slot;
 use std::alloc::{AllocError, Global};
 
-/// A hash with its lowest bit turned, which no key of the same table has.
-fn turned(hash: u32) -> u32
-    ensures { result ≡ turned hash }
+/// A hash with its lowest bit flipped, which no key of the same table has.
+fn flipped(hash: u32) -> u32
+    ensures { result ≡ flipped hash }
 {
     if hash % 2 == 0 { hash + 1 } else { hash - 1 }
 }
@@ -44,7 +44,7 @@ pub(crate) struct EntryList {
 impl EntryList {
     ghost use Rattle.cdb_form.specs.Views.Pairs.{slot_pair};
     ghost use Rattle.cdb_make.specs.Gaps.{AreApart, IsRising, closed_by, first_place};
-    ghost use Rattle.cdb_make.specs.Marks.{turn_at};
+    ghost use Rattle.cdb_make.specs.Marks.{flip_at};
     ghost use Rattle.cdb_make.specs.Views.EntryList.{list_entries, list_room, IsNowhereIn};
 
     /// No entries.
@@ -169,14 +169,14 @@ impl EntryList {
     /// takes no memory.
     pub(crate) fn mark(&mut self, place: u64)
         ensures entries { IsRising 0 (list_entries self.old)
-            → list_entries self.new ≡ turn_at place (list_entries self.old) }
+            → list_entries self.new ≡ flip_at place (list_entries self.old) }
         ensures places { self.new.places.items ≡ self.old.places.items }
         ensures top { self.new.top ≡ self.old.top }
         ensures room { list_room self.new ≡ list_room self.old }
     {
         let n = below(&self.places, place);
         if n < self.places.len() && self.places[n] == place {
-            self.hashes[n] = turned(self.hashes[n]);
+            self.hashes[n] = flipped(self.hashes[n]);
         }
     }
 
@@ -190,7 +190,7 @@ impl EntryList {
     }
 
     /// Closes the gaps as `close` does, from the first entry that they reach on.
-    fn close_reached(&mut self, gaps: &[Gap], first: u64) -> usize
+    fn repair_reached(&mut self, gaps: &[Gap], first: u64) -> usize
         requires apart { AreApart 0 gaps.now (2 ^ 63) }
         requires first { first ≡ first_place gaps.now (2 ^ 64 - 1) }
         ensures entries { IsRising 0 (list_entries self.old) → list_entries self.new
@@ -206,7 +206,7 @@ impl EntryList {
         let linked = entry_at(&self.places, start, first);
         self.index.cut(&self.hashes, linked);
         let count = self.places.len();
-        let kept = close_entries(&mut self.hashes, &mut self.places, gaps, start);
+        let kept = repair_entries(&mut self.hashes, &mut self.places, gaps, start);
         if kept < linked {
             self.index.clear();
         }
@@ -217,7 +217,7 @@ impl EntryList {
 
     /// Takes out the entries at the gaps, of which the first is at `first`, lowers each other place
     /// by the gaps below it, and answers how many went. The room stays.
-    pub(crate) fn close(&mut self, gaps: &[Gap], first: u64) -> usize
+    pub(crate) fn repair(&mut self, gaps: &[Gap], first: u64) -> usize
         requires apart { AreApart 0 gaps.now (2 ^ 63) }
         requires first { first ≡ first_place gaps.now (2 ^ 64 - 1) }
         ensures entries { IsRising 0 (list_entries self.old) → list_entries self.new
@@ -231,6 +231,6 @@ impl EntryList {
         if self.is_below(first) {
             return 0;
         }
-        self.close_reached(gaps, first)
+        self.repair_reached(gaps, first)
     }
 }

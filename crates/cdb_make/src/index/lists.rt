@@ -6,8 +6,8 @@ ghost use Rattle.cdb_make.specs.Gaps.{AreApart};
 ghost use Rattle.cdb_make.specs.Views.EntryList.{list_entries, lists_entries, list_room};
 ghost use Rattle.cdb_make.specs.Views.EntryList.{list_tops, with_entry, AreUnder, IsMarked};
 
-use crate::index::close_lists::{GROUP, close_lists};
 use crate::index::list::EntryList;
+use crate::index::repair_lists::{GROUP, repair_lists};
 use crate::removal::gap::Gap;
 use cdb_form::table_number;
 use std::alloc::{AllocError, Global};
@@ -156,13 +156,13 @@ impl Lists {
 
     /// Takes the entries at the gaps out, lowers each other place by the gaps below it, and answers
     /// how many went. Each list's room stays.
-    pub(crate) fn close(&mut self, gaps: &[Gap]) -> u64
+    pub(crate) fn repair(&mut self, gaps: &[Gap]) -> u64
         requires apart { AreApart 0 gaps.now (2 ^ 63) }
         requires few { sum_by length (all_entries self.old) < 2 ^ 64 }
         ensures closed { AreAllClosed gaps.now self.old self.new }
         ensures gone { sum_by length (all_entries self.new) + result
             ≡ sum_by length (all_entries self.old) }
     {
-        close_lists(&mut self.each, gaps)
+        repair_lists(&mut self.each, gaps)
     }
 }

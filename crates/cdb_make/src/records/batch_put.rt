@@ -160,7 +160,7 @@ impl<S: Store, L: Width> Batch<S, L> {
         if self.enter(put, hash, key, value)? {
             return Ok(put);
         }
-        self.settle()?;
+        self.close_all()?;
         self.maker.put(mode, key, value)
     }
 

@@ -29,7 +29,7 @@ impl<S: Store, L: Width> Batch<S, L> {
             self.maker.mark(hash, &self.gone[from..]);
             return Ok(taken);
         }
-        self.settle()?;
+        self.close_all()?;
         self.maker.remove(key)
     }
 

@@ -112,7 +112,7 @@ pub(crate) fn close<S: Store, L: Width>(
     requires fits { end ≤ L.GREATEST }
     requires apart { AreApart (head_size L.WORD) gaps.now end }
     requires few { sum_by length (all_entries lists.old) < 2 ^ 64 }
-    ensures settles { (marks goes : List Bool) (rs : List KeyValue)
+    ensures closes_all { (marks goes : List Bool) (rs : List KeyValue)
         → StandMarked L.WORD end (all_entries lists.old) marks rs (S.image store.old)
         → AreMarked L.WORD gaps.now goes rs (S.image store.old)
         → AreAmong L.WORD marks goes rs
@@ -148,7 +148,7 @@ pub(crate) fn close<S: Store, L: Width>(
     }
     let start = first_place(gaps, end);
     close_gaps(store, start, gaps, end)?;
-    let gone = lists.close(gaps);
+    let gone = lists.repair(gaps);
     if gone != gaps.len() as u64 {
         return Err(MakeFault::Broken);
     }

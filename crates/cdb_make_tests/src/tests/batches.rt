@@ -53,7 +53,7 @@ pub(super) fn batch_comes_to<L: Width>(
             return Err(Fail::new("another answer of a batch"));
         }
         if settles && number % 7 == 6 {
-            batch.settle()?;
+            batch.close_all()?;
         }
     }
     if batch.count() != wanted.count {

@@ -7,7 +7,7 @@ use Rattle.cdb_read.specs.Lookup.{bytes_of}
 use Rattle.cdb_read.specs.Views.Walking.{LiesAt, behind, next_place, record_in, size_ahead, walk_ahead}
 use Rattle.cdb_read.specs.declared.fault.ReadFault.{ReadFault}
 use Rattle.cdb_read.specs.declared.fault.ReadFault.TheVariants.{Table, Record, Device, NoMemory}
-use Rattle.cdb_read.specs.declared.span.Pair.{Pair}
+use Rattle.cdb_read.specs.declared.span.PlacedRecord.{PlacedRecord}
 use Rattle.cdb_read.specs.declared.walking.bookmark.Bookmark.{Bookmark}
 
 -- what is left
@@ -16,7 +16,7 @@ left_from w b mark = walk_ahead w b mark.walking
 
 -- the record at the next place is the first of what was left, and this is its key
 pub record GivesKey {S : Type 0} (w : ℕ) (s : Ghosts S) (store : S) (old new : Bookmark)
-    (key : List ℕ) (pair : Pair) : Type 0 where
+    (key : List ℕ) (pair : PlacedRecord) : Type 0 where
   pub first : (b : List ℕ) → s.image store b
       → left_from w b old ≡ with_first (record_in b pair) (left_from w b new)
   pub key_is : (b : List ℕ) → s.image store b → key ≡ bytes_of b pair.key

@@ -8,7 +8,7 @@ use crate::runs::difference::changed::is_first_changed;
 use crate::runs::difference::changes::write_changes;
 use crate::runs::difference::stop::Stop;
 use cdb_form::{ChangeKind, Width};
-use cdb_read::{Bookmark, Pair, ReadFault, Reader, walk, walk_on};
+use cdb_read::{Bookmark, PlacedRecord, ReadFault, Reader, walk, walk_on};
 use cdb_store::Store;
 use std::alloc::Global;
 use std::io::Write;
@@ -21,7 +21,7 @@ fn next_key<L: Width, S: Store>(
     reader: &mut Reader<S, L>,
     bookmark: &mut Bookmark,
     key: &mut Vec<u8>,
-) -> Result<Option<Pair>, ReadFault>
+) -> Result<Option<PlacedRecord>, ReadFault>
     ensures reads { OnlyReads S.Store reader.old.store reader.new.store }
     ensures gives { IfOk result (λ found. MatchOption found
         (GivesNoKey L.WORD S.Store reader.new.store bookmark.old)

@@ -31,40 +31,40 @@ returns-then-branch-clause-puts g c =
     let e = c.in_ok-put.ensures in
     puts_rested {s = g.S.Store} {l = g.L.Width} m (with_maker m c.meet.new.self _ _) _ _ _ _ (record { maker = e.rests; gone = refl; most = refl }) (e.wants c.args.value.now) (c.in_ok-enter.ensures.done c.if-branch.true c.args.mode (e.foresees c.args.value.now))
 
-pub returns-in_err-settle-clause-fails : goal.returns-in_err-settle-clause-fails
-returns-in_err-settle-clause-fails g c =
-    let p = err_from_is_err_and c.from_residual-in_err-settle.result c.from_residual-in_err-settle.ensures.1 in
+pub returns-in_err-close_all-clause-fails : goal.returns-in_err-close_all-clause-fails
+returns-in_err-close_all-clause-fails g c =
+    let p = err_from_is_err_and c.from_residual-in_err-close_all.result c.from_residual-in_err-close_all.ensures.1 in
     let m = c.args.self.now in
     let e = c.in_ok-put.ensures in
     let waits = c.in_ok-enter.ensures.waits c.if-branch.false in
     rw (p.1, p.2)
     (fails_put_rested {s = g.S.Store} {l = g.L.Width} m (with_maker m c.meet.new.self _ _) _ _ (record { key = c.args.key.now; value = c.args.value.now }) _ (record { maker = e.rests; gone = refl; most = refl }) e.ok_failures (e.wants c.args.value.now)
-    (fails_put_amid {s = g.S.Store} {l = g.L.Width} (with_maker m c.meet.new.self _ _) c.enter.new.self _ c.args.mode (record { key = c.args.key.now; value = c.args.value.now }) _ waits.rests waits.fine c.in_err-settle.ensures.fails))
+    (fails_put_amid {s = g.S.Store} {l = g.L.Width} (with_maker m c.meet.new.self _ _) c.enter.new.self _ c.args.mode (record { key = c.args.key.now; value = c.args.value.now }) _ waits.rests waits.fine c.in_err-close_all.ensures.fails))
 
 pub returns-clause-puts : goal.returns-clause-puts
 returns-clause-puts g c =
     let m = c.args.self.now in
     let e = c.in_ok-put.ensures in
-    let k = c.in_ok-settle.ensures in
+    let k = c.in_ok-close_all.ensures in
     let waits = c.in_ok-enter.ensures.waits c.if-branch.false in
     let r : KeyValue = record { key = c.args.key.now; value = c.args.value.now } in
     IfOk-weaker c.put.result _ _
     (λ answer puts. puts_rested {s = g.S.Store} {l = g.L.Width} m (with_maker m c.meet.new.self _ _) _ _ r answer (record { maker = e.rests; gone = refl; most = refl }) (e.wants c.args.value.now)
-    (puts_passed {s = g.S.Store} {l = g.L.Width} (with_maker m c.meet.new.self _ _) c.settle.new.self _ c.args.mode r answer
-    (passes_waited {s = g.S.Store} {l = g.L.Width} (with_maker m c.meet.new.self _ _) c.enter.new.self c.settle.new.self c.args.mode r c.in_ok-put.put (e.foresees c.args.value.now) waits c.enter.ensures.follows k.settles c.settle.ensures.follows k.fine) k.settles.none c.put.ensures.follows.comes puts))
+    (puts_passed {s = g.S.Store} {l = g.L.Width} (with_maker m c.meet.new.self _ _) c.close_all.new.self _ c.args.mode r answer
+    (passes_waited {s = g.S.Store} {l = g.L.Width} (with_maker m c.meet.new.self _ _) c.enter.new.self c.close_all.new.self c.args.mode r c.in_ok-put.put (e.foresees c.args.value.now) waits c.enter.ensures.follows k.closes_all c.close_all.ensures.follows k.fine) k.closes_all.none c.put.ensures.follows.comes puts))
     c.put.ensures.puts
 
 pub returns-clause-fails : goal.returns-clause-fails
 returns-clause-fails g c =
     let m = c.args.self.now in
     let e = c.in_ok-put.ensures in
-    let k = c.in_ok-settle.ensures in
+    let k = c.in_ok-close_all.ensures in
     let waits = c.in_ok-enter.ensures.waits c.if-branch.false in
     let r : KeyValue = record { key = c.args.key.now; value = c.args.value.now } in
     on_fault_is c.put.result
     (λ fault is fails. fails_put_rested {s = g.S.Store} {l = g.L.Width} m (with_maker m c.meet.new.self _ _) _ _ r fault (record { maker = e.rests; gone = refl; most = refl }) e.ok_failures (e.wants c.args.value.now)
-    (fails_put_passed {s = g.S.Store} {l = g.L.Width} (with_maker m c.meet.new.self _ _) c.settle.new.self _ c.args.mode r fault
-    (passes_waited {s = g.S.Store} {l = g.L.Width} (with_maker m c.meet.new.self _ _) c.enter.new.self c.settle.new.self c.args.mode r c.in_ok-put.put (e.foresees c.args.value.now) waits c.enter.ensures.follows k.settles c.settle.ensures.follows k.fine) k.settles.none c.put.ensures.follows.comes fails))
+    (fails_put_passed {s = g.S.Store} {l = g.L.Width} (with_maker m c.meet.new.self _ _) c.close_all.new.self _ c.args.mode r fault
+    (passes_waited {s = g.S.Store} {l = g.L.Width} (with_maker m c.meet.new.self _ _) c.enter.new.self c.close_all.new.self c.args.mode r c.in_ok-put.put (e.foresees c.args.value.now) waits c.enter.ensures.follows k.closes_all c.close_all.ensures.follows k.fine) k.closes_all.none c.put.ensures.follows.comes fails))
     c.put.ensures.fails
 
 pub enter-requires-clause-found : goal.enter-requires-clause-found

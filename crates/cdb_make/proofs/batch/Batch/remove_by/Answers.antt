@@ -27,31 +27,31 @@ returns-then-has_room-clause-removes g c =
     (removes_marked {s = g.S.Store} {l = g.L.Width} (with_maker m c.find.new.self m.spare m.within) _ c.args.key.now c.in_ok-taken.taken c.args.hash _ e.rests.stays.whole e.found (λ full. (let r = c.if-has_room.ensures.room refl in omega arith))
     c.mark.ensures.broken c.mark.ensures.store noted c.requires.hash last c.mark.ensures.marked)
 
-pub returns-in_err-settle-clause-fails : goal.returns-in_err-settle-clause-fails
-returns-in_err-settle-clause-fails g c =
-    let p = err_from_is_err_and c.from_residual-in_err-settle.result c.from_residual-in_err-settle.ensures.1 in
+pub returns-in_err-close_all-clause-fails : goal.returns-in_err-close_all-clause-fails
+returns-in_err-close_all-clause-fails g c =
+    let p = err_from_is_err_and c.from_residual-in_err-close_all.result c.from_residual-in_err-close_all.ensures.1 in
     let m = c.args.self.now in
     let e = c.in_ok-taken.ensures in
-    rw (p.1, p.2) (fails_remove_rested {s = g.S.Store} {l = g.L.Width} m (with_maker m c.find.new.self _ _) _ c.args.key.now _ (record { maker = e.rests; gone = refl; most = refl }) e.ok_failures (fails_remove_amid {s = g.S.Store} {l = g.L.Width} (with_maker m c.find.new.self _ _) _ c.args.key.now _ c.in_err-settle.ensures.fails))
+    rw (p.1, p.2) (fails_remove_rested {s = g.S.Store} {l = g.L.Width} m (with_maker m c.find.new.self _ _) _ c.args.key.now _ (record { maker = e.rests; gone = refl; most = refl }) e.ok_failures (fails_remove_amid {s = g.S.Store} {l = g.L.Width} (with_maker m c.find.new.self _ _) _ c.args.key.now _ c.in_err-close_all.ensures.fails))
 
 pub returns-clause-removes : goal.returns-clause-removes
 returns-clause-removes g c =
     let m = c.args.self.now in
     let e = c.in_ok-taken.ensures in
-    let k = c.in_ok-settle.ensures in
+    let k = c.in_ok-close_all.ensures in
     IfOk-weaker c.remove.result _ _
     (λ n removes. removes_rested {s = g.S.Store} {l = g.L.Width} m (with_maker m c.find.new.self _ _) _ c.args.key.now n (record { maker = e.rests; gone = refl; most = refl })
-    (removes_passed {s = g.S.Store} {l = g.L.Width} (with_maker m c.find.new.self _ _) c.settle.new.self _ c.args.key.now n
-    (passes_full {s = g.S.Store} {l = g.L.Width} (with_maker m c.find.new.self _ _) c.settle.new.self c.args.key.now c.in_ok-taken.taken e.rests.stays.whole e.found (c.if-has_room.ensures.full refl) k.settles c.settle.ensures.follows k.fine) k.settles.none c.remove.ensures.follows.comes removes))
+    (removes_passed {s = g.S.Store} {l = g.L.Width} (with_maker m c.find.new.self _ _) c.close_all.new.self _ c.args.key.now n
+    (passes_full {s = g.S.Store} {l = g.L.Width} (with_maker m c.find.new.self _ _) c.close_all.new.self c.args.key.now c.in_ok-taken.taken e.rests.stays.whole e.found (c.if-has_room.ensures.full refl) k.closes_all c.close_all.ensures.follows k.fine) k.closes_all.none c.remove.ensures.follows.comes removes))
     c.remove.ensures.removes
 
 pub returns-clause-fails : goal.returns-clause-fails
 returns-clause-fails g c =
     let m = c.args.self.now in
     let e = c.in_ok-taken.ensures in
-    let k = c.in_ok-settle.ensures in
+    let k = c.in_ok-close_all.ensures in
     on_fault_is c.remove.result
     (λ fault is fails. fails_remove_rested {s = g.S.Store} {l = g.L.Width} m (with_maker m c.find.new.self _ _) _ c.args.key.now fault (record { maker = e.rests; gone = refl; most = refl }) e.ok_failures
-    (fails_remove_passed {s = g.S.Store} {l = g.L.Width} (with_maker m c.find.new.self _ _) c.settle.new.self _ c.args.key.now fault
-    (passes_full {s = g.S.Store} {l = g.L.Width} (with_maker m c.find.new.self _ _) c.settle.new.self c.args.key.now c.in_ok-taken.taken e.rests.stays.whole e.found (c.if-has_room.ensures.full refl) k.settles c.settle.ensures.follows k.fine) k.settles.none c.remove.ensures.follows.comes fails))
+    (fails_remove_passed {s = g.S.Store} {l = g.L.Width} (with_maker m c.find.new.self _ _) c.close_all.new.self _ c.args.key.now fault
+    (passes_full {s = g.S.Store} {l = g.L.Width} (with_maker m c.find.new.self _ _) c.close_all.new.self c.args.key.now c.in_ok-taken.taken e.rests.stays.whole e.found (c.if-has_room.ensures.full refl) k.closes_all c.close_all.ensures.follows k.fine) k.closes_all.none c.remove.ensures.follows.comes fails))
     c.remove.ensures.fails

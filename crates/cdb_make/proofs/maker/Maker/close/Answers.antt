@@ -44,7 +44,7 @@ pub returns-clause-holds : goal.returns-clause-holds
 returns-clause-holds g c = λ all marks h found.
     let m = c.args.self.now in
     let was = carried_stand {s = g.S.Store} {l = g.L.Width} m all marks h in
-    settled_holds {s = g.S.Store} {l = g.L.Width} m _ all marks marks refl h (c.in_ok-left.ensures.settles marks marks all was found (among_self g.L.Width.WORD marks all)) (comes_torn c.close.ensures.torn)
+    settled_holds {s = g.S.Store} {l = g.L.Width} m _ all marks marks refl h (c.in_ok-left.ensures.closes_all marks marks all was found (among_self g.L.Width.WORD marks all)) (comes_torn c.close.ensures.torn)
 
 pub returns-clause-moved : goal.returns-clause-moved
 returns-clause-moved g c = λ all marks h found. c.in_ok-left.ensures.moves marks marks all (carried_stand {s = g.S.Store} {l = g.L.Width} c.args.self.now all marks h) found

@@ -51,7 +51,7 @@ returns-in_err-left-clause-fails g c = λ key n found.
 
 pub returns-clause-removes : goal.returns-clause-removes
 returns-clause-removes g c = λ key n found.
-    removes_closed {s = g.S.Store} {l = g.L.Width} c.args.self.now _ c.deref.result.now key n c.requires.whole refl c.deref.ensures.value found (comes_torn c.close.ensures.torn) c.in_ok-left.ensures.settles c.in_ok-left.ensures.moves
+    removes_closed {s = g.S.Store} {l = g.L.Width} c.args.self.now _ c.deref.result.now key n c.requires.whole refl c.deref.ensures.value found (comes_torn c.close.ensures.torn) c.in_ok-left.ensures.closes_all c.in_ok-left.ensures.moves
 
 pub returns-in_err-left-clause-follows : goal.returns-in_err-left-clause-follows
 returns-in_err-left-clause-follows g c =

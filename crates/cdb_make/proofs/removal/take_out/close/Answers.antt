@@ -14,8 +14,8 @@ use Rattle.cdb_make.proofs.removal.take_out.close.Goals as goal
 pub returns-then-is_empty-clause-lists : goal.returns-then-is_empty-clause-lists
 returns-then-is_empty-clause-lists g c = let none : c.args.gaps.now ≡ [] = no_gaps c.args.gaps.now (search (rules, c.is_empty.ensures, c.if-is_empty.ensures)) in lists_stay c.args.gaps.now c.args.lists.now.each.items none
 
-pub close-gone-requires-clause-apart : goal.close-gone-requires-clause-apart
-close-gone-requires-clause-apart g c =
+pub repair-gone-requires-clause-apart : goal.repair-gone-requires-clause-apart
+repair-gone-requires-clause-apart g c =
     let w : ℕ = g.L.Width.WORD in
     apart_lower 0 (head_size w) c.args.gaps.now (2 ^ 63) (omega arith) (apart_higher (head_size w) c.args.end (2 ^ 63) c.args.gaps.now (omega (arith, c.requires.fits, g.met.L.Width.greatest_fits.1)) c.requires.apart)
 
@@ -46,8 +46,8 @@ returns-then-is_empty-clause-within g c = grind (arith, common_steps)
 pub returns-then-is_empty-clause-lower : goal.returns-then-is_empty-clause-lower
 returns-then-is_empty-clause-lower g c = grind (arith, common_steps)
 
-pub returns-clause-settles : goal.returns-clause-settles
-returns-clause-settles g c = λ ms ns rs stands found among.
+pub returns-clause-closes_all : goal.returns-clause-closes_all
+returns-clause-closes_all g c = λ ms ns rs stands found among.
     let gs : List Gap = c.args.gaps.now in
     let end : ℕ = c.args.end in
     let old : List ℕ → Type 0 = g.S.Store.image c.args.store.now in
@@ -55,7 +55,7 @@ returns-clause-settles g c = λ ms ns rs stands found among.
     let above : 0 < g.L.Width.WORD = elim g.met.L.Width.four_or_eight [ inl four ↦ omega arith | inr eight ↦ omega arith ] in
     let closed : Closed (first_place gs end) gs end old new = subst (λ (v : ℕ). Closed v gs end old new) c.first_place-start.ensures c.in_ok-close_gaps.ensures.closed in
     let sized : AreSized (g.S.Store.size c.args.store.now) old = record { each = g.met.S.Store.image_size c.args.store.now } in
-    stands_closed ns ms (g.S.Store.size c.args.store.now) (end - c.all_sizes.result) above c.requires.inside c.args.lists.now.all sized (ap (λ (v : ℕ). end - v) c.all_sizes.ensures) among found stands closed c.close-gone.ensures.closed
+    stands_closed ns ms (g.S.Store.size c.args.store.now) (end - c.all_sizes.result) above c.requires.inside c.args.lists.now.all sized (ap (λ (v : ℕ). end - v) c.all_sizes.ensures) among found stands closed c.repair-gone.ensures.closed
 
 pub returns-clause-moves : goal.returns-clause-moves
 returns-clause-moves g c = λ ms ns rs stands found.
@@ -68,8 +68,8 @@ returns-clause-moves g c = λ ms ns rs stands found.
     c.in_ok-close_gaps.ensures.written ∙ ap (λ (v : ℕ). g.S.Store.written c.args.store.now + kept_len v gs end) c.first_place-start.ensures in
     record { each = writes_marked ns ms rs (g.S.Store.written c.args.store.now) (g.S.Store.written c.close_gaps.new.store) sum found stands closed }
 
-pub returns-then-is_empty-clause-settles : goal.returns-then-is_empty-clause-settles
-returns-then-is_empty-clause-settles g c = λ ms ns rs stands found among.
+pub returns-then-is_empty-clause-closes_all : goal.returns-then-is_empty-clause-closes_all
+returns-then-is_empty-clause-closes_all g c = λ ms ns rs stands found among.
     let none : c.args.gaps.now ≡ [] = no_gaps c.args.gaps.now (search (rules, c.is_empty.ensures, c.if-is_empty.ensures)) in
     marked_still none found stands among
 
@@ -88,19 +88,19 @@ returns-then-gone-gaps-clause-fails g c = λ ms ns rs stands found among b is.
     let closed : Closed (first_place gs end) gs end old new = subst (λ (v : ℕ). Closed v gs end old new) c.first_place-start.ensures c.in_ok-close_gaps.ensures.closed in
     let sized : AreSized (g.S.Store.size c.args.store.now) old = record { each = g.met.S.Store.image_size c.args.store.now } in
     let last : ℕ = end - sum_by (λ (v : Gap). v.size) gs in
-    let settled = stands_closed ns ms (g.S.Store.size c.args.store.now) last above c.requires.inside c.args.lists.now.all sized refl among found stands closed c.close-gone.ensures.closed in
+    let settled = stands_closed ns ms (g.S.Store.size c.args.store.now) last above c.requires.inside c.args.lists.now.all sized refl among found stands closed c.repair-gone.ensures.closed in
     let a = closed.each b is in
     let went = went_counted ms ns rs found stands settled a.0 b a.1 is in
-    c.if-gone-gaps.true (omega (arith, went, c.close-gone.ensures.gone))
+    c.if-gone-gaps.true (omega (arith, went, c.repair-gone.ensures.gone))
 
 pub returns-then-gone-gaps-clause-placed : goal.returns-then-gone-gaps-clause-placed
-returns-then-gone-gaps-clause-placed g c = λ most all. within_closed most c.close-gone.ensures.closed all
+returns-then-gone-gaps-clause-placed g c = λ most all. within_closed most c.repair-gone.ensures.closed all
 
 pub returns-then-gone-gaps-clause-spare : goal.returns-then-gone-gaps-clause-spare
-returns-then-gone-gaps-clause-spare g c = λ room all. spare_closed c.close-gone.ensures.closed all
+returns-then-gone-gaps-clause-spare g c = λ room all. spare_closed c.repair-gone.ensures.closed all
 
 pub returns-clause-placed : goal.returns-clause-placed
-returns-clause-placed g c = λ most all. within_closed most c.close-gone.ensures.closed all
+returns-clause-placed g c = λ most all. within_closed most c.repair-gone.ensures.closed all
 
 pub returns-clause-spare : goal.returns-clause-spare
-returns-clause-spare g c = λ room all. spare_closed c.close-gone.ensures.closed all
+returns-clause-spare g c = λ room all. spare_closed c.repair-gone.ensures.closed all

@@ -4,10 +4,10 @@ use Rattle.std.proofs.lemmas.List.Sorted.{length_permutation}
 use Rattle.std.proofs.lemmas.Result.{err_from_is_err_and}
 use Rattle.cdb_make.specs.declared.removal.gap.Gap.{Gap}
 use Rattle.cdb_make.proofs.Making.Batches.{none_apart, settles_closed, fails_pass}
-use Rattle.cdb_make.proofs.batch.Batch.settle.Goals as goal
+use Rattle.cdb_make.proofs.batch.Batch.close_all.Goals as goal
 
-pub returns-clause-settles : goal.returns-clause-settles
-returns-clause-settles g c =
+pub returns-clause-closes_all : goal.returns-clause-closes_all
+returns-clause-closes_all g c =
     let e = c.in_ok-close.ensures in
     let above : 0 < g.L.Width.WORD = elim g.met.L.Width.four_or_eight [ inl four ↦ omega arith | inr eight ↦ omega arith ] in
     let own : c.deref-2.result.now ≡ c.sort.new.gaps.items = c.deref-2.ensures.value in

@@ -10,9 +10,9 @@ use Rattle.cdb_make.proofs.Gaps.Apart.{next_gap, last_gap, apart_next, NextApart
 use Rattle.cdb_make.proofs.Gaps.Merge.{FarFrom, apart_lower, keep_step, pass_step, rising_next, set_drop, sofar_kept, closed_prefix, rising_drop, not_falling}
 use Rattle.cdb_make.proofs.Gaps.Places.{closed_here}
 use Rattle.cdb_make.proofs.Entries.Sides.{entry_here, entries_of-set, length-entries_of}
-use Rattle.cdb_make.proofs.removal.close_entries.close_entries.Goals.{else-next-gaps-via-then-next-gaps+else-gaps-next, else-next-gaps-via-else-next-gaps, else-next-gaps-2-via-then-next-gaps-2+else-gaps-next-2, else-next-gaps-2-via-else-next-gaps-2}
+use Rattle.cdb_make.proofs.removal.repair_entries.repair_entries.Goals.{else-next-gaps-via-then-next-gaps+else-gaps-next, else-next-gaps-via-else-next-gaps, else-next-gaps-2-via-then-next-gaps-2+else-gaps-next-2, else-next-gaps-2-via-else-next-gaps-2}
 use Rattle.std.proofs.lemmas.Grind.{common_steps}
-use Rattle.cdb_make.proofs.removal.close_entries.close_entries.Goals as goal
+use Rattle.cdb_make.proofs.removal.repair_entries.repair_entries.Goals as goal
 
 pub loop-entry-init : goal.loop-entry-init
 loop-entry-init c =

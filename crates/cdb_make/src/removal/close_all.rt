@@ -22,19 +22,19 @@ use cdb_store::Store;
 
 /// A batch whose file was not finished, and why.
 #[derive(Drop)]
-pub struct Unsettled<S: Store, L: Width> {
+pub struct UnfinishedBatch<S: Store, L: Width> {
     /// The batch, which takes more calls unless it is broken.
     pub batch: Batch<S, L>,
     /// `Broken`, `NoMemory` or `Writing`.
     pub fault: MakeFault,
 }
 
-impl<S: Store + Drop, L: Width> From<Unsettled<S, L>> for MakeFault {
+impl<S: Store + Drop, L: Width> From<UnfinishedBatch<S, L>> for MakeFault {
     ghost from_gives = { λ u f. f ≡ u.fault };
 
     /// Lets the batch go.
-    fn from(unsettled: Unsettled<S, L>) -> MakeFault {
-        unsettled.fault
+    fn from(unfinished: UnfinishedBatch<S, L>) -> MakeFault {
+        unfinished.fault
     }
 }
 
@@ -105,7 +105,7 @@ impl<S: Store, L: Width> Maker<S, L> {
 }
 
 impl<S: Store, L: Width> Batch<S, L> {
-    ghost use Rattle.cdb_make.specs.Views.Batch.{Holds, Lies, Settles, FailsSettling, SameCounts};
+    ghost use Rattle.cdb_make.specs.Views.Batch.{Holds, Lies, ClosesAll, FailsClosingAll, SameCounts};
     ghost use Rattle.cdb_make.specs.Views.Batch.{FailsFinishing, Follows, HasNotFailed, IsUsable};
     ghost use Rattle.cdb_make.specs.Views.Batch.{pass_bytes, store_of, KeepsPace};
     ghost use Rattle.cdb_make.specs.Views.Maker.{IsFile, WhereHonest, ComesFrom};
@@ -115,9 +115,9 @@ impl<S: Store, L: Width> Batch<S, L> {
     /// Each byte behind the first gap moves once at the most, however many records go, and no memory
     /// is taken. `Writing`: the store failed amid the pass, and the batch is broken. `Broken`: an
     /// earlier call broke it, or the store gave back other bytes than were written.
-    pub fn settle(&mut self) -> Result<(), MakeFault>
-        ensures settles { OnOk result (Settles self.old self.new) }
-        ensures fails { IfErr result (FailsSettling self.old self.new) }
+    pub fn close_all(&mut self) -> Result<(), MakeFault>
+        ensures closes_all { OnOk result (ClosesAll self.old self.new) }
+        ensures fails { IfErr result (FailsClosingAll self.old self.new) }
         ensures follows { Follows self.old self.new }
         ensures counts { SameCounts self.old self.new }
         ensures fine { OnOk result (HasNotFailed self.old self.new) }
@@ -141,7 +141,7 @@ impl<S: Store, L: Width> Batch<S, L> {
     /// The batch is handed back if that failed. `NoMemory`: a pass was made, and no more. `Writing`:
     /// the store failed; amid the pass that breaks the batch, else it holds what it held. `Broken`: an
     /// earlier call broke it, or the store gave back other bytes than were written.
-    pub fn finish(mut self) -> Result<S, Unsettled<S, L>>
+    pub fn finish(mut self) -> Result<S, UnfinishedBatch<S, L>>
         ensures whole { IfOk result (λ _. IsUsable self) }
         ensures file { (rs : List KeyValue) → Holds self rs
             → IfOk result (λ s. IsFile L.WORD rs (S.image s)) }
@@ -160,8 +160,8 @@ impl<S: Store, L: Width> Batch<S, L> {
         ensures fails_failures { IfErr result (λ u.
             S.failures (store_of self) ≤ S.failures (store_of u.batch)) }
     {
-        if let Err(fault) = self.settle() {
-            return Err(Unsettled { batch: self, fault });
+        if let Err(fault) = self.close_all() {
+            return Err(UnfinishedBatch { batch: self, fault });
         }
         let Batch {
             maker,
@@ -174,7 +174,7 @@ impl<S: Store, L: Width> Batch<S, L> {
                 drop(gone);
                 Ok(store)
             }
-            Err(Unfinished { maker, fault }) => Err(Unsettled {
+            Err(Unfinished { maker, fault }) => Err(UnfinishedBatch {
                 batch: Batch {
                     maker,
                     gone,

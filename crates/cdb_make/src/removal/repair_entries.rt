@@ -33,7 +33,7 @@ pub(crate) fn entry_at(places: &[u64], start: usize, place: u64) -> usize
 
 /// Leaves in front the entries at no gap, each place lower by the gaps below it, and says how many
 /// they are. The entries before number `start` stand below the first gap, and aren't touched.
-pub(crate) fn close_entries(
+pub(crate) fn repair_entries(
     hashes: &mut [u32],
     places: &mut [u64],
     gaps: &[Gap],

@@ -1,7 +1,7 @@
 use Rattle.std.proofs.Common.{◌≡◌, ◌+◌, ◌-◌, ◌≤◌, length, sum_by}
 use Rattle.cdb_make.specs.Views.EntryList.{lists_entries}
 use Rattle.cdb_make.proofs.Gaps.ClosedLists.{ClosedBelow}
-use Rattle.cdb_make.proofs.index.close_lists.close_lists.Given as goal
+use Rattle.cdb_make.proofs.index.repair_lists.repair_lists.Given as goal
 
 abbrev pub invariant-loop-n : goal.invariant-loop-n
 invariant-loop-n l = record {

@@ -1,6 +1,6 @@
 use Rattle.std.proofs.Common.{ltb, ltb-true, ltb-false, arith, rules, ℕ}
 use Rattle.std.proofs.lemmas.List.Sorted.{IsPartitionPoint-from_clause, IsPartitionedBy-ltb}
-use Rattle.cdb_make.proofs.removal.close_entries.below.Goals as goal
+use Rattle.cdb_make.proofs.removal.repair_entries.below.Goals as goal
 
 pub returns-clause-below : goal.returns-clause-below
 returns-clause-below c = λ sorted k lt.

@@ -2,7 +2,7 @@ use Rattle.std.specs.Prelude.{All, slice_index, ◌<◌}
 use Rattle.std.proofs.Common.{ℕ, ◌≡◌, ◌+◌, ◌-◌, ◌≤◌, ◌^◌, ◌++◌, take, drop, length}
 use Rattle.cdb_make.specs.Gaps.{AreApart, IsRising, closed_by}
 use Rattle.cdb_make.specs.Views.EntryList.{entries_of}
-use Rattle.cdb_make.proofs.removal.close_entries.close_entries.Given as goal
+use Rattle.cdb_make.proofs.removal.repair_entries.repair_entries.Given as goal
 
 abbrev pub invariant-loop-entry : goal.invariant-loop-entry
 invariant-loop-entry l = record {

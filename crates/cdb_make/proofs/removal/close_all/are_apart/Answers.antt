@@ -4,8 +4,8 @@ use Rattle.cdb_make.specs.declared.removal.gap.Gap.{Gap}
 use Rattle.cdb_make.specs.Gaps.{AreApart}
 use Rattle.cdb_make.proofs.Gaps.Apart.{next_gap, apart_end, apart_next}
 use Rattle.cdb_make.proofs.Gaps.Picking.{apart_push, apart_higher}
-use Rattle.cdb_make.proofs.removal.settle.are_apart.Goals.{then-gap-last-via-then-gap-last, then-gap-last-via-else-gap-last+then-end-gap, then-gap-last-via-else-gap-last+else-end-gap+then-end-gap-2}
-use Rattle.cdb_make.proofs.removal.settle.are_apart.Goals as goal
+use Rattle.cdb_make.proofs.removal.close_all.are_apart.Goals.{then-gap-last-via-then-gap-last, then-gap-last-via-else-gap-last+then-end-gap, then-gap-last-via-else-gap-last+else-end-gap+then-end-gap-2}
+use Rattle.cdb_make.proofs.removal.close_all.are_apart.Goals as goal
 
 no_gap : Gap
 no_gap = record { place = 0; size = 0 }

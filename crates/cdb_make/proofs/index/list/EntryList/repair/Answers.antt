@@ -1,6 +1,6 @@
 use Rattle.std.proofs.Common.{arith, ◌-◌, ◌^◌}
 use Rattle.cdb_make.proofs.Gaps.Merge.{closed_below}
-use Rattle.cdb_make.proofs.index.list.EntryList.close.Goals as goal
+use Rattle.cdb_make.proofs.index.list.EntryList.repair.Goals as goal
 
 pub returns-then-is_below-clause-entries : goal.returns-then-is_below-clause-entries
 returns-then-is_below-clause-entries c = λ r.

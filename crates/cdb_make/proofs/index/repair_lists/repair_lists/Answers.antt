@@ -2,7 +2,7 @@ use Rattle.std.proofs.Common.{arith, ℕ, ◌<◌, List, length, get_or}
 use Rattle.cdb_make.specs.declared.index.list.EntryList.{EntryList}
 use Rattle.cdb_make.specs.Views.EntryList.{IsClosed}
 use Rattle.cdb_make.proofs.Gaps.ClosedLists.{closed_more, closed_past, sum_gone}
-use Rattle.cdb_make.proofs.index.close_lists.close_lists.Goals as goal
+use Rattle.cdb_make.proofs.index.repair_lists.repair_lists.Goals as goal
 
 pub loop-n-preserved-then-is_group_below : goal.loop-n-preserved-then-is_group_below
 loop-n-preserved-then-is_group_below c =
@@ -17,7 +17,7 @@ loop-n-preserved-then-is_group_below c =
 pub overflow_add-gone : goal.overflow_add-gone
 overflow_add-gone c =
     let lt : c.loop-n.n < length c.loop-n.lists = omega (arith, c.loop-n-test.true, c.loop-n.auto.lists) in
-    let s = sum_gone c.loop-n.lists c.loop-n.n c.close.result c.index-lists-n.result c.close.new.self lt c.close.ensures.gone in
+    let s = sum_gone c.loop-n.lists c.loop-n.n c.repair.result c.index-lists-n.result c.repair.new.self lt c.repair.ensures.gone in
     omega (arith, s, c.loop-n.invariant.gone, c.requires.few)
 
 pub loop-n-preserved : goal.loop-n-preserved
@@ -25,12 +25,12 @@ loop-n-preserved c =
     let now : List EntryList = c.loop-n.lists in
     let n : ℕ = c.loop-n.n in
     let item : EntryList = c.index-lists-n.result in
-    let new : EntryList = c.close.new.self in
-    let e = c.close.ensures in
+    let new : EntryList = c.repair.new.self in
+    let e = c.repair.ensures in
     let lt : n < length now = omega (arith, c.loop-n-test.true, c.loop-n.auto.lists) in
     let closed : IsClosed c.args.gaps.now (get_or now n item) new = record { entries = e.entries; fewer = omega (arith, e.gone); bounded = e.bounded; top = e.top; room = e.room } in
     record {
       closed = closed_more n c.args.gaps.now c.args.lists.now now item new lt closed c.loop-n.invariant.closed;
-      gone = omega (arith, sum_gone now n c.close.result item new lt e.gone, c.loop-n.invariant.gone);
+      gone = omega (arith, sum_gone now n c.repair.result item new lt e.gone, c.loop-n.invariant.gone);
       within = omega (arith, c.loop-n-test.true, c.loop-n.auto.lists, c.requires.all);
     }

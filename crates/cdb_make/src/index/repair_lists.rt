@@ -20,7 +20,7 @@ fn is_group_below(lists: &[EntryList], n: usize, place: u64) -> bool
 
 /// Takes the entries at the gaps out of each list, lowers each other place by the gaps below it, and
 /// answers how many went. Each list's room stays.
-pub(crate) fn close_lists(lists: &mut [EntryList], gaps: &[Gap]) -> u64
+pub(crate) fn repair_lists(lists: &mut [EntryList], gaps: &[Gap]) -> u64
     requires all { length lists.old ≡ 256 }
     requires apart { AreApart 0 gaps.now (2 ^ 63) }
     requires few { sum_by length (lists_entries lists.old) < 2 ^ 64 }
@@ -36,7 +36,7 @@ pub(crate) fn close_lists(lists: &mut [EntryList], gaps: &[Gap]) -> u64
         if is_group_below(lists, n, first) {
             n += GROUP;
         } else {
-            gone += lists[n].close(gaps, first) as u64;
+            gone += lists[n].repair(gaps, first) as u64;
             n += 1;
         }
     }
