@@ -46,7 +46,7 @@ pub(crate) fn sizes_of(tables: &[Pointer]) -> Spread
     for n in 0..tables.len() {
         let slots = tables[n].slots;
         if slots != 0 {
-            sizes.add(slots);
+            sizes.count(slots);
         }
     }
     sizes
@@ -134,7 +134,7 @@ fn count_table<S: Store, L: Width>(
     for n in 0..table.slots {
         let slot = slot_at::<S, L>(store, table, n, window, WINDOW)?;
         if slot.place != 0 {
-            distances.add(distance_of(table.slots, slot.hash, n));
+            distances.count(distance_of(table.slots, slot.hash, n));
         }
     }
     Ok(())

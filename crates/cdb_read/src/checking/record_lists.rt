@@ -31,7 +31,7 @@ pub(crate) fn add_entry(
     ensures more { OnOk result
         (HasAdded lists.old.items lists.new.items (record { first = hash; second = place })) }
 {
-    lists[table_number(u64::from(hash))].add(place, hash)
+    lists[table_number(u64::from(hash))].push(place, hash)
 }
 
 /// The lesser of two places, if there are any.

@@ -37,7 +37,7 @@ fn check_slot(
     if table_number(slot.hash) as u64 != n || !is_reached {
         return Err(ReadFault::Slot(n, i));
     }
-    let Some(k) = entries.find(directory, slot) else {
+    let Some(k) = entries.number_of(directory, slot) else {
         return Err(ReadFault::Slot(n, i));
     };
     if entries.is_marked(k) {

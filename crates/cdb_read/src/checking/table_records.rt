@@ -44,7 +44,7 @@ impl TableRecords {
 
     /// One more record after the others, to which no slot points. If memory is refused, the
     /// records stay.
-    pub(crate) fn add(&mut self, place: u64, hash: u32) -> Result<(), AllocError>
+    pub(crate) fn push(&mut self, place: u64, hash: u32) -> Result<(), AllocError>
         ensures { OnOk result (HasMore self.old self.new place hash) }
     {
         self.places.reserve(1)?;
@@ -62,7 +62,7 @@ impl TableRecords {
     }
 
     /// The number of the record that has the place and the hash of a slot.
-    pub(crate) fn find(&self, directory: &Directory, slot: Slot) -> Option<usize>
+    pub(crate) fn number_of(&self, directory: &Directory, slot: Slot) -> Option<usize>
         ensures within { IfSome result (λ k. k < length self.now.places.items) }
         ensures finds { IsStrictlyIncreasing self.now.places.items → MatchOption result
             (list_any (is_same (slot_pair slot)) (entry_pairs self.now) ≡ false)

@@ -30,7 +30,7 @@ impl Distances {
     }
 
     /// Takes one more slot, at this distance.
-    pub(crate) fn add(&mut self, distance: u64)
+    pub(crate) fn count(&mut self, distance: u64)
         ensures { (ds : List ℕ) → Counts self.old ds → Counts self.new (ds ++ distance ∷ []) }
     {
         let class = distance.min(10) as usize;

@@ -34,8 +34,8 @@ pub(crate) fn walk_lengths<S: Store, L: Width>(
     let mut values = Spread::new();
     let mut records = walk(reader);
     while let Some(pair) = records.next()? {
-        keys.add(pair.key.len);
-        values.add(pair.value.len);
+        keys.count(pair.key.len);
+        values.count(pair.value.len);
     }
     Ok(Lengths { keys, values })
 }

@@ -33,7 +33,7 @@ impl Spread {
     }
 
     /// Takes one more number.
-    pub(crate) fn add(&mut self, n: u64)
+    pub(crate) fn count(&mut self, n: u64)
         requires room { self.old.count < 18446744073709551615 }
         ensures spreads { (ns : List ℕ) → Spreads self.old ns → Spreads self.new (ns ++ n ∷ []) }
         ensures count { self.new.count ≡ self.old.count + 1 }

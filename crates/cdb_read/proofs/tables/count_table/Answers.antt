@@ -31,7 +31,7 @@ loop-n-preserved g c =
           elim c.if-slot-ne0.branch [
             | then-slot-ne0 v ↦
                 subst (λ k. Counts k (ds ++ distances_before w b p (n + 1))) (sym v.distances-is)
-                (counts_used w b p n v.distance_of.result ds (slot_pair slot) _ (read b is) v.if-slot-ne0.true v.distance_of.ensures.distance (v.add.ensures (ds ++ distances_before w b p n) before))
+                (counts_used w b p n v.distance_of.result ds (slot_pair slot) _ (read b is) v.if-slot-ne0.true v.distance_of.ensures.distance (v.count.ensures (ds ++ distances_before w b p n) before))
             | else-slot-ne0 v ↦
                 subst (λ k. Counts k (ds ++ distances_before w b p (n + 1))) (sym v.distances-is)
                 (counts_empty w b p n ds (slot_pair slot) _ (read b is) v.if-slot-ne0.false before)

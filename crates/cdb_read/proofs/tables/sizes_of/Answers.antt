@@ -14,8 +14,8 @@ loop-n-preserved c =
       | then-slots-ne0 v ↦
           subst (λ s. SizesBefore s ps (n + 1)) (sym v.sizes-is)
           (record {
-            few = omega (arith, v.add.ensures.count, inv.few);
-            spreads = subst (Spreads v.add.new.self) (sym (sizes_some ps n _ c.loop-n-test.true v.if-slots-ne0.true)) (v.add.ensures.spreads _ inv.spreads);
+            few = omega (arith, v.count.ensures.count, inv.few);
+            spreads = subst (Spreads v.count.new.self) (sym (sizes_some ps n _ c.loop-n-test.true v.if-slots-ne0.true)) (v.count.ensures.spreads _ inv.spreads);
           })
       | else-slots-ne0 v ↦
           subst (λ s. SizesBefore s ps (n + 1)) (sym v.sizes-is)

@@ -29,12 +29,12 @@ loop-pair-preserved g c =
       same = c.next.ensures.same_reader ∙ c.loop-pair.invariant.same;
       reads = reads_more c.loop-pair.invariant.reads c.next.ensures.reads;
       head = c.next.ensures.head ∙ c.loop-pair.invariant.head;
-      few_keys = few_more g.L.Width.WORD _ _ _ _ c.in-Some.pair some one.lies one.next c.loop-pair.invariant.few_keys c.add.ensures.count;
-      few_values = few_more g.L.Width.WORD _ _ _ _ c.in-Some.pair some one.lies one.next c.loop-pair.invariant.few_values c.add-in-Some.ensures.count;
+      few_keys = few_more g.L.Width.WORD _ _ _ _ c.in-Some.pair some one.lies one.next c.loop-pair.invariant.few_keys c.count.ensures.count;
+      few_values = few_more g.L.Width.WORD _ _ _ _ c.in-Some.pair some one.lies one.next c.loop-pair.invariant.few_values c.count-in-Some.ensures.count;
       walked = λ b is.
           walked_more g.L.Width.WORD _ b _ _ _ _ _ _ c.in-Some.pair (c.loop-pair.invariant.walked b (c.next.ensures.reads.images b is)) (one.first b is) one.lies
           (subst (λ n. behind c.in-Some.pair ≤ n) (sym (g.met.S.Store.image_size c.next.new.self.reader.now.store b is)) one.inside)
-          c.add.ensures.spreads c.add-in-Some.ensures.spreads;
+          c.count.ensures.spreads c.count-in-Some.ensures.spreads;
     }
 
 pub returns-clause-lengths : goal.returns-clause-lengths

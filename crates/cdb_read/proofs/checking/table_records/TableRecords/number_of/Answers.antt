@@ -5,7 +5,7 @@ use Rattle.std.proofs.lemmas.List.{get_or_default}
 use Rattle.cdb_form.specs.Views.Pairs.{slot_pair}
 use Rattle.cdb_read.proofs.Checks.Buckets.{searched_among}
 use Rattle.cdb_read.proofs.Checks.Entered.{record_nowhere, rising_apart}
-use Rattle.cdb_read.proofs.checking.table_records.TableRecords.find.Goals as goal
+use Rattle.cdb_read.proofs.checking.table_records.TableRecords.number_of.Goals as goal
 
 pub returns-else-from-slot-clause-finds : goal.returns-else-from-slot-clause-finds
 returns-else-from-slot-clause-finds c = λ rising.

@@ -2,7 +2,7 @@ use Rattle.std.proofs.Common.{◌≡◌, ap, ◌∙◌, ◌∷◌, [], ◌++◌,
 use Rattle.cdb_read.specs.Views.TableRecords.{entries_of}
 use Rattle.cdb_read.proofs.Checks.Entered.{entries_of-push}
 use Rattle.std.proofs.lemmas.Grind.{common_steps}
-use Rattle.cdb_read.proofs.checking.table_records.TableRecords.add.Goals as goal
+use Rattle.cdb_read.proofs.checking.table_records.TableRecords.push.Goals as goal
 
 pub returns : goal.returns
 returns c =

@@ -3,8 +3,8 @@ use Rattle.std.specs.Prelude.{min, set}
 use Rattle.std.proofs.lemmas.Bool.{ne_eqb, eq-eqb, not_from_false, not_from_true}
 use Rattle.cdb_read.specs.Views.Counting.{Counts}
 use Rattle.cdb_read.proofs.Counting.Counters.{counts_more, counts_same}
-use Rattle.cdb_read.proofs.statistics.distances.Distances.add.Goals as goal
-use Rattle.cdb_read.proofs.statistics.distances.Distances.add.Goals.{then-distance-ne0, else-distance-ne0}
+use Rattle.cdb_read.proofs.statistics.distances.Distances.count.Goals as goal
+use Rattle.cdb_read.proofs.statistics.distances.Distances.count.Goals.{then-distance-ne0, else-distance-ne0}
 
 pub returns : goal.returns
 returns c = λ ds h.
