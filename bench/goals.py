@@ -42,6 +42,14 @@ def write_changes(path, keys, is_removal):
         out.write(b"\n")
 
 
+def write_later(path, records):
+    """Writes the text of some records, one in a thousand with another value."""
+    with open(path, "wb") as out:
+        for number, (key, value) in enumerate(pairs(records)):
+            out.write(spelled(key, value if number % 1000 else b"changed"))
+        out.write(b"\n")
+
+
 class Goals:
     """The programs, a folder for their files, and how many rows are at their goals."""
 
@@ -153,6 +161,24 @@ class Goals:
         (mine, theirs), _ = self.measured([[self.ours, "-d"], [free]], stdin=f"{text}.cdb")
         self.say(f"dump, {records}, beside freecdb ({mine:.3f} s)", mine / theirs, "", 0.5)
 
+    def differs(self, records):
+        """What changed between two databases, beside dumps of both, and beside dumps and `diff`."""
+        old, new = self.path("old"), self.path("new")
+        write_text(old, records)
+        write_later(new, records)
+        for text in (old, new):
+            self.make(text)
+        dumps = [f"{self.ours} -d {text}.cdb" for text in (old, new)]
+        kept = [f"{dump} > {text}" for dump, text in zip(dumps, (old, new))]
+        (mine, dumped, compared), _ = self.measured([
+            [self.ours, "-D", f"{old}.cdb", f"{new}.cdb"],
+            ["sh", "-c", " && ".join(dumps)],
+            ["sh", "-c", f"{' && '.join(kept)}; diff {old} {new} || true"],
+        ])
+        job = f"difference, one in 1000 of {records}"
+        self.say(f"{job}, to two dumps ({mine:.3f} s)", mine / dumped, "", 3)
+        self.say(f"{job}, to two dumps and diff", mine / compared, "", 0.2)
+
     def large(self):
         """Long records that come through a pipe."""
         large, x = self.path("large"), self.path("x")
@@ -176,6 +202,8 @@ def main():
         goals.goes(options.records)
         goals.grows(f"-r, every tenth key again, {many} to {few}", 4.8, "-cr", write_again, few, many, False)
         goals.dump(options.records)
+        for records in (options.records // 10, options.records):
+            goals.differs(records)
         goals.chosen()
         goals.grows("create of one key, 200000 to 100000", 3, "-c", write_same, 100_000, 200_000, False)
         goals.large()

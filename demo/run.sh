@@ -61,6 +61,10 @@ printf '\nIts text, and the database of that text, which is the same.\n\n'
 show 'cdb -d aliases.cdb | cdb -c copy.cdb'
 show 'cmp aliases.cdb copy.cdb && echo the same bytes'
 
+printf '\nWhat changed since the map was made, as a text that amends the database of the map.\n\n'
+show 'cdb -c -m map.cdb aliases.txt'
+show 'cdb -D map.cdb aliases.cdb'
+
 printf '\nA database that was cut: the check says where, and the dump has every record before the cut.\n\n'
 show 'head -c 2150 aliases.cdb > cut.cdb'
 show_status 100 'cdb -k cut.cdb'

@@ -66,6 +66,7 @@ def parts_of(program, is_gate):
         Part("tests/cli/orders.py", (program, ORDERS), (c,), (ORDERS,)),
         Part("tests/cli/permissions.py", (program,)),
         Part("tests/cli/amends.py", (program,)),
+        Part("tests/cli/differences.py", (program,)),
         Part("tests/build/run.py"),
         Part("tests/package/version.py"),
         Part("tests/package/run.py", (program,), (package,)),

@@ -181,6 +181,21 @@ def checks(file, line=None, wide=""):
     return reads([f"-k{wide}", "x"], file, b"", line, 0 if line is None else 100)
 
 
+def compares(old, new, text, line=None, given=("-D",)):
+    """What changed between the databases x and y."""
+    return case([*given, "x", "y"], b"", text, line, 0 if line is None else 111, {"x": old, "y": new})
+
+
+def of_old(line):
+    """The line of a fault of the old one of two databases."""
+    return f"old database: {line}"
+
+
+def of_new(line):
+    """And of the new one."""
+    return f"new database: {line}"
+
+
 USAGE = b"""\
 usage: cdb -q [-W] [-m] [-n number] database key
        cdb -d [-W] [-m] [database]
@@ -188,6 +203,7 @@ usage: cdb -q [-W] [-m] [-n number] database key
        cdb -s [-W] [database]
        cdb -c [-W] [-m] [-t temporary] [-b base] [-weru] database [input ...]
        cdb -k [-W] [database]
+       cdb -D [-W] old new
        cdb -h
 """
 
@@ -769,6 +785,80 @@ CASES = {
     "a base that is the temporary file": not_understood("-c", "-b", "x", "-t", "x", "y"),
     "a base for a dump": not_understood("-d", "-b", "x"),
     "a base and no database": not_understood("-c", "-b", "x"),
+    # what changed between two databases
+    "a key with another value": compares(
+        TWO_FILE, file_of([(b"one", b"Hi"), (b"two", b"Goodbye")]), b"-3:one\n+3,2:one->Hi\n\n"
+    ),
+    "all keys are new": compares(EMPTY_FILE, TWO_FILE, TWO_TEXT),
+    "all keys are gone": compares(TWO_FILE, EMPTY_FILE, b"-3:one\n-3:two\n\n"),
+    "an empty key is gone": compares(BARE_FILE, EMPTY_FILE, b"-0:\n\n"),
+    "removals before records": compares(
+        file_of([(b"a", b"1"), (b"b", b"2"), (b"c", b"3"), (b"a", b"4")]),
+        file_of([(b"d", b"5"), (b"b", b"2"), (b"a", b"4"), (b"a", b"1")]),
+        b"-1:a\n-1:c\n+1,1:d->5\n+1,1:a->4\n+1,1:a->1\n\n",
+    ),
+    "one value less": compares(of_a(b"1", b"2"), of_a(b"1"), b"-1:a\n+1,1:a->1\n\n"),
+    "one value more": compares(of_a(b"1"), of_a(b"1", b"1"), b"-1:a\n+1,1:a->1\n+1,1:a->1\n\n"),
+    "a longer value": compares(of_a(b"1"), of_a(b"12"), b"-1:a\n+1,2:a->12\n\n"),
+    "an empty value": compares(of_a(b"1"), of_a(b""), b"-1:a\n+1,0:a->\n\n"),
+    "no difference": compares(TWO_FILE, TWO_FILE, b"\n"),
+    "no difference of no records": compares(EMPTY_FILE, EMPTY_FILE, b"\n"),
+    "no difference of many records": compares(LARGE_FILE, LARGE_FILE, b"\n"),
+    "no difference of two orders of keys": compares(
+        file_of([(b"a", b"1"), (b"b", b"2"), (b"a", b"3")]),
+        file_of([(b"b", b"2"), (b"a", b"1"), (b"a", b"3")]), b"\n",
+    ),
+    "no difference of another program's file": compares(FOREIGN_FILE, of_a(b"1"), b"\n"),
+    "a difference of any bytes": compares(EMPTY_FILE, ODD_FILE, text_of(ODD)),
+    "a database is compared with itself": reads(["-D", "x", "x"], TWO_FILE, b"\n"),
+    "a database is compared with a link to it": case(
+        ["-D", "x", "y"], b"", b"\n", files={"x": TWO_FILE, "y": Link("x")}
+    ),
+    "a database named by a hyphen is compared": case(
+        ["-D", "-", "x"], b"", b"-3:two\n\n", files={"-": TWO_FILE, "x": ONE_FILE}
+    ),
+    "a wide difference": compares(WIDE_TWO, WIDE_FILE, b"-3:two\n\n", given=("-DW",)),
+    "a wide difference of narrow files": compares(TWO_FILE, ONE_FILE, b"", of_old(SHORT), ("-D", "-W")),
+    "a narrow difference of wide files": compares(WIDE_TWO, WIDE_FILE, b"\n"),
+    "no old database": case(["-D", "x", "y"], line=NO_FILE, status=111, files={"y": TWO_FILE}),
+    "no new database": case(["-D", "x", "y"], line=NO_FILE, status=111, files={"x": TWO_FILE}),
+    "an old database on standard input": case(["-D", "-", "y"], TWO_FILE, b"", NO_FILE, 111, {"y": TWO_FILE}),
+    "an old database that is a pipe": compares(PIPE, TWO_FILE, b"", NO_FILE),
+    "a new database that is a pipe": compares(TWO_FILE, PIPE, b"", NO_FILE),
+    "an old database that is a folder": compares(FOLDER, TWO_FILE, b"", of_old(NO_DATABASE)),
+    "a new database that is a folder": compares(TWO_FILE, FOLDER, b"", of_new(NO_DATABASE)),
+    "an old database that is a text": compares(TWO_TEXT, TWO_FILE, b"", of_old(SHORT)),
+    "an old database with a cut head": compares(TWO_FILE[:2047], TWO_FILE, b"", of_old(SHORT)),
+    "a new database with a cut head": compares(TWO_FILE, TWO_FILE[:2047], b"", of_new(SHORT)),
+    "both have a cut head": compares(b"", b"", b"", of_old(SHORT)),
+    "an old database that is cut": compares(TWO_FILE[:2070], TWO_FILE, b"", of_old(outside(129))),
+    "a new database that is cut": compares(TWO_FILE, TWO_FILE[:2070], b"", of_new(outside(129))),
+    "a removal before a damage": compares(
+        two_with(2068, b"\x08"), EMPTY_FILE, b"-3:one\n", of_old(not_whole(2064))
+    ),
+    "a record before a damage": compares(
+        EMPTY_FILE, two_with(2068, b"\x08"), FIRST_TEXT, of_new(not_whole(2064))
+    ),
+    "a new database with a wrong slot": compares(
+        TWO_FILE, two_with(2086, b"\x11"), b"", of_new(not_whole(2065))
+    ),
+    "an old database with a table in the head": compares(
+        two_with(0, words(100, 1)), TWO_FILE, b"", of_old(outside(0))
+    ),
+    "a difference to a full device": compares(TWO_FILE, EMPTY_FILE, "/dev/full", NO_OUTPUT),
+    "no difference to a full device": compares(TWO_FILE, TWO_FILE, "/dev/full", NO_OUTPUT),
+    "a large difference to a full device": compares(EMPTY_FILE, LARGE_FILE, "/dev/full", NO_OUTPUT),
+    "a difference to a pipe that nobody reads": compares(TWO_FILE, EMPTY_FILE, UNREAD, NO_OUTPUT),
+    "a large difference to a pipe that nobody reads": compares(EMPTY_FILE, LARGE_FILE, UNREAD, NO_OUTPUT),
+    "a difference to no standard output": compares(TWO_FILE, EMPTY_FILE, CLOSED, NO_OUTPUT),
+    "a damage and a full device": compares(
+        two_with(2068, b"\x08"), EMPTY_FILE, "/dev/full", of_old(not_whole(2064))
+    ),
+    "a difference of no names": not_understood("-D"),
+    "a difference of one name": not_understood("-D", "x"),
+    "a difference of three names": not_understood("-D", "x", "y", "z"),
+    "a difference as a map": not_understood("-Dm", "x", "y"),
+    "a difference that is made": not_understood("-Dc", "x", "y"),
     # commands on a database that is a pipe
     "a query of a pipe": case(["-q", "x", "one"], line=NO_FILE, status=111, files={"x": PIPE}),
     "a check of standard input by its name": case(["-k", "/dev/stdin"], TWO_FILE),

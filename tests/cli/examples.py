@@ -27,6 +27,7 @@ printf 'postmaster root\nabuse      root\n' > aliases
 printf '+4,2:+one->10\n\n' | cdb -c data.cdb
 cp data.cdb primary/data.cdb
 printf '+5,4:abuse->kris\n+10,4:postmaster->kris\n\n' | cdb -c map.cdb
+printf 'postmaster alice\nabuse root\n' > source
 printf '+7,5:old.net->carol\n\n' | cdb -c owners.cdb
 host=old.net
 """,
@@ -54,9 +55,11 @@ WRITTEN = {
         "",
         "",
         "",
-        "in step\n",
+        "",
+        "nothing changed\n",
+        "",
     ],
-    "man/cdb.1": ["root", "", "", "", "sound\n", ""],
+    "man/cdb.1": ["root", "", "", "", "sound\n", "", "nothing changed\n"],
 }
 # A last command for each page, and what it writes: what all the examples before came to.
 WHOLE = {

@@ -20,8 +20,9 @@ PAGE = os.path.join(HERE, "..", "..", "man", "cdb.1")
 README = os.path.join(HERE, "..", "..", "README.md")
 LIBRARY = os.path.join(HERE, "..", "..", "docs", "LIBRARY.md")
 CALLER = os.path.join(HERE, "..", "..", "crates", "cdb_uses", "src", "files.rt")
-# What stands in a diagnostic in place of a number.
+# What stands in a diagnostic in place of a number, and of another diagnostic.
 NUMBER = "[A-Z]"
+OTHER = "..."
 
 
 def section(page, name):
@@ -72,7 +73,9 @@ def described_in(page):
 def diagnostics_of(page):
     """For each diagnostic what a line is to look like."""
     texts = re.findall(r'^\.It "(.*)"$', page, re.M)
-    return [re.compile(re.sub(rf"\b{NUMBER}\b", r"\\d+", re.escape(text))) for text in texts]
+    looks = {text: re.sub(rf"\b{NUMBER}\b", r"\\d+", re.escape(text)) for text in texts}
+    others = "|".join(look for text, look in looks.items() if not text.endswith(OTHER))
+    return [re.compile(look.replace(re.escape(OTHER), f"(?:{others})")) for look in looks.values()]
 
 
 def toolchain_of(readme):

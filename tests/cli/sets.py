@@ -49,13 +49,13 @@ for number in range(1, 64):
 
 # Each letter that a command does not take.
 OPTIONS = {"m": ["-m"], "n": ["-n", "1"], "t": ["-t", "y"], "b": ["-b", "y"], **{it: [f"-{it}"] for it in "weru"}}
-TAKEN = {"q": "mn", "d": "m", "l": "m", "s": "", "k": "", "c": "mtwerub"}
+TAKEN = {"q": "mn", "d": "m", "l": "m", "s": "", "k": "", "D": "", "c": "mtwerub"}
 for command, taken in TAKEN.items():
     for option, option_words in OPTIONS.items():
         if option not in taken:
-            names = {"q": ["x", "key"], "c": ["x"]}.get(command, [])
+            names = {"q": ["x", "key"], "D": ["x", "y"], "c": ["x"]}.get(command, [])
             SETS[f"-{option} with -{command}"] = not_understood(f"-{command}", *option_words, *names)
 
 # Each two commands.
-for first, second in itertools.combinations("qdlsck", 2):
+for first, second in itertools.combinations("qdlsckD", 2):
     SETS[f"-{first} and -{second}"] = not_understood(f"-{first}", f"-{second}", "x")

@@ -39,6 +39,9 @@ TEXT = text_of(RECORDS)
 DATABASE = file_of(RECORDS)
 OLD = file_of([(b"old", b"database")])
 KEPT = {"x": OLD}
+# Some of the records, and the same with one left out, one changed and one added.
+SOME = RECORDS[90:110]
+LATER = [*SOME[1:4], (b"key94", b"again"), *SOME[5:], (b"new", b"one")]
 CHANGES = b"-4:key3\n+4,5:key7->again\n+3,3:new->one\n" * 3 + b"\n"
 COMMANDS = {
     "create on output": Command(["-c", "-"], TEXT),
@@ -62,6 +65,8 @@ COMMANDS = {
     "statistics of a file": Command(["-s", "x"], b"", {"x": DATABASE}),
     "check": Command(["-k"], DATABASE),
     "check of a file": Command(["-k", "x"], b"", {"x": DATABASE}),
+    "difference": Command(["-D", "x", "y"], b"", {"x": file_of(SOME), "y": file_of(LATER)}),
+    "difference of nothing": Command(["-D", "x", "y"], b"", {"x": file_of(SOME[:3]), "y": file_of(SOME[:3])}),
     "help": Command(["-h"]),
     "bad words": Command(["-Z"]),
 }

@@ -48,6 +48,11 @@ def of_file(given, file):
     return Command(given, b"", {"x": file})
 
 
+def of_two(file):
+    """A difference of a file and an equal one."""
+    return Command(["-D", "x", "y"], b"", {"x": file, "y": file})
+
+
 # Each has a window of 64 KiB, which goes with it: all at once would be 13 million bytes.
 WINDOW = 65536
 INPUTS = [f"input{n}" for n in range(200)]
@@ -62,6 +67,8 @@ ALIKE = {
     "a query copies its value": [of_file(words("-q", "key"), it) for it in (SHORT_VALUE, LONG_VALUE)],
     "a dump keeps one record": [of_file(words("-d"), it) for it in (FEW, MANY)],
     "a list keeps one key": [of_file(words("-l"), it) for it in (FEW, MANY)],
+    "a difference keeps no value": [of_two(it) for it in (SHORT_VALUE, LONG_VALUE)],
+    "a difference of many records": [of_two(it) for it in (FEW, MANY)],
     "statistics of many records": [of_file(words("-s"), it) for it in (FEW, MANY)],
 }
 # A run, the most asks, and the most bytes.

@@ -31,6 +31,7 @@ SMALL = {
     "a small dump": Command(["-d"], TWO_FILE),
     "a small list": Command(["-l", "x"], b"", {"x": TWO_FILE}),
     "small statistics": Command(["-s"], FOUR_FILE),
+    "a small difference": Command(["-D", "x", "y"], b"", {"x": TWO_FILE, "y": FOUR_FILE}),
     "a small check": Command(["-k", "x"], b"", {"x": FOUR_FILE}),
     "a faulty text": Command(["-c", "x"], TWO_TEXT[:-1] + b"*", KEPT),
     "help": COMMANDS["help"],

@@ -25,6 +25,8 @@ from refusing import Refusing
 NO_MEMORY = b"cdb: no memory\n"
 NO_FILE = b"cdb: file cannot be opened\n"
 NO_DATABASE = b"cdb: database cannot be read or written\n"
+NO_OLD = b"cdb: old database: database cannot be read or written\n"
+NO_NEW = b"cdb: new database: database cannot be read or written\n"
 NO_NAME = b"cdb: database cannot be renamed\n"
 NO_OUTPUT = b"cdb: output cannot be written\n"
 NO_INPUTS = {b"cdb: input %d: cannot be read\n" % number for number in (1, 2, 3)}
@@ -36,7 +38,7 @@ CALL_LINES = {
     "allow": {NO_FILE},
     "remove": {NO_FILE},
     "read": {NO_DATABASE, *NO_INPUTS},
-    "pread": {NO_DATABASE},
+    "pread": {NO_DATABASE, NO_OLD, NO_NEW},
     "write": {NO_OUTPUT},
     "pwrite": {NO_DATABASE},
     "cut": {NO_DATABASE},

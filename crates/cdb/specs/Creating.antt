@@ -29,7 +29,7 @@ use Rattle.cdb_make.specs.declared.fault.MakeFault.TheVariants.{Writing}
 use Rattle.cdb_tool.specs.declared.inputs.Turn.{Turn}
 use Rattle.cdb_tool.specs.Views.Inputs.{one_of}
 use Rattle.cdb.specs.Inputs.{IsStandard, MissesBase, OpensBase, OpensInputs, StopsOpening}
-use Rattle.cdb.specs.Opening.{Misses, OpenCalls, none_left}
+use Rattle.cdb.specs.Opening.{Misses, OpenCalls, base_left, none_left}
 use Rattle.cdb.specs.declared.left.Left.{Left}
 use Rattle.cdb.specs.declared.open_trace.OpenCall.TheVariants.{Emptied}
 use Rattle.cdb.specs.declared.system.System.{Ghosts as Systems}
@@ -175,6 +175,7 @@ pub record Empties {F I M Y : Type 0} (y : Systems Y F I M) (f : Ghosts F) (s : 
   pub made : Result Unit Fault
   pub last : M
   pub is_last : left.made ≡ Some last
+  pub alone : left.other ≡ None
   pub run : IsBufferedRun f m left.read (s.image built) told said made
   pub cause : HasCause s store built made
   pub syncs : Syncs s built last made result
@@ -264,7 +265,7 @@ abbrev pub MakesNamed : {F I M R Y : Type 0} → Systems Y F I M → Ghosts F �
 MakesNamed y f s r m name base inputs temporary old new was now left told said result =
     (IsInPlace name temporary
     × MakesInPlace y f s m name base inputs old new was now left told said result)
-    ⊎ ((IsInPlace name temporary → ⊥) × (new ≡ old) × (left.made ≡ None)
+    ⊎ ((IsInPlace name temporary → ⊥) × (new ≡ old) × (left ≡ base_left left.read)
     × (((now ≡ was) × (left.read ≡ None) × (result ≡ Err NoMemory) × Keeps told said)
     ⊎ MakesApart f r m (temporary_of name temporary) name base inputs was now left.read told said
     result))
@@ -295,7 +296,7 @@ abbrev pub MakesAt : {F I M R Y : Type 0} → Systems Y F I M → Ghosts F → G
     → (temporary : Option (List ℕ)) → (old new : OpenCalls) → (was now : NameCalls) → Left F M
     → (start end told said : Option (List ℕ)) → Result Unit Fault → Type 0
 MakesAt y f s r m name base inputs temporary old new was now left start end told said result =
-    (IsStandard name × (new ≡ old) × (now ≡ was) × (left.made ≡ None)
+    (IsStandard name × (new ≡ old) × (now ≡ was) × (left ≡ base_left left.read)
     × MakesOnOutput f m left.read start end told said result)
     ⊎ ((IsStandard name → ⊥) × Keeps start end
     × MakesNamed y f s r m name base inputs temporary old new was now left told said result)

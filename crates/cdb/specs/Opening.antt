@@ -1,5 +1,5 @@
 -- The calls on files, and why one is not opened. The newest call comes first.
-use Rattle.std.specs.Prelude.{ℕ, ◌≡◌, List, ◌∷◌, None, Some}
+use Rattle.std.specs.Prelude.{ℕ, ◌≡◌, List, ◌∷◌, Option, None, Some}
 use Rattle.cdb_files.specs.declared.name_fault.NameFault.{NameFault}
 use Rattle.cdb_files.specs.declared.name_fault.NameFault.TheVariants as why
 use Rattle.cdb.specs.declared.left.Left.{Left}
@@ -23,9 +23,15 @@ pub record Misses (name : List ℕ) (old new : OpenCalls) (fault : Fault) : Type
   pub is : fault ≡ unopened why
   pub calls : new ≡ (Unopened why, name) ∷ old
 
--- no file is handed back; or one that was read
+-- no file is handed back; or one that was read, a base if there is one, or an old database and a new
 abbrev pub none_left : {F M : Type 0} → Left F M
-none_left = record { read = None; made = None }
+none_left = record { read = None; other = None; made = None }
 
 abbrev pub read_left : {F M : Type 0} → F → Left F M
-read_left file = record { read = Some file; made = None }
+read_left file = record { read = Some file; other = None; made = None }
+
+abbrev pub base_left : {F M : Type 0} → Option F → Left F M
+base_left base = record { read = base; other = None; made = None }
+
+abbrev pub both_left : {F M : Type 0} → (old new : F) → Left F M
+both_left old new = record { read = Some old; other = Some new; made = None }

@@ -16,6 +16,7 @@ use Rattle.cdb_store.specs.declared.memory.MemStore.{MemStore}
 use Rattle.cdb_store.specs.declared.raw.RawFile.{Ghosts as Raw}
 use Rattle.cdb_store.specs.declared.store.Store.{Ghosts}
 use Rattle.cdb_tool.specs.Runs.Check.{FindsSound, CheckingFails}
+use Rattle.cdb_tool.specs.Runs.Difference.{TellsDifference}
 use Rattle.cdb_tool.specs.Runs.Form.{Form, dump_form, list_form}
 use Rattle.cdb_tool.specs.Runs.Load.{IsNotLoaded}
 use Rattle.cdb_tool.specs.Runs.Query.{Query, Queries}
@@ -28,7 +29,7 @@ use Rattle.cdb_tool.specs.declared.fault.Fault.TheVariants.{Open, NoMemory as No
 use Rattle.cdb_files.specs.Folder.{NameCalls}
 use Rattle.cdb_files.specs.declared.answer.Answer.TheVariants as looks
 use Rattle.cdb.specs.Creating.{Creates}
-use Rattle.cdb.specs.Opening.{Misses, OpenCalls, none_left, read_left}
+use Rattle.cdb.specs.Opening.{Misses, OpenCalls, both_left, none_left, read_left}
 use Rattle.cdb.specs.declared.left.Left.{Left}
 use Rattle.cdb.specs.declared.open_trace.OpenCall.TheVariants.{AtPlaces, InTurn, Stream}
 use Rattle.cdb.specs.declared.system.System.{Ghosts as Systems}
@@ -167,6 +168,40 @@ PerformsOn s remaining y most (Some name) input old new left start end result fi
 PerformsOn s remaining y most None input old new left start end result file taken =
     (new ≡ old) × (left ≡ none_left) × Takes most input start end result taken
 
+-- ---- difference
+
+-- what changed between the files that came for two names, which are left so
+pub record ComparesFiles {F I M Y : Type 0} (w : ℕ) (s : Ghosts F) (y : Systems Y F I M)
+    (first second : List ℕ) (left : Left F M) (start end : Option (List ℕ))
+    (result : Result Unit Fault) : Type 0 where
+  pub old : F
+  pub old_came : y.gives first old
+  pub new : F
+  pub new_came : y.gives second new
+  pub old_last : F
+  pub new_last : F
+  pub are_last : left ≡ both_left old_last new_last
+  pub tells : TellsDifference w s s old old_last new new_last start end result
+
+-- the second was not opened, and nothing was written; the first is left as it came
+pub record RefusesSecond {F I M Y : Type 0} (y : Systems Y F I M) (first second : List ℕ)
+    (old new : OpenCalls) (left : Left F M) (start end : Option (List ℕ))
+    (result : Result Unit Fault) : Type 0 where
+  pub file : F
+  pub came : y.gives first file
+  pub is_left : left ≡ read_left file
+  pub refuses : Refuses second ((AtPlaces, first) ∷ old) new start end result
+
+-- both are opened, to be read at places, and no other file is
+abbrev pub PerformsDifference : {F I M Y : Type 0} → ℕ → Ghosts F → Systems Y F I M
+    → (first second : List ℕ) → (old new : Y) → Left F M → (start end : Option (List ℕ))
+    → Result Unit Fault → Type 0
+PerformsDifference w s y first second old new left start end result =
+    ((left ≡ none_left) × Refuses first (y.calls old) (y.calls new) start end result)
+    ⊎ RefusesSecond y first second (y.calls old) (y.calls new) left start end result
+    ⊎ ((y.calls new ≡ (AtPlaces, second) ∷ (AtPlaces, first) ∷ y.calls old)
+    × ComparesFiles w s y first second left start end result)
+
 -- ---- help
 
 -- the usage text is written
@@ -199,6 +234,9 @@ Performs w most s m r remaining y (asked.Check name wide) input old new was now 
     said result =
     PerformsOn s remaining y most name input old new left start end result
     (ChecksStore w start end result s) (ChecksStore w start end result in_memory)
+Performs w most s m r remaining y (asked.Difference first second wide) input old new was now left
+    start end told said result =
+    PerformsDifference w s y first second old new left start end result
 Performs w most s m r remaining y (asked.Create name base inputs temporary options wide) input old new
     was now left start end told said result =
     Creates w most y s m r remaining options name base inputs temporary input (y.calls old)

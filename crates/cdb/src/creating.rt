@@ -78,7 +78,12 @@ where
     };
     if is_standard(creation.name) {
         let (read, made) = make_on_output::<L, F, J, I, O, E>(alloc, contents, output, errors);
-        return (Left { read, made: None }, made);
+        let left = Left {
+            read,
+            other: None,
+            made: None,
+        };
+        return (left, made);
     }
     if is_in_place(creation.name, creation.temporary) {
         return make_in_place::<L, F, J, M, Y, N, I, E>(
@@ -97,7 +102,12 @@ where
         contents,
         errors,
     );
-    (Left { read, made: None }, made)
+    let left = Left {
+        read,
+        other: None,
+        made: None,
+    };
+    (left, made)
 }
 
 /// Opens what is read: the base, and then all inputs.

@@ -1,13 +1,16 @@
 // What a command hands back.
 ghost use Rattle.std.specs.Prelude.{◌≡◌};
-ghost use Rattle.cdb.specs.Opening.{none_left, read_left};
+ghost use Rattle.cdb.specs.Opening.{none_left, read_left, both_left};
 
 /// The files that a command opened and has not closed, as they are at its end. A clause says what was
 /// read of them, or made.
 #[derive(Drop)]
 pub(crate) struct Left<F, M> {
-    /// The file that was read at places, which is the base of a create.
+    /// The file that was read at places, which is the base of a create and the old database of a
+    /// difference.
     pub(crate) read: Option<F>,
+    /// The new database of a difference.
+    pub(crate) other: Option<F>,
     /// The file that was made in place.
     pub(crate) made: Option<M>,
 }
@@ -18,6 +21,7 @@ pub(crate) fn none_left<F: Drop, M: Drop>() -> Left<F, M>
 {
     Left {
         read: None,
+        other: None,
         made: None,
     }
 }
@@ -28,6 +32,18 @@ pub(crate) fn read_left<F: Drop, M: Drop>(file: F) -> Left<F, M>
 {
     Left {
         read: Some(file),
+        other: None,
+        made: None,
+    }
+}
+
+/// Two files that were read are handed back.
+pub(crate) fn both_left<F: Drop, M: Drop>(old: F, new: F) -> Left<F, M>
+    ensures { result ≡ both_left old new }
+{
+    Left {
+        read: Some(old),
+        other: Some(new),
         made: None,
     }
 }

@@ -4,6 +4,7 @@
 mod building;
 mod contents;
 mod creating;
+mod differing;
 mod inputs;
 mod left;
 mod open_trace;

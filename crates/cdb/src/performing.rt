@@ -4,6 +4,7 @@ ghost use Rattle.cdb_form.specs.Format.Pair.{head_size};
 ghost use Rattle.cdb.specs.Performs.{IsUntouched, Performs, WritesUsage};
 
 use crate::creating::{Creation, create};
+use crate::differing::difference;
 use crate::left::{Left, none_left};
 use crate::reading::{check, query, stats, text};
 use crate::system::System;
@@ -85,6 +86,13 @@ where
             stats::<L, F, J, M, Y, I, O>(alloc, system, name, input, output)
         }
         Command::Check { name, .. } => check::<L, F, J, M, Y, I>(alloc, system, name, input),
+        Command::Difference { old, new, .. } => difference::<L, F, J, M, Y, O>(
+            alloc,
+            system,
+            old.as_str(),
+            new.as_str(),
+            output,
+        ),
         Command::Create {
             name,
             base,

@@ -138,8 +138,12 @@ where
     };
     let (mut store, read, built) = building.build(store, errors);
     let answer = synced(&mut store, built);
-    let made = Some(store);
-    (Left { read, made }, answer)
+    let left = Left {
+        read,
+        other: None,
+        made: Some(store),
+    };
+    (left, answer)
 }
 
 /// What building a database in a store comes to once the store is flushed, unless it failed.

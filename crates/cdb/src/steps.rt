@@ -161,6 +161,7 @@ fn is_wide(command: &Command) -> bool
         | Command::List { wide, .. }
         | Command::Stats { wide, .. }
         | Command::Check { wide, .. }
+        | Command::Difference { wide, .. }
         | Command::Create { wide, .. } => wide,
         Command::Help => false,
     }

@@ -73,6 +73,8 @@ command_none letter.Dump g number = then (one_name g.names) _ (one_none g.names)
 command_none letter.List g number = then (one_name g.names) _ (one_none g.names) (λ n. given _)
 command_none letter.Stats g number = then (one_name g.names) _ (one_none g.names) (λ n. given _)
 command_none letter.Check g number = then (one_name g.names) _ (one_none g.names) (λ n. given _)
+command_none letter.Difference g number =
+    then (two_names g.names) _ (two_none g.names) (λ p. given _)
 command_none letter.Create g number = then (first_name g.names) _ (first_none g.names)
     (λ p. then (not_both g.flags) _ (both_none g.flags) (λ _. given _))
 

@@ -63,6 +63,7 @@ command_range letter.Dump g number p = then (one_name g.names) _ (λ name. of _ 
 command_range letter.List g number p = then (one_name g.names) _ (λ name. of _ tt)
 command_range letter.Stats g number p = then (one_name g.names) _ (λ name. of _ tt)
 command_range letter.Check g number p = then (one_name g.names) _ (λ name. of _ tt)
+command_range letter.Difference g number p = then (two_names g.names) _ (λ names. of _ tt)
 command_range letter.Create g number p =
     then (first_name g.names) _ (λ names. then (not_both g.flags) _ (λ _. of _ refl))
 

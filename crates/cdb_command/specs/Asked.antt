@@ -16,6 +16,7 @@ pub data Asked : Type 0 where
   Listing : (name : Option Text) (style : Style) (wide : Bool) → Asked
   Stats : (name : Option Text) (wide : Bool) → Asked
   Check : (name : Option Text) (wide : Bool) → Asked
+  Difference : (old new : Text) (wide : Bool) → Asked
   Create : (name : Text) (base : Option Text) (inputs : List Text) (temporary : Option Text)
       (options : MakeOptions) (wide : Bool) → Asked
   Help : Asked
@@ -27,6 +28,7 @@ asked_in (command.Dump name style wide) = Dump (option_map string_bytes name) st
 asked_in (command.List name style wide) = Listing (option_map string_bytes name) style wide
 asked_in (command.Stats name wide) = Stats (option_map string_bytes name) wide
 asked_in (command.Check name wide) = Check (option_map string_bytes name) wide
+asked_in (command.Difference old new wide) = Difference (string_bytes old) (string_bytes new) wide
 asked_in (command.Create name base inputs temporary options wide) =
     Create (string_bytes name) (option_map string_bytes base) (map string_bytes inputs.items)
     (option_map string_bytes temporary) options wide
@@ -39,6 +41,7 @@ IsInRange (Dump name style wide) = Unit
 IsInRange (Listing name style wide) = Unit
 IsInRange (Stats name wide) = Unit
 IsInRange (Check name wide) = Unit
+IsInRange (Difference old new wide) = Unit
 IsInRange (Create name base inputs temporary options wide) =
     options.limit ≡ (if wide then 9223372036854775807 else 4294967295)
 IsInRange Help = Unit
@@ -50,6 +53,7 @@ has_wide_words (Dump name style wide) = wide
 has_wide_words (Listing name style wide) = wide
 has_wide_words (Stats name wide) = wide
 has_wide_words (Check name wide) = wide
+has_wide_words (Difference old new wide) = wide
 has_wide_words (Create name base inputs temporary options wide) = wide
 has_wide_words Help = false
 
@@ -60,6 +64,7 @@ FitsIn least greatest (Dump name style wide) = Unit
 FitsIn least greatest (Listing name style wide) = Unit
 FitsIn least greatest (Stats name wide) = Unit
 FitsIn least greatest (Check name wide) = Unit
+FitsIn least greatest (Difference old new wide) = Unit
 FitsIn least greatest (Create name base inputs temporary options wide) =
     (least ≤ options.limit) × (options.limit ≤ greatest)
 FitsIn least greatest Help = Unit

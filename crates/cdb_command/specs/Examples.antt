@@ -8,7 +8,7 @@ use Rattle.clap.specs.Faults.{walk_fault, flags_fault, defaults_fault}
 use Rattle.clap.specs.Walk.{bundle_met, walked}
 use Rattle.cdb_form.specs.declared.mode.Mode.TheVariants.{Add}
 use Rattle.cdb_command.specs.Line.{Text}
-use Rattle.cdb_command.specs.Asked.{Asked, Query, Dump, Create, Help}
+use Rattle.cdb_command.specs.Asked.{Asked, Query, Dump, Difference, Create, Help}
 use Rattle.cdb_command.specs.Words.{plan_of, cdb_rows, cdb_faults}
 use Rattle.cdb_command.specs.declared.style.Style.TheVariants.{Native, Map}
 use Rattle.cdb_command.specs.declared.usage.Usage.{Usage}
@@ -90,3 +90,19 @@ pub base_that_is_built_in : asks (codes "-c" ∷ codes "-b" ∷ codes "x.tmp" �
     ≡ Err (Option (code "b"))
 unfolding cdb_rows cdb_faults walk_fault flags_fault defaults_fault bundle_met walked chars encode
 base_that_is_built_in = refl
+
+pub difference : asks (codes "-WD" ∷ codes "x" ∷ codes "y" ∷ []) ≡ Ok (Difference (codes "x") (codes "y") true)
+unfolding cdb_rows cdb_faults walk_fault flags_fault defaults_fault bundle_met walked chars encode
+difference = refl
+
+pub difference_of_one : asks (codes "-D" ∷ codes "x" ∷ []) ≡ Err Names
+unfolding cdb_rows cdb_faults walk_fault flags_fault defaults_fault bundle_met walked chars encode
+difference_of_one = refl
+
+pub difference_as_a_map : asks (codes "-Dm" ∷ codes "x" ∷ codes "y" ∷ []) ≡ Err (Option (code "m"))
+unfolding cdb_rows cdb_faults walk_fault flags_fault defaults_fault bundle_met walked chars encode
+difference_as_a_map = refl
+
+pub difference_and_create : asks (codes "-Dc" ∷ codes "x" ∷ codes "y" ∷ []) ≡ Err TwoCommands
+unfolding cdb_rows cdb_faults walk_fault flags_fault defaults_fault bundle_met walked chars encode
+difference_and_create = refl

@@ -9,7 +9,8 @@ use Rattle.std.specs.Str.Parse.{digits_value}
 use Rattle.cdb_form.specs.declared.mode.Mode.{Mode}
 use Rattle.cdb_form.specs.declared.mode.Mode.TheVariants.{Add, Warn, Insert, Replace}
 use Rattle.cdb_command.specs.Line.{Text, Given}
-use Rattle.cdb_command.specs.Asked.{Asked, Query, Dump, Listing, Stats, Check, Create, Help, ◌>>=◌}
+use Rattle.cdb_command.specs.Asked.{Asked, Query, Dump, Listing, Stats, Check, Difference}
+use Rattle.cdb_command.specs.Asked.{Create, Help, ◌>>=◌}
 use Rattle.cdb_command.specs.declared.rules.letter.Letter.{Letter}
 use Rattle.cdb_command.specs.declared.rules.letter.Letter.TheVariants as letter
 use Rattle.cdb_command.specs.declared.line.Flags.{Flags}
@@ -29,7 +30,8 @@ when false x = []
 -- the commands whose letters stand on a line
 abbrev pub letters_in : Flags → List Letter
 letters_in f = when f.query letter.Query ++ (when f.dump letter.Dump ++ (when f.list letter.List
-    ++ (when f.stats letter.Stats ++ (when f.create letter.Create ++ when f.check letter.Check))))
+    ++ (when f.stats letter.Stats ++ (when f.create letter.Create ++ (when f.check letter.Check
+    ++ when f.difference letter.Difference)))))
 
 abbrev pub only_letter : List Letter → Result Letter Usage
 only_letter [] = Err usage.NoCommand
@@ -66,6 +68,7 @@ taken_by letter.Dump g = codes "m"
 taken_by letter.List g = codes "m"
 taken_by letter.Stats g = []
 taken_by letter.Check g = []
+taken_by letter.Difference g = []
 taken_by letter.Create g =
     codes "mtweru" ++ when (unwrap_or (option_map (takes_base g) g.base) true) (code "b")
 
@@ -114,7 +117,7 @@ one_name (name ∷ []) = Ok (file_named name)
 one_name (name ∷ other ∷ more) = Err usage.Names
 
 abbrev pub two_names : List Text → Result (Text × Text) Usage
-two_names (name ∷ key ∷ []) = Ok (name, key)
+two_names (first ∷ second ∷ []) = Ok (first, second)
 two_names names = Err usage.Names
 
 abbrev pub first_name : List Text → Result (Text × List Text) Usage
@@ -148,6 +151,9 @@ abbrev pub query_in : Given → Option ℕ → Result Asked Usage
 query_in g number =
     two_names g.names >>= λ p. Ok (Query p.0 p.1 number g.flags.map g.flags.wide)
 
+abbrev pub difference_in : Given → Result Asked Usage
+difference_in g = two_names g.names >>= λ p. Ok (Difference p.0 p.1 g.flags.wide)
+
 abbrev pub create_in : Given → Result Asked Usage
 create_in g = do
   p ← first_name g.names
@@ -162,6 +168,7 @@ command_in letter.List g number =
     one_name g.names >>= λ name. Ok (Listing name (style_in g.flags) g.flags.wide)
 command_in letter.Stats g number = one_name g.names >>= λ name. Ok (Stats name g.flags.wide)
 command_in letter.Check g number = one_name g.names >>= λ name. Ok (Check name g.flags.wide)
+command_in letter.Difference g number = difference_in g
 command_in letter.Create g number = create_in g
 
 -- without `-h` each step names the next fault

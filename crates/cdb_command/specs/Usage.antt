@@ -27,4 +27,5 @@ usage_text = codes "usage: cdb -q [-W] [-m] [-n number] database key\n"
     ++ (codes "       cdb -s [-W] [database]\n"
     ++ (codes "       cdb -c [-W] [-m] [-t temporary] [-b base] [-weru] database [input ...]\n"
     ++ (codes "       cdb -k [-W] [database]\n"
-    ++ codes "       cdb -h\n")))))
+    ++ (codes "       cdb -D [-W] old new\n"
+    ++ codes "       cdb -h\n"))))))

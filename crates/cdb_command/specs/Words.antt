@@ -39,7 +39,8 @@ abbrev pub option : Char → Rule
 option letter = option_rule (code letter ∷ []) (code letter)
 
 abbrev pub command_rules : List Rule
-command_rules = flag "q" ∷ flag "d" ∷ flag "l" ∷ flag "s" ∷ flag "c" ∷ flag "k" ∷ flag "h" ∷ []
+command_rules = flag "q" ∷ flag "d" ∷ flag "l" ∷ flag "s" ∷ flag "c" ∷ flag "k" ∷ flag "D"
+    ∷ flag "h" ∷ []
 
 abbrev pub letter_rules : List Rule
 letter_rules = flag "m" ∷ flag "W" ∷ flag "w" ∷ flag "e" ∷ flag "r" ∷ flag "u" ∷ []
@@ -80,6 +81,7 @@ flags_of rows = record {
   stats = has (codes "s") rows;
   create = has (codes "c") rows;
   check = has (codes "k") rows;
+  difference = has (codes "D") rows;
   help = has (codes "h") rows;
   map = has (codes "m") rows;
   wide = has (codes "W") rows;

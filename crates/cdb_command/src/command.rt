@@ -37,6 +37,13 @@ pub enum Command {
         name: Option<String>,
         wide: bool,
     },
+    /// What changed between two databases, the old one and the new one, is written as a text that a
+    /// create amends the old one by.
+    Difference {
+        old: String,
+        new: String,
+        wide: bool,
+    },
     /// Make a database of the records of a base, if there is one, and of the inputs in turn. It is
     /// built in a temporary file, whose name the program chooses if none is given.
     Create {

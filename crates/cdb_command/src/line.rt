@@ -9,6 +9,7 @@ pub(crate) struct Flags {
     pub(crate) stats: bool,
     pub(crate) create: bool,
     pub(crate) check: bool,
+    pub(crate) difference: bool,
     pub(crate) help: bool,
     pub(crate) map: bool,
     pub(crate) wide: bool,

@@ -58,6 +58,7 @@ fn with_commands<'a>(alloc: Global, parser: Command<'a>) -> Result<Command<'a>, 
 {
     let parser = with_three(alloc, parser, ("q", 'q'), ("d", 'd'), ("l", 'l'))?;
     let parser = with_three(alloc, parser, ("s", 's'), ("c", 'c'), ("k", 'k'))?;
+    let parser = parser.arg(flag(alloc, "D", 'D'))?;
     parser.arg(flag(alloc, "h", 'h'))
 }
 

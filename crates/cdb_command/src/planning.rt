@@ -17,13 +17,14 @@ use std::alloc::Global;
 /// names. The answer is the first that holds of these:
 /// - `Words`: an unknown letter, `-n`, `-t` or `-b` without a value, or one of them twice;
 /// - `Ok(Help)`: `-h` is there;
-/// - `NoCommand`, `TwoCommands`: none or several of `-q`, `-d`, `-l`, `-s`, `-c` and `-k`;
+/// - `NoCommand`, `TwoCommands`: none or several of `-q`, `-d`, `-l`, `-s`, `-c`, `-k` and
+///   `-D`;
 /// - `Option(letter)`: the command doesn't take this option, the first such of `m n t w e r u b`.
 ///   `-q` takes `m` and `n`, `-d` and `-l` take `m`, and `-c` takes all but `n`. It takes no `b`
 ///   beside `-t -`, nor if it would build in the base: if `-t`, or the database's name and `.tmp`,
 ///   is the base's name. A database named `-` is built in no file;
 /// - `Number`: the value of `-n` isn't decimal digits alone, of a number from 1 to 4294967295;
-/// - `Names`: `-q` takes two names, `-c` one and any number of inputs, the others one at most;
+/// - `Names`: `-q` and `-D` take two names, `-c` one and any number of inputs, the others one at most;
 /// - `Both`: `-r` and `-u`;
 /// - the command. If it reads one file, no name and `-` are standard input. `-W` goes with
 ///   every command.

@@ -59,6 +59,7 @@ fn flags_of(matches: &ArgMatches<'_>) -> Flags
         stats: has(matches, "s"),
         create: has(matches, "c"),
         check: has(matches, "k"),
+        difference: has(matches, "D"),
         help: has(matches, "h"),
         map: has(matches, "m"),
         wide: has(matches, "W"),

@@ -2,7 +2,8 @@
 ghost use Rattle.std.specs.Prelude.{◌≡◌, option_map, string_bytes};
 ghost use Rattle.cdb_command.specs.Line.{given_in};
 ghost use Rattle.cdb_command.specs.Asked.{Gives, asked_in};
-ghost use Rattle.cdb_command.specs.Rules.{one_name, query_in, create_in, command_in, line_plan};
+ghost use Rattle.cdb_command.specs.Rules.{one_name, query_in, create_in, difference_in};
+ghost use Rattle.cdb_command.specs.Rules.{command_in, line_plan};
 
 use crate::command::Command;
 use crate::line::Line;
@@ -36,6 +37,18 @@ fn query_of(alloc: Global, line: &Line<'_, '_>, number: Option<u64>) -> Result<C
     })
 }
 
+/// A difference of two files.
+fn difference_of(alloc: Global, line: &Line<'_, '_>) -> Result<Command, Usage>
+    ensures { Gives asked_in result (difference_in (given_in line.now)) }
+{
+    let (old, new) = two_names(line.names)?;
+    Ok(Command::Difference {
+        old: owned(alloc, old)?,
+        new: owned(alloc, new)?,
+        wide: line.flags.wide,
+    })
+}
+
 /// A create.
 fn create_of(alloc: Global, line: &Line<'_, '_>) -> Result<Command, Usage>
     ensures { Gives asked_in result (create_in (given_in line.now)) }
@@ -65,6 +78,7 @@ fn command_of(
     match letter {
         Letter::Query => query_of(alloc, line, number),
         Letter::Create => create_of(alloc, line),
+        Letter::Difference => difference_of(alloc, line),
         Letter::Dump => {
             let name = input_of(alloc, line)?;
             Ok(Command::Dump { name, style, wide })

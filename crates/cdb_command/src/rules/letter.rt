@@ -14,6 +14,7 @@ pub(crate) enum Letter {
     Stats,
     Create,
     Check,
+    Difference,
 }
 
 /// The one command whose letter is on a line. `NoCommand` if there is none, `TwoCommands` if
@@ -28,16 +29,18 @@ pub(crate) fn only_letter(flags: Flags) -> Result<Letter, Usage>
         stats,
         create,
         check,
+        difference,
         ..
     } = flags;
-    match (query, dump, list, stats, create, check) {
-        (true, false, false, false, false, false) => Ok(Letter::Query),
-        (false, true, false, false, false, false) => Ok(Letter::Dump),
-        (false, false, true, false, false, false) => Ok(Letter::List),
-        (false, false, false, true, false, false) => Ok(Letter::Stats),
-        (false, false, false, false, true, false) => Ok(Letter::Create),
-        (false, false, false, false, false, true) => Ok(Letter::Check),
-        (false, false, false, false, false, false) => Err(Usage::NoCommand),
+    match (query, dump, list, stats, create, check, difference) {
+        (true, false, false, false, false, false, false) => Ok(Letter::Query),
+        (false, true, false, false, false, false, false) => Ok(Letter::Dump),
+        (false, false, true, false, false, false, false) => Ok(Letter::List),
+        (false, false, false, true, false, false, false) => Ok(Letter::Stats),
+        (false, false, false, false, true, false, false) => Ok(Letter::Create),
+        (false, false, false, false, false, true, false) => Ok(Letter::Check),
+        (false, false, false, false, false, false, true) => Ok(Letter::Difference),
+        (false, false, false, false, false, false, false) => Err(Usage::NoCommand),
         _ => Err(Usage::TwoCommands),
     }
 }

@@ -11,7 +11,7 @@ pub(crate) fn two_names<'a>(names: Option<&[&'a str]>) -> Result<(&'a str, &'a s
     ensures { map_ok (λ p. (p.0.now, p.1.now)) result ≡ two_names (names_in names.entry) }
 {
     match names {
-        Some([name, key]) => Ok((name, key)),
+        Some([first, second]) => Ok((first, second)),
         _ => Err(Usage::Names),
     }
 }

@@ -19,7 +19,7 @@ fn stray_option(letter: Letter, line: &Line<'_, '_>) -> Option<char>
     let (takes_map, takes_number, takes_making) = match letter {
         Letter::Query => (true, true, false),
         Letter::Dump | Letter::List => (true, false, false),
-        Letter::Stats | Letter::Check => (false, false, false),
+        Letter::Stats | Letter::Check | Letter::Difference => (false, false, false),
         Letter::Create => (true, false, true),
     };
     if flags.map && !takes_map {

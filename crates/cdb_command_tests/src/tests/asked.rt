@@ -31,7 +31,7 @@ fn creates(
 }
 
 /// Lines, and the commands that they ask for.
-const READ: [(&str, &str); 11] = [
+const READ: [(&str, &str); 13] = [
     ("-h -q -d", "Help"),
     (
         "-q x -- -k",
@@ -61,6 +61,14 @@ const READ: [(&str, &str); 11] = [
     ),
     ("-s -", "Stats { name: None, wide: false }"),
     ("-Wk x", "Check { name: Some(\"x\"), wide: true }"),
+    (
+        "-D x y",
+        "Difference { old: \"x\", new: \"y\", wide: false }",
+    ),
+    (
+        "- x -WDD",
+        "Difference { old: \"-\", new: \"x\", wide: true }",
+    ),
 ];
 
 #[test]

@@ -14,7 +14,7 @@ fn is_refused(alloc: Global, line: &str, fault: &Usage) -> Result<bool, AllocErr
 }
 
 /// Lines, and their faults.
-const REFUSED: [(&str, Usage); 42] = [
+const REFUSED: [(&str, Usage); 52] = [
     ("", Usage::NoCommand),
     ("x", Usage::NoCommand),
     ("-q -d x", Usage::TwoCommands),
@@ -36,6 +36,16 @@ const REFUSED: [(&str, Usage); 42] = [
     ("-q x k z", Usage::Names),
     ("-d x y", Usage::Names),
     ("-k x y", Usage::Names),
+    ("-D -q x y", Usage::TwoCommands),
+    ("-Dc x y", Usage::TwoCommands),
+    ("-D -m x y", Usage::Option('m')),
+    ("-D -n 1 x y", Usage::Option('n')),
+    ("-D -t z x y", Usage::Option('t')),
+    ("-D -weru x y", Usage::Option('w')),
+    ("-D -b z x y", Usage::Option('b')),
+    ("-D", Usage::Names),
+    ("-D x", Usage::Names),
+    ("-D x y z", Usage::Names),
     ("-c -r -u", Usage::Names),
     ("-c -r -u x", Usage::Both),
     ("-W", Usage::NoCommand),

@@ -10,6 +10,7 @@ const TEXT: &str = "usage: cdb -q [-W] [-m] [-n number] database key
        cdb -s [-W] [database]
        cdb -c [-W] [-m] [-t temporary] [-b base] [-weru] database [input ...]
        cdb -k [-W] [database]
+       cdb -D [-W] old new
        cdb -h
 ";
 

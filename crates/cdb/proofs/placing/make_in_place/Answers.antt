@@ -21,6 +21,7 @@ returns g c =
           made = made;
           last = last;
           is_last = refl;
+          alone = refl;
           run = c.build-store.ensures.tells;
           cause = c.build-store.ensures.fails;
           syncs = c.synced-answer.ensures;
