@@ -129,8 +129,10 @@ def large_pairs():
             ("one byte more", value + b"?"),
             ("one byte less", value[:-1]),
         ):
-            pairs[f"a value of {size} bytes and {what}"] = ([*small[:9], (b"long", value)], [(b"long", other), *small[:9]])
-        pairs[f"keys of {size} bytes"] = ([(value, b"1"), (value[:-1], b"2")], [(value, b"1"), (value[:-1] + b"?", b"2")])
+            old, new = [*small[:9], (b"long", value)], [(b"long", other), *small[:9]]
+            pairs[f"a value of {size} bytes and {what}"] = (old, new)
+        old, new = [(value, b"1"), (value[:-1], b"2")], [(value, b"1"), (value[:-1] + b"?", b"2")]
+        pairs[f"keys of {size} bytes"] = (old, new)
     return pairs
 
 
