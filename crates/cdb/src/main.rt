@@ -27,7 +27,7 @@ use std::os::fd::AsRawFd;
 use std::process::ExitCode;
 
 /// How many bytes of lines on standard error are held before they are written. A line that finds room
-/// is written at once, so that no other program's line comes between.
+/// there is part of one write, so that no other program's line comes between.
 const LINES: usize = 4096;
 
 /// The device that takes all and gives nothing.

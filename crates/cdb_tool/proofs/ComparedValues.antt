@@ -1,5 +1,5 @@
 -- Values of two files that are compared, one by one.
-use Rattle.std.proofs.Common.{◌≡◌, ◌≢◌, ℕ, ◌+◌, ◌≤◌, Bool, true, false, List, [], ◌∷◌, ◌++◌, map, refl, sym, ap, ◌∙◌, arith}
+use Rattle.std.proofs.Common.{◌≡◌, ◌≢◌, ℕ, ◌+◌, ◌≤◌, Bool, true, false, List, [], ◌∷◌, ◌++◌, map, refl, sym, ap, ◌∙◌}
 use Rattle.std.specs.Prelude.{◌&&◌, bytes_eq}
 use Rattle.std.proofs.lemmas.Slice.Eq.{bytes_eq-Decides}
 use Rattle.std.proofs.lemmas.Bool.{and_left}
@@ -10,13 +10,10 @@ use Rattle.cdb_store.specs.declared.store.Store.{Ghosts}
 use Rattle.cdb_form.specs.declared.width.Width.{Ghosts as Widths}
 use Rattle.cdb_read.specs.Difference.{values_eq}
 use Rattle.cdb_read.specs.Lookup.{Found, bytes_of, nothing_found, with_span}
-use Rattle.cdb_read.specs.Views.Finder.{left_in, GivesSpan, FindingFails}
+use Rattle.cdb_read.specs.Views.Finder.{left_in, GivesSpan}
 use Rattle.cdb_read.specs.Views.Search.{found_ahead}
-use Rattle.cdb_read.specs.declared.fault.ReadFault.{ReadFault}
-use Rattle.cdb_read.specs.declared.fault.ReadFault.TheVariants.{Short, Table, Record, Slot, Twice, Unindexed, Device, NoMemory, Output}
 use Rattle.cdb_read.specs.declared.lookup.finder.Finder.{Finder}
 use Rattle.cdb_read.specs.declared.span.Span.{Span}
-use Rattle.cdb_tool.specs.Views.Comparing.{LeftStops}
 
 -- ---- the bytes of two values
 
@@ -37,9 +34,6 @@ values_in b spans = map (bytes_of b) spans
 -- whether the values are the same is whether those are that are left
 pub record Compared (b c : List ℕ) (first value : Span) (all left all_others others : Found) : Type 0 where
   pub same : values_eq (values_in b (first ∷ all.spans)) (values_in c all_others.spans) ≡ values_eq (values_in b (value ∷ left.spans)) (values_in c others.spans)
-
-pub compared_none : (b c : List ℕ) (first : Span) (all all_others : Found) → Compared b c first first all all all_others all_others
-compared_none b c first all all_others = record { same = refl }
 
 -- both have one more, and they are the same
 one_same : (b c : List ℕ) (value with : Span) (us vs : List (List ℕ)) → bytes_of b value ≡ bytes_of c with → values_eq (bytes_of b value ∷ us) (bytes_of c with ∷ vs) ≡ values_eq us vs
@@ -93,9 +87,6 @@ some_left c left rest span some = sym (ap (λ (f : Found). values_eq [] (values_
 pub record SameDamage {S L : Type 0} {s : Ghosts S} {l : Widths L} (w : ℕ) (old new : Finder S L s l) : Type 0 where
   pub each : (b : List ℕ) → s.image new.reader.now.store b → (left_in w b old).damage ≡ (left_in w b new).damage
 
-pub damage_none : {S L : Type 0} {s : Ghosts S} {l : Widths L} (w : ℕ) (t : Finder S L s l) → SameDamage w t t
-damage_none w t = record { each = λ b is. refl }
-
 pub damage_next : {S L : Type 0} {s : Ghosts S} {l : Widths L} (w : ℕ) (old t u : Finder S L s l) (span : Span) → SameDamage w old t → OnlyReads s t.reader.now.store u.reader.now.store → GivesSpan w t u span → SameDamage w old u
 damage_next w old t u span h reads gives = record { each = λ b is. h.each b (reads.images b is) ∙ ap (λ (f : Found). f.damage) (gives.first b is) }
 
@@ -105,15 +96,3 @@ left_stays w b t u same stays = ap (λ k. found_ahead w b k u.searching) same �
 
 pub damage_still : {S L : Type 0} {s : Ghosts S} {l : Widths L} (w : ℕ) (old t u : Finder S L s l) → SameDamage w old t → OnlyReads s t.reader.now.store u.reader.now.store → u.key.now ≡ t.key.now → u.searching ≡ t.searching → SameDamage w old u
 damage_still w old t u h reads same stays = record { each = λ b is. h.each b (reads.images b is) ∙ ap (λ (f : Found). f.damage) (sym (left_stays w b t u same stays)) }
-
--- why the next value was not given
-pub next_stops : {S L : Type 0} {s : Ghosts S} {l : Widths L} (w : ℕ) (old t u : Finder S L s l) (f : ReadFault) → SameDamage w old t → OnlyReads s old.reader.now.store t.reader.now.store → OnlyReads s t.reader.now.store u.reader.now.store → FindingFails w t u f → LeftStops w old u f
-next_stops w old t u Device h before reads fails = let p = before.failures in let q = fails.1 in omega (arith, p, q)
-next_stops w old t u (Table n) h before reads fails = λ b is. h.each b (reads.images b is) ∙ ap (λ (f : Found). f.damage) (fails.1 b is)
-next_stops w old t u (Record place) h before reads fails = λ b is. h.each b (reads.images b is) ∙ ap (λ (f : Found). f.damage) (fails.1 b is)
-next_stops w old t u Short h before reads fails = absurd fails
-next_stops w old t u (Slot n i) h before reads fails = absurd fails
-next_stops w old t u (Twice place) h before reads fails = absurd fails
-next_stops w old t u (Unindexed place) h before reads fails = absurd fails
-next_stops w old t u NoMemory h before reads fails = absurd fails
-next_stops w old t u Output h before reads fails = absurd fails

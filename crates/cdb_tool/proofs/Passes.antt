@@ -1,5 +1,5 @@
 -- What a pass over a file, beside another, has said so far.
-use Rattle.std.proofs.Common.{◌≡◌, ℕ, ◌+◌, ◌<◌, ◌≤◌, Bool, true, false, cond, List, [], ◌∷◌, ◌++◌, length, map, flat_map, refl, sym, ap, ◌∙◌, append_assoc, arith, inl, inr, Option, Some}
+use Rattle.std.proofs.Common.{◌≡◌, ℕ, ◌+◌, ◌<◌, ◌≤◌, Bool, true, false, cond, List, [], ◌∷◌, ◌++◌, length, map, flat_map, refl, sym, ap, ◌∙◌, append_assoc, arith, inl, inr, Option}
 use Rattle.std.specs.Prelude.{◌&&◌, not, bytes_eq, filter, sum_by}
 use Rattle.std.specs.Io.KnownBytes.{Appends}
 use Rattle.std.proofs.lemmas.Slice.Eq.{bytes_eq-Decides}
@@ -10,10 +10,9 @@ use Rattle.std.proofs.lemmas.List.Elements.{filter-append}
 use Rattle.std.proofs.lemmas.List.Sums.{sum_by-append, sum_by-cons}
 use Rattle.cdb_form.specs.Format.Pair.{head_size, pair_size}
 use Rattle.cdb_form.specs.Format.Record.{KeyValue, record_size}
-use Rattle.cdb_form.specs.Format.Walk.{Walked, no_walk, damaged, walk_of, with_first, with_records}
+use Rattle.cdb_form.specs.Format.Walk.{Walked, no_walk, walk_of, with_first, with_records}
 use Rattle.cdb_form.specs.Text.Amending.{Change, Putting, change_line}
 use Rattle.cdb_form.specs.Views.KnownBytes.{AppendsPrefix}
-use Rattle.cdb_form.specs.declared.damage.Damage.{Damage}
 use Rattle.cdb_form.specs.declared.change.ChangeKind.{ChangeKind}
 use Rattle.cdb_form.specs.declared.change.ChangeKind.TheVariants as kind
 use Rattle.cdb_form.proofs.Bytes.WritingLemmas.{prefix_in, prefix_last}
@@ -156,10 +155,6 @@ pass_all w kind b c left place changes start now h none written =
       written = written;
       are = λ one two. h.are one two ∙ ap (said_of kind w b c) same;
     }
-
--- a damage is left
-pub pass_damage : (w : ℕ) (kind : ChangeKind) (b c : List ℕ) (left : Walked) (place : ℕ) (changes : List Change) (damage : Damage) → PassList w kind b c left place changes → left ≡ damaged damage → (walk_of w b).damage ≡ Some damage
-pass_damage w kind b c left place changes damage h is = ap (λ (x : Walked). x.damage) (h.all ∙ ap (with_records h.done) is)
 
 -- the changes so far were written, and of those of one key more a prefix
 pub pass_prefix : (w : ℕ) (kind : ChangeKind) (b c : List ℕ) (left : Walked) (place : ℕ) (changes said : List Change) (start mid now : Option (List ℕ)) → PassList w kind b c left place (changes ++ said) → Appends start mid (changes_text changes) → AppendsPrefix mid now (changes_text said) → WritesPassPrefix w kind b c start now

@@ -70,11 +70,6 @@ pub put_all : {S L : Type 0} {s : Ghosts S} {l : Widths L} (w : ℕ) (key : List
 put_all w key old t u start now b h is none =
     subst (Appends start now) (sym (puts_are w key old t h.spans b h.found is ∙ ap (λ (f : Found). put_text b key h.spans ++ put_text b key f.spans) none ∙ append-nil (put_text b key h.spans))) (h.written b is)
 
--- the next was not given
-pub put_some : {S L : Type 0} {s : Ghosts S} {l : Widths L} (w : ℕ) (key : List ℕ) (old : S) (t : Finder S L s l) (start now : Option (List ℕ)) (b : List ℕ) → PutSoFar w key old t start now → s.image t.reader.now.store b → AppendsPrefix start now (changes_text (changes_at Put w b key))
-put_some w key old t start now b h is =
-    record { front = put_text b key h.spans; more = put_text b key (left_in w b t).spans; split = puts_are w key old t h.spans b h.found is; appended = h.written b is }
-
 -- the next was not put whole
 pub put_part : {S L : Type 0} {s : Ghosts S} {l : Widths L} (w : ℕ) (key : List ℕ) (old : S) (u : Finder S L s l) (start mid now : Option (List ℕ)) (spans : List Span) (span : Span) (b : List ℕ) → FoundSoFar w (λ b. lookup_of w b key) old u (spans ++ span ∷ []) → s.image u.reader.now.store b
     → Appends start mid (put_text b key spans) → AppendsPrefix mid now (spelling_of (record_of key (bytes_of b span))) → AppendsPrefix start now (changes_text (changes_at Put w b key))

@@ -23,11 +23,15 @@ pub(crate) struct Directory {
     ghost short: { shift < 64 },
 }
 
-/// The first place of each bucket.
+/// The first place of each bucket. Without places there are no buckets.
 fn firsts_of(alloc: Global, places: &[u64], shift: u32) -> Result<Vec<usize>, AllocError>
     requires { shift < 64 }
 {
     let mut firsts = Vec::new(alloc);
+    if places.is_empty() {
+        return Ok(firsts);
+    }
+    firsts.reserve(places.len() / 2 + 3)?;
     for k in 0..places.len() {
         let buckets = ((places[k] >> shift) as usize).saturating_add(1);
         if firsts.len() < buckets {
