@@ -91,29 +91,6 @@ pub(crate) fn slot_at<S: Store, L: Width>(
     Ok(read_slot::<L>(window.shown(place, slot_size)))
 }
 
-/// A slot of a table. If the window lacks it, the store is read up to it: the slots before it too.
-pub(crate) fn slot_before<S: Store, L: Width>(
-    store: &mut S,
-    table: Pointer,
-    n: u64,
-    window: &mut Window,
-) -> Result<Slot, ReadFault>
-    requires inside { table.place + pair_size L.WORD * table.slots ≤ S.size store.old }
-    requires slot { n < table.slots }
-    requires fits { S.size store.old < 2 ^ 64 }
-    requires shows { Shows window.old (S.image store.old) }
-    ensures shows { Shows window.new (S.image store.new) }
-    ensures read { (b : List ℕ) → S.image store.new b → IfOk result (λ slot.
-        slot_pair slot ≡ pair_at L.WORD (drop (table.place + pair_size L.WORD * n) b)) }
-    ensures reads { OnlyReads S.Store store.old store.new }
-    ensures fails { IfErr result (StoreFails S.Store store.old store.new) }
-{
-    let slot_size = pair_size::<L>();
-    let place = table.place + slot_size as u64 * n;
-    window.cover_back(store, place, slot_size, table.place)?;
-    Ok(read_slot::<L>(window.shown(place, slot_size)))
-}
-
 /// Counts the used slots of a table. Many are read at once.
 fn count_table<S: Store, L: Width>(
     store: &mut S,

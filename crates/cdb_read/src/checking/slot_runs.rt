@@ -11,9 +11,9 @@ ghost use Rattle.cdb_read.specs.Views.Reads.{StoreFails};
 ghost use Rattle.cdb_read.specs.Views.Window.{Shows};
 
 use crate::fault::ReadFault;
-use crate::tables::slot_before;
-use crate::window::Window;
-use cdb_form::{Pointer, Slot, Width};
+use crate::tables::slot_at;
+use crate::window::{WINDOW, Window};
+use cdb_form::{Pointer, Slot, Width, pair_size};
 use cdb_store::Store;
 
 /// How many used slots in a row end some slots, if so many end those before the last.
@@ -42,8 +42,12 @@ pub(crate) fn last_run<S: Store, L: Width>(
     ensures reads { OnlyReads S.Store store.old store.new }
     ensures fails { IfErr result (StoreFails S.Store store.old store.new) }
 {
+    let slot_size = pair_size::<L>();
     for run in 0..table.slots {
-        let slot = slot_before::<S, L>(store, table, table.slots - 1 - run, window)?;
+        let i = table.slots - 1 - run;
+        let place = table.place + slot_size as u64 * i;
+        window.cover_back(store, place, slot_size, table.place)?;
+        let slot = slot_at::<S, L>(store, table, i, window, WINDOW)?;
         if slot.place == 0 {
             return Ok(run);
         }

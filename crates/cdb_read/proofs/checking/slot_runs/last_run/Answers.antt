@@ -1,4 +1,4 @@
-use Rattle.std.proofs.Common.{◌≡◌, ◌+◌, ◌-◌, ◌∙◌, ap, sym, arith, refl, take}
+use Rattle.std.proofs.Common.{◌≡◌, ◌+◌, ◌-◌, ◌∙◌, ap, arith, refl, take}
 use Rattle.std.proofs.lemmas.Bool.{eq-eqb, ne_eqb, not_from_true, not_from_false}
 use Rattle.cdb_form.specs.Views.Pairs.{pointer_pair, slot_pair}
 use Rattle.cdb_read.specs.Lookup.{slots_at}
@@ -27,7 +27,7 @@ returns-then-slot-eq0-clause-run g c = λ b is.
     let none : run_of (take (c.args.table.slots - c.loop-run.run) (slots_at w b p)) ≡ 0 =
     ap (λ n. run_of (take n (slots_at w b p))) next ∙ ap run_of (slots_more w b p i s (omega (arith, c.loop-run-test.true)) here)
     ∙ run_of-unused (take i (slots_at w b p)) s (not_from_true _ (eq-eqb c.in_ok-slot.slot.place 0 c.if-slot-eq0.true)) in
-    let all = c.loop-run.invariant.run b (c.slot_before.ensures.reads.images b is) in
+    let all = c.loop-run.invariant.run b (c.cover_back.ensures.reads.images b (c.slot_at.ensures.reads.images b is)) in
     omega arith
 
 pub loop-run-preserved : goal.loop-run-preserved
@@ -38,8 +38,8 @@ loop-run-preserved g c =
     let i = c.args.table.slots - 1 - c.loop-run.run in
     let next : c.args.table.slots - c.loop-run.run ≡ i + 1 = omega (arith, c.loop-run-test.true) in
     record {
-      shows = c.slot_before.ensures.shows;
-      reads = reads_more c.loop-run.invariant.reads c.slot_before.ensures.reads;
+      shows = c.slot_at.ensures.shows;
+      reads = reads_more (reads_more c.loop-run.invariant.reads c.cover_back.ensures.reads) c.slot_at.ensures.reads;
       run = λ b is.
           let here = slot_read w b p i s (omega (arith, c.loop-run-test.true)) (c.in_ok-slot.ensures.read b is) in
           let more : run_of (take (c.args.table.slots - c.loop-run.run) (slots_at w b p)) ≡ run_of (take i (slots_at w b p)) + 1 =
@@ -47,7 +47,7 @@ loop-run-preserved g c =
           ∙ run_of-used (take i (slots_at w b p)) s (not_from_false _ (ne_eqb c.in_ok-slot.slot.place 0 c.if-slot-eq0.false)) in
           let less : run_of (take (c.args.table.slots - (c.loop-run.run + 1)) (slots_at w b p)) ≡ run_of (take i (slots_at w b p)) =
           (let down : c.args.table.slots - (c.loop-run.run + 1) ≡ i = omega arith in ap (λ n. run_of (take n (slots_at w b p))) down) in
-          let all = c.loop-run.invariant.run b (c.slot_before.ensures.reads.images b is) in
+          let all = c.loop-run.invariant.run b (c.cover_back.ensures.reads.images b (c.slot_at.ensures.reads.images b is)) in
           omega arith;
     }
 
