@@ -831,17 +831,20 @@ CASES = {
     "an old database with a cut head": compares(TWO_FILE[:2047], TWO_FILE, b"", of_old(SHORT)),
     "a new database with a cut head": compares(TWO_FILE, TWO_FILE[:2047], b"", of_new(SHORT)),
     "both have a cut head": compares(b"", b"", b"", of_old(SHORT)),
-    "an old database that is cut": compares(TWO_FILE[:2070], TWO_FILE, b"", of_old(outside(129))),
-    "a new database that is cut": compares(TWO_FILE, TWO_FILE[:2070], b"", of_new(outside(129))),
-    "a removal before a damage": compares(
-        two_with(2068, b"\x08"), EMPTY_FILE, b"-3:one\n", of_old(not_whole(2064))
+    "an old database that is cut": compares(TWO_FILE[:2070], TWO_FILE, b"", of_old(not_whole(2064))),
+    "a new database that is cut": compares(TWO_FILE, TWO_FILE[:2070], b"", of_new(not_whole(2064))),
+    # Both files are walked to their ends before anything is written.
+    "a damage after a removed key": compares(
+        two_with(2068, b"\x08"), EMPTY_FILE, b"", of_old(not_whole(2064))
     ),
-    "a record before a damage": compares(
-        EMPTY_FILE, two_with(2068, b"\x08"), FIRST_TEXT, of_new(not_whole(2064))
+    "a damage after a new key": compares(
+        EMPTY_FILE, two_with(2068, b"\x08"), b"", of_new(not_whole(2064))
     ),
-    "a new database with a wrong slot": compares(
-        TWO_FILE, two_with(2086, b"\x11"), b"", of_new(not_whole(2065))
+    # A key is looked up only if its values may differ.
+    "a wrong slot of a new key": compares(
+        ONE_FILE, two_with(2086, b"\x11"), b"", of_new(not_whole(2065))
     ),
+    "a wrong slot of a key that stays": compares(TWO_FILE, two_with(2086, b"\x11"), b"\n"),
     "an old database with a table in the head": compares(
         two_with(0, words(100, 1)), TWO_FILE, b"", of_old(outside(0))
     ),

@@ -5,7 +5,8 @@
 
 The model is a plain list of records. Each amended database is compared with one that is made here of the
 records that survive, and what changed between it and the new one must be nothing. After the drawn cases come
-values of several pieces and of many records, and then each byte of a small database is changed in turn.
+values of several pieces and of many records, lists of which whole parts moved, and then each byte of a small
+database is changed in turn, and each of its prefixes compared.
 """
 
 import os
@@ -21,6 +22,7 @@ CASES = 5000
 PIECE = 4096
 WINDOW = 65536
 NOTHING = b"\n"
+HOW = ["add", "remove", "move", "swap", "set", "turn", "cut", "front"]
 
 
 def values_of(records, key):
@@ -47,7 +49,17 @@ def altered(chosen, records):
         return drawn(chosen, 8)
     records = list(records)
     for _ in range(chosen.randint(0, 3)):
-        how, place = chosen.choice(["add", "remove", "move", "swap", "set"]), chosen.randint(0, len(records))
+        how, place = chosen.choice(HOW), chosen.randint(0, len(records))
+        if how == "turn":
+            # What is before the place comes last.
+            records = records[place:] + records[:place]
+            continue
+        if how == "cut":
+            records = records[place // 2 :]
+            continue
+        if how == "front":
+            records[:0] = drawn(chosen, 3)
+            continue
         if how == "add" or place == len(records):
             records[place:place] = drawn(chosen, 1)
             continue
@@ -116,7 +128,25 @@ def drawn_case(folder, number):
 def large_pairs():
     """Pairs of large lists, each by a name."""
     small = [(b"k%d" % n, b"v" * (n % 90)) for n in range(3000)]
+    more = [(b"m%d" % n, b"v" * (n % 90)) for n in range(1500)]
+    mixed = list(small)
+    random.Random(0).shuffle(mixed)
     pairs = {
+        "more records at the start": (small, more + small),
+        "fewer records at the start": (more + small, small),
+        "more records amid the others": (small, small[:700] + more + small[700:]),
+        "fewer records amid the others": (small[:700] + more + small[700:], small),
+        "other records at the start": (more + small, [(b"o" + key, value) for key, value in more] + small),
+        "no record of the other": (more, small),
+        "two parts that changed places": (small, small[1700:] + small[:1700]),
+        "a part that is amid the others": (small, small[:300] + small[900:2500] + small[300:900] + small[2500:]),
+        "neighbours that changed places": (small, [small[n ^ 1] for n in range(3000)]),
+        "the last record first": (small, small[::-1]),
+        "records in no order": (small, mixed),
+        "records in no order, and others": (small, mixed[:2000] + more),
+        "every second record": (small, small[::2]),
+        "every second value": (small, [(key, value if n % 2 else b"?") for n, (key, value) in enumerate(small)]),
+        "each record twice": (small, [it for it in small for _ in range(2)]),
         "many records, of which some differ": (small, [*small[:1000], (b"k1000", b"other"), *small[1001:2500]]),
         "many values of a key": ([(b"a", b"%d" % n) for n in range(2000)], [(b"a", b"%d" % n) for n in range(1999)]),
     }
@@ -136,10 +166,14 @@ def large_pairs():
     return pairs
 
 
-def damaged_case(folder, is_old, place):
-    """Whether a database with one byte changed is compared, or is the one that is said to be damaged. What is
+def with_other_byte(place):
+    """The small database with one byte changed."""
+    return TWO_FILE[:place] + bytes([TWO_FILE[place] ^ 0x41]) + TWO_FILE[place + 1 :]
+
+
+def damaged_case(folder, is_old, file):
+    """Whether a database that may be damaged is compared, or is the one that is said to be damaged. What is
     written amends the old one, or it is a prefix of such a text."""
-    file = TWO_FILE[:place] + bytes([TWO_FILE[place] ^ 0x41]) + TWO_FILE[place + 1 :]
     folder.write("old", file if is_old else TWO_FILE)
     folder.write("new", TWO_FILE if is_old else file)
     status, text, lines = folder.run("-D", "old", "new")
@@ -158,7 +192,9 @@ def main():
         answers = [(f"drawn case {n}", drawn_case(folder, n)) for n in range(CASES)]
         answers += [(name, folder.compares(*pair)) for name, pair in large_pairs().items()]
         for is_old, which in ((True, "old"), (False, "new")):
-            answers += [(f"byte {n} of the {which} one", damaged_case(folder, is_old, n)) for n in range(len(TWO_FILE))]
+            for n in range(len(TWO_FILE)):
+                answers.append((f"byte {n} of the {which} one", damaged_case(folder, is_old, with_other_byte(n))))
+                answers.append((f"{n} bytes of the {which} one", damaged_case(folder, is_old, TWO_FILE[:n])))
     wrong = [name for name, is_right in answers if not is_right]
     for name in wrong[:20]:
         print(f"{name}: something else was written")

@@ -8,7 +8,7 @@ of a file or a folder, each name is one of the sources, each `make TARGET` a tar
 The page CALLING.md of a crate names each public item and function of its library, each function that
 it declares is one of the sources, and so is each clause that it quotes. Something else than a test
 calls each public item, or public_items.py says why it is there. docs/audit/PROMISES.md names each
-wrong body.
+wrong body. docs/audit/ORACLE.md shows each definition of the oracle as it reads.
 """
 
 import glob
@@ -22,6 +22,8 @@ from public_items import wrong_items
 from sources import TOP, sources_of, text_of
 
 PROMISES = "docs/audit/PROMISES.md"
+ORACLE = "docs/audit/ORACLE.md"
+ORACLE_SOURCES = ("crates/cdb/specs/Oracle.antt", "crates/cdb/src/steps.rt")
 # What is built or kept and no file of the repository; what stands for a name of the reader's own;
 # and words of other programs, of the system or of the checker's language.
 BUILT = re.compile(r"(bin|out|dist|crates/NAME|crates/\*)/")
@@ -157,6 +159,19 @@ def wrong_promises():
             yield f"{PROMISES}: the wrong body {name} is not named"
 
 
+def wrong_oracle():
+    """What the page of the oracle shows otherwise than the sources, and the definitions it leaves out."""
+    sources = "\n".join(text_of(it) for it in ORACLE_SOURCES)
+    shown = "".join(re.findall(r"^```text\n(.*?)^```", text_of(ORACLE), re.M | re.S))
+    known = {line.strip() for line in sources.split("\n")}
+    for line in shown.split("\n"):
+        if line.strip() not in known:
+            yield f"{ORACLE}: {line.strip()} is not in the sources"
+    for name in re.findall(r"^(?:abbrev pub|pub record) (\w+) :", sources, re.M):
+        if not re.search(rf"^(?:pub record )?{name}\b.*[=:]", shown, re.M):
+            yield f"{ORACLE}: {name} is not shown"
+
+
 def main():
     if len(sys.argv) != 1:
         sys.exit(__doc__)
@@ -174,7 +189,7 @@ def main():
         crate = path.split("/")[1]
         wrong += [*wrong_calling(crate, sources), *wrong_clauses(crate, made)]
         count += 1
-    wrong += [*wrong_promises(), *wrong_items()]
+    wrong += [*wrong_promises(), *wrong_oracle(), *wrong_items()]
     for it in wrong:
         print(it)
     failed = len({it.split(":")[0] for it in wrong})

@@ -43,6 +43,7 @@ TESTS = {
         "a_load_tells_refused_memory",
         "inputs_tell_refused_memory",
         "a_dump_tells_refused_memory",
+        "a_difference_tells_refused_memory",
         "an_adding_run_tells_refused_memory",
         "a_warning_run_tells_refused_memory",
         "an_inserting_run_tells_refused_memory",

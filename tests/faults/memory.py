@@ -78,7 +78,8 @@ BOUNDED = {
     "a check of many records": (of_file(words("-k"), MANY), 10_000, 4 * 13 * 20_000 + SMALL),
     "a load of a short database": (Command(["-s"], SHORT_VALUE), 200, SMALL),
     "a load of a long database": (Command(["-s"], LONG_VALUE), 200, 4 * LONG + SMALL),
-    "a create of many records": (Command(["-c", "x"], text_of(records(20_000))), 10_000, 4 * 24 * 20_000 + 2 * SMALL),
+    "a create of many records": (Command(["-c", "x"], text_of(records(300_000))), 10_000, 4 * 8 * 300_000 + SMALL),
+    "a create that looks for keys": (Command(["-cu", "x"], text_of(records(20_000))), 10_000, 4 * 20 * 20_000 + 2 * SMALL),
     "a create of many inputs": (Command(["-c", "x", *INPUTS], b"", dict.fromkeys(INPUTS, b"\n")), 10_000, WINDOW * len(INPUTS) + SMALL),
 }
 # A run that ends by a fault, one that goes on there, and the most bytes that it asks for behind it. A

@@ -60,7 +60,7 @@ pub of_contents : {F R T : Type 0} (contents : T → Option (List ℕ)) (f : Gho
     → Tells r (λ base before after images made. IsBufferedRun f m base images (contents before) (contents after) made) t n old new handed told said answer
     → Tells r (λ base before after images made. IsBufferedRun f m base images before after made) t n old new handed (contents told) (contents said) answer
 of_contents contents f r m t n old new handed told said answer (inl none) = inl (none.0, ap contents none.1, none.2, none.3, none.4)
-of_contents contents f r m t n old new handed told said answer (inr some) = inr (record { back = some.back; is_handed = some.is_handed; left = some.left; built = some.built; tells_so = some.tells_so; answers = some.answers; sealed = some.sealed; same = some.same; unsynced = some.unsynced; renamed = some.renamed })
+of_contents contents f r m t n old new handed told said answer (inr some) = inr (record { back = some.back; is_handed = some.is_handed; left = some.left; built = some.built; tells_so = some.tells_so; answers = some.answers; sealed = some.sealed; same = some.same; unsynced = some.unsynced; renamed = some.renamed; cleared = some.cleared })
 
 -- ---- a store that was flushed
 

@@ -1,2 +1,3 @@
 mod Databases
 mod Opens
+mod Oracles

@@ -230,7 +230,7 @@ pub record Replaces {F R : Type 0} (f : Ghosts F) (r : Raw R) (m : Making F)
       (IsRenamed temporary name new × LeavesNew name (BuiltWith (IsDatabase f m) handed) new)
   pub err : IfErr answer (EndsIn temporary name old new)
   pub build : IfErr answer (IsOfBuilder (FailsToBuild {file = r}
-      (λ store left fault. IsOfStore fault → failures_of store < failures_of left)))
+      (λ store left fault. IsOfStore fault → failures_of store < failures_of left) temporary new))
   pub lines : Tells r
       (λ base before after images made. IsBufferedRun f m base images before after made)
       temporary name old new handed told said answer

@@ -258,13 +258,14 @@ PerformsIn false s m r remaining y command input old new was now left start end 
 
 -- ---- the end of a command
 
--- what is written reaches the output, all of it if the command succeeds; an output that failed,
--- which is then left unwritten, is a fault if no other came
+-- what is written reaches the output, all of it if the command succeeds or the output did not fail; an
+-- output that failed, which is then left unwritten, is a fault if no other came
 pub record HandsOn (end final : Option (List ℕ)) (unwritten : Type 0)
     (answer result : Result Unit Fault) : Type 0 where
   pub held : List ℕ
   pub all : Keeps end (append_known final held)
   pub handed : OnOk result (held ≡ [])
+  pub taken : (held ≡ []) ⊎ unwritten
   pub answered : (result ≡ answer) ⊎ (IsOk answer × (result ≡ Err Output) × unwritten)
 
 -- the command was performed, and what it wrote was handed on

@@ -205,21 +205,21 @@ weaker_sure n now f leaves place leads before is first held may = weaker_new f h
 
 -- ---- the calls of a replacement
 
-removal : (t n : List ℕ) (whole : List ℕ → Type 0) (call : NameCall) → IsRemoval call
-    → IsOfReplacing t n whole (call, t, [], [])
-removal t n whole call (inl is) = subst (λ (g : NameCall). IsOfReplacing t n whole (g, t, [], [])) (sym is) refl
-removal t n whole call (inr is) = subst (λ (g : NameCall). IsOfReplacing t n whole (g, t, [], [])) (sym is) refl
+removal : (t n : List ℕ) (whole : List ℕ → Type 0) (file : Calls) (call : NameCall) → IsRemoval call
+    → IsOfReplacing t n whole (call, t, [], file)
+removal t n whole file call (inl is) = subst (λ (g : NameCall). IsOfReplacing t n whole (g, t, [], file)) (sym is) refl
+removal t n whole file call (inr is) = subst (λ (g : NameCall). IsOfReplacing t n whole (g, t, [], file)) (sym is) refl
 
-removal_guarded : (t n : List ℕ) (mid : NameCalls) (call : NameCall) → IsRemoval call → MayRemove t n mid
-    → IsGuarded n (call, t, [], []) mid
-removal_guarded t n mid call (inl is) may = subst (λ (g : NameCall). IsGuarded n (g, t, [], []) mid) (sym is) may
-removal_guarded t n mid call (inr is) may = subst (λ (g : NameCall). IsGuarded n (g, t, [], []) mid) (sym is) may
+removal_guarded : (t n : List ℕ) (mid : NameCalls) (file : Calls) (call : NameCall) → IsRemoval call → MayRemove t n mid
+    → IsGuarded n (call, t, [], file) mid
+removal_guarded t n mid file call (inl is) may = subst (λ (g : NameCall). IsGuarded n (g, t, [], file) mid) (sym is) may
+removal_guarded t n mid file call (inr is) may = subst (λ (g : NameCall). IsGuarded n (g, t, [], file) mid) (sym is) may
 
 -- the name was taken from a file
-pub cleared : {t n : List ℕ} {whole : List ℕ → Type 0} {old mid : NameCalls} (new : NameCalls)
-    → AreSteps t n whole old mid → MayRemove t n mid → IsCleared t mid new → AreSteps t n whole old new
-cleared {t = t} {n = n} {whole = whole} {mid = mid} new are may is =
-    step new (is.0, t, [], []) are is.2 (removal t n whole is.0 is.1) (removal_guarded t n mid is.0 is.1 may)
+pub cleared : {t n : List ℕ} {whole : List ℕ → Type 0} {file : Calls} {old mid : NameCalls} (new : NameCalls)
+    → AreSteps t n whole old mid → MayRemove t n mid → IsCleared t file mid new → AreSteps t n whole old new
+cleared {t = t} {n = n} {whole = whole} {file = file} {mid = mid} new are may is =
+    step new (is.0, t, [], file) are is.2 (removal t n whole file is.0 is.1) (removal_guarded t n mid file is.0 is.1 may)
 
 pub synced : {t n : List ℕ} {whole : List ℕ → Type 0} {old mid : NameCalls} (new : NameCalls) (r : Bool)
     → AreSteps t n whole old mid → new ≡ (cond r Synced NotSynced, n, [], []) ∷ mid → AreSteps t n whole old new

@@ -18,10 +18,10 @@ NameCalls = List (NameCall × List ℕ × List ℕ × Calls)
 abbrev pub IsRemoval : NameCall → Type 0
 IsRemoval call = (call ≡ Removed) ⊎ (call ≡ NotRemoved)
 
--- the last call was to take a name from its file
-abbrev pub IsCleared : (name : List ℕ) (before calls : NameCalls) → Type 0
-IsCleared name before calls =
-    (gone : NameCall) × IsRemoval gone × (calls ≡ (gone, name, [], []) ∷ before)
+-- the last call was to take a name from the file on which these calls were made
+abbrev pub IsCleared : (name : List ℕ) (file : Calls) (before calls : NameCalls) → Type 0
+IsCleared name file before calls =
+    (gone : NameCall) × IsRemoval gone × (calls ≡ (gone, name, [], file) ∷ before)
 
 -- what a crash leaves of a file of this length: its bytes, if it was synced after its last change,
 -- and else any

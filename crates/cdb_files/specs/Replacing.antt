@@ -1,6 +1,6 @@
 -- What a replacement of a file does to its name.
 use Rattle.std.specs.Prelude.{◌≡◌, ◌≢◌, ℕ, ◌+◌, ◌<◌, ◌⊎◌, Bool, true, false, List, [], ◌∷◌, ◌++◌, Option}
-use Rattle.std.specs.Prelude.{None, Some, Result, Ok, Err, OnOk}
+use Rattle.std.specs.Prelude.{None, Some, Result, Ok, Err, OnOk, OnErr}
 use Rattle.std.specs.List.{AllByRecursion}
 use Rattle.cdb_store.specs.Calls.{Calls, IsSynced, FileImage}
 use Rattle.cdb_store.specs.FileStore.{calls_of, failures_of, images_of}
@@ -102,21 +102,35 @@ IsNoName name = (name ≡ []) ⊎ ((front : List ℕ) × (name ≡ front ++ 47 �
 -- the rename failed so, and the temporary name was to be taken from the file then
 abbrev pub FailsRename : (temporary name : List ℕ) → NameCalls → NameFault → Type 0
 FailsRename temporary name calls fault = (len : ℕ) × (file : Calls) × (before : NameCalls)
-    × IsCleared temporary ((NotRenamed len fault, temporary, name, file) ∷ before) calls
+    × IsCleared temporary file ((NotRenamed len fault, temporary, name, file) ∷ before) calls
+
+-- the last call was to take a name from its file
+abbrev pub HasCleared : (name : List ℕ) (before calls : NameCalls) → Type 0
+HasCleared name before calls = (file : Calls) × IsCleared name file before calls
+
+-- or from the file on which these calls were made
+abbrev pub ClearsFile : (name : List ℕ) (file : Calls) (calls : NameCalls) → Type 0
+ClearsFile name file calls = (before : NameCalls) × IsCleared name file before calls
+
+-- or a look found that nothing has the name
+abbrev pub IsFree : (name : List ℕ) → NameCalls → Type 0
+IsFree name calls = (before : NameCalls)
+    × ((calls ≡ (Looked found.Nothing, name, [], []) ∷ before) ⊎ HasCleared name before calls)
 
 -- an answer at which nothing was made: the system did not say what a name has; or the two names are
 -- of one file; or the temporary name has no regular file, or one that cannot be opened or that
--- another process holds; or no file could be made there
-abbrev pub IsStop : (temporary name : List ℕ) → NameEvent → Type 0
-IsStop temporary name (Special answer.Unknown, one, other, file) = one ≡ name
-IsStop temporary name (Same answer.Yes, one, two, file) = (one ≡ temporary) × (two ≡ name)
-IsStop temporary name (Same answer.Unknown, one, two, file) = (one ≡ temporary) × (two ≡ name)
-IsStop temporary name (Looked found.Other, one, other, file) = one ≡ temporary
-IsStop temporary name (Looked found.Unknown, one, other, file) = one ≡ temporary
-IsStop temporary name (NotOpened name_fault.Failed, one, other, file) = one ≡ temporary
-IsStop temporary name (Locked locking.Held, one, other, file) = one ≡ temporary
-IsStop temporary name (NotMade name_fault.Failed, one, other, file) = one ≡ temporary
-IsStop temporary name (call, one, other, file) = ⊥
+-- another process holds; or no file could be made there, once the name was free
+abbrev pub IsStop : (temporary name : List ℕ) → NameEvent → (before : NameCalls) → Type 0
+IsStop temporary name (Special answer.Unknown, one, other, file) before = one ≡ name
+IsStop temporary name (Same answer.Yes, one, two, file) before = (one ≡ temporary) × (two ≡ name)
+IsStop temporary name (Same answer.Unknown, one, two, file) before = (one ≡ temporary) × (two ≡ name)
+IsStop temporary name (Looked found.Other, one, other, file) before = one ≡ temporary
+IsStop temporary name (Looked found.Unknown, one, other, file) before = one ≡ temporary
+IsStop temporary name (NotOpened name_fault.Failed, one, other, file) before = one ≡ temporary
+IsStop temporary name (Locked locking.Held, one, other, file) before = one ≡ temporary
+IsStop temporary name (NotMade name_fault.Failed, one, other, file) before =
+    (one ≡ temporary) × IsFree temporary before
+IsStop temporary name (call, one, other, file) before = ⊥
 
 -- an answer at which the file that was made is removed again: the temporary name was not seen to have
 -- it, or not seen to be of another file than the name
@@ -127,17 +141,18 @@ IsUndone temporary name (Same answer.Yes, one, two, file) = (one ≡ temporary) 
 IsUndone temporary name (Same answer.Unknown, one, two, file) = (one ≡ temporary) × (two ≡ name)
 IsUndone temporary name (call, one, other, file) = ⊥
 
--- no file was made, or it was removed again
+-- no file was made, or it was removed again, empty as it was
 abbrev pub StopsMaking : (temporary name : List ℕ) → NameCalls → Type 0
 StopsMaking temporary name calls = (stop : NameEvent) × (before : NameCalls)
-    × ((IsStop temporary name stop × (calls ≡ stop ∷ before))
-    ⊎ (IsUndone temporary name stop × IsCleared temporary (stop ∷ before) calls))
+    × ((IsStop temporary name stop before × (calls ≡ stop ∷ before))
+    ⊎ (IsUndone temporary name stop
+    × IsCleared temporary ((file_call.Made, []) ∷ []) (stop ∷ before) calls))
 
 -- the system had no memory for the temporary file
 abbrev pub LacksMemory : (temporary : List ℕ) → NameCalls → Type 0
 LacksMemory temporary calls = (before : NameCalls)
     × ((calls ≡ (NotOpened name_fault.NoMemory, temporary, [], []) ∷ before)
-    ⊎ (calls ≡ (NotMade name_fault.NoMemory, temporary, [], []) ∷ before))
+    ⊎ ((calls ≡ (NotMade name_fault.NoMemory, temporary, [], []) ∷ before) × IsFree temporary before))
 
 -- which calls end in this fault once the names were seen
 abbrev pub StopsAt : {E : Type 0} → (temporary name : List ℕ) → NameCalls → ReplaceFault E → Type 0
@@ -178,9 +193,10 @@ EndsBuilt temporary name new NoMemory = FailsRename temporary name new name_faul
 EndsBuilt temporary name new Rename = FailsRename temporary name new name_fault.Failed
 EndsBuilt temporary name new Open =
     (stop : NameEvent) × (before : NameCalls) × LacksBits temporary name stop
-    × IsCleared temporary (stop ∷ before) new
-EndsBuilt temporary name new Write = (before : NameCalls) × IsCleared temporary before new
-EndsBuilt temporary name new (Build fault) = (before : NameCalls) × IsCleared temporary before new
+    × HasCleared temporary (stop ∷ before) new
+EndsBuilt temporary name new Write = (before : NameCalls) × HasCleared temporary before new
+EndsBuilt temporary name new (Build fault) =
+    (before : NameCalls) × HasCleared temporary before new
 
 -- which calls end in this fault
 abbrev pub EndsIn : {E : Type 0} → (temporary name : List ℕ) (old new : NameCalls)
@@ -263,13 +279,16 @@ LeavesNew name whole now = (place : List ℕ → Bool) → place name ≡ true
     → (before : NameCalls) → now ≡ (Synced, name, [], []) ∷ before
     → (first held : Option (List ℕ)) → MayHave place first now held → IsNew whole held
 
--- a builder failed so in a file that was just made
+-- a builder failed so in a file that was just made, and left the one from which the temporary name
+-- was to be taken then
 pub record FailsToBuild {F : Type 0} {file : Raw F} {E : Type 0}
-    (fails : FileStore F file → FileStore F file → E → Type 0) (fault : E) : Type 0 where
+    (fails : FileStore F file → FileStore F file → E → Type 0) (temporary : List ℕ)
+    (calls : NameCalls) (fault : E) : Type 0 where
   pub empty : FileStore F file
   pub left : FileStore F file
   pub made : calls_of empty ≡ (file_call.Made, []) ∷ []
   pub why : fails empty left fault
+  pub cleared : ClearsFile temporary (calls_of left) calls
 
 -- the fault of a replacement is that of its builder
 abbrev pub IsOfBuilder : {E : Type 0} → (E → Type 0) → ReplaceFault E → Type 0
@@ -288,7 +307,8 @@ Answers (Ok done) (Err fault) = IsOfBuilder (λ _. ⊥) fault
 Answers (Err fault) result = result ≡ Err (Build fault)
 
 -- a builder built a file, or failed to, and left this in what it writes to beside; the file's bytes
--- stayed as it was sealed; and if all went well, that very file was renamed
+-- stayed as it was sealed; and if all went well, that very file was renamed, else the temporary name
+-- was to be taken from it
 pub record TellsOfFile {F B T E : Type 0} (file : Raw F)
     (tells : B → T → T → (List ℕ → Type 0) → Result Unit E → Type 0) (temporary name : List ℕ)
     (calls : NameCalls) (handed : Option B) (told said : T)
@@ -303,6 +323,7 @@ pub record TellsOfFile {F B T E : Type 0} (file : Raw F)
   pub same : SameImages (images_of left) (images_of sealed)
   pub unsynced : result ≡ Err Write → failures_of left < failures_of sealed
   pub renamed : OnOk result (RenamesFile temporary name sealed.len (calls_of sealed) calls)
+  pub cleared : OnErr result (ClearsFile temporary (calls_of sealed) calls)
 
 -- nothing was built, and it is as it was; or something was
 abbrev pub Tells : {F B T E : Type 0} → Raw F

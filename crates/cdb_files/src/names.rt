@@ -100,7 +100,7 @@ pub trait Names {
     /// Takes a name from an open file whose lock is held, if the file still has it.
     fn remove_own(&mut self, name: &str, file: &Self::File)
         requires { HasLock name.now (calls self.old) }
-        ensures { IsCleared name.now (calls self.old) (calls self.new) };
+        ensures { IsCleared name.now (Self.File.calls file.now) (calls self.old) (calls self.new) };
 
     /// Gives an open file, which is closed then, the other name in place of its own and of what had
     /// the other. A file that is of another length, or does not have its name any more, is `Failed`.
@@ -115,7 +115,8 @@ pub trait Names {
             ≡ (Renamed len, name.now, other.now, Self.File.calls file) ∷ calls self.old) }
         ensures err { IfErr result (λ u. calls self.new
             ≡ (NotRenamed len u.fault, name.now, other.now, Self.File.calls file)
-            ∷ calls self.old) };
+            ∷ calls self.old) }
+        ensures kept { IfErr result (λ u. u.file ≡ file) };
 
     /// Syncs the folder of a name, so that its names survive a loss of power, and answers
     /// whether it did.

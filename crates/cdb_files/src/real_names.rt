@@ -80,6 +80,20 @@ fn is_one(one: &Look, other: &Look) -> Answer {
     }
 }
 
+/// Whether a file is what a name has, or what it leads to as a link.
+fn is_one_of<R: Files<File = File>>(rt: &R, file: &Look, name: &str) -> Answer {
+    let found = looked(fs::symlink_metadata(rt, name));
+    match is_one(file, &found) {
+        Answer::No if is_link(&found) => is_one(file, &looked(fs::metadata(rt, name))),
+        answer => answer,
+    }
+}
+
+/// Whether what was looked at is a link.
+fn is_link(look: &Look) -> bool {
+    matches!(look, Look::There(found) if found.is_symlink())
+}
+
 /// Whether a name has an open file.
 fn has_name<R: Files<File = File>>(rt: &R, name: &str, file: &RealFile) -> Answer {
     is_one(
@@ -182,10 +196,7 @@ impl<'a, R: Files<File = File>> Names for RealNames<'a, R> {
         let is = match &own {
             Look::Missing => Answer::No,
             Look::Unknown => Answer::Unknown,
-            Look::There(_) => match is_one(&own, &looked(fs::metadata(self.rt, other))) {
-                Answer::No => is_one(&own, &looked(fs::symlink_metadata(self.rt, other))),
-                answer => answer,
-            },
+            Look::There(_) => is_one_of(self.rt, &own, other),
         };
         self.note(&NameCall::Same(is), name, other);
         is
@@ -274,7 +285,8 @@ impl<'a, R: Files<File = File>> Names for RealNames<'a, R> {
     fn remove_own(&mut self, name: &str, file: &RealFile) {
         let is_own = has_name(self.rt, name, file) == Answer::Yes;
         let removed = is_own && fs::remove_file(self.rt, name).is_ok();
-        self.note(&removal(removed), name, "");
+        self.trace
+            .note(&removal(removed), name.as_bytes(), b"", file.trace());
     }
 
     // Shown by tests/cli/taken.py, tests/faults/names.py and syncs.py.
@@ -290,6 +302,7 @@ impl<'a, R: Files<File = File>> Names for RealNames<'a, R> {
         ensures err { IfErr result (λ u. self.new.trace.events
             ≡ (NotRenamed len u.fault, name.now, other.now, file.trace.events)
             ∷ self.old.trace.events) }
+        ensures kept { IfErr result (λ u. u.file ≡ file) }
     {
         let found = looked(file.metadata());
         let is_whole = matches!(&found, Look::There(found) if found.len() == len);

@@ -28,11 +28,13 @@ ghost use Rattle.cdb_files.specs.Replacing.{
   AreSteps,
   AtEachMoment,
   BuiltWith,
+  ClearsFile,
   EndsIn,
   FailsRename,
   FailsToBuild,
   FailsToSeal,
   GivesBits,
+  IsFree,
   IsMadeApart,
   IsNoName,
   IsOfBuilder,
@@ -126,8 +128,8 @@ fn open_fault<E>(fault: NameFault) -> ReplaceFault<E>
     }
 }
 
-/// Sees that the names can be those of a replacement: the name leads to a regular file or to
-/// nothing, and the two are of two files.
+/// Sees that the names can be those of a replacement: they are two, and the name leads to a regular
+/// file or to nothing.
 fn see_names<N: Names, E: Drop>(
     names: &mut N,
     name: &str,
@@ -138,7 +140,6 @@ fn see_names<N: Names, E: Drop>(
     ensures steps { AreSteps temporary.now name.now (λ _. ⊥) (N.calls names.old)
         (N.calls names.new) }
     ensures plain { OnOk result (IsPlain name.now (N.calls names.new)) }
-    ensures seen { OnOk result (AreApart temporary.now name.now (N.calls names.new)) }
     ensures renames { renames (N.calls names.new) ≡ renames (N.calls names.old) }
     ensures err { IfErr result
         (StopsUnbuilt temporary.now name.now (N.calls names.old) (N.calls names.new)) }
@@ -151,13 +152,8 @@ fn see_names<N: Names, E: Drop>(
         return Err(ReplaceFault::Open);
     }
     match names.is_special(name) {
-        Answer::No => {}
-        Answer::Yes => return Err(ReplaceFault::Rename),
-        Answer::Unknown => return Err(ReplaceFault::Open),
-    }
-    match names.is_file_of(temporary, name) {
         Answer::No => Ok(()),
-        Answer::Yes => Err(ReplaceFault::Open),
+        Answer::Yes => Err(ReplaceFault::Rename),
         Answer::Unknown => Err(ReplaceFault::Open),
     }
 }
@@ -184,6 +180,7 @@ fn remove_old<N: Names, E: Drop>(
     requires seen { AreApart temporary.now name.now (N.calls names.old) }
     ensures steps { AreSteps temporary.now name.now (λ _. ⊥) (N.calls names.old)
         (N.calls names.new) }
+    ensures free { OnOk result (IsFree temporary.now (N.calls names.new)) }
     ensures plain { IsPlain name.now (N.calls names.old) → IsPlain name.now (N.calls names.new) }
     ensures renames { renames (N.calls names.new) ≡ renames (N.calls names.old) }
     ensures err { IfErr result (StopsAt temporary.now name.now (N.calls names.new)) }
@@ -200,6 +197,26 @@ fn remove_old<N: Names, E: Drop>(
     Ok(())
 }
 
+/// Removes the old file of the temporary name, unless it is the file to be replaced.
+fn remove_other<N: Names, E: Drop>(
+    names: &mut N,
+    name: &str,
+    temporary: &str,
+) -> Result<(), ReplaceFault<E>>
+    ensures steps { AreSteps temporary.now name.now (λ _. ⊥) (N.calls names.old)
+        (N.calls names.new) }
+    ensures free { OnOk result (IsFree temporary.now (N.calls names.new)) }
+    ensures plain { IsPlain name.now (N.calls names.old) → IsPlain name.now (N.calls names.new) }
+    ensures renames { renames (N.calls names.new) ≡ renames (N.calls names.old) }
+    ensures err { IfErr result (StopsAt temporary.now name.now (N.calls names.new)) }
+    ensures not_built { IfErr result (IsOfBuilder (λ _. ⊥)) }
+{
+    match names.is_file_of(temporary, name) {
+        Answer::No => remove_old(names, name, temporary),
+        Answer::Yes | Answer::Unknown => Err(ReplaceFault::Open),
+    }
+}
+
 /// Sees that nothing has the temporary name, or removes the old file that has it. If the look found
 /// nothing, nothing is removed: a file that is there by then is another create's.
 fn clear<N: Names, E: Drop>(
@@ -207,9 +224,9 @@ fn clear<N: Names, E: Drop>(
     name: &str,
     temporary: &str,
 ) -> Result<(), ReplaceFault<E>>
-    requires seen { AreApart temporary.now name.now (N.calls names.old) }
     ensures steps { AreSteps temporary.now name.now (λ _. ⊥) (N.calls names.old)
         (N.calls names.new) }
+    ensures free { OnOk result (IsFree temporary.now (N.calls names.new)) }
     ensures plain { IsPlain name.now (N.calls names.old) → IsPlain name.now (N.calls names.new) }
     ensures renames { renames (N.calls names.new) ≡ renames (N.calls names.old) }
     ensures err { IfErr result (StopsAt temporary.now name.now (N.calls names.new)) }
@@ -217,7 +234,7 @@ fn clear<N: Names, E: Drop>(
 {
     match names.look(temporary) {
         Found::Nothing => Ok(()),
-        Found::File => remove_old(names, name, temporary),
+        Found::File => remove_other(names, name, temporary),
         Found::Other => Err(ReplaceFault::Open),
         Found::Unknown => Err(ReplaceFault::Open),
     }
@@ -255,6 +272,7 @@ fn make_own<N: Names, E: Drop>(
     name: &str,
     temporary: &str,
 ) -> Result<FileStore<N::File>, ReplaceFault<E>>
+    requires free { IsFree temporary.now (N.calls names.old) }
     ensures steps { AreSteps temporary.now name.now (λ _. ⊥) (N.calls names.old)
         (N.calls names.new) }
     ensures made { OnOk result
@@ -365,6 +383,8 @@ fn publish<N: Names, E: Drop>(
     ensures renames_err { OnErr result (renames (N.calls names.new) ≡ renames (N.calls names.old)) }
     ensures err { IfErr result (λ e. (fault : NameFault) × (e ≡ of_name fault)
         × FailsRename temporary.now name.now (N.calls names.new) fault) }
+    ensures cleared { OnErr result
+        (ClearsFile temporary.now (N.File.calls file) (N.calls names.new)) }
 {
     match names.rename(file, len, temporary, name) {
         Ok(()) => {
@@ -414,8 +434,10 @@ pub fn replace_file<N: Names, B: Builder<FileStore<N::File>> + Drop>(
         (renames (N.calls names.new) ≡ renames (N.calls names.old)) }
     ensures err { IfErr result.1
         (EndsIn temporary.now name.now (N.calls names.old) (N.calls names.new)) }
-    // The fault of the builder is the one that it answered.
-    ensures build { IfErr result.1 (IsOfBuilder (FailsToBuild (B.fails builder))) }
+    // The fault of the builder is the one that it answered, and the file that it left is the one from
+    // which the temporary name is taken.
+    ensures build { IfErr result.1 (IsOfBuilder (FailsToBuild (B.fails builder) temporary.now
+        (N.calls names.new))) }
     // If nothing was built, what the builder writes to beside is as it was. Else it is as the
     // builder left it, and at Ok the file that it built then was renamed.
     ensures told { Tells N.File.RawFile (B.tells builder) temporary.now name.now

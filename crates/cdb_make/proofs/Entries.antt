@@ -1,5 +1,6 @@
 -- The lists of entries, and the rings through them.
 pub mod EntryLists
+pub mod Halves
 pub mod Sides
 pub mod Nowhere
 pub mod Rings

@@ -1,6 +1,7 @@
 -- What clauses read of the types of this crate.
 pub mod MakeFault
 pub mod Index
+pub mod Places
 pub mod EntryList
 pub mod Lists
 pub mod Maker

@@ -57,7 +57,7 @@ impl<S: Store + Drop, L: Width> From<Unfinished<S, L>> for MakeFault {
 
 /// Leaves a head of all ones in a store and nothing else, and gives lists without entries. All
 /// memory is taken first.
-fn emptied<S: Store, L: Width>(alloc: Global, store: &mut S) -> Result<Lists, MakeFault>
+fn emptied<S: Store, L: Width>(alloc: Global, store: &mut S) -> Result<Lists<L>, MakeFault>
     ensures lists { IfOk result (λ ls. all_entries ls ≡ replicate 256 []) }
     ensures head { OnOk result (IsUnfinished L.WORD (S.image store.new)) }
     ensures size { OnOk result (S.size store.new ≡ head_size L.WORD) }

@@ -13,6 +13,7 @@ ghost use Rattle.cdb_make.specs.Views.EntryList.{AreWithin, HasSpareGaps};
 ghost use Rattle.cdb_make.specs.Views.Lists.{all_entries};
 
 use crate::fault::MakeFault;
+use crate::index::list::Indexing;
 use crate::index::lists::Lists;
 use crate::records::key_at::LookFault;
 use crate::records::put::Put;
@@ -26,13 +27,14 @@ use std::marker::PhantomData;
 /// Makes a database in a store: each record is written as it is put.
 ///
 /// The store holds the records one after another, from the end of the head on, and the maker keeps
-/// the hash of each key, the record's place and an index by hash: 20 to 24 bytes a record.
+/// the hash of each key and the record's place: 8 bytes a record, or 12 if words are wide. If records
+/// are put by a mode that looks for their keys, or appended, it keeps an index too: 8 to 12 bytes more.
 #[derive(Drop)]
 pub struct Maker<S: Store, L: Width> {
     pub(crate) alloc: Global,
     pub(crate) store: S,
     /// The entries of each table.
-    pub(crate) lists: Lists,
+    pub(crate) lists: Lists<L>,
     /// Where a removal notes what it takes out. There is room for the longest list.
     pub(crate) gaps: Vec<Gap>,
     /// Where the records end.
@@ -140,7 +142,8 @@ impl<S: Store, L: Width> Maker<S, L> {
 
     /// Whether some record has a key.
     ///
-    /// It writes nothing and takes no memory. `Lookup`: the store failed while it was read.
+    /// It writes nothing and takes no memory: records for which the index has no room, such as those
+    /// put by `Mode::Add`, are compared one by one. `Lookup`: the store failed while it was read.
     /// `Broken`: an earlier call broke the maker, or the store gave back other bytes than were
     /// written.
     pub fn exists(&mut self, key: &[u8]) -> Result<bool, MakeFault>
@@ -176,7 +179,7 @@ impl<S: Store, L: Width> Maker<S, L> {
         if self.broken {
             return Err(MakeFault::Broken);
         }
-        self.lists.catch_up(hash);
+        self.lists.catch_up(hash, Indexing::Fixed);
         match take_out::exists::<S, L>(&mut self.store, &self.lists, hash, key, self.end) {
             Ok(there) => Ok(there),
             Err(fault) => Err(self.failed_look(fault)),

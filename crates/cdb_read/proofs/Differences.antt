@@ -178,7 +178,7 @@ removed key (k ∷ ks) rs =
 
 -- ---- what puts add
 
-values_of-append : (key : List ℕ) (xs ys : List KeyValue) → values_of key (xs ++ ys) ≡ values_of key xs ++ values_of key ys
+pub values_of-append : (key : List ℕ) (xs ys : List KeyValue) → values_of key (xs ++ ys) ≡ values_of key xs ++ values_of key ys
 values_of-append key xs ys =
     ap (map (λ (r : KeyValue). r.value)) (filter-append (λ (r : KeyValue). bytes_eq r.key key) xs ys)
     ∙ map-append (λ (r : KeyValue). r.value) (filter (λ r. bytes_eq r.key key) xs) (filter (λ r. bytes_eq r.key key) ys)

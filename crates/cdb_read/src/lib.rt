@@ -1,6 +1,7 @@
 //! Look-ups in constant databases: what the readers are to find, and why one stops.
 #![tactic(auto)]
 
+mod ahead;
 mod checking;
 mod fault;
 pub mod laws;
@@ -13,6 +14,7 @@ mod tables;
 mod walking;
 mod window;
 
+pub use ahead::AT_HAND;
 pub use checking::sound::check;
 pub use fault::ReadFault;
 pub use lookup::finder::Finder;

@@ -12,15 +12,12 @@ ghost use Rattle.cdb_read.specs.Views.Window.{Shows};
 use crate::fault::ReadFault;
 use crate::pieces::{copy_span, read_part, take_span};
 use crate::span::Span;
-use crate::window::Window;
+use crate::window::{WINDOW, Window};
 use cdb_form::{Head, Width, head_size, read_head, write_whole};
 use cdb_store::Store;
 use std::alloc::Global;
 use std::io::Write;
 use std::marker::PhantomData;
-
-/// How many bytes are read at once. The longest head, that of words of 8 bytes, has so many.
-const PIECE: usize = 4096;
 
 /// A store in which no database was opened, and why.
 #[derive(Drop)]
@@ -47,9 +44,7 @@ pub struct Reader<S: Store, L: Width> {
     pub(crate) store: S,
     /// The pointers to the tables.
     pub(crate) head: Head,
-    /// Through which values are read.
-    pub(crate) piece: [u8; PIECE],
-    /// Through which records are read, and the slots of a whole table.
+    /// Through which records are read, their values, and the slots of a whole table.
     pub(crate) window: Window,
     /// Through which the slots of a search are read.
     pub(crate) slots: Window,
@@ -77,17 +72,17 @@ impl<S: Store, L: Width> Reader<S, L> {
             let fault = ReadFault::Short;
             return Err(Unread { store, fault });
         }
-        let mut piece = [0u8; PIECE];
-        match read_part(&mut store, 0, &mut piece[..size]) {
+        // The longest head, that of words of 8 bytes, is as long as a window.
+        let mut bytes = [0u8; WINDOW];
+        match read_part(&mut store, 0, &mut bytes[..size]) {
             Ok(()) => {}
             Err(fault) => return Err(Unread { store, fault }),
         }
-        let head = read_head::<L>(&piece[..size]);
+        let head = read_head::<L>(&bytes[..size]);
         Ok(Reader {
             store,
             head,
-            piece,
-            window: Window::new(),
+            window: Window::over(bytes),
             slots: Window::new(),
             width: PhantomData,
         })
@@ -107,7 +102,8 @@ impl<S: Store, L: Width> Reader<S, L> {
             write_whole(w, self.window.shown(span.place, span.len as usize))?;
             return Ok(());
         }
-        copy_span(&mut self.store, span, &mut self.piece, w)
+        self.window.len = 0;
+        copy_span(&mut self.store, span, &mut self.window.bytes, w)
     }
 
     /// The bytes of a span, which lies inside the file. Memory is taken as they come.
@@ -119,20 +115,21 @@ impl<S: Store, L: Width> Reader<S, L> {
         ensures fails { IfErr result (ValueFails S.Store self.old.store self.new.store) }
     {
         let mut taken = Vec::new(alloc);
-        self.shown_into(span, &mut taken)?;
+        self.value_into(span, &mut taken)?;
         Ok(taken)
     }
 
     /// Reads the bytes of a span, which lies inside the file, over a vector, whose memory it takes.
     /// The vector grows as they come; after a fault it holds anything.
-    pub(crate) fn value_into(&mut self, span: Span, into: &mut Vec<u8>) -> Result<(), ReadFault>
+    pub(crate) fn take_into(&mut self, span: Span, into: &mut Vec<u8>) -> Result<(), ReadFault>
         requires inside { span.place + span.len ≤ S.size self.old.store }
         ensures reads { OnlyReads S.Store self.old.store self.new.store }
         ensures is { (b : List ℕ) → S.image self.new.store b
             → OnOk result (into.new.items ≡ bytes_of b span) }
         ensures fails { IfErr result (ValueFails S.Store self.old.store self.new.store) }
     {
-        take_span(&mut self.store, span, &mut self.piece, into)
+        self.window.len = 0;
+        take_span(&mut self.store, span, &mut self.window.bytes, into)
     }
 
     /// How many bytes its file has.
@@ -149,7 +146,6 @@ impl<S: Store, L: Width> Reader<S, L> {
         let Reader {
             store,
             head: _,
-            piece: _,
             window: _,
             slots: _,
             width: _,

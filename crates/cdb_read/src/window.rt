@@ -30,8 +30,15 @@ impl Window {
     pub(crate) fn new() -> Window
         ensures { result.len ≡ 0 }
     {
+        Window::over([0; WINDOW])
+    }
+
+    /// A window over these bytes, which shows nothing.
+    pub(crate) fn over(bytes: [u8; WINDOW]) -> Window
+        ensures { result.len ≡ 0 }
+    {
         Window {
-            bytes: [0; WINDOW],
+            bytes,
             place: 0,
             len: 0,
         }

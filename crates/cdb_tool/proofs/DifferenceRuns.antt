@@ -57,9 +57,13 @@ module _ {S T : Type 0} (w : ℕ) (s : Ghosts S) (t : Ghosts T) (old old_now : S
   putting_fails old_mid new_mid (Own f) first second fails = new_fails f (stops_since w t new new_mid new_now new_now f second.failures (reads_none t new_now) fails)
   putting_fails old_mid new_mid (Other f) first second fails = old_fails f (stops_since w s old old_mid old_now old_now f first.failures (reads_none s old_now) fails)
 
+  pub removing_fails_since : (old_mid : S) (new_mid : T) (stop : Stop) → OnlyReads s old old_mid → OnlyReads t new new_mid → Stops w s t old_mid old_now new_mid new_now stop → DifferenceFails w s t old old_now new new_now start now (removing_fault stop)
+  removing_fails_since old_mid new_mid (Own f) first second fails = old_fails f (stops_since w s old old_mid old_now old_now f first.failures (reads_none s old_now) fails)
+  removing_fails_since old_mid new_mid (Other f) first second fails = new_fails f (stops_since w t new new_mid new_now new_now f second.failures (reads_none t new_now) fails)
+
 -- ---- a database that was not opened
 
-nothing_written : (w : ℕ) (b c : List ℕ) (start : Option (List ℕ)) → WritesPrefix w b c start start
+pub nothing_written : (w : ℕ) (b c : List ℕ) (start : Option (List ℕ)) → WritesPrefix w b c start start
 nothing_written w b c start = record {
   changes = [];
   written = record { front = []; more = amending_text []; split = refl; appended = appends_none start };

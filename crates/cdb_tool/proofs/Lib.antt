@@ -22,3 +22,6 @@ pub mod PassSteps
 pub mod PutValues
 pub mod BaseDifferences
 pub mod DifferenceRuns
+pub mod MarkBits
+pub mod Marked
+pub mod Steps

@@ -3,7 +3,7 @@ use Rattle.std.proofs.Common.{◌≡◌, ℕ, ◌+◌, ◌<◌, ◌≤◌, Bool,
 use Rattle.std.specs.Prelude.{◌&&◌, not, bytes_eq, filter, sum_by}
 use Rattle.std.specs.Io.KnownBytes.{Appends}
 use Rattle.std.proofs.lemmas.Slice.Eq.{bytes_eq-Decides}
-use Rattle.std.proofs.lemmas.Bool.{cases_Bool, eq-eqb, ne_eqb}
+use Rattle.std.proofs.lemmas.Bool.{and_right, cases_Bool, eq-eqb, ne_eqb}
 use Rattle.std.proofs.lemmas.List.{append-nil}
 use Rattle.std.proofs.lemmas.List.Concat.{flat_map-append}
 use Rattle.std.proofs.lemmas.List.Elements.{filter-append}
@@ -22,7 +22,7 @@ use Rattle.cdb_read.specs.Lookup.{bytes_of, lookup_of}
 use Rattle.cdb_read.specs.Values.{values_of}
 use Rattle.cdb_read.specs.Views.Walking.{LiesAt, behind, record_in}
 use Rattle.cdb_read.specs.declared.span.PlacedRecord.{PlacedRecord}
-use Rattle.cdb_read.proofs.Differences.{there}
+use Rattle.cdb_read.proofs.Differences.{same_unchanged, there}
 use Rattle.cdb_read.proofs.FirstKeys.{chosen_push, first_keys_more}
 use Rattle.cdb_read.proofs.InOrderFiles.{spans_has, spans_other}
 use Rattle.cdb_read.proofs.Walked.WalkedLengths.{length_of}
@@ -88,10 +88,15 @@ one_key : (kind : ChangeKind) (w : ℕ) (b key : List ℕ) (changed : Bool) → 
 one_key kind w b key true order = changes_are kind w b key order ∙ sym (append-nil (key_changes kind (records_of w b) key))
 one_key kind w b key false order = refl
 
+-- a key that isn't marked isn't chosen
+only_marked : (marked first differs : Bool) → (marked ≡ false → differs ≡ false) → (marked && (first && differs)) ≡ (first && differs)
+only_marked true first differs none = refl
+only_marked false first differs none = sym (and_right first differs (none refl))
+
 -- one record more, and what was said of it
-pub pass_more : (w : ℕ) (kind : ChangeKind) (b c : List ℕ) (old new : Walked) (place next : ℕ) (changes said : List Change) (pair : PlacedRecord) (key : List ℕ) (changed : Bool) → 0 < w → PassList w kind b c old place changes → old ≡ with_first (record_in b pair) new → LiesAt w place pair → next ≡ behind pair → behind pair ≤ length b
-    → key ≡ bytes_of b pair.key → changed ≡ is_first_changed w b c key pair.value.place → said ≡ cond changed (changes_at kind w b key) [] → PassList w kind b c new next (changes ++ said)
-pass_more w kind b c old new place next changes said pair key changed some so_far first lies ends inside key_is changed_is said_is =
+pub pass_more : (w : ℕ) (kind : ChangeKind) (b c : List ℕ) (old new : Walked) (place next : ℕ) (changes said : List Change) (pair : PlacedRecord) (key : List ℕ) (marked changed : Bool) → 0 < w → (marked ≡ false → values_of key (records_of w b) ≡ values_of key (records_of w c)) → PassList w kind b c old place changes → old ≡ with_first (record_in b pair) new → LiesAt w place pair → next ≡ behind pair → behind pair ≤ length b
+    → key ≡ bytes_of b pair.key → changed ≡ (marked && is_first_changed w b c key pair.value.place) → said ≡ cond changed (changes_at kind w b key) [] → PassList w kind b c new next (changes ++ said)
+pass_more w kind b c old new place next changes said pair key marked changed some agree so_far first lies ends inside key_is changed_is said_is =
     let r = record_in b pair in
     let done = so_far.done in
     let after = lies.value in
@@ -117,8 +122,9 @@ pass_more w kind b c old new place next changes said pair key changed some so_fa
           ap (λ vs. values_eq vs (values_at w c key)) (one.values key) ∙ ap (values_eq (values_of key (records_of w b))) (two.values key) in
           let test : changed ≡ (not (there key done) && is_changed (records_of w b) (records_of w c) key) =
           changed_is
-          ∙ ap (λ v. v && not (values_eq (values_at w b key) (values_at w c key))) is_first
-          ∙ ap (λ v. not (there key done) && not v) differs in
+          ∙ ap (λ v. marked && (v && not (values_eq (values_at w b key) (values_at w c key)))) is_first
+          ∙ ap (λ v. marked && (not (there key done) && not v)) differs
+          ∙ only_marked marked (not (there key done)) (is_changed (records_of w b) (records_of w c) key) (λ no. same_unchanged (records_of w b) (records_of w c) key (agree no)) in
           let push = chosen_push (is_changed (records_of w b) (records_of w c)) done r in
           let key_of : cond (not (there key done) && is_changed (records_of w b) (records_of w c) key) (key ∷ []) [] ≡ cond (not (there r.key done) && is_changed (records_of w b) (records_of w c) r.key) (r.key ∷ []) [] =
           ap (λ k. cond (not (there k done) && is_changed (records_of w b) (records_of w c) k) (k ∷ []) []) key_is in

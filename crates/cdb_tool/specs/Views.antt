@@ -6,4 +6,6 @@ pub mod Output
 pub mod ItemReader
 pub mod Stop
 pub mod Comparing
-pub mod NextKey
+pub mod NextRecord
+pub mod Marks
+pub mod InStep

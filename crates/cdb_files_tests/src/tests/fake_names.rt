@@ -98,11 +98,11 @@ impl FakeNames {
     }
 
     /// Takes a name from its file, unless that fails, and notes it.
-    fn take(&mut self, name: &str)
-        ensures { IsCleared name.now self.old.trace.events self.new.trace.events }
+    fn take(&mut self, name: &str, file: &FakeFile)
+        ensures { IsCleared name.now file.now.trace.events self.old.trace.events self.new.trace.events }
     {
         if self.fails() {
-            self.note(&NameCall::NotRemoved, name, "");
+            self.note_removal(&NameCall::NotRemoved, name, file);
             return;
         }
         if name == DATABASE {
@@ -110,7 +110,15 @@ impl FakeNames {
         } else {
             self.has_temporary = false;
         }
-        self.note(&NameCall::Removed, name, "");
+        self.note_removal(&NameCall::Removed, name, file);
+    }
+
+    /// Notes that a name was taken from its file, or was to be.
+    fn note_removal(&mut self, call: &NameCall, name: &str, file: &FakeFile)
+        ensures { self.new.trace.events
+            ≡ (call.now, name.now, [], file.now.trace.events) ∷ self.old.trace.events }
+    {
+        self.trace.note(call, name.as_bytes(), b"", file.trace());
     }
 }
 
@@ -195,8 +203,8 @@ impl Names for FakeNames {
         is_allowed
     }
 
-    fn remove_own(&mut self, name: &str, _file: &FakeFile) {
-        self.take(name);
+    fn remove_own(&mut self, name: &str, file: &FakeFile) {
+        self.take(name, file);
     }
 
     fn rename(
@@ -211,6 +219,7 @@ impl Names for FakeNames {
         ensures err { IfErr result (λ u. self.new.trace.events
             ≡ (NotRenamed len u.fault, name.now, other.now, file.trace.events)
             ∷ self.old.trace.events) }
+        ensures kept { IfErr result (λ u. u.file ≡ file) }
     {
         let fails = self.fails();
         let call = if fails {

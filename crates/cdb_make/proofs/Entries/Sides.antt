@@ -2,9 +2,12 @@
 use Rattle.std.proofs.Common.{◌≡◌, ℕ, zero, suc, ◌+◌, ◌<◌, ◌≤◌, List, [], ◌∷◌, ◌++◌, length, get_or, set, take, drop, refl, sym, ap, ◌∙◌, arith}
 use Rattle.std.specs.Prelude.{All}
 use Rattle.std.proofs.lemmas.List.{at_drop_more}
+use Rattle.std.proofs.lemmas.Grind.{get_or_default_zero}
 use Rattle.std.proofs.lemmas.List.Elements.{All-cons, All-nil, All-head, All-tail}
 use Rattle.cdb_form.specs.Format.Pair.{WordPair}
+use Rattle.cdb_form.specs.declared.width.Width.{Ghosts as Widths}
 use Rattle.cdb_make.specs.declared.index.list.EntryList.{EntryList}
+use Rattle.cdb_make.specs.Views.Places.{places_in}
 use Rattle.cdb_make.specs.Views.EntryList.{entries_of, list_entries}
 
 pub length-entries_of : (hs ps : List ℕ) → length hs ≡ length ps → length (entries_of hs ps) ≡ length hs
@@ -12,8 +15,8 @@ length-entries_of [] ps e = refl
 length-entries_of (h ∷ hs) [] e = absurd (omega arith)
 length-entries_of (h ∷ hs) (p ∷ ps) e = ap suc (length-entries_of hs ps (omega arith))
 
-pub list_long : (l : EntryList) → length (list_entries l) ≡ length l.hashes.items
-list_long l = length-entries_of l.hashes.items l.places.items l.paired
+pub list_long : {L : Type 0} {wd : Widths L} (l : EntryList L wd) → length (list_entries l) ≡ length l.hashes.items
+list_long l = length-entries_of l.hashes.items (places_in l.places) l.paired
 
 pub entries_of-push : (hs ps : List ℕ) (h p : ℕ) → length hs ≡ length ps
     → entries_of (hs ++ h ∷ []) (ps ++ p ∷ []) ≡ entries_of hs ps ++ record { first = h; second = p } ∷ []
@@ -50,6 +53,14 @@ entry_here hs ps i paired lt =
     let n : i < length (entries_of hs ps) = omega (arith, length-entries_of hs ps paired) in
     at_drop_more (λ v. v) (entries_of hs ps) i d n
     ∙ ap (λ (v : WordPair). v ∷ drop (i + 1) (entries_of hs ps)) (get_or-entries_of hs ps i d paired (omega arith))
+
+-- the same, where the place is told
+pub entry_told : (hs ps : List ℕ) (i p : ℕ) → length hs ≡ length ps → i < length hs → p ≡ get_or ps i p
+    → drop i (entries_of hs ps) ≡ record { first = get_or hs i 0; second = p } ∷ drop (i + 1) (entries_of hs ps)
+entry_told hs ps i p paired lt is =
+    let told : p ≡ get_or ps i 0 = is ∙ get_or_default_zero ps i p (omega arith) in
+    entry_here hs ps i paired (omega arith)
+    ∙ ap (λ (q : ℕ). record { first = get_or hs i 0; second = q } ∷ drop (i + 1) (entries_of hs ps)) (sym told)
 
 -- the same, where the places are told
 pub entry_at : (hs ps told : List ℕ) (i : ℕ) → length hs ≡ length ps → i < length hs → told ≡ ps

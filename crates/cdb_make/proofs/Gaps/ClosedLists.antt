@@ -7,41 +7,43 @@ use Rattle.std.proofs.lemmas.Grind.{get_or-set_at}
 use Rattle.std.proofs.lemmas.List.{get_or-map, get_or-set_other, get_or_default, map-set, length-map}
 use Rattle.std.proofs.lemmas.List.Sums.{sum_by-set}
 use Rattle.cdb_form.specs.Format.Pair.{WordPair}
+use Rattle.cdb_form.specs.declared.width.Width.{Ghosts as Widths}
 use Rattle.cdb_make.specs.declared.removal.gap.Gap.{Gap}
 use Rattle.cdb_make.specs.declared.index.list.EntryList.{EntryList}
 use Rattle.cdb_make.specs.Gaps.{AreApart, first_place}
+use Rattle.cdb_make.specs.Views.Places.{places_in}
 use Rattle.cdb_make.proofs.Gaps.Merge.{closed_below}
 use Rattle.cdb_make.specs.Views.EntryList.{IsClosed, AreUnder, list_entries, lists_entries, list_tops}
 use Rattle.cdb_make.proofs.Entries.Sides.{places_below}
 
 -- those below i are closed, and the rest are as they were
-pub record ClosedBelow (i : ℕ) (gaps : List Gap) (old new : List EntryList) : Type 0 where
-  pub closed : (k : ℕ) (d : EntryList) → k < i → IsClosed gaps (get_or old k d) (get_or new k d)
-  pub same : (k : ℕ) (d : EntryList) → i ≤ k → get_or new k d ≡ get_or old k d
+pub record ClosedBelow {L : Type 0} {wd : Widths L} (i : ℕ) (gaps : List Gap) (old new : List (EntryList L wd)) : Type 0 where
+  pub closed : (k : ℕ) (d : EntryList L wd) → k < i → IsClosed gaps (get_or old k d) (get_or new k d)
+  pub same : (k : ℕ) (d : EntryList L wd) → i ≤ k → get_or new k d ≡ get_or old k d
 
 -- no list has more entries
 abbrev pub NoneLonger : ℕ → List (List WordPair) → Type 0
 NoneLonger most ls = All (λ list. length list ≤ most) ls
 
 -- one list more is closed
-pub closed_more : (i : ℕ) (gs : List Gap) (old now : List EntryList) (e new : EntryList) → i < length now → IsClosed gs (get_or now i e) new → ClosedBelow i gs old now → ClosedBelow (i + 1) gs old (slice_set now i new)
+pub closed_more : {L : Type 0} {wd : Widths L} (i : ℕ) (gs : List Gap) (old now : List (EntryList L wd)) (e new : EntryList L wd) → i < length now → IsClosed gs (get_or now i e) new → ClosedBelow i gs old now → ClosedBelow (i + 1) gs old (slice_set now i new)
 closed_more i gs old now e new lt closed below = record {
   closed = λ k d low. elim (cases_eq k i) [
     | inl here ↦
         let was : get_or now i e ≡ get_or old k d = get_or_default now i e d lt ∙ ap (λ (n : ℕ). get_or now n d) (sym here) ∙ below.same k d (omega arith) in
         let is : get_or (slice_set now i new) k d ≡ new = get_or-set_at now i k new d here lt in
-        subst (λ (v : EntryList). IsClosed gs v (get_or (slice_set now i new) k d)) was (subst (IsClosed gs (get_or now i e)) (sym is) closed)
+        subst (λ (v : EntryList _ _). IsClosed gs v (get_or (slice_set now i new) k d)) was (subst (IsClosed gs (get_or now i e)) (sym is) closed)
     | inr apart ↦ subst (IsClosed gs (get_or old k d)) (sym (get_or-set_other now i k new d apart)) (below.closed k d (omega arith))
   ];
   same = λ k d le. get_or-set_other now i k new d (λ at. omega arith) ∙ below.same k d (omega arith);
 }
 
 -- the gaps are closed in a list whose places they are past
-closed_still : (gs : List Gap) (l : EntryList) (top : ℕ) → AreApart 0 gs (2 ^ 63) → All (λ e. e.second ≤ top) (list_entries l) → top < first_place gs (2 ^ 64 - 1) → IsClosed gs l l
+closed_still : {L : Type 0} {wd : Widths L} (gs : List Gap) (l : EntryList L wd) (top : ℕ) → AreApart 0 gs (2 ^ 63) → All (λ e. e.second ≤ top) (list_entries l) → top < first_place gs (2 ^ 64 - 1) → IsClosed gs l l
 closed_still gs l top apart under low =
-    let all : All (λ p. p ≤ top) l.places.items = places_below top l.hashes.items l.places.items l.paired under in
+    let all : All (λ p. p ≤ top) (places_in l.places) = places_below top l.hashes.items (places_in l.places) l.paired under in
     record {
-      entries = λ r. closed_below l.hashes.items l.places.items gs (2 ^ 63) (2 ^ 64 - 1) l.paired apart (λ k lt. let p = all k 0 lt in omega arith);
+      entries = λ r. closed_below l.hashes.items (places_in l.places) gs (2 ^ 63) (2 ^ 64 - 1) l.paired apart (λ k lt. let p = all k 0 lt in omega arith);
       fewer = omega arith;
       bounded = λ most under. under;
       top = refl;
@@ -49,17 +51,17 @@ closed_still gs l top apart under low =
     }
 
 -- and in a group of lists whose top they are past
-pub closed_past : (i : ℕ) (gs : List Gap) (old now : List EntryList) → i % 16 ≡ 0 → i + 16 ≤ length old → AreApart 0 gs (2 ^ 63) → AreUnder (list_tops old) (lists_entries old) → length now ≡ length old
+pub closed_past : {L : Type 0} {wd : Widths L} (i : ℕ) (gs : List Gap) (old now : List (EntryList L wd)) → i % 16 ≡ 0 → i + 16 ≤ length old → AreApart 0 gs (2 ^ 63) → AreUnder (list_tops old) (lists_entries old) → length now ≡ length old
     → get_or (list_tops now) i 0 < first_place gs (2 ^ 64 - 1) → ClosedBelow i gs old now → ClosedBelow (i + 16) gs old now
 closed_past i gs old now first within apart under long low below = record {
   closed = λ k d lt. elim (cases_lt k i) [
     | inl before ↦ below.closed k d before
     | inr from ↦
         let group : k / 16 * 16 ≡ i = omega arith in
-        let l : EntryList = get_or old k d in
-        let was : (get_or now i d).top ≡ (get_or old i d).top = ap (λ (v : EntryList). v.top) (below.same i d (omega arith)) in
-        let new_top : get_or (list_tops now) i 0 ≡ (get_or now i d).top = get_or-map (λ (v : EntryList). v.top) now i d 0 (omega arith) in
-        let old_top : get_or (list_tops old) i 0 ≡ (get_or old i d).top = get_or-map (λ (v : EntryList). v.top) old i d 0 (omega arith) in
+        let l : EntryList _ _ = get_or old k d in
+        let was : (get_or now i d).top ≡ (get_or old i d).top = ap (λ (v : EntryList _ _). v.top) (below.same i d (omega arith)) in
+        let new_top : get_or (list_tops now) i 0 ≡ (get_or now i d).top = get_or-map (λ (v : EntryList _ _). v.top) now i d 0 (omega arith) in
+        let old_top : get_or (list_tops old) i 0 ≡ (get_or old i d).top = get_or-map (λ (v : EntryList _ _). v.top) old i d 0 (omega arith) in
         let here : get_or (lists_entries old) k [] ≡ list_entries l = get_or-map list_entries old k d [] (omega arith) in
         let at : All (λ e. e.second ≤ get_or (list_tops old) (k / 16 * 16) 0) (list_entries l) = All-same (λ e. e.second ≤ get_or (list_tops old) (k / 16 * 16) 0) (list_entries l) (get_or (lists_entries old) k []) (sym here) (under k) in
         let top : get_or (list_tops old) (k / 16 * 16) 0 ≡ get_or (list_tops old) i 0 = ap (λ (n : ℕ). get_or (list_tops old) n 0) group in
@@ -69,7 +71,7 @@ closed_past i gs old now first within apart under long low below = record {
 }
 
 -- as many entries less as went from a list
-pub sum_gone : (ls : List EntryList) (i gone : ℕ) (d new : EntryList) → i < length ls → length (list_entries new) + gone ≡ length (list_entries (get_or ls i d))
+pub sum_gone : {L : Type 0} {wd : Widths L} (ls : List (EntryList L wd)) (i gone : ℕ) (d new : EntryList L wd) → i < length ls → length (list_entries new) + gone ≡ length (list_entries (get_or ls i d))
     → sum_by length (lists_entries (slice_set ls i new)) + gone ≡ sum_by length (lists_entries ls)
 sum_gone ls i gone d new lt went =
     let all : List (List WordPair) = lists_entries ls in

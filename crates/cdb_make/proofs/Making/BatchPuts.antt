@@ -26,7 +26,7 @@ use Rattle.cdb_make.specs.declared.records.put.Put.TheVariants.{Added, AddedAgai
 use Rattle.cdb_make.specs.Gaps.{marked_gaps, unmarked, gaps_by}
 use Rattle.cdb_make.specs.Marks.{AreMarked, fresh, with_key}
 use Rattle.cdb_make.specs.Survivors.{has_key, is_there, count_of, without, behind_first, put_list, put_answer}
-use Rattle.cdb_make.specs.Views.Batch.{Lies, Holds, StaysWhole, Writes, Rests, ClosesAll, FailsClosingAll, PassesAtMost, IsFull, IsOver, taken_by, MustCloseAll, MayCloseAll, lone_bytes, pass_bytes, IsBroken, IsTorn, HasGaps, HasGapsOr, HasNotFailed, is_short, Waits, Puts, WouldPut, FailsPutting, Removes, FailsRemoving, FailsFinishing, limit_of, KeepsPace, Paces}
+use Rattle.cdb_make.specs.Views.Batch.{Lies, Holds, StaysWhole, Writes, Rests, ClosesAll, FailsClosingAll, PassesAtMost, IsFull, IsOver, taken_by, MustCloseAll, MayCloseAll, lone_bytes, pass_bytes, IsBroken, IsTorn, HasGaps, HasGapsOr, HasNotFailed, is_short, Waits, Puts, WouldPut, FailsPutting, Removes, FailsRemoving, FailsFinishing, limit_of}
 use Rattle.cdb_make.specs.Views.Carrying.{Carries, WantsMemory, Adds, FailsAdding, FailsSeeking}
 use Rattle.cdb_make.specs.Views.Foreseen.{Foresees, HasFound, IsAdded, IsOfMode, taken_of}
 use Rattle.cdb_make.specs.Views.Maker.{WhereHonest, ComesFrom, Follows, HasRoom, put_bytes, made_size}

@@ -111,7 +111,7 @@ rests_same m whole = record {
 }
 
 -- and what one that failed leaves
-pub fails_sought : {S L : Type 0} {s : Ghosts S} {l : Widths L} (old new : Maker S L s l) (t : S) (ls : Lists) (look : LookFault) (fault : MakeFault) → all_entries ls ≡ all_entries old.lists → fault ≡ look_fault look → old.broken ≡ false → new.broken ≡ is_foreign look
+pub fails_sought : {S L : Type 0} {s : Ghosts S} {l : Widths L} (old new : Maker S L s l) (t : S) (ls : Lists L l) (look : LookFault) (fault : MakeFault) → all_entries ls ≡ all_entries old.lists → fault ≡ look_fault look → old.broken ≡ false → new.broken ≡ is_foreign look
     → SameCounts old new → all_entries new.lists ≡ all_entries old.lists → new.store ≡ t → OnlyReads s old.store t → (look ≡ Failed → s.failures old.store < s.failures t)
     → (look ≡ Foreign → (marks : List Bool) (all : List KeyValue) → StandMarked l.WORD old.end (all_entries ls) marks all (s.image t) → HasNoImage (s.image t)) → FailsSeeking old new fault
 fails_sought {s = s} old new t ls Failed fault own is was broken counts lists same reads failed foreign =

@@ -29,6 +29,7 @@ use Rattle.cdb_make.specs.Views.EntryList.{list_entries, list_room, HasSpareGaps
 use Rattle.cdb_make.specs.Views.Lists.{all_entries, entry_count, entry_room, AreAllClosed}
 use Rattle.cdb_make.specs.Views.Maker.{Holds, ComesFrom, Follows, HasNotFailed, HasRoom, Puts, WouldPut, FailsPutting, Removes, FailsRemoving, made_size, torn_fault}
 use Rattle.cdb_form.specs.declared.mode.Mode.TheVariants.{Add, Replace}
+use Rattle.cdb_make.specs.Views.Places.{places_in}
 use Rattle.cdb_make.proofs.Making.Carrying.{carried_held, held_carried}
 use Rattle.cdb_make.proofs.Making.Makers.{found_there, honest_comes}
 use Rattle.cdb_make.proofs.Making.Puts.{comes_then, held_found, if_counted}
@@ -73,23 +74,23 @@ table_fewer w h k rs hashed =
     ap (λ (v : ℕ). v + count_of k rs) (entries_counted w n (head_size w) (without k rs)) ∙ fewer_left (has_key k) picks all rs ∙ sym (entries_counted w n (head_size w) rs)
 
 -- a list holds no more than it has room for
-list_within : (l : EntryList) → length (list_entries l) ≤ list_room l
-list_within l = omega (arith, length-entries_of l.hashes.items l.places.items l.paired, l.paired, l.hash_room, l.place_room, l.indexed)
+list_within : {L : Type 0} {wd : Widths L} (l : EntryList L wd) → length (list_entries l) ≤ list_room l
+list_within l = omega (arith, length-entries_of l.hashes.items (places_in l.places) l.paired, l.paired, l.hash_room, l.place_room)
 
-first_of : (ls : List EntryList) → 0 < length ls → EntryList
+first_of : {L : Type 0} {wd : Widths L} (ls : List (EntryList L wd)) → 0 < length ls → EntryList L wd
 first_of [] h = absurd (omega arith)
 first_of (l ∷ ls) h = l
 
 -- where an entry of a key was taken out, its list has room for one more
-pub room_left : {w end last h room : ℕ} (k : List ℕ) {gs : List Gap} (lists lists₁ : Lists) {rs : List KeyValue} (a b : List ℕ) → h ≡ key_hash k → AreAllClosed gs lists lists₁
+pub room_left : {L : Type 0} {wd : Widths L} {w end last h room : ℕ} (k : List ℕ) {gs : List Gap} (lists lists₁ : Lists L wd) {rs : List KeyValue} (a b : List ℕ) → h ≡ key_hash k → AreAllClosed gs lists lists₁
     → Tells w end (all_entries lists) rs a → Tells w last (all_entries lists₁) (without k rs) b → 0 < count_of k rs → HasSpareGaps (all_entries lists) room
     → (entry_room lists₁ h ≤ entry_count lists₁ h) ⊎ (room ≤ entry_count lists₁ h) → ⊥
 room_left {w = w} {h = h} {room = room} k lists lists₁ {rs = rs} a b hashed closed was now some spare full =
-    let ls : List EntryList = lists.each.items in
-    let ls₁ : List EntryList = lists₁.each.items in
+    let ls : List (EntryList _ _) = lists.each.items in
+    let ls₁ : List (EntryList _ _) = lists₁.each.items in
     let n : ℕ = table_number h in
     let lt : n < length ls = omega (arith, lists.all) in
-    let d : EntryList = first_of ls (omega arith) in
+    let d : EntryList _ _ = first_of ls (omega arith) in
     let at : entry_count lists h ≡ length (table_entries w rs n) = ap (λ v. length (get_or v n [])) was.entries ∙ ap length (get_or-map-range_with_len (table_entries w rs) 0 256 n n [] (omega arith) (omega arith)) in
     let at₁ : entry_count lists₁ h ≡ length (table_entries w (without k rs) n) =
     ap (λ v. length (get_or v n [])) now.entries ∙ ap length (get_or-map-range_with_len (table_entries w (without k rs)) 0 256 n n [] (omega arith) (omega arith)) in

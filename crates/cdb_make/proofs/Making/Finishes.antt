@@ -34,13 +34,13 @@ holds_none {l = l} m whole end lists = record {
 none_counted : (n : ℕ) → sum_by length (replicate {A = List WordPair} n []) ≡ 0
 none_counted n = sum_by-replicate length n [] ∙ omega arith
 
-pub lists_counted : (ls : List EntryList) → lists_entries ls ≡ replicate 256 [] → sum_by length (lists_entries ls) ≡ 0
+pub lists_counted : {L : Type 0} {wd : Widths L} (ls : List (EntryList L wd)) → lists_entries ls ≡ replicate 256 [] → sum_by length (lists_entries ls) ≡ 0
 lists_counted ls e = ap (sum_by length) e ∙ none_counted 256
 
-pub lists_within : (most : ℕ) (ls : List EntryList) → lists_entries ls ≡ replicate 256 [] → AreWithin most (lists_entries ls)
+pub lists_within : {L : Type 0} {wd : Widths L} (most : ℕ) (ls : List (EntryList L wd)) → lists_entries ls ≡ replicate 256 [] → AreWithin most (lists_entries ls)
 lists_within most ls e = subst (λ (v : List (List WordPair)). AreWithin most v) (sym e) (All-replicate (All (λ p. p.second ≤ most)) 256 [] (All-nil (λ p. p.second ≤ most)))
 
-pub lists_spare : (room : ℕ) (ls : List EntryList) → lists_entries ls ≡ replicate 256 [] → HasSpareGaps (lists_entries ls) room
+pub lists_spare : {L : Type 0} {wd : Widths L} (room : ℕ) (ls : List (EntryList L wd)) → lists_entries ls ≡ replicate 256 [] → HasSpareGaps (lists_entries ls) room
 lists_spare room ls e = subst (λ (v : List (List WordPair)). HasSpareGaps v room) (sym e) (All-replicate (λ v. length v ≤ room) 256 [] (omega arith))
 
 -- where the store is finished it holds the file

@@ -8,8 +8,7 @@ use Rattle.cdb_form.specs.Format.Pair.{head_size}
 use Rattle.cdb_make.specs.Gaps.{AreApart, first_place}
 use Rattle.cdb_make.specs.declared.removal.gap.Gap.{Gap}
 use Rattle.cdb_make.specs.declared.maker.Maker.{Maker}
-use Rattle.cdb_make.specs.Unfinished.{KeepsHead}
-use Rattle.cdb_make.specs.Views.Maker.{ComesFrom, Follows, SameCounts}
+use Rattle.cdb_make.specs.Views.Maker.{Follows, SameCounts}
 use Rattle.cdb_make.proofs.Making.FinishedFile.{kept_then}
 use Rattle.cdb_make.proofs.Making.KeptHeads.{head_looked, head_moved}
 use Rattle.cdb_make.proofs.Making.Makers.{comes_torn}

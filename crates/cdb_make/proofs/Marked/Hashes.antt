@@ -5,6 +5,7 @@ use Rattle.std.specs.List.Sorted.{IsNonDecreasing}
 use Rattle.std.proofs.lemmas.Bool.{cases_eq, cases_lt}
 use Rattle.std.proofs.lemmas.List.{get_or-set_same, get_or-set_other, length-set, take_more}
 use Rattle.cdb_form.specs.Format.Pair.{WordPair}
+use Rattle.cdb_form.specs.declared.width.Width.{Ghosts as Widths}
 use Rattle.cdb_make.specs.Gaps.{IsRising}
 use Rattle.cdb_make.specs.declared.removal.gap.Gap.{Gap}
 use Rattle.cdb_make.specs.declared.index.list.EntryList.{EntryList}
@@ -95,8 +96,8 @@ rising_each : (gs : List Gap) (q : ℕ) (es : List WordPair) → IsRising q es �
 rising_each [] q es h = h
 rising_each (g ∷ gs) q es h = rising_each gs q (flip_at g.place es) (rising_flipped g.place q es h)
 
-pub marked_more : (all : List Gap) (i : ℕ) (d : Gap) (old mid new : EntryList) → i < length all → IsMarked (take i all) old mid
-    → (IsRising 0 (list_entries mid) → list_entries new ≡ flip_at (get_or all i d).place (list_entries mid)) → new.places.items ≡ mid.places.items → new.top ≡ mid.top → list_room new ≡ list_room mid
+pub marked_more : {L : Type 0} {wd : Widths L} (all : List Gap) (i : ℕ) (d : Gap) (old mid new : EntryList L wd) → i < length all → IsMarked (take i all) old mid
+    → (IsRising 0 (list_entries mid) → list_entries new ≡ flip_at (get_or all i d).place (list_entries mid)) → new.places ≡ mid.places → new.top ≡ mid.top → list_room new ≡ list_room mid
     → IsMarked (take (i + 1) all) old new
 marked_more all i d old mid new lt marked one places top room = record {
   entries = λ rise.

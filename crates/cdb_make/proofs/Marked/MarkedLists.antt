@@ -11,6 +11,7 @@ use Rattle.std.proofs.lemmas.List.FromFn.{fill_by_all, get_or-map-range_with_len
 use Rattle.cdb_form.specs.Format.Hash.{key_hash, table_number}
 use Rattle.cdb_form.specs.Format.Pair.{WordPair, head_size}
 use Rattle.cdb_form.specs.Format.Record.{KeyValue}
+use Rattle.cdb_form.specs.declared.width.Width.{Ghosts as Widths}
 use Rattle.cdb_make.specs.declared.removal.gap.Gap.{Gap}
 use Rattle.cdb_make.specs.declared.index.list.EntryList.{EntryList}
 use Rattle.cdb_make.specs.declared.index.lists.Lists.{Lists}
@@ -18,6 +19,7 @@ use Rattle.cdb_make.specs.Gaps.{marked_gaps, IsRising}
 use Rattle.cdb_make.specs.Marks.{marked_entries, flip_each, fresh, with_key}
 use Rattle.cdb_make.specs.Views.EntryList.{list_entries, lists_entries, list_tops, AreUnder, AreWithin, HasSpareGaps, IsMarked}
 use Rattle.cdb_make.specs.Views.Lists.{all_entries, AreAllMarked}
+use Rattle.cdb_make.specs.Views.Places.{places_in}
 use Rattle.cdb_make.proofs.Gaps.ClosedLists.{sum_gone}
 use Rattle.cdb_make.proofs.Marked.Marks.{marked_rising}
 use Rattle.cdb_make.proofs.Entries.Sides.{list_long, places_below, entries_below}
@@ -25,39 +27,39 @@ use Rattle.cdb_make.proofs.Marked.Flipping.{key_flipped_all, other_flipped_all}
 use Rattle.cdb_make.proofs.Marked.Whole.{list_of_table}
 
 -- a list whose hashes alone changed: as many entries, at the same places
-same_long : (gs : List Gap) (old new : EntryList) → IsMarked gs old new → length (list_entries new) ≡ length (list_entries old)
-same_long gs old new marked = omega (arith, list_long old, list_long new, old.paired, new.paired, ap length marked.places)
+same_long : {L : Type 0} {wd : Widths L} (gs : List Gap) (old new : EntryList L wd) → IsMarked gs old new → length (list_entries new) ≡ length (list_entries old)
+same_long gs old new marked = omega (arith, list_long old, list_long new, old.paired, new.paired, ap (λ v. length (places_in v)) marked.places)
 
-same_below : (gs : List Gap) (old new : EntryList) (most : ℕ) → IsMarked gs old new → All (λ e. e.second ≤ most) (list_entries old) → All (λ e. e.second ≤ most) (list_entries new)
+same_below : {L : Type 0} {wd : Widths L} (gs : List Gap) (old new : EntryList L wd) (most : ℕ) → IsMarked gs old new → All (λ e. e.second ≤ most) (list_entries old) → All (λ e. e.second ≤ most) (list_entries new)
 same_below gs old new most marked all =
-    entries_below most new.hashes.items new.places.items (All-same (λ p. p ≤ most) _ _ marked.places (places_below most old.hashes.items old.places.items old.paired all))
+    entries_below most new.hashes.items (places_in new.places) (All-same (λ p. p ≤ most) _ _ (ap (λ v. places_in v) marked.places) (places_below most old.hashes.items (places_in old.places) old.paired all))
 
 -- the list of a number, told of all
-list_told : (ls : List EntryList) (t : ℕ) (d : EntryList) → t < length ls → get_or (lists_entries ls) t [] ≡ list_entries (get_or ls t d)
+list_told : {L : Type 0} {wd : Widths L} (ls : List (EntryList L wd)) (t : ℕ) (d : EntryList L wd) → t < length ls → get_or (lists_entries ls) t [] ≡ list_entries (get_or ls t d)
 list_told ls t d lt = get_or-map list_entries ls t d [] lt
 
-pub marked_counted : (gs : List Gap) (ls : List EntryList) (t : ℕ) (old new : EntryList) → t < length ls → old ≡ get_or ls t old → IsMarked gs old new → sum_by length (lists_entries (slice_set ls t new)) ≡ sum_by length (lists_entries ls)
+pub marked_counted : {L : Type 0} {wd : Widths L} (gs : List Gap) (ls : List (EntryList L wd)) (t : ℕ) (old new : EntryList L wd) → t < length ls → old ≡ get_or ls t old → IsMarked gs old new → sum_by length (lists_entries (slice_set ls t new)) ≡ sum_by length (lists_entries ls)
 marked_counted gs ls t old new lt is marked =
     let long : length (list_entries new) ≡ length (list_entries (get_or ls t old)) = same_long gs old new marked ∙ ap (λ v. length (list_entries v)) is in
     let sum : sum_by length (lists_entries (slice_set ls t new)) + 0 ≡ sum_by length (lists_entries ls) = sum_gone ls t 0 old new lt (omega arith) in
     omega arith
 
-pub marked_within : (gs : List Gap) (ls : List EntryList) (t : ℕ) (old new : EntryList) (most : ℕ) → t < length ls → old ≡ get_or ls t old → IsMarked gs old new → AreWithin most (lists_entries ls) → AreWithin most (lists_entries (slice_set ls t new))
+pub marked_within : {L : Type 0} {wd : Widths L} (gs : List Gap) (ls : List (EntryList L wd)) (t : ℕ) (old new : EntryList L wd) (most : ℕ) → t < length ls → old ≡ get_or ls t old → IsMarked gs old new → AreWithin most (lists_entries ls) → AreWithin most (lists_entries (slice_set ls t new))
 marked_within gs ls t old new most lt is marked all =
     let P : List WordPair → Type 0 = All (λ e. e.second ≤ most) in
     let own : P (list_entries old) = subst P (list_told ls t old lt ∙ ap list_entries (sym is)) (All-get_or P (lists_entries ls) t [] (omega (arith, length-map ls list_entries)) all) in
     subst (λ (v : List (List WordPair)). AreWithin most v) (sym (map-set list_entries ls t new)) (All-set P (lists_entries ls) t (list_entries new) (same_below gs old new most marked own) all)
 
-pub marked_spare : (gs : List Gap) (ls : List EntryList) (t : ℕ) (old new : EntryList) (room : ℕ) → t < length ls → old ≡ get_or ls t old → IsMarked gs old new → HasSpareGaps (lists_entries ls) room → HasSpareGaps (lists_entries (slice_set ls t new)) room
+pub marked_spare : {L : Type 0} {wd : Widths L} (gs : List Gap) (ls : List (EntryList L wd)) (t : ℕ) (old new : EntryList L wd) (room : ℕ) → t < length ls → old ≡ get_or ls t old → IsMarked gs old new → HasSpareGaps (lists_entries ls) room → HasSpareGaps (lists_entries (slice_set ls t new)) room
 marked_spare gs ls t old new room lt is marked all =
     let P : List WordPair → Type 0 = λ es. length es ≤ room in
     let own : P (list_entries old) = subst P (list_told ls t old lt ∙ ap list_entries (sym is)) (All-get_or P (lists_entries ls) t [] (omega (arith, length-map ls list_entries)) all) in
     let long : length (list_entries new) ≡ length (list_entries old) = same_long gs old new marked in
     subst (λ (v : List (List WordPair)). HasSpareGaps v room) (sym (map-set list_entries ls t new)) (All-set P (lists_entries ls) t (list_entries new) (omega arith) all)
 
-pub marked_under : (gs : List Gap) (ls : List EntryList) (t : ℕ) (old new : EntryList) → t < length ls → old ≡ get_or ls t old → IsMarked gs old new → AreUnder (list_tops ls) (lists_entries ls) → AreUnder (list_tops (slice_set ls t new)) (lists_entries (slice_set ls t new))
+pub marked_under : {L : Type 0} {wd : Widths L} (gs : List Gap) (ls : List (EntryList L wd)) (t : ℕ) (old new : EntryList L wd) → t < length ls → old ≡ get_or ls t old → IsMarked gs old new → AreUnder (list_tops ls) (lists_entries ls) → AreUnder (list_tops (slice_set ls t new)) (lists_entries (slice_set ls t new))
 marked_under gs ls t old new lt is marked under k =
-    let tops : list_tops (slice_set ls t new) ≡ list_tops ls = map-set_same (λ (l : EntryList). l.top) ls t new old (marked.top ∙ ap (λ (l : EntryList). l.top) is) in
+    let tops : list_tops (slice_set ls t new) ≡ list_tops ls = map-set_same (λ (l : EntryList _ _). l.top) ls t new old (marked.top ∙ ap (λ (l : EntryList _ _). l.top) is) in
     let top : ℕ = get_or (list_tops ls) (k / 16 * 16) 0 in
     let all : List (List WordPair) = lists_entries ls in
     let here : All (λ e. e.second ≤ top) (get_or (slice_set all t (list_entries new)) k []) = elim (cases_eq k t) [
@@ -70,7 +72,7 @@ marked_under gs ls t old new lt is marked under k =
     (subst (λ (v : List (List WordPair)). All (λ e. e.second ≤ top) (get_or v k [])) (sym (map-set list_entries ls t new)) here)
 
 -- the lists have the entries with the marks
-pub lists_marked : (w : ℕ) (gs : List Gap) (ls : List EntryList) (t : ℕ) (old new : EntryList) (k : List ℕ) (ms : List Bool) (xs ys : List KeyValue) → 0 < w → length ls ≡ 256 → t ≡ table_number (key_hash k) → old ≡ get_or ls t old → IsMarked gs old new
+pub lists_marked : {L : Type 0} {wd : Widths L} (w : ℕ) (gs : List Gap) (ls : List (EntryList L wd)) (t : ℕ) (old new : EntryList L wd) (k : List ℕ) (ms : List Bool) (xs ys : List KeyValue) → 0 < w → length ls ≡ 256 → t ≡ table_number (key_hash k) → old ≡ get_or ls t old → IsMarked gs old new
     → length ms ≤ length xs → gs ≡ marked_gaps w (head_size w) (fresh k ms xs) xs → lists_entries ls ≡ map (marked_entries w ms (xs ++ ys)) (range_with_len 0 256)
     → lists_entries (slice_set ls t new) ≡ map (marked_entries w (with_key k ms xs) (xs ++ ys)) (range_with_len 0 256)
 lists_marked w gs ls t old new k ms xs ys pos long tab is marked few found e =
@@ -95,18 +97,18 @@ lists_marked w gs ls t old new k ms xs ys pos long tab is marked few found e =
 
 -- ---- the lists of all tables
 
-pub all_counted : {hash : ℕ} {gs : List Gap} {old new : Lists} → AreAllMarked hash gs old new → sum_by length (all_entries new) ≡ sum_by length (all_entries old)
+pub all_counted : {L : Type 0} {wd : Widths L} {hash : ℕ} {gs : List Gap} {old new : Lists L wd} → AreAllMarked hash gs old new → sum_by length (all_entries new) ≡ sum_by length (all_entries old)
 all_counted {hash = hash} {gs = gs} {old = old} m = ap (λ v. sum_by length (lists_entries v)) m.others ∙ marked_counted gs old.each.items (table_number hash) m.list m.flipped (omega (arith, old.all)) m.is m.marked
 
-pub all_within : {hash : ℕ} {gs : List Gap} {old new : Lists} (most : ℕ) → AreAllMarked hash gs old new → AreWithin most (all_entries old) → AreWithin most (all_entries new)
+pub all_within : {L : Type 0} {wd : Widths L} {hash : ℕ} {gs : List Gap} {old new : Lists L wd} (most : ℕ) → AreAllMarked hash gs old new → AreWithin most (all_entries old) → AreWithin most (all_entries new)
 all_within {hash = hash} {gs = gs} {old = old} most m all =
-    subst (λ (v : List EntryList). AreWithin most (lists_entries v)) (sym m.others) (marked_within gs old.each.items (table_number hash) m.list m.flipped most (omega (arith, old.all)) m.is m.marked all)
+    subst (λ (v : List (EntryList _ _)). AreWithin most (lists_entries v)) (sym m.others) (marked_within gs old.each.items (table_number hash) m.list m.flipped most (omega (arith, old.all)) m.is m.marked all)
 
-pub all_spare : {hash : ℕ} {gs : List Gap} {old new : Lists} (room : ℕ) → AreAllMarked hash gs old new → HasSpareGaps (all_entries old) room → HasSpareGaps (all_entries new) room
+pub all_spare : {L : Type 0} {wd : Widths L} {hash : ℕ} {gs : List Gap} {old new : Lists L wd} (room : ℕ) → AreAllMarked hash gs old new → HasSpareGaps (all_entries old) room → HasSpareGaps (all_entries new) room
 all_spare {hash = hash} {gs = gs} {old = old} room m all =
-    subst (λ (v : List EntryList). HasSpareGaps (lists_entries v) room) (sym m.others) (marked_spare gs old.each.items (table_number hash) m.list m.flipped room (omega (arith, old.all)) m.is m.marked all)
+    subst (λ (v : List (EntryList _ _)). HasSpareGaps (lists_entries v) room) (sym m.others) (marked_spare gs old.each.items (table_number hash) m.list m.flipped room (omega (arith, old.all)) m.is m.marked all)
 
-pub all_marked : {hash : ℕ} {gs : List Gap} {old new : Lists} (w : ℕ) (k : List ℕ) (ms : List Bool) (xs ys : List KeyValue) → 0 < w → table_number hash ≡ table_number (key_hash k) → AreAllMarked hash gs old new
+pub all_marked : {L : Type 0} {wd : Widths L} {hash : ℕ} {gs : List Gap} {old new : Lists L wd} (w : ℕ) (k : List ℕ) (ms : List Bool) (xs ys : List KeyValue) → 0 < w → table_number hash ≡ table_number (key_hash k) → AreAllMarked hash gs old new
     → length ms ≤ length xs → gs ≡ marked_gaps w (head_size w) (fresh k ms xs) xs → all_entries old ≡ map (marked_entries w ms (xs ++ ys)) (range_with_len 0 256)
     → all_entries new ≡ map (marked_entries w (with_key k ms xs) (xs ++ ys)) (range_with_len 0 256)
 all_marked {hash = hash} {gs = gs} {old = old} w k ms xs ys pos tab m few found e =

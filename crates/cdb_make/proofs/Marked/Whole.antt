@@ -15,13 +15,14 @@ use Rattle.cdb_form.specs.Format.Pair.{WordPair, head_size}
 use Rattle.cdb_form.specs.Format.Record.{KeyValue, record_bytes, record_size, records_end}
 use Rattle.cdb_form.specs.Format.Table.{entries_from, in_table, table_entries}
 use Rattle.cdb_form.proofs.Files.Sizes.{length-records, sum_by-table_entries}
+use Rattle.cdb_form.specs.declared.width.Width.{Ghosts as Widths}
 use Rattle.cdb_make.specs.declared.removal.gap.Gap.{Gap}
 use Rattle.cdb_make.specs.declared.index.list.EntryList.{EntryList}
 use Rattle.cdb_make.specs.Gaps.{AreApart, IsRising, Closed, closed_by, gaps_by, is_gap, marked_gaps, unmarked, first_place, kept_len}
 use Rattle.cdb_make.specs.Looks.{picked, Picks, TellsThere, AreChained, NoneChained}
 use Rattle.cdb_make.specs.Marks.{TellsMarked, StandMarked, AreMarked, AreAmong, WritesPass, marked_entry, marked_from, marked_entries, fresh, behind_mark}
 use Rattle.cdb_make.specs.Stands.{Tells, Stands, IsThere}
-use Rattle.cdb_make.specs.Survivors.{has_key, is_there, count_of, without}
+use Rattle.cdb_make.specs.Survivors.{has_key, is_there, count_of}
 use Rattle.cdb_make.specs.Views.EntryList.{list_entries, lists_entries, AreClosed}
 use Rattle.cdb_make.specs.Views.Maker.{WhereHonest}
 use Rattle.cdb_make.proofs.Marked.Found.{length-gaps_by}
@@ -35,7 +36,7 @@ map_same f g same [] = refl
 map_same f g same (x ∷ xs) = ap (λ v. v ∷ map f xs) (same x) ∙ ap (λ v. g x ∷ v) (map_same f g same xs)
 
 -- the list of a table has its entries
-pub list_of_table : (f : ℕ → List WordPair) (n : ℕ) (ls : List EntryList) (d : EntryList) → length ls ≡ 256 → n < 256 → lists_entries ls ≡ map f (range_with_len 0 256)
+pub list_of_table : {L : Type 0} {wd : Widths L} (f : ℕ → List WordPair) (n : ℕ) (ls : List (EntryList L wd)) (d : EntryList L wd) → length ls ≡ 256 → n < 256 → lists_entries ls ≡ map f (range_with_len 0 256)
     → list_entries (get_or ls n d) ≡ f n
 list_of_table f n ls d long lt e =
     sym (get_or-map list_entries ls n d [] (omega arith)) ∙ ap (λ v. get_or v n []) e ∙ get_or-map-range_with_len f 0 256 n n [] lt (omega arith)
@@ -59,7 +60,7 @@ record_bytes_fit : (w top end : ℕ) (rs : List KeyValue) → end ≡ records_en
 record_bytes_fit w top end rs e le = let k : end ≡ head_size w + sum_by (record_size w) rs = e in omega arith
 
 -- the gaps that were found are those of the key's records that have no mark
-pub gaps_found : {w h : ℕ} {k : List ℕ} {gs : List Gap} {es : List WordPair} {images : List ℕ → Type 0} (top end : ℕ) (ls : List EntryList) (d : EntryList) (ms : List Bool) (rs : List KeyValue)
+pub gaps_found : {L : Type 0} {wd : Widths L} {w h : ℕ} {k : List ℕ} {gs : List Gap} {es : List WordPair} {images : List ℕ → Type 0} (top end : ℕ) (ls : List (EntryList L wd)) (d : EntryList L wd) (ms : List Bool) (rs : List KeyValue)
     → top + 1 ≡ 256 ^ w → end ≤ top → length ls ≡ 256 → h ≡ key_hash k → es ≡ list_entries (get_or ls (table_number h) d)
     → StandMarked w end (lists_entries ls) ms rs images → Picks w h k gs es images → AreMarked w gs (fresh k ms rs) rs images
 gaps_found {w = w} {h = h} {k = k} {gs = gs} {es = es} top end ls d ms rs words fits long hashed here stands picks = record {
@@ -77,7 +78,7 @@ pub count_found : {w : ℕ} (k : List ℕ) {gs : List Gap} {rs : List KeyValue} 
 count_found {w = w} k {rs = rs} found = record { each = λ b is. ap length (found.each b is) ∙ length-gaps_by (has_key k) w (head_size w) rs }
 
 -- whether one was found
-pub there_found : {w h : ℕ} {k : List ℕ} {es : List WordPair} {images : List ℕ → Type 0} (there : Bool) (top end : ℕ) (ls : List EntryList) (d : EntryList) (ms : List Bool) (rs : List KeyValue)
+pub there_found : {L : Type 0} {wd : Widths L} {w h : ℕ} {k : List ℕ} {es : List WordPair} {images : List ℕ → Type 0} (there : Bool) (top end : ℕ) (ls : List (EntryList L wd)) (d : EntryList L wd) (ms : List Bool) (rs : List KeyValue)
     → top + 1 ≡ 256 ^ w → end ≤ top → length ls ≡ 256 → h ≡ key_hash k → es ≡ list_entries (get_or ls (table_number h) d)
     → StandMarked w end (lists_entries ls) ms rs images → TellsThere w h k there es images → IsThere there k (unmarked ms rs) images
 there_found {w = w} {h = h} {k = k} {es = es} there top end ls d ms rs words fits long hashed here stands tells = record {
@@ -92,7 +93,7 @@ there_found {w = w} {h = h} {k = k} {es = es} there top end ls d ms rs words fit
 }
 
 -- where they aren't chained, they didn't stand
-pub none_stands : {w start : ℕ} {es : List WordPair} {images : List ℕ → Type 0} (h top end : ℕ) (ls : List EntryList) (d : EntryList) (ms : List Bool) (rs : List KeyValue)
+pub none_stands : {L : Type 0} {wd : Widths L} {w start : ℕ} {es : List WordPair} {images : List ℕ → Type 0} (h top end : ℕ) (ls : List (EntryList L wd)) (d : EntryList L wd) (ms : List Bool) (rs : List KeyValue)
     → top + 1 ≡ 256 ^ w → end ≤ top → length ls ≡ 256 → start ≤ head_size w → es ≡ list_entries (get_or ls (table_number h) d)
     → StandMarked w end (lists_entries ls) ms rs images → NoneChained w start es end images → HasNoImage images
 none_stands {w = w} {start = start} {es = es} h top end ls d ms rs words fits long low here stands none b is =
@@ -117,16 +118,16 @@ apart_sizes from (g ∷ gs) end h =
 pub gaps_sum : (goes : KeyValue → Bool) (w at : ℕ) (rs : List KeyValue) → sum_by (λ g. g.size) (gaps_by goes w at rs) + sum_by (record_size w) (filter (λ r. not (goes r)) rs) ≡ sum_by (record_size w) rs
 gaps_sum goes w at rs = ap (λ v. sum_by (λ g. g.size) (gaps_by goes w at rs) + sum_by (record_size w) v) (sym (unmarked_by goes rs)) ∙ unmarked_sizes w at (map goes rs) rs
 
-first_list : (ls : List EntryList) → 0 < length ls → EntryList
+first_list : {L : Type 0} {wd : Widths L} (ls : List (EntryList L wd)) → 0 < length ls → EntryList L wd
 first_list [] h = absurd (omega arith)
 first_list (l ∷ ls) h = l
 
 -- the lists of what stays
-lists_closed : (w : ℕ) (ns ms : List Bool) (gs : List Gap) (ls ls₁ : List EntryList) (rs : List KeyValue) → 0 < w → length ls ≡ 256 → gs ≡ marked_gaps w (head_size w) ns rs → AreClosed gs ls ls₁
+lists_closed : {L : Type 0} {wd : Widths L} (w : ℕ) (ns ms : List Bool) (gs : List Gap) (ls ls₁ : List (EntryList L wd)) (rs : List KeyValue) → 0 < w → length ls ≡ 256 → gs ≡ marked_gaps w (head_size w) ns rs → AreClosed gs ls ls₁
     → ((n : ℕ) → closed_by 0 (marked_gaps w (head_size w) ns rs) (marked_entries w ms rs n) ≡ table_entries w (unmarked ns rs) n)
     → lists_entries ls ≡ map (marked_entries w ms rs) (range_with_len 0 256) → lists_entries ls₁ ≡ map (table_entries w (unmarked ns rs)) (range_with_len 0 256)
 lists_closed w ns ms gs ls ls₁ rs pos long same closed goes e =
-    let d : EntryList = first_list ls (omega arith) in
+    let d : EntryList _ _ = first_list ls (omega arith) in
     fill_by_all (table_entries w (unmarked ns rs)) (lists_entries ls₁) 256 [] (length-map ls₁ list_entries ∙ closed.long ∙ long) (λ n lt.
     let o : list_entries (get_or ls n d) ≡ marked_entries w ms rs n = list_of_table (marked_entries w ms rs) n ls d long lt e in
     let rise : IsRising 0 (list_entries (get_or ls n d)) = subst (λ (v : List WordPair). IsRising 0 v) (sym o) (marked_rising n w 0 (head_size w) pos (omega arith) ms rs) in
@@ -137,7 +138,7 @@ lists_closed w ns ms gs ls ls₁ rs pos long same closed goes e =
     ∙ goes n)
 
 -- once the gaps of some records are closed, of which those with a mark are
-pub stands_closed : {w end : ℕ} {gs : List Gap} {ls ls₁ : List EntryList} {rs : List KeyValue} {old new : List ℕ → Type 0} (ns ms : List Bool) (size last : ℕ)
+pub stands_closed : {L : Type 0} {wd : Widths L} {w end : ℕ} {gs : List Gap} {ls ls₁ : List (EntryList L wd)} {rs : List KeyValue} {old new : List ℕ → Type 0} (ns ms : List Bool) (size last : ℕ)
     → 0 < w → end ≤ size → length ls ≡ 256 → AreSized size old → last ≡ end - sum_by (λ g. g.size) gs
     → AreAmong w ms ns rs → AreMarked w gs ns rs old
     → StandMarked w end (lists_entries ls) ms rs old → Closed (first_place gs end) gs end old new → AreClosed gs ls ls₁
@@ -171,7 +172,7 @@ closed_none (e ∷ es) =
     let same : e.second - (0 + 0) ≡ e.second = omega arith in
     ap (λ (p : ℕ). record { first = e.first; second = p } ∷ closed_by 0 [] es) same ∙ ap (λ (v : List WordPair). e ∷ v) (closed_none es)
 
-pub lists_stay : (gs : List Gap) (ls : List EntryList) → gs ≡ [] → AreClosed gs ls ls
+pub lists_stay : {L : Type 0} {wd : Widths L} (gs : List Gap) (ls : List (EntryList L wd)) → gs ≡ [] → AreClosed gs ls ls
 lists_stay gs ls e = record {
   long = refl;
   each = λ k d lt. record {

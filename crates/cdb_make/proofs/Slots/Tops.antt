@@ -8,12 +8,13 @@ use Rattle.std.proofs.lemmas.List.{get_or-map, get_or-set_other, get_or_past, le
 use Rattle.std.proofs.lemmas.List.Elements.{All-push, All-same, All-weaker}
 use Rattle.cdb_form.specs.Format.Hash.{table_number}
 use Rattle.cdb_form.specs.Format.Pair.{WordPair}
+use Rattle.cdb_form.specs.declared.width.Width.{Ghosts as Widths}
 use Rattle.cdb_make.specs.declared.removal.gap.Gap.{Gap}
 use Rattle.cdb_make.specs.declared.index.list.EntryList.{EntryList}
 use Rattle.cdb_make.specs.Views.EntryList.{AreClosed, AreUnder, list_entries, lists_entries, list_tops, with_entry}
 
 -- a list of some
-some_list : (ls : List EntryList) → 0 < length ls → EntryList
+some_list : {L : Type 0} {wd : Widths L} (ls : List (EntryList L wd)) → 0 < length ls → EntryList L wd
 some_list [] h = absurd (omega arith)
 some_list (l ∷ ls) h = l
 
@@ -43,14 +44,14 @@ under_more tops lists e g top group in_lists in_tops higher low under k =
     ]
 
 -- closing gaps lowers places, and no top
-pub under_closed : {gs : List Gap} {ls new : List EntryList} → AreClosed gs ls new → AreUnder (list_tops ls) (lists_entries ls) → AreUnder (list_tops new) (lists_entries new)
+pub under_closed : {L : Type 0} {wd : Widths L} {gs : List Gap} {ls new : List (EntryList L wd)} → AreClosed gs ls new → AreUnder (list_tops ls) (lists_entries ls) → AreUnder (list_tops new) (lists_entries new)
 under_closed {ls = ls} {new = new} closed under k =
     let m : ℕ = k / 16 * 16 in
     elim (cases_lt k (length ls)) [
       | inl lt ↦
-          let d : EntryList = some_list ls (omega arith) in
+          let d : EntryList _ _ = some_list ls (omega arith) in
           let top : get_or (list_tops new) m 0 ≡ get_or (list_tops ls) m 0 =
-          get_or-map (λ (v : EntryList). v.top) new m d 0 (omega (arith, closed.long)) ∙ (closed.each m d (omega arith)).top ∙ sym (get_or-map (λ (v : EntryList). v.top) ls m d 0 (omega arith)) in
+          get_or-map (λ (v : EntryList _ _). v.top) new m d 0 (omega (arith, closed.long)) ∙ (closed.each m d (omega arith)).top ∙ sym (get_or-map (λ (v : EntryList _ _). v.top) ls m d 0 (omega arith)) in
           let was : All (λ v. v.second ≤ get_or (list_tops ls) m 0) (list_entries (get_or ls k d)) = All-same (λ v. v.second ≤ get_or (list_tops ls) m 0) _ _ (sym (get_or-map list_entries ls k d [] lt)) (under k) in
           let now : All (λ v. v.second ≤ get_or (list_tops ls) m 0) (list_entries (get_or new k d)) = (closed.each k d lt).bounded (get_or (list_tops ls) m 0) was in
           All-weaker (λ v. v.second ≤ get_or (list_tops ls) m 0) (λ v. v.second ≤ get_or (list_tops new) m 0) (λ v le. omega arith) _
@@ -61,9 +62,9 @@ under_closed {ls = ls} {new = new} closed under k =
     ]
 
 -- one list changed, and neither its entries nor its top
-pub under_set : (ls : List EntryList) (n : ℕ) (new old : EntryList) → list_entries new ≡ list_entries old → new.top ≡ old.top → old ≡ get_or ls n old → AreUnder (list_tops ls) (lists_entries ls)
+pub under_set : {L : Type 0} {wd : Widths L} (ls : List (EntryList L wd)) (n : ℕ) (new old : EntryList L wd) → list_entries new ≡ list_entries old → new.top ≡ old.top → old ≡ get_or ls n old → AreUnder (list_tops ls) (lists_entries ls)
     → AreUnder (list_tops (slice_set ls n new)) (lists_entries (slice_set ls n new))
 under_set ls n new old entries top is under =
     let e : lists_entries (slice_set ls n new) ≡ lists_entries ls = map-set_same list_entries ls n new old (entries ∙ ap list_entries is) in
-    let t : list_tops (slice_set ls n new) ≡ list_tops ls = map-set_same (λ (l : EntryList). l.top) ls n new old (top ∙ ap (λ (l : EntryList). l.top) is) in
+    let t : list_tops (slice_set ls n new) ≡ list_tops ls = map-set_same (λ (l : EntryList _ _). l.top) ls n new old (top ∙ ap (λ (l : EntryList _ _). l.top) is) in
     subst (λ (v : List ℕ). AreUnder v (lists_entries (slice_set ls n new))) (sym t) (subst (λ (v : List (List WordPair)). AreUnder (list_tops ls) v) (sym e) under)

@@ -3,11 +3,12 @@ use Rattle.std.specs.Prelude.{ℕ, ◌*◌, ◌/◌, ◌≡◌, ◌<◌, ◌≤�
 use Rattle.std.specs.Prelude.{slice_index, slice_set, ◌++◌, get_or, vec_capacity, All}
 use Rattle.cdb_form.specs.Format.Hash.{table_number}
 use Rattle.cdb_form.specs.Format.Pair.{WordPair}
+use Rattle.cdb_form.specs.declared.width.Width.{Ghosts as Widths}
 use Rattle.cdb_make.specs.declared.removal.gap.Gap.{Gap}
 use Rattle.cdb_make.specs.declared.index.list.EntryList.{EntryList}
 use Rattle.cdb_make.specs.Gaps.{IsRising, closed_by}
 use Rattle.cdb_make.specs.Marks.{flip_each}
-use Rattle.cdb_make.specs.Views.Index.{index_room}
+use Rattle.cdb_make.specs.Views.Places.{places_in, places_room}
 
 -- hashes and places side by side
 abbrev pub entries_of : List ℕ → List ℕ → List WordPair
@@ -17,19 +18,19 @@ entries_of (h ∷ hashes) (p ∷ places) =
     record { first = h; second = p } ∷ entries_of hashes places
 
 -- the entries of a list
-abbrev pub list_entries : EntryList → List WordPair
-list_entries l = entries_of l.hashes.items l.places.items
+abbrev pub list_entries : {L : Type 0} {w : Widths L} → EntryList L w → List WordPair
+list_entries l = entries_of l.hashes.items (places_in l.places)
 
 -- those of each list
-abbrev pub lists_entries : List EntryList → List (List WordPair)
+abbrev pub lists_entries : {L : Type 0} {w : Widths L} → List (EntryList L w) → List (List WordPair)
 lists_entries ls = map list_entries ls
 
 -- how many entries a list holds without taking memory
-abbrev pub list_room : EntryList → ℕ
-list_room l = min (min (vec_capacity l.hashes) (vec_capacity l.places)) (index_room l.index)
+abbrev pub list_room : {L : Type 0} {w : Widths L} → EntryList L w → ℕ
+list_room l = min (vec_capacity l.hashes) (places_room l.places)
 
 -- the k-th list is the old one with the gaps closed
-pub record IsClosed (gaps : List Gap) (old new : EntryList) : Type 0 where
+pub record IsClosed {L : Type 0} {w : Widths L} (gaps : List Gap) (old new : EntryList L w) : Type 0 where
   pub entries : IsRising 0 (list_entries old)
       → list_entries new ≡ closed_by 0 gaps (list_entries old)
   pub fewer : length (list_entries new) ≤ length (list_entries old)
@@ -39,16 +40,17 @@ pub record IsClosed (gaps : List Gap) (old new : EntryList) : Type 0 where
   pub room : list_room new ≡ list_room old
 
 -- each list is the old one with the gaps closed
-pub record AreClosed (gaps : List Gap) (old new : List EntryList) : Type 0 where
+pub record AreClosed {L : Type 0} {w : Widths L} (gaps : List Gap) (old new : List (EntryList L w))
+    : Type 0 where
   pub long : length new ≡ length old
-  pub each : (k : ℕ) (d : EntryList) → k < length old
+  pub each : (k : ℕ) (d : EntryList L w) → k < length old
       → IsClosed gaps (get_or old k d) (get_or new k d)
 
 -- a list is the old one with the hashes at some gaps flipped
-pub record IsMarked (gaps : List Gap) (old new : EntryList) : Type 0 where
+pub record IsMarked {L : Type 0} {w : Widths L} (gaps : List Gap) (old new : EntryList L w) : Type 0 where
   pub entries : IsRising 0 (list_entries old)
       → list_entries new ≡ flip_each gaps (list_entries old)
-  pub places : new.places.items ≡ old.places.items
+  pub places : new.places ≡ old.places
   pub top : new.top ≡ old.top
   pub room : list_room new ≡ list_room old
 
@@ -66,7 +68,7 @@ abbrev pub HasSpareGaps : List (List WordPair) → ℕ → Type 0
 HasSpareGaps lists room = All (λ es. length es ≤ room) lists
 
 -- the top of each list
-abbrev pub list_tops : List EntryList → List ℕ
+abbrev pub list_tops : {L : Type 0} {w : Widths L} → List (EntryList L w) → List ℕ
 list_tops ls = map (λ l. l.top) ls
 
 -- no place of a list passes the top of the first list of its group of 16

@@ -25,7 +25,7 @@ use std::alloc::Global;
 /// `Device`: the bytes between the head and `end` stay.
 fn write_parts<S: Store, L: Width>(
     store: &mut S,
-    lists: &Lists,
+    lists: &Lists<L>,
     end: u64,
     last: u64,
     slots: &mut [Slot],
@@ -72,7 +72,7 @@ fn write_parts<S: Store, L: Width>(
 pub(crate) fn finish<S: Store, L: Width>(
     alloc: Global,
     store: &mut S,
-    lists: &Lists,
+    lists: &Lists<L>,
     end: u64,
 ) -> Result<(), MakeFault>
     requires start { head_size L.WORD ≤ end }

@@ -14,7 +14,7 @@ use cdb_form::{GREATEST_HEAD, Head, Pointer, Width, head_size, pair_size, write_
 use cdb_store::{Store, StoreFault};
 
 /// The pointers to the tables of some lists of entries, the first of which begins at `end`.
-fn head_of<L: Width>(lists: &Lists, end: u64) -> Head
+fn head_of<L: Width>(lists: &Lists<L>, end: u64) -> Head
     requires limit { tables_end L.WORD end (all_entries lists.now) ≤ L.GREATEST }
     ensures { head_pairs result
         ≡ pointers_from L.WORD end (map slots_of (all_entries lists.now)) }
@@ -35,7 +35,7 @@ fn head_of<L: Width>(lists: &Lists, end: u64) -> Head
 /// `Device`: the head's bytes may be any, and those after it stay.
 pub(crate) fn write_pointers<S: Store, L: Width>(
     store: &mut S,
-    lists: &Lists,
+    lists: &Lists<L>,
     end: u64,
 ) -> Result<(), StoreFault>
     requires limit { tables_end L.WORD end (all_entries lists.now) ≤ L.GREATEST }

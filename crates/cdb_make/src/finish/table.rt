@@ -59,6 +59,9 @@ fn first_empty(slots: &[Slot], runs: &mut [usize], home: usize) -> usize
         % length slots.now }
     ensures runs { AreRuns runs.new (map slot_pair slots.now) }
 {
+    if slots[home].place == 0 {
+        return home;
+    }
     let behind = next_empty(slots, runs, home);
     if behind < slots.len() {
         behind

@@ -17,7 +17,7 @@ use cdb_store::{Store, StoreFault};
 
 /// Leaves the table of a list's entries in empty slots, filled in their order. It has two slots for
 /// each.
-fn fill_table_of(slots: &mut [Slot], runs: &mut [usize], list: &EntryList)
+fn fill_table_of<L: Width>(slots: &mut [Slot], runs: &mut [usize], list: &EntryList<L>)
     requires slots { length slots.old ≡ 2 * length (list_entries list.now) }
     requires runs { length slots.old ≤ length runs.old }
     requires empty { AreEmpty slots.old }
@@ -37,7 +37,7 @@ fn fill_table_of(slots: &mut [Slot], runs: &mut [usize], list: &EntryList)
 fn write_table<S: Store, L: Width>(
     store: &mut S,
     place: u64,
-    list: &EntryList,
+    list: &EntryList<L>,
     slots: &mut [Slot],
     runs: &mut [usize],
     bytes: &mut [u8],
@@ -76,7 +76,7 @@ fn write_table<S: Store, L: Width>(
 /// `Device`: the tables' bytes may be any, and those before and after them stay.
 pub(crate) fn write_tables<S: Store, L: Width>(
     store: &mut S,
-    lists: &[EntryList],
+    lists: &[EntryList<L>],
     end: u64,
     slots: &mut [Slot],
     runs: &mut [usize],

@@ -3,12 +3,14 @@ ghost use Rattle.std.specs.Prelude.{◌≡◌, ℕ, ◌<◌, ◌≤◌, ◌^◌,
 ghost use Rattle.std.specs.Prelude.{true, OnOk, OnErr, max, slice_index, vec_capacity};
 ghost use Rattle.cdb_make.specs.Marks.{flipped};
 ghost use Rattle.cdb_make.specs.Rings.{AreLinked};
-ghost use Rattle.cdb_make.specs.Views.Index.{index_room};
+ghost use Rattle.cdb_make.specs.declared.index.list.Indexing.TheVariants.{Fixed};
+ghost use Rattle.cdb_make.specs.Views.Places.{places_in, places_room};
 
+use crate::index::places::Places;
 use crate::index::rings::Index;
 use crate::removal::gap::Gap;
-use crate::removal::repair_entries::{below, entry_at, repair_entries};
-use cdb_form::Slot;
+use crate::removal::repair_entries::{entry_at, repair_entries};
+use cdb_form::{Slot, Width};
 use std::alloc::{AllocError, Global};
 
 /// A hash with its lowest bit flipped, which no key of the same table has.
@@ -18,42 +20,52 @@ fn flipped(hash: u32) -> u32
     if hash % 2 == 0 { hash + 1 } else { hash - 1 }
 }
 
-/// The entries of one table, in the order of their places: 20 to 24 bytes each.
+/// Whether memory is asked for to index the entries of a list.
+///
+/// Without it a look compares the entries that are not indexed one by one.
+#[derive(Clone, Copy, Debug, PartialEq, Eq)]
+pub(crate) enum Indexing {
+    /// It is asked for, and done without if there is none.
+    Growing,
+    /// It is not. The index has the room that it has.
+    Fixed,
+}
+
+/// The entries of one table, in the order of their places: 8 bytes each, or 12 if words are wide,
+/// and 8 for its index where it has one.
 #[derive(Drop)]
-pub(crate) struct EntryList {
+pub(crate) struct EntryList<L: Width> {
     /// The hash of each record's key.
     hashes: Vec<u32>,
     /// Where each record lies, in bytes from the file's start.
-    places: Vec<u64>,
+    places: Places<L>,
     /// Where the entries of a hash are.
     index: Index,
     /// In the first list of a group, a place that no place of the group's lists passes.
     top: u64,
     /// So many entries take no memory. There may be room for more.
     room: usize,
-    ghost paired: { length hashes.items ≡ length places.items },
+    ghost paired: { length hashes.items ≡ length (places_in places) },
     ghost linked: { AreLinked index.ends.items index.next.items hashes.items },
-    ghost indexed: { length hashes.items ≤ index_room index },
     ghost hash_room: { length hashes.items ≤ vec_capacity hashes },
-    ghost place_room: { length places.items ≤ vec_capacity places },
+    ghost place_room: { length hashes.items ≤ places_room places },
     ghost known_hash_room: { room ≤ vec_capacity hashes },
-    ghost known_place_room: { room ≤ vec_capacity places },
-    ghost known_index_room: { room ≤ index_room index },
+    ghost known_place_room: { room ≤ places_room places },
 }
 
-impl EntryList {
+impl<L: Width> EntryList<L> {
     ghost use Rattle.cdb_form.specs.Views.Pairs.{slot_pair};
     ghost use Rattle.cdb_make.specs.Gaps.{AreApart, IsRising, closed_by, first_place};
     ghost use Rattle.cdb_make.specs.Marks.{flip_at};
     ghost use Rattle.cdb_make.specs.Views.EntryList.{list_entries, list_room, IsNowhereIn};
 
     /// No entries.
-    pub(crate) fn new(alloc: Global) -> EntryList
+    pub(crate) fn new(alloc: Global) -> EntryList<L>
         ensures { list_entries result ≡ [] }
     {
         EntryList {
             hashes: Vec::new(alloc),
-            places: Vec::new(alloc),
+            places: Places::new(alloc),
             index: Index::new(alloc),
             top: 0,
             room: 0,
@@ -90,11 +102,12 @@ impl EntryList {
         &self.hashes
     }
 
-    /// The place of each entry.
-    pub(crate) fn places(&self) -> &[u64]
-        ensures { result.now ≡ self.now.places.items }
+    /// The place of an entry.
+    pub(crate) fn place(&self, n: usize) -> u64
+        requires { n < length self.now.hashes.items }
+        ensures { result ≡ get_or (places_in self.now.places) n result }
     {
-        &self.places
+        self.places.at(n)
     }
 
     /// The number of the first entry with a hash from `from` on, or that of all entries.
@@ -117,19 +130,33 @@ impl EntryList {
     {
         Slot {
             hash: u64::from(self.hashes[n]),
-            place: self.places[n],
+            place: self.places.at(n),
         }
     }
 
     /// Whether it is known that one more entry takes no memory.
-    pub(crate) fn has_room(&self) -> bool
+    pub(crate) fn has_room(&self, indexing: Indexing) -> bool
         ensures { result ≡ true → length (list_entries self.now) < list_room self.now }
     {
-        self.hashes.len() < self.room
+        let count = self.hashes.len();
+        count < self.room && (indexing == Indexing::Fixed || count < self.index.room())
+    }
+
+    /// Asks for room for so many entries in the index, if it may grow.
+    fn reserve_index(&mut self, indexing: Indexing, count: usize)
+        ensures hashes { self.new.hashes ≡ self.old.hashes }
+        ensures places { self.new.places ≡ self.old.places }
+        ensures fixed { indexing ≡ Fixed → self.new.index ≡ self.old.index }
+        ensures top { self.new.top ≡ self.old.top }
+    {
+        if indexing == Indexing::Growing {
+            // Without it, looks compare more entries.
+            let _ = self.index.reserve(count);
+        }
     }
 
     /// Makes room for one more entry. If memory is refused, the entries stay.
-    pub(crate) fn reserve(&mut self) -> Result<(), AllocError>
+    pub(crate) fn reserve(&mut self, indexing: Indexing) -> Result<(), AllocError>
         ensures entries { list_entries self.new ≡ list_entries self.old }
         ensures ok { OnOk result (length (list_entries self.new) < list_room self.new) }
         ensures full { OnErr result (list_room self.old ≤ length (list_entries self.old)) }
@@ -137,31 +164,34 @@ impl EntryList {
         ensures top { self.new.top ≡ self.old.top }
     {
         self.hashes.reserve(1)?;
-        self.places.reserve(1)?;
-        self.index.reserve(self.hashes.len())?;
-        let room = self.hashes.capacity().min(self.places.capacity());
-        self.room = room.min(self.index.room());
+        self.places.reserve()?;
+        let count = self.hashes.len() + 1;
+        self.reserve_index(indexing, count);
+        self.room = self.hashes.capacity().min(self.places.room());
         Ok(())
     }
 
     /// One more entry, for which there is room.
     pub(crate) fn push(&mut self, hash: u32, place: u64)
-        requires { length (list_entries self.old) < list_room self.old }
+        requires room { length (list_entries self.old) < list_room self.old }
+        requires fits { place ≤ L.TOP }
         ensures entries { list_entries self.new
             ≡ list_entries self.old ++ record { first = hash; second = place } ∷ [] }
         ensures room { list_room self.new ≡ list_room self.old }
         ensures top { self.new.top ≡ self.old.top }
     {
         self.hashes.push_reserved(hash);
-        self.places.push_reserved(place);
+        self.places.push(place);
     }
 
-    /// Indexes the entries that are not yet. It takes no memory.
-    pub(crate) fn catch_up(&mut self)
+    /// Indexes the entries that are not yet, before a look.
+    pub(crate) fn catch_up(&mut self, indexing: Indexing)
         ensures entries { list_entries self.new ≡ list_entries self.old }
         ensures room { list_room self.old ≤ list_room self.new }
         ensures top { self.new.top ≡ self.old.top }
     {
+        let count = self.hashes.len();
+        self.reserve_index(indexing, count);
         self.index.catch_up(&self.hashes);
     }
 
@@ -170,12 +200,12 @@ impl EntryList {
     pub(crate) fn mark(&mut self, place: u64)
         ensures entries { IsRising 0 (list_entries self.old)
             → list_entries self.new ≡ flip_at place (list_entries self.old) }
-        ensures places { self.new.places.items ≡ self.old.places.items }
+        ensures places { self.new.places ≡ self.old.places }
         ensures top { self.new.top ≡ self.old.top }
         ensures room { list_room self.new ≡ list_room self.old }
     {
-        let n = below(&self.places, place);
-        if n < self.places.len() && self.places[n] == place {
+        let n = self.places.below(place);
+        if n < self.places.len() && self.places.at(n) == place {
             self.hashes[n] = flipped(self.hashes[n]);
         }
     }
@@ -183,10 +213,10 @@ impl EntryList {
     /// Whether each entry lies below a place.
     fn is_below(&self, place: u64) -> bool
         ensures { result ≡ true → IsRising 0 (list_entries self.now) → (k : ℕ)
-            → k < length self.now.places.items → get_or self.now.places.items k 0 < place }
+            → k < length (places_in self.now.places) → get_or (places_in self.now.places) k 0 < place }
     {
         let count = self.places.len();
-        count == 0 || self.places[count - 1] < place
+        count == 0 || self.places.at(count - 1) < place
     }
 
     /// Closes the gaps as `close` does, from the first entry that they reach on.
@@ -201,7 +231,7 @@ impl EntryList {
         ensures top { self.new.top ≡ self.old.top }
         ensures room { list_room self.new ≡ list_room self.old }
     {
-        let start = below(&self.places, first);
+        let start = self.places.below(first);
         // The entries at gaps have one hash. Where they are in this list, one is at the first gap.
         let linked = entry_at(&self.places, start, first);
         self.index.cut(&self.hashes, linked);

@@ -6,16 +6,16 @@ ghost use Rattle.cdb_make.specs.Gaps.{AreApart};
 ghost use Rattle.cdb_make.specs.Views.EntryList.{list_entries, lists_entries, list_room};
 ghost use Rattle.cdb_make.specs.Views.EntryList.{list_tops, with_entry, AreUnder, IsMarked};
 
-use crate::index::list::EntryList;
+use crate::index::list::{EntryList, Indexing};
 use crate::index::repair_lists::{GROUP, repair_lists};
 use crate::removal::gap::Gap;
-use cdb_form::table_number;
+use cdb_form::{Width, table_number};
 use std::alloc::{AllocError, Global};
 
 /// The entries of all tables, in a list for each of the 256.
 #[derive(Drop)]
-pub(crate) struct Lists {
-    pub(crate) each: Vec<EntryList>,
+pub(crate) struct Lists<L: Width> {
+    pub(crate) each: Vec<EntryList<L>>,
     ghost all: { length each.items ≡ 256 },
     ghost under: { AreUnder (list_tops each.items) (lists_entries each.items) },
 }
@@ -24,7 +24,11 @@ pub(crate) struct Lists {
 /// entries stay.
 #[cold]
 #[inline(never)]
-fn grow(list: &mut EntryList, gaps: &mut Vec<Gap>) -> Result<(), AllocError>
+fn grow<L: Width>(
+    list: &mut EntryList<L>,
+    gaps: &mut Vec<Gap>,
+    indexing: Indexing,
+) -> Result<(), AllocError>
     ensures entries { list_entries list.new ≡ list_entries list.old }
     ensures top { list.new.top ≡ list.old.top }
     ensures room { OnOk result (length (list_entries list.new) < list_room list.new) }
@@ -36,11 +40,11 @@ fn grow(list: &mut EntryList, gaps: &mut Vec<Gap>) -> Result<(), AllocError>
 {
     gaps.clear();
     gaps.reserve(list.hashes().len() + 1)?;
-    list.reserve()
+    list.reserve(indexing)
 }
 
 /// Marks the entries at some gaps.
-fn mark_each(list: &mut EntryList, gaps: &[Gap])
+fn mark_each<L: Width>(list: &mut EntryList<L>, gaps: &[Gap])
     ensures { IsMarked gaps.now list.old list.new }
 {
     for gap in gaps {
@@ -49,7 +53,7 @@ fn mark_each(list: &mut EntryList, gaps: &[Gap])
 }
 
 /// How many entries some lists have.
-fn count_all(lists: &[EntryList]) -> u64
+fn count_all<L: Width>(lists: &[EntryList<L>]) -> u64
     requires { sum_by length (lists_entries lists.now) < 2 ^ 64 }
     ensures { result ≡ sum_by length (lists_entries lists.now) }
 {
@@ -61,7 +65,7 @@ fn count_all(lists: &[EntryList]) -> u64
 }
 
 /// How many entries the longest of some lists has.
-fn longest(lists: &[EntryList]) -> usize
+fn longest<L: Width>(lists: &[EntryList<L>]) -> usize
     ensures most { All (λ list. length list ≤ result) (lists_entries lists.now) }
     ensures within { result ≤ sum_by length (lists_entries lists.now) }
 {
@@ -72,12 +76,12 @@ fn longest(lists: &[EntryList]) -> usize
     most
 }
 
-impl Lists {
+impl<L: Width> Lists<L> {
     ghost use Rattle.cdb_make.specs.Views.Lists.{all_entries, entry_count, entry_room};
     ghost use Rattle.cdb_make.specs.Views.Lists.{AreAllClosed, AreAllMarked};
 
     /// 256 lists without entries.
-    pub(crate) fn new(alloc: Global) -> Result<Lists, AllocError>
+    pub(crate) fn new(alloc: Global) -> Result<Lists<L>, AllocError>
         ensures { IfOk result (λ ls. all_entries ls ≡ replicate 256 []) }
     {
         let mut each = Vec::new(alloc);
@@ -88,7 +92,7 @@ impl Lists {
     }
 
     /// The list of a hash.
-    pub(crate) fn of_hash(&self, hash: u32) -> &EntryList
+    pub(crate) fn of_hash(&self, hash: u32) -> &EntryList<L>
         ensures { result.now ≡ get_or self.now.each.items (table_number hash) result.now }
     {
         &self.each[table_number(u64::from(hash))]
@@ -112,7 +116,12 @@ impl Lists {
 
     /// Makes room for an entry in the list of its hash, and for a gap for each entry there. If
     /// memory is refused, the entries stay.
-    pub(crate) fn reserve_entry(&mut self, gaps: &mut Vec<Gap>, hash: u32) -> Result<(), AllocError>
+    pub(crate) fn reserve_entry(
+        &mut self,
+        gaps: &mut Vec<Gap>,
+        hash: u32,
+        indexing: Indexing,
+    ) -> Result<(), AllocError>
         ensures entries { all_entries self.new ≡ all_entries self.old }
         ensures room { OnOk result (entry_count self.new hash < entry_room self.new hash) }
         ensures spare { OnOk result (entry_count self.old hash < vec_capacity gaps.new) }
@@ -122,23 +131,24 @@ impl Lists {
             ⊎ (vec_capacity gaps.old ≤ entry_count self.old hash)) }
     {
         let list = &mut self.each[table_number(u64::from(hash))];
-        if list.has_room() && list.len() < gaps.capacity() {
+        if list.has_room(indexing) && list.len() < gaps.capacity() {
             return Ok(());
         }
-        grow(list, gaps)
+        grow(list, gaps, indexing)
     }
 
     /// Indexes the entries of the list of a hash, before a look for it.
-    pub(crate) fn catch_up(&mut self, hash: u32)
+    pub(crate) fn catch_up(&mut self, hash: u32, indexing: Indexing)
         ensures room { entry_room self.old hash ≤ entry_room self.new hash }
         ensures entries { all_entries self.new ≡ all_entries self.old }
     {
-        self.each[table_number(u64::from(hash))].catch_up();
+        self.each[table_number(u64::from(hash))].catch_up(indexing);
     }
 
     /// One more entry, for which there is room.
     pub(crate) fn push_entry(&mut self, hash: u32, place: u64)
-        requires { entry_count self.old hash < entry_room self.old hash }
+        requires room { entry_count self.old hash < entry_room self.old hash }
+        requires fits { place ≤ L.TOP }
         ensures { all_entries self.new
             ≡ with_entry (all_entries self.old) (record { first = hash; second = place }) }
     {

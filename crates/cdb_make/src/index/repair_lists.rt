@@ -5,12 +5,13 @@ ghost use Rattle.cdb_make.specs.Views.EntryList.{lists_entries, AreClosed, list_
 
 use crate::index::list::EntryList;
 use crate::removal::gap::{Gap, first_place};
+use cdb_form::Width;
 
 /// So many lists are passed over at once if the gaps reach none of them.
 pub(crate) const GROUP: usize = 16;
 
 /// Whether a group of lists begins at this number, and all their entries lie below a place.
-fn is_group_below(lists: &[EntryList], n: usize, place: u64) -> bool
+fn is_group_below<L: Width>(lists: &[EntryList<L>], n: usize, place: u64) -> bool
     requires { n < length lists.now }
     ensures first { result ≡ true → n % 16 ≡ 0 }
     ensures below { result ≡ true → get_or (list_tops lists.now) n 0 < place }
@@ -20,7 +21,7 @@ fn is_group_below(lists: &[EntryList], n: usize, place: u64) -> bool
 
 /// Takes the entries at the gaps out of each list, lowers each other place by the gaps below it, and
 /// answers how many went. Each list's room stays.
-pub(crate) fn repair_lists(lists: &mut [EntryList], gaps: &[Gap]) -> u64
+pub(crate) fn repair_lists<L: Width>(lists: &mut [EntryList<L>], gaps: &[Gap]) -> u64
     requires all { length lists.old ≡ 256 }
     requires apart { AreApart 0 gaps.now (2 ^ 63) }
     requires few { sum_by length (lists_entries lists.old) < 2 ^ 64 }

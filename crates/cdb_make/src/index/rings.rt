@@ -103,28 +103,24 @@ impl Index {
         rest + first_of_hash(&hashes[rest..], hash)
     }
 
-    /// So many entries a list may have before the index takes memory, or more.
+    /// So many entries it can have before it takes memory.
     pub(crate) fn room(&self) -> usize
-        ensures { result ≤ index_room self.now }
+        ensures { result ≡ index_room self.now }
     {
         self.next.capacity().min(self.ends.capacity())
     }
 
-    /// Makes room for one more entry than so many. The rings stay.
+    /// Makes room for so many entries, or for as many as it can have. The rings stay.
     pub(crate) fn reserve(&mut self, count: usize) -> Result<(), AllocError>
-        requires { count ≤ index_room self.old }
         ensures ends { self.new.ends.items ≡ self.old.ends.items }
         ensures next { self.new.next.items ≡ self.old.next.items }
-        ensures ok { OnOk result (count < index_room self.new) }
-        ensures full { OnErr result (index_room self.old ≤ count) }
+        ensures ok { OnOk result (min count (2 ^ 32 - 1) ≤ index_room self.new) }
+        ensures full { OnErr result (index_room self.old < count) }
         ensures room { index_room self.old ≤ index_room self.new }
     {
-        if count < MOST {
-            let wanted = count + 1;
-            self.next.reserve(wanted.saturating_sub(self.next.len()))?;
-            self.ends.reserve(wanted.saturating_sub(self.ends.len()))?;
-        }
-        Ok(())
+        let wanted = count.min(MOST);
+        self.next.reserve(wanted.saturating_sub(self.next.len()))?;
+        self.ends.reserve(wanted.saturating_sub(self.ends.len()))
     }
 
     /// Takes all entries out of the rings. The room stays.
@@ -243,15 +239,15 @@ impl Index {
         let _ = self.ends.resize(room, 0);
     }
 
-    /// Puts the entries that are in no ring into those of their buckets. It takes no memory.
+    /// Puts the entries that are in no ring into those of their buckets, as many as there is room
+    /// for. It takes no memory.
     pub(crate) fn catch_up(&mut self, hashes: &[u32])
-        requires linked { AreLinked self.old.ends.items self.old.next.items hashes.now }
-        requires room { length hashes.now ≤ index_room self.old }
+        requires { AreLinked self.old.ends.items self.old.next.items hashes.now }
         ensures linked { AreLinked self.new.ends.items self.new.next.items hashes.now }
-        ensures all { length self.new.next.items ≡ min (length hashes.now) (2 ^ 32 - 1) }
-        ensures room { index_room self.old ≤ index_room self.new }
+        ensures all { length self.new.next.items
+            ≡ min (min (length hashes.now) (2 ^ 32 - 1)) (index_room self.old) }
     {
-        let most = hashes.len().min(MOST);
+        let most = hashes.len().min(MOST).min(self.room());
         if self.next.len() == most {
             return;
         }

@@ -15,6 +15,7 @@ ghost use Rattle.cdb_make.specs.Views.Adding.{AddFails};
 ghost use Rattle.cdb_make.specs.Views.Maker.{ComesFrom};
 
 use crate::fault::MakeFault;
+use crate::index::list::Indexing;
 use crate::index::lists::Lists;
 use crate::records::write::append_record;
 use crate::removal::gap::Gap;
@@ -28,9 +29,10 @@ use cdb_store::Store;
 #[inline(always)]
 pub(crate) fn add<S: Store, L: Width>(
     store: &mut S,
-    lists: &mut Lists,
+    lists: &mut Lists<L>,
     gaps: &mut Vec<Gap>,
     end: u64,
+    indexing: Indexing,
     hash: u32,
     key: &[u8],
     value: &[u8],
@@ -79,7 +81,7 @@ pub(crate) fn add<S: Store, L: Width>(
     ensures not_written { IfErr result
         (λ f. f ≡ Writing → S.unwritten store.old < S.unwritten store.new) }
 {
-    lists.reserve_entry(gaps, hash)?;
+    lists.reserve_entry(gaps, hash, indexing)?;
     append_record::<S, L>(store, end, key, value)?;
     lists.push_entry(hash, end);
     Ok(end + pair_size::<L>() as u64 + key.len() as u64 + value.len() as u64)

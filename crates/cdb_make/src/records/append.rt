@@ -10,6 +10,7 @@ ghost use Rattle.cdb_make.specs.declared.fault.MakeFault.TheVariants.{NoMemory};
 ghost use Rattle.cdb_make.specs.Views.Appending.{records_at, first_size, AreFirst};
 
 use crate::fault::MakeFault;
+use crate::index::list::Indexing;
 use crate::maker::Maker;
 use cdb_form::{Width, hash, pair_size, read_header, record_len};
 use cdb_store::Store;
@@ -107,7 +108,8 @@ impl<S: Store, L: Width> Maker<S, L> {
         ensures limit { self.new.limit ≡ self.old.limit }
         ensures store { self.new.store ≡ self.old.store }
     {
-        self.lists.reserve_entry(&mut self.gaps, hash)?;
+        self.lists
+            .reserve_entry(&mut self.gaps, hash, Indexing::Growing)?;
         self.lists.push_entry(hash, self.end);
         self.end += size;
         self.count += 1;

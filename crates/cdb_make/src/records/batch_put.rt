@@ -9,6 +9,8 @@ ghost use Rattle.cdb_make.specs.Views.Foreseen.{IsAdded, HasFound, Finds, taken_
 
 use crate::batch::Batch;
 use crate::fault::MakeFault;
+use crate::index::list::Indexing;
+use crate::records::maker_put::indexing_of;
 use crate::records::put::Put;
 use crate::removal::marks::note;
 use cdb_form::{Mode, Width, hash};
@@ -48,7 +50,13 @@ impl<S: Store, L: Width> Batch<S, L> {
 
     /// One more record, after the others. Or none, since a pass has to be made first.
     #[inline(always)]
-    fn add(&mut self, hash: u32, key: &[u8], value: &[u8]) -> Result<bool, MakeFault>
+    fn add(
+        &mut self,
+        indexing: Indexing,
+        hash: u32,
+        key: &[u8],
+        value: &[u8],
+    ) -> Result<bool, MakeFault>
         requires hash { hash ≡ key_hash key.now }
         requires whole { self.old.maker.broken ≡ false }
         ensures done { (put : Put) → IsAdded put → IfOk result (λ done. done ≡ true
@@ -62,7 +70,7 @@ impl<S: Store, L: Width> Batch<S, L> {
         ensures counts { OnErr result (SameCounts self.old self.new) }
         ensures pace { KeepsPace self.old self.new }
     {
-        match self.maker.add(hash, key, value) {
+        match self.maker.add(indexing, hash, key, value) {
             Ok(()) => Ok(true),
             Err(fault) => {
                 if self.is_mended(fault) {
@@ -76,6 +84,7 @@ impl<S: Store, L: Width> Batch<S, L> {
 
     /// Marks the records whose gaps are noted, so many, and adds one after the others. Or it does
     /// neither, since a pass has to be made first.
+    #[inline(never)]
     fn exchange(
         &mut self,
         taken: u64,
@@ -102,7 +111,7 @@ impl<S: Store, L: Width> Batch<S, L> {
         }
         let from = self.gone.len();
         note(&mut self.gone, self.maker.noted_gaps());
-        match self.maker.add(hash, key, value) {
+        match self.maker.add(Indexing::Growing, hash, key, value) {
             Ok(()) => {
                 self.maker.mark(hash, &self.gone[from..]);
                 Ok(true)
@@ -120,7 +129,14 @@ impl<S: Store, L: Width> Batch<S, L> {
 
     /// Does what was foreseen of a put. Or nothing, since a pass has to be made first.
     #[inline(always)]
-    fn enter(&mut self, put: Put, hash: u32, key: &[u8], value: &[u8]) -> Result<bool, MakeFault>
+    fn enter(
+        &mut self,
+        indexing: Indexing,
+        put: Put,
+        hash: u32,
+        key: &[u8],
+        value: &[u8],
+    ) -> Result<bool, MakeFault>
         requires hash { hash ≡ key_hash key.now }
         requires whole { self.old.maker.broken ≡ false }
         requires found { Finds self.old.maker key.now put }
@@ -137,8 +153,8 @@ impl<S: Store, L: Width> Batch<S, L> {
     {
         match put {
             Put::Present => Ok(true),
-            Put::Added => self.add(hash, key, value),
-            Put::AddedAgain => self.add(hash, key, value),
+            Put::Added => self.add(indexing, hash, key, value),
+            Put::AddedAgain => self.add(indexing, hash, key, value),
             Put::Replaced(taken) => self.exchange(taken, hash, key, value),
         }
     }
@@ -157,7 +173,7 @@ impl<S: Store, L: Width> Batch<S, L> {
         ensures pace { KeepsPace self.old self.new }
     {
         let put = self.maker.meet(mode, hash, key)?;
-        if self.enter(put, hash, key, value)? {
+        if self.enter(indexing_of(mode), put, hash, key, value)? {
             return Ok(put);
         }
         self.close_all()?;

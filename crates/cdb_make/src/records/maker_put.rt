@@ -6,11 +6,13 @@ ghost use Rattle.cdb_form.specs.Format.File.{whole_size};
 ghost use Rattle.cdb_form.specs.Format.Record.{record_of, record_size};
 ghost use Rattle.cdb_store.specs.Reads.{OnlyReads};
 ghost use Rattle.cdb_form.specs.declared.mode.Mode.TheVariants.{Add, Replace};
+ghost use Rattle.cdb_make.specs.declared.index.list.Indexing.TheVariants.{Fixed};
 ghost use Rattle.cdb_make.specs.declared.records.put.Put.TheVariants.{Replaced};
 ghost use Rattle.cdb_make.specs.Views.Maker.{torn_fault};
 ghost use Rattle.cdb_make.specs.declared.fault.MakeFault.TheVariants.{Lookup};
 
 use crate::fault::MakeFault;
+use crate::index::list::Indexing;
 use crate::maker::Maker;
 use crate::records::add::add;
 use crate::records::put::Put;
@@ -28,6 +30,17 @@ fn torn_fault(fault: MakeFault) -> MakeFault
         MakeFault::Broken | MakeFault::Lookup | MakeFault::TooBig | MakeFault::NoMemory => {
             MakeFault::Broken
         }
+    }
+}
+
+/// Whether a put of a mode asks for memory to index its record: if the mode looks for keys.
+pub(crate) fn indexing_of(mode: Mode) -> Indexing
+    ensures add { mode ≡ Add → result ≡ Fixed }
+    ensures looks { mode ≢ Add → result ≢ Fixed }
+{
+    match mode {
+        Mode::Add => Indexing::Fixed,
+        Mode::Warn | Mode::Insert | Mode::Replace => Indexing::Growing,
     }
 }
 
@@ -91,7 +104,7 @@ impl<S: Store, L: Width> Maker<S, L> {
                 Ok(Put::Added)
             }
             Mode::Replace => {
-                let taken = self.find(hash, key)?;
+                let taken = self.find(Indexing::Fixed, hash, key)?;
                 if taken == 0 {
                     return Ok(Put::Added);
                 }
@@ -101,7 +114,14 @@ impl<S: Store, L: Width> Maker<S, L> {
     }
 
     /// One more record, after the others. The hash is that of its key.
-    pub(crate) fn add(&mut self, hash: u32, key: &[u8], value: &[u8]) -> Result<(), MakeFault>
+    #[inline(always)]
+    pub(crate) fn add(
+        &mut self,
+        indexing: Indexing,
+        hash: u32,
+        key: &[u8],
+        value: &[u8],
+    ) -> Result<(), MakeFault>
         requires hash { hash ≡ key_hash key.now }
         requires whole { self.old.broken ≡ false }
         ensures adds { OnOk result (Adds self.old self.new (record_of key.now value.now)) }
@@ -115,7 +135,7 @@ impl<S: Store, L: Width> Maker<S, L> {
             return Err(MakeFault::TooBig);
         }
         let (store, lists, gaps) = (&mut self.store, &mut self.lists, &mut self.gaps);
-        self.end = add::<S, L>(store, lists, gaps, self.end, hash, key, value)?;
+        self.end = add::<S, L>(store, lists, gaps, self.end, indexing, hash, key, value)?;
         self.count += 1;
         Ok(())
     }
@@ -143,7 +163,7 @@ impl<S: Store, L: Width> Maker<S, L> {
     {
         let (end, count) = (self.end, self.count);
         self.take_out()?;
-        match self.add(hash, key, value) {
+        match self.add(Indexing::Fixed, hash, key, value) {
             Ok(()) => Ok(()),
             Err(fault) => {
                 self.broken = true;
@@ -155,6 +175,7 @@ impl<S: Store, L: Width> Maker<S, L> {
     }
 
     /// The record instead of those of its key, whose gaps are noted, so many.
+    #[inline(never)]
     fn replace(&mut self, taken: u64, hash: u32, key: &[u8], value: &[u8]) -> Result<(), MakeFault>
         requires hash { hash ≡ key_hash key.now }
         requires whole { self.old.broken ≡ false }
@@ -180,6 +201,8 @@ impl<S: Store, L: Width> Maker<S, L> {
 
     /// Puts a record: the mode says what is done if its key is there already.
     ///
+    /// A record that is added by another mode than `Add` gets room in the index, if there is memory.
+    ///
     /// `Lookup`: the store failed while it was read. `TooBig`: the file would pass the limit.
     /// `NoMemory`: memory was refused to a put that would have been taken, and nothing was written.
     /// All these leave the records as they were. `Writing`: the store failed; if records were to
@@ -197,8 +220,8 @@ impl<S: Store, L: Width> Maker<S, L> {
         let put = self.meet(mode, hash, key)?;
         match put {
             Put::Present => {}
-            Put::Added => self.add(hash, key, value)?,
-            Put::AddedAgain => self.add(hash, key, value)?,
+            Put::Added => self.add(indexing_of(mode), hash, key, value)?,
+            Put::AddedAgain => self.add(indexing_of(mode), hash, key, value)?,
             Put::Replaced(taken) => self.replace(taken, hash, key, value)?,
         }
         Ok(put)

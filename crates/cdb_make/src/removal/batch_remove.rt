@@ -4,6 +4,7 @@ ghost use Rattle.cdb_form.specs.Format.Hash.{key_hash};
 
 use crate::batch::Batch;
 use crate::fault::MakeFault;
+use crate::index::list::Indexing;
 use crate::removal::marks::note;
 use cdb_form::{Width, hash};
 use cdb_store::Store;
@@ -22,7 +23,7 @@ impl<S: Store, L: Width> Batch<S, L> {
         ensures counts { OnErr result (SameCounts self.old self.new) }
         ensures pace { KeepsPace self.old self.new }
     {
-        let taken = self.maker.find(hash, key)?;
+        let taken = self.maker.find(Indexing::Growing, hash, key)?;
         if self.has_room(taken) {
             let from = self.gone.len();
             note(&mut self.gone, self.maker.noted_gaps());

@@ -115,6 +115,7 @@ impl<S: Store, L: Width> Batch<S, L> {
     /// Each byte behind the first gap moves once at the most, however many records go, and no memory
     /// is taken. `Writing`: the store failed amid the pass, and the batch is broken. `Broken`: an
     /// earlier call broke it, or the store gave back other bytes than were written.
+    #[inline(never)]
     pub fn close_all(&mut self) -> Result<(), MakeFault>
         ensures closes_all { OnOk result (ClosesAll self.old self.new) }
         ensures fails { IfErr result (FailsClosingAll self.old self.new) }

@@ -18,7 +18,7 @@ use cdb_store::Store;
 /// `Foreign`: the records at these entries don't lie one after another up to `end`.
 pub(crate) fn find_gaps<S: Store, L: Width>(
     store: &mut S,
-    list: &EntryList,
+    list: &EntryList<L>,
     hash: u32,
     key: &[u8],
     start: u64,
@@ -44,7 +44,7 @@ pub(crate) fn find_gaps<S: Store, L: Width>(
     let mut last = start;
     let mut next = list.next_place(hash, 0);
     while next < list.len() {
-        let place = list.places()[next];
+        let place = list.place(next);
         if let Some(size) = look_at::<S, L>(store, place, end, key)? {
             if place < last {
                 return Err(LookFault::Foreign);
@@ -62,7 +62,7 @@ pub(crate) fn find_gaps<S: Store, L: Width>(
 /// `Foreign`: the records at these entries don't lie one after another up to `end`.
 pub(crate) fn some_has<S: Store, L: Width>(
     store: &mut S,
-    list: &EntryList,
+    list: &EntryList<L>,
     hash: u32,
     key: &[u8],
     end: u64,
@@ -79,7 +79,7 @@ pub(crate) fn some_has<S: Store, L: Width>(
 {
     let mut next = list.next_place(hash, 0);
     while next < list.len() {
-        if look_at::<S, L>(store, list.places()[next], end, key)?.is_some() {
+        if look_at::<S, L>(store, list.place(next), end, key)?.is_some() {
             return Ok(true);
         }
         next = list.next_place(hash, next + 1);

@@ -7,6 +7,7 @@ ghost use Rattle.cdb_make.specs.Gaps.{AreApart};
 ghost use Rattle.cdb_make.specs.Views.Lists.{AreAllClosed};
 
 use crate::fault::MakeFault;
+use crate::index::list::Indexing;
 use crate::maker::Maker;
 use crate::removal::take_out;
 use cdb_form::{Width, hash};
@@ -19,7 +20,12 @@ impl<S: Store, L: Width> Maker<S, L> {
     ghost use Rattle.cdb_make.specs.Views.Foreseen.{HasFound};
 
     /// How many records have a key of this hash, whose gaps are noted.
-    pub(crate) fn find(&mut self, hash: u32, key: &[u8]) -> Result<u64, MakeFault>
+    pub(crate) fn find(
+        &mut self,
+        indexing: Indexing,
+        hash: u32,
+        key: &[u8],
+    ) -> Result<u64, MakeFault>
         requires hash { hash ≡ key_hash key.now }
         ensures found { IfOk result (λ n. HasFound self.new key.now n) }
         ensures rests { OnOk result (Rests self.old self.new) }
@@ -34,7 +40,7 @@ impl<S: Store, L: Width> Maker<S, L> {
         if self.broken {
             return Err(MakeFault::Broken);
         }
-        self.lists.catch_up(hash);
+        self.lists.catch_up(hash, indexing);
         let (store, gaps) = (&mut self.store, &mut self.gaps);
         match take_out::find::<S, L>(store, &self.lists, hash, key, self.end, gaps) {
             Ok(()) => Ok(self.gaps.len() as u64),
@@ -85,7 +91,7 @@ impl<S: Store, L: Width> Maker<S, L> {
         ensures follows { Follows self.old self.new }
         ensures counts { OnErr result (SameCounts self.old self.new) }
     {
-        let taken = self.find(hash(key), key)?;
+        let taken = self.find(Indexing::Fixed, hash(key), key)?;
         self.take_out()?;
         Ok(taken)
     }

@@ -31,7 +31,7 @@ use cdb_store::Store;
 /// `Foreign`: no byte list is an image any more in which the records stood.
 pub(crate) fn find<S: Store, L: Width>(
     store: &mut S,
-    lists: &Lists,
+    lists: &Lists<L>,
     hash: u32,
     key: &[u8],
     end: u64,
@@ -66,7 +66,7 @@ pub(crate) fn find<S: Store, L: Width>(
 /// Nothing is written, and no memory is taken. The faults are those of `find`.
 pub(crate) fn exists<S: Store, L: Width>(
     store: &mut S,
-    lists: &Lists,
+    lists: &Lists<L>,
     hash: u32,
     key: &[u8],
     end: u64,
@@ -104,7 +104,7 @@ pub(crate) struct Left {
 /// which the records stood. The bytes below the first gap and those from `end` on stay.
 pub(crate) fn close<S: Store, L: Width>(
     store: &mut S,
-    lists: &mut Lists,
+    lists: &mut Lists<L>,
     gaps: &[Gap],
     end: u64,
 ) -> Result<Left, MakeFault>

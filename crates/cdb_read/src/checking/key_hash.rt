@@ -38,8 +38,9 @@ fn span_hash<S: Store>(store: &mut S, window: &mut Window, span: Span) -> Result
 }
 
 impl<S: Store, L: Width> Reader<S, L> {
-    /// The hash of the bytes of a span, which lies inside the file.
-    fn hash(&mut self, span: Span) -> Result<u32, ReadFault>
+    /// The hash of the bytes of a span, which lies inside the file. They are read in pieces.
+    #[inline(always)]
+    pub fn hash(&mut self, span: Span) -> Result<u32, ReadFault>
         requires inside { span.place + span.len ≤ S.size self.old.store }
         ensures hash { (b : List ℕ) → S.image self.new.store b
             → IfOk result (λ h. h ≡ key_hash (bytes_of b span)) }

@@ -1,6 +1,7 @@
 // The values of a key, one after the other.
 ghost use Rattle.std.specs.Prelude.{◌≡◌, ℕ, ◌+◌, ◌<◌, ◌≤◌, List, IfOk, IfErr};
 ghost use Rattle.std.specs.Prelude.{MatchOption, Ok, Err, None};
+ghost use Rattle.cdb_form.specs.Format.Hash.{key_hash};
 ghost use Rattle.cdb_form.specs.Views.KnownBytes.{Writes};
 ghost use Rattle.cdb_read.specs.Lookup.{bytes_of, lookup_of};
 ghost use Rattle.cdb_store.specs.Reads.{OnlyReads};
@@ -25,31 +26,42 @@ pub struct Finder<'a, S: Store, L: Width> {
     pub(crate) reader: &'a mut Reader<S, L>,
     /// The key.
     pub(crate) key: &'a [u8],
+    /// Its hash.
+    pub(crate) hash: u64,
     /// Where the search is.
     pub(crate) searching: Searching,
     /// Whether it gave a value. The next ones are mostly near, so more is read at once.
     pub(crate) has_given: bool,
     ghost inside: { IsSearchInside L.WORD (S.size reader.now.store) searching },
+    ghost hashed: { hash ≡ key_hash key.now },
 }
 
 impl<S: Store, L: Width> Reader<S, L> {
     ghost use Rattle.cdb_read.specs.Views.Finder.{left_in};
 
-    /// Where the search of a key begins.
-    fn first_probe(&self, key: &[u8]) -> Searching
+    /// Where the search of a key begins, which has this hash.
+    fn first_probe(&self, key: &[u8], hash: u64) -> Searching
+        requires hash { hash ≡ key_hash key.now }
         ensures inside { IsSearchInside L.WORD (S.size self.now.store) result }
         ensures finds { (b : List ℕ) → S.image self.now.store b
             → found_ahead L.WORD b key.now result ≡ lookup_of L.WORD b key.now }
     {
-        let hash = u64::from(hash(key));
         let table = self.head.pointers[table_number(hash)];
         first_probe::<L>(table, hash, self.store.len())
     }
 
-    /// The search of a key from a probe on, up to its next value. So many bytes are read at once.
+    /// The search of a key, which has this hash, from a probe on, up to its next value. So many bytes
+    /// are read at once.
     #[inline(always)]
-    fn next_met(&mut self, from: Probe, key: &[u8], ahead: usize) -> Result<Met, ReadFault>
+    fn next_met(
+        &mut self,
+        from: Probe,
+        key: &[u8],
+        hash: u64,
+        ahead: usize,
+    ) -> Result<Met, ReadFault>
         requires inside { ProbeInside L.WORD (S.size self.old.store) from }
+        requires hash { hash ≡ key_hash key.now }
         ensures meets { IfOk result (λ met.
             Meets L.WORD key.now from met (S.image self.new.store)) }
         ensures within { IfOk result (MetWithin L.WORD (S.size self.new.store) from) }
@@ -60,6 +72,7 @@ impl<S: Store, L: Width> Reader<S, L> {
             &mut self.store,
             from,
             key,
+            hash,
             &mut self.slots,
             &mut self.window,
             ahead,
@@ -69,8 +82,15 @@ impl<S: Store, L: Width> Reader<S, L> {
     /// The same. After a first value more bytes are read than are needed; if that failed, these
     /// alone are read again, so a bad place among the others spoils nothing.
     #[inline(always)]
-    fn met_from(&mut self, from: Probe, key: &[u8], has_given: bool) -> Result<Met, ReadFault>
+    fn met_from(
+        &mut self,
+        from: Probe,
+        key: &[u8],
+        hash: u64,
+        has_given: bool,
+    ) -> Result<Met, ReadFault>
         requires inside { ProbeInside L.WORD (S.size self.old.store) from }
+        requires hash { hash ≡ key_hash key.now }
         ensures meets { IfOk result (λ met.
             Meets L.WORD key.now from met (S.image self.new.store)) }
         ensures within { IfOk result (MetWithin L.WORD (S.size self.new.store) from) }
@@ -78,11 +98,11 @@ impl<S: Store, L: Width> Reader<S, L> {
         ensures fails { IfErr result (StoreFails S.Store self.old.store self.new.store) }
     {
         if !has_given {
-            return self.next_met(from, key, 0);
+            return self.next_met(from, key, hash, 0);
         }
-        match self.next_met(from, key, WINDOW) {
+        match self.next_met(from, key, hash, WINDOW) {
             Ok(met) => Ok(met),
-            Err(_) => self.next_met(from, key, 0),
+            Err(_) => self.next_met(from, key, hash, 0),
         }
     }
 
@@ -94,10 +114,12 @@ impl<S: Store, L: Width> Reader<S, L> {
         ensures finds { (b : List ℕ) → S.image self.old.store b
             → left_in L.WORD b result ≡ lookup_of L.WORD b key.now }
     {
-        let searching = self.first_probe(key);
+        let hash = u64::from(hash(key));
+        let searching = self.first_probe(key, hash);
         Finder {
             reader: self,
             key,
+            hash,
             searching,
             has_given: false,
         }
@@ -132,7 +154,10 @@ impl<'a, S: Store, L: Width> Finder<'a, S, L> {
             Searching::NoRecord(place) => return Err(ReadFault::Record(place)),
             Searching::At(probe) => probe,
         };
-        match self.reader.met_from(probe, self.key, self.has_given)? {
+        match self
+            .reader
+            .met_from(probe, self.key, self.hash, self.has_given)?
+        {
             Met::End => {
                 self.searching = Searching::AtEnd;
                 Ok(None)

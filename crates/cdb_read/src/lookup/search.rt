@@ -14,7 +14,7 @@ use crate::lookup::probe::Probe;
 use crate::span::Span;
 use crate::tables::slot_at;
 use crate::window::Window;
-use cdb_form::{Slot, Width, hash};
+use cdb_form::{Slot, Width};
 use cdb_store::Store;
 
 /// How many bytes of slots are read at once, if no more are to be read ahead.
@@ -106,18 +106,21 @@ fn make_probe<S: Store, L: Width>(
     }
 }
 
-/// The search of a key from a probe on, up to its next value. Slots are read through one window and
-/// records through the other, `ahead` bytes at once if what is needed has fewer.
+/// The search of a key, which has this hash, from a probe on, up to its next value. Slots are read
+/// through one window and records through the other, `ahead` bytes at once if what is needed has
+/// fewer.
 #[inline(always)]
 pub(crate) fn next_met<S: Store, L: Width>(
     store: &mut S,
     from: Probe,
     key: &[u8],
+    hash: u64,
     slots: &mut Window,
     window: &mut Window,
     ahead: usize,
 ) -> Result<Met, ReadFault>
     requires inside { ProbeInside L.WORD (S.size store.old) from }
+    requires hash { hash ≡ key_hash key.now }
     requires fits { S.size store.old < 2 ^ 64 }
     requires shows { Shows window.old (S.image store.old) }
     requires slots { Shows slots.old (S.image store.old) }
@@ -128,7 +131,6 @@ pub(crate) fn next_met<S: Store, L: Width>(
     ensures reads { OnlyReads S.Store store.old store.new }
     ensures fails { IfErr result (StoreFails S.Store store.old store.new) }
 {
-    let hash = u64::from(hash(key));
     let mut probe = from;
     while probe.left > 0 {
         match make_probe::<S, L>(store, probe, key, hash, slots, window, ahead)? {

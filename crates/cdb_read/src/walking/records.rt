@@ -125,6 +125,6 @@ impl<'a, S: Store, L: Width> Walk<'a, S, L> {
         ensures fails { IfErr result
             (ValueFails S.Store self.old.reader.now.store self.new.reader.now.store) }
     {
-        self.reader.shown_into(span, into)
+        self.reader.value_into(span, into)
     }
 }

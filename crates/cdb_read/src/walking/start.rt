@@ -48,9 +48,9 @@ impl<S: Store, L: Width> Reader<S, L> {
         record_at::<S, L>(&mut self.store, &mut self.window, rest)
     }
 
-    /// Reads the bytes of a span, which lies inside the file, over a vector. The store is read
-    /// only if the window lacks them.
-    pub(crate) fn shown_into(&mut self, span: Span, into: &mut Vec<u8>) -> Result<(), ReadFault>
+    /// Reads the bytes of a span, which lies inside the file, over a vector, whose memory it takes.
+    /// What was read ahead is not read again. After a fault the vector holds anything.
+    pub fn value_into(&mut self, span: Span, into: &mut Vec<u8>) -> Result<(), ReadFault>
         requires inside { span.place + span.len ≤ S.size self.old.store }
         ensures reads { OnlyReads S.Store self.old.store self.new.store }
         ensures is { (b : List ℕ) → S.image self.new.store b
@@ -62,7 +62,7 @@ impl<S: Store, L: Width> Reader<S, L> {
             into.extend_from_slice(self.window.shown(span.place, span.len as usize))?;
             return Ok(());
         }
-        self.value_into(span, into)
+        self.take_into(span, into)
     }
 }
 

@@ -11,3 +11,8 @@ removing_fault (Other fault) = new_fault fault
 abbrev pub putting_fault : Stop → Fault
 putting_fault (Own fault) = new_fault fault
 putting_fault (Other fault) = old_fault fault
+
+-- the two databases change places
+abbrev pub flipped : Stop → Stop
+flipped (Own fault) = Other fault
+flipped (Other fault) = Own fault

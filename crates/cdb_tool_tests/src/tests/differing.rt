@@ -68,31 +68,77 @@ fn differences_are_written(rt: HostRuntime) -> Result<(), Fail> {
     Ok(())
 }
 
-/// Whether a difference answers so, and writes a prefix of the text, if the stores fail after so many
-/// calls.
-fn stops_so(alloc: Global, old: u64, new: u64, want: Fault) -> Result<bool, Fault> {
-    let first = FuseStore::new(made::<Narrow>(alloc, OLD)?, old, 0);
-    let second = FuseStore::new(made::<Narrow>(alloc, NEW)?, new, 0);
+/// How a difference ended.
+#[derive(Clone, Copy, Debug, PartialEq, Eq)]
+enum Ended {
+    Whole,
+    Stopped,
+    Wrong,
+}
+
+/// The database of three records with a value of 5000 bytes, and then of those of a text. So it is
+/// read by many calls.
+fn made_long(alloc: Global, text: &[u8]) -> Result<MemStore, Fault> {
+    let mut whole = Vec::new(alloc);
+    let value = vec![in alloc; b'v'; 5000]?;
+    for head in &[b"+1,5000:x->", b"+1,5000:y->", b"+1,5000:z->"] {
+        whole.extend_from_slice(&head[..])?;
+        whole.extend_from_slice(&value)?;
+        whole.push(b'\n')?;
+    }
+    whole.extend_from_slice(text)?;
+    made::<Narrow>(alloc, &whole)
+}
+
+/// How a difference ends if the stores fail after so many calls: its text is whole, or it answers so
+/// after a prefix of the text.
+fn ends(alloc: Global, old: u64, new: u64, want: Fault) -> Result<Ended, Fault> {
+    let first = FuseStore::new(made_long(alloc, OLD)?, old, 0);
+    let second = FuseStore::new(made_long(alloc, NEW)?, new, 0);
     let mut out = Vec::new(alloc);
     let answer = difference_run::<Narrow, FuseStore<MemStore>, FuseStore<MemStore>, Vec<u8>>(
         alloc, first, second, &mut out,
     ).2;
-    Ok(answer == Err(want) && CHANGE.starts_with(out.as_slice()))
+    let written = out.as_slice();
+    Ok(if answer == Ok(()) && written == CHANGE {
+        Ended::Whole
+    } else if answer == Err(want) && CHANGE.starts_with(written) {
+        Ended::Stopped
+    } else {
+        Ended::Wrong
+    })
+}
+
+/// More calls than a difference makes of either store.
+const CALLS: u64 = 1000;
+
+#[test]
+fn the_old_store_fails_at_each_call(rt: HostRuntime) -> Result<(), Fail> {
+    let mut stops = 0u64;
+    for calls in 0..CALLS {
+        let ended = ends(rt.alloc(), calls, u64::MAX, Fault::Old(ReadFault::Device));
+        if ended == Ok(Ended::Whole) {
+            break;
+        }
+        assert!(rt; ended == Ok(Ended::Stopped), "{calls}");
+        stops = calls;
+    }
+    assert!(rt; 10 < stops && stops < CALLS - 1, "{stops}");
+    Ok(())
 }
 
 #[test]
-fn a_store_fails(rt: HostRuntime) -> Result<(), Fail> {
-    let (old, new) = (Fault::Old(ReadFault::Device), Fault::New(ReadFault::Device));
-    for calls in 0..4u64 {
-        assert!(rt;
-            stops_so(rt.alloc(), calls, u64::MAX, old) == Ok(true),
-            "{calls}"
-        );
-        assert!(rt;
-            stops_so(rt.alloc(), u64::MAX, calls, new) == Ok(true),
-            "{calls}"
-        );
+fn the_new_store_fails_at_each_call(rt: HostRuntime) -> Result<(), Fail> {
+    let mut stops = 0u64;
+    for calls in 0..CALLS {
+        let ended = ends(rt.alloc(), u64::MAX, calls, Fault::New(ReadFault::Device));
+        if ended == Ok(Ended::Whole) {
+            break;
+        }
+        assert!(rt; ended == Ok(Ended::Stopped), "{calls}");
+        stops = calls;
     }
+    assert!(rt; 10 < stops && stops < CALLS - 1, "{stops}");
     Ok(())
 }
 

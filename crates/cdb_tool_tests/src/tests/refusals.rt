@@ -6,7 +6,8 @@ use super::running::{Duplicates, TWICE, run};
 use super::worked::{File, Run, TWO_TEXT, bytes_of};
 use cdb_form::Narrow;
 use cdb_make::Mode;
-use cdb_tool::{Fault, Style, dump_run, list_run, load};
+use cdb_store::MemStore;
+use cdb_tool::{Fault, Style, difference_run, dump_run, list_run, load};
 use std::alloc::{AllocError, Global};
 use std::prelude::*;
 use std::test::Fail;
@@ -121,6 +122,66 @@ fn dump(alloc: Global) -> Came {
 #[test]
 fn a_dump_tells_refused_memory(rt: HostRuntime) -> Result<(), Fail> {
     tell(&rt, dump(rt.alloc()))
+}
+
+/// What changed between the two-record file and one with another value of a key.
+const CHANGE: &[u8] = b"-3:one\n+3,5:one->Again\n\n";
+
+/// A difference of two files: what was written, the files again, and the answer.
+fn differ(alloc: Global, old: MemStore, new: MemStore, out: &mut Vec<u8>) -> Differed {
+    out.clear();
+    let (old, new, answer) = difference_run::<Narrow, MemStore, MemStore, Vec<u8>>(
+        alloc, old, new, out,
+    );
+    let written = out.as_slice();
+    Differed {
+        old,
+        new,
+        is_whole: answer == Ok(()) && written == CHANGE,
+        is_refused: answer == Err(Fault::NoMemory) && CHANGE.starts_with(written),
+    }
+}
+
+/// What came of a difference, and its files.
+#[derive(Drop)]
+struct Differed {
+    old: MemStore,
+    new: MemStore,
+    is_whole: bool,
+    is_refused: bool,
+}
+
+/// What came of the difference of the two-record file and of another.
+fn differ_twice(alloc: Global) -> Came {
+    let Ok(old) = File::Two.bytes(alloc) else {
+        return Came::NoInputs;
+    };
+    let Ok(new) = bytes_of(alloc, &ONE_AGAIN) else {
+        return Came::NoInputs;
+    };
+    let Ok(mut out) = Vec::with_capacity(alloc, 128) else {
+        return Came::NoInputs;
+    };
+    let first = differ(
+        alloc,
+        MemStore::from_vec(old),
+        MemStore::from_vec(new),
+        &mut out,
+    );
+    if first.is_whole {
+        return Came::Whole;
+    }
+    let again = differ(alloc, first.old, first.new, &mut out);
+    if first.is_refused && again.is_whole {
+        Came::NoMemory
+    } else {
+        Came::Wrong
+    }
+}
+
+#[test]
+fn a_difference_tells_refused_memory(rt: HostRuntime) -> Result<(), Fail> {
+    tell(&rt, differ_twice(rt.alloc()))
 }
 
 /// What came of a run of two values of a key in a mode, which makes this file.

@@ -7,6 +7,7 @@ returns-in-Ok-Err-clause-hands g c = record {
   held = held_by c.flush.new.self;
   all = c.flush.ensures.bytes;
   handed = search rules;
+  taken = c.flush.ensures.handed;
   answered = inr (search rules);
 }
 
@@ -15,5 +16,6 @@ returns-in-Ok-Ok-clause-hands g c = record {
   held = held_by c.flush.new.self;
   all = c.flush.ensures.bytes;
   handed = search rules;
+  taken = c.flush.ensures.handed;
   answered = inl (search rules);
 }

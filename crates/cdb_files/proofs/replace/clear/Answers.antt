@@ -8,7 +8,7 @@ pub returns-in-Nothing-clause-steps : goal.returns-in-Nothing-clause-steps
 returns-in-Nothing-clause-steps g c = step _ (Looked c.look.result, c.args.temporary.now, [], []) (no_step _) c.look.ensures tt tt
 
 pub returns-in-File-clause-steps : goal.returns-in-File-clause-steps
-returns-in-File-clause-steps g c = go_on (λ b is. is) (step _ (Looked c.look.result, c.args.temporary.now, [], []) (no_step _) c.look.ensures tt tt) c.remove_old.ensures.steps
+returns-in-File-clause-steps g c = go_on (λ b is. is) (step _ (Looked c.look.result, c.args.temporary.now, [], []) (no_step _) c.look.ensures tt tt) c.remove_other.ensures.steps
 
 pub returns-in-Other-clause-steps : goal.returns-in-Other-clause-steps
 returns-in-Other-clause-steps g c = step _ (Looked c.look.result, c.args.temporary.now, [], []) (no_step _) c.look.ensures tt tt
@@ -21,3 +21,6 @@ returns-in-Unknown-clause-steps g c = step _ (Looked c.look.result, c.args.tempo
 
 pub returns-in-Unknown-clause-err : goal.returns-in-Unknown-clause-err
 returns-in-Unknown-clause-err g c = ((Looked Unknown, c.args.temporary.now, [], []), g.N.Names.calls c.args.names.now, inl (refl, c.in-Unknown.ensures))
+
+pub returns-in-Nothing-clause-free : goal.returns-in-Nothing-clause-free
+returns-in-Nothing-clause-free g c = (g.N.Names.calls c.args.names.now, inl c.in-Nothing.ensures)

@@ -12,7 +12,7 @@ pub returns-in-Err-clause-steps : goal.returns-in-Err-clause-steps
 returns-in-Err-clause-steps g c = step _ (NotMade c.in-Err.fault, c.args.temporary.now, [], []) (no_step _) c.in-Err.ensures.err tt tt
 
 pub returns-in-Err-clause-err : goal.returns-in-Err-clause-err
-returns-in-Err-clause-err g c = rw c.open_fault.ensures (not_made _ c.args.temporary.now c.args.name.now _ _ c.in-Err.fault c.in-Err.ensures.err)
+returns-in-Err-clause-err g c = rw c.open_fault.ensures (not_made _ c.args.temporary.now c.args.name.now _ _ c.in-Err.fault c.requires.free c.in-Err.ensures.err)
 
 pub returns-then-not-is_locked-clause-steps : goal.returns-then-not-is_locked-clause-steps
 returns-then-not-is_locked-clause-steps g c =
@@ -29,7 +29,7 @@ returns-then-not-is_own_apart-clause-steps g c =
 
 pub returns-then-not-is_own_apart-clause-err : goal.returns-then-not-is_own_apart-clause-err
 returns-then-not-is_own_apart-clause-err g c =
-    was_undone c.args.temporary.now c.args.name.now _ _ (c.is_own_apart.ensures.undone c.if-not-is_own_apart.true) c.remove_own.ensures
+    was_undone c.args.temporary.now c.args.name.now _ _ _ c.in-Ok.ensures.file (c.is_own_apart.ensures.undone c.if-not-is_own_apart.true) c.remove_own.ensures
 
 pub returns-clause-steps : goal.returns-clause-steps
 returns-clause-steps g c =

@@ -1,4 +1,4 @@
-use Rattle.std.proofs.Common.{[]}
+use Rattle.std.proofs.Common.{[], inr}
 use Rattle.cdb_files.specs.declared.answer.Lock.TheVariants.{Held}
 use Rattle.cdb_files.specs.declared.name_trace.NameCall.TheVariants.{Locked, NotOpened, Opened}
 use Rattle.cdb_files.proofs.Locking.{old_removable}
@@ -23,3 +23,6 @@ pub returns-clause-steps : goal.returns-clause-steps
 returns-clause-steps g c =
     let takes = c.is_locked.ensures.free c.if-not-is_locked.false in
     cleared _ (step _ (Locked takes.lock, c.args.temporary.now, [], []) (step _ (Opened, c.args.temporary.now, [], []) (no_step _) c.in-Ok.ensures.ok tt tt) takes.are tt tt) (old_removable c.args.temporary.now c.args.name.now _ _ _ c.requires.seen c.in-Ok.ensures.ok takes) c.remove_own.ensures
+
+pub returns-clause-free : goal.returns-clause-free
+returns-clause-free g c = (_, inr (_, c.remove_own.ensures))

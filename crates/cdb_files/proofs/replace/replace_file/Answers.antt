@@ -1,10 +1,10 @@
 use Rattle.std.proofs.Common.{inr, ap, refl, sym, subst, ◌∙◌, ◌≡◌, List, ℕ, Result, Ok, Err}
-use Rattle.std.specs.Prelude.{IfErr, OnOk}
+use Rattle.std.specs.Prelude.{IfErr, OnErr, OnOk}
 use Rattle.cdb_store.specs.Calls.{Calls}
-use Rattle.cdb_files.specs.Replacing.{Answers, EndsIn, FailsRename, FailsToSeal, IsOfBuilder, RenamesFile, of_name}
+use Rattle.cdb_files.specs.Replacing.{Answers, ClearsFile, EndsIn, FailsRename, FailsToSeal, IsOfBuilder, RenamesFile, of_name}
 use Rattle.cdb_files.specs.declared.name_fault.NameFault.{NameFault}
 use Rattle.cdb_files.specs.declared.name_fault.NameFault.TheVariants.{Failed, NoMemory}
-use Rattle.cdb_files.specs.Folder.{NameCalls}
+use Rattle.cdb_files.specs.Folder.{NameCalls, IsCleared}
 use Rattle.cdb_files.specs.declared.replace.ReplaceFault.{ReplaceFault}
 use Rattle.cdb_files.specs.declared.replace.ReplaceFault.TheVariants.{Open, Build, Write}
 use Rattle.cdb_files.specs.declared.replace.ReplaceFault.TheVariants as replacing
@@ -62,6 +62,14 @@ renames_same : {E : Type 0} (t n : List ℕ) (len m : ℕ) (calls file : Calls) 
 renames_same t n len m calls file named r same_len same is =
     subst (λ (k : ℕ). OnOk r (RenamesFile t n k calls named)) same_len (subst (λ (cs : Calls). OnOk r (RenamesFile t n m cs named)) same is)
 
+-- the temporary name was taken from that file
+cleared_of : (t : List ℕ) (file same : Calls) (before new : NameCalls) → same ≡ file → IsCleared t same before new → ClearsFile t file new
+cleared_of t file same before new is cleared = (before, subst (λ (cs : Calls). IsCleared t cs before new) is cleared)
+
+clears_same : {E : Type 0} (t : List ℕ) (file same : Calls) (named : NameCalls) (r : Result Unit (ReplaceFault E)) → same ≡ file
+    → OnErr r (ClearsFile t same named) → OnErr r (ClearsFile t file named)
+clears_same t file same named r is cleared = subst (λ (cs : Calls). OnErr r (ClearsFile t cs named)) is cleared
+
 same_images : (images : List ℕ → Type 0) → SameImages images images
 same_images images = record { no_other = λ b is. is; none_lost = λ b is. is }
 
@@ -91,7 +99,13 @@ returns-in-Err-built-clause-any_moment g c =
 
 pub returns-in-Err-built-clause-build : goal.returns-in-Err-built-clause-build
 returns-in-Err-built-clause-build g c =
-    record { empty = c.in-Ok.empty; left = c.build-store.result.0; made = c.in-Ok.ensures.empty; why = rw c.in-Err-built.is at c.build-store.ensures.fails }
+    record {
+      empty = c.in-Ok.empty;
+      left = c.build-store.result.0;
+      made = c.in-Ok.ensures.empty;
+      why = rw c.in-Err-built.is at c.build-store.ensures.fails;
+      cleared = cleared_of _ _ _ _ _ (ap g.N.File.RawFile.calls c.file.ensures) c.remove_own.ensures;
+    }
 
 pub returns-in-Err-built-clause-told : goal.returns-in-Err-built-clause-told
 returns-in-Err-built-clause-told g c =
@@ -107,6 +121,7 @@ returns-in-Err-built-clause-told g c =
       same = same_images _;
       unsynced = λ is. absurd (built_synced _ _ _ refl is);
       renamed = tt;
+      cleared = cleared_of _ _ _ _ _ (ap g.N.File.RawFile.calls c.file.ensures) c.remove_own.ensures;
     })
 
 -- ---- the file was not sealed
@@ -136,6 +151,7 @@ returns-in-Err-seal-clause-told g c =
       same = c.seal.ensures.images;
       unsynced = λ is. c.seal.ensures.failed (c.in-Err-seal.is ∙ is);
       renamed = tt;
+      cleared = cleared_of _ _ _ _ _ (ap g.N.File.RawFile.calls c.file-in-Err-seal.ensures) c.remove_own-in-Err-seal.ensures;
     })
 
 -- ---- the file was built and sealed
@@ -165,6 +181,7 @@ returns-clause-told g c =
       same = c.seal.ensures.images;
       unsynced = λ is. absurd (renames_synced _ _ _ c.publish-published.result c.publish-published.ensures.err (subst (λ (r : Result Unit (ReplaceFault g.row.B-Fault.Denot)). IsUnsynced r) (sym is) tt));
       renamed = renames_same _ _ _ _ _ _ _ c.publish-published.result c.len-len.ensures (ap g.N.File.RawFile.calls c.into_file.ensures) c.publish-published.ensures.file;
+      cleared = clears_same _ _ _ _ c.publish-published.result (ap g.N.File.RawFile.calls c.into_file.ensures) c.publish-published.ensures.cleared;
     })
 
 pub returns-clause-sure : goal.returns-clause-sure

@@ -8,17 +8,11 @@ ghost use Rattle.cdb_read.specs.Views.Finder.{left_in, GivesNone, GivesSpan};
 ghost use Rattle.cdb_tool.specs.Runs.Difference.{is_first_changed, Stops};
 ghost use Rattle.cdb_tool.specs.Views.Comparing.{BytesStop, OtherStops, ValuesStop};
 
+use crate::runs::difference::same::is_same;
 use crate::runs::difference::stop::Stop;
 use cdb_form::Width;
 use cdb_read::{Finder, Reader, Span};
 use cdb_store::Store;
-
-/// Whether some bytes are the same.
-fn is_same(piece: &[u8], beside: &[u8]) -> bool
-    ensures { Decides result (piece.now ≡ beside.now) }
-{
-    piece == beside
-}
 
 /// Whether two values have the same bytes. They are read piece by piece, up to the first that
 /// differs.

@@ -3,6 +3,8 @@ ghost use Rattle.std.specs.Prelude.{◌≡◌};
 ghost use Rattle.cdb_tool.specs.Runs.Difference.{TellsDifference};
 
 use crate::fault::Fault;
+use crate::runs::difference::in_step::mark_changed;
+use crate::runs::difference::marks::Marks;
 use crate::runs::difference::pass::write_pass;
 use crate::runs::flushed::flushed;
 use cdb_form::{ChangeKind, Width, write_end};
@@ -21,11 +23,16 @@ fn write_difference<L: Width, S: Store, T: Store, W: Write>(
     ensures { TellsDifference L.WORD S.Store T.Store old.old.store old.new.store new.old.store
         new.new.store (W.contents w.old) (W.contents w.new) result }
 {
-    match write_pass(alloc, old, new, ChangeKind::Remove, w) {
+    let mut marks = Marks::new(alloc)?;
+    match mark_changed(old, new, &mut marks) {
         Ok(()) => {}
         Err(stop) => return Err(stop.of_old()),
     }
-    match write_pass(alloc, new, old, ChangeKind::Put, w) {
+    match write_pass(alloc, old, new, &marks, ChangeKind::Remove, w) {
+        Ok(()) => {}
+        Err(stop) => return Err(stop.of_old()),
+    }
+    match write_pass(alloc, new, old, &marks, ChangeKind::Put, w) {
         Ok(()) => {}
         Err(stop) => return Err(stop.of_new()),
     }
@@ -68,13 +75,14 @@ fn difference_unflushed<L: Width, S: Store, T: Store, W: Write>(
 ///
 /// The text is that of the difference of the two walks if the look-ups of both files give each key
 /// its records in the order of the walk, as they do in every file that a maker of this format made.
-/// Of other files the text is still an amending one. Values are compared in pieces, and the only
-/// memory is that of the longest key. The faults:
+/// Of other files the text is still an amending one. Both are first walked in step, so a key is
+/// looked up only where the walks differ. Values are compared in pieces, and the only memory is 512
+/// KiB and that of the longest key. The faults:
 /// - `Old(fault)`, `New(fault)`: this database was not read: it is `Short`, which is known before
 ///   anything is written, or its walk or a look-up met the damage `Table(n)` or `Record(place)`, or
 ///   its store failed, `Device`;
 /// - `Output`: the writer failed;
-/// - `NoMemory`: there is none for a key.
+/// - `NoMemory`: an allocation failed.
 ///
 /// After each of them a prefix of the text was written. Both stores are handed back whatever the
 /// answer, and were only read. The writer is flushed last, after a fault too.

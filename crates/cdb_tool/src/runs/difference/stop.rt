@@ -1,7 +1,7 @@
 // Why a pass over a database beside another stopped.
 ghost use Rattle.std.specs.Prelude.{◌≡◌};
 ghost use Rattle.cdb_tool.specs.Views.Fault.{old_fault, new_fault};
-ghost use Rattle.cdb_tool.specs.Views.Stop.{removing_fault, putting_fault};
+ghost use Rattle.cdb_tool.specs.Views.Stop.{removing_fault, putting_fault, flipped};
 
 use crate::fault::Fault;
 use cdb_form::OutFault;
@@ -17,6 +17,16 @@ pub(crate) enum Stop {
 }
 
 impl Stop {
+    /// The same stop, if the other database was walked.
+    pub(crate) fn flipped(self) -> Stop
+        ensures { result ≡ flipped self }
+    {
+        match self {
+            Stop::Own(fault) => Stop::Other(fault),
+            Stop::Other(fault) => Stop::Own(fault),
+        }
+    }
+
     /// The fault of the run, if the old database was walked.
     pub(crate) fn of_old(self) -> Fault
         ensures { result ≡ removing_fault self }

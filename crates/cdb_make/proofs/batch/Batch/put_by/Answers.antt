@@ -1,11 +1,10 @@
-use Rattle.std.proofs.Common.{arith, refl, ◌∙◌}
-use Rattle.std.proofs.lemmas.Result.{err_from_is_err_and, IfOk-weaker, on_err_weaker}
+use Rattle.std.proofs.Common.{refl}
+use Rattle.std.proofs.lemmas.Result.{err_from_is_err_and, IfOk-weaker}
 use Rattle.cdb_form.specs.Format.Record.{KeyValue}
 use Rattle.cdb_make.proofs.Making.Batches.{same_batch, with_maker}
 use Rattle.cdb_make.proofs.Making.BatchPuts.{fails_put_amid, fails_put_looking, fails_put_passed, fails_put_rested, passes_waited, puts_passed, puts_rested}
 use Rattle.cdb_make.proofs.Making.Finishes.{on_fault_is}
-use Rattle.cdb_make.proofs.Making.Following.{follows_looked, follows_then}
-use Rattle.cdb_make.proofs.Bytes.Written.{on_any_err}
+use Rattle.cdb_make.proofs.Making.Following.{follows_looked}
 use Rattle.cdb_make.proofs.batch.Batch.put_by.Goals as goal
 
 pub returns-in_err-put-clause-fails : goal.returns-in_err-put-clause-fails

@@ -1,11 +1,10 @@
 use Rattle.std.proofs.Common.{arith, refl, ap, ◌∙◌, ◌≡◌, ◌++◌, ℕ, List}
-use Rattle.std.proofs.lemmas.Result.{err_from_is_err_and, IfOk-weaker, on_err_weaker}
+use Rattle.std.proofs.lemmas.Result.{err_from_is_err_and, IfOk-weaker}
 use Rattle.cdb_make.specs.declared.removal.gap.Gap.{Gap}
 use Rattle.cdb_make.proofs.Making.Batches.{same_batch, with_maker}
 use Rattle.cdb_make.proofs.Making.BatchPuts.{fails_remove_amid, fails_remove_looking, fails_remove_passed, fails_remove_rested, noted_last, passes_full, removes_marked, removes_passed, removes_rested}
 use Rattle.cdb_make.proofs.Making.Finishes.{on_fault_is}
-use Rattle.cdb_make.proofs.Making.Following.{follows_looked, follows_still, follows_then}
-use Rattle.cdb_make.proofs.Bytes.Written.{on_any_err}
+use Rattle.cdb_make.proofs.Making.Following.{follows_looked}
 use Rattle.cdb_make.proofs.batch.Batch.remove_by.Goals as goal
 
 pub returns-in_err-taken-clause-fails : goal.returns-in_err-taken-clause-fails

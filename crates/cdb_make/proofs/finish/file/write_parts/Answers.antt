@@ -51,7 +51,7 @@ returns-clause-file g c =
     let cut : AfterCut c.args.last (g.S.Store.image c.write_pointers.new.store) (g.S.Store.image c.cut.new.self) =
     subst (λ (n : ℕ). AfterCut n (g.S.Store.image c.write_pointers.new.store) (g.S.Store.image c.cut.new.self)) c.in_ok-cut.ensures.ok c.cut.ensures.images in
     let wrote : AfterWrite c.args.end (flat_map (table_bytes g.L.Width.WORD) (all_entries c.args.lists.now)) (g.S.Store.image c.args.store.now) (g.S.Store.image c.write_tables.new.store) =
-    subst (λ (v : List EntryList). AfterWrite c.args.end (flat_map (table_bytes g.L.Width.WORD) (lists_entries v)) (g.S.Store.image c.args.store.now) (g.S.Store.image c.write_tables.new.store)) c.deref.ensures.value c.in_ok-write_tables.ensures.ok in
+    subst (λ (v : List (EntryList _ _)). AfterWrite c.args.end (flat_map (table_bytes g.L.Width.WORD) (lists_entries v)) (g.S.Store.image c.args.store.now) (g.S.Store.image c.write_tables.new.store)) c.deref.ensures.value c.in_ok-write_tables.ensures.ok in
     on_any_ok c.flush.result
     (finished (simp length-map c.args.lists.now.all) c.requires.start c.requires.inside c.requires.last sized wrote c.in_ok-write_pointers.ensures.ok (cut_between (same_refl (g.S.Store.image c.write_pointers.new.store)) cut c.flush.ensures.images))
 
@@ -64,7 +64,7 @@ returns-in_err-write_pointers-clause-head_last g c =
     let ts : List ℕ = flat_map (table_bytes g.L.Width.WORD) ls in
     let sized : AreSized (g.S.Store.size c.args.store.now) (g.S.Store.image c.args.store.now) = record { each = g.met.S.Store.image_size c.args.store.now } in
     let wrote : AfterWrite c.args.end (flat_map (table_bytes g.L.Width.WORD) (all_entries c.args.lists.now)) (g.S.Store.image c.args.store.now) (g.S.Store.image c.write_tables.new.store) =
-    subst (λ (v : List EntryList). AfterWrite c.args.end (flat_map (table_bytes g.L.Width.WORD) (lists_entries v)) (g.S.Store.image c.args.store.now) (g.S.Store.image c.write_tables.new.store)) c.deref.ensures.value c.in_ok-write_tables.ensures.ok in
+    subst (λ (v : List (EntryList _ _)). AfterWrite c.args.end (flat_map (table_bytes g.L.Width.WORD) (lists_entries v)) (g.S.Store.image c.args.store.now) (g.S.Store.image c.write_tables.new.store)) c.deref.ensures.value c.in_ok-write_tables.ensures.ok in
     let held : Holds c.args.end ts (g.S.Store.image c.write_tables.new.store) = held_first c.requires.inside sized wrote in
     tables_held (held_kept (kept_torn c.args.end (length ts) (inr (omega arith)) c.write_pointers.ensures.torn) held)
 
@@ -75,7 +75,7 @@ returns-in_err-cut-clause-head_last g c =
     let long = length-tables g.L.Width.WORD ls in
     let sized : AreSized (g.S.Store.size c.args.store.now) (g.S.Store.image c.args.store.now) = record { each = g.met.S.Store.image_size c.args.store.now } in
     let wrote : AfterWrite c.args.end (flat_map (table_bytes g.L.Width.WORD) (all_entries c.args.lists.now)) (g.S.Store.image c.args.store.now) (g.S.Store.image c.write_tables.new.store) =
-    subst (λ (v : List EntryList). AfterWrite c.args.end (flat_map (table_bytes g.L.Width.WORD) (lists_entries v)) (g.S.Store.image c.args.store.now) (g.S.Store.image c.write_tables.new.store)) c.deref.ensures.value c.in_ok-write_tables.ensures.ok in
+    subst (λ (v : List (EntryList _ _)). AfterWrite c.args.end (flat_map (table_bytes g.L.Width.WORD) (lists_entries v)) (g.S.Store.image c.args.store.now) (g.S.Store.image c.write_tables.new.store)) c.deref.ensures.value c.in_ok-write_tables.ensures.ok in
     let held : Holds c.args.end ts (g.S.Store.image c.write_tables.new.store) = held_first c.requires.inside sized wrote in
     let head : Holds c.args.end ts (g.S.Store.image c.write_pointers.new.store) = held_kept (kept_torn c.args.end (length ts) (inr (omega arith)) c.write_pointers.ensures.torn) held in
     tables_held (held_kept (kept_cut c.args.end (length ts) (omega (arith, long, c.requires.last, c.cut.ensures.no_shorter)) c.cut.ensures.images) head)
@@ -87,7 +87,7 @@ returns-clause-head_last g c =
     let long = length-tables g.L.Width.WORD ls in
     let sized : AreSized (g.S.Store.size c.args.store.now) (g.S.Store.image c.args.store.now) = record { each = g.met.S.Store.image_size c.args.store.now } in
     let wrote : AfterWrite c.args.end (flat_map (table_bytes g.L.Width.WORD) (all_entries c.args.lists.now)) (g.S.Store.image c.args.store.now) (g.S.Store.image c.write_tables.new.store) =
-    subst (λ (v : List EntryList). AfterWrite c.args.end (flat_map (table_bytes g.L.Width.WORD) (lists_entries v)) (g.S.Store.image c.args.store.now) (g.S.Store.image c.write_tables.new.store)) c.deref.ensures.value c.in_ok-write_tables.ensures.ok in
+    subst (λ (v : List (EntryList _ _)). AfterWrite c.args.end (flat_map (table_bytes g.L.Width.WORD) (lists_entries v)) (g.S.Store.image c.args.store.now) (g.S.Store.image c.write_tables.new.store)) c.deref.ensures.value c.in_ok-write_tables.ensures.ok in
     let held : Holds c.args.end ts (g.S.Store.image c.write_tables.new.store) = held_first c.requires.inside sized wrote in
     let head : Holds c.args.end ts (g.S.Store.image c.write_pointers.new.store) = held_kept (kept_torn c.args.end (length ts) (inr (omega arith)) c.write_pointers.ensures.torn) held in
     let cut : Holds c.args.end ts (g.S.Store.image c.cut.new.self) = held_kept (kept_cut c.args.end (length ts) (omega (arith, long, c.requires.last, c.cut.ensures.no_shorter)) c.cut.ensures.images) head in

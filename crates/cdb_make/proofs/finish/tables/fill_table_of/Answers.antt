@@ -10,7 +10,7 @@ use Rattle.cdb_make.proofs.Slots.RunLemmas.{runs_none}
 use Rattle.cdb_make.proofs.finish.tables.fill_table_of.Goals as goal
 
 pub loop-n-init : goal.loop-n-init
-loop-n-init c = record {
+loop-n-init g c = record {
   long = omega (arith, c.requires.slots);
   noted = omega (arith, c.requires.runs, length-take {A = ℕ});
   runs = runs_none c.args.slots.now _ c.requires.empty;
@@ -19,7 +19,7 @@ loop-n-init c = record {
 }
 
 pub loop-n-preserved : goal.loop-n-preserved
-loop-n-preserved c =
+loop-n-preserved g c =
     let es : List WordPair = list_entries c.args.list.now in
     let i : ℕ = c.loop-n.n in
     let e : WordPair = slot_pair c.entry.result in
@@ -32,11 +32,11 @@ loop-n-preserved c =
     }
 
 pub returns-clause-filled : goal.returns-clause-filled
-returns-clause-filled c =
+returns-clause-filled g c =
     let es : List WordPair = list_entries c.args.list.now in
     c.loop-n.invariant.filled ∙ ap (filled_slots _) (take_all c.loop-n.n es (omega arith))
 
 pub returns-clause-hashes : goal.returns-clause-hashes
-returns-clause-hashes c =
+returns-clause-hashes g c =
     let es : List WordPair = list_entries c.args.list.now in
     All-same (λ e. e.first < 2 ^ 32) es (take c.loop-n.n es) (sym (take_all c.loop-n.n es (omega arith))) c.loop-n.invariant.hashes

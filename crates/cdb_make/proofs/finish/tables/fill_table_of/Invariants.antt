@@ -8,7 +8,7 @@ use Rattle.cdb_make.proofs.finish.tables.fill_table_of.Given as goal
 
 -- the slots that the entries so far fill, and their hashes
 abbrev pub invariant-loop-n : goal.invariant-loop-n
-invariant-loop-n l = record {
+invariant-loop-n g l = record {
   long : length l.slots ≡ 2 * length (list_entries l.list);
   filled : map slot_pair l.slots ≡ filled_slots (2 * length (list_entries l.list)) (take l.n (list_entries l.list));
   noted : length l.runs ≡ length l.slots;

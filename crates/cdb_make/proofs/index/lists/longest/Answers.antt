@@ -8,7 +8,7 @@ use Rattle.cdb_make.proofs.Slots.HeadPointers.{sums_within}
 use Rattle.cdb_make.proofs.index.lists.longest.Goals as goal
 
 pub loop-list-preserved : goal.loop-list-preserved
-loop-list-preserved c =
+loop-list-preserved g c =
     let x = c.list-item.result in
     let i : ℕ = c.loop-list.list-index in
     let all : List (List WordPair) = lists_entries c.args.lists.now in
@@ -26,7 +26,7 @@ loop-list-preserved c =
     }
 
 pub returns-clause-most : goal.returns-clause-most
-returns-clause-most c =
+returns-clause-most g c =
     let all : List (List WordPair) = lists_entries c.args.lists.now in
     let over : length all ≤ c.loop-list.list-index = simp length-map (omega arith) in
     All-same (λ list. length list ≤ c.loop-list.most) all (take c.loop-list.list-index all) (sym (take_all c.loop-list.list-index all over)) c.loop-list.invariant.most

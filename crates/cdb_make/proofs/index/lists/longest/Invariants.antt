@@ -5,7 +5,7 @@ use Rattle.cdb_make.proofs.index.lists.longest.Given as goal
 
 -- no list so far is longer, and all of them together are at least as long
 abbrev pub invariant-loop-list : goal.invariant-loop-list
-invariant-loop-list l = record {
+invariant-loop-list g l = record {
   most : NoneLonger l.most (take l.list-index (lists_entries l.lists));
   within : l.most ≤ sum_by length (lists_entries l.lists);
 }

@@ -3,4 +3,4 @@ use Rattle.cdb_make.specs.Views.EntryList.{IsMarked}
 use Rattle.cdb_make.proofs.index.lists.mark_each.Given as goal
 
 abbrev pub invariant-loop-gap : goal.invariant-loop-gap
-invariant-loop-gap l = IsMarked (take l.gap-index l.gaps) l.fn.list l.list
+invariant-loop-gap g l = IsMarked (take l.gap-index l.gaps) l.fn.list l.list

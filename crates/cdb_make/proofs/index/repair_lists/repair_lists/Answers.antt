@@ -5,7 +5,7 @@ use Rattle.cdb_make.proofs.Gaps.ClosedLists.{closed_more, closed_past, sum_gone}
 use Rattle.cdb_make.proofs.index.repair_lists.repair_lists.Goals as goal
 
 pub loop-n-preserved-then-is_group_below : goal.loop-n-preserved-then-is_group_below
-loop-n-preserved-then-is_group_below c =
+loop-n-preserved-then-is_group_below g c =
     let b = c.is_group_below.ensures in
     let t = c.if-is_group_below.true in
     record {
@@ -15,17 +15,17 @@ loop-n-preserved-then-is_group_below c =
     }
 
 pub overflow_add-gone : goal.overflow_add-gone
-overflow_add-gone c =
+overflow_add-gone g c =
     let lt : c.loop-n.n < length c.loop-n.lists = omega (arith, c.loop-n-test.true, c.loop-n.auto.lists) in
     let s = sum_gone c.loop-n.lists c.loop-n.n c.repair.result c.index-lists-n.result c.repair.new.self lt c.repair.ensures.gone in
     omega (arith, s, c.loop-n.invariant.gone, c.requires.few)
 
 pub loop-n-preserved : goal.loop-n-preserved
-loop-n-preserved c =
-    let now : List EntryList = c.loop-n.lists in
+loop-n-preserved g c =
+    let now : List (EntryList _ _) = c.loop-n.lists in
     let n : ℕ = c.loop-n.n in
-    let item : EntryList = c.index-lists-n.result in
-    let new : EntryList = c.repair.new.self in
+    let item : EntryList _ _ = c.index-lists-n.result in
+    let new : EntryList _ _ = c.repair.new.self in
     let e = c.repair.ensures in
     let lt : n < length now = omega (arith, c.loop-n-test.true, c.loop-n.auto.lists) in
     let closed : IsClosed c.args.gaps.now (get_or now n item) new = record { entries = e.entries; fewer = omega (arith, e.gone); bounded = e.bounded; top = e.top; room = e.room } in

@@ -4,11 +4,11 @@ use Rattle.cdb_make.proofs.Gaps.ClosedLists.{ClosedBelow}
 use Rattle.cdb_make.proofs.index.repair_lists.repair_lists.Given as goal
 
 abbrev pub invariant-loop-n : goal.invariant-loop-n
-invariant-loop-n l = record {
+invariant-loop-n g l = record {
   closed : ClosedBelow l.n l.gaps l.fn.lists l.lists;
   gone : sum_by length (lists_entries l.lists) + l.gone ≡ sum_by length (lists_entries l.fn.lists);
   within : l.n ≤ 256;
 }
 
 abbrev pub decreases-loop-n : goal.decreases-loop-n
-decreases-loop-n l = 256 - l.n
+decreases-loop-n g l = 256 - l.n

@@ -1,4 +1,4 @@
-use Rattle.std.proofs.Common.{rules, arith, ap, refl, sym, subst, ◌∙◌, ◌≡◌, ◌+◌, ◌<◌, ◌≤◌, ℕ, List, length, [], ◌∷◌, ◌++◌, drop, get_or, vec_len, vec_capacity, Ok, Err, Option, Some, None}
+use Rattle.std.proofs.Common.{rules, arith, refl, sym, subst, ◌∙◌, ◌≡◌, ◌+◌, ◌<◌, ◌≤◌, ℕ, List, length, [], ◌∷◌, ◌++◌, drop, get_or, vec_len, vec_capacity, Ok, Err, Option, Some, None}
 use Rattle.cdb_form.specs.Format.Pair.{WordPair}
 use Rattle.cdb_store.proofs.Reading.{reads_more, reads_nothing}
 use Rattle.cdb_make.specs.declared.removal.gap.Gap.{Gap}
@@ -7,15 +7,16 @@ use Rattle.cdb_make.specs.declared.records.key_at.LookFault.TheVariants.{Foreign
 use Rattle.cdb_make.specs.Gaps.{AreApart}
 use Rattle.cdb_make.specs.Looks.{LooksAt, SizeWithin}
 use Rattle.cdb_make.specs.Views.EntryList.{entries_of}
+use Rattle.cdb_make.specs.Views.Places.{places_in}
 use Rattle.cdb_make.proofs.Bytes.Compare.{reads_fewer}
-use Rattle.cdb_make.proofs.Entries.Sides.{entry_at, list_long}
+use Rattle.cdb_make.proofs.Entries.Sides.{entry_told, list_long}
 use Rattle.cdb_make.proofs.Gaps.Picking.{PicksSoFar, Noted, noted_none, noted_one, entries_over, picks_until, picks_all, picks_done, chains_none, chains_back, chains_until, chains_all, apart_higher}
 use Rattle.cdb_make.proofs.removal.find.find_gaps.Goals.{in-Some+else-place-last, in_default}
 use Rattle.std.proofs.lemmas.Grind.{common_steps}
 use Rattle.cdb_make.proofs.removal.find.find_gaps.Goals as goal
 
-pub bounds-places-next : goal.bounds-places-next
-bounds-places-next g c = omega (arith, c.loop-next-test.true, list_long c.args.list.now, c.args.list.now.paired, ap length c.places.ensures)
+pub place-place-requires : goal.place-place-requires
+place-place-requires g c = omega (arith, c.loop-next-test.true, list_long c.args.list.now)
 
 pub next_place-next-requires-in-loop-next : goal.next_place-next-requires-in-loop-next
 next_place-next-requires-in-loop-next g c = omega (arith, c.loop-next-test.true, list_long c.args.list.now)
@@ -23,7 +24,7 @@ next_place-next-requires-in-loop-next g c = omega (arith, c.loop-next-test.true,
 pub loop-next-init : goal.loop-next-init
 loop-next-init g c =
     let hs : List ℕ = c.args.list.now.hashes.items in
-    let ps : List ℕ = c.args.list.now.places.items in
+    let ps : List ℕ = (places_in c.args.list.now.places) in
     let n : ℕ = c.next_place-next.result in
     let none : c.clear.new.self.items ≡ [] = c.clear.ensures.items in
     record {
@@ -44,13 +45,13 @@ pub loop-next-preserved : goal.loop-next-preserved
 loop-next-preserved g c =
     let w : ℕ = g.L.Width.WORD in
     let hs : List ℕ = c.args.list.now.hashes.items in
-    let ps : List ℕ = c.args.list.now.places.items in
+    let ps : List ℕ = (places_in c.args.list.now.places) in
     let all : List WordPair = entries_of hs ps in
     let i : ℕ = c.loop-next.next in
     let lt : i < length hs = omega (arith, c.loop-next-test.true, list_long c.args.list.now) in
-    let e : WordPair = record { first = get_or hs i 0; second = get_or c.places.result.now i 0 } in
+    let e : WordPair = record { first = get_or hs i 0; second = c.place-place.result } in
     let rest : List WordPair = drop (i + 1) all in
-    let same : drop i all ≡ e ∷ rest = entry_at hs ps c.places.result.now i c.args.list.now.paired lt c.places.ensures in
+    let same : drop i all ≡ e ∷ rest = entry_told hs ps i c.place-place.result c.args.list.now.paired lt c.place-place.ensures in
     let hashed : e.first ≡ c.args.hash = c.loop-next.invariant.found lt in
     let n : ℕ = c.next_place-next-in-loop-next.result in
     let v = c.loop-next.invariant in
@@ -96,12 +97,12 @@ loop-next-preserved g c =
 pub returns-in_err-size-clause-foreign : goal.returns-in_err-size-clause-foreign
 returns-in_err-size-clause-foreign g c = λ h.
     let hs : List ℕ = c.args.list.now.hashes.items in
-    let ps : List ℕ = c.args.list.now.places.items in
+    let ps : List ℕ = (places_in c.args.list.now.places) in
     let i : ℕ = c.loop-next.next in
     let lt : i < length hs = omega (arith, c.loop-next-test.true, list_long c.args.list.now) in
-    let e : WordPair = record { first = get_or hs i 0; second = get_or c.places.result.now i 0 } in
+    let e : WordPair = record { first = get_or hs i 0; second = c.place-place.result } in
     let rest : List WordPair = drop (i + 1) (entries_of hs ps) in
-    let same : drop i (entries_of hs ps) ≡ e ∷ rest = entry_at hs ps c.places.result.now i c.args.list.now.paired lt c.places.ensures in
+    let same : drop i (entries_of hs ps) ≡ e ∷ rest = entry_told hs ps i c.place-place.result c.args.list.now.paired lt c.place-place.ensures in
     let was : c.in_err-size.field-0.0 ≡ Foreign = search (rules, h, c.from_residual.ensures) in
     let looks : LooksAt g.L.Width.WORD e.second c.args.end c.args.key.now (Err Foreign) (g.S.Store.image c.look_at.new.store) =
     subst (λ (o : LookFault). LooksAt g.L.Width.WORD e.second c.args.end c.args.key.now (Err o) (g.S.Store.image c.look_at.new.store)) was c.in_err-size.ensures.looks in
@@ -110,17 +111,17 @@ returns-in_err-size-clause-foreign g c = λ h.
 pub returns-then-place-last-clause-foreign : goal.returns-then-place-last-clause-foreign
 returns-then-place-last-clause-foreign g c = λ h.
     let hs : List ℕ = c.args.list.now.hashes.items in
-    let ps : List ℕ = c.args.list.now.places.items in
+    let ps : List ℕ = (places_in c.args.list.now.places) in
     let i : ℕ = c.loop-next.next in
     let lt : i < length hs = omega (arith, c.loop-next-test.true, list_long c.args.list.now) in
-    let e : WordPair = record { first = get_or hs i 0; second = get_or c.places.result.now i 0 } in
+    let e : WordPair = record { first = get_or hs i 0; second = c.place-place.result } in
     let rest : List WordPair = drop (i + 1) (entries_of hs ps) in
-    let same : drop i (entries_of hs ps) ≡ e ∷ rest = entry_at hs ps c.places.result.now i c.args.list.now.paired lt c.places.ensures in
+    let same : drop i (entries_of hs ps) ≡ e ∷ rest = entry_told hs ps i c.place-place.result c.args.list.now.paired lt c.place-place.ensures in
     chains_back e rest same c.loop-next.invariant.chains (reads_fewer c.look_at.ensures.reads) c.if-place-last.true
 
 pub returns-clause-picks : goal.returns-clause-picks
 returns-clause-picks g c =
-    picks_done (entries_over (entries_of c.args.list.now.hashes.items c.args.list.now.places.items) c.loop-next.next (omega (arith, c.loop-next-test.false))) c.loop-next.invariant.picks
+    picks_done (entries_over (entries_of c.args.list.now.hashes.items (places_in c.args.list.now.places)) c.loop-next.next (omega (arith, c.loop-next-test.false))) c.loop-next.invariant.picks
 
 pub returns-clause-apart : goal.returns-clause-apart
 returns-clause-apart g c = apart_higher c.args.start c.loop-next.last c.args.end c.loop-next.gaps.items c.loop-next.invariant.ordered c.loop-next.invariant.apart

@@ -3,6 +3,7 @@ use Rattle.std.specs.Prelude.{slice_index}
 use Rattle.cdb_store.specs.Reads.{OnlyReads}
 use Rattle.cdb_make.specs.Gaps.{AreApart}
 use Rattle.cdb_make.specs.Views.EntryList.{entries_of}
+use Rattle.cdb_make.specs.Views.Places.{places_in}
 use Rattle.cdb_make.proofs.Gaps.Picking.{PicksSoFar, ChainsOn}
 use Rattle.cdb_make.proofs.removal.find.find_gaps.Given as goal
 
@@ -14,8 +15,8 @@ invariant-loop-next g l = record {
   capacity : vec_capacity l.gaps ≡ vec_capacity l.fn.gaps;
   ordered : l.last ≤ l.end;
   apart : AreApart l.start l.gaps.items l.last;
-  picks : PicksSoFar g.L.Width.WORD l.hash l.key l.gaps.items (drop l.next (entries_of l.list.hashes.items l.list.places.items)) (entries_of l.list.hashes.items l.list.places.items) (g.S.Store.image l.store);
-  chains : ChainsOn g.L.Width.WORD l.start l.last (drop l.next (entries_of l.list.hashes.items l.list.places.items)) (entries_of l.list.hashes.items l.list.places.items) l.end (g.S.Store.image l.store);
+  picks : PicksSoFar g.L.Width.WORD l.hash l.key l.gaps.items (drop l.next (entries_of l.list.hashes.items (places_in l.list.places))) (entries_of l.list.hashes.items (places_in l.list.places)) (g.S.Store.image l.store);
+  chains : ChainsOn g.L.Width.WORD l.start l.last (drop l.next (entries_of l.list.hashes.items (places_in l.list.places))) (entries_of l.list.hashes.items (places_in l.list.places)) l.end (g.S.Store.image l.store);
   reads : OnlyReads g.S.Store l.fn.store l.store;
   fine : g.S.Store.failures l.store ≡ g.S.Store.failures l.fn.store;
 }

@@ -1,23 +1,24 @@
 use Rattle.std.proofs.Common.{arith, refl, sym, ap, subst, ◌∙◌, ◌≡◌, ◌+◌, ◌-◌, ◌<◌, ◌≤◌, ◌^◌, ℕ, length, List, [], ◌∷◌, ◌++◌, get_or, set, drop, take, length-set}
 use Rattle.std.specs.Prelude.{All}
 use Rattle.std.proofs.lemmas.List.{at_drop_all, append-nil, get_or-set_other, set-get_or}
-use Rattle.std.proofs.lemmas.List.Elements.{All-get_or, All-set}
+use Rattle.std.proofs.lemmas.List.Elements.{All-get_or, All-set, All-same}
 use Rattle.cdb_form.specs.Format.Pair.{WordPair}
 use Rattle.cdb_make.specs.declared.removal.gap.Gap.{Gap}
 use Rattle.cdb_make.specs.Gaps.{IsRising, closed_by, first_place}
 use Rattle.cdb_make.specs.Views.EntryList.{entries_of}
+use Rattle.cdb_make.specs.Views.Places.{places_in}
 use Rattle.cdb_make.proofs.Gaps.Apart.{next_gap, last_gap, apart_next, NextApart}
 use Rattle.cdb_make.proofs.Gaps.Merge.{FarFrom, apart_lower, keep_step, pass_step, rising_next, set_drop, sofar_kept, closed_prefix, rising_drop, not_falling}
 use Rattle.cdb_make.proofs.Gaps.Places.{closed_here}
-use Rattle.cdb_make.proofs.Entries.Sides.{entry_here, entries_of-set, length-entries_of}
+use Rattle.cdb_make.proofs.Entries.Sides.{entry_told, entries_of-set, length-entries_of}
 use Rattle.cdb_make.proofs.removal.repair_entries.repair_entries.Goals.{else-next-gaps-via-then-next-gaps+else-gaps-next, else-next-gaps-via-else-next-gaps, else-next-gaps-2-via-then-next-gaps-2+else-gaps-next-2, else-next-gaps-2-via-else-next-gaps-2}
 use Rattle.std.proofs.lemmas.Grind.{common_steps}
 use Rattle.cdb_make.proofs.removal.repair_entries.repair_entries.Goals as goal
 
 pub loop-entry-init : goal.loop-entry-init
-loop-entry-init c =
+loop-entry-init g c =
     let hs : List ℕ = c.args.hashes.now in
-    let ps : List ℕ = c.args.places.now in
+    let ps : List ℕ = (places_in c.args.places.now) in
     let es : List WordPair = entries_of hs ps in
     let k : ℕ = c.args.start in
     let front : (i : ℕ) → IsRising 0 es → i < k → get_or ps i 0 < first_place c.args.gaps.now (2 ^ 64 - 1) = λ i r lt. c.requires.below (not_falling 0 hs ps c.requires.paired r) i lt in
@@ -32,11 +33,13 @@ loop-entry-init c =
       apart = c.requires.apart;
       rising = λ r. rising_drop k es r;
       sofar = λ r. closed_prefix hs ps k c.args.gaps.now (2 ^ 63) (2 ^ 64 - 1) c.requires.paired c.requires.apart (λ i lt. front i r lt);
+      long = refl;
+      room = refl;
       bounded = λ most all. all;
     }
 
 pub overflow_add-gone : goal.overflow_add-gone
-overflow_add-gone c =
+overflow_add-gone g c =
     let gs : List Gap = c.args.gaps.now in
     let gap : Gap = get_or gs c.loop-entry.next (record { place = 0; size = 0 }) in
     let e : drop c.loop-entry.next gs ≡ gap ∷ drop (c.loop-entry.next + 1) gs = next_gap gs c.loop-entry.next (record { place = 0; size = 0 }) c.if-next-gaps.true in
@@ -44,18 +47,18 @@ overflow_add-gone c =
     omega (arith, n.order, n.within)
 
 pub loop-entry-preserved-then-gaps-next : goal.loop-entry-preserved-then-gaps-next
-loop-entry-preserved-then-gaps-next c =
+loop-entry-preserved-then-gaps-next g c =
     let gs : List Gap = c.args.gaps.now in
     let hs : List ℕ = c.loop-entry.hashes in
-    let ps : List ℕ = c.loop-entry.places in
+    let ps : List ℕ = places_in c.loop-entry.places in
     let es : List WordPair = entries_of hs ps in
     let i : ℕ = c.loop-entry.entry in
-    let x : WordPair = record { first = get_or hs i 0; second = get_or ps i 0 } in
+    let x : WordPair = record { first = get_or hs i 0; second = c.at-place.result } in
     let gap : Gap = get_or gs c.loop-entry.next (record { place = 0; size = 0 }) in
     let rest : List Gap = drop (c.loop-entry.next + 1) gs in
     let e : drop c.loop-entry.next gs ≡ gap ∷ rest = next_gap gs c.loop-entry.next (record { place = 0; size = 0 }) c.if-next-gaps.true in
     let n : NextApart c.loop-entry.gone gap rest (2 ^ 63) = apart_next gap rest e c.loop-entry.invariant.apart in
-    let d : drop i es ≡ x ∷ drop (i + 1) es = entry_here hs ps i c.loop-entry.invariant.paired c.loop-entry-test.true in
+    let d : drop i es ≡ x ∷ drop (i + 1) es = entry_told hs ps i c.at-place.result c.loop-entry.invariant.paired (omega (arith, c.loop-entry.invariant.paired, c.loop-entry-test.true, c.len.ensures)) c.at-place.ensures.at in
     record {
       behind = c.loop-entry.invariant.behind;
       within = c.loop-entry.invariant.within;
@@ -66,6 +69,8 @@ loop-entry-preserved-then-gaps-next c =
       same = c.loop-entry.invariant.same;
       apart = apart_lower (c.loop-entry.gone + gap.size) (gap.place + gap.size) rest (2 ^ 63) (omega (arith, n.order)) n.rest_apart;
       rising = c.loop-entry.invariant.rising;
+      long = c.loop-entry.invariant.long;
+      room = c.loop-entry.invariant.room;
       bounded = c.loop-entry.invariant.bounded;
       sofar = λ r.
           c.loop-entry.invariant.sofar r
@@ -77,17 +82,17 @@ loop-entry-preserved-then-gaps-next c =
     }
 
 pub loop-entry-preserved-then-gaps-next-2 : goal.loop-entry-preserved-then-gaps-next-2
-loop-entry-preserved-then-gaps-next-2 c =
+loop-entry-preserved-then-gaps-next-2 g c =
     let gs : List Gap = c.args.gaps.now in
     let hs : List ℕ = c.loop-entry.hashes in
-    let ps : List ℕ = c.loop-entry.places in
+    let ps : List ℕ = places_in c.loop-entry.places in
     let es : List WordPair = entries_of hs ps in
     let i : ℕ = c.loop-entry.entry in
-    let x : WordPair = record { first = get_or hs i 0; second = get_or ps i 0 } in
+    let x : WordPair = record { first = get_or hs i 0; second = c.at-place.result } in
     let gap : Gap = get_or gs c.loop-entry.next (record { place = 0; size = 0 }) in
     let rest : List Gap = drop (c.loop-entry.next + 1) gs in
     let e : drop c.loop-entry.next gs ≡ gap ∷ rest = next_gap gs c.loop-entry.next (record { place = 0; size = 0 }) c.if-next-gaps-2.true in
-    let d : drop i es ≡ x ∷ drop (i + 1) es = entry_here hs ps i c.loop-entry.invariant.paired c.loop-entry-test.true in
+    let d : drop i es ≡ x ∷ drop (i + 1) es = entry_told hs ps i c.at-place.result c.loop-entry.invariant.paired (omega (arith, c.loop-entry.invariant.paired, c.loop-entry-test.true, c.len.ensures)) c.at-place.ensures.at in
     record {
       behind = omega (arith, c.loop-entry.invariant.behind);
       within = omega arith;
@@ -98,6 +103,8 @@ loop-entry-preserved-then-gaps-next-2 c =
       same = λ k. absurd (omega (arith, c.loop-entry.invariant.behind));
       apart = c.loop-entry.invariant.apart;
       rising = λ r. rising_next (drop i es) x (drop (i + 1) es) d (c.loop-entry.invariant.rising r);
+      long = c.loop-entry.invariant.long;
+      room = c.loop-entry.invariant.room;
       bounded = c.loop-entry.invariant.bounded;
       sofar = λ r.
           c.loop-entry.invariant.sofar r
@@ -109,18 +116,18 @@ loop-entry-preserved-then-gaps-next-2 c =
     }
 
 pub loop-entry-preserved : goal.loop-entry-preserved
-loop-entry-preserved c =
+loop-entry-preserved g c =
     let gs : List Gap = c.args.gaps.now in
     let hs : List ℕ = c.loop-entry.hashes in
-    let ps : List ℕ = c.loop-entry.places in
+    let ps : List ℕ = places_in c.loop-entry.places in
     let es : List WordPair = entries_of hs ps in
     let i : ℕ = c.loop-entry.entry in
     let j : ℕ = c.loop-entry.next in
     let n : ℕ = c.loop-entry.kept in
-    let x : WordPair = record { first = get_or hs i 0; second = get_or ps i 0 } in
+    let x : WordPair = record { first = get_or hs i 0; second = c.at-place.result } in
     let gap : Gap = get_or gs j (record { place = 0; size = 0 }) in
     let new : WordPair = record { first = x.first; second = c.saturating_sub.result } in
-    let d : drop i es ≡ x ∷ drop (i + 1) es = entry_here hs ps i c.loop-entry.invariant.paired c.loop-entry-test.true in
+    let d : drop i es ≡ x ∷ drop (i + 1) es = entry_told hs ps i c.at-place.result c.loop-entry.invariant.paired (omega (arith, c.loop-entry.invariant.paired, c.loop-entry-test.true, c.len.ensures)) c.at-place.ensures.at in
     let none : length gs ≤ j → FarFrom x.second (drop j gs) = λ h. subst (λ (v : List Gap). FarFrom x.second v) (sym (last_gap gs j h)) tt in
     let some : j < length gs → x.second < gap.place → FarFrom x.second (drop j gs) =
     λ h k. subst (λ (v : List Gap). FarFrom x.second v) (sym (next_gap gs j (record { place = 0; size = 0 }) h)) k in
@@ -131,16 +138,19 @@ loop-entry-preserved c =
       ]
       | else-next-gaps-via-else-next-gaps w ↦ none w.if-next-gaps.false
     ] in
-    let whole : List WordPair = closed_by 0 gs (entries_of c.args.hashes.now c.args.places.now) in
+    let whole : List WordPair = closed_by 0 gs (entries_of c.args.hashes.now (places_in c.args.places.now)) in
     let long : length es ≡ length hs = length-entries_of hs ps c.loop-entry.invariant.paired in
-    let lower : c.saturating_sub.result ≤ get_or ps i 0 = omega (arith, c.saturating_sub.ensures) in
-    let short : n < length es = omega (arith, c.loop-entry.invariant.behind) in
-    let same : entries_of (set hs n x.first) (set ps n c.saturating_sub.result) ≡ set es n new = entries_of-set hs ps n x.first c.saturating_sub.result c.loop-entry.invariant.paired in
+    let lower : c.saturating_sub.result ≤ c.at-place.result = omega (arith, c.saturating_sub.ensures) in
+    let lt : i < length ps = omega (arith, c.loop-entry-test.true, c.len.ensures) in
+    let short : n < length es = omega (arith, c.loop-entry.invariant.behind, lt, long, c.loop-entry.invariant.paired) in
+    let put : places_in c.set.new.self ≡ set ps n c.saturating_sub.result = c.set.ensures.places in
+    let ps₁ : List ℕ = places_in c.set.new.self in
+    let same : entries_of (set hs n x.first) ps₁ ≡ set es n new = ap (entries_of (set hs n x.first)) put ∙ entries_of-set hs ps n x.first c.saturating_sub.result c.loop-entry.invariant.paired in
     record {
       behind = omega (arith, c.loop-entry.invariant.behind);
-      within = omega (arith, length-set {A = ℕ});
+      within = omega (arith, ap length put, length-set ps n c.saturating_sub.result, lt);
       gap_within = c.loop-entry.invariant.gap_within;
-      paired = length-set hs n x.first ∙ c.loop-entry.invariant.paired ∙ sym (length-set ps n c.saturating_sub.result);
+      paired = length-set hs n x.first ∙ c.loop-entry.invariant.paired ∙ sym (ap length put ∙ length-set ps n c.saturating_sub.result);
       start = omega (arith, c.loop-entry.invariant.start);
       front = λ k lt. get_or-set_other hs n k (get_or hs i 0) 0 (λ at. omega (arith, c.loop-entry.invariant.start)) ∙ c.loop-entry.invariant.front k lt;
       same = λ k. let h : n ≡ i = omega arith in ap (λ (m : ℕ). set hs m (get_or hs i 0)) h ∙ set-get_or hs i 0 ∙ c.loop-entry.invariant.same h;
@@ -148,10 +158,12 @@ loop-entry-preserved c =
       rising = λ r.
           subst (λ (v : List WordPair). IsRising 0 (drop (i + 1) v)) (sym same)
           (subst (λ (v : List WordPair). IsRising 0 v) (sym (set_drop n i es new c.loop-entry.invariant.behind)) (rising_next (drop i es) x (drop (i + 1) es) d (c.loop-entry.invariant.rising r)));
+      long = ap length put ∙ length-set ps n c.saturating_sub.result ∙ c.loop-entry.invariant.long;
+      room = c.set.ensures.room ∙ c.loop-entry.invariant.room;
       bounded = λ most all.
           let here : All (λ p. p ≤ most) ps = c.loop-entry.invariant.bounded most all in
-          let last : get_or ps i 0 ≤ most = All-get_or (λ p. p ≤ most) ps i 0 c.loop-entry-test.true here in
-          All-set (λ p. p ≤ most) ps n c.saturating_sub.result (omega arith) here;
+          let last : get_or ps i c.at-place.result ≤ most = All-get_or (λ p. p ≤ most) ps i c.at-place.result lt here in
+          All-same (λ p. p ≤ most) _ _ put (All-set (λ p. p ≤ most) ps n c.saturating_sub.result (omega (arith, lower, last, c.at-place.ensures.at)) here);
       sofar = λ r.
           subst (λ (v : List WordPair). whole ≡ take (n + 1) v ++ closed_by c.loop-entry.gone (drop j gs) (drop (i + 1) v)) (sym same)
           (sofar_kept c.loop-entry.gone n i (drop j gs) es whole new short c.loop-entry.invariant.behind
@@ -162,17 +174,17 @@ loop-entry-preserved c =
     }
 
 pub returns-clause-entries : goal.returns-clause-entries
-returns-clause-entries c = λ r.
-    let es : List WordPair = entries_of c.loop-entry.hashes c.loop-entry.places in
+returns-clause-entries g c = λ r.
+    let es : List WordPair = entries_of c.loop-entry.hashes (places_in c.loop-entry.places) in
     let gs : List Gap = drop c.loop-entry.next c.args.gaps.now in
-    let over : drop c.loop-entry.entry es ≡ [] = at_drop_all (λ (v : List WordPair). v) es c.loop-entry.entry (omega (arith, length-entries_of c.loop-entry.hashes c.loop-entry.places c.loop-entry.invariant.paired, c.loop-entry-test.false)) in
+    let over : drop c.loop-entry.entry es ≡ [] = at_drop_all (λ (v : List WordPair). v) es c.loop-entry.entry (omega (arith, length-entries_of c.loop-entry.hashes (places_in c.loop-entry.places) c.loop-entry.invariant.paired, c.loop-entry-test.false)) in
     sym (c.loop-entry.invariant.sofar r ∙ ap (λ (v : List WordPair). take c.loop-entry.kept es ++ closed_by c.loop-entry.gone gs v) over ∙ append-nil (take c.loop-entry.kept es))
 
 pub returns-clause-bounded : goal.returns-clause-bounded
-returns-clause-bounded c = c.loop-entry.invariant.bounded
+returns-clause-bounded g c = c.loop-entry.invariant.bounded
 
 pub loop-entry-smaller : goal.loop-entry-smaller
-loop-entry-smaller c = grind (arith, common_steps)
+loop-entry-smaller g c = grind (arith, common_steps)
 
 pub returns-clause-same : goal.returns-clause-same
-returns-clause-same c = λ e. c.loop-entry.invariant.same (omega (arith, c.loop-entry.invariant.behind, c.loop-entry.invariant.within, c.loop-entry-test.false, c.loop-entry.invariant.paired))
+returns-clause-same g c = λ e. c.loop-entry.invariant.same (omega (arith, c.loop-entry.invariant.behind, c.loop-entry.invariant.within, c.loop-entry-test.false, c.loop-entry.invariant.paired))

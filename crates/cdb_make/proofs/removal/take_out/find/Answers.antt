@@ -10,7 +10,7 @@ use Rattle.cdb_make.proofs.removal.take_out.find.Goals as goal
 pub find_gaps-requires-clause-room : goal.find_gaps-requires-clause-room
 find_gaps-requires-clause-room g c =
     let d = c.of_hash-list.result.now in
-    let ls : List EntryList = c.args.lists.now.each.items in
+    let ls : List (EntryList _ _) = c.args.lists.now.each.items in
     let n : ℕ = table_number c.args.hash in
     let lt : n < length ls = omega (arith, c.args.lists.now.all) in
     let here : length (list_entries d) ≡ length (get_or (lists_entries ls) n []) =
@@ -21,7 +21,7 @@ find_gaps-requires-clause-room g c =
 pub returns-clause-few : goal.returns-clause-few
 returns-clause-few g c =
     let d = c.of_hash-list.result.now in
-    let ls : List EntryList = c.args.lists.now.each.items in
+    let ls : List (EntryList _ _) = c.args.lists.now.each.items in
     let n : ℕ = table_number c.args.hash in
     let lt : n < length ls = omega (arith, c.args.lists.now.all) in
     let here : length (list_entries d) ≡ length (get_or (lists_entries ls) n []) =

@@ -24,5 +24,5 @@ slice_bounds-read_head-end g c = grind (arith, common_steps)
 pub read_head-head-requires : goal.read_head-head-requires
 read_head-head-requires g c = grind (arith, common_steps)
 
-pub slice_bounds-piece-end-2 : goal.slice_bounds-piece-end-2
-slice_bounds-piece-end-2 g c = grind (arith, common_steps)
+pub slice_bounds-bytes-end-2 : goal.slice_bounds-bytes-end-2
+slice_bounds-bytes-end-2 g c = grind (arith, common_steps)

@@ -1,4 +1,11 @@
+use Rattle.std.proofs.Common.{◌++◌, ap, ◌∙◌}
+use Rattle.std.proofs.lemmas.Bool.{OnTrue_at}
+use Rattle.cdb_read.proofs.Bytes.Windows.{shown_is}
 use Rattle.cdb_read.proofs.reader.Reader.value_into.Goals as goal
 
-pub take_span-requires-clause-fits : goal.take_span-requires-clause-fits
-take_span-requires-clause-fits g c = c.args.self.now.fits
+pub returns-then-covers-clause-is : goal.returns-then-covers-clause-is
+returns-then-covers-clause-is g c = λ b image.
+    c.in_ok-extend_from_slice.ensures.items
+    ∙ ap (λ t. t ++ c.shown.result.now) c.clear.ensures.items
+    ∙ c.shown.ensures.is
+    ∙ shown_is c.args.self.now.window (g.S.Store.image c.args.self.now.store) c.args.span.place c.args.span.len c.args.self.now.shows (OnTrue_at c.if-covers.true c.covers.ensures) b image

@@ -1,9 +1,14 @@
 use Rattle.std.proofs.Common.{arith}
-use Rattle.std.proofs.lemmas.Bool.Decides.{nat_tests}
+use Rattle.cdb_make.specs.Views.Places.{places_in}
 use Rattle.cdb_make.proofs.Entries.Sides.{length-entries_of}
 use Rattle.cdb_make.proofs.index.list.EntryList.has_room.Goals as goal
 
-pub returns : goal.returns
-returns c = λ t.
+pub returns-then-eq : goal.returns-then-eq
+returns-then-eq g c = λ t.
     let s = c.args.self.now in
-    grind (arith, nat_tests, length-entries_of s.hashes.items s.places.items s.paired, s.hashes.ok.0, s.known_hash_room, s.known_place_room, s.known_index_room, c.len.ensures, t)
+    omega (arith, length-entries_of s.hashes.items (places_in s.places) s.paired, s.hashes.ok.0, s.known_hash_room, s.known_place_room, c.len-count.ensures, c.if-count-self.true)
+
+pub returns-else-eq : goal.returns-else-eq
+returns-else-eq g c = λ t.
+    let s = c.args.self.now in
+    omega (arith, length-entries_of s.hashes.items (places_in s.places) s.paired, s.hashes.ok.0, s.known_hash_room, s.known_place_room, c.len-count.ensures, c.if-count-self.true)

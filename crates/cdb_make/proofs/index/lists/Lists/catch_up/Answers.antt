@@ -7,12 +7,12 @@ use Rattle.cdb_make.proofs.Entries.Entering.{told_of_set, told_of_list}
 use Rattle.cdb_make.proofs.index.lists.Lists.catch_up.Goals as goal
 
 pub returns-clause-entries : goal.returns-clause-entries
-returns-clause-entries c =
+returns-clause-entries g c =
     map-set_same list_entries c.args.self.now.each.items c.table_number.result c.catch_up.new.self c.index_mut.result.now
     (c.catch_up.ensures.entries ∙ ap list_entries c.index_mut.ensures.value)
 
 pub returns-clause-room : goal.returns-clause-room
-returns-clause-room c =
+returns-clause-room g c =
     let n : table_number c.args.hash ≡ c.table_number.result = sym (c.table_number.ensures.number ∙ ap table_number c.from.ensures) in
     let lt : c.table_number.result < length c.args.self.now.each.items = omega (arith, c.table_number.ensures.within, c.args.self.now.all) in
     let was = told_of_list list_room c.args.self.now.each.items c.table_number.result (table_number c.args.hash) c.index_mut.result.now 0 n lt c.index_mut.ensures.value in
@@ -20,7 +20,7 @@ returns-clause-room c =
     omega (arith, was, now, c.catch_up.ensures.room)
 
 pub invariant_of-self : goal.invariant_of-self
-invariant_of-self c =
+invariant_of-self g c =
     let m = c.args.self.now in
     record {
       all = simp length-set m.all;

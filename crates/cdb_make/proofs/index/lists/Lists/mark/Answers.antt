@@ -5,7 +5,7 @@ use Rattle.cdb_make.proofs.Marked.MarkedLists.{marked_under}
 use Rattle.cdb_make.proofs.index.lists.Lists.mark.Goals as goal
 
 pub invariant_of-self : goal.invariant_of-self
-invariant_of-self c =
+invariant_of-self g c =
     let m = c.args.self.now in
     let lt : c.table_number.result < length m.each.items = omega (arith, c.table_number.ensures.within, m.all) in
     record {
@@ -14,7 +14,7 @@ invariant_of-self c =
     }
 
 pub returns : goal.returns
-returns c =
+returns g c =
     let m = c.args.self.now in
     let n : c.table_number.result ≡ table_number c.args.hash = c.table_number.ensures.number ∙ ap table_number c.from.ensures in
     record {

@@ -4,4 +4,4 @@ use Rattle.cdb_make.proofs.index.lists.Lists.new.Given as goal
 
 -- the lists so far
 abbrev pub invariant-loop : goal.invariant-loop
-invariant-loop l = lists_entries l.each.items ≡ replicate l.counter []
+invariant-loop g l = lists_entries l.each.items ≡ replicate l.counter []

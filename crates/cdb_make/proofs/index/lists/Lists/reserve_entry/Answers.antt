@@ -8,12 +8,12 @@ use Rattle.cdb_make.proofs.Entries.Entering.{told_of_set}
 use Rattle.cdb_make.proofs.index.lists.Lists.reserve_entry.Goals as goal
 
 pub returns-clause-entries : goal.returns-clause-entries
-returns-clause-entries c =
+returns-clause-entries g c =
     map-set_same list_entries c.args.self.now.each.items c.table_number.result c.grow.new.list c.index_mut-list.result.now
     (c.grow.ensures.entries ∙ ap list_entries c.index_mut-list.ensures.value)
 
 pub returns-clause-room : goal.returns-clause-room
-returns-clause-room c =
+returns-clause-room g c =
     let n : table_number c.args.hash ≡ c.table_number.result = sym (c.table_number.ensures.number ∙ ap table_number c.from.ensures) in
     let lt : c.table_number.result < length c.args.self.now.each.items = omega (arith, c.table_number.ensures.within, c.args.self.now.all) in
     let count = told_of_set list_entries c.args.self.now.each.items c.table_number.result (table_number c.args.hash) c.grow.new.list [] n lt in
@@ -21,7 +21,7 @@ returns-clause-room c =
     on_ok_weaker c.grow.result (λ ok. omega (arith, ap length count, room, ok)) c.grow.ensures.room
 
 pub invariant_of-self : goal.invariant_of-self
-invariant_of-self c =
+invariant_of-self g c =
     let m = c.args.self.now in
     record {
       all = simp length-set m.all;
@@ -29,7 +29,7 @@ invariant_of-self c =
     }
 
 pub invariant_of-self-2 : goal.invariant_of-self-2
-invariant_of-self-2 c =
+invariant_of-self-2 g c =
     let m = c.args.self.now in
     record {
       all = simp length-set m.all;

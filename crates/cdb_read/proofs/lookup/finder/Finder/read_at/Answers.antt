@@ -3,4 +3,4 @@ use Rattle.cdb_read.specs.Views.Probing.{IsSearchInside}
 use Rattle.cdb_read.proofs.lookup.finder.Finder.read_at.Goals as goal
 
 pub invariant_of-self : goal.invariant_of-self
-invariant_of-self g c = record { inside = subst (λ (n : ℕ). IsSearchInside g.L.Width.WORD n c.args.self.now.searching) (sym c.read_at.ensures.reads.size) c.args.self.now.inside }
+invariant_of-self g c = record { inside = subst (λ (n : ℕ). IsSearchInside g.L.Width.WORD n c.args.self.now.searching) (sym c.read_at.ensures.reads.size) c.args.self.now.inside; hashed = c.args.self.now.hashed }

@@ -1,11 +1,13 @@
-use Rattle.std.proofs.Common.{rules, ◌∙◌, ◌≤◌, ℕ, sym, ap, subst}
+use Rattle.std.proofs.Common.{rules, ◌∙◌, ◌≤◌, ℕ, refl, sym, ap, subst}
 use Rattle.std.proofs.lemmas.Result.{err_from_is_err_and}
 use Rattle.cdb_store.proofs.Reading.{reads_more, reads_nothing}
 use Rattle.cdb_form.specs.Format.Walk.{Walked}
 use Rattle.cdb_form.proofs.Bytes.WritingLemmas.{same_appends, same_prefix}
+use Rattle.cdb_read.specs.Lookup.{bytes_of}
 use Rattle.cdb_read.specs.Views.Walking.{behind, next_place, walk_ahead}
 use Rattle.cdb_read.proofs.Walked.WalkedLengths.{some_word}
-use Rattle.cdb_tool.specs.Runs.Difference.{changes_at, changes_text, is_first_changed}
+use Rattle.cdb_tool.specs.Runs.Difference.{changes_at, changes_text}
+use Rattle.cdb_tool.specs.Views.Marks.{is_marked}
 use Rattle.cdb_tool.proofs.PassSteps.{changed, changed_prefix, ended, so_far_none, stopped, unchanged}
 use Rattle.cdb_tool.proofs.Queries.{reads_none}
 use Rattle.cdb_tool.proofs.runs.difference.pass.write_pass.Goals as goal
@@ -33,21 +35,27 @@ loop-key-preserved-in-Continue-branch-4 g c =
     let inv = c.loop-key.invariant in
     let one = rw c.in-Some.is at c.in_ok-pair.ensures.gives in
     let pair = c.in-Some.pair in
-    let first = c.is_first_changed.ensures in
+    let first = c.is_change.ensures in
     let said = c.write_changes.ensures in
     record {
-      own_reads = reads_more (reads_more (reads_more inv.own_reads c.next_key.ensures.reads) first.own_reads) said.reads;
+      own_reads = reads_more (reads_more (reads_more inv.own_reads c.next_record.ensures.reads) first.own_reads) said.reads;
       other_reads = reads_more inv.other_reads first.other_reads;
       walked = λ b is.
           let mine = first.own_reads.images b (said.reads.images b is) in
-          inv.walked b (c.next_key.ensures.reads.images b mine) ∙ ap (λ (x : Walked). x.damage) (one.first b mine);
+          inv.walked b (c.next_record.ensures.reads.images b mine) ∙ ap (λ (x : Walked). x.damage) (one.first b mine);
       passed = λ b d is it.
           let second = said.reads.images b is in
           let mine = first.own_reads.images b second in
-          let test = sym c.if-branch.true ∙ c.in_ok-is_first_changed.ensures.changed b d second it ∙ ap (λ k. is_first_changed w b d k pair.value.place) c.deref.ensures.value in
-          changed w c.args.kind b d _ _ _ _ pair c.next_key.new.key.items _ _ _ some (inv.passed b d (c.next_key.ensures.reads.images b mine) (first.other_reads.images d it)) (one.first b mine) one.lies one.next
-          (subst (λ (n : ℕ). behind pair ≤ n) (sym (g.met.S.Store.image_size c.next_key.new.reader.store b mine)) one.inside) (one.key_is b mine) test
-          (same_appends _ _ _ _ (ap (λ k. changes_text (changes_at c.args.kind w b k)) c.deref-then-branch.ensures.value) (c.in_ok-write_changes.ensures.writes b is).ok);
+          let earlier = c.next_record.ensures.reads.images b mine in
+          let theirs = first.other_reads.images d it in
+          let key = bytes_of b pair.key in
+          let test = sym c.if-branch.true ∙ c.in_ok-is_change.ensures.change b d second it in
+          let key_is = c.in_ok-is_change.ensures.key b second (cc) in
+          changed w c.args.kind b d _ _ _ _ pair key (is_marked c.args.marks.now.words.items key) _ _ _ some
+          (λ no. c.requires.agree b d (inv.own_reads.images b earlier) (inv.other_reads.images d theirs) key no)
+          (inv.passed b d earlier theirs) (one.first b mine) one.lies one.next
+          (subst (λ (n : ℕ). behind pair ≤ n) (sym (g.met.S.Store.image_size c.next_record.new.reader.store b mine)) one.inside) refl test
+          (same_appends _ _ _ _ (ap (λ k. changes_text (changes_at c.args.kind w b k)) (c.deref.ensures.value ∙ key_is)) (c.in_ok-write_changes.ensures.writes b is).ok);
     }
 
 pub loop-key-preserved : goal.loop-key-preserved
@@ -57,18 +65,23 @@ loop-key-preserved g c =
     let inv = c.loop-key.invariant in
     let one = rw c.in-Some.is at c.in_ok-pair.ensures.gives in
     let pair = c.in-Some.pair in
-    let first = c.is_first_changed.ensures in
+    let first = c.is_change.ensures in
     record {
-      own_reads = reads_more (reads_more inv.own_reads c.next_key.ensures.reads) first.own_reads;
+      own_reads = reads_more (reads_more inv.own_reads c.next_record.ensures.reads) first.own_reads;
       other_reads = reads_more inv.other_reads first.other_reads;
       walked = λ b is.
           let mine = first.own_reads.images b is in
-          inv.walked b (c.next_key.ensures.reads.images b mine) ∙ ap (λ (x : Walked). x.damage) (one.first b mine);
+          inv.walked b (c.next_record.ensures.reads.images b mine) ∙ ap (λ (x : Walked). x.damage) (one.first b mine);
       passed = λ b d is it.
           let mine = first.own_reads.images b is in
-          let test = sym c.if-branch.false ∙ c.in_ok-is_first_changed.ensures.changed b d is it ∙ ap (λ k. is_first_changed w b d k pair.value.place) c.deref.ensures.value in
-          unchanged w c.args.kind b d _ _ _ _ pair c.next_key.new.key.items _ _ (g.W.Write.contents c.args.w.now) some (inv.passed b d (c.next_key.ensures.reads.images b mine) (first.other_reads.images d it)) (one.first b mine) one.lies one.next
-          (subst (λ (n : ℕ). behind pair ≤ n) (sym (g.met.S.Store.image_size c.next_key.new.reader.store b mine)) one.inside) (one.key_is b mine) test;
+          let earlier = c.next_record.ensures.reads.images b mine in
+          let theirs = first.other_reads.images d it in
+          let key = bytes_of b pair.key in
+          let test = sym c.if-branch.false ∙ c.in_ok-is_change.ensures.change b d is it in
+          unchanged w c.args.kind b d _ _ _ _ pair key (is_marked c.args.marks.now.words.items key) _ _ (g.W.Write.contents c.args.w.now) some
+          (λ no. c.requires.agree b d (inv.own_reads.images b earlier) (inv.other_reads.images d theirs) key no)
+          (inv.passed b d earlier theirs) (one.first b mine) one.lies one.next
+          (subst (λ (n : ℕ). behind pair ≤ n) (sym (g.met.S.Store.image_size c.next_record.new.reader.store b mine)) one.inside) refl test;
     }
 
 pub returns-in_err-pair-clause-front : goal.returns-in_err-pair-clause-front
@@ -77,20 +90,20 @@ returns-in_err-pair-clause-front g c =
     let inv = c.loop-key.invariant in
     rw p.1
     (λ b d is it.
-    let mine : g.S.Store.image c.next_key.new.reader.store b = search rules in
+    let mine : g.S.Store.image c.next_record.new.reader.store b = search rules in
     let theirs : g.T.Store.image c.loop-key.other.store d = search rules in
-    stopped g.L.Width.WORD c.args.kind b d _ _ _ _ (inv.passed b d (c.next_key.ensures.reads.images b mine) theirs))
+    stopped g.L.Width.WORD c.args.kind b d _ _ _ _ (inv.passed b d (c.next_record.ensures.reads.images b mine) theirs))
 
-pub returns-in_err-is_first_changed-clause-front : goal.returns-in_err-is_first_changed-clause-front
-returns-in_err-is_first_changed-clause-front g c =
-    let p = err_from_is_err_and c.from_residual-in_err-is_first_changed.result c.from_residual-in_err-is_first_changed.ensures.1 in
+pub returns-in_err-is_change-clause-front : goal.returns-in_err-is_change-clause-front
+returns-in_err-is_change-clause-front g c =
+    let p = err_from_is_err_and c.from_residual-in_err-is_change.result c.from_residual-in_err-is_change.ensures.1 in
     let inv = c.loop-key.invariant in
-    let first = c.is_first_changed.ensures in
+    let first = c.is_change.ensures in
     rw p.1
     (λ b d is it.
-    let mine : g.S.Store.image c.is_first_changed.new.own.store b = search rules in
-    let theirs : g.T.Store.image c.is_first_changed.new.other.store d = search rules in
-    stopped g.L.Width.WORD c.args.kind b d _ _ _ _ (inv.passed b d (c.next_key.ensures.reads.images b (first.own_reads.images b mine)) (first.other_reads.images d theirs)))
+    let mine : g.S.Store.image c.is_change.new.own.store b = search rules in
+    let theirs : g.T.Store.image c.is_change.new.other.store d = search rules in
+    stopped g.L.Width.WORD c.args.kind b d _ _ _ _ (inv.passed b d (c.next_record.ensures.reads.images b (first.own_reads.images b mine)) (first.other_reads.images d theirs)))
 
 pub returns-in_err-write_changes-clause-front : goal.returns-in_err-write_changes-clause-front
 returns-in_err-write_changes-clause-front g c =
@@ -100,23 +113,29 @@ returns-in_err-write_changes-clause-front g c =
     let inv = c.loop-key.invariant in
     let one = rw c.in-Some.is at c.in_ok-pair.ensures.gives in
     let pair = c.in-Some.pair in
-    let first = c.is_first_changed.ensures in
+    let first = c.is_change.ensures in
     let said = c.write_changes.ensures in
     rw p.1
     (λ b d is it.
     let here : g.S.Store.image c.write_changes.new.reader.store b = search rules in
-    let theirs : g.T.Store.image c.is_first_changed.new.other.store d = search rules in
+    let theirs : g.T.Store.image c.is_change.new.other.store d = search rules in
     let second = said.reads.images b here in
     let mine = first.own_reads.images b second in
-    let test = sym c.if-branch.true ∙ c.in_ok-is_first_changed.ensures.changed b d second theirs ∙ ap (λ k. is_first_changed w b d k pair.value.place) c.deref.ensures.value in
-    changed_prefix w c.args.kind b d _ _ _ _ pair c.next_key.new.key.items _ _ _ some (inv.passed b d (c.next_key.ensures.reads.images b mine) (first.other_reads.images d theirs)) (one.first b mine) one.lies one.next
-    (subst (λ (n : ℕ). behind pair ≤ n) (sym (g.met.S.Store.image_size c.next_key.new.reader.store b mine)) one.inside) (one.key_is b mine) test
-    (same_prefix _ _ _ _ (ap (λ k. changes_text (changes_at c.args.kind w b k)) c.deref-then-branch.ensures.value) (c.in_err-write_changes.ensures.writes b here).err))
+    let earlier = c.next_record.ensures.reads.images b mine in
+    let before = first.other_reads.images d theirs in
+    let key = bytes_of b pair.key in
+    let test = sym c.if-branch.true ∙ c.in_ok-is_change.ensures.change b d second theirs in
+    let key_is = c.in_ok-is_change.ensures.key b second (cc) in
+    changed_prefix w c.args.kind b d _ _ _ _ pair key (is_marked c.args.marks.now.words.items key) _ _ _ some
+    (λ no. c.requires.agree b d (inv.own_reads.images b earlier) (inv.other_reads.images d before) key no)
+    (inv.passed b d earlier before) (one.first b mine) one.lies one.next
+    (subst (λ (n : ℕ). behind pair ≤ n) (sym (g.met.S.Store.image_size c.next_record.new.reader.store b mine)) one.inside) refl test
+    (same_prefix _ _ _ _ (ap (λ k. changes_text (changes_at c.args.kind w b k)) (c.deref.ensures.value ∙ key_is)) (c.in_err-write_changes.ensures.writes b here).err))
 
 pub returns-clause-ok : goal.returns-clause-ok
 returns-clause-ok g c = λ b d is it.
     let inv = c.loop-key.invariant in
     let none = rw c.in_default.is at c.in_ok-pair.ensures.gives in
-    let mine : g.S.Store.image c.next_key.new.reader.store b = search rules in
+    let mine : g.S.Store.image c.next_record.new.reader.store b = search rules in
     let theirs : g.T.Store.image c.loop-key.other.store d = search rules in
-    ended g.L.Width.WORD c.args.kind b d _ _ _ _ (inv.passed b d (c.next_key.ensures.reads.images b mine) theirs) (none b mine)
+    ended g.L.Width.WORD c.args.kind b d _ _ _ _ (inv.passed b d (c.next_record.ensures.reads.images b mine) theirs) (none b mine)

@@ -3,7 +3,7 @@ use Rattle.cdb_form.specs.Format.Walk.{walk_of}
 use Rattle.cdb_store.specs.Reads.{OnlyReads}
 use Rattle.cdb_read.specs.Views.Walking.{next_place, size_ahead}
 use Rattle.cdb_tool.proofs.PassSteps.{PassSoFar}
-use Rattle.cdb_tool.specs.Views.NextKey.{left_from}
+use Rattle.cdb_tool.specs.Views.NextRecord.{left_from}
 use Rattle.cdb_tool.proofs.runs.difference.pass.write_pass.Given as goal
 
 -- what the difference says of the keys so far was written

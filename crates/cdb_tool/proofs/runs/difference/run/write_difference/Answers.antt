@@ -2,60 +2,99 @@ use Rattle.std.proofs.Common.{sym, subst}
 use Rattle.std.proofs.lemmas.Result.{err_from_is_err_and}
 use Rattle.cdb_store.proofs.Reading.{reads_more}
 use Rattle.cdb_tool.specs.Runs.Difference.{DifferenceFails}
-use Rattle.cdb_tool.proofs.DifferenceRuns.{putting_fails, removing_fails}
+use Rattle.cdb_tool.proofs.DifferenceRuns.{nothing_written, putting_fails, removing_fails, removing_fails_since}
+use Rattle.cdb_tool.proofs.Marked.{agree_flipped}
+use Rattle.cdb_tool.proofs.Queries.{reads_none}
 use Rattle.cdb_tool.proofs.WholeDifferences.{difference_written, prefix_end, prefix_first, prefix_second}
 use Rattle.cdb_tool.proofs.runs.difference.run.write_difference.Goals as goal
 
+pub write_pass-requires : goal.write_pass-requires
+write_pass-requires g c = record { agree = λ b d is it. c.in-Ok.ensures.agree b d is it }
+
+pub write_pass-requires-2 : goal.write_pass-requires-2
+write_pass-requires-2 g c =
+    let first = c.write_pass.ensures in
+    record { agree = λ d b it is. agree_flipped _ _ _ (c.in-Ok.ensures.agree b d (first.own_reads.images b is) (first.other_reads.images d it)) }
+
+pub returns-in_err-marks : goal.returns-in_err-marks
+returns-in_err-marks g c =
+    let p = err_from_is_err_and c.from_residual.result c.from_residual.ensures.1 in
+    rw (p.1, p.2)
+    (record {
+      old_reads = reads_none g.S.Store c.args.old.now.store;
+      new_reads = reads_none g.T.Store c.args.new.now.store;
+      ok = tt;
+      err = tt;
+      front = λ b d is it. nothing_written g.L.Width.WORD b d _;
+    })
+
 pub returns-in-Err : goal.returns-in-Err
 returns-in-Err g c =
-    let pass = c.write_pass.ensures in
+    let marks = c.mark_changed.ensures in
     let stop = c.in-Err.ensures in
     record {
-      old_reads = pass.own_reads;
-      new_reads = pass.other_reads;
+      old_reads = marks.own_reads;
+      new_reads = marks.other_reads;
       ok = tt;
       err = subst (DifferenceFails g.L.Width.WORD g.S.Store g.T.Store _ _ _ _ _ _) (sym c.of_old.ensures) (removing_fails g.L.Width.WORD g.S.Store g.T.Store _ _ _ _ _ _ c.in-Err.stop stop.fails);
-      front = λ b d is it. prefix_first g.L.Width.WORD b d _ _ (stop.front b d is it);
+      front = λ b d is it. nothing_written g.L.Width.WORD b d _;
     }
 
 pub returns-in-Err-write_pass : goal.returns-in-Err-write_pass
 returns-in-Err-write_pass g c =
-    let first = c.write_pass.ensures in
-    let second = c.write_pass-2.ensures in
+    let marks = c.mark_changed.ensures in
+    let pass = c.write_pass.ensures in
     let stop = c.in-Err-write_pass.ensures in
     record {
-      old_reads = reads_more first.own_reads second.other_reads;
-      new_reads = reads_more first.other_reads second.own_reads;
+      old_reads = reads_more marks.own_reads pass.own_reads;
+      new_reads = reads_more marks.other_reads pass.other_reads;
+      ok = tt;
+      err = subst (DifferenceFails g.L.Width.WORD g.S.Store g.T.Store _ _ _ _ _ _) (sym c.of_old-in-Err-write_pass.ensures)
+          (removing_fails_since g.L.Width.WORD g.S.Store g.T.Store _ _ _ _ _ _ _ _ c.in-Err-write_pass.stop marks.own_reads marks.other_reads stop.fails);
+      front = λ b d is it. prefix_first g.L.Width.WORD b d _ _ (stop.front b d is it);
+    }
+
+pub returns-in-Err-write_pass-2 : goal.returns-in-Err-write_pass-2
+returns-in-Err-write_pass-2 g c =
+    let marks = c.mark_changed.ensures in
+    let first = c.write_pass.ensures in
+    let second = c.write_pass-2.ensures in
+    let stop = c.in-Err-write_pass-2.ensures in
+    record {
+      old_reads = reads_more (reads_more marks.own_reads first.own_reads) second.other_reads;
+      new_reads = reads_more (reads_more marks.other_reads first.other_reads) second.own_reads;
       ok = tt;
       err = subst (DifferenceFails g.L.Width.WORD g.S.Store g.T.Store _ _ _ _ _ _) (sym c.of_new.ensures)
-          (putting_fails g.L.Width.WORD g.S.Store g.T.Store _ _ _ _ _ _ _ _ c.in-Err-write_pass.stop first.own_reads first.other_reads stop.fails);
-      front = λ b d is it. prefix_second g.L.Width.WORD b d _ _ _ (c.in-Ok.ensures.ok b d (second.other_reads.images b is) (second.own_reads.images d it)) (stop.front d b it is);
+          (putting_fails g.L.Width.WORD g.S.Store g.T.Store _ _ _ _ _ _ _ _ c.in-Err-write_pass-2.stop (reads_more marks.own_reads first.own_reads) (reads_more marks.other_reads first.other_reads) stop.fails);
+      front = λ b d is it. prefix_second g.L.Width.WORD b d _ _ _ (c.in-Ok-write_pass.ensures.ok b d (second.other_reads.images b is) (second.own_reads.images d it)) (stop.front d b it is);
     }
 
 pub returns-in_err-write_end : goal.returns-in_err-write_end
 returns-in_err-write_end g c =
-    let p = err_from_is_err_and c.from_residual.result c.from_residual.ensures.1 in
+    let p = err_from_is_err_and c.from_residual-in_err-write_end.result c.from_residual-in_err-write_end.ensures.1 in
+    let marks = c.mark_changed.ensures in
     let first = c.write_pass.ensures in
     let second = c.write_pass-2.ensures in
     rw (p.1, p.2)
     (record {
-      old_reads = reads_more first.own_reads second.other_reads;
-      new_reads = reads_more first.other_reads second.own_reads;
+      old_reads = reads_more (reads_more marks.own_reads first.own_reads) second.other_reads;
+      new_reads = reads_more (reads_more marks.other_reads first.other_reads) second.own_reads;
       ok = tt;
       err = tt;
       front = λ b d is it.
-          prefix_end g.L.Width.WORD b d _ _ _ _ (c.in-Ok.ensures.ok b d (second.other_reads.images b is) (second.own_reads.images d it)) (c.in-Ok-write_pass.ensures.ok d b it is) c.in_err-write_end.ensures.err;
+          prefix_end g.L.Width.WORD b d _ _ _ _ (c.in-Ok-write_pass.ensures.ok b d (second.other_reads.images b is) (second.own_reads.images d it)) (c.in-Ok-write_pass-2.ensures.ok d b it is) c.in_err-write_end.ensures.err;
     })
 
 pub returns : goal.returns
 returns g c =
+    let marks = c.mark_changed.ensures in
     let first = c.write_pass.ensures in
     let second = c.write_pass-2.ensures in
     record {
-      old_reads = reads_more first.own_reads second.other_reads;
-      new_reads = reads_more first.other_reads second.own_reads;
+      old_reads = reads_more (reads_more marks.own_reads first.own_reads) second.other_reads;
+      new_reads = reads_more (reads_more marks.other_reads first.other_reads) second.own_reads;
       ok = λ b d is it.
-          difference_written g.L.Width.WORD b d _ _ _ _ (c.in-Ok.ensures.ok b d (second.other_reads.images b is) (second.own_reads.images d it)) (c.in-Ok-write_pass.ensures.ok d b it is) c.in_ok-write_end.ensures.ok;
+          difference_written g.L.Width.WORD b d _ _ _ _ (c.in-Ok-write_pass.ensures.ok b d (second.other_reads.images b is) (second.own_reads.images d it)) (c.in-Ok-write_pass-2.ensures.ok d b it is) c.in_ok-write_end.ensures.ok;
       err = tt;
       front = tt;
     }

@@ -1,0 +1,157 @@
+-- What the oracle says of a run comes true if the calls on files were answered as the files are.
+use Rattle.std.specs.Prelude.{ℕ, ◌≡◌, ◌⊎◌, Bool, true, false, List, [], ◌∷◌, ◌++◌, Option, None, Some, Result, Ok, Err, IfOk, IfSome, ⊤}
+use Rattle.std.specs.Io.KnownBytes.{Appends}
+use Rattle.cdb_command.specs.Asked.{Asked}
+use Rattle.cdb_command.specs.Asked as asked
+use Rattle.cdb_command.specs.declared.usage.Usage.{Usage}
+use Rattle.cdb_files.specs.declared.answer.Answer.TheVariants.{No}
+use Rattle.cdb_files.specs.declared.name_fault.NameFault.TheVariants as why
+use Rattle.cdb_form.specs.Format.Walk.{walk_of}
+use Rattle.cdb_form.specs.Views.KnownBytes.{AppendsPrefix}
+use Rattle.cdb_form.specs.declared.walk.fault.WalkFault.TheVariants as walk
+use Rattle.cdb_read.specs.InOrder.{FindsInOrder}
+use Rattle.cdb_store.specs.declared.store.Store.{Ghosts}
+use Rattle.cdb_tool.specs.Message.{fault_line}
+use Rattle.cdb_tool.specs.Views.Output.{held_by, OutputFailed}
+use Rattle.cdb_tool.specs.declared.fault.Fault.{Fault}
+use Rattle.cdb_tool.specs.declared.fault.Fault.TheVariants.{Walk, Output, NoMemory}
+use Rattle.cdb_tool.specs.declared.output.Output.{Output as Writer}
+use Rattle.cdb.specs.Opening.{OpenCalls}
+use Rattle.cdb.specs.Oracle.{Disk, Outcome, oracle, word_size}
+use Rattle.cdb.specs.declared.left.Left.{Left}
+use Rattle.cdb.specs.declared.open_trace.OpenCall.{OpenCall}
+use Rattle.cdb.specs.declared.open_trace.OpenCall.TheVariants.{AtPlaces, InTurn, Stream, Emptied}
+use Rattle.cdb.specs.declared.open_trace.OpenCall.TheVariants.{Unopened}
+use Rattle.cdb.specs.declared.system.System.{Ghosts as Systems}
+
+-- ---- the calls, and the files that were opened
+
+-- a reader has the bytes of a file
+abbrev pub Reveals : (file reader : Option (List ℕ)) → Type 0
+Reveals (Some bytes) (Some left) = left ≡ bytes
+Reveals (Some bytes) None = ⊥
+Reveals None reader = ⊥
+
+-- the bytes of a file agree with all that the first of some stores gave, and no call on that failed
+abbrev pub Shows : {F : Type 0} → Ghosts F → (file : Option (List ℕ)) → List F → Type 0
+Shows s (Some bytes) (store ∷ stores) = s.image store bytes × (s.failures store ≡ 0)
+Shows s (Some bytes) [] = ⊥
+Shows s None stores = ⊥
+
+-- a call on a name was answered as the files are: none is a pipe or a device, a store and a reader have
+-- the bytes of their file, and what could not be opened is not there. Memory may fail
+abbrev pub IsAnswered : {F I M Y : Type 0} → Ghosts F → (I → Option (List ℕ)) → Systems Y F I M
+    → Disk → List F → OpenCall → List ℕ → Type 0
+IsAnswered s remaining y disk stores AtPlaces name = Shows s (disk name) stores
+IsAnswered s remaining y disk stores InTurn name =
+    (reader : _) → y.reads name reader → Reveals (disk name) (remaining reader)
+IsAnswered s remaining y disk stores (Stream answer) name = answer ≡ No
+IsAnswered s remaining y disk stores Emptied name = ⊤
+IsAnswered s remaining y disk stores (Unopened why.Failed) name = disk name ≡ None
+IsAnswered s remaining y disk stores (Unopened why.NoMemory) name = ⊤
+
+-- the stores without the one of a call
+abbrev pub stores_before : {F : Type 0} → OpenCall → List F → List F
+stores_before AtPlaces (store ∷ stores) = stores
+stores_before call stores = stores
+
+-- so was each call, and those at places opened these stores. The newest comes first
+abbrev pub AreAnswered : {F I M Y : Type 0} → Ghosts F → (I → Option (List ℕ)) → Systems Y F I M
+    → Disk → OpenCalls → List F → Type 0
+AreAnswered s remaining y disk [] stores = ⊤
+AreAnswered s remaining y disk (call ∷ calls) stores =
+    IsAnswered s remaining y disk stores call.0 call.1
+    × AreAnswered s remaining y disk calls (stores_before call.0 stores)
+
+-- the stores that a command read and hands back, as they are then
+abbrev pub if_some : {F : Type 0} → Option F → List F
+if_some None = []
+if_some (Some store) = store ∷ []
+
+abbrev pub stores_in : {F M : Type 0} → Left F M → List F
+stores_in left = if_some left.other ++ if_some left.read
+
+-- standard input has these bytes, if it is read
+abbrev pub ReadsInput : Asked → (input : List ℕ) → (given : Option (List ℕ)) → Type 0
+ReadsInput (asked.Dump None style wide) input given = given ≡ Some input
+ReadsInput (asked.Listing None style wide) input given = given ≡ Some input
+ReadsInput (asked.Stats None wide) input given = given ≡ Some input
+ReadsInput (asked.Check None wide) input given = given ≡ Some input
+ReadsInput command input given = ⊤
+
+-- a file has no damage, and its look-ups give what its walk gives, as in each file that cdb made
+abbrev pub IsInOrder : ℕ → (file : Option (List ℕ)) → Type 0
+IsInOrder w file = IfSome file (λ bytes. ((walk_of w bytes).damage ≡ None) × FindsInOrder w bytes)
+
+-- so are both files of a difference
+abbrev pub AreInOrder : Disk → Asked → Type 0
+AreInOrder disk (asked.Difference old new wide) =
+    IsInOrder (word_size wide) (disk old) × IsInOrder (word_size wide) (disk new)
+AreInOrder disk command = ⊤
+
+-- all that a command called and read was as the files and standard input are
+pub record Honest {F I M Y : Type 0} (s : Ghosts F) (remaining : I → Option (List ℕ))
+    (y : Systems Y F I M) (disk : Disk) (input : List ℕ) (command : Asked)
+    (given : Option (List ℕ)) (old new : Y) (left : Left F M) : Type 0 where
+  pub calls : OpenCalls
+  pub are : y.calls new ≡ calls ++ y.calls old
+  pub answered : AreAnswered s remaining y disk calls (stores_in left)
+  pub reads : ReadsInput command input given
+  pub in_order : AreInOrder disk command
+
+-- ---- what comes of it
+
+-- what was said came true
+pub record ComesTrue (o : Outcome) (start final told said : Option (List ℕ)) (status : ℕ) : Type 0
+  where
+    pub is_status : status ≡ o.status
+    pub output : Appends start final o.output
+    pub lines : Appends told said o.lines
+
+-- whether a command writes on standard output, and whether it reads from its start what it reads
+abbrev pub writes_output : Asked → Bool
+writes_output (asked.Check name wide) = false
+writes_output command = true
+
+abbrev pub reads_in_turn : Asked → Bool
+reads_in_turn (asked.Dump name style wide) = true
+reads_in_turn (asked.Listing name style wide) = true
+reads_in_turn (asked.Stats None wide) = true
+reads_in_turn (asked.Check None wide) = true
+reads_in_turn command = false
+
+-- an allocation failed; standard output, where it is written; or a reader, where one is read
+abbrev pub IsRefusal : (writes reads : Bool) → Fault → Type 0
+IsRefusal writes reads NoMemory = ⊤
+IsRefusal writes reads Output = writes ≡ true
+IsRefusal writes reads (Walk walk.Input) = reads ≡ true
+IsRefusal writes reads fault = ⊥
+
+-- a refusal of what the words ask for
+abbrev pub MayFail : (planned : Result Asked Usage) → Fault → Type 0
+MayFail (Ok command) fault = IsRefusal (writes_output command) (reads_in_turn command) fault
+MayFail (Err usage) fault = fault ≡ NoMemory
+
+-- that was reported, and what was written is a prefix
+pub record IsRefused (planned : Result Asked Usage) (o : Outcome)
+    (start final told said : Option (List ℕ)) (status : ℕ) : Type 0 where
+  pub fault : Fault
+  pub refusal : MayFail planned fault
+  pub is_status : status ≡ 111
+  pub output : AppendsPrefix start final o.output
+  pub lines : Appends told said (fault_line fault)
+
+-- standard output held nothing back before the run, and neither it nor standard error failed
+abbrev pub IsTaken : {O E : Type 0} → (old new : Writer O) → (errors : Writer E) → Type 0
+IsTaken old new errors =
+    (held_by old ≡ []) × (OutputFailed new → ⊥) × (OutputFailed errors → ⊥)
+
+-- a run whose output and whose lines were taken came to what the oracle says, or to a refusal
+abbrev pub IsForetold : {F I M Y : Type 0} → Ghosts F → (I → Option (List ℕ)) → Systems Y F I M
+    → (planned : Result Asked Usage) → (given : Option (List ℕ)) → (old new : Y) → Left F M
+    → (start final told said : Option (List ℕ)) → (taken : Type 0) → (status : ℕ) → Type 0
+IsForetold s remaining y planned given old new left start final told said taken status =
+    (disk : Disk) → (input : List ℕ) → taken
+    → IfOk planned (λ command. Honest s remaining y disk input command given old new left)
+    → IfSome (oracle planned disk input) (λ o.
+    ComesTrue o start final told said status ⊎ IsRefused planned o start final told said status)
