@@ -57,10 +57,12 @@ demo:
 	@sh demo/run.sh bin/cdb
 
 # The program that the gate leaves is the one that was proved from nothing. A build that was killed left
-# trees in bin, whose crates the gate would take for the repository's.
+# trees in bin, whose crates the gate would take for the repository's. Where the checker took the program
+# from an earlier run, its object is not beside it: then it is proved and built once more.
 test:
 	@rm -rf bin/trees
-	@began=$$(date +%s) && $(RT) ci && RT='$(RT)' CC='$(CC)' $(PYTHON) tools/link.py crates/cdb bin/cdb && \
+	@began=$$(date +%s) && $(RT) ci && if test -f crates/cdb/out/cdb.o; then tool=link; else tool=build; fi && \
+		RT='$(RT)' CC='$(CC)' $(PYTHON) tools/$$tool.py crates/cdb bin/cdb && \
 		RT='$(RT)' CC='$(CC)' $(PYTHON) tests/run.py bin/cdb --gate "$$began"
 
 tests:

@@ -39,7 +39,7 @@ def made_twice(*words):
     same bytes and the sum that was printed."""
     found = []
     for folder in (tempfile.mkdtemp(dir=words[-1]), tempfile.mkdtemp(dir=words[-1])):
-        done = subprocess.run([TOOL, *words[:-1], folder], capture_output=True, check=True)
+        done = subprocess.run([TOOL, *words[:-1], folder], stdout=subprocess.PIPE, check=True)
         told, path = done.stdout.decode().removesuffix("\n").split("  ")
         with open(path, "rb") as file:
             data = file.read()
