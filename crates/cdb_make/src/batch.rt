@@ -31,7 +31,7 @@ fn some_room(alloc: Global) -> Vec<Gap>
 /// Makes a database in a store as a `Maker` does, but takes records out later.
 ///
 /// A record that is replaced or removed is marked: no look finds it, and its bytes stay on the
-/// store until `close_all` closes all gaps in one pass. `finish` closes_all first. So however many records
+/// store until `close_all` closes all gaps in one pass. `finish` closes them first. So however many records
 /// go, the others move a few times at most. Of each marked record it notes 16 bytes more.
 #[derive(Drop)]
 pub struct Batch<S: Store, L: Width> {

@@ -219,7 +219,7 @@ impl<L: Width> EntryList<L> {
         count == 0 || self.places.at(count - 1) < place
     }
 
-    /// Closes the gaps as `close` does, from the first entry that they reach on.
+    /// Closes the gaps as `repair` does, from the first entry that they reach on.
     fn repair_reached(&mut self, gaps: &[Gap], first: u64) -> usize
         requires apart { AreApart 0 gaps.now (2 ^ 63) }
         requires first { first ≡ first_place gaps.now (2 ^ 64 - 1) }

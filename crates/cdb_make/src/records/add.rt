@@ -27,7 +27,7 @@ use cdb_store::Store;
 /// All memory is taken first. `NoMemory`: nothing was written; `Writing`: the store failed. The
 /// entries then are what they were, and the bytes below `end` stay.
 #[inline(always)]
-pub(crate) fn add<S: Store, L: Width>(
+pub(crate) fn append_with_entry<S: Store, L: Width>(
     store: &mut S,
     lists: &mut Lists<L>,
     gaps: &mut Vec<Gap>,

@@ -14,7 +14,7 @@ ghost use Rattle.cdb_make.specs.declared.fault.MakeFault.TheVariants.{Lookup};
 use crate::fault::MakeFault;
 use crate::index::list::Indexing;
 use crate::maker::Maker;
-use crate::records::add::add;
+use crate::records::add::append_with_entry;
 use crate::records::put::Put;
 use crate::removal::gap::all_sizes;
 use cdb_form::{Mode, Width, hash, pair_size};
@@ -104,7 +104,7 @@ impl<S: Store, L: Width> Maker<S, L> {
                 Ok(Put::Added)
             }
             Mode::Replace => {
-                let taken = self.find(Indexing::Fixed, hash, key)?;
+                let taken = self.note_gaps(Indexing::Fixed, hash, key)?;
                 if taken == 0 {
                     return Ok(Put::Added);
                 }
@@ -135,7 +135,9 @@ impl<S: Store, L: Width> Maker<S, L> {
             return Err(MakeFault::TooBig);
         }
         let (store, lists, gaps) = (&mut self.store, &mut self.lists, &mut self.gaps);
-        self.end = add::<S, L>(store, lists, gaps, self.end, indexing, hash, key, value)?;
+        self.end = append_with_entry::<S, L>(
+            store, lists, gaps, self.end, indexing, hash, key, value,
+        )?;
         self.count += 1;
         Ok(())
     }

@@ -23,7 +23,7 @@ impl<S: Store, L: Width> Batch<S, L> {
         ensures counts { OnErr result (SameCounts self.old self.new) }
         ensures pace { KeepsPace self.old self.new }
     {
-        let taken = self.maker.find(Indexing::Growing, hash, key)?;
+        let taken = self.maker.note_gaps(Indexing::Growing, hash, key)?;
         if self.has_room(taken) {
             let from = self.gone.len();
             note(&mut self.gone, self.maker.noted_gaps());

@@ -74,7 +74,7 @@ impl<S: Store, L: Width> Maker<S, L> {
     ///
     /// `Writing`: the store failed. `Broken`: it gave back other bytes than were written. Both break
     /// the maker.
-    pub(crate) fn close(&mut self, gaps: &[Gap]) -> Result<(), MakeFault>
+    pub(crate) fn close_marked(&mut self, gaps: &[Gap]) -> Result<(), MakeFault>
         requires whole { self.old.broken ≡ false }
         requires apart { AreApart (head_size L.WORD) gaps.now self.old.end }
         ensures holds { (all : List KeyValue) (marks : List Bool) → Carries self.old all marks
@@ -96,7 +96,7 @@ impl<S: Store, L: Width> Maker<S, L> {
     {
         self.broken = true;
         let (store, lists) = (&mut self.store, &mut self.lists);
-        let left = take_out::close::<S, L>(store, lists, gaps, self.end)?;
+        let left = take_out::take_out_gaps::<S, L>(store, lists, gaps, self.end)?;
         self.end = left.end;
         self.count -= left.gone;
         self.broken = false;
@@ -131,7 +131,7 @@ impl<S: Store, L: Width> Batch<S, L> {
         if !are_apart(&self.gone, head_size::<L>() as u64, self.maker.end) {
             return Err(self.maker.failed_look(LookFault::Foreign));
         }
-        self.maker.close(&self.gone)?;
+        self.maker.close_marked(&self.gone)?;
         self.gone.clear();
         Ok(())
     }

@@ -20,7 +20,7 @@ impl<S: Store, L: Width> Maker<S, L> {
     ghost use Rattle.cdb_make.specs.Views.Foreseen.{HasFound};
 
     /// How many records have a key of this hash, whose gaps are noted.
-    pub(crate) fn find(
+    pub(crate) fn note_gaps(
         &mut self,
         indexing: Indexing,
         hash: u32,
@@ -42,7 +42,7 @@ impl<S: Store, L: Width> Maker<S, L> {
         }
         self.lists.catch_up(hash, indexing);
         let (store, gaps) = (&mut self.store, &mut self.gaps);
-        match take_out::find::<S, L>(store, &self.lists, hash, key, self.end, gaps) {
+        match take_out::gaps_of_key::<S, L>(store, &self.lists, hash, key, self.end, gaps) {
             Ok(()) => Ok(self.gaps.len() as u64),
             Err(fault) => Err(self.failed_look(fault)),
         }
@@ -72,7 +72,7 @@ impl<S: Store, L: Width> Maker<S, L> {
     {
         self.broken = true;
         let (store, lists) = (&mut self.store, &mut self.lists);
-        let left = take_out::close::<S, L>(store, lists, &self.gaps, self.end)?;
+        let left = take_out::take_out_gaps::<S, L>(store, lists, &self.gaps, self.end)?;
         self.end = left.end;
         self.count -= left.gone;
         self.broken = false;
@@ -91,7 +91,7 @@ impl<S: Store, L: Width> Maker<S, L> {
         ensures follows { Follows self.old self.new }
         ensures counts { OnErr result (SameCounts self.old self.new) }
     {
-        let taken = self.find(Indexing::Fixed, hash(key), key)?;
+        let taken = self.note_gaps(Indexing::Fixed, hash(key), key)?;
         self.take_out()?;
         Ok(taken)
     }

@@ -29,7 +29,7 @@ use cdb_store::Store;
 /// Nothing is written, no list changes, records that were there still are, and no memory is taken.
 /// `Failed`: the store failed.
 /// `Foreign`: no byte list is an image any more in which the records stood.
-pub(crate) fn find<S: Store, L: Width>(
+pub(crate) fn gaps_of_key<S: Store, L: Width>(
     store: &mut S,
     lists: &Lists<L>,
     hash: u32,
@@ -63,7 +63,7 @@ pub(crate) fn find<S: Store, L: Width>(
 
 /// Whether some record has a key.
 ///
-/// Nothing is written, and no memory is taken. The faults are those of `find`.
+/// Nothing is written, and no memory is taken. The faults are those of `gaps_of_key`.
 pub(crate) fn exists<S: Store, L: Width>(
     store: &mut S,
     lists: &Lists<L>,
@@ -102,7 +102,7 @@ pub(crate) struct Left {
 ///
 /// It takes no memory. `Writing`: the store failed. `Broken`: no byte list is an image any more in
 /// which the records stood. The bytes below the first gap and those from `end` on stay.
-pub(crate) fn close<S: Store, L: Width>(
+pub(crate) fn take_out_gaps<S: Store, L: Width>(
     store: &mut S,
     lists: &mut Lists<L>,
     gaps: &[Gap],

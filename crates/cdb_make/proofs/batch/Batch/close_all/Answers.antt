@@ -8,12 +8,12 @@ use Rattle.cdb_make.proofs.batch.Batch.close_all.Goals as goal
 
 pub returns-clause-closes_all : goal.returns-clause-closes_all
 returns-clause-closes_all g c =
-    let e = c.in_ok-close.ensures in
+    let e = c.in_ok-close_marked.ensures in
     let above : 0 < g.L.Width.WORD = elim g.met.L.Width.four_or_eight [ inl four ↦ omega arith | inr eight ↦ omega arith ] in
     let own : c.deref-2.result.now ≡ c.sort.new.gaps.items = c.deref-2.ensures.value in
     let moved : IsPermutation c.args.self.now.gone.items c.deref-2.result.now = subst (λ (v : List Gap). IsPermutation c.args.self.now.gone.items v) (sym own) c.sort.ensures.moved in
     let sorted : IsNonDecreasingBy (λ g. g.place) c.deref-2.result.now = subst (λ (v : List Gap). IsNonDecreasingBy (λ g. g.place) v) (sym own) c.sort.ensures.sorted in
-    settles_closed {s = g.S.Store} {l = g.L.Width} c.args.self.now _ c.deref-2.result.now above moved sorted c.if-self.false e.whole c.clear.ensures.items c.close.ensures.follows.comes e.holds e.moved
+    settles_closed {s = g.S.Store} {l = g.L.Width} c.args.self.now _ c.deref-2.result.now above moved sorted c.if-self.false e.whole c.clear.ensures.items c.close_marked.ensures.follows.comes e.holds e.moved
 
 pub returns-then-not-are_apart-clause-fails : goal.returns-then-not-are_apart-clause-fails
 returns-then-not-are_apart-clause-fails g c =
@@ -34,25 +34,25 @@ returns-then-not-are_apart-clause-counts g c =
     let long = length_permutation c.args.self.now.gone.items c.sort.new.gaps.items c.sort.ensures.moved in
     record { count = omega (arith, e.count, long); limit = e.limit }
 
-pub returns-in_err-close-clause-fails : goal.returns-in_err-close-clause-fails
-returns-in_err-close-clause-fails g c =
+pub returns-in_err-close_marked-clause-fails : goal.returns-in_err-close_marked-clause-fails
+returns-in_err-close_marked-clause-fails g c =
     let p = err_from_is_err_and c.from_residual.result c.from_residual.ensures.1 in
-    let e = c.in_err-close.ensures in
+    let e = c.in_err-close_marked.ensures in
     let above : 0 < g.L.Width.WORD = elim g.met.L.Width.four_or_eight [ inl four ↦ omega arith | inr eight ↦ omega arith ] in
     let own : c.deref-2.result.now ≡ c.sort.new.gaps.items = c.deref-2.ensures.value in
     let moved : IsPermutation c.args.self.now.gone.items c.deref-2.result.now = subst (λ (v : List Gap). IsPermutation c.args.self.now.gone.items v) (sym own) c.sort.ensures.moved in
     let sorted : IsNonDecreasingBy (λ g. g.place) c.deref-2.result.now = subst (λ (v : List Gap). IsNonDecreasingBy (λ g. g.place) v) (sym own) c.sort.ensures.sorted in
-    rw (p.1, p.2) (fails_pass {s = g.S.Store} {l = g.L.Width} c.args.self.now _ c.deref-2.result.now _ above moved sorted c.if-self.false e.broken c.close.ensures.follows.comes e.fails)
+    rw (p.1, p.2) (fails_pass {s = g.S.Store} {l = g.L.Width} c.args.self.now _ c.deref-2.result.now _ above moved sorted c.if-self.false e.broken c.close_marked.ensures.follows.comes e.fails)
 
-pub returns-in_err-close-clause-counts : goal.returns-in_err-close-clause-counts
-returns-in_err-close-clause-counts g c =
-    let e = c.in_err-close.ensures.counts in
+pub returns-in_err-close_marked-clause-counts : goal.returns-in_err-close_marked-clause-counts
+returns-in_err-close_marked-clause-counts g c =
+    let e = c.in_err-close_marked.ensures.counts in
     let long = length_permutation c.args.self.now.gone.items c.sort.new.gaps.items c.sort.ensures.moved in
     record { count = omega (arith, e.count, long); limit = e.limit }
 
 pub returns-clause-counts : goal.returns-clause-counts
 returns-clause-counts g c =
-    let e = c.in_ok-close.ensures in
+    let e = c.in_ok-close_marked.ensures in
     let own : length c.deref-2.result.now ≡ length c.sort.new.gaps.items = ap length c.deref-2.ensures.value in
     let none : length c.clear.new.self.items ≡ 0 = ap length c.clear.ensures.items in
     let long = length_permutation c.args.self.now.gone.items c.sort.new.gaps.items c.sort.ensures.moved in

@@ -16,7 +16,7 @@ returns-in_err-self-clause-fails g c =
     let r : KeyValue = record { key = c.args.key.now; value = c.args.value.now } in
     let fit : HasRoom {s = g.S.Store} {l = g.L.Width} m r = omega (arith, c.size.ensures.is, c.if-not-has_room.ensures.room refl) in
     rw (p.1, p.2) (adds_none {s = g.S.Store} {l = g.L.Width} m _ r _ _ _ fit (record { was = c.requires.whole; whole = c.requires.whole; keeps = carries_kept {s = g.S.Store} {l = g.L.Width} m _ c.requires.whole refl e.entries e.kept })
-    c.add.ensures.comes (record { end = refl; count = refl; limit = refl }) c.add.ensures.room c.add.ensures.unwritten
+    c.append_with_entry.ensures.comes (record { end = refl; count = refl; limit = refl }) c.append_with_entry.ensures.room c.append_with_entry.ensures.unwritten
     (λ why. subst (λ (h : ℕ). ((entry_room m.lists h ≤ entry_count m.lists h) ⊎ (vec_capacity m.gaps ≤ entry_count m.lists h)) ⊎ (g.S.Store.room m.store < m.end + record_size g.L.Width.WORD r)) c.requires.hash why) e.fails e.not_written)
 
 pub returns-clause-adds : goal.returns-clause-adds
@@ -25,7 +25,7 @@ returns-clause-adds g c =
     let e = c.in_ok-self.ensures in
     let r : KeyValue = record { key = c.args.key.now; value = c.args.value.now } in
     let fit : HasRoom {s = g.S.Store} {l = g.L.Width} m r = omega (arith, c.size.ensures.is, c.if-not-has_room.ensures.room refl) in
-    adds_more {s = g.S.Store} {l = g.L.Width} m _ r (record { key = λ k. omega (arith, c.type_inv.key k); value = λ k. omega (arith, c.type_inv.value k) }) c.requires.whole fit e.marked e.written c.add.ensures.comes
+    adds_more {s = g.S.Store} {l = g.L.Width} m _ r (record { key = λ k. omega (arith, c.type_inv.key k); value = λ k. omega (arith, c.type_inv.value k) }) c.requires.whole fit e.marked e.written c.append_with_entry.ensures.comes
 
 pub overflow_add-self : goal.overflow_add-self
 overflow_add-self g c = grind (arith, common_steps)

@@ -5,7 +5,7 @@ use Rattle.cdb_form.specs.Format.Hash.{table_number}
 use Rattle.cdb_make.specs.Views.EntryList.{list_entries, lists_entries}
 use Rattle.cdb_make.specs.declared.index.list.EntryList.{EntryList}
 use Rattle.cdb_make.proofs.Marked.Whole.{gaps_found, none_stands}
-use Rattle.cdb_make.proofs.removal.take_out.find.Goals as goal
+use Rattle.cdb_make.proofs.removal.take_out.gaps_of_key.Goals as goal
 
 pub find_gaps-requires-clause-room : goal.find_gaps-requires-clause-room
 find_gaps-requires-clause-room g c =

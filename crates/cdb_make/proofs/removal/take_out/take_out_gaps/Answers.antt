@@ -9,7 +9,7 @@ use Rattle.cdb_make.proofs.Gaps.Merge.{apart_lower}
 use Rattle.cdb_make.proofs.Gaps.Picking.{apart_higher}
 use Rattle.cdb_make.proofs.Marked.Whole.{no_gaps, apart_sizes, lists_stay, stands_closed, went_counted, writes_marked, marked_still, marked_none_written}
 use Rattle.std.proofs.lemmas.Grind.{common_steps}
-use Rattle.cdb_make.proofs.removal.take_out.close.Goals as goal
+use Rattle.cdb_make.proofs.removal.take_out.take_out_gaps.Goals as goal
 
 pub returns-then-is_empty-clause-lists : goal.returns-then-is_empty-clause-lists
 returns-then-is_empty-clause-lists g c = let none : c.args.gaps.now ≡ [] = no_gaps c.args.gaps.now (search (rules, c.is_empty.ensures, c.if-is_empty.ensures)) in lists_stay c.args.gaps.now c.args.lists.now.each.items none

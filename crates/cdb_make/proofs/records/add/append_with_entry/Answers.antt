@@ -12,7 +12,7 @@ use Rattle.cdb_make.proofs.Making.Added.{marked_stand_more, within_more, spare_m
 use Rattle.cdb_make.proofs.Bytes.Written.{on_any_err}
 use Rattle.cdb_make.proofs.Making.Puts.{comes_write}
 use Rattle.std.proofs.lemmas.Grind.{common_steps}
-use Rattle.cdb_make.proofs.records.add.add.Goals as goal
+use Rattle.cdb_make.proofs.records.add.append_with_entry.Goals as goal
 
 pub returns-in_err-append_record-clause-kept : goal.returns-in_err-append_record-clause-kept
 returns-in_err-append_record-clause-kept g c =
