@@ -7,7 +7,7 @@ use Rattle.cdb_files.specs.declared.name_trace.NameCall.{NameCall}
 use Rattle.cdb_files.specs.declared.name_trace.NameCall.TheVariants.{Special, Same, Looked, Opened, NotOpened, Made, NotMade, Locked, Own, Bits, Allowed, NotAllowed}
 use Rattle.cdb_files.specs.declared.name_trace.NameCall.TheVariants.{Removed, NotRemoved, Renamed, NotRenamed, Synced, NotSynced}
 use Rattle.cdb_files.specs.Folder.{NameCalls, IsRemoval, IsCleared, MayHave, Has, LeavesFile, AreApart, MayRemove, IsGuarded, EachIsGuarded, AreGuarded}
-use Rattle.cdb_files.specs.Replacing.{NameEvent, BuiltWith, IsReady, IsOfReplacing, AreOfReplacing, EachIsStep, AreSteps, AtEach, AtEachMoment, IsNew, IsTrueOf, LeavesOldOrNew, LeavesNew}
+use Rattle.cdb_files.specs.Replacing.{NameEvent, IsReady, IsOfReplacing, AreOfReplacing, EachIsStep, AreSteps, AtEach, AtEachMoment, IsNew, IsTrueOf, LeavesOldOrNew, LeavesNew}
 
 -- ---- steps
 
@@ -241,8 +241,3 @@ all_weaker t n f (call ∷ since) all = (weaker_one t n f call all.0, all_weaker
 pub weaker_replacing : {t n : List ℕ} {P Q : List ℕ → Type 0} {old new : NameCalls} → ((b : List ℕ) → P b → Q b) → AreOfReplacing t n P old new
     → AreOfReplacing t n Q old new
 weaker_replacing {t = t} {n = n} f are = record { since = are.since; calls = are.calls; each = all_weaker t n f are.since are.each }
-
--- a builder that hands back what says nothing of its files
-pub built_with : {B : Type 0} (P : List ℕ → Type 0) (handed : Option B) (b : List ℕ) → BuiltWith (λ _. P) handed b → P b
-built_with P None b none = absurd none
-built_with P (Some back) b is = is

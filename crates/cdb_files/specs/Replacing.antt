@@ -295,11 +295,6 @@ abbrev pub IsOfBuilder : {E : Type 0} → (E → Type 0) → ReplaceFault E → 
 IsOfBuilder P (Build fault) = P fault
 IsOfBuilder P fault = Unit {0}
 
--- what a builder built that handed this back, if it built anything
-abbrev pub BuiltWith : {B : Type 0} → (B → List ℕ → Type 0) → Option B → List ℕ → Type 0
-BuiltWith builds None b = ⊥
-BuiltWith builds (Some back) b = builds back b
-
 -- what a replacement answers whose builder answered so: a fault is told, and a rename may fail
 abbrev pub Answers : {E : Type 0} → Result Unit E → Result Unit (ReplaceFault E) → Type 0
 Answers (Ok done) (Ok all) = Unit {0}
@@ -311,10 +306,8 @@ Answers (Err fault) result = result ≡ Err (Build fault)
 -- was to be taken from it
 pub record TellsOfFile {F B T E : Type 0} (file : Raw F)
     (tells : B → T → T → (List ℕ → Type 0) → Result Unit E → Type 0) (temporary name : List ℕ)
-    (calls : NameCalls) (handed : Option B) (told said : T)
+    (calls : NameCalls) (back : B) (told said : T)
     (result : Result Unit (ReplaceFault E)) : Type 0 where
-  pub back : B
-  pub is_handed : handed ≡ Some back
   pub left : FileStore F file
   pub built : Result Unit E
   pub tells_so : tells back told said (images_of left) built
@@ -325,12 +318,24 @@ pub record TellsOfFile {F B T E : Type 0} (file : Raw F)
   pub renamed : OnOk result (RenamesFile temporary name sealed.len (calls_of sealed) calls)
   pub cleared : OnErr result (ClearsFile temporary (calls_of sealed) calls)
 
--- nothing was built, and it is as it was; or something was
-abbrev pub Tells : {F B T E : Type 0} → Raw F
+-- nothing was built: the builder gave up, and what it writes to beside is as it was; no file is whole,
+-- so no call was a rename, and a crash at any moment leaves what one before would have left
+pub record TellsOfNone {B T E : Type 0} (gives_up : B → Type 0) (temporary name : List ℕ)
+    (old new : NameCalls) (back : B) (told said : T) (result : Result Unit (ReplaceFault E)) : Type 0
+  where
+    pub gave_up : gives_up back
+    pub same : said ≡ told
+    pub fault : ReplaceFault E
+    pub is : result ≡ Err fault
+    pub stops : StopsUnbuilt temporary name old new fault
+    pub calls : AreOfReplacing temporary name (λ _. ⊥) old new
+    pub moments : AtEachMoment (LeavesOldOrNew temporary name (λ _. ⊥) old) old new
+
+-- nothing was built, or something was
+abbrev pub Tells : {F B T E : Type 0} → Raw F → (B → Type 0)
     → (B → T → T → (List ℕ → Type 0) → Result Unit E → Type 0) → (temporary name : List ℕ)
-    → (old new : NameCalls) → (handed : Option B) → (told said : T)
+    → (old new : NameCalls) → (back : B) → (told said : T)
     → Result Unit (ReplaceFault E) → Type 0
-Tells {E = E} file tells temporary name old new handed told said result =
-    ((handed ≡ None) × (said ≡ told) × (fault : ReplaceFault E) × (result ≡ Err fault)
-    × StopsUnbuilt temporary name old new fault)
-    ⊎ TellsOfFile file tells temporary name new handed told said result
+Tells file gives_up tells temporary name old new back told said result =
+    TellsOfNone gives_up temporary name old new back told said result
+    ⊎ TellsOfFile file tells temporary name new back told said result

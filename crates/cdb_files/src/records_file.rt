@@ -107,6 +107,8 @@ impl<'a, S: Store, L: Width> Builder<S> for Records<'a, L> {
 
     ghost tells = { λ _ _ _ _ _ _. ⊤ };
 
+    ghost gives_up = { λ _ _. ⊤ };
+
     fn build(self, store: S, _told: &mut ()) -> (S, (), Result<(), MakeFault>) {
         let Records {
             alloc,
@@ -123,6 +125,8 @@ impl<'a, S: Store, L: Width> Builder<S> for Records<'a, L> {
             Err(failed) => (failed.value.into_inner(), (), Err(MakeFault::NoMemory)),
         }
     }
+
+    fn give_up(self) {}
 }
 
 /// Makes the database of some records under a name, by way of a temporary name, in place of what

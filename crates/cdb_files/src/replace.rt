@@ -27,7 +27,6 @@ ghost use Rattle.cdb_files.specs.Replacing.{
   AreOfReplacing,
   AreSteps,
   AtEachMoment,
-  BuiltWith,
   ClearsFile,
   EndsIn,
   FailsRename,
@@ -81,6 +80,9 @@ pub trait Builder<S: Store> {
     ghost tells: { Self → Self.Back → Self.Told → Self.Told → (List ℕ → Type 0)
         → Result Unit Self.Fault → Type 0 };
 
+    /// What it may hand back if it is given no store.
+    ghost gives_up: { Self → Self.Back → Type 0 };
+
     /// Builds the file, and hands the store back. It need not flush the store: the caller does, after
     /// its own last change. After a fault the store may hold anything.
     fn build(self, store: S, told: &mut Self::Told) -> (S, Self::Back, Result<(), Self::Fault>)
@@ -88,6 +90,10 @@ pub trait Builder<S: Store> {
             ((b : List ℕ) → S.image result.0 b → builds self result.1 b) }
         ensures fails { IfErr result.2 (fails self store result.0) }
         ensures tells { tells self result.1 told.old told.new (S.image result.0) result.2 };
+
+    /// Hands back what it holds: there is no store to build in.
+    fn give_up(self) -> Self::Back
+        ensures { gives_up self result };
 }
 
 /// Why a file was not replaced.
@@ -411,17 +417,17 @@ fn publish<N: Names, E: Drop>(
 ///
 /// If the system did not say what a name has, nothing is touched: `Open`.
 ///
-/// What the builder writes to beside the file is passed on to it. What it handed back is handed on:
-/// `None` if nothing was built.
-pub fn replace_file<N: Names, B: Builder<FileStore<N::File>> + Drop>(
+/// What the builder writes to beside the file is passed on to it. What it handed back is handed on,
+/// as it built or as it gave up, if no temporary file could be made.
+pub fn replace_file<N: Names, B: Builder<FileStore<N::File>>>(
     names: &mut N,
     name: &str,
     temporary: &str,
     builder: B,
     told: &mut B::Told,
-) -> (Option<B::Back>, Result<(), ReplaceFault<B::Fault>>)
+) -> (B::Back, Result<(), ReplaceFault<B::Fault>>)
     // Nothing but the rename touches the name, and it comes after a sync that no write follows.
-    ensures calls { AreOfReplacing temporary.now name.now (BuiltWith (B.builds builder) result.0)
+    ensures calls { AreOfReplacing temporary.now name.now (B.builds builder result.0)
         (N.calls names.old) (N.calls names.new) }
     // A name is taken only from a file whose lock this create holds. A file is renamed only if its
     // lock is held, its name was seen to have it, the two names were seen to be of two files, it got
@@ -438,35 +444,35 @@ pub fn replace_file<N: Names, B: Builder<FileStore<N::File>> + Drop>(
     // which the temporary name is taken.
     ensures build { IfErr result.1 (IsOfBuilder (FailsToBuild (B.fails builder) temporary.now
         (N.calls names.new))) }
-    // If nothing was built, what the builder writes to beside is as it was. Else it is as the
-    // builder left it, and at Ok the file that it built then was renamed.
-    ensures told { Tells N.File.RawFile (B.tells builder) temporary.now name.now
+    // If nothing was built, no file is whole, the builder gave up, and what it writes to beside is as
+    // it was. Else that is as the builder left it, and at Ok the file that it built then was renamed.
+    ensures told { Tells N.File.RawFile (B.gives_up builder) (B.tells builder) temporary.now name.now
         (N.calls names.old) (N.calls names.new) result.0 told.old told.new result.1 }
     // With one text for both names nothing is done.
     ensures one_name { (temporary.now ≢ name.now) ⊎ (N.calls names.new ≡ N.calls names.old) }
     // A crash at any moment leaves the old file or the new one, whole, if the names are of two files.
     // A rename comes only after the system answered so.
     ensures any_moment { AtEachMoment (LeavesOldOrNew temporary.now name.now
-        (BuiltWith (B.builds builder) result.0) (N.calls names.old)) (N.calls names.old)
+        (B.builds builder result.0) (N.calls names.old)) (N.calls names.old)
         (N.calls names.new) }
     // Once the folder was synced, a crash leaves the new one.
     ensures sure { OnOk result.1
-        (LeavesNew name.now (BuiltWith (B.builds builder) result.0) (N.calls names.new)) }
+        (LeavesNew name.now (B.builds builder result.0) (N.calls names.new)) }
 {
     let empty = match make_temporary(names, name, temporary) {
         Ok(empty) => empty,
-        Err(fault) => return (None, Err(fault)),
+        Err(fault) => return (builder.give_up(), Err(fault)),
     };
     let (mut store, back, built) = builder.build(empty, told);
     if let Err(fault) = built {
         names.remove_own(temporary, store.file());
-        return (Some(back), Err(ReplaceFault::Build(fault)));
+        return (back, Err(ReplaceFault::Build(fault)));
     }
     if let Err(fault) = seal(names, &mut store, name, temporary) {
         names.remove_own(temporary, store.file());
-        return (Some(back), Err(fault));
+        return (back, Err(fault));
     }
     let len = store.len();
     let published = publish(names, store.into_file(), len, name, temporary);
-    (Some(back), published)
+    (back, published)
 }

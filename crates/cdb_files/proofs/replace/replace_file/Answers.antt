@@ -1,4 +1,4 @@
-use Rattle.std.proofs.Common.{inr, ap, refl, sym, subst, ◌∙◌, ◌≡◌, List, ℕ, Result, Ok, Err}
+use Rattle.std.proofs.Common.{inl, inr, ap, refl, sym, subst, ◌∙◌, ◌≡◌, List, ℕ, Result, Ok, Err}
 use Rattle.std.specs.Prelude.{IfErr, OnErr, OnOk}
 use Rattle.cdb_store.specs.Calls.{Calls}
 use Rattle.cdb_files.specs.Replacing.{Answers, ClearsFile, EndsIn, FailsRename, FailsToSeal, IsOfBuilder, RenamesFile, of_name}
@@ -83,6 +83,18 @@ pub returns-in-Err-clause-any_moment : goal.returns-in-Err-clause-any_moment
 returns-in-Err-clause-any_moment g c =
     at_each_moment (are_of_replacing (weaker (λ b none. absurd none) c.make_temporary.ensures.steps))
 
+pub returns-in-Err-clause-told : goal.returns-in-Err-clause-told
+returns-in-Err-clause-told g c =
+    inl (record {
+      gave_up = c.give_up.ensures;
+      same = refl;
+      fault = c.in-Err.fault;
+      is = refl;
+      stops = c.in-Err.ensures.err;
+      calls = are_of_replacing c.make_temporary.ensures.steps;
+      moments = at_each_moment (are_of_replacing c.make_temporary.ensures.steps);
+    })
+
 -- ---- the builder failed
 
 pub returns-in-Err-built-clause-calls : goal.returns-in-Err-built-clause-calls
@@ -111,8 +123,6 @@ pub returns-in-Err-built-clause-told : goal.returns-in-Err-built-clause-told
 returns-in-Err-built-clause-told g c =
     let store = c.build-store.result.0 in
     inr (record {
-      back = c.build-store.result.1;
-      is_handed = refl;
       left = store;
       built = Err c.in-Err-built.fault;
       tells_so = rw c.in-Err-built.is at c.build-store.ensures.tells;
@@ -141,8 +151,6 @@ returns-in-Err-seal-clause-any_moment g c =
 pub returns-in-Err-seal-clause-told : goal.returns-in-Err-seal-clause-told
 returns-in-Err-seal-clause-told g c =
     inr (record {
-      back = c.build-store.result.1;
-      is_handed = refl;
       left = c.build-store.result.0;
       built = Ok tt;
       tells_so = rw c.in_default.is at c.build-store.ensures.tells;
@@ -171,8 +179,6 @@ returns-clause-any_moment g c =
 pub returns-clause-told : goal.returns-clause-told
 returns-clause-told g c =
     inr (record {
-      back = c.build-store.result.1;
-      is_handed = refl;
       left = c.build-store.result.0;
       built = Ok tt;
       tells_so = rw c.in_default.is at c.build-store.ensures.tells;
