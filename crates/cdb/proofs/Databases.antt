@@ -56,11 +56,11 @@ run_under f m back images inner told said made ran over in_image = record {
 }
 
 -- what is said of a writer is said of what it has
-pub of_contents : {F R T : Type 0} (contents : T → Option (List ℕ)) (f : Ghosts F) (r : Raw R) (m : Making F) (t n : List ℕ) (old new : NameCalls) (handed : Option (Option F)) (told said : T) (answer : Result Unit (ReplaceFault Fault))
-    → Tells r (λ base before after images made. IsBufferedRun f m base images (contents before) (contents after) made) t n old new handed told said answer
-    → Tells r (λ base before after images made. IsBufferedRun f m base images before after made) t n old new handed (contents told) (contents said) answer
-of_contents contents f r m t n old new handed told said answer (inl none) = inl (none.0, ap contents none.1, none.2, none.3, none.4)
-of_contents contents f r m t n old new handed told said answer (inr some) = inr (record { back = some.back; is_handed = some.is_handed; left = some.left; built = some.built; tells_so = some.tells_so; answers = some.answers; sealed = some.sealed; same = some.same; unsynced = some.unsynced; renamed = some.renamed; cleared = some.cleared })
+pub of_contents : {F R T : Type 0} (contents : T → Option (List ℕ)) (f : Ghosts F) (r : Raw R) (m : Making F) (t n : List ℕ) (old new : NameCalls) (back : Option F) (told said : T) (answer : Result Unit (ReplaceFault Fault))
+    → Tells r (λ base. base ≡ m.base) (λ base before after images made. IsBufferedRun f m base images (contents before) (contents after) made) t n old new back told said answer
+    → Tells r (λ base. base ≡ m.base) (λ base before after images made. IsBufferedRun f m base images before after made) t n old new back (contents told) (contents said) answer
+of_contents contents f r m t n old new back told said answer (inl none) = inl (record { gave_up = none.gave_up; same = ap contents none.same; fault = none.fault; is = none.is; stops = none.stops; calls = none.calls; moments = none.moments })
+of_contents contents f r m t n old new back told said answer (inr some) = inr (record { left = some.left; built = some.built; tells_so = some.tells_so; answers = some.answers; sealed = some.sealed; same = some.same; unsynced = some.unsynced; renamed = some.renamed; cleared = some.cleared })
 
 -- ---- a store that was flushed
 

@@ -4,7 +4,7 @@ use Rattle.std.specs.Prelude.{Ok, Err, OnOk, OnErr, IfErr, codes}
 use Rattle.std.specs.Io.KnownBytes.{Keeps, Appends}
 use Rattle.cdb_command.specs.declared.options.MakeOptions.{MakeOptions}
 use Rattle.cdb_files.specs.Folder.{NameCalls}
-use Rattle.cdb_files.specs.Replacing.{AreOfReplacing, AtEachMoment, BuiltWith, EndsIn, IsRenamed, LeavesNew}
+use Rattle.cdb_files.specs.Replacing.{AreOfReplacing, AtEachMoment, EndsIn, IsRenamed, LeavesNew}
 use Rattle.cdb_files.specs.Replacing.{FailsToBuild, IsOfBuilder, LeavesOldOrNew, Tells}
 use Rattle.cdb_files.specs.declared.answer.Answer.{Answer}
 use Rattle.cdb_files.specs.declared.answer.Answer.TheVariants as looks
@@ -29,7 +29,7 @@ use Rattle.cdb_make.specs.declared.fault.MakeFault.TheVariants.{Writing}
 use Rattle.cdb_tool.specs.declared.inputs.Turn.{Turn}
 use Rattle.cdb_tool.specs.Views.Inputs.{one_of}
 use Rattle.cdb.specs.Inputs.{IsStandard, MissesBase, OpensBase, OpensInputs, StopsOpening}
-use Rattle.cdb.specs.Opening.{Misses, OpenCalls, base_left, none_left}
+use Rattle.cdb.specs.Opening.{Misses, OpenCalls, base_left}
 use Rattle.cdb.specs.declared.left.Left.{Left}
 use Rattle.cdb.specs.declared.open_trace.OpenCall.TheVariants.{Emptied}
 use Rattle.cdb.specs.declared.system.System.{Ghosts as Systems}
@@ -182,16 +182,16 @@ pub record Empties {F I M Y : Type 0} (y : Systems Y F I M) (f : Ghosts F) (s : 
   pub has : OnOk result (HasDatabase f m left.read (s.image last))
 
 -- a file that is read may be the one of the name; or none is, as was asked of each, and then the file of
--- the name is not opened, or emptied
+-- the name is not opened, or emptied. The base is handed back, as it was if nothing was built
 abbrev pub MakesInPlace : {F I M Y : Type 0} → Systems Y F I M → Ghosts F → Ghosts M → Making F
     → (name : List ℕ) → (base : Option (List ℕ)) → (inputs : List (List ℕ)) → (old new : OpenCalls)
     → (was now : NameCalls) → Left F M → (told said : Option (List ℕ)) → Result Unit Fault → Type 0
 MakesInPlace y f s m name base inputs old new was now left told said result =
-    (FindsOne name base inputs was now × (new ≡ old) × (left ≡ none_left) × (result ≡ Err Open)
-    × Keeps told said)
+    (FindsOne name base inputs was now × (new ≡ old) × (left ≡ base_left m.base)
+    × (result ≡ Err Open) × Keeps told said)
     ⊎ (AsksAll name base inputs was now
-    × (((fault : Fault) × Misses name old new fault × (left ≡ none_left) × (result ≡ Err fault)
-    × Keeps told said)
+    × (((fault : Fault) × Misses name old new fault × (left ≡ base_left m.base)
+    × (result ≡ Err fault) × Keeps told said)
     ⊎ ((new ≡ (Emptied, name) ∷ old) × Empties y f s m name left told said result)))
 
 -- ---- in a temporary file
@@ -209,38 +209,30 @@ abbrev pub answer_of : Result Unit (ReplaceFault Fault) → Result Unit Fault
 answer_of (Ok done) = Ok done
 answer_of (Err fault) = Err (fault_of fault)
 
--- the base that a build handed back, if there was a build
-abbrev pub base_of : {F : Type 0} → Option (Option F) → Option F
-base_of None = None
-base_of (Some back) = back
-
 -- a file with the database replaces the one of the name, at once or not at all; the lines are those
 -- of the run that was made in it
 pub record Replaces {F R : Type 0} (f : Ghosts F) (r : Raw R) (m : Making F)
     (temporary name : List ℕ) (old new : NameCalls) (back : Option F)
     (told said : Option (List ℕ)) (result : Result Unit Fault) : Type 0 where
-  pub handed : Option (Option F)
-  pub is_back : back ≡ base_of handed
   pub answer : Result Unit (ReplaceFault Fault)
   pub answered : result ≡ answer_of answer
-  pub calls : AreOfReplacing temporary name (BuiltWith (IsDatabase f m) handed) old new
-  pub moments : AtEachMoment
-      (LeavesOldOrNew temporary name (BuiltWith (IsDatabase f m) handed) old) old new
+  pub calls : AreOfReplacing temporary name (IsDatabase f m back) old new
+  pub moments : AtEachMoment (LeavesOldOrNew temporary name (IsDatabase f m back) old) old new
   pub ok : OnOk answer
-      (IsRenamed temporary name new × LeavesNew name (BuiltWith (IsDatabase f m) handed) new)
+      (IsRenamed temporary name new × LeavesNew name (IsDatabase f m back) new)
   pub err : IfErr answer (EndsIn temporary name old new)
   pub build : IfErr answer (IsOfBuilder (FailsToBuild {file = r}
       (λ store left fault. IsOfStore fault → failures_of store < failures_of left) temporary new))
-  pub lines : Tells r
+  pub lines : Tells r (λ base. base ≡ m.base)
       (λ base before after images made. IsBufferedRun f m base images before after made)
-      temporary name old new handed told said answer
+      temporary name old new back told said answer
 
 -- a file that is read may have the temporary name; or none has, as was asked of each
 abbrev pub MakesApart : {F R : Type 0} → Ghosts F → Raw R → Making F → (temporary name : List ℕ)
     → (base : Option (List ℕ)) → (inputs : List (List ℕ)) → (old new : NameCalls)
     → (back : Option F) → (told said : Option (List ℕ)) → Result Unit Fault → Type 0
 MakesApart f r m temporary name base inputs old new back told said result =
-    (FindsOne temporary base inputs old new × (back ≡ None) × (result ≡ Err Open)
+    (FindsOne temporary base inputs old new × (back ≡ m.base) × (result ≡ Err Open)
     × Keeps told said)
     ⊎ ((mid : NameCalls) × AsksAll temporary base inputs old mid
     × Replaces f r m temporary name mid new back told said result)
@@ -266,7 +258,7 @@ MakesNamed y f s r m name base inputs temporary old new was now left told said r
     (IsInPlace name temporary
     × MakesInPlace y f s m name base inputs old new was now left told said result)
     ⊎ ((IsInPlace name temporary → ⊥) × (new ≡ old) × (left ≡ base_left left.read)
-    × (((now ≡ was) × (left.read ≡ None) × (result ≡ Err NoMemory) × Keeps told said)
+    × (((now ≡ was) × (left.read ≡ m.base) × (result ≡ Err NoMemory) × Keeps told said)
     ⊎ MakesApart f r m (temporary_of name temporary) name base inputs was now left.read told said
     result))
 
@@ -282,13 +274,11 @@ pub record OpensAll {F I M Y : Type 0} (y : Systems Y F I M) (remaining : I → 
   pub inputs_are : OpensInputs y inputs turns mid new
   pub left_is : left ≡ record { each = map (one_of remaining) turns; shared = standard }
 
--- or the base or an input was not
+-- or the base was not, or an input after it, and then that base is handed back
 pub record NotOpened {F I M Y : Type 0} (y : Systems Y F I M) (base : Option (List ℕ))
-    (inputs : List (List ℕ)) (old new : OpenCalls) (result : Result Unit Fault) : Type 0 where
-  pub fault : Fault
-  pub is : result ≡ Err fault
-  pub calls : MissesBase base old new fault ⊎ ((file : Option F) × (mid : OpenCalls)
-      × OpensBase y base file old mid × StopsOpening y inputs mid new fault)
+    (inputs : List (List ℕ)) (old new : OpenCalls) (back : Option F) (fault : Fault) : Type 0 where
+  pub calls : (MissesBase base old new fault × (back ≡ None)) ⊎ ((mid : OpenCalls)
+      × OpensBase y base back old mid × StopsOpening y inputs mid new fault)
 
 -- the database is made, on standard output or under its name, where standard output stays as it is
 abbrev pub MakesAt : {F I M R Y : Type 0} → Systems Y F I M → Ghosts F → Ghosts M → Raw R
@@ -301,8 +291,8 @@ MakesAt y f s r m name base inputs temporary old new was now left start end told
     ⊎ ((IsStandard name → ⊥) × Keeps start end
     × MakesNamed y f s r m name base inputs temporary old new was now left told said result)
 
--- all that is read is opened, and then the database is made of it; or nothing is made. What is left
--- open is handed back
+-- all that is read is opened, and then the database is made of it; or nothing is made. A base that was
+-- opened is handed back, as it came if nothing was built; so is a file that was made in place
 abbrev pub Creates : {F I M R Y : Type 0} → (w greatest : ℕ) → Systems Y F I M → Ghosts F → Ghosts M
     → Raw R → (I → Option (List ℕ)) → MakeOptions → (name : List ℕ) → (base : Option (List ℕ))
     → (inputs : List (List ℕ)) → (temporary : Option (List ℕ)) → (standard : Option (List ℕ))
@@ -310,8 +300,8 @@ abbrev pub Creates : {F I M R Y : Type 0} → (w greatest : ℕ) → Systems Y F
     → (start end told said : Option (List ℕ)) → Result Unit Fault → Type 0
 Creates {F = F} w greatest y f s r remaining o name base inputs temporary standard old new was now
     left start end told said result =
-    (NotOpened y base inputs old new result × (now ≡ was) × (left ≡ none_left)
-    × Keeps start end × Keeps told said)
+    ((fault : Fault) × (result ≡ Err fault) × NotOpened y base inputs old new left.read fault
+    × (now ≡ was) × (left ≡ base_left left.read) × Keeps start end × Keeps told said)
     ⊎ ((file : Option F) × (items : InputsLeft) × (mid : OpenCalls)
     × OpensAll y remaining base inputs standard old mid file items
     × MakesAt y f s r

@@ -1,5 +1,5 @@
 // What builds the database of what was opened.
-ghost use Rattle.std.specs.Prelude.{◌<◌};
+ghost use Rattle.std.specs.Prelude.{◌≡◌, ◌<◌};
 ghost use Rattle.cdb_tool.specs.Runs.Make.{IsOfStore};
 ghost use Rattle.cdb.specs.Creating.{IsBufferedRun, IsDatabase, MakesIn};
 ghost use Rattle.cdb.specs.Contents.{making_of};
@@ -39,7 +39,8 @@ where
     make_run_from::<L, S, F, J, I, E>(alloc, store, base, inputs, options, errors)
 }
 
-/// Builds the database in a file that is empty, through a buffer.
+/// Builds the database in a file that is empty, through a buffer. The base is handed back, also if
+/// there is no file to build in.
 #[derive(Drop)]
 pub(crate) struct Building<L: Width, F, J, I, E> {
     pub(crate) alloc: Global,
@@ -73,6 +74,8 @@ where
         (making_of L.WORD L.GREATEST J.remaining I.remaining b.contents) back images
         (E.contents told) (E.contents said) made };
 
+    ghost gives_up = { λ b back. back ≡ b.contents.base };
+
     fn build(self, store: S, errors: &mut E) -> (S, Option<F>, Result<(), Fault>) {
         let Building {
             alloc,
@@ -87,9 +90,14 @@ where
                 (buffered.discard().into_inner(), base, made)
             }
             Err(failed) => {
-                let Contents { base, .. } = contents;
+                let base = contents.into_base();
                 (failed.value.into_inner(), base, Err(Fault::NoMemory))
             }
         }
+    }
+
+    fn give_up(self) -> Option<F> {
+        let Building { contents, .. } = self;
+        contents.into_base()
     }
 }

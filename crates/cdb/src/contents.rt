@@ -1,5 +1,5 @@
 // What a create reads, once it is opened.
-ghost use Rattle.std.specs.Prelude.{◌≤◌};
+ghost use Rattle.std.specs.Prelude.{◌≡◌, ◌≤◌};
 ghost use Rattle.cdb_form.specs.Format.Pair.{head_size};
 
 use cdb_form::Width;
@@ -19,4 +19,14 @@ pub(crate) struct Contents<L: Width, F, J, I> {
     pub(crate) width: PhantomData<L>,
     ghost head: { head_size L.WORD ≤ options.limit },
     ghost words: { options.limit ≤ L.GREATEST },
+}
+
+impl<L: Width, F: Drop, J: Drop, I: Drop> Contents<L, F, J, I> {
+    /// The base. The inputs are closed.
+    pub(crate) fn into_base(self) -> Option<F>
+        ensures { result ≡ self.base }
+    {
+        let Contents { base, .. } = self;
+        base
+    }
 }

@@ -1,5 +1,5 @@
 // A create: its base and inputs are opened, and then the database is made of them.
-ghost use Rattle.std.specs.Prelude.{◌≡◌, ◌↔◌, ◌≤◌, IsTrue, IfOk, IfErr, Err, map, option_map};
+ghost use Rattle.std.specs.Prelude.{◌≡◌, ◌↔◌, ◌≤◌, IsTrue, IfOk, IfErr, map, option_map};
 ghost use Rattle.std.specs.Prelude.{string_bytes};
 ghost use Rattle.cdb_form.specs.Format.Pair.{head_size};
 ghost use Rattle.cdb_tool.specs.Views.Inputs.{inputs_left};
@@ -10,7 +10,7 @@ ghost use Rattle.cdb.specs.Contents.{making_of};
 use crate::building::make_in;
 use crate::contents::Contents;
 use crate::inputs::{is_standard, open_base, open_inputs};
-use crate::left::{Left, none_left};
+use crate::left::{Left, base_left};
 use crate::placing::{make_in_place, replace_database};
 use crate::system::System;
 use cdb_files::Names;
@@ -40,8 +40,8 @@ pub(crate) struct Creation<'a> {
 }
 
 /// Makes a database, on standard output or under its name: in place, or in a temporary file. The
-/// base and then all inputs are opened before anything is made. The base is handed back, and a file
-/// that was made in place.
+/// base and then all inputs are opened before anything is made. A base that was opened is handed back,
+/// however the create ends, and a file that was made in place.
 #[inline(never)]
 pub(crate) fn create<L, F, J, M, Y, N, I, O, E>(
     alloc: Global,
@@ -74,16 +74,11 @@ where
 {
     let contents = match open_all::<L, F, J, M, Y, I>(alloc, system, creation, input) {
         Ok(contents) => contents,
-        Err(fault) => return (none_left(), Err(fault)),
+        Err(unopened) => return (base_left(unopened.base), Err(unopened.fault)),
     };
     if is_standard(creation.name) {
         let (read, made) = make_on_output::<L, F, J, I, O, E>(alloc, contents, output, errors);
-        let left = Left {
-            read,
-            other: None,
-            made: None,
-        };
-        return (left, made);
+        return (base_left(read), made);
     }
     if is_in_place(creation.name, creation.temporary) {
         return make_in_place::<L, F, J, M, Y, N, I, E>(
@@ -92,7 +87,7 @@ where
     }
     let temporary = match temporary_name(alloc, creation.name, creation.temporary) {
         Ok(temporary) => temporary,
-        Err(_) => return (none_left(), Err(Fault::NoMemory)),
+        Err(_) => return (base_left(contents.into_base()), Err(Fault::NoMemory)),
     };
     let (read, made) = replace_database::<L, F, J, N, I, E>(
         alloc,
@@ -102,12 +97,15 @@ where
         contents,
         errors,
     );
-    let left = Left {
-        read,
-        other: None,
-        made: None,
-    };
-    (left, made)
+    (base_left(read), made)
+}
+
+/// Why what is read was not opened.
+#[derive(Drop)]
+struct Unopened<F> {
+    /// The base, if it was opened: an input was not.
+    base: Option<F>,
+    fault: Fault,
 }
 
 /// Opens what is read: the base, and then all inputs.
@@ -116,7 +114,7 @@ fn open_all<L, F, J, M, Y, I>(
     system: &mut Y,
     creation: Creation<'_>,
     input: I,
-) -> Result<Contents<L, F, J, I>, Fault>
+) -> Result<Contents<L, F, J, I>, Unopened<F>>
 where
     L: Width,
     F: Store + Drop,
@@ -131,18 +129,23 @@ where
         (I.remaining input) (Y.calls system.old) (Y.calls system.new) c.base
         (inputs_left J.remaining I.remaining c.inputs)) }
     ensures options { IfOk result (λ c. c.options ≡ creation.entry.options) }
-    ensures fails { IfErr result (λ f. NotOpened Y.System
+    ensures fails { IfErr result (λ u. NotOpened Y.System
         (option_map string_bytes creation.entry.base.now) (map string_bytes creation.entry.inputs.now)
-        (Y.calls system.old) (Y.calls system.new) (Err f)) }
+        (Y.calls system.old) (Y.calls system.new) u.base u.fault) }
 {
-    let base = open_base::<F, J, M, Y>(system, creation.base)?;
-    let inputs = open_inputs::<F, J, M, Y, I>(alloc, system, creation.inputs, input)?;
-    Ok(Contents {
-        base,
-        inputs,
-        options: creation.options,
-        width: PhantomData,
-    })
+    let base = match open_base::<F, J, M, Y>(system, creation.base) {
+        Ok(base) => base,
+        Err(fault) => return Err(Unopened { base: None, fault }),
+    };
+    match open_inputs::<F, J, M, Y, I>(alloc, system, creation.inputs, input) {
+        Ok(inputs) => Ok(Contents {
+            base,
+            inputs,
+            options: creation.options,
+            width: PhantomData,
+        }),
+        Err(fault) => Err(Unopened { base, fault }),
+    }
 }
 
 /// Makes it in memory and writes it.

@@ -1,6 +1,6 @@
 // What a command hands back.
 ghost use Rattle.std.specs.Prelude.{◌≡◌};
-ghost use Rattle.cdb.specs.Opening.{none_left, read_left, both_left};
+ghost use Rattle.cdb.specs.Opening.{none_left, read_left, base_left, both_left};
 
 /// The files that a command opened and has not closed, as they are at its end. A clause says what was
 /// read of them, or made.
@@ -32,6 +32,17 @@ pub(crate) fn read_left<F: Drop, M: Drop>(file: F) -> Left<F, M>
 {
     Left {
         read: Some(file),
+        other: None,
+        made: None,
+    }
+}
+
+/// The base of a create is handed back, if it has one.
+pub(crate) fn base_left<F: Drop, M: Drop>(base: Option<F>) -> Left<F, M>
+    ensures { result ≡ base_left base }
+{
+    Left {
+        read: base,
         other: None,
         made: None,
     }

@@ -3,7 +3,7 @@ ghost use Rattle.std.specs.Prelude.{◌≡◌, ◌∷◌, [], true, false, map, 
 ghost use Rattle.cdb.specs.Creating.{AsksAll, AsksBase, AsksEach, AsksOne};
 ghost use Rattle.cdb.specs.Creating.{FindsBase, FindsInput, FindsOne, MayBeOne};
 ghost use Rattle.cdb.specs.Inputs.{IsStandard};
-ghost use Rattle.cdb.specs.Creating.{MakesApart, MakesInPlace, Syncs, answer_of, base_of};
+ghost use Rattle.cdb.specs.Creating.{MakesApart, MakesInPlace, Syncs, answer_of};
 ghost use Rattle.cdb_files.specs.declared.answer.Answer.TheVariants.{No};
 ghost use Rattle.cdb_files.specs.declared.name_trace.NameCall.TheVariants.{Same};
 ghost use Rattle.cdb.specs.Contents.{making_of};
@@ -12,7 +12,7 @@ use crate::building::Building;
 use crate::contents::Contents;
 use crate::creating::Creation;
 use crate::inputs::is_standard;
-use crate::left::{Left, none_left};
+use crate::left::{Left, base_left};
 use crate::system::System;
 use cdb_files::{Answer, Builder, Names, ReplaceFault, replace_file};
 use cdb_form::Width;
@@ -98,7 +98,7 @@ fn may_be_read<N: Names>(names: &mut N, name: &str, creation: Creation<'_>) -> b
 /// `Open`: the base or an input is that file, and would be lost, or the system did not say whether it
 /// is; or the name is that of a link, or the file cannot be opened.
 ///
-/// The file is handed back, and the base.
+/// The base is handed back, and the file if it was opened.
 #[inline(never)]
 pub(crate) fn make_in_place<L, F, J, M, Y, N, I, E>(
     alloc: Global,
@@ -125,11 +125,11 @@ where
         (E.contents errors.old) (E.contents errors.new) result.1 }
 {
     if may_be_read(names, creation.name, creation) {
-        return (none_left(), Err(Fault::Open));
+        return (base_left(contents.into_base()), Err(Fault::Open));
     }
     let store = match system.empty(creation.name) {
         Ok(store) => store,
-        Err(fault) => return (none_left(), Err(fault)),
+        Err(fault) => return (base_left(contents.into_base()), Err(fault)),
     };
     let building = Building::<L, F, J, I, E> {
         alloc,
@@ -160,7 +160,7 @@ fn synced<S: Store>(store: &mut S, built: Result<(), Fault>) -> Result<(), Fault
 /// Makes it in a temporary file, which replaces the database once it is whole.
 ///
 /// If the temporary name refers to the base or to an input, or the system did not say whether it does,
-/// nothing is removed and the call fails. The base is handed back if there was a build.
+/// nothing is removed and the call fails. The base is handed back, also if nothing was built.
 #[inline(never)]
 pub(crate) fn replace_database<L, F, J, N, I, E>(
     alloc: Global,
@@ -184,31 +184,21 @@ where
         (E.contents errors.old) (E.contents errors.new) result.1 }
 {
     if may_be_read(names, temporary, creation) {
-        return (None, Err(Fault::Open));
+        return (contents.into_base(), Err(Fault::Open));
     }
     let building = Building::<L, F, J, I, E> {
         alloc,
         contents,
         errors: PhantomData,
     };
-    let (handed, answer) = replace_file::<N, Building<L, F, J, I, E>>(
+    let (base, answer) = replace_file::<N, Building<L, F, J, I, E>>(
         names,
         creation.name,
         temporary,
         building,
         errors,
     );
-    (handed_base(handed), answer_to_program(answer))
-}
-
-/// The base that a build handed back, if there was a build.
-fn handed_base<F: Drop>(handed: Option<Option<F>>) -> Option<F>
-    ensures { result ≡ base_of handed }
-{
-    match handed {
-        Some(base) => base,
-        None => None,
-    }
+    (base, answer_to_program(answer))
 }
 
 /// What the answer of a replacement is to the program.

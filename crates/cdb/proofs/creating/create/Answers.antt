@@ -6,7 +6,7 @@ use Rattle.cdb.proofs.creating.create.Goals as goal
 pub returns-then-is_standard : goal.returns-then-is_standard
 returns-then-is_standard g c =
     let contents = c.in-Ok.contents in
-    inr (contents.base, inputs_left g.J.Read.remaining g.I.Read.remaining contents.inputs, g.Y.System.calls c.open_all.new.system, c.in-Ok.ensures.ok, inl (search rules, refl, refl, refl, rw c.in-Ok.ensures.options at c.make_on_output-read.ensures))
+    rw c.base_left-then-is_standard.ensures (inr (contents.base, inputs_left g.J.Read.remaining g.I.Read.remaining contents.inputs, g.Y.System.calls c.open_all.new.system, c.in-Ok.ensures.ok, inl (search rules, refl, refl, refl, rw c.in-Ok.ensures.options at c.make_on_output-read.ensures)))
 
 pub returns-then-is_in_place : goal.returns-then-is_in_place
 returns-then-is_in_place g c =
@@ -22,4 +22,4 @@ pub returns : goal.returns
 returns g c =
     let contents = c.in-Ok.contents in
     let made = rw c.in-Ok-temporary_name.ensures at (rw c.as_str.ensures.value at (rw c.in-Ok.ensures.options at c.replace_database-read.ensures)) in
-    inr (contents.base, inputs_left g.J.Read.remaining g.I.Read.remaining contents.inputs, g.Y.System.calls c.open_all.new.system, c.in-Ok.ensures.ok, inr (search rules, Keeps-refl _, inr (search rules, refl, refl, inr made)))
+    rw c.base_left-2.ensures (inr (contents.base, inputs_left g.J.Read.remaining g.I.Read.remaining contents.inputs, g.Y.System.calls c.open_all.new.system, c.in-Ok.ensures.ok, inr (search rules, Keeps-refl _, inr (search rules, refl, refl, inr made))))

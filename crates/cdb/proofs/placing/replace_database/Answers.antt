@@ -6,16 +6,13 @@ use Rattle.cdb.proofs.placing.replace_database.Goals as goal
 
 pub returns : goal.returns
 returns g c =
-    let e = c.replace_file-handed.ensures in
-    let handed = c.replace_file-handed.result.0 in
-    let answer = c.replace_file-handed.result.1 in
+    let e = c.replace_file-base.ensures in
+    let answer = c.replace_file-base.result.1 in
     let making = making_of g.L.Width.WORD g.L.Width.GREATEST g.J.Read.remaining g.I.Read.remaining c.args.contents in
     inr (
       g.N.Names.calls c.may_be_read.new.names,
       c.may_be_read.ensures.others (search rules),
       record {
-        handed = handed;
-        is_back = c.handed_base.ensures;
         answer = answer;
         answered = c.answer_to_program.ensures;
         calls = e.calls;
@@ -23,6 +20,6 @@ returns g c =
         ok = ok_and _ _ answer e.ok e.sure;
         err = e.err;
         build = e.build;
-        lines = of_contents g.E.Write.contents g.F.Store g.N.File.RawFile making _ _ _ _ handed _ _ answer e.told;
+        lines = of_contents g.E.Write.contents g.F.Store g.N.File.RawFile making _ _ _ _ _ _ _ answer e.told;
       },
     )
