@@ -430,23 +430,23 @@ check_taken w store last start end result some h =
 -- ---- difference
 
 -- a fault of a file in order is one that no file can have
-not_met : (w : ℕ) (bytes : List ℕ) (damage : Damage) → (walk_of w bytes).damage ≡ None → FindsInOrder w bytes → HasAny w bytes damage → ⊥
-not_met w bytes damage whole finds (inl walked) = (let e = sym whole ∙ walked in cc)
-not_met w bytes damage whole finds (inr looked) = (let e = sym (finds.sound looked.0) ∙ looked.1 in cc)
+not_met : (w : ℕ) (bytes beside : List ℕ) (damage : Damage) → (walk_of w bytes).damage ≡ None → FindsInOrder w bytes → HasAny w bytes beside damage → ⊥
+not_met w bytes beside damage whole finds (inl walked) = (let e = sym whole ∙ walked in cc)
+not_met w bytes beside damage whole finds (inr looked) = (let e = sym (finds.sound looked.0) ∙ looked.1.1 in cc)
 
-not_read : {S : Type 0} (w : ℕ) (s : Ghosts S) (file last : S) (bytes : List ℕ) (start end : Option (List ℕ)) (fault : ReadFault) → s.image last bytes → length bytes ≡ s.size last → s.failures last ≡ 0 → (walk_of w bytes).damage ≡ None → FindsInOrder w bytes → NotRead w s file last start end fault → ⊥
-not_read w s file last bytes start end read.Short is size works whole finds h =
+not_read : {S : Type 0} (w : ℕ) (s : Ghosts S) (file last other : S) (bytes beside : List ℕ) (start end : Option (List ℕ)) (fault : ReadFault) → s.image last bytes → s.image other beside → length bytes ≡ s.size last → s.failures last ≡ 0 → (walk_of w bytes).damage ≡ None → FindsInOrder w bytes → NotRead w s s file last other start end fault → ⊥
+not_read w s file last other bytes beside start end read.Short is it size works whole finds h =
     let long = (walk_head w bytes whole).whole in
     let short = subst (λ n. n < head_size w) (sym (size ∙ ap s.size h.unread)) h.short in
     omega (arith, long, short)
-not_read w s file last bytes start end read.Device is size works whole finds h = omega (arith, h, works)
-not_read w s file last bytes start end (read.Table n) is size works whole finds h = not_met w bytes (damage.Table n) whole finds (h bytes is)
-not_read w s file last bytes start end (read.Record place) is size works whole finds h = not_met w bytes (damage.Record place) whole finds (h bytes is)
-not_read w s file last bytes start end (read.Slot n i) is size works whole finds h = h
-not_read w s file last bytes start end (read.Twice place) is size works whole finds h = h
-not_read w s file last bytes start end (read.Unindexed place) is size works whole finds h = h
-not_read w s file last bytes start end read.NoMemory is size works whole finds h = h
-not_read w s file last bytes start end read.Output is size works whole finds h = h
+not_read w s file last other bytes beside start end read.Device is it size works whole finds h = omega (arith, h, works)
+not_read w s file last other bytes beside start end (read.Table n) is it size works whole finds h = not_met w bytes beside (damage.Table n) whole finds (h bytes beside is it)
+not_read w s file last other bytes beside start end (read.Record place) is it size works whole finds h = not_met w bytes beside (damage.Record place) whole finds (h bytes beside is it)
+not_read w s file last other bytes beside start end (read.Slot n i) is it size works whole finds h = h
+not_read w s file last other bytes beside start end (read.Twice place) is it size works whole finds h = h
+not_read w s file last other bytes beside start end (read.Unindexed place) is it size works whole finds h = h
+not_read w s file last other bytes beside start end read.NoMemory is it size works whole finds h = h
+not_read w s file last other bytes beside start end read.Output is it size works whole finds h = h
 
 -- what is known of a file of a difference, as it is left
 record Compared {S : Type 0} (w : ℕ) (s : Ghosts S) (last : S) (bytes : List ℕ) : Type 0 where
@@ -458,8 +458,8 @@ record Compared {S : Type 0} (w : ℕ) (s : Ghosts S) (last : S) (bytes : List �
 
 difference_ended : {S : Type 0} (w : ℕ) (s : Ghosts S) (old old_last new new_last : S) (b c : List ℕ) (start end : Option (List ℕ)) (fault : Fault) → Compared w s old_last b → Compared w s new_last c → AppendsPrefix start end (amending_text (difference_of w b c)) → DifferenceFails w s s old old_last new new_last start end fault
     → Comes true false plain_status (difference_outcome w b c) start end (Err fault)
-difference_ended w s old old_last new new_last b c start end (Old fault) x y part h = absurd (not_read w s old old_last b start end fault x.is x.size x.works x.whole x.finds h)
-difference_ended w s old old_last new new_last b c start end (New fault) x y part h = absurd (not_read w s new new_last c start end fault y.is y.size y.works y.whole y.finds h)
+difference_ended w s old old_last new new_last b c start end (Old fault) x y part h = absurd (not_read w s old old_last new_last b c start end fault x.is y.is x.size x.works x.whole x.finds h)
+difference_ended w s old old_last new new_last b c start end (New fault) x y part h = absurd (not_read w s new new_last old_last c b start end fault y.is x.is y.size y.works y.whole y.finds h)
 difference_ended w s old old_last new new_last b c start end Output x y part h = gives_up true false plain_status _ start end Output refl part
 difference_ended w s old old_last new new_last b c start end NoMemory x y part h = gives_up true false plain_status _ start end NoMemory tt part
 difference_ended w s old old_last new new_last b c start end (Text input fault) x y part h = absurd h

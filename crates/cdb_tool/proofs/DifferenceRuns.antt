@@ -11,7 +11,7 @@ use Rattle.cdb_form.proofs.Bytes.WritingLemmas.{appends_kept, same_appends}
 use Rattle.cdb_read.specs.Views.Reads.{OpeningFails}
 use Rattle.cdb_read.specs.declared.fault.ReadFault.{ReadFault}
 use Rattle.cdb_read.specs.declared.fault.ReadFault.TheVariants as read
-use Rattle.cdb_tool.specs.Runs.Difference.{DifferenceFails, NotRead, ReadingStops, Stops, TellsDifference, WritesDifference, WritesPrefix, difference_of}
+use Rattle.cdb_tool.specs.Runs.Difference.{DifferenceFails, IsDamaged, NotRead, ReadingStops, Stops, TellsDifference, WritesDifference, WritesPrefix, difference_of}
 use Rattle.cdb_tool.specs.Runs.Flushed.{Flushed}
 use Rattle.cdb_tool.specs.Views.Fault.{old_fault, new_fault}
 use Rattle.cdb_tool.specs.Views.Stop.{removing_fault, putting_fault}
@@ -27,7 +27,7 @@ use Rattle.cdb_tool.proofs.WholeRuns.{keeps_self, keeps_then, not_ok, prefix_kep
 -- ---- why it failed
 
 module _ {S T : Type 0} (w : ℕ) (s : Ghosts S) (t : Ghosts T) (old old_now : S) (new new_now : T) (start now : Option (List ℕ)) where
-  old_fails : (f : ReadFault) → ReadingStops w s old old_now f → DifferenceFails w s t old old_now new new_now start now (old_fault f)
+  old_fails : (f : ReadFault) → ReadingStops s old old_now (IsDamaged w s t old_now new_now) f → DifferenceFails w s t old old_now new new_now start now (old_fault f)
   old_fails read.Device fails = fails
   old_fails (read.Table n) fails = fails
   old_fails (read.Record place) fails = fails
@@ -38,7 +38,7 @@ module _ {S T : Type 0} (w : ℕ) (s : Ghosts S) (t : Ghosts T) (old old_now : S
   old_fails (read.Twice place) fails = absurd fails
   old_fails (read.Unindexed place) fails = absurd fails
 
-  new_fails : (f : ReadFault) → ReadingStops w t new new_now f → DifferenceFails w s t old old_now new new_now start now (new_fault f)
+  new_fails : (f : ReadFault) → ReadingStops t new new_now (IsDamaged w t s new_now old_now) f → DifferenceFails w s t old old_now new new_now start now (new_fault f)
   new_fails read.Device fails = fails
   new_fails (read.Table n) fails = fails
   new_fails (read.Record place) fails = fails
@@ -54,12 +54,12 @@ module _ {S T : Type 0} (w : ℕ) (s : Ghosts S) (t : Ghosts T) (old old_now : S
   removing_fails (Other f) fails = new_fails f fails
 
   pub putting_fails : (old_mid : S) (new_mid : T) (stop : Stop) → OnlyReads s old old_mid → OnlyReads t new new_mid → Stops w t s new_mid new_now old_mid old_now stop → DifferenceFails w s t old old_now new new_now start now (putting_fault stop)
-  putting_fails old_mid new_mid (Own f) first second fails = new_fails f (stops_since w t new new_mid new_now new_now f second.failures (reads_none t new_now) fails)
-  putting_fails old_mid new_mid (Other f) first second fails = old_fails f (stops_since w s old old_mid old_now old_now f first.failures (reads_none s old_now) fails)
+  putting_fails old_mid new_mid (Own f) first second fails = new_fails f (stops_since t new new_mid new_now new_now (IsDamaged w t s new_now old_now) (IsDamaged w t s new_now old_now) f second.failures (omega arith) (λ d is. is) fails)
+  putting_fails old_mid new_mid (Other f) first second fails = old_fails f (stops_since s old old_mid old_now old_now (IsDamaged w s t old_now new_now) (IsDamaged w s t old_now new_now) f first.failures (omega arith) (λ d is. is) fails)
 
   pub removing_fails_since : (old_mid : S) (new_mid : T) (stop : Stop) → OnlyReads s old old_mid → OnlyReads t new new_mid → Stops w s t old_mid old_now new_mid new_now stop → DifferenceFails w s t old old_now new new_now start now (removing_fault stop)
-  removing_fails_since old_mid new_mid (Own f) first second fails = old_fails f (stops_since w s old old_mid old_now old_now f first.failures (reads_none s old_now) fails)
-  removing_fails_since old_mid new_mid (Other f) first second fails = new_fails f (stops_since w t new new_mid new_now new_now f second.failures (reads_none t new_now) fails)
+  removing_fails_since old_mid new_mid (Own f) first second fails = old_fails f (stops_since s old old_mid old_now old_now (IsDamaged w s t old_now new_now) (IsDamaged w s t old_now new_now) f first.failures (omega arith) (λ d is. is) fails)
+  removing_fails_since old_mid new_mid (Other f) first second fails = new_fails f (stops_since t new new_mid new_now new_now (IsDamaged w t s new_now old_now) (IsDamaged w t s new_now old_now) f second.failures (omega arith) (λ d is. is) fails)
 
 -- ---- a database that was not opened
 
@@ -123,21 +123,21 @@ new_unopened w s t old old_now new new_now start f reads fails = record {
 
 -- ---- two that were opened
 
-since : {S : Type 0} (w : ℕ) (s : Ghosts S) (old mid now : S) (start end : Option (List ℕ)) (f : ReadFault) → OnlyReads s old mid → head_size w ≤ s.size mid → NotRead w s mid now start end f → NotRead w s old now start end f
-since w s old mid now start end read.Short reads long fails = absurd (let short = fails.short in omega (arith, short, long))
-since w s old mid now start end read.Device reads long fails = let p = reads.failures in omega (arith, p, fails)
-since w s old mid now start end (read.Table n) reads long fails = fails
-since w s old mid now start end (read.Record place) reads long fails = fails
-since w s old mid now start end (read.Slot n i) reads long fails = absurd fails
-since w s old mid now start end (read.Twice place) reads long fails = absurd fails
-since w s old mid now start end (read.Unindexed place) reads long fails = absurd fails
-since w s old mid now start end read.NoMemory reads long fails = absurd fails
-since w s old mid now start end read.Output reads long fails = absurd fails
+since : {S T : Type 0} (w : ℕ) (s : Ghosts S) (t : Ghosts T) (old mid now : S) (beside : T) (start end : Option (List ℕ)) (f : ReadFault) → OnlyReads s old mid → head_size w ≤ s.size mid → NotRead w s t mid now beside start end f → NotRead w s t old now beside start end f
+since w s t old mid now beside start end read.Short reads long fails = absurd (let short = fails.short in omega (arith, short, long))
+since w s t old mid now beside start end read.Device reads long fails = let p = reads.failures in omega (arith, p, fails)
+since w s t old mid now beside start end (read.Table n) reads long fails = fails
+since w s t old mid now beside start end (read.Record place) reads long fails = fails
+since w s t old mid now beside start end (read.Slot n i) reads long fails = absurd fails
+since w s t old mid now beside start end (read.Twice place) reads long fails = absurd fails
+since w s t old mid now beside start end (read.Unindexed place) reads long fails = absurd fails
+since w s t old mid now beside start end read.NoMemory reads long fails = absurd fails
+since w s t old mid now beside start end read.Output reads long fails = absurd fails
 
 module _ {S T : Type 0} (w : ℕ) (s : Ghosts S) (t : Ghosts T) (old mid now : S) (new mid_new now_new : T) (start end : Option (List ℕ)) (first : OnlyReads s old mid) (second : OnlyReads t new mid_new) (long : head_size w ≤ s.size mid) (long_new : head_size w ≤ t.size mid_new) where
   fails_since : (f : Fault) → DifferenceFails w s t mid now mid_new now_new start end f → DifferenceFails w s t old now new now_new start end f
-  fails_since (Old f) fails = since w s old mid now start end f first long fails
-  fails_since (New f) fails = since w t new mid_new now_new start end f second long_new fails
+  fails_since (Old f) fails = since w s t old mid now now_new start end f first long fails
+  fails_since (New f) fails = since w t s new mid_new now_new now start end f second long_new fails
   fails_since Output fails = tt
   fails_since NoMemory fails = tt
   fails_since (Text n f) fails = absurd fails
@@ -170,20 +170,20 @@ module _ {S T : Type 0} (w : ℕ) (s : Ghosts S) (t : Ghosts T) (old now : S) (n
     are = λ one two. whole_prefix start end _ (same_appends start end _ _ (ap amending_text (h.are one two)) h.written);
   }
 
-  short_kept : {X : Type 0} (x : Ghosts X) (before after : X) (f : ReadFault) → NotRead w x before after start mid f → NotRead w x before after start end f
-  short_kept x before after read.Short h = record { short = h.short; unread = h.unread; kept = keeps_then start mid end h.kept kept }
-  short_kept x before after read.Device h = h
-  short_kept x before after (read.Table n) h = h
-  short_kept x before after (read.Record place) h = h
-  short_kept x before after (read.Slot n i) h = absurd h
-  short_kept x before after (read.Twice place) h = absurd h
-  short_kept x before after (read.Unindexed place) h = absurd h
-  short_kept x before after read.NoMemory h = absurd h
-  short_kept x before after read.Output h = absurd h
+  short_kept : {X Z : Type 0} (x : Ghosts X) (z : Ghosts Z) (before after : X) (beside : Z) (f : ReadFault) → NotRead w x z before after beside start mid f → NotRead w x z before after beside start end f
+  short_kept x z before after beside read.Short h = record { short = h.short; unread = h.unread; kept = keeps_then start mid end h.kept kept }
+  short_kept x z before after beside read.Device h = h
+  short_kept x z before after beside (read.Table n) h = h
+  short_kept x z before after beside (read.Record place) h = h
+  short_kept x z before after beside (read.Slot n i) h = absurd h
+  short_kept x z before after beside (read.Twice place) h = absurd h
+  short_kept x z before after beside (read.Unindexed place) h = absurd h
+  short_kept x z before after beside read.NoMemory h = absurd h
+  short_kept x z before after beside read.Output h = absurd h
 
   fault_kept : (f : Fault) → DifferenceFails w s t old now new now_new start mid f → DifferenceFails w s t old now new now_new start end f
-  fault_kept (Old f) h = short_kept s old now f h
-  fault_kept (New f) h = short_kept t new now_new f h
+  fault_kept (Old f) h = short_kept s t old now now_new f h
+  fault_kept (New f) h = short_kept t s new now_new now f h
   fault_kept Output h = tt
   fault_kept NoMemory h = tt
   fault_kept (Text n f) h = absurd h

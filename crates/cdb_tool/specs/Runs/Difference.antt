@@ -17,6 +17,7 @@ use Rattle.cdb_form.specs.declared.change.ChangeKind.TheVariants as kind
 use Rattle.cdb_read.specs.Difference.{changed_keys, difference, puts_of, values_eq}
 use Rattle.cdb_read.specs.InOrder.{FindsInOrder}
 use Rattle.cdb_read.specs.Lookup.{bytes_of, lookup_of}
+use Rattle.cdb_read.specs.Values.{values_of}
 use Rattle.cdb_read.specs.declared.fault.ReadFault.{ReadFault}
 use Rattle.cdb_read.specs.declared.fault.ReadFault.TheVariants as read
 use Rattle.cdb_read.specs.declared.span.Span.{Span}
@@ -46,13 +47,26 @@ abbrev pub changes_at : ChangeKind → ℕ → (b key : List ℕ) → List Chang
 changes_at kind.Put w b key = map (λ value. Putting (record_of key value)) (values_at w b key)
 changes_at kind.Remove w b key = Removing key ∷ []
 
--- a file has a damage, which its walk meets or a look-up
-abbrev pub HasDamage : ℕ → List ℕ → Damage → Type 0
-HasDamage w b damage = ((walk_of w b).damage ≡ Some damage)
-    ⊎ ((key : List ℕ) × ((lookup_of w b key).damage ≡ Some damage))
+-- some record has a key
+abbrev pub HasKey : List ℕ → List KeyValue → Type 0
+HasKey key rs = (values_of key rs ≡ []) → ⊥
 
-abbrev pub InEach : {S : Type 0} → ℕ → Ghosts S → S → Damage → Type 0
-InEach w s store damage = (b : List ℕ) → s.image store b → HasDamage w b damage
+-- a file beside another has a damage, which its walk meets or its look-up of the key of a record of
+-- either file
+abbrev pub HasDamage : ℕ → (b c : List ℕ) → Damage → Type 0
+HasDamage w b c damage = ((walk_of w b).damage ≡ Some damage)
+    ⊎ ((key : List ℕ) × (HasKey key (walk_of w b).records ⊎ HasKey key (walk_of w c).records)
+    × ((lookup_of w b key).damage ≡ Some damage))
+
+-- in each image of both
+abbrev pub InBoth : {S T : Type 0} → Ghosts S → Ghosts T → S → T
+    → ((b c : List ℕ) → Type 0) → Type 0
+InBoth s t old new P = (b c : List ℕ) → s.image old b → t.image new c → P b c
+
+-- the first of two files has a damage
+abbrev pub IsDamaged : {S T : Type 0} → ℕ → Ghosts S → Ghosts T → S → T → Damage → Type 0
+IsDamaged w s t store beside damage =
+    InBoth s t store beside (λ b c. HasDamage w b c damage)
 
 -- ---- one pass over a file, beside another
 
@@ -88,20 +102,45 @@ pub record WritesPassPrefix (w : ℕ) (kind : ChangeKind) (b c : List ℕ)
   pub are : FindsInOrder w b → FindsInOrder w c
       → AppendsPrefix start end (changes_text (pass_of kind w b c))
 
--- why a file is not read any more, or the writer not written to
-abbrev pub ReadingStops : {S : Type 0} → ℕ → Ghosts S → (old new : S) → ReadFault → Type 0
-ReadingStops w s old new read.Device = s.failures old < s.failures new
-ReadingStops w s old new (read.Table n) = InEach w s new (damage.Table n)
-ReadingStops w s old new (read.Record place) = InEach w s new (damage.Record place)
-ReadingStops w s old new read.NoMemory = ⊤
-ReadingStops w s old new read.Output = ⊤
-ReadingStops w s old new fault = ⊥
+-- why a file is not read any more, or the writer not written to: the store failed, or it has a
+-- damage of some kind
+abbrev pub ReadingStops : {S : Type 0} → Ghosts S → (old new : S) → (Damage → Type 0) → ReadFault
+    → Type 0
+ReadingStops s old new P read.Device = s.failures old < s.failures new
+ReadingStops s old new P (read.Table n) = P (damage.Table n)
+ReadingStops s old new P (read.Record place) = P (damage.Record place)
+ReadingStops s old new P read.NoMemory = ⊤
+ReadingStops s old new P read.Output = ⊤
+ReadingStops s old new P fault = ⊥
 
 -- which of the two it is
+abbrev pub StopsBy : {S T : Type 0} → Ghosts S → Ghosts T → (own own_now : S) → (other other_now : T)
+    → (mine theirs : Damage → Type 0) → Stop → Type 0
+StopsBy s t own own_now other other_now mine theirs (Own fault) =
+    ReadingStops s own own_now mine fault
+StopsBy s t own own_now other other_now mine theirs (Other fault) =
+    ReadingStops t other other_now theirs fault
+
+-- a pass stopped
 abbrev pub Stops : {S T : Type 0} → ℕ → Ghosts S → Ghosts T → (own own_now : S)
     → (other other_now : T) → Stop → Type 0
-Stops w s t own own_now other other_now (Own fault) = ReadingStops w s own own_now fault
-Stops w s t own own_now other other_now (Other fault) = ReadingStops w t other other_now fault
+Stops w s t own own_now other other_now =
+    StopsBy s t own own_now other other_now (IsDamaged w s t own_now other_now)
+    (IsDamaged w t s other_now own_now)
+
+-- the look-up of a key has a damage in a store
+abbrev pub LookHas : {S : Type 0} → ℕ → Ghosts S → S → (key : List ℕ) → Damage → Type 0
+LookHas w s store key damage = (b : List ℕ) → s.image store b
+    → (lookup_of w b key).damage ≡ Some damage
+
+-- or that of a key at a place in the first of two files
+abbrev pub OwnLookHas : {S : Type 0} → ℕ → Ghosts S → S → Span → Damage → Type 0
+OwnLookHas w s store key damage = (b : List ℕ) → s.image store b
+    → (lookup_of w b (bytes_of b key)).damage ≡ Some damage
+
+abbrev pub OtherLookHas : {S T : Type 0} → ℕ → Ghosts S → Ghosts T → S → T → Span → Damage → Type 0
+OtherLookHas w s t own other key damage =
+    InBoth s t own other (λ b c. (lookup_of w c (bytes_of b key)).damage ≡ Some damage)
 
 -- ---- the run
 
@@ -133,28 +172,24 @@ pub record IsShort {S : Type 0} (w : ℕ) (s : Ghosts S) (old new : S)
   pub kept : Keeps start end
 
 -- why one of the two was not read
-abbrev pub NotRead : {S : Type 0} → ℕ → Ghosts S → (old new : S) → (start end : Option (List ℕ))
-    → ReadFault → Type 0
-NotRead w s old new start end read.Short = IsShort w s old new start end
-NotRead w s old new start end read.Device = s.failures old < s.failures new
-NotRead w s old new start end (read.Table n) = InEach w s new (damage.Table n)
-NotRead w s old new start end (read.Record place) = InEach w s new (damage.Record place)
-NotRead w s old new start end fault = ⊥
+abbrev pub NotRead : {S T : Type 0} → ℕ → Ghosts S → Ghosts T → (old new : S) → (beside : T)
+    → (start end : Option (List ℕ)) → ReadFault → Type 0
+NotRead w s t old new beside start end read.Short = IsShort w s old new start end
+NotRead w s t old new beside start end read.Device = s.failures old < s.failures new
+NotRead w s t old new beside start end (read.Table n) = IsDamaged w s t new beside (damage.Table n)
+NotRead w s t old new beside start end (read.Record place) =
+    IsDamaged w s t new beside (damage.Record place)
+NotRead w s t old new beside start end fault = ⊥
 
 abbrev pub DifferenceFails : {S T : Type 0} → ℕ → Ghosts S → Ghosts T → (old old_now : S)
     → (new new_now : T) → (start end : Option (List ℕ)) → Fault → Type 0
 DifferenceFails w s t old old_now new new_now start end (Old fault) =
-    NotRead w s old old_now start end fault
+    NotRead w s t old old_now new_now start end fault
 DifferenceFails w s t old old_now new new_now start end (New fault) =
-    NotRead w t new new_now start end fault
+    NotRead w t s new new_now old_now start end fault
 DifferenceFails w s t old old_now new new_now start end Output = ⊤
 DifferenceFails w s t old old_now new new_now start end NoMemory = ⊤
 DifferenceFails w s t old old_now new new_now start end fault = ⊥
-
--- in each image of both
-abbrev pub InBoth : {S T : Type 0} → Ghosts S → Ghosts T → S → T
-    → ((b c : List ℕ) → Type 0) → Type 0
-InBoth s t old new P = (b c : List ℕ) → s.image old b → t.image new c → P b c
 
 -- what the run leaves
 pub record TellsDifference {S T : Type 0} (w : ℕ) (s : Ghosts S) (t : Ghosts T) (old old_now : S)

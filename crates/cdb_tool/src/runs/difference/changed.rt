@@ -5,7 +5,7 @@ ghost use Rattle.cdb_store.specs.Reads.{OnlyReads};
 ghost use Rattle.cdb_read.specs.Difference.{values_eq};
 ghost use Rattle.cdb_read.specs.Lookup.{bytes_of};
 ghost use Rattle.cdb_read.specs.Views.Finder.{left_in, GivesNone, GivesSpan};
-ghost use Rattle.cdb_tool.specs.Runs.Difference.{is_first_changed, Stops};
+ghost use Rattle.cdb_tool.specs.Runs.Difference.{is_first_changed, LookHas, StopsBy};
 ghost use Rattle.cdb_tool.specs.Views.Comparing.{BytesStop, OtherStops, ValuesStop};
 
 use crate::runs::difference::same::is_same;
@@ -145,8 +145,9 @@ pub(super) fn is_first_changed<L: Width, S: Store, T: Store>(
     ensures other_reads { OnlyReads T.Store other.old.store other.new.store }
     ensures changed { (b c : List ℕ) → S.image own.new.store b → T.image other.new.store c
         → IfOk result (λ changed. changed ≡ is_first_changed L.WORD b c key.now place) }
-    ensures fails { IfErr result (Stops L.WORD S.Store T.Store own.old.store own.new.store
-        other.old.store other.new.store) }
+    ensures fails { IfErr result (StopsBy S.Store T.Store own.old.store own.new.store
+        other.old.store other.new.store (LookHas L.WORD S.Store own.new.store key.now)
+        (LookHas L.WORD T.Store other.new.store key.now)) }
 {
     let mut finder = own.find(key);
     let Some(first) = finder.next()? else {

@@ -6,7 +6,7 @@ ghost use Rattle.cdb_form.specs.Views.KnownBytes.{Writes};
 ghost use Rattle.cdb_store.specs.Reads.{OnlyReads};
 ghost use Rattle.cdb_read.specs.Lookup.{bytes_of};
 ghost use Rattle.cdb_read.specs.Views.Reads.{CopyingFails};
-ghost use Rattle.cdb_tool.specs.Runs.Difference.{changes_at, changes_text, ReadingStops};
+ghost use Rattle.cdb_tool.specs.Runs.Difference.{changes_at, changes_text, LookHas, ReadingStops};
 ghost use Rattle.cdb_form.specs.declared.change.ChangeKind.TheVariants.{Put};
 
 use cdb_form::{ChangeKind, OutFault, Width, write_pieces, write_removal, write_whole};
@@ -64,7 +64,8 @@ fn write_puts<L: Width, S: Store, W: Write>(
         → Writes result (W.contents w.old) (W.contents w.new)
         (changes_text (changes_at Put L.WORD b key.now)) }
     ensures fails { IfErr result
-        (ReadingStops L.WORD S.Store reader.old.store reader.new.store) }
+        (ReadingStops S.Store reader.old.store reader.new.store
+        (LookHas L.WORD S.Store reader.new.store key.now)) }
 {
     let mut finder = reader.find(key);
     while let Some(value) = finder.next()? {
@@ -86,7 +87,8 @@ pub(super) fn write_changes<L: Width, S: Store, W: Write>(
         → Writes result (W.contents w.old) (W.contents w.new)
         (changes_text (changes_at kind L.WORD b key.now)) }
     ensures fails { IfErr result
-        (ReadingStops L.WORD S.Store reader.old.store reader.new.store) }
+        (ReadingStops S.Store reader.old.store reader.new.store
+        (LookHas L.WORD S.Store reader.new.store key.now)) }
 {
     match kind {
         ChangeKind::Put => write_puts(reader, key, w),

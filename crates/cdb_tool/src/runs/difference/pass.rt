@@ -3,8 +3,8 @@ ghost use Rattle.std.specs.Prelude.{◌≡◌, ◌+◌, ◌<◌, ◌≤◌, ◌&
 ghost use Rattle.cdb_form.specs.Format.Walk.{walk_of};
 ghost use Rattle.cdb_store.specs.Reads.{OnlyReads};
 ghost use Rattle.cdb_read.specs.Lookup.{bytes_of};
-ghost use Rattle.cdb_tool.specs.Runs.Difference.{InBoth, Stops, WritesPass, WritesPassPrefix};
-ghost use Rattle.cdb_tool.specs.Runs.Difference.{is_first_changed};
+ghost use Rattle.cdb_tool.specs.Runs.Difference.{InBoth, OtherLookHas, OwnLookHas, Stops, StopsBy};
+ghost use Rattle.cdb_tool.specs.Runs.Difference.{is_first_changed, WritesPass, WritesPassPrefix};
 ghost use Rattle.cdb_tool.specs.Views.InStep.{AgreeUnmarked};
 ghost use Rattle.cdb_tool.specs.Views.Marks.{is_marked};
 
@@ -43,8 +43,9 @@ fn is_change<L: Width, S: Store, T: Store>(
     ensures change { (b c : List ℕ) → S.image own.new.store b → T.image other.new.store c
         → IfOk result (λ change. change ≡ (is_marked marks.now.words.items (bytes_of b pair.key)
         && is_first_changed L.WORD b c (bytes_of b pair.key) pair.value.place)) }
-    ensures fails { IfErr result (Stops L.WORD S.Store T.Store own.old.store own.new.store
-        other.old.store other.new.store) }
+    ensures fails { IfErr result (StopsBy S.Store T.Store own.old.store own.new.store
+        other.old.store other.new.store (OwnLookHas L.WORD S.Store own.new.store pair.key)
+        (OtherLookHas L.WORD S.Store T.Store own.new.store other.new.store pair.key)) }
 {
     let hash = own.hash(pair.key)?;
     if !marks.has(hash) {
