@@ -178,11 +178,12 @@ impl<S: Store, L: Width> Batch<S, L> {
     {
         let marked = self.gone.len() as u64;
         if marked <= taken {
-            self.pace.begin(hash, self.maker.end);
+            self.pace.begin(self.maker.end);
             return false;
         }
+        let entries = self.maker.lists.of_hash(hash).ring_len(hash) as u64;
         self.pace
-            .is_due(hash, marked, self.maker.count, self.maker.end)
+            .is_due(entries, marked, self.maker.count, self.maker.end)
     }
 
     /// Whether some record has a key that is not marked.

@@ -122,6 +122,11 @@ impl<L: Width> EntryList<L> {
         self.index.next_place(&self.hashes, hash, from)
     }
 
+    /// How many entries a look for a hash may come to.
+    pub(crate) fn ring_len(&self, hash: u32) -> usize {
+        self.index.ring_len(&self.hashes, hash)
+    }
+
     /// An entry, as a slot of its table holds it.
     pub(crate) fn entry(&self, n: usize) -> Slot
         requires { n < length (list_entries self.now) }

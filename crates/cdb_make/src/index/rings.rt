@@ -103,6 +103,20 @@ impl Index {
         rest + first_of_hash(&hashes[rest..], hash)
     }
 
+    /// How many entries are in the ring of a hash, which is what a look for it may come to.
+    pub(crate) fn ring_len(&self, hashes: &[u32], hash: u32) -> usize
+        requires { AreLinked self.now.ends.items self.now.next.items hashes.now }
+        ensures { result ≤ length self.now.next.items }
+    {
+        let mut len = 0;
+        let mut at = self.start(hashes, hash, 0);
+        while at < self.next.len() {
+            len += 1;
+            at = self.after(at);
+        }
+        len
+    }
+
     /// So many entries it can have before it takes memory.
     pub(crate) fn room(&self) -> usize
         ensures { result ≡ index_room self.now }
