@@ -1,9 +1,10 @@
 -- Images with some bytes written over each of them.
-use Rattle.std.proofs.Common.{◌≡◌, ℕ, ◌+◌, ◌≤◌, List, [], ◌++◌, length, take, max, inl, inr, refl, sym, ap, subst, ◌∙◌, arith}
+use Rattle.std.proofs.Common.{◌≡◌, ℕ, ◌+◌, ◌≤◌, List, [], ◌++◌, length, take, max, inl, inr, refl, sym, ap, subst, ◌∙◌, arith, append_assoc, length-append}
+use Rattle.std.proofs.lemmas.List.{length-take-le, take-take, take_at}
 use Rattle.cdb_store.specs.Images.{overwrite, part, Over, AreApart, SameImages, AfterRead, AfterWrite, AreSized}
-use Rattle.cdb_store.specs.Lengths.{over_size}
+use Rattle.cdb_store.specs.Lengths.{over_size, over_taken}
 use Rattle.cdb_store.proofs.Parts.{take-overwrite, drop-overwrite, part_from_take, overwrite-overwrite, overwrite_nothing, part_inside}
-use Rattle.cdb_store.proofs.Moves.{same_sym, same_trans}
+use Rattle.cdb_store.proofs.Moves.{same_refl, same_sym, same_trans, write_between}
 
 pub over_nothing : (pos : ℕ) (i : List ℕ → Type 0) → SameImages (Over pos [] i) i
 over_nothing pos i = record {
@@ -49,6 +50,35 @@ over_more {pos = pos} {next = next} buffer bytes {i = i} e inside sized =
       none_lost = λ z is. (is.0, is.1, ap (λ v. overwrite v next bytes) is.2 ∙ joined is.0 is.1);
     }
 
+taken_more : (len held : ℕ) (items bytes rest more : List ℕ) → held ≤ length items → held + length bytes ≤ len
+    → take (held + length bytes) (take len ((take held items ++ (bytes ++ rest)) ++ more)) ≡ take held items ++ bytes
+taken_more len held items bytes rest more fits inside =
+    let n : ℕ = held + length bytes in
+    let front : List ℕ = take held items in
+    let l : length (front ++ bytes) ≡ n = length-append front bytes ∙ ap (λ k. k + length bytes) (length-take-le held items fits) in
+    take-take n len ((front ++ (bytes ++ rest)) ++ more) inside
+    ∙ ap (λ v. take n (v ++ more)) (sym (append_assoc front bytes rest))
+    ∙ ap (take n) (append_assoc (front ++ bytes) rest more)
+    ∙ take_at (front ++ bytes) (rest ++ more) n l
+
+-- bytes that are put behind those that a buffer holds, in a buffer of so many bytes
+pub over_put : (len : ℕ) (rest more : List ℕ) {pos next size held n : ℕ} {items now piece bytes : List ℕ} {h i : List ℕ → Type 0} → SameImages h (Over pos (take held items) i) → now ≡ items → piece ≡ bytes
+    → n ≡ length bytes → held ≤ length items → held + n ≤ len → next ≡ pos + held → pos ≤ size → AreSized size i
+    → AfterWrite next bytes h (Over pos (take (held + n) (take len ((take held now ++ (piece ++ rest)) ++ more))) i)
+over_put len rest more {pos = pos} {next = next} {held = held} {n = n} {items = items} {now = now} {piece = piece} {bytes = bytes} {h = h} {i = i} begun same put count fits room here inside sized =
+    let joined : take (held + n) (take len ((take held now ++ (piece ++ rest)) ++ more)) ≡ take held items ++ bytes =
+    ap (λ (v : List ℕ). take (held + n) (take len ((take held v ++ (piece ++ rest)) ++ more))) same
+    ∙ ap (λ (v : List ℕ). take (held + n) (take len ((take held items ++ (v ++ rest)) ++ more))) put
+    ∙ ap (λ (k : ℕ). take (held + k) (take len ((take held items ++ (bytes ++ rest)) ++ more))) count
+    ∙ taken_more len held items bytes rest more fits (omega arith) in
+    let l : length (take held items) ≡ held = length-take-le held items fits in
+    let after = Over pos (take held items ++ bytes) i in
+    subst (λ (v : List ℕ). AfterWrite next bytes h (Over pos v i)) (sym joined) (write_between begun (over_more (take held items) bytes (omega arith) inside sized) (same_refl after))
+
+-- what is equal to a buffer and its store has the same images
+pub over_alike : {S : Type 0} (image : S → List ℕ → Type 0) {pos next : ℕ} {xs ys : List ℕ} {a b : S} → next ≡ pos → ys ≡ xs → b ≡ a → SameImages (Over pos xs (image a)) (Over next ys (image b))
+over_alike image {pos = pos} {xs = xs} {a = a} here same is = rw here (rw same (rw is (same_refl (Over pos xs (image a)))))
+
 pub over_emptied : (pos : ℕ) (bytes : List ℕ) (i : List ℕ → Type 0) → bytes ≡ [] → SameImages (Over pos bytes i) i
 over_emptied pos bytes i e = rw e (over_nothing pos i)
 
@@ -57,6 +87,9 @@ over_placed pos next bytes i e = same_trans (over_emptied pos bytes i e) (same_s
 
 pub sized_over : {n : ℕ} (pos : ℕ) (bytes : List ℕ) {i : List ℕ → Type 0} → pos ≤ n → AreSized n i → AreSized (max n (pos + length bytes)) (Over pos bytes i)
 sized_over {n = n} pos bytes {i = i} inside sized = record { each = over_size pos bytes n i sized.each inside }
+
+pub sized_taken : {n : ℕ} (pos k : ℕ) (bytes : List ℕ) {i : List ℕ → Type 0} → pos ≤ n → k ≤ length bytes → AreSized n i → AreSized (max n (pos + k)) (Over pos (take k bytes) i)
+sized_taken {n = n} pos k bytes {i = i} inside fits sized = record { each = over_taken pos k bytes n i sized.each inside fits }
 
 -- what is read from the bytes written over each image
 pub over_inside : (pos d : ℕ) (buffer : List ℕ) {next size : ℕ} {bytes : List ℕ} {i : List ℕ → Type 0} → next ≡ pos + d → d + length bytes ≤ length buffer → pos ≤ size → AreSized size i

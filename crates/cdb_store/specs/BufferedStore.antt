@@ -1,5 +1,5 @@
 -- What a clause reads of a buffered store.
-use Rattle.std.specs.Prelude.{ℕ, ◌+◌, max, List, length}
+use Rattle.std.specs.Prelude.{ℕ, ◌+◌, max, List, take}
 use Rattle.cdb_store.specs.declared.store.Store.{Ghosts}
 use Rattle.cdb_store.specs.declared.buffered.BufferedStore.{BufferedStore}
 use Rattle.cdb_store.specs.Images.{Over}
@@ -17,15 +17,19 @@ start_of f = f.pos
 
 -- how many bytes it has collected
 abbrev pub held_of : {S : Type 0} {inner : Ghosts S} → BufferedStore S inner → ℕ
-held_of f = length f.buffer.items
+held_of f = f.held
+
+-- what it has collected
+abbrev pub bytes_of : {S : Type 0} {inner : Ghosts S} → BufferedStore S inner → List ℕ
+bytes_of f = take f.held f.buffer.items
 
 -- its length
 abbrev pub size_of : {S : Type 0} {inner : Ghosts S} → BufferedStore S inner → ℕ
 size_of {inner = inner} f = max (inner.size f.inner) (f.pos + held_of f)
 
--- its images: those of the inner store, with the buffer over them
+-- its images: those of the inner store, with what is collected over them
 abbrev pub images_of : {S : Type 0} {inner : Ghosts S} → BufferedStore S inner → List ℕ → Type 0
-images_of {inner = inner} f = Over f.pos f.buffer.items (inner.image f.inner)
+images_of {inner = inner} f = Over f.pos (bytes_of f) (inner.image f.inner)
 
 -- how many bytes were written to it
 abbrev pub written_of : {S : Type 0} {inner : Ghosts S} → BufferedStore S inner → ℕ

@@ -28,6 +28,13 @@ over_size pos bytes n images sized inside b is =
     ap length is.2 ∙ length-overwrite pos is.0 bytes (omega arith)
     ∙ ap (λ k. max k (pos + length bytes)) l
 
+pub over_taken : (pos k : ℕ) (bytes : List ℕ) (n : ℕ) (images : List ℕ → Type 0)
+    → ((b : List ℕ) → images b → length b ≡ n) → pos ≤ n → k ≤ length bytes
+    → (b : List ℕ) → Over pos (take k bytes) images b → length b ≡ max n (pos + k)
+over_taken pos k bytes n images sized inside fits b is =
+    over_size pos (take k bytes) n images sized inside b is
+    ∙ ap (λ m. max n (pos + m)) (length-take-le k bytes fits)
+
 pub file_size : (len : ℕ) (calls : Calls) (b : List ℕ) → FileImage len calls b
     → length b ≡ len
 file_size len calls b is = ap length is.3 ∙ length-take-le len is.0 is.2

@@ -1,15 +1,16 @@
 // A store that collects writes which continue one another.
-ghost use Rattle.std.specs.Prelude.{◌≡◌, ◌+◌, ◌<◌, ◌≤◌, ◌^◌, ◌↔◌, max, [], length, vec_capacity};
-ghost use Rattle.std.specs.Prelude.{IsTrue, OnOk, OnErr, IfOk, IfErr, IsErrOf};
+ghost use Rattle.std.specs.Prelude.{◌≡◌, ℕ, ◌+◌, ◌<◌, ◌≤◌, ◌^◌, ◌↔◌, ◌++◌, max, [], List, length};
+ghost use Rattle.std.specs.Prelude.{IsTrue, IsOk, OnOk, OnErr, IfOk, IfErr, IsErrOf, vec_capacity};
 ghost use Rattle.std.proofs.Common.{arith};
 ghost use Rattle.cdb_store.specs.declared.store.StoreFault.TheVariants.{NoMemory};
 ghost use Rattle.cdb_store.specs.Images.{AreApart, SameImages, AfterRead, AfterTornWrite, HasCause};
-ghost use Rattle.cdb_store.specs.Lengths.{over_size};
+ghost use Rattle.cdb_store.specs.Lengths.{over_taken};
+ghost use Rattle.cdb_store.specs.Calls.{written_count};
 
-use crate::bytes::read_from;
+use crate::bytes::{join, read_from};
 use crate::trace::{Call, Trace};
 use crate::{Store, StoreFault};
-use std::alloc::{AllocFailed, Global};
+use std::alloc::{AllocError, AllocFailed, Global};
 
 /// A store over another that collects writes which continue one another in one buffer.
 ///
@@ -22,21 +23,25 @@ use std::alloc::{AllocFailed, Global};
 #[derive(Drop)]
 pub struct BufferedStore<S: Store> {
     inner: S,
+    /// Bytes of which the first ones are held. It grows as they come, up to its capacity.
     buffer: Vec<u8>,
-    /// The position of the buffer's bytes.
+    /// How many bytes it holds.
+    held: usize,
+    /// The position of the bytes that it holds.
     pos: u64,
     /// How many bytes it holds at most.
     capacity: usize,
     trace: Trace,
     ghost placed: { pos ≤ S.size inner },
-    ghost backed: { pos + length buffer.items ≤ S.room inner },
-    ghost bounded: { pos + length buffer.items < 2 ^ 63 },
-    ghost kept: { length buffer.items ≤ capacity },
+    ghost backed: { pos + held ≤ S.room inner },
+    ghost bounded: { pos + held < 2 ^ 63 },
+    ghost kept: { held ≤ length buffer.items },
+    ghost limited: { length buffer.items ≤ capacity },
     ghost allocated: { capacity ≤ vec_capacity buffer },
 }
 
 impl<S: Store> BufferedStore<S> {
-    ghost use Rattle.cdb_store.specs.BufferedStore.{held_of, size_of, images_of};
+    ghost use Rattle.cdb_store.specs.BufferedStore.{held_of, bytes_of, size_of, images_of};
     ghost use Rattle.cdb_store.specs.BufferedStore.{inner_of, capacity_of, start_of};
 
     /// A store over `inner` with a buffer of `capacity` bytes.
@@ -56,6 +61,7 @@ impl<S: Store> BufferedStore<S> {
             Ok(buffer) => Ok(BufferedStore {
                 inner,
                 buffer,
+                held: 0,
                 pos: 0,
                 capacity,
                 trace: Trace::new(),
@@ -85,6 +91,7 @@ impl<S: Store> BufferedStore<S> {
         let BufferedStore {
             inner,
             buffer,
+            held: _,
             pos: _,
             capacity: _,
             trace,
@@ -101,6 +108,7 @@ impl<S: Store> BufferedStore<S> {
         let BufferedStore {
             inner,
             buffer,
+            held: _,
             pos: _,
             capacity: _,
             trace,
@@ -116,7 +124,8 @@ impl<S: Store> BufferedStore<S> {
         ensures size { size_of self.new ≡ size_of self.old }
         ensures torn { AfterTornWrite self.old.pos (held_of self.old) (S.image self.old.inner)
             (S.image self.new.inner) }
-        ensures empty { OnOk result (self.new.buffer.items ≡ []) }
+        ensures empty { OnOk result (bytes_of self.new ≡ []) }
+        ensures none_held { OnOk result (held_of self.new ≡ 0) }
         ensures handed { OnOk result
             (S.written self.new.inner ≡ S.written self.old.inner + held_of self.old) }
         ensures at_most_handed { S.written self.new.inner
@@ -124,7 +133,8 @@ impl<S: Store> BufferedStore<S> {
         ensures longer { S.size self.old.inner ≤ S.size self.new.inner }
         ensures not_past { S.size self.new.inner ≤ size_of self.old }
         ensures kept { OnErr result
-            ((self.new.pos ≡ self.old.pos) × (self.new.buffer ≡ self.old.buffer)) }
+            ((self.new.pos ≡ self.old.pos) × (held_of self.new ≡ held_of self.old)) }
+        ensures buffer { self.new.buffer ≡ self.old.buffer }
         ensures trace { self.new.trace ≡ self.old.trace }
         ensures capacity { self.new.capacity ≡ self.old.capacity }
         ensures room { S.room self.old.inner ≤ S.room self.new.inner }
@@ -134,9 +144,9 @@ impl<S: Store> BufferedStore<S> {
         ensures cause { HasCause (S.failures self.old.inner) (S.failures self.new.inner) result }
         ensures ok_failures { OnOk result (S.failures self.new.inner ≡ S.failures self.old.inner) }
     {
-        if !self.buffer.is_empty() {
-            self.inner.write_at(self.pos, &self.buffer)?;
-            self.buffer.truncate(0);
+        if self.held > 0 {
+            self.inner.write_at(self.pos, &self.buffer[..self.held])?;
+            self.held = 0;
         }
         Ok(())
     }
@@ -160,14 +170,62 @@ impl<S: Store> BufferedStore<S> {
         ensures cause { HasCause (S.failures self.old.inner) (S.failures self.new.inner) result }
         ensures ok_failures { OnOk result (S.failures self.new.inner ≡ S.failures self.old.inner) }
     {
-        let held = self.buffer.len();
-        if pos == self.pos + held as u64 && n <= self.capacity - held {
+        if pos == self.pos + self.held as u64 && n <= self.capacity - self.held {
             return Ok(());
         }
         self.settle()?;
         self.pos = pos;
         Ok(())
     }
+
+    /// Sees to it that `n` bytes follow those held, which takes no memory.
+    #[inline(always)]
+    fn widen(&mut self, n: usize) -> Result<(), AllocError>
+        requires { held_of self.old + n ≤ self.old.capacity }
+        ensures ok { IsOk result }
+        ensures wide { held_of self.new + n ≤ length self.new.buffer.items }
+        ensures bytes { bytes_of self.new ≡ bytes_of self.old }
+        ensures held { self.new.held ≡ self.old.held }
+        ensures pos { self.new.pos ≡ self.old.pos }
+        ensures inner { self.new.inner ≡ self.old.inner }
+        ensures capacity { self.new.capacity ≡ self.old.capacity }
+        ensures trace { self.new.trace ≡ self.old.trace }
+    {
+        if n <= self.buffer.len() - self.held {
+            return Ok(());
+        }
+        lengthen(&mut self.buffer, self.held + n, self.capacity)
+    }
+}
+
+/// Notes that three pieces were written, one after another.
+fn note_parts(trace: &mut Trace, pos: u64, first: &[u8], second: &[u8], third: &[u8])
+    requires { pos + length (first.now ++ (second.now ++ third.now)) < 2 ^ 63 }
+    ensures { written_count trace.new.events
+        ≡ written_count trace.old.events + length (first.now ++ (second.now ++ third.now)) }
+{
+    let second_pos = pos + first.len() as u64;
+    let third_pos = second_pos + second.len() as u64;
+    trace.note(&Call::Wrote(pos), first);
+    trace.note(&Call::Wrote(second_pos), second);
+    trace.note(&Call::Wrote(third_pos), third);
+}
+
+/// Makes a buffer `end` bytes long, or twice as long if that is no more than `most`, for which it has
+/// the capacity: so for a few bytes only a few are cleared.
+#[cold]
+#[inline(never)]
+fn lengthen(buffer: &mut Vec<u8>, end: usize, most: usize) -> Result<(), AllocError>
+    requires end { end ≤ most }
+    requires length { length buffer.old.items < end }
+    requires capacity { most ≤ vec_capacity buffer.old }
+    ensures ok { IsOk result }
+    ensures items { (rest : List ℕ) × (buffer.new.items ≡ buffer.old.items ++ rest) }
+    ensures wide { end ≤ length buffer.new.items }
+    ensures within { length buffer.new.items ≤ most }
+    ensures capacity { most ≤ vec_capacity buffer.new }
+{
+    buffer.resize(end.saturating_mul(2).min(most), 0)
 }
 
 /// Whether these `n` bytes from `pos` on all lie among the `held` bytes from `start` on.
@@ -201,14 +259,14 @@ impl<S: Store> Store for BufferedStore<S> {
 
     ghost room = { λ f. S.room f.inner };
 
-    ghost settled = { λ f. (f.buffer.items ≡ []) × S.settled f.inner };
+    ghost settled = { λ f. (f.held ≡ 0) × S.settled f.inner };
 
     ghost in_room = { λ f. Prim.omega (arith, f.backed, S.in_room f.inner) };
 
-    ghost image_size = { λ f b is. over_size f.pos f.buffer.items (S.size f.inner) (S.image f.inner) (S.image_size f.inner) f.placed b is };
+    ghost image_size = { λ f b is. over_taken f.pos f.held f.buffer.items (S.size f.inner) (S.image f.inner) (S.image_size f.inner) f.placed f.kept b is };
 
     fn len(&self) -> u64 {
-        self.inner.len().max(self.pos + self.buffer.len() as u64)
+        self.inner.len().max(self.pos + self.held as u64)
     }
 
     fn read_at(&mut self, pos: u64, into: &mut [u8]) -> Result<(), StoreFault>
@@ -225,12 +283,12 @@ impl<S: Store> Store for BufferedStore<S> {
         ensures memory { IsErrOf result NoMemory → ⊥ }
         ensures passed { AreApart pos (length into.old) self.old.pos (held_of self.old)
             → pos + length into.old ≤ S.size self.old.inner
-            → (self.new.buffer ≡ self.old.buffer)
+            → (self.new.buffer ≡ self.old.buffer) × (held_of self.new ≡ held_of self.old)
             × (S.written self.new.inner ≡ S.written self.old.inner) }
     {
-        let (n, held) = (into.len(), self.buffer.len());
+        let (n, held) = (into.len(), self.held);
         if lies_within(pos, n, self.pos, held) {
-            read_from(&self.buffer, (pos - self.pos) as usize, into);
+            read_from(&self.buffer[..held], (pos - self.pos) as usize, into);
             return Ok(());
         }
         let below = self.inner.len();
@@ -251,8 +309,35 @@ impl<S: Store> Store for BufferedStore<S> {
             return Ok(());
         }
         self.make_room(pos, bytes.len())?;
-        self.buffer.extend_from_slice(bytes)?;
+        self.widen(bytes.len())?;
+        self.buffer[self.held..self.held + bytes.len()].copy_from_slice(bytes);
+        self.held += bytes.len();
         self.trace.note(&Call::Wrote(pos), bytes);
+        Ok(())
+    }
+
+    #[inline(always)]
+    fn write_parts(
+        &mut self,
+        pos: u64,
+        first: &[u8],
+        second: &[u8],
+        third: &[u8],
+    ) -> Result<(), StoreFault> {
+        let n = first.len() + second.len() + third.len();
+        self.inner.reserve(pos + n as u64)?;
+        if n > self.capacity {
+            self.settle()?;
+            self.inner.write_parts(pos, first, second, third)?;
+            note_parts(&mut self.trace, pos, first, second, third);
+            return Ok(());
+        }
+        self.make_room(pos, n)?;
+        self.widen(n)?;
+        let free = &mut self.buffer[self.held..self.held + n];
+        join(first, second, third, free);
+        self.held += n;
+        note_parts(&mut self.trace, pos, first, second, third);
         Ok(())
     }
 
@@ -276,7 +361,7 @@ impl<S: Store> Store for BufferedStore<S> {
         ensures cause { HasCause (S.failures self.old.inner) (S.failures self.new.inner) result }
         ensures ok_failures { OnOk result (S.failures self.new.inner ≡ S.failures self.old.inner) }
         ensures memory { IsErrOf result NoMemory → ⊥ }
-        ensures ok { OnOk result ((self.new.buffer.items ≡ []) × S.settled self.new.inner) }
+        ensures ok { OnOk result ((held_of self.new ≡ 0) × S.settled self.new.inner) }
         ensures handed { OnOk result
             (S.written self.new.inner ≡ S.written self.old.inner + held_of self.old) }
     {

@@ -1,5 +1,5 @@
 // Bytes in memory, read and overwritten at a position.
-ghost use Rattle.std.specs.Prelude.{◌≡◌, ◌+◌, ◌<◌, ◌≤◌, ◌^◌, length, OnOk, OnErr, vec_len};
+ghost use Rattle.std.specs.Prelude.{◌≡◌, ◌+◌, ◌<◌, ◌≤◌, ◌^◌, ◌++◌, length, OnOk, OnErr, vec_len};
 ghost use Rattle.std.specs.Prelude.{vec_capacity};
 ghost use Rattle.cdb_store.specs.Images.{overwrite, part};
 
@@ -22,6 +22,18 @@ pub(crate) fn write_over(bytes: &mut Vec<u8>, pos: usize, new: &[u8]) -> Result<
         bytes[pos..pos + inside].copy_from_slice(&new[..inside]);
     }
     Ok(())
+}
+
+/// Fills `into` with three pieces, one after another.
+pub(crate) fn join(first: &[u8], second: &[u8], third: &[u8], into: &mut [u8])
+    requires { length into.old ≡ length first.now + length second.now + length third.now }
+    ensures { into.new ≡ first.now ++ (second.now ++ third.now) }
+{
+    let (front, rest) = into.split_at_mut(first.len());
+    let (middle, back) = rest.split_at_mut(second.len());
+    front.copy_from_slice(first);
+    middle.copy_from_slice(second);
+    back.copy_from_slice(third);
 }
 
 /// Fills `into` with the bytes from `pos` on.

@@ -1,5 +1,6 @@
 // A store as its users see it: the trait, its facts for proofs, and its faults.
 ghost use Rattle.std.specs.Prelude.{◌≡◌, ℕ, ◌+◌, ◌<◌, ◌≤◌, ◌^◌, max, List, length, OnOk, OnErr};
+ghost use Rattle.std.specs.Prelude.{◌++◌};
 ghost use Rattle.std.specs.Prelude.{IsErrOf};
 ghost use Rattle.cdb_store.specs.declared.store.StoreFault.TheVariants.{Device, NoMemory};
 ghost use Rattle.cdb_store.specs.Images.{
@@ -155,6 +156,52 @@ pub trait Store {
         ensures ok_failures { OnOk result (failures self.new ≡ failures self.old) }
         ensures cause { HasCause (failures self.old) (failures self.new) result }
         ensures unwritten { HasCause (unwritten self.old) (unwritten self.new) result };
+
+    /// Writes three pieces one after another from `pos` on, as `write_at` writes them in one.
+    ///
+    /// Where it has no other way, a store makes room for all three and writes each by itself.
+    fn write_parts(
+        &mut self,
+        pos: u64,
+        first: &[u8],
+        second: &[u8],
+        third: &[u8],
+    ) -> Result<(), StoreFault>
+        requires start { pos ≤ size self.old }
+        requires end { pos + length (first.now ++ (second.now ++ third.now)) < 2 ^ 63 }
+        ensures ok { OnOk result (AfterWrite pos (first.now ++ (second.now ++ third.now))
+            (image self.old) (image self.new)) }
+        ensures ok_size { OnOk result (size self.new
+            ≡ max (size self.old) (pos + length (first.now ++ (second.now ++ third.now)))) }
+        ensures ok_written { OnOk result (written self.new
+            ≡ written self.old + length (first.now ++ (second.now ++ third.now))) }
+        ensures torn { AfterTornWrite pos (length (first.now ++ (second.now ++ third.now)))
+            (image self.old) (image self.new) }
+        ensures longer { size self.old ≤ size self.new }
+        ensures not_past { size self.new
+            ≤ max (size self.old) (pos + length (first.now ++ (second.now ++ third.now))) }
+        ensures more_written { written self.old ≤ written self.new }
+        ensures at_most_written { written self.new
+            ≤ written self.old + length (first.now ++ (second.now ++ third.now)) }
+        ensures memory { IsErrOf result NoMemory → SameImages (image self.old) (image self.new) }
+        ensures memory_size { IsErrOf result NoMemory → size self.new ≡ size self.old }
+        ensures memory_written { IsErrOf result NoMemory → written self.new ≡ written self.old }
+        ensures memory_room { IsErrOf result NoMemory → room self.new ≡ room self.old }
+        ensures memory_failures { IsErrOf result NoMemory → failures self.new ≡ failures self.old }
+        ensures past_room { IsErrOf result NoMemory
+            → room self.old < pos + length (first.now ++ (second.now ++ third.now)) }
+        ensures room { room self.old ≤ room self.new }
+        ensures ok_failures { OnOk result (failures self.new ≡ failures self.old) }
+        ensures cause { HasCause (failures self.old) (failures self.new) result }
+        ensures unwritten { HasCause (unwritten self.old) (unwritten self.new) result }
+    {
+        let second_pos = pos + first.len() as u64;
+        let third_pos = second_pos + second.len() as u64;
+        self.reserve(third_pos + third.len() as u64)?;
+        self.write_at(pos, first)?;
+        self.write_at(second_pos, second)?;
+        self.write_at(third_pos, third)
+    }
 
     /// Makes room, so that no write that ends at or before `len` takes memory.
     ///

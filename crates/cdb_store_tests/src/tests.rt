@@ -4,6 +4,7 @@ mod files;
 mod fuses;
 mod memory;
 mod mixed;
+mod parts;
 mod raw_faults;
 mod support;
 mod uses;

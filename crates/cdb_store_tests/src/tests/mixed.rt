@@ -70,13 +70,31 @@ fn sum_of(bytes: &[u8]) -> u32 {
     )
 }
 
+/// Writes some bytes, or three pieces of them, of which the second is empty if they are few.
+fn write<S: Store>(store: &mut S, pos: u64, bytes: &[u8], in_parts: bool) -> bool {
+    if pos > store.len() || pos > 1 << 32 || bytes.len() > GREATEST_ROW {
+        return false;
+    }
+    if !in_parts {
+        return store.write_at(pos, bytes).is_ok();
+    }
+    let (first, rest) = bytes.split_at(bytes.len() / 3);
+    let (second, third) = rest.split_at(rest.len() / 4);
+    store.write_parts(pos, first, second, third).is_ok()
+}
+
 /// Makes a call, and tells whether it answered Ok, and the sum over the bytes that it read.
-fn make<S: Store>(store: &mut S, step: Step, row: usize, bytes: &mut [u8]) -> (bool, u32) {
+fn make<S: Store>(
+    store: &mut S,
+    step: Step,
+    row: usize,
+    bytes: &mut [u8],
+    in_parts: bool,
+) -> (bool, u32) {
     match step {
-        Step::Write(pos, n)
-            if pos <= store.len() && pos <= 1 << 32 && n <= bytes.len() && n <= GREATEST_ROW => {
+        Step::Write(pos, n) if n <= bytes.len() => {
             fill(row, &mut bytes[..n]);
-            (store.write_at(pos, &bytes[..n]).is_ok(), 0)
+            (write(store, pos, &bytes[..n], in_parts), 0)
         }
         Step::Read(pos, n)
             if pos <= store.len() && n as u64 <= store.len() - pos && n <= bytes.len() => {
@@ -90,10 +108,10 @@ fn make<S: Store>(store: &mut S, step: Step, row: usize, bytes: &mut [u8]) -> (b
 }
 
 /// The first row whose answer, length or bytes are others, or else how many rows there are.
-fn rows_met<S: Store>(store: &mut S) -> usize {
+fn rows_met<S: Store>(store: &mut S, in_parts: bool) -> usize {
     let mut bytes = [0; GREATEST_ROW];
     for (row, (step, len, sum)) in ROWS.iter().enumerate() {
-        let (is_ok, got) = make(store, *step, row, &mut bytes);
+        let (is_ok, got) = make(store, *step, row, &mut bytes, in_parts);
         if !is_ok || store.len() != *len || got != *sum {
             return row;
         }
@@ -101,24 +119,29 @@ fn rows_met<S: Store>(store: &mut S) -> usize {
     ROWS.len()
 }
 
+/// Whether each kind of store meets each row, by itself and below a buffer.
+fn all_meet_rows(rt: &HostRuntime, in_parts: bool) -> Result<bool, Fail> {
+    let in_memory = rows_met(&mut MemStore::new(rt.alloc()), in_parts);
+    let in_file = rows_met(&mut FileStore::create(rt, "rows.store")?, in_parts);
+    let mut is_met = [in_memory, in_file] == [ROWS.len(); 2];
+    for capacity in [0, 1, 7, 4096] {
+        let mut store = buffered(rt.alloc(), MemStore::new(rt.alloc()), capacity)?;
+        let in_memory = rows_met(&mut store, in_parts);
+        let file = FileStore::create(rt, "buffered.store")?;
+        let in_file = rows_met(&mut buffered(rt.alloc(), file, capacity)?, in_parts);
+        is_met = is_met && [in_memory, in_file] == [ROWS.len(); 2];
+    }
+    Ok(is_met)
+}
+
 #[test]
-fn plain_stores_meet_each_row(rt: HostRuntime) -> Result<(), Fail> {
-    let met = [
-        rows_met(&mut MemStore::new(rt.alloc())),
-        rows_met(&mut FileStore::create(&rt, "rows.store")?),
-    ];
-    assert!(rt; met == [ROWS.len(); 2], "{met:?}");
+fn stores_meet_each_row(rt: HostRuntime) -> Result<(), Fail> {
+    assert!(rt; all_meet_rows(&rt, false)?);
     Ok(())
 }
 
 #[test]
-fn buffered_stores_meet_each_row(rt: HostRuntime) -> Result<(), Fail> {
-    for capacity in [0, 1, 7, 4096] {
-        let mut store = buffered(rt.alloc(), MemStore::new(rt.alloc()), capacity)?;
-        let in_memory = rows_met(&mut store);
-        let file = FileStore::create(&rt, "buffered.store")?;
-        let in_file = rows_met(&mut buffered(rt.alloc(), file, capacity)?);
-        assert!(rt; [in_memory, in_file] == [ROWS.len(); 2], "{capacity}");
-    }
+fn stores_meet_each_row_in_parts(rt: HostRuntime) -> Result<(), Fail> {
+    assert!(rt; all_meet_rows(&rt, true)?);
     Ok(())
 }

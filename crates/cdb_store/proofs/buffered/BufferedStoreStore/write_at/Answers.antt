@@ -1,60 +1,62 @@
-use Rattle.std.proofs.Common.{rules, ◌≡◌, ◌++◌, arith}
-use Rattle.cdb_store.specs.Images.{AreSized, AfterWrite, Over}
-use Rattle.cdb_store.proofs.OverLemmas.{over_emptied, over_more, over_same, sized_over}
+use Rattle.std.proofs.Common.{rules, refl, arith, ℕ, ◌+◌, ◌-◌, List, ◌++◌, length, take, drop}
+use borrow.Rule.Slice.PartMut.{post_of}
+use Rattle.cdb_store.specs.BufferedStore.{bytes_of, images_of}
+use Rattle.cdb_store.specs.Images.{AreSized}
+use Rattle.cdb_store.proofs.OverLemmas.{over_alike, over_emptied, over_put, over_same, sized_taken}
 use Rattle.cdb_store.proofs.Moves.{same_trans, same_sym, same_refl, write_between, torn_between, torn_same, torn_from_write}
 use Rattle.std.proofs.lemmas.Grind.{common_steps}
 use Rattle.cdb_store.proofs.buffered.BufferedStoreStore.write_at.Goals as goal
 
 pub returns-in_err-reserve-clause-torn : goal.returns-in_err-reserve-clause-torn
-returns-in_err-reserve-clause-torn g c = torn_same _ _ (over_same c.args.self.now.pos c.args.self.now.buffer.items c.reserve.ensures.images)
+returns-in_err-reserve-clause-torn g c = torn_same _ _ (over_same c.args.self.now.pos (bytes_of c.args.self.now) c.reserve.ensures.images)
 
 pub returns-in_err-reserve-clause-memory : goal.returns-in_err-reserve-clause-memory
-returns-in_err-reserve-clause-memory g c = λ _. over_same c.args.self.now.pos c.args.self.now.buffer.items c.reserve.ensures.images
+returns-in_err-reserve-clause-memory g c = λ _. over_same c.args.self.now.pos (bytes_of c.args.self.now) c.reserve.ensures.images
 
 pub returns-in_err-settle-clause-torn : goal.returns-in_err-settle-clause-torn
-returns-in_err-settle-clause-torn g c = torn_same _ _ (same_trans (over_same c.args.self.now.pos c.args.self.now.buffer.items c.reserve.ensures.images) c.settle.ensures.images)
+returns-in_err-settle-clause-torn g c = torn_same _ _ (same_trans (over_same c.args.self.now.pos (bytes_of c.args.self.now) c.reserve.ensures.images) c.settle.ensures.images)
 
 pub returns-in_err-write_at-clause-torn : goal.returns-in_err-write_at-clause-torn
 returns-in_err-write_at-clause-torn g c =
-    let emptied = same_trans (over_same c.args.self.now.pos c.args.self.now.buffer.items c.reserve.ensures.images)
-    (same_trans c.settle.ensures.images (over_emptied _ _ _ c.in_ok-settle.ensures.empty)) in
-    torn_between emptied c.write_at.ensures.torn (same_sym (over_emptied _ _ _ c.in_ok-settle.ensures.empty))
+    let emptied = same_trans (over_same c.args.self.now.pos (bytes_of c.args.self.now) c.reserve.ensures.images)
+    (same_trans c.settle.ensures.images (over_emptied c.settle.new.self.pos (bytes_of c.settle.new.self) _ c.in_ok-settle.ensures.empty)) in
+    torn_between emptied c.write_at.ensures.torn (same_sym (over_emptied c.settle.new.self.pos (bytes_of c.settle.new.self) _ c.in_ok-settle.ensures.empty))
 
 pub returns-then-bytes-self-clause-ok : goal.returns-then-bytes-self-clause-ok
 returns-then-bytes-self-clause-ok g c =
-    let emptied = same_trans (over_same c.args.self.now.pos c.args.self.now.buffer.items c.reserve.ensures.images)
-    (same_trans c.settle.ensures.images (over_emptied _ _ _ c.in_ok-settle.ensures.empty)) in
-    write_between emptied c.in_ok-write_at.ensures.ok (same_sym (over_emptied _ _ _ c.in_ok-settle.ensures.empty))
+    let emptied = same_trans (over_same c.args.self.now.pos (bytes_of c.args.self.now) c.reserve.ensures.images)
+    (same_trans c.settle.ensures.images (over_emptied c.settle.new.self.pos (bytes_of c.settle.new.self) _ c.in_ok-settle.ensures.empty)) in
+    write_between emptied c.in_ok-write_at.ensures.ok (same_sym (over_emptied c.settle.new.self.pos (bytes_of c.settle.new.self) _ c.in_ok-settle.ensures.empty))
 
 pub returns-then-bytes-self-clause-torn : goal.returns-then-bytes-self-clause-torn
 returns-then-bytes-self-clause-torn g c =
-    let emptied = same_trans (over_same c.args.self.now.pos c.args.self.now.buffer.items c.reserve.ensures.images)
-    (same_trans c.settle.ensures.images (over_emptied _ _ _ c.in_ok-settle.ensures.empty)) in
-    torn_between emptied c.write_at.ensures.torn (same_sym (over_emptied _ _ _ c.in_ok-settle.ensures.empty))
+    let emptied = same_trans (over_same c.args.self.now.pos (bytes_of c.args.self.now) c.reserve.ensures.images)
+    (same_trans c.settle.ensures.images (over_emptied c.settle.new.self.pos (bytes_of c.settle.new.self) _ c.in_ok-settle.ensures.empty)) in
+    torn_between emptied c.write_at.ensures.torn (same_sym (over_emptied c.settle.new.self.pos (bytes_of c.settle.new.self) _ c.in_ok-settle.ensures.empty))
 
 pub returns-in_err-make_room-clause-torn : goal.returns-in_err-make_room-clause-torn
-returns-in_err-make_room-clause-torn g c = torn_same _ _ (same_trans (over_same c.args.self.now.pos c.args.self.now.buffer.items c.reserve.ensures.images) c.make_room.ensures.images)
-
--- the bytes go to the end of the buffer
-done : (g : _) (c : goal.After-self-2-1 g) → AfterWrite c.args.pos c.args.bytes.now (Over c.args.self.now.pos c.args.self.now.buffer.items (g.S.Store.image c.args.self.now.inner)) (Over c.make_room.new.self.pos c.extend_from_slice.new.self.items (g.S.Store.image c.make_room.new.self.inner))
-done g c =
-    let m = c.make_room.new.self in
-    let sized : AreSized (g.S.Store.size m.inner) (g.S.Store.image m.inner) = record { each = g.met.S.Store.image_size m.inner } in
-    let items : c.extend_from_slice.new.self.items ≡ m.buffer.items ++ c.args.bytes.now = search rules in
-    let held = Over m.pos m.buffer.items (g.S.Store.image m.inner) in
-    rw items (write_between
-    (same_trans {k = held} (over_same c.args.self.now.pos c.args.self.now.buffer.items c.reserve.ensures.images) c.make_room.ensures.images)
-    (over_more m.buffer.items c.args.bytes.now c.in_ok-make_room.ensures.continues m.placed sized)
-    (same_refl (Over m.pos (m.buffer.items ++ c.args.bytes.now) (g.S.Store.image m.inner))))
+returns-in_err-make_room-clause-torn g c = torn_same _ _ (same_trans (over_same c.args.self.now.pos (bytes_of c.args.self.now) c.reserve.ensures.images) c.make_room.ensures.images)
 
 pub returns-clause-ok : goal.returns-clause-ok
-returns-clause-ok g c = done g c
+returns-clause-ok g c =
+    let s = c.args.self.now in
+    let m = c.make_room.new.self in
+    let w = c.widen.new.self in
+    let e = c.in_ok-widen.ensures in
+    let sized : AreSized (g.S.Store.size w.inner) (g.S.Store.image w.inner) = record { each = g.met.S.Store.image_size w.inner } in
+    let begun = same_trans (over_same s.pos (bytes_of s) c.reserve.ensures.images) c.make_room.ensures.images in
+    let wide = over_alike g.S.Store.image {a = m.inner} {b = w.inner} e.pos e.bytes e.inner in
+    let now : List ℕ = c.deref_mut.result.now in
+    let rest : List ℕ = post_of w.held (w.held + length c.args.bytes.now - w.held) now in
+    let whole : List ℕ = take w.held now ++ (c.copy_from_slice.new.self ++ rest) in
+    over_put w.buffer.len rest (drop (length whole) w.buffer.items) (same_trans {j = images_of m} begun wide)
+    c.deref_mut.ensures.value c.copy_from_slice.ensures.after refl w.kept (omega (arith, e.wide, w.buffer.ok.0)) (omega (arith, c.in_ok-make_room.ensures.continues, e.pos, e.held)) w.placed sized
 
 pub returns-clause-torn : goal.returns-clause-torn
 returns-clause-torn g c =
     let s = c.args.self.now in
     let sized : AreSized (g.S.Store.size s.inner) (g.S.Store.image s.inner) = record { each = g.met.S.Store.image_size s.inner } in
-    torn_from_write c.requires.start (sized_over s.pos s.buffer.items s.placed sized) (done g c)
+    torn_from_write c.requires.start (sized_taken s.pos s.held s.buffer.items s.placed s.kept sized) (returns-clause-ok g c)
 
 pub returns-clause-ok_written : goal.returns-clause-ok_written
 returns-clause-ok_written g c = search rules
@@ -134,9 +136,6 @@ make_room-requires-clause-end g c = grind (arith, common_steps)
 pub returns-in_err-settle-clause-past_room : goal.returns-in_err-settle-clause-past_room
 returns-in_err-settle-clause-past_room g c = grind (arith, common_steps)
 
-pub returns-in_err-extend_from_slice-clause-past_room : goal.returns-in_err-extend_from_slice-clause-past_room
-returns-in_err-extend_from_slice-clause-past_room g c = grind (arith, common_steps)
-
 pub returns-in_err-settle-clause-more_written : goal.returns-in_err-settle-clause-more_written
 returns-in_err-settle-clause-more_written g c = grind (arith, common_steps)
 
@@ -145,9 +144,6 @@ returns-in_err-settle-clause-room g c = grind (arith, common_steps)
 
 pub returns-in_err-settle-clause-longer : goal.returns-in_err-settle-clause-longer
 returns-in_err-settle-clause-longer g c = grind (arith, common_steps)
-
-pub returns-in_err-extend_from_slice-clause-more_written : goal.returns-in_err-extend_from_slice-clause-more_written
-returns-in_err-extend_from_slice-clause-more_written g c = grind (arith, common_steps)
 
 pub returns-in_err-make_room-clause-memory_room : goal.returns-in_err-make_room-clause-memory_room
 returns-in_err-make_room-clause-memory_room g c = grind (arith, common_steps)
