@@ -133,8 +133,7 @@ impl<S: Store> BufferedStore<S> {
         ensures longer { S.size self.old.inner ≤ S.size self.new.inner }
         ensures not_past { S.size self.new.inner ≤ size_of self.old }
         ensures kept { OnErr result
-            ((self.new.pos ≡ self.old.pos) × (held_of self.new ≡ held_of self.old)) }
-        ensures buffer { self.new.buffer ≡ self.old.buffer }
+            ((self.new.pos ≡ self.old.pos) × (bytes_of self.new ≡ bytes_of self.old)) }
         ensures trace { self.new.trace ≡ self.old.trace }
         ensures capacity { self.new.capacity ≡ self.old.capacity }
         ensures room { S.room self.old.inner ≤ S.room self.new.inner }
