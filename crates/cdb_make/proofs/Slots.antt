@@ -1,4 +1,5 @@
 -- Tables, slot by slot, and their pointers.
+pub mod SlotBytes
 pub mod Filling
 pub mod RunLemmas
 pub mod Tops

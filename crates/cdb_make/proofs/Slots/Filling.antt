@@ -1,7 +1,7 @@
 -- The search for an empty slot.
-use Rattle.std.proofs.Common.{◌≡◌, ℕ, ◌+◌, ◌-◌, ◌%◌, ◌<◌, ◌≤◌, Bool, true, eqb, List, [], ◌∷◌, length, take, drop, map, get_or, refl, sym, ap, ◌∙◌, ◌++◌, arith, min, inl, inr, length-drop, fold, replicate, slice_set, suc}
+use Rattle.std.proofs.Common.{◌≡◌, ℕ, ◌+◌, ◌-◌, ◌%◌, ◌<◌, ◌≤◌, Bool, true, eqb, List, [], ◌∷◌, length, take, drop, get_or, refl, sym, ap, ◌∙◌, ◌++◌, arith, min, inl, inr, length-drop, fold, replicate, slice_set}
 use Rattle.std.proofs.lemmas.Bool.{cases_lt}
-use Rattle.std.proofs.lemmas.List.{length-map, take-append-drop, length-take-le, take_more, map-set}
+use Rattle.std.proofs.lemmas.List.{take-append-drop, length-take-le, take_more}
 use Rattle.std.proofs.lemmas.List.Sums.{prefix_len-le-length, fold-append}
 use Rattle.std.proofs.Math.Nat.{mod-eq_of_lt, add-mod_left}
 use Rattle.std.proofs.lemmas.List.Folds.{prefix_len-append}
@@ -10,9 +10,6 @@ use Rattle.std.specs.List.{prefix_len}
 use Rattle.cdb_form.specs.Format.Pair.{WordPair}
 use Rattle.cdb_form.specs.Format.Table.{is_used, slots_from, slots_with, filled_slots, empty_slot}
 use Rattle.cdb_form.specs.Format.Hash.{home_slot}
-use Rattle.cdb_form.specs.Views.Pairs.{slot_pair}
-use Rattle.cdb_form.specs.declared.slot.Slot.{Slot}
-use Rattle.cdb_make.specs.Runs.{AreEmpty}
 
 -- the first empty slot stands behind home
 pub first_behind : (p : WordPair → Bool) (xs : List WordPair) (home n b : ℕ) → length xs ≡ n → home < n → b ≡ prefix_len p (drop home xs) → b < n - home → home + b ≡ (home + prefix_len p (slots_from home xs)) % n
@@ -49,35 +46,24 @@ before_home p xs home n l h large =
       | inr high ↦ let more : prefix_len p xs ≡ home + prefix_len p (drop home xs) = grind (arith, nat_tests) in omega (arith, more, high, le, lt)
     ]
 
-pub first_behind_slots : (xs : List Slot) (home b : ℕ) → home < length xs → b ≡ home + prefix_len is_used (drop home (map slot_pair xs)) → b < length xs → b ≡ (home + prefix_len is_used (slots_from home (map slot_pair xs))) % length xs
-first_behind_slots xs home b h e small =
-    e ∙ first_behind is_used (map slot_pair xs) home (length xs) (prefix_len is_used (drop home (map slot_pair xs))) (length-map xs slot_pair) h refl (omega (arith, e, small, h))
+pub first_behind_slots : (slots : List WordPair) (home b : ℕ) → home < length slots → b ≡ home + prefix_len is_used (drop home slots) → b < length slots → b ≡ (home + prefix_len is_used (slots_from home slots)) % length slots
+first_behind_slots slots home b h e small = e ∙ first_behind is_used slots home (length slots) (prefix_len is_used (drop home slots)) refl h refl (omega (arith, e, small, h))
 
-pub first_before_slots : (xs : List Slot) (home b a m : ℕ) → home < length xs → b ≡ home + prefix_len is_used (drop home (map slot_pair xs)) → length xs ≤ b → a ≡ 0 + prefix_len is_used (drop 0 (map slot_pair xs)) → m ≡ min a home
-    → m ≡ (home + prefix_len is_used (slots_from home (map slot_pair xs))) % length xs
-first_before_slots xs home b a m h e large ea em =
-    let l : length (map slot_pair xs) ≡ length xs = length-map xs slot_pair in
-    let all : a ≡ prefix_len is_used (map slot_pair xs) = omega (arith, ea) in
-    let before : m ≡ prefix_len is_used (take home (map slot_pair xs)) = em ∙ ap (λ (n : ℕ). min n home) all ∙ before_home is_used (map slot_pair xs) home (length xs) l h (omega (arith, e, large)) in
-    (first_before is_used (map slot_pair xs) home (length xs) (prefix_len is_used (drop home (map slot_pair xs))) m l h refl (omega (arith, e, large)) before).1
+pub first_before_slots : (slots : List WordPair) (home b a m : ℕ) → home < length slots → b ≡ home + prefix_len is_used (drop home slots) → length slots ≤ b → a ≡ 0 + prefix_len is_used (drop 0 slots) → m ≡ min a home
+    → m ≡ (home + prefix_len is_used (slots_from home slots)) % length slots
+first_before_slots slots home b a m h e large ea em =
+    let all : a ≡ prefix_len is_used slots = omega (arith, ea) in
+    let before : m ≡ prefix_len is_used (take home slots) = em ∙ ap (λ (n : ℕ). min n home) all ∙ before_home is_used slots home (length slots) refl h (omega (arith, e, large)) in
+    (first_before is_used slots home (length slots) (prefix_len is_used (drop home slots)) m refl h refl (omega (arith, e, large)) before).1
 
 -- one entry more
-pub entry_put : (slots : List Slot) (e : Slot) (home place n : ℕ) → n ≡ length slots → home ≡ home_slot e.hash n → place ≡ (home + prefix_len is_used (slots_from home (map slot_pair slots))) % n
-    → map slot_pair (slice_set slots place e) ≡ slots_with (map slot_pair slots) (slot_pair e)
+pub entry_put : (slots : List WordPair) (e : WordPair) (home place n : ℕ) → n ≡ length slots → home ≡ home_slot e.first n → place ≡ (home + prefix_len is_used (slots_from home slots)) % length slots → slice_set slots place e ≡ slots_with slots e
 unfolding slots_with
 entry_put slots e home place n en eh ep =
-    let l : length (map slot_pair slots) ≡ length slots = length-map slots slot_pair in
-    let h : home ≡ home_slot e.hash (length (map slot_pair slots)) = eh ∙ ap (home_slot e.hash) (en ∙ sym l) in
-    let p : place ≡ (home_slot e.hash (length (map slot_pair slots)) + prefix_len is_used (slots_from (home_slot e.hash (length (map slot_pair slots))) (map slot_pair slots))) % length (map slot_pair slots) =
-    ep ∙ ap (λ (m : ℕ). (home + prefix_len is_used (slots_from home (map slot_pair slots))) % m) (en ∙ sym l) ∙ ap (λ (m : ℕ). (m + prefix_len is_used (slots_from m (map slot_pair slots))) % length (map slot_pair slots)) h in
-    map-set slot_pair slots place e ∙ ap (λ (m : ℕ). slice_set (map slot_pair slots) m (slot_pair e)) p
-
--- empty slots, side by side
-pub all_empty : (xs : List Slot) → AreEmpty xs → map slot_pair xs ≡ replicate (length xs) empty_slot
-all_empty [] h = refl
-all_empty (x ∷ xs) h = let first : slot_pair x ≡ empty_slot = h 0 x (omega arith) in
-    let ih = all_empty xs (λ k d l. h (suc k) d (omega arith)) in
-    cc
+    let h : home ≡ home_slot e.first (length slots) = eh ∙ ap (home_slot e.first) en in
+    let p : place ≡ (home_slot e.first (length slots) + prefix_len is_used (slots_from (home_slot e.first (length slots)) slots)) % length slots =
+    ep ∙ ap (λ (m : ℕ). (m + prefix_len is_used (slots_from m slots)) % length slots) h in
+    ap (λ (m : ℕ). slice_set slots m e) p
 
 -- the slots that no entry fills, and those with one more
 pub filled_nothing : (n : ℕ) (slots : List WordPair) → slots ≡ replicate n empty_slot → slots ≡ filled_slots n []

@@ -1,16 +1,12 @@
 -- Runs of used slots.
-use Rattle.std.proofs.Common.{◌≡◌, ℕ, ◌+◌, ◌-◌, ◌<◌, ◌≤◌, true, false, List, [], ◌∷◌, length, drop, map, get_or, refl, sym, ap, ◌∙◌, arith, slice_set, suc, zero, max, inl, inr, subst}
-use Rattle.std.specs.Prelude.{◌==◌, not}
-use Rattle.std.proofs.lemmas.List.{get_or-set_same, get_or-set_other, get_or-map, length-map, map-set}
-use Rattle.std.proofs.lemmas.List.Sums.{prefix_len-drop_yes, prefix_len-drop_no, prefix_len-drop_all}
+use Rattle.std.proofs.Common.{◌≡◌, ℕ, ◌+◌, ◌-◌, ◌<◌, ◌≤◌, true, false, List, [], ◌∷◌, length, drop, get_or, replicate, refl, sym, ap, ◌∙◌, arith, slice_set, suc, zero, max, inl, inr, subst}
+use Rattle.std.proofs.lemmas.List.{get_or-set_same, get_or-set_other, get_or-replicate, length-replicate}
+use Rattle.std.proofs.lemmas.List.Sums.{prefix_len-drop_yes}
 use Rattle.std.proofs.lemmas.Bool.{cases_lt}
-use Rattle.std.proofs.lemmas.Bool.Decides.{nat_tests}
 use Rattle.std.specs.List.{prefix_len}
 use Rattle.cdb_form.specs.Format.Pair.{WordPair}
 use Rattle.cdb_form.specs.Format.Table.{is_used, empty_slot}
-use Rattle.cdb_form.specs.Views.Pairs.{slot_pair}
-use Rattle.cdb_form.specs.declared.slot.Slot.{Slot}
-use Rattle.cdb_make.specs.Runs.{IsRun, AreRuns, AreEmpty}
+use Rattle.cdb_make.specs.Runs.{IsRun, AreRuns}
 
 past : {X : Type 0} (xs : List X) (at : ℕ) (d : X) → length xs ≤ at → get_or xs at d ≡ d
 past [] at d h = refl
@@ -48,9 +44,8 @@ run_passed slots at (suc n) run =
     let before = run_passed slots at n (λ k low. run k (omega (arith, low))) in
     omega (arith, one, next, before)
 
--- a run is noted
-pub run_noted : (slots : List WordPair) (runs : List ℕ) (at n : ℕ) → at < length runs → IsRun at n slots → AreRuns runs slots → AreRuns (slice_set runs at n) slots
-run_noted slots runs at n within run all = λ i used. elim (cases_lt i at) [
+run_set : (slots : List WordPair) (runs : List ℕ) (at n : ℕ) → at < length runs → IsRun at n slots → AreRuns runs slots → AreRuns (slice_set runs at n) slots
+run_set slots runs at n within run all = λ i used. elim (cases_lt i at) [
   | inl low ↦ subst (λ (r : ℕ). IsRun i r slots) (sym (get_or-set_other runs at i n 0 (λ e. omega (arith, e, low)))) (all i used)
   | inr high ↦ elim (cases_lt at i) [
     | inl above ↦ subst (λ (r : ℕ). IsRun i r slots) (sym (get_or-set_other runs at i n 0 (λ e. omega (arith, e, above)))) (all i used)
@@ -61,7 +56,11 @@ run_noted slots runs at n within run all = λ i used. elim (cases_lt i at) [
   ]
 ]
 
--- an empty slot is filled, and nothing is known of its run
+-- a run is noted, or its first slots
+pub run_noted : (slots : List WordPair) (runs : List ℕ) (at n m : ℕ) → at < length runs → m ≤ n → IsRun at n slots → AreRuns runs slots → AreRuns (slice_set runs at m) slots
+run_noted slots runs at n m within less run all = run_set slots runs at m within (λ k low. run k (omega (arith, low, less))) all
+
+-- an empty slot is filled, and the runs of the others stay
 runs_kept : (slots : List WordPair) (runs : List ℕ) (place at : ℕ) (e : WordPair) → (at ≡ place → ⊥) → is_used (get_or slots place empty_slot) ≡ false → AreRuns runs slots
     → is_used (get_or (slice_set slots place e) at empty_slot) ≡ true → IsRun at (get_or runs at 0) (slice_set slots place e)
 runs_kept slots runs place at e apart empty all filled = λ k low.
@@ -71,7 +70,8 @@ runs_kept slots runs place at e apart empty all filled = λ k low.
     let clash : true ≡ false = sym used ∙ ap (λ (i : ℕ). is_used (get_or slots i empty_slot)) same ∙ empty in grind (arith, clash) in
     ap is_used (get_or-set_other slots place (at + k) e empty_slot other) ∙ used
 
-runs_filled : (slots : List WordPair) (runs : List ℕ) (place : ℕ) (e : WordPair) → place < length runs → is_used (get_or slots place empty_slot) ≡ false → AreRuns runs slots → AreRuns (slice_set runs place 0) (slice_set slots place e)
+-- and nothing is known of its own
+pub runs_filled : (slots : List WordPair) (runs : List ℕ) (place : ℕ) (e : WordPair) → place < length runs → is_used (get_or slots place empty_slot) ≡ false → AreRuns runs slots → AreRuns (slice_set runs place 0) (slice_set slots place e)
 runs_filled slots runs place e within empty all = λ at filled. elim (cases_lt at place) [
   | inl low ↦ let apart : (at ≡ place → ⊥) = λ e. omega (arith, e, low) in
       subst (λ (r : ℕ). IsRun at r (slice_set slots place e)) (sym (get_or-set_other runs place at 0 0 apart)) (runs_kept slots runs place at e apart empty all filled)
@@ -86,27 +86,13 @@ runs_filled slots runs place e within empty all = λ at filled. elim (cases_lt a
 ]
 
 -- no run is noted
-pub runs_unknown : (slots : List WordPair) (runs : List ℕ) → ((k : ℕ) → get_or runs k 0 ≡ 0) → AreRuns runs slots
-runs_unknown slots runs none = λ at used k low. let n = none at in let no : ⊥ = omega (arith, n, low) in elim no [ ]
-
-pub all_zero : (runs : List ℕ) (n : ℕ) → length runs ≤ n → ((k : ℕ) → k < n → get_or runs k 0 ≡ 0) → (k : ℕ) → get_or runs k 0 ≡ 0
-all_zero runs n long so k = elim (cases_lt k n) [
-  | inl low ↦ so k low
-  | inr high ↦ past runs k 0 (omega (arith, long, high))
-]
-
-not_zero : (n : ℕ) → (n ≡ 0 → ⊥) → not (n == 0) ≡ true
-not_zero n other = grind (arith, nat_tests)
-
-is_zero : (n : ℕ) → n ≡ 0 → not (n == 0) ≡ false
-is_zero n e = ap (λ (m : ℕ). not (m == 0)) e
-
--- a slot with a place is used
-pub slot_used : (slots : List Slot) (at : ℕ) → at < length slots → ((get_or slots at (record { hash = 0; place = 0 })).place ≡ 0 → ⊥) → is_used (get_or (map slot_pair slots) at empty_slot) ≡ true
-slot_used slots at low other = ap is_used (get_or-map slot_pair slots at (record { hash = 0; place = 0 }) empty_slot low) ∙ not_zero _ other
-
-pub slot_empty : (slots : List Slot) (at : ℕ) → at < length slots → (get_or slots at (record { hash = 0; place = 0 })).place ≡ 0 → is_used (get_or (map slot_pair slots) at empty_slot) ≡ false
-slot_empty slots at low none = ap is_used (get_or-map slot_pair slots at (record { hash = 0; place = 0 }) empty_slot low) ∙ is_zero _ none
+pub runs_unknown : (n : ℕ) (slots : List WordPair) (runs : List ℕ) → runs ≡ replicate n 0 → AreRuns runs slots
+runs_unknown n slots runs none = λ at used k low.
+    let zero : get_or runs at 0 ≡ 0 = ap (λ (rs : List ℕ). get_or rs at 0) none ∙ elim (cases_lt at n) [
+      | inl few ↦ get_or-replicate n at 0 0 few
+      | inr past_all ↦ past (replicate n 0) at 0 (omega (arith, past_all, length-replicate {A = ℕ} n 0))
+    ] in
+    let no : ⊥ = omega (arith, zero, low) in elim no [ ]
 
 -- from a used slot on there is a run of one at least
 pub run_some : (slots : List WordPair) (at n m : ℕ) → m ≡ max n 1 → is_used (get_or slots at empty_slot) ≡ true → IsRun at n slots → IsRun at m slots
@@ -115,40 +101,22 @@ run_some slots at zero m e used run = λ k low.
     subst (λ (i : ℕ). is_used (get_or slots i empty_slot) ≡ true) same used
 run_some slots at (suc n) m e used run = λ k low. run k (omega (arith, low, e))
 
-pub none_empty : (slots : List Slot) (at : ℕ) → at < length slots → (get_or slots at (record { hash = 0; place = 0 })).place ≡ 0 → prefix_len is_used (drop at (map slot_pair slots)) ≡ 0
-none_empty slots at low none =
-    let l : length (map slot_pair slots) ≡ length slots = length-map slots slot_pair in
-    prefix_len-drop_no is_used (map slot_pair slots) at empty_slot (omega (arith, l, low)) (slot_empty slots at low none)
-
-pub none_past : (slots : List Slot) (at : ℕ) → length slots ≤ at → prefix_len is_used (drop at (map slot_pair slots)) ≡ 0
-none_past slots at high =
-    let l : length (map slot_pair slots) ≡ length slots = length-map slots slot_pair in
-    prefix_len-drop_all is_used (map slot_pair slots) at (omega (arith, l, high))
-
 -- two runs passed over at once
-pub record ArePassed (slots : List Slot) (at run more : ℕ) : Type 0 where
+pub record ArePassed (slots : List WordPair) (at run more : ℕ) : Type 0 where
   pub within : at + (run + more) ≤ length slots
-  pub joined : IsRun at (run + more) (map slot_pair slots)
-  pub passed : at + (run + more) + prefix_len is_used (drop (at + (run + more)) (map slot_pair slots)) ≡ at + prefix_len is_used (drop at (map slot_pair slots))
+  pub joined : IsRun at (run + more) slots
+  pub passed : at + (run + more) + prefix_len is_used (drop (at + (run + more)) slots) ≡ at + prefix_len is_used (drop at slots)
 
-pub runs_passed : (slots : List Slot) (at run more : ℕ) → at ≤ length slots → IsRun at run (map slot_pair slots) → IsRun (at + run) more (map slot_pair slots) → ArePassed slots at run more
+pub runs_passed : (slots : List WordPair) (at run more : ℕ) → at ≤ length slots → IsRun at run slots → IsRun (at + run) more slots → ArePassed slots at run more
 runs_passed slots at run more within first second =
-    let l : length (map slot_pair slots) ≡ length slots = length-map slots slot_pair in
-    let joined = run_joined (map slot_pair slots) at run more first second in
-    let low = run_within (map slot_pair slots) at (run + more) (omega (arith, l, within)) joined in
-    let over = run_passed (map slot_pair slots) at (run + more) joined in
-    record { within = omega (arith, low, l); joined = joined; passed = omega (arith, over) }
-
--- an entry in an empty slot
-pub filled_kept : (slots : List Slot) (runs : List ℕ) (place : ℕ) (e : Slot) → place < length slots → length runs ≡ length slots → (get_or slots place (record { hash = 0; place = 0 })).place ≡ 0 → AreRuns runs (map slot_pair slots)
-    → AreRuns (slice_set runs place 0) (map slot_pair (slice_set slots place e))
-filled_kept slots runs place e low long none all =
-    subst (AreRuns (slice_set runs place 0)) (sym (map-set slot_pair slots place e)) (runs_filled (map slot_pair slots) runs place (slot_pair e) (omega (arith, low, long)) (slot_empty slots place low none) all)
+    let joined = run_joined slots at run more first second in
+    let low = run_within slots at (run + more) within joined in
+    let over = run_passed slots at (run + more) joined in
+    record { within = omega (arith, low); joined = joined; passed = omega (arith, over) }
 
 -- of empty slots no run is known
-pub runs_none : (slots : List Slot) (runs : List ℕ) → AreEmpty slots → AreRuns runs (map slot_pair slots)
-runs_none slots runs empty = λ at used.
-    let low : at < length slots = omega (arith, used_within (map slot_pair slots) at used, length-map slots slot_pair) in
-    let d : Slot = record { hash = 0; place = 0 } in
-    let none : get_or (map slot_pair slots) at empty_slot ≡ empty_slot = get_or-map slot_pair slots at d empty_slot low ∙ empty at d low in
+pub runs_none : (n : ℕ) (slots : List WordPair) (runs : List ℕ) → slots ≡ replicate n empty_slot → AreRuns runs slots
+runs_none n slots runs empty = λ at used.
+    let low : at < n = omega (arith, used_within slots at used, ap length empty, length-replicate n empty_slot) in
+    let none : get_or slots at empty_slot ≡ empty_slot = ap (λ s. get_or s at empty_slot) empty ∙ get_or-replicate n at empty_slot empty_slot low in
     let clash : false ≡ true = sym (ap is_used none) ∙ used in grind (arith, clash)

@@ -1,5 +1,5 @@
 -- What the tables of some lists are.
-use Rattle.std.proofs.Common.{◌≡◌, ℕ, ◌+◌, ◌*◌, ◌^◌, ◌<◌, ◌≤◌, ◌⊎◌, List, [], ◌∷◌, ◌++◌, length, take, map, flat_map, get_or, refl, sym, ap, ◌∙◌, arith, sum_by, length-append, subst}
+use Rattle.std.proofs.Common.{◌≡◌, ℕ, ◌+◌, ◌*◌, ◌<◌, ◌≤◌, ◌⊎◌, List, [], ◌∷◌, ◌++◌, length, take, map, flat_map, get_or, refl, sym, ap, ◌∙◌, arith, sum_by, length-append, subst}
 use Rattle.std.specs.Prelude.{All}
 use Rattle.std.proofs.Math.Nat.{mul-le-mul_left}
 use Rattle.std.proofs.lemmas.List.{nil_from_length, take_more, map_push, append-nil, length-map, get_or-map}
@@ -9,21 +9,10 @@ use Rattle.cdb_store.specs.Images.{overwrite, AfterWrite}
 use Rattle.cdb_store.proofs.Parts.{overwrite_nothing}
 use Rattle.cdb_form.specs.Format.Pair.{WordPair, pair_size}
 use Rattle.cdb_form.specs.Format.Table.{slots_of}
-use Rattle.cdb_form.specs.Views.Pairs.{PairFits}
 use Rattle.cdb_form.proofs.Bytes.HeadLemmas.{length-flat_map_words}
 use Rattle.cdb_form.proofs.Files.Sizes.{length-slots_of, slots_within}
 use Rattle.cdb_make.specs.Parts.{table_bytes}
 use Rattle.cdb_make.proofs.Slots.HeadPointers.{sums_within, table_size}
-
--- the first words are hashes
-abbrev pub HaveHashes : List WordPair → Type 0
-HaveHashes es = All (λ e. e.first < 2 ^ 32) es
-
--- entries with hashes fit the words of a table where their places do
-pub hashed_fit : (top : ℕ) (es : List WordPair) → 4294967295 ≤ top → HaveHashes es → All (λ e. e.second ≤ top) es → All (PairFits top) es
-hashed_fit top es t hashes places = λ k d lt.
-    let hash = hashes k d lt in
-    record { first = omega (arith, hash, t); second = places k d lt }
 
 pub length-table_bytes : (w : ℕ) (es : List WordPair) → length (table_bytes w es) ≡ 4 * w * length es
 length-table_bytes w es = length-flat_map_words w (slots_of es) ∙ ap (λ (n : ℕ). 2 * w * n) (length-slots_of es) ∙ omega arith

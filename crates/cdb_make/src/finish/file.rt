@@ -7,15 +7,13 @@ ghost use Rattle.cdb_form.specs.Format.Pair.{head_size, pair_size};
 ghost use Rattle.cdb_make.specs.declared.fault.MakeFault.TheVariants.{NoMemory, Writing};
 ghost use Rattle.cdb_make.specs.Finished.{IsFinished, HeadIsLast};
 ghost use Rattle.cdb_make.specs.Parts.{tables_end};
-ghost use Rattle.cdb_make.specs.Runs.{AreEmpty};
 ghost use Rattle.cdb_make.specs.Views.Lists.{all_entries};
 
 use crate::fault::MakeFault;
 use crate::finish::head::write_pointers;
-use crate::finish::table::EMPTY;
 use crate::finish::tables::write_tables;
 use crate::index::lists::Lists;
-use cdb_form::{Slot, Width, pair_size};
+use cdb_form::{Width, pair_size};
 use cdb_store::{Store, StoreFault};
 use std::alloc::Global;
 
@@ -28,8 +26,7 @@ fn write_parts<S: Store, L: Width>(
     lists: &Lists<L>,
     end: u64,
     last: u64,
-    slots: &mut [Slot],
-    runs: &mut [usize],
+    runs: &mut [u32],
     bytes: &mut [u8],
 ) -> Result<(), StoreFault>
     requires start { head_size L.WORD ≤ end }
@@ -37,10 +34,8 @@ fn write_parts<S: Store, L: Width>(
     requires last { last ≡ tables_end L.WORD end (all_entries lists.now) }
     requires limit { last ≤ L.GREATEST }
     requires room { last ≤ S.room store.old }
-    requires slots { All (λ list. 2 * length list ≤ length slots.old) (all_entries lists.now) }
-    requires runs { length slots.old ≤ length runs.old }
-    requires bytes { length bytes.old ≡ pair_size L.WORD * length slots.old }
-    requires empty { AreEmpty slots.old }
+    requires runs { All (λ list. 2 * length list ≤ length runs.old) (all_entries lists.now) }
+    requires bytes { length bytes.old ≡ pair_size L.WORD * length runs.old }
     requires fits { All (All (λ e. e.second ≤ L.TOP)) (all_entries lists.now) }
     ensures file { OnOk result (IsFinished L.WORD end (all_entries lists.now)
         (S.image store.old) (S.image store.new)) }
@@ -57,7 +52,7 @@ fn write_parts<S: Store, L: Width>(
     ensures memory { IsErrOf result Refused → ⊥ }
     ensures cause { HasCause (S.failures store.old) (S.failures store.new) result }
 {
-    write_tables::<S, L>(store, &lists.each, end, slots, runs, bytes)?;
+    write_tables::<S, L>(store, &lists.each, end, runs, bytes)?;
     write_pointers::<S, L>(store, lists, end)?;
     store.cut(last)?;
     store.flush()
@@ -100,11 +95,10 @@ pub(crate) fn finish<S: Store, L: Width>(
     ensures failures { S.failures store.old ≤ S.failures store.new }
 {
     let most = 2 * lists.longest();
-    let mut slots = vec![in alloc; EMPTY; most]?;
-    let mut runs = vec![in alloc; 0usize; most]?;
+    let mut runs = vec![in alloc; 0u32; most]?;
     let mut bytes = vec![in alloc; 0u8; pair_size::<L>() * most]?;
     let last = end + 2 * pair_size::<L>() as u64 * lists.count();
     store.reserve(last)?;
-    write_parts::<S, L>(store, lists, end, last, &mut slots, &mut runs, &mut bytes)?;
+    write_parts::<S, L>(store, lists, end, last, &mut runs, &mut bytes)?;
     Ok(())
 }

@@ -1,117 +1,113 @@
-// One table, filled.
-ghost use Rattle.std.specs.Prelude.{◌≡◌, ℕ, ◌+◌, ◌*◌, ◌%◌, ◌<◌, ◌≤◌, length, map, replicate};
-ghost use Rattle.std.specs.Prelude.{drop, flat_map, get_or, All};
-ghost use Rattle.cdb_form.specs.Format.Pair.{pair_bytes, pair_size};
+// One table, filled in its own bytes.
+ghost use Rattle.std.specs.Prelude.{◌≡◌, ℕ, ◌+◌, ◌%◌, ◌<◌, ◌≤◌, length, drop, get_or, min};
 ghost use Rattle.std.specs.List.{prefix_len};
-ghost use Rattle.cdb_form.specs.Format.Table.{is_used, slots_from, slots_with, filled_slots};
-ghost use Rattle.cdb_form.specs.Format.Table.{empty_slot};
+ghost use Rattle.cdb_form.specs.Format.Table.{is_used, slots_from, slots_with, empty_slot};
 ghost use Rattle.cdb_form.specs.Views.Pairs.{slot_pair, PairFits};
-ghost use Rattle.cdb_make.specs.Runs.{IsRun, AreRuns, AreEmpty};
+ghost use Rattle.cdb_make.specs.Runs.{IsRun, AreRuns};
+ghost use Rattle.cdb_make.specs.Views.SlotBytes.{slots_in};
 
 use cdb_form::{Slot, Width, home_slot, pair_size, write_slot};
 
-/// A slot that holds no entry.
-pub(crate) const EMPTY: Slot = Slot { hash: 0, place: 0 };
+/// Whether a slot of a table's bytes is used.
+#[inline(always)]
+fn is_used<L: Width>(bytes: &[u8], at: usize) -> bool
+    requires { at < length (slots_in L.WORD bytes.now) }
+    ensures { result ≡ is_used (get_or (slots_in L.WORD bytes.now) at empty_slot) }
+{
+    let size = pair_size::<L>();
+    let slot = &bytes[size * at..size * at + size];
+    L::read_word(&slot[L::WORD..]) != 0
+}
 
 /// How many slots are known to be used from `at` on: none if it is empty, or past the last.
-fn run_at(slots: &[Slot], runs: &[usize], at: usize) -> usize
-    requires long { length runs.now ≡ length slots.now }
-    requires runs { AreRuns runs.now (map slot_pair slots.now) }
-    ensures run { IsRun at result (map slot_pair slots.now) }
-    ensures none { result ≡ 0 → prefix_len is_used (drop at (map slot_pair slots.now)) ≡ 0 }
+#[inline(always)]
+fn run_at<L: Width>(bytes: &[u8], runs: &[u32], at: usize) -> usize
+    requires long { length runs.now ≡ length (slots_in L.WORD bytes.now) }
+    requires runs { AreRuns runs.now (slots_in L.WORD bytes.now) }
+    ensures run { IsRun at result (slots_in L.WORD bytes.now) }
+    ensures none { result ≡ 0 → prefix_len is_used (drop at (slots_in L.WORD bytes.now)) ≡ 0 }
 {
-    if at < slots.len() && slots[at].place != 0 {
-        runs[at].max(1)
+    if at < runs.len() && is_used::<L>(bytes, at) {
+        (runs[at] as usize).max(1)
     } else {
         0
     }
 }
 
+/// What is noted of a run of used slots: as many of them as 32 bits hold.
+#[inline(always)]
+fn noted(run: usize) -> u32
+    ensures { result ≡ min run 4294967295 }
+{
+    run.min(u32::MAX as usize) as u32
+}
+
 /// The first empty slot from `from` on, or the number of slots. The runs that are passed over are
 /// joined, so the next search passes them at once.
-fn next_empty(slots: &[Slot], runs: &mut [usize], from: usize) -> usize
-    requires long { length runs.old ≡ length slots.now }
-    requires runs { AreRuns runs.old (map slot_pair slots.now) }
-    requires from { from ≤ length slots.now }
-    ensures first { result ≡ from + prefix_len is_used (drop from (map slot_pair slots.now)) }
-    ensures within { result ≤ length slots.now }
-    ensures runs { AreRuns runs.new (map slot_pair slots.now) }
+#[inline(always)]
+fn next_empty<L: Width>(bytes: &[u8], runs: &mut [u32], from: usize) -> usize
+    requires long { length runs.old ≡ length (slots_in L.WORD bytes.now) }
+    requires runs { AreRuns runs.old (slots_in L.WORD bytes.now) }
+    requires from { from ≤ length (slots_in L.WORD bytes.now) }
+    ensures first { result
+        ≡ from + prefix_len is_used (drop from (slots_in L.WORD bytes.now)) }
+    ensures within { result ≤ length (slots_in L.WORD bytes.now) }
+    ensures runs { AreRuns runs.new (slots_in L.WORD bytes.now) }
 {
     let mut at = from;
-    let mut run = run_at(slots, runs, at);
+    let mut run = run_at::<L>(bytes, runs, at);
     while run > 0 {
-        let joined = run + run_at(slots, runs, at + run);
-        runs[at] = joined;
+        let joined = run + run_at::<L>(bytes, runs, at + run);
+        runs[at] = noted(joined);
         at += joined;
-        run = run_at(slots, runs, at);
+        run = run_at::<L>(bytes, runs, at);
     }
     at
 }
 
 /// The first empty slot from `home` on, and round to it; `home` if there is none.
-fn first_empty(slots: &[Slot], runs: &mut [usize], home: usize) -> usize
-    requires long { length runs.old ≡ length slots.now }
-    requires runs { AreRuns runs.old (map slot_pair slots.now) }
-    requires home { home < length slots.now }
-    ensures within { result < length slots.now }
+#[inline(always)]
+fn first_empty<L: Width>(bytes: &[u8], runs: &mut [u32], home: usize) -> usize
+    requires long { length runs.old ≡ length (slots_in L.WORD bytes.now) }
+    requires runs { AreRuns runs.old (slots_in L.WORD bytes.now) }
+    requires home { home < length (slots_in L.WORD bytes.now) }
+    ensures within { result < length (slots_in L.WORD bytes.now) }
     ensures first { result
-        ≡ (home + prefix_len is_used (slots_from home (map slot_pair slots.now)))
-        % length slots.now }
-    ensures runs { AreRuns runs.new (map slot_pair slots.now) }
+        ≡ (home + prefix_len is_used (slots_from home (slots_in L.WORD bytes.now)))
+        % length (slots_in L.WORD bytes.now) }
+    ensures runs { AreRuns runs.new (slots_in L.WORD bytes.now) }
 {
-    if slots[home].place == 0 {
+    if !is_used::<L>(bytes, home) {
         return home;
     }
-    let behind = next_empty(slots, runs, home);
-    if behind < slots.len() {
+    let behind = next_empty::<L>(bytes, runs, home);
+    if behind < runs.len() {
         behind
     } else {
-        next_empty(slots, runs, 0).min(home)
+        next_empty::<L>(bytes, runs, 0).min(home)
     }
 }
 
-/// Puts an entry into the first empty slot from its home. The runs of used slots are what is known
-/// before and after.
-pub(crate) fn put_entry(slots: &mut [Slot], runs: &mut [usize], entry: Slot)
-    requires some { 0 < length slots.old }
-    requires long { length runs.old ≡ length slots.old }
-    requires runs { AreRuns runs.old (map slot_pair slots.old) }
-    ensures put { map slot_pair slots.new
-        ≡ slots_with (map slot_pair slots.old) (slot_pair entry) }
-    ensures runs { AreRuns runs.new (map slot_pair slots.new) }
-{
-    let home = home_slot(entry.hash, slots.len() as u64);
-    let place = first_empty(slots, runs, home as usize);
-    if slots[place].place == 0 {
-        runs[place] = 0;
-    } else {
-        // No slot is empty, and the entry takes the place of another.
-        forget(runs);
-    }
-    slots[place] = entry;
-}
-
-/// Notes no run of used slots.
-fn forget(runs: &mut [usize])
-    ensures { (at : ℕ) → get_or runs.new at 0 ≡ 0 }
-{
-    for run in runs.iter_mut() {
-        *run = 0;
-    }
-}
-
-/// Leaves the bytes of some slots, and empties each slot.
-pub(crate) fn encode_slots<L: Width>(slots: &mut [Slot], into: &mut [u8])
-    requires long { length into.old ≡ pair_size L.WORD * length slots.old }
-    requires fits { All (PairFits L.TOP) (map slot_pair slots.old) }
-    ensures bytes { into.new ≡ flat_map (pair_bytes L.WORD) (map slot_pair slots.old) }
-    ensures empty { AreEmpty slots.new }
+/// Writes an entry into the first empty slot from its home. The runs of used slots are what is
+/// known before and after.
+#[inline(always)]
+pub(crate) fn put_entry<L: Width>(bytes: &mut [u8], runs: &mut [u32], entry: Slot)
+    requires some { 0 < length (slots_in L.WORD bytes.old) }
+    requires long { length runs.old ≡ length (slots_in L.WORD bytes.old) }
+    requires runs { AreRuns runs.old (slots_in L.WORD bytes.old) }
+    requires fits { PairFits L.TOP (slot_pair entry) }
+    ensures put { slots_in L.WORD bytes.new
+        ≡ slots_with (slots_in L.WORD bytes.old) (slot_pair entry) }
+    ensures runs { AreRuns runs.new (slots_in L.WORD bytes.new) }
 {
     let size = pair_size::<L>();
-    let mut at = 0;
-    for slot in slots.iter_mut() {
-        write_slot::<L>(*slot, &mut into[at..at + size]);
-        *slot = EMPTY;
-        at += size;
+    let home = home_slot(entry.hash, runs.len() as u64);
+    let place = first_empty::<L>(bytes, runs, home as usize);
+    if is_used::<L>(bytes, place) {
+        // No slot is empty, and the entry takes the place of another.
+        runs.fill(0);
+    } else {
+        runs[place] = 0;
     }
+    write_slot::<L>(entry, &mut bytes[size * place..size * place + size]);
 }

@@ -62,8 +62,8 @@ reserve-requires g c = grind (arith, common_steps)
 pub returns-clause-room : goal.returns-clause-room
 returns-clause-room g c = search rules
 
-pub write_parts-requires-clause-slots : goal.write_parts-requires-clause-slots
-write_parts-requires-clause-slots g c = grind (arith, common_steps)
+pub write_parts-requires-clause-runs : goal.write_parts-requires-clause-runs
+write_parts-requires-clause-runs g c = grind (arith, common_steps)
 
 pub returns-clause-memory_size : goal.returns-clause-memory_size
 returns-clause-memory_size g c = search rules

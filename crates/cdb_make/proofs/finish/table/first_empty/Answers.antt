@@ -1,17 +1,22 @@
-use Rattle.std.proofs.Common.{arith}
+use Rattle.std.proofs.Common.{arith, sym, ◌≡◌, ◌∙◌, drop, List}
+use Rattle.std.proofs.lemmas.List.Sums.{prefix_len-drop_no}
+use Rattle.std.specs.List.{prefix_len}
+use Rattle.cdb_form.specs.Format.Pair.{WordPair}
+use Rattle.cdb_form.specs.Format.Table.{is_used, empty_slot}
+use Rattle.cdb_make.specs.Views.SlotBytes.{slots_in}
 use Rattle.cdb_make.proofs.Slots.Filling.{first_behind_slots, first_before_slots}
-use Rattle.cdb_make.proofs.Slots.RunLemmas.{none_empty}
 use Rattle.cdb_make.proofs.finish.table.first_empty.Goals as goal
 
-pub returns-then-behind-slots-clause-first : goal.returns-then-behind-slots-clause-first
-returns-then-behind-slots-clause-first c =
-    first_behind_slots c.args.slots.now c.args.home c.next_empty-behind.result c.requires.home c.next_empty-behind.ensures.first c.if-behind-slots.true
+pub returns-then-behind-runs-clause-first : goal.returns-then-behind-runs-clause-first
+returns-then-behind-runs-clause-first g c =
+    first_behind_slots (slots_in g.L.Width.WORD c.args.bytes.now) c.args.home c.next_empty-behind.result c.requires.home c.next_empty-behind.ensures.first (omega arith)
 
-pub returns-else-behind-slots-clause-first : goal.returns-else-behind-slots-clause-first
-returns-else-behind-slots-clause-first c =
-    first_before_slots c.args.slots.now c.args.home c.next_empty-behind.result c.next_empty.result c.min.result c.requires.home c.next_empty-behind.ensures.first c.if-behind-slots.false c.next_empty.ensures.first c.min.ensures
+pub returns-else-behind-runs-clause-first : goal.returns-else-behind-runs-clause-first
+returns-else-behind-runs-clause-first g c =
+    first_before_slots (slots_in g.L.Width.WORD c.args.bytes.now) c.args.home c.next_empty-behind.result c.next_empty.result c.min.result c.requires.home c.next_empty-behind.ensures.first (omega arith) c.next_empty.ensures.first c.min.ensures
 
-pub returns-then-slots-home-eq0-clause-first : goal.returns-then-slots-home-eq0-clause-first
-returns-then-slots-home-eq0-clause-first c =
-    let none = none_empty c.args.slots.now c.args.home c.requires.home c.if-slots-home-eq0.true in
-    first_behind_slots c.args.slots.now c.args.home c.args.home c.requires.home (omega (arith, none)) c.requires.home
+pub returns-then-not-is_used-clause-first : goal.returns-then-not-is_used-clause-first
+returns-then-not-is_used-clause-first g c =
+    let slots : List WordPair = slots_in g.L.Width.WORD c.args.bytes.now in
+    let none : prefix_len is_used (drop c.args.home slots) ≡ 0 = prefix_len-drop_no is_used slots c.args.home empty_slot c.requires.home (sym c.is_used.ensures ∙ c.if-not-is_used.true) in
+    first_behind_slots slots c.args.home c.args.home c.requires.home (omega (arith, none)) c.requires.home

@@ -1,16 +1,22 @@
-use Rattle.std.proofs.Common.{map}
-use Rattle.cdb_form.specs.Views.Pairs.{slot_pair}
-use Rattle.cdb_make.proofs.Slots.RunLemmas.{slot_used, run_some, none_empty, none_past}
-use Rattle.cdb_make.proofs.finish.table.run_at.Goals.{else-at-slots-via-then-at-slots+else-slots-at-ne0, else-at-slots-via-else-at-slots}
+use Rattle.std.proofs.Common.{arith, sym, ◌≡◌, ◌∙◌, true, get_or, List}
+use Rattle.std.proofs.lemmas.List.Sums.{prefix_len-drop_no, prefix_len-drop_all}
+use Rattle.cdb_form.specs.Format.Pair.{WordPair}
+use Rattle.cdb_form.specs.Format.Table.{is_used, empty_slot}
+use Rattle.cdb_make.specs.Views.SlotBytes.{slots_in}
+use Rattle.cdb_make.proofs.Slots.RunLemmas.{run_some}
+use Rattle.cdb_make.proofs.finish.table.run_at.Goals.{else-at-runs-via-then-at-runs+else-is_used, else-at-runs-via-else-at-runs}
 use Rattle.cdb_make.proofs.finish.table.run_at.Goals as goal
 
-pub returns-then-slots-at-ne0-clause-run : goal.returns-then-slots-at-ne0-clause-run
-returns-then-slots-at-ne0-clause-run c =
-    let used = slot_used c.args.slots.now c.args.at c.if-at-slots.true c.if-slots-at-ne0.true in
-    run_some (map slot_pair c.args.slots.now) c.args.at _ _ c.max.ensures used (c.requires.runs c.args.at used)
+pub returns-then-is_used-clause-run : goal.returns-then-is_used-clause-run
+returns-then-is_used-clause-run g c =
+    let slots : List WordPair = slots_in g.L.Width.WORD c.args.bytes.now in
+    let used : is_used (get_or slots c.args.at empty_slot) ≡ true = sym c.is_used.ensures ∙ c.if-is_used.true in
+    run_some slots c.args.at _ _ c.max.ensures used (c.requires.runs c.args.at used)
 
-pub returns-else-at-slots-clause-none : goal.returns-else-at-slots-clause-none
-returns-else-at-slots-clause-none c = λ _. elim c.else-at-slots.branch [
-  | else-at-slots-via-then-at-slots+else-slots-at-ne0 w ↦ none_empty c.args.slots.now c.args.at w.if-at-slots.true w.if-slots-at-ne0.false
-  | else-at-slots-via-else-at-slots w ↦ none_past c.args.slots.now c.args.at w.if-at-slots.false
-]
+pub returns-else-at-runs-clause-none : goal.returns-else-at-runs-clause-none
+returns-else-at-runs-clause-none g c =
+    let slots : List WordPair = slots_in g.L.Width.WORD c.args.bytes.now in
+    λ _. elim c.else-at-runs.branch [
+      | else-at-runs-via-then-at-runs+else-is_used w ↦ prefix_len-drop_no is_used slots c.args.at empty_slot (omega (arith, w.if-at-runs.true, c.requires.long)) (sym w.is_used.ensures ∙ w.if-is_used.false)
+      | else-at-runs-via-else-at-runs w ↦ prefix_len-drop_all is_used slots c.args.at (omega (arith, w.if-at-runs.false, c.requires.long))
+    ]

@@ -1,17 +1,18 @@
-use Rattle.std.proofs.Common.{◌≡◌, ◌*◌, length, map, take}
+use Rattle.std.proofs.Common.{◌≡◌, ◌*◌, length, take}
+use Rattle.cdb_form.specs.Format.Pair.{pair_size}
+use Rattle.cdb_form.specs.Format.Record.{AreBytes}
 use Rattle.cdb_form.specs.Format.Table.{filled_slots}
-use Rattle.cdb_form.specs.Views.Pairs.{slot_pair}
-use Rattle.cdb_make.specs.Views.EntryList.{list_entries}
-use Rattle.cdb_make.proofs.Slots.TableBytes.{HaveHashes}
 use Rattle.cdb_make.specs.Runs.{AreRuns}
+use Rattle.cdb_make.specs.Views.EntryList.{list_entries}
+use Rattle.cdb_make.specs.Views.SlotBytes.{slots_in}
 use Rattle.cdb_make.proofs.finish.tables.fill_table_of.Given as goal
 
--- the slots that the entries so far fill, and their hashes
+-- the slots that the entries so far fill
 abbrev pub invariant-loop-n : goal.invariant-loop-n
 invariant-loop-n g l = record {
-  long : length l.slots ≡ 2 * length (list_entries l.list);
-  filled : map slot_pair l.slots ≡ filled_slots (2 * length (list_entries l.list)) (take l.n (list_entries l.list));
-  noted : length l.runs ≡ length l.slots;
-  runs : AreRuns l.runs (map slot_pair l.slots);
-  hashes : HaveHashes (take l.n (list_entries l.list));
+  long : length l.bytes ≡ pair_size g.L.Width.WORD * (2 * length (list_entries l.list));
+  filled : slots_in g.L.Width.WORD l.bytes ≡ filled_slots (2 * length (list_entries l.list)) (take l.n (list_entries l.list));
+  noted : length l.runs ≡ 2 * length (list_entries l.list);
+  bytes : AreBytes l.bytes;
+  runs : AreRuns l.runs (slots_in g.L.Width.WORD l.bytes);
 }

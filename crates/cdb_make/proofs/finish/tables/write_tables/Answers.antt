@@ -1,10 +1,9 @@
 use Rattle.std.proofs.Common.{arith, refl, ◌≡◌, ◌∙◌, ◌+◌, ◌*◌, ◌<◌, ◌≤◌, ◌++◌, ℕ, List, length, take, get_or, flat_map, sum_by, ap, sym, subst, length-append, length-drop}
 use Rattle.std.proofs.lemmas.List.{take_all, length-take-le, get_or-map, length-map}
-use Rattle.std.proofs.lemmas.List.Elements.{All-same, All-take, All-append, All-drop}
+use Rattle.std.proofs.lemmas.List.Elements.{All-same}
 use Rattle.cdb_store.specs.Images.{AfterWrite, AfterTornWrite, AreSized}
 use Rattle.cdb_store.proofs.Moves.{write_more, torn_behind, torn_wider, torn_from_write}
-use Rattle.cdb_form.specs.Format.Table.{empty_slot}
-use Rattle.cdb_form.specs.Views.Pairs.{slot_pair}
+use Rattle.cdb_form.specs.Format.Pair.{pair_size}
 use Rattle.cdb_make.specs.Parts.{table_bytes}
 use Rattle.cdb_make.specs.Views.EntryList.{list_entries, lists_entries}
 use Rattle.cdb_make.proofs.Slots.HeadPointers.{sums_more}
@@ -14,45 +13,27 @@ use Rattle.cdb_make.proofs.finish.tables.write_tables.Goals as goal
 
 pub overflow_mul-count : goal.overflow_mul-count
 overflow_mul-count g c =
-    let r = table_room list_entries g.L.Width.WORD c.args.end c.loop-list.place (length c.args.slots.now) (length c.args.bytes.now) c.pair_size-size.result c.len-count.result c.args.lists.now c.loop-list.list-index c.list-item.result
-    g.met.L.Width.four_or_eight (omega arith) c.list-item.is c.pair_size-size.ensures c.len-count.ensures c.requires.bytes c.requires.slots c.loop-list.invariant.place in
+    let r = table_room list_entries g.L.Width.WORD c.args.end c.loop-list.place (length c.args.runs.now) (length c.args.bytes.now) c.pair_size-size.result c.len-count.result c.args.lists.now c.loop-list.list-index c.list-item.result
+    g.met.L.Width.four_or_eight (omega arith) c.list-item.is c.pair_size-size.ensures c.len-count.ensures c.requires.bytes c.requires.runs c.loop-list.invariant.place in
     omega (arith, r.few, c.requires.limit, g.met.L.Width.greatest_fits.1)
 
 pub overflow_mul-bytes : goal.overflow_mul-bytes
 overflow_mul-bytes g c =
-    let r = table_room list_entries g.L.Width.WORD c.args.end c.loop-list.place (length c.args.slots.now) (length c.args.bytes.now) c.pair_size-size.result c.len-count.result c.args.lists.now c.loop-list.list-index c.list-item.result
-    g.met.L.Width.four_or_eight (omega arith) c.list-item.is c.pair_size-size.ensures c.len-count.ensures c.requires.bytes c.requires.slots c.loop-list.invariant.place in
+    let r = table_room list_entries g.L.Width.WORD c.args.end c.loop-list.place (length c.args.runs.now) (length c.args.bytes.now) c.pair_size-size.result c.len-count.result c.args.lists.now c.loop-list.list-index c.list-item.result
+    g.met.L.Width.four_or_eight (omega arith) c.list-item.is c.pair_size-size.ensures c.len-count.ensures c.requires.bytes c.requires.runs c.loop-list.invariant.place in
     omega (arith, r.within, c.requires.limit, g.met.L.Width.greatest_fits.1)
 
 pub slice_bounds-bytes-end : goal.slice_bounds-bytes-end
 slice_bounds-bytes-end g c =
-    let r = table_room list_entries g.L.Width.WORD c.args.end c.loop-list.place (length c.args.slots.now) (length c.args.bytes.now) c.pair_size-size.result c.len-count.result c.args.lists.now c.loop-list.list-index c.list-item.result
-    g.met.L.Width.four_or_eight (omega arith) c.list-item.is c.pair_size-size.ensures c.len-count.ensures c.requires.bytes c.requires.slots c.loop-list.invariant.place in
+    let r = table_room list_entries g.L.Width.WORD c.args.end c.loop-list.place (length c.args.runs.now) (length c.args.bytes.now) c.pair_size-size.result c.len-count.result c.args.lists.now c.loop-list.list-index c.list-item.result
+    g.met.L.Width.four_or_eight (omega arith) c.list-item.is c.pair_size-size.ensures c.len-count.ensures c.requires.bytes c.requires.runs c.loop-list.invariant.place in
     omega (arith, r.bytes, c.loop-list.invariant.bytes)
 
 pub slice_bounds-bytes-end-in-loop-list : goal.slice_bounds-bytes-end-in-loop-list
 slice_bounds-bytes-end-in-loop-list g c =
-    let r = table_room list_entries g.L.Width.WORD c.args.end c.loop-list.place (length c.args.slots.now) (length c.args.bytes.now) c.pair_size-size.result c.len-count.result c.args.lists.now c.loop-list.list-index c.list-item.result
-    g.met.L.Width.four_or_eight (omega arith) c.list-item.is c.pair_size-size.ensures c.len-count.ensures c.requires.bytes c.requires.slots c.loop-list.invariant.place in
+    let r = table_room list_entries g.L.Width.WORD c.args.end c.loop-list.place (length c.args.runs.now) (length c.args.bytes.now) c.pair_size-size.result c.len-count.result c.args.lists.now c.loop-list.list-index c.list-item.result
+    g.met.L.Width.four_or_eight (omega arith) c.list-item.is c.pair_size-size.ensures c.len-count.ensures c.requires.bytes c.requires.runs c.loop-list.invariant.place in
     sym (length-take-le (c.pair_size-size.result * (2 * c.len-count.result)) c.loop-list.bytes (omega (arith, r.bytes, c.loop-list.invariant.bytes)))
-
-pub slice_bounds-write_table-end : goal.slice_bounds-write_table-end
-slice_bounds-write_table-end g c =
-    let r = table_room list_entries g.L.Width.WORD c.args.end c.loop-list.place (length c.args.slots.now) (length c.args.bytes.now) c.pair_size-size.result c.len-count.result c.args.lists.now c.loop-list.list-index c.list-item.result
-    g.met.L.Width.four_or_eight (omega arith) c.list-item.is c.pair_size-size.ensures c.len-count.ensures c.requires.bytes c.requires.slots c.loop-list.invariant.place in
-    omega (arith, r.slots, c.loop-list.invariant.slots)
-
-pub slice_bounds-write_table-end-in-loop-list : goal.slice_bounds-write_table-end-in-loop-list
-slice_bounds-write_table-end-in-loop-list g c =
-    let r = table_room list_entries g.L.Width.WORD c.args.end c.loop-list.place (length c.args.slots.now) (length c.args.bytes.now) c.pair_size-size.result c.len-count.result c.args.lists.now c.loop-list.list-index c.list-item.result
-    g.met.L.Width.four_or_eight (omega arith) c.list-item.is c.pair_size-size.ensures c.len-count.ensures c.requires.bytes c.requires.slots c.loop-list.invariant.place in
-    sym (length-take-le (2 * c.len-count.result) c.loop-list.slots (omega (arith, r.slots, c.loop-list.invariant.slots)))
-
-pub write_table-requires-clause-slots : goal.write_table-requires-clause-slots
-write_table-requires-clause-slots g c =
-    let r = table_room list_entries g.L.Width.WORD c.args.end c.loop-list.place (length c.args.slots.now) (length c.args.bytes.now) c.pair_size-size.result c.len-count.result c.args.lists.now c.loop-list.list-index c.list-item.result
-    g.met.L.Width.four_or_eight (omega arith) c.list-item.is c.pair_size-size.ensures c.len-count.ensures c.requires.bytes c.requires.slots c.loop-list.invariant.place in
-    length-take-le (2 * c.len-count.result) c.loop-list.slots (omega (arith, r.slots, c.loop-list.invariant.slots)) ∙ ap (λ (n : ℕ). 2 * n) c.len-count.ensures
 
 pub write_table-requires-clause-fits : goal.write_table-requires-clause-fits
 write_table-requires-clause-fits g c =
@@ -64,22 +45,22 @@ write_table-requires-clause-fits g c =
 
 pub write_table-requires-clause-limit : goal.write_table-requires-clause-limit
 write_table-requires-clause-limit g c =
-    let r = table_room list_entries g.L.Width.WORD c.args.end c.loop-list.place (length c.args.slots.now) (length c.args.bytes.now) c.pair_size-size.result c.len-count.result c.args.lists.now c.loop-list.list-index c.list-item.result
-    g.met.L.Width.four_or_eight (omega arith) c.list-item.is c.pair_size-size.ensures c.len-count.ensures c.requires.bytes c.requires.slots c.loop-list.invariant.place in
+    let r = table_room list_entries g.L.Width.WORD c.args.end c.loop-list.place (length c.args.runs.now) (length c.args.bytes.now) c.pair_size-size.result c.len-count.result c.args.lists.now c.loop-list.list-index c.list-item.result
+    g.met.L.Width.four_or_eight (omega arith) c.list-item.is c.pair_size-size.ensures c.len-count.ensures c.requires.bytes c.requires.runs c.loop-list.invariant.place in
     let cut : length (take (c.pair_size-size.result * (2 * c.len-count.result)) c.loop-list.bytes) ≡ c.pair_size-size.result * (2 * c.len-count.result) = length-take-le (c.pair_size-size.result * (2 * c.len-count.result)) c.loop-list.bytes (omega (arith, r.bytes, c.loop-list.invariant.bytes)) in
     omega (arith, cut, r.within, c.requires.limit)
 
 pub write_table-requires-clause-room : goal.write_table-requires-clause-room
 write_table-requires-clause-room g c =
-    let r = table_room list_entries g.L.Width.WORD c.args.end c.loop-list.place (length c.args.slots.now) (length c.args.bytes.now) c.pair_size-size.result c.len-count.result c.args.lists.now c.loop-list.list-index c.list-item.result
-    g.met.L.Width.four_or_eight (omega arith) c.list-item.is c.pair_size-size.ensures c.len-count.ensures c.requires.bytes c.requires.slots c.loop-list.invariant.place in
+    let r = table_room list_entries g.L.Width.WORD c.args.end c.loop-list.place (length c.args.runs.now) (length c.args.bytes.now) c.pair_size-size.result c.len-count.result c.args.lists.now c.loop-list.list-index c.list-item.result
+    g.met.L.Width.four_or_eight (omega arith) c.list-item.is c.pair_size-size.ensures c.len-count.ensures c.requires.bytes c.requires.runs c.loop-list.invariant.place in
     let cut : length (take (c.pair_size-size.result * (2 * c.len-count.result)) c.loop-list.bytes) ≡ c.pair_size-size.result * (2 * c.len-count.result) = length-take-le (c.pair_size-size.result * (2 * c.len-count.result)) c.loop-list.bytes (omega (arith, r.bytes, c.loop-list.invariant.bytes)) in
     omega (arith, cut, r.within, c.requires.room, c.loop-list.invariant.room)
 
 pub returns-in_err-write_table-clause-torn : goal.returns-in_err-write_table-clause-torn
 returns-in_err-write_table-clause-torn g c =
-    let r = table_room list_entries g.L.Width.WORD c.args.end c.loop-list.place (length c.args.slots.now) (length c.args.bytes.now) c.pair_size-size.result c.len-count.result c.args.lists.now c.loop-list.list-index c.list-item.result
-    g.met.L.Width.four_or_eight (omega arith) c.list-item.is c.pair_size-size.ensures c.len-count.ensures c.requires.bytes c.requires.slots c.loop-list.invariant.place in
+    let r = table_room list_entries g.L.Width.WORD c.args.end c.loop-list.place (length c.args.runs.now) (length c.args.bytes.now) c.pair_size-size.result c.len-count.result c.args.lists.now c.loop-list.list-index c.list-item.result
+    g.met.L.Width.four_or_eight (omega arith) c.list-item.is c.pair_size-size.ensures c.len-count.ensures c.requires.bytes c.requires.runs c.loop-list.invariant.place in
     let cut : length (take (c.pair_size-size.result * (2 * c.len-count.result)) c.loop-list.bytes) ≡ c.pair_size-size.result * (2 * c.len-count.result) = length-take-le (c.pair_size-size.result * (2 * c.len-count.result)) c.loop-list.bytes (omega (arith, r.bytes, c.loop-list.invariant.bytes)) in
     let w : ℕ = g.L.Width.WORD in
     let ls = c.args.lists.now in
@@ -94,15 +75,15 @@ returns-in_err-write_table-clause-torn g c =
 
 pub overflow_add-place : goal.overflow_add-place
 overflow_add-place g c =
-    let r = table_room list_entries g.L.Width.WORD c.args.end c.loop-list.place (length c.args.slots.now) (length c.args.bytes.now) c.pair_size-size.result c.len-count.result c.args.lists.now c.loop-list.list-index c.list-item.result
-    g.met.L.Width.four_or_eight (omega arith) c.list-item.is c.pair_size-size.ensures c.len-count.ensures c.requires.bytes c.requires.slots c.loop-list.invariant.place in
+    let r = table_room list_entries g.L.Width.WORD c.args.end c.loop-list.place (length c.args.runs.now) (length c.args.bytes.now) c.pair_size-size.result c.len-count.result c.args.lists.now c.loop-list.list-index c.list-item.result
+    g.met.L.Width.four_or_eight (omega arith) c.list-item.is c.pair_size-size.ensures c.len-count.ensures c.requires.bytes c.requires.runs c.loop-list.invariant.place in
     let cut : length (take (c.pair_size-size.result * (2 * c.len-count.result)) c.loop-list.bytes) ≡ c.pair_size-size.result * (2 * c.len-count.result) = length-take-le (c.pair_size-size.result * (2 * c.len-count.result)) c.loop-list.bytes (omega (arith, r.bytes, c.loop-list.invariant.bytes)) in
     omega (arith, cut, c.write_table.auto.bytes, r.within, c.requires.limit, g.met.L.Width.greatest_fits.1)
 
 pub loop-list-preserved : goal.loop-list-preserved
 loop-list-preserved g c =
-    let r = table_room list_entries g.L.Width.WORD c.args.end c.loop-list.place (length c.args.slots.now) (length c.args.bytes.now) c.pair_size-size.result c.len-count.result c.args.lists.now c.loop-list.list-index c.list-item.result
-    g.met.L.Width.four_or_eight (omega arith) c.list-item.is c.pair_size-size.ensures c.len-count.ensures c.requires.bytes c.requires.slots c.loop-list.invariant.place in
+    let r = table_room list_entries g.L.Width.WORD c.args.end c.loop-list.place (length c.args.runs.now) (length c.args.bytes.now) c.pair_size-size.result c.len-count.result c.args.lists.now c.loop-list.list-index c.list-item.result
+    g.met.L.Width.four_or_eight (omega arith) c.list-item.is c.pair_size-size.ensures c.len-count.ensures c.requires.bytes c.requires.runs c.loop-list.invariant.place in
     let cut : length (take (c.pair_size-size.result * (2 * c.len-count.result)) c.loop-list.bytes) ≡ c.pair_size-size.result * (2 * c.len-count.result) = length-take-le (c.pair_size-size.result * (2 * c.len-count.result)) c.loop-list.bytes (omega (arith, r.bytes, c.loop-list.invariant.bytes)) in
     let w : ℕ = g.L.Width.WORD in
     let ls = c.args.lists.now in
@@ -112,7 +93,6 @@ loop-list-preserved g c =
     let here : c.loop-list.place ≡ c.args.end + length before = omega (arith, len, c.loop-list.invariant.place) in
     let sized : AreSized (g.S.Store.size c.args.store.now) (g.S.Store.image c.args.store.now) = record { each = g.met.S.Store.image_size c.args.store.now } in
     let x = c.list-item.result in
-    let slots_cut : length (take (2 * c.len-count.result) c.loop-list.slots) ≡ 2 * c.len-count.result = length-take-le (2 * c.len-count.result) c.loop-list.slots (omega (arith, r.slots, c.loop-list.invariant.slots)) in
     let more = sums_more list_entries (4 * w) ls i x (omega arith) c.list-item.is in
     let new : length c.write_table.new.bytes ≡ c.pair_size-size.result * (2 * c.len-count.result) = omega (arith, cut, c.write_table.auto.bytes) in
     let count : 4 * w * c.len-count.result ≡ 4 * w * length (list_entries x) = ap (λ (n : ℕ). 4 * w * n) c.len-count.ensures in
@@ -120,9 +100,8 @@ loop-list-preserved g c =
     write_more here c.requires.inside sized c.loop-list.invariant.tables c.in_ok-write_table.ensures.ok in
     record {
       place = omega (arith, more, new, count, r.table, c.loop-list.invariant.place);
-      slots = simp (length-append, length-drop) (omega (arith, slots_cut, c.write_table.auto.slots, r.slots, c.loop-list.invariant.slots));
+      runs = omega (arith, c.write_table.auto.runs, c.loop-list.invariant.runs);
       bytes = simp (length-append, length-drop) (omega (arith, new, r.bytes, c.loop-list.invariant.bytes));
-      empty = All-append (λ s. slot_pair s ≡ empty_slot) _ _ c.write_table.ensures.empty (All-drop (λ s. slot_pair s ≡ empty_slot) (2 * c.len-count.result) c.loop-list.slots c.loop-list.invariant.empty);
       tables = subst (λ (v : List ℕ). AfterWrite c.args.end v (g.S.Store.image c.args.store.now) (g.S.Store.image c.write_table.new.store)) (tables_next list_entries w ls i x (omega arith) c.list-item.is) wrote;
       size = omega (arith, cut, new, c.loop-list.invariant.size, c.in_ok-write_table.ensures.ok_size);
       written = omega (arith, cut, new, c.loop-list.invariant.written, c.in_ok-write_table.ensures.written);
@@ -147,13 +126,20 @@ pub loop-list-init : goal.loop-list-init
 loop-list-init g c = grind (arith, common_steps)
 
 pub write_table-requires-clause-bytes : goal.write_table-requires-clause-bytes
-write_table-requires-clause-bytes g c = grind (arith, common_steps)
+write_table-requires-clause-bytes g c =
+    let r = table_room list_entries g.L.Width.WORD c.args.end c.loop-list.place (length c.args.runs.now) (length c.args.bytes.now) c.pair_size-size.result c.len-count.result c.args.lists.now c.loop-list.list-index c.list-item.result
+    g.met.L.Width.four_or_eight (omega arith) c.list-item.is c.pair_size-size.ensures c.len-count.ensures c.requires.bytes c.requires.runs c.loop-list.invariant.place in
+    length-take-le (c.pair_size-size.result * (2 * c.len-count.result)) c.loop-list.bytes (omega (arith, r.bytes, c.loop-list.invariant.bytes))
+    ∙ ap (λ (n : ℕ). n * (2 * c.len-count.result)) c.pair_size-size.ensures ∙ ap (λ (n : ℕ). pair_size g.L.Width.WORD * (2 * n)) c.len-count.ensures
+
+pub write_table-requires-clause-runs : goal.write_table-requires-clause-runs
+write_table-requires-clause-runs g c =
+    let r = table_room list_entries g.L.Width.WORD c.args.end c.loop-list.place (length c.args.runs.now) (length c.args.bytes.now) c.pair_size-size.result c.len-count.result c.args.lists.now c.loop-list.list-index c.list-item.result
+    g.met.L.Width.four_or_eight (omega arith) c.list-item.is c.pair_size-size.ensures c.len-count.ensures c.requires.bytes c.requires.runs c.loop-list.invariant.place in
+    omega (arith, r.slots, c.len-count.ensures, c.loop-list.invariant.runs)
 
 pub returns-clause-written : goal.returns-clause-written
 returns-clause-written g c = grind (arith, common_steps)
 
 pub returns-clause-ok : goal.returns-clause-ok
 returns-clause-ok g c = grind (arith, common_steps)
-
-pub write_table-requires-clause-empty : goal.write_table-requires-clause-empty
-write_table-requires-clause-empty g c = All-take (λ s. slot_pair s ≡ empty_slot) (2 * c.len-count.result) c.loop-list.slots c.loop-list.invariant.empty

@@ -1,7 +1,6 @@
 use Rattle.std.proofs.Common.{◌≡◌, ◌+◌, ◌*◌, ◌≤◌, take, flat_map, length, sum_by, max}
 use Rattle.cdb_store.specs.Images.{AfterWrite}
 use Rattle.cdb_make.specs.Parts.{table_bytes}
-use Rattle.cdb_make.specs.Runs.{AreEmpty}
 use Rattle.cdb_make.specs.Views.EntryList.{lists_entries}
 use Rattle.cdb_make.proofs.finish.tables.write_tables.Given as goal
 
@@ -9,9 +8,8 @@ use Rattle.cdb_make.proofs.finish.tables.write_tables.Given as goal
 abbrev pub invariant-loop-list : goal.invariant-loop-list
 invariant-loop-list g l = record {
   place : l.place ≡ l.end + 4 * g.L.Width.WORD * sum_by length (lists_entries (take l.list-index l.lists));
-  slots : length l.slots ≡ length l.fn.slots;
+  runs : length l.runs ≡ length l.fn.runs;
   bytes : length l.bytes ≡ length l.fn.bytes;
-  empty : AreEmpty l.slots;
   tables : AfterWrite l.end (flat_map (table_bytes g.L.Width.WORD) (lists_entries (take l.list-index l.lists))) (g.S.Store.image l.fn.store) (g.S.Store.image l.store);
   size : g.S.Store.size l.store ≡ max (g.S.Store.size l.fn.store) l.place;
   written : g.S.Store.written l.store + l.end ≡ g.S.Store.written l.fn.store + l.place;
