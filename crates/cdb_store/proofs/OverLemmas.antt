@@ -2,7 +2,7 @@
 use Rattle.std.proofs.Common.{◌≡◌, ℕ, ◌+◌, ◌≤◌, List, [], ◌++◌, length, take, max, inl, inr, refl, sym, ap, subst, ◌∙◌, arith, append_assoc, length-append}
 use Rattle.std.proofs.lemmas.List.{length-take-le, take-take, take_at}
 use Rattle.cdb_store.specs.Images.{overwrite, part, Over, AreApart, SameImages, AfterRead, AfterWrite, AreSized}
-use Rattle.cdb_store.specs.Lengths.{over_size, over_taken}
+use Rattle.cdb_store.specs.Lengths.{over_taken}
 use Rattle.cdb_store.proofs.Parts.{take-overwrite, drop-overwrite, part_from_take, overwrite-overwrite, overwrite_nothing, part_inside}
 use Rattle.cdb_store.proofs.Moves.{same_refl, same_sym, same_trans, write_between}
 
@@ -84,9 +84,6 @@ over_emptied pos bytes i e = rw e (over_nothing pos i)
 
 pub over_placed : (pos next : ℕ) (bytes : List ℕ) (i : List ℕ → Type 0) → bytes ≡ [] → SameImages (Over pos bytes i) (Over next bytes i)
 over_placed pos next bytes i e = same_trans (over_emptied pos bytes i e) (same_sym (over_emptied next bytes i e))
-
-pub sized_over : {n : ℕ} (pos : ℕ) (bytes : List ℕ) {i : List ℕ → Type 0} → pos ≤ n → AreSized n i → AreSized (max n (pos + length bytes)) (Over pos bytes i)
-sized_over {n = n} pos bytes {i = i} inside sized = record { each = over_size pos bytes n i sized.each inside }
 
 pub sized_taken : {n : ℕ} (pos k : ℕ) (bytes : List ℕ) {i : List ℕ → Type 0} → pos ≤ n → k ≤ length bytes → AreSized n i → AreSized (max n (pos + k)) (Over pos (take k bytes) i)
 sized_taken {n = n} pos k bytes {i = i} inside fits sized = record { each = over_taken pos k bytes n i sized.each inside fits }

@@ -19,6 +19,7 @@ use Rattle.cdb_form.proofs.Bytes.HeadLemmas.{rest_of, length-pair_bytes}
 use borrow.Rule.Slice.PartMut.{mid_of, put_mid, post_of, mid_len, same_len_mid, take_put, drop_put}
 use Rattle.cdb_make.specs.Views.SlotBytes.{slots_in}
 
+-- how many slots some bytes hold
 pub length-slots_in : (w : ℕ) (bytes : List ℕ) → length (slots_in w bytes) ≡ length bytes / pair_size w
 unfolding slots_in
 length-slots_in w bytes = length-map-range_with_len (nth_pair w bytes) 0 (length bytes / pair_size w)
@@ -41,6 +42,7 @@ slot_within w size at bytes es low =
     let same : size * at ≡ pair_size w * at = ap (λ (s : ℕ). s * at) es in
     omega (arith, up, all, same)
 
+-- each of them is a pair of words
 pub get_or-slots_in : (w at : ℕ) (bytes : List ℕ) → at < length (slots_in w bytes) → get_or (slots_in w bytes) at empty_slot ≡ nth_pair w bytes at
 unfolding slots_in
 get_or-slots_in w at bytes low =
@@ -115,10 +117,12 @@ slots_in-put w size at bytes ys p es low written back =
     ])) in
     ap (λ (l : ℕ). map (nth_pair w new) (range_with_len 0 (l / pair_size w))) same ∙ all ∙ ap (slice_set (slots_in w bytes) at) back
 
+-- the words of zeros
 zero_pair : (w : ℕ) → (w ≡ 4) ⊎ (w ≡ 8) → pair_at w (replicate (w + w) 0) ≡ empty_slot
 zero_pair w (inl e) = subst (λ (n : ℕ). pair_at n (replicate (n + n) 0) ≡ empty_slot) (sym e) refl
 zero_pair w (inr e) = subst (λ (n : ℕ). pair_at n (replicate (n + n) 0) ≡ empty_slot) (sym e) refl
 
+-- a part of zeros
 zeros : (i k m : ℕ) → i + k ≤ m → take k (drop i (replicate {A = ℕ} m 0)) ≡ replicate k 0
 zeros i k m within = ap (take k) (drop-replicate {X = ℕ} i m 0) ∙ take-replicate {X = ℕ} k (m - i) 0 (omega arith)
 
