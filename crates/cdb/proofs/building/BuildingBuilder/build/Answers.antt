@@ -1,5 +1,6 @@
-use Rattle.std.proofs.Common.{ap, arith, inl, refl, ◌∙◌, ◌≡◌, ◌<◌}
+use Rattle.std.proofs.Common.{ap, arith, inl, refl, take, ◌∙◌, ◌≡◌, ◌<◌}
 use Rattle.std.proofs.lemmas.Result.{IfErr-weaker, on_ok_weaker}
+use Rattle.cdb_store.specs.BufferedStore.{bytes_of}
 use Rattle.cdb_store.specs.Images.{overwrite}
 use Rattle.cdb_store.proofs.OverLemmas.{over_emptied}
 use Rattle.cdb_files.specs.Unsynced.{inner_of}
@@ -13,7 +14,7 @@ returns-in-Ok-clause-built g c =
     let left = c.make_in-buffered.result.0 in
     rw (c.into_inner.ensures ∙ ap inner_of c.discard.ensures)
     (database_made g.F.Store (making_of g.L.Width.WORD g.L.Width.GREATEST g.J.Read.remaining g.I.Read.remaining c.args.self.contents) c.make_in-buffered.result.1 _ (g.S.Store.image left.inner.inner) _ _ c.make_in-buffered.result.2 e.run.hands e.run.runs
-    (on_ok_weaker c.make_in-buffered.result.2 (λ settled. (over_emptied left.pos left.buffer.items (g.S.Store.image left.inner.inner) settled.0).no_other) e.settled))
+    (on_ok_weaker c.make_in-buffered.result.2 (λ settled. (over_emptied left.pos (bytes_of left) (g.S.Store.image left.inner.inner) (ap (λ n. take n left.buffer.items) settled.0)).no_other) e.settled))
 
 pub returns-in-Ok-clause-fails : goal.returns-in-Ok-clause-fails
 returns-in-Ok-clause-fails g c =
@@ -29,5 +30,5 @@ returns-in-Ok-clause-tells g c =
     let e = c.make_in-buffered.ensures in
     let left = c.make_in-buffered.result.0 in
     rw (c.into_inner.ensures ∙ ap inner_of c.discard.ensures)
-    (inl (run_under g.F.Store (making_of g.L.Width.WORD g.L.Width.GREATEST g.J.Read.remaining g.I.Read.remaining c.args.self.contents) c.make_in-buffered.result.1 _ (g.S.Store.image left.inner.inner) _ _ c.make_in-buffered.result.2 e.run (λ b is. (overwrite b left.pos left.buffer.items, (b, is, refl)))
-    (on_ok_weaker c.make_in-buffered.result.2 (λ settled. (over_emptied left.pos left.buffer.items (g.S.Store.image left.inner.inner) settled.0).no_other) e.settled)))
+    (inl (run_under g.F.Store (making_of g.L.Width.WORD g.L.Width.GREATEST g.J.Read.remaining g.I.Read.remaining c.args.self.contents) c.make_in-buffered.result.1 _ (g.S.Store.image left.inner.inner) _ _ c.make_in-buffered.result.2 e.run (λ b is. (overwrite b left.pos (bytes_of left), (b, is, refl)))
+    (on_ok_weaker c.make_in-buffered.result.2 (λ settled. (over_emptied left.pos (bytes_of left) (g.S.Store.image left.inner.inner) (ap (λ n. take n left.buffer.items) settled.0)).no_other) e.settled)))

@@ -1,5 +1,6 @@
-use Rattle.std.proofs.Common.{arith, subst, ap, ◌∙◌, ◌≡◌, OnOk, Ok, Err, Result}
+use Rattle.std.proofs.Common.{arith, subst, ap, take, ◌∙◌, ◌≡◌, OnOk, Ok, Err, Result}
 use Rattle.std.proofs.lemmas.Result.{IfErr-weaker}
+use Rattle.cdb_store.specs.BufferedStore.{bytes_of}
 use Rattle.cdb_store.proofs.OverLemmas.{over_emptied}
 use Rattle.cdb_files.specs.Unsynced.{inner_of}
 use Rattle.cdb_files.proofs.Failing.{building_below, building_later}
@@ -14,7 +15,7 @@ pub returns-in-Ok-clause-built : goal.returns-in-Ok-clause-built
 returns-in-Ok-clause-built g c =
     let buffered = c.put_all-buffered.result.0 in
     both c.put_all-buffered.result.1 (λ settled file b is.
-    file.each b ((over_emptied buffered.pos buffered.buffer.items (g.S.Store.image buffered.inner.inner) settled.0).no_other b (subst (λ s. g.S.Store.image s b) (c.into_inner.ensures ∙ ap inner_of c.discard.ensures) is)))
+    file.each b ((over_emptied buffered.pos (bytes_of buffered) (g.S.Store.image buffered.inner.inner) (ap (λ n. take n buffered.buffer.items) settled.0)).no_other b (subst (λ s. g.S.Store.image s b) (c.into_inner.ensures ∙ ap inner_of c.discard.ensures) is)))
     c.put_all-buffered.ensures.settled c.put_all-buffered.ensures.file
 
 pub returns-in-Ok-clause-fails : goal.returns-in-Ok-clause-fails
@@ -27,5 +28,5 @@ returns-in-Ok-clause-fails g c =
     let over : g.S.Store.failures (inner_of c.over.result) ≡ g.S.Store.failures c.args.store = ap g.S.Store.failures c.over.ensures in
     rw inner (IfErr-weaker c.put_all-buffered.result.1 _ _ (λ f fails.
     building_later w greatest records (g.S.Store.failures c.args.store) (g.S.Store.failures c.in-Ok.buffered.inner.inner) (g.S.Store.failures buffered.inner.inner) (g.S.Store.image buffered.inner.inner) f (omega (arith, c.in-Ok.ensures.failures, over))
-    (building_below w greatest records (g.S.Store.failures c.in-Ok.buffered.inner.inner) (g.S.Store.failures buffered.inner.inner) buffered.pos buffered.buffer.items (g.S.Store.image buffered.inner.inner) f fails))
+    (building_below w greatest records (g.S.Store.failures c.in-Ok.buffered.inner.inner) (g.S.Store.failures buffered.inner.inner) buffered.pos (bytes_of buffered) (g.S.Store.image buffered.inner.inner) f fails))
     c.put_all-buffered.ensures.fails)
