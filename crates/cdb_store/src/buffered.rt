@@ -5,10 +5,9 @@ ghost use Rattle.std.proofs.Common.{arith};
 ghost use Rattle.cdb_store.specs.declared.store.StoreFault.TheVariants.{NoMemory};
 ghost use Rattle.cdb_store.specs.Images.{AreApart, SameImages, AfterRead, AfterTornWrite, HasCause};
 ghost use Rattle.cdb_store.specs.Lengths.{over_taken};
-ghost use Rattle.cdb_store.specs.Calls.{written_count};
 
 use crate::bytes::{join, read_from};
-use crate::trace::{Call, Trace};
+use crate::trace::{Call, Trace, note_parts};
 use crate::{Store, StoreFault};
 use std::alloc::{AllocError, AllocFailed, Global};
 
@@ -197,21 +196,8 @@ impl<S: Store> BufferedStore<S> {
     }
 }
 
-/// Notes that three pieces were written, one after another.
-fn note_parts(trace: &mut Trace, pos: u64, first: &[u8], second: &[u8], third: &[u8])
-    requires { pos + length (first.now ++ (second.now ++ third.now)) < 2 ^ 63 }
-    ensures { written_count trace.new.events
-        ≡ written_count trace.old.events + length (first.now ++ (second.now ++ third.now)) }
-{
-    let second_pos = pos + first.len() as u64;
-    let third_pos = second_pos + second.len() as u64;
-    trace.note(&Call::Wrote(pos), first);
-    trace.note(&Call::Wrote(second_pos), second);
-    trace.note(&Call::Wrote(third_pos), third);
-}
-
-/// Makes a buffer `end` bytes long, or twice as long if that is no more than `most`, for which it has
-/// the capacity: so for a few bytes only a few are cleared.
+/// Makes a buffer `end` bytes long, and after the first time twice as long, but no longer than `most`,
+/// for which it has the capacity: so for a few bytes only a few are cleared.
 #[cold]
 #[inline(never)]
 fn lengthen(buffer: &mut Vec<u8>, end: usize, most: usize) -> Result<(), AllocError>
@@ -224,7 +210,12 @@ fn lengthen(buffer: &mut Vec<u8>, end: usize, most: usize) -> Result<(), AllocEr
     ensures within { length buffer.new.items ≤ most }
     ensures capacity { most ≤ vec_capacity buffer.new }
 {
-    buffer.resize(end.saturating_mul(2).min(most), 0)
+    let len = if buffer.is_empty() {
+        end
+    } else {
+        end.saturating_mul(2).min(most)
+    };
+    buffer.resize(len, 0)
 }
 
 /// Whether these `n` bytes from `pos` on all lie among the `held` bytes from `start` on.

@@ -36,6 +36,33 @@ pub(crate) fn join(first: &[u8], second: &[u8], third: &[u8], into: &mut [u8])
     back.copy_from_slice(third);
 }
 
+/// Writes three pieces, one after another, over bytes from `pos` on, and past the end.
+pub(crate) fn write_parts_over(
+    bytes: &mut Vec<u8>,
+    pos: usize,
+    first: &[u8],
+    second: &[u8],
+    third: &[u8],
+) -> Result<(), AllocError>
+    requires start { pos ≤ vec_len bytes.old }
+    requires end { pos + length (first.now ++ (second.now ++ third.now)) < 2 ^ 63 }
+    ensures ok { OnOk result (bytes.new.items
+        ≡ overwrite bytes.old.items pos (first.now ++ (second.now ++ third.now))) }
+    ensures err { OnErr result (bytes.new.items ≡ bytes.old.items) }
+    ensures full { OnErr result
+        (vec_capacity bytes.old < pos + length (first.now ++ (second.now ++ third.now))) }
+    ensures err_capacity { OnErr result (vec_capacity bytes.new ≡ vec_capacity bytes.old) }
+    ensures capacity { vec_capacity bytes.old ≤ vec_capacity bytes.new }
+{
+    let end = pos + first.len() + second.len() + third.len();
+    if bytes.len() < end {
+        bytes.reserve(end - bytes.len())?;
+        bytes.resize(end, 0)?;
+    }
+    join(first, second, third, &mut bytes[pos..end]);
+    Ok(())
+}
+
 /// Fills `into` with the bytes from `pos` on.
 pub(crate) fn read_from(bytes: &[u8], pos: usize, into: &mut [u8])
     requires { pos + length into.old ≤ length bytes.now }

@@ -4,8 +4,8 @@ ghost use Rattle.std.proofs.Common.{arith};
 ghost use Rattle.cdb_store.specs.Lengths.{same_length};
 ghost use Rattle.cdb_store.specs.Calls.{written_count};
 
-use crate::bytes::{read_from, write_over};
-use crate::trace::{Call, Trace};
+use crate::bytes::{read_from, write_over, write_parts_over};
+use crate::trace::{Call, Trace, note_parts};
 use crate::{Store, StoreFault};
 use std::alloc::Global;
 
@@ -84,6 +84,18 @@ impl Store for MemStore {
     fn write_at(&mut self, pos: u64, bytes: &[u8]) -> Result<(), StoreFault> {
         write_over(&mut self.bytes, pos as usize, bytes)?;
         self.trace.note(&Call::Wrote(pos), bytes);
+        Ok(())
+    }
+
+    fn write_parts(
+        &mut self,
+        pos: u64,
+        first: &[u8],
+        second: &[u8],
+        third: &[u8],
+    ) -> Result<(), StoreFault> {
+        write_parts_over(&mut self.bytes, pos as usize, first, second, third)?;
+        note_parts(&mut self.trace, pos, first, second, third);
         Ok(())
     }
 

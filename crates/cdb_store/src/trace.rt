@@ -1,7 +1,8 @@
 //! The calls on a file and what they answered, which only clauses read.
-ghost use Rattle.std.specs.Prelude.{◌≡◌, List, ℕ, [], ◌∷◌};
+ghost use Rattle.std.specs.Prelude.{◌≡◌, List, ℕ, [], ◌∷◌, ◌+◌, ◌<◌, ◌^◌, ◌++◌, length};
 ghost use Rattle.std.specs.Borrow.{ftrue};
 ghost use Rattle.cdb_store.specs.declared.trace.Call.{Call};
+ghost use Rattle.cdb_store.specs.Calls.{written_count};
 
 use std::marker::{Model, PhantomData};
 
@@ -64,4 +65,17 @@ impl Trace {
     pub fn note(&mut self, _call: &Call, _bytes: &[u8])
         ensures { self.new.events ≡ (_call.now, _bytes.now) ∷ self.old.events }
     {}
+}
+
+/// Notes that three pieces were written, one after another.
+pub(crate) fn note_parts(trace: &mut Trace, pos: u64, first: &[u8], second: &[u8], third: &[u8])
+    requires { pos + length (first.now ++ (second.now ++ third.now)) < 2 ^ 63 }
+    ensures { written_count trace.new.events
+        ≡ written_count trace.old.events + length (first.now ++ (second.now ++ third.now)) }
+{
+    let second_pos = pos + first.len() as u64;
+    let third_pos = second_pos + second.len() as u64;
+    trace.note(&Call::Wrote(pos), first);
+    trace.note(&Call::Wrote(second_pos), second);
+    trace.note(&Call::Wrote(third_pos), third);
 }
