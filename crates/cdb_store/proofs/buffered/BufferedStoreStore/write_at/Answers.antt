@@ -3,7 +3,7 @@ use borrow.Rule.Slice.PartMut.{post_of}
 use Rattle.cdb_store.specs.BufferedStore.{bytes_of, images_of}
 use Rattle.cdb_store.specs.Images.{AreSized}
 use Rattle.cdb_store.proofs.OverLemmas.{over_alike, over_emptied, over_put, over_same, sized_taken}
-use Rattle.cdb_store.proofs.Moves.{same_trans, same_sym, same_refl, write_between, torn_between, torn_same, torn_from_write}
+use Rattle.cdb_store.proofs.Moves.{same_trans, same_sym, write_between, torn_between, torn_same, torn_from_write}
 use Rattle.std.proofs.lemmas.Grind.{common_steps}
 use Rattle.cdb_store.proofs.buffered.BufferedStoreStore.write_at.Goals as goal
 

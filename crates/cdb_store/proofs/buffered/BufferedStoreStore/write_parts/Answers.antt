@@ -1,4 +1,4 @@
-use Rattle.std.proofs.Common.{◌++◌, ◌≡◌, ◌+◌, ◌-◌, ℕ, List, length, take, drop, length-append, refl, arith}
+use Rattle.std.proofs.Common.{◌++◌, ◌≡◌, ◌+◌, ◌-◌, ℕ, List, length, take, drop, length-append, arith}
 use borrow.Rule.Slice.PartMut.{post_of}
 use Rattle.cdb_store.specs.BufferedStore.{bytes_of, images_of}
 use Rattle.cdb_store.specs.Images.{AreSized}

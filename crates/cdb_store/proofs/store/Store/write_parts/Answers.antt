@@ -1,4 +1,4 @@
-use Rattle.std.proofs.Common.{◌+◌, ◌++◌, ◌≡◌, ℕ, List, length, arith, length-append}
+use Rattle.std.proofs.Common.{◌+◌, ◌++◌, ℕ, List, length, arith, length-append}
 use Rattle.std.proofs.lemmas.Result.{on_ok_weaker}
 use Rattle.cdb_store.specs.Images.{AfterWrite, AfterTornWrite, AreSized}
 use Rattle.cdb_store.proofs.Moves.{same_refl, torn_behind, torn_between, torn_wider, write_between, write_more}
