@@ -432,7 +432,7 @@ check_taken w store last start end result some h =
 -- a fault of a file in order is one that no file can have
 not_met : (w : ℕ) (bytes beside : List ℕ) (damage : Damage) → (walk_of w bytes).damage ≡ None → FindsInOrder w bytes → HasAny w bytes beside damage → ⊥
 not_met w bytes beside damage whole finds (inl walked) = (let e = sym whole ∙ walked in cc)
-not_met w bytes beside damage whole finds (inr looked) = (let e = sym (finds.sound looked.0) ∙ looked.1.1 in cc)
+not_met w bytes beside damage whole finds (inr looked) = (let e = sym (finds.sound looked.0) ∙ looked.2 in cc)
 
 not_read : {S : Type 0} (w : ℕ) (s : Ghosts S) (file last other : S) (bytes beside : List ℕ) (start end : Option (List ℕ)) (fault : ReadFault) → s.image last bytes → s.image other beside → length bytes ≡ s.size last → s.failures last ≡ 0 → (walk_of w bytes).damage ≡ None → FindsInOrder w bytes → NotRead w s s file last other start end fault → ⊥
 not_read w s file last other bytes beside start end read.Short is it size works whole finds h =
