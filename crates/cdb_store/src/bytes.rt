@@ -25,6 +25,7 @@ pub(crate) fn write_over(bytes: &mut Vec<u8>, pos: usize, new: &[u8]) -> Result<
 }
 
 /// Fills `into` with three pieces, one after another.
+#[inline(always)]
 pub(crate) fn join(first: &[u8], second: &[u8], third: &[u8], into: &mut [u8])
     requires { length into.old ≡ length first.now + length second.now + length third.now }
     ensures { into.new ≡ first.now ++ (second.now ++ third.now) }

@@ -83,20 +83,6 @@ impl FileStore {
         FileStore::made_by(rt, options, path)
     }
 
-    /// Makes a file, or empties the one of that name, and reads and writes it. It follows no link.
-    ///
-    /// `NoMemory`: the system had none. `Device`: it can't be opened so, or the name is that of a link.
-    /// What the link leads to stays.
-    pub fn create_own<R: Files<File = File>>(rt: &R, path: &str) -> Result<FileStore, StoreFault>
-        ensures images { IfOk result (λ f. (b : List ℕ) → (images_of f b ↔ (b ≡ []))) }
-        ensures made { IfOk result (λ f. calls_of f ≡ (Made, []) ∷ []) }
-    {
-        match RealFile::emptied(rt, path) {
-            Ok(file) => Ok(FileStore::empty(file)),
-            Err(error) => Err(open_fault(&error)),
-        }
-    }
-
     /// Makes a file by these options, which leave none of its bytes.
     fn made_by<R: Files<File = File>>(
         rt: &R,

@@ -1,6 +1,6 @@
 // A store that fails one call, for tests of what stands on stores.
 ghost use Rattle.std.specs.Prelude.{◌≡◌, ◌+◌, ◌<◌, ◌≤◌, ◌^◌, ◌↔◌, ◌⊎◌, max, length, take, IsTrue};
-ghost use Rattle.std.specs.Prelude.{OnOk, OnErr, IsErrOf};
+ghost use Rattle.std.specs.Prelude.{OnOk, OnErr, IsErrOf, ◌++◌};
 ghost use Rattle.cdb_store.specs.declared.store.StoreFault.TheVariants.{Device, NoMemory};
 ghost use Rattle.cdb_store.specs.Images.{SameImages, AfterRead, AfterWrite, AfterTornWrite};
 ghost use Rattle.cdb_store.specs.Images.{AfterCut, HasCause};
@@ -10,8 +10,8 @@ use crate::{Store, StoreFault};
 
 /// A store that passes so many calls to the inner store, fails the next one, and passes all later ones.
 ///
-/// The calls that count are `read_at`, `write_at`, `cut` and `flush`. The write that fails first
-/// writes a part of its bytes; any other call that fails does nothing.
+/// The calls that count are `read_at`, `write_at`, `write_parts`, `cut` and `flush`. The write that fails
+/// first writes a part of its bytes; any other call that fails does nothing.
 #[derive(Drop)]
 pub struct FuseStore<S> {
     inner: S,
@@ -85,6 +85,22 @@ fn blows(calls: &mut u64, limit: u64) -> bool
     let is_last = *calls == limit && limit < u64::MAX;
     *calls = calls.saturating_add(1);
     is_last
+}
+
+/// The first `n` bytes of three pieces that are written one after another, as three pieces.
+fn first_bytes<'a>(
+    n: usize,
+    first: &'a [u8],
+    second: &'a [u8],
+    third: &'a [u8],
+) -> (&'a [u8], &'a [u8], &'a [u8])
+    ensures { result.0.now ++ (result.1.now ++ result.2.now)
+        ≡ take n (first.now ++ (second.now ++ third.now)) }
+{
+    let of_first = n.min(first.len());
+    let of_second = (n - of_first).min(second.len());
+    let of_third = (n - of_first - of_second).min(third.len());
+    (&first[..of_first], &second[..of_second], &third[..of_third])
 }
 
 #[tactic(auto, using(crate::proofs::FuseLemmas::fuse_passes, crate::proofs::FuseLemmas::fuse_passes_fine))]
@@ -200,6 +216,79 @@ impl<S: Store> Store for FuseStore<S> {
         }
         self.inner.write_at(pos, bytes)?;
         self.written = self.written.saturating_add(bytes.len() as u64);
+        Ok(())
+    }
+
+    fn write_parts(
+        &mut self,
+        pos: u64,
+        first: &[u8],
+        second: &[u8],
+        third: &[u8],
+    ) -> Result<(), StoreFault>
+        requires start { pos ≤ S.size self.old.inner }
+        requires end { pos + length (first.now ++ (second.now ++ third.now)) < 2 ^ 63 }
+        ensures ok { OnOk result
+            (AfterWrite pos (first.now ++ (second.now ++ third.now)) (S.image self.old.inner) (S.image self.new.inner)) }
+        ensures ok_size { OnOk result
+            (S.size self.new.inner ≡ max (S.size self.old.inner) (pos + length (first.now ++ (second.now ++ third.now)))) }
+        ensures ok_written { OnOk result
+            (S.written self.new.inner ≡ S.written self.old.inner + length (first.now ++ (second.now ++ third.now))) }
+        ensures torn { AfterTornWrite pos (length (first.now ++ (second.now ++ third.now))) (S.image self.old.inner)
+            (S.image self.new.inner) }
+        ensures longer { S.size self.old.inner ≤ S.size self.new.inner }
+        ensures not_past { S.size self.new.inner
+            ≤ max (S.size self.old.inner) (pos + length (first.now ++ (second.now ++ third.now))) }
+        ensures more_written { S.written self.old.inner ≤ S.written self.new.inner }
+        ensures at_most_written { S.written self.new.inner
+            ≤ S.written self.old.inner + length (first.now ++ (second.now ++ third.now)) }
+        ensures memory { IsErrOf result NoMemory
+            → SameImages (S.image self.old.inner) (S.image self.new.inner) }
+        ensures memory_size { IsErrOf result NoMemory
+            → S.size self.new.inner ≡ S.size self.old.inner }
+        ensures memory_written { IsErrOf result NoMemory
+            → S.written self.new.inner ≡ S.written self.old.inner }
+        ensures memory_room { IsErrOf result NoMemory
+            → S.room self.new.inner ≡ S.room self.old.inner }
+        ensures memory_failures { IsErrOf result NoMemory
+            → failures_of S.failures self.new ≡ failures_of S.failures self.old }
+        ensures past_room { IsErrOf result NoMemory
+            → S.room self.old.inner < pos + length (first.now ++ (second.now ++ third.now)) }
+        ensures room { S.room self.old.inner ≤ S.room self.new.inner }
+        ensures unwritten { HasCause (failures_of S.unwritten self.old)
+            (failures_of S.unwritten self.new) result }
+        ensures cause { HasCause (failures_of S.failures self.old) (failures_of S.failures self.new)
+            result }
+        ensures ok_failures { OnOk result
+            (failures_of S.failures self.new ≡ failures_of S.failures self.old) }
+        ensures counted { IsCounted self.old self.new }
+        ensures count_ok { OnOk result
+            (self.new.written ≡ capped (self.old.written + length (first.now ++ (second.now ++ third.now)))) }
+        ensures count_err { OnErr result (IsLast self.old ⊎ (self.new.written ≡ self.old.written)) }
+        ensures fails { IsLast self.old → IsErrOf result Device }
+        ensures part_torn { IsLast self.old
+            → AfterTornWrite pos (length (take self.old.part (first.now ++ (second.now ++ third.now)))) (S.image self.old.inner)
+            (S.image self.new.inner) }
+        ensures part_size { IsLast self.old → S.size self.new.inner
+            ≤ max (S.size self.old.inner) (pos + length (take self.old.part (first.now ++ (second.now ++ third.now)))) }
+        ensures part_written { IsLast self.old → S.written self.new.inner
+            ≤ S.written self.old.inner + length (take self.old.part (first.now ++ (second.now ++ third.now))) }
+        ensures part { IsLast self.old
+            → PartWritten pos (take self.old.part (first.now ++ (second.now ++ third.now))) (S.image self.old.inner)
+            (S.image self.new.inner) (S.failures self.old.inner, S.failures self.new.inner)
+            (S.room self.old.inner) (self.old.written, self.new.written) }
+    {
+        let n = first.len() + second.len() + third.len();
+        if blows(&mut self.calls, self.limit) {
+            let part = self.part.min(n as u64) as usize;
+            let (a, b, c) = first_bytes(part, first, second, third);
+            if let Ok(()) = self.inner.write_parts(pos, a, b, c) {
+                self.written = self.written.saturating_add(part as u64);
+            }
+            return Err(StoreFault::Device);
+        }
+        self.inner.write_parts(pos, first, second, third)?;
+        self.written = self.written.saturating_add(n as u64);
         Ok(())
     }
 

@@ -35,6 +35,8 @@ fn is_one(one: &Metadata, other: &Metadata) -> bool {
 pub struct RealFile {
     file: File,
     trace: Trace,
+    /// The system's number of the error that the last call which failed met.
+    error: Option<i32>,
 }
 
 impl RealFile {
@@ -47,12 +49,13 @@ impl RealFile {
         RealFile {
             file,
             trace: Trace::new(),
+            error: None,
         }
     }
 
     /// A file that was just made or emptied.
-    pub(crate) fn made(file: File) -> RealFile
-        ensures { result.trace.events ≡ (Call.Made, []) ∷ [] }
+    pub fn made(file: File) -> RealFile
+        ensures { events_of result ≡ (Call.Made, []) ∷ [] }
     {
         let mut made = RealFile::opened(file);
         made.trace.note(&Call::Made, &[]);
@@ -91,29 +94,35 @@ impl RealFile {
         Ok(RealFile::opened(file))
     }
 
-    /// Makes a file, or empties the one of this name, and reads and writes it. A link is not
-    /// followed: it is a fault, and what it leads to stays.
-    ///
-    /// A file that is no regular one, such as a device, has nothing that could be emptied.
-    pub fn emptied<R: Files<File = File>>(rt: &R, path: &str) -> io::Result<RealFile>
-        ensures made { IfOk result (λ f. events_of f ≡ (Call.Made, []) ∷ []) }
+    /// Makes a file, or opens the one of this name, and reads and writes it. It is not emptied. A link is
+    /// not followed: it is a fault.
+    pub fn opened_to_empty<R: Files<File = File>>(rt: &R, path: &str) -> io::Result<RealFile>
+        ensures opened { IfOk result (λ f. events_of f ≡ []) }
     {
         match RealFile::create_new(rt, path, READ_AND_WRITTEN) {
+            Ok(made) => Ok(RealFile::opened(made.into_file())),
             Err(error) if error.kind() == ErrorKind::AlreadyExists => {
                 let mut options = OpenOptions::new();
                 let file = apart(options.read(true).write(true).open(rt, path)?)?;
-                let found = file.metadata()?;
                 // The name is looked at after the file was opened: a link has a file of its own.
-                if !is_one(&found, &fs::symlink_metadata(rt, path)?) {
+                if !is_one(&file.metadata()?, &fs::symlink_metadata(rt, path)?) {
                     return Err(error);
                 }
-                if found.is_file() {
-                    file.set_len(0)?;
-                }
-                Ok(RealFile::made(file))
+                Ok(RealFile::opened(file))
             }
-            answer => answer,
+            Err(error) => Err(error),
         }
+    }
+
+    /// Empties the file, if it is a regular one: a device has nothing that could be emptied.
+    pub fn emptied(self) -> io::Result<RealFile>
+        ensures made { IfOk result (λ f. events_of f ≡ (Call.Made, []) ∷ []) }
+    {
+        let file = self.into_file();
+        if file.metadata()?.is_file() {
+            file.set_len(0)?;
+        }
+        Ok(RealFile::made(file))
     }
 
     /// Takes the lock of the file, which is held until the file is closed. It does not wait:
@@ -125,6 +134,23 @@ impl RealFile {
     /// Gives the file these permission bits, whatever the umask.
     pub fn set_permissions(&self, permissions: Permissions) -> io::Result<()> {
         self.file.set_permissions(permissions)
+    }
+
+    /// The file of the system, which stays open.
+    pub fn into_file(self) -> File {
+        let RealFile {
+            file,
+            trace,
+            error: _,
+        } = self;
+        drop(trace);
+        file
+    }
+
+    /// The system's number of the error that the last call which failed met, if it was one of the system: no
+    /// error of it made a read fail past the end of the file, or a write that wrote nothing.
+    pub fn last_error(&self) -> Option<i32> {
+        self.error
     }
 
     /// The calls on it, which only clauses read.
@@ -151,8 +177,8 @@ fn fault_of(error: &io::Error) -> RawFault
     }
 }
 
-/// What a read or a write did: at least one byte, or else why none.
-fn part_of(answer: io::Result<usize>) -> Result<usize, RawFault>
+/// What a read or a write did: at least one byte, or else why none. The number of an error is kept.
+fn part_of(answer: io::Result<usize>, error: &mut Option<i32>) -> Result<usize, RawFault>
     ensures some { IfOk result (λ n. 0 < n) }
     ensures same { IfOk result (λ n. answer ≡ Ok n) }
     ensures again { IfErr answer (λ e. error_kind e ≡ ErrorKind.Interrupted
@@ -163,7 +189,10 @@ fn part_of(answer: io::Result<usize>) -> Result<usize, RawFault>
     match answer {
         Ok(0) => Err(RawFault::Failed),
         Ok(n) => Ok(n),
-        Err(error) => Err(fault_of(&error)),
+        Err(met) => {
+            *error = met.raw_os_error();
+            Err(fault_of(&met))
+        }
     }
 }
 
@@ -173,14 +202,14 @@ impl RawFile for RealFile {
 
     // Shown by tests/faults/run.py, with short and interrupted calls.
     fn read_some(&mut self, pos: u64, into: &mut [u8]) -> Result<usize, RawFault> {
-        let answer = part_of(self.file.read_at(into, pos));
+        let answer = part_of(self.file.read_at(into, pos), &mut self.error);
         note_part(&mut self.trace, Call::Read(pos), Call::Failed, into, answer);
         answer
     }
 
     // Shown by tests/faults/run.py, with short and interrupted calls.
     fn write_some(&mut self, pos: u64, bytes: &[u8]) -> Result<usize, RawFault> {
-        let answer = part_of(self.file.write_at(bytes, pos));
+        let answer = part_of(self.file.write_at(bytes, pos), &mut self.error);
         let failed = Call::NotWritten(pos, bytes.len() as u64);
         note_part(&mut self.trace, Call::Wrote(pos), failed, bytes, answer);
         answer
@@ -194,7 +223,8 @@ impl RawFile for RealFile {
                 self.trace.note(&Call::Length(len), &[]);
                 Ok(len)
             }
-            Err(_) => {
+            Err(error) => {
+                self.error = error.raw_os_error();
                 self.trace.note(&Call::Failed, &[]);
                 Err(RawFault::Failed)
             }
@@ -208,7 +238,8 @@ impl RawFile for RealFile {
                 self.trace.note(&Call::Cut(len), &[]);
                 Ok(())
             }
-            Err(_) => {
+            Err(error) => {
+                self.error = error.raw_os_error();
                 self.trace.note(&Call::NotCut(len), &[]);
                 Err(RawFault::Failed)
             }
@@ -222,7 +253,8 @@ impl RawFile for RealFile {
                 self.trace.note(&Call::Synced, &[]);
                 Ok(())
             }
-            Err(_) => {
+            Err(error) => {
+                self.error = error.raw_os_error();
                 self.trace.note(&Call::NotSynced, &[]);
                 Err(RawFault::Failed)
             }

@@ -13,9 +13,13 @@ ghost use Rattle.cdb_store.specs.Images.{
 };
 ghost use Rattle.cdb_store.specs.Faults.{fault_number, fault_message};
 
+use crate::bytes::join;
 use std::alloc::{AllocError, AllocFailed};
 use std::error::Error;
 use std::fmt::{self, Display, Formatter, Write};
+
+/// Pieces of so many bytes in all are written as one: a record with a short key and value.
+const JOINED: usize = 256;
 
 /// Why a call on a store failed.
 #[derive(Clone, Copy, Debug, PartialEq, Eq)]
@@ -86,6 +90,9 @@ impl<T: Drop> From<AllocFailed<T>> for StoreFault {
 /// fails, so a caller that only read cannot answer that a write failed. Its *room* is how far writes
 /// go without taking memory. It is *settled* if all that it was told to write was handed on to what
 /// holds the bytes.
+//
+// The order of each method's clauses means nothing to a caller. It is the one in which the checker
+// hands the bound `S: Store` on at a call in a seventh of the steps.
 pub trait Store {
     /// How many bytes it has.
     ghost size: { Self → ℕ };
@@ -118,14 +125,14 @@ pub trait Store {
     /// After `Device` no byte of the store has changed, and `into` may hold anything.
     fn read_at(&mut self, pos: u64, into: &mut [u8]) -> Result<(), StoreFault>
         requires { pos + length into.old ≤ size self.old }
-        ensures ok { OnOk result (AfterRead pos into.new (image self.old) (image self.new)) }
-        ensures err { OnErr result (SameImages (image self.old) (image self.new)) }
-        ensures size { size self.new ≡ size self.old }
-        ensures written { written self.new ≡ written self.old }
         ensures room { room self.old ≤ room self.new }
-        ensures cause { HasCause (failures self.old) (failures self.new) result }
-        ensures ok_failures { OnOk result (failures self.new ≡ failures self.old) }
+        ensures size { size self.new ≡ size self.old }
         ensures unwritten { unwritten self.old ≤ unwritten self.new }
+        ensures ok_failures { OnOk result (failures self.new ≡ failures self.old) }
+        ensures ok { OnOk result (AfterRead pos into.new (image self.old) (image self.new)) }
+        ensures cause { HasCause (failures self.old) (failures self.new) result }
+        ensures written { written self.new ≡ written self.old }
+        ensures err { OnErr result (SameImages (image self.old) (image self.new)) }
         ensures memory { IsErrOf result NoMemory → ⊥ };
 
     /// Writes the bytes from `pos` on, which is at most the store's length, over what
@@ -137,29 +144,30 @@ pub trait Store {
     fn write_at(&mut self, pos: u64, bytes: &[u8]) -> Result<(), StoreFault>
         requires start { pos ≤ size self.old }
         requires end { pos + length bytes.now < 2 ^ 63 }
-        ensures ok { OnOk result (AfterWrite pos bytes.now (image self.old) (image self.new)) }
-        ensures ok_size { OnOk result
-            (size self.new ≡ max (size self.old) (pos + length bytes.now)) }
-        ensures ok_written { OnOk result (written self.new ≡ written self.old + length bytes.now) }
-        ensures torn { AfterTornWrite pos (length bytes.now) (image self.old) (image self.new) }
-        ensures longer { size self.old ≤ size self.new }
-        ensures not_past { size self.new ≤ max (size self.old) (pos + length bytes.now) }
-        ensures more_written { written self.old ≤ written self.new }
+        ensures room { room self.old ≤ room self.new }
+        ensures memory_failures { IsErrOf result NoMemory → failures self.new ≡ failures self.old }
         ensures at_most_written { written self.new ≤ written self.old + length bytes.now }
+        ensures unwritten { HasCause (unwritten self.old) (unwritten self.new) result }
+        ensures more_written { written self.old ≤ written self.new }
+        ensures ok { OnOk result (AfterWrite pos bytes.now (image self.old) (image self.new)) }
         ensures memory { IsErrOf result NoMemory → SameImages (image self.old) (image self.new) }
+        ensures torn { AfterTornWrite pos (length bytes.now) (image self.old) (image self.new) }
         ensures memory_size { IsErrOf result NoMemory → size self.new ≡ size self.old }
+        ensures longer { size self.old ≤ size self.new }
         ensures memory_written { IsErrOf result NoMemory → written self.new ≡ written self.old }
         ensures memory_room { IsErrOf result NoMemory → room self.new ≡ room self.old }
-        ensures memory_failures { IsErrOf result NoMemory → failures self.new ≡ failures self.old }
-        ensures past_room { IsErrOf result NoMemory → room self.old < pos + length bytes.now }
-        ensures room { room self.old ≤ room self.new }
         ensures ok_failures { OnOk result (failures self.new ≡ failures self.old) }
+        ensures past_room { IsErrOf result NoMemory → room self.old < pos + length bytes.now }
+        ensures not_past { size self.new ≤ max (size self.old) (pos + length bytes.now) }
         ensures cause { HasCause (failures self.old) (failures self.new) result }
-        ensures unwritten { HasCause (unwritten self.old) (unwritten self.new) result };
+        ensures ok_written { OnOk result (written self.new ≡ written self.old + length bytes.now) }
+        ensures ok_size { OnOk result
+            (size self.new ≡ max (size self.old) (pos + length bytes.now)) };
 
     /// Writes three pieces one after another from `pos` on, as `write_at` writes them in one.
     ///
-    /// Where it has no other way, a store makes room for all three and writes each by itself.
+    /// If it has no other way, a store writes pieces of up to 256 bytes by one `write_at`. For longer ones it
+    /// makes room for all three, and writes each by itself.
     fn write_parts(
         &mut self,
         pos: u64,
@@ -169,32 +177,38 @@ pub trait Store {
     ) -> Result<(), StoreFault>
         requires start { pos ≤ size self.old }
         requires end { pos + length (first.now ++ (second.now ++ third.now)) < 2 ^ 63 }
-        ensures ok { OnOk result (AfterWrite pos (first.now ++ (second.now ++ third.now))
-            (image self.old) (image self.new)) }
-        ensures ok_size { OnOk result (size self.new
-            ≡ max (size self.old) (pos + length (first.now ++ (second.now ++ third.now)))) }
-        ensures ok_written { OnOk result (written self.new
-            ≡ written self.old + length (first.now ++ (second.now ++ third.now))) }
-        ensures torn { AfterTornWrite pos (length (first.now ++ (second.now ++ third.now)))
-            (image self.old) (image self.new) }
-        ensures longer { size self.old ≤ size self.new }
-        ensures not_past { size self.new
-            ≤ max (size self.old) (pos + length (first.now ++ (second.now ++ third.now))) }
-        ensures more_written { written self.old ≤ written self.new }
+        ensures room { room self.old ≤ room self.new }
+        ensures memory_failures { IsErrOf result NoMemory → failures self.new ≡ failures self.old }
         ensures at_most_written { written self.new
             ≤ written self.old + length (first.now ++ (second.now ++ third.now)) }
+        ensures unwritten { HasCause (unwritten self.old) (unwritten self.new) result }
+        ensures more_written { written self.old ≤ written self.new }
+        ensures ok { OnOk result (AfterWrite pos (first.now ++ (second.now ++ third.now))
+            (image self.old) (image self.new)) }
         ensures memory { IsErrOf result NoMemory → SameImages (image self.old) (image self.new) }
+        ensures torn { AfterTornWrite pos (length (first.now ++ (second.now ++ third.now)))
+            (image self.old) (image self.new) }
         ensures memory_size { IsErrOf result NoMemory → size self.new ≡ size self.old }
+        ensures longer { size self.old ≤ size self.new }
         ensures memory_written { IsErrOf result NoMemory → written self.new ≡ written self.old }
         ensures memory_room { IsErrOf result NoMemory → room self.new ≡ room self.old }
-        ensures memory_failures { IsErrOf result NoMemory → failures self.new ≡ failures self.old }
+        ensures ok_failures { OnOk result (failures self.new ≡ failures self.old) }
         ensures past_room { IsErrOf result NoMemory
             → room self.old < pos + length (first.now ++ (second.now ++ third.now)) }
-        ensures room { room self.old ≤ room self.new }
-        ensures ok_failures { OnOk result (failures self.new ≡ failures self.old) }
+        ensures not_past { size self.new
+            ≤ max (size self.old) (pos + length (first.now ++ (second.now ++ third.now))) }
         ensures cause { HasCause (failures self.old) (failures self.new) result }
-        ensures unwritten { HasCause (unwritten self.old) (unwritten self.new) result }
+        ensures ok_written { OnOk result (written self.new
+            ≡ written self.old + length (first.now ++ (second.now ++ third.now))) }
+        ensures ok_size { OnOk result (size self.new
+            ≡ max (size self.old) (pos + length (first.now ++ (second.now ++ third.now)))) }
     {
+        let n = first.len() + second.len() + third.len();
+        if n <= JOINED {
+            let mut joined = [0; JOINED];
+            join(first, second, third, &mut joined[..n]);
+            return self.write_at(pos, &joined[..n]);
+        }
         let second_pos = pos + first.len() as u64;
         let third_pos = second_pos + second.len() as u64;
         self.reserve(third_pos + third.len() as u64)?;
@@ -208,45 +222,45 @@ pub trait Store {
     /// `NoMemory` is the only fault, comes only if `len` is past the room, and leaves the room.
     fn reserve(&mut self, len: u64) -> Result<(), StoreFault>
         requires { len < 2 ^ 63 }
-        ensures ok { OnOk result (len ≤ room self.new) }
         ensures past_room { OnErr result (room self.old < len) }
-        ensures err_room { OnErr result (room self.new ≡ room self.old) }
-        ensures ok_failures { OnOk result (failures self.new ≡ failures self.old) }
-        ensures err_failures { OnErr result (failures self.new ≡ failures self.old) }
-        ensures device { IsErrOf result Device → ⊥ }
-        ensures images { SameImages (image self.old) (image self.new) }
-        ensures size { size self.new ≡ size self.old }
         ensures written { written self.new ≡ written self.old }
+        ensures device { IsErrOf result Device → ⊥ }
         ensures room { room self.old ≤ room self.new }
+        ensures ok { OnOk result (len ≤ room self.new) }
+        ensures ok_failures { OnOk result (failures self.new ≡ failures self.old) }
         ensures failures { failures self.old ≤ failures self.new }
-        ensures unwritten { unwritten self.old ≤ unwritten self.new };
+        ensures unwritten { unwritten self.old ≤ unwritten self.new }
+        ensures images { SameImages (image self.old) (image self.new) }
+        ensures err_failures { OnErr result (failures self.new ≡ failures self.old) }
+        ensures size { size self.new ≡ size self.old }
+        ensures err_room { OnErr result (room self.new ≡ room self.old) };
 
     /// Cuts it to the length `len`, which is at most its own.
     ///
     /// After `Device` its length is any from `len` to the old one, and the bytes below that stay.
     fn cut(&mut self, len: u64) -> Result<(), StoreFault>
         requires { len ≤ size self.old }
-        ensures images { AfterCut (size self.new) (image self.old) (image self.new) }
-        ensures ok { OnOk result (size self.new ≡ len) }
-        ensures no_shorter { len ≤ size self.new }
-        ensures no_longer { size self.new ≤ size self.old }
-        ensures written { written self.new ≡ written self.old }
-        ensures room { room self.old ≤ room self.new }
-        ensures cause { HasCause (failures self.old) (failures self.new) result }
         ensures ok_failures { OnOk result (failures self.new ≡ failures self.old) }
         ensures unwritten { HasCause (unwritten self.old) (unwritten self.new) result }
+        ensures written { written self.new ≡ written self.old }
+        ensures room { room self.old ≤ room self.new }
+        ensures ok { OnOk result (size self.new ≡ len) }
+        ensures no_longer { size self.new ≤ size self.old }
+        ensures cause { HasCause (failures self.old) (failures self.new) result }
+        ensures no_shorter { len ≤ size self.new }
+        ensures images { AfterCut (size self.new) (image self.old) (image self.new) }
         ensures memory { IsErrOf result NoMemory → ⊥ };
 
     /// Hands everything on to what holds the bytes. After `Device` no byte has changed.
     fn flush(&mut self) -> Result<(), StoreFault>
-        ensures ok { OnOk result (settled self.new) }
-        ensures images { SameImages (image self.old) (image self.new) }
-        ensures size { size self.new ≡ size self.old }
-        ensures written { written self.new ≡ written self.old }
         ensures room { room self.old ≤ room self.new }
-        ensures cause { HasCause (failures self.old) (failures self.new) result }
-        ensures ok_failures { OnOk result (failures self.new ≡ failures self.old) }
+        ensures size { size self.new ≡ size self.old }
         ensures unwritten { HasCause (unwritten self.old) (unwritten self.new) result }
+        ensures ok_failures { OnOk result (failures self.new ≡ failures self.old) }
+        ensures ok { OnOk result (settled self.new) }
+        ensures cause { HasCause (failures self.old) (failures self.new) result }
+        ensures written { written self.new ≡ written self.old }
+        ensures images { SameImages (image self.old) (image self.new) }
         ensures memory { IsErrOf result NoMemory → ⊥ };
 
     /// What it has takes no memory.

@@ -4,6 +4,7 @@ ghost use Rattle.cdb_store.specs.Calls.{lost};
 
 use cdb_store::{FileStore, READ_AND_WRITTEN, RawFault, RawFile, RealFile, Store, StoreFault};
 use std::fs::{self, File, Permissions};
+use std::io;
 use std::os::unix::fs::{FileExt, PermissionsExt, symlink};
 use std::test::Fail;
 
@@ -75,14 +76,23 @@ fn a_new_file_takes_no_name_that_is_there(rt: HostRuntime) -> Result<(), Fail> {
     Ok(())
 }
 
-/// Whether a name is refused for a file of one's own.
+/// A file that is opened or made to be emptied, and then is.
+fn emptied(rt: &HostRuntime, name: &str) -> io::Result<FileStore> {
+    Ok(FileStore::made(RealFile::opened_to_empty(rt, name)?.emptied()?))
+}
+
+/// Whether a name is refused for a file that is to be emptied.
 fn is_foreign(rt: &HostRuntime, name: &str) -> bool {
-    FileStore::create_own(rt, name).is_err()
+    RealFile::opened_to_empty(rt, name).is_err()
 }
 
 #[test]
-fn a_file_of_its_own_is_made_or_emptied_and_no_link_followed(rt: HostRuntime) -> Result<(), Fail> {
-    assert!(rt; leave_two(&mut FileStore::create_own(&rt, "own.store")?));
+fn a_file_is_opened_or_made_to_be_emptied_and_no_link_followed(
+    rt: HostRuntime,
+) -> Result<(), Fail> {
+    assert!(rt; leave_two(&mut emptied(&rt, "own.store")?));
+    assert!(rt; has_two(&mut FileStore::open(&rt, "own.store")?));
+    drop(RealFile::opened_to_empty(&rt, "own.store")?);
     assert!(rt; has_two(&mut FileStore::open(&rt, "own.store")?));
     symlink(&rt, "own.store", "to_own.store")?;
     symlink(&rt, "nothing.store", "to_nothing.store")?;
@@ -91,7 +101,7 @@ fn a_file_of_its_own_is_made_or_emptied_and_no_link_followed(rt: HostRuntime) ->
     }
     assert!(rt; has_two(&mut FileStore::open(&rt, "own.store")?));
     assert!(rt; !fs::exists(&rt, "nothing.store")?);
-    assert!(rt; FileStore::create_own(&rt, "own.store")?.len() == 0);
+    assert!(rt; emptied(&rt, "own.store")?.len() == 0);
     assert!(rt; FileStore::open(&rt, "own.store")?.len() == 0);
     Ok(())
 }

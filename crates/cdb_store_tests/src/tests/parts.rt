@@ -1,8 +1,9 @@
 // Three pieces, written as one: what a fault leaves of them, and want of memory.
-ghost use Rattle.std.specs.Prelude.{◌≤◌};
+ghost use Rattle.std.specs.Prelude.{◌≤◌, ◌<◌, ◌^◌};
 
 use super::support::buffered::buffered;
 use cdb_store::{FuseStore, MemStore, Store, StoreFault};
+use std::alloc::{AllocError, Global};
 use std::test::Fail;
 
 /// A store that has no memory past its room.
@@ -19,6 +20,15 @@ impl<S: Store> FullStore<S> {
     fn new(inner: S) -> FullStore<S> {
         let room = inner.len();
         FullStore { inner, room }
+    }
+
+    /// Gives it this room, if there is memory for it.
+    fn widen(&mut self, room: u64)
+        requires { room < 2 ^ 63 }
+    {
+        if room > self.room && self.inner.reserve(room).is_ok() {
+            self.room = room;
+        }
     }
 }
 
@@ -75,25 +85,67 @@ impl<S: Store> Store for FullStore<S> {
 /// What a write of three pieces at a position of a store answers, if the store is so long.
 fn write<S: Store>(store: &mut S, pos: u64, pieces: [&[u8]; 3]) -> Option<Result<(), StoreFault>> {
     let [first, second, third] = pieces;
-    if store.len() < pos || pos > 9 || first.len() > 9 || second.len() > 9 || third.len() > 9 {
+    if store.len() < pos || pos > 999 || [first, second, third].iter().any(|it| it.len() > 999) {
         return None;
     }
     Some(store.write_parts(pos, first, second, third))
 }
 
 #[test]
-fn a_fault_at_each_piece_leaves_those_before(rt: HostRuntime) -> Result<(), Fail> {
+fn a_fuse_fails_three_pieces_as_one_write(rt: HostRuntime) -> Result<(), Fail> {
     let failed = Some(Err(StoreFault::Device));
-    for (limit, answer, left) in [
-        (0, failed, b"abcd".as_slice()),
-        (1, failed, b"abcdef".as_slice()),
-        (2, failed, b"abcdefghi".as_slice()),
-        (3, Some(Ok(())), b"abcdefghij".as_slice()),
+    for (limit, part, answer, left, taken) in [
+        (0, 0, failed, b"abc".as_slice(), 0),
+        (0, 1, failed, b"abcd".as_slice(), 1),
+        (0, 3, failed, b"abcdef".as_slice(), 3),
+        (0, 6, failed, b"abcdefghi".as_slice(), 6),
+        (0, 8, failed, b"abcdefghij".as_slice(), 7),
+        (1, 1, Some(Ok(())), b"abcdefghij".as_slice(), 7),
     ] {
-        let mut store = FuseStore::new(MemStore::from_vec(b"abc".to_vec(rt.alloc())?), limit, 1);
+        let inner = MemStore::from_vec(b"abc".to_vec(rt.alloc())?);
+        let mut store = FuseStore::new(inner, limit, part);
         let answered = write(&mut store, 3, [b"de", b"fgh", b"ij"]);
+        let (calls, written) = (store.calls(), store.written());
         let bytes = store.into_inner().into_vec();
-        assert!(rt; answered == answer && bytes.as_slice() == left, "{limit}");
+        assert!(rt;
+            answered == answer && bytes.as_slice() == left,
+            "{limit}, {part}"
+        );
+        assert!(rt; calls == 1 && written == taken, "{limit}, {part}");
+    }
+    Ok(())
+}
+
+/// What a store with no way of its own to write pieces answers, and has after them, if its write after
+/// `limit` others fails and writes one byte.
+fn left_of(
+    alloc: Global,
+    limit: u64,
+    pieces: [&[u8]; 3],
+) -> Result<(Option<Result<(), StoreFault>>, Vec<u8>), AllocError> {
+    let mut store = FullStore::new(FuseStore::new(MemStore::new(alloc), limit, 1));
+    store.widen(999);
+    let answered = write(&mut store, 0, pieces);
+    Ok((answered, store.inner.into_inner().into_vec()))
+}
+
+#[test]
+fn few_bytes_are_one_write_and_more_are_three(rt: HostRuntime) -> Result<(), Fail> {
+    let failed = Some(Err(StoreFault::Device));
+    for (size, limit, answer, left) in [
+        (85, 0, failed, 1),
+        (85, 1, Some(Ok(())), 255),
+        (86, 0, failed, 1),
+        (86, 1, failed, 87),
+        (86, 2, failed, 173),
+        (86, 3, Some(Ok(())), 258),
+    ] {
+        let one = vec![in rt.alloc(); 7u8; size]?;
+        let (answered, bytes) = left_of(rt.alloc(), limit, [&one, &one, &one])?;
+        assert!(rt;
+            answered == answer && bytes.len() == left,
+            "{size}, {limit}"
+        );
     }
     Ok(())
 }
