@@ -10,3 +10,5 @@ pub mod Differences
 pub mod DifferenceBytes
 pub mod InOrderFiles
 pub mod FirstKeys
+pub mod FoundSoFar
+pub mod Lacking

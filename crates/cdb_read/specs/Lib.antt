@@ -10,5 +10,5 @@ pub mod Laws
 pub mod Statistics
 pub mod Views
 pub mod Examples
-pub mod FaultExamples
 pub mod DifferenceExamples
+pub mod OtherWidth

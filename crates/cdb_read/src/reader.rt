@@ -5,6 +5,7 @@ ghost use Rattle.cdb_form.specs.Format.Reading.{head_at};
 ghost use Rattle.cdb_form.specs.Views.Pairs.{head_pairs};
 ghost use Rattle.cdb_form.specs.Views.KnownBytes.{Writes};
 ghost use Rattle.cdb_read.specs.Lookup.{bytes_of};
+ghost use Rattle.cdb_read.specs.OtherWidth.{lacks_tables};
 ghost use Rattle.cdb_store.specs.Reads.{OnlyReads};
 ghost use Rattle.cdb_read.specs.Views.Reads.{OpeningFails, CopyingFails, ValueFails};
 ghost use Rattle.cdb_read.specs.Views.Window.{Shows};
@@ -12,6 +13,7 @@ ghost use Rattle.cdb_read.specs.Views.Window.{Shows};
 use crate::fault::ReadFault;
 use crate::pieces::{copy_span, read_part, take_span};
 use crate::span::Span;
+use crate::tables::any_slots;
 use crate::window::{WINDOW, Window};
 use cdb_form::{Head, Width, head_size, read_head, write_whole};
 use cdb_store::Store;
@@ -137,6 +139,15 @@ impl<S: Store, L: Width> Reader<S, L> {
         ensures { result ≡ S.size self.now.store }
     {
         self.store.len()
+    }
+
+    /// Whether no table of its file has slots, though bytes follow the head: so a file with words of
+    /// the other width looks. An empty one of this width ends after its head.
+    pub fn lacks_tables(&self) -> bool
+        ensures { (b : List ℕ) → S.image self.now.store b → result ≡ lacks_tables L.WORD b }
+    {
+        let is_longer = self.store.len() > head_size::<L>() as u64;
+        is_longer && !any_slots(&self.head.pointers)
     }
 
     /// Its store, as it is.

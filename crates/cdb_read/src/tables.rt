@@ -1,6 +1,7 @@
 // The tables of a database, and the slots of them all.
 ghost use Rattle.std.specs.Prelude.{◌≡◌, ℕ, ◌+◌, ◌*◌, ◌<◌, ◌≤◌, ◌^◌, ◌++◌, List};
-ghost use Rattle.std.specs.Prelude.{All, length, drop, map, position, IfOk, IfErr, OnOk, IfNone};
+ghost use Rattle.std.specs.Prelude.{All, length, drop, map, not, position, ◌==◌, IfOk, IfErr, OnOk, IfNone};
+ghost use Rattle.std.specs.List.{list_any};
 ghost use Rattle.cdb_form.specs.Format.Hash.{home_slot};
 ghost use Rattle.cdb_form.specs.Format.Pair.{pair_size};
 ghost use Rattle.cdb_form.specs.Format.Reading.{pair_at};
@@ -36,6 +37,13 @@ pub(crate) fn first_outside<L: Width>(tables: &[Pointer], size: u64) -> Option<u
         }
     }
     None
+}
+
+/// Whether a table has slots.
+pub(crate) fn any_slots(tables: &[Pointer]) -> bool
+    ensures { result ≡ list_any (λ p. not (p.slots == 0)) tables.now }
+{
+    tables.iter().any(|table| table.slots != 0)
 }
 
 /// How many slots the tables have that have some.
