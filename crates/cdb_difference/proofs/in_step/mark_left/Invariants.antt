@@ -1,0 +1,19 @@
+use Rattle.std.proofs.Common.{ℕ, List}
+use Rattle.cdb_store.specs.Reads.{OnlyReads}
+use Rattle.cdb_read.specs.Views.Walking.{size_ahead}
+use Rattle.cdb_difference.specs.Views.Marks.{Grows}
+use Rattle.cdb_difference.specs.Views.NextRecord.{left_from}
+use Rattle.cdb_difference.proofs.Steps.{Passed}
+use Rattle.cdb_difference.proofs.in_step.mark_left.Given as goal
+
+-- the keys so far are marked
+abbrev pub invariant-loop-pair : goal.invariant-loop-pair
+invariant-loop-pair g l =
+    record {
+      reads : OnlyReads g.S.Store l.fn.reader.store l.reader.store;
+      grows : Grows l.fn.marks.words.items l.marks.words.items;
+      passed : (b : List ℕ) → g.S.Store.image l.reader.store b → Passed l.marks.words.items (left_from g.L.Width.WORD b l.fn.from) (left_from g.L.Width.WORD b l.bookmark);
+    }
+
+abbrev pub decreases-loop-pair : goal.decreases-loop-pair
+decreases-loop-pair g l = size_ahead l.bookmark.walking

@@ -1,0 +1,17 @@
+use Rattle.std.proofs.Common.{◌≡◌, ◌-◌, ◌≤◌, ℕ, List}
+use Rattle.cdb_store.specs.Images.{part}
+use Rattle.cdb_store.specs.Reads.{OnlyReads}
+use Rattle.cdb_difference.proofs.same.is_same_span.Given as goal
+
+-- the pieces so far were the same
+abbrev pub invariant-loop-done : goal.invariant-loop-done
+invariant-loop-done g l =
+    record {
+      within : l.done ≤ l.mine.len;
+      own_reads : OnlyReads g.S.Store l.fn.own.store l.own.store;
+      other_reads : OnlyReads g.T.Store l.fn.other.store l.other.store;
+      same : (b c : List ℕ) → g.S.Store.image l.own.store b → g.T.Store.image l.other.store c → part l.mine.place l.done b ≡ part l.theirs.place l.done c;
+    }
+
+abbrev pub decreases-loop-done : goal.decreases-loop-done
+decreases-loop-done g l = l.mine.len - l.done

@@ -1,0 +1,104 @@
+use Rattle.std.proofs.Common.{sym, subst}
+use Rattle.std.proofs.lemmas.Result.{err_from_is_err_and}
+use Rattle.cdb_store.proofs.Reading.{reads_more}
+use Rattle.cdb_read.proofs.FoundSoFar.{reads_none}
+use Rattle.cdb_difference.specs.Difference.{Stops}
+use Rattle.cdb_difference.proofs.Marked.{agree_flipped}
+use Rattle.cdb_difference.proofs.PassStops.{flipped_stops, whole_since}
+use Rattle.cdb_difference.proofs.WholeDifferences.{difference_written, nothing_written, prefix_end, prefix_first, prefix_second}
+use Rattle.cdb_difference.proofs.write.write_difference.Goals as goal
+
+pub write_pass-requires : goal.write_pass-requires
+write_pass-requires g c = record { agree = λ b d is it. c.in_ok-mark_changed.ensures.agree b d is it }
+
+pub write_pass-requires-2 : goal.write_pass-requires-2
+write_pass-requires-2 g c =
+    let first = c.write_pass.ensures in
+    record { agree = λ d b it is. agree_flipped _ _ _ (c.in_ok-mark_changed.ensures.agree b d (first.own_reads.images b is) (first.other_reads.images d it)) }
+
+pub returns-in_err-marks : goal.returns-in_err-marks
+returns-in_err-marks g c =
+    let p = err_from_is_err_and c.from_residual.result c.from_residual.ensures.1 in
+    rw (p.1, p.2)
+    (record {
+      old_reads = reads_none g.S.Store c.args.old.now.store;
+      new_reads = reads_none g.T.Store c.args.new.now.store;
+      ok = tt;
+      err = tt;
+      front = λ b d is it. nothing_written g.L.Width.WORD b d _;
+    })
+
+pub returns-in_err-mark_changed : goal.returns-in_err-mark_changed
+returns-in_err-mark_changed g c =
+    let p = err_from_is_err_and c.from_residual-in_err-mark_changed.result c.from_residual-in_err-mark_changed.ensures.1 in
+    let marks = c.mark_changed.ensures in
+    rw (p.1, p.2)
+    (record {
+      old_reads = marks.own_reads;
+      new_reads = marks.other_reads;
+      ok = tt;
+      err = c.in_err-mark_changed.ensures.fails;
+      front = λ b d is it. nothing_written g.L.Width.WORD b d _;
+    })
+
+pub returns-in_err-write_pass : goal.returns-in_err-write_pass
+returns-in_err-write_pass g c =
+    let p = err_from_is_err_and c.from_residual-in_err-write_pass.result c.from_residual-in_err-write_pass.ensures.1 in
+    let marks = c.mark_changed.ensures in
+    let pass = c.write_pass.ensures in
+    let stop = c.in_err-write_pass.ensures in
+    rw (p.1, p.2)
+    (record {
+      old_reads = reads_more marks.own_reads pass.own_reads;
+      new_reads = reads_more marks.other_reads pass.other_reads;
+      ok = tt;
+      err = whole_since g.L.Width.WORD g.S.Store g.T.Store _ _ _ _ _ _ c.in_err-write_pass.field-0.0 marks.own_reads marks.other_reads stop.fails;
+      front = λ b d is it. prefix_first g.L.Width.WORD b d _ _ (stop.front b d is it);
+    })
+
+pub returns-in-Err : goal.returns-in-Err
+returns-in-Err g c =
+    let marks = c.mark_changed.ensures in
+    let first = c.write_pass.ensures in
+    let second = c.write_pass-2.ensures in
+    let stop = c.in-Err.ensures in
+    let old_reads = reads_more marks.own_reads first.own_reads in
+    let new_reads = reads_more marks.other_reads first.other_reads in
+    record {
+      old_reads = reads_more old_reads second.other_reads;
+      new_reads = reads_more new_reads second.own_reads;
+      ok = tt;
+      err = subst (Stops g.L.Width.WORD g.S.Store g.T.Store _ _ _ _) (sym c.flipped.ensures)
+          (whole_since g.L.Width.WORD g.S.Store g.T.Store _ _ _ _ _ _ _ old_reads new_reads (flipped_stops g.L.Width.WORD g.S.Store g.T.Store _ _ _ _ c.in-Err.stop stop.fails));
+      front = λ b d is it. prefix_second g.L.Width.WORD b d _ _ _ (c.in_ok-write_pass.ensures.ok b d (second.other_reads.images b is) (second.own_reads.images d it)) (stop.front d b it is);
+    }
+
+pub returns-in_err-write_end : goal.returns-in_err-write_end
+returns-in_err-write_end g c =
+    let p = err_from_is_err_and c.from_residual-in_err-write_end.result c.from_residual-in_err-write_end.ensures.1 in
+    let marks = c.mark_changed.ensures in
+    let first = c.write_pass.ensures in
+    let second = c.write_pass-2.ensures in
+    rw (p.1, p.2)
+    (record {
+      old_reads = reads_more (reads_more marks.own_reads first.own_reads) second.other_reads;
+      new_reads = reads_more (reads_more marks.other_reads first.other_reads) second.own_reads;
+      ok = tt;
+      err = tt;
+      front = λ b d is it.
+          prefix_end g.L.Width.WORD b d _ _ _ _ (c.in_ok-write_pass.ensures.ok b d (second.other_reads.images b is) (second.own_reads.images d it)) (c.in-Ok.ensures.ok d b it is) c.in_err-write_end.ensures.err;
+    })
+
+pub returns : goal.returns
+returns g c =
+    let marks = c.mark_changed.ensures in
+    let first = c.write_pass.ensures in
+    let second = c.write_pass-2.ensures in
+    record {
+      old_reads = reads_more (reads_more marks.own_reads first.own_reads) second.other_reads;
+      new_reads = reads_more (reads_more marks.other_reads first.other_reads) second.own_reads;
+      ok = λ b d is it.
+          difference_written g.L.Width.WORD b d _ _ _ _ (c.in_ok-write_pass.ensures.ok b d (second.other_reads.images b is) (second.own_reads.images d it)) (c.in-Ok.ensures.ok d b it is) c.in_ok-write_end.ensures.ok;
+      err = tt;
+      front = tt;
+    }

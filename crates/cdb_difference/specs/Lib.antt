@@ -1,0 +1,3 @@
+-- What writing a difference leaves, and what clauses read of the types of this crate.
+pub mod Difference
+pub mod Views

@@ -1,0 +1,100 @@
+// What the difference says of a key.
+ghost use Rattle.std.specs.Prelude.{◌≡◌, ◌+◌, ◌≤◌, ◌++◌, ℕ, List, IfErr, codes, decimal, length};
+ghost use Rattle.cdb_form.specs.Format.Record.{record_of};
+ghost use Rattle.cdb_form.specs.Text.Native.{spelling_of};
+ghost use Rattle.cdb_form.specs.Views.KnownBytes.{Writes};
+ghost use Rattle.cdb_store.specs.Reads.{OnlyReads};
+ghost use Rattle.cdb_read.specs.Lookup.{bytes_of};
+ghost use Rattle.cdb_read.specs.Views.Reads.{CopyingFails};
+ghost use Rattle.cdb_difference.specs.Difference.{changes_at, changes_text, LookHas, ReadingStops};
+ghost use Rattle.cdb_form.specs.declared.change.ChangeKind.TheVariants.{Put};
+
+use cdb_form::{ChangeKind, OutFault, Width, write_pieces, write_removal, write_whole};
+use cdb_read::{Finder, ReadFault, Reader, Span};
+use cdb_store::Store;
+use itoa::Buffer;
+use std::io::Write;
+
+/// Writes what comes before the value of a put. After an `OutFault` the writer holds a prefix of it.
+fn write_put_head<W: Write>(w: &mut W, key: &[u8], vlen: u64) -> Result<(), OutFault>
+    ensures { Writes result (W.contents w.old) (W.contents w.new) (codes "+" ++ decimal (length key.now)
+        ++ codes "," ++ decimal vlen ++ codes ":" ++ key.now ++ codes "->") }
+{
+    let mut klen = Buffer::new();
+    let mut spelled = Buffer::new();
+    let klen = klen.format(key.len()).as_bytes();
+    let vlen = spelled.format(vlen).as_bytes();
+    write_pieces(w, &[b"+", klen, b",", vlen, b":", key, b"->"])
+}
+
+/// Writes a put of a key and a value that a finder gave, whose bytes go from the store to the writer
+/// in pieces. After a fault the writer holds a prefix of it.
+fn write_put<L: Width, S: Store, W: Write>(
+    finder: &mut Finder<'_, S, L>,
+    key: &[u8],
+    value: Span,
+    w: &mut W,
+) -> Result<(), ReadFault>
+    requires inside { value.place + value.len ≤ S.size finder.old.reader.now.store }
+    ensures same_reader { finder.new.reader.ghost_name ≡ finder.old.reader.ghost_name }
+    ensures key { finder.new.key.now ≡ finder.old.key.now }
+    ensures stays { finder.new.searching ≡ finder.old.searching }
+    ensures reads { OnlyReads S.Store finder.old.reader.now.store finder.new.reader.now.store }
+    ensures writes { (b : List ℕ) → S.image finder.new.reader.now.store b
+        → Writes result (W.contents w.old) (W.contents w.new)
+        (spelling_of (record_of key.now (bytes_of b value))) }
+    ensures fails { IfErr result
+        (CopyingFails S.Store finder.old.reader.now.store finder.new.reader.now.store) }
+{
+    write_put_head(w, key, value.len)?;
+    finder.copy(value, w)?;
+    write_whole(w, b"\n")?;
+    Ok(())
+}
+
+/// Writes a put for each value of a key, in the order in which a look-up gives them. After a fault the
+/// writer holds a prefix of that.
+fn write_puts<L: Width, S: Store, W: Write>(
+    reader: &mut Reader<S, L>,
+    key: &[u8],
+    w: &mut W,
+) -> Result<(), ReadFault>
+    ensures reads { OnlyReads S.Store reader.old.store reader.new.store }
+    ensures writes { (b : List ℕ) → S.image reader.new.store b
+        → Writes result (W.contents w.old) (W.contents w.new)
+        (changes_text (changes_at Put L.WORD b key.now)) }
+    ensures fails { IfErr result
+        (ReadingStops S.Store reader.old.store reader.new.store
+        (LookHas L.WORD S.Store reader.new.store key.now)) }
+{
+    let mut finder = reader.find(key);
+    while let Some(value) = finder.next()? {
+        write_put(&mut finder, key, value, w)?;
+    }
+    Ok(())
+}
+
+/// Writes what the difference says of a changed key: that it is removed, or its puts. After a fault
+/// the writer holds a prefix of that.
+pub(crate) fn write_changes<L: Width, S: Store, W: Write>(
+    reader: &mut Reader<S, L>,
+    kind: ChangeKind,
+    key: &[u8],
+    w: &mut W,
+) -> Result<(), ReadFault>
+    ensures reads { OnlyReads S.Store reader.old.store reader.new.store }
+    ensures writes { (b : List ℕ) → S.image reader.new.store b
+        → Writes result (W.contents w.old) (W.contents w.new)
+        (changes_text (changes_at kind L.WORD b key.now)) }
+    ensures fails { IfErr result
+        (ReadingStops S.Store reader.old.store reader.new.store
+        (LookHas L.WORD S.Store reader.new.store key.now)) }
+{
+    match kind {
+        ChangeKind::Put => write_puts(reader, key, w),
+        ChangeKind::Remove => {
+            write_removal(w, key)?;
+            Ok(())
+        }
+    }
+}

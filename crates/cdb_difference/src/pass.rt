@@ -1,0 +1,91 @@
+// A pass over a database beside another.
+ghost use Rattle.std.specs.Prelude.{◌≡◌, ◌+◌, ◌<◌, ◌≤◌, ◌&&◌, ℕ, List, Ok, true, length, IfErr, IfOk, OnOk};
+ghost use Rattle.cdb_form.specs.Format.Walk.{walk_of};
+ghost use Rattle.cdb_store.specs.Reads.{OnlyReads};
+ghost use Rattle.cdb_read.specs.Lookup.{bytes_of};
+ghost use Rattle.cdb_difference.specs.Difference.{InBoth, OtherLookHas, OwnLookHas, Stops, StopsBy};
+ghost use Rattle.cdb_difference.specs.Difference.{is_first_changed, WritesPass, WritesPassPrefix};
+ghost use Rattle.cdb_difference.specs.Views.InStep.{AgreeUnmarked};
+ghost use Rattle.cdb_difference.specs.Views.Marks.{is_marked};
+
+use crate::changed::is_first_changed;
+use crate::changes::write_changes;
+use crate::mark_hash::mark_hash;
+use crate::marks::Marks;
+use crate::records::next_record;
+use crate::stop::Stop;
+use cdb_form::{ChangeKind, Width};
+use cdb_read::{PlacedRecord, Reader, walk};
+use cdb_store::Store;
+use std::alloc::Global;
+use std::io::Write;
+
+/// How many bytes of a value are compared at once.
+const PIECE: usize = 4096;
+
+/// Whether the mark of a record's key is set, and it is the first record of the key, and the key has
+/// other values in the other database. Then `key` has the bytes of the key.
+fn is_change<L: Width, S: Store, T: Store>(
+    own: &mut Reader<S, L>,
+    other: &mut Reader<T, L>,
+    marks: &Marks,
+    pair: PlacedRecord,
+    key: &mut Vec<u8>,
+    mine: &mut [u8],
+    theirs: &mut [u8],
+) -> Result<bool, Stop>
+    requires piece { 0 < length mine.old }
+    requires pieces { length theirs.old ≡ length mine.old }
+    requires inside { pair.key.place + pair.key.len ≤ S.size own.old.store }
+    ensures own_reads { OnlyReads S.Store own.old.store own.new.store }
+    ensures other_reads { OnlyReads T.Store other.old.store other.new.store }
+    ensures key { (b : List ℕ) → S.image own.new.store b
+        → result ≡ Ok true → key.new.items ≡ bytes_of b pair.key }
+    ensures change { (b c : List ℕ) → S.image own.new.store b → T.image other.new.store c
+        → IfOk result (λ change. change ≡ (is_marked marks.now.words.items (bytes_of b pair.key)
+        && is_first_changed L.WORD b c (bytes_of b pair.key) pair.value.place)) }
+    ensures fails { IfErr result (StopsBy S.Store T.Store own.old.store own.new.store
+        other.old.store other.new.store (OwnLookHas L.WORD S.Store own.new.store pair.key)
+        (OtherLookHas L.WORD S.Store T.Store own.new.store other.new.store pair.key)) }
+{
+    let hash = mark_hash(own, pair.key)?;
+    if !marks.has(hash) {
+        return Ok(false);
+    }
+    own.value_into(pair.key, key)?;
+    is_first_changed(own, other, key, pair.value.place, mine, theirs)
+}
+
+/// Writes what the difference says of each key of a database whose values in the other one are
+/// others, where the first record of the key is: removals or puts. A key whose mark is not set has the
+/// same values in both walks, and is not looked up. After a `Stop` the writer holds a prefix of that.
+pub(crate) fn write_pass<L: Width, S: Store, T: Store, W: Write>(
+    alloc: Global,
+    own: &mut Reader<S, L>,
+    other: &mut Reader<T, L>,
+    marks: &Marks,
+    kind: ChangeKind,
+    w: &mut W,
+) -> Result<(), Stop>
+    requires agree { InBoth S.Store T.Store own.old.store other.old.store (λ b c.
+        AgreeUnmarked marks.now.words.items (walk_of L.WORD b).records (walk_of L.WORD c).records) }
+    ensures own_reads { OnlyReads S.Store own.old.store own.new.store }
+    ensures other_reads { OnlyReads T.Store other.old.store other.new.store }
+    ensures ok { OnOk result (InBoth S.Store T.Store own.new.store other.new.store
+        (λ b c. WritesPass L.WORD kind b c (W.contents w.old) (W.contents w.new))) }
+    ensures front { IfErr result (λ stop. InBoth S.Store T.Store own.new.store other.new.store
+        (λ b c. WritesPassPrefix L.WORD kind b c (W.contents w.old) (W.contents w.new))) }
+    ensures fails { IfErr result (Stops L.WORD S.Store T.Store own.old.store own.new.store
+        other.old.store other.new.store) }
+{
+    let mut key = Vec::new(alloc);
+    let mut mine = [0u8; PIECE];
+    let mut theirs = [0u8; PIECE];
+    let mut bookmark = walk(own).bookmark();
+    while let Some(pair) = next_record(own, &mut bookmark)? {
+        if is_change(own, other, marks, pair, &mut key, &mut mine, &mut theirs)? {
+            write_changes(own, kind, &key, w)?;
+        }
+    }
+    Ok(())
+}
