@@ -65,6 +65,7 @@ impl<S: Store, L: Width> Batch<S, L> {
         ensures holds { IfOk result (λ m. Holds m []) }
         ensures limit { IfOk result (λ m. limit_of m ≡ limit) }
         ensures head { IfOk result (λ m. IsUnfinished L.WORD (S.image (store_of m))) }
+        ensures settled { IfOk result (λ m. S.settled (store_of m)) }
         ensures size { IfOk result (λ m. S.size (store_of m) ≡ head_size L.WORD) }
         ensures written { IfOk result (λ m.
             S.written (store_of m) ≡ S.written store + head_size L.WORD) }

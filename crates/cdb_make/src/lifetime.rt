@@ -55,11 +55,14 @@ impl<S: Store + Drop, L: Width> From<Unfinished<S, L>> for MakeFault {
     }
 }
 
-/// Leaves a head of all ones in a store and nothing else, and gives lists without entries. All
-/// memory is taken first.
+/// Leaves a head of all ones in a store and nothing else, hands it on, and gives lists without
+/// entries. All memory is taken first.
+///
+/// So no byte of a record stands on what holds the bytes before the head does.
 fn emptied<S: Store, L: Width>(alloc: Global, store: &mut S) -> Result<Lists<L>, MakeFault>
     ensures lists { IfOk result (λ ls. all_entries ls ≡ replicate 256 []) }
     ensures head { OnOk result (IsUnfinished L.WORD (S.image store.new)) }
+    ensures settled { OnOk result (S.settled store.new) }
     ensures size { OnOk result (S.size store.new ≡ head_size L.WORD) }
     ensures written { OnOk result (S.written store.new ≡ S.written store.old + head_size L.WORD) }
     ensures room { S.room store.old ≤ S.room store.new }
@@ -73,6 +76,7 @@ fn emptied<S: Store, L: Width>(alloc: Global, store: &mut S) -> Result<Lists<L>,
     store.reserve(len as u64)?;
     store.cut(0)?;
     store.write_at(0, &head[..len])?;
+    store.flush()?;
     Ok(lists)
 }
 
@@ -83,7 +87,8 @@ impl<S: Store, L: Width> Maker<S, L> {
     /// A maker of a file of at most `limit` bytes in a store, which is emptied.
     ///
     /// Until the finish the head is one of all ones, whose tables lie outside of any file: so what
-    /// a maker leaves that does not finish is damaged.
+    /// a maker leaves that does not finish is damaged. The store is flushed after this head, so no byte
+    /// of a record is on the disk before it.
     ///
     /// The store is handed back if that failed: with `NoMemory` as it was, and with `Writing`
     /// it failed, and may hold anything.
@@ -93,6 +98,7 @@ impl<S: Store, L: Width> Maker<S, L> {
         ensures holds { IfOk result (λ m. Holds m []) }
         ensures limit { IfOk result (λ m. limit_of m ≡ limit) }
         ensures head { IfOk result (λ m. IsUnfinished L.WORD (S.image (store_of m))) }
+        ensures settled { IfOk result (λ m. S.settled (store_of m)) }
         ensures size { IfOk result (λ m. S.size (store_of m) ≡ head_size L.WORD) }
         ensures written { IfOk result (λ m.
             S.written (store_of m) ≡ S.written store + head_size L.WORD) }

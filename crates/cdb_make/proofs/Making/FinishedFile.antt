@@ -11,7 +11,7 @@ use Rattle.cdb_form.specs.Format.Table.{file_tables, slots_of, table_entries}
 use Rattle.cdb_form.proofs.Bytes.HeadLemmas.{length-flat_map_words}
 use Rattle.cdb_form.proofs.Files.Sizes.{length-pointers_from, tables_are}
 use Rattle.cdb_store.specs.Images.{Holds, SameImages}
-use Rattle.cdb_make.specs.Finished.{IsFinished, HeadIsLast}
+use Rattle.cdb_make.specs.Finished.{EndsWith, IsFinished, HeadIsLast}
 use Rattle.cdb_make.specs.Parts.{head_bytes, table_bytes, tables_end}
 use Rattle.cdb_make.specs.Stands.{Tells, Stands}
 use Rattle.cdb_make.proofs.Slots.TableBytes.{length-tables}
@@ -21,37 +21,50 @@ pub length-head_bytes : (w end : ℕ) (ls : List (List WordPair)) → length ls 
 length-head_bytes w end ls long =
     length-flat_map_words w (pointers_from w end (map slots_of ls)) ∙ ap (λ (n : ℕ). 2 * w * n) (length-pointers_from w end (map slots_of ls) ∙ length-map ls slots_of ∙ long) ∙ omega arith
 
--- a list with bytes over its end and others over its start, cut behind the first
-both_written : (first end last : ℕ) (a head tables : List ℕ) → length head ≡ first → first ≤ end → end ≤ length a → last ≡ end + length tables
-    → take last (overwrite (overwrite a end tables) 0 head) ≡ (head ++ part first (end - first) a) ++ tables
-both_written first end last a head tables eh le inside el =
+-- a list with bytes over its end, cut behind them
+end_written : (end last : ℕ) (a tables : List ℕ) → end ≤ length a → last ≡ end + length tables
+    → take last (overwrite a end tables) ≡ take end a ++ tables
+end_written end last a tables inside el =
     let rest : List ℕ = drop (end + length tables) a in
+    let front : length (take end a) ≡ end = length-take-le end a inside in
+    let len : length (take end a ++ tables) ≡ last = omega (arith, length-append (take end a) tables) in
+    ap (take last) (sym (append_assoc (take end a) tables rest)) ∙ take_at (take end a ++ tables) rest last len
+
+-- and then with others over its start
+start_written : (first end : ℕ) (a head tables : List ℕ) → length head ≡ first → first ≤ end → end ≤ length a
+    → overwrite (take end a ++ tables) 0 head ≡ (head ++ part first (end - first) a) ++ tables
+start_written first end a head tables eh le inside =
     let middle : List ℕ = part first (end - first) a in
     let front : length (take end a) ≡ end = length-take-le end a inside in
     let e : first + (end - first) ≡ end = omega arith in
     let cut : drop first (take end a) ≡ middle = ap (λ (n : ℕ). drop first (take n a)) (sym e) ∙ drop-take first (end - first) a in
     let zero : 0 + length head ≡ first = omega arith in
-    let behind : drop (0 + length head) (overwrite a end tables) ≡ middle ++ (tables ++ rest) =
-    ap (λ (n : ℕ). drop n (overwrite a end tables)) zero ∙ drop-append-le first (take end a) (tables ++ rest) (omega arith) ∙ ap (λ v. v ++ (tables ++ rest)) cut in
-    let whole : overwrite (overwrite a end tables) 0 head ≡ ((head ++ middle) ++ tables) ++ rest =
-    ap (λ v. head ++ v) behind ∙ sym (append_assoc head middle (tables ++ rest)) ∙ sym (append_assoc (head ++ middle) tables rest) in
-    let m : length middle ≡ end - first = length-part first (end - first) a (omega arith) in
-    let len : length ((head ++ middle) ++ tables) ≡ last = omega (arith, length-append (head ++ middle) tables, length-append head middle) in
-    ap (take last) whole ∙ take_at ((head ++ middle) ++ tables) rest last len
+    let behind : drop (0 + length head) (take end a ++ tables) ≡ middle ++ tables =
+    ap (λ (n : ℕ). drop n (take end a ++ tables)) zero ∙ drop-append-le first (take end a) tables (omega arith) ∙ ap (λ v. v ++ tables) cut in
+    ap (λ v. head ++ v) behind ∙ sym (append_assoc head middle tables)
 
-pub finished : {w end last size : ℕ} {ls : List (List WordPair)} {i j k l : List ℕ → Type 0} → length ls ≡ 256 → head_size w ≤ end → end ≤ size → last ≡ tables_end w end ls → AreSized size i
-    → AfterWrite end (flat_map (table_bytes w) ls) i j → AfterWrite 0 (head_bytes w end ls) j k → AfterCut last k l → IsFinished w end ls i l
-finished {w = w} {end = end} {last = last} {ls = ls} long start inside behind sized tables head cut = record {
+-- after the tables are written and the rest is cut
+pub settled_end : {end last size : ℕ} {bytes : List ℕ} {i j k l : List ℕ → Type 0} → end ≤ size → last ≡ end + length bytes → AreSized size i
+    → AfterWrite end bytes i j → AfterCut last j k → SameImages k l → EndsWith end bytes i l
+settled_end {end = end} {last = last} {bytes = bytes} inside el sized write cut same = record {
   each = λ b is.
-      let c = cut.no_other b is in
-      let h = head.no_other c.0 c.1 in
-      let t = tables.no_other h.0 h.1 in
+      let c = cut.no_other b (same.no_other b is) in
+      let t = write.no_other c.0 c.1 in
       let len : length t.0 ≡ _ = sized.each t.0 t.1 in
-      let bytes = length-tables w ls in (
+      (t.0, t.1, c.2 ∙ ap (take last) t.2 ∙ end_written end last t.0 bytes (omega arith) el);
+}
+
+pub finished : {w end size : ℕ} {ls : List (List WordPair)} {i j k l : List ℕ → Type 0} → length ls ≡ 256 → head_size w ≤ end → end ≤ size → AreSized size i
+    → EndsWith end (flat_map (table_bytes w) ls) i j → AfterWrite 0 (head_bytes w end ls) j k → SameImages k l → IsFinished w end ls i l
+finished {w = w} {end = end} {ls = ls} long start inside sized ends head same = record {
+  each = λ b is.
+      let h = head.no_other b (same.no_other b is) in
+      let t = ends.each h.0 h.1 in
+      let len : length t.0 ≡ _ = sized.each t.0 t.1 in (
         t.0,
         t.1,
-        c.2 ∙ ap (take last) (h.2 ∙ ap (λ v. overwrite v 0 (head_bytes w end ls)) t.2)
-            ∙ both_written (head_size w) end last t.0 (head_bytes w end ls) (flat_map (table_bytes w) ls) (length-head_bytes w end ls long) start (omega arith) (omega (arith, bytes)),
+        h.2 ∙ ap (λ v. overwrite v 0 (head_bytes w end ls)) t.2
+            ∙ start_written (head_size w) end t.0 (head_bytes w end ls) (flat_map (table_bytes w) ls) (length-head_bytes w end ls long) start (omega arith),
       );
 }
 

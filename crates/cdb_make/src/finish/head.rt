@@ -30,7 +30,8 @@ fn head_of<L: Width>(lists: &Lists<L>, end: u64) -> Head
     Head { pointers }
 }
 
-/// Writes the head at the store's start. It takes no memory.
+/// Writes the head at the start of a store that has handed on all else: so no head is on the disk before
+/// what it points to. It takes no memory.
 ///
 /// `Device`: the head's bytes may be any, and those after it stay.
 pub(crate) fn write_pointers<S: Store, L: Width>(
@@ -39,6 +40,7 @@ pub(crate) fn write_pointers<S: Store, L: Width>(
     end: u64,
 ) -> Result<(), StoreFault>
     requires limit { tables_end L.WORD end (all_entries lists.now) ≤ L.GREATEST }
+    requires settled { S.settled store.old }
     requires inside { head_size L.WORD ≤ S.size store.old }
     requires room { head_size L.WORD ≤ S.room store.old }
     ensures ok { OnOk result (AfterWrite 0 (head_bytes L.WORD end (all_entries lists.now))

@@ -196,7 +196,9 @@ impl<L: Width> EntryList<L> {
         ensures top { self.new.top ≡ self.old.top }
     {
         let count = self.hashes.len();
-        self.reserve_index(indexing, count);
+        if self.index.room() < count {
+            self.reserve_index(indexing, count);
+        }
         self.index.catch_up(&self.hashes);
     }
 

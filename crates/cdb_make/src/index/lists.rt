@@ -84,9 +84,9 @@ impl<L: Width> Lists<L> {
     pub(crate) fn new(alloc: Global) -> Result<Lists<L>, AllocError>
         ensures { IfOk result (λ ls. all_entries ls ≡ replicate 256 []) }
     {
-        let mut each = Vec::new(alloc);
+        let mut each = Vec::with_capacity(alloc, 256)?;
         for _ in 0..256usize {
-            each.push(EntryList::new(alloc))?;
+            each.push_reserved(EntryList::new(alloc));
         }
         Ok(Lists { each })
     }
