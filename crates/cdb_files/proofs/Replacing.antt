@@ -4,8 +4,9 @@ use Rattle.std.specs.List.{AllByRecursion}
 use Rattle.std.proofs.lemmas.Bool.{false≢true}
 use Rattle.cdb_store.specs.Calls.{Calls, IsSynced, FileImage}
 use Rattle.cdb_files.specs.declared.name_trace.NameCall.{NameCall}
-use Rattle.cdb_files.specs.declared.name_trace.NameCall.TheVariants.{Special, Same, Looked, Opened, NotOpened, Made, NotMade, Locked, Own, Bits, Allowed, NotAllowed}
+use Rattle.cdb_files.specs.declared.name_trace.NameCall.TheVariants.{Special, Same, Looked, Opened, NotOpened, Made, NotMade, Locked, Own, Input, Bits, Seen, Set}
 use Rattle.cdb_files.specs.declared.name_trace.NameCall.TheVariants.{Removed, NotRemoved, Renamed, NotRenamed, Synced, NotSynced}
+use Rattle.cdb_files.specs.declared.wanted.Wanted.{Wanted}
 use Rattle.cdb_files.specs.Folder.{NameCalls, IsRemoval, IsCleared, MayHave, Has, LeavesFile, AreApart, MayRemove, IsGuarded, EachIsGuarded, AreGuarded}
 use Rattle.cdb_files.specs.Replacing.{NameEvent, IsReady, IsOfReplacing, AreOfReplacing, EachIsStep, AreSteps, AtEach, AtEachMoment, IsNew, IsTrueOf, LeavesOldOrNew, LeavesNew}
 
@@ -48,8 +49,9 @@ weaker_one t n f (NotMade fault, one, other, file) r = tt
 weaker_one t n f (Locked lock, one, other, file) r = tt
 weaker_one t n f (Own is, one, other, file) r = tt
 weaker_one t n f (Bits bits, one, other, file) r = tt
-weaker_one t n f (Allowed bits, one, other, file) r = tt
-weaker_one t n f (NotAllowed, one, other, file) r = tt
+weaker_one t n f (Input is, one, other, file) r = tt
+weaker_one t n f (Seen bits, one, other, file) r = tt
+weaker_one t n f (Set bits, one, other, file) r = tt
 weaker_one t n f (Synced, one, other, file) r = tt
 weaker_one t n f (NotSynced, one, other, file) r = tt
 
@@ -135,8 +137,9 @@ keeps n place old now (NotMade fault, one, other, file) may before first held wa
 keeps n place old now (Locked lock, one, other, file) may before first held was = before first held was
 keeps n place old now (Own is, one, other, file) may before first held was = before first held was
 keeps n place old now (Bits bits, one, other, file) may before first held was = before first held was
-keeps n place old now (Allowed bits, one, other, file) may before first held was = before first held was
-keeps n place old now (NotAllowed, one, other, file) may before first held was = before first held was
+keeps n place old now (Input is, one, other, file) may before first held was = before first held was
+keeps n place old now (Seen bits, one, other, file) may before first held was = before first held was
+keeps n place old now (Set bits, one, other, file) may before first held was = before first held was
 keeps n place old now (NotSynced, one, other, file) may before first held was = before first held was
 
 all_keep : (t n : List ℕ) (whole : List ℕ → Type 0) (place : List ℕ → Bool) (old since : NameCalls)
@@ -226,10 +229,17 @@ pub synced : {t n : List ℕ} {whole : List ℕ → Type 0} {old mid : NameCalls
 synced {n = n} new true are is = step new (Synced, n, [], []) are is tt tt
 synced {n = n} new false are is = step new (NotSynced, n, [], []) are is tt tt
 
-pub allowed : {t n : List ℕ} {whole : List ℕ → Type 0} {old mid : NameCalls} (new : NameCalls) (r : Bool) (bits : ℕ)
-    → AreSteps t n whole old mid → new ≡ (cond r (Allowed bits) NotAllowed, t, [], []) ∷ mid → AreSteps t n whole old new
-allowed {t = t} new true bits are is = step new (Allowed bits, t, [], []) are is tt tt
-allowed {t = t} new false bits are is = step new (NotAllowed, t, [], []) are is tt tt
+-- the bits that are wanted were asked, and those of the file
+pub wanted_seen : {t n : List ℕ} {whole : List ℕ → Type 0} {old : NameCalls} (mid new : NameCalls) (wanted : Option Wanted) (first : Option ℕ) (file : Calls)
+    → mid ≡ (Bits wanted, n, [], []) ∷ old → new ≡ (Seen first, t, [], file) ∷ mid → AreSteps t n whole old new
+wanted_seen {t = t} {n = n} {old = old} mid new wanted first file asked seen =
+    step new (Seen first, t, [], file) (step mid (Bits wanted, n, [], []) (no_step old) asked tt tt) seen tt tt
+
+-- and the system was asked for them, and the file looked at once more
+pub set_seen : {t n : List ℕ} {whole : List ℕ → Type 0} {old mid : NameCalls} (set new : NameCalls) (bits : ℕ) (last : Option ℕ) (first file : Calls)
+    → AreSteps t n whole old mid → set ≡ (Set bits, t, [], first) ∷ mid → new ≡ (Seen last, t, [], file) ∷ set → AreSteps t n whole old new
+set_seen {t = t} set new bits last first file are asked seen =
+    step new (Seen last, t, [], file) (step set (Set bits, t, [], first) are asked tt tt) seen tt tt
 
 -- ---- what was built
 

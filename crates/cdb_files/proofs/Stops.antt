@@ -11,7 +11,7 @@ use Rattle.cdb_files.specs.declared.replace.ReplaceFault.TheVariants as replacin
 use Rattle.cdb_store.specs.Calls.{Calls}
 use Rattle.cdb_store.specs.declared.trace.Call.TheVariants.{Made as FileMade}
 use Rattle.cdb_files.specs.Folder.{NameCalls, IsCleared}
-use Rattle.cdb_files.specs.Replacing.{IsFree, IsUndoing, StopsAt, StopsMaking, StopsUnbuilt, of_open}
+use Rattle.cdb_files.specs.Replacing.{IsFound, IsFree, IsUndoing, StopsAt, StopsMaking, StopsUnbuilt, of_open}
 
 -- the old file was not opened
 pub not_opened : (E : Type 0) (t n : List ℕ) (mid new : NameCalls) (fault : NameFault) → new ≡ (NotOpened fault, t, [], []) ∷ mid
@@ -30,12 +30,12 @@ pub is_held : (t n : List ℕ) (mid new : NameCalls) → new ≡ (Locked Held, t
 is_held t n mid new is = ((Locked Held, t, [], []), mid, inl (refl, is))
 
 -- the old file may be that of the name
-pub may_be_it : (t n : List ℕ) (mid new : NameCalls) (said : Answer) → (said ≡ Yes) ⊎ (said ≡ Unknown)
+pub may_be_it : (t n : List ℕ) (mid new : NameCalls) (said : Answer) → IsFound t mid → (said ≡ Yes) ⊎ (said ≡ Unknown)
     → new ≡ (Same said, t, n, []) ∷ mid → StopsMaking t n new
-may_be_it t n mid new said (inl is) called =
-    ((Same Yes, t, n, []), mid, inl ((refl, refl), subst (λ (a : Answer). new ≡ (Same a, t, n, []) ∷ mid) is called))
-may_be_it t n mid new said (inr is) called =
-    ((Same Unknown, t, n, []), mid, inl ((refl, refl), subst (λ (a : Answer). new ≡ (Same a, t, n, []) ∷ mid) is called))
+may_be_it t n mid new said found (inl is) called =
+    ((Same Yes, t, n, []), mid, inl ((refl, refl, found), subst (λ (a : Answer). new ≡ (Same a, t, n, []) ∷ mid) is called))
+may_be_it t n mid new said found (inr is) called =
+    ((Same Unknown, t, n, []), mid, inl ((refl, refl, found), subst (λ (a : Answer). new ≡ (Same a, t, n, []) ∷ mid) is called))
 
 -- the file that was made was removed again
 pub was_undone : (t n : List ℕ) (file : Calls) (mid new : NameCalls) → file ≡ (FileMade, []) ∷ [] → IsUndoing t n mid → IsCleared t file mid new

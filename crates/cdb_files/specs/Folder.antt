@@ -2,13 +2,16 @@
 use Rattle.std.specs.Prelude.{◌≡◌, ◌≢◌, ℕ, ◌⊎◌, List, [], ◌∷◌, ◌++◌, Option, None, Some}
 use Rattle.std.specs.Prelude.{Bool, true, false}
 use Rattle.cdb_store.specs.Calls.{Calls, IsSynced, FileImage}
+use Rattle.cdb_store.specs.declared.trace.Call.TheVariants.{Synced as FileSynced}
 use Rattle.cdb_files.specs.declared.answer.Answer.TheVariants.{Yes, No}
 use Rattle.cdb_files.specs.declared.answer.Lock.TheVariants.{Held}
 use Rattle.cdb_files.specs.declared.name_trace.NameCall.{NameCall}
 use Rattle.cdb_files.specs.declared.name_trace.NameCall.TheVariants.{Special, Same, Opened, Made}
-use Rattle.cdb_files.specs.declared.name_trace.NameCall.TheVariants.{Locked, Own, Bits, Allowed}
-use Rattle.cdb_files.specs.declared.name_trace.NameCall.TheVariants.{NotAllowed, Removed, NotRemoved}
+use Rattle.cdb_files.specs.declared.name_trace.NameCall.TheVariants.{Locked, Own, Bits, Seen, Set}
+use Rattle.cdb_files.specs.declared.name_trace.NameCall.TheVariants.{Removed, NotRemoved}
 use Rattle.cdb_files.specs.declared.name_trace.NameCall.TheVariants.{Renamed, NotRenamed, Synced}
+use Rattle.cdb_files.specs.declared.wanted.Wanted.{Wanted}
+use Rattle.cdb_files.specs.Wanted.{Suits, wanted_bits}
 
 -- the calls, each with its name, its other name, and the calls on its file
 abbrev pub NameCalls : Type 0
@@ -115,30 +118,44 @@ IsPlain name ((Special No, one, other, file) ∷ calls) = (one ≡ name) ⊎ IsP
 IsPlain name ((Special answer, one, other, file) ∷ calls) = (one ≢ name) × IsPlain name calls
 IsPlain name ((_, one, other, file) ∷ calls) = IsPlain name calls
 
--- these permission bits are those for a file that replaces that of a name, as the system said last
-abbrev pub AreBitsFor : (bits : ℕ) → (name : List ℕ) → NameCalls → Type 0
-AreBitsFor bits name [] = ⊥
-AreBitsFor bits name ((Bits (Some said), one, other, file) ∷ calls) =
-    ((one ≡ name) × (said ≡ bits)) ⊎ ((one ≢ name) × AreBitsFor bits name calls)
-AreBitsFor bits name ((Bits None, one, other, file) ∷ calls) =
-    (one ≢ name) × AreBitsFor bits name calls
-AreBitsFor bits name ((_, one, other, file) ∷ calls) = AreBitsFor bits name calls
+-- the last answers: the permission bits for a file that gets a name, and those that the file of the other
+-- name was seen to have, on which these calls were made
+abbrev pub seen_first : (from to : List ℕ) (wanted : Wanted) (first : ℕ) (file : Calls)
+    → NameCalls → NameCalls
+seen_first from to wanted first file calls =
+    (Seen (Some first), from, [], file) ∷ (Bits (Some wanted), to, [], []) ∷ calls
 
--- the file of a name got the permission bits for a file that replaces that of the other
-abbrev pub HasBits : (name other : List ℕ) → NameCalls → Type 0
-HasBits name other [] = ⊥
-HasBits name other ((Allowed bits, one, two, file) ∷ calls) =
-    ((one ≡ name) × AreBitsFor bits other calls) ⊎ ((one ≢ name) × HasBits name other calls)
-HasBits name other ((NotAllowed, one, two, file) ∷ calls) = (one ≢ name) × HasBits name other calls
-HasBits name other ((Made, one, two, file) ∷ calls) = (one ≢ name) × HasBits name other calls
-HasBits name other ((_, one, two, file) ∷ calls) = HasBits name other calls
+-- and then the system was asked to give it those that are wanted
+abbrev pub asked_for : (from to : List ℕ) (wanted : Wanted) (first : ℕ) (file : Calls)
+    → NameCalls → NameCalls
+asked_for from to wanted first file calls =
+    (Set (wanted_bits wanted), from, [], file) ∷ seen_first from to wanted first file calls
 
--- the file of a name may get the other one in place of what has it
-pub record MayReplace (from to : List ℕ) (before : NameCalls) : Type 0 where
+-- a file on which the first calls were made was synced once more and nothing else, if its permission bits
+-- are others than they were
+abbrev pub IsResynced : (first last : ℕ) (was now : Calls) → Type 0
+IsResynced first last was now =
+    ((last ≡ first) × (now ≡ was)) ⊎ ((last ≢ first) × (now ≡ (FileSynced, []) ∷ was))
+
+-- the bytes of the file of a name, on which these calls were made, were synced; and then it had the
+-- permission bits with which it may get the other name, or was given them, and synced once more
+pub record HasBits (from to : List ℕ) (file : Calls) (old new : NameCalls) : Type 0 where
+  pub wanted : Wanted
+  pub first : ℕ
+  pub was : Calls
+  pub synced : IsSynced was
+  pub how : ((first ≡ wanted_bits wanted) × (file ≡ was)
+      × (new ≡ seen_first from to wanted first was old))
+      ⊎ ((last : ℕ) × Suits wanted last × IsResynced first last was file
+      × (new ≡ (Seen (Some last), from, [], was) ∷ asked_for from to wanted first was old))
+
+-- the file of a name, on which these calls were made, may get the other one in place of what has it
+pub record MayReplace (from to : List ℕ) (file : Calls) (before : NameCalls) : Type 0 where
   pub lock : HasLock from before
   pub own : IsOwn from before
   pub apart : AreApart from to before
-  pub bits : HasBits from to before
+  pub earlier : NameCalls
+  pub bits : HasBits from to file earlier before
   pub plain : IsPlain to before
 
 -- the file of a name that was opened or made last was made
@@ -165,8 +182,8 @@ abbrev pub IsGuarded : (name : List ℕ) → NameCall × List ℕ × List ℕ ×
     → Type 0
 IsGuarded name (Removed, gone, other, file) before = MayRemove gone name before
 IsGuarded name (NotRemoved, gone, other, file) before = MayRemove gone name before
-IsGuarded name (Renamed len, from, to, file) before = MayReplace from to before
-IsGuarded name (NotRenamed len fault, from, to, file) before = MayReplace from to before
+IsGuarded name (Renamed len, from, to, file) before = MayReplace from to file before
+IsGuarded name (NotRenamed len fault, from, to, file) before = MayReplace from to file before
 IsGuarded name (call, one, other, file) before = Unit {0}
 
 -- each call since

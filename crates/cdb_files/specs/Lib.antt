@@ -5,3 +5,4 @@ pub mod Made
 pub mod Names
 pub mod Opening
 pub mod Unsynced
+pub mod Wanted

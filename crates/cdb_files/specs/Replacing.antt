@@ -17,14 +17,17 @@ use Rattle.cdb_files.specs.declared.answer.Lock.{Lock}
 use Rattle.cdb_files.specs.declared.answer.Lock.TheVariants as locking
 use Rattle.cdb_files.specs.declared.name_trace.NameCall.TheVariants.{Special, Same, Looked}
 use Rattle.cdb_files.specs.declared.name_trace.NameCall.TheVariants.{NotOpened, Made, NotMade}
-use Rattle.cdb_files.specs.declared.name_trace.NameCall.TheVariants.{Locked, Own, Bits, Allowed}
-use Rattle.cdb_files.specs.declared.name_trace.NameCall.TheVariants.{NotAllowed, Removed, NotRemoved}
+use Rattle.cdb_files.specs.declared.name_trace.NameCall.TheVariants.{Locked, Own, Bits, Seen}
+use Rattle.cdb_files.specs.declared.name_trace.NameCall.TheVariants.{Removed, NotRemoved}
 use Rattle.cdb_files.specs.declared.name_trace.NameCall.TheVariants.{Renamed, NotRenamed, Synced}
 use Rattle.cdb_files.specs.declared.name_trace.NameCall.TheVariants.{NotSynced}
 use Rattle.cdb_files.specs.declared.replace.ReplaceFault.{ReplaceFault}
 use Rattle.cdb_files.specs.declared.replace.ReplaceFault.TheVariants.{Open, NoMemory, Rename, Write}
 use Rattle.cdb_files.specs.declared.replace.ReplaceFault.TheVariants.{Build}
+use Rattle.cdb_files.specs.declared.wanted.Wanted.{Wanted}
 use Rattle.cdb_files.specs.Folder.{NameCalls, IsCleared, MayHave, AreApart, IsGuarded, IsPlain}
+use Rattle.cdb_files.specs.Folder.{asked_for}
+use Rattle.cdb_files.specs.Wanted.{Suits}
 
 -- one call, with its name, its other name, and the calls on its file
 abbrev pub NameEvent : Type 0
@@ -117,13 +120,19 @@ abbrev pub IsFree : (name : List ℕ) → NameCalls → Type 0
 IsFree name calls = (before : NameCalls)
     × ((calls ≡ (Looked found.Nothing, name, [], []) ∷ before) ⊎ HasCleared name before calls)
 
+-- the last look found a file
+abbrev pub IsFound : (name : List ℕ) → NameCalls → Type 0
+IsFound name calls = (before : NameCalls) × (calls ≡ (Looked found.File, name, [], []) ∷ before)
+
 -- an answer at which nothing was made: the system did not say what a name has; or the two names are
--- of one file; or the temporary name has no regular file, or one that cannot be opened or that
--- another process holds; or no file could be made there, once the name was free
+-- of one file, which was just found; or the temporary name has no regular file, or one that cannot be
+-- opened or that another process holds; or no file could be made there, once the name was free
 abbrev pub IsStop : (temporary name : List ℕ) → NameEvent → (before : NameCalls) → Type 0
 IsStop temporary name (Special answer.Unknown, one, other, file) before = one ≡ name
-IsStop temporary name (Same answer.Yes, one, two, file) before = (one ≡ temporary) × (two ≡ name)
-IsStop temporary name (Same answer.Unknown, one, two, file) before = (one ≡ temporary) × (two ≡ name)
+IsStop temporary name (Same answer.Yes, one, two, file) before =
+    (one ≡ temporary) × (two ≡ name) × IsFound temporary before
+IsStop temporary name (Same answer.Unknown, one, two, file) before =
+    (one ≡ temporary) × (two ≡ name) × IsFound temporary before
 IsStop temporary name (Looked found.Other, one, other, file) before = one ≡ temporary
 IsStop temporary name (Looked found.Unknown, one, other, file) before = one ≡ temporary
 IsStop temporary name (NotOpened name_fault.Failed, one, other, file) before = one ≡ temporary
@@ -170,17 +179,25 @@ StopsUnbuilt temporary name old new Rename = new ≡ (Special answer.Yes, name, 
 StopsUnbuilt temporary name old new Write = ⊥
 StopsUnbuilt temporary name old new (Build fault) = ⊥
 
--- the system did not say which permission bits the file is to have, or refused them
-abbrev pub LacksBits : (temporary name : List ℕ) → NameEvent → Type 0
-LacksBits temporary name (Bits None, one, other, file) = one ≡ name
-LacksBits temporary name (NotAllowed, one, other, file) = one ≡ temporary
-LacksBits temporary name (call, one, other, file) = ⊥
+-- the system was asked for permission bits with which the file may get the name, and it has others
+abbrev pub IsNotGiven : (temporary name : List ℕ) (bits : ℕ) → NameCalls → Type 0
+IsNotGiven temporary name bits calls = (wanted : Wanted) × (first : ℕ) × (file : Calls)
+    × (before : NameCalls) × (Suits wanted bits → ⊥)
+    × (calls ≡ asked_for temporary name wanted first file before)
+
+-- the system did not say which permission bits the file is to have, or which it has, or did not give them
+abbrev pub LacksBits : (temporary name : List ℕ) → NameEvent → (before : NameCalls) → Type 0
+LacksBits temporary name (Bits None, one, other, file) before = one ≡ name
+LacksBits temporary name (Seen None, one, other, file) before = one ≡ temporary
+LacksBits temporary name (Seen (Some bits), one, other, file) before =
+    (one ≡ temporary) × IsNotGiven temporary name bits before
+LacksBits temporary name (call, one, other, file) before = ⊥
 
 -- the file that was built did not get its permission bits, or was not synced
 abbrev pub FailsToSeal : {E : Type 0} → (temporary name : List ℕ) → NameCalls → ReplaceFault E
     → Type 0
 FailsToSeal temporary name calls Open =
-    (stop : NameEvent) × (before : NameCalls) × LacksBits temporary name stop
+    (stop : NameEvent) × (before : NameCalls) × LacksBits temporary name stop before
     × (calls ≡ stop ∷ before)
 FailsToSeal temporary name calls Write = Unit {0}
 FailsToSeal temporary name calls fault = ⊥
@@ -192,7 +209,7 @@ abbrev pub EndsBuilt : {E : Type 0} → (temporary name : List ℕ) → NameCall
 EndsBuilt temporary name new NoMemory = FailsRename temporary name new name_fault.NoMemory
 EndsBuilt temporary name new Rename = FailsRename temporary name new name_fault.Failed
 EndsBuilt temporary name new Open =
-    (stop : NameEvent) × (before : NameCalls) × LacksBits temporary name stop
+    (stop : NameEvent) × (before : NameCalls) × LacksBits temporary name stop before
     × HasCleared temporary (stop ∷ before) new
 EndsBuilt temporary name new Write = (before : NameCalls) × HasCleared temporary before new
 EndsBuilt temporary name new (Build fault) =
@@ -228,11 +245,6 @@ pub record IsReadyToBuild (temporary name : List ℕ) (calls : NameCalls) : Type
   pub before : NameCalls
   pub plain : IsPlain name before
   pub made : IsMadeApart temporary name before calls
-
--- the file of the temporary name got the permission bits for the name
-pub record GivesBits (temporary name : List ℕ) (old new : NameCalls) : Type 0 where
-  pub bits : ℕ
-  pub are : new ≡ (Allowed bits, temporary, [], []) ∷ (Bits (Some bits), name, [], []) ∷ old
 
 -- what a fault of an open is to the caller
 abbrev pub of_open : {E : Type 0} → NameFault → ReplaceFault E

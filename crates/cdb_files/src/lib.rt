@@ -3,6 +3,8 @@
 
 mod answer;
 mod fault;
+mod locks;
+mod looks;
 mod name_fault;
 mod name_trace;
 mod names;
@@ -10,11 +12,15 @@ mod opening;
 mod real_names;
 mod records_file;
 mod replace;
-mod umask;
+mod standard_input;
+mod system_links;
 mod unsynced;
+mod wanted;
 
 pub use answer::{Answer, Found, Lock};
 pub use fault::FileFault;
+pub use locks::locked;
+pub use looks::has_name;
 pub use name_fault::NameFault;
 pub use name_trace::{NameCall, NameTrace};
 pub use names::{Names, Unrenamed};
@@ -23,3 +29,4 @@ pub use real_names::RealNames;
 pub use records_file::{Records, make_file, make_file_in};
 pub use replace::{Builder, ReplaceFault, replace_file};
 pub use unsynced::Unsynced;
+pub use wanted::Wanted;

@@ -6,6 +6,7 @@ ghost use Rattle.cdb_files.specs.declared.name_trace.NameCall.{NameCall};
 
 use crate::answer::{Answer, Found, Lock};
 use crate::name_fault::NameFault;
+use crate::wanted::Wanted;
 use cdb_store::Trace;
 use std::marker::{Model, PhantomData};
 
@@ -30,12 +31,14 @@ pub enum NameCall {
     Locked(Lock),
     /// Whether the name has that file.
     Own(Answer),
-    /// The permission bits for a file that replaces that of the name, if the system said.
-    Bits(Option<u32>),
-    /// The file of the name got these permission bits.
-    Allowed(u32),
-    /// It did not get them.
-    NotAllowed,
+    /// Whether standard input is the file of the name.
+    Input(Answer),
+    /// The permission bits for a file that gets the name, if the system said.
+    Bits(Option<Wanted>),
+    /// The permission bits that the file of the name was seen to have, if the system said.
+    Seen(Option<u32>),
+    /// The system was asked to give the file of the name these permission bits.
+    Set(u32),
     /// The name was taken from its file, or had none.
     Removed,
     /// The removal failed, or its outcome is unknown.

@@ -12,9 +12,10 @@ ghost use Rattle.cdb_files.specs.declared.name_trace.NameCall.TheVariants.{
   NotMade,
   Locked,
   Own,
+  Input,
   Bits,
-  Allowed,
-  NotAllowed,
+  Seen,
+  Set,
   Renamed,
   NotRenamed,
   Synced,
@@ -24,6 +25,7 @@ ghost use Rattle.std.specs.Prelude.{cond};
 
 use crate::answer::{Answer, Found, Lock};
 use crate::name_fault::NameFault;
+use crate::wanted::Wanted;
 use cdb_store::RawFile;
 
 /// A file that was not renamed, and why.
@@ -83,19 +85,27 @@ pub trait Names {
     fn has_file(&mut self, name: &str, file: &Self::File) -> Answer
         ensures { calls self.new ≡ (Own result, name.now, [], []) ∷ calls self.old };
 
-    /// The permission bits for a file that replaces what has a name: those of the regular file
-    /// there, which is not followed as a link. If there is none, those that the umask leaves of a
-    /// file that all may read and write, or those for this user alone if the system tells no umask.
-    /// `None`: the system did not say.
-    fn bits_for(&mut self, name: &str) -> Option<u32>
+    /// Whether what has a name is the file of standard input. A link is not followed.
+    fn is_input(&mut self, name: &str) -> Answer
+        ensures { calls self.new ≡ (Input result, name.now, [], []) ∷ calls self.old };
+
+    /// The permission bits for a file that is to get a name: those of the regular file there, which is
+    /// not followed as a link, or those that the system gives a plain new file of this name. `None`: the
+    /// system did not say.
+    fn bits_for(&mut self, name: &str) -> Option<Wanted>
         ensures { calls self.new ≡ (Bits result, name.now, [], []) ∷ calls self.old };
 
-    /// Gives an open file of a name these permission bits, whatever the umask, and answers whether
-    /// it has them. Owner and group stay this user's, and bits beyond read, write and execute are
-    /// not given.
-    fn allow(&mut self, name: &str, file: &Self::File, bits: u32) -> bool
+    /// The permission bits of an open file of a name. `None`: the system did not say.
+    fn bits_of(&mut self, name: &str, file: &Self::File) -> Option<u32>
         ensures { calls self.new
-            ≡ (cond result (Allowed bits) NotAllowed, name.now, [], []) ∷ calls self.old };
+            ≡ (Seen result, name.now, [], Self.File.calls file.now) ∷ calls self.old };
+
+    /// Asks the system to give an open file of a name these permission bits, whatever the umask.
+    /// Whether it has them then, `bits_of` says. Owner and group stay this user's, and bits beyond
+    /// read, write and execute are not given.
+    fn set_bits(&mut self, name: &str, file: &Self::File, bits: u32)
+        ensures { calls self.new
+            ≡ (Set bits, name.now, [], Self.File.calls file.now) ∷ calls self.old };
 
     /// Takes a name from an open file whose lock is held, if the file still has it.
     fn remove_own(&mut self, name: &str, file: &Self::File)

@@ -1,20 +1,22 @@
 // The names of the system: the lines that call the system and note what it answered.
 ghost use Rattle.std.specs.Prelude.{◌≡◌, ◌⊎◌, ◌<◌, [], ◌∷◌, IfErr, IfSome, OnOk};
-ghost use Rattle.std.specs.Path.{path_parent};
-ghost use Rattle.cdb_files.specs.Names.{folder_from};
 ghost use Rattle.cdb_files.specs.declared.name_trace.NameCall.TheVariants.{Renamed, NotRenamed};
 ghost use Rattle.cdb_files.specs.Folder.{IsRemoval, HasLock, IsCleared};
 
 use crate::answer::{Answer, Found, Lock};
+use crate::locks::locked;
+use crate::looks::{Look, folder_of, has_name, is_one, is_one_of, looked};
 use crate::name_fault::NameFault;
 use crate::name_trace::{NameCall, NameTrace};
 use crate::names::{Names, Unrenamed};
-use crate::umask::umask_in;
+use crate::standard_input::input_look;
+use crate::system_links::is_system_link;
+use crate::wanted::Wanted;
 use cdb_store::{READ_AND_WRITTEN, RealFile, Trace};
-use std::fs::{self, File, Metadata, Permissions, TryLockError};
-use std::io::{self, ErrorKind, Read};
+use std::alloc::Alloc;
+use std::fs::{self, File, Metadata, Permissions};
+use std::io::{self, ErrorKind};
 use std::os::unix::fs::{MetadataExt, PermissionsExt};
-use std::path::Path;
 use std::rt::Files;
 
 /// The names of the system's files.
@@ -24,7 +26,7 @@ pub struct RealNames<'a, R> {
     trace: NameTrace,
 }
 
-impl<'a, R: Files<File = File>> RealNames<'a, R> {
+impl<'a, R: Files<File = File> + Alloc> RealNames<'a, R> {
     /// Names on which no call was made yet.
     pub fn new(rt: &'a R) -> RealNames<'a, R>
         ensures { result.trace.events ≡ [] }
@@ -45,113 +47,82 @@ impl<'a, R: Files<File = File>> RealNames<'a, R> {
     }
 }
 
-/// What the system says of a name or of an open file.
-#[derive(Drop)]
-enum Look {
-    /// This.
-    There(Metadata),
-    /// That nothing is there.
-    Missing,
-    /// Nothing: the call failed.
-    Unknown,
-}
-
-/// What a look came to. Only "no such file" says that nothing is there.
-fn looked(answer: io::Result<Metadata>) -> Look {
-    match answer {
-        Ok(found) => Look::There(found),
-        Err(error) if error.kind() == ErrorKind::NotFound => Look::Missing,
-        Err(_) => Look::Unknown,
-    }
-}
-
-/// Whether both are of one file: of one device and inode.
-fn is_one(one: &Look, other: &Look) -> Answer {
-    match (one, other) {
-        (Look::There(one), Look::There(other)) => {
-            if one.dev() == other.dev() && one.ino() == other.ino() {
-                Answer::Yes
-            } else {
-                Answer::No
-            }
-        }
-        (Look::Unknown, _) | (_, Look::Unknown) => Answer::Unknown,
-        _ => Answer::No,
-    }
-}
-
-/// Whether a file is what a name has, or what it leads to as a link.
-fn is_one_of<R: Files<File = File>>(rt: &R, file: &Look, name: &str) -> Answer {
-    let found = looked(fs::symlink_metadata(rt, name));
-    match is_one(file, &found) {
-        Answer::No if is_link(&found) => is_one(file, &looked(fs::metadata(rt, name))),
-        answer => answer,
-    }
-}
-
-/// Whether what was looked at is a link.
-fn is_link(look: &Look) -> bool {
-    matches!(look, Look::There(found) if found.is_symlink())
-}
-
-/// Whether a name has an open file.
-fn has_name<R: Files<File = File>>(rt: &R, name: &str, file: &RealFile) -> Answer {
-    is_one(
-        &looked(fs::symlink_metadata(rt, name)),
-        &looked(file.metadata()),
-    )
-}
-
 /// The permission bits of a file that this user alone may read and write.
 const PRIVATE: u32 = 0o600;
 
 /// The permission bits for all, of a file's mode.
 const FOR_ALL: u32 = 0o777;
 
-/// Where the system tells the umask of this process.
-const STATUS: &str = "/proc/self/status";
+/// The system's number for "file name too long".
+const ENAMETOOLONG: i32 = 36;
 
-/// How many of its first bytes have the line of the umask.
-const STATUS_HEAD: usize = 512;
+/// The permission bits of what was looked at, for all.
+fn bits_in(found: &Metadata) -> u32 {
+    found.permissions().mode() & FOR_ALL
+}
 
-/// The permission bits of a new file, or `None` if the system did not say. If it has no such page, or
-/// no umask on it, the file is for this user alone.
-fn new_bits<R: Files<File = File>>(rt: &R) -> Option<u32> {
-    let mut status = match File::open(rt, STATUS) {
-        Ok(status) => status,
-        Err(error) if error.kind() == ErrorKind::NotFound => return Some(PRIVATE),
-        Err(_) => return None,
+/// What stands after a name in that of the file that shows the permission bits of a new one.
+const SHOWN: &[u8] = b".bit";
+
+/// The greatest length of a path.
+const LONGEST: usize = 4095;
+
+/// The permission bits that the system gives a plain new file of a name, by its umask and the folder's
+/// access list: those of an empty file that has the name with `.bit` after it for a moment. If that is too
+/// long for a name, those for this user alone. It takes no memory, which could be refused.
+fn new_bits<R: Files<File = File>>(rt: &R, name: &str) -> Option<u32> {
+    let len = name.len();
+    if len > LONGEST - SHOWN.len() {
+        return Some(PRIVATE);
+    }
+    let end = len + SHOWN.len();
+    let mut bytes = [0u8; LONGEST];
+    bytes[..len].copy_from_slice(name.as_bytes());
+    bytes[len..end].copy_from_slice(SHOWN);
+    let shown = str::from_utf8(&bytes[..end]).ok()?;
+    match made_to_show(rt, shown) {
+        Ok(made) => bits_and_gone(rt, shown, &made),
+        Err(error) if error.raw_os_error() == Some(ENAMETOOLONG) => Some(PRIVATE),
+        Err(_) => None,
+    }
+}
+
+/// Makes the file that shows the permission bits of a new one, in place of one that a create which was
+/// killed left: a regular file with no byte.
+fn made_to_show<R: Files<File = File>>(rt: &R, name: &str) -> io::Result<RealFile> {
+    match RealFile::create_new(rt, name, READ_AND_WRITTEN) {
+        Err(error) if error.kind() == ErrorKind::AlreadyExists => {
+            let found = fs::symlink_metadata(rt, name)?;
+            if !found.is_file() || found.len() > 0 {
+                return Err(error);
+            }
+            fs::remove_file(rt, name)?;
+            RealFile::create_new(rt, name, READ_AND_WRITTEN)
+        }
+        answer => answer,
+    }
+}
+
+/// The permission bits of a file that was just made under a name, which is taken from it. `None`: the
+/// system did not say, or did not remove it.
+fn bits_and_gone<R: Files<File = File>>(rt: &R, name: &str, made: &RealFile) -> Option<u32> {
+    let found = made.metadata();
+    // Another create of the name may have taken it for one that was left.
+    if !is_removed(rt, name, made) && has_name(rt, name, made) != Answer::No {
+        return None;
+    }
+    Some(bits_in(&found.ok()?))
+}
+
+/// Removes what a name has, if it is an open file, and answers whether it did. A look that failed is made
+/// once more.
+fn is_removed<R: Files<File = File>>(rt: &R, name: &str, file: &RealFile) -> bool {
+    let is_own = match has_name(rt, name, file) {
+        Answer::Unknown => has_name(rt, name, file),
+        answer => answer,
     };
-    let mut head = [0u8; STATUS_HEAD];
-    let n = status.read(&mut head).ok()?;
-    match umask_in(&head[..n.min(STATUS_HEAD)]) {
-        Some(umask) => Some(READ_AND_WRITTEN & !umask),
-        None => Some(PRIVATE),
-    }
+    is_own == Answer::Yes && fs::remove_file(rt, name).is_ok()
 }
-
-/// What came of the request for a lock. Only a file system that knows none says so: by `ENOLCK`,
-/// `ENOSYS` or `ENOTSUP`. Each other fault may hide a lock, as that of a file which was not opened
-/// to write does over NFS.
-fn lock_of(answer: Result<(), TryLockError>) -> Lock {
-    match answer {
-        Ok(()) => Lock::Taken,
-        Err(TryLockError::WouldBlock) => Lock::Held,
-        Err(TryLockError::Error(error)) => match error.raw_os_error() {
-            Some(ENOLCK | ENOSYS | ENOTSUP) => Lock::Unsupported,
-            _ => Lock::Held,
-        },
-    }
-}
-
-/// The system's number for "no locks available".
-const ENOLCK: i32 = 37;
-
-/// The system's number for "function not implemented".
-const ENOSYS: i32 = 38;
-
-/// The system's number for "operation not supported".
-const ENOTSUP: i32 = 95;
 
 /// Why a call on a name did nothing.
 fn fault_of(error: &io::Error) -> NameFault {
@@ -162,18 +133,8 @@ fn fault_of(error: &io::Error) -> NameFault {
     }
 }
 
-/// The folder of a name.
-fn folder_of(name: &str) -> &str
-    ensures { result.now ≡ folder_from (path_parent name.now) }
-{
-    match Path::new(name).parent() {
-        Some(folder) if !folder.as_str().is_empty() => folder.as_str(),
-        _ => ".",
-    }
-}
-
 // That these lines do what they note no proof says: each has its tests, which are named at it.
-impl<'a, R: Files<File = File>> Names for RealNames<'a, R> {
+impl<'a, R: Files<File = File> + Alloc> Names for RealNames<'a, R> {
     type File = RealFile;
 
     ghost calls = { λ n. n.trace.events };
@@ -182,7 +143,7 @@ impl<'a, R: Files<File = File>> Names for RealNames<'a, R> {
     fn is_special(&mut self, name: &str) -> Answer {
         let is = match looked(fs::metadata(self.rt, name)) {
             Look::There(found) if !found.is_file() => Answer::Yes,
-            Look::There(_) | Look::Missing => Answer::No,
+            Look::There(_) | Look::Missing => is_system_link(self.rt, name),
             Look::Unknown => Answer::Unknown,
         };
         self.note(&NameCall::Special(is), name, "");
@@ -246,7 +207,7 @@ impl<'a, R: Files<File = File>> Names for RealNames<'a, R> {
 
     // Shown by tests/cli/orders.py, locked.py and tests/faults/others.py.
     fn lock(&mut self, name: &str, file: &RealFile) -> Lock {
-        let lock = lock_of(file.try_lock());
+        let lock = locked(file);
         self.note(&NameCall::Locked(lock), name, "");
         lock
     }
@@ -258,11 +219,21 @@ impl<'a, R: Files<File = File>> Names for RealNames<'a, R> {
         is
     }
 
+    // Shown by tests/cli/standard.py.
+    fn is_input(&mut self, name: &str) -> Answer {
+        let is = match looked(fs::symlink_metadata(self.rt, name)) {
+            Look::Missing => Answer::No,
+            found => is_one(&found, &input_look(self.rt)),
+        };
+        self.note(&NameCall::Input(is), name, "");
+        is
+    }
+
     // Shown by tests/cli/permissions.py and tests/faults/names.py.
-    fn bits_for(&mut self, name: &str) -> Option<u32> {
+    fn bits_for(&mut self, name: &str) -> Option<Wanted> {
         let bits = match looked(fs::symlink_metadata(self.rt, name)) {
-            Look::There(found) if found.is_file() => Some(found.permissions().mode() & FOR_ALL),
-            Look::There(_) | Look::Missing => new_bits(self.rt),
+            Look::There(found) if found.is_file() => Some(Wanted::Old(bits_in(&found))),
+            Look::There(_) | Look::Missing => new_bits(self.rt, name).map(Wanted::New),
             Look::Unknown => None,
         };
         self.note(&NameCall::Bits(bits), name, "");
@@ -270,21 +241,26 @@ impl<'a, R: Files<File = File>> Names for RealNames<'a, R> {
     }
 
     // Shown by tests/cli/permissions.py and tests/faults/names.py.
-    fn allow(&mut self, name: &str, file: &RealFile, bits: u32) -> bool {
-        let is_allowed = file.set_permissions(Permissions::from_mode(bits)).is_ok();
-        let call = if is_allowed {
-            NameCall::Allowed(bits)
-        } else {
-            NameCall::NotAllowed
+    fn bits_of(&mut self, name: &str, file: &RealFile) -> Option<u32> {
+        let bits = match file.metadata() {
+            Ok(found) => Some(bits_in(&found)),
+            Err(_) => None,
         };
-        self.note(&call, name, "");
-        is_allowed
+        self.trace
+            .note(&NameCall::Seen(bits), name.as_bytes(), b"", file.trace());
+        bits
+    }
+
+    // Shown by tests/cli/permissions.py and tests/faults/names.py.
+    fn set_bits(&mut self, name: &str, file: &RealFile, bits: u32) {
+        let _ = file.set_permissions(Permissions::from_mode(bits));
+        self.trace
+            .note(&NameCall::Set(bits), name.as_bytes(), b"", file.trace());
     }
 
     // Shown by tests/cli/taken.py, orders.py and tests/faults/others.py.
     fn remove_own(&mut self, name: &str, file: &RealFile) {
-        let is_own = has_name(self.rt, name, file) == Answer::Yes;
-        let removed = is_own && fs::remove_file(self.rt, name).is_ok();
+        let removed = is_removed(self.rt, name, file);
         self.trace
             .note(&removal(removed), name.as_bytes(), b"", file.trace());
     }

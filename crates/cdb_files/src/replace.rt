@@ -5,9 +5,11 @@ ghost use Rattle.cdb_store.specs.Calls.{IsSynced, FileImage};
 ghost use Rattle.cdb_store.specs.FileStore.{calls_of, failures_of, images_of};
 ghost use Rattle.cdb_store.specs.Images.{SameImages};
 ghost use Rattle.cdb_store.specs.declared.trace.Call.TheVariants.{Made as FileMade};
+ghost use Rattle.cdb_store.specs.declared.trace.Call.TheVariants.{Synced as FileSynced};
 ghost use Rattle.cdb_files.specs.Folder.{
   AreApart,
   AreGuarded,
+  HasBits,
   IsPlain,
   MayRemove,
   MayReplace,
@@ -32,7 +34,7 @@ ghost use Rattle.cdb_files.specs.Replacing.{
   FailsRename,
   FailsToBuild,
   FailsToSeal,
-  GivesBits,
+  IsFound,
   IsFree,
   IsMadeApart,
   IsNoName,
@@ -55,7 +57,7 @@ ghost use Rattle.cdb_files.specs.Replacing.{
 use crate::answer::{Answer, Found, Lock};
 use crate::name_fault::NameFault;
 use crate::names::{Names, Unrenamed};
-use cdb_store::{FileStore, Store};
+use cdb_store::{FileStore, RawFile, Store};
 
 /// What builds a file in a store that is empty.
 pub trait Builder<S: Store> {
@@ -203,12 +205,14 @@ fn remove_old<N: Names, E: Drop>(
     Ok(())
 }
 
-/// Removes the old file of the temporary name, unless it is the file to be replaced.
+/// Removes the old file of the temporary name, which was just found, unless it is the file to be
+/// replaced.
 fn remove_other<N: Names, E: Drop>(
     names: &mut N,
     name: &str,
     temporary: &str,
 ) -> Result<(), ReplaceFault<E>>
+    requires found { IsFound temporary.now (N.calls names.old) }
     ensures steps { AreSteps temporary.now name.now (λ _. ⊥) (N.calls names.old)
         (N.calls names.new) }
     ensures free { OnOk result (IsFree temporary.now (N.calls names.new)) }
@@ -325,8 +329,24 @@ fn make_temporary<N: Names, E: Drop>(
     make_own(names, name, temporary)
 }
 
-/// Gives the file that was built the permission bits of the one that it replaces, and syncs it. The
-/// bits come last, so that what a create which is killed leaves is open to this user alone.
+/// Syncs a file.
+fn sync<F: RawFile, E>(store: &mut FileStore<F>) -> Result<(), ReplaceFault<E>>
+    ensures synced { OnOk result (IsSynced (calls_of store.new)) }
+    ensures last { OnOk result (calls_of store.new ≡ (FileSynced, []) ∷ calls_of store.old) }
+    ensures images { SameImages (images_of store.old) (images_of store.new) }
+    ensures failures { OnOk result (failures_of store.new ≡ failures_of store.old) }
+    ensures failed { OnErr result (failures_of store.old < failures_of store.new) }
+    ensures err { IfErr result (λ f. f ≡ Write) }
+{
+    match store.flush() {
+        Ok(()) => Ok(()),
+        Err(_) => Err(ReplaceFault::Write),
+    }
+}
+
+/// Syncs the file that was built, and then gives it the permission bits with which it may get its name,
+/// unless it has them. A look says what the file system made of them. If they changed, the file is synced
+/// once more. So what a create that is killed leaves is open to this user alone until its bytes are sure.
 fn seal<N: Names, E>(
     names: &mut N,
     store: &mut FileStore<N::File>,
@@ -335,8 +355,8 @@ fn seal<N: Names, E>(
 ) -> Result<(), ReplaceFault<E>>
     ensures steps { AreSteps temporary.now name.now (λ _. ⊥) (N.calls names.old)
         (N.calls names.new) }
-    ensures ok { OnOk result (GivesBits temporary.now name.now (N.calls names.old)
-        (N.calls names.new)) }
+    ensures ok { OnOk result (HasBits temporary.now name.now (calls_of store.new)
+        (N.calls names.old) (N.calls names.new)) }
     ensures may { MayRemove temporary.now name.now (N.calls names.old)
         → MayRemove temporary.now name.now (N.calls names.new) }
     ensures renames { renames (N.calls names.new) ≡ renames (N.calls names.old) }
@@ -345,16 +365,27 @@ fn seal<N: Names, E>(
     ensures images { SameImages (images_of store.old) (images_of store.new) }
     ensures failed { result ≡ Err Write → failures_of store.old < failures_of store.new }
 {
-    let Some(bits) = names.bits_for(name) else {
+    sync(store)?;
+    let Some(wanted) = names.bits_for(name) else {
         return Err(ReplaceFault::Open);
     };
-    if !names.allow(temporary, store.file(), bits) {
+    let Some(first) = names.bits_of(temporary, store.file()) else {
+        return Err(ReplaceFault::Open);
+    };
+    if first == wanted.bits() {
+        return Ok(());
+    }
+    names.set_bits(temporary, store.file(), wanted.bits());
+    let Some(last) = names.bits_of(temporary, store.file()) else {
+        return Err(ReplaceFault::Open);
+    };
+    if !wanted.suits(last) {
         return Err(ReplaceFault::Open);
     }
-    match store.flush() {
-        Ok(()) => Ok(()),
-        Err(_) => Err(ReplaceFault::Write),
+    if last == first {
+        return Ok(());
     }
+    sync(store)
 }
 
 /// What the fault of a rename is to the caller.
@@ -376,7 +407,7 @@ fn publish<N: Names, E: Drop>(
     temporary: &str,
 ) -> Result<(), ReplaceFault<E>>
     requires settled { IsSynced (N.File.calls file) }
-    requires ready { MayReplace temporary.now name.now (N.calls names.old) }
+    requires ready { MayReplace temporary.now name.now (N.File.calls file) (N.calls names.old) }
     ensures ok { OnOk result (IsRenamed temporary.now name.now (N.calls names.new)) }
     ensures file { OnOk result
         (RenamesFile temporary.now name.now len (N.File.calls file) (N.calls names.new)) }
@@ -410,10 +441,10 @@ fn publish<N: Names, E: Drop>(
 /// An old regular file of the temporary name is removed first, once its lock is taken, unless it is
 /// the file to be replaced or another create holds it. Whatever else has that name stays, a link
 /// too, and so does a file that came there after the look. The new file is made for this user alone
-/// and locked until after the rename, so no other create takes it. Once it is whole it gets the
-/// permission bits of the regular file that it replaces, and then it is synced. After a fault the
-/// temporary name is taken from the file, if it still has it. A folder that cannot be synced is no
-/// fault.
+/// and locked until after the rename, so no other create takes it. Once it is whole it is synced, and
+/// then it gets the permission bits of the regular file that it replaces, or those of a plain new
+/// file, and is synced once more if they changed. After a fault the temporary name is taken from the
+/// file, if it still has it. A folder that cannot be synced is no fault.
 ///
 /// If the system did not say what a name has, nothing is touched: `Open`.
 ///
@@ -430,8 +461,10 @@ pub fn replace_file<N: Names, B: Builder<FileStore<N::File>>>(
     ensures calls { AreOfReplacing temporary.now name.now (B.builds builder result.0)
         (N.calls names.old) (N.calls names.new) }
     // A name is taken only from a file whose lock this create holds. A file is renamed only if its
-    // lock is held, its name was seen to have it, the two names were seen to be of two files, it got
-    // the permission bits for the name, and that led to a regular file or to nothing.
+    // lock is held, its name was seen to have it, the two names were seen to be of two files, and the
+    // name led to a regular file or to nothing. Its bytes were synced before it got permission bits,
+    // and it was synced once more after that; it has those of the file that it replaces, or no others
+    // than a plain new file.
     ensures guarded { AreGuarded name.now (N.calls names.old) (N.calls names.new) }
     ensures ok { OnOk result.1 (IsRenamed temporary.now name.now (N.calls names.new)) }
     ensures renames_ok { OnOk result.1

@@ -4,7 +4,7 @@ ghost use Rattle.cdb_files.specs.Folder.{IsCleared};
 ghost use Rattle.cdb_files.specs.declared.name_trace.NameCall.TheVariants.{Renamed, NotRenamed};
 
 use super::fake_file::FakeFile;
-use cdb_files::{Answer, Found, Lock, NameCall, NameFault, NameTrace, Names, Unrenamed};
+use cdb_files::{Answer, Found, Lock, NameCall, NameFault, NameTrace, Names, Unrenamed, Wanted};
 use cdb_store::Trace;
 use std::alloc::Global;
 
@@ -35,8 +35,12 @@ pub struct FakeNames {
     pub kind: Found,
     /// Whether another create holds it.
     pub is_held: bool,
-    /// Whether the new file got its permission bits.
-    pub is_open_to_all: bool,
+    /// The permission bits of the new file.
+    pub bits: u32,
+    /// Whether it keeps those that it is given.
+    pub keeps_bits: bool,
+    /// The permission bits that the database is to have.
+    pub wanted: Wanted,
     /// How many calls were made.
     pub calls: u64,
     alloc: Global,
@@ -45,6 +49,9 @@ pub struct FakeNames {
     file_first: u64,
     trace: NameTrace,
 }
+
+/// The permission bits of a file that one user alone may read and write.
+pub const PRIVATE: u32 = 0o600;
 
 /// The name of the database; any other is the temporary name.
 pub const DATABASE: &str = "db";
@@ -58,7 +65,9 @@ impl FakeNames {
             has_temporary: true,
             kind: Found::File,
             is_held: false,
-            is_open_to_all: false,
+            bits: PRIVATE,
+            keeps_bits: true,
+            wanted: Wanted::Old(0o644),
             calls: 0,
             alloc,
             first,
@@ -164,7 +173,7 @@ impl Names for FakeNames {
             return Err(NameFault::Failed);
         }
         self.has_temporary = true;
-        self.is_open_to_all = false;
+        self.bits = PRIVATE;
         self.note(&NameCall::Made, name, "");
         Ok(FakeFile::made(Vec::new(self.alloc), self.file_first, self.count))
     }
@@ -185,22 +194,35 @@ impl Names for FakeNames {
         is
     }
 
-    fn bits_for(&mut self, name: &str) -> Option<u32> {
-        let bits = if self.fails() { None } else { Some(0o644) };
-        self.note(&NameCall::Bits(bits), name, "");
+    fn is_input(&mut self, name: &str) -> Answer {
+        let is = self.answer(Answer::No);
+        self.note(&NameCall::Input(is), name, "");
+        is
+    }
+
+    fn bits_for(&mut self, name: &str) -> Option<Wanted> {
+        let wanted = if self.fails() {
+            None
+        } else {
+            Some(self.wanted)
+        };
+        self.note(&NameCall::Bits(wanted), name, "");
+        wanted
+    }
+
+    fn bits_of(&mut self, name: &str, file: &FakeFile) -> Option<u32> {
+        let bits = if self.fails() { None } else { Some(self.bits) };
+        self.trace
+            .note(&NameCall::Seen(bits), name.as_bytes(), b"", file.trace());
         bits
     }
 
-    fn allow(&mut self, name: &str, _file: &FakeFile, bits: u32) -> bool {
-        let is_allowed = !self.fails();
-        let call = if is_allowed {
-            NameCall::Allowed(bits)
-        } else {
-            NameCall::NotAllowed
-        };
-        self.is_open_to_all |= is_allowed;
-        self.note(&call, name, "");
-        is_allowed
+    fn set_bits(&mut self, name: &str, file: &FakeFile, bits: u32) {
+        if !self.fails() && self.keeps_bits {
+            self.bits = bits;
+        }
+        self.trace
+            .note(&NameCall::Set(bits), name.as_bytes(), b"", file.trace());
     }
 
     fn remove_own(&mut self, name: &str, file: &FakeFile) {
@@ -234,7 +256,10 @@ impl Names for FakeNames {
             return Err(Unrenamed { file, fault });
         }
         self.has_temporary = false;
-        self.database = if file.is_sure && self.is_open_to_all && file.bytes.len() as u64 == len {
+        self.database = if file.is_sure
+            && self.wanted.suits(self.bits)
+            && file.bytes.len() as u64 == len
+        {
             Held::New
         } else {
             Held::Torn

@@ -1,13 +1,13 @@
 // Each call on a name, and each on the file, fails in turn, alone and with all that come after it.
-use super::fake_names::{DATABASE, FakeNames, Held};
-use cdb_files::{FileFault, Found, make_file_in};
+use super::fake_names::{DATABASE, FakeNames, Held, PRIVATE};
+use cdb_files::{FileFault, Found, Wanted, make_file_in};
 use cdb_form::{Narrow, Record};
 use std::alloc::Global;
 use std::test::Fail;
 
 /// How many calls on names a make takes that can fail: special, compare, look, open, lock, remove,
-/// make, lock, look at the own name, compare, bits, allow, rename, sync.
-const NAME_CALLS: u64 = 14;
+/// make, lock, look at the own name, compare, wanted bits, bits, set them, bits, rename, sync.
+const NAME_CALLS: u64 = 16;
 
 /// More calls than a make takes of the file.
 const FILE_CALLS: u64 = 40;
@@ -112,6 +112,35 @@ fn a_temporary_file_that_another_create_holds_is_left(rt: HostRuntime) -> Result
     );
     assert!(rt; made.err() == Some(FileFault::Open));
     assert!(rt; names.database == Held::Old && names.has_temporary);
+    Ok(())
+}
+
+#[test]
+fn a_file_system_that_keeps_no_bits_shuts_out_no_reader(rt: HostRuntime) -> Result<(), Fail> {
+    let records = two_records(rt.alloc())?;
+    let rows = [
+        (Wanted::New(0o644), true),
+        (Wanted::New(0o400), false),
+        (Wanted::Old(0o644), false),
+        (Wanted::Old(PRIVATE), true),
+    ];
+    for (wanted, is_made) in rows {
+        let mut names = FakeNames::new(rt.alloc(), 1 << 40, 1, 1 << 40);
+        names.keeps_bits = false;
+        names.wanted = wanted;
+        let made = make_file_in::<Narrow, FakeNames>(
+            &mut names,
+            rt.alloc(),
+            DATABASE,
+            "db.tmp",
+            &records,
+        );
+        assert!(rt; made.is_ok() == is_made, "{wanted:?}");
+        assert!(rt;
+            is_right(&names, made.is_ok()) && !names.has_temporary,
+            "{wanted:?}"
+        );
+    }
     Ok(())
 }
 

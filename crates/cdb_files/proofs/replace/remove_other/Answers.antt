@@ -13,4 +13,4 @@ returns-in-Yes-clause-steps g c =
     step _ (Same c.is_file_of.result, c.args.temporary.now, c.args.name.now, []) (no_step _) c.is_file_of.ensures tt tt
 
 pub returns-in-Yes-clause-err : goal.returns-in-Yes-clause-err
-returns-in-Yes-clause-err g c = may_be_it c.args.temporary.now c.args.name.now _ _ c.is_file_of.result c.in-Yes.is c.is_file_of.ensures
+returns-in-Yes-clause-err g c = may_be_it c.args.temporary.now c.args.name.now _ _ c.is_file_of.result c.requires.found c.in-Yes.is c.is_file_of.ensures
