@@ -106,6 +106,7 @@ int cdb_make_find(struct cdb_make *cdbmp, const void *key, unsigned klen, enum c
 int cdb_make_put(struct cdb_make *cdbmp, const void *key, unsigned klen, const void *val,
                  unsigned vlen, enum cdb_put_mode mode);
 int cdb_make_finish(struct cdb_make *cdbmp);
+void cdb_make_abort(struct cdb_make *cdbmp);
 
 #ifdef __cplusplus
 }

@@ -1,8 +1,8 @@
 /* The C functions that make a database, over the proved maker of crates/cdb_c.
  *
- * What each call does to the records is answered there, and the file is made there, in memory. Here
- * errno is set, small records are put together before they are handed on, and the finished file is
- * written to the descriptor.
+ * What each call does to the records is answered there, and the file is written there, as records come.
+ * Here errno is set, small records are put together before they are handed on, and the descriptor is
+ * handed over.
  */
 #define _DEFAULT_SOURCE
 #define _FILE_OFFSET_BITS 64
@@ -11,7 +11,9 @@
 #include <fcntl.h>
 #include <stddef.h>
 #include <stdint.h>
+#include <stdlib.h>
 #include <string.h>
+#include <sys/stat.h>
 #include <unistd.h>
 #include "cdb.h"
 
@@ -30,6 +32,11 @@ static_assert(offsetof(struct cdb_make, cdb_rec) == 4120, "cdb_rec");
 static_assert(sizeof(struct handle) == 16, "size of a handle");
 #endif
 
+/* A file of the toolchain's, in a block of malloc that a call frees. The block begins with the number of its
+ * descriptor, and is longer than any layout of a file. */
+struct file { int *at; };
+#define FILE_SIZE 64
+
 /* What a maker keeps in cdb_rec. As long as records are added and no other call is made, those that fit
  * into cdb_buf are put together there, and are handed on when it is full. */
 struct kept {
@@ -41,7 +48,8 @@ struct kept {
 static_assert(sizeof(struct kept) <= sizeof(((struct cdb_make *)0)->cdb_rec), "it has room");
 
 /* The functions of crates/cdb_c. A slice is an address and a size. */
-int32_t cdb_c_make_start(struct handle *handle);
+int32_t cdb_c_file_number(struct file file);
+int32_t cdb_c_make_start(struct handle *handle, struct file file);
 int32_t cdb_c_make_put(struct handle *handle, uint32_t mode, const uint8_t *key, size_t klen,
                        const uint8_t *value, size_t vlen);
 int32_t cdb_c_make_append(struct handle *handle, const uint8_t *bytes, size_t size);
@@ -49,15 +57,12 @@ uint64_t cdb_c_make_count(struct handle *handle);
 int32_t cdb_c_make_exists(struct handle *handle, const uint8_t *key, size_t klen);
 int32_t cdb_c_make_remove(struct handle *handle, const uint8_t *key, size_t klen);
 int32_t cdb_c_make_finish(struct handle *handle);
-size_t cdb_c_make_piece(struct handle *handle, uint64_t place, uint8_t *into, size_t size);
 void cdb_c_make_close(struct handle *handle);
 
-/* Two of the faults that they answer. The others say that the handle has no maker to use: the
- * memory that holds the file does not fail to be read or written. */
-enum { TOO_BIG = -3, NO_MEMORY = -4 };
+/* The faults that they answer. The other one says that the handle has no maker to use. */
+enum { LOOKUP = -2, TOO_BIG = -3, NO_MEMORY = -4, WRITING = -5 };
 
 #define HEAD_SIZE 2048
-#define PIECE_SIZE 65536
 #define GREATEST_SIZE 0xffffffff
 /* The lengths before a record, and the slots of one in its table. */
 #define LENGTHS_SIZE 8
@@ -70,26 +75,72 @@ static struct handle *handle_of(struct cdb_make *m) { return &kept_of(m)->handle
 /* The bytes of a key or a value: a slice has no null address. */
 static const uint8_t *bytes_of(const void *b) { return b ? b : (const uint8_t *)""; }
 
+/* Before a call that may fail by one of the system, which sets errno then: errno as it was. */
+static int begin(void)
+{
+  int before = errno;
+  errno = 0;
+  return before;
+}
+
 /* The answer of a call. A success leaves errno as it was. */
 static int answer(int32_t said, int error_before)
 {
-  if (said < 0) return errno = said == TOO_BIG || said == NO_MEMORY ? ENOMEM : EPROTO, -1;
-  return errno = error_before, said;
+  if (said >= 0) return errno = error_before, said;
+  if (said == LOOKUP || said == WRITING) return errno = errno ? errno : EIO, -1;
+  return errno = said == TOO_BIG || said == NO_MEMORY ? ENOMEM : EPROTO, -1;
 }
 
-/* Begins at the descriptor's first byte, and writes nothing yet. */
+/* Hands a descriptor over, or 0. */
+static int give(int fd, struct file *file)
+{
+  if (!(file->at = calloc(1, FILE_SIZE))) return 0;
+  *file->at = fd;
+  return 1;
+}
+
+/* Whether a file of the toolchain's is laid out as give() makes it: it tells the number that it was given. */
+static int is_laid_out(int fd)
+{
+  struct file file;
+  if (!give(fd, &file)) return 0;
+  if (cdb_c_file_number(file) != fd) return errno = ENOSYS, 0;
+  return 1;
+}
+
+/* Whether a file can be made by a descriptor: a regular one that is open for writing, at places. */
+static int is_writable(int fd)
+{
+  struct stat found;
+  int flags = fcntl(fd, F_GETFL);
+  if (flags < 0 || fstat(fd, &found) < 0) return 0;
+  if ((flags & O_ACCMODE) == O_RDONLY) return errno = EBADF, 0;
+  if (!S_ISREG(found.st_mode)) return errno = ESPIPE, 0;
+  /* Writes at places would go to the end of the file. */
+  if (flags & O_APPEND) return errno = EINVAL, 0;
+  return 1;
+}
+
+/* Empties a file. What it had is off the disk before a byte of the new head is on it: a part of that
+ * over nothing would be an empty database's. */
+static int empty(int fd)
+{
+  off_t size = lseek(fd, 0, SEEK_END);
+  if (size < 0 || lseek(fd, 0, SEEK_SET) < 0) return -1;
+  return size > 0 && (ftruncate(fd, 0) < 0 || fsync(fd) < 0) ? -1 : 0;
+}
+
+/* Empties the file, and leaves a head in it that each reader calls damaged. */
 int cdb_make_start(struct cdb_make *m, int fd)
 {
-  int error_before = errno, flags;
+  int error_before = begin();
+  struct file file;
   memset(m, 0, sizeof *m);
   m->cdb_fd = fd;
   m->cdb_dpos = HEAD_SIZE;
-  if (lseek(fd, 0, SEEK_SET) < 0 || (flags = fcntl(fd, F_GETFL)) < 0) return -1;
-  /* What only the finish would see: that nothing can be written, or that the head would be written
-   * behind the tables. */
-  if ((flags & O_ACCMODE) == O_RDONLY) return errno = EBADF, -1;
-  if (flags & O_APPEND) return errno = EINVAL, -1;
-  int said = answer(cdb_c_make_start(handle_of(m)), error_before);
+  if (!is_writable(fd) || !is_laid_out(fd) || !give(fd, &file)) return -1;
+  if (empty(fd) < 0) return free(file.at), -1;
+  int said = answer(cdb_c_make_start(handle_of(m), file), error_before);
   kept_of(m)->end = HEAD_SIZE;
   kept_of(m)->is_adding = said == 0;
   return said;
@@ -137,7 +188,7 @@ static int32_t end_adding(struct cdb_make *m)
 static int put(struct cdb_make *m, const void *key, unsigned klen, const void *val, unsigned vlen,
                uint32_t mode)
 {
-  int error_before = errno;
+  int error_before = begin();
   int32_t said = end_adding(m);
   if (said >= 0)
     said = cdb_c_make_put(handle_of(m), mode, bytes_of(key), klen, bytes_of(val), vlen);
@@ -166,10 +217,12 @@ int cdb_make_add(struct cdb_make *m, const void *key, unsigned klen, const void 
 {
   struct kept *k = kept_of(m);
   uint64_t size = LENGTHS_SIZE + (uint64_t)klen + vlen;
-  int error_before = errno;
   if (!k->is_adding || size > sizeof m->cdb_buf) return put(m, key, klen, val, vlen, CDB_PUT_ADD);
   if (k->end + size + SLOTS_SIZE * (k->count + 1) > GREATEST_SIZE) return answer(TOO_BIG, 0);
-  if (size > sizeof m->cdb_buf - k->held && answer(hand_on(m), error_before) < 0) return -1;
+  if (size > sizeof m->cdb_buf - k->held) {
+    int error_before = begin();
+    if (answer(hand_on(m), error_before) < 0) return -1;
+  }
   compose(m, key, klen, val, vlen);
   return 0;
 }
@@ -184,7 +237,7 @@ int cdb_make_put(struct cdb_make *m, const void *key, unsigned klen, const void 
 
 int cdb_make_exists(struct cdb_make *m, const void *key, unsigned klen)
 {
-  int error_before = errno;
+  int error_before = begin();
   int32_t said = end_adding(m);
   if (said >= 0) said = cdb_c_make_exists(handle_of(m), bytes_of(key), klen);
   return answer(said, error_before);
@@ -193,66 +246,36 @@ int cdb_make_exists(struct cdb_make *m, const void *key, unsigned klen)
 /* Another mode than these two only looks. */
 int cdb_make_find(struct cdb_make *m, const void *key, unsigned klen, enum cdb_put_mode mode)
 {
-  int error_before = errno;
   if (mode != CDB_FIND_REMOVE && mode != CDB_FIND_FILL0) return cdb_make_exists(m, key, klen);
+  int error_before = begin();
   int32_t said = end_adding(m);
   if (said >= 0) said = cdb_c_make_remove(handle_of(m), bytes_of(key), klen);
   return answer(said, error_before);
 }
 
-/* Writes bytes at a place of a file. */
-static int write_all(int fd, const uint8_t *bytes, size_t size, uint64_t place)
+/* Frees a maker. The descriptor stays open. */
+static void leave(struct cdb_make *m)
 {
-  while (size > 0) {
-    ssize_t some = pwrite(fd, bytes, size, (off_t)place);
-    if (some < 0 && errno == EINTR) continue;
-    if (some < 0) return -1;
-    if (!some) return errno = EIO, -1;
-    bytes += some;
-    size -= (size_t)some;
-    place += (uint64_t)some;
-  }
-  return 0;
+  cdb_c_make_close(handle_of(m));
+  kept_of(m)->is_adding = 0;
+  kept_of(m)->held = 0;
 }
 
-/* Writes a head of all ones, whose tables are outside of any file. An older content is damaged from
- * then on. In a new file, too, no other byte may reach the disk before: its head would be zeros, which
- * are an empty database. */
-static int write_unfinished_head(int fd)
+/* Gives a database up: what was written of it stays, and is damaged. */
+void cdb_make_abort(struct cdb_make *m)
 {
-  uint8_t head[HEAD_SIZE];
-  memset(head, 0xff, sizeof head);
-  return write_all(fd, head, sizeof head, 0) < 0 ? -1 : fsync(fd);
-}
-
-/* Writes the finished file to the descriptor, and the head last, each part on the disk before the
- * next. Until the head is there the file is damaged, so a file that was torn is not taken for a
- * database. */
-static int write_file(struct handle *handle, int fd)
-{
-  uint8_t piece[PIECE_SIZE];
-  uint64_t place = HEAD_SIZE;
-  size_t size;
-  if (write_unfinished_head(fd) < 0) return -1;
-  while ((size = cdb_c_make_piece(handle, place, piece, sizeof piece)) > 0) {
-    if (write_all(fd, piece, size, place) < 0) return -1;
-    place += size;
-  }
-  if (ftruncate(fd, (off_t)place) < 0 || fsync(fd) < 0) return -1;
-  size = cdb_c_make_piece(handle, 0, piece, HEAD_SIZE);
-  return write_all(fd, piece, size, 0) < 0 ? -1 : fsync(fd);
+  int error_before = errno;
+  leave(m);
+  errno = error_before;
 }
 
 /* Finishes the file, and frees the maker whatever the answer. */
 int cdb_make_finish(struct cdb_make *m)
 {
-  int error_before = errno;
+  int error_before = begin();
   int32_t handed = end_adding(m);
   int said = answer(handed < 0 ? handed : cdb_c_make_finish(handle_of(m)), error_before);
-  if (said == 0) said = write_file(handle_of(m), m->cdb_fd);
-  int error = said < 0 ? errno : error_before;
-  cdb_c_make_close(handle_of(m));
-  kept_of(m)->is_adding = 0;
-  kept_of(m)->held = 0;
+  int error = errno;
+  leave(m);
   return errno = error, said;
 }

@@ -6,7 +6,7 @@ from model import HEAD, values, walk
 
 SECTOR = 512
 # How many states are drawn at each moment, besides those in which nothing and all came to the disk.
-DRAWN = 12
+DRAWN = 60
 
 
 def noted_calls(notes):

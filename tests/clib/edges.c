@@ -41,20 +41,28 @@ static void want(int holds, const char *what)
 /* Whether a call answered this, and set errno so. */
 #define FAILS(call, answer, error) (errno = 0, (call) == (answer) && errno == (error))
 
-/* What the system is made to do: take nothing of a write, have no bytes to read, not move. */
-static int takes_nothing, has_no_bytes, does_not_move;
+/* What the system is made to do: take nothing of a write, forget what was written, have no bytes to read, not
+ * move. */
+static int takes_nothing, forgets, has_no_bytes, does_not_move;
 static unsigned writes;
+/* Of premises.c: whether files are laid out otherwise. */
+extern int32_t other_layout;
 
-ssize_t pwrite64(int fd, const void *bytes, size_t size, off_t place)
+ssize_t pwrite(int fd, const void *bytes, size_t size, off_t place)
 {
   writes++;
+  if (forgets) return (ssize_t)size;
   return takes_nothing ? 0 : syscall(SYS_pwrite64, fd, bytes, size, place);
 }
+
+ssize_t pwrite64(int fd, const void *bytes, size_t size, off_t place) { return pwrite(fd, bytes, size, place); }
 
 ssize_t pread64(int fd, void *into, size_t size, off_t place)
 {
   return has_no_bytes ? 0 : syscall(SYS_pread64, fd, into, size, place);
 }
+
+ssize_t pread(int fd, void *into, size_t size, off_t place) { return pread64(fd, into, size, place); }
 
 /* The same by a call that knows how large the buffer is. */
 ssize_t __pread64_chk(int fd, void *into, size_t size, off_t place, size_t room)
@@ -374,18 +382,23 @@ static void pieces_of_a_file(void)
   static char value[4 * PIECE];
   struct cdb_make m;
   int fd = file_named("pieces");
-  want(cdb_make_start(&m, fd) == 0 && cdb_make_add(&m, "a", 1, value, sizeof value) == 0, "an add");
   writes = 0;
+  want(cdb_make_start(&m, fd) == 0 && writes == 1, "a start writes more than a head");
+  want(cdb_make_add(&m, "a", 1, value, sizeof value) == 0, "an add");
+  /* The lengths, the key and the value. */
+  want(writes == 1 + 3, "a long record is written by other pieces");
+  for (unsigned n = 0; n < 1000; n++) want(cdb_make_add(&m, "b", 1, value, 100) == 0, "an add");
+  want(writes == 4 + 1, "short records are not collected");
   want(cdb_make_finish(&m) == 0, "no finish");
-  /* Two heads, the value, and a piece that has the rest. */
-  want(writes == 2 + 4 + 1, "a file is written by other pieces");
+  /* What was collected with the tables, and the head. */
+  want(writes == 5 + 2, "a file is finished by other pieces");
   want(cdb_make_start(&m, fd) == 0, "a start");
   takes_nothing = 1;
   want(FAILS(cdb_make_finish(&m), -1, EIO), "a write that takes nothing is taken for done");
   takes_nothing = 0;
 }
 
-/* A file that may not grow as the finish wants: the old one stays, or is damaged, and is not read. */
+/* A file that may not grow as an add wants: the add says so, and the others are made. */
 static void limit_of_a_file(void)
 {
   static char value[PIECE];
@@ -394,34 +407,106 @@ static void limit_of_a_file(void)
   struct cdb c;
   int fd = make("x");
   want(signal(SIGXFSZ, SIG_IGN) != SIG_ERR && setrlimit(RLIMIT_FSIZE, &limit) == 0, "no limit");
-  want(cdb_make_start(&m, fd) == 0 && cdb_make_add(&m, "a", 1, value, sizeof value) == 0, "an add");
-  want(FAILS(cdb_make_finish(&m), -1, EFBIG), "a file above its limit is finished");
+  want(cdb_make_start(&m, fd) == 0 && cdb_make_add(&m, "b", 1, "2", 1) == 0, "an add");
+  want(FAILS(cdb_make_add(&m, "a", 1, value, sizeof value), -1, EFBIG), "a record above the limit is added");
+  want(cdb_make_add(&m, "c", 1, "3", 1) == 0 && cdb_make_finish(&m) == 0, "the maker after it");
   want(FAILS(cdb_make_finish(&m), -1, EPROTO), "a maker finishes twice");
-  want(cdb_init(&c, fd) == 0 && FAILS(cdb_find(&c, "a", 1), -1, EPROTO), "a file that was not finished");
+  want(cdb_init(&c, fd) == 0 && cdb_find(&c, "a", 1) == 0 && cdb_find(&c, "b", 1) == 1 &&
+       cdb_find(&c, "c", 1) == 1, "the file of the others is another");
   cdb_free(&c);
 }
 
-/* A child goes on with its copy of a maker, and so does its parent: each finishes its own file. */
+/* Small records up to 4 GiB, of which no byte is kept. Each has 4000 bytes, and 16 of slots. */
+static void file_of_4_gib(void)
+{
+  static char value[4000 - 9];
+  const unsigned most = (UINT_MAX - HEAD) / 4016;
+  struct cdb_make m;
+  int fd = file_named("full");
+  forgets = 1;
+  want(cdb_make_start(&m, fd) == 0, "a start");
+  for (unsigned n = 0; n < most; n++)
+    if (cdb_make_add(&m, "a", 1, value, sizeof value) < 0) want(0, "a file below 4 GiB is too big"), n = most;
+  want(FAILS(cdb_make_add(&m, "a", 1, value, sizeof value), -1, ENOMEM), "a file of 4 GiB is not too big");
+  cdb_make_abort(&m);
+  forgets = 0;
+}
+
+/* A library whose files are laid out otherwise touches nothing. */
+static void other_files(void)
+{
+  struct cdb_make m;
+  struct cdb c;
+  int fd = make("x");
+  other_layout = 1;
+  want(FAILS(cdb_make_start(&m, fd), -1, ENOSYS), "a start with files of another layout");
+  other_layout = 0;
+  want(FAILS(cdb_make_add(&m, "a", 1, "1", 1), -1, EPROTO), "an add after it");
+  want(cdb_init(&c, fd) == 0 && cdb_find(&c, "b", 1) == 1, "the file is touched");
+  cdb_free(&c);
+}
+
+/* A descriptor that may not read serves adds. A put that looks says that it may not. */
+static void write_only(void)
+{
+  struct cdb_make m;
+  struct cdb c;
+  int reading = make("x"), fd = open("x", O_WRONLY);
+  want(cdb_make_start(&m, fd) == 0 && cdb_make_add(&m, "a", 1, "1", 1) == 0 && cdb_make_finish(&m) == 0,
+       "adds by a descriptor that may not read");
+  want(cdb_init(&c, reading) == 0 && cdb_find(&c, "a", 1) == 1, "their file is another");
+  cdb_free(&c);
+  want(cdb_make_start(&m, fd) == 0 && cdb_make_add(&m, "a", 1, "1", 1) == 0, "an add");
+  static char value[2 * PIECE];
+  want(cdb_make_add(&m, "b", 1, value, sizeof value) == 0, "a long add");
+  want(FAILS(cdb_make_exists(&m, "a", 1), -1, EBADF), "a look by a descriptor that may not read");
+  want(cdb_make_finish(&m) == 0 && fcntl(fd, F_GETFD) >= 0, "the finish after it");
+}
+
+/* A change of the descriptor amid a make is not followed. */
+static void other_descriptor(void)
+{
+  struct cdb_make m;
+  struct cdb c;
+  int fd = file_named("first"), other = file_named("second");
+  want(cdb_make_start(&m, fd) == 0, "a start");
+  m.cdb_fd = other;
+  want(cdb_make_add(&m, "a", 1, "1", 1) == 0 && cdb_make_finish(&m) == 0, "no finish");
+  want(cdb_init(&c, fd) == 0 && cdb_find(&c, "a", 1) == 1 && lseek(other, 0, SEEK_END) == 0,
+       "the file of another descriptor is written");
+  cdb_free(&c);
+}
+
+/* A child has a copy of a maker. If it ends without another call, its parent goes on. */
 static void fork_amid_a_make(void)
 {
   struct cdb_make m;
   struct cdb c;
-  int status, fd = file_named("parent"), other = file_named("child");
+  int status, fd = file_named("parent");
   want(cdb_make_start(&m, fd) == 0 && cdb_make_add(&m, "a", 1, "1", 1) == 0, "an add");
   pid_t child = fork();
-  if (child == 0) {
-    want(dup2(other, fd) == fd && cdb_make_add(&m, "b", 1, "22", 2) == 0 && cdb_make_finish(&m) == 0,
-         "the child does not finish");
-    _exit(has_failed);
-  }
+  if (child == 0) _exit(0);
   want(waitpid(child, &status, 0) == child && status == 0, "the child fails");
   want(cdb_make_add(&m, "c", 1, "333", 3) == 0 && cdb_make_finish(&m) == 0, "the parent does not finish");
-  want(cdb_init(&c, fd) == 0 && cdb_find(&c, "a", 1) == 1 && cdb_find(&c, "b", 1) == 0 &&
-       cdb_find(&c, "c", 1) == 1, "the file of the parent is another");
+  want(cdb_init(&c, fd) == 0 && cdb_find(&c, "a", 1) == 1 && cdb_find(&c, "c", 1) == 1,
+       "the file of the parent is another");
   cdb_free(&c);
-  want(cdb_init(&c, other) == 0 && cdb_find(&c, "a", 1) == 1 && cdb_find(&c, "b", 1) == 1 &&
-       cdb_find(&c, "c", 1) == 0, "the file of the child is another");
-  cdb_free(&c);
+}
+
+/* Each way out of a maker leaves its descriptor open, and no other. */
+static void descriptors_stay(void)
+{
+  struct rlimit limit = { 64, 64 };
+  struct cdb_make m;
+  int fd = file_named("stays");
+  want(setrlimit(RLIMIT_NOFILE, &limit) == 0, "no limit");
+  for (unsigned n = 0; n < 10000; n++) {
+    want(cdb_make_start(&m, fd) == 0 && cdb_make_add(&m, "a", 1, "1", 1) == 0, "a start of many");
+    if (n % 3 == 0) want(cdb_make_put(&m, "a", 1, "2", 1, CDB_PUT_REPLACE) == 1, "a put of many");
+    if (n % 3 == 1) cdb_make_abort(&m);
+    else want(cdb_make_finish(&m) == 0, "a finish of many");
+    if (fcntl(fd, F_GETFD) < 0) want(0, "a descriptor is closed"), n = 10000;
+  }
 }
 
 #define MANY 200
@@ -469,7 +554,12 @@ static const struct { void (*rows)(void); const char *name; } GROUPS[] = {
   { records_that_fill_the_buffer, "records that fill the buffer" },
   { pieces_of_a_file, "pieces of a file" },
   { limit_of_a_file, "the limit of a file" },
+  { file_of_4_gib, "a file of 4 GiB" },
+  { other_files, "files of another layout" },
+  { write_only, "a descriptor that may not read" },
+  { other_descriptor, "another descriptor" },
   { fork_amid_a_make, "a fork amid a make" },
+  { descriptors_stay, "descriptors that stay open" },
   { many_makers, "many makers at once" },
 };
 

@@ -3,12 +3,11 @@
  *     makes LIST
  *
  * Each line of LIST names a script and a file. A line of a script is a call: `start`, `add KEY
- * VALUE`, `put MODE KEY VALUE`, `exists KEY`, `find MODE KEY`, `finish`; `read KEY` finds the first
+ * VALUE`, `put MODE KEY VALUE`, `exists KEY`, `find MODE KEY`, `finish`, `abort`; `read KEY` finds the first
  * value of a key in the finished file, `seek KEY` finds it without a struct, `search KEY` begins a
  * search of it and goes on once, `walk` counts the records, and `closed` looks at a closed database.
- * `on pipe`, `on closed`, `on reading` and `on append` start on a descriptor of this kind, and then try
- * to put and to finish. Keys and values are in
- * hexadecimal digits; `.` is an empty one. For each call it prints the answer and errno, which is
+ * `on KIND` starts on a descriptor of this kind (`pipe`, `socket`, `device`, `closed`, `reading`, `folder`,
+ * `append`), and then tries to put and to finish. Keys and values are in hexadecimal digits; `.` is an empty one. For each call it prints the answer and errno, which is
  * 999 before; for a value that was found its hash instead; for a script at last `end`.
  */
 #include <cdb.h>
@@ -17,6 +16,7 @@
 #include <stdio.h>
 #include <stdlib.h>
 #include <string.h>
+#include <sys/socket.h>
 #include <unistd.h>
 
 #define BEFORE 999
@@ -136,6 +136,9 @@ static void call_on_kind(const char *kind, const char *file)
 {
   int ends[2] = { -1, -1 };
   if (!strcmp(kind, "pipe")) want(pipe(ends) == 0, "no pipe");
+  if (!strcmp(kind, "socket")) want(socketpair(AF_UNIX, SOCK_STREAM, 0, ends) == 0, "no socket");
+  if (!strcmp(kind, "device")) ends[1] = open("/dev/null", O_RDWR);
+  if (!strcmp(kind, "folder")) ends[1] = open(".", O_RDONLY);
   if (!strcmp(kind, "reading")) ends[1] = open(file, O_RDONLY);
   if (!strcmp(kind, "append")) ends[1] = open(file, O_RDWR | O_APPEND);
   call_on(ends[1]);
@@ -151,6 +154,7 @@ static void call(struct cdb_make *m, int fd, const char *file, char *line)
   enum cdb_put_mode mode = takes_mode ? (enum cdb_put_mode)atoi(strtok(NULL, " ")) : CDB_PUT_ADD;
   if (!strcmp(word, "start")) begin(), say(cdb_make_start(m, fd));
   else if (!strcmp(word, "finish")) begin(), say(cdb_make_finish(m));
+  else if (!strcmp(word, "abort")) begin(), cdb_make_abort(m), say(0);
   else if (!strcmp(word, "walk")) walk(fd);
   else if (!strcmp(word, "closed")) use_closed(fd);
   else if (!strcmp(word, "on")) call_on_kind(strtok(NULL, " "), file);
@@ -167,7 +171,7 @@ static void call(struct cdb_make *m, int fd, const char *file, char *line)
   }
 }
 
-/* Makes the calls of a script. The file keeps what it holds until a call writes it. */
+/* Makes the calls of a script. The file keeps what it holds until a start empties it. */
 static void run(const char *script, const char *file)
 {
   static char line[300000];
@@ -175,6 +179,8 @@ static void run(const char *script, const char *file)
   int fd = open(file, O_RDWR | O_CREAT, 0666);
   FILE *lines = fopen(script, "r");
   want(fd >= 0 && lines != NULL, "a file can't be opened");
+  memset(&m, 0, sizeof m);
+  m.cdb_fd = fd;
   while (fgets(line, sizeof line, lines)) {
     line[strcspn(line, "\n")] = 0;
     call(&m, fd, file, line);

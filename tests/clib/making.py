@@ -18,7 +18,7 @@ import sys
 import tempfile
 
 from crash import noted_calls, wrong_state
-from maker import NO_MAKER, Maker, drawn_script, file_of, text_of
+from maker import BEFORE, NO_MAKER, Maker, drawn_script, file_of, text_of
 from model import HEAD, hash_of, walk
 
 SCRIPTS = 300
@@ -28,6 +28,7 @@ WATCHED = 12
 OLD_FILES = [None, b"old" * 100_000, b"\x00" * 3000]
 ERRORS = [errno.ENOSPC, errno.EFBIG, errno.EIO, errno.EDQUOT]
 LAST = 2**31
+CALLS_BY_NAME = ["pwrite", "pread", "ftruncate", "fsync", "lseek", "fstat", "fcntl"]
 # How many calls in a row are interrupted.
 INTERRUPTED = 9
 
@@ -138,8 +139,8 @@ def compare_late(driver):
 def compare_starts(driver):
     """Starts on descriptors in which no database can be made, and calls after them."""
     script = [("start",), ("add", b"a", b"1"), ("finish",)]
-    errors = {"pipe": errno.ESPIPE, "closed": errno.EBADF, "reading": errno.EBADF,
-              "append": errno.EINVAL}
+    errors = {"pipe": errno.ESPIPE, "socket": errno.ESPIPE, "device": errno.ESPIPE, "closed": errno.EBADF,
+              "reading": errno.EBADF, "folder": errno.EBADF, "append": errno.EINVAL}
     driver.place([script + [("on", kind) for kind in errors]])
     said = split(driver.run().stdout)[0][len(script):]
     wanted = [it for error in errors.values() for it in ((-1, error), NO_MAKER, NO_MAKER)]
@@ -155,48 +156,47 @@ def compare_searches(driver):
     damaged = file[:slot] + b"\xff" * 4 + file[slot + 4:]
     answers = []
     for old in (damaged, file):
-        driver.place([[("start",), ("search", b"a"), ("search", b"none")]], old)
-        answers.append(split(driver.run().stdout)[0][1:])
+        driver.place([[("search", b"a"), ("search", b"none")]], old)
+        answers.append(split(driver.run().stdout)[0])
     wanted = [[(-1, -1), (0, 0)], [(1, 1), (0, 0)]]
     return None if answers == wanted else f"other answers: {answers}"
 
 
 def compare_closed(driver):
     """Calls on a database after cdb_free: each of them says so."""
-    driver.place([[("start",), ("closed",)]], file_of([(b"a", b"1")]))
-    said = split(driver.run().stdout)[0][1:]
+    driver.place([[("closed",)]], file_of([(b"a", b"1")]))
+    said = split(driver.run().stdout)[0]
     return None if said == [NO_MAKER] * 4 else f"other answers: {said}"
 
 
 LONG_KEY = b"k" * 300
 SEEKS = [b"a", LONG_KEY, b"none"]
 SOUGHT = [(1, hash_of(b"1")), (1, hash_of(b"long")), (0, 0)]
-# How many calls of the system a start makes, and which a seek: one that measures the file (m), those that
-# read (r) the pointer, the slots, and the record with up to 248 bytes of its key, and one that moves the
-# offset (m). The table of the last key is empty.
-STARTED = 2
+# Which calls of the system a seek makes: one that measures the file (m), those that read (r) the pointer,
+# the slots, and the record with up to 248 bytes of its key, and one that moves the offset (m). The table of
+# the last key is empty.
 SOUGHT_BY = ["mrrrm", "mrrrrm", "mr"]
 
 
 def seek(driver, **refusing):
-    """What seeks in a file answer, and how many calls of the system they make with a start."""
+    """What seeks in a file answer, and how many calls of the system they make."""
     file = file_of([(b"a", b"1"), (LONG_KEY, b"long")])
-    driver.place([[("start",)] + [("seek", key) for key in SEEKS]], file)
+    driver.place([[("seek", key) for key in SEEKS]], file)
     done = driver.run(calls=1, **refusing)
-    return split(done.stdout)[0][1:], int(done.stderr.split()[0])
+    return split(done.stdout)[0], int(done.stderr.split()[0])
 
 
 def refuse_seeks(driver):
     """Seeks read what they need, and map nothing. A call that is refused is reported; a read that is
     short or interrupted is made again."""
     calls = "".join(SOUGHT_BY)
-    if seek(driver) != (SOUGHT, STARTED + len(calls)):
+    if seek(driver) != (SOUGHT, len(calls)):
         return f"other answers or calls: {seek(driver)}"
     if seek(driver, short=3)[0] != SOUGHT:
         return "a short read changes an answer"
     owners = [n for n, made in enumerate(SOUGHT_BY) for _ in made]
     for n, call in enumerate(calls):
-        number = STARTED + n + 1
+        number = n + 1
         for error in (errno.EIO, errno.EINTR):
             wanted = list(SOUGHT)
             if call != "r" or error != errno.EINTR:
@@ -230,14 +230,17 @@ def added_script():
 
 def follow(script, said, allowed):
     """What a script with refusals answered: calls that fail by an allowed number do nothing, the
-    others are as ever. Answers the model, whether the file was finished, and what is wrong."""
+    others are as ever, until one that moves records is refused in the midst of it: then each later call
+    says that there is no maker. Answers the model, how many calls were refused, and what is wrong."""
     maker, refusals = Maker(), 0
-    for call, answer in zip(script, said, strict=True):
+    for n, (call, answer) in enumerate(zip(script, said, strict=True)):
         if answer[0] == -1 and answer[1] in allowed:
             refusals += 1
             if call[0] == "finish":
                 maker.is_open = False
             continue
+        if maker.is_open and refusals and all(it == NO_MAKER for it in said[n:]):
+            return maker, refusals, None
         if maker.answer(call) != answer:
             return maker, refusals, f"{call[0]} answers {answer}"
     return maker, refusals, None
@@ -270,8 +273,8 @@ def refuse_each(driver, allowed, many=LAST, olds=OLD_FILES, may_do_without=False
     for old in olds:
         driver.place([script], old or b"")
         counted = int(driver.run(**refusing).stderr.split()[0])
-        if counted < 4:
-            return f"only {counted} requests were counted"
+        if counted < 1:
+            return "no request was counted"
         for first in range(1, counted + 1):
             for last in (first, first + many):
                 driver.place([script], old or b"")
@@ -293,28 +296,44 @@ def refuse_memory(driver):
 
 
 def refuse_calls(driver):
-    """Each call of the system, by several numbers."""
-    for error in ERRORS:
-        fault = refuse_each(driver, [error], calls=1, errno=error)
-        if fault:
-            return f"{errno.errorcode[error]}: {fault}"
+    """Each call of the system by its name, by several numbers, once and from then on."""
+    for name in CALLS_BY_NAME:
+        for error in ERRORS:
+            fault = refuse_each(driver, [error], olds=OLD_FILES[1:], calls=1, name=name, errno=error)
+            if fault:
+                return f"{name}, {errno.errorcode[error]}: {fault}"
     return None
 
 
-# Which calls of the system of that script write: two start it, one flush lies between.
-WRITES = [3, 5, 6]
-
-
-def interrupt_writes(driver):
-    """A write that is interrupted is made again; another call is that or reported."""
-    for first in WRITES:
-        driver.place([refused_script()])
-        done = driver.run(first=first, last=first, calls=1, errno=errno.EINTR)
-        fault = compare(driver, [refused_script()], done)
-        if fault:
-            return f"request {first}: {fault}"
+def interrupt_calls(driver):
+    """A read or a write that is interrupted is made again; another call is that or reported."""
+    for name in ("pwrite", "pread"):
+        driver.place([refused_script()], b"")
+        counted = int(driver.run(calls=1, name=name).stderr.split()[0])
+        for first in range(1, counted + 1):
+            driver.place([refused_script()], b"")
+            done = driver.run(first=first, last=first + INTERRUPTED, calls=1, name=name, errno=errno.EINTR)
+            fault = compare(driver, [refused_script()], done)
+            if fault:
+                return f"{name} {first}: {fault}"
     return refuse_each(driver, [errno.EINTR], INTERRUPTED, may_do_without=True, calls=1,
                        errno=errno.EINTR)
+
+
+def give_up(driver):
+    """A database that is given up leaves no memory and a damaged file, and each later call says so."""
+    script = [("start",), ("add", b"a", b"1"), ("put", 1, b"a", b"2"), ("abort",)]
+    late = [("add", b"b", b"2"), ("exists", b"a"), ("finish",)]
+    for many in (2, 3, 4):
+        calls = script[: many - 1] + [("abort",)] + late
+        for old in OLD_FILES:
+            driver.place([calls], old or b"")
+            done = driver.run()
+            if split(done.stdout)[0][many - 1 :] != [(0, BEFORE)] + [NO_MAKER] * 3:
+                return f"other answers: {split(done.stdout)[0]}"
+            if done.stderr.split()[1] != b"0" or is_database(driver.file(0)):
+                return "memory is not freed, or the file is a database"
+    return None
 
 
 def lose_power(driver):
@@ -358,7 +377,8 @@ def main(makes, refused, edges, library):
         ("look-ups by reads", refuse_seeks, refused),
         ("memory that is refused", refuse_memory, refused),
         ("calls of the system that are refused", refuse_calls, refused),
-        ("calls of the system that are interrupted", interrupt_writes, refused),
+        ("calls of the system that are interrupted", interrupt_calls, refused),
+        ("a database that is given up", give_up, refused),
         ("a loss of power", lose_power, refused),
         ("calls at the edges of the page", call_at_edges, edges),
     ]

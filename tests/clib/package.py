@@ -86,14 +86,19 @@ def replaces(package, name, of_architecture=False):
 
 
 def names_symbols(package, tree):
-    """Whether the package lists the names that its library has, and no others."""
+    """Whether the package lists the names that its library has, and no others; of those that tinycdb has not,
+    a program needs this package."""
     listed = output_of(["dpkg-deb", "--info", package, "symbols"]).splitlines()
     library = glob.glob(f"{tree}/usr/lib/*/libcdb.so.1")[0]
     defined = output_of(["nm", "-D", "--defined-only", library]).split("\n")
     names = sorted(line.split()[-1] for line in defined if line)
-    return listed[0].startswith("libcdb.so.1 pezundrix-libcdb1 #MINVER#") and names == [
-        line.split("@")[0].strip() for line in listed[1:]
-    ]
+    own = [line for line in listed if line.endswith(" 1")]
+    return (
+        listed[0].startswith("libcdb.so.1 pezundrix-libcdb1 #MINVER#")
+        and listed[1] == "| pezundrix-libcdb1 #MINVER#"
+        and names == [line.split("@")[0].strip() for line in listed[2:]]
+        and [line.split("@")[0] for line in own] == [" cdb_make_abort"]
+    )
 
 
 # A program with names of its own that the library has too, and one that only hashes.
@@ -159,18 +164,21 @@ def is_not_optimized_late():
 
 def installs_and_removes(folder):
     """Whether what is installed has its permissions under any mask, and is removed again, and what is
-    another's by then stays."""
+    another's by then stays. The words for pkg-config are filled in."""
     root = os.path.join(folder, "root")
-    words = (f"DESTDIR={root}", "PREFIX=/usr", "LIBDIR=/usr/lib/x")
-    make("install-clib", *words, preexec_fn=lambda: os.umask(0o077))
+    places = (f"DESTDIR={root}", "PREFIX=/usr", "LIBDIR=/usr/lib/x")
+    make("install-clib", *places, preexec_fn=lambda: os.umask(0o077))
     files = [os.path.join(path, name) for path, _, names in os.walk(root) for name in names]
+    with open(os.path.join(root, "usr/lib/x/pkgconfig/libcdb.pc"), encoding="utf-8") as file:
+        words = file.read()
+    is_filled = "@" not in words and "libdir=/usr/lib/x\n" in words and re.search(r"^Version: \d", words, re.M)
     modes = {os.stat(it).st_mode & 0o777 for it in files}
     other = os.path.join(root, "usr/lib/x/libcdb.a")
     with open(other, "wb") as to:
         to.write(b"another's")
-    said = make("uninstall", *words)
+    said = make("uninstall", *places)
     left = [os.path.join(path, name) for path, _, names in os.walk(root) for name in names]
-    return len(files) == 8 and modes == {0o644} and left == [other] and other in said
+    return is_filled and len(files) == 8 and modes == {0o644} and left == [other] and other in said
 
 
 def has_no_error(packages):

@@ -77,10 +77,21 @@ EXPORT(int32_t, cdb_c_next_record, (const uint8_t *file, size_t size, uint64_t e
   return __real_cdb_c_next_record(file, size, end, place, found);
 }
 
-EXPORT(int32_t, cdb_c_make_start, (void *handle))
+struct file { int *at; };
+
+/* What is added to the number of a file that C gives, as if files had another layout. */
+int32_t other_layout;
+
+EXPORT(int32_t, cdb_c_file_number, (struct file file))
 {
-  need(handle != NULL, "cdb_c_make_start");
-  return __real_cdb_c_make_start(handle);
+  need(file.at != NULL, "cdb_c_file_number");
+  return __real_cdb_c_file_number(file) + other_layout;
+}
+
+EXPORT(int32_t, cdb_c_make_start, (void *handle, struct file file))
+{
+  need(handle && file.at, "cdb_c_make_start");
+  return __real_cdb_c_make_start(handle, file);
 }
 
 EXPORT(int32_t, cdb_c_make_put, (void *handle, uint32_t mode, const uint8_t *key, size_t klen,
@@ -124,10 +135,4 @@ EXPORT(int32_t, cdb_c_make_remove, (void *handle, const uint8_t *key, size_t kle
 {
   need(handle && key, "cdb_c_make_remove");
   return __real_cdb_c_make_remove(handle, key, klen);
-}
-
-EXPORT(size_t, cdb_c_make_piece, (void *handle, uint64_t place, uint8_t *into, size_t size))
-{
-  need(handle && into, "cdb_c_make_piece");
-  return __real_cdb_c_make_piece(handle, place, into, size);
 }

@@ -9,13 +9,15 @@ ghost use Rattle.cdb_make.specs.Views.Appending.{AppendsAll, FailsAppending};
 ghost use Rattle.cdb_form.specs.Format.Walk.{whole_records};
 ghost use Rattle.cdb_handle.specs.Kept.{kept_in};
 ghost use Rattle.cdb_handle.specs.Calls.{Between, HasNoMaker, HasNewMaker, IsFinished};
-ghost use Rattle.cdb_handle.specs.Calls.{FindsKey, GivesPiece};
+ghost use Rattle.cdb_handle.specs.Calls.{FindsKey};
 ghost use Rattle.cdb_handle.specs.Calls.{Grows, Counts, HasNoBeginning};
 ghost use Rattle.cdb_c.specs.Codes.{put_code, done_code, found_code, removed_code, mode_of};
 ghost use Rattle.cdb_c.specs.Codes.{Answers, appended_code};
 
 use crate::codes::{appended_code, done_code, found_code, mode_of, put_code, removed_code};
-use cdb_handle::{Handle, append, count, exists, finish, piece, put, release, remove, start};
+use cdb_handle::{
+    GivenFile, Handle, append, count, exists, finish, number, put, release, remove, start,
+};
 use cdb_make::{MakeFault, Put};
 use std::alloc::Global;
 
@@ -39,13 +41,19 @@ fn put_by(
     put(alloc, handle, mode_of(mode), key, value)
 }
 
-/// Begins a database. What the handle held before is freed.
+/// The number of the descriptor of a file, which stays open. The file's block is freed.
 #[unsafe(no_mangle)]
-pub extern "C" fn cdb_c_make_start(alloc: Global, handle: &mut Handle) -> i32
+pub extern "C" fn cdb_c_file_number(file: GivenFile) -> i32 {
+    number(file)
+}
+
+/// Begins a database in an empty file, which stays open. What the handle held before is freed.
+#[unsafe(no_mangle)]
+pub extern "C" fn cdb_c_make_start(alloc: Global, handle: &mut Handle, file: GivenFile) -> i32
     ensures { Answers done_code result (λ _. HasNewMaker (kept_in handle.new))
         (λ _. kept_in handle.new ≡ kept_in handle.old) }
 {
-    done_code(start(alloc, handle))
+    done_code(start(alloc, handle, file))
 }
 
 /// Puts a record by the number of a mode: 1 says that its key was there. -1: the handle has no
@@ -129,7 +137,7 @@ pub extern "C" fn cdb_c_make_remove(alloc: Global, handle: &mut Handle, key: &[u
     removed_code(remove(alloc, handle, key))
 }
 
-/// Finishes the file of the records, and keeps it in the handle. -1: the handle has no maker, or a
+/// Finishes the file of the records. -1: the handle has no maker, or a
 /// broken one.
 #[unsafe(no_mangle)]
 pub extern "C" fn cdb_c_make_finish(alloc: Global, handle: &mut Handle) -> i32
@@ -142,22 +150,7 @@ pub extern "C" fn cdb_c_make_finish(alloc: Global, handle: &mut Handle) -> i32
     done_code(finish(alloc, handle))
 }
 
-/// Copies bytes of the finished file from a place on, as many as there are and as `into` has room
-/// for, and returns how many.
-#[unsafe(no_mangle)]
-pub extern "C" fn cdb_c_make_piece(
-    alloc: Global,
-    handle: &mut Handle,
-    place: u64,
-    into: &mut [u8],
-) -> usize
-    ensures piece { GivesPiece (kept_in handle.old) place into.old result into.new }
-    ensures kept { kept_in handle.new ≡ kept_in handle.old }
-{
-    piece(alloc, handle, place, into)
-}
-
-/// Frees what a handle holds.
+/// Frees what a handle holds. The file stays open.
 #[unsafe(no_mangle)]
 pub extern "C" fn cdb_c_make_close(alloc: Global, handle: &mut Handle)
     ensures { kept_in handle.new ≡ None }

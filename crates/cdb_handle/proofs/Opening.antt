@@ -1,5 +1,5 @@
 -- A call of a maker to which records were only appended is a call of the open maker that it becomes.
-use Rattle.std.specs.Prelude.{Option, Some, None, Result, Ok, Err, IfOk, IfErr}
+use Rattle.std.specs.Prelude.{Option, Some, None, Result, Ok, Err, IfOk, IfErr, OnOk}
 use Rattle.std.proofs.Common.{subst, sym}
 use Rattle.cdb_handle.specs.declared.database.Database.{Database}
 use Rattle.cdb_handle.specs.declared.database.Database.TheVariants.{Begun, Open, Made, Lent}
@@ -33,7 +33,7 @@ none_opened None found is none = subst HasNoMaker (sym is) none
 pub finished_opened : (old found new : Option Database) → Opens old found → IsFinished found new
     → IsFinished old new
 finished_opened (Some (Begun b)) (Some (Open m)) (Some (Made f)) over is =
-    record { file = λ rs has. is.file rs (over.holds rs has) }
+    record { file = λ rs has. is.file rs (over.holds rs has); synced = is.synced }
 finished_opened (Some (Begun b)) (Some (Open m)) None over is = absurd is
 finished_opened (Some (Begun b)) (Some (Open m)) (Some Lent) over is = absurd is
 finished_opened (Some (Begun b)) (Some (Open m)) (Some (Open n)) over is = absurd is
@@ -62,3 +62,8 @@ pub err_opened : {X E : Type 0} (r : Result X E) (old found new : Option Databas
     → IfErr r (λ f. Between old new (P f))
 err_opened (Ok x) old found new P opens between = between
 err_opened (Err f) old found new P opens between = between_opened old found new (P f) opens between
+
+pub finished_then : {X E : Type 0} (r : Result X E) (old found new : Option Database)
+    → Opens old found → OnOk r (IsFinished found new) → OnOk r (IsFinished old new)
+finished_then (Ok x) old found new opens done = finished_opened old found new opens done
+finished_then (Err f) old found new opens done = tt

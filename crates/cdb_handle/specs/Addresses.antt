@@ -7,6 +7,8 @@ use Rattle.std_alloc.specs.Box.Ownership.{box_owns}
 use Rattle.std.specs.Coded.{coded_option}
 use Rattle.std.specs.Global.{Global}
 use Rattle.std_heap.specs.contracts.GlobalAllocator.TheImpl.{ghosts}
+use Rattle.std.specs.declared.fs.File.{File}
+use Rattle.std.specs.contracts.fs.File.{the_row as file_row}
 use Rattle.cdb_handle.specs.declared.database.Database.{Database}
 use Rattle.cdb_handle.specs.contracts.database.Database.{the_row}
 
@@ -22,3 +24,10 @@ is_kept (Some d) = true
 
 abbrev pub kept_coded : Coded (Option Database)
 kept_coded = coded_option the_row.coded
+
+-- what a box of a file owns
+abbrev pub file_owns : Global → Ptr → File → Fml
+file_owns alloc p f = box_owns (ghosts.dealloc_token alloc) file_row p f
+
+abbrev pub file_coded : Coded File
+file_coded = file_row.coded

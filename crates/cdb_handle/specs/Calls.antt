@@ -1,12 +1,13 @@
 -- What a call makes of the database of a handle.
-use Rattle.std.specs.Prelude.{ℕ, Bool, ◌≡◌, ◌-◌, min, List, [], length}
-use Rattle.std.specs.Prelude.{take, drop, Option, Some, None}
+use Rattle.std.specs.Prelude.{ℕ, Bool, ◌≡◌, List, [], length, Option, Some, None}
 use Rattle.cdb_form.specs.Format.Record.{KeyValue}
-use Rattle.cdb_store.specs.Contents.{contents}
-use Rattle.cdb_form.specs.Format.File.{file_bytes}
-use Rattle.cdb_make.specs.Survivors.{is_there}
-use Rattle.cdb_make.specs.Views.Batch.{Holds}
-use Rattle.cdb_make.specs.Views.Maker.{Holds as Has, limit_of as limit_in}
+use Rattle.cdb_store.specs.BufferedStore.{images_of, inner_of}
+use Rattle.cdb_store.specs.Calls.{IsSynced}
+use Rattle.cdb_store.specs.FileStore.{calls_of}
+use Rattle.cdb_make.specs.Stands.{IsThere}
+use Rattle.cdb_make.specs.Unfinished.{IsUnfinished}
+use Rattle.cdb_make.specs.Views.Batch.{Holds, store_of}
+use Rattle.cdb_make.specs.Views.Maker.{Holds as Has, limit_of as limit_in, store_of as store_in, IsFile, WhereHonest}
 use Rattle.cdb_handle.specs.declared.database.Beginning.{Beginning}
 use Rattle.cdb_handle.specs.declared.database.Database.{Database}
 use Rattle.cdb_handle.specs.declared.database.Database.TheVariants.{Begun, Open, Made, Lent}
@@ -58,7 +59,8 @@ HasNoBeginning old = Unit {0}
 
 -- how many records a maker holds to which they were appended; of any other database none is said
 abbrev pub Counts : Option Database → ℕ → Type 0
-Counts (Some (Begun b)) n = (rs : List KeyValue) → Has b.maker rs → n ≡ length rs
+Counts (Some (Begun b)) n = (rs : List KeyValue) → Has b.maker rs
+    → WhereHonest (images_of (store_in b.maker)) (n ≡ length rs)
 Counts old n = n ≡ 0
 
 -- there is no maker
@@ -72,6 +74,7 @@ HasNoMaker (Some (Open m)) = ⊥
 -- there is a maker, and it is new: it holds no records, and its file may have less than 4 GiB
 pub record IsNew (b : Beginning) : Type 0 where
   pub holds : Has b.maker []
+  pub head : IsUnfinished 4 (images_of (store_in b.maker))
   pub limit : limit_in b.maker ≡ 4294967295
 
 abbrev pub HasNewMaker : Option Database → Type 0
@@ -83,30 +86,20 @@ HasNewMaker (Some (Begun b)) = IsNew b
 
 -- the answer is whether some record that the maker held has the key
 pub record FindsKey (there : Bool) (key : List ℕ) (m n : Making) : Type 0 where
-  pub each : (rs : List KeyValue) → Holds m.maker rs → there ≡ is_there key rs
+  pub each : (rs : List KeyValue) → Holds m.maker rs
+      → IsThere there key rs (images_of (store_of n.maker))
 
--- the finished file is that of the records which the maker held
+-- the finished file is that of the records which the maker held, and the system was asked to sync it
 pub record IsFileOf (m : Making) (f : Finished) : Type 0 where
-  pub file : (rs : List KeyValue) → Holds m.maker rs → contents f.store ≡ file_bytes 4 rs
+  pub file : (rs : List KeyValue) → Holds m.maker rs → IsFile 4 rs (images_of f.store)
+  pub synced : IsSynced (calls_of (inner_of f.store))
 
 pub record IsFileOfBegun (b : Beginning) (f : Finished) : Type 0 where
-  pub file : (rs : List KeyValue) → Has b.maker rs → contents f.store ≡ file_bytes 4 rs
+  pub file : (rs : List KeyValue) → Has b.maker rs → IsFile 4 rs (images_of f.store)
+  pub synced : IsSynced (calls_of (inner_of f.store))
 
 -- there was a maker, and now there is its finished file
 abbrev pub IsFinished : Option Database → Option Database → Type 0
 IsFinished (Some (Begun b)) (Some (Made f)) = IsFileOfBegun b f
 IsFinished (Some (Open m)) (Some (Made f)) = IsFileOf m f
 IsFinished old new = ⊥
-
--- the bytes of a file from a place on, as many as there are and as many as have room
-pub record IsPiece (file : List ℕ) (place : ℕ) (count : ℕ) (old new : List ℕ) : Type 0 where
-  pub count_is : count ≡ min (length file - place) (length old)
-  pub bytes : take count new ≡ take count (drop place file)
-
--- those of the finished file; if no file is finished, no bytes
-abbrev pub GivesPiece : Option Database → ℕ → List ℕ → ℕ → List ℕ → Type 0
-GivesPiece (Some (Made f)) place old count new = IsPiece (contents f.store) place count old new
-GivesPiece (Some (Begun b)) place old count new = (count ≡ 0) × (new ≡ old)
-GivesPiece (Some (Open m)) place old count new = (count ≡ 0) × (new ≡ old)
-GivesPiece (Some Lent) place old count new = (count ≡ 0) × (new ≡ old)
-GivesPiece None place old count new = (count ≡ 0) × (new ≡ old)

@@ -1,24 +1,24 @@
 // A database that is being made, or is made.
 use cdb_form::Narrow;
 use cdb_make::{Batch, Maker};
-use cdb_store::MemStore;
+use cdb_store::{BufferedStore, FileStore, RealFile};
 
-/// A maker of a file in memory, to which records were appended and nothing else was done.
+/// A maker of a file, to which records were appended and nothing else was done.
 #[derive(Drop)]
 pub struct Beginning {
-    pub maker: Maker<MemStore, Narrow>,
+    pub maker: Maker<BufferedStore<FileStore<RealFile>>, Narrow>,
 }
 
-/// A maker of a file in memory, which closes the gaps of records that go in one pass.
+/// A maker of a file, which closes the gaps of records that go in one pass.
 #[derive(Drop)]
 pub struct Making {
-    pub maker: Batch<MemStore, Narrow>,
+    pub maker: Batch<BufferedStore<FileStore<RealFile>>, Narrow>,
 }
 
-/// A finished file in memory.
+/// A finished file.
 #[derive(Drop)]
 pub struct Finished {
-    pub store: MemStore,
+    pub store: BufferedStore<FileStore<RealFile>>,
 }
 
 /// A database that is being made, or its finished file.

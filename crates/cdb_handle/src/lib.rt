@@ -1,16 +1,19 @@
 //! A maker of a database that a program in C holds between its calls.
 //!
 //! C holds a `Handle`: 16 bytes, of which zeros are no database. Each call takes the database out
-//! of the handle, makes the call of its `Batch`, and puts it back. The file is made in memory.
+//! of the handle, makes the call of its `Batch`, and puts it back. C gives the file, which is written as
+//! records come.
 #![tactic(auto)]
 
 mod address;
 mod database;
+mod file;
 mod handle;
 mod making;
 mod parts;
 
 pub use address::BoxAddress;
 pub use database::{Beginning, Database, Finished, Making};
+pub use file::GivenFile;
 pub use handle::Handle;
-pub use making::{append, count, exists, finish, piece, put, release, remove, start};
+pub use making::{append, count, exists, finish, number, put, release, remove, start};

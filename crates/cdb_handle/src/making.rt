@@ -1,7 +1,7 @@
 // The calls of a maker whose handle a program in C holds.
 ghost use Rattle.cdb_form.specs.Format.Record.{record_of};
-ghost use Rattle.std.specs.Prelude.{◌≡◌, Some, None, Err, IfOk, IfErr, OnOk, OnErr, MatchOption, length};
-ghost use Rattle.cdb_make.specs.declared.fault.MakeFault.TheVariants.{Broken, NoMemory};
+ghost use Rattle.std.specs.Prelude.{◌≡◌, ◌⊎◌, Some, None, Err, IfOk, IfErr, OnOk, OnErr, MatchOption, length};
+ghost use Rattle.cdb_make.specs.declared.fault.MakeFault.TheVariants.{Broken, NoMemory, Writing};
 ghost use Rattle.cdb_make.specs.Views.Batch.{Puts, FailsPutting, Follows};
 ghost use Rattle.cdb_make.specs.Views.Batch.{Removes, FailsRemoving, FailsFinishing};
 ghost use Rattle.cdb_make.specs.Views.Batch.{WritesNothing, FailsLooking, SameCounts};
@@ -9,40 +9,92 @@ ghost use Rattle.cdb_make.specs.Views.Appending.{AppendsAll, FailsAppending};
 ghost use Rattle.cdb_form.specs.Format.Walk.{whole_records};
 ghost use Rattle.cdb_handle.specs.Kept.{kept_in};
 ghost use Rattle.cdb_handle.specs.Calls.{Between, HasNoMaker, HasNewMaker, IsFinished};
-ghost use Rattle.cdb_handle.specs.Calls.{FindsKey, GivesPiece};
+ghost use Rattle.cdb_handle.specs.Calls.{FindsKey, IsNew};
 ghost use Rattle.cdb_handle.specs.Calls.{Opens, Grows, Counts, HasNoBeginning};
 
 use crate::database::{Beginning, Database, Finished, Making};
+use crate::file::GivenFile;
 use crate::handle::Handle;
 use cdb_form::{Narrow, Width};
 use cdb_make::{Batch, MakeFault, Maker, Mode, Put};
-use cdb_store::MemStore;
+use cdb_store::{BufferedStore, FileStore, RealFile};
 use std::alloc::Global;
+use std::fs::File;
 use std::mem::replace;
+use std::os::fd::IntoRawFd;
 
-/// A new maker on the heap, of a file in memory of less than 4 GiB.
-fn begin(alloc: Global) -> Result<Box<Database>, MakeFault>
-    ensures new { IfOk result (λ b. HasNewMaker (Some b.value)) }
-    ensures fault { IfErr result (λ f. f ≡ NoMemory) }
-{
-    match Maker::<MemStore, Narrow>::new(alloc, MemStore::new(alloc), Narrow::GREATEST) {
-        Ok(maker) => Ok(Box::new(alloc, Database::Begun(Beginning { maker }))?),
-        Err(refused) => Err(refused.fault),
+/// How many bytes are written at once.
+const WINDOW: usize = 65536;
+
+/// Gives up the file of a store. It stays open.
+fn give_up(store: BufferedStore<FileStore<RealFile>>) {
+    keep_open(store.discard());
+}
+
+/// Gives up a file. It stays open.
+fn keep_open(store: FileStore<RealFile>) {
+    let _ = store.into_file().into_file().into_raw_fd();
+}
+
+/// Gives up the file of a database. It stays open.
+fn leave(database: Database) {
+    match database {
+        Database::Begun(beginning) => give_up(beginning.maker.into_store()),
+        Database::Open(making) => give_up(making.maker.into_store()),
+        Database::Made(finished) => give_up(finished.store),
+        Database::Lent => {}
     }
 }
 
-/// Begins a database. What the handle held before is freed.
+/// The number of the descriptor of a file that C gives, which stays open. C compares it with the number
+/// that it wrote into the block: so it sees whether a file is laid out as it takes it to be.
+pub fn number(file: GivenFile) -> i32 {
+    file.into_file().into_raw_fd()
+}
+
+/// A new maker of an empty file of less than 4 GiB.
+fn begin(alloc: Global, file: File) -> Result<Beginning, MakeFault>
+    ensures new { IfOk result IsNew }
+    ensures fault { IfErr result (λ f. (f ≡ NoMemory) ⊎ (f ≡ Writing)) }
+{
+    let store = FileStore::made(RealFile::made(file));
+    let store = match BufferedStore::new(alloc, store, WINDOW) {
+        Ok(store) => store,
+        Err(failed) => {
+            keep_open(failed.value);
+            return Err(MakeFault::NoMemory);
+        }
+    };
+    match Maker::<BufferedStore<FileStore<RealFile>>, Narrow>::new(alloc, store, Narrow::GREATEST) {
+        Ok(maker) => Ok(Beginning { maker }),
+        Err(refused) => {
+            give_up(refused.store);
+            Err(refused.fault)
+        }
+    }
+}
+
+/// Begins a database in a file that is empty, which C gives and which stays open. What the handle held
+/// before is freed.
 ///
-/// `NoMemory`: an allocation failed, and the handle keeps what it held. It has no other fault.
-pub fn start(alloc: Global, handle: &mut Handle) -> Result<(), MakeFault>
+/// `NoMemory`: an allocation failed. `Writing`: the file failed. The handle keeps what it held then.
+pub fn start(alloc: Global, handle: &mut Handle, file: GivenFile) -> Result<(), MakeFault>
     ensures ok { OnOk result (HasNewMaker (kept_in handle.new)) }
     ensures err { OnErr result (kept_in handle.new ≡ kept_in handle.old) }
-    ensures fault { IfErr result (λ f. f ≡ NoMemory) }
+    ensures fault { IfErr result (λ f. (f ≡ NoMemory) ⊎ (f ≡ Writing)) }
 {
-    let database = begin(alloc)?;
-    release(alloc, handle);
-    *handle = Handle::of(database);
-    Ok(())
+    let beginning = begin(alloc, file.into_file())?;
+    match Box::new(alloc, Database::Begun(beginning)) {
+        Ok(database) => {
+            release(alloc, handle);
+            *handle = Handle::of(database);
+            Ok(())
+        }
+        Err(failed) => {
+            leave(failed.value);
+            Err(MakeFault::NoMemory)
+        }
+    }
 }
 
 /// Appends the whole records at the start of some bytes, as `Maker::append` does. `Broken`: the
@@ -271,7 +323,7 @@ fn finished(database: Database) -> (Database, Result<(), MakeFault>)
 
 /// Finishes the file of its records, as `Batch::finish` does. `Broken`: an earlier call broke the
 /// maker, or the handle has none.
-#[tactic(auto, using(crate::proofs::Opening::finished_opened, crate::proofs::Opening::none_opened))]
+#[tactic(auto, using(crate::proofs::Opening::none_opened))]
 pub fn finish(alloc: Global, handle: &mut Handle) -> Result<(), MakeFault>
     ensures ok { OnOk result (IsFinished (kept_in handle.old) (kept_in handle.new)) }
     ensures fails { IfErr result (λ f. Between (kept_in handle.old) (kept_in handle.new) (λ m n.
@@ -287,42 +339,11 @@ pub fn finish(alloc: Global, handle: &mut Handle) -> Result<(), MakeFault>
     answer
 }
 
-/// Copies bytes of a finished file from a place on, as many as there are and as `into` has room
-/// for, and returns how many. 0: no bytes follow, or no file is finished.
-fn copy_piece(database: &Database, place: u64, into: &mut [u8]) -> usize
-    ensures { GivesPiece (Some database.now) place into.old result into.new }
-{
-    let Database::Made(finished) = database else {
-        return 0;
-    };
-    let bytes = finished.store.bytes();
-    let left = bytes.len().saturating_sub(place as usize);
-    let count = left.min(into.len());
-    if count > 0 {
-        let from = place as usize;
-        into[..count].copy_from_slice(&bytes[from..from + count]);
-    }
-    count
-}
-
-/// Copies bytes of the finished file from a place on, as many as there are and as `into` has room
-/// for, and returns how many. 0: no bytes follow, or the handle has no finished file. It keeps what
-/// it holds.
-pub fn piece(alloc: Global, handle: &mut Handle, place: u64, into: &mut [u8]) -> usize
-    ensures piece { GivesPiece (kept_in handle.old) place into.old result into.new }
-    ensures kept { kept_in handle.new ≡ kept_in handle.old }
-{
-    let Some(database) = handle.take(alloc) else {
-        return 0;
-    };
-    let count = copy_piece(&database, place, into);
-    *handle = Handle::of(database);
-    count
-}
-
-/// Frees what a handle holds.
+/// Frees what a handle holds. The file stays open.
 pub fn release(alloc: Global, handle: &mut Handle)
     ensures { kept_in handle.new ≡ None }
 {
-    drop(handle.take(alloc));
+    if let Some(database) = handle.take(alloc) {
+        leave(Box::into_inner(database));
+    }
 }
