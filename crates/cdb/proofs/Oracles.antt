@@ -39,7 +39,8 @@ use Rattle.cdb_store.specs.declared.raw.RawFile.{Ghosts as Raw}
 use Rattle.cdb_store.specs.declared.store.Store.{Ghosts}
 use Rattle.cdb_tool.specs.Message.{fault_line}
 use Rattle.cdb_tool.specs.Runs.Check.{CheckingFails}
-use Rattle.cdb_tool.specs.Runs.Difference.{DifferenceFails, HasDamage as HasAny, NotRead, TellsDifference, difference_of}
+use Rattle.cdb_read.specs.OtherWidth.{lacks_tables}
+use Rattle.cdb_tool.specs.Runs.Difference.{DifferenceFails, HasDamage as HasAny, HaveTables, NotRead, TellsDifference, comes_after_heads, difference_of}
 use Rattle.cdb_tool.specs.Runs.Form.{Form, dump_form, list_form}
 use Rattle.cdb_tool.specs.Runs.Load.{IsNotLoaded}
 use Rattle.cdb_tool.specs.Runs.Stats.{HasDamage, TellingFails, TellsStats, statistics_text}
@@ -50,7 +51,7 @@ use Rattle.cdb_tool.specs.Runs.Query.{Answers, Query, Queries, QueryFails, query
 use Rattle.cdb_tool.specs.Status.{plain_status, check_status, exit_status}
 use Rattle.cdb_tool.proofs.WholeRuns.{prefix_kept}
 use Rattle.cdb_tool.specs.declared.fault.Fault.{Fault}
-use Rattle.cdb_tool.specs.declared.fault.Fault.TheVariants.{Text, Make, Duplicate, Missing, Read, Walk, Output, Long, Open, Rename, NoMemory, Old, New}
+use Rattle.cdb_tool.specs.declared.fault.Fault.TheVariants.{Text, Make, Duplicate, Missing, Read, Walk, Output, Long, Open, Rename, NoMemory, Old, New, NoOldTables, NoNewTables}
 use Rattle.cdb.specs.Foretold.{IsInOrder, AreAnswered, ComesTrue, Honest, IsAnswered, IsForetold, IsRefusal, IsRefused, IsTaken, MayFail, Reveals, Shows, reads_in_turn, stores_in, writes_output}
 use Rattle.cdb.specs.Opening.{OpenCalls, unopened}
 use Rattle.cdb.specs.Oracle.{Disk, Outcome, check_outcome, command_outcome, difference_outcome, ended, met, of_file, oracle, query_outcome, short_or, stats_outcome, text_outcome, unless_damaged}
@@ -180,6 +181,8 @@ query_ended w s q file last bytes start end (Walk fault) is size works h = absur
 query_ended w s q file last bytes start end Long is size works h = absurd h
 query_ended w s q file last bytes start end Open is size works h = absurd h
 query_ended w s q file last bytes start end Rename is size works h = absurd h
+query_ended w s q file last bytes start end NoOldTables is size works h = absurd h
+query_ended w s q file last bytes start end NoNewTables is size works h = absurd h
 query_ended w s q file last bytes start end NoMemory is size works h = absurd h
 query_ended w s q file last bytes start end (Old fault) is size works h = absurd h
 query_ended w s q file last bytes start end (New fault) is size works h = absurd h
@@ -245,6 +248,8 @@ text_ended w form bytes rest start end (Read fault) h = absurd h
 text_ended w form bytes rest start end Long h = absurd h
 text_ended w form bytes rest start end Open h = absurd h
 text_ended w form bytes rest start end Rename h = absurd h
+text_ended w form bytes rest start end NoOldTables h = absurd h
+text_ended w form bytes rest start end NoNewTables h = absurd h
 text_ended w form bytes rest start end (Old fault) h = absurd h
 text_ended w form bytes rest start end (New fault) h = absurd h
 
@@ -315,6 +320,8 @@ stats_ended reads w s file last bytes start end (Walk fault) is size works h = a
 stats_ended reads w s file last bytes start end Long is size works h = absurd h
 stats_ended reads w s file last bytes start end Open is size works h = absurd h
 stats_ended reads w s file last bytes start end Rename is size works h = absurd h
+stats_ended reads w s file last bytes start end NoOldTables is size works h = absurd h
+stats_ended reads w s file last bytes start end NoNewTables is size works h = absurd h
 stats_ended reads w s file last bytes start end NoMemory is size works h = absurd h
 stats_ended reads w s file last bytes start end (Old fault) is size works h = absurd h
 stats_ended reads w s file last bytes start end (New fault) is size works h = absurd h
@@ -350,6 +357,8 @@ check_ended reads w s file last bytes start end Output is works k h = absurd h
 check_ended reads w s file last bytes start end Long is works k h = absurd h
 check_ended reads w s file last bytes start end Open is works k h = absurd h
 check_ended reads w s file last bytes start end Rename is works k h = absurd h
+check_ended reads w s file last bytes start end NoOldTables is works k h = absurd h
+check_ended reads w s file last bytes start end NoNewTables is works k h = absurd h
 check_ended reads w s file last bytes start end (Old fault) is works k h = absurd h
 check_ended reads w s file last bytes start end (New fault) is works k h = absurd h
 
@@ -403,6 +412,8 @@ not_taken writes status most input outcome start end (Read fault) plain h k = ab
 not_taken writes status most input outcome start end Output plain h k = absurd h
 not_taken writes status most input outcome start end Open plain h k = absurd h
 not_taken writes status most input outcome start end Rename plain h k = absurd h
+not_taken writes status most input outcome start end NoOldTables plain h k = absurd h
+not_taken writes status most input outcome start end NoNewTables plain h k = absurd h
 not_taken writes status most input outcome start end (Old fault) plain h k = absurd h
 not_taken writes status most input outcome start end (New fault) plain h k = absurd h
 
@@ -456,27 +467,43 @@ record Compared {S : Type 0} (w : ℕ) (s : Ghosts S) (last : S) (bytes : List �
   whole : (walk_of w bytes).damage ≡ None
   finds : FindsInOrder w bytes
 
-difference_ended : {S : Type 0} (w : ℕ) (s : Ghosts S) (old old_last new new_last : S) (b c : List ℕ) (start end : Option (List ℕ)) (fault : Fault) → Compared w s old_last b → Compared w s new_last c → AppendsPrefix start end (amending_text (difference_of w b c)) → DifferenceFails w s s old old_last new new_last start end fault
+-- what comes of two that have tables, and of one that lacks them
+differs_so : (w : ℕ) (b c : List ℕ) → lacks_tables w b ≡ false → lacks_tables w c ≡ false → difference_outcome w b c ≡ ended plain_status (amending_text (difference_of w b c)) (Ok tt)
+differs_so w b c one two = cond-false (lacks_tables w b) _ _ one ∙ cond-false (lacks_tables w c) _ _ two
+
+old_lacks : (w : ℕ) (b c : List ℕ) → lacks_tables w b ≡ true → difference_outcome w b c ≡ ended plain_status [] (Err NoOldTables)
+old_lacks w b c lacks = cond-true (lacks_tables w b) _ _ lacks
+
+new_lacks : (w : ℕ) (b c : List ℕ) → lacks_tables w b ≡ false → lacks_tables w c ≡ true → difference_outcome w b c ≡ ended plain_status [] (Err NoNewTables)
+new_lacks w b c has lacks = cond-false (lacks_tables w b) _ _ has ∙ cond-true (lacks_tables w c) _ _ lacks
+
+difference_refused : {S : Type 0} (w : ℕ) (s : Ghosts S) (old_last new_last : S) (b c : List ℕ) (start end : Option (List ℕ)) (fault : Fault) → Compared w s old_last b → Compared w s new_last c → HaveTables w s s old_last new_last → IsRefusal true false fault → AppendsPrefix start end (amending_text (difference_of w b c)) → Comes true false plain_status (difference_outcome w b c) start end (Err fault)
+difference_refused w s old_last new_last b c start end fault x y tables refusal part =
+    gives_up true false plain_status _ start end fault refusal (subst (AppendsPrefix start end) (sym (ap (λ (o : Outcome). o.output) (differs_so w b c (tables.of_old b x.is) (tables.of_new c y.is)))) part)
+
+difference_ended : {S : Type 0} (w : ℕ) (s : Ghosts S) (old old_last new new_last : S) (b c : List ℕ) (start end : Option (List ℕ)) (fault : Fault) → Compared w s old_last b → Compared w s new_last c → (comes_after_heads fault ≡ true → HaveTables w s s old_last new_last) → AppendsPrefix start end (amending_text (difference_of w b c)) → DifferenceFails w s s old old_last new new_last start end fault
     → Comes true false plain_status (difference_outcome w b c) start end (Err fault)
-difference_ended w s old old_last new new_last b c start end (Old fault) x y part h = absurd (not_read w s old old_last new_last b c start end fault x.is y.is x.size x.works x.whole x.finds h)
-difference_ended w s old old_last new new_last b c start end (New fault) x y part h = absurd (not_read w s new new_last old_last c b start end fault y.is x.is y.size y.works y.whole y.finds h)
-difference_ended w s old old_last new new_last b c start end Output x y part h = gives_up true false plain_status _ start end Output refl part
-difference_ended w s old old_last new new_last b c start end NoMemory x y part h = gives_up true false plain_status _ start end NoMemory tt part
-difference_ended w s old old_last new new_last b c start end (Text input fault) x y part h = absurd h
-difference_ended w s old old_last new new_last b c start end (Make fault) x y part h = absurd h
-difference_ended w s old old_last new new_last b c start end Duplicate x y part h = absurd h
-difference_ended w s old old_last new new_last b c start end Missing x y part h = absurd h
-difference_ended w s old old_last new new_last b c start end (Read fault) x y part h = absurd h
-difference_ended w s old old_last new new_last b c start end (Walk fault) x y part h = absurd h
-difference_ended w s old old_last new new_last b c start end Long x y part h = absurd h
-difference_ended w s old old_last new new_last b c start end Open x y part h = absurd h
-difference_ended w s old old_last new new_last b c start end Rename x y part h = absurd h
+difference_ended w s old old_last new new_last b c start end (Old fault) x y tables part h = absurd (not_read w s old old_last new_last b c start end fault x.is y.is x.size x.works x.whole x.finds h)
+difference_ended w s old old_last new new_last b c start end (New fault) x y tables part h = absurd (not_read w s new new_last old_last c b start end fault y.is x.is y.size y.works y.whole y.finds h)
+difference_ended w s old old_last new new_last b c start end Output x y tables part h = difference_refused w s old_last new_last b c start end Output x y (tables refl) refl part
+difference_ended w s old old_last new new_last b c start end NoMemory x y tables part h = difference_refused w s old_last new_last b c start end NoMemory x y (tables refl) tt part
+difference_ended w s old old_last new new_last b c start end (Text input fault) x y tables part h = absurd h
+difference_ended w s old old_last new new_last b c start end (Make fault) x y tables part h = absurd h
+difference_ended w s old old_last new new_last b c start end Duplicate x y tables part h = absurd h
+difference_ended w s old old_last new new_last b c start end Missing x y tables part h = absurd h
+difference_ended w s old old_last new new_last b c start end (Read fault) x y tables part h = absurd h
+difference_ended w s old old_last new new_last b c start end (Walk fault) x y tables part h = absurd h
+difference_ended w s old old_last new new_last b c start end Long x y tables part h = absurd h
+difference_ended w s old old_last new new_last b c start end Open x y tables part h = absurd h
+difference_ended w s old old_last new new_last b c start end Rename x y tables part h = absurd h
+difference_ended w s old old_last new new_last b c start end NoOldTables x y tables part h = comes_so true false plain_status _ [] start end (Err NoOldTables) (old_lacks w b c (h.lacks b x.is)) (nothing_written start end h.kept)
+difference_ended w s old old_last new new_last b c start end NoNewTables x y tables part h = comes_so true false plain_status _ [] start end (Err NoNewTables) (new_lacks w b c (h.0 b x.is) (h.1.lacks c y.is)) (nothing_written start end h.1.kept)
 
 difference_comes : {S : Type 0} (w : ℕ) (s : Ghosts S) (old old_last new new_last : S) (b c : List ℕ) (start end : Option (List ℕ)) (result : Result Unit Fault) → Compared w s old_last b → Compared w s new_last c → TellsDifference w s s old old_last new new_last start end result → Comes true false plain_status (difference_outcome w b c) start end result
 difference_comes w s old old_last new new_last b c start end (Ok done) x y h =
     let written = h.ok b c x.is y.is in
-    comes_so true false plain_status _ (amending_text (difference_of w b c)) start end (Ok tt) refl (same_appends start end _ _ (ap amending_text (written.are x.finds y.finds)) written.written)
-difference_comes w s old old_last new new_last b c start end (Err fault) x y h = difference_ended w s old old_last new new_last b c start end fault x y ((h.front b c x.is y.is).are x.finds y.finds) h.err
+    comes_so true false plain_status _ (amending_text (difference_of w b c)) start end (Ok tt) (differs_so w b c (h.ok_tables.of_old b x.is) (h.ok_tables.of_new c y.is)) (same_appends start end _ _ (ap amending_text (written.are x.finds y.finds)) written.written)
+difference_comes w s old old_last new new_last b c start end (Err fault) x y h = difference_ended w s old old_last new new_last b c start end fault x y h.err_tables ((h.front b c x.is y.is).are x.finds y.finds) h.err
 
 compared : {S : Type 0} (w : ℕ) (s : Ghosts S) (file : Option (List ℕ)) (last : S) (others : List S) (outcome : List ℕ → Outcome) (start end : Option (List ℕ)) (result : Result Unit Fault) → IsSized s → IsInOrder w file → Shows s file (last ∷ others) → ((bytes : List ℕ) → Compared w s last bytes → Comes true false plain_status (outcome bytes) start end result)
     → Comes true false plain_status (of_file file outcome) start end result

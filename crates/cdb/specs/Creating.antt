@@ -29,9 +29,9 @@ use Rattle.cdb_make.specs.declared.fault.MakeFault.TheVariants.{Writing}
 use Rattle.cdb_tool.specs.declared.inputs.Turn.{Turn}
 use Rattle.cdb_tool.specs.Views.Inputs.{one_of}
 use Rattle.cdb.specs.Inputs.{IsStandard, MissesBase, OpensBase, OpensInputs, StopsOpening}
-use Rattle.cdb.specs.Opening.{Misses, OpenCalls, base_left}
+use Rattle.cdb.specs.Inputs.{inputs_read}
+use Rattle.cdb.specs.Opening.{Empties, MissesEmptying, OpenCalls, base_left}
 use Rattle.cdb.specs.declared.left.Left.{Left}
-use Rattle.cdb.specs.declared.open_trace.OpenCall.TheVariants.{Emptied}
 use Rattle.cdb.specs.declared.system.System.{Ghosts as Systems}
 
 -- ---- the database
@@ -108,10 +108,10 @@ pub record MakesOnOutput {F : Type 0} (f : Ghosts F) (m : Making F) (back : Opti
 
 -- ---- the files that are read are not the one of a name
 
--- that was asked of an input, unless it is standard input
+-- that was asked of an input, or of the file that standard input is
 abbrev pub AsksOne : (name file : List ℕ) → (was now : NameCalls) → Type 0
 AsksOne name file was now =
-    (IsStandard file × (now ≡ was))
+    (IsStandard file × (now ≡ (name_call.Input looks.No, name, [], []) ∷ was))
     ⊎ ((IsStandard file → ⊥) × (now ≡ (name_call.Same looks.No, name, file, []) ∷ was))
 
 -- of each input
@@ -128,18 +128,29 @@ AsksBase name (Some file) was now = now ≡ (name_call.Same looks.No, name, file
 abbrev pub AsksAll : (name : List ℕ) → (base : Option (List ℕ)) → (inputs : List (List ℕ))
     → (was now : NameCalls) → Type 0
 AsksAll name base inputs was now =
-    (mid : NameCalls) × AsksBase name base was mid × AsksEach name inputs mid now
+    (mid : NameCalls) × AsksBase name base was mid × AsksEach name (inputs_read inputs) mid now
 
 -- a file may be it, as was asked: it is, or the system did not say
 abbrev pub MayBeOne : (name file : List ℕ) → (was now : NameCalls) → Type 0
 MayBeOne name file was now =
     (said : Answer) × (said ≢ looks.No) × (now ≡ (name_call.Same said, name, file, []) ∷ was)
 
+-- so may the file that standard input is
+abbrev pub MayBeStandard : (name : List ℕ) → (was now : NameCalls) → Type 0
+MayBeStandard name was now =
+    (said : Answer) × (said ≢ looks.No) × (now ≡ (name_call.Input said, name, [], []) ∷ was)
+
+-- so may an input
+abbrev pub MayBeInput : (name file : List ℕ) → (was now : NameCalls) → Type 0
+MayBeInput name file was now =
+    (IsStandard file × MayBeStandard name was now)
+    ⊎ ((IsStandard file → ⊥) × MayBeOne name file was now)
+
 -- an input may be it, and those before it are not, as was asked of each
 abbrev pub FindsInput : (name : List ℕ) → (files : List (List ℕ)) → (was now : NameCalls) → Type 0
 FindsInput name [] was now = ⊥
 FindsInput name (file ∷ files) was now =
-    ((IsStandard file → ⊥) × MayBeOne name file was now)
+    MayBeInput name file was now
     ⊎ ((mid : NameCalls) × AsksOne name file was mid × FindsInput name files mid now)
 
 abbrev pub FindsBase : (name : List ℕ) → Option (List ℕ) → (was now : NameCalls) → Type 0
@@ -151,7 +162,8 @@ abbrev pub FindsOne : (name : List ℕ) → (base : Option (List ℕ)) → (inpu
     → (was now : NameCalls) → Type 0
 FindsOne name base inputs was now =
     FindsBase name base was now
-    ⊎ ((mid : NameCalls) × AsksBase name base was mid × FindsInput name inputs mid now)
+    ⊎ ((mid : NameCalls) × AsksBase name base was mid
+    × FindsInput name (inputs_read inputs) mid now)
 
 -- ---- in place
 
@@ -166,7 +178,7 @@ pub record Syncs {M : Type 0} (s : Ghosts M) (built left : M) (made result : Res
   pub settled : OnOk result (s.settled left)
 
 -- a run was made in the store that came, and it has the database if the create succeeds. It is left so
-pub record Empties {F I M Y : Type 0} (y : Systems Y F I M) (f : Ghosts F) (s : Ghosts M)
+pub record MakesEmptied {F I M Y : Type 0} (y : Systems Y F I M) (f : Ghosts F) (s : Ghosts M)
     (m : Making F) (name : List ℕ) (left : Left F M) (told said : Option (List ℕ))
     (result : Result Unit Fault) : Type 0 where
   pub store : M
@@ -182,7 +194,8 @@ pub record Empties {F I M Y : Type 0} (y : Systems Y F I M) (f : Ghosts F) (s : 
   pub has : OnOk result (HasDatabase f m left.read (s.image last))
 
 -- a file that is read may be the one of the name; or none is, as was asked of each, and then the file of
--- the name is not opened, or emptied. The base is handed back, as it was if nothing was built
+-- the name is not emptied, or it is, once its lock is held. The base is handed back, as it was if nothing
+-- was built
 abbrev pub MakesInPlace : {F I M Y : Type 0} → Systems Y F I M → Ghosts F → Ghosts M → Making F
     → (name : List ℕ) → (base : Option (List ℕ)) → (inputs : List (List ℕ)) → (old new : OpenCalls)
     → (was now : NameCalls) → Left F M → (told said : Option (List ℕ)) → Result Unit Fault → Type 0
@@ -190,9 +203,9 @@ MakesInPlace y f s m name base inputs old new was now left told said result =
     (FindsOne name base inputs was now × (new ≡ old) × (left ≡ base_left m.base)
     × (result ≡ Err Open) × Keeps told said)
     ⊎ (AsksAll name base inputs was now
-    × (((fault : Fault) × Misses name old new fault × (left ≡ base_left m.base)
+    × (((fault : Fault) × MissesEmptying name old new fault × (left ≡ base_left m.base)
     × (result ≡ Err fault) × Keeps told said)
-    ⊎ ((new ≡ (Emptied, name) ∷ old) × Empties y f s m name left told said result)))
+    ⊎ (Empties name old new × MakesEmptied y f s m name left told said result)))
 
 -- ---- in a temporary file
 

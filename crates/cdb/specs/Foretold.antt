@@ -21,7 +21,7 @@ use Rattle.cdb.specs.Oracle.{Disk, Outcome, oracle, word_size}
 use Rattle.cdb.specs.declared.left.Left.{Left}
 use Rattle.cdb.specs.declared.open_trace.OpenCall.{OpenCall}
 use Rattle.cdb.specs.declared.open_trace.OpenCall.TheVariants.{AtPlaces, InTurn, Stream, Emptied}
-use Rattle.cdb.specs.declared.open_trace.OpenCall.TheVariants.{Unopened}
+use Rattle.cdb.specs.declared.open_trace.OpenCall.TheVariants.{Locked, ToEmpty, Unopened}
 use Rattle.cdb.specs.declared.system.System.{Ghosts as Systems}
 
 -- ---- the calls, and the files that were opened
@@ -46,6 +46,8 @@ IsAnswered s remaining y disk stores AtPlaces name = Shows s (disk name) stores
 IsAnswered s remaining y disk stores InTurn name =
     (reader : _) → y.reads name reader → Reveals (disk name) (remaining reader)
 IsAnswered s remaining y disk stores (Stream answer) name = answer ≡ No
+IsAnswered s remaining y disk stores ToEmpty name = ⊤
+IsAnswered s remaining y disk stores (Locked lock) name = ⊤
 IsAnswered s remaining y disk stores Emptied name = ⊤
 IsAnswered s remaining y disk stores (Unopened why.Failed) name = disk name ≡ None
 IsAnswered s remaining y disk stores (Unopened why.NoMemory) name = ⊤

@@ -12,6 +12,11 @@ use Rattle.cdb.specs.declared.system.System.{Ghosts as Systems}
 abbrev pub IsStandard : List ℕ → Type 0
 IsStandard name = name ≡ codes "-"
 
+-- the inputs that are read: no name stands for one, which is standard input
+abbrev pub inputs_read : List (List ℕ) → List (List ℕ)
+inputs_read [] = codes "-" ∷ []
+inputs_read (name ∷ names) = name ∷ names
+
 -- the base was opened, if there is one
 abbrev pub OpensBase : {F I M Y : Type 0} → Systems Y F I M → Option (List ℕ) → Option F
     → (old new : OpenCalls) → Type 0

@@ -1,10 +1,12 @@
 -- The calls on files, and why one is not opened. The newest call comes first.
-use Rattle.std.specs.Prelude.{ℕ, ◌≡◌, List, ◌∷◌, Option, None, Some}
+use Rattle.std.specs.Prelude.{ℕ, ◌≡◌, ◌≢◌, ◌⊎◌, List, ◌∷◌, Option, None, Some}
+use Rattle.cdb_files.specs.declared.answer.Lock.{Lock}
+use Rattle.cdb_files.specs.declared.answer.Lock.TheVariants.{Held}
 use Rattle.cdb_files.specs.declared.name_fault.NameFault.{NameFault}
 use Rattle.cdb_files.specs.declared.name_fault.NameFault.TheVariants as why
 use Rattle.cdb.specs.declared.left.Left.{Left}
 use Rattle.cdb.specs.declared.open_trace.OpenCall.{OpenCall}
-use Rattle.cdb.specs.declared.open_trace.OpenCall.TheVariants.{Unopened}
+use Rattle.cdb.specs.declared.open_trace.OpenCall.TheVariants.{Emptied, Locked, ToEmpty, Unopened}
 use Rattle.cdb_tool.specs.declared.fault.Fault.{Fault}
 use Rattle.cdb_tool.specs.declared.fault.Fault.TheVariants.{Open, NoMemory}
 
@@ -22,6 +24,29 @@ pub record Misses (name : List ℕ) (old new : OpenCalls) (fault : Fault) : Type
   pub why : NameFault
   pub is : fault ≡ unopened why
   pub calls : new ≡ (Unopened why, name) ∷ old
+
+-- the file of a name was opened to be emptied, and no other process holds its lock
+pub record TakesToEmpty (name : List ℕ) (old new : OpenCalls) : Type 0 where
+  pub lock : Lock
+  pub free : lock ≢ Held
+  pub calls : new ≡ (Locked lock, name) ∷ (ToEmpty, name) ∷ old
+
+-- so were the last calls
+abbrev pub MayEmpty : (name : List ℕ) → OpenCalls → Type 0
+MayEmpty name calls = (before : OpenCalls) × TakesToEmpty name before calls
+
+-- and then it was emptied
+pub record Empties (name : List ℕ) (old new : OpenCalls) : Type 0 where
+  pub locked : OpenCalls
+  pub takes : TakesToEmpty name old locked
+  pub calls : new ≡ (Emptied, name) ∷ locked
+
+-- or it was not: it was not opened, or another process holds its lock, or it cannot be emptied
+abbrev pub MissesEmptying : (name : List ℕ) → (old new : OpenCalls) → Fault → Type 0
+MissesEmptying name old new fault =
+    Misses name old new fault
+    ⊎ ((fault ≡ Open) × (new ≡ (Locked Held, name) ∷ (ToEmpty, name) ∷ old))
+    ⊎ ((locked : OpenCalls) × TakesToEmpty name old locked × Misses name locked new fault)
 
 -- no file is handed back; or one that was read, a base if there is one, or an old database and a new
 abbrev pub none_left : {F M : Type 0} → Left F M

@@ -9,6 +9,7 @@ use Rattle.cdb_form.specs.Format.Reading.{head_at}
 use Rattle.cdb_form.specs.Format.Table.{entries_from}
 use Rattle.cdb_form.specs.Format.Walk.{walk_of, walk_from, whole_records, record_end}
 use Rattle.cdb_read.specs.Difference.{difference, first_keys, values_eq}
+use Rattle.cdb_read.specs.OtherWidth.{lacks_tables}
 use Rattle.cdb_read.specs.Faults.{first_fault, first_of, slots_fault}
 use Rattle.cdb_read.specs.Lookup.{met_slots, found_at, lookup_of}
 use Rattle.cdb_read.specs.Sound.{all_slots}
@@ -105,7 +106,7 @@ unindexed_is = refl
 
 -- what changed from the one file to the other
 difference_is : command_outcome (Difference name other false) disk [] ≡ comes 0 (codes "-3:one\n-3:two\n+1,1:a->1\n\n") []
-unfolding disk name other comes two_stats two_file foreign_file put_at words_of repeat walk_of walk_from whole_records record_end head_at lookup_of met_slots found_at statistics_of statistics_damage distances_in stats_text distance_lines first_fault first_of slots_fault all_slots entries_from digits difference first_keys values_eq
+unfolding disk name other comes two_stats two_file foreign_file put_at words_of repeat walk_of walk_from whole_records record_end head_at lookup_of met_slots found_at statistics_of statistics_damage distances_in stats_text distance_lines first_fault first_of slots_fault all_slots entries_from digits difference first_keys values_eq lacks_tables
 difference_is = refl
 
 -- ---- calls by which it comes true

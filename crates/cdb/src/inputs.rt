@@ -11,7 +11,7 @@ use std::alloc::Global;
 use std::io::Read;
 
 /// The name of standard input.
-const STANDARD_INPUT: &str = "-";
+pub(crate) const STANDARD_INPUT: &str = "-";
 
 /// Whether a name is that of standard input.
 pub(crate) fn is_standard(name: &str) -> bool

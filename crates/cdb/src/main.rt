@@ -33,6 +33,7 @@ const LINES: usize = 4096;
 /// The device that takes all and gives nothing.
 const NULL: &str = "/dev/null";
 
+/// Passes the words and the streams on, and answers the status.
 fn main(rt: HostRuntime) -> ExitCode {
     let _held = all_held(&rt);
     let status = match begun(&rt) {

@@ -3,7 +3,7 @@ ghost use Rattle.std.specs.Prelude.{◌≡◌, List, ℕ, [], ◌∷◌};
 ghost use Rattle.std.specs.Borrow.{ftrue};
 ghost use Rattle.cdb.specs.declared.open_trace.OpenCall.{OpenCall};
 
-use cdb_files::{Answer, NameFault};
+use cdb_files::{Answer, Lock, NameFault};
 use std::marker::{Model, PhantomData};
 
 /// A call on the file of a name.
@@ -15,7 +15,11 @@ pub(crate) enum OpenCall {
     InTurn,
     /// Whether it is a stream: a pipe or a device.
     Stream(Answer),
-    /// It was emptied or made, to be written.
+    /// It was opened or made, to be emptied.
+    ToEmpty,
+    /// What came of the request for the lock of the file that was opened or made to be emptied.
+    Locked(Lock),
+    /// It was emptied, to be written.
     Emptied,
     /// It was not opened.
     Unopened(NameFault),

@@ -1,20 +1,23 @@
 // A database made under its name: in place, or in a temporary file that replaces it.
 ghost use Rattle.std.specs.Prelude.{◌≡◌, ◌∷◌, [], true, false, map, option_map, string_bytes};
+ghost use Rattle.std.specs.Prelude.{IfOk, IfErr, OnOk};
 ghost use Rattle.cdb.specs.Creating.{AsksAll, AsksBase, AsksEach, AsksOne};
-ghost use Rattle.cdb.specs.Creating.{FindsBase, FindsInput, FindsOne, MayBeOne};
-ghost use Rattle.cdb.specs.Inputs.{IsStandard};
+ghost use Rattle.cdb.specs.Creating.{FindsBase, FindsInput, FindsOne, MayBeInput, MayBeOne};
+ghost use Rattle.cdb.specs.Creating.{MayBeStandard};
+ghost use Rattle.cdb.specs.Inputs.{inputs_read};
+ghost use Rattle.cdb.specs.Opening.{Empties, MissesEmptying};
 ghost use Rattle.cdb.specs.Creating.{MakesApart, MakesInPlace, Syncs, answer_of};
 ghost use Rattle.cdb_files.specs.declared.answer.Answer.TheVariants.{No};
-ghost use Rattle.cdb_files.specs.declared.name_trace.NameCall.TheVariants.{Same};
+ghost use Rattle.cdb_files.specs.declared.name_trace.NameCall.TheVariants.{Input, Same};
 ghost use Rattle.cdb.specs.Contents.{making_of};
 
 use crate::building::Building;
 use crate::contents::Contents;
 use crate::creating::Creation;
-use crate::inputs::is_standard;
+use crate::inputs::{STANDARD_INPUT, is_standard};
 use crate::left::{Left, base_left};
 use crate::system::System;
-use cdb_files::{Answer, Builder, Names, ReplaceFault, replace_file};
+use cdb_files::{Answer, Builder, Lock, Names, ReplaceFault, replace_file};
 use cdb_form::Width;
 use cdb_make::MakeFault;
 use cdb_store::Store;
@@ -37,15 +40,27 @@ fn may_be_one<N: Names>(names: &mut N, name: &str, file: &str) -> bool
     }
 }
 
-/// Whether an input may be, unless it is standard input.
+/// Whether the file of standard input may be: it is, or the system did not say.
+fn may_be_standard<N: Names>(names: &mut N, name: &str) -> bool
+    ensures other { result ≡ false
+        → N.calls names.new ≡ (Input No, name.now, [], []) ∷ N.calls names.old }
+    ensures found { result ≡ true → MayBeStandard name.now (N.calls names.old) (N.calls names.new) }
+{
+    match names.is_input(name) {
+        Answer::No => false,
+        Answer::Unknown | Answer::Yes => true,
+    }
+}
+
+/// Whether an input may be.
 fn may_be_input<N: Names>(names: &mut N, name: &str, input: &str) -> bool
     ensures other { result ≡ false → AsksOne name.now input.now
         (N.calls names.old) (N.calls names.new) }
-    ensures found { result ≡ true → (IsStandard input.now → ⊥)
-        × MayBeOne name.now input.now (N.calls names.old) (N.calls names.new) }
+    ensures found { result ≡ true → MayBeInput name.now input.now
+        (N.calls names.old) (N.calls names.new) }
 {
     if is_standard(input) {
-        return false;
+        return may_be_standard(names, name);
     }
     may_be_one(names, name, input)
 }
@@ -63,6 +78,20 @@ fn may_be_one_of_inputs<N: Names>(names: &mut N, name: &str, inputs: &[String]) 
         }
     }
     false
+}
+
+/// Whether an input may be, if no input stands for standard input.
+#[tactic(auto, using(crate::proofs::Opens::asks_standard, crate::proofs::Opens::finds_standard, crate::proofs::Opens::asks_named, crate::proofs::Opens::finds_named))]
+fn may_be_one_read<N: Names>(names: &mut N, name: &str, inputs: &[String]) -> bool
+    ensures others { result ≡ false → AsksEach name.now (inputs_read (map string_bytes inputs.now))
+        (N.calls names.old) (N.calls names.new) }
+    ensures found { result ≡ true → FindsInput name.now (inputs_read (map string_bytes inputs.now))
+        (N.calls names.old) (N.calls names.new) }
+{
+    if inputs.is_empty() {
+        return may_be_input(names, name, STANDARD_INPUT);
+    }
+    may_be_one_of_inputs(names, name, inputs)
 }
 
 /// Whether the base may be.
@@ -90,13 +119,33 @@ fn may_be_read<N: Names>(names: &mut N, name: &str, creation: Creation<'_>) -> b
     if may_be_base(names, name, creation.base) {
         return true;
     }
-    may_be_one_of_inputs(names, name, creation.inputs)
+    may_be_one_read(names, name, creation.inputs)
 }
 
-/// Makes it in the file of its name, which is emptied first.
+/// Empties the file of a name, or makes one, once its lock is held. `Open`: another process holds it, or
+/// the file cannot be opened or emptied, or the name is that of a link.
+fn emptied<F, J, M, Y>(system: &mut Y, name: &str) -> Result<M, Fault>
+where
+    F: Store,
+    J: Read,
+    M: Store,
+    Y: System<F, J, M>,
+    ensures calls { OnOk result (Empties name.now (Y.calls system.old) (Y.calls system.new)) }
+    ensures makes { IfOk result (Y.makes name.now) }
+    ensures fails { IfErr result
+        (MissesEmptying name.now (Y.calls system.old) (Y.calls system.new)) }
+{
+    let file = system.open_to_empty(name)?;
+    match system.lock(name, &file) {
+        Lock::Taken | Lock::Unsupported => system.empty(name, file),
+        Lock::Held => Err(Fault::Open),
+    }
+}
+
+/// Makes it in the file of its name, which is emptied first, once its lock is held.
 ///
 /// `Open`: the base or an input is that file, and would be lost, or the system did not say whether it
-/// is; or the name is that of a link, or the file cannot be opened.
+/// is; or another process holds it; or the name is that of a link, or the file cannot be opened.
 ///
 /// The base is handed back, and the file if it was opened.
 #[inline(never)]
@@ -127,7 +176,7 @@ where
     if may_be_read(names, creation.name, creation) {
         return (base_left(contents.into_base()), Err(Fault::Open));
     }
-    let store = match system.empty(creation.name) {
+    let store = match emptied::<F, J, M, Y>(system, creation.name) {
         Ok(store) => store,
         Err(fault) => return (base_left(contents.into_base()), Err(fault)),
     };

@@ -1,15 +1,17 @@
 // The system's files: the lines that open them, and note it.
-ghost use Rattle.std.specs.Prelude.{◌≡◌, [], ◌∷◌};
+ghost use Rattle.std.specs.Prelude.{◌≡◌, [], ◌∷◌, IfOk};
+ghost use Rattle.cdb_store.specs.RealFile.{events_of};
+ghost use Rattle.cdb_store.specs.declared.trace.Call.TheVariants.{Made};
 ghost use Rattle.cdb.specs.Opening.{unopened};
 ghost use Rattle.cdb.specs.declared.open_trace.OpenCall.TheVariants.{Unopened};
 
 use crate::open_trace::{OpenCall, OpenTrace};
 use crate::system::System;
-use cdb_files::{Answer, NameFault};
-use cdb_store::{FileStore, LAST_STANDARD, StoreFault};
+use cdb_files::{Answer, Lock, NameFault, has_name, locked};
+use cdb_store::{FileStore, LAST_STANDARD, RealFile, StoreFault};
 use cdb_tool::Fault;
 use std::fs::{self, File};
-use std::io::ErrorKind;
+use std::io::{self, ErrorKind};
 use std::os::fd::AsRawFd;
 use std::rt::Files;
 
@@ -84,13 +86,36 @@ impl<'a, R: Files<File = File>> System<FileStore, File, FileStore> for RealSyste
     }
 
     // Shown by tests/cli/cases.py and tests/faults/others.py.
-    fn empty(&mut self, name: &str) -> Result<FileStore, Fault> {
-        match FileStore::create_own(self.rt, name) {
-            Ok(store) => {
-                self.trace.note(&OpenCall::Emptied, name.as_bytes());
-                Ok(store)
+    fn open_to_empty(&mut self, name: &str) -> Result<RealFile, Fault> {
+        match RealFile::opened_to_empty(self.rt, name) {
+            Ok(file) => {
+                self.trace.note(&OpenCall::ToEmpty, name.as_bytes());
+                Ok(file)
             }
-            Err(fault) => Err(self.refused(of_store(fault), name)),
+            Err(error) => Err(self.refused(of_error(&error), name)),
+        }
+    }
+
+    // Shown by tests/cli/orders.py and locked.py.
+    /// A pipe or a device is never emptied, and its lock is not requested.
+    fn lock(&mut self, name: &str, file: &RealFile) -> Lock {
+        let lock = match file.metadata() {
+            Ok(found) if !found.is_file() => Lock::Unsupported,
+            Ok(_) => locked(file),
+            Err(_) => Lock::Held,
+        };
+        self.trace.note(&OpenCall::Locked(lock), name.as_bytes());
+        lock
+    }
+
+    // Shown by tests/cli/cases.py and tests/faults/others.py.
+    fn empty(&mut self, name: &str, file: RealFile) -> Result<FileStore, Fault> {
+        match emptied_of(self.rt, name, file) {
+            Ok(file) => {
+                self.trace.note(&OpenCall::Emptied, name.as_bytes());
+                Ok(FileStore::made(file))
+            }
+            Err(why) => Err(self.refused(why, name)),
         }
     }
 }
@@ -108,8 +133,30 @@ fn opened_in_turn<R: Files<File = File>>(rt: &R, name: &str) -> Result<File, Nam
     match File::open(rt, name) {
         Ok(file) if file.as_raw_fd() <= LAST_STANDARD => Err(NameFault::Failed),
         Ok(file) => Ok(file),
-        Err(error) if error.kind() == ErrorKind::OutOfMemory => Err(NameFault::NoMemory),
-        Err(_) => Err(NameFault::Failed),
+        Err(error) => Err(of_error(&error)),
+    }
+}
+
+/// Empties a file, if the name still has it: another create may have replaced it since it was opened.
+fn emptied_of<R: Files<File = File>>(
+    rt: &R,
+    name: &str,
+    file: RealFile,
+) -> Result<RealFile, NameFault>
+    ensures made { IfOk result (λ f. events_of f ≡ (Made, []) ∷ []) }
+{
+    match has_name(rt, name, &file) {
+        Answer::Yes => file.emptied().map_err(|error| of_error(&error)),
+        Answer::No | Answer::Unknown => Err(NameFault::Failed),
+    }
+}
+
+/// Why the system opened no file, or did not empty one.
+fn of_error(error: &io::Error) -> NameFault {
+    if error.kind() == ErrorKind::OutOfMemory {
+        NameFault::NoMemory
+    } else {
+        NameFault::Failed
     }
 }
 

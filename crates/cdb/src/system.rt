@@ -1,11 +1,11 @@
 // The files of a system, by their names and the calls on them.
 ghost use Rattle.std.specs.Prelude.{◌≡◌, ◌∷◌, ℕ, List, IfOk, IfErr, OnOk};
-ghost use Rattle.cdb.specs.Opening.{OpenCalls, Misses};
+ghost use Rattle.cdb.specs.Opening.{OpenCalls, Misses, MayEmpty};
 ghost use Rattle.cdb.specs.declared.open_trace.OpenCall.TheVariants.{AtPlaces, InTurn, Stream};
-ghost use Rattle.cdb.specs.declared.open_trace.OpenCall.TheVariants.{Emptied};
+ghost use Rattle.cdb.specs.declared.open_trace.OpenCall.TheVariants.{Emptied, Locked, ToEmpty};
 
-use cdb_files::Answer;
-use cdb_store::Store;
+use cdb_files::{Answer, Lock};
+use cdb_store::{RealFile, Store};
 use cdb_tool::Fault;
 use std::io::Read;
 
@@ -41,9 +41,20 @@ pub(crate) trait System<F: Store, I: Read, M: Store> {
     fn is_stream(&mut self, name: &str) -> Answer
         ensures calls { calls self.new ≡ (Stream result, name.now) ∷ calls self.old };
 
-    /// Empties the file of a name, or makes one, to be read and written at places. `Open`: it cannot
-    /// be opened, or the name is that of a link, which is not followed.
-    fn empty(&mut self, name: &str) -> Result<M, Fault>
+    /// Opens the file of a name, or makes one, to be emptied. It stays as it is. `Open`: it cannot be
+    /// opened, or the name is that of a link, which is not followed.
+    fn open_to_empty(&mut self, name: &str) -> Result<RealFile, Fault>
+        ensures calls { OnOk result (calls self.new ≡ (ToEmpty, name.now) ∷ calls self.old) }
+        ensures fails { IfErr result (Misses name.now (calls self.old) (calls self.new)) };
+
+    /// Requests the lock of the file that was opened to be emptied, and does not wait for it.
+    fn lock(&mut self, name: &str, file: &RealFile) -> Lock
+        ensures calls { calls self.new ≡ (Locked result, name.now) ∷ calls self.old };
+
+    /// Empties the file of a name, whose lock is held, to be read and written at places. `Open`: it
+    /// cannot be emptied, or the name does not have it any more.
+    fn empty(&mut self, name: &str, file: RealFile) -> Result<M, Fault>
+        requires held { MayEmpty name.now (calls self.old) }
         ensures calls { OnOk result (calls self.new ≡ (Emptied, name.now) ∷ calls self.old) }
         ensures makes { IfOk result (makes name.now) }
         ensures fails { IfErr result (Misses name.now (calls self.old) (calls self.new)) };

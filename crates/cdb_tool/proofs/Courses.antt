@@ -11,6 +11,7 @@ use Rattle.cdb_form.specs.Format.Record.{KeyValue}
 use Rattle.cdb_form.specs.Format.File.{file_size}
 use Rattle.cdb_form.specs.Text.Amending.{Change, Putting, Removing}
 use Rattle.cdb_form.specs.Views.KnownBytes.{AppendsPrefix}
+use Rattle.cdb_form.proofs.Bytes.WritingLemmas.{appends_none}
 use Rattle.cdb_form.proofs.Bytes.WritingLemmas.{appends_then, prefix_then}
 use Rattle.cdb_make.specs.Survivors.{put_list, put_answer, fits}
 use Rattle.cdb_make.specs.Views.Batch.{Holds, Held, StaysWhole, Puts, WouldPut, FailsPutting, Removes, FailsRemoving, limit_of, count_in, IsUsable}
@@ -27,7 +28,7 @@ use Rattle.cdb_tool.specs.Views.Fault.{make_fault}
 use Rattle.cdb_tool.specs.Runs.Course.{Task, Incoming, Course, from_input, from_inputs, mode_of, said, ends, is_going, with_put, with_change, with_next, at_start, course_of, TellFails, Goes, StopsSo}
 use Rattle.cdb_tool.specs.Runs.Make.{InCourse, PutStops, IsOfStore, StandsAt, IsHalt, TakesNext}
 use Rattle.cdb_tool.specs.declared.fault.Fault.{Fault}
-use Rattle.cdb_tool.specs.declared.fault.Fault.TheVariants.{Text, Make, Duplicate, Missing, Read, Walk, Output, Long, Open, Rename, NoMemory, Old, New}
+use Rattle.cdb_tool.specs.declared.fault.Fault.TheVariants.{Text, Make, Duplicate, Missing, Read, Walk, Output, Long, Open, Rename, NoMemory, Old, New, NoOldTables, NoNewTables}
 use Rattle.cdb_command.specs.declared.options.MakeOptions.{MakeOptions}
 
 -- ---- the course over one item more
@@ -114,6 +115,8 @@ told_so t cs i n r start mid end m put (Read f) b p x = absurd x
 told_so t cs i n r start mid end m put Long b p x = absurd x
 told_so t cs i n r start mid end m put Open b p x = absurd x
 told_so t cs i n r start mid end m put Rename b p x = absurd x
+told_so t cs i n r start mid end m put NoOldTables b p x = absurd x
+told_so t cs i n r start mid end m put NoNewTables b p x = absurd x
 told_so t cs i n r start mid end m put (Old side) b p x = absurd x
 told_so t cs i n r start mid end m put (New side) b p x = absurd x
 told_so t cs i n r start mid end m put NoMemory b p x = absurd x
@@ -142,6 +145,8 @@ told_store o i j put old new (Read f) x is = absurd is
 told_store o i j put old new Long x is = absurd is
 told_store o i j put old new Open x is = absurd is
 told_store o i j put old new Rename x is = absurd is
+told_store o i j put old new NoOldTables x is = absurd is
+told_store o i j put old new NoNewTables x is = absurd is
 told_store o i j put old new (Old side) x is = absurd is
 told_store o i j put old new (New side) x is = absurd is
 told_store o i j put old new NoMemory x is = absurd is
@@ -242,6 +247,8 @@ told_halts o i j put old new (Read f) x is = absurd is
 told_halts o i j put old new Long x is = absurd is
 told_halts o i j put old new Open x is = absurd is
 told_halts o i j put old new Rename x is = absurd is
+told_halts o i j put old new NoOldTables x is = absurd is
+told_halts o i j put old new NoNewTables x is = absurd is
 told_halts o i j put old new (Old side) x is = absurd is
 told_halts o i j put old new (New side) x is = absurd is
 told_halts o i j put old new NoMemory x is = absurd x
@@ -355,10 +362,6 @@ unremoved_store old new key make.TooBig x is = absurd is
 unremoved_store old new key make.NoMemory x is = absurd is
 
 -- ---- the start
-
-pub appends_none : (o : Option (List ℕ)) → Appends o o []
-appends_none None = tt
-appends_none (Some xs) = sym (append-nil xs)
 
 pub course_starts : {S L : Type 0} {s : Ghosts S} {l : Widths L} (t : Task) (start : Option (List ℕ)) (m : Batch S L s l) → Holds m (at_start t).records → limit_of m ≡ t.options.limit → InCourse t [] start start m
 course_starts t start m h limit = record { holds = h; limit = limit; goes = record { each = λ b is. record { going = refl; lines = appends_none start } } }

@@ -1,5 +1,5 @@
 -- How a run that writes a difference ends.
-use Rattle.std.proofs.Common.{ℕ, ◌≤◌, List, [], refl, sym, ap, subst, arith, inl, inr, Option, Result, Ok, Err}
+use Rattle.std.proofs.Common.{◌≡◌, true, false, ℕ, ◌≤◌, List, sym, ap, subst, arith, inl, inr, Option, Result, Ok, Err}
 use Rattle.std.specs.Prelude.{IsOk}
 use Rattle.std.specs.Io.KnownBytes.{Keeps}
 use Rattle.cdb_store.specs.Reads.{OnlyReads}
@@ -11,17 +11,16 @@ use Rattle.cdb_form.proofs.Bytes.WritingLemmas.{appends_kept, same_appends}
 use Rattle.cdb_read.specs.Views.Reads.{OpeningFails}
 use Rattle.cdb_read.specs.declared.fault.ReadFault.{ReadFault}
 use Rattle.cdb_read.specs.declared.fault.ReadFault.TheVariants as read
-use Rattle.cdb_tool.specs.Runs.Difference.{DifferenceFails, IsDamaged, NotRead, ReadingStops, Stops, TellsDifference, WritesDifference, WritesPrefix, difference_of}
+use Rattle.cdb_difference.specs.Difference.{IsDamaged, ReadingStops, SaysDifference, Stops, WritesDifference, WritesPrefix}
+use Rattle.cdb_difference.proofs.WholeDifferences.{nothing_written}
+use Rattle.cdb_tool.specs.Runs.Difference.{DifferenceFails, HaveTables, Lacks, NotRead, TellsDifference, comes_after_heads}
 use Rattle.cdb_tool.specs.Runs.Flushed.{Flushed}
-use Rattle.cdb_tool.specs.Views.Fault.{old_fault, new_fault}
-use Rattle.cdb_tool.specs.Views.Stop.{removing_fault, putting_fault}
+use Rattle.cdb_tool.specs.Views.Fault.{old_fault, new_fault, stop_fault}
 use Rattle.cdb_tool.specs.declared.fault.Fault.{Fault}
-use Rattle.cdb_tool.specs.declared.fault.Fault.TheVariants.{Text, Make, Duplicate, Missing, Read, Walk, Output, Long, Open, Rename, NoMemory, Old, New}
-use Rattle.cdb_tool.specs.declared.runs.difference.stop.Stop.{Stop}
-use Rattle.cdb_tool.specs.declared.runs.difference.stop.Stop.TheVariants.{Own, Other}
-use Rattle.cdb_tool.proofs.Courses.{appends_none}
-use Rattle.cdb_tool.proofs.PassStops.{stops_since}
-use Rattle.cdb_tool.proofs.Queries.{reads_none}
+use Rattle.cdb_tool.specs.declared.fault.Fault.TheVariants.{Text, Make, Duplicate, Missing, Read, Walk, Output, Long, Open, Rename, NoMemory, Old, New, NoOldTables, NoNewTables}
+use Rattle.cdb_difference.specs.declared.stop.Stop.{Stop}
+use Rattle.cdb_difference.specs.declared.stop.Stop.TheVariants.{Own, Other}
+use Rattle.cdb_read.proofs.FoundSoFar.{reads_none}
 use Rattle.cdb_tool.proofs.WholeRuns.{keeps_self, keeps_then, not_ok, prefix_kept, whole_prefix}
 
 -- ---- why it failed
@@ -49,26 +48,11 @@ module _ {S T : Type 0} (w : ℕ) (s : Ghosts S) (t : Ghosts T) (old old_now : S
   new_fails (read.Twice place) fails = absurd fails
   new_fails (read.Unindexed place) fails = absurd fails
 
-  pub removing_fails : (stop : Stop) → Stops w s t old old_now new new_now stop → DifferenceFails w s t old old_now new new_now start now (removing_fault stop)
-  removing_fails (Own f) fails = old_fails f fails
-  removing_fails (Other f) fails = new_fails f fails
-
-  pub putting_fails : (old_mid : S) (new_mid : T) (stop : Stop) → OnlyReads s old old_mid → OnlyReads t new new_mid → Stops w t s new_mid new_now old_mid old_now stop → DifferenceFails w s t old old_now new new_now start now (putting_fault stop)
-  putting_fails old_mid new_mid (Own f) first second fails = new_fails f (stops_since t new new_mid new_now new_now (IsDamaged w t s new_now old_now) (IsDamaged w t s new_now old_now) f second.failures (omega arith) (λ d is. is) fails)
-  putting_fails old_mid new_mid (Other f) first second fails = old_fails f (stops_since s old old_mid old_now old_now (IsDamaged w s t old_now new_now) (IsDamaged w s t old_now new_now) f first.failures (omega arith) (λ d is. is) fails)
-
-  pub removing_fails_since : (old_mid : S) (new_mid : T) (stop : Stop) → OnlyReads s old old_mid → OnlyReads t new new_mid → Stops w s t old_mid old_now new_mid new_now stop → DifferenceFails w s t old old_now new new_now start now (removing_fault stop)
-  removing_fails_since old_mid new_mid (Own f) first second fails = old_fails f (stops_since s old old_mid old_now old_now (IsDamaged w s t old_now new_now) (IsDamaged w s t old_now new_now) f first.failures (omega arith) (λ d is. is) fails)
-  removing_fails_since old_mid new_mid (Other f) first second fails = new_fails f (stops_since t new new_mid new_now new_now (IsDamaged w t s new_now old_now) (IsDamaged w t s new_now old_now) f second.failures (omega arith) (λ d is. is) fails)
+  pub writing_fails : (stop : Stop) → Stops w s t old old_now new new_now stop → DifferenceFails w s t old old_now new new_now start now (stop_fault stop)
+  writing_fails (Own f) fails = old_fails f fails
+  writing_fails (Other f) fails = new_fails f fails
 
 -- ---- a database that was not opened
-
-pub nothing_written : (w : ℕ) (b c : List ℕ) (start : Option (List ℕ)) → WritesPrefix w b c start start
-nothing_written w b c start = record {
-  changes = [];
-  written = record { front = []; more = amending_text []; split = refl; appended = appends_none start };
-  are = λ one two. record { front = []; more = amending_text (difference_of w b c); split = refl; appended = appends_none start };
-}
 
 opening_reads : {S : Type 0} (w : ℕ) (s : Ghosts S) (old now : S) (f : ReadFault) → OpeningFails w s old now f → OnlyReads s old now
 opening_reads w s old now read.Short fails = reads_nothing {s = s} old now fails.1
@@ -87,9 +71,22 @@ old_unopened w s t old old_now new start f fails = record {
   new_reads = reads_none t new;
   ok = tt;
   err = by f fails;
+  ok_tables = tt;
+  err_tables = λ after. early f fails after;
   front = λ b c is it. nothing_written w b c start;
 }
   where
+    early : (f : ReadFault) → OpeningFails w s old old_now f → comes_after_heads (old_fault f) ≡ true → HaveTables w s t old_now new
+    early read.Short fails after = absurd (not_ok after)
+    early read.Device fails after = absurd (not_ok after)
+    early (read.Table n) fails after = absurd fails
+    early (read.Record place) fails after = absurd fails
+    early (read.Slot n i) fails after = absurd fails
+    early (read.Twice place) fails after = absurd fails
+    early (read.Unindexed place) fails after = absurd fails
+    early read.NoMemory fails after = absurd fails
+    early read.Output fails after = absurd fails
+
     by : (f : ReadFault) → OpeningFails w s old old_now f → DifferenceFails w s t old old_now new new start start (old_fault f)
     by read.Short fails = record { short = fails.0; unread = fails.1; kept = keeps_self start }
     by read.Device fails = fails.1
@@ -107,9 +104,22 @@ new_unopened w s t old old_now new new_now start f reads fails = record {
   new_reads = opening_reads w t new new_now f fails;
   ok = tt;
   err = by f fails;
+  ok_tables = tt;
+  err_tables = λ after. early f fails after;
   front = λ b c is it. nothing_written w b c start;
 }
   where
+    early : (f : ReadFault) → OpeningFails w t new new_now f → comes_after_heads (new_fault f) ≡ true → HaveTables w s t old_now new_now
+    early read.Short fails after = absurd (not_ok after)
+    early read.Device fails after = absurd (not_ok after)
+    early (read.Table n) fails after = absurd fails
+    early (read.Record place) fails after = absurd fails
+    early (read.Slot n i) fails after = absurd fails
+    early (read.Twice place) fails after = absurd fails
+    early (read.Unindexed place) fails after = absurd fails
+    early read.NoMemory fails after = absurd fails
+    early read.Output fails after = absurd fails
+
     by : (f : ReadFault) → OpeningFails w t new new_now f → DifferenceFails w s t old old_now new new_now start start (new_fault f)
     by read.Short fails = record { short = fails.0; unread = fails.1; kept = keeps_self start }
     by read.Device fails = fails.1
@@ -149,10 +159,53 @@ module _ {S T : Type 0} (w : ℕ) (s : Ghosts S) (t : Ghosts T) (old mid now : S
   fails_since Long fails = absurd fails
   fails_since Open fails = absurd fails
   fails_since Rename fails = absurd fails
+  fails_since NoOldTables fails = fails
+  fails_since NoNewTables fails = fails
 
   pub tells_since : (result : Result Unit Fault) → TellsDifference w s t mid now mid_new now_new start end result → TellsDifference w s t old now new now_new start end result
-  tells_since (Ok tt) h = record { old_reads = reads_more first h.old_reads; new_reads = reads_more second h.new_reads; ok = h.ok; err = tt; front = tt }
-  tells_since (Err f) h = record { old_reads = reads_more first h.old_reads; new_reads = reads_more second h.new_reads; ok = tt; err = fails_since f h.err; front = h.front }
+  tells_since (Ok tt) h = record { old_reads = reads_more first h.old_reads; new_reads = reads_more second h.new_reads; ok = h.ok; err = tt; ok_tables = h.ok_tables; err_tables = tt; front = tt }
+  tells_since (Err f) h = record { old_reads = reads_more first h.old_reads; new_reads = reads_more second h.new_reads; ok = tt; err = fails_since f h.err; ok_tables = tt; err_tables = h.err_tables; front = h.front }
+
+-- whether they have tables
+module _ {S T : Type 0} (w : ℕ) (s : Ghosts S) (t : Ghosts T) (old old_now : S) (new new_now : T) (start end : Option (List ℕ)) where
+  pub old_lacks : Lacks w s old true → TellsDifference w s t old old new new start start (Err NoOldTables)
+  old_lacks lacks = record {
+    old_reads = reads_none s old;
+    new_reads = reads_none t new;
+    ok = tt;
+    err = record { lacks = lacks; kept = keeps_self start };
+    ok_tables = tt;
+    err_tables = λ after. absurd (not_ok after);
+    front = λ b c is it. nothing_written w b c start;
+  }
+
+  pub new_lacks : Lacks w s old false → Lacks w t new true → TellsDifference w s t old old new new start start (Err NoNewTables)
+  new_lacks has lacks = record {
+    old_reads = reads_none s old;
+    new_reads = reads_none t new;
+    ok = tt;
+    err = (has, record { lacks = lacks; kept = keeps_self start });
+    ok_tables = tt;
+    err_tables = λ after. absurd (not_ok after);
+    front = λ b c is it. nothing_written w b c start;
+  }
+
+  still : OnlyReads s old old_now → OnlyReads t new new_now → Lacks w s old false → Lacks w t new false → HaveTables w s t old_now new_now
+  still first second one two = record { of_old = λ b is. one b (first.images b is); of_new = λ c it. two c (second.images c it) }
+
+  pub tells_written : Lacks w s old false → Lacks w t new false → SaysDifference w s t old old_now new new_now start end (Ok tt) → TellsDifference w s t old old_now new new_now start end (Ok tt)
+  tells_written one two h = record { old_reads = h.old_reads; new_reads = h.new_reads; ok = h.ok; err = tt; ok_tables = still h.old_reads h.new_reads one two; err_tables = tt; front = tt }
+
+  pub tells_stopped : Lacks w s old false → Lacks w t new false → (stop : Stop) → SaysDifference w s t old old_now new new_now start end (Err stop) → TellsDifference w s t old old_now new new_now start end (Err (stop_fault stop))
+  tells_stopped one two stop h = record {
+    old_reads = h.old_reads;
+    new_reads = h.new_reads;
+    ok = tt;
+    err = writing_fails w s t old old_now new new_now start end stop h.err;
+    ok_tables = tt;
+    err_tables = λ after. still h.old_reads h.new_reads one two;
+    front = h.front;
+  }
 
 -- ---- the flush
 
@@ -195,13 +248,15 @@ module _ {S T : Type 0} (w : ℕ) (s : Ghosts S) (t : Ghosts T) (old now : S) (n
   fault_kept Long h = absurd h
   fault_kept Open h = absurd h
   fault_kept Rename h = absurd h
+  fault_kept NoOldTables h = record { lacks = h.lacks; kept = keeps_then start mid end h.kept kept }
+  fault_kept NoNewTables h = (h.0, record { lacks = h.1.lacks; kept = keeps_then start mid end h.1.kept kept })
 
   same_answer : (answer : Result Unit Fault) → TellsDifference w s t old now new now_new start mid answer → TellsDifference w s t old now new now_new start end answer
-  same_answer (Ok tt) h = record { old_reads = h.old_reads; new_reads = h.new_reads; ok = λ b c is it. written_kept b c (h.ok b c is it); err = tt; front = tt }
-  same_answer (Err f) h = record { old_reads = h.old_reads; new_reads = h.new_reads; ok = tt; err = fault_kept f h.err; front = λ b c is it. front_kept b c (h.front b c is it) }
+  same_answer (Ok tt) h = record { old_reads = h.old_reads; new_reads = h.new_reads; ok = λ b c is it. written_kept b c (h.ok b c is it); err = tt; ok_tables = h.ok_tables; err_tables = tt; front = tt }
+  same_answer (Err f) h = record { old_reads = h.old_reads; new_reads = h.new_reads; ok = tt; err = fault_kept f h.err; ok_tables = tt; err_tables = h.err_tables; front = λ b c is it. front_kept b c (h.front b c is it) }
 
   not_flushed : (answer : Result Unit Fault) → IsOk answer → TellsDifference w s t old now new now_new start mid answer → TellsDifference w s t old now new now_new start end (Err Output)
-  not_flushed (Ok tt) ok h = record { old_reads = h.old_reads; new_reads = h.new_reads; ok = tt; err = tt; front = λ b c is it. written_front b c (written_kept b c (h.ok b c is it)) }
+  not_flushed (Ok tt) ok h = record { old_reads = h.old_reads; new_reads = h.new_reads; ok = tt; err = tt; ok_tables = tt; err_tables = λ after. h.ok_tables; front = λ b c is it. written_front b c (written_kept b c (h.ok b c is it)) }
   not_flushed (Err f) ok h = absurd (not_ok ok)
 
   pub tells_flushed : (answer result : Result Unit Fault) → TellsDifference w s t old now new now_new start mid answer → Flushed mid end answer result → TellsDifference w s t old now new now_new start end result

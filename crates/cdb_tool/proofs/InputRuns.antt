@@ -17,7 +17,7 @@ use Rattle.cdb_tool.specs.Runs.Inputs as form
 use Rattle.cdb_tool.specs.Runs.Make.{InCourse, PutStops, InputFails, StopsIn, Stops, InputsFail, came, IsOfStore, StandsAt, StandsIn, Stands, PutsItems}
 use Rattle.cdb_tool.specs.Runs.Make.{form_of as task_form}
 use Rattle.cdb_tool.specs.declared.fault.Fault.{Fault}
-use Rattle.cdb_tool.specs.declared.fault.Fault.TheVariants.{Text, Make, Duplicate, Missing, Read, Walk, Output, Long, Open, Rename, NoMemory, Old, New}
+use Rattle.cdb_tool.specs.declared.fault.Fault.TheVariants.{Text, Make, Duplicate, Missing, Read, Walk, Output, Long, Open, Rename, NoMemory, Old, New, NoOldTables, NoNewTables}
 use Rattle.cdb_tool.specs.Views.Inputs.{one_of, shared_bytes, inputs_left}
 use Rattle.cdb_tool.specs.declared.inputs.Inputs.{Inputs}
 use Rattle.cdb_tool.specs.declared.inputs.SharedInput.{SharedInput}
@@ -52,6 +52,8 @@ put_stopped w g o read input last start now (Read f) b x = record { last = last;
 put_stopped w g o read input last start now Long b x = record { last = last; begins = b; stops = x }
 put_stopped w g o read input last start now Open b x = record { last = last; begins = b; stops = x }
 put_stopped w g o read input last start now Rename b x = record { last = last; begins = b; stops = x }
+put_stopped w g o read input last start now NoOldTables b x = record { last = last; begins = b; stops = x }
+put_stopped w g o read input last start now NoNewTables b x = record { last = last; begins = b; stops = x }
 put_stopped w g o read input last start now (Old side) b x = record { last = last; begins = b; stops = x }
 put_stopped w g o read input last start now (New side) b x = record { last = last; begins = b; stops = x }
 put_stopped w g o read input last start now NoMemory b x = record { last = last; begins = b; stops = x }
@@ -133,6 +135,8 @@ run_failed w g o read x inputs rest start now (Read f) are first h = stopped w g
 run_failed w g o read x inputs rest start now Long are first h = stopped w g o read x inputs rest start now Long are first h
 run_failed w g o read x inputs rest start now Open are first h = stopped w g o read x inputs rest start now Open are first h
 run_failed w g o read x inputs rest start now Rename are first h = stopped w g o read x inputs rest start now Rename are first h
+run_failed w g o read x inputs rest start now NoOldTables are first h = stopped w g o read x inputs rest start now NoOldTables are first h
+run_failed w g o read x inputs rest start now NoNewTables are first h = stopped w g o read x inputs rest start now NoNewTables are first h
 run_failed w g o read x inputs rest start now (Old side) are first h = stopped w g o read x inputs rest start now (Old side) are first h
 run_failed w g o read x inputs rest start now (New side) are first h = stopped w g o read x inputs rest start now (New side) are first h
 run_failed w g o read x inputs rest start now NoMemory are first h = stopped w g o read x inputs rest start now NoMemory are first h

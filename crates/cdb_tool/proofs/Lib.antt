@@ -14,14 +14,5 @@ pub mod WholeTexts
 pub mod InputLemmas
 pub mod OutputLemmas
 pub mod RestoreLaws
-pub mod Passes
-pub mod ComparedValues
-pub mod WholeDifferences
-pub mod PassStops
-pub mod PassSteps
-pub mod PutValues
 pub mod BaseDifferences
 pub mod DifferenceRuns
-pub mod MarkBits
-pub mod Marked
-pub mod Steps

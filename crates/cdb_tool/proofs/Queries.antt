@@ -17,56 +17,17 @@ use Rattle.cdb_read.specs.Lookup.{Found, bytes_of, lookup_of, with_spans}
 use Rattle.cdb_read.specs.Views.Finder.{left_in, GivesSpan, FindingFails}
 use Rattle.cdb_store.specs.Reads.{OnlyReads}
 use Rattle.cdb_read.specs.Views.Reads.{CopyingFails}
-use Rattle.cdb_read.specs.Views.Search.{found_ahead}
 use Rattle.cdb_read.specs.declared.fault.ReadFault.{ReadFault}
 use Rattle.cdb_read.specs.declared.fault.ReadFault.TheVariants as read
 use Rattle.cdb_read.specs.declared.lookup.finder.Finder.{Finder}
 use Rattle.cdb_read.specs.declared.span.Span.{Span}
 use Rattle.cdb_store.proofs.Reading.{reads_more}
+use Rattle.cdb_read.proofs.FoundSoFar.{FoundSoFar, ending, found_more, found_still}
 use Rattle.cdb_tool.specs.Views.Fault.{read_fault}
 use Rattle.cdb_tool.specs.Runs.Query.{Query, asked_of, value_text, values_text, spans_text, query_text, has_asked, why_missing, found_answer, query_answer, Answers, WritesPrefix, QueryFails, Queries, WritesAll, in_hand, WritesSome, WritesEach, LeftFails}
 use Rattle.cdb_tool.specs.declared.fault.Fault.{Fault}
-use Rattle.cdb_tool.specs.declared.fault.Fault.TheVariants.{Text, Make, Duplicate, Missing, Read, Walk, Output, Long, Open, Rename, NoMemory, Old, New}
-use Rattle.cdb_tool.proofs.Courses.{appends_none}
-
--- ---- reading
-
-pub reads_none : {S : Type 0} (s : Ghosts S) (store : S) → OnlyReads s store store
-reads_none s store = record { images = λ b is. is; size = refl; written = refl; room = omega arith; failures = omega arith; unwritten = omega arith }
-
-abbrev pub ending : List Span → Option Damage → Found
-ending spans damage = record { spans = spans; damage = damage }
-
--- the store was only read, and in each image these spans are the first of all that is found there
-pub record FoundSoFar {S L : Type 0} {s : Ghosts S} {l : Widths L} (w : ℕ) (all : List ℕ → Found) (old : S) (t : Finder S L s l) (spans : List Span) : Type 0 where
-  pub reads : OnlyReads s old t.reader.now.store
-  pub first : (b : List ℕ) → s.image t.reader.now.store b → all b ≡ with_spans spans (left_in w b t)
-
-pub found_none : {S L : Type 0} {s : Ghosts S} {l : Widths L} (w : ℕ) (all : List ℕ → Found) (old : S) (t : Finder S L s l) → t.reader.now.store ≡ old → ((b : List ℕ) → s.image old b → left_in w b t ≡ all b) → FoundSoFar w all old t []
-found_none {s = s} w all old t same finds = record {
-  reads = subst (OnlyReads s old) (sym same) (reads_none s old);
-  first = λ b is. sym (finds b (subst (λ x. s.image x b) same is));
-}
-
--- one more was given
-pub found_more : {S L : Type 0} {s : Ghosts S} {l : Widths L} (w : ℕ) (all : List ℕ → Found) (old : S) (t u : Finder S L s l) (spans : List Span) (span : Span) → FoundSoFar w all old t spans → OnlyReads s t.reader.now.store u.reader.now.store → GivesSpan w t u span
-    → FoundSoFar w all old u (spans ++ span ∷ [])
-found_more w all old t u spans span h reads gives = record {
-  reads = reads_more h.reads reads;
-  first = λ b is.
-      h.first b (reads.images b is) ∙ ap (with_spans spans) (gives.first b is)
-      ∙ ap (λ xs. ending xs (left_in w b u).damage) (sym (append_assoc spans (span ∷ []) (left_in w b u).spans));
-}
-
--- a value was read
-pub found_still : {S L : Type 0} {s : Ghosts S} {l : Widths L} (w : ℕ) (all : List ℕ → Found) (old : S) (t u : Finder S L s l) (spans : List Span) → FoundSoFar w all old t spans → OnlyReads s t.reader.now.store u.reader.now.store → u.key.now ≡ t.key.now
-    → u.searching ≡ t.searching → FoundSoFar w all old u spans
-found_still w all old t u spans h reads same stays = record {
-  reads = reads_more h.reads reads;
-  first = λ b is.
-      h.first b (reads.images b is)
-      ∙ ap (with_spans spans) (sym (ap (λ k. found_ahead w b k u.searching) same ∙ ap (found_ahead w b t.key.now) stays));
-}
+use Rattle.cdb_tool.specs.declared.fault.Fault.TheVariants.{Text, Make, Duplicate, Missing, Read, Walk, Output, Long, Open, Rename, NoMemory, Old, New, NoOldTables, NoNewTables}
+use Rattle.cdb_form.proofs.Bytes.WritingLemmas.{appends_none}
 
 -- ---- what is written
 
@@ -276,6 +237,8 @@ module _ {S L : Type 0} {s : Ghosts S} {l : Widths L} (w : ℕ) (key : List ℕ)
   left_fault Long h = absurd h
   left_fault Open h = absurd h
   left_fault Rename h = absurd h
+  left_fault NoOldTables h = absurd h
+  left_fault NoNewTables h = absurd h
   left_fault (Old side) h = absurd h
   left_fault (New side) h = absurd h
   left_fault NoMemory h = absurd h

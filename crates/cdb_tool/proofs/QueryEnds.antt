@@ -12,9 +12,10 @@ use Rattle.cdb_tool.specs.Views.Fault.{read_fault}
 use Rattle.cdb_tool.specs.Runs.Flushed.{Flushed}
 use Rattle.cdb_tool.specs.Runs.Query.{Query, query_text, Answers, WritesPrefix, QueryFails, Queries}
 use Rattle.cdb_tool.specs.declared.fault.Fault.{Fault}
-use Rattle.cdb_tool.specs.declared.fault.Fault.TheVariants.{Text, Make, Duplicate, Missing, Read, Walk, Output, Long, Open, Rename, NoMemory, Old, New}
-use Rattle.cdb_tool.proofs.Courses.{appends_none}
-use Rattle.cdb_tool.proofs.Queries.{reads_none, none_prefix}
+use Rattle.cdb_tool.specs.declared.fault.Fault.TheVariants.{Text, Make, Duplicate, Missing, Read, Walk, Output, Long, Open, Rename, NoMemory, Old, New, NoOldTables, NoNewTables}
+use Rattle.cdb_form.proofs.Bytes.WritingLemmas.{appends_none}
+use Rattle.cdb_read.proofs.FoundSoFar.{reads_none}
+use Rattle.cdb_tool.proofs.Queries.{none_prefix}
 use Rattle.cdb_tool.proofs.WholeRuns.{keeps_self, keeps_then, prefix_kept, whole_prefix, not_ok}
 
 -- ---- the store was not opened
@@ -58,6 +59,8 @@ fault_kept w s q old new start mid now (Walk f) h k = absurd h
 fault_kept w s q old new start mid now Long h k = absurd h
 fault_kept w s q old new start mid now Open h k = absurd h
 fault_kept w s q old new start mid now Rename h k = absurd h
+fault_kept w s q old new start mid now NoOldTables h k = absurd h
+fault_kept w s q old new start mid now NoNewTables h k = absurd h
 fault_kept w s q old new start mid now (Old side) h k = absurd h
 fault_kept w s q old new start mid now (New side) h k = absurd h
 fault_kept w s q old new start mid now NoMemory h k = absurd h

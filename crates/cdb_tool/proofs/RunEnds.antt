@@ -26,11 +26,12 @@ use Rattle.cdb_tool.specs.Runs.Inputs.{InputForm, InputsLeft, OneInput, AreAllIn
 use Rattle.cdb_tool.specs.Runs.Inputs as form
 use Rattle.cdb_tool.specs.Runs.Make.{InCourse, Stops, InputsFail, RunFails, Runs, came, form_of, records_of, OfBase, HoldsBase, BaseStopped, HandsBack, IsBase, IsSomeBase, BaseFails}
 use Rattle.cdb_tool.specs.declared.fault.Fault.{Fault}
-use Rattle.cdb_tool.specs.declared.fault.Fault.TheVariants.{Text, Make, Duplicate, Missing, Read, Walk, Output, Long, Open, Rename, NoMemory, Old, New}
+use Rattle.cdb_tool.specs.declared.fault.Fault.TheVariants.{Text, Make, Duplicate, Missing, Read, Walk, Output, Long, Open, Rename, NoMemory, Old, New, NoOldTables, NoNewTables}
 use Rattle.cdb_command.specs.declared.options.MakeOptions.{MakeOptions}
 use Rattle.cdb_tool.proofs.WholeRuns.{prefix_kept, whole_prefix, not_ok}
 use Rattle.cdb_tool.proofs.InputRuns.{begins_none}
-use Rattle.cdb_tool.proofs.Courses.{came_none, appends_none, course_starts}
+use Rattle.cdb_form.proofs.Bytes.WritingLemmas.{appends_none}
+use Rattle.cdb_tool.proofs.Courses.{came_none, course_starts}
 
 -- ---- no maker was made
 
@@ -216,6 +217,8 @@ stops_kept w o cs old mid new (Read f) h k = absurd h
 stops_kept w o cs old mid new Long h k = absurd h
 stops_kept w o cs old mid new Open h k = absurd h
 stops_kept w o cs old mid new Rename h k = absurd h
+stops_kept w o cs old mid new NoOldTables h k = absurd h
+stops_kept w o cs old mid new NoNewTables h k = absurd h
 stops_kept w o cs old mid new (Old side) h k = absurd h
 stops_kept w o cs old mid new (New side) h k = absurd h
 
@@ -234,6 +237,8 @@ fails_kept w g o inputs old mid new (Read f) h k = stop_kept w g o inputs old mi
 fails_kept w g o inputs old mid new Long h k = stop_kept w g o inputs old mid new Long h k
 fails_kept w g o inputs old mid new Open h k = stop_kept w g o inputs old mid new Open h k
 fails_kept w g o inputs old mid new Rename h k = stop_kept w g o inputs old mid new Rename h k
+fails_kept w g o inputs old mid new NoOldTables h k = stop_kept w g o inputs old mid new NoOldTables h k
+fails_kept w g o inputs old mid new NoNewTables h k = stop_kept w g o inputs old mid new NoNewTables h k
 fails_kept w g o inputs old mid new (Old side) h k = stop_kept w g o inputs old mid new (Old side) h k
 fails_kept w g o inputs old mid new (New side) h k = stop_kept w g o inputs old mid new (New side) h k
 fails_kept w g o inputs old mid new NoMemory h k = stop_kept w g o inputs old mid new NoMemory h k

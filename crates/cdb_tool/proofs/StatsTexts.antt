@@ -6,7 +6,7 @@ use Rattle.cdb_form.specs.Views.KnownBytes.{AppendsPrefix, Writes}
 use Rattle.cdb_form.proofs.Bytes.WritingLemmas.{appends_then, prefix_then, writes_last}
 use Rattle.cdb_tool.specs.Runs.StatsText.{count_line, distance_line, distance_lines, records_line, keys_line, values_line, tables_line, sizes_line, stats_text}
 use Rattle.cdb_read.specs.declared.statistics.stats.Stats.{Stats}
-use Rattle.cdb_tool.proofs.Courses.{appends_none}
+use Rattle.cdb_form.proofs.Bytes.WritingLemmas.{appends_none}
 
 -- ---- line after line
 

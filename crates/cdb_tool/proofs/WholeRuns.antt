@@ -27,7 +27,7 @@ use Rattle.cdb_tool.proofs.NativeInputs.{some_weaker, fault_of_text, fault_of_pa
 use Rattle.cdb_tool.specs.Runs.Flushed.{Flushed}
 use Rattle.cdb_tool.specs.Runs.MakeBytes.{IsNewText, FailsText, FailsRead, PassesGreatest, NotRead, ReadsFitting, MakesFile, MakesBytes}
 use Rattle.cdb_tool.specs.declared.fault.Fault.{Fault}
-use Rattle.cdb_tool.specs.declared.fault.Fault.TheVariants.{Text, Make, Duplicate, Missing, Read, Walk, Output, Long, Open, Rename, NoMemory, Old, New}
+use Rattle.cdb_tool.specs.declared.fault.Fault.TheVariants.{Text, Make, Duplicate, Missing, Read, Walk, Output, Long, Open, Rename, NoMemory, Old, New, NoOldTables, NoNewTables}
 
 -- ---- what a writer holds
 
@@ -169,6 +169,8 @@ nothing_made w g text rest o (Read f) x = absurd x
 nothing_made w g text rest o Long x = absurd x
 nothing_made w g text rest o Open x = absurd x
 nothing_made w g text rest o Rename x = absurd x
+nothing_made w g text rest o NoOldTables x = absurd x
+nothing_made w g text rest o NoNewTables x = absurd x
 nothing_made w g text rest o (Old side) x = absurd x
 nothing_made w g text rest o (New side) x = absurd x
 nothing_made w g text rest o NoMemory x = record { ok = tt; err = (x, keeps_self o) }
@@ -195,6 +197,8 @@ makes_kept w g text rest old mid new (Err (Read f)) m k = record { ok = tt; err 
 makes_kept w g text rest old mid new (Err Long) m k = record { ok = tt; err = (m.err.0, keeps_then old mid new m.err.1 k) }
 makes_kept w g text rest old mid new (Err Open) m k = record { ok = tt; err = (m.err.0, keeps_then old mid new m.err.1 k) }
 makes_kept w g text rest old mid new (Err Rename) m k = record { ok = tt; err = (m.err.0, keeps_then old mid new m.err.1 k) }
+makes_kept w g text rest old mid new (Err NoOldTables) m k = record { ok = tt; err = (m.err.0, keeps_then old mid new m.err.1 k) }
+makes_kept w g text rest old mid new (Err NoNewTables) m k = record { ok = tt; err = (m.err.0, keeps_then old mid new m.err.1 k) }
 makes_kept w g text rest old mid new (Err (Old side)) m k = record { ok = tt; err = (m.err.0, keeps_then old mid new m.err.1 k) }
 makes_kept w g text rest old mid new (Err (New side)) m k = record { ok = tt; err = (m.err.0, keeps_then old mid new m.err.1 k) }
 makes_kept w g text rest old mid new (Err NoMemory) m k = record { ok = tt; err = (m.err.0, keeps_then old mid new m.err.1 k) }

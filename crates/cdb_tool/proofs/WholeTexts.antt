@@ -24,7 +24,7 @@ use Rattle.cdb_tool.specs.Runs.WalkText.{closing, walk_text, Writes, WritesPrefi
 use Rattle.cdb_tool.specs.declared.runs.content.Content.{Content}
 use Rattle.cdb_tool.specs.declared.runs.content.Content.TheVariants.{Records, Keys}
 use Rattle.cdb_tool.specs.declared.fault.Fault.{Fault}
-use Rattle.cdb_tool.specs.declared.fault.Fault.TheVariants.{Text, Make, Duplicate, Missing, Read, Walk, Output, Long, Open, Rename, NoMemory, Old, New}
+use Rattle.cdb_tool.specs.declared.fault.Fault.TheVariants.{Text, Make, Duplicate, Missing, Read, Walk, Output, Long, Open, Rename, NoMemory, Old, New, NoOldTables, NoNewTables}
 use Rattle.cdb_tool.proofs.WholeRuns.{prefix_kept, whole_prefix, not_ok}
 
 -- a weaker relation
@@ -216,6 +216,8 @@ fails_kept w form file rest old mid new (Read f) d k = absurd d
 fails_kept w form file rest old mid new Long d k = absurd d
 fails_kept w form file rest old mid new Open d k = absurd d
 fails_kept w form file rest old mid new Rename d k = absurd d
+fails_kept w form file rest old mid new NoOldTables d k = absurd d
+fails_kept w form file rest old mid new NoNewTables d k = absurd d
 fails_kept w form file rest old mid new (Old side) d k = absurd d
 fails_kept w form file rest old mid new (New side) d k = absurd d
 

@@ -17,7 +17,7 @@ use Rattle.cdb_tool.specs.declared.message.Place.TheVariants.{Slot}
 use Rattle.cdb_tool.specs.declared.fault.Fault.{Fault}
 use Rattle.cdb_tool.specs.declared.fault.Fault.TheVariants.{Text, Make, Read, Walk, Output}
 use Rattle.cdb_tool.specs.declared.fault.Fault.TheVariants.{Duplicate, Missing, Long, Open, Rename}
-use Rattle.cdb_tool.specs.declared.fault.Fault.TheVariants.{NoMemory, Old, New}
+use Rattle.cdb_tool.specs.declared.fault.Fault.TheVariants.{NoMemory, Old, New, NoOldTables, NoNewTables}
 
 -- what a fault is
 abbrev pub fault_message : Fault → List ℕ
@@ -34,6 +34,8 @@ fault_message Rename = codes "database cannot be renamed"
 fault_message NoMemory = codes "no memory"
 fault_message (Old fault) = read_message fault
 fault_message (New fault) = read_message fault
+fault_message NoOldTables = codes "no tables before its records"
+fault_message NoNewTables = codes "no tables before its records"
 
 -- a part of what is named by its number
 abbrev pub numbered : List ℕ → ℕ → List ℕ
@@ -84,6 +86,8 @@ fault_place fault = Nowhere
 abbrev pub fault_side : Fault → List ℕ
 fault_side (Old fault) = codes "old database: "
 fault_side (New fault) = codes "new database: "
+fault_side NoOldTables = codes "old database: "
+fault_side NoNewTables = codes "new database: "
 fault_side fault = []
 
 -- where a fault is and what it is

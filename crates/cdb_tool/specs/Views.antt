@@ -4,8 +4,3 @@ pub mod Input
 pub mod Inputs
 pub mod Output
 pub mod ItemReader
-pub mod Stop
-pub mod Comparing
-pub mod NextRecord
-pub mod Marks
-pub mod InStep

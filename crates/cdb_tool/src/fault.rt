@@ -1,8 +1,9 @@
 // Why a run stopped.
 ghost use Rattle.std.specs.Prelude.{◌≡◌};
 ghost use Rattle.cdb_tool.specs.Views.Fault.{fault_number, text_fault, walk_fault, make_fault};
-ghost use Rattle.cdb_tool.specs.Views.Fault.{in_fault, new_fault, old_fault, read_fault};
+ghost use Rattle.cdb_tool.specs.Views.Fault.{in_fault, new_fault, old_fault, read_fault, stop_fault};
 
+use cdb_difference::Stop;
 use cdb_form::{InFault, OutFault, TextFault, WalkFault};
 use cdb_make::MakeFault;
 use cdb_read::ReadFault;
@@ -37,6 +38,10 @@ pub enum Fault {
     Old(ReadFault),
     /// Of two databases in stores the new one was not read.
     New(ReadFault),
+    /// Of two databases in stores the old one has no table with slots, though bytes follow its head.
+    NoOldTables,
+    /// The same of the new one.
+    NoNewTables,
 }
 
 impl Fault {
@@ -58,6 +63,8 @@ impl Fault {
             Fault::NoMemory => 11,
             Fault::Old(_) => 12,
             Fault::New(_) => 13,
+            Fault::NoOldTables => 14,
+            Fault::NoNewTables => 15,
         }
     }
 
@@ -94,6 +101,16 @@ impl Fault {
             ReadFault::NoMemory => Fault::NoMemory,
             ReadFault::Output => Fault::Output,
             _ => Fault::New(fault),
+        }
+    }
+
+    /// The same, from why their difference was not written.
+    pub(crate) fn of_stop(stop: Stop) -> Fault
+        ensures { result ≡ stop_fault stop }
+    {
+        match stop {
+            Stop::Own(fault) => Fault::of_old(fault),
+            Stop::Other(fault) => Fault::of_new(fault),
         }
     }
 }

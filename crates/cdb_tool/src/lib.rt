@@ -19,7 +19,7 @@ pub use message::write_fault;
 pub use output::Output;
 pub use runs::check::check_run;
 pub use runs::content::Content;
-pub use runs::difference::run::difference_run;
+pub use runs::difference::difference_run;
 pub use runs::flushed::flushed;
 pub use runs::load::{load, load_from};
 pub use runs::make::{make_run, make_run_from, put_inputs};

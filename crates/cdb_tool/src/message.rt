@@ -51,6 +51,7 @@ impl Fault {
             Fault::NoMemory => "no memory",
             Fault::Old(fault) => fault.message(),
             Fault::New(fault) => fault.message(),
+            Fault::NoOldTables | Fault::NoNewTables => "no tables before its records",
         }
     }
 
@@ -59,8 +60,8 @@ impl Fault {
         ensures { result.now ≡ fault_side self.now }
     {
         match *self {
-            Fault::Old(_) => "old database: ",
-            Fault::New(_) => "new database: ",
+            Fault::Old(_) | Fault::NoOldTables => "old database: ",
+            Fault::New(_) | Fault::NoNewTables => "new database: ",
             _ => "",
         }
     }

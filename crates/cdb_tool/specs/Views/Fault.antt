@@ -10,10 +10,12 @@ use Rattle.cdb_make.specs.declared.fault.MakeFault.{MakeFault}
 use Rattle.cdb_make.specs.declared.fault.MakeFault.TheVariants as make
 use Rattle.cdb_read.specs.declared.fault.ReadFault.{ReadFault}
 use Rattle.cdb_read.specs.declared.fault.ReadFault.TheVariants as read
+use Rattle.cdb_difference.specs.declared.stop.Stop.{Stop}
+use Rattle.cdb_difference.specs.declared.stop.Stop.TheVariants.{Own, Other}
 use Rattle.cdb_tool.specs.declared.fault.Fault.{Fault}
 use Rattle.cdb_tool.specs.declared.fault.Fault.TheVariants.{Text, Make, Read, Walk, Output}
 use Rattle.cdb_tool.specs.declared.fault.Fault.TheVariants.{Duplicate, Missing, Long, Open, Rename}
-use Rattle.cdb_tool.specs.declared.fault.Fault.TheVariants.{NoMemory, Old, New}
+use Rattle.cdb_tool.specs.declared.fault.Fault.TheVariants.{NoMemory, Old, New, NoOldTables, NoNewTables}
 
 abbrev pub fault_number : Fault → ℕ
 fault_number (Text input fault) = 1
@@ -29,6 +31,8 @@ fault_number Rename = 10
 fault_number NoMemory = 11
 fault_number (Old fault) = 12
 fault_number (New fault) = 13
+fault_number NoOldTables = 14
+fault_number NoNewTables = 15
 
 -- the fault of a run, from that of an input: want of memory is the run's own
 abbrev pub text_fault : ℕ → TextFault → Fault
@@ -51,6 +55,11 @@ abbrev pub new_fault : ReadFault → Fault
 new_fault read.NoMemory = NoMemory
 new_fault read.Output = Output
 new_fault fault = New fault
+
+-- from why their difference was not written
+abbrev pub stop_fault : Stop → Fault
+stop_fault (Own fault) = old_fault fault
+stop_fault (Other fault) = new_fault fault
 
 -- from that of a walk of a file
 abbrev pub walk_fault : WalkFault → Fault

@@ -1,11 +1,88 @@
-// What changed between two databases.
-mod changed;
-mod changes;
-mod guide;
-mod in_step;
-mod marks;
-mod pass;
-mod records;
-pub(crate) mod run;
-mod same;
-pub(crate) mod stop;
+// What changed between two databases, as an amending text.
+ghost use Rattle.std.specs.Prelude.{◌≡◌};
+ghost use Rattle.cdb_tool.specs.Runs.Difference.{TellsDifference};
+
+use crate::fault::Fault;
+use crate::runs::flushed::flushed;
+use cdb_difference::write_difference;
+use cdb_form::Width;
+use cdb_read::Reader;
+use cdb_store::Store;
+use std::alloc::Global;
+use std::io::Write;
+
+/// Writes the difference of two databases that were opened, unless one of them lacks tables.
+fn write_opened<L: Width, S: Store, T: Store, W: Write>(
+    alloc: Global,
+    old: &mut Reader<S, L>,
+    new: &mut Reader<T, L>,
+    w: &mut W,
+) -> Result<(), Fault>
+    ensures { TellsDifference L.WORD S.Store T.Store old.old.store old.new.store new.old.store
+        new.new.store (W.contents w.old) (W.contents w.new) result }
+{
+    if old.lacks_tables() {
+        return Err(Fault::NoOldTables);
+    }
+    if new.lacks_tables() {
+        return Err(Fault::NoNewTables);
+    }
+    match write_difference(alloc, old, new, w) {
+        Ok(()) => Ok(()),
+        Err(stop) => Err(Fault::of_stop(stop)),
+    }
+}
+
+/// Writes the difference of two databases, which the writer may keep in a buffer.
+fn difference_unflushed<L: Width, S: Store, T: Store, W: Write>(
+    alloc: Global,
+    old: S,
+    new: T,
+    w: &mut W,
+) -> (S, T, Result<(), Fault>)
+    ensures { TellsDifference L.WORD S.Store T.Store old result.0 new result.1 (W.contents w.old)
+        (W.contents w.new) result.2 }
+{
+    let mut first = match Reader::<S, L>::open(old) {
+        Ok(reader) => reader,
+        Err(unread) => return (unread.store, new, Err(Fault::of_old(unread.fault))),
+    };
+    let mut second = match Reader::<T, L>::open(new) {
+        Ok(reader) => reader,
+        Err(unread) => return (
+            first.into_store(),
+            unread.store,
+            Err(Fault::of_new(unread.fault)),
+        ),
+    };
+    let answer = write_opened(alloc, &mut first, &mut second, w);
+    (first.into_store(), second.into_store(), answer)
+}
+
+/// Writes what changed between two databases, the old one and the new one, as an amending text: done
+/// to the old one, it leaves a database that answers each key as the new one does. It is the text of
+/// `cdb_difference::write_difference`. The faults:
+/// - `Old(fault)`, `New(fault)`: this database was not read: it is `Short`, which is known before
+///   anything is written, or its walk or a look-up met the damage `Table(n)` or `Record(place)`, or
+///   its store failed, `Device`;
+/// - `NoOldTables`, `NoNewTables`: no table of this database has slots, though bytes follow its head:
+///   its words may have the other width. Both heads are looked at before anything else, the old one
+///   first, and nothing is written;
+/// - `Output`: the writer failed;
+/// - `NoMemory`: an allocation failed.
+///
+/// After each of them a prefix of the text was written. Both stores are handed back whatever the
+/// answer, and were only read. The writer is flushed last, after a fault too.
+pub fn difference_run<L: Width, S: Store, T: Store, W: Write>(
+    alloc: Global,
+    old: S,
+    new: T,
+    w: &mut W,
+) -> (S, T, Result<(), Fault>)
+    ensures { TellsDifference L.WORD S.Store T.Store old result.0 new result.1 (W.contents w.old)
+        (W.contents w.new) result.2 }
+{
+    let (old, new, written) = difference_unflushed::<L, S, T, W>(alloc, old, new, w);
+    let answer = flushed(w, written);
+    (old, new, answer)
+}

@@ -68,6 +68,35 @@ fn differences_are_written(rt: HostRuntime) -> Result<(), Fail> {
     Ok(())
 }
 
+/// The answer of a narrow difference of two texts, each made in a width of its own, if nothing was
+/// written.
+fn refused<A: Width, B: Width>(
+    alloc: Global,
+    old: &[u8],
+    new: &[u8],
+) -> Result<Option<Fault>, Fault> {
+    let (old, new) = (made::<A>(alloc, old)?, made::<B>(alloc, new)?);
+    let mut out = Vec::new(alloc);
+    match difference_run::<Narrow, MemStore, MemStore, Vec<u8>>(alloc, old, new, &mut out).2 {
+        Err(fault) if out.as_slice().is_empty() => Ok(Some(fault)),
+        _ => Ok(None),
+    }
+}
+
+#[test]
+fn files_without_tables_are_refused(rt: HostRuntime) -> Result<(), Fail> {
+    let alloc = rt.alloc();
+    let old = Ok(Some(Fault::NoOldTables));
+    let new = Ok(Some(Fault::NoNewTables));
+    assert!(rt; refused::<Wide, Narrow>(alloc, OLD, NEW) == old);
+    assert!(rt; refused::<Narrow, Wide>(alloc, OLD, NEW) == new);
+    assert!(rt; refused::<Wide, Wide>(alloc, OLD, NEW) == old);
+    assert!(rt; refused::<Wide, Narrow>(alloc, b"\n", b"\n") == old);
+    assert!(rt; refused::<Narrow, Wide>(alloc, b"\n", b"\n") == new);
+    assert!(rt; refused::<Narrow, Narrow>(alloc, b"\n", b"\n") == Ok(None));
+    Ok(())
+}
+
 /// How a difference ended.
 #[derive(Clone, Copy, Debug, PartialEq, Eq)]
 enum Ended {

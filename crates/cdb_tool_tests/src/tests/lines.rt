@@ -10,7 +10,7 @@ use std::prelude::*;
 use std::test::Fail;
 
 /// Faults, their numbers and their lines.
-const SAID: [(Fault, u8, &str); 34] = [
+const SAID: [(Fault, u8, &str); 36] = [
     (
         Fault::Text(1, TextFault::Syntax(7)),
         1,
@@ -140,6 +140,16 @@ const SAID: [(Fault, u8, &str); 34] = [
         Fault::New(ReadFault::Short),
         13,
         "cdb: new database: database shorter than its head\n",
+    ),
+    (
+        Fault::NoOldTables,
+        14,
+        "cdb: old database: no tables before its records\n",
+    ),
+    (
+        Fault::NoNewTables,
+        15,
+        "cdb: new database: no tables before its records\n",
     ),
 ];
 

@@ -20,4 +20,4 @@ returns-then-may_be_input-clause-found g c = λ yes.
     let new = g.N.Names.calls c.may_be_input.new.names in
     let all = names_at string_bytes c.args.inputs.now i c.input-item.result c.as_str.result.now (omega arith) c.input-item.is c.as_str.ensures.value in
     let found = c.may_be_input.ensures.found (search rules) in
-    subst (λ v. FindsInput c.args.name.now v old new) all (finds_more c.args.name.now (map string_bytes (take i c.args.inputs.now)) c.as_str.result.now (map string_bytes (drop (i + 1) c.args.inputs.now)) old (g.N.Names.calls c.loop-input.names) new c.loop-input.invariant found.0 found.1)
+    subst (λ v. FindsInput c.args.name.now v old new) all (finds_more c.args.name.now (map string_bytes (take i c.args.inputs.now)) c.as_str.result.now (map string_bytes (drop (i + 1) c.args.inputs.now)) old (g.N.Names.calls c.loop-input.names) new c.loop-input.invariant found)

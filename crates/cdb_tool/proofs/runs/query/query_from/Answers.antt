@@ -1,7 +1,8 @@
 use Rattle.std.proofs.lemmas.Grind.{common_steps}
 use Rattle.std.proofs.Common.{◌∙◌, arith}
 use Rattle.std.proofs.lemmas.Result.{err_from_is_err_and}
-use Rattle.cdb_tool.proofs.Queries.{found_more, found_still, written_more, finding_fails, value_fails}
+use Rattle.cdb_read.proofs.FoundSoFar.{found_more, found_still}
+use Rattle.cdb_tool.proofs.Queries.{written_more, finding_fails, value_fails}
 use Rattle.cdb_tool.proofs.runs.query.query_from.Goals as goal
 
 pub loop-value-preserved : goal.loop-value-preserved
