@@ -2,7 +2,8 @@
 # make try        runs the program unproved, in a minute: makes a small database, bin/try.cdb, and queries it
 # make quick      runs the tests that need no proof, on what is compiled without one, in 5 to 8 minutes
 # make demo       builds it, and shows it at work on a small alias map
-# make test       the gate: proves everything from nothing and runs every test
+# make test       the gate: builds, proves everything from nothing, tries wrong bodies and runs every test
+# make wrong      tries every wrong body over what was built, where the gate tries those of a list
 # make tests BIN=bin/cdb  runs all tests that need no proof on a program that is built
 # make clib       builds the C library, bin/libcdb.so.1 and bin/libcdb.a (needs a C compiler)
 # make dist       makes the tarball of the sources that are committed, dist/pezundrix-VERSION.tar.gz
@@ -26,7 +27,7 @@ SOURCES := $(shell find crates \( -name out -o -name tests -o -name tests.rt \) 
 
 # How the C of the library is compiled. An export writes words, which a read of several at once
 # would wait for. The gate adds -Werror.
-CLIB_FLAGS := -std=c11 -O2 -Wall -Wextra -fPIC -fno-tree-slp-vectorize
+CLIB_FLAGS := -std=c11 -O2 -Wall -Wextra -fPIC -fno-tree-slp-vectorize -fno-store-merging
 # Checks of the sizes of buffers, unless the flags that are set say how many.
 CLIB_FLAGS += $(if $(findstring _FORTIFY_SOURCE,$(CPPFLAGS) $(CFLAGS)),,-U_FORTIFY_SOURCE -D_FORTIFY_SOURCE=2)
 WERROR ?=
@@ -36,9 +37,9 @@ CLIB_OBJECTS := $(CLIB_SOURCES:clib/%.c=bin/%.o)
 INTERFACE = $(shell sed -n 's/^.define TINYCDB_VERSION //p' clib/cdb.h)
 OTHER_LIBRARIES = $(filter-out $(LIBDIR)/%,$(wildcard /usr/lib/libcdb.so.1 /usr/lib/*/libcdb.so.1))
 # The toolchain's own C, over malloc, by which the maker gets memory.
-HEAP = $(dir $(shell $(RT) doc))c/liblibc_c.a
+HEAP = $(dir $(shell $(RT) doc))c/liblibc_c.a $(dir $(shell $(RT) doc))c/libos_c.a
 
-.PHONY: all try quick demo test tests clib dist deb install install-clib uninstall interop bench clean
+.PHONY: all try quick demo proofs test wrong tests clib dist deb install install-clib uninstall interop bench clean
 
 all: bin/cdb
 
@@ -56,14 +57,15 @@ demo:
 	@$(MAKE) -s bin/cdb
 	@sh demo/run.sh bin/cdb
 
-# The program that the gate leaves is the one that was proved from nothing. A build that was killed left
-# trees in bin, whose crates the gate would take for the repository's. Where the checker took the program
-# from an earlier run, its object is not beside it: then it is proved and built once more.
+# The proofs of each crate that has wrong bodies.
+proofs: bin/cdb bin/libcdb_c.a
+	@RT='$(RT)' $(PYTHON) tools/build.py crates/cdb_uses
+
 test:
-	@rm -rf bin/trees
-	@began=$$(date +%s) && $(RT) ci && if test -f crates/cdb/out/cdb.o; then tool=link; else tool=build; fi && \
-		RT='$(RT)' CC='$(CC)' $(PYTHON) tools/$$tool.py crates/cdb bin/cdb && \
-		RT='$(RT)' CC='$(CC)' $(PYTHON) tests/run.py bin/cdb --gate "$$began"
+	@RT='$(RT)' CC='$(CC)' $(PYTHON) tools/gate.py
+
+wrong: proofs
+	@RT='$(RT)' $(PYTHON) tools/wrong.py --all
 
 tests:
 	@test -x '$(BIN)' || { echo '$(BIN) is not built: run make first'; exit 1; }
@@ -92,7 +94,7 @@ IN_words := cdb_pack cdb_unpack
 IN_hashing := cdb_hash
 IN_libcdb := cdb_init cdb_free cdb_find cdb_findinit cdb_findnext cdb_seqnext cdb_get cdb_read
 IN_seeking := cdb_seek cdb_bread
-IN_making := cdb_make_start cdb_make_add cdb_make_exists cdb_make_find cdb_make_put cdb_make_finish
+IN_making := cdb_make_start cdb_make_add cdb_make_exists cdb_make_find cdb_make_put cdb_make_finish cdb_make_abort
 ARCHIVED := words hashing libcdb seeking making
 ARCHIVED_OBJECTS := $(ARCHIVED:%=bin/archived/%.o)
 
@@ -123,8 +125,8 @@ bin/sanitized: tests/clib/makes.c $(CLIB_SOURCES) clib/cdb.h bin/libcdb_c.a
 		bin/libcdb_c.a $(HEAP)
 
 # Calls at the edges of the page, each of which reaches an export by way of premises.c.
-EXPORTS := hash find begin next record_end next_record make_start make_put make_append make_count \
-	make_exists make_remove make_piece
+EXPORTS := hash find begin next record_end next_record file_number make_start make_put make_append make_count \
+	make_exists make_remove
 bin/edges: tests/clib/edges.c tests/clib/premises.c $(CLIB_OBJECTS) bin/libcdb_c.a
 	$(CC) -O2 -Wall -Wextra $(WERROR) -Iclib $(EXPORTS:%=-Wl,--wrap=cdb_c_%) -o $@ \
 		tests/clib/edges.c tests/clib/premises.c $(CLIB_OBJECTS) bin/libcdb_c.a $(HEAP)

@@ -54,8 +54,8 @@ def has_tests(crate):
 def parts():
     """The parts, the long ones first: a name, the words, and the folder to run them in."""
     python = [sys.executable]
-    # It waits more than it works.
-    found = [("tests/build/run.py", [*python, "tests/build/run.py"], TOP)]
+    # These wait more than they work.
+    found = [(it, [*python, it], TOP) for it in ("tests/build/run.py", "tests/build/gate.py")]
     halves = [["tests/cli/unproved.py", str(it + 1), str(HALVES)] for it in range(HALVES)]
     found += [(" ".join(it), python + it, TOP) for it in halves]
     crates = [it for it in os.listdir(os.path.join(TOP, "crates")) if has_tests(it)]

@@ -1,12 +1,11 @@
 #!/usr/bin/env python3
 """Runs all tests that need no proof on a program that is built.
 
-    tests/run.py PROGRAM [--gate BEGAN]
+    tests/run.py PROGRAM [--gate]
 
 With --gate it also runs those that need what the proof of the whole repository leaves, its programs
-of tests, and says how long the gate took since BEGAN, a time in seconds. A part that this machine
-cannot run is left out and named at the end; in CI, which the variable CI of the environment says, that
-is a failure. The last line counts all that passed and failed.
+of tests. A part that this machine cannot run is left out and named at the end; in CI, which the variable CI
+of the environment says, that is a failure. The last line counts all that passed and failed.
 """
 
 import os
@@ -65,11 +64,14 @@ def parts_of(program, is_gate):
         Part("tests/cli/locked.py", (program,)),
         Part("tests/cli/orders.py", (program, ORDERS), (c,), (ORDERS,)),
         Part("tests/cli/permissions.py", (program,)),
+        Part("tests/cli/standard.py", (program,)),
         Part("tests/cli/amends.py", (program,)),
         Part("tests/cli/differences.py", (program,)),
         Part("tests/build/run.py"),
+        Part("tests/build/gate.py"),
         Part("tests/package/version.py"),
         Part("tests/package/run.py", (program,), (package,)),
+        Part("tests/package/installing.py", (program, "bin/libcdb.so.1"), (c,), ("bin/libcdb.so.1",)),
         Part("tests/faults/run.py", (loaded, REFUSE, "memory"), (c,), (REFUSE,)),
         Part("tests/faults/run.py", (loaded, REFUSE, "calls"), (c,), (REFUSE,)),
         Part("tests/faults/memory.py", (loaded, REFUSE), (c,), (REFUSE,)),
@@ -96,8 +98,8 @@ def lacks(part):
     return next((name for name, command in part.needs if shutil.which(command) is None), None)
 
 
-def run(part):
-    """Runs a part, shows what it says, and answers how many of it passed and failed."""
+def run(part, place):
+    """Runs a part, shows what it says and its place among the parts, and answers how many of it passed and failed."""
     name = " ".join((part.script, *part.words))
     began = time.monotonic()
     if part.built:
@@ -113,7 +115,7 @@ def run(part):
         check=False,
     )
     print(done.stdout, end="")
-    print(f"{name}: {time.monotonic() - began:.0f} s", flush=True)
+    print(f"{name}: {time.monotonic() - began:.0f} s, {place} parts", flush=True)
     counted = COUNTED.findall(done.stdout)
     passed, failed = map(int, counted[-1]) if counted else (0, 0)
     # A script that ends early has failed, whatever it counted.
@@ -121,27 +123,26 @@ def run(part):
 
 
 def main(words):
-    is_gate = len(words) == 4 and words[2] == "--gate" and words[3].isdigit()
+    is_gate = words[2:] == ["--gate"]
     if len(words) != 2 and not is_gate:
         sys.exit(__doc__)
     program = os.path.abspath(words[1])
     began = time.time()
     passed = failed = 0
     left_out = []
-    for part in parts_of(program, is_gate):
+    parts = parts_of(program, is_gate)
+    for number, part in enumerate(parts):
         lacking = lacks(part)
         if lacking is not None:
             left_out.append(f"{' '.join((part.script, *part.words))}: no {lacking} is here")
             continue
-        good, bad = run(part)
+        good, bad = run(part, f"{number + 1} of {len(parts)}")
         passed, failed = passed + good, failed + bad
     for it in left_out:
         print(f"left out: {it}")
     if os.environ.get("CI"):
         failed += len(left_out)
     print(f"These tests took {time.time() - began:.0f} s.")
-    if is_gate:
-        print(f"The gate took {(time.time() - int(words[3])) / 60:.0f} minutes.")
     print(f"{passed} passed, {failed} failed")
     return 1 if failed else 0
 

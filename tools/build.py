@@ -1,8 +1,8 @@
 #!/usr/bin/env python3
 """Proves a program or a static library and the crates that it stands on, builds it, and copies it to where it
-is wanted.
+is wanted. With no TARGET it proves a crate and those below it.
 
-    tools/build.py CRATE TARGET
+    tools/build.py CRATE [TARGET]
 
 Each crate is proved and built as soon as those below it are, as many at once as the machine has the
 processors and the memory for. The checker works alone in the folders of a crate and of those below it, so
@@ -10,8 +10,8 @@ each gets a tree of its own: see trees.py. Of the crates that are ready the one 
 comes first, and gets the processors that the others leave. CRATE comes last; on a PC it is built for each processor of x86-64.
 
 As it goes, the command says how many functions are proved: on a terminal in one line that it rewrites, else
-in a line a minute. All that the checker says goes to the file build.log beside the target; if a step fails,
-the end of it is shown. The checker is the command in the environment's RT, else `rt`.
+in a line a minute. All that the checker says goes to the file build.log beside the target, or in bin; if a step
+fails, the end of it is shown. The checker is the command in the environment's RT, else `rt`.
 """
 
 import contextlib
@@ -44,9 +44,28 @@ GIB = 1 << 30
 # How much memory a check takes at most, and one of its jobs, less what the kernel keeps of a machine's.
 CHECK_MEMORY = 4 * GIB * 9 // 10
 JOB_MEMORY = CHECK_MEMORY // 2
-# How much disk is kept of all crates. Without hard links, the libraries are there once more.
-DISK = 4_800_000_000
+# How much disk is kept of the program's crates. Without hard links, the libraries are there once more.
+DISK = 6_000_000_000
 COPIES = 4_000_000_000
+# How much more the gate takes: for the crates that the program does not stand on, and for a copy that is proved
+# from nothing.
+GATE_DISK = 3_000_000_000
+# How many seconds of processor time each crate took at the last release: what is dear of its code the size does
+# not say. Of a crate that is not here, about so many bytes of code take a second.
+SECONDS = {
+    "cdb_store": 360,
+    "cdb_form": 340,
+    "cdb_command": 110,
+    "cdb_read": 360,
+    "cdb_make": 690,
+    "cdb_files": 250,
+    "cdb_difference": 380,
+    "cdb_tool": 430,
+    "cdb": 300,
+}
+BYTES_A_SECOND = 220
+# Chains of crates are as long as the longest if they are this part of it.
+AS_LONG = 0.9
 # How many seconds pass between two lines where no terminal is.
 QUIET_SECONDS = 60
 # How many seconds a build that is stopped waits for its trees.
@@ -73,8 +92,9 @@ def logic_of(version):
     return version.strip().split(" logic ")[-1]
 
 
-def missing(trees, crates):
-    """Why the machine cannot prove the program, in one line, or None if it can."""
+def missing(trees, crates, more=0):
+    """Why the machine cannot prove some crates, in one line, or None if it can. What was kept of all of them takes
+    no more disk, and what is done beside takes `more`."""
     try:
         ran = subprocess.run([checker(), "version"], capture_output=True, text=True, check=False)
     except OSError:
@@ -86,8 +106,9 @@ def missing(trees, crates):
         return f"a proof takes 4 GB of memory, and this machine has {memory() / GIB:.1f}"
     free = shutil.disk_usage(trees.top).free
     is_kept = all(os.path.isdir(os.path.join(trees.folder(it), KEPT)) for it in crates)
-    if free < DISK and not is_kept:
-        return f"the proofs take {DISK / 1e9:.1f} GB of disk, and {free / 1e9:.1f} are free"
+    needed = more + (0 if is_kept else DISK)
+    if free < needed:
+        return f"the proofs take {needed / 1e9:.1f} GB of disk, and {free / 1e9:.1f} are free"
     return None
 
 
@@ -140,20 +161,29 @@ class Progress:
 
 
 def work_of(folder):
-    """How much work a crate is, about: the size of its code."""
+    """How much work a crate is, about: its seconds of processor time at the last release, or the size of its code."""
+    known = SECONDS.get(os.path.basename(folder))
+    if known is not None:
+        return known * BYTES_A_SECOND
     found = 0
     for place, _, names in os.walk(os.path.join(folder, "src")):
         found += sum(os.path.getsize(os.path.join(place, it)) for it in names)
     return found
 
 
-def in_order(trees, crates):
-    """The crates, first those that most work waits for, which is the longest chain that ends in them."""
+def chains_of(trees, crates):
+    """How much work waits for each crate: the longest chain of crates that begins with it."""
     waiting = {}
     for crate in reversed(crates):
         above = [waiting[it] for it in crates if crate in trees.libraries[it]]
         waiting[crate] = work_of(trees.folder(crate)) + max(above, default=0)
-    return sorted(crates, key=lambda it: -waiting[it])
+    return waiting
+
+
+def in_order(trees, crates):
+    """The crates, first those that most work waits for."""
+    chains = chains_of(trees, crates)
+    return sorted(crates, key=lambda it: -chains[it])
 
 
 class Proofs:
@@ -162,6 +192,7 @@ class Proofs:
     def __init__(self, trees, crates, log, most):
         self.trees, self.log, self.most = trees, log, most
         self.last = crates[-1]
+        self.chains = chains_of(trees, crates)
         self.order = in_order(trees, crates)
         self.waiting = list(self.order)
         self.proved = set()
@@ -177,12 +208,13 @@ class Proofs:
         return [it for it in self.waiting if self.proved.issuperset(self.trees.libraries[it])]
 
     def words(self, crate):
-        """The command for a crate. Each that runs beside gets a processor, and that one the others for which most
+        """The command for a crate. Each that runs beside gets a processor, and those share the others for which most
         work waits: more jobs than processors take more of their time."""
-        is_first = crate == next(it for it in self.order if it in self.running)
-        beside = min(self.most, len(self.running) + len(self.ready()))
-        jobs = processors() - beside + 1 if is_first else 1
-        jobs = max(1, min(jobs, memory() // beside // JOB_MEMORY))
+        beside = [it for it in self.order if it in self.running or it in self.ready()][: self.most]
+        longest = self.chains[beside[0]]
+        first = [it for it in beside if self.chains[it] >= AS_LONG * longest]
+        jobs = (processors() - len(beside) + len(first)) // len(first) if crate in first else 1
+        jobs = max(1, min(jobs, memory() // len(beside) // JOB_MEMORY))
         words = ["--jobs", str(jobs), *(CPU if crate == self.last else [])]
         if is_program(self.trees, crate):
             # It is proved, built and then run, with the word after the hyphens.
@@ -270,11 +302,11 @@ def most_at_once(trees):
     return most if has_disk else 1
 
 
-def show_end(path):
+def show_end(path, why="The build failed."):
     """Shows the end of a log on standard error, without what went well."""
     with open(path, errors="replace", encoding="utf-8") as log:
         lines = [line for line in log if not WENT_WELL.match(line)]
-    print(f"The build failed. The end of {path}:", file=sys.stderr)
+    print(f"{why} The end of {path}:", file=sys.stderr)
     for line in lines[-SHOWN_LINES:]:
         print(f"    {line}", end="", file=sys.stderr)
 
@@ -307,20 +339,27 @@ def interrupt(*_):
     raise KeyboardInterrupt
 
 
-def main():
-    if len(sys.argv) != 3:
+def words_of():
+    """The crate's folder, what is made of it or None, and the folder for what is said."""
+    if len(sys.argv) not in (2, 3):
         sys.exit(__doc__)
-    crate, target = sys.argv[1:]
-    beside = os.path.dirname(os.path.abspath(target))
-    trees = Trees(os.path.abspath(os.path.join(crate, "..", "..")), os.path.join(beside, "trees"))
+    target = sys.argv[2] if len(sys.argv) == 3 else None
+    return sys.argv[1], target, os.path.dirname(target) if target else "bin"
+
+
+def main():
+    crate, target, beside = words_of()
+    place = os.path.join(os.path.abspath(beside), "trees")
+    trees = Trees(os.path.abspath(os.path.join(crate, "..", "..")), place)
     crates = crates_below(trees.libraries, os.path.basename(os.path.normpath(crate)))
     why = missing(trees, crates)
     if why is not None:
-        sys.exit(f"{target} cannot be built: {why}")
-    path = os.path.join(os.path.dirname(target), "build.log")
-    os.makedirs(beside, exist_ok=True)
-    print(f"Proves {len(crates)} crates and builds {target}.")
-    print(f"With nothing kept, the program took {TOOK} at its last release, and {DISK / 1e9:.1f} GB of disk.")
+        sys.exit(f"{target or crate} cannot be built: {why}")
+    path = os.path.join(beside, "build.log")
+    os.makedirs(beside or ".", exist_ok=True)
+    print(f"Proves {len(crates)} crates{f' and builds {target}' if target else ''}.")
+    if target:
+        print(f"With nothing kept, the program took {TOOK} at its last release, and {DISK / 1e9:.1f} GB of disk.")
     print(f"What is proved is kept. What the checker says goes to {path}.", flush=True)
     began = time.monotonic()
     for it in (signal.SIGTERM, signal.SIGHUP):
@@ -329,6 +368,9 @@ def main():
     if not prove_all(trees, crates, path):
         show_end(path)
         sys.exit(1)
+    if not target:
+        print(f"{crate} is proved, in {time.monotonic() - began:.0f} s.")
+        return
     with alone_in(trees.folder(crates[-1])):
         how = put(trees, crates[-1], target)
     print(f"{target} is built: proved, in {time.monotonic() - began:.0f} s{how}.")

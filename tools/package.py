@@ -231,11 +231,18 @@ def files_of(program, when):
     return controlled(files | notes_of(NAME, when) | pages_of(*PAGES), CONTROL, program)
 
 
+# The calls of the library that tinycdb has not.
+OWN_CALLS = ("cdb_make_abort",)
+
+
 def symbols_of(package):
     """The calls of the library, each with the version whose calls they are, for what is built with it."""
     names = re.findall(r"^    (cdb_\w+);$", read("clib", "libcdb.map").decode(), re.M)
-    lines = [f"libcdb.so.1 {package} #MINVER# | libcdb1 #MINVER#"]
-    return "\n".join(lines + [f" {name}@Base {interface()}" for name in sorted(names)]) + "\n"
+    # A program that makes a call which tinycdb has not needs this package.
+    lines = [f"libcdb.so.1 {package} #MINVER# | libcdb1 #MINVER#", f"| {package} #MINVER#"]
+    own = f"{version()} 1"
+    lines += [f" {name}@Base {own if name in OWN_CALLS else interface()}" for name in sorted(names)]
+    return "\n".join(lines) + "\n"
 
 
 def shared_files(library, when):

@@ -13,6 +13,8 @@ import shutil
 
 KEPT = "out"
 SOURCES = ("src", "specs", "proofs")
+# What the checker proved of a crate's functions.
+PROVED = os.path.join(KEPT, "incremental")
 # What the check of a crate reads of those below it.
 READ_BELOW = (*SOURCES, os.path.join(KEPT, "rlib"))
 
@@ -68,6 +70,11 @@ def alone_in(folder, how=fcntl.LOCK_EX):
         os.close(held)
 
 
+def alone_now(folder):
+    """Keeps others out of a folder, or raises `BlockingIOError` if one works there."""
+    return alone_in(folder, fcntl.LOCK_EX | fcntl.LOCK_NB)
+
+
 class Trees:
     """The trees of a repository's crates, in a folder of their own."""
 
@@ -105,9 +112,34 @@ class Trees:
                 inside = self.make(crate)
             yield inside
 
+    @contextlib.contextmanager
+    def room_of(self, crate, name, texts):
+        """Makes a tree of a crate with these texts instead of those of its files, gives the crate's folder there, and
+        removes the tree in the end. What the checker kept is there by hard links, so the crate's own stays as it is."""
+        tree = os.path.join(self.place, name)
+        try:
+            with contextlib.ExitStack() as held:
+                for it in sorted(crates_below(self.libraries, crate)):
+                    held.enter_context(alone_in(self.folder(it), fcntl.LOCK_SH))
+                shutil.rmtree(tree, ignore_errors=True)
+                inside = self.make_sources(crate, tree)
+                self.copy(crate, PROVED, tree, link)
+            for path, text in texts.items():
+                with open(os.path.join(inside, path), "w", encoding="utf-8") as file:
+                    file.write(text)
+            yield inside
+        finally:
+            shutil.rmtree(tree, ignore_errors=True)
+
     def make(self, crate):
         """Makes the tree of a crate, and answers the crate's folder there."""
-        tree = os.path.join(self.place, crate)
+        inside = self.make_sources(crate, os.path.join(self.place, crate))
+        with contextlib.suppress(FileNotFoundError):
+            shutil.move(os.path.join(self.folder(crate), KEPT), os.path.join(inside, KEPT))
+        return inside
+
+    def make_sources(self, crate, tree):
+        """Makes a tree of a crate without what the checker kept of it, and answers the crate's folder there."""
         inside = os.path.join(tree, "crates", crate)
         os.makedirs(inside)
         crates = crates_below(self.libraries, crate)
@@ -119,8 +151,6 @@ class Trees:
         # The words that the program is run on, which the checker reads too.
         with contextlib.suppress(FileNotFoundError):
             shutil.copy2(os.path.join(self.folder(crate), "args"), inside)
-        with contextlib.suppress(FileNotFoundError):
-            shutil.move(os.path.join(self.folder(crate), KEPT), os.path.join(inside, KEPT))
         return inside
 
     def link(self, crates, tree):
@@ -150,5 +180,5 @@ class Trees:
         for crate in [it for it in left if it in self.lines]:
             # Another build may work in it.
             with contextlib.suppress(BlockingIOError):
-                with alone_in(self.folder(crate), fcntl.LOCK_EX | fcntl.LOCK_NB):
+                with alone_now(self.folder(crate)):
                     self.take_back(crate)

@@ -3,7 +3,8 @@
 it was told in the file that the environment's JOURNAL names, and keeps what the real one keeps.
 
 The environment's MEET names crates that wait for each other in the midst of their checks, FAIL a crate that
-is not proved, and HANG crates that are not done before they are ended.
+is not proved, and HANG crates that are not done before they are ended. `check` goes by the first word of a
+function's body: see WAYS. `ci` is the crate of that name, and adds a line to the file that CHANGE names.
 """
 
 import fcntl
@@ -32,9 +33,9 @@ def begun():
         return {line.split()[1] for line in file if line.startswith("begins ")}
 
 
-def listed():
-    """The crates of the repository that this folder is in, and those that each lists."""
-    with open(os.path.join("..", "..", "crates.txt"), encoding="utf-8") as file:
+def listed_in(top):
+    """The crates of a repository, and those that each lists."""
+    with open(os.path.join(top, "crates.txt"), encoding="utf-8") as file:
         pairs = [line.split(":") for line in file if not line.startswith("#")]
     libraries = {crate.split()[0]: names.split() for crate, names in pairs}
     return {crate: [it for it in names if it in libraries] for crate, names in libraries.items()}
@@ -51,7 +52,7 @@ def below(crate, libraries):
 def take(crate):
     """Takes the locks of the crate and of those below, whose libraries it needs."""
     held = []
-    lower = below(crate, listed())
+    lower = below(crate, listed_in(os.path.join("..", "..")))
     for it in sorted([crate, *lower]):
         held.append(os.open(os.path.join("..", it), os.O_RDONLY))
         try:
@@ -91,7 +92,79 @@ def prove(crate, words):
     return 0
 
 
+# What is said of a function whose body begins with a word, with its name, the body's second word and the line.
+STORED = "./proofs/{name}/Answers.antt:4:9: error: `returns-then-some-clause-{clause}`: expected type `⊥`"
+SEARCHED = "note: src/lib.rt:{line}:5: it is not proved that it holds when it returns (`returns-clause-{clause}-2`)"
+LOST = "./proofs/{name}/Answers.antt:2:9: error: `returns-clause-{clause}`: module `Goals` has no `returns-clause-{clause}`"
+WAYS = {"right": [], "stored": [STORED], "searched": [SEARCHED], "lost": [LOST], "renamed": [LOST, SEARCHED]}
+
+
+def body_of(function):
+    """The words of a function's body, and its line."""
+    with open(os.path.join("src", "lib.rt"), encoding="utf-8") as file:
+        lines = file.read().splitlines()
+    at = next(number for number, line in enumerate(lines) if line.startswith(f"fn {function}("))
+    return lines[at + 2].split(), at + 3
+
+
+def replace_kept():
+    """Writes what was kept anew, as the checker does: under another name first."""
+    for place, _, names in list(os.walk(os.path.join("out", "incremental"))):
+        for name in [*names, "of_this_check"]:
+            with open(os.path.join(place, "new"), "w", encoding="utf-8") as file:
+                file.write("another")
+            os.replace(os.path.join(place, "new"), os.path.join(place, name))
+
+
+def check(crate, words):
+    """Says which functions are not proved, and answers the status."""
+    functions = [after for word, after in zip(words, words[1:]) if word == "--only"]
+    note("checks", crate, *functions)
+    replace_kept()
+    bodies = {it: body_of(it) for it in functions}
+    unread = [it for it, (body, _) in bodies.items() if body[0] not in [*WAYS, "waits"]]
+    if unread:
+        print(f"src/lib.rt:1:1: error: `{bodies[unread[0]][0][0]}` is no word")
+        return 1
+    others = [it for it, (body, _) in bodies.items() if body[0] not in ("right", "waits")]
+    wrong = [it for it, (body, _) in bodies.items() if body[0] != "right"]
+    for name in wrong:
+        (way, clause), line = bodies[name]
+        # Of a function that calls a wrong one nothing is known.
+        said = WAYS[way] if way != "waits" else [] if others else [STORED]
+        for it in said:
+            print(it.format(name=name, clause=clause, line=line))
+    for name in functions:
+        print(f"fn {crate}::{name}: {'not proved' if name in wrong else 'proved'}")
+    return 1 if wrong else 0
+
+
+def gate():
+    """What the checker's own gate does at the top of a repository."""
+    note("begins", "ci", *sorted(os.listdir(".")))
+    note("bodies", *[place for place, _, _ in os.walk(".") if place.endswith("must-fail")])
+    with open(os.environ.get("CHANGE", os.devnull), "a", encoding="utf-8") as file:
+        file.write("changed\n")
+    end = time.monotonic() + SECONDS
+    while "ci" in named("HANG") and time.monotonic() < end:
+        time.sleep(0.01)
+    crates = listed_in(".")
+    for crate in crates:
+        os.makedirs(os.path.join("crates", crate, "out"))
+        with open(os.path.join("crates", crate, "out", f"{crate}_tests"), "w", encoding="utf-8") as file:
+            file.write("tests")
+        print(f"rt: {crate} {'NOT PROVED' if crate in named('FAIL_CI') else 'proved'}", flush=True)
+    failed = len(named("FAIL_CI"))
+    note("ends", "ci")
+    print(f"{len(crates) - failed} passed, {failed} failed")
+    return 1 if failed else 0
+
+
 if sys.argv[1] == "version":
-    print("a-kit logic 1234")
+    print(os.environ.get("VERSION", "a-kit logic 1234"))
+elif sys.argv[1] == "ci":
+    sys.exit(gate())
+elif sys.argv[1] == "check":
+    sys.exit(check(os.path.basename(os.getcwd()), sys.argv[2:]))
 else:
     sys.exit(prove(os.path.basename(os.getcwd()), sys.argv[1:]))

@@ -5,118 +5,23 @@ what it runs side by side, and what is left after a failure, an interrupt and a 
     tests/build/run.py
 """
 
-import contextlib
 import errno
 import os
 import shutil
 import signal
 import subprocess
 import sys
-import tempfile
-import time
 from types import SimpleNamespace
 from unittest import mock
 
-HERE = os.path.dirname(os.path.abspath(__file__))
-TOOLS = os.path.join(HERE, "..", "..", "tools")
+from repository import BUILT, CHECKER, TOOLS, run_parts
+
 sys.path.insert(0, TOOLS)
 import build  # noqa: E402
 import link  # noqa: E402
 import trees  # noqa: E402
 
-CRATES = """# Lowest first.
-low:
-other: byteorder
-left: low
-right: low other
-top: left right
-aside staticlib: low
-"""
-BUILT = ("low", "other", "left", "right", "top")
-# The longest code is that of `right`, so most work waits for `low`, and then for `right`.
-SIZES = {"low": 100, "other": 10, "left": 100, "right": 200, "top": 10, "aside": 900}
 IS_BESIDE = min(build.processors(), build.memory() // build.CHECK_MEMORY) > 1
-
-
-def begin_afresh(processors):
-    """What a build begins with: these processors, and an interrupt, which a shell in the background ignores."""
-    signal.signal(signal.SIGINT, signal.SIG_DFL)
-    os.sched_setaffinity(0, processors or os.sched_getaffinity(0))
-
-
-class Repository:
-    """A repository whose crates are not worth a proof."""
-
-    def __init__(self, top):
-        self.top = top
-        self.journal = os.path.join(top, "journal")
-        self.write("crates.txt", CRATES)
-        self.write("README.md", "Proved with: `a-kit logic 1234`.\n")
-        for crate, size in SIZES.items():
-            root = "main.rt" if crate == "top" else "lib.rt"
-            self.write(f"crates/{crate}/src/{root}", "/" * size)
-            self.write(f"crates/{crate}/must-fail/it.edit", "")
-
-    def write(self, name, text):
-        path = os.path.join(self.top, name)
-        os.makedirs(os.path.dirname(path), exist_ok=True)
-        with open(path, "w", encoding="utf-8") as file:
-            file.write(text)
-
-    def begin(self, processors=None, crate="top", target="bin/top", **environment):
-        """Begins a build, with these variables for the checker."""
-        self.write("journal", "")
-        checker = os.path.join(HERE, "checker.py")
-        words = {"RT": checker, "JOURNAL": self.journal, "PATH": os.environ["PATH"], **environment}
-        return subprocess.Popen(
-            [sys.executable, os.path.join(TOOLS, "build.py"), f"crates/{crate}", target],
-            cwd=self.top,
-            env=words,
-            stdout=subprocess.PIPE,
-            stderr=subprocess.PIPE,
-            text=True,
-            preexec_fn=lambda: begin_afresh(processors),
-        )
-
-    @contextlib.contextmanager
-    def running(self, *words, **named):
-        """Begins a build, and ends one that hangs."""
-        with self.begin(*words, **named) as process:
-            try:
-                yield process
-            finally:
-                process.kill()
-
-    def build(self, *words, **named):
-        """Builds, and gives the status and what was said."""
-        with self.running(*words, **named) as process:
-            output, errors = process.communicate(timeout=60)
-        return process.returncode, output, errors
-
-    def noted(self, what):
-        """The crates of the journal's lines that begin with a word, in order."""
-        with open(self.journal, encoding="utf-8") as file:
-            return [line.split()[1] for line in file if line.split()[0] == what]
-
-    def jobs_of(self, crate):
-        """How many jobs a check was begun with."""
-        with open(self.journal, encoding="utf-8") as file:
-            words = next(line.split() for line in file if line.startswith(f"begins {crate} "))
-        return int(words[words.index("--jobs") + 1])
-
-    def kept(self):
-        """The crates of which the checker keeps something."""
-        return [it for it in SIZES if os.path.isdir(os.path.join(self.top, "crates", it, "out"))]
-
-    def has_trees(self):
-        place = os.path.join(self.top, "bin", "trees")
-        return os.path.isdir(place) and os.listdir(place) != []
-
-    def wait_for(self, *crates):
-        """Waits until these checks have begun."""
-        end = time.monotonic() + 20
-        while not set(crates).issubset(self.noted("begins")) and time.monotonic() < end:
-            time.sleep(0.01)
 
 
 def two(*crates):
@@ -236,10 +141,10 @@ def copied(it):
 def refused(it):
     """A build that cannot end is not begun."""
     made = trees.Trees(it.top, os.path.join(it.top, "bin", "trees"))
-    with mock.patch.dict(os.environ, {"RT": os.path.join(HERE, "checker.py"), "JOURNAL": it.journal}):
+    with mock.patch.dict(os.environ, {"RT": CHECKER, "JOURNAL": it.journal}):
         yield "well", build.missing(made, BUILT) is None
         with mock.patch("shutil.disk_usage", return_value=SimpleNamespace(free=build.DISK - 1)):
-            yield "disk", "4.8 GB of disk" in build.missing(made, BUILT)
+            yield "disk", f"{build.DISK / 1e9:.1f} GB of disk" in build.missing(made, BUILT)
         with mock.patch("build.memory", return_value=build.CHECK_MEMORY - 1):
             yield "memory", "4 GB of memory" in build.missing(made, BUILT)
         it.write("README.md", "Proved with: `a-kit logic 5678`.\n")
@@ -258,21 +163,21 @@ def linked(it):
     subprocess.run([*link.compiler(), "-c", "-o", made, os.path.join(it.top, "it.c")], check=True)
     with mock.patch("link.archives", return_value=[]):
         yield "static", link.link(crate, target) == "static" and subprocess.run([target], check=False).returncode == 7
+        yield from linked_in_vain(crate, target)
         with mock.patch.dict(os.environ, {"CC": "no-such-compiler"}):
             yield "no compiler", link.link(crate, target).startswith("dynamic")
 
 
-def main():
-    passed = failed = 0
-    for part in (side_by_side, again, library, failing, stopped, killed, two_builds, alone, copied, refused, linked):
-        with tempfile.TemporaryDirectory() as top:
-            for what, is_well in part(Repository(top)):
-                passed, failed = passed + is_well, failed + (not is_well)
-                if not is_well:
-                    print(f"{part.__name__}: {what}")
-    print(f"{passed} passed, {failed} failed")
-    sys.exit(1 if failed else 0)
+def linked_in_vain(crate, target):
+    """A linker that fails leaves the loaded program, which takes the name at once and can be run."""
+    os.chmod(os.path.join(crate, "out", "top"), 0o755)
+    with open(target, "rb") as old:
+        with mock.patch.dict(os.environ, {"CC": "false"}):
+            yield "failing linker", link.link(crate, target).startswith("dynamic")
+        yield "what it left out", os.path.getsize(target) == len("loaded") and not os.path.exists(f"{target}.new")
+        yield "bits", os.stat(target).st_mode & 0o777 == 0o755
+        yield "old program", os.fstat(old.fileno()).st_nlink == 0 and len(old.read()) > len("loaded")
 
 
 if __name__ == "__main__":
-    main()
+    run_parts((side_by_side, again, library, failing, stopped, killed, two_builds, alone, copied, refused, linked))

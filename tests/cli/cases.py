@@ -51,6 +51,7 @@ BAD_WORDS = "bad command line, see cdb -h"
 NO_FILE = "file cannot be opened"
 NO_NAME = "database cannot be renamed"
 NO_OUTPUT = "output cannot be written"
+NO_TABLES = "no tables before its records"
 STOPPED = "stopped at a duplicate key"
 
 
@@ -232,6 +233,10 @@ MAP_TEXT = b"  one Hello\n# note\n\n  # more\n \t\nkey\ntwo\t \tGood bye"
 MAP_FILE = file_of([(b"one", b"Hello"), (b"key", b""), (b"two", b"Good bye")])
 # The two records in words of 8 bytes.
 WIDE_TWO = file_of([(b"one", b"Hello"), (b"two", b"Goodbye")], wide_words)
+# No record in words of 8 bytes.
+WIDE_EMPTY = wide_words(4096, 0) * 256
+# The difference from one value of a key to two others.
+OF_A_TEXT = b"-1:a\n+1,1:a->1\n+1,1:a->2\n\n"
 # Many values of one key, of which the 78th is in another place; its slot is the 78th from the key's first.
 MANY_OF_A = of_a(*(b"%d" % number for number in range(1, 81)))
 SLOT_78 = len(MANY_OF_A) - 8 * (160 - (hash_of(b"a") >> 8) % 160 - 77)
@@ -431,7 +436,7 @@ CASES = {
     "in place, of a shorter database": creates(["-c", "-t-", "x"], EMPTY_FILE, b"\n"),
     "in place, a faulty text": case(
         ["-c", "-t", "-", "x"], b"*", b"", f"input 1: byte 0: {NO_RECORD}", 111,
-        {"x": LARGE_FILE}, {"x": b""},
+        {"x": LARGE_FILE}, {"x": b"\xff" * 2048},
     ),
     "in place, a fault behind three records": case(
         ["-c", "-t", "-", "x"], HUGE_FRONT + b"*", b"", f"input 1: byte {len(HUGE_FRONT)}: {NO_RECORD}", 111,
@@ -819,7 +824,43 @@ CASES = {
     ),
     "a wide difference": compares(WIDE_TWO, WIDE_FILE, b"-3:two\n\n", given=("-DW",)),
     "a wide difference of narrow files": compares(TWO_FILE, ONE_FILE, b"", of_old(SHORT), ("-D", "-W")),
-    "a narrow difference of wide files": compares(WIDE_TWO, WIDE_FILE, b"\n"),
+    "a narrow difference of wide files": compares(WIDE_TWO, WIDE_FILE, b"", of_old(NO_TABLES)),
+    "a wide file compared with a narrow one": compares(WIDE_TWO, TWO_FILE, b"", of_old(NO_TABLES)),
+    "a narrow file compared with a wide one": compares(TWO_FILE, WIDE_TWO, b"", of_new(NO_TABLES)),
+    "a narrow file compared with an empty wide one": compares(TWO_FILE, WIDE_EMPTY, b"", of_new(NO_TABLES)),
+    "an empty wide file compared with a narrow one": compares(WIDE_EMPTY, TWO_FILE, b"", of_old(NO_TABLES)),
+    "an empty file compared with an empty wide one": compares(EMPTY_FILE, WIDE_EMPTY, b"", of_new(NO_TABLES)),
+    "one byte follows the head of the new one": compares(EMPTY_FILE, EMPTY_FILE + b"\0", b"", of_new(NO_TABLES)),
+    "one byte follows the head of the old one": compares(EMPTY_FILE + b"\0", EMPTY_FILE, b"", of_old(NO_TABLES)),
+    # Both heads are read before the tables of either are looked for, those of the old one first.
+    "an old one without tables beside a cut head": compares(WIDE_TWO, TWO_FILE[:2047], b"", of_new(SHORT)),
+    "an old one without tables beside a damage": compares(WIDE_TWO, TWO_FILE[:2070], b"", of_old(NO_TABLES)),
+    "a new one without tables beside a damage": compares(TWO_FILE[:2070], WIDE_TWO, b"", of_new(NO_TABLES)),
+    "a wide difference of a narrow file and a wide one": compares(
+        TWO_FILE, WIDE_TWO, b"", of_old(SHORT), ("-D", "-W")
+    ),
+    "a wide difference of a wide file and a narrow one": compares(
+        WIDE_TWO, TWO_FILE, b"", of_new(SHORT), ("-D", "-W")
+    ),
+    "a wide difference from an empty file": compares(
+        WIDE_EMPTY, WIDE_FILE, b"+3,5:one->Hello\n\n", given=("-D", "-W")
+    ),
+    "a wide difference to an empty file": compares(WIDE_FILE, WIDE_EMPTY, b"-3:one\n\n", given=("-D", "-W")),
+    "a wide difference of an empty narrow file": compares(EMPTY_FILE, WIDE_FILE, b"", of_old(SHORT), ("-D", "-W")),
+    "a wide difference to an empty narrow file": compares(WIDE_FILE, EMPTY_FILE, b"", of_new(SHORT), ("-D", "-W")),
+    # Each new value of a key is put in turn, so an option that looks for keys keeps one of them or stops.
+    "a difference that is done": case(
+        ["-c", "-b", "x", "y"], OF_A_TEXT, files={"x": of_a(b"0")}, left={"x": of_a(b"0"), "y": of_a(b"1", b"2")}
+    ),
+    "a difference that is done with -r": case(
+        ["-c", "-r", "-b", "x", "y"], OF_A_TEXT, files={"x": of_a(b"0")}, left={"x": of_a(b"0"), "y": of_a(b"2")}
+    ),
+    "a difference that is done with -u": case(
+        ["-c", "-u", "-b", "x", "y"], OF_A_TEXT, files={"x": of_a(b"0")}, left={"x": of_a(b"0"), "y": of_a(b"1")}
+    ),
+    "a difference that is done with -e": case(
+        ["-c", "-e", "-b", "x", "y"], OF_A_TEXT, b"", [again(3), STOPPED], 111, {"x": of_a(b"0")}, {"x": of_a(b"0")}
+    ),
     "no old database": case(["-D", "x", "y"], line=NO_FILE, status=111, files={"y": TWO_FILE}),
     "no new database": case(["-D", "x", "y"], line=NO_FILE, status=111, files={"x": TWO_FILE}),
     "an old database on standard input": case(["-D", "-", "y"], TWO_FILE, b"", NO_FILE, 111, {"y": TWO_FILE}),

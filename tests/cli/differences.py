@@ -9,6 +9,7 @@ values of several pieces and of many records, lists of which whole parts moved, 
 database is changed in turn, and each of its prefixes compared.
 """
 
+import itertools
 import os
 import random
 import subprocess
@@ -129,6 +130,8 @@ def large_pairs():
     """Pairs of large lists, each by a name."""
     small = [(b"k%d" % n, b"v" * (n % 90)) for n in range(3000)]
     more = [(b"m%d" % n, b"v" * (n % 90)) for n in range(1500)]
+    # `bC` and `cb` do the same to a hash, so all joins of them have one.
+    alike = [(b"".join(key), b"%d" % n) for n, key in enumerate(itertools.product((b"bC", b"cb"), repeat=10))]
     mixed = list(small)
     random.Random(0).shuffle(mixed)
     pairs = {
@@ -148,6 +151,9 @@ def large_pairs():
         "every second value": (small, [(key, value if n % 2 else b"?") for n, (key, value) in enumerate(small)]),
         "each record twice": (small, [it for it in small for _ in range(2)]),
         "many records, of which some differ": (small, [*small[:1000], (b"k1000", b"other"), *small[1001:2500]]),
+        "keys of one hash": (alike, [*alike[:700], (alike[700][0], b"other"), *alike[701:]]),
+        "keys of one hash in another order": (alike, alike[::-1]),
+        "each value of keys of one hash": (alike, [(key, value + b"?") for key, value in alike]),
         "many values of a key": ([(b"a", b"%d" % n) for n in range(2000)], [(b"a", b"%d" % n) for n in range(1999)]),
     }
     for size in (PIECE - 1, PIECE, PIECE + 1, 2 * PIECE, WINDOW - 12, 2 * WINDOW + 7):

@@ -7,6 +7,10 @@ The examples are those of the manual page, as `mandoc` or `man` shows it, of doc
 README.md. Each page has a folder of its own, in which its blocks are run in turn by the shell. In a
 block with prompts each command must write what the page shows below it. What the other blocks write
 is in WRITTEN. Programs of other projects are stood in for by STAND_INS.
+
+Each block is also run with each of its commands failing in turn, before it does anything and after the
+first line that it writes. Then each database of the folder is the old one, or what the whole block comes to;
+if the first command fails before it does anything, it is the old one.
 """
 
 import os
@@ -56,6 +60,8 @@ WRITTEN = {
         "",
         "",
         "",
+        "",
+        "",
         "nothing changed\n",
         "",
     ],
@@ -75,6 +81,15 @@ STAND_INS = {
     "postmap": 'cdb -q -m "${3#cdb:}.cdb" "$2"',
     "rsync": 'cp "$1" "$2"',
     "ssh": "shift; sh -c \"$*\"",
+}
+
+
+# A command of a block: what stands before it, and its name.
+COMMAND = re.compile(r"((?:^|[|;&({]|\bif\b)[ ]*)((?:cdb|printf|cksum|postmap|rsync|ssh)\b(?= ))", re.M)
+# How a command fails: before it does anything, and after the first line that it writes.
+FAILS = {
+    "at once": "fails() { return 1; }\n",
+    "after a line": 'fails() { command "$@" 2> /dev/null | head -n 1; return 1; }\n',
 }
 
 
@@ -148,6 +163,47 @@ class Shell:
         return done.stdout if done.returncode == 0 else f"status {done.returncode}: {done.stdout}"
 
 
+def failing(block):
+    """The block with each of its commands failing in turn, in each way, and whether nothing was done before."""
+    for n, found in enumerate(COMMAND.finditer(block)):
+        for how, does in FAILS.items():
+            yield does + block[: found.end(1)] + "fails " + block[found.end(1) :], n == 0 and how == "at once"
+
+
+def databases(folder):
+    """The databases in a folder, each with its bytes."""
+    found = {}
+    for place, _, names in os.walk(folder):
+        for name in names:
+            if name.endswith(".cdb"):
+                with open(os.path.join(place, name), "rb") as file:
+                    found[os.path.relpath(file.name, folder)] = file.read()
+    return found
+
+
+def after(shell, block):
+    """The databases after a block that is run in a copy of the shell's folder, without an end at a fault."""
+    with tempfile.TemporaryDirectory() as folder:
+        copy = os.path.join(folder, "work")
+        shutil.copytree(shell.folder, copy, symlinks=True)
+        how = {"stdin": subprocess.DEVNULL, "stdout": subprocess.DEVNULL, "stderr": subprocess.DEVNULL}
+        subprocess.run(["sh", "-c", block], cwd=copy, env=shell.environment, timeout=60, check=False, **how)
+        return databases(copy)
+
+
+def try_failing(shell, page, block):
+    """For each command of a block that fails, which databases are not as they are to be, and that none is."""
+    old, whole = databases(shell.folder), after(shell, block)
+    for changed, is_first in failing(block):
+        left = after(shell, changed)
+        wrong = [
+            name
+            for name, data in old.items()
+            if left.get(name) != data and (is_first or left.get(name) != whole.get(name))
+        ]
+        yield f"{page}: databases after {changed}", wrong, []
+
+
 def try_page(program, page, blocks):
     """For each command of a page what it wrote, and what it is to write."""
     written = WRITTEN[page]
@@ -161,7 +217,9 @@ def try_page(program, page, blocks):
             for old, new in MOVED:
                 block = block.replace(old, new)
             steps = steps_of(block) if wanted is None else [[block, wanted]]
-            came += [(f"{page}: {command}", shell.run(command), it) for command, it in steps]
+            for command, it in steps:
+                came += try_failing(shell, page, command)
+                came.append((f"{page}: {command}", shell.run(command), it))
         command, wanted = WHOLE[page]
         came.append((f"{page}: {command}", shell.run(command), wanted))
     return came

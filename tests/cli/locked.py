@@ -5,7 +5,8 @@
 
 A create that finds the temporary file of another that is still at work is to end with `file cannot be
 opened` and touch nothing. The file of one that was killed is removed. Whatever is killed, the
-database is one of the whole files, and of a create that answered 0 it was the file.
+database is one of the whole files, and of a create that answered 0 it was the file. A create in place
+that finds another at work in the file is to end so too.
 """
 
 import os
@@ -21,6 +22,7 @@ from waiting import waits
 
 OPEN = b"cdb: file cannot be opened\n"
 OLD = file_of([(b"old", b"database")])
+IN_PLACE = ["-c", "-t", "-", "x"]
 ROUNDS = 200
 CREATES = 3
 # How long the creates of a round are left alone at most before one is killed, in seconds.
@@ -109,6 +111,39 @@ def first_is_killed(program):
     return in_folder(run) == (True, (0, b""), TWO_FILE, None)
 
 
+def in_place_is_refused(program, words):
+    """A second create while the first is at work in place, which has emptied the file by then and written a head
+    of ones."""
+
+    def run(folder, read_file):
+        first = subprocess.Popen([program, *IN_PLACE], cwd=folder, **PIPED)
+        if not waits(first, os.path.join(folder, "x")):
+            first.kill()
+            return None
+        how = dict(cwd=folder, input=TWO_TEXT, stderr=subprocess.PIPE, timeout=60, check=False)
+        second = subprocess.run([program, *words], **how)
+        between = read_file("x")
+        return (second.returncode, second.stderr), between, ended(first, TWO_TEXT), read_file("x")
+
+    return in_folder(run) == ((111, OPEN), b"\xff" * 2048, (0, b""), TWO_FILE)
+
+
+def in_place_is_killed(program):
+    """A create in place after one that was killed."""
+
+    def run(folder, read_file):
+        first = subprocess.Popen([program, *IN_PLACE], cwd=folder, **PIPED)
+        if not waits(first, os.path.join(folder, "x")):
+            return None
+        first.kill()
+        first.communicate()
+        how = dict(cwd=folder, input=TWO_TEXT, stderr=subprocess.PIPE, timeout=60, check=False)
+        second = subprocess.run([program, *IN_PLACE], **how)
+        return second.returncode, second.stderr, read_file("x")
+
+    return in_folder(run) == (0, b"", TWO_FILE)
+
+
 def begun(program, folder, text):
     """A create of some text, which it reads from a file."""
     given = tempfile.TemporaryFile()
@@ -151,6 +186,9 @@ def main():
         "a second create of a cut text": second_is_refused(program, TWO_TEXT[:-3]),
         "a second create that is killed": second_is_killed(program),
         "a first create that is killed": first_is_killed(program),
+        "a second create in place": in_place_is_refused(program, IN_PLACE),
+        "a second create in place, by the name itself": in_place_is_refused(program, ["-c", "-t", "x", "x"]),
+        "a create in place after one that was killed": in_place_is_killed(program),
     }
     for n in range(ROUNDS):
         held[f"round {n}"] = round_is_right(program, chosen)

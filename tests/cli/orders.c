@@ -1,10 +1,10 @@
 /* Runs two creates of one database in each order of their calls on its names, with up to three switches.
  *
- *   orders PROGRAM PART OF [STALE]
+ *   orders PROGRAM PART OF [STALE | -]
  *
  * Both make x in the current folder, the first of one.txt and the second of two.txt, beside the database
- * in old.cdb; with STALE a file of that name's bytes has the temporary name before. one.cdb and two.cdb
- * are what they are to make. Each is stopped before each call on a name and before each lock. The first
+ * in old.cdb; with STALE a file of that name's bytes has the temporary name before, and with - they make it
+ * in place. one.cdb and two.cdb are what they are to make. Each is stopped before each call on a name and before each lock. The first
  * makes some of these calls, then the second some, then the first some more; then the second runs to its
  * end, and the first to its. An order in which one ends before its turn is over is the last of its kind.
  * Of all orders this makes one part of so many: those whose first turn has a number of calls that leaves
@@ -14,6 +14,9 @@
  * the create that renamed last, which answered 0, or the old one if none renamed. A create that renamed
  * nothing answers 111 and says that a file cannot be opened, or that the database cannot be renamed.
  * Nothing has the temporary name then. Each order that leaves something else is told, in a line.
+ *
+ * In place a create that got the lock of x answers 0, and x is that of the last that got it in the end. The
+ * other answers 111 and says that a file cannot be opened. At a switch x may be anything.
  */
 #define _GNU_SOURCE
 #include <errno.h>
@@ -43,8 +46,9 @@ struct bytes {
 /* A create that runs. */
 struct create {
 	pid_t process;
-	/* Whether that call is a rename, and whether one was made. */
-	int is_renaming, has_renamed;
+	/* Whether that call publishes the database: a rename, or in place the request for the lock of x. And
+	 * whether one was made. */
+	int is_publishing, has_published;
 	/* Its wait status, once it has ended. */
 	int has_ended, status;
 	const char *errors;
@@ -52,8 +56,9 @@ struct create {
 
 static struct bytes databases[3], stale;
 static const char *program;
-/* The database of the create that renamed last. */
+/* The database of the create that published last. */
 static int last;
+static int is_in_place;
 
 static void fail(const char *what)
 {
@@ -115,7 +120,10 @@ static struct create begun(const char *text, const char *errors)
 		redirect(errors, O_WRONLY | O_CREAT | O_TRUNC, 2);
 		if (ptrace(PTRACE_TRACEME, 0, NULL, NULL) < 0)
 			_exit(98);
-		execl(program, program, "-c", NAME, (char *)NULL);
+		if (is_in_place)
+			execl(program, program, "-c", "-t", "-", NAME, (char *)NULL);
+		else
+			execl(program, program, "-c", NAME, (char *)NULL);
 		_exit(97);
 	}
 	if (begun.process < 0 || waitpid(begun.process, &status, 0) < 0)
@@ -145,7 +153,7 @@ static int is_name(pid_t process, unsigned long place)
 static int is_chosen(struct create *create, const struct ptrace_syscall_info *call)
 {
 	unsigned long a = call->entry.args[0], b = call->entry.args[1];
-	create->is_renaming = 0;
+	create->is_publishing = 0;
 	switch (call->entry.nr) {
 #ifdef SYS_open
 	case SYS_open:
@@ -154,13 +162,13 @@ static int is_chosen(struct create *create, const struct ptrace_syscall_info *ca
 	case SYS_lstat:
 		return is_name(create->process, a);
 	case SYS_rename:
-		create->is_renaming = is_name(create->process, a);
-		return create->is_renaming;
+		create->is_publishing = is_name(create->process, a);
+		return create->is_publishing;
 #endif
 	case SYS_renameat:
 	case SYS_renameat2:
-		create->is_renaming = is_name(create->process, b);
-		return create->is_renaming;
+		create->is_publishing = is_name(create->process, b);
+		return create->is_publishing;
 	case SYS_openat:
 	case SYS_unlinkat:
 	case SYS_statx:
@@ -169,6 +177,7 @@ static int is_chosen(struct create *create, const struct ptrace_syscall_info *ca
 #endif
 		return is_name(create->process, b);
 	case SYS_flock:
+		create->is_publishing = is_in_place;
 		return 1;
 	default:
 		return 0;
@@ -210,10 +219,10 @@ static int make(struct create *create, int which, int calls)
 			if (done == calls)
 				return 1;
 			done++;
-		} else if (call.op == PTRACE_SYSCALL_INFO_EXIT && create->is_renaming) {
-			create->is_renaming = 0;
+		} else if (call.op == PTRACE_SYSCALL_INFO_EXIT && create->is_publishing) {
+			create->is_publishing = 0;
 			if (call.exit.rval == 0) {
-				create->has_renamed = 1;
+				create->has_published = 1;
 				last = which + 1;
 			}
 		}
@@ -230,11 +239,11 @@ static const char *wrong_with(const struct create *create)
 	take(create->errors, &said);
 	if (!WIFEXITED(create->status))
 		return "a create was killed";
-	if (create->has_renamed)
-		return WEXITSTATUS(create->status) || said.size ? "a create renamed, and tells a fault" : NULL;
+	if (create->has_published)
+		return WEXITSTATUS(create->status) || said.size ? "a create published, and tells a fault" : NULL;
 	if (WEXITSTATUS(create->status) != 111)
-		return "a create renamed nothing, and does not answer 111";
-	for (int which = 0; which < 2; which++)
+		return "a create published nothing, and does not answer 111";
+	for (int which = 0; which < (is_in_place ? 1 : 2); which++)
 		if (said.size == strlen(lines[which]) && !memcmp(said.text, lines[which], said.size))
 			return NULL;
 	return "a create tells another fault";
@@ -249,7 +258,7 @@ static const char *wrong_after(const struct create *creates)
 		if ((wrong = wrong_with(&creates[which])))
 			return wrong;
 	if (found() != last)
-		return "the database is not that of the create that renamed last";
+		return "the database is not that of the create that published last";
 	return lstat(TEMPORARY, &left) == 0 ? "a temporary file is left" : NULL;
 }
 
@@ -267,7 +276,7 @@ static int run(const int *turns, int is_stale, const char **wrong)
 	for (int turn = 0; turn < 3 && is_running; turn++) {
 		is_running = make(&creates[turn % 2], turn % 2, turns[turn]);
 		over += is_running;
-		if (found() < 0)
+		if (!is_in_place && found() < 0)
 			*wrong = "the database is not whole at a switch";
 	}
 	for (int which = 1; which >= 0; which--)
@@ -281,7 +290,7 @@ static int run(const int *turns, int is_stale, const char **wrong)
 int main(int count, char **words)
 {
 	const char *wrong;
-	int orders = 0, failed = 0, over = 3, part, of, is_stale = count == 5;
+	int orders = 0, failed = 0, over = 3, part, of, is_stale = 0;
 	if (count < 4 || count > 5)
 		return 2;
 	program = words[1];
@@ -289,6 +298,10 @@ int main(int count, char **words)
 	of = atoi(words[3]);
 	if (!take("old.cdb", &databases[0]) || !take("one.cdb", &databases[1]) || !take("two.cdb", &databases[2]))
 		return 2;
+	if (count == 5) {
+		is_in_place = !strcmp(words[4], "-");
+		is_stale = !is_in_place;
+	}
 	if (is_stale && !take(words[4], &stale))
 		return 2;
 	for (int first = part; over > 0; first += of) {

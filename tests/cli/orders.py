@@ -4,7 +4,7 @@
     tests/cli/orders.py PROGRAM ORDERS
 
 The second program is orders.c, which says what each order is to leave; it stops the creates at these
-calls. Both are made with no temporary file there before, and beside an old one, a whole database.
+calls. Both are made with no temporary file there before, beside an old one, a whole database, and in place.
 """
 
 import os
@@ -57,7 +57,7 @@ def main():
         sys.exit(__doc__)
     words = [os.path.abspath(it) for it in sys.argv[1:]]
     passed = failed = 0
-    for name, rest in (("no temporary file", []), ("an old temporary file", [STALE])):
+    for name, rest in (("no temporary file", []), ("an old temporary file", [STALE]), ("in place", ["-"])):
         good, bad = counted(words, rest)
         print(f"{name}: {good + bad} orders, {bad} of them wrong")
         passed, failed = passed + good, failed + bad

@@ -6,7 +6,8 @@
 The library is refuse.c, built to be loaded ahead of the C library. Each create of CREATES is made once
 with nothing refused, which lists its calls. Then each of them is refused, alone and with all later
 ones, by each error of ERRORS. The status and the line must be those of that call. With status 0 the
-new database is whole, has its permissions, and nothing else has changed. Else the database, the inputs
+new database is whole, has its permissions, and nothing else has changed. If permissions are refused that
+no old database had, it is for this user alone. A look before a removal is made once more. Else the database, the inputs
 and the base are as they were, and so are their permissions; a database that is made in place is as it
 was unless its sync was refused.
 """
@@ -34,6 +35,8 @@ LINES = (NO_FILE, NO_NAME, NO_DATABASE)
 LAST = 2**63 - 1
 MASK = 0o022
 MADE = 0o644
+# The end of the name of the file that shows the permissions of a new one.
+SHOWN = ".bit"
 # The permissions of what is there before, and of a temporary file that is left.
 MODE = 0o640
 PRIVATE = 0o600
@@ -133,21 +136,23 @@ def run(program, create, first=0, last=0):
         return before, done, [it for it in calls if it.what in CALLS.split(",")], found_in(folder)
 
 
-def new(create, before):
+def new(create, before, made=MADE):
     """The new database. In place of a link the umask decides, as if nothing were there."""
     old = before.get("x")
-    return create.made, old[1] if isinstance(old, tuple) else MADE
+    return create.made, old[1] if isinstance(old, tuple) else made
 
 
-def made_of(create, before):
+def made_of(create, before, made=MADE):
     """What a create that is done leaves of what was there."""
     left = {name: it for name, it in before.items() if name != create.temporary}
-    return {**left, "x": new(create, before)}
+    return {**left, "x": new(create, before, made)}
 
 
-def may_be_left(create, before, left, has_synced, may_stay):
+def may_be_left(create, before, left, has_synced, may_stay, may_show):
     """Whether a create that is not done may have left this."""
     wanted, found = dict(before), dict(left)
+    if may_show and found.get("x" + SHOWN) == (b"", MADE):
+        del found["x" + SHOWN]
     if is_in_place(create) and create.made is not None:
         old, now = wanted.pop("x", None), found.pop("x", None)
         begun = old is None or has_synced
@@ -166,17 +171,24 @@ def line_of(call, error, is_sealed):
     """The line of a call that is refused, or None: nothing comes of it."""
     if call.what == "open" and (call.name in ("/", ".") or os.path.isdir(call.name)):
         return None
-    if error == errno.ENOMEM and call.what in ("open", "rename") and call.name != "/proc/self/status":
+    if error == errno.ENOMEM and call.what in ("open", "rename") and not call.name.endswith(SHOWN):
         return NO_MEMORY
     if call.what == "rename" or call.what == "look" and is_sealed:
         return NO_NAME
     return NO_DATABASE if call.what == "sync" else NO_FILE
 
 
-def is_of_open(calls, number):
-    """Whether a call is a look at a file that was just opened, which is a part of its open."""
+def is_of_open(calls, number, is_in_place):
+    """Whether a call is a look at a file that was just opened, which is a part of its open; or in place at one
+    that was just locked, which is a part of its emptying."""
     before = [it.what for it in calls[: number - 1] if it.what != "look"]
-    return calls[number - 1].what == "look" and before[-1:] == ["open"]
+    return calls[number - 1].what == "look" and before[-1:] in (["open"], ["lock"][:is_in_place])
+
+
+def is_repeated(calls, number):
+    """Whether a call is one of the two looks before a removal, which are made once more if one fails."""
+    after = [it.what for it in calls[number - 1 : number + 2]]
+    return after[:2] == ["look", "remove"] or after == ["look", "look", "remove"]
 
 
 def told(files):
@@ -184,22 +196,27 @@ def told(files):
     return {name: (len(it[0]), oct(it[1])) if isinstance(it, tuple) else it for name, it in files.items()}
 
 
-def wrong_with(create, number, error, is_lasting, free, refused):
-    """What is wrong with a create to which a call was refused, or None."""
+def wrong_with(create, number, error, is_lasting, freely, refused):
+    """What is wrong with a create to which a call was refused, or None. Without a fault it came as it did
+    freely."""
+    free, free_calls = freely
     before, done, calls, left = refused
     if len(calls) < number:
         return f"only {len(calls)} calls"
     call = calls[number - 1]
     names = [it.what for it in calls[: number - 1]]
-    if call.what == "sync" and "rename" in names:
+    made = MADE
+    if call.what == "sync" and "rename" in names or is_repeated(free_calls, number):
         line = None
+    elif call.what == "allow" and not isinstance(before.get("x"), tuple):
+        line, made = None, PRIVATE
     else:
-        line = line_of(call, error, "allow" in names)
+        line = line_of(call, error, names.count("sync") == 2)
     lines = {line} if not is_lasting else {*LINES, NO_MEMORY if error == errno.ENOMEM else NO_FILE}
-    if error == errno.ENOMEM and is_of_open(calls, number):
+    if error == errno.ENOMEM and is_of_open(calls, number, is_in_place(create)):
         lines |= {NO_MEMORY}
     if done.returncode == 0:
-        if free.returncode or line is not None and not is_lasting or done.stderr or left != made_of(create, before):
+        if free.returncode or line is not None and not is_lasting or done.stderr or left != made_of(create, before, made):
             return f"status 0, and {told(left)}"
         return None if not is_lasting or "rename" in names or is_in_place(create) and call.what != "sync" else "status 0"
     if line is None and not is_lasting and free.returncode == 0:
@@ -209,7 +226,8 @@ def wrong_with(create, number, error, is_lasting, free, refused):
     if done.returncode != 111 or done.stderr not in lines:
         return f"status {done.returncode}, {done.stderr} and not {lines}"
     may_stay = is_lasting or call.what == "lock" or free.returncode and call.what in ("look", "remove")
-    if not may_be_left(create, before, left, call.what == "sync", may_stay):
+    may_show = is_lasting or call.what == "remove" and call.name.endswith(SHOWN)
+    if not may_be_left(create, before, left, call.what == "sync", may_stay, may_show):
         return f"left {told(left)} of {told(before)}"
     return None
 
@@ -226,7 +244,9 @@ def refuse_each(path, library, name):
         program = Refusing(path, library, "calls", ONLY=CALLS, ERROR=error)
         for number in range(1, len(calls) + 1):
             for last in (number, LAST):
-                fault = wrong_with(create, number, error, last == LAST, done, run(program, create, number, last))
+                fault = wrong_with(
+                    create, number, error, last == LAST, (done, calls), run(program, create, number, last)
+                )
                 count += 1
                 if fault is not None:
                     call = calls[number - 1]

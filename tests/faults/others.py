@@ -21,8 +21,8 @@ import tempfile
 
 import commands
 from files import ONE_FILE, TWO_FILE, TWO_TEXT
-from names import CREATES, LAST, NO_DATABASE, NO_FILE, NO_NAME, found_in, made_of, place, run
-from places import Link
+from names import CREATES, LAST, MADE, NO_DATABASE, NO_FILE, NO_NAME, PRIVATE, found_in, made_of, place, run, told
+from places import FOLDER, Link
 from refusing import Refusing
 
 OTHER = b"another's"
@@ -154,28 +154,43 @@ def idle(path, library, row):
     return None if is_right else f"{done.returncode} {done.stderr}, {sorted(left)}"
 
 
-def unmasked(path, library, error):
-    """What is wrong with a create of a new database where the system does not open its page of the umask, or
-    None. If it has none, the file is for this user alone."""
+def unshown(path, library, error):
+    """What is wrong with a create of a new database where the file that shows the permissions of a new one
+    cannot be made, or None. If its name is too long, the database is for this user alone."""
     with tempfile.TemporaryDirectory() as folder:
-        hiding = Refusing(path, library, "calls", ONLY="open", NAME="/proc/self/status", ERROR=error)
-        done, calls = hiding.trace(PLAIN, TWO_TEXT, 1, 1, folder)
+        hiding = Refusing(path, library, "calls", ONLY="open", NAME="x.bit", ERROR=error)
+        done, _ = hiding.trace(PLAIN, TWO_TEXT, 1, 1, folder)
         left = found_in(folder)
-    wanted = (0, b"", {"x": (TWO_FILE, 0o600)}) if error == errno.ENOENT else (111, NO_FILE, {})
-    is_right = (done.returncode, done.stderr, left) == wanted and "/proc/self/status" in [it.name for it in calls]
-    return None if is_right else f"{done.returncode} {done.stderr}, {left}"
+    wanted = (0, b"", {"x": (TWO_FILE, PRIVATE)}) if error == errno.ENAMETOOLONG else (111, NO_FILE, {})
+    return None if (done.returncode, done.stderr, left) == wanted else f"{done.returncode} {done.stderr}, {told(left)}"
 
 
-def unread(path, library, error):
-    """The same where that page is not read, which the last read is."""
+def shown(path, library, what):
+    """What is wrong with a create of a new database where something has the name of that file, or None: an
+    empty file is what a create that was killed left; anything else stays, and the create is refused."""
     with tempfile.TemporaryDirectory() as folder:
-        _, calls = Refusing(path, library, "calls", ONLY="read").trace(PLAIN, TWO_TEXT, folder=folder)
-        os.remove(os.path.join(folder, "x"))
-        reads = sum(1 for it in calls if it.what == "read")
-        hiding = Refusing(path, library, "calls", ONLY="read", ERROR=error)
-        done, _ = hiding.trace(PLAIN, TWO_TEXT, reads, reads, folder)
+        place(folder, {"x.bit": what, "y": b"kept"})
+        before = found_in(folder)
+        done, _ = Refusing(path, library, "calls").trace(PLAIN, TWO_TEXT, folder=folder)
         left = found_in(folder)
-    return None if (done.returncode, done.stderr, left) == (111, NO_FILE, {}) else f"{done.returncode} {done.stderr}, {left}"
+    wanted = (0, b"", {"x": (TWO_FILE, MADE), "y": before["y"]}) if what == b"" else (111, NO_FILE, before)
+    return None if (done.returncode, done.stderr, left) == wanted else f"{done.returncode} {done.stderr}, {told(left)}"
+
+
+def kept(path, library, row):
+    """What is wrong with a create whose permissions the system refuses or ignores, or None: it goes on if no
+    old database had others, and its own are no wider than those of a new file."""
+    old, how = row
+    with tempfile.TemporaryDirectory() as folder:
+        if old is not None:
+            place(folder, {"x": ONE_FILE})
+            os.chmod(os.path.join(folder, "x"), old)
+        before = found_in(folder)
+        done, _ = Refusing(path, library, "calls", ONLY="allow", **how).trace(PLAIN, TWO_TEXT, 1, LAST, folder)
+        left = found_in(folder)
+    is_made = old in (None, PRIVATE)
+    wanted = (0, b"", {"x": (TWO_FILE, PRIVATE)}) if is_made else (111, NO_FILE, before)
+    return None if (done.returncode, done.stderr, left) == wanted else f"{done.returncode} {done.stderr}, {told(left)}"
 
 
 def unopened(path, library, target):
@@ -220,9 +235,16 @@ def checks():
     yield "a byte more, before its permissions are given", longer, "allow"
     yield "a byte more, before it is synced", longer, "sync"
     yield from ((f"{name} that takes no byte", idle, row) for name, row in IDLE.items())
-    yield "no page of the umask", unmasked, errno.ENOENT
-    yield "a page of the umask that is not opened", unmasked, errno.EIO
-    yield "a page of the umask that is not read", unread, errno.EIO
+    for error in (errno.ENAMETOOLONG, errno.EIO, errno.EACCES, errno.ENOSPC, errno.EEXIST):
+        yield f"a file that shows permissions, refused by {errno.errorcode[error]}", unshown, error
+    yield "an empty file of that name", shown, b""
+    yield "a file of that name", shown, b"a byte"
+    yield "a link of that name", shown, Link("y")
+    yield "a folder of that name", shown, FOLDER
+    for old in (None, PRIVATE, 0o640, 0o400, 0o666):
+        beside = "no database" if old is None else f"a database of {old:o}"
+        yield f"permissions that are refused, {beside}", kept, (old, {"ERROR": errno.EPERM})
+        yield f"permissions that are ignored, {beside}", kept, (old, {"ACT": "none"})
     yield "a link to a file", unopened, "y"
     yield "a link to the database", unopened, "x"
     yield "an old file over NFS", remote, False

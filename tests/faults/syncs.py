@@ -4,9 +4,10 @@
     tests/faults/syncs.py PROGRAM LIBRARY
 
 The library is refuse.c, built to be loaded ahead of the C library, which notes each call. A create
-writes the temporary file, and once it is whole gives it its permissions, syncs it with these, renames
-it, and then syncs the folder of the database's name and no other. In place it writes the file, and then
-syncs it. It makes no more of these calls.
+writes the temporary file, and once it is whole syncs it, gives it its permissions, syncs it with these,
+renames it, and then syncs the folder of the database's name and no other. If it has the permissions
+already, they are not given, and it is synced once. In place it writes the file, and then syncs it. It
+makes no more of these calls.
 """
 
 import os
@@ -19,6 +20,9 @@ from refusing import Refusing
 
 CHANGES = ("pwrite", "write", "cut")
 CALLS = (*CHANGES, "allow", "sync", "datasync", "rename")
+MASK = 0o022
+# With this one a new file is for this user alone, as the temporary file is.
+PRIVATE_MASK = 0o077
 
 # The words of each create, with the database and its folder; the text is on standard input.
 CREATES = {
@@ -31,20 +35,20 @@ CREATES = {
 }
 
 
-def traced(program, words, folder):
+def traced(program, words, folder, mask):
     """The status of a create, and its calls that change a file or its name: which it was, and the
     file's number."""
-    done, calls = program.trace(words, TWO_TEXT, folder=folder)
+    done, calls = program.trace(words, TWO_TEXT, folder=folder, mask=mask)
     made = [(it.what, it.file) for it in calls if it.answer >= 0 and it.what in CALLS]
     return done.returncode, made
 
 
-def wrong_with(program, words, database, folder_of):
+def wrong_with(program, words, database, folder_of, mask):
     """What is wrong with a create, or None."""
     with tempfile.TemporaryDirectory() as folder:
         for name in ("one", "two", "one/in"):
             os.mkdir(os.path.join(folder, name))
-        status, calls = traced(program, words, folder)
+        status, calls = traced(program, words, folder, mask)
         path = os.path.join(folder, database)
         with open(path, "rb") as file:
             if status != 0 or file.read() != TWO_FILE:
@@ -53,7 +57,8 @@ def wrong_with(program, words, database, folder_of):
     is_in_place = "-t" in words and "-" in words
     sealed = [("sync", new)]
     if not is_in_place:
-        sealed = [("allow", new), *sealed, ("rename", new), ("sync", around)]
+        given = [("allow", new), ("sync", new)] if mask != PRIVATE_MASK else []
+        sealed = [*sealed, *given, ("rename", new), ("sync", around)]
     begin = len(calls) - len(sealed)
     changes = [it for it in calls[:begin] if it[0] not in CHANGES or it[1] != new]
     if changes or calls[begin:] != sealed or begin <= 0:
@@ -65,10 +70,12 @@ def main():
     if len(sys.argv) != 3:
         sys.exit(__doc__)
     program = Refusing(*map(os.path.abspath, sys.argv[1:]))
-    creates = CREATES | {"in place": (["-c", "-t", "-", "x"], "x", ".")}
+    creates = [(name, *it, MASK) for name, it in CREATES.items()]
+    creates += [(f"{name}, for this user alone", *it, PRIVATE_MASK) for name, it in CREATES.items()]
+    creates.append(("in place", ["-c", "-t", "-", "x"], "x", ".", MASK))
     wrong = 0
-    for name, (words, database, folder) in creates.items():
-        fault = wrong_with(program, words, database, folder)
+    for name, words, database, folder, mask in creates:
+        fault = wrong_with(program, words, database, folder, mask)
         wrong += fault is not None
         if fault is not None:
             print(f"{name}: {fault}")

@@ -1,0 +1,108 @@
+#!/usr/bin/env python3
+"""Installs the program into a folder and removes it, and looks at what linked files promise the loader.
+
+    tests/package/installing.py PROGRAM [LIBRARY]
+
+PROGRAM is bin/cdb, and LIBRARY bin/libcdb.so.1; neither is built again. What is told as static has no
+loader. The stack of each is no code, its tables are read only once they are filled, and the library has its
+name and binds at once.
+"""
+
+import os
+import struct
+import subprocess
+import sys
+import tempfile
+
+TOP = os.path.join(os.path.dirname(os.path.abspath(__file__)), "..", "..")
+INSTALLED = {"bin/cdb": 0o755, "share/man/man1/cdb.1": 0o644, "share/man/man5/cdb.5": 0o644}
+# The kinds of parts that the loader reads, and the tags of the dynamic part.
+DYNAMIC, INTERPRETER, STACK, RELRO = 2, 3, 0x6474E551, 0x6474E552
+STRINGS, SONAME, FLAGS, FLAGS_1 = 5, 14, 30, 0x6FFFFFFB
+CODE, BIND_NOW, NOW = 1, 8, 1
+
+
+def read(path):
+    """The bytes of a file, or None if it is not there."""
+    if not os.path.isfile(path):
+        return None
+    with open(path, "rb") as file:
+        return file.read()
+
+
+def parts_of(data):
+    """The parts of a 64-bit ELF file that its head lists, by their kind: flags, place and size."""
+    start = struct.unpack_from("<Q", data, 32)[0]
+    size, count = struct.unpack_from("<HH", data, 54)
+    found = {}
+    for place in range(start, start + size * count, size):
+        kind, flags, offset, _, _, length = struct.unpack_from("<IIQQQQ", data, place)
+        found.setdefault(kind, (flags, offset, length))
+    return found
+
+
+def tags_of(data):
+    """What the dynamic part says, by its tag."""
+    _, offset, length = parts_of(data)[DYNAMIC]
+    return dict(struct.unpack_from("<qQ", data, place) for place in range(offset, offset + length, 16))
+
+
+def is_guarded(data):
+    """Whether the stack of a file is no code and its tables are read only."""
+    found = parts_of(data)
+    return STACK in found and not found[STACK][0] & CODE and RELRO in found
+
+
+def make(*words):
+    """Whether make succeeds, with the program as it is."""
+    words = ["make", "-s", "-C", TOP, "-o", "bin/cdb", *words]
+    return subprocess.run(words, capture_output=True, check=False).returncode == 0
+
+
+def installs(program):
+    """Whether each file is installed with its permissions, as it was built, and removed again."""
+    with tempfile.TemporaryDirectory() as root:
+        where = [f"DESTDIR={root}", "PREFIX=/usr"]
+        yield "make install succeeds", make("install", *where)
+        for name, mode in INSTALLED.items():
+            path = os.path.join(root, "usr", name)
+            yield f"{name} has the bits {mode:o}", os.path.isfile(path) and os.stat(path).st_mode & 0o7777 == mode
+        yield "the program is the one that was built", read(os.path.join(root, "usr/bin/cdb")) == read(program)
+        yield "make uninstall succeeds", make("uninstall", *where)
+        yield "make uninstall leaves no file", not any(files for _, _, files in os.walk(root))
+
+
+def is_linked(program):
+    """What the program promises."""
+    data = read(program)
+    yield "the program needs no loader", INTERPRETER not in parts_of(data)
+    yield "the program's stack is no code, and its tables are read only", is_guarded(data)
+
+
+def is_shared(library):
+    """What the library promises."""
+    data = read(library)
+    tags = tags_of(data)
+    # Its parts are at their own places, so the address of its strings is their place.
+    name = data[tags[STRINGS] + tags.get(SONAME, 0) :].split(b"\0", 1)[0]
+    yield "the library has its name", SONAME in tags and name == b"libcdb.so.1"
+    yield "the library binds at once", bool(tags.get(FLAGS, 0) & BIND_NOW or tags.get(FLAGS_1, 0) & NOW)
+    yield "the library's stack is no code, and its tables are read only", is_guarded(data)
+
+
+def main():
+    if len(sys.argv) not in (2, 3):
+        sys.exit(__doc__)
+    program = os.path.abspath(sys.argv[1])
+    held = [*installs(program), *is_linked(program)]
+    for library in sys.argv[2:]:
+        held += is_shared(library)
+    wrong = [what for what, holds in held if not holds]
+    for what in wrong:
+        print(f"not so: {what}")
+    print(f"{len(held) - len(wrong)} passed, {len(wrong)} failed")
+    sys.exit(1 if wrong else 0)
+
+
+if __name__ == "__main__":
+    main()

@@ -1,0 +1,123 @@
+"""Wrong bodies: edits of a crate's code that the prover must refuse.
+
+An edit is a file crates/NAME/must-fail/*.edit: a line `file: src/PATH`, pairs of lines `old: TEXT` and
+`new: TEXT`, and the line `clause: CLAUSE`, which names the promise that the edit breaks. The checker's own
+trial of an edit reads over that last line.
+"""
+
+import os
+import re
+from dataclasses import dataclass
+
+from trees import read
+
+FOLDER = "must-fail"
+CLAUSE = "clause: "
+FUNCTION = re.compile(r"^( *)(?:pub(?:\([^)]*\))? )?(?:const )?(?:unsafe )?(?:extern \"C\" )?fn (\w+)", re.MULTILINE)
+# The head of an `impl`, with the words of its trait if it has one, or that of a trait: and the type's own name.
+OWNER = re.compile(r"^(?:unsafe )?(?:impl(?:<.*?>)? (.+ for )?|(?:pub(?:\([^)]*\))? )?trait )(?:\w+::)*(\w+)", re.MULTILINE)
+
+
+class BadEdit(Exception):
+    """Why an edit cannot be applied."""
+
+
+@dataclass(frozen=True)
+class Edit:
+    """A wrong body: its file, the texts that it replaces, and the clause that must refuse it, or None."""
+
+    crate: str
+    name: str
+    path: str
+    # The file, the old text and the new text of each pair.
+    pairs: tuple
+    clause: str
+
+    def __str__(self):
+        return f"{self.crate}/{self.name}"
+
+
+def read_edit(folder, name):
+    """Reads an edit of a crate's folder."""
+    path = os.path.join(folder, FOLDER, f"{name}.edit")
+    pairs, file, old, clause = [], "", "", None
+    for line in read(path).splitlines():
+        if line.startswith("file: "):
+            file = line.removeprefix("file: ").strip()
+        elif line.startswith("old: "):
+            old = line.removeprefix("old: ")
+        elif line.startswith("new:"):
+            pairs.append((file, old, line.removeprefix("new:").removeprefix(" ")))
+        elif line.startswith(CLAUSE):
+            clause = line.removeprefix(CLAUSE).strip()
+    return Edit(os.path.basename(folder), name, path, tuple(pairs), clause)
+
+
+def edits_of(folder):
+    """The edits of a crate's folder."""
+    place = os.path.join(folder, FOLDER)
+    names = sorted(os.listdir(place)) if os.path.isdir(place) else []
+    return [read_edit(folder, it.removesuffix(".edit")) for it in names if it.endswith(".edit")]
+
+
+def note_clause(edit, clause):
+    """Writes the clause that refuses an edit as the last line of its file."""
+    lines = [it for it in read(edit.path).splitlines() if not it.startswith(CLAUSE)]
+    with open(f"{edit.path}.new", "w", encoding="utf-8") as file:
+        file.writelines(f"{it}\n" for it in [*lines, f"{CLAUSE}{clause}"])
+    os.replace(f"{edit.path}.new", edit.path)
+
+
+def heads_at(text, at):
+    """The heads of the functions that begin before a place, and the end of the last, by the layout of `rt fmt`."""
+    heads = [it for it in FUNCTION.finditer(text) if it.start() <= at]
+    end = re.compile(rf"^{heads[-1][1]}\}}", re.MULTILINE).search(text, heads[-1].end()) if heads else None
+    return heads, end.start() if end else len(text)
+
+
+def function_at(text, at):
+    """The function in whose text a place is: the pattern that the name of its type has, if it has one, and its own
+    name. None outside of functions."""
+    heads, end = heads_at(text, at)
+    if not heads or at > end:
+        return None
+    within = [it for it in OWNER.finditer(text) if it.start() < heads[-1].start()]
+    if not heads[-1][1] or not within:
+        return "", heads[-1][2]
+    # The checker names an `impl` of a trait by the type and the trait.
+    more = r"\w+" if within[-1][1] else ""
+    return f"{within[-1][2]}{more}::", heads[-1][2]
+
+
+def module_of(path):
+    """The module of a source file, `` for the root."""
+    inside = path.removeprefix("src/").removesuffix(".rt")
+    return "" if inside in ("lib", "main") else inside.replace("/", "::")
+
+
+def named(functions, path, function):
+    """The functions of a crate that are meant by one of a file. An `impl` may stand in another module than its type."""
+    owner, name = function
+    module = module_of(path)
+    before = re.escape(f"{module}::") if module else ""
+    here = {it for it in functions if re.fullmatch(f"{before}{owner}{name}", it)}
+    return here or {it for it in functions if owner and re.fullmatch(f"(?:.*::)?{owner}{name}", it)}
+
+
+def applied(edit, texts, folder):
+    """The texts of a crate's files with an edit applied, over texts that others made, and for each place that it
+    changes the file and its function, or None."""
+    texts, places = dict(texts), []
+    for path, old, new in edit.pairs:
+        if path not in texts:
+            try:
+                texts[path] = read(folder, path)
+            except OSError:
+                raise BadEdit(f"there is no file {path}") from None
+        if texts[path].count(old) != 1:
+            raise BadEdit(f"an old text is in {path} {texts[path].count(old)} times, and not once")
+        places.append((path, function_at(texts[path], texts[path].index(old))))
+        texts[path] = texts[path].replace(old, new)
+    if not places:
+        raise BadEdit("it has no pair of an old and a new text")
+    return texts, places

@@ -1,0 +1,315 @@
+#!/usr/bin/env python3
+"""The gate: proves everything from nothing, tries the wrong bodies, and runs every test.
+
+    tools/gate.py
+
+At the top of the repository. `make proofs` builds the program, proves what the wrong bodies need, and keeps that.
+Then the checker's own gate, `rt ci`, proves each crate from nothing and runs its tests. It works on a copy of the
+files that git tracks, as they are now, without the wrong bodies: tools/wrong.py tries these over what the build
+kept, beside it if the memory holds both. At last tests/run.py runs on the program that was built.
+
+A line a minute says what is done and what is left, on a terminal one line that is rewritten. In the end a table has
+the time of each part. The last line counts the tests that passed and failed, and each other part that failed as one
+more. What the parts say goes to files in bin.
+"""
+
+import contextlib
+import ctypes
+import filecmp
+import os
+import re
+import shutil
+import signal
+import subprocess
+import sys
+import threading
+import time
+
+from build import CHECK_MEMORY, GATE_DISK, QUIET_SECONDS, checker, interrupt, memory, missing, processors, show_end
+from edits import FOLDER, edits_of
+from trees import KEPT, Trees, alone_now, lines_of
+from wrong import chosen
+
+TOOLS = os.path.dirname(os.path.abspath(__file__))
+PROGRAM = "bin/cdb"
+COPY = os.path.join("bin", "gate")
+# What is no source, if git does not say what is.
+NOT_SOURCES = ("bin", "dist", KEPT, ".git", "__pycache__")
+COUNTED = re.compile(r"^(\d+) passed, (\d+) failed")
+# What the parts say of a crate, a wrong body and a part of the tests that is done.
+PROVED = re.compile(r"rt: \w+ proved$")
+TRIED = re.compile(r"\w+/\S+")
+TESTED = re.compile(r"tests/\S+.*: \d+ s, (\d+) of (\d+) parts$")
+LIBC = ctypes.CDLL(None)
+# The number by which a process asks for a signal once the one that began it ends.
+SIGNAL_AT_END = 1
+# How many seconds parts that are stopped may take, and pass between two looks at them.
+STOP_SECONDS = 10
+LOOK_SECONDS = 0.2
+
+
+def files_of(top):
+    """The files of the repository: those that git tracks, or all if this is no clone."""
+    listed = subprocess.run(["git", "ls-files", "-z"], cwd=top, capture_output=True, text=True, check=False)
+    found = listed.stdout.split("\0") if listed.returncode == 0 else []
+    if not any(found):
+        for place, folders, names in os.walk(top):
+            folders[:] = [it for it in folders if it not in NOT_SOURCES]
+            found += [os.path.relpath(os.path.join(place, it), top) for it in names]
+    return [it for it in found if os.path.isfile(os.path.join(top, it))]
+
+
+def copy_sources(top, copy):
+    """Copies the repository's files without the wrong bodies, and answers which."""
+    files = [it for it in files_of(top) if FOLDER not in it.split(os.sep)]
+    shutil.rmtree(copy, ignore_errors=True)
+    for it in files:
+        os.makedirs(os.path.dirname(os.path.join(copy, it)), exist_ok=True)
+        shutil.copy2(os.path.join(top, it), os.path.join(copy, it))
+    # The checker looks for the top of a repository.
+    os.makedirs(os.path.join(copy, ".git"))
+    with contextlib.suppress(OSError):
+        subprocess.run(["git", "init", "-q"], cwd=copy, capture_output=True, check=False)
+    return files
+
+
+def is_same(one, other):
+    """Whether two files have the same bytes."""
+    try:
+        return filecmp.cmp(one, other, shallow=False)
+    except OSError:
+        return False
+
+
+def take_tests(top, copy):
+    """Takes the programs of tests that the checker made in the copy: the tests of refused memory run them."""
+    for crate in os.listdir(os.path.join(copy, "crates")):
+        name = os.path.join("crates", crate, KEPT, f"{crate}_tests")
+        if os.path.isfile(os.path.join(copy, name)):
+            os.makedirs(os.path.dirname(os.path.join(top, name)), exist_ok=True)
+            shutil.move(os.path.join(copy, name), os.path.join(top, name))
+
+
+def begin(lanes):
+    """What a part does first: it takes so many processors, and asks to be ended if this process ends in whatever way."""
+    if lanes:
+        os.sched_setaffinity(0, sorted(os.sched_getaffinity(0))[:lanes])
+    LIBC.prctl(SIGNAL_AT_END, signal.SIGTERM)
+
+
+def lanes_beside():
+    """How many processors `rt ci` may use if a wrong body is tried beside it, or 0 if the memory does not hold that:
+    with less than two checks of its own it would take far longer."""
+    lanes = min(processors(), memory() // CHECK_MEMORY - 1)
+    return lanes if lanes >= min(2, processors()) else 0
+
+
+class Part:
+    """A part of the gate: a command, what it says, and the time that it takes."""
+
+    def __init__(self, name, words, folder=".", log=None, steps=None, lanes=None):
+        self.name, self.log, self.steps = name, log, steps
+        self.began, self.wall, self.work, self.status = time.monotonic(), 0, 0, None
+        # How many lines said that a step is done, the last of these, and the lines that wait to be shown.
+        self.done, self.step, self.unseen, self.last = 0, None, [], ""
+        how = {"stdin": subprocess.DEVNULL}
+        if log:
+            how |= {"stdout": subprocess.PIPE, "stderr": subprocess.STDOUT, "text": True, "errors": "replace"}
+        self.process = subprocess.Popen(words, cwd=folder, preexec_fn=lambda: begin(lanes), **how)
+        self.reader = threading.Thread(target=self.read, daemon=True)
+        self.reader.start()
+
+    def read(self):
+        """Takes down what the part says, and how long it took."""
+        if self.log:
+            with open(self.log, "w", encoding="utf-8") as log:
+                for line in self.process.stdout:
+                    log.write(line)
+                    log.flush()
+                    self.take(line.rstrip("\n"))
+        _, status, used = os.wait4(self.process.pid, 0)
+        self.wall, self.work = time.monotonic() - self.began, used.ru_utime + used.ru_stime
+        self.status = self.process.returncode = os.waitstatus_to_exitcode(status)
+
+    def take(self, line):
+        """Takes a line that the part said."""
+        step = self.steps.match(line)
+        if step:
+            self.done, self.step = self.done + 1, step
+        self.last = line
+        self.unseen.append(line)
+
+    def is_running(self):
+        return self.reader.is_alive()
+
+    def counted(self):
+        """How many passed and failed, by the part's last line. One that ended early has failed, whatever it counted."""
+        found = COUNTED.match(self.last)
+        passed, failed = map(int, found.groups()) if found else (0, 0)
+        return passed, failed or int(self.status != 0 or not found)
+
+    def end(self):
+        """Ends the part."""
+        with contextlib.suppress(ProcessLookupError):
+            if self.process.returncode is None:
+                self.process.terminate()
+
+
+class Gate:
+    """The parts in turn, what is said of them, and what failed."""
+
+    def __init__(self, top):
+        self.top, self.began, self.said = top, time.monotonic(), time.monotonic()
+        self.parts, self.failed = [], 0
+        self.crates = len(lines_of(top))
+        trees = Trees(top, os.path.join(top, "bin", "trees"))
+        self.bodies = sum(len(found) for found in chosen(trees, [], False)[0].values())
+
+    def begin(self, *words, **named):
+        """Begins a part."""
+        part = Part(*words, **named)
+        self.parts.append(part)
+        return part
+
+    def progress(self, part):
+        """How far a part is."""
+        if part.name == "rt ci":
+            return f"rt ci: {part.done} of {self.crates} crates proved"
+        if part.name == "wrong bodies":
+            return f"wrong bodies: {part.done} of {self.bodies} tried"
+        return f"tests: {part.step[1]} of {part.step[2]} parts" if part.step else "tests"
+
+    def show(self, line):
+        """Shows a line, without the one that a terminal rewrites."""
+        before = "\r\033[K" if sys.stdout.isatty() else ""
+        print(f"{before}{line}", flush=True)
+
+    def say(self, running):
+        """Says how far the parts are: on a terminal all the time, else once a minute."""
+        text = f"  {(time.monotonic() - self.began) / 60:.0f} minutes. {'; '.join(self.progress(it) for it in running)}"
+        if sys.stdout.isatty():
+            print(f"\r\033[K{text}"[: shutil.get_terminal_size().columns + 4], end="", flush=True)
+        elif time.monotonic() - self.said >= QUIET_SECONDS:
+            print(text, flush=True)
+            self.said = time.monotonic()
+
+    def wait(self, *parts, shows=lambda line: True, holds=0):
+        """Waits for parts, and shows those of their lines that are to be seen, but so many of the last."""
+        while True:
+            running = [it for it in parts if it.is_running()]
+            for it in parts:
+                while len(it.unseen) > holds:
+                    line = it.unseen.pop(0)
+                    if shows(line):
+                        self.show(line)
+            if not running:
+                return
+            told = [it for it in running if it.log]
+            if told:
+                self.say(told)
+            time.sleep(LOOK_SECONDS)
+
+    def prove(self, copy):
+        """Proves all from nothing, and tries the wrong bodies."""
+        files = copy_sources(self.top, copy)
+        lanes = lanes_beside()
+        ci = self.begin("rt ci", [checker(), "ci"], folder=copy, log="bin/gate.log", steps=PROVED, lanes=lanes)
+        words = [sys.executable, os.path.join(TOOLS, "wrong.py")]
+        if lanes:
+            words += ["--beside", str(ci.process.pid)]
+        else:
+            self.wait(ci, shows=is_wrong)
+        bodies = self.begin("wrong bodies", words, log="bin/bodies.log", steps=TRIED)
+        self.wait(ci, bodies, shows=is_wrong)
+        changed = [it for it in files if not is_same(os.path.join(self.top, it), os.path.join(copy, it))]
+        for it in changed:
+            self.show(f"{it} was changed while the gate ran")
+        self.failed += len(changed) > 0
+        take_tests(self.top, copy)
+        for part in (ci, bodies):
+            passed, failed = part.counted()
+            self.show(f"{part.name}: {passed} passed, {failed} failed")
+            self.failed += failed
+            if failed:
+                show_end(part.log, f"{part.name} failed.")
+
+    def test(self):
+        """Runs the tests, and answers how many passed and failed."""
+        words = [sys.executable, os.path.join("tests", "run.py"), PROGRAM, "--gate"]
+        part = self.begin("tests", words, log="bin/tests.log", steps=TESTED)
+        # The counts are the last line of all.
+        self.wait(part, holds=1)
+        if not COUNTED.match(part.last):
+            self.show(part.last)
+        return part.counted()
+
+    def table(self):
+        """The time of each part."""
+        yield f"{'':14}{'minutes':>10}{'of processor time':>20}"
+        for it in self.parts:
+            yield f"{it.name:14}{it.wall / 60:10.1f}{it.work / 60:20.1f}"
+        work = sum(it.work for it in self.parts)
+        yield f"{'in all':14}{(time.monotonic() - self.began) / 60:10.1f}{work / 60:20.1f}"
+
+    def stop(self):
+        """Ends the parts that run."""
+        for it in self.parts:
+            it.end()
+        for it in self.parts:
+            it.reader.join(STOP_SECONDS)
+
+    def run(self, copy):
+        """Runs the gate, and answers how many passed and failed."""
+        build = self.begin("build", ["make", "-s", "proofs"])
+        self.wait(build)
+        if build.status != 0:
+            return 0, 1
+        try:
+            self.prove(copy)
+        finally:
+            # The checker takes a list of crates below the top for a mistake.
+            shutil.rmtree(copy, ignore_errors=True)
+        passed, failed = self.test()
+        return passed, failed + self.failed
+
+
+def is_wrong(line):
+    """Whether a line of `rt ci` or of the wrong bodies says that something failed."""
+    return "NOT PROVED" in line or "FAILED" in line or (TRIED.match(line) and ": refused by " not in line)
+
+
+def refused(top):
+    """Why the gate cannot run here, in one line, or None if it can."""
+    trees = Trees(top, os.path.join(top, "bin", "trees"))
+    crates = [it for it in trees.libraries if edits_of(trees.folder(it))]
+    return missing(trees, crates, GATE_DISK)
+
+
+def main():
+    if len(sys.argv) != 1:
+        sys.exit(__doc__)
+    top = os.getcwd()
+    os.makedirs("bin", exist_ok=True)
+    try:
+        with alone_now("bin"):
+            why = refused(top)
+            if why is not None:
+                sys.exit(f"The gate cannot run: {why}")
+            for it in (signal.SIGTERM, signal.SIGHUP):
+                signal.signal(it, interrupt)
+            gate = Gate(top)
+            try:
+                passed, failed = gate.run(os.path.join(top, COPY))
+            except KeyboardInterrupt:
+                gate.stop()
+                sys.exit("\nThe gate was stopped. What is proved so far is kept.")
+    except BlockingIOError:
+        sys.exit("The gate runs in this folder already.")
+    for line in gate.table():
+        gate.show(line)
+    print(f"{passed} passed, {failed} failed")
+    sys.exit(1 if failed else 0)
+
+
+if __name__ == "__main__":
+    main()

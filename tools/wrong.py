@@ -1,0 +1,411 @@
+#!/usr/bin/env python3
+"""Tries wrong bodies over what a build kept of the right ones: the prover must refuse each, by its clause.
+
+    tools/wrong.py [--all] [--note] [--beside PID] [CRATE | CRATE/EDIT ..]
+
+A wrong body is an edit of a crate's folder must-fail. Those of tools/wrong_bodies.txt are tried, with --all each,
+of the crates that are named, or of all; an edit that is named is tried in any case. Each crate must be proved and
+kept, as `make` leaves it.
+
+Wrong bodies of different functions are tried in one check, over hard links of what was kept: so the check
+proves the functions that they touch, and nothing else. One counts as refused if a goal of its own function
+stays open, and the reason is no name of a stored proof that the edit took away. The goal's clause must be
+the one that the edit's line `clause:` names. Whatever does not pass so is tried once more, alone.
+
+With --note that line is written anew where the clause did not refuse the edit. With --beside one check runs at
+a time, at the lowest priority, as long as that process runs; else as many run as processors and memory allow.
+The last line counts all that passed and failed.
+"""
+
+import argparse
+import contextlib
+import os
+import re
+import shutil
+import signal
+import subprocess
+import sys
+import threading
+import time
+from concurrent.futures import ThreadPoolExecutor
+from dataclasses import dataclass, field
+
+from build import CPU, QUIET_SECONDS, checker, interrupt, is_program, most_at_once
+from edits import BadEdit, applied, edits_of, function_at, named, note_clause
+from trees import PROVED, Trees, alone_now, read
+
+LIST = "tools/wrong_bodies.txt"
+LOG = "bin/wrong.log"
+# A check costs ten seconds before any proof, which these share; with more, one check would take as long as all others.
+MOST_AT_ONCE = 10
+
+# A stored proof that names something which is not there.
+LOST = re.compile(r"has no field|is not in scope|has no `|was not admitted|has no returns-")
+# What the checker says of a goal that it did not prove: of one with a stored proof, of one without at its place in
+# the source, and of those of a function.
+STORED = re.compile(r"(?:note: )?(?:\./)?proofs/(.+)/(?:Answers|Proof|Invariants)\.antt:\d+:\d+: error: (.*)")
+SEARCHED = re.compile(r"note: (src/\S+?):(\d+):\d+: .*not proved.* \(`([^`]+)`\)")
+UNANSWERED = re.compile(r"^fn (\S+): .*`search` did not prove ((?:`[^`]+`(?:, | and )?)+)", re.MULTILINE)
+UNPROVED = re.compile(r"^fn \S+: (?:not proved|no proof)", re.MULTILINE)
+FUNCTION = re.compile(r"Rattle-(\w+)-proofs\.(.+)\.Proof\.oantt")
+
+
+def clause_of(goal):
+    """The clause that a goal is for, of the goal's name."""
+    goal = re.sub(r"-\d+$", "", goal)
+    head, _, clause = goal.partition("-clause-")
+    what = head.split("-")[0]
+    if what == "returns":
+        return clause or "returns"
+    if what in ("loop", "invariant", "decreases"):
+        turns = re.sub(r"^(?:invariant-|decreases-)?loop-?", "", head)
+        name = re.split(r"-?(?:init|preserved|smaller)", turns)[0]
+        return f"loop {name}".strip()
+    if "-requires" in head:
+        return f"{what} requires {clause}".strip()
+    return f"{what} {clause}".strip()
+
+
+@dataclass
+class Told:
+    """What a check said of the functions that were touched: the clauses of the goals that stay open, by function,
+    those whose stored proof names what is lost, and the first error."""
+
+    open: dict = field(default_factory=dict)
+    lost: dict = field(default_factory=dict)
+    is_read: bool = False
+    is_proved: bool = False
+    error: str = ""
+
+    def add(self, kept, function, clause):
+        """Takes down a clause of a function, once."""
+        clauses = kept.setdefault(function, [])
+        if clause not in clauses:
+            clauses.append(clause)
+
+    def clauses(self, functions):
+        """The clauses of functions that stay open, those of all for None."""
+        return [it for name, found in self.open.items() if functions is None or name in functions for it in found]
+
+
+def told_of(output, status, functions, texts):
+    """What a check of these functions with these texts said."""
+    # What is said of one goal may go on in further lines.
+    output = re.sub(r"\n {2,}", " ", output)
+    told = Told(is_read=bool(UNPROVED.search(output)), is_proved=status == 0)
+    errors = [it for it in output.splitlines() if ": error" in it or it.startswith("rattle: no verdict")]
+    told.error = (errors or output.splitlines()[-1:] or ["the checker said nothing"])[0][:200]
+    for function, said in STORED.findall(output):
+        goal = re.match(r"`([^`]+)`", said)
+        clause = clause_of(goal[1]) if goal else "a stored proof"
+        told.add(told.lost if LOST.search(said) else told.open, function.replace("/", "::"), clause)
+    goals = [(named_at(texts, path, int(line), functions), goal) for path, line, goal in SEARCHED.findall(output)]
+    for name, found in UNANSWERED.findall(output):
+        goals += [({name.partition("::")[2]}, it) for it in re.findall(r"`([^`]+)`", found)]
+    for found, goal in goals:
+        for function in found:
+            # A goal whose stored proof has lost it says nothing of the body.
+            if clause_of(goal) not in told.lost.get(function, ()):
+                told.add(told.open, function, clause_of(goal))
+    return told
+
+
+def named_at(texts, path, line, functions):
+    """The functions that the checker means by a line of a file: that of a function's body, or where its item begins."""
+    lines = texts[path].splitlines(keepends=True) if path in texts else []
+    while line < len(lines) and lines[line - 1].lstrip().startswith(("#[", "//")):
+        line += 1
+    place = function_at("".join(lines), len("".join(lines[:line])) - 1)
+    return named(functions, path, place) if place else set()
+
+
+class Trial:
+    """A wrong body that is tried."""
+
+    def __init__(self, edit, functions, folder):
+        self.edit, self.why, self.is_last = edit, None, False
+        try:
+            _, places = applied(edit, {}, folder)
+            found = [named(functions, path, it) if it else set() for path, it in places]
+            # A change outside of functions touches all of them.
+            self.functions = set().union(*found) if all(found) else None
+        except BadEdit as why:
+            self.functions, self.why = None, f"cannot be tried: {why}"
+
+    def judge(self, told):
+        """What is wrong with how a check ended, or None if the edit's clause refused it; and the clauses that did."""
+        clauses = told.clauses(self.functions)
+        if told.is_proved:
+            return "is let through: the crate is proved with it", clauses
+        if clauses:
+            noted = self.edit.clause
+            if noted in clauses:
+                return None, clauses
+            beside = f"`clause: {noted}`" if noted else "no line `clause:`"
+            return f"is refused by {', '.join(clauses)}, and beside it is {beside}", clauses
+        if not told.is_read:
+            return f"cannot be tried: {told.error}", clauses
+        lost = [it for name, found in told.lost.items() if not self.functions or name in self.functions for it in found]
+        if lost:
+            return f"is refused by lost names alone, of the stored proofs for {', '.join(lost)}", clauses
+        return "is let through: no goal of its own function stays open", clauses
+
+
+def passes_of(trials):
+    """Groups wrong bodies of a crate, a few at most, so that none of a group touches a function that another does. One
+    that touches what is no function is alone."""
+    groups = []
+    for trial in trials:
+        place = next((it for it in groups if fits(trial, it)), None)
+        if place is None:
+            groups.append([trial])
+        else:
+            place.append(trial)
+    return groups
+
+
+def fits(trial, group):
+    """Whether a wrong body can be tried with others."""
+    return len(group) < MOST_AT_ONCE and all(trial.functions and it.functions and not trial.functions & it.functions for it in group)
+
+
+def cpu_of(trees, crate):
+    """The words for the processor, with which the build proved a program or a static library."""
+    is_static = "staticlib" in trees.lines[crate].split(":")[0].split()
+    return CPU if is_static or is_program(trees, crate) else []
+
+
+def proved_functions(folder, crate):
+    """The functions of a crate, by what the checker kept of it."""
+    found = set()
+    for _, _, files in os.walk(os.path.join(folder, PROVED)):
+        for name in files:
+            said = FUNCTION.fullmatch(name)
+            if said and said[1] == crate:
+                found.add(said[2].replace(".", "::"))
+    return found
+
+
+class Trials:
+    """The trials of wrong bodies, at most so many checks at once."""
+
+    def __init__(self, trees, log, words):
+        self.trees, self.log, self.words = trees, log, words
+        self.most = most_at_once(trees)
+        self.lock = threading.Condition()
+        self.running, self.processes, self.rooms = 0, [], 0
+        self.tried = self.count = self.passed = self.failed = 0
+        self.is_stopped, self.said = False, time.monotonic()
+        # The wrong bodies that a first check did not settle, each as a group.
+        self.left = []
+
+    def is_beside(self):
+        """Whether the process that this runs beside still runs."""
+        return self.words.beside is not None and os.path.isdir(f"/proc/{self.words.beside}")
+
+    @contextlib.contextmanager
+    def lane(self):
+        """Waits until another check may run."""
+        with self.lock:
+            while self.running >= (1 if self.is_beside() else self.most):
+                self.lock.wait(1)
+            self.running, self.rooms = self.running + 1, self.rooms + 1
+            room = self.rooms
+        try:
+            yield room
+        finally:
+            with self.lock:
+                self.running -= 1
+                self.lock.notify_all()
+
+    def check(self, crate, texts, functions, room):
+        """Checks these functions of a crate with these texts, and answers the status and what was said."""
+        words = [checker(), "check", "--jobs", "1", *cpu_of(self.trees, crate)]
+        words += [word for it in sorted(functions or ()) for word in ("--only", it)]
+        how = {"stdin": subprocess.DEVNULL, "stdout": subprocess.PIPE, "stderr": subprocess.STDOUT}
+        with self.trees.room_of(crate, f"{crate}-{room}", texts) as folder:
+            with self.lock:
+                if self.is_stopped:
+                    return 2, "stopped"
+                words = ["nice", "-n", "19", *words] if self.is_beside() else words
+                process = subprocess.Popen(words, cwd=folder, text=True, errors="replace", **how)
+                self.processes.append(process)
+            output, _ = process.communicate()
+        return process.returncode, output
+
+    def run(self, crate, group):
+        """Tries the wrong bodies of a group at once, and takes down how each ended."""
+        folder, texts = self.trees.folder(crate), {}
+        for it in group:
+            try:
+                texts, _ = applied(it.edit, texts, folder)
+            except BadEdit:
+                # Another edit changed its line: it is tried alone.
+                return [self.put_off(crate, it) for it in group]
+        functions = None if any(it.functions is None for it in group) else set().union(*(it.functions for it in group))
+        with self.lane() as room:
+            if self.is_stopped:
+                return None
+            began = time.monotonic()
+            status, output = self.check(crate, texts, functions, room)
+            if self.is_stopped:
+                return None
+        told = told_of(output, status, functions or proved_functions(folder, crate), self.texts_of(folder, texts))
+        with self.lock:
+            names = ", ".join(it.edit.name for it in group)
+            self.log.write(f"== {crate}: {names}: {time.monotonic() - began:.0f} s, status {status}\n{output}\n")
+            self.log.flush()
+        for it in group:
+            why, clauses = it.judge(told)
+            is_noted = self.words.note and clauses
+            # A check that came to no end says nothing of any body.
+            if why is not None and (len(group) > 1 or status not in (0, 1)) and not (it.is_last or is_noted):
+                it.is_last = len(group) == 1
+                self.put_off(crate, it)
+            else:
+                self.end(it, why, clauses)
+        return None
+
+    def texts_of(self, folder, texts):
+        """The texts of a crate's code, with those that edits made."""
+        found = {}
+        for place, _, names in os.walk(os.path.join(folder, "src")):
+            for name in names:
+                path = os.path.relpath(os.path.join(place, name), folder)
+                found[path] = texts.get(path) or read(folder, path)
+        return found
+
+    def put_off(self, crate, trial):
+        """Takes down that a wrong body is to be tried alone."""
+        with self.lock:
+            self.left.append((crate, [trial]))
+
+    def end(self, trial, why, clauses):
+        """Takes down and says how a wrong body ended."""
+        with self.lock:
+            if why is not None and clauses and self.words.note:
+                note_clause(trial.edit, best_of(clauses))
+                print(f"{trial.edit}: noted {best_of(clauses)} of {', '.join(clauses)}", flush=True)
+                why = None
+            elif why is None:
+                print(f"{trial.edit}: refused by {trial.edit.clause}", flush=True)
+            else:
+                print(f"{trial.edit} {why}", flush=True)
+            self.tried += 1
+            self.passed, self.failed = self.passed + (why is None), self.failed + (why is not None)
+            if time.monotonic() - self.said >= QUIET_SECONDS:
+                print(f"  {self.tried} of {self.count} wrong bodies tried", flush=True)
+                self.said = time.monotonic()
+
+    def try_all(self, trials):
+        """Tries the wrong bodies of crates: first some at a time, then each that is not settled alone."""
+        self.count = sum(len(found) for found in trials.values())
+        for it in [it for found in trials.values() for it in found if it.why]:
+            self.end(it, it.why, [])
+        groups = []
+        for crate, found in trials.items():
+            groups += [(crate, it) for it in passes_of([it for it in found if not it.why])]
+        # The checks with most to prove come first.
+        groups.sort(key=lambda it: -len(it[1]))
+        while groups and not self.is_stopped:
+            self.left = []
+            with ThreadPoolExecutor(max(1, self.most)) as pool:
+                running = [pool.submit(self.run, crate, group) for crate, group in groups]
+                try:
+                    for done in running:
+                        done.result()
+                except KeyboardInterrupt:
+                    self.stop()
+                    raise
+            groups = self.left
+
+    def stop(self):
+        """Ends the checks that run."""
+        with self.lock:
+            self.is_stopped = True
+            for process in self.processes:
+                process.terminate()
+            self.lock.notify_all()
+
+
+def best_of(clauses):
+    """The clause to note of those that refused an edit: one of the function's own contract, if one did."""
+    return min(clauses, key=lambda it: " " in it or it.startswith(("loop", "invariant_of")))
+
+
+def listed(top):
+    """The wrong bodies that the gate tries."""
+    lines = [line.split("#")[0].strip() for line in read(top, LIST).splitlines()]
+    return [it for it in lines if it]
+
+
+def chosen(trees, names, is_all):
+    """The wrong bodies to try of these crates and edits, by crate, and what is wrong with the list and the names."""
+    listed_here = set(listed(trees.top))
+    found, there = {}, set()
+    for crate in trees.libraries:
+        edits = edits_of(trees.folder(crate))
+        there |= {crate, *map(str, edits)}
+        of_all = [it for it in edits if is_all or str(it) in listed_here] if not names or crate in names else []
+        found[crate] = [it for it in edits if it in of_all or str(it) in names]
+    wrong = [f"{LIST} names {it}, and there is no such wrong body" for it in sorted(listed_here - there)]
+    wrong += [f"there is no crate and no wrong body {it}" for it in names if it not in there]
+    return {crate: edits for crate, edits in found.items() if edits}, wrong
+
+
+def trials_of(trees, edits):
+    """The trials of wrong bodies, and what is wrong with crates that nothing was kept of."""
+    trials, wrong = {}, []
+    for crate, found in edits.items():
+        functions = proved_functions(trees.folder(crate), crate)
+        if functions:
+            trials[crate] = [Trial(it, functions, trees.folder(crate)) for it in found]
+        else:
+            wrong.append(f"no proofs of {crate} are kept: run make wrong")
+    return trials, wrong
+
+
+def words_of():
+    """The words of the command line."""
+    words = argparse.ArgumentParser(description=__doc__.split("\n", 1)[0])
+    words.add_argument("--all", action="store_true")
+    words.add_argument("--note", action="store_true")
+    words.add_argument("--beside", type=int)
+    words.add_argument("names", nargs="*")
+    return words.parse_args()
+
+
+def try_them(top, place, words):
+    """Tries the wrong bodies that are asked for, and answers how many passed and failed."""
+    trees = Trees(top, place)
+    edits, wrong = chosen(trees, words.names, words.all)
+    trials, unproved = trials_of(trees, edits)
+    for line in [*wrong, *unproved]:
+        print(line, flush=True)
+    with open(os.path.join(top, LOG), "w", encoding="utf-8") as log:
+        run = Trials(trees, log, words)
+        run.try_all(trials)
+    return run.passed, run.failed + len(wrong) + len(unproved)
+
+
+def main():
+    words = words_of()
+    top = os.getcwd()
+    place = os.path.join(top, "bin", "rooms")
+    os.makedirs(place, exist_ok=True)
+    for it in (signal.SIGTERM, signal.SIGHUP):
+        signal.signal(it, interrupt)
+    try:
+        with alone_now(place):
+            passed, failed = try_them(top, place, words)
+            shutil.rmtree(place)
+    except BlockingIOError:
+        sys.exit("Wrong bodies are tried in this folder already.")
+    except KeyboardInterrupt:
+        sys.exit("\nThe trial of wrong bodies was stopped.")
+    print(f"{passed} passed, {failed} failed")
+    sys.exit(1 if failed else 0)
+
+
+if __name__ == "__main__":
+    main()
