@@ -32,13 +32,16 @@ JOBS = [
 COUNTED = 10_000
 # A job that makes a file, its records, its rounds, what it calls, and its goal beside tinycdb.
 MAKING = [
-    ("add", 1_000_000, 15, "cdb_make_add", 0.9),
+    ("add", 1_000_000, 15, "cdb_make_add", 0.8),
+    ("add", 10_000_000, 3, "cdb_make_add", 0.8),
     ("insert", 1_000_000, 2, "cdb_make_put with CDB_PUT_INSERT", 0.1),
     ("warn", 1_000_000, 2, "cdb_make_put with CDB_PUT_WARN", 0.1),
     # tinycdb's takes 100 times as long for 10 times as many.
     ("replace", 100_000, 2, "cdb_make_put with CDB_PUT_REPLACE", 0.1),
     ("replace0", 1_000_000, 2, "cdb_make_put with CDB_PUT_REPLACE0", 0.1),
 ]
+# The greatest peak of memory of an add, beside tinycdb's.
+GREATEST_PEAK = 1.3
 # The greatest size of the stripped library, in bytes.
 GREATEST_SIZE = 120 * 1024
 
@@ -97,7 +100,7 @@ def time_making(program, folder, ours, theirs):
               f"| {mine / other:.2f}, goal {goal} |")
         mine, other = (max(peak for _, peak in took[it]) / 1024 for it in (ours, theirs))
         print(f"| {what}, peak of memory | {records:,} | {mine:.0f} MiB | {other:.0f} MiB "
-              f"| {mine / other:.2f} |")
+              f"| {mine / other:.2f}{f', goal {GREATEST_PEAK}' if job == 'add' else ''} |")
 
 
 def main(ours, theirs=None):
