@@ -282,8 +282,8 @@ fn a_finish_that_is_refused_keeps_the_records(rt: HostRuntime) -> Result<(), Fai
             taken = taken.saturating_add(1);
         }
     }
-    // A finish of one record makes four calls, each of which failed once.
-    assert!(rt; refused == 4 && taken > 0);
+    // A finish of one record makes five calls, each of which failed once.
+    assert!(rt; refused == 5 && taken > 0);
     Ok(())
 }
 

@@ -103,8 +103,8 @@ fn play(
     finished(batch, met)
 }
 
-/// How many calls of the store it takes to make a batch.
-const MADE: u64 = 2;
+/// How many calls of the store it takes to make a batch: it is emptied, gets its head, and is flushed.
+const MADE: u64 = 3;
 
 /// Whether a script meets the fault of a store of which one call fails. It comes to what is wanted
 /// in any case, unless it breaks the batch.

@@ -107,7 +107,7 @@ fn faults_of_a_replacement_and_a_look(rt: HostRuntime) -> Result<(), Fail> {
         exists(b"one"),
         replace(b"a", b"2"),
     ];
-    assert_faults(&rt, rt.alloc(), &script, [16, 16, 6])
+    assert_faults(&rt, rt.alloc(), &script, [18, 18, 9])
 }
 
 #[test]
@@ -121,14 +121,14 @@ fn faults_of_a_removal_of_three(rt: HostRuntime) -> Result<(), Fail> {
         remove(b"a"),
         exists(b"one"),
     ];
-    assert_faults(&rt, rt.alloc(), &script, [20, 19, 7])
+    assert_faults(&rt, rt.alloc(), &script, [22, 21, 10])
 }
 
 #[test]
 fn faults_of_a_long_move(rt: HostRuntime) -> Result<(), Fail> {
     let ten = long(rt.alloc(), 10000)?;
     let script = [add(b"a", b"1"), add(b"b", &ten), replace(b"a", b"2")];
-    assert_faults(&rt, rt.alloc(), &script, [17, 17, 13])
+    assert_faults(&rt, rt.alloc(), &script, [19, 19, 16])
 }
 
 #[test]
@@ -141,5 +141,5 @@ fn faults_of_two_long_moves(rt: HostRuntime) -> Result<(), Fail> {
         add(b"c", &five),
         replace(b"a", b"3"),
     ];
-    assert_faults(&rt, rt.alloc(), &script, [25, 25, 20])
+    assert_faults(&rt, rt.alloc(), &script, [27, 27, 23])
 }

@@ -85,15 +85,15 @@ fn held(alloc: Global, calls: u64) -> Result<Option<u64>, AllocError> {
 
 #[test]
 fn the_lines_are_those_of_the_records_that_were_put(rt: HostRuntime) -> Result<(), Fail> {
-    // The first two calls empty the store and write its head. Then come looks and writes.
+    // The first three calls empty the store, write its head and flush it. Then come looks and writes.
     let held = [
-        held(rt.alloc(), 2)?,
         held(rt.alloc(), 3)?,
         held(rt.alloc(), 4)?,
         held(rt.alloc(), 5)?,
         held(rt.alloc(), 6)?,
         held(rt.alloc(), 7)?,
         held(rt.alloc(), 8)?,
+        held(rt.alloc(), 9)?,
         held(rt.alloc(), u64::MAX)?,
     ];
     // A record whose key is there is found by one read of its header and its key.
