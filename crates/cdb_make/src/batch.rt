@@ -8,6 +8,7 @@ ghost use Rattle.cdb_make.specs.Unfinished.{IsUnfinished};
 ghost use Rattle.cdb_make.specs.Views.Making.{MakingFault};
 
 use crate::fault::MakeFault;
+use crate::index::list::Indexing;
 use crate::lifetime::Refused;
 use crate::maker::Maker;
 use crate::removal::gap::Gap;
@@ -189,8 +190,8 @@ impl<S: Store, L: Width> Batch<S, L> {
 
     /// Whether some record has a key that is not marked.
     ///
-    /// It writes nothing and takes no memory. `Lookup`: the store failed while it was read.
-    /// `Broken`: an earlier call broke the batch, or the store gave back other bytes than were
+    /// It writes nothing. It asks for memory to index records, and compares them one by one where
+    /// that is refused. `Lookup`: the store failed while it was read. `Broken`: an earlier call broke the batch, or the store gave back other bytes than were
     /// written.
     pub fn exists(&mut self, key: &[u8]) -> Result<bool, MakeFault>
         ensures there { (rs : List KeyValue) → Holds self.old rs
@@ -201,6 +202,6 @@ impl<S: Store, L: Width> Batch<S, L> {
         ensures follows { Follows self.old self.new }
         ensures ok_failures { OnOk result (HasNotFailed self.old self.new) }
     {
-        self.maker.look(hash(key), key)
+        self.maker.look(Indexing::Growing, hash(key), key)
     }
 }

@@ -143,7 +143,7 @@ impl<S: Store, L: Width> Maker<S, L> {
     /// Whether some record has a key.
     ///
     /// It writes nothing and takes no memory: records for which the index has no room, such as those
-    /// put by `Mode::Add`, are compared one by one. `Lookup`: the store failed while it was read.
+    /// put by `Mode::Add` or appended, are compared one by one. `Lookup`: the store failed while it was read.
     /// `Broken`: an earlier call broke the maker, or the store gave back other bytes than were
     /// written.
     pub fn exists(&mut self, key: &[u8]) -> Result<bool, MakeFault>
@@ -158,11 +158,16 @@ impl<S: Store, L: Width> Maker<S, L> {
         ensures unwritten { S.unwritten (store_of self.old) ≤ S.unwritten (store_of self.new) }
         ensures ok_failures { OnOk result (HasNotFailed self.old self.new) }
     {
-        self.look(hash(key), key)
+        self.look(Indexing::Fixed, hash(key), key)
     }
 
     /// Whether some record has a key of this hash that is not marked, as `exists` says it.
-    pub(crate) fn look(&mut self, hash: u32, key: &[u8]) -> Result<bool, MakeFault>
+    pub(crate) fn look(
+        &mut self,
+        indexing: Indexing,
+        hash: u32,
+        key: &[u8],
+    ) -> Result<bool, MakeFault>
         requires hash { hash ≡ key_hash key.now }
         ensures there { (all : List KeyValue) (marks : List Bool) → Carries self.new all marks
             → IfOk result (λ there. IsThere there key.now (unmarked marks all)
@@ -179,7 +184,7 @@ impl<S: Store, L: Width> Maker<S, L> {
         if self.broken {
             return Err(MakeFault::Broken);
         }
-        self.lists.catch_up(hash, Indexing::Fixed);
+        self.lists.catch_up(hash, indexing);
         match take_out::exists::<S, L>(&mut self.store, &self.lists, hash, key, self.end) {
             Ok(there) => Ok(there),
             Err(fault) => Err(self.failed_look(fault)),

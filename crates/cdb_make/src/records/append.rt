@@ -109,7 +109,7 @@ impl<S: Store, L: Width> Maker<S, L> {
         ensures store { self.new.store ≡ self.old.store }
     {
         self.lists
-            .reserve_entry(&mut self.gaps, hash, Indexing::Growing)?;
+            .reserve_entry(&mut self.gaps, hash, Indexing::Fixed)?;
         self.lists.push_entry(hash, self.end);
         self.end += size;
         self.count += 1;

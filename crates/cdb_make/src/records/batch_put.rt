@@ -172,7 +172,7 @@ impl<S: Store, L: Width> Batch<S, L> {
         ensures counts { OnErr result (SameCounts self.old self.new) }
         ensures pace { KeepsPace self.old self.new }
     {
-        let put = self.maker.meet(mode, hash, key)?;
+        let put = self.maker.meet(Indexing::Growing, mode, hash, key)?;
         if self.enter(indexing_of(mode), put, hash, key, value)? {
             return Ok(put);
         }

@@ -70,7 +70,13 @@ impl<S: Store, L: Width> Maker<S, L> {
     /// Looks at the key of a record that is to be put, and answers what the put will answer unless
     /// it fails. The gaps of records that are to be taken out are noted.
     #[inline(always)]
-    pub(crate) fn meet(&mut self, mode: Mode, hash: u32, key: &[u8]) -> Result<Put, MakeFault>
+    pub(crate) fn meet(
+        &mut self,
+        indexing: Indexing,
+        mode: Mode,
+        hash: u32,
+        key: &[u8],
+    ) -> Result<Put, MakeFault>
         requires hash { hash ≡ key_hash key.now }
         ensures foresees { (value : List ℕ) → IfOk result (λ put.
             Foresees self.new mode (record { key = key.now; value = value }) put) }
@@ -92,19 +98,19 @@ impl<S: Store, L: Width> Maker<S, L> {
                 Ok(Put::Added)
             }
             Mode::Warn => {
-                if self.look(hash, key)? {
+                if self.look(indexing, hash, key)? {
                     return Ok(Put::AddedAgain);
                 }
                 Ok(Put::Added)
             }
             Mode::Insert => {
-                if self.look(hash, key)? {
+                if self.look(indexing, hash, key)? {
                     return Ok(Put::Present);
                 }
                 Ok(Put::Added)
             }
             Mode::Replace => {
-                let taken = self.note_gaps(Indexing::Fixed, hash, key)?;
+                let taken = self.note_gaps(indexing, hash, key)?;
                 if taken == 0 {
                     return Ok(Put::Added);
                 }
@@ -219,7 +225,7 @@ impl<S: Store, L: Width> Maker<S, L> {
         ensures counts { OnErr result (SameCounts self.old self.new) }
     {
         let hash = hash(key);
-        let put = self.meet(mode, hash, key)?;
+        let put = self.meet(Indexing::Fixed, mode, hash, key)?;
         match put {
             Put::Present => {}
             Put::Added => self.add(indexing_of(mode), hash, key, value)?,
