@@ -41,7 +41,7 @@ pub struct BufferedStore<S: Store> {
 
 impl<S: Store> BufferedStore<S> {
     ghost use Rattle.cdb_store.specs.BufferedStore.{held_of, bytes_of, size_of, images_of};
-    ghost use Rattle.cdb_store.specs.BufferedStore.{inner_of, capacity_of, start_of};
+    ghost use Rattle.cdb_store.specs.BufferedStore.{inner_of, capacity_of, start_of, written_of};
 
     /// A store over `inner` with a buffer of `capacity` bytes.
     ///
@@ -150,6 +150,8 @@ impl<S: Store> BufferedStore<S> {
     }
 
     /// Makes the buffer one that goes on at `pos`, with room for `n` bytes more.
+    #[cold]
+    #[inline(never)]
     fn make_room(&mut self, pos: u64, n: usize) -> Result<(), StoreFault>
         requires start { pos ≤ size_of self.old }
         requires end { pos < 2 ^ 63 }
@@ -193,6 +195,34 @@ impl<S: Store> BufferedStore<S> {
             return Ok(());
         }
         lengthen(&mut self.buffer, self.held + n, self.capacity)
+    }
+
+    /// Makes the buffer one in which `n` bytes follow those held, and go on at `pos`. Mostly it is
+    /// one, which takes a single test.
+    #[inline(always)]
+    fn prepare(&mut self, pos: u64, n: usize) -> Result<(), StoreFault>
+        requires start { pos ≤ size_of self.old }
+        requires end { pos < 2 ^ 63 }
+        requires fits { n ≤ self.old.capacity }
+        ensures images { SameImages (images_of self.old) (images_of self.new) }
+        ensures size { size_of self.new ≡ size_of self.old }
+        ensures continues { OnOk result (pos ≡ self.new.pos + held_of self.new) }
+        ensures wide { OnOk result (held_of self.new + n ≤ length self.new.buffer.items) }
+        ensures written { written_of self.new ≡ written_of self.old }
+        ensures trace { self.new.trace ≡ self.old.trace }
+        ensures room { S.room self.old.inner ≤ S.room self.new.inner }
+        ensures memory { IsErrOf result NoMemory → ⊥ }
+        ensures unwritten { HasCause (S.unwritten self.old.inner) (S.unwritten self.new.inner)
+            result }
+        ensures cause { HasCause (S.failures self.old.inner) (S.failures self.new.inner) result }
+        ensures ok_failures { OnOk result (S.failures self.new.inner ≡ S.failures self.old.inner) }
+    {
+        if pos == self.pos + self.held as u64 && n <= self.buffer.len() - self.held {
+            return Ok(());
+        }
+        self.make_room(pos, n)?;
+        self.widen(n)?;
+        Ok(())
     }
 }
 
@@ -298,8 +328,7 @@ impl<S: Store> Store for BufferedStore<S> {
             self.trace.note(&Call::Wrote(pos), bytes);
             return Ok(());
         }
-        self.make_room(pos, bytes.len())?;
-        self.widen(bytes.len())?;
+        self.prepare(pos, bytes.len())?;
         self.buffer[self.held..self.held + bytes.len()].copy_from_slice(bytes);
         self.held += bytes.len();
         self.trace.note(&Call::Wrote(pos), bytes);
@@ -322,8 +351,7 @@ impl<S: Store> Store for BufferedStore<S> {
             note_parts(&mut self.trace, pos, first, second, third);
             return Ok(());
         }
-        self.make_room(pos, n)?;
-        self.widen(n)?;
+        self.prepare(pos, n)?;
         let free = &mut self.buffer[self.held..self.held + n];
         join(first, second, third, free);
         self.held += n;

@@ -10,7 +10,7 @@ const LONG: u64 = 100_000_000;
 #[derive(Clone, Copy)]
 pub(crate) struct PrefixNumeral {
     pub(crate) value: u64,
-    /// The place after the byte that ends it.
+    /// The place after the byte that ends it, or 0 if there is none.
     pub(crate) end: usize,
 }
 
@@ -28,42 +28,40 @@ pub struct PeekedRecord<'a> {
 pub(crate) struct PrefixLengths {
     pub(crate) klen: usize,
     pub(crate) vlen: usize,
-    /// The place of the key.
+    /// The place of the key, or 0 if there are none.
     pub(crate) end: usize,
 }
 
-/// The short numeral that some bytes begin with, with `stop` after it.
+/// The short numeral that some bytes begin with, with `stop` after it. If there is none, its end is 0:
+/// an `Option` of it would be cleared for each record.
 #[inline(always)]
-fn numeral(bytes: &[u8], stop: u8) -> Option<PrefixNumeral>
-    ensures begins { IfSome result (BeginsWithNumeral stop bytes.now) }
-    ensures short { IfSome result (λ n. n.value < 1000000000) }
+fn numeral(bytes: &[u8], stop: u8) -> PrefixNumeral
+    ensures begins { 0 < result.end → BeginsWithNumeral stop bytes.now result }
+    ensures short { result.value < 1000000000 }
 {
     let mut value = 0;
     let mut place = 0;
     while place < bytes.len() && value < LONG {
         let byte = bytes[place];
         if !byte.is_ascii_digit() {
-            return if byte == stop && 0 < place {
-                Some(PrefixNumeral {
-                    value,
-                    end: place + 1,
-                })
-            } else {
-                None
+            let is_whole = byte == stop && 0 < place;
+            return PrefixNumeral {
+                value,
+                end: if is_whole { place + 1 } else { 0 },
             };
         }
         value = value * 10 + u64::from(byte - b'0');
         place += 1;
     }
-    None
+    PrefixNumeral { value, end: 0 }
 }
 
 /// The same, not inlined: numerals of more than three digits are rare.
 #[cold]
 #[inline(never)]
-fn long_numeral(bytes: &[u8], stop: u8) -> Option<PrefixNumeral>
-    ensures begins { IfSome result (BeginsWithNumeral stop bytes.now) }
-    ensures short { IfSome result (λ n. n.value < 1000000000) }
+fn long_numeral(bytes: &[u8], stop: u8) -> PrefixNumeral
+    ensures begins { 0 < result.end → BeginsWithNumeral stop bytes.now result }
+    ensures short { result.value < 1000000000 }
 {
     numeral(bytes, stop)
 }
@@ -71,39 +69,49 @@ fn long_numeral(bytes: &[u8], stop: u8) -> Option<PrefixNumeral>
 /// The short numeral of a record that some bytes begin with, with `stop` after it. At least four
 /// bytes are left of a whole record, and over as many the loop of `numeral` is unrolled.
 #[inline(always)]
-fn prefix_numeral(bytes: &[u8], stop: u8) -> Option<PrefixNumeral>
-    ensures begins { IfSome result (BeginsWithNumeral stop bytes.now) }
-    ensures short { IfSome result (λ n. n.value < 1000000000) }
+fn prefix_numeral(bytes: &[u8], stop: u8) -> PrefixNumeral
+    ensures begins { 0 < result.end → BeginsWithNumeral stop bytes.now result }
+    ensures short { result.value < 1000000000 }
 {
     if bytes.len() < 4 {
-        return None;
+        return PrefixNumeral { value: 0, end: 0 };
     }
-    match numeral(&bytes[..4], stop) {
-        Some(found) => Some(found),
-        None => long_numeral(bytes, stop),
+    let found = numeral(&bytes[..4], stop);
+    if found.end != 0 {
+        return found;
     }
+    long_numeral(bytes, stop)
 }
 
-/// The lengths, neither above `greatest`, of the record that some bytes begin with.
+/// The lengths, neither above `greatest`, of the record that some bytes begin with. If there are none,
+/// their end is 0.
 #[inline(always)]
-fn prefix_lengths(bytes: &[u8], greatest: u64) -> Option<PrefixLengths>
-    ensures begins { IfSome result (BeginsWithLengths greatest bytes.now) }
-    ensures short { IfSome result (λ l. (l.klen < 1000000000) × (l.vlen < 1000000000)) }
+fn prefix_lengths(bytes: &[u8], greatest: u64) -> PrefixLengths
+    ensures begins { 0 < result.end → BeginsWithLengths greatest bytes.now result }
+    ensures short { (result.klen < 1000000000) × (result.vlen < 1000000000) }
 {
+    let none = PrefixLengths {
+        klen: 0,
+        vlen: 0,
+        end: 0,
+    };
     if bytes.is_empty() || bytes[0] != b'+' {
-        return None;
+        return none;
     }
-    let klen = prefix_numeral(&bytes[1..], b',')?;
+    let klen = prefix_numeral(&bytes[1..], b',');
+    if klen.end == 0 {
+        return none;
+    }
     let at = 1 + klen.end;
-    let vlen = prefix_numeral(&bytes[at..], b':')?;
-    if greatest < klen.value || greatest < vlen.value {
-        return None;
+    let vlen = prefix_numeral(&bytes[at..], b':');
+    if vlen.end == 0 || greatest < klen.value || greatest < vlen.value {
+        return none;
     }
-    Some(PrefixLengths {
+    PrefixLengths {
         klen: klen.value as usize,
         vlen: vlen.value as usize,
         end: at + vlen.end,
-    })
+    }
 }
 
 /// Whether some bytes begin with a key and a value of these lengths, with their marks.
@@ -126,7 +134,10 @@ fn has_body(bytes: &[u8], klen: usize, vlen: usize) -> bool
 pub(crate) fn prefix_record(bytes: &[u8], greatest: u64) -> Option<PeekedRecord<'_>>
     ensures { IfSome result (λ f. BeginsWithRecord greatest bytes.now f.len (shown_by f)) }
 {
-    let lengths = prefix_lengths(bytes, greatest)?;
+    let lengths = prefix_lengths(bytes, greatest);
+    if lengths.end == 0 {
+        return None;
+    }
     let (klen, vlen) = (lengths.klen, lengths.vlen);
     let body = &bytes[lengths.end..];
     if !has_body(body, klen, vlen) {

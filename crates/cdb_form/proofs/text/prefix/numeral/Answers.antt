@@ -24,9 +24,6 @@ overflow_add-place c = grind (arith, common_steps)
 pub loop-place-smaller : goal.loop-place-smaller
 loop-place-smaller c = grind (arith, common_steps)
 
-pub returns-then-place-gt0-clause-short : goal.returns-then-place-gt0-clause-short
-returns-then-place-gt0-clause-short c = search rules
-
 pub overflow_add-value : goal.overflow_add-value
 overflow_add-value c = search rules
 

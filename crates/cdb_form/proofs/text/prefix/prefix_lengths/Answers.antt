@@ -1,25 +1,21 @@
 use Rattle.std.proofs.lemmas.Grind.{common_steps}
-use Rattle.std.proofs.Common.{arith, ◌+◌, length, refl, subst, rules}
+use Rattle.std.proofs.Common.{arith, ◌+◌, length, refl, subst}
 use Rattle.cdb_form.specs.Views.Prefix.{BeginsWithNumeral}
 use Rattle.cdb_form.proofs.NativeTexts.PrefixLemmas.{lengths_prefix}
 use Rattle.cdb_form.proofs.Bytes.HeadLemmas.{rest_of}
 use Rattle.cdb_form.proofs.text.prefix.prefix_lengths.Goals as goal
 
 pub returns-clause-begins : goal.returns-clause-begins
-returns-clause-begins c =
+returns-clause-begins c _ =
     let bytes = c.args.bytes.now in
-    let k = c.in_ok-klen.klen in
-    let v = c.in_ok-vlen.vlen in
+    let k = c.prefix_numeral-klen.result in
+    let v = c.prefix_numeral-vlen.result in
+    let is_key : BeginsWithNumeral 44 _ k = c.prefix_numeral-klen.ensures.begins (omega (arith, c.if-klen-eq0.false)) in
+    let is_value : BeginsWithNumeral 58 _ v = c.prefix_numeral-vlen.ensures.begins (omega (arith, c.if-vlen-eq0.false)) in
     lengths_prefix c.args.greatest bytes k v _ (grind arith) (omega arith)
-    (subst (λ t. BeginsWithNumeral 44 t k) (rest_of 1 (length bytes) bytes refl) c.in_ok-klen.ensures.begins)
-    (subst (λ t. BeginsWithNumeral 58 t v) (rest_of (1 + k.end) (length bytes) bytes refl) c.in_ok-vlen.ensures.begins)
+    (subst (λ t. BeginsWithNumeral 44 t k) (rest_of 1 (length bytes) bytes refl) is_key)
+    (subst (λ t. BeginsWithNumeral 58 t v) (rest_of (1 + k.end) (length bytes) bytes refl) is_value)
     (omega arith) (omega arith) refl refl refl
-
-pub returns-in_err-vlen-clause-begins : goal.returns-in_err-vlen-clause-begins
-returns-in_err-vlen-clause-begins c = grind (arith, common_steps)
-
-pub returns-in_err-vlen-clause-short : goal.returns-in_err-vlen-clause-short
-returns-in_err-vlen-clause-short c = grind (arith, common_steps)
 
 pub returns-clause-short : goal.returns-clause-short
 returns-clause-short c = grind (arith, common_steps)
@@ -38,6 +34,3 @@ overflow_add-at c = grind (arith, common_steps)
 
 pub slice_bounds-prefix_numeral-start : goal.slice_bounds-prefix_numeral-start
 slice_bounds-prefix_numeral-start c = grind (arith, common_steps)
-
-pub returns-in_err-klen-clause-begins : goal.returns-in_err-klen-clause-begins
-returns-in_err-klen-clause-begins c = search rules

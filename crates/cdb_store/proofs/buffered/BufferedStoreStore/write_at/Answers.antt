@@ -1,8 +1,8 @@
 use Rattle.std.proofs.Common.{rules, refl, arith, ℕ, ◌+◌, ◌-◌, List, ◌++◌, length, take, drop}
 use borrow.Rule.Slice.PartMut.{post_of}
-use Rattle.cdb_store.specs.BufferedStore.{bytes_of, images_of}
+use Rattle.cdb_store.specs.BufferedStore.{bytes_of}
 use Rattle.cdb_store.specs.Images.{AreSized}
-use Rattle.cdb_store.proofs.OverLemmas.{over_alike, over_emptied, over_put, over_same, sized_taken}
+use Rattle.cdb_store.proofs.OverLemmas.{over_emptied, over_put, over_same, sized_taken}
 use Rattle.cdb_store.proofs.Moves.{same_trans, same_sym, write_between, torn_between, torn_same, torn_from_write}
 use Rattle.std.proofs.lemmas.Grind.{common_steps}
 use Rattle.cdb_store.proofs.buffered.BufferedStoreStore.write_at.Goals as goal
@@ -34,23 +34,21 @@ returns-then-bytes-self-clause-torn g c =
     (same_trans c.settle.ensures.images (over_emptied c.settle.new.self.pos (bytes_of c.settle.new.self) _ c.in_ok-settle.ensures.empty)) in
     torn_between emptied c.write_at.ensures.torn (same_sym (over_emptied c.settle.new.self.pos (bytes_of c.settle.new.self) _ c.in_ok-settle.ensures.empty))
 
-pub returns-in_err-make_room-clause-torn : goal.returns-in_err-make_room-clause-torn
-returns-in_err-make_room-clause-torn g c = torn_same _ _ (same_trans (over_same c.args.self.now.pos (bytes_of c.args.self.now) c.reserve.ensures.images) c.make_room.ensures.images)
+pub returns-in_err-prepare-clause-torn : goal.returns-in_err-prepare-clause-torn
+returns-in_err-prepare-clause-torn g c = torn_same _ _ (same_trans (over_same c.args.self.now.pos (bytes_of c.args.self.now) c.reserve.ensures.images) c.prepare.ensures.images)
 
 pub returns-clause-ok : goal.returns-clause-ok
 returns-clause-ok g c =
     let s = c.args.self.now in
-    let m = c.make_room.new.self in
-    let w = c.widen.new.self in
-    let e = c.in_ok-widen.ensures in
+    let w = c.prepare.new.self in
+    let e = c.in_ok-prepare.ensures in
     let sized : AreSized (g.S.Store.size w.inner) (g.S.Store.image w.inner) = record { each = g.met.S.Store.image_size w.inner } in
-    let begun = same_trans (over_same s.pos (bytes_of s) c.reserve.ensures.images) c.make_room.ensures.images in
-    let wide = over_alike g.S.Store.image {a = m.inner} {b = w.inner} e.pos e.bytes e.inner in
+    let begun = same_trans (over_same s.pos (bytes_of s) c.reserve.ensures.images) c.prepare.ensures.images in
     let now : List ℕ = c.deref_mut.result.now in
     let rest : List ℕ = post_of w.held (w.held + length c.args.bytes.now - w.held) now in
     let whole : List ℕ = take w.held now ++ (c.copy_from_slice.new.self ++ rest) in
-    over_put w.buffer.len rest (drop (length whole) w.buffer.items) (same_trans {j = images_of m} begun wide)
-    c.deref_mut.ensures.value c.copy_from_slice.ensures.after refl w.kept (omega (arith, e.wide, w.buffer.ok.0)) (omega (arith, c.in_ok-make_room.ensures.continues, e.pos, e.held)) w.placed sized
+    over_put w.buffer.len rest (drop (length whole) w.buffer.items) begun
+    c.deref_mut.ensures.value c.copy_from_slice.ensures.after refl w.kept (omega (arith, e.wide, w.buffer.ok.0)) (omega (arith, e.continues)) w.placed sized
 
 pub returns-clause-torn : goal.returns-clause-torn
 returns-clause-torn g c =
@@ -130,8 +128,8 @@ returns-clause-room g c = grind (arith, common_steps)
 pub returns-in_err-write_at-clause-room : goal.returns-in_err-write_at-clause-room
 returns-in_err-write_at-clause-room g c = grind (arith, common_steps)
 
-pub make_room-requires-clause-end : goal.make_room-requires-clause-end
-make_room-requires-clause-end g c = grind (arith, common_steps)
+pub prepare-requires-clause-end : goal.prepare-requires-clause-end
+prepare-requires-clause-end g c = grind (arith, common_steps)
 
 pub returns-in_err-settle-clause-past_room : goal.returns-in_err-settle-clause-past_room
 returns-in_err-settle-clause-past_room g c = grind (arith, common_steps)
@@ -145,8 +143,8 @@ returns-in_err-settle-clause-room g c = grind (arith, common_steps)
 pub returns-in_err-settle-clause-longer : goal.returns-in_err-settle-clause-longer
 returns-in_err-settle-clause-longer g c = grind (arith, common_steps)
 
-pub returns-in_err-make_room-clause-memory_room : goal.returns-in_err-make_room-clause-memory_room
-returns-in_err-make_room-clause-memory_room g c = grind (arith, common_steps)
+pub returns-in_err-prepare-clause-memory_room : goal.returns-in_err-prepare-clause-memory_room
+returns-in_err-prepare-clause-memory_room g c = grind (arith, common_steps)
 
-pub returns-in_err-make_room-clause-memory_written : goal.returns-in_err-make_room-clause-memory_written
-returns-in_err-make_room-clause-memory_written g c = grind (arith, common_steps)
+pub returns-in_err-prepare-clause-memory_written : goal.returns-in_err-prepare-clause-memory_written
+returns-in_err-prepare-clause-memory_written g c = grind (arith, common_steps)

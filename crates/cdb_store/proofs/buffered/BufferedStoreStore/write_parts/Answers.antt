@@ -1,8 +1,8 @@
 use Rattle.std.proofs.Common.{◌++◌, ◌≡◌, ◌+◌, ◌-◌, ℕ, List, length, take, drop, length-append, arith}
 use borrow.Rule.Slice.PartMut.{post_of}
-use Rattle.cdb_store.specs.BufferedStore.{bytes_of, images_of}
+use Rattle.cdb_store.specs.BufferedStore.{bytes_of}
 use Rattle.cdb_store.specs.Images.{AreSized}
-use Rattle.cdb_store.proofs.OverLemmas.{over_alike, over_emptied, over_put, over_same, sized_taken}
+use Rattle.cdb_store.proofs.OverLemmas.{over_emptied, over_put, over_same, sized_taken}
 use Rattle.cdb_store.proofs.Moves.{same_trans, same_sym, write_between, torn_between, torn_same, torn_from_write}
 use Rattle.cdb_store.proofs.buffered.BufferedStoreStore.write_parts.Goals as goal
 
@@ -12,8 +12,8 @@ returns-in_err-reserve-clause-torn g c = torn_same _ _ (over_same c.args.self.no
 pub returns-in_err-settle-clause-torn : goal.returns-in_err-settle-clause-torn
 returns-in_err-settle-clause-torn g c = torn_same _ _ (same_trans (over_same c.args.self.now.pos (bytes_of c.args.self.now) c.reserve.ensures.images) c.settle.ensures.images)
 
-pub returns-in_err-make_room-clause-torn : goal.returns-in_err-make_room-clause-torn
-returns-in_err-make_room-clause-torn g c = torn_same _ _ (same_trans (over_same c.args.self.now.pos (bytes_of c.args.self.now) c.reserve.ensures.images) c.make_room.ensures.images)
+pub returns-in_err-prepare-clause-torn : goal.returns-in_err-prepare-clause-torn
+returns-in_err-prepare-clause-torn g c = torn_same _ _ (same_trans (over_same c.args.self.now.pos (bytes_of c.args.self.now) c.reserve.ensures.images) c.prepare.ensures.images)
 
 pub returns-in_err-write_parts-clause-torn : goal.returns-in_err-write_parts-clause-torn
 returns-in_err-write_parts-clause-torn g c =
@@ -36,21 +36,19 @@ returns-then-n-self-clause-torn g c =
 pub returns-clause-ok : goal.returns-clause-ok
 returns-clause-ok g c =
     let s = c.args.self.now in
-    let m = c.make_room.new.self in
-    let w = c.widen.new.self in
-    let e = c.in_ok-widen.ensures in
+    let w = c.prepare.new.self in
+    let e = c.in_ok-prepare.ensures in
     let first : List ℕ = c.args.first.now in
     let second : List ℕ = c.args.second.now in
     let third : List ℕ = c.args.third.now in
     let count : length first + length second + length third ≡ length (first ++ (second ++ third)) = omega (arith, length-append first (second ++ third), length-append second third) in
     let sized : AreSized (g.S.Store.size w.inner) (g.S.Store.image w.inner) = record { each = g.met.S.Store.image_size w.inner } in
-    let begun = same_trans (over_same s.pos (bytes_of s) c.reserve.ensures.images) c.make_room.ensures.images in
-    let wide = over_alike g.S.Store.image {a = m.inner} {b = w.inner} e.pos e.bytes e.inner in
+    let begun = same_trans (over_same s.pos (bytes_of s) c.reserve.ensures.images) c.prepare.ensures.images in
     let now : List ℕ = c.deref_mut.result.now in
     let rest : List ℕ = post_of w.held (w.held + (length first + length second + length third) - w.held) now in
     let whole : List ℕ = take w.held now ++ (c.join.new.into ++ rest) in
-    over_put w.buffer.len rest (drop (length whole) w.buffer.items) (same_trans {j = images_of m} begun wide)
-    c.deref_mut.ensures.value c.join.ensures count w.kept (omega (arith, e.wide, w.buffer.ok.0)) (omega (arith, c.in_ok-make_room.ensures.continues, e.pos, e.held)) w.placed sized
+    over_put w.buffer.len rest (drop (length whole) w.buffer.items) begun
+    c.deref_mut.ensures.value c.join.ensures count w.kept (omega (arith, e.wide, w.buffer.ok.0)) (omega (arith, e.continues)) w.placed sized
 
 pub returns-clause-torn : goal.returns-clause-torn
 returns-clause-torn g c =
