@@ -3,7 +3,6 @@ use Rattle.std.proofs.Common.{inl, inr, ◌≡◌, ℕ, ◌+◌, ◌-◌, ◌*�
 use Rattle.std.specs.List.{range_with_len}
 use Rattle.std.proofs.lemmas.List.{drop-append-le, length-take-le, take_at, drop-take, length-map}
 use Rattle.cdb_store.specs.Images.{overwrite, part, AfterWrite, AfterCut, AreSized, KeepsPart}
-use Rattle.cdb_store.proofs.Parts.{length-part}
 use Rattle.cdb_form.specs.Format.Pair.{WordPair, head_size, pair_bytes}
 use Rattle.cdb_form.specs.Format.File.{file_bytes, file_pointers, pointers_from}
 use Rattle.cdb_form.specs.Format.Record.{KeyValue, record_bytes, record_size, records_end}
@@ -12,9 +11,8 @@ use Rattle.cdb_form.proofs.Bytes.HeadLemmas.{length-flat_map_words}
 use Rattle.cdb_form.proofs.Files.Sizes.{length-pointers_from, tables_are}
 use Rattle.cdb_store.specs.Images.{Holds, SameImages}
 use Rattle.cdb_make.specs.Finished.{EndsWith, IsFinished, HeadIsLast}
-use Rattle.cdb_make.specs.Parts.{head_bytes, table_bytes, tables_end}
+use Rattle.cdb_make.specs.Parts.{head_bytes, table_bytes}
 use Rattle.cdb_make.specs.Stands.{Tells, Stands}
-use Rattle.cdb_make.proofs.Slots.TableBytes.{length-tables}
 use Rattle.cdb_make.proofs.Bytes.Written.{flat_map-map}
 
 pub length-head_bytes : (w end : ℕ) (ls : List (List WordPair)) → length ls ≡ 256 → length (head_bytes w end ls) ≡ head_size w

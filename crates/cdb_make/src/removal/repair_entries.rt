@@ -1,7 +1,8 @@
 // The entries of one table once gaps are closed.
-ghost use Rattle.std.specs.Prelude.{◌≡◌, ℕ, ◌<◌, ◌≤◌, ◌^◌, ◌-◌, length, slice_index, take, All};
+ghost use Rattle.std.specs.Prelude.{◌≡◌, ℕ, ◌<◌, ◌≤◌, ◌^◌, ◌-◌, length, slice_index, take, drop, ◌∷◌, List, All};
 ghost use Rattle.std.specs.List.Sorted.{IsNonDecreasing};
 ghost use Rattle.cdb_make.specs.Gaps.{AreApart, IsRising, closed_by, first_place};
+ghost use Rattle.cdb_form.specs.Format.Pair.{WordPair};
 ghost use Rattle.cdb_make.specs.Views.EntryList.{entries_of};
 ghost use Rattle.cdb_make.specs.Views.Places.{places_in, places_room};
 
@@ -20,6 +21,39 @@ pub(crate) fn entry_at<L: Width>(places: &Places<L>, start: usize, place: u64) -
         start
     } else {
         places.len()
+    }
+}
+
+/// The first gaps.
+#[derive(Clone, Copy)]
+struct Passed {
+    /// How many they are.
+    gaps: usize,
+    /// How many bytes they have.
+    size: u64,
+}
+
+/// Passes those gaps, after some that were passed, that begin below a place.
+#[inline(always)]
+fn pass_gaps(gaps: &[Gap], passed: Passed, place: u64) -> Passed
+    requires within { passed.gaps ≤ length gaps.now }
+    requires apart { AreApart passed.size (drop passed.gaps gaps.now) (2 ^ 63) }
+    ensures within { result.gaps ≤ length gaps.now }
+    ensures apart { AreApart result.size (drop result.gaps gaps.now) (2 ^ 63) }
+    ensures far { place ≤ first_place (drop result.gaps gaps.now) place }
+    ensures closes { (e : WordPair) (es : List WordPair) → e.second ≡ place → IsRising 0 (e ∷ es)
+        → closed_by passed.size (drop passed.gaps gaps.now) (e ∷ es)
+        ≡ closed_by result.size (drop result.gaps gaps.now) (e ∷ es) }
+{
+    let mut next = passed.gaps;
+    let mut gone = passed.size;
+    while next < gaps.len() && gaps[next].place < place {
+        gone += gaps[next].size;
+        next += 1;
+    }
+    Passed {
+        gaps: next,
+        size: gone,
     }
 }
 
@@ -49,22 +83,16 @@ pub(crate) fn repair_entries<L: Width>(
     ensures room { places_room places.new ≡ places_room places.old }
 {
     let mut kept = start;
-    let mut gone = 0;
-    let mut next = 0;
-    let mut entry = start;
-    while entry < places.len() {
+    let mut passed = Passed { gaps: 0, size: 0 };
+    for entry in start..places.len() {
         let place = places.at(entry);
-        if next < gaps.len() && gaps[next].place < place {
-            gone += gaps[next].size;
-            next += 1;
-        } else if next < gaps.len() && gaps[next].place == place {
-            entry += 1;
-        } else {
-            hashes[kept] = hashes[entry];
-            places.set(kept, place.saturating_sub(gone));
-            kept += 1;
-            entry += 1;
+        passed = pass_gaps(gaps, passed, place);
+        if passed.gaps < gaps.len() && gaps[passed.gaps].place == place {
+            continue;
         }
+        hashes[kept] = hashes[entry];
+        places.set(kept, place.saturating_sub(passed.size));
+        kept += 1;
     }
     kept
 }

@@ -1,5 +1,5 @@
-use Rattle.std.proofs.Common.{arith, inl, inr, ℕ, rules, length, List, ◌-◌, flat_map}
-use Rattle.cdb_store.specs.Images.{AreSized, KeepsPart, Holds}
+use Rattle.std.proofs.Common.{arith, inl, ℕ, length, List, ◌-◌, flat_map}
+use Rattle.cdb_store.specs.Images.{AreSized, Holds}
 use Rattle.cdb_store.proofs.Moves.{kept_torn, kept_cut, kept_same, held_first, held_kept}
 use Rattle.cdb_form.specs.Format.Pair.{head_size}
 use Rattle.cdb_make.specs.Parts.{table_bytes}

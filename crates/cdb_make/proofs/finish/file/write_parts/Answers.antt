@@ -1,8 +1,8 @@
-use Rattle.std.proofs.Common.{arith, inl, inr, ℕ, List, length, subst, ◌-◌, flat_map, rules}
+use Rattle.std.proofs.Common.{arith, inr, ℕ, List, length, subst, ◌-◌, flat_map, rules}
 use Rattle.std.proofs.lemmas.List.{length-map}
-use Rattle.cdb_store.specs.Images.{AreSized, KeepsPart, Holds}
+use Rattle.cdb_store.specs.Images.{AreSized, Holds}
 use Rattle.cdb_store.proofs.Moves.{kept_torn, kept_same, held_kept}
-use Rattle.cdb_form.specs.Format.Pair.{WordPair, head_size}
+use Rattle.cdb_form.specs.Format.Pair.{head_size}
 use Rattle.cdb_make.specs.Finished.{EndsWith}
 use Rattle.cdb_make.specs.Parts.{table_bytes}
 use Rattle.cdb_make.specs.declared.index.list.EntryList.{EntryList}
