@@ -2,6 +2,5 @@
 pub mod SlotBytes
 pub mod Filling
 pub mod RunLemmas
-pub mod Tops
 pub mod HeadPointers
 pub mod TableBytes

@@ -13,7 +13,7 @@ use Rattle.cdb_make.specs.declared.index.list.EntryList.{EntryList}
 use Rattle.cdb_make.specs.Gaps.{AreApart, first_place}
 use Rattle.cdb_make.specs.Views.Places.{places_in}
 use Rattle.cdb_make.proofs.Gaps.Merge.{closed_below}
-use Rattle.cdb_make.specs.Views.EntryList.{IsClosed, AreUnder, list_entries, lists_entries, list_tops}
+use Rattle.cdb_make.specs.Views.EntryList.{IsClosed, list_entries, lists_entries}
 use Rattle.cdb_make.proofs.Entries.Sides.{places_below}
 
 -- those below i are closed, and the rest are as they were
@@ -36,38 +36,6 @@ closed_more i gs old now e new lt closed below = record {
     | inr apart ↦ subst (IsClosed gs (get_or old k d)) (sym (get_or-set_other now i k new d apart)) (below.closed k d (omega arith))
   ];
   same = λ k d le. get_or-set_other now i k new d (λ at. omega arith) ∙ below.same k d (omega arith);
-}
-
--- the gaps are closed in a list whose places they are past
-closed_still : {L : Type 0} {wd : Widths L} (gs : List Gap) (l : EntryList L wd) (top : ℕ) → AreApart 0 gs (2 ^ 63) → All (λ e. e.second ≤ top) (list_entries l) → top < first_place gs (2 ^ 64 - 1) → IsClosed gs l l
-closed_still gs l top apart under low =
-    let all : All (λ p. p ≤ top) (places_in l.places) = places_below top l.hashes.items (places_in l.places) l.paired under in
-    record {
-      entries = λ r. closed_below l.hashes.items (places_in l.places) gs (2 ^ 63) (2 ^ 64 - 1) l.paired apart (λ k lt. let p = all k 0 lt in omega arith);
-      fewer = omega arith;
-      bounded = λ most under. under;
-      top = refl;
-      room = refl;
-    }
-
--- and in a group of lists whose top they are past
-pub closed_past : {L : Type 0} {wd : Widths L} (i : ℕ) (gs : List Gap) (old now : List (EntryList L wd)) → i % 16 ≡ 0 → i + 16 ≤ length old → AreApart 0 gs (2 ^ 63) → AreUnder (list_tops old) (lists_entries old) → length now ≡ length old
-    → get_or (list_tops now) i 0 < first_place gs (2 ^ 64 - 1) → ClosedBelow i gs old now → ClosedBelow (i + 16) gs old now
-closed_past i gs old now first within apart under long low below = record {
-  closed = λ k d lt. elim (cases_lt k i) [
-    | inl before ↦ below.closed k d before
-    | inr from ↦
-        let group : k / 16 * 16 ≡ i = omega arith in
-        let l : EntryList _ _ = get_or old k d in
-        let was : (get_or now i d).top ≡ (get_or old i d).top = ap (λ (v : EntryList _ _). v.top) (below.same i d (omega arith)) in
-        let new_top : get_or (list_tops now) i 0 ≡ (get_or now i d).top = get_or-map (λ (v : EntryList _ _). v.top) now i d 0 (omega arith) in
-        let old_top : get_or (list_tops old) i 0 ≡ (get_or old i d).top = get_or-map (λ (v : EntryList _ _). v.top) old i d 0 (omega arith) in
-        let here : get_or (lists_entries old) k [] ≡ list_entries l = get_or-map list_entries old k d [] (omega arith) in
-        let at : All (λ e. e.second ≤ get_or (list_tops old) (k / 16 * 16) 0) (list_entries l) = All-same (λ e. e.second ≤ get_or (list_tops old) (k / 16 * 16) 0) (list_entries l) (get_or (lists_entries old) k []) (sym here) (under k) in
-        let top : get_or (list_tops old) (k / 16 * 16) 0 ≡ get_or (list_tops old) i 0 = ap (λ (n : ℕ). get_or (list_tops old) n 0) group in
-        subst (IsClosed gs l) (sym (below.same k d from)) (closed_still gs l (get_or (list_tops old) (k / 16 * 16) 0) apart at (omega arith))
-  ];
-  same = λ k d le. below.same k d (omega arith);
 }
 
 -- as many entries less as went from a list

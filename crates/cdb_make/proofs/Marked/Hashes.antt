@@ -97,9 +97,9 @@ rising_each [] q es h = h
 rising_each (g ∷ gs) q es h = rising_each gs q (flip_at g.place es) (rising_flipped g.place q es h)
 
 pub marked_more : {L : Type 0} {wd : Widths L} (all : List Gap) (i : ℕ) (d : Gap) (old mid new : EntryList L wd) → i < length all → IsMarked (take i all) old mid
-    → (IsRising 0 (list_entries mid) → list_entries new ≡ flip_at (get_or all i d).place (list_entries mid)) → new.places ≡ mid.places → new.top ≡ mid.top → list_room new ≡ list_room mid
+    → (IsRising 0 (list_entries mid) → list_entries new ≡ flip_at (get_or all i d).place (list_entries mid)) → new.places ≡ mid.places → list_room new ≡ list_room mid
     → IsMarked (take (i + 1) all) old new
-marked_more all i d old mid new lt marked one places top room = record {
+marked_more all i d old mid new lt marked one places room = record {
   entries = λ rise.
       let was : list_entries mid ≡ flip_each (take i all) (list_entries old) = marked.entries rise in
       let still : IsRising 0 (list_entries mid) = subst (IsRising 0) (sym was) (rising_each (take i all) 0 (list_entries old) rise) in
@@ -107,6 +107,5 @@ marked_more all i d old mid new lt marked one places top room = record {
       ∙ ap (flip_at (get_or all i d).place) was
       ∙ sym (ap (λ (v : List Gap). flip_each v (list_entries old)) (take_more all i d lt) ∙ flip_more (take i all) (get_or all i d ∷ []) (list_entries old));
   places = places ∙ marked.places;
-  top = top ∙ marked.top;
   room = room ∙ marked.room;
 }

@@ -17,7 +17,7 @@ use Rattle.cdb_make.specs.declared.index.list.EntryList.{EntryList}
 use Rattle.cdb_make.specs.declared.index.lists.Lists.{Lists}
 use Rattle.cdb_make.specs.Gaps.{marked_gaps, IsRising}
 use Rattle.cdb_make.specs.Marks.{marked_entries, flip_each, fresh, with_key}
-use Rattle.cdb_make.specs.Views.EntryList.{list_entries, lists_entries, list_tops, AreUnder, AreWithin, HasSpareGaps, IsMarked}
+use Rattle.cdb_make.specs.Views.EntryList.{list_entries, lists_entries, AreWithin, HasSpareGaps, IsMarked}
 use Rattle.cdb_make.specs.Views.Lists.{all_entries, AreAllMarked}
 use Rattle.cdb_make.specs.Views.Places.{places_in}
 use Rattle.cdb_make.proofs.Gaps.ClosedLists.{sum_gone}
@@ -56,20 +56,6 @@ marked_spare gs ls t old new room lt is marked all =
     let own : P (list_entries old) = subst P (list_told ls t old lt ∙ ap list_entries (sym is)) (All-get_or P (lists_entries ls) t [] (omega (arith, length-map ls list_entries)) all) in
     let long : length (list_entries new) ≡ length (list_entries old) = same_long gs old new marked in
     subst (λ (v : List (List WordPair)). HasSpareGaps v room) (sym (map-set list_entries ls t new)) (All-set P (lists_entries ls) t (list_entries new) (omega arith) all)
-
-pub marked_under : {L : Type 0} {wd : Widths L} (gs : List Gap) (ls : List (EntryList L wd)) (t : ℕ) (old new : EntryList L wd) → t < length ls → old ≡ get_or ls t old → IsMarked gs old new → AreUnder (list_tops ls) (lists_entries ls) → AreUnder (list_tops (slice_set ls t new)) (lists_entries (slice_set ls t new))
-marked_under gs ls t old new lt is marked under k =
-    let tops : list_tops (slice_set ls t new) ≡ list_tops ls = map-set_same (λ (l : EntryList _ _). l.top) ls t new old (marked.top ∙ ap (λ (l : EntryList _ _). l.top) is) in
-    let top : ℕ = get_or (list_tops ls) (k / 16 * 16) 0 in
-    let all : List (List WordPair) = lists_entries ls in
-    let here : All (λ e. e.second ≤ top) (get_or (slice_set all t (list_entries new)) k []) = elim (cases_eq k t) [
-      | inl same ↦
-          let own : All (λ e. e.second ≤ top) (list_entries old) = All-same (λ e. e.second ≤ top) _ _ (ap list_entries is ∙ sym (list_told ls t old lt) ∙ ap (λ (n : ℕ). get_or all n []) (sym same)) (under k) in
-          All-same (λ e. e.second ≤ top) _ _ (get_or-set_at all t k (list_entries new) [] same (omega (arith, length-map ls list_entries))) (same_below gs old new top marked own)
-      | inr apart ↦ All-same (λ e. e.second ≤ top) _ _ (get_or-set_other all t k (list_entries new) [] apart) (under k)
-    ] in
-    subst (λ (v : List ℕ). All (λ e. e.second ≤ get_or v (k / 16 * 16) 0) (get_or (lists_entries (slice_set ls t new)) k [])) (sym tops)
-    (subst (λ (v : List (List WordPair)). All (λ e. e.second ≤ top) (get_or v k [])) (sym (map-set list_entries ls t new)) here)
 
 -- the lists have the entries with the marks
 pub lists_marked : {L : Type 0} {wd : Widths L} (w : ℕ) (gs : List Gap) (ls : List (EntryList L wd)) (t : ℕ) (old new : EntryList L wd) (k : List ℕ) (ms : List Bool) (xs ys : List KeyValue) → 0 < w → length ls ≡ 256 → t ≡ table_number (key_hash k) → old ≡ get_or ls t old → IsMarked gs old new

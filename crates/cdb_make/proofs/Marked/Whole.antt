@@ -178,7 +178,6 @@ lists_stay gs ls e = record {
   each = λ k d lt. record {
     entries = λ r. sym (ap (λ (v : List Gap). closed_by 0 v (list_entries (get_or ls k d))) e ∙ closed_none (list_entries (get_or ls k d)));
     fewer = omega arith;
-    top = refl;
     bounded = λ most all. all;
     room = refl;
   };

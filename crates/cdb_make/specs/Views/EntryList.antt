@@ -36,7 +36,6 @@ pub record IsClosed {L : Type 0} {w : Widths L} (gaps : List Gap) (old new : Ent
   pub fewer : length (list_entries new) ≤ length (list_entries old)
   pub bounded : (most : ℕ) → All (λ e. e.second ≤ most) (list_entries old)
       → All (λ e. e.second ≤ most) (list_entries new)
-  pub top : new.top ≡ old.top
   pub room : list_room new ≡ list_room old
 
 -- each list is the old one with the gaps closed
@@ -51,7 +50,6 @@ pub record IsMarked {L : Type 0} {w : Widths L} (gaps : List Gap) (old new : Ent
   pub entries : IsRising 0 (list_entries old)
       → list_entries new ≡ flip_each gaps (list_entries old)
   pub places : new.places ≡ old.places
-  pub top : new.top ≡ old.top
   pub room : list_room new ≡ list_room old
 
 -- none of these hashes, from number `from` to before `end`, is this one
@@ -66,14 +64,6 @@ AreWithin most lists = All (All (λ e. e.second ≤ most)) lists
 -- so many gaps are enough for the records of any key
 abbrev pub HasSpareGaps : List (List WordPair) → ℕ → Type 0
 HasSpareGaps lists room = All (λ es. length es ≤ room) lists
-
--- the top of each list
-abbrev pub list_tops : {L : Type 0} {w : Widths L} → List (EntryList L w) → List ℕ
-list_tops ls = map (λ l. l.top) ls
-
--- no place of a list passes the top of the first list of its group of 16
-abbrev pub AreUnder : List ℕ → List (List WordPair) → Type 0
-AreUnder tops lists = (k : ℕ) → All (λ e. e.second ≤ get_or tops (k / 16 * 16) 0) (get_or lists k [])
 
 -- one entry more, in the list of its table
 abbrev pub with_entry : List (List WordPair) → WordPair → List (List WordPair)

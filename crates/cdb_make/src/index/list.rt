@@ -1,6 +1,6 @@
 // The entries of one table, as a maker keeps them.
 ghost use Rattle.std.specs.Prelude.{◌≡◌, ℕ, ◌<◌, ◌≤◌, ◌^◌, ◌+◌, ◌-◌, [], ◌∷◌, ◌++◌, length, get_or, All};
-ghost use Rattle.std.specs.Prelude.{true, OnOk, OnErr, max, slice_index, vec_capacity};
+ghost use Rattle.std.specs.Prelude.{true, OnOk, OnErr, slice_index, vec_capacity};
 ghost use Rattle.cdb_make.specs.Marks.{flipped};
 ghost use Rattle.cdb_make.specs.Rings.{AreLinked};
 ghost use Rattle.cdb_make.specs.declared.index.list.Indexing.TheVariants.{Fixed};
@@ -41,8 +41,6 @@ pub(crate) struct EntryList<L: Width> {
     places: Places<L>,
     /// Where the entries of a hash are.
     index: Index,
-    /// In the first list of a group, a place that no place of the group's lists passes.
-    top: u64,
     /// So many entries take no memory. There may be room for more.
     room: usize,
     ghost paired: { length hashes.items ≡ length (places_in places) },
@@ -67,25 +65,8 @@ impl<L: Width> EntryList<L> {
             hashes: Vec::new(alloc),
             places: Places::new(alloc),
             index: Index::new(alloc),
-            top: 0,
             room: 0,
         }
-    }
-
-    /// A place that no place of its group of lists passes, if it is the first of them.
-    pub(crate) fn top(&self) -> u64
-        ensures { result ≡ self.now.top }
-    {
-        self.top
-    }
-
-    /// A place of its group may be as high as this one.
-    pub(crate) fn raise(&mut self, place: u64)
-        ensures top { self.new.top ≡ max self.old.top place }
-        ensures entries { list_entries self.new ≡ list_entries self.old }
-        ensures room { list_room self.new ≡ list_room self.old }
-    {
-        self.top = self.top.max(place);
     }
 
     /// How many entries there are.
@@ -152,7 +133,6 @@ impl<L: Width> EntryList<L> {
         ensures hashes { self.new.hashes ≡ self.old.hashes }
         ensures places { self.new.places ≡ self.old.places }
         ensures fixed { indexing ≡ Fixed → self.new.index ≡ self.old.index }
-        ensures top { self.new.top ≡ self.old.top }
     {
         if indexing == Indexing::Growing {
             // Without it, looks compare more entries.
@@ -166,7 +146,6 @@ impl<L: Width> EntryList<L> {
         ensures ok { OnOk result (length (list_entries self.new) < list_room self.new) }
         ensures full { OnErr result (list_room self.old ≤ length (list_entries self.old)) }
         ensures room { list_room self.old ≤ list_room self.new }
-        ensures top { self.new.top ≡ self.old.top }
     {
         self.hashes.reserve(1)?;
         self.places.reserve()?;
@@ -183,7 +162,6 @@ impl<L: Width> EntryList<L> {
         ensures entries { list_entries self.new
             ≡ list_entries self.old ++ record { first = hash; second = place } ∷ [] }
         ensures room { list_room self.new ≡ list_room self.old }
-        ensures top { self.new.top ≡ self.old.top }
     {
         self.hashes.push_reserved(hash);
         self.places.push(place);
@@ -193,7 +171,6 @@ impl<L: Width> EntryList<L> {
     pub(crate) fn catch_up(&mut self, indexing: Indexing)
         ensures entries { list_entries self.new ≡ list_entries self.old }
         ensures room { list_room self.old ≤ list_room self.new }
-        ensures top { self.new.top ≡ self.old.top }
     {
         let count = self.hashes.len();
         if self.index.room() < count {
@@ -208,7 +185,6 @@ impl<L: Width> EntryList<L> {
         ensures entries { IsRising 0 (list_entries self.old)
             → list_entries self.new ≡ flip_at place (list_entries self.old) }
         ensures places { self.new.places ≡ self.old.places }
-        ensures top { self.new.top ≡ self.old.top }
         ensures room { list_room self.new ≡ list_room self.old }
     {
         let n = self.places.below(place);
@@ -218,6 +194,7 @@ impl<L: Width> EntryList<L> {
     }
 
     /// Whether each entry lies below a place.
+    #[inline(always)]
     fn is_below(&self, place: u64) -> bool
         ensures { result ≡ true → IsRising 0 (list_entries self.now) → (k : ℕ)
             → k < length (places_in self.now.places) → get_or (places_in self.now.places) k 0 < place }
@@ -235,7 +212,6 @@ impl<L: Width> EntryList<L> {
         ensures gone { length (list_entries self.new) + result ≡ length (list_entries self.old) }
         ensures bounded { (most : ℕ) → All (λ e. e.second ≤ most) (list_entries self.old)
             → All (λ e. e.second ≤ most) (list_entries self.new) }
-        ensures top { self.new.top ≡ self.old.top }
         ensures room { list_room self.new ≡ list_room self.old }
     {
         let start = self.places.below(first);
@@ -254,6 +230,7 @@ impl<L: Width> EntryList<L> {
 
     /// Takes out the entries at the gaps, of which the first is at `first`, lowers each other place
     /// by the gaps below it, and answers how many went. The room stays.
+    #[inline(always)]
     pub(crate) fn repair(&mut self, gaps: &[Gap], first: u64) -> usize
         requires apart { AreApart 0 gaps.now (2 ^ 63) }
         requires first { first ≡ first_place gaps.now (2 ^ 64 - 1) }
@@ -262,7 +239,6 @@ impl<L: Width> EntryList<L> {
         ensures gone { length (list_entries self.new) + result ≡ length (list_entries self.old) }
         ensures bounded { (most : ℕ) → All (λ e. e.second ≤ most) (list_entries self.old)
             → All (λ e. e.second ≤ most) (list_entries self.new) }
-        ensures top { self.new.top ≡ self.old.top }
         ensures room { list_room self.new ≡ list_room self.old }
     {
         if self.is_below(first) {

@@ -4,10 +4,10 @@ ghost use Rattle.std.specs.Prelude.{All, get_or, vec_capacity, IfOk, OnOk, OnErr
 ghost use Rattle.cdb_form.specs.Format.Hash.{table_number};
 ghost use Rattle.cdb_make.specs.Gaps.{AreApart};
 ghost use Rattle.cdb_make.specs.Views.EntryList.{list_entries, lists_entries, list_room};
-ghost use Rattle.cdb_make.specs.Views.EntryList.{list_tops, with_entry, AreUnder, IsMarked};
+ghost use Rattle.cdb_make.specs.Views.EntryList.{with_entry, IsMarked};
 
 use crate::index::list::{EntryList, Indexing};
-use crate::index::repair_lists::{GROUP, repair_lists};
+use crate::index::repair_lists::repair_lists;
 use crate::removal::gap::Gap;
 use cdb_form::{Width, table_number};
 use std::alloc::{AllocError, Global};
@@ -17,7 +17,6 @@ use std::alloc::{AllocError, Global};
 pub(crate) struct Lists<L: Width> {
     pub(crate) each: Vec<EntryList<L>>,
     ghost all: { length each.items ≡ 256 },
-    ghost under: { AreUnder (list_tops each.items) (lists_entries each.items) },
 }
 
 /// Makes room for an entry in a list, and for a gap for each entry there. If memory is refused, the
@@ -30,7 +29,6 @@ fn grow<L: Width>(
     indexing: Indexing,
 ) -> Result<(), AllocError>
     ensures entries { list_entries list.new ≡ list_entries list.old }
-    ensures top { list.new.top ≡ list.old.top }
     ensures room { OnOk result (length (list_entries list.new) < list_room list.new) }
     ensures spare { OnOk result (length (list_entries list.old) < vec_capacity gaps.new) }
     ensures kept { vec_capacity gaps.old ≤ vec_capacity gaps.new }
@@ -152,9 +150,7 @@ impl<L: Width> Lists<L> {
         ensures { all_entries self.new
             ≡ with_entry (all_entries self.old) (record { first = hash; second = place }) }
     {
-        let table = table_number(u64::from(hash));
-        self.each[table].push(hash, place);
-        self.each[table / GROUP * GROUP].raise(place);
+        self.each[table_number(u64::from(hash))].push(hash, place);
     }
 
     /// Marks the entries at some gaps of records of a hash.

@@ -1,18 +1,8 @@
 use Rattle.std.proofs.Common.{arith, ℕ, ◌<◌, List, length, get_or}
 use Rattle.cdb_make.specs.declared.index.list.EntryList.{EntryList}
 use Rattle.cdb_make.specs.Views.EntryList.{IsClosed}
-use Rattle.cdb_make.proofs.Gaps.ClosedLists.{closed_more, closed_past, sum_gone}
+use Rattle.cdb_make.proofs.Gaps.ClosedLists.{closed_more, sum_gone}
 use Rattle.cdb_make.proofs.index.repair_lists.repair_lists.Goals as goal
-
-pub loop-n-preserved-then-is_group_below : goal.loop-n-preserved-then-is_group_below
-loop-n-preserved-then-is_group_below g c =
-    let b = c.is_group_below.ensures in
-    let t = c.if-is_group_below.true in
-    record {
-      closed = closed_past c.loop-n.n c.args.gaps.now c.args.lists.now c.loop-n.lists (b.first t) (omega (arith, b.first t, c.loop-n-test.true, c.loop-n.auto.lists, c.requires.all)) c.requires.apart c.requires.under (omega (arith, c.loop-n.auto.lists)) (omega (arith, b.below t, c.first_place-first.ensures)) c.loop-n.invariant.closed;
-      gone = c.loop-n.invariant.gone;
-      within = omega (arith, b.first t, c.loop-n-test.true, c.loop-n.auto.lists, c.requires.all);
-    }
 
 pub overflow_add-gone : goal.overflow_add-gone
 overflow_add-gone g c =
@@ -28,9 +18,8 @@ loop-n-preserved g c =
     let new : EntryList _ _ = c.repair.new.self in
     let e = c.repair.ensures in
     let lt : n < length now = omega (arith, c.loop-n-test.true, c.loop-n.auto.lists) in
-    let closed : IsClosed c.args.gaps.now (get_or now n item) new = record { entries = e.entries; fewer = omega (arith, e.gone); bounded = e.bounded; top = e.top; room = e.room } in
+    let closed : IsClosed c.args.gaps.now (get_or now n item) new = record { entries = e.entries; fewer = omega (arith, e.gone); bounded = e.bounded; room = e.room } in
     record {
       closed = closed_more n c.args.gaps.now c.args.lists.now now item new lt closed c.loop-n.invariant.closed;
       gone = omega (arith, sum_gone now n c.repair.result item new lt e.gone, c.loop-n.invariant.gone);
-      within = omega (arith, c.loop-n-test.true, c.loop-n.auto.lists, c.requires.all);
     }

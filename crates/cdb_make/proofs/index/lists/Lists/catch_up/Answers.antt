@@ -1,8 +1,7 @@
-use Rattle.std.proofs.Common.{◌≡◌, ◌<◌, ap, sym, ◌∙◌, arith, length, length-set}
+use Rattle.std.proofs.Common.{◌≡◌, ◌<◌, ap, sym, ◌∙◌, arith, length}
 use Rattle.std.proofs.Math.Seq.{map-set_same}
 use Rattle.cdb_form.specs.Format.Hash.{table_number}
 use Rattle.cdb_make.specs.Views.EntryList.{list_entries, list_room}
-use Rattle.cdb_make.proofs.Slots.Tops.{under_set}
 use Rattle.cdb_make.proofs.Entries.Entering.{told_of_set, told_of_list}
 use Rattle.cdb_make.proofs.index.lists.Lists.catch_up.Goals as goal
 
@@ -18,11 +17,3 @@ returns-clause-room g c =
     let was = told_of_list list_room c.args.self.now.each.items c.table_number.result (table_number c.args.hash) c.index_mut.result.now 0 n lt c.index_mut.ensures.value in
     let now = told_of_set list_room c.args.self.now.each.items c.table_number.result (table_number c.args.hash) c.catch_up.new.self 0 n lt in
     omega (arith, was, now, c.catch_up.ensures.room)
-
-pub invariant_of-self : goal.invariant_of-self
-invariant_of-self g c =
-    let m = c.args.self.now in
-    record {
-      all = simp length-set m.all;
-      under = under_set m.each.items c.table_number.result c.catch_up.new.self c.index_mut.result.now c.catch_up.ensures.entries c.catch_up.ensures.top c.index_mut.ensures.value m.under;
-    }

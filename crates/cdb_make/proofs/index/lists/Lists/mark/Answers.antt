@@ -1,17 +1,6 @@
-use Rattle.std.proofs.Common.{arith, ap, ◌∙◌, ◌≡◌, ◌<◌, length, get_or, slice_set}
-use Rattle.std.proofs.lemmas.List.{length-set}
+use Rattle.std.proofs.Common.{ap, ◌∙◌, ◌≡◌, get_or, slice_set}
 use Rattle.cdb_form.specs.Format.Hash.{table_number}
-use Rattle.cdb_make.proofs.Marked.MarkedLists.{marked_under}
 use Rattle.cdb_make.proofs.index.lists.Lists.mark.Goals as goal
-
-pub invariant_of-self : goal.invariant_of-self
-invariant_of-self g c =
-    let m = c.args.self.now in
-    let lt : c.table_number.result < length m.each.items = omega (arith, c.table_number.ensures.within, m.all) in
-    record {
-      all = simp length-set m.all;
-      under = marked_under c.args.gaps.now m.each.items c.table_number.result c.index_mut.result.now c.mark_each.new.list lt c.index_mut.ensures.value c.mark_each.ensures m.under;
-    }
 
 pub returns : goal.returns
 returns g c =

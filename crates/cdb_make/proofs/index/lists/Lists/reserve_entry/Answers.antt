@@ -1,9 +1,8 @@
-use Rattle.std.proofs.Common.{◌≡◌, ◌<◌, [], ap, sym, ◌∙◌, arith, length, length-set, refl}
+use Rattle.std.proofs.Common.{◌≡◌, ◌<◌, [], ap, sym, ◌∙◌, arith, length}
 use Rattle.std.proofs.Math.Seq.{map-set_same}
 use Rattle.std.proofs.lemmas.Result.{on_ok_weaker}
 use Rattle.cdb_form.specs.Format.Hash.{table_number}
 use Rattle.cdb_make.specs.Views.EntryList.{list_entries, list_room}
-use Rattle.cdb_make.proofs.Slots.Tops.{under_set}
 use Rattle.cdb_make.proofs.Entries.Entering.{told_of_set}
 use Rattle.cdb_make.proofs.index.lists.Lists.reserve_entry.Goals as goal
 
@@ -19,19 +18,3 @@ returns-clause-room g c =
     let count = told_of_set list_entries c.args.self.now.each.items c.table_number.result (table_number c.args.hash) c.grow.new.list [] n lt in
     let room = told_of_set list_room c.args.self.now.each.items c.table_number.result (table_number c.args.hash) c.grow.new.list 0 n lt in
     on_ok_weaker c.grow.result (λ ok. omega (arith, ap length count, room, ok)) c.grow.ensures.room
-
-pub invariant_of-self : goal.invariant_of-self
-invariant_of-self g c =
-    let m = c.args.self.now in
-    record {
-      all = simp length-set m.all;
-      under = under_set m.each.items c.table_number.result c.index_mut-list.result.now c.index_mut-list.result.now refl refl c.index_mut-list.ensures.value m.under;
-    }
-
-pub invariant_of-self-2 : goal.invariant_of-self-2
-invariant_of-self-2 g c =
-    let m = c.args.self.now in
-    record {
-      all = simp length-set m.all;
-      under = under_set m.each.items c.table_number.result c.grow.new.list c.index_mut-list.result.now c.grow.ensures.entries c.grow.ensures.top c.index_mut-list.ensures.value m.under;
-    }
