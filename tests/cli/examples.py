@@ -27,6 +27,7 @@ BEFORE = {
     "docs/GUIDE.md": r"""
 mkdir postfix primary
 printf 'abuse@example.org root\n' > postfix/virtual
+printf '# ours\npostmaster: root\n\nlist : alice,\n    bob\nabuse:root\n' > postfix/aliases
 printf 'postmaster root\nabuse      root\n' > aliases
 printf '+4,2:+one->10\n\n' | cdb -c data.cdb
 cp data.cdb primary/data.cdb
@@ -52,6 +53,7 @@ WRITTEN = {
     "docs/GUIDE.md": [
         None,
         "root\n",
+        "",
         "sound\n" + STATISTICS,
         "",
         "old.net: carol\n",
@@ -71,8 +73,9 @@ WRITTEN = {
 WHOLE = {
     "README.md": ("cdb -d -m aliases.cdb", "postmaster root\nhosts jim\n"),
     "docs/GUIDE.md": (
-        "cdb -d -m words.cdb; cdb -d -m map.cdb",
-        "two Goodbye\nthree Hey\nthree Hey\npostmaster alice\n",
+        "cdb -d -m words.cdb; cdb -d -m map.cdb; cdb -d -m aliases.cdb",
+        "two Goodbye\nthree Hey\nthree Hey\npostmaster alice\n"
+        "postmaster root\nlist alice,    bob\nabuse root\n",
     ),
     "man/cdb.1": ("cdb -d -m copy.cdb", "postmaster alice\n"),
 }
@@ -85,7 +88,7 @@ STAND_INS = {
 
 
 # A command of a block: what stands before it, and its name.
-COMMAND = re.compile(r"((?:^|[|;&({]|\bif\b)[ ]*)((?:cdb|printf|cksum|postmap|rsync|ssh)\b(?= ))", re.M)
+COMMAND = re.compile(r"((?:^|[|;&({]|\bif\b)[ ]*)((?:awk|cdb|printf|cksum|postmap|rsync|ssh)\b(?= ))", re.M)
 # How a command fails: before it does anything, and after the first line that it writes.
 FAILS = {
     "at once": "fails() { return 1; }\n",
