@@ -566,7 +566,7 @@ nothing_held None = refl
 nothing_held (Some xs) = ap (λ l. Some l) (append-nil xs)
 
 -- an output that did not fail has all that was written, and the answer is that of the command
-handed_all : (end final : Option (List ℕ)) (unwritten : Type 0) (answer result : Result Unit Fault) → (unwritten → ⊥) → HandsOn end final unwritten answer result → Keeps end final × (result ≡ answer)
+pub handed_all : (end final : Option (List ℕ)) (unwritten : Type 0) (answer result : Result Unit Fault) → (unwritten → ⊥) → HandsOn end final unwritten answer result → Keeps end final × (result ≡ answer)
 handed_all end final unwritten answer result taken h = (
   (let none : h.held ≡ [] = elim h.taken [ inl none ↦ none | inr failed ↦ absurd (taken failed) ] in
       subst (Keeps end) (ap (append_known final) none ∙ nothing_held final) h.all),
@@ -695,7 +695,7 @@ run_foretold s m r remaining y planned given old new was now left start end fina
     (is_silent command disk input told some.before some.silent))
 
 -- an output that was flushed and did not fail holds nothing back
-all_taken : {W : Type 0} (contents : W → Option (List ℕ)) (o : Writer W) → HasHandedOn o → (OutputFailed o → ⊥) → output_bytes contents o ≡ contents o.writer
+pub all_taken : {W : Type 0} (contents : W → Option (List ℕ)) (o : Writer W) → HasHandedOn o → (OutputFailed o → ⊥) → output_bytes contents o ≡ contents o.writer
 all_taken contents o handed works = elim handed [
   | inl none ↦ ap (append_known (contents o.writer)) none ∙ nothing_held (contents o.writer)
   | inr failed ↦ absurd (works failed)
