@@ -501,11 +501,14 @@ ends_early m c disk name temporary was now start end told said fault first a h =
 }
 
 open_so : (c : Created) (disk : Disk) (start end told said : Option (List ℕ)) → c ≡ unopened disk → Keeps start end × Keeps told said → EndsEarly c disk start end told said Open
-open_so c disk start end told said e k = inl (record {
-  is = sym (ap (λ (v : Created). v.result) e);
-  output = subst (Appends start end) (sym (ap (λ (v : Created). v.output) e)) (none_appended start end k.0);
-  lines = subst (Appends told said) (sym (ap (λ (v : Created). v.lines) e)) (none_appended told said k.1);
-}, e)
+open_so c disk start end told said e k = inl (
+  record {
+    is = sym (ap (λ (v : Created). v.result) e);
+    output = subst (Appends start end) (sym (ap (λ (v : Created). v.output) e)) (none_appended start end k.0);
+    lines = subst (Appends told said) (sym (ap (λ (v : Created). v.lines) e)) (none_appended told said k.1);
+  },
+  e,
+)
 
 refused_early : (c : Created) (disk : Disk) (start end told said : Option (List ℕ)) (fault : Fault) → IsCreateRefusal fault → Keeps start end × Keeps told said → EndsEarly c disk start end told said fault
 refused_early c disk start end told said fault is k = inr (record { fault = fault; is = refl; refusal = is; output = said_nothing start end c.output k.0; lines = said_nothing told said c.lines k.1 })
@@ -568,16 +571,16 @@ not_opened_so : {F I M Y : Type 0} (s : Ghosts F) (remaining : I → Option (Lis
 not_opened_so s remaining y w g disk input name base inputs temporary o old new calls read start end told said fault e all h k = elim h.calls [
   | inl missed ↦ base_missed s remaining y w g disk input name base inputs temporary o old new calls read start end told said fault e all missed.0 k
   | inr stopped ↦ elim stopped.2.last [
-      | inl memory ↦ memory_so _ disk start end told said fault memory.1 k
-      | inr missed ↦ (let stops = stopped.2 in
-          let m = missed.3.1 in
-          let before = base_grows y base read old stopped.0 stopped.1 in
-          let opened = grows y stops.opened stops.turns stopped.0 stops.mid stops.opens in
-          let since : stops.mid ≡ (opened.0 ++ before.0) ++ old = opened.1 ∙ ap (λ c. opened.0 ++ c) before.1 ∙ sym (append_assoc opened.0 before.0 old) in
-          missed_why _ disk start end told said fault m.why m.is (λ failed. no_inputs w g disk input name base inputs temporary o
-          (missing_inputs disk inputs stops.opened missed.0 missed.1 (stops.are ∙ ap (λ l. stops.opened ++ l) missed.2)
-              (input_missing disk missed.0 missed.3.0 (head_answered s remaining y disk read old stops.mid new calls m.why missed.0 e (opened.0 ++ before.0, since) m.calls all failed)))) k)
-    ]
+    | inl memory ↦ memory_so _ disk start end told said fault memory.1 k
+    | inr missed ↦ (let stops = stopped.2 in
+        let m = missed.3.1 in
+        let before = base_grows y base read old stopped.0 stopped.1 in
+        let opened = grows y stops.opened stops.turns stopped.0 stops.mid stops.opens in
+        let since : stops.mid ≡ (opened.0 ++ before.0) ++ old = opened.1 ∙ ap (λ c. opened.0 ++ c) before.1 ∙ sym (append_assoc opened.0 before.0 old) in
+        missed_why _ disk start end told said fault m.why m.is (λ failed. no_inputs w g disk input name base inputs temporary o
+        (missing_inputs disk inputs stops.opened missed.0 missed.1 (stops.are ∙ ap (λ l. stops.opened ++ l) missed.2)
+        (input_missing disk missed.0 missed.3.0 (head_answered s remaining y disk read old stops.mid new calls m.why missed.0 e (opened.0 ++ before.0, since) m.calls all failed)))) k)
+  ]
 ]
 
 -- ---- a file that is read has the temporary name
@@ -707,12 +710,12 @@ holds_so : {M : Type 0} (m : Ghosts M) (disk : Disk) (temporary name : List ℕ)
 holds_so m disk t name c now all off at_its at_temporary = λ other held sure h. elim (cases_Bool (bytes_eq t other)) [
   | inl e ↦ subst (λ (x : List ℕ). Has (place_of x) (disk x) now held → held ≡ c.disk x) (same_name t other e) (at_temporary held) h
   | inr nt ↦ elim (cases_Bool (bytes_eq name other)) [
-      | inl e ↦ subst (λ (x : List ℕ). Has (place_of x) (disk x) now held → held ≡ c.disk x) (same_name name other e) (at_its held) h
-      | inr nn ↦ elim (all other held (λ p. other_name t other nt (same_some t other p)) (has_may (place_of other) (disk other) now held h)) [
-          | inl was ↦ was ∙ sym (off other (other_name t other nt) (other_name name other nn))
-          | inr new ↦ new
-        ]
+    | inl e ↦ subst (λ (x : List ℕ). Has (place_of x) (disk x) now held → held ≡ c.disk x) (same_name name other e) (at_its held) h
+    | inr nn ↦ elim (all other held (λ p. other_name t other nt (same_some t other p)) (has_may (place_of other) (disk other) now held h)) [
+      | inl was ↦ was ∙ sym (off other (other_name t other nt) (other_name name other nn))
+      | inr new ↦ new
     ]
+  ]
 ]
 
 -- the temporary name is gone
@@ -724,9 +727,9 @@ renamed_gone t name len file before first held apart (inr (other, inr there)) = 
 gone_ok : (temporary name : List ℕ) (now : NameCalls) (first held : Option (List ℕ)) → temporary ≢ name → IsRenamed temporary name now → Has (place_of temporary) first now held → held ≡ None
 gone_ok t name now first held apart is h = elim is.is_sync [
   | inl e ↦ renamed_gone t name is.len is.file is.before first held apart
-    (let k : Has (place_of t) first ((name_call.Synced, name, [], []) ∷ (name_call.Renamed is.len, t, name, is.file) ∷ is.before) held = subst (λ c. Has (place_of t) first c held) (is.are ∙ ap (λ (s : NameCall). (s, name, [], []) ∷ (name_call.Renamed is.len, t, name, is.file) ∷ is.before) e) h in k)
+      (let k : Has (place_of t) first ((name_call.Synced, name, [], []) ∷ (name_call.Renamed is.len, t, name, is.file) ∷ is.before) held = subst (λ c. Has (place_of t) first c held) (is.are ∙ ap (λ (s : NameCall). (s, name, [], []) ∷ (name_call.Renamed is.len, t, name, is.file) ∷ is.before) e) h in k)
   | inr e ↦ renamed_gone t name is.len is.file is.before first held apart
-    (let k : Has (place_of t) first ((name_call.NotSynced, name, [], []) ∷ (name_call.Renamed is.len, t, name, is.file) ∷ is.before) held = subst (λ c. Has (place_of t) first c held) (is.are ∙ ap (λ (s : NameCall). (s, name, [], []) ∷ (name_call.Renamed is.len, t, name, is.file) ∷ is.before) e) h in k)
+      (let k : Has (place_of t) first ((name_call.NotSynced, name, [], []) ∷ (name_call.Renamed is.len, t, name, is.file) ∷ is.before) held = subst (λ c. Has (place_of t) first c held) (is.are ∙ ap (λ (s : NameCall). (s, name, [], []) ∷ (name_call.Renamed is.len, t, name, is.file) ∷ is.before) e) h in k)
 ]
 
 removed_gone : (temporary : List ℕ) (file : Calls) (before : NameCalls) (first held : Option (List ℕ)) → Has (place_of temporary) first ((name_call.Removed, temporary, [], file) ∷ before) held → held ≡ None
@@ -1071,7 +1074,7 @@ creates_so s m r remaining y w g disk input name base inputs temporary o given o
     with_none m disk name temporary c was now left.read left start end told said result handed
     (subst (CreateSo m disk name temporary c was now None start end told said) (sym is)
     (ends_early m c disk name temporary was now start end told said fault honest.first (asking_none was now same)
-        (not_opened_so s remaining y w g disk input name base inputs temporary o old new honest.calls left.read start end told said fault honest.are honest.answered not_opened (kept, silent))))
+    (not_opened_so s remaining y w g disk input name base inputs temporary o old new honest.calls left.read start end told said fault honest.are honest.answered not_opened (kept, silent))))
 creates_so s m r remaining y w g disk input name base inputs temporary o given old new left was now start end told said result is_name honest (inr (file, items, mid, opens, inl (at_output, same, calls, handed, makes))) =
     let c = create_of w g disk input name base inputs temporary o in
     with_none m disk name temporary c was now left.read left start end told said result handed
@@ -1082,13 +1085,13 @@ creates_so s m r remaining y w g disk input name base inputs temporary o given o
     with_none m disk name temporary c was now file left start end told said result handed
     (subst (CreateSo m disk name temporary c was now None start end told said) (sym is)
     (ends_early m c disk name temporary was now start end told said Open honest.first (asking_finds name base inputs was now finds)
-        (open_so c disk start end told said (in_place_unopened w g disk input name base inputs temporary o (standard_not name other) (in_place_now name temporary here) f.one) (kept, silent))))
+    (open_so c disk start end told said (in_place_unopened w g disk input name base inputs temporary o (standard_not name other) (in_place_now name temporary here) f.one) (kept, silent))))
 creates_so s m r remaining y w g disk input name base inputs temporary o given old new left was now start end told said result is_name honest (inr (file, items, mid, opens, inr (other, kept, inl (here, inr (asks, inl (fault, misses, handed, is, silent)))))) =
     let c = create_of w g disk input name base inputs temporary o in
     with_none m disk name temporary c was now file left start end told said result handed
     (subst (CreateSo m disk name temporary c was now None start end told said) (sym is)
     (ends_early m c disk name temporary was now start end told said fault honest.first (asking_all name base inputs was now asks)
-        (refused_early c disk start end told said fault (emptying_refused name mid new fault misses) (kept, silent))))
+    (refused_early c disk start end told said fault (emptying_refused name mid new fault misses) (kept, silent))))
 creates_so s m r remaining y w g disk input name base inputs temporary o given old new left was now start end told said result is_name honest (inr (file, items, mid, opens, inr (other, kept, inl (here, inr (asks, inr (empties, makes)))))) =
     emptied_so s m remaining y w g disk input name base inputs temporary o given old mid new file items left was now start end told said result (standard_not name other) (in_place_now name temporary here) honest opens kept asks empties makes
 creates_so s m r remaining y w g disk input name base inputs temporary o given old new left was now start end told said result is_name honest (inr (file, items, mid, opens, inr (other, kept, inr (apart, same, handed, inl (no_calls, back, is, silent))))) =
@@ -1102,7 +1105,7 @@ creates_so s m r remaining y w g disk input name base inputs temporary o given o
     with_none m disk name temporary c was now left.read left start end told said result handed
     (subst (CreateSo m disk name temporary c was now None start end told said) (sym is)
     (ends_early m c disk name temporary was now start end told said Open honest.first (asking_finds (temporary_of name temporary) base inputs was now finds)
-        (open_so c disk start end told said (read_unopened w g disk input name base inputs temporary o (standard_not name other) (in_place_not name temporary apart) f.one) (kept, silent))))
+    (open_so c disk start end told said (read_unopened w g disk input name base inputs temporary o (standard_not name other) (in_place_not name temporary apart) f.one) (kept, silent))))
 creates_so s m r remaining y w g disk input name base inputs temporary o given old new left was now start end told said result is_name honest (inr (file, items, mid, opens, inr (other, kept, inr (apart, same, handed, inr (inr (asked, asks, replaces)))))) =
     let c = create_of w g disk input name base inputs temporary o in
     let mk : Making _ = record { word = w; greatest = g; options = o; base = file; inputs = items } in

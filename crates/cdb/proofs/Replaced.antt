@@ -388,10 +388,10 @@ replaces_so f r m x files input temporary name old new back told said result apa
     let same = append_cancel_right h.calls.since moments.since old (sym h.calls.calls ∙ moments.calls) in
     subst (ReplacesSo m.word temporary name (made_here m x files input) old new told said) (sym h.answered)
     (answered f r m x files input temporary name old new back told said h.answer none has known
-        (record {
-          since = moments.since;
-          calls = moments.calls;
-          moments = each_weaker _ _ moments.since old (λ now k. one_moment f m back x files input temporary name old now apart has known k) moments.each;
-          others = others_kept temporary name (IsDatabase f m back) moments.since old (subst (AllByRecursion (IsOfReplacing temporary name (IsDatabase f m back))) same h.calls.each);
-        })
-        h.calls (renamed_part _ _ h.answer h.ok) h.lines)
+    (record {
+      since = moments.since;
+      calls = moments.calls;
+      moments = each_weaker _ _ moments.since old (λ now k. one_moment f m back x files input temporary name old now apart has known k) moments.each;
+      others = others_kept temporary name (IsDatabase f m back) moments.since old (subst (AllByRecursion (IsOfReplacing temporary name (IsDatabase f m back))) same h.calls.each);
+    })
+    h.calls (renamed_part _ _ h.answer h.ok) h.lines)

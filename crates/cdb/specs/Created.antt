@@ -135,8 +135,8 @@ placed w disk name base inputs temporary made =
     let file = made_file w made in
     if is_standard name then on_output disk made.lines file made.result
     else if is_in_place name temporary then (
-      if is_read name base inputs then unopened disk
-      else in_place disk name made.lines file made.result
+    if is_read name base inputs then unopened disk
+    else in_place disk name made.lines file made.result
     )
     else if is_read (temporary_of name temporary) base inputs || is_no_name name then unopened disk
     else in_temporary disk (temporary_of name temporary) name made.lines file made.result

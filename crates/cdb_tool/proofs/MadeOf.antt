@@ -243,7 +243,7 @@ begins_given f g read last inputs shared old rest k are begins =
     let others = given_from f g (1 + length read) left.more left.left in (
       first.0,
       ap (λ (v : Given). from_inputs 1 v.items) left.given ∙ inputs_then 1 read others.items ∙ ap (λ t. from_inputs 1 read ++ t) first.1
-      ∙ sym (append_assoc (from_inputs 1 read) (from_input (1 + length read) 1 last) first.0) ∙ ap (λ t. t ++ first.0) (sym (came_is read last)),
+          ∙ sym (append_assoc (from_inputs 1 read) (from_input (1 + length read) 1 last) first.0) ∙ ap (λ t. t ++ first.0) (sym (came_is read last)),
     )
 
 -- ---- the course over more items
@@ -495,7 +495,7 @@ made_so w g o base inputs shared left images old new k h =
     let given = all_given (make_run.form_of t) g m.read inputs shared left k m.are in
     subst (λ why. MakesSo w (unless_stopped why (made_from w t (given_from (make_run.form_of t) g 1 inputs shared))) images old new (Ok tt)) (sym (some_base w o.limit base h.based))
     (subst (λ v. MakesSo w (made_from w t v) images old new (Ok tt)) (sym given)
-        (record { is = sym (ap (λ e. ended_by e None) m.goes.going); lines = m.goes.lines; file = m.file }))
+    (record { is = sym (ap (λ e. ended_by e None) m.goes.going); lines = m.goes.lines; file = m.file }))
 
 run_fails : (w g : ℕ) (o : MakeOptions) (base : Option (List ℕ)) (inputs : List (Option (List ℕ))) (shared : List ℕ) (left : InputsLeft) (images : List ℕ → Type 0) (old new : Option (List ℕ)) (f : Fault) → Known inputs shared left → RunFails w g o base left old new f
     → ComesOf w (made_of w g o base inputs shared) images old new (Err f)

@@ -19,6 +19,9 @@ returns g c =
         moments = e.any_moment;
         ok = ok_and _ _ answer e.ok e.sure;
         err = e.err;
+        guarded = e.guarded;
+        renamed = e.renames_ok;
+        unrenamed = e.renames_err;
         build = e.build;
         lines = of_contents g.E.Write.contents g.F.Store g.N.File.RawFile making _ _ _ _ _ _ _ answer e.told;
       },
