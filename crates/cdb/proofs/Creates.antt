@@ -1,14 +1,18 @@
 -- A create comes to what the oracle says.
 use Rattle.std.proofs.Common.{ℕ, Bool, true, false, ◌||◌, ◌≢◌, ◌⊎◌, List, [], ◌∷◌, ◌++◌, map, Option, Some, None, IfSome, Result, Ok, Err, ◌≡◌, ◌∙◌, ap, inl, inr, refl, subst, sym, append_assoc, append-nil, length, length-append, arith, bytes_eq, option_map, codes, if◌then◌else◌}
-use Rattle.std.specs.Prelude.{OnOk, IfErr, ⊤}
+use Rattle.std.specs.Prelude.{OnErr, OnOk, IfErr, ⊤}
 use Rattle.std.specs.List.{AllByRecursion}
-use Rattle.std.proofs.lemmas.Bool.{cond-true, cond-false, false_from_ne_true, or_from, or_left, or_parts, or_right, cases_Bool}
+use Rattle.std.proofs.lemmas.Bool.{eqb-true, cond-true, cond-false, false_from_ne_true, or_from, or_left, or_parts, or_right, cases_Bool}
 use Rattle.std.proofs.lemmas.List.{append_cancel_right}
 use Rattle.std.proofs.lemmas.Slice.Eq.{bytes_eq-Decides}
 use Rattle.std.specs.Io.KnownBytes.{Appends, Keeps}
 use Rattle.cdb_command.specs.declared.options.MakeOptions.{MakeOptions}
-use Rattle.cdb_files.specs.Folder.{Has, MayHave, NameCalls}
-use Rattle.cdb_files.specs.Replacing.{AtEach, AtEachMoment, IsNew, IsRenamed, NameEvent, renames}
+use Rattle.cdb_files.specs.Folder.{Has, IsCleared, MayHave, NameCalls}
+use Rattle.cdb_files.specs.declared.replace.ReplaceFault.{ReplaceFault}
+use Rattle.cdb_files.specs.declared.replace.ReplaceFault.TheVariants as replace
+use Rattle.cdb_store.specs.FileStore.{calls_of}
+use Rattle.std.proofs.KnownBytes.{Keeps-refl}
+use Rattle.cdb_files.specs.Replacing.{AtEach, AtEachMoment, ClearsFile, IsNoName, Tells, IsNew, IsRenamed, NameEvent, renames}
 use Rattle.cdb_files.specs.declared.name_trace.NameCall.{NameCall}
 use Rattle.cdb_store.specs.Calls.{Calls}
 use Rattle.cdb_store.specs.Contents.{contents}
@@ -35,9 +39,9 @@ use Rattle.cdb_tool.specs.Runs.Inputs as form
 use Rattle.cdb_tool.specs.Runs.Made.{Made, made_file, made_of}
 use Rattle.cdb_tool.specs.Runs.MakesSo.{EachOfBytes, Known, KnownFor, one_input}
 use Rattle.cdb.specs.Created.{Created, base_of, both, create_of, each_of, if_opened, in_temporary, input_of, inputs_of, is_base, is_in_place, is_input, is_no_name, in_place, is_read, is_standard, on_output, placed, unopened}
-use Rattle.cdb.specs.Creating.{Creates, HasDatabase, IsBufferedRun, IsRun, MakesEmptied, MakesOnOutput, Syncs, WritesAll, AsksAll, AsksBase, AsksEach, AsksOne, FindsBase, FindsInput, FindsOne, IsInPlace, Making, MayBeOne, NotOpened, OpensAll, Replaces, temporary_of}
+use Rattle.cdb.specs.Creating.{Creates, HasDatabase, IsBufferedRun, IsRun, MakesEmptied, MakesOnOutput, Syncs, WritesAll, AsksAll, AsksBase, AsksEach, AsksOne, FindsBase, FindsInput, FindsOne, IsInPlace, Making, MayBeOne, NotOpened, OpensAll, Replaces, answer_of, temporary_of}
 use Rattle.cdb.specs.Foretold.{IsAnswered, Reveals, Shows, if_some}
-use Rattle.cdb.specs.ForetoldCreate.{HadBytes, HasBytes, Holds, HoldsAll, HonestCreate, IsCreateRefusal, IsNoAlias, IsNoFailedRemoval, IsOfBytes, IsName, LeavesAll, passing, place_of}
+use Rattle.cdb.specs.ForetoldCreate.{HadBytes, HasBytes, Holds, HoldsAll, HonestCreate, IsCreateRefusal, IsNoAlias, IsNoFailedRemoval, IsOfBytes, LeavesAll, passing, place_of}
 use Rattle.cdb.specs.Inputs.{inputs_read, IsStandard, MissesBase, OpensBase, OpensEach, OpensInput, OpensInputs}
 use Rattle.cdb.specs.Opening.{Empties, MissesEmptying, OpenCalls, base_left, unopened as unopened_fault}
 use Rattle.cdb.specs.Oracle.{Disk}
@@ -782,11 +786,11 @@ finished m w disk t name made c asked now start end told said held result apart 
 passing_temporary : (name : List ℕ) (temporary : Option (List ℕ)) → is_standard name ≡ false → is_in_place name temporary ≡ false → passing name temporary ≡ Some (temporary_of name temporary)
 passing_temporary name temporary standard in_place = cond-false (is_standard name) _ _ standard ∙ cond-false (is_in_place name temporary) _ _ in_place
 
-replacing_so : {F I M R Y : Type 0} (s : Ghosts F) (m : Ghosts M) (remaining : I → Option (List ℕ)) (y : Systems Y F I M) (r : Raw R) (w g : ℕ) (disk : Disk) (input name : List ℕ) (base : Option (List ℕ)) (inputs : List (List ℕ)) (temporary : Option (List ℕ)) (o : MakeOptions) (given : Option (List ℕ)) (old mid new : OpenCalls) (file read : Option F) (left : InputsLeft) (was asked now : NameCalls) (start end told said : Option (List ℕ)) (result : Result Unit Fault)
+named_so : {F I M R Y : Type 0} (s : Ghosts F) (m : Ghosts M) (remaining : I → Option (List ℕ)) (y : Systems Y F I M) (r : Raw R) (w g : ℕ) (disk : Disk) (input name : List ℕ) (base : Option (List ℕ)) (inputs : List (List ℕ)) (temporary : Option (List ℕ)) (o : MakeOptions) (given : Option (List ℕ)) (old mid new : OpenCalls) (file read : Option F) (left : InputsLeft) (was asked now : NameCalls) (start end told said : Option (List ℕ)) (result : Result Unit Fault)
     → is_standard name ≡ false → is_in_place name temporary ≡ false → is_no_name name ≡ false → (file ≡ None → read ≡ None) → HonestCreate s remaining y disk input inputs given old new read name was now → OpensAll y remaining base inputs given old mid file left → new ≡ mid → Keeps start end → AsksAll (temporary_of name temporary) base inputs was asked
     → Replaces s r (record { word = w; greatest = g; options = o; base = file; inputs = left }) (temporary_of name temporary) name asked now read told said result
     → CreateSo m disk name temporary (create_of w g disk input name base inputs temporary o) was now None start end told said result
-replacing_so s m remaining y r w g disk input name base inputs temporary o given old mid new file read left was asked now start end told said result standard in_place named none honest opens same kept asks replaces =
+named_so s m remaining y r w g disk input name base inputs temporary o given old mid new file read left was asked now start end told said result standard in_place named none honest opens same kept asks replaces =
     let t = temporary_of name temporary in
     let known = all_known_by s remaining y disk input base inputs given read file left old mid new honest.calls honest.bytes none honest.reads opens ([], same) honest.are honest.answered in
     let apart = apart_is name temporary in_place in
@@ -804,6 +808,66 @@ replacing_so s m remaining y r w g disk input name base inputs temporary o given
       done = replaced_holds m w disk t name made _ asked now told said result apart is all so;
       moments = subst (λ out. AtEachMoment (LeavesAll disk out (create_of w g disk input name base inputs temporary o).disk) was now) (sym (passing_temporary name temporary standard in_place)) moments;
     }
+
+-- a text that no file can have as its name
+no_name_is : (name : List ℕ) → is_no_name name ≡ true → IsNoName name
+no_name_is [] e = inl refl
+no_name_is (c ∷ []) e = inr ([], ap (λ (x : ℕ). x ∷ []) (eqb-true c 47 e))
+no_name_is (c ∷ d ∷ name) e = elim (no_name_is (d ∷ name) e) [
+  | inl none ↦ absurd (let no : ◌≡◌ {A = List ℕ} (d ∷ name) [] = none in cc)
+  | inr (front, is) ↦ inr (c ∷ front, ap (λ x. c ∷ x) is)
+]
+
+no_name_unopened : (w g : ℕ) (disk : Disk) (input name : List ℕ) (base : Option (List ℕ)) (inputs : List (List ℕ)) (temporary : Option (List ℕ)) (o : MakeOptions) → is_standard name ≡ false → is_in_place name temporary ≡ false → is_no_name name ≡ true
+    → create_of w g disk input name base inputs temporary o ≡ unopened disk
+no_name_unopened w g disk input name base inputs temporary o standard in_place is =
+    constant disk (λ old files. placed w disk name base inputs temporary (made_of w g o old files input)) (base_of disk base) (inputs_of disk inputs)
+    (λ old files. cond-false (is_standard name) _ _ standard ∙ cond-false (is_in_place name temporary) _ _ in_place
+    ∙ cond-true (is_read (temporary_of name temporary) base inputs || is_no_name name) _ _ (or_right _ _ is))
+
+first_call : (x y : NameEvent) (xs ys : NameCalls) → x ∷ xs ≡ y ∷ ys → x ≡ y
+first_call x y xs ys e = cc
+
+-- a question is no removal
+cleared_asked : (temporary : List ℕ) (file : Calls) (before since : NameCalls) → AllByRecursion IsQuestion since → IsCleared temporary file before (since ++ []) → ⊥
+cleared_asked t file before [] all (gone, removal, are) = let no : ◌≡◌ {A = NameCalls} [] ((gone, t, [], file) ∷ before) = are in cc
+cleared_asked t file before (call ∷ since) all (gone, inl e, are) =
+    let same : call ≡ (name_call.Removed, t, [], file) = (let a : call ≡ (gone, t, [], file) = first_call call (gone, t, [], file) (since ++ []) before are in a) ∙ ap (λ (g : NameCall). (g, t, [], file)) e in
+    absurd (subst IsQuestion same all.0)
+cleared_asked t file before (call ∷ since) all (gone, inr e, are) =
+    let same : call ≡ (name_call.NotRemoved, t, [], file) = (let a : call ≡ (gone, t, [], file) = first_call call (gone, t, [], file) (since ++ []) before are in a) ∙ ap (λ (g : NameCall). (g, t, [], file)) e in
+    absurd (subst IsQuestion same all.0)
+
+silent_so : {F R : Type 0} (s : Ghosts F) (r : Raw R) (mk : Making F) (temporary name : List ℕ) (asked now : NameCalls) (back : Option F) (told said : Option (List ℕ)) (answer : Result Unit (ReplaceFault Fault)) → Asking [] asked → now ≡ asked → answer ≡ Err replace.Open
+    → Tells r (λ base. base ≡ mk.base) (λ base before after images made. IsBufferedRun s mk base images before after made) temporary name asked now back told said answer → Keeps told said
+silent_so s r mk t name asked now back told said answer a same is (inl none) = subst (λ v. Keeps told v) (sym none.same) (Keeps-refl told)
+silent_so s r mk t name asked now back told said answer a same is (inr some) =
+    let cleared = subst (λ v. OnErr v (ClearsFile t (calls_of some.sealed) now)) is some.cleared in
+    absurd (cleared_asked t (calls_of some.sealed) cleared.0 a.since a.each (subst (λ c. IsCleared t (calls_of some.sealed) cleared.0 c) (same ∙ a.are) cleared.1))
+
+-- nothing is done for it
+no_name_so : {F M R : Type 0} (s : Ghosts F) (m : Ghosts M) (r : Raw R) (w g : ℕ) (disk : Disk) (input name : List ℕ) (base : Option (List ℕ)) (inputs : List (List ℕ)) (temporary : Option (List ℕ)) (o : MakeOptions) (mk : Making F) (read : Option F) (was asked now : NameCalls) (start end told said : Option (List ℕ)) (result : Result Unit Fault)
+    → is_standard name ≡ false → is_in_place name temporary ≡ false → is_no_name name ≡ true → was ≡ [] → Keeps start end → AsksAll (temporary_of name temporary) base inputs was asked → Replaces s r mk (temporary_of name temporary) name asked now read told said result
+    → CreateSo m disk name temporary (create_of w g disk input name base inputs temporary o) was now None start end told said result
+no_name_so s m r w g disk input name base inputs temporary o mk read was asked now start end told said result standard in_place is first kept asks replaces =
+    let c = create_of w g disk input name base inputs temporary o in
+    let a = asking_all (temporary_of name temporary) base inputs was asked asks in
+    elim replaces.no_name [
+      | inl named ↦ absurd (named (no_name_is name is))
+      | inr ended ↦ (let silent = silent_so s r mk (temporary_of name temporary) name asked now read told said replaces.answer (subst (λ v. Asking v asked) first a) ended.1 ended.0 replaces.lines in
+          subst (CreateSo m disk name temporary c was now None start end told said) (sym (replaces.answered ∙ ap answer_of ended.0))
+          (ends_early m c disk name temporary was now start end told said Open first (subst (λ v. Asking was v) (sym ended.1) a)
+              (open_so c disk start end told said (no_name_unopened w g disk input name base inputs temporary o standard in_place is) (kept, silent))))
+    ]
+
+replacing_so : {F I M R Y : Type 0} (s : Ghosts F) (m : Ghosts M) (remaining : I → Option (List ℕ)) (y : Systems Y F I M) (r : Raw R) (w g : ℕ) (disk : Disk) (input name : List ℕ) (base : Option (List ℕ)) (inputs : List (List ℕ)) (temporary : Option (List ℕ)) (o : MakeOptions) (given : Option (List ℕ)) (old mid new : OpenCalls) (file read : Option F) (left : InputsLeft) (was asked now : NameCalls) (start end told said : Option (List ℕ)) (result : Result Unit Fault)
+    → is_standard name ≡ false → is_in_place name temporary ≡ false → (file ≡ None → read ≡ None) → HonestCreate s remaining y disk input inputs given old new read name was now → OpensAll y remaining base inputs given old mid file left → new ≡ mid → Keeps start end → AsksAll (temporary_of name temporary) base inputs was asked
+    → Replaces s r (record { word = w; greatest = g; options = o; base = file; inputs = left }) (temporary_of name temporary) name asked now read told said result
+    → CreateSo m disk name temporary (create_of w g disk input name base inputs temporary o) was now None start end told said result
+replacing_so s m remaining y r w g disk input name base inputs temporary o given old mid new file read left was asked now start end told said result standard in_place none honest opens same kept asks replaces = elim (cases_Bool (is_no_name name)) [
+  | inl is ↦ no_name_so s m r w g disk input name base inputs temporary o (record { word = w; greatest = g; options = o; base = file; inputs = left }) read was asked now start end told said result standard in_place is honest.first kept asks replaces
+  | inr named ↦ named_so s m remaining y r w g disk input name base inputs temporary o given old mid new file read left was asked now start end told said result standard in_place named none honest opens same kept asks replaces
+]
 
 -- ---- in place
 
@@ -1062,55 +1126,51 @@ in_place_not : (name : List ℕ) (temporary : Option (List ℕ)) → (IsInPlace 
 in_place_not name None other = refl
 in_place_not name (Some t) other = or_from _ _ (false_from_ne_true (bytes_eq t (codes "-")) (λ e. other (inl ((bytes_eq-Decides t (codes "-")).0 e)))) (false_from_ne_true (bytes_eq t name) (λ e. other (inr ((bytes_eq-Decides t name).0 e))))
 
-named : (name : List ℕ) (temporary : Option (List ℕ)) → is_standard name ≡ false → is_in_place name temporary ≡ false → IsName name temporary → is_no_name name ≡ false
-named name temporary standard placed_in (inr h) = h
-named name temporary standard placed_in (inl h) = absurd (let no : true ≡ false = sym h ∙ or_from _ _ standard placed_in in cc)
-
 pub creates_so : {F I M R Y : Type 0} (s : Ghosts F) (m : Ghosts M) (r : Raw R) (remaining : I → Option (List ℕ)) (y : Systems Y F I M) (w g : ℕ) (disk : Disk) (input name : List ℕ) (base : Option (List ℕ)) (inputs : List (List ℕ)) (temporary : Option (List ℕ)) (o : MakeOptions) (given : Option (List ℕ)) (old new : OpenCalls) (left : Left F M) (was now : NameCalls) (start end told said : Option (List ℕ)) (result : Result Unit Fault)
-    → IsName name temporary → HonestCreate s remaining y disk input inputs given old new left.read name was now → Creates w g y s m r remaining o name base inputs temporary given old new was now left start end told said result
+    → HonestCreate s remaining y disk input inputs given old new left.read name was now → Creates w g y s m r remaining o name base inputs temporary given old new was now left start end told said result
     → CreateSo m disk name temporary (create_of w g disk input name base inputs temporary o) was now left.made start end told said result
-creates_so s m r remaining y w g disk input name base inputs temporary o given old new left was now start end told said result is_name honest (inl (fault, is, not_opened, same, handed, kept, silent)) =
+creates_so s m r remaining y w g disk input name base inputs temporary o given old new left was now start end told said result honest (inl (fault, is, not_opened, same, handed, kept, silent)) =
     let c = create_of w g disk input name base inputs temporary o in
     with_none m disk name temporary c was now left.read left start end told said result handed
     (subst (CreateSo m disk name temporary c was now None start end told said) (sym is)
     (ends_early m c disk name temporary was now start end told said fault honest.first (asking_none was now same)
     (not_opened_so s remaining y w g disk input name base inputs temporary o old new honest.calls left.read start end told said fault honest.are honest.answered not_opened (kept, silent))))
-creates_so s m r remaining y w g disk input name base inputs temporary o given old new left was now start end told said result is_name honest (inr (file, items, mid, opens, inl (at_output, same, calls, handed, makes))) =
+creates_so s m r remaining y w g disk input name base inputs temporary o given old new left was now start end told said result honest (inr (file, items, mid, opens, inl (at_output, same, calls, handed, makes))) =
     let c = create_of w g disk input name base inputs temporary o in
     with_none m disk name temporary c was now left.read left start end told said result handed
     (output_so s m remaining y w g disk input name base inputs temporary o given old mid new file left.read items was now start end told said result (standard_is name at_output) honest opens same calls makes)
-creates_so s m r remaining y w g disk input name base inputs temporary o given old new left was now start end told said result is_name honest (inr (file, items, mid, opens, inr (other, kept, inl (here, inl (finds, same, handed, is, silent))))) =
+creates_so s m r remaining y w g disk input name base inputs temporary o given old new left was now start end told said result honest (inr (file, items, mid, opens, inr (other, kept, inl (here, inl (finds, same, handed, is, silent))))) =
     let c = create_of w g disk input name base inputs temporary o in
     let f = found name base inputs was now finds honest.alone in
     with_none m disk name temporary c was now file left start end told said result handed
     (subst (CreateSo m disk name temporary c was now None start end told said) (sym is)
     (ends_early m c disk name temporary was now start end told said Open honest.first (asking_finds name base inputs was now finds)
     (open_so c disk start end told said (in_place_unopened w g disk input name base inputs temporary o (standard_not name other) (in_place_now name temporary here) f.one) (kept, silent))))
-creates_so s m r remaining y w g disk input name base inputs temporary o given old new left was now start end told said result is_name honest (inr (file, items, mid, opens, inr (other, kept, inl (here, inr (asks, inl (fault, misses, handed, is, silent)))))) =
+creates_so s m r remaining y w g disk input name base inputs temporary o given old new left was now start end told said result honest (inr (file, items, mid, opens, inr (other, kept, inl (here, inr (asks, inl (fault, misses, handed, is, silent)))))) =
     let c = create_of w g disk input name base inputs temporary o in
     with_none m disk name temporary c was now file left start end told said result handed
     (subst (CreateSo m disk name temporary c was now None start end told said) (sym is)
     (ends_early m c disk name temporary was now start end told said fault honest.first (asking_all name base inputs was now asks)
     (refused_early c disk start end told said fault (emptying_refused name mid new fault misses) (kept, silent))))
-creates_so s m r remaining y w g disk input name base inputs temporary o given old new left was now start end told said result is_name honest (inr (file, items, mid, opens, inr (other, kept, inl (here, inr (asks, inr (empties, makes)))))) =
+creates_so s m r remaining y w g disk input name base inputs temporary o given old new left was now start end told said result honest (inr (file, items, mid, opens, inr (other, kept, inl (here, inr (asks, inr (empties, makes)))))) =
     emptied_so s m remaining y w g disk input name base inputs temporary o given old mid new file items left was now start end told said result (standard_not name other) (in_place_now name temporary here) honest opens kept asks empties makes
-creates_so s m r remaining y w g disk input name base inputs temporary o given old new left was now start end told said result is_name honest (inr (file, items, mid, opens, inr (other, kept, inr (apart, same, handed, inl (no_calls, back, is, silent))))) =
+creates_so s m r remaining y w g disk input name base inputs temporary o given old new left was now start end told said result honest (inr (file, items, mid, opens, inr (other, kept, inr (apart, same, handed, inl (no_calls, back, is, silent))))) =
     let c = create_of w g disk input name base inputs temporary o in
     with_none m disk name temporary c was now left.read left start end told said result handed
     (subst (CreateSo m disk name temporary c was now None start end told said) (sym is)
     (ends_early m c disk name temporary was now start end told said NoMemory honest.first (asking_none was now no_calls) (memory_so c disk start end told said NoMemory refl (kept, silent))))
-creates_so s m r remaining y w g disk input name base inputs temporary o given old new left was now start end told said result is_name honest (inr (file, items, mid, opens, inr (other, kept, inr (apart, same, handed, inr (inl (finds, back, is, silent)))))) =
+creates_so s m r remaining y w g disk input name base inputs temporary o given old new left was now start end told said result honest (inr (file, items, mid, opens, inr (other, kept, inr (apart, same, handed, inr (inl (finds, back, is, silent)))))) =
     let c = create_of w g disk input name base inputs temporary o in
     let f = found (temporary_of name temporary) base inputs was now finds honest.alone in
     with_none m disk name temporary c was now left.read left start end told said result handed
     (subst (CreateSo m disk name temporary c was now None start end told said) (sym is)
     (ends_early m c disk name temporary was now start end told said Open honest.first (asking_finds (temporary_of name temporary) base inputs was now finds)
     (open_so c disk start end told said (read_unopened w g disk input name base inputs temporary o (standard_not name other) (in_place_not name temporary apart) f.one) (kept, silent))))
-creates_so s m r remaining y w g disk input name base inputs temporary o given old new left was now start end told said result is_name honest (inr (file, items, mid, opens, inr (other, kept, inr (apart, same, handed, inr (inr (asked, asks, replaces)))))) =
+creates_so s m r remaining y w g disk input name base inputs temporary o given old new left was now start end told said result honest (inr (file, items, mid, opens, inr (other, kept, inr (apart, same, handed, inr (inr (asked, asks, replaces)))))) =
     let c = create_of w g disk input name base inputs temporary o in
     let mk : Making _ = record { word = w; greatest = g; options = o; base = file; inputs = items } in
     let none : file ≡ None → left.read ≡ None = back_none s r mk (temporary_of name temporary) name asked now left.read told said result replaces in
     let standard = standard_not name other in
     let placed_in = in_place_not name temporary apart in
     with_none m disk name temporary c was now left.read left start end told said result handed
-    (replacing_so s m remaining y r w g disk input name base inputs temporary o given old mid new file left.read items was asked now start end told said result standard placed_in (named name temporary standard placed_in is_name) none honest opens same kept asks replaces)
+    (replacing_so s m remaining y r w g disk input name base inputs temporary o given old mid new file left.read items was asked now start end told said result standard placed_in none honest opens same kept asks replaces)

@@ -24,7 +24,7 @@ use Rattle.cdb_tool.specs.declared.fault.Fault.TheVariants.{Missing, NoMemory, O
 use Rattle.cdb.specs.Created.{Created, create_of, created_ending, is_in_place, is_no_name, is_standard}
 use Rattle.cdb.specs.Creating.{Creates, temporary_of}
 use Rattle.cdb.specs.Foretold.{IsTaken}
-use Rattle.cdb.specs.ForetoldCreate.{CreateHolds, HonestCreate, IsCreateForetold, IsCreateRefusal, IsCreated, IsGivenUp, IsName, passing}
+use Rattle.cdb.specs.ForetoldCreate.{CreateHolds, HonestCreate, IsCreateForetold, IsCreateRefusal, IsCreated, IsGivenUp, passing}
 use Rattle.cdb.specs.Oracle.{Disk, ended, greatest_size, word_size}
 use Rattle.cdb.specs.Performs.{HandsOn, PerformsIn, Runs, Says, SaysLine, status_of, usage_line, usage_status}
 use Rattle.cdb.specs.declared.left.Left.{Left}
@@ -127,9 +127,9 @@ comes_so m disk c now made command name base inputs temporary o wide start end f
     })
 
 run_holds : {F I M R Y : Type 0} (s : Ghosts F) (m : Ghosts M) (r : Raw R) (remaining : I → Option (List ℕ)) (y : Systems Y F I M) (planned : Result Asked Usage) (given : Option (List ℕ)) (old new : Y) (was now : NameCalls) (left : Left F M) (start end final told said : Option (List ℕ)) (unwritten unsaid : Type 0) (status : ℕ) (disk : Disk) (input name : List ℕ) (base : Option (List ℕ)) (inputs : List (List ℕ)) (temporary : Option (List ℕ)) (o : MakeOptions) (wide : Bool)
-    → planned ≡ Ok (asked.Create name base inputs temporary o wide) → (unwritten → ⊥) → (unsaid → ⊥) → Keeps end final → IsName name temporary → HonestCreate s remaining y disk input inputs given (y.calls old) (y.calls new) left.read name was now → Runs s m r remaining y planned given old new was now left start end final told said unwritten unsaid status
+    → planned ≡ Ok (asked.Create name base inputs temporary o wide) → (unwritten → ⊥) → (unsaid → ⊥) → Keeps end final → HonestCreate s remaining y disk input inputs given (y.calls old) (y.calls new) left.read name was now → Runs s m r remaining y planned given old new was now left start end final told said unwritten unsaid status
     → CreateHolds m disk name temporary (create_of (word_size wide) (greatest_size wide) disk input name base inputs temporary o) was now left.made start final told said status
-run_holds s m r remaining y planned given old new was now left start end final told said unwritten unsaid status disk input name base inputs temporary o wide plan writes speaks kept is_name honest (inl none) = elim none.why [
+run_holds s m r remaining y planned given old new was now left start end final told said unwritten unsaid status disk input name base inputs temporary o wide plan writes speaks kept honest (inl none) = elim none.why [
   | inl lacks ↦ (let c = create_of (word_size wide) (greatest_size wide) disk input name base inputs temporary o in
       let is : status ≡ 111 = none.is_status ∙ ap usage_status lacks in
       record {
@@ -148,13 +148,13 @@ run_holds s m r remaining y planned given old new was now left start end final t
       })
   | inr refused ↦ absurd (let no : ◌≡◌ {A = Result Asked Usage} (Ok (asked.Create name base inputs temporary o wide)) (Err none.usage) = sym plan ∙ refused in cc)
 ]
-run_holds s m r remaining y planned given old new was now left start end final told said unwritten unsaid status disk input name base inputs temporary o wide plan writes speaks kept is_name honest (inr some) =
+run_holds s m r remaining y planned given old new was now left start end final told said unwritten unsaid status disk input name base inputs temporary o wide plan writes speaks kept honest (inr some) =
     let command = some.command in
     let does = some.does in
     let a : asked_in command ≡ asked.Create name base inputs temporary o wide = same_asked (asked_in command) (asked.Create name base inputs temporary o wide) (sym some.asks ∙ plan) in
     let performs = subst (λ q. PerformsIn (has_wide_words q) s m r remaining y q given old new was now left start does.end told some.before does.answer) a does.performs in
     let creates = creates_in s m r remaining y name base inputs temporary o wide given old new was now left start does.end told some.before does.answer performs in
-    let so = creates_so s m r remaining y (word_size wide) (greatest_size wide) disk input name base inputs temporary o given (y.calls old) (y.calls new) left was now start does.end told some.before does.answer is_name honest creates in
+    let so = creates_so s m r remaining y (word_size wide) (greatest_size wide) disk input name base inputs temporary o given (y.calls old) (y.calls new) left was now start does.end told some.before does.answer honest creates in
     let handed = handed_all does.end final unwritten does.answer some.result writes does.hands in
     let c = create_of (word_size wide) (greatest_size wide) disk input name base inputs temporary o in
     record {
@@ -167,8 +167,8 @@ pub run_is_created : {F I M R Y W V : Type 0} (s : Ghosts F) (m : Ghosts M) (r :
     → (held_by output_old ≡ [] → HasHandedOn output_new) → HasHandedOn errors_new
     → Runs s m r remaining y planned given old new was now left (output_bytes of_output output_old) (output_bytes of_output output_new) (of_output output_new.writer) (output_bytes of_errors errors_old) (output_bytes of_errors errors_new) (OutputFailed output_new) (OutputFailed errors_new) status
     → IsCreateForetold s m remaining y planned given old new was now left (output_bytes of_output output_old) (of_output output_new.writer) (output_bytes of_errors errors_old) (of_errors errors_new.writer) (IsTaken output_old output_new errors_new) status
-run_is_created s m r remaining y planned given old new was now left of_output of_errors output_old output_new errors_old errors_new status handed said runs = λ disk input name base inputs temporary o wide plan taken is_name honest.
+run_is_created s m r remaining y planned given old new was now left of_output of_errors output_old output_new errors_old errors_new status handed said runs = λ disk input name base inputs temporary o wide plan taken honest.
     (let end = output_bytes of_output output_new in
     let kept = subst (Keeps end) (all_taken of_output output_new (handed taken.0) taken.1) (Keeps-refl end) in
     subst (λ t. CreateHolds m disk name temporary (create_of (word_size wide) (greatest_size wide) disk input name base inputs temporary o) was now left.made (output_bytes of_output output_old) (of_output output_new.writer) (output_bytes of_errors errors_old) t status) (all_taken of_errors errors_new said taken.2)
-    (run_holds s m r remaining y planned given old new was now left (output_bytes of_output output_old) end (of_output output_new.writer) (output_bytes of_errors errors_old) (output_bytes of_errors errors_new) (OutputFailed output_new) (OutputFailed errors_new) status disk input name base inputs temporary o wide plan taken.1 taken.2 kept is_name honest runs))
+    (run_holds s m r remaining y planned given old new was now left (output_bytes of_output output_old) end (of_output output_new.writer) (output_bytes of_errors errors_old) (output_bytes of_errors errors_new) (OutputFailed output_new) (OutputFailed errors_new) status disk input name base inputs temporary o wide plan taken.1 taken.2 kept honest runs))

@@ -1,6 +1,6 @@
 -- What the oracle says of a create comes true if the calls were answered as the disk is. The newest call
 -- comes first.
-use Rattle.std.specs.Prelude.{ℕ, ◌≡◌, ◌≢◌, ◌⊎◌, ⊤, ◌||◌, bytes_eq, Bool, true, false, List, [], ◌∷◌, ◌++◌}
+use Rattle.std.specs.Prelude.{ℕ, ◌≡◌, ◌≢◌, ◌⊎◌, ⊤, bytes_eq, Bool, true, false, List, [], ◌∷◌, ◌++◌}
 use Rattle.std.specs.Prelude.{if◌then◌else◌, Option, None, Some, Result, Ok, Err, IfSome}
 use Rattle.std.specs.List.{AllByRecursion}
 use Rattle.std.specs.Io.KnownBytes.{Appends}
@@ -19,7 +19,7 @@ use Rattle.cdb_tool.specs.Message.{fault_line}
 use Rattle.cdb_tool.specs.Runs.MakesSo.{IsMakeRefusal, KnownFor}
 use Rattle.cdb_tool.specs.declared.fault.Fault.{Fault}
 use Rattle.cdb_tool.specs.declared.fault.Fault.TheVariants.{Open, Rename}
-use Rattle.cdb.specs.Created.{Created, create_of, created_ending, inputs_of, is_in_place, is_no_name}
+use Rattle.cdb.specs.Created.{Created, create_of, created_ending, inputs_of, is_in_place}
 use Rattle.cdb.specs.Created.{is_standard}
 use Rattle.cdb.specs.Creating.{temporary_of}
 use Rattle.cdb.specs.Foretold.{ComesTrue, IsAnswered, if_some}
@@ -146,11 +146,6 @@ pub record CreateHolds {M : Type 0} (m : Ghosts M) (disk : Disk) (name : List �
   pub done : status ≡ 0 → HoldsAll m disk name made now c
   pub moments : AtEachMoment (LeavesAll disk (passing name temporary) c.disk) was now
 
--- a temporary file is made for a name that can have a file
-abbrev pub IsName : (name : List ℕ) → (temporary : Option (List ℕ)) → Type 0
-IsName name temporary =
-    ((is_standard name || is_in_place name temporary) ≡ true) ⊎ (is_no_name name ≡ false)
-
 -- a run of these words, which ask for a create
 abbrev pub IsCreateForetold : {F I M Y : Type 0} → Ghosts F → Ghosts M → (I → Option (List ℕ))
     → Systems Y F I M → (planned : Result Asked Usage) → (given : Option (List ℕ)) → (old new : Y)
@@ -159,7 +154,7 @@ abbrev pub IsCreateForetold : {F I M Y : Type 0} → Ghosts F → Ghosts M → (
 IsCreateForetold s m remaining y planned given old new was now left start final told said taken
     status = (disk : Disk) (input name : List ℕ) (base : Option (List ℕ)) (inputs : List (List ℕ))
     (temporary : Option (List ℕ)) (o : MakeOptions) (wide : Bool)
-    → planned ≡ Ok (Create name base inputs temporary o wide) → taken → IsName name temporary
+    → planned ≡ Ok (Create name base inputs temporary o wide) → taken
     → HonestCreate s remaining y disk input inputs given (y.calls old) (y.calls new) left.read name was
     now
     → CreateHolds m disk name temporary

@@ -19,6 +19,7 @@ returns g c =
         moments = e.any_moment;
         ok = ok_and _ _ answer e.ok e.sure;
         err = e.err;
+        no_name = e.no_name;
         guarded = e.guarded;
         renamed = e.renames_ok;
         unrenamed = e.renames_err;
