@@ -23,7 +23,13 @@ from sources import TOP, sources_of, text_of
 
 PROMISES = "docs/audit/PROMISES.md"
 ORACLE = "docs/audit/ORACLE.md"
-ORACLE_SOURCES = ("crates/cdb/specs/Oracle.antt", "crates/cdb/src/steps.rt")
+ORACLE_SOURCES = (
+    "crates/cdb/specs/Created.antt",
+    "crates/cdb/specs/Oracle.antt",
+    "crates/cdb/src/steps.rt",
+    "crates/cdb_form/specs/Text/Parse.antt",
+    "crates/cdb_tool/specs/Runs/Made.antt",
+)
 # What is built or kept and no file of the repository; what stands for a name of the reader's own;
 # and words of other programs, of the system or of the checker's language.
 BUILT = re.compile(r"(bin|out|dist|crates/NAME|crates/\*)/")

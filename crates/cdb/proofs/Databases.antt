@@ -89,10 +89,6 @@ pub says_line : {T E : Type 0} (r : Result T E) (told said : Option (List ℕ)) 
 says_line (Ok done) told said line unsaid w failed = inl w.ok
 says_line (Err e) told said line unsaid w failed = inr (w.err, failed)
 
-pub prefix_written : {T E : Type 0} (r : Result T E) (told said : Option (List ℕ)) (line : List ℕ) → Writes r told said line → AppendsPrefix told said line
-prefix_written (Ok done) told said line w = whole_prefix told said line w.ok
-prefix_written (Err e) told said line w = w.err
-
 line_kept : (line : List ℕ) (told mid said : Option (List ℕ)) (was is : Type 0) → (was → is) → SaysLine line told mid was → Keeps mid said → SaysLine line told said is
 line_kept line told mid said was is stays (inl whole) k = inl (Appends-kept told mid said line whole k)
 line_kept line told mid said was is stays (inr part) k = inr (prefix_kept told mid said line part.0 k, stays part.1)

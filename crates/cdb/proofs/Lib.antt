@@ -1,3 +1,6 @@
 mod Databases
 mod Opens
 mod Oracles
+mod Replaced
+mod Creates
+mod RunCreates

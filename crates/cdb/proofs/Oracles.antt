@@ -17,6 +17,7 @@ use Rattle.cdb_form.specs.declared.damage.Damage.TheVariants as damage
 use Rattle.cdb_form.specs.declared.damage.Damage.TheVariants.{Short}
 use Rattle.cdb_form.specs.declared.walk.fault.WalkFault.TheVariants as walk
 use Rattle.cdb_command.specs.Asked.{Asked, asked_in, has_wide_words}
+use Rattle.cdb_command.specs.Asked as asked
 use Rattle.cdb_command.specs.Usage.{usage_text}
 use Rattle.cdb_command.specs.declared.usage.Usage.{Usage}
 use Rattle.cdb_command.specs.declared.command.Command.{Command}
@@ -52,7 +53,8 @@ use Rattle.cdb_tool.specs.Status.{plain_status, check_status, exit_status}
 use Rattle.cdb_tool.proofs.WholeRuns.{prefix_kept}
 use Rattle.cdb_tool.specs.declared.fault.Fault.{Fault}
 use Rattle.cdb_tool.specs.declared.fault.Fault.TheVariants.{Text, Make, Duplicate, Missing, Read, Walk, Output, Long, Open, Rename, NoMemory, Old, New, NoOldTables, NoNewTables}
-use Rattle.cdb.specs.Foretold.{IsInOrder, AreAnswered, ComesTrue, Honest, IsAnswered, IsForetold, IsRefusal, IsRefused, IsTaken, MayFail, Reveals, Shows, reads_in_turn, stores_in, writes_output}
+use Rattle.cdb.specs.Created.{foretell}
+use Rattle.cdb.specs.Foretold.{IsInOrder, AreAnswered, AsksNoCreate, ComesTrue, Honest, IsAnswered, IsForetold, IsRefusal, IsRefused, IsTaken, MayFail, Reveals, Shows, reads_in_turn, stores_in, writes_output}
 use Rattle.cdb.specs.Opening.{OpenCalls, unopened}
 use Rattle.cdb.specs.Oracle.{Disk, Outcome, check_outcome, command_outcome, difference_outcome, ended, met, of_file, oracle, query_outcome, short_or, stats_outcome, text_outcome, unless_damaged}
 use Rattle.cdb.specs.Performs.{ChecksStore, HandsOn, IsUntouched, LacksMemory, PerformsDifference, PerformsIn, PerformsOn, PerformsQuery, PerformsText, Refuses, Runs, Says, SaysLine, Takes, WritesText, WritesUsage, status_of, usage_line, usage_status}
@@ -566,7 +568,7 @@ nothing_held None = refl
 nothing_held (Some xs) = ap (λ l. Some l) (append-nil xs)
 
 -- an output that did not fail has all that was written, and the answer is that of the command
-handed_all : (end final : Option (List ℕ)) (unwritten : Type 0) (answer result : Result Unit Fault) → (unwritten → ⊥) → HandsOn end final unwritten answer result → Keeps end final × (result ≡ answer)
+pub handed_all : (end final : Option (List ℕ)) (unwritten : Type 0) (answer result : Result Unit Fault) → (unwritten → ⊥) → HandsOn end final unwritten answer result → Keeps end final × (result ≡ answer)
 handed_all end final unwritten answer result taken h = (
   (let none : h.held ≡ [] = elim h.taken [ inl none ↦ none | inr failed ↦ absurd (taken failed) ] in
       subst (Keeps end) (ap (append_known final) none ∙ nothing_held final) h.all),
@@ -695,17 +697,30 @@ run_foretold s m r remaining y planned given old new was now left start end fina
     (is_silent command disk input told some.before some.silent))
 
 -- an output that was flushed and did not fail holds nothing back
-all_taken : {W : Type 0} (contents : W → Option (List ℕ)) (o : Writer W) → HasHandedOn o → (OutputFailed o → ⊥) → output_bytes contents o ≡ contents o.writer
+pub all_taken : {W : Type 0} (contents : W → Option (List ℕ)) (o : Writer W) → HasHandedOn o → (OutputFailed o → ⊥) → output_bytes contents o ≡ contents o.writer
 all_taken contents o handed works = elim handed [
   | inl none ↦ ap (append_known (contents o.writer)) none ∙ nothing_held (contents o.writer)
   | inr failed ↦ absurd (works failed)
 ]
 
+-- what is said of the outcome of a command that makes nothing is said of what the whole function gives
+total_so : (planned : Result Asked Usage) (disk : Disk) (input : List ℕ) (P : Outcome → Type 0) → AsksNoCreate planned → IfSome (oracle planned disk input) P → P (foretell planned disk input).outcome
+total_so (Ok (asked.Query name key number lines wide)) disk input P none h = h
+total_so (Ok (asked.Dump name style wide)) disk input P none h = h
+total_so (Ok (asked.Listing name style wide)) disk input P none h = h
+total_so (Ok (asked.Stats name wide)) disk input P none h = h
+total_so (Ok (asked.Check name wide)) disk input P none h = h
+total_so (Ok (asked.Difference old new wide)) disk input P none h = h
+total_so (Ok (asked.Create name base inputs temporary options wide)) disk input P none h = absurd none
+total_so (Ok asked.Help) disk input P none h = h
+total_so (Err usage) disk input P none h = h
+
 pub run_is_foretold : {F I M R Y W V : Type 0} (s : Ghosts F) (m : Ghosts M) (r : Raw R) (remaining : I → Option (List ℕ)) (y : Systems Y F I M) (planned : Result Asked Usage) (given : Option (List ℕ)) (old new : Y) (was now : NameCalls) (left : Left F M) (of_output : W → Option (List ℕ)) (of_errors : V → Option (List ℕ)) (output_old output_new : Writer W) (errors_old errors_new : Writer V) (status : ℕ)
     → IsSized s → (held_by output_old ≡ [] → HasHandedOn output_new) → HasHandedOn errors_new
     → Runs s m r remaining y planned given old new was now left (output_bytes of_output output_old) (output_bytes of_output output_new) (of_output output_new.writer) (output_bytes of_errors errors_old) (output_bytes of_errors errors_new) (OutputFailed output_new) (OutputFailed errors_new) status
     → IsForetold s remaining y planned given old new left (output_bytes of_output output_old) (of_output output_new.writer) (output_bytes of_errors errors_old) (of_errors errors_new.writer) (IsTaken output_old output_new errors_new) status
-run_is_foretold s m r remaining y planned given old new was now left of_output of_errors output_old output_new errors_old errors_new status sized handed said runs = λ disk input taken honest.
+run_is_foretold s m r remaining y planned given old new was now left of_output of_errors output_old output_new errors_old errors_new status sized handed said runs = λ disk input taken none honest.
+    total_so planned disk input (λ o. Foretold planned o (output_bytes of_output output_old) (of_output output_new.writer) (output_bytes of_errors errors_old) (of_errors errors_new.writer) status) none
     (let end = output_bytes of_output output_new in
     let kept = subst (Keeps end) (all_taken of_output output_new (handed taken.0) taken.1) (Keeps-refl end) in
     subst (λ t. IfSome (oracle planned disk input) (λ o. Foretold planned o (output_bytes of_output output_old) (of_output output_new.writer) (output_bytes of_errors errors_old) t status)) (all_taken of_errors errors_new said taken.2)

@@ -1,11 +1,11 @@
 -- What a create makes of what it reads, and under which names. The newest call comes first.
-use Rattle.std.specs.Prelude.{ℕ, ◌≡◌, ◌≢◌, ◌<◌, ◌⊎◌, IsOk, List, [], ◌∷◌, ◌++◌, map, Option, Some, None, Result}
+use Rattle.std.specs.Prelude.{ℕ, ◌≡◌, ◌≢◌, ◌<◌, ◌+◌, ◌⊎◌, IsOk, List, [], ◌∷◌, ◌++◌, map, Option, Some, None, Result}
 use Rattle.std.specs.Prelude.{Ok, Err, OnOk, OnErr, IfErr, codes}
 use Rattle.std.specs.Io.KnownBytes.{Keeps, Appends}
 use Rattle.cdb_command.specs.declared.options.MakeOptions.{MakeOptions}
-use Rattle.cdb_files.specs.Folder.{NameCalls}
+use Rattle.cdb_files.specs.Folder.{AreGuarded, NameCalls}
 use Rattle.cdb_files.specs.Replacing.{AreOfReplacing, AtEachMoment, EndsIn, IsRenamed, LeavesNew}
-use Rattle.cdb_files.specs.Replacing.{FailsToBuild, IsOfBuilder, LeavesOldOrNew, Tells}
+use Rattle.cdb_files.specs.Replacing.{FailsToBuild, IsNoName, IsOfBuilder, LeavesOldOrNew, Tells, renames}
 use Rattle.cdb_files.specs.declared.answer.Answer.{Answer}
 use Rattle.cdb_files.specs.declared.answer.Answer.TheVariants as looks
 use Rattle.cdb_files.specs.declared.name_trace.NameCall.TheVariants as name_call
@@ -222,8 +222,9 @@ abbrev pub answer_of : Result Unit (ReplaceFault Fault) → Result Unit Fault
 answer_of (Ok done) = Ok done
 answer_of (Err fault) = Err (fault_of fault)
 
--- a file with the database replaces the one of the name, at once or not at all; the lines are those
--- of the run that was made in it
+-- a file with the database replaces the one of the name, at once or not at all, by guarded calls of which
+-- one is a rename, and none after a fault; nothing is done for a text that no file can have as its name.
+-- The lines are those of the run that was made in it
 pub record Replaces {F R : Type 0} (f : Ghosts F) (r : Raw R) (m : Making F)
     (temporary name : List ℕ) (old new : NameCalls) (back : Option F)
     (told said : Option (List ℕ)) (result : Result Unit Fault) : Type 0 where
@@ -234,6 +235,10 @@ pub record Replaces {F R : Type 0} (f : Ghosts F) (r : Raw R) (m : Making F)
   pub ok : OnOk answer
       (IsRenamed temporary name new × LeavesNew name (IsDatabase f m back) new)
   pub err : IfErr answer (EndsIn temporary name old new)
+  pub no_name : (IsNoName name → ⊥) ⊎ ((answer ≡ Err replace.Open) × (new ≡ old))
+  pub guarded : AreGuarded name old new
+  pub renamed : OnOk answer (renames new ≡ renames old + 1)
+  pub unrenamed : OnErr answer (renames new ≡ renames old)
   pub build : IfErr answer (IsOfBuilder (FailsToBuild {file = r}
       (λ store left fault. IsOfStore fault → failures_of store < failures_of left) temporary new))
   pub lines : Tells r (λ base. base ≡ m.base)

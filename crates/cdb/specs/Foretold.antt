@@ -17,7 +17,8 @@ use Rattle.cdb_tool.specs.declared.fault.Fault.{Fault}
 use Rattle.cdb_tool.specs.declared.fault.Fault.TheVariants.{Walk, Output, NoMemory}
 use Rattle.cdb_tool.specs.declared.output.Output.{Output as Writer}
 use Rattle.cdb.specs.Opening.{OpenCalls}
-use Rattle.cdb.specs.Oracle.{Disk, Outcome, oracle, word_size}
+use Rattle.cdb.specs.Created.{foretell}
+use Rattle.cdb.specs.Oracle.{Disk, Outcome, word_size}
 use Rattle.cdb.specs.declared.left.Left.{Left}
 use Rattle.cdb.specs.declared.open_trace.OpenCall.{OpenCall}
 use Rattle.cdb.specs.declared.open_trace.OpenCall.TheVariants.{AtPlaces, InTurn, Stream, Emptied}
@@ -148,12 +149,18 @@ abbrev pub IsTaken : {O E : Type 0} → (old new : Writer O) → (errors : Write
 IsTaken old new errors =
     (held_by old ≡ []) × (OutputFailed new → ⊥) × (OutputFailed errors → ⊥)
 
--- a run whose output and whose lines were taken came to what the oracle says, or to a refusal
+-- the words ask for no create
+abbrev pub AsksNoCreate : Result Asked Usage → Type 0
+AsksNoCreate (Ok (asked.Create name base inputs temporary options wide)) = ⊥
+AsksNoCreate planned = ⊤
+
+-- a run without a create whose output and whose lines were taken came to what the oracle says, or to a
+-- refusal
 abbrev pub IsForetold : {F I M Y : Type 0} → Ghosts F → (I → Option (List ℕ)) → Systems Y F I M
     → (planned : Result Asked Usage) → (given : Option (List ℕ)) → (old new : Y) → Left F M
     → (start final told said : Option (List ℕ)) → (taken : Type 0) → (status : ℕ) → Type 0
 IsForetold s remaining y planned given old new left start final told said taken status =
-    (disk : Disk) → (input : List ℕ) → taken
+    (disk : Disk) → (input : List ℕ) → taken → AsksNoCreate planned
     → IfOk planned (λ command. Honest s remaining y disk input command given old new left)
-    → IfSome (oracle planned disk input) (λ o.
-    ComesTrue o start final told said status ⊎ IsRefused planned o start final told said status)
+    → ComesTrue (foretell planned disk input).outcome start final told said status
+    ⊎ IsRefused planned (foretell planned disk input).outcome start final told said status

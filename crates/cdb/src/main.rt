@@ -20,7 +20,7 @@ use crate::real_system::RealSystem;
 use cdb_files::RealNames;
 use cdb_form::PIPE;
 use cdb_store::LAST_STANDARD;
-use cdb_tool::{Output, Usage};
+use cdb_tool::{Noted, Output, Usage};
 use std::fs::File;
 use std::io::{ErrorKind, Stderr, Stdout};
 use std::os::fd::AsRawFd;
@@ -57,7 +57,7 @@ fn main(rt: HostRuntime) -> ExitCode {
             );
             status
         }
-        Err(usage) => telling::refuse_unbuffered(&usage, &mut rt.stderr()),
+        Err(usage) => telling::refuse_unbuffered(&usage, &mut rt.stderr()).0,
     };
     ExitCode::from(status)
 }
@@ -67,9 +67,9 @@ struct Beginning {
     /// The words of the command line.
     words: Vec<String>,
     /// Standard output with its buffer.
-    output: Output<Stdout>,
+    output: Output<Noted<Stdout>>,
     /// Standard error with its buffer, for the lines of duplicates.
-    errors: Output<Stderr>,
+    errors: Output<Noted<Stderr>>,
 }
 
 /// The words of the command line, and the standard streams that are written, with their buffers.
@@ -77,8 +77,8 @@ fn begun(rt: &HostRuntime) -> Result<Beginning, Usage> {
     let alloc = rt.alloc();
     Ok(Beginning {
         words: words_of(rt)?,
-        output: Output::new(alloc, rt.stdout(), PIPE)?,
-        errors: Output::new(alloc, rt.stderr(), LINES)?,
+        output: Output::new(alloc, Noted::over(rt.stdout()), PIPE)?,
+        errors: Output::new(alloc, Noted::over(rt.stderr()), LINES)?,
     })
 }
 

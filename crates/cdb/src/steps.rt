@@ -3,6 +3,7 @@ ghost use Rattle.std.specs.Prelude.{◌≡◌, [], map, string_bytes};
 ghost use Rattle.cdb_tool.specs.Command.{asked_in, has_wide_words, IsInRange, plan_of};
 ghost use Rattle.cdb_tool.specs.Views.Output.{output_bytes, held_by, HasHandedOn, OutputFailed};
 ghost use Rattle.cdb.specs.Foretold.{IsForetold, IsTaken};
+ghost use Rattle.cdb.specs.ForetoldCreate.{IsCreateForetold};
 ghost use Rattle.cdb.specs.Performs.{Does, HandsOn, IsUntouched, Runs};
 
 use crate::left::{Left, none_left};
@@ -49,6 +50,11 @@ where
         (output_bytes O.contents output.old) (O.contents output.new.writer)
         (output_bytes E.contents errors.old) (E.contents errors.new.writer)
         (IsTaken output.old output.new errors.new) result.1 }
+    ensures created { IsCreateForetold F.Store M.Store J.remaining Y.System
+        (plan_of (map string_bytes words.items)) (I.remaining input) system.old system.new
+        (N.calls names.old) (N.calls names.new) result.0 (output_bytes O.contents output.old)
+        (O.contents output.new.writer) (output_bytes E.contents errors.old)
+        (E.contents errors.new.writer) (IsTaken output.old output.new errors.new) result.1 }
 {
     let (left, status) = answer::<F, J, M, Y, N, I, O, E>(
         alloc, system, names, words, input, output, errors,

@@ -1,11 +1,11 @@
 // The lines on standard error.
 ghost use Rattle.std.specs.Prelude.{◌≡◌};
-ghost use Rattle.cdb_form.specs.Views.KnownBytes.{AppendsPrefix};
+ghost use Rattle.cdb_form.specs.Views.KnownBytes.{Writes};
 ghost use Rattle.cdb_tool.specs.Message.{fault_line};
 ghost use Rattle.cdb_tool.specs.Views.Output.{output_bytes, OutputFailed};
 ghost use Rattle.cdb.specs.Performs.{SaysLine, usage_line, usage_status};
 
-use cdb_form::write_pieces;
+use cdb_form::{OutFault, write_pieces};
 use cdb_tool::{BAD_USAGE, FAILED, Fault, Output, Usage, write_fault};
 use std::io::Write;
 
@@ -42,12 +42,15 @@ pub(crate) fn refuse<E: Write>(usage: &Usage, errors: &mut Output<E>) -> u8
 }
 
 /// Says why the program cannot begin, at once, as far as `errors` takes it, and answers the exit
-/// status.
-pub(crate) fn refuse_unbuffered<E: Write>(usage: &Usage, errors: &mut E) -> u8
-    ensures line { AppendsPrefix (E.contents errors.old) (E.contents errors.new)
+/// status, and whether `errors` took the line.
+pub(crate) fn refuse_unbuffered<E: Write>(
+    usage: &Usage,
+    errors: &mut E,
+) -> (u8, Result<(), OutFault>)
+    ensures line { Writes result.1 (E.contents errors.old) (E.contents errors.new)
         (usage_line usage.now) }
-    ensures status { result ≡ usage_status usage.now }
+    ensures status { result.0 ≡ usage_status usage.now }
 {
-    let _ = write_pieces(errors, &[b"cdb: ", usage.message().as_bytes(), b"\n"]);
-    refused_status(usage)
+    let written = write_pieces(errors, &[b"cdb: ", usage.message().as_bytes(), b"\n"]);
+    (refused_status(usage), written)
 }

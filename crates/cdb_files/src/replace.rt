@@ -145,6 +145,8 @@ fn see_names<N: Names, E: Drop>(
 ) -> Result<(), ReplaceFault<E>>
     ensures apart { OnOk result (temporary.now ≢ name.now) }
     ensures one_name { (temporary.now ≢ name.now) ⊎ (N.calls names.new ≡ N.calls names.old) }
+    ensures no_name { (IsNoName name.now → ⊥)
+        ⊎ ((result ≡ Err Open) × (N.calls names.new ≡ N.calls names.old)) }
     ensures steps { AreSteps temporary.now name.now (λ _. ⊥) (N.calls names.old)
         (N.calls names.new) }
     ensures plain { OnOk result (IsPlain name.now (N.calls names.new)) }
@@ -315,6 +317,8 @@ fn make_temporary<N: Names, E: Drop>(
 ) -> Result<FileStore<N::File>, ReplaceFault<E>>
     ensures apart { OnOk result (temporary.now ≢ name.now) }
     ensures one_name { (temporary.now ≢ name.now) ⊎ (N.calls names.new ≡ N.calls names.old) }
+    ensures no_name { (IsNoName name.now → ⊥)
+        ⊎ ((result ≡ Err Open) × (N.calls names.new ≡ N.calls names.old)) }
     ensures steps { AreSteps temporary.now name.now (λ _. ⊥) (N.calls names.old)
         (N.calls names.new) }
     ensures made { OnOk result (IsReadyToBuild temporary.now name.now (N.calls names.new)) }
@@ -483,6 +487,9 @@ pub fn replace_file<N: Names, B: Builder<FileStore<N::File>>>(
         (N.calls names.old) (N.calls names.new) result.0 told.old told.new result.1 }
     // With one text for both names nothing is done.
     ensures one_name { (temporary.now ≢ name.now) ⊎ (N.calls names.new ≡ N.calls names.old) }
+    // If the name is empty or ends in a slash, the file cannot be made, and nothing is done.
+    ensures no_name { (IsNoName name.now → ⊥)
+        ⊎ ((result.1 ≡ Err Open) × (N.calls names.new ≡ N.calls names.old)) }
     // A crash at any moment leaves the old file or the new one, whole, if the names are of two files.
     // A rename comes only after the system answered so.
     ensures any_moment { AtEachMoment (LeavesOldOrNew temporary.now name.now

@@ -9,3 +9,4 @@ pub mod RecordLemmas
 pub mod WholeText
 pub mod FormReads
 pub mod PrefixLemmas
+pub mod Parsing

@@ -2,3 +2,4 @@
 pub mod WorkedFiles
 pub mod Files
 pub mod Maps
+mod Texts

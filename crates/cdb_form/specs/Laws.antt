@@ -1,3 +1,4 @@
 -- Laws of the format and of its texts, as propositions.
 pub mod Text
 pub mod Walk
+pub mod Parse

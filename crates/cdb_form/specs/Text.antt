@@ -4,3 +4,4 @@ pub mod Native
 pub mod Amending
 pub mod Map
 pub mod List
+pub mod Parse

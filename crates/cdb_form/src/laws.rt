@@ -1,10 +1,14 @@
 //! Laws of the format. Each is the contract of a function whose parameters are what it ranges over.
-ghost use Rattle.std.specs.Prelude.{◌≡◌, ◌≤◌, All, length};
+ghost use Rattle.std.specs.Prelude.{◌≡◌, ◌≤◌, All, false, length, true};
 ghost use Rattle.cdb_form.specs.Format.File.{file_bytes, file_size};
+ghost use Rattle.cdb_form.specs.Laws.Parse.{IsParsed};
 ghost use Rattle.cdb_form.specs.Laws.Text.{AmendsByPuts, ChangeFits, ChangesReadBack, LengthsFit};
 ghost use Rattle.cdb_form.specs.Laws.Text.{MapReadsBack, TextReadsBack};
 ghost use Rattle.cdb_form.specs.Format.Walk.{walk_of};
+ghost use Rattle.cdb_form.specs.Text.Amending.{Putting, SpellsChange};
 ghost use Rattle.cdb_form.specs.Text.Map.{IsMapWord};
+ghost use Rattle.cdb_form.specs.Text.Native.{Spells};
+ghost use Rattle.cdb_form.specs.Text.Parse.{parse};
 ghost use Rattle.cdb_form.specs.Laws.Walk.{IsWalk, WalksBack};
 ghost use Rattle.cdb_form.specs.Views.Pairs.{changes_of, key_values};
 
@@ -30,6 +34,16 @@ pub fn amending_text_reads_back<L: Width>(_items: &[Change], _rest: &[u8])
 /// and an amending text that only puts is a native one.
 pub fn native_text_amends_by_puts<L: Width>(_text: &[u8])
     ensures { AmendsByPuts L.GREATEST _text.now }
+{}
+
+/// What the function of a text says is what the grammar says, of native texts and of amending ones:
+/// its items with what follows the text, or its whole items with its fault. No other items do, no
+/// other rest and no other fault.
+pub fn text_is_parsed<L: Width>(_text: &[u8])
+    ensures native { IsParsed Spells Putting L.GREATEST _text.now
+        (parse false L.GREATEST _text.now) }
+    ensures amending { IsParsed SpellsChange (λ x. x) L.GREATEST _text.now
+        (parse true L.GREATEST _text.now) }
 {}
 
 /// The map text of some records that it can hold is read as these records.

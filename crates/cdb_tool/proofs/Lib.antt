@@ -16,3 +16,4 @@ pub mod OutputLemmas
 pub mod RestoreLaws
 pub mod BaseDifferences
 pub mod DifferenceRuns
+pub mod MadeOf

@@ -3,6 +3,8 @@ pub mod Inputs
 pub mod MakeBytes
 pub mod Course
 pub mod Make
+pub mod Made
+pub mod MakesSo
 pub mod Form
 pub mod WalkText
 pub mod Load

@@ -2,5 +2,6 @@
 pub mod Fault
 pub mod Input
 pub mod Inputs
+pub mod Noted
 pub mod Output
 pub mod ItemReader

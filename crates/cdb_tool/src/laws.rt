@@ -6,6 +6,7 @@ ghost use Rattle.cdb_form.specs.declared.mode.Mode.TheVariants.{Add};
 ghost use Rattle.cdb_read.specs.Laws.{brought_up};
 ghost use Rattle.cdb_tool.specs.Laws.{HoldsAll, Restores};
 ghost use Rattle.cdb_tool.specs.Runs.Course.{mode_of};
+ghost use Rattle.cdb_tool.specs.Runs.MakesSo.{RunsComeOf};
 
 use cdb_command::MakeOptions;
 use cdb_form::{Record, Width};
@@ -24,4 +25,11 @@ pub fn difference_amends_base<L: Width>(_options: MakeOptions, _base: &[Record],
     ensures { mode_of _options ≡ Add
         → file_size L.WORD (brought_up (key_values _base.now) (key_values _new.now)) ≤ _options.limit
         → HoldsAll L.WORD _options (key_values _base.now) (key_values _new.now) }
+{}
+
+/// What a run leaves that makes a database is what one function of its options, of its base and of
+/// its inputs says: the records of the file, the lines and the answer. Or the run reports a refusal,
+/// and its lines are a prefix of those.
+pub fn made_is_the_run<L: Width>(_options: MakeOptions)
+    ensures { RunsComeOf L.WORD L.GREATEST _options }
 {}

@@ -19,6 +19,10 @@ returns g c =
         moments = e.any_moment;
         ok = ok_and _ _ answer e.ok e.sure;
         err = e.err;
+        no_name = e.no_name;
+        guarded = e.guarded;
+        renamed = e.renames_ok;
+        unrenamed = e.renames_err;
         build = e.build;
         lines = of_contents g.E.Write.contents g.F.Store g.N.File.RawFile making _ _ _ _ _ _ _ answer e.told;
       },

@@ -1,5 +1,6 @@
 use Rattle.cdb.proofs.Databases.{failed_stays, run_kept}
 use Rattle.cdb.proofs.Oracles.{run_is_foretold}
+use Rattle.cdb.proofs.RunCreates.{run_is_created}
 use Rattle.cdb.proofs.steps.run.Goals as goal
 
 pub returns-clause-runs : goal.returns-clause-runs
@@ -9,3 +10,7 @@ returns-clause-runs g c =
 pub returns-clause-foretold : goal.returns-clause-foretold
 returns-clause-foretold g c =
     run_is_foretold g.F.Store g.M.Store g.N.File.RawFile g.J.Read.remaining g.Y.System _ _ _ _ _ _ _ g.O.Write.contents g.E.Write.contents c.args.output.now c.answer-left.new.output c.args.errors.now c.flush.new.self _ g.met.F.Store.image_size c.answer-left.ensures.handed c.flush.ensures.handed (returns-clause-runs g c)
+
+pub returns-clause-created : goal.returns-clause-created
+returns-clause-created g c =
+    run_is_created g.F.Store g.M.Store g.N.File.RawFile g.J.Read.remaining g.Y.System _ _ _ _ _ _ _ g.O.Write.contents g.E.Write.contents c.args.output.now c.answer-left.new.output c.args.errors.now c.flush.new.self _ c.answer-left.ensures.handed c.flush.ensures.handed (returns-clause-runs g c)

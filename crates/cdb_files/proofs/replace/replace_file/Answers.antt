@@ -19,6 +19,18 @@ ends_in : {E : Type 0} {t n : List ℕ} (old new : NameCalls) (e : ReplaceFault 
 ends_in {E = E} {t = t} {n = n} old new e (Failed, is, fails) = subst (λ (f : ReplaceFault E). EndsIn t n old new f) (sym is) (inr fails)
 ends_in {E = E} {t = t} {n = n} old new e (NoMemory, is, fails) = subst (λ (f : ReplaceFault E). EndsIn t n old new f) (sym is) (inr fails)
 
+publish_ends : {E : Type 0} (t n : List ℕ) (old new : NameCalls) (r : Result Unit (ReplaceFault E)) → IfErr r (λ e. (fault : NameFault) × (e ≡ of_name fault) × FailsRename t n new fault) → IfErr r (EndsIn t n old new)
+publish_ends t n old new (Ok done) h = tt
+publish_ends t n old new (Err e) h = ends_in old new e h
+
+-- one that was not sealed
+seal_ends : {E : Type 0} (t n : List ℕ) (file : Calls) (old mid new : NameCalls) (fault : ReplaceFault E) → FailsToSeal t n mid fault → IsCleared t file mid new → EndsIn t n old new fault
+seal_ends t n file old mid new Open (stop, before, lacks, is) cleared = inr (stop, before, lacks, (file, subst (λ (cs : NameCalls). IsCleared t file cs new) is cleared))
+seal_ends t n file old mid new Write fails cleared = inr (mid, (file, cleared))
+seal_ends t n file old mid new replacing.NoMemory fails cleared = absurd fails
+seal_ends t n file old mid new replacing.Rename fails cleared = absurd fails
+seal_ends t n file old mid new (Build f) fails cleared = absurd fails
+
 -- an answer that the file could not be synced
 abbrev IsUnsynced : {E : Type 0} → Result Unit (ReplaceFault E) → Type 0
 IsUnsynced (Err Write) = Unit {0}
@@ -134,7 +146,14 @@ returns-in-Err-built-clause-told g c =
       cleared = cleared_of _ _ _ _ _ (ap g.N.File.RawFile.calls c.file.ensures) c.remove_own.ensures;
     })
 
+pub returns-in-Err-built-clause-err : goal.returns-in-Err-built-clause-err
+returns-in-Err-built-clause-err g c = inr (_, (_, c.remove_own.ensures))
+
 -- ---- the file was not sealed
+
+pub returns-in-Err-seal-clause-err : goal.returns-in-Err-seal-clause-err
+returns-in-Err-seal-clause-err g c =
+    seal_ends c.args.temporary.now c.args.name.now _ _ _ _ c.in-Err-seal.fault c.in-Err-seal.ensures.err c.remove_own-in-Err-seal.ensures
 
 pub returns-in-Err-seal-clause-calls : goal.returns-in-Err-seal-clause-calls
 returns-in-Err-seal-clause-calls g c =
@@ -163,6 +182,10 @@ returns-in-Err-seal-clause-told g c =
     })
 
 -- ---- the file was built and sealed
+
+pub returns-clause-err : goal.returns-clause-err
+returns-clause-err g c =
+    publish_ends c.args.temporary.now c.args.name.now _ _ c.publish-published.result c.publish-published.ensures.err
 
 pub returns-clause-calls : goal.returns-clause-calls
 returns-clause-calls g c =

@@ -1,0 +1,174 @@
+-- A run whose words ask for a create comes to what the oracle says.
+use Rattle.std.proofs.Common.{ℕ, Bool, true, false, ◌⊎◌, List, [], ◌∷◌, ◌++◌, map, Option, Some, None, Result, Ok, Err, ◌≡◌, ◌∙◌, ap, inl, inr, refl, subst, sym, append-nil, option_map, arith, string_bytes}
+use Rattle.std.specs.Prelude.{OnOk}
+use Rattle.std.specs.Io.KnownBytes.{Appends, Keeps}
+use Rattle.std.proofs.KnownBytes.{Appends-kept, Keeps-refl, Keeps-trans}
+use Rattle.cdb_form.proofs.Bytes.WritingLemmas.{appends_then}
+use Rattle.cdb_form.specs.Views.KnownBytes.{AppendsPrefix}
+use Rattle.cdb_command.specs.Asked.{Asked, asked_in, has_wide_words}
+use Rattle.cdb_command.specs.Asked as asked
+use Rattle.cdb_command.specs.declared.command.Command.{Command}
+use Rattle.cdb_command.specs.declared.command.Command.TheVariants as command
+use Rattle.cdb_command.specs.declared.options.MakeOptions.{MakeOptions}
+use Rattle.cdb_command.specs.declared.usage.Usage.{Usage}
+use Rattle.cdb_command.specs.declared.usage.Usage.TheVariants as usage
+use Rattle.cdb_files.specs.Folder.{Has, MayHave, NameCalls}
+use Rattle.cdb_files.specs.Replacing.{AtEach}
+use Rattle.cdb_files.specs.declared.name_trace.NameCall.TheVariants.{Made, Removed, NotRemoved, Renamed, NotRenamed, Synced}
+use Rattle.cdb_store.specs.declared.raw.RawFile.{Ghosts as Raw}
+use Rattle.cdb_store.specs.declared.store.Store.{Ghosts}
+use Rattle.cdb_tool.specs.Message.{fault_line}
+use Rattle.cdb_tool.specs.Status.{plain_status}
+use Rattle.cdb_tool.specs.declared.fault.Fault.{Fault}
+use Rattle.cdb_tool.specs.declared.fault.Fault.TheVariants.{Missing, NoMemory, Output}
+use Rattle.cdb.specs.Created.{Created, create_of, created_ending, is_in_place, is_no_name, is_standard}
+use Rattle.cdb.specs.Creating.{Creates, temporary_of}
+use Rattle.cdb.specs.Foretold.{IsTaken}
+use Rattle.cdb.specs.ForetoldCreate.{CreateHolds, HonestCreate, IsCreateForetold, IsCreateRefusal, IsCreated, IsGivenUp, passing}
+use Rattle.cdb.specs.Oracle.{Disk, ended, greatest_size, word_size}
+use Rattle.cdb.specs.Performs.{HandsOn, PerformsIn, Runs, Says, SaysLine, status_of, usage_line, usage_status}
+use Rattle.cdb.specs.declared.left.Left.{Left}
+use Rattle.cdb.specs.declared.system.System.{Ghosts as Systems}
+use Rattle.cdb_tool.specs.Views.Output.{HasHandedOn, OutputFailed, held_by, output_bytes}
+use Rattle.cdb_tool.specs.declared.output.Output.{Output as Writer}
+use Rattle.cdb_tool.proofs.WholeRuns.{prefix_kept}
+use Rattle.cdb.proofs.Creates.{Came, asking_none, creates_so, moments_first}
+use Rattle.cdb.proofs.Oracles.{all_taken, handed_all}
+use Rattle.cdb.proofs.Replaced.{said_nothing}
+
+-- ---- the end
+
+abbrev plain : Result Unit Fault → ℕ
+plain (Ok done) = 0
+plain (Err fault) = plain_status fault
+
+status_plain : (output : List ℕ) (result : Result Unit Fault) → (ended plain_status output result).status ≡ plain result
+status_plain output (Ok done) = refl
+status_plain output (Err fault) = refl
+
+output_plain : (output : List ℕ) (result : Result Unit Fault) → (ended plain_status output result).output ≡ output
+output_plain output (Ok done) = refl
+output_plain output (Err fault) = refl
+
+abbrev line_of : Result Unit Fault → List ℕ
+line_of (Ok done) = []
+line_of (Err fault) = fault_line fault
+
+line_plain : (output : List ℕ) (result : Result Unit Fault) → (ended plain_status output result).lines ≡ line_of result
+line_plain output (Ok done) = refl
+line_plain output (Err fault) = refl
+
+-- the status of a create
+status_create : (command : Command) (name : List ℕ) (base : Option (List ℕ)) (inputs : List (List ℕ)) (temporary : Option (List ℕ)) (o : MakeOptions) (wide : Bool) (result : Result Unit Fault) → asked_in command ≡ asked.Create name base inputs temporary o wide → status_of command result ≡ plain result
+status_create c name base inputs temporary o wide (Ok done) e = refl
+status_create (command.Create n b i t p w) name base inputs temporary o wide (Err fault) e = refl
+status_create (command.Query n k m l w) name base inputs temporary o wide (Err fault) e = refl
+status_create (command.Dump n s w) name base inputs temporary o wide (Err fault) e = refl
+status_create (command.List n s w) name base inputs temporary o wide (Err fault) e = refl
+status_create (command.Stats n w) name base inputs temporary o wide (Err fault) e = refl
+status_create (command.Difference a b w) name base inputs temporary o wide (Err fault) e = refl
+status_create command.Help name base inputs temporary o wide (Err fault) e = refl
+status_create (command.Check n w) name base inputs temporary o wide (Err fault) e = absurd (let no : asked.Check (option_map string_bytes n) w ≡ asked.Create name base inputs temporary o wide = e in cc)
+
+said_all : (line : List ℕ) (told said : Option (List ℕ)) (unsaid : Type 0) → (unsaid → ⊥) → SaysLine line told said unsaid → Appends told said line
+said_all line told said unsaid speaks (inl h) = h
+said_all line told said unsaid speaks (inr h) = absurd (speaks h.1)
+
+said_end : (result : Result Unit Fault) (told before said : Option (List ℕ)) (unsaid : Type 0) (lines : List ℕ) → (unsaid → ⊥) → Appends told before lines → Says result before said unsaid → Appends told said (lines ++ line_of result)
+said_end (Ok done) told before said unsaid lines speaks h k = subst (Appends told said) (sym (append-nil lines)) (Appends-kept told before said lines h k)
+said_end (Err fault) told before said unsaid lines speaks h k = appends_then told before said lines (fault_line fault) h (said_all (fault_line fault) before said unsaid speaks k)
+
+refused_plain : (fault : Fault) → IsCreateRefusal fault → plain_status fault ≡ 111
+refused_plain Missing h = absurd h
+refused_plain fault h = refl
+
+not_nothing : (fault : Fault) → plain_status fault ≡ 0 → ⊥
+not_nothing Missing e = omega (arith, e)
+not_nothing fault e = omega (arith, e)
+
+if_done : (P : Type 0) (answer : Result Unit Fault) → OnOk answer P → plain answer ≡ 0 → P
+if_done P (Ok done) h e = h
+if_done P (Err fault) h e = absurd (not_nothing fault e)
+
+-- ---- the command
+
+same_asked : (a b : Asked) → ◌≡◌ {A = Result Asked Usage} (Ok a) (Ok b) → a ≡ b
+same_asked a b e = cc
+
+creates_in : {F I M R Y : Type 0} (s : Ghosts F) (m : Ghosts M) (r : Raw R) (remaining : I → Option (List ℕ)) (y : Systems Y F I M) (name : List ℕ) (base : Option (List ℕ)) (inputs : List (List ℕ)) (temporary : Option (List ℕ)) (o : MakeOptions) (wide : Bool) (given : Option (List ℕ)) (old new : Y) (was now : NameCalls) (left : Left F M) (start end told said : Option (List ℕ)) (result : Result Unit Fault)
+    → PerformsIn wide s m r remaining y (asked.Create name base inputs temporary o wide) given old new was now left start end told said result
+    → Creates (word_size wide) (greatest_size wide) y s m r remaining o name base inputs temporary given (y.calls old) (y.calls new) was now left start end told said result
+creates_in s m r remaining y name base inputs temporary o true given old new was now left start end told said result h = h
+creates_in s m r remaining y name base inputs temporary o false given old new was now left start end told said result h = h
+
+comes_so : {M : Type 0} (m : Ghosts M) (disk : Disk) (c : Created) (now : NameCalls) (made : Option M) (command : Command) (name : List ℕ) (base : Option (List ℕ)) (inputs : List (List ℕ)) (temporary : Option (List ℕ)) (o : MakeOptions) (wide : Bool) (start end final told before said : Option (List ℕ)) (unsaid : Type 0) (answer result : Result Unit Fault) (status : ℕ) → asked_in command ≡ asked.Create name base inputs temporary o wide → Keeps end final → result ≡ answer → (unsaid → ⊥)
+    → Says result before said unsaid → status ≡ status_of command result → Came m disk name c now made start end told before answer → IsCreated m disk name c now made start final told said status ⊎ IsGivenUp c start final told said status
+comes_so m disk c now made command name base inputs temporary o wide start end final told before said unsaid answer result status a kept same speaks says is (inl h) =
+    let whole : result ≡ c.result = same ∙ h.0.is in
+    inl (record {
+      true_so = record {
+        is_status = is ∙ status_create command name base inputs temporary o wide result a ∙ ap plain whole ∙ sym (status_plain c.output c.result);
+        output = subst (Appends start final) (sym (output_plain c.output c.result)) (Appends-kept start end final c.output h.0.output kept);
+        lines = subst (λ l. Appends told said (c.lines ++ l)) (ap line_of whole ∙ sym (line_plain c.output c.result)) (said_end result told before said unsaid c.lines speaks h.0.lines says);
+      };
+      disk_is = h.1;
+    })
+comes_so m disk c now made command name base inputs temporary o wide start end final told before said unsaid answer result status a kept same speaks says is (inr h) =
+    let whole : result ≡ Err h.fault = same ∙ h.is in
+    inr (record {
+      fault = h.fault;
+      refusal = h.refusal;
+      is_status = is ∙ status_create command name base inputs temporary o wide result a ∙ ap plain whole ∙ refused_plain h.fault h.refusal;
+      output = prefix_kept start end final c.output h.output kept;
+      front = h.lines.front;
+      more = h.lines.more;
+      split = h.lines.split;
+      lines = subst (λ l. Appends told said (h.lines.front ++ l)) (ap line_of whole) (said_end result told before said unsaid h.lines.front speaks h.lines.appended says);
+    })
+
+run_holds : {F I M R Y : Type 0} (s : Ghosts F) (m : Ghosts M) (r : Raw R) (remaining : I → Option (List ℕ)) (y : Systems Y F I M) (planned : Result Asked Usage) (given : Option (List ℕ)) (old new : Y) (was now : NameCalls) (left : Left F M) (start end final told said : Option (List ℕ)) (unwritten unsaid : Type 0) (status : ℕ) (disk : Disk) (input name : List ℕ) (base : Option (List ℕ)) (inputs : List (List ℕ)) (temporary : Option (List ℕ)) (o : MakeOptions) (wide : Bool)
+    → planned ≡ Ok (asked.Create name base inputs temporary o wide) → (unwritten → ⊥) → (unsaid → ⊥) → Keeps end final → HonestCreate s remaining y disk input inputs given (y.calls old) (y.calls new) left.read name was now → Runs s m r remaining y planned given old new was now left start end final told said unwritten unsaid status
+    → CreateHolds m disk name temporary (create_of (word_size wide) (greatest_size wide) disk input name base inputs temporary o) was now left.made start final told said status
+run_holds s m r remaining y planned given old new was now left start end final told said unwritten unsaid status disk input name base inputs temporary o wide plan writes speaks kept honest (inl none) = elim none.why [
+  | inl lacks ↦ (let c = create_of (word_size wide) (greatest_size wide) disk input name base inputs temporary o in
+      let is : status ≡ 111 = none.is_status ∙ ap usage_status lacks in
+      record {
+        comes = λ had has. inr (record {
+          fault = NoMemory;
+          refusal = tt;
+          is_status = is;
+          output = said_nothing start final c.output (Keeps-trans start end final none.kept kept);
+          front = [];
+          more = c.lines;
+          split = refl;
+          lines = subst (Appends told said) (ap usage_line lacks) (said_all (usage_line none.usage) told said unsaid speaks none.line);
+        });
+        done = λ zero. absurd (omega (arith, zero, is));
+        moments = moments_first disk c.disk (passing name temporary) was now honest.first (asking_none was now none.same);
+      })
+  | inr refused ↦ absurd (let no : ◌≡◌ {A = Result Asked Usage} (Ok (asked.Create name base inputs temporary o wide)) (Err none.usage) = sym plan ∙ refused in cc)
+]
+run_holds s m r remaining y planned given old new was now left start end final told said unwritten unsaid status disk input name base inputs temporary o wide plan writes speaks kept honest (inr some) =
+    let command = some.command in
+    let does = some.does in
+    let a : asked_in command ≡ asked.Create name base inputs temporary o wide = same_asked (asked_in command) (asked.Create name base inputs temporary o wide) (sym some.asks ∙ plan) in
+    let performs = subst (λ q. PerformsIn (has_wide_words q) s m r remaining y q given old new was now left start does.end told some.before does.answer) a does.performs in
+    let creates = creates_in s m r remaining y name base inputs temporary o wide given old new was now left start does.end told some.before does.answer performs in
+    let so = creates_so s m r remaining y (word_size wide) (greatest_size wide) disk input name base inputs temporary o given (y.calls old) (y.calls new) left was now start does.end told some.before does.answer honest creates in
+    let handed = handed_all does.end final unwritten does.answer some.result writes does.hands in
+    let c = create_of (word_size wide) (greatest_size wide) disk input name base inputs temporary o in
+    record {
+      comes = λ had has. comes_so m disk c now left.made command name base inputs temporary o wide start does.end final told some.before said unsaid does.answer some.result status a handed.0 handed.1 speaks some.says some.is_status (so.answer had has);
+      done = λ zero. if_done _ does.answer so.done (sym (some.is_status ∙ status_create command name base inputs temporary o wide some.result a ∙ ap plain handed.1) ∙ zero);
+      moments = so.moments;
+    }
+
+pub run_is_created : {F I M R Y W V : Type 0} (s : Ghosts F) (m : Ghosts M) (r : Raw R) (remaining : I → Option (List ℕ)) (y : Systems Y F I M) (planned : Result Asked Usage) (given : Option (List ℕ)) (old new : Y) (was now : NameCalls) (left : Left F M) (of_output : W → Option (List ℕ)) (of_errors : V → Option (List ℕ)) (output_old output_new : Writer W) (errors_old errors_new : Writer V) (status : ℕ)
+    → (held_by output_old ≡ [] → HasHandedOn output_new) → HasHandedOn errors_new
+    → Runs s m r remaining y planned given old new was now left (output_bytes of_output output_old) (output_bytes of_output output_new) (of_output output_new.writer) (output_bytes of_errors errors_old) (output_bytes of_errors errors_new) (OutputFailed output_new) (OutputFailed errors_new) status
+    → IsCreateForetold s m remaining y planned given old new was now left (output_bytes of_output output_old) (of_output output_new.writer) (output_bytes of_errors errors_old) (of_errors errors_new.writer) (IsTaken output_old output_new errors_new) status
+run_is_created s m r remaining y planned given old new was now left of_output of_errors output_old output_new errors_old errors_new status handed said runs = λ disk input name base inputs temporary o wide plan taken honest.
+    (let end = output_bytes of_output output_new in
+    let kept = subst (Keeps end) (all_taken of_output output_new (handed taken.0) taken.1) (Keeps-refl end) in
+    subst (λ t. CreateHolds m disk name temporary (create_of (word_size wide) (greatest_size wide) disk input name base inputs temporary o) was now left.made (output_bytes of_output output_old) (of_output output_new.writer) (output_bytes of_errors errors_old) t status) (all_taken of_errors errors_new said taken.2)
+    (run_holds s m r remaining y planned given old new was now left (output_bytes of_output output_old) end (of_output output_new.writer) (output_bytes of_errors errors_old) (output_bytes of_errors errors_new) (OutputFailed output_new) (OutputFailed errors_new) status disk input name base inputs temporary o wide plan taken.1 taken.2 kept honest runs))

@@ -1,0 +1,188 @@
+-- What a create comes to if nothing is refused, and what it leaves on the disk: a function of its options,
+-- of what each file has and of what standard input has.
+use Rattle.std.specs.Prelude.{ℕ, Bool, true, false, ◌||◌, ◌==◌, bytes_eq, if◌then◌else◌, List, [], ◌∷◌}
+use Rattle.std.specs.Prelude.{◌++◌, codes, Option, None, Some, option_map, Result, Ok, Err}
+use Rattle.cdb_command.specs.Asked.{Asked}
+use Rattle.cdb_command.specs.Asked as asked
+use Rattle.cdb_command.specs.declared.options.MakeOptions.{MakeOptions}
+use Rattle.cdb_command.specs.declared.usage.Usage.{Usage}
+use Rattle.cdb_tool.specs.Runs.Made.{Made, made_of, made_file}
+use Rattle.cdb_tool.specs.Status.{plain_status}
+use Rattle.cdb_tool.specs.declared.fault.Fault.{Fault}
+use Rattle.cdb_tool.specs.declared.fault.Fault.TheVariants.{Open}
+use Rattle.cdb.specs.Creating.{temporary_of}
+use Rattle.cdb.specs.Oracle.{Disk, Outcome, command_outcome, ended, greatest_size, oracle, word_size}
+
+-- ---- the disk
+
+-- a name has this, and the other names what they had
+abbrev pub with_name : List ℕ → Option (List ℕ) → Disk → Disk
+with_name name held disk other = if bytes_eq other name then held else disk other
+
+-- what a create comes to: its answer, what it writes, its lines of duplicates, what each name has then,
+-- and a name whose file may have any bytes
+pub record Created : Type 0 where
+  pub result : Result Unit Fault
+  pub output : List ℕ
+  pub lines : List ℕ
+  pub disk : Disk
+  pub unsure : Option (List ℕ)
+
+-- ---- what is read
+
+-- a name is that of standard input
+abbrev pub is_standard : List ℕ → Bool
+is_standard name = bytes_eq name (codes "-")
+
+-- both, if there are both
+abbrev pub both : {A B C : Type 0} → (A → B → C) → Option A → Option B → Option C
+both f (Some a) (Some b) = Some (f a b)
+both f (Some a) None = None
+both f None b = None
+
+-- the bytes of an input, or none for standard input; and those of all
+abbrev pub input_of : Disk → List ℕ → Option (Option (List ℕ))
+input_of disk name =
+    if is_standard name then Some None else option_map (λ bytes. Some bytes) (disk name)
+
+abbrev pub each_of : Disk → List (List ℕ) → Option (List (Option (List ℕ)))
+each_of disk [] = Some []
+each_of disk (name ∷ names) = both (λ x xs. x ∷ xs) (input_of disk name) (each_of disk names)
+
+-- no names stand for standard input
+abbrev pub inputs_of : Disk → List (List ℕ) → Option (List (Option (List ℕ)))
+inputs_of disk [] = Some (None ∷ [])
+inputs_of disk (name ∷ names) = each_of disk (name ∷ names)
+
+-- the bytes of a base, if there is one
+abbrev pub base_of : Disk → Option (List ℕ) → Option (Option (List ℕ))
+base_of disk None = Some None
+base_of disk (Some name) = option_map (λ bytes. Some bytes) (disk name)
+
+-- ---- where the database goes
+
+-- one of the files that are read has a name
+abbrev pub is_input : (name : List ℕ) → List (List ℕ) → Bool
+is_input name [] = false
+is_input name (file ∷ files) =
+    (if is_standard file then false else bytes_eq name file) || is_input name files
+
+abbrev pub is_base : (name : List ℕ) → Option (List ℕ) → Bool
+is_base name None = false
+is_base name (Some base) = bytes_eq name base
+
+abbrev pub is_read : (name : List ℕ) → (base : Option (List ℕ)) → List (List ℕ) → Bool
+is_read name base inputs = is_base name base || is_input name inputs
+
+-- a name is empty or ends in a slash
+abbrev pub is_no_name : List ℕ → Bool
+is_no_name [] = true
+is_no_name (c ∷ []) = c == 47
+is_no_name (c ∷ d ∷ name) = is_no_name (d ∷ name)
+
+-- it is made in place: its temporary file is none, or itself
+abbrev pub is_in_place : (name : List ℕ) → (temporary : Option (List ℕ)) → Bool
+is_in_place name None = false
+is_in_place name (Some temporary) =
+    bytes_eq temporary (codes "-") || bytes_eq temporary name
+
+-- a file cannot be opened, and the disk stays as it is
+abbrev pub unopened : Disk → Created
+unopened disk =
+    record { result = Err Open; output = []; lines = []; disk = disk; unsure = None }
+
+-- on standard output
+abbrev pub on_output : Disk → (lines file : List ℕ) → Result Unit Fault → Created
+on_output disk lines file (Ok done) =
+    record { result = Ok tt; output = file; lines = lines; disk = disk; unsure = None }
+on_output disk lines file (Err fault) =
+    record { result = Err fault; output = []; lines = lines; disk = disk; unsure = None }
+
+-- in the file of its name, which after a fault may have any bytes
+abbrev pub in_place : Disk → (name lines file : List ℕ) → Result Unit Fault → Created
+in_place disk name lines file (Ok done) = record {
+  result = Ok tt;
+  output = [];
+  lines = lines;
+  disk = with_name name (Some file) disk;
+  unsure = None;
+}
+in_place disk name lines file (Err fault) =
+    record { result = Err fault; output = []; lines = lines; disk = disk; unsure = Some name }
+
+-- in a temporary file, which is gone then
+abbrev pub in_temporary : Disk → (temporary name lines file : List ℕ) → Result Unit Fault → Created
+in_temporary disk temporary name lines file (Ok done) = record {
+  result = Ok tt;
+  output = [];
+  lines = lines;
+  disk = with_name temporary None (with_name name (Some file) disk);
+  unsure = None;
+}
+in_temporary disk temporary name lines file (Err fault) = record {
+  result = Err fault;
+  output = [];
+  lines = lines;
+  disk = with_name temporary None disk;
+  unsure = None;
+}
+
+-- ---- a create
+
+abbrev pub placed : ℕ → Disk → (name : List ℕ) → (base : Option (List ℕ)) → (inputs : List (List ℕ))
+    → (temporary : Option (List ℕ)) → Made → Created
+placed w disk name base inputs temporary made =
+    let file = made_file w made in
+    if is_standard name then on_output disk made.lines file made.result
+    else if is_in_place name temporary then (
+    if is_read name base inputs then unopened disk
+    else in_place disk name made.lines file made.result
+    )
+    else if is_read (temporary_of name temporary) base inputs || is_no_name name then unopened disk
+    else in_temporary disk (temporary_of name temporary) name made.lines file made.result
+
+-- if all that it reads is there
+abbrev pub if_opened : Disk → Option Created → Created
+if_opened disk None = unopened disk
+if_opened disk (Some created) = created
+
+abbrev pub create_of : (w g : ℕ) → Disk → (input name : List ℕ) → (base : Option (List ℕ))
+    → (inputs : List (List ℕ)) → (temporary : Option (List ℕ)) → MakeOptions → Created
+create_of w g disk input name base inputs temporary o =
+    if_opened disk (both (λ old files. placed w disk name base inputs temporary
+    (made_of w g o old files input)) (base_of disk base) (inputs_of disk inputs))
+
+-- ---- the oracle of every command
+
+-- what a run comes to, what each name has then, and a name whose file may have any bytes
+pub record Ending : Type 0 where
+  pub outcome : Outcome
+  pub disk : Disk
+  pub unsure : Option (List ℕ)
+
+-- a fault has its line behind those of duplicates
+abbrev pub with_lines : List ℕ → Outcome → Outcome
+with_lines lines outcome =
+    record { status = outcome.status; output = outcome.output; lines = lines ++ outcome.lines }
+
+abbrev pub created_ending : Created → Ending
+created_ending c = record {
+  outcome = with_lines c.lines (ended plain_status c.output c.result);
+  disk = c.disk;
+  unsure = c.unsure;
+}
+
+-- what reads leaves the disk as it was
+abbrev pub reading_ending : Disk → Option Outcome → Ending
+reading_ending disk (Some outcome) = record { outcome = outcome; disk = disk; unsure = None }
+reading_ending disk None = created_ending (unopened disk)
+
+abbrev pub command_ending : Asked → Disk → (input : List ℕ) → Ending
+command_ending (asked.Create name base inputs temporary options wide) disk input =
+    created_ending (create_of (word_size wide) (greatest_size wide) disk input name base inputs
+    temporary options)
+command_ending command disk input = reading_ending disk (command_outcome command disk input)
+
+abbrev pub foretell : Result Asked Usage → Disk → (input : List ℕ) → Ending
+foretell (Ok command) disk input = command_ending command disk input
+foretell (Err usage) disk input = reading_ending disk (oracle (Err usage) disk input)

@@ -1,0 +1,88 @@
+-- What the oracle says of worked creates.
+use Rattle.std.specs.Fmt.{digits}
+use Rattle.std.specs.Prelude.{ℕ, ◌≡◌, true, false, bytes_eq, if◌then◌else◌, List, [], ◌∷◌, ◌++◌}
+use Rattle.std.specs.Prelude.{length, codes, Option, None, Some, Ok, refl}
+use Rattle.cdb_command.specs.Asked.{Create}
+use Rattle.cdb_command.specs.declared.options.MakeOptions.{MakeOptions}
+use Rattle.cdb_command.specs.declared.style.Style.TheVariants.{Native}
+use Rattle.cdb_form.specs.Examples.WorkedFiles.{words_of, repeat, two_file}
+use Rattle.cdb_form.specs.Format.File.{file_bytes, file_pointers, pointers_from}
+use Rattle.cdb_form.specs.Format.Reading.{head_at}
+use Rattle.cdb_form.specs.Format.Record.{KeyValue, record_bytes, record_of}
+use Rattle.cdb_form.specs.Format.Table.{file_tables, table_slots, filled_slots, slots_with}
+use Rattle.cdb_form.specs.Format.Table.{table_entries, entries_from}
+use Rattle.cdb_form.specs.Format.Walk.{walk_of, walk_from, whole_records, record_end}
+use Rattle.cdb_form.specs.Text.Parse.{text_from}
+use Rattle.cdb_form.specs.declared.mode.Mode.TheVariants.{Add}
+use Rattle.cdb.specs.Created.{Ending, foretell}
+use Rattle.cdb.specs.Oracle.{Disk}
+
+-- an empty disk, and one with the file of the two records
+unfoldable nothing : Disk
+nothing name = None
+
+unfoldable old : Disk
+old name = if bytes_eq name (codes "a.cdb") then Some two_file else None
+
+-- the text of both, and what a create of a.cdb comes to, of standard input
+unfoldable two_text : List ℕ
+two_text = codes "+3,5:one->Hello\n+3,7:two->Goodbye\n\n"
+
+unfoldable plain : MakeOptions
+plain = record { mode = Add; warn = false; stop = false; style = Native; limit = 4294967295 }
+
+unfoldable stopping : MakeOptions
+stopping = record { mode = Add; warn = false; stop = true; style = Native; limit = 4294967295 }
+
+abbrev of_file : MakeOptions → (base : Option (List ℕ)) → Disk → (input : List ℕ) → Ending
+of_file o base disk input = foretell (Ok (Create (codes "a.cdb") base [] None o false)) disk input
+
+-- cdb -c a.cdb, over nothing: the file of 2114 bytes, and no temporary file
+made_is : (of_file plain None nothing two_text).disk (codes "a.cdb") ≡ Some two_file
+unfolding nothing two_text plain text_from two_file words_of repeat file_bytes file_tables table_slots filled_slots slots_with table_entries entries_from file_pointers pointers_from record_bytes
+made_is = refl
+
+long_is : length two_file ≡ 2114
+unfolding two_file words_of repeat
+long_is = refl
+
+succeeds : (of_file plain None nothing two_text).outcome ≡ record { status = 0; output = []; lines = [] }
+unfolding nothing two_text plain text_from
+succeeds = refl
+
+gone : (of_file plain None nothing two_text).disk (codes "a.cdb.tmp") ≡ None
+unfolding nothing two_text plain text_from
+gone = refl
+
+-- cdb -c -
+printed : (foretell (Ok (Create (codes "-") None [] None plain false)) nothing two_text).outcome ≡ record { status = 0; output = two_file; lines = [] }
+unfolding nothing two_text plain text_from two_file words_of repeat file_bytes file_tables table_slots filled_slots slots_with table_entries entries_from file_pointers pointers_from record_bytes
+printed = refl
+
+-- cdb -c -t - a.cdb of a text that is cut: the file may have any bytes then
+unsure_is : (foretell (Ok (Create (codes "a.cdb") None [] (Some (codes "-")) plain false)) old (codes "+1")).unsure ≡ Some (codes "a.cdb")
+unfolding old plain text_from
+unsure_is = refl
+
+-- cdb -c a.cdb of a text that is cut: the old file stays
+early : (of_file plain None old (codes "+1,1:a->1\n")).outcome ≡ record { status = 111; output = []; lines = codes "cdb: input 1: byte 10: text ends early\n" }
+unfolding old plain digits text_from
+early = refl
+
+kept : (of_file plain None old (codes "+1,1:a->1\n")).disk (codes "a.cdb") ≡ Some two_file
+unfolding old plain text_from
+kept = refl
+
+-- cdb -c -e a.cdb of a key that comes twice: so it does
+twice : (of_file stopping None old (codes "+1,1:a->1\n+1,1:a->2\n\n")).outcome ≡ record { status = 111; output = []; lines = codes "cdb: input 1: record 2: duplicate key\ncdb: stopped at a duplicate key\n" }
+unfolding old stopping digits text_from
+twice = refl
+
+stopped : (of_file stopping None old (codes "+1,1:a->1\n+1,1:a->2\n\n")).disk (codes "a.cdb") ≡ Some two_file
+unfolding old stopping text_from
+stopped = refl
+
+-- cdb -c -b a.cdb a.cdb of a removal: the record is gone
+removed : (of_file plain (Some (codes "a.cdb")) old (codes "-3:two\n\n")).disk (codes "a.cdb") ≡ Some (file_bytes 4 (record_of (codes "one") (codes "Hello") ∷ []))
+unfolding old plain text_from two_file words_of repeat walk_of walk_from whole_records record_end head_at
+removed = refl

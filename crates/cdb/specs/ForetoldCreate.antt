@@ -1,0 +1,162 @@
+-- What the oracle says of a create comes true if the calls were answered as the disk is. The newest call
+-- comes first.
+use Rattle.std.specs.Prelude.{ℕ, ◌≡◌, ◌≢◌, ◌⊎◌, ⊤, bytes_eq, Bool, true, false, List, [], ◌∷◌, ◌++◌}
+use Rattle.std.specs.Prelude.{if◌then◌else◌, Option, None, Some, Result, Ok, Err, IfSome}
+use Rattle.std.specs.List.{AllByRecursion}
+use Rattle.std.specs.Io.KnownBytes.{Appends}
+use Rattle.cdb_command.specs.Asked.{Asked, Create}
+use Rattle.cdb_command.specs.declared.options.MakeOptions.{MakeOptions}
+use Rattle.cdb_command.specs.declared.usage.Usage.{Usage}
+use Rattle.cdb_files.specs.Folder.{Has, IsCleared, MayHave, NameCalls}
+use Rattle.cdb_files.specs.Replacing.{AtEachMoment, IsNew, NameEvent}
+use Rattle.cdb_files.specs.declared.answer.Answer.TheVariants.{No}
+use Rattle.cdb_files.specs.declared.name_trace.NameCall.TheVariants.{Input, NotRemoved, Same}
+use Rattle.cdb_form.specs.Format.Record.{AreBytes}
+use Rattle.cdb_form.specs.Views.KnownBytes.{AppendsPrefix}
+use Rattle.cdb_store.specs.Calls.{Agrees, Calls, lost}
+use Rattle.cdb_store.specs.declared.store.Store.{Ghosts}
+use Rattle.cdb_tool.specs.Message.{fault_line}
+use Rattle.cdb_tool.specs.Runs.MakesSo.{IsMakeRefusal, KnownFor}
+use Rattle.cdb_tool.specs.declared.fault.Fault.{Fault}
+use Rattle.cdb_tool.specs.declared.fault.Fault.TheVariants.{Open, Rename}
+use Rattle.cdb.specs.Created.{Created, create_of, created_ending, inputs_of, is_in_place}
+use Rattle.cdb.specs.Created.{is_standard}
+use Rattle.cdb.specs.Creating.{temporary_of}
+use Rattle.cdb.specs.Foretold.{ComesTrue, IsAnswered, if_some}
+use Rattle.cdb.specs.Opening.{OpenCalls}
+use Rattle.cdb.specs.Oracle.{Disk, greatest_size, word_size}
+use Rattle.cdb.specs.declared.left.Left.{Left}
+use Rattle.cdb.specs.declared.system.System.{Ghosts as Systems}
+
+-- ---- the calls
+
+-- no other name leads to a file: two names were said to be of one exactly if they are one, and standard
+-- input to be the file of no name
+abbrev pub IsNoAlias : NameEvent → Type 0
+IsNoAlias (Same said, one, two, file) = (said ≡ No → one ≢ two) × (said ≢ No → one ≡ two)
+IsNoAlias (Input said, one, two, file) = said ≡ No
+IsNoAlias (call, one, two, file) = ⊤
+
+-- the place of a name, to which no other leads
+abbrev pub place_of : (name : List ℕ) → List ℕ → Bool
+place_of name other = bytes_eq other name
+
+-- the files and standard input have bytes
+pub record IsOfBytes (disk : Disk) (input : List ℕ) : Type 0 where
+  pub files : (name : List ℕ) → IfSome (disk name) AreBytes
+  pub standard : AreBytes input
+
+-- each call was answered as the disk is, no call on names came before, and the name has something
+pub record HonestCreate {F I M Y : Type 0} (s : Ghosts F) (remaining : I → Option (List ℕ))
+    (y : Systems Y F I M) (disk : Disk) (input : List ℕ) (inputs : List (List ℕ))
+    (given : Option (List ℕ)) (old new : OpenCalls) (read : Option F) (name : List ℕ)
+    (was now : NameCalls)
+    : Type 0 where
+  pub calls : OpenCalls
+  pub are : new ≡ calls ++ old
+  pub answered : AllByRecursion (λ c. IsAnswered s remaining y disk (if_some read) c.0 c.1) calls
+  pub reads : (files : List (Option (List ℕ))) → inputs_of disk inputs ≡ Some files
+      → KnownFor files given input
+  pub bytes : IsOfBytes disk input
+  pub first : was ≡ []
+  pub alone : AllByRecursion IsNoAlias now
+  pub held : Option (List ℕ)
+  pub has : Has (place_of name) (disk name) now held
+
+-- a file from which the temporary name was taken had some bytes
+abbrev pub HadBytes : (temporary : List ℕ) → NameCalls → Type 0
+HadBytes temporary calls = (file : Calls) (before : NameCalls) → IsCleared temporary file before calls
+    → (lost file ≡ false) × ((a : List ℕ) × Agrees file a)
+
+-- the store that was made in place, if one was, has some
+abbrev pub HasBytes : {M : Type 0} → Ghosts M → Option M → Type 0
+HasBytes m None = ⊤
+HasBytes m (Some store) = (b : List ℕ) × m.image store b
+
+-- each removal of a name was done
+abbrev pub IsNoFailedRemoval : NameEvent → Type 0
+IsNoFailedRemoval (NotRemoved, name, other, file) = ⊥
+IsNoFailedRemoval (call, name, other, file) = ⊤
+
+-- ---- the disk
+
+-- what a name has then: what the calls on names left, and the name of the database, if that was made in
+-- place, what the store has
+abbrev pub Holds : {M : Type 0} → Ghosts M → Disk → (name : List ℕ) → Option M → NameCalls
+    → (other : List ℕ) → (held : Option (List ℕ)) → Type 0
+Holds m disk name None now other held = Has (place_of other) (disk other) now held
+Holds m disk name (Some store) now other held =
+    ((bytes_eq other name ≡ true) × IsNew (m.image store) held)
+    ⊎ ((bytes_eq other name ≡ false) × Has (place_of other) (disk other) now held)
+
+-- each name has what was said, but for one of which nothing was
+abbrev pub HoldsAll : {M : Type 0} → Ghosts M → Disk → (name : List ℕ) → Option M → NameCalls
+    → Created → Type 0
+HoldsAll m disk name made now c = (other : List ℕ) (held : Option (List ℕ)) → c.unsure ≢ Some other
+    → Holds m disk name made now other held → held ≡ c.disk other
+
+-- the name whose file may have any bytes amid a create: the temporary one, or the one that is made in
+-- place
+abbrev pub passing : (name : List ℕ) → (temporary : Option (List ℕ)) → Option (List ℕ)
+passing name temporary =
+    if is_standard name then None
+    else if is_in_place name temporary then Some name else Some (temporary_of name temporary)
+
+-- a crash now leaves what each other name had, or what was said
+abbrev pub LeavesAll : Disk → (passing : Option (List ℕ)) → (after : Disk) → NameCalls → Type 0
+LeavesAll disk passing after now = (other : List ℕ) (held : Option (List ℕ))
+    → passing ≢ Some other → MayHave (place_of other) (disk other) now held
+    → (held ≡ disk other) ⊎ (held ≡ after other)
+
+-- ---- what comes of it
+
+-- a refusal of what is read or built, or of a call on a name
+abbrev pub IsCreateRefusal : Fault → Type 0
+IsCreateRefusal Open = ⊤
+IsCreateRefusal Rename = ⊤
+IsCreateRefusal fault = IsMakeRefusal fault
+
+-- it was reported, and what was written is a prefix
+pub record IsGivenUp (c : Created) (start final told said : Option (List ℕ)) (status : ℕ) : Type 0
+  where
+    pub fault : Fault
+    pub refusal : IsCreateRefusal fault
+    pub is_status : status ≡ 111
+    pub output : AppendsPrefix start final c.output
+    pub front : List ℕ
+    pub more : List ℕ
+    pub split : c.lines ≡ front ++ more
+    pub lines : Appends told said (front ++ fault_line fault)
+
+-- it came to what was said, and so did the disk
+pub record IsCreated {M : Type 0} (m : Ghosts M) (disk : Disk) (name : List ℕ) (c : Created)
+    (now : NameCalls) (made : Option M) (start final told said : Option (List ℕ)) (status : ℕ)
+    : Type 0 where
+  pub true_so : ComesTrue (created_ending c).outcome start final told said status
+  pub disk_is : AllByRecursion IsNoFailedRemoval now → HoldsAll m disk name made now c
+
+-- what was foretold, from the words to the exit status: it came true, or a refusal was reported; at
+-- status 0 the disk is as was said; and at each moment a crash leaves what was there or what was said
+pub record CreateHolds {M : Type 0} (m : Ghosts M) (disk : Disk) (name : List ℕ)
+    (temporary : Option (List ℕ)) (c : Created) (was now : NameCalls) (made : Option M)
+    (start final told said : Option (List ℕ)) (status : ℕ) : Type 0 where
+  pub comes : HadBytes (temporary_of name temporary) now → HasBytes m made
+      → IsCreated m disk name c now made start final told said status
+      ⊎ IsGivenUp c start final told said status
+  pub done : status ≡ 0 → HoldsAll m disk name made now c
+  pub moments : AtEachMoment (LeavesAll disk (passing name temporary) c.disk) was now
+
+-- a run of these words, which ask for a create
+abbrev pub IsCreateForetold : {F I M Y : Type 0} → Ghosts F → Ghosts M → (I → Option (List ℕ))
+    → Systems Y F I M → (planned : Result Asked Usage) → (given : Option (List ℕ)) → (old new : Y)
+    → (was now : NameCalls) → Left F M → (start final told said : Option (List ℕ))
+    → (taken : Type 0) → (status : ℕ) → Type 0
+IsCreateForetold s m remaining y planned given old new was now left start final told said taken
+    status = (disk : Disk) (input name : List ℕ) (base : Option (List ℕ)) (inputs : List (List ℕ))
+    (temporary : Option (List ℕ)) (o : MakeOptions) (wide : Bool)
+    → planned ≡ Ok (Create name base inputs temporary o wide) → taken
+    → HonestCreate s remaining y disk input inputs given (y.calls old) (y.calls new) left.read name was
+    now
+    → CreateHolds m disk name temporary
+    (create_of (word_size wide) (greatest_size wide) disk input name base inputs temporary o) was now
+    left.made start final told said status

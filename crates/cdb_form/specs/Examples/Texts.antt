@@ -1,0 +1,36 @@
+-- What worked texts say.
+use Rattle.std.specs.Prelude.{◌≡◌, true, false, [], ◌∷◌, codes, Ok, Err, refl}
+use Rattle.cdb_form.specs.Format.Record.{record_of}
+use Rattle.cdb_form.specs.Text.Amending.{Putting, Removing}
+use Rattle.cdb_form.specs.Text.Parse.{parse, text_from}
+use Rattle.cdb_form.specs.declared.text.fault.TextFault.TheVariants.{Syntax, Ended, Large}
+
+-- two records, and what follows the text
+two : parse false 4294967295 (codes "+3,5:one->Hello\n+3,7:two->Goodbye\n\nmore") ≡ record {
+  items = Putting (record_of (codes "one") (codes "Hello")) ∷ Putting (record_of (codes "two") (codes "Goodbye")) ∷ [];
+  ends = Ok (codes "more");
+}
+unfolding text_from
+two = refl
+
+-- a text that ends early, one whose value is too long by a byte, and a length that is too large
+early : parse false 4294967295 (codes "+3,5:one->Hello\n") ≡ record { items = Putting (record_of (codes "one") (codes "Hello")) ∷ []; ends = Err (Ended 16) }
+unfolding text_from
+early = refl
+
+longer : parse false 4294967295 (codes "+3,5:one->Hello!\n\n") ≡ record { items = []; ends = Err (Syntax 15) }
+unfolding text_from
+longer = refl
+
+large : parse false 255 (codes "+3,256:one") ≡ record { items = []; ends = Err (Large 5) }
+unfolding text_from
+large = refl
+
+-- an amending text; a native one removes nothing
+amending : parse true 4294967295 (codes "-3:one\n+1,0:a->\n\n") ≡ record { items = Removing (codes "one") ∷ Putting (record_of (codes "a") []) ∷ []; ends = Ok [] }
+unfolding text_from
+amending = refl
+
+native : parse false 4294967295 (codes "-3:one\n\n") ≡ record { items = []; ends = Err (Syntax 0) }
+unfolding text_from
+native = refl

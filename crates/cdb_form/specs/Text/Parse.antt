@@ -1,0 +1,93 @@
+-- What bytes say as a text: its items up to its end or its fault. Each part of an item is read from the
+-- place `at` on.
+use Rattle.std.specs.Char.{digit_value}
+use Rattle.std.specs.Prelude.{ℕ, ◌+◌, ◌*◌, ◌==◌, ◌&&◌, nat_lt, nat_le, Bool, if◌then◌else◌}
+use Rattle.std.specs.Prelude.{zero, suc, List, [], ◌∷◌, length, take, drop, Option, None, Some}
+use Rattle.std.specs.Prelude.{Result, Ok, Err, map}
+use Rattle.cdb_form.specs.Format.Record.{KeyValue, record_of}
+use Rattle.cdb_form.specs.Text.Amending.{Change, Putting, Removing}
+use Rattle.cdb_form.specs.Text.Map.{map_lines}
+use Rattle.cdb_form.specs.declared.text.fault.TextFault.{TextFault}
+use Rattle.cdb_form.specs.declared.text.fault.TextFault.TheVariants.{Syntax, Ended, Large}
+
+-- a part was found, up to a place and these bytes; or a fault
+pub data Part (X : Type 0) : Type 0 where
+  Found : X → (at : ℕ) → (rest : List ℕ) → Part X
+  Stuck : TextFault → Part X
+
+-- and then another
+abbrev pub followed : {X Y : Type 0} → Part X → (X → (at : ℕ) → (rest : List ℕ) → Part Y) → Part Y
+followed (Found x at rest) next = next x at rest
+followed (Stuck fault) next = Stuck fault
+
+-- the byte c
+abbrev pub byte_part : (c at : ℕ) → List ℕ → Part Unit
+byte_part c at [] = Stuck (Ended at)
+byte_part c at (d ∷ text) = if d == c then Found tt (at + 1) text else Stuck (Syntax at)
+
+-- n bytes, and the byte c
+abbrev pub field_part : (n c at : ℕ) → List ℕ → Part (List ℕ)
+field_part n c at text =
+    if nat_le (length text) n then Stuck (Ended (at + length text))
+    else followed (byte_part c (at + n) (drop n text)) (λ _ at rest. Found (take n text) at rest)
+
+-- a numeral of at most g, whose digits from `start` to `at` are `value`, and the byte c
+abbrev pub number_part : (g c start value at : ℕ) → List ℕ → Part ℕ
+number_part g c start value at [] = Stuck (Ended at)
+number_part g c start value at (d ∷ text) =
+    if nat_lt (digit_value d) 10 then (
+    if nat_le (value * 10 + digit_value d) g
+    then number_part g c start (value * 10 + digit_value d) (at + 1) text else Stuck (Large at)
+    )
+    else if (d == c) && nat_lt start at then Found value (at + 1) text else Stuck (Syntax at)
+
+-- klen,vlen:key->value and a newline, and klen:key and a newline
+abbrev pub record_part : (g at : ℕ) → List ℕ → Part KeyValue
+record_part g at text =
+    followed (number_part g 44 at 0 at text) (λ klen at text.
+    followed (number_part g 58 at 0 at text) (λ vlen at text.
+    followed (field_part klen 45 at text) (λ key at text.
+    followed (byte_part 62 at text) (λ _ at text.
+    followed (field_part vlen 10 at text) (λ value at text.
+    Found (record_of key value) at text)))))
+
+abbrev pub removal_part : (g at : ℕ) → List ℕ → Part (List ℕ)
+removal_part g at text =
+    followed (number_part g 58 at 0 at text) (λ klen at text. field_part klen 10 at text)
+
+-- an item, behind its plus or its minus; or none, at the newline that ends the text
+abbrev pub item_part : (removals : Bool) → (g at : ℕ) → List ℕ → Part (Option Change)
+item_part removals g at [] = Stuck (Ended at)
+item_part removals g at (c ∷ text) =
+    if c == 10 then Found None (at + 1) text
+    else if c == 43
+    then followed (record_part g (at + 1) text) (λ r at rest. Found (Some (Putting r)) at rest)
+    else if removals && (c == 45)
+    then followed (removal_part g (at + 1) text) (λ key at rest. Found (Some (Removing key)) at rest)
+    else Stuck (Syntax at)
+
+-- the items of a text, and what follows it or its fault
+pub record Parsed : Type 0 where
+  pub items : List Change
+  pub ends : Result (List ℕ) TextFault
+
+-- the text goes on with this part
+abbrev pub going_on : Part (Option Change) → ((at : ℕ) → List ℕ → Parsed) → Parsed
+going_on (Found (Some item) at rest) go =
+    record { items = item ∷ (go at rest).items; ends = (go at rest).ends }
+going_on (Found None at rest) go = record { items = []; ends = Ok rest }
+going_on (Stuck fault) go = record { items = []; ends = Err fault }
+
+-- a text of at most so many items
+unfoldable pub text_from : (removals : Bool) → (g most at : ℕ) → List ℕ → Parsed
+text_from removals g zero at text = record { items = []; ends = Err (Ended at) }
+text_from removals g (suc most) at text =
+    going_on (item_part removals g at text) (λ at rest. text_from removals g most at rest)
+
+-- a native text, or an amending one, whose lengths are at most g
+abbrev pub parse : (removals : Bool) → (g : ℕ) → List ℕ → Parsed
+parse removals g text = text_from removals g (suc (length text)) 0 text
+
+-- a map text has no fault
+abbrev pub parse_map : List ℕ → Parsed
+parse_map text = record { items = map Putting (map_lines text); ends = Ok [] }

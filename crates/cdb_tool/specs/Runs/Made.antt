@@ -1,0 +1,107 @@
+-- What a run that makes a database comes to, if nothing is refused: a function of its options and of the
+-- bytes that it reads.
+use Rattle.std.specs.Prelude.{ℕ, ◌+◌, ◌≡◌, ◌⊎◌, ⊤, nat_lt, map, OnOk, if◌then◌else◌, List, [], ◌∷◌, Option, None, Some}
+use Rattle.std.specs.Prelude.{option_map, is_some, Result, Ok, Err, false, true}
+use Rattle.std.specs.Io.KnownBytes.{Appends}
+use Rattle.cdb_command.specs.declared.options.MakeOptions.{MakeOptions}
+use Rattle.cdb_command.specs.declared.style.Style.TheVariants.{Native, Map}
+use Rattle.cdb_form.specs.Format.File.{file_size, file_bytes}
+use Rattle.cdb_form.specs.Format.Record.{KeyValue, AreBytes}
+use Rattle.cdb_form.specs.Views.KnownBytes.{AppendsPrefix}
+use Rattle.cdb_form.specs.declared.text.fault.TextFault.TheVariants as text
+use Rattle.cdb_make.specs.Views.Maker.{IsFile}
+use Rattle.cdb_make.specs.declared.fault.MakeFault.TheVariants as make
+use Rattle.cdb_read.specs.declared.fault.ReadFault.TheVariants as read
+use Rattle.cdb_form.specs.Format.Walk.{Walked, walk_of}
+use Rattle.cdb_form.specs.Text.Amending.{Change}
+use Rattle.cdb_form.specs.Text.Parse.{Parsed, parse, parse_map}
+use Rattle.cdb_form.specs.declared.text.fault.TextFault.{TextFault}
+use Rattle.cdb_make.specs.declared.fault.MakeFault.TheVariants.{TooBig}
+use Rattle.cdb_read.specs.Views.ReadFault.{damage_fault}
+use Rattle.cdb_tool.specs.Runs.Course.{Task, task_of, from_inputs, course_of}
+use Rattle.cdb_tool.specs.Runs.Inputs.{InputForm, Puts, Changes, input_form, OneInput, InputsLeft}
+use Rattle.cdb_tool.specs.Runs.Inputs as form
+use Rattle.cdb_tool.specs.Runs.Make.{records_of}
+use Rattle.cdb_tool.specs.declared.fault.Fault.{Fault}
+use Rattle.cdb_tool.specs.declared.fault.Fault.TheVariants.{Text, Make, Read, Output, NoMemory}
+
+-- ---- the inputs
+
+-- what an input says
+abbrev pub input_parsed : InputForm → (g : ℕ) → List ℕ → Parsed
+input_parsed (Puts Native) g input = parse false g input
+input_parsed (Puts Map) g input = parse_map input
+input_parsed Changes g input = parse true g input
+
+-- the items of each input, up to the first with a fault, and that fault
+pub record Given : Type 0 where
+  pub items : List (List Change)
+  pub fault : Option Fault
+
+-- one more input, and then those that its rest leads to; or its fault
+abbrev pub with_input : (number : ℕ) → List Change → Result (List ℕ) TextFault → (List ℕ → Given)
+    → Given
+with_input number items (Ok rest) next =
+    record { items = items ∷ (next rest).items; fault = (next rest).fault }
+with_input number items (Err fault) next =
+    record { items = items ∷ []; fault = Some (Text number fault) }
+
+-- what inputs say: each has bytes of its own, or begins where the last one ended that has not
+abbrev pub given_from : InputForm → (g number : ℕ) → List (Option (List ℕ)) → (shared : List ℕ)
+    → Given
+given_from form g number [] shared = record { items = []; fault = None }
+given_from form g number (Some input ∷ inputs) shared =
+    let parsed = input_parsed form g input in
+    with_input number parsed.items parsed.ends (λ rest. given_from form g (number + 1) inputs shared)
+given_from form g number (None ∷ inputs) shared =
+    let parsed = input_parsed form g shared in
+    with_input number parsed.items parsed.ends (λ rest. given_from form g (number + 1) inputs rest)
+
+-- ---- the run
+
+-- the records that are left, the lines of duplicates, and whether they are a database, or the first
+-- fault
+pub record Made : Type 0 where
+  pub records : List KeyValue
+  pub lines : List ℕ
+  pub result : Result Unit Fault
+
+abbrev pub ended_by : (first last : Option Fault) → Result Unit Fault
+ended_by (Some fault) last = Err fault
+ended_by None (Some fault) = Err fault
+ended_by None None = Ok tt
+
+-- of what its inputs say
+abbrev pub made_from : ℕ → Task → Given → Made
+made_from w t given =
+    let course = course_of w t (from_inputs 1 given.items) in
+    record {
+      records = course.records;
+      lines = course.lines;
+      result = ended_by course.ended given.fault;
+    }
+
+-- why a base cannot be amended: its file would pass the limit, or its walk has a damage
+abbrev pub walk_fault : (w limit : ℕ) → Walked → Option Fault
+walk_fault w limit walk =
+    if nat_lt limit (file_size w walk.records) then Some (Make TooBig)
+    else option_map (λ damage. Read (damage_fault damage)) walk.damage
+
+abbrev pub base_fault : (w limit : ℕ) → Option (List ℕ) → Option Fault
+base_fault w limit None = None
+base_fault w limit (Some b) = walk_fault w limit (walk_of w b)
+
+abbrev pub unless_stopped : Option Fault → Made → Made
+unless_stopped None made = made
+unless_stopped (Some fault) made = record { records = []; lines = []; result = Err fault }
+
+-- in words of w bytes, with lengths in texts of at most g
+abbrev pub made_of : (w g : ℕ) → MakeOptions → (base : Option (List ℕ))
+    → (inputs : List (Option (List ℕ))) → (shared : List ℕ) → Made
+made_of w g o base inputs shared =
+    unless_stopped (base_fault w o.limit base) (made_from w (task_of o (records_of w base))
+    (given_from (input_form o.style (is_some (records_of w base))) g 1 inputs shared))
+
+-- the database
+abbrev pub made_file : ℕ → Made → List ℕ
+made_file w made = file_bytes w made.records

@@ -1,0 +1,74 @@
+-- When a run that makes a database comes to what the function of its bytes says.
+use Rattle.std.specs.Prelude.{ℕ, ◌≡◌, ◌⊎◌, ⊤, map, OnOk, List, [], ◌∷◌, Option, None, Some, Result}
+use Rattle.std.specs.Prelude.{Ok, Err}
+use Rattle.std.specs.Io.KnownBytes.{Appends}
+use Rattle.cdb_command.specs.declared.options.MakeOptions.{MakeOptions}
+use Rattle.cdb_form.specs.Format.Record.{AreBytes}
+use Rattle.cdb_form.specs.Views.KnownBytes.{AppendsPrefix}
+use Rattle.cdb_form.specs.declared.text.fault.TextFault.TheVariants as text
+use Rattle.cdb_make.specs.Views.Maker.{IsFile}
+use Rattle.cdb_make.specs.declared.fault.MakeFault.TheVariants as make
+use Rattle.cdb_read.specs.declared.fault.ReadFault.TheVariants as read
+use Rattle.cdb_tool.specs.Runs.Inputs.{OneInput, InputsLeft}
+use Rattle.cdb_tool.specs.Runs.Inputs as form
+use Rattle.cdb_tool.specs.Runs.Made.{Made, made_of}
+use Rattle.cdb_tool.specs.Runs.Make.{Runs}
+use Rattle.cdb_tool.specs.declared.fault.Fault.{Fault}
+use Rattle.cdb_tool.specs.declared.fault.Fault.TheVariants.{Text, Make, Read, Output, NoMemory}
+
+-- an input, by its bytes
+abbrev pub one_input : Option (List ℕ) → OneInput
+one_input None = form.Shared
+one_input (Some input) = form.Own (Some input)
+
+-- the shared bytes are known, if an input begins with them
+abbrev pub KnownFor : List (Option (List ℕ)) → Option (List ℕ) → List ℕ → Type 0
+KnownFor [] given shared = ⊤
+KnownFor (None ∷ inputs) given shared = given ≡ Some shared
+KnownFor (Some input ∷ inputs) given shared = KnownFor inputs given shared
+
+abbrev pub EachOfBytes : List (Option (List ℕ)) → Type 0
+EachOfBytes [] = ⊤
+EachOfBytes (None ∷ inputs) = EachOfBytes inputs
+EachOfBytes (Some input ∷ inputs) = AreBytes input × EachOfBytes inputs
+
+-- the inputs that are left have these bytes
+pub record Known (inputs : List (Option (List ℕ))) (shared : List ℕ) (left : InputsLeft) : Type 0 where
+  pub each : left.each ≡ map one_input inputs
+  pub known : KnownFor inputs left.shared shared
+  pub own : EachOfBytes inputs
+  pub bytes : AreBytes shared
+
+-- it came to what was said
+pub record MakesSo (w : ℕ) (m : Made) (images : List ℕ → Type 0) (old new : Option (List ℕ)) (result : Result Unit Fault) : Type 0 where
+  pub is : result ≡ m.result
+  pub lines : Appends old new m.lines
+  pub file : OnOk result (IsFile w m.records images)
+
+-- an allocation failed; the lines, a store, or the reader of an input
+abbrev pub IsMakeRefusal : Fault → Type 0
+IsMakeRefusal (Text n text.Input) = ⊤
+IsMakeRefusal (Text n text.Endless) = ⊤
+IsMakeRefusal (Make make.Lookup) = ⊤
+IsMakeRefusal (Make make.Writing) = ⊤
+IsMakeRefusal (Read read.Device) = ⊤
+IsMakeRefusal Output = ⊤
+IsMakeRefusal NoMemory = ⊤
+IsMakeRefusal fault = ⊥
+
+-- or that was refused, and the lines are a prefix
+pub record MakeRefused (m : Made) (old new : Option (List ℕ)) (result : Result Unit Fault) : Type 0 where
+  pub fault : Fault
+  pub is : result ≡ Err fault
+  pub refusal : IsMakeRefusal fault
+  pub lines : AppendsPrefix old new m.lines
+
+abbrev pub ComesOf : ℕ → Made → (images : List ℕ → Type 0) → (old new : Option (List ℕ)) → Result Unit Fault → Type 0
+ComesOf w m images old new result = MakesSo w m images old new result ⊎ MakeRefused m old new result
+
+-- what a run leaves whose store has this image is what the function says, or a refusal
+abbrev pub RunsComeOf : (w g : ℕ) → MakeOptions → Type 0
+RunsComeOf w g o = (base : Option (List ℕ)) (inputs : List (Option (List ℕ))) (shared : List ℕ)
+    (left : InputsLeft) (image : List ℕ) (old new : Option (List ℕ)) (result : Result Unit Fault)
+    → Known inputs shared left → Runs w g o base left (λ b. b ≡ image) old new result
+    → ComesOf w (made_of w g o base inputs shared) (λ b. b ≡ image) old new result
