@@ -1,3 +1,4 @@
 mod Databases
 mod Opens
 mod Oracles
+mod Explained

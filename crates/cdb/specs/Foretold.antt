@@ -148,12 +148,13 @@ abbrev pub IsTaken : {O E : Type 0} → (old new : Writer O) → (errors : Write
 IsTaken old new errors =
     (held_by old ≡ []) × (OutputFailed new → ⊥) × (OutputFailed errors → ⊥)
 
--- a run whose output and whose lines were taken came to what the oracle says, or to a refusal
+-- a run that explains no fault, whose output and whose lines were taken, came to what the oracle says, or to a refusal
 abbrev pub IsForetold : {F I M Y : Type 0} → Ghosts F → (I → Option (List ℕ)) → Systems Y F I M
-    → (planned : Result Asked Usage) → (given : Option (List ℕ)) → (old new : Y) → Left F M
-    → (start final told said : Option (List ℕ)) → (taken : Type 0) → (status : ℕ) → Type 0
-IsForetold s remaining y planned given old new left start final told said taken status =
-    (disk : Disk) → (input : List ℕ) → taken
+    → (planned : Result Asked Usage) → (explained : Bool) → (given : Option (List ℕ))
+    → (old new : Y) → Left F M → (start final told said : Option (List ℕ)) → (taken : Type 0)
+    → (status : ℕ) → Type 0
+IsForetold s remaining y planned explained given old new left start final told said taken status =
+    (disk : Disk) → (input : List ℕ) → taken → explained ≡ false
     → IfOk planned (λ command. Honest s remaining y disk input command given old new left)
     → IfSome (oracle planned disk input) (λ o.
     ComesTrue o start final told said status ⊎ IsRefused planned o start final told said status)
