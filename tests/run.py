@@ -78,6 +78,7 @@ def parts_of(program, is_gate):
         Part("tests/faults/closed.py", (loaded, REFUSE), (c,), (REFUSE,)),
         Part("tests/faults/syncs.py", (loaded, REFUSE), (c,), (REFUSE,)),
         Part("tests/faults/names.py", (loaded, REFUSE), (c,), (REFUSE,)),
+        Part("tests/faults/causes.py", (loaded, REFUSE), (c,), (REFUSE,)),
         Part("tests/faults/killed.py", (loaded, REFUSE), (c,), (REFUSE,)),
         Part("tests/faults/others.py", (loaded, REFUSE), (c,), (REFUSE,)),
         Part("tests/faults/parts.py", (loaded, REFUSE), (c,), (REFUSE,)),

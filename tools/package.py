@@ -226,6 +226,8 @@ def files_of(program, when):
     """All files of the program's package, by name: their permissions and their bytes."""
     files = {
         "usr/bin/cdb": (0o755, program),
+        "usr/share/bash-completion/completions/cdb": (0o644, read("completion", "cdb")),
+        f"usr/share/doc/{NAME}/GUIDE.md.gz": (0o644, squeezed(read("docs", "GUIDE.md"))),
         f"usr/share/lintian/overrides/{NAME}": (0o644, OVERRIDES.format(**facts()).encode()),
     }
     return controlled(files | notes_of(NAME, when) | pages_of(*PAGES), CONTROL, program)

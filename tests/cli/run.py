@@ -1,5 +1,5 @@
 #!/usr/bin/env python3
-"""Runs the program on each case of cases.py and sets.py, in a folder of its own, and compares all it leaves.
+"""Runs the program on each case of cases.py, sets.py and causes.py, in a folder of its own, and compares all it leaves.
 
     tests/cli/run.py PROGRAM
 """
@@ -16,6 +16,7 @@ import sys
 import tempfile
 
 from cases import CASES
+from causes import CAUSES
 from places import CLOSED, FOLDER, PIPE, UNREAD, Link
 from sets import SETS
 
@@ -155,13 +156,16 @@ def wrong_with(program, case):
     wanted = case["stdout"] if isinstance(case["stdout"], bytes) else None
     left = before if case["left"] is None else case["left"]
     lines = case["errors"].splitlines(keepends=True)
+    # The line of a fault, and that of its cause.
+    last = 2 if "-v" in case["words"] else 1
     new = {name: modes[name] for name in files if name not in before}
     found = [
         ("status", status, case["status"]),
         ("output", output, wanted),
         ("errors", b"".join(writes), case["errors"]),
-        # The last line, which is that of a fault, is written at once: the lines of duplicates come before.
-        ("last write", writes[-1:], lines[-1:] if status == 111 else writes[-1:]),
+        # The last line, which is that of a fault, is written at once, and its cause with it: the lines of
+        # duplicates come before.
+        ("last write", writes[-1:], [b"".join(lines[-last:])] if status == 111 and lines else writes[-1:]),
         ("files", sorted(files), sorted(left)),
         *((name, files.get(name), what) for name, what in left.items()),
         *((f"permissions of {name}", mode, MADE) for name, mode in new.items()),
@@ -172,7 +176,7 @@ def wrong_with(program, case):
 def main():
     if len(sys.argv) != 2:
         sys.exit(__doc__)
-    cases = {**CASES, **SETS}
+    cases = {**CASES, **SETS, **{f"-v: {name}": case for name, case in CAUSES.items()}}
     failed = 0
     with tempfile.TemporaryDirectory() as folder:
         # A copy that nobody may run too, wherever the program is.

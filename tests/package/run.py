@@ -31,6 +31,8 @@ HELD = {
     "usr/share/man/man5/cdb.5.gz": 0o644,
     "usr/share/doc/pezundrix/copyright": 0o644,
     "usr/share/doc/pezundrix/changelog.gz": 0o644,
+    "usr/share/doc/pezundrix/GUIDE.md.gz": 0o644,
+    "usr/share/bash-completion/completions/cdb": 0o644,
 }
 
 
@@ -68,6 +70,16 @@ def holds_files(tree):
     return all(os.path.isfile(it) and os.stat(it).st_mode & 0o7777 == mode for it, mode in paths.items())
 
 
+def completes(program, tree):
+    """Whether bash completes a hyphen to the letters of the usage text."""
+    script = os.path.join(tree, "usr", "share", "bash-completion", "completions", "cdb")
+    asked = f'source {script}; COMP_WORDS=(cdb -); COMP_CWORD=1; _cdb; echo "${{COMPREPLY[@]}}"'
+    letters = {it[1] for it in output_of(["bash", "-c", asked]).decode().split()}
+    usage = output_of([program, "-h"]).decode()
+    named = set(re.findall(r"-([A-Za-z])\b", usage)) | set("".join(re.findall(r"\[-([a-z]+)\]", usage)))
+    return named <= letters
+
+
 def conflicts(package):
     """Whether the package takes the place of tinycdb's command, and does not pass for it."""
     names = ("Conflicts", "Replaces", "Provides")
@@ -100,6 +112,7 @@ def tests_of(program, folder):
         "the package has the same bytes each time, and their sum": is_same,
         "the package holds its files": holds_files(tree),
         "the package conflicts with tinycdb": conflicts(package),
+        "bash completes the letters": completes(program, tree),
         "the example runs from the package": runs_example(os.path.join(tree, "usr", "bin", "cdb"), folder),
     }
     if shutil.which("lintian"):

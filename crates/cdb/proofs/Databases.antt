@@ -1,5 +1,5 @@
 -- What a store has once a run over it succeeded, and what a run says whose lines were handed on.
-use Rattle.std.proofs.Common.{ℕ, Bool, true, List, Option, Some, None, Result, Ok, Err, ◌≡◌, ◌∙◌, ap, inl, inr, subst, sym}
+use Rattle.std.proofs.Common.{ℕ, Bool, true, List, Option, Some, None, Result, Ok, Err, ◌≡◌, ◌∙◌, ◌++◌, ap, inl, inr, subst, sym}
 use Rattle.std.specs.Prelude.{OnOk, OnErr}
 use Rattle.std.specs.Io.KnownBytes.{Keeps}
 use Rattle.std.proofs.KnownBytes.{Appends-kept, Keeps-trans}
@@ -93,13 +93,13 @@ line_kept : (line : List ℕ) (told mid said : Option (List ℕ)) (was is : Type
 line_kept line told mid said was is stays (inl whole) k = inl (Appends-kept told mid said line whole k)
 line_kept line told mid said was is stays (inr part) k = inr (prefix_kept told mid said line part.0 k, stays part.1)
 
-says_kept : (result : Result Unit Fault) (told mid said : Option (List ℕ)) (was is : Type 0) → (was → is) → Says result told mid was → Keeps mid said → Says result told said is
-says_kept (Ok done) told mid said was is stays h k = Keeps-trans told mid said h k
-says_kept (Err fault) told mid said was is stays h k = line_kept (fault_line fault) told mid said was is stays h k
+says_kept : (result : Result Unit Fault) (more : List ℕ) (told mid said : Option (List ℕ)) (was is : Type 0) → (was → is) → Says result more told mid was → Keeps mid said → Says result more told said is
+says_kept (Ok done) more told mid said was is stays h k = Keeps-trans told mid said h k
+says_kept (Err fault) more told mid said was is stays h k = line_kept (fault_line fault ++ more) told mid said was is stays h k
 
-pub run_kept : {F I M R Y : Type 0} (s : Ghosts F) (m : Ghosts M) (r : Raw R) (remaining : I → Option (List ℕ)) (y : Systems Y F I M) (planned : Result Asked Usage) (input : Option (List ℕ)) (old new : Y) (was now : NameCalls) (left : Left F M) (start end final told mid said : Option (List ℕ)) (unwritten before after : Type 0) (status : ℕ)
-    → Runs s m r remaining y planned input old new was now left start end final told mid unwritten before status → (before → after) → Keeps mid said → Runs s m r remaining y planned input old new was now left start end final told said unwritten after status
-run_kept s m r remaining y planned input old new was now left start end final told mid said unwritten before after status h stays k = elim h as (λ _. Runs s m r remaining y planned input old new was now left start end final told said unwritten after status) [
+pub run_kept : {F I M R Y : Type 0} (s : Ghosts F) (m : Ghosts M) (r : Raw R) (remaining : I → Option (List ℕ)) (y : Systems Y F I M) (planned : Result Asked Usage) (explained : Bool) (input : Option (List ℕ)) (old new : Y) (was now : NameCalls) (left : Left F M) (start end final told mid said : Option (List ℕ)) (unwritten before after : Type 0) (status : ℕ)
+    → Runs s m r remaining y planned explained input old new was now left start end final told mid unwritten before status → (before → after) → Keeps mid said → Runs s m r remaining y planned explained input old new was now left start end final told said unwritten after status
+run_kept s m r remaining y planned explained input old new was now left start end final told mid said unwritten before after status h stays k = elim h as (λ _. Runs s m r remaining y planned explained input old new was now left start end final told said unwritten after status) [
   | inl none ↦ inl (record { usage = none.usage; why = none.why; line = line_kept (usage_line none.usage) told mid said before after stays none.line k; untouched = none.untouched; none = none.none; same = none.same; kept = none.kept; is_status = none.is_status })
   | inr some ↦
       inr (record {
@@ -110,7 +110,9 @@ run_kept s m r remaining y planned input old new was now left start end final to
         does = some.does;
         silent = some.silent;
         same = some.same;
-        says = says_kept some.result some.before mid said before after stays some.says k;
+        more = some.more;
+        explains = some.explains;
+        says = says_kept some.result some.more some.before mid said before after stays some.says k;
         is_status = some.is_status;
       })
 ]

@@ -57,7 +57,8 @@ use Rattle.cdb.specs.Created.{foretell}
 use Rattle.cdb.specs.Foretold.{IsInOrder, AreAnswered, AsksNoCreate, ComesTrue, Honest, IsAnswered, IsForetold, IsRefusal, IsRefused, IsTaken, MayFail, Reveals, Shows, reads_in_turn, stores_in, writes_output}
 use Rattle.cdb.specs.Opening.{OpenCalls, unopened}
 use Rattle.cdb.specs.Oracle.{Disk, Outcome, check_outcome, command_outcome, difference_outcome, ended, met, of_file, oracle, query_outcome, short_or, stats_outcome, text_outcome, unless_damaged}
-use Rattle.cdb.specs.Performs.{ChecksStore, HandsOn, IsUntouched, LacksMemory, PerformsDifference, PerformsIn, PerformsOn, PerformsQuery, PerformsText, Refuses, Runs, Says, SaysLine, Takes, WritesText, WritesUsage, status_of, usage_line, usage_status}
+use Rattle.cdb.specs.Performs.{ChecksStore, HandsOn, IsUntouched, LacksMemory, PerformsDifference, PerformsIn, PerformsOn, PerformsQuery, PerformsText, Refuses, Runs, SaysLine, Takes, WritesText, WritesUsage, status_of, usage_line, usage_status}
+use Rattle.cdb.proofs.Explained.{SaysOnly, says_only}
 use Rattle.cdb.specs.declared.left.Left.{Left}
 use Rattle.cdb.specs.declared.open_trace.OpenCall.TheVariants.{AtPlaces, InTurn, Stream, Unopened}
 use Rattle.cdb.specs.declared.system.System.{Ghosts as Systems}
@@ -550,7 +551,7 @@ line_said : (line : List ℕ) (told said : Option (List ℕ)) (unsaid : Type 0) 
 line_said line told said unsaid taken (inl whole) = whole
 line_said line told said unsaid taken (inr part) = absurd (taken part.1)
 
-lines_said : (status : Fault → ℕ) (text : List ℕ) (result : Result Unit Fault) (told said : Option (List ℕ)) (unsaid : Type 0) → (unsaid → ⊥) → Says result told said unsaid → Appends told said (ended status text result).lines
+lines_said : (status : Fault → ℕ) (text : List ℕ) (result : Result Unit Fault) (told said : Option (List ℕ)) (unsaid : Type 0) → (unsaid → ⊥) → SaysOnly result told said unsaid → Appends told said (ended status text result).lines
 lines_said status text (Ok done) told said unsaid taken h = nothing_written told said h
 lines_said status text (Err fault) told said unsaid taken h = line_said (fault_line fault) told said unsaid taken h
 
@@ -575,7 +576,7 @@ handed_all end final unwritten answer result taken h = (
   elim h.answered [ inl same ↦ same | inr failed ↦ absurd (taken failed.2) ],
 )
 
-ends_so : (command : Command) (o : Outcome) (start end final told said : Option (List ℕ)) (unsaid : Type 0) (result : Result Unit Fault) (status : ℕ) → (unsaid → ⊥) → Keeps end final → Says result told said unsaid → status ≡ status_of command result → Comes (writes_output (asked_in command)) (reads_in_turn (asked_in command)) (exit_status command) o start end result → Foretold (Ok (asked_in command)) o start final told said status
+ends_so : (command : Command) (o : Outcome) (start end final told said : Option (List ℕ)) (unsaid : Type 0) (result : Result Unit Fault) (status : ℕ) → (unsaid → ⊥) → Keeps end final → SaysOnly result told said unsaid → status ≡ status_of command result → Comes (writes_output (asked_in command)) (reads_in_turn (asked_in command)) (exit_status command) o start end result → Foretold (Ok (asked_in command)) o start final told said status
 ends_so command o start end final told said unsaid result status taken k says is (inl does) = inl (record {
   is_status = is ∙ status_is command o.output result ∙ ap (λ (o : Outcome). o.status) does.is;
   output = Appends-kept start end final o.output does.written k;
@@ -586,7 +587,7 @@ ends_so command o start end final told said unsaid result status taken k says is
   refusal = stops.refusal;
   is_status = is ∙ ap (status_of command) stops.is ∙ refusal_status command stops.fault stops.refusal;
   output = prefix_kept start end final o.output stops.written k;
-  lines = line_said (fault_line stops.fault) told said unsaid taken (subst (λ r. Says r told said unsaid) stops.is says);
+  lines = line_said (fault_line stops.fault) told said unsaid taken (subst (λ r. SaysOnly r told said unsaid) stops.is says);
 })
 
 -- ---- each command
@@ -666,10 +667,10 @@ no_memory_may : (planned : Result Asked Usage) → MayFail planned NoMemory
 no_memory_may (Ok command) = tt
 no_memory_may (Err usage) = refl
 
-run_foretold : {F I M R Y : Type 0} (s : Ghosts F) (m : Ghosts M) (r : Raw R) (remaining : I → Option (List ℕ)) (y : Systems Y F I M) (planned : Result Asked Usage) (given : Option (List ℕ)) (old new : Y) (was now : NameCalls) (left : Left F M) (start end final told said : Option (List ℕ)) (unwritten unsaid : Type 0) (status : ℕ) (disk : Disk) (input : List ℕ)
-    → IsSized s → (unwritten → ⊥) → (unsaid → ⊥) → Keeps end final → Runs s m r remaining y planned given old new was now left start end final told said unwritten unsaid status
+run_foretold : {F I M R Y : Type 0} (s : Ghosts F) (m : Ghosts M) (r : Raw R) (remaining : I → Option (List ℕ)) (y : Systems Y F I M) (planned : Result Asked Usage) (explained : Bool) (given : Option (List ℕ)) (old new : Y) (was now : NameCalls) (left : Left F M) (start end final told said : Option (List ℕ)) (unwritten unsaid : Type 0) (status : ℕ) (disk : Disk) (input : List ℕ)
+    → IsSized s → explained ≡ false → (unwritten → ⊥) → (unsaid → ⊥) → Keeps end final → Runs s m r remaining y planned explained given old new was now left start end final told said unwritten unsaid status
     → IfOk planned (λ command. Honest s remaining y disk input command given old new left) → IfSome (oracle planned disk input) (λ o. Foretold planned o start final told said status)
-run_foretold s m r remaining y planned given old new was now left start end final told said unwritten unsaid status disk input sized writes speaks k (inl none) honest =
+run_foretold s m r remaining y planned explained given old new was now left start end final told said unwritten unsaid status disk input sized plain writes speaks k (inl none) honest =
     let kept = Keeps-trans start end final none.kept k in
     let line = line_said (usage_line none.usage) told said unsaid speaks none.line in
     elim none.why [
@@ -686,13 +687,13 @@ run_foretold s m r remaining y planned given old new was now left start end fina
         lines = line;
       }))
     ]
-run_foretold s m r remaining y planned given old new was now left start end final told said unwritten unsaid status disk input sized writes speaks k (inr some) honest =
+run_foretold s m r remaining y planned explained given old new was now left start end final told said unwritten unsaid status disk input sized plain writes speaks k (inr some) honest =
     let command = some.command in
     let honest = subst (λ p. IfOk p (λ c. Honest s remaining y disk input c given old new left)) some.asks honest in
     let handed = handed_all some.does.end final unwritten some.does.answer some.result writes some.does.hands in
     subst (λ p. IfSome (oracle p disk input) (λ o. Foretold p o start final told said status)) (sym some.asks)
     (some_so (command_outcome (asked_in command) disk input) (λ o. Comes (writes_output (asked_in command)) (reads_in_turn (asked_in command)) (exit_status command) o start some.does.end some.does.answer) (λ o. some.before ≡ told) (λ o. Foretold (Ok (asked_in command)) o start final told said status)
-    (λ o comes silent. ends_so command o start some.does.end final told said unsaid some.result status speaks handed.0 (subst (λ t. Says some.result t said unsaid) silent some.says) some.is_status (subst (Comes (writes_output (asked_in command)) (reads_in_turn (asked_in command)) (exit_status command) o start some.does.end) (sym handed.1) comes))
+    (λ o comes silent. ends_so command o start some.does.end final told said unsaid some.result status speaks handed.0 (subst (λ t. SaysOnly some.result t said unsaid) silent (says_only explained (asked_in command) some.result (y.calls new) now some.more some.before said unsaid plain some.explains some.says)) some.is_status (subst (Comes (writes_output (asked_in command)) (reads_in_turn (asked_in command)) (exit_status command) o start some.does.end) (sym handed.1) comes))
     (command_comes s m r remaining y command disk input given old new was now left start some.does.end told some.before some.does.answer sized (each_answered s remaining y disk (stores_in left) (y.calls old) (y.calls new) honest.calls honest.are honest.answered) honest some.does.performs)
     (is_silent command disk input told some.before some.silent))
 
@@ -715,13 +716,13 @@ total_so (Ok (asked.Create name base inputs temporary options wide)) disk input 
 total_so (Ok asked.Help) disk input P none h = h
 total_so (Err usage) disk input P none h = h
 
-pub run_is_foretold : {F I M R Y W V : Type 0} (s : Ghosts F) (m : Ghosts M) (r : Raw R) (remaining : I → Option (List ℕ)) (y : Systems Y F I M) (planned : Result Asked Usage) (given : Option (List ℕ)) (old new : Y) (was now : NameCalls) (left : Left F M) (of_output : W → Option (List ℕ)) (of_errors : V → Option (List ℕ)) (output_old output_new : Writer W) (errors_old errors_new : Writer V) (status : ℕ)
+pub run_is_foretold : {F I M R Y W V : Type 0} (s : Ghosts F) (m : Ghosts M) (r : Raw R) (remaining : I → Option (List ℕ)) (y : Systems Y F I M) (planned : Result Asked Usage) (explained : Bool) (given : Option (List ℕ)) (old new : Y) (was now : NameCalls) (left : Left F M) (of_output : W → Option (List ℕ)) (of_errors : V → Option (List ℕ)) (output_old output_new : Writer W) (errors_old errors_new : Writer V) (status : ℕ)
     → IsSized s → (held_by output_old ≡ [] → HasHandedOn output_new) → HasHandedOn errors_new
-    → Runs s m r remaining y planned given old new was now left (output_bytes of_output output_old) (output_bytes of_output output_new) (of_output output_new.writer) (output_bytes of_errors errors_old) (output_bytes of_errors errors_new) (OutputFailed output_new) (OutputFailed errors_new) status
-    → IsForetold s remaining y planned given old new left (output_bytes of_output output_old) (of_output output_new.writer) (output_bytes of_errors errors_old) (of_errors errors_new.writer) (IsTaken output_old output_new errors_new) status
-run_is_foretold s m r remaining y planned given old new was now left of_output of_errors output_old output_new errors_old errors_new status sized handed said runs = λ disk input taken none honest.
+    → Runs s m r remaining y planned explained given old new was now left (output_bytes of_output output_old) (output_bytes of_output output_new) (of_output output_new.writer) (output_bytes of_errors errors_old) (output_bytes of_errors errors_new) (OutputFailed output_new) (OutputFailed errors_new) status
+    → IsForetold s remaining y planned explained given old new left (output_bytes of_output output_old) (of_output output_new.writer) (output_bytes of_errors errors_old) (of_errors errors_new.writer) (IsTaken output_old output_new errors_new) status
+run_is_foretold s m r remaining y planned explained given old new was now left of_output of_errors output_old output_new errors_old errors_new status sized handed said runs = λ disk input taken plain none honest.
     total_so planned disk input (λ o. Foretold planned o (output_bytes of_output output_old) (of_output output_new.writer) (output_bytes of_errors errors_old) (of_errors errors_new.writer) status) none
     (let end = output_bytes of_output output_new in
     let kept = subst (Keeps end) (all_taken of_output output_new (handed taken.0) taken.1) (Keeps-refl end) in
     subst (λ t. IfSome (oracle planned disk input) (λ o. Foretold planned o (output_bytes of_output output_old) (of_output output_new.writer) (output_bytes of_errors errors_old) t status)) (all_taken of_errors errors_new said taken.2)
-    (run_foretold s m r remaining y planned given old new was now left (output_bytes of_output output_old) end (of_output output_new.writer) (output_bytes of_errors errors_old) (output_bytes of_errors errors_new) (OutputFailed output_new) (OutputFailed errors_new) status disk input sized taken.1 taken.2 kept runs honest))
+    (run_foretold s m r remaining y planned explained given old new was now left (output_bytes of_output output_old) end (of_output output_new.writer) (output_bytes of_errors errors_old) (output_bytes of_errors errors_new) (OutputFailed output_new) (OutputFailed errors_new) status disk input sized plain taken.1 taken.2 kept runs honest))

@@ -26,12 +26,13 @@ use Rattle.cdb.specs.Creating.{Creates, temporary_of}
 use Rattle.cdb.specs.Foretold.{IsTaken}
 use Rattle.cdb.specs.ForetoldCreate.{CreateHolds, HonestCreate, IsCreateForetold, IsCreateRefusal, IsCreated, IsGivenUp, passing}
 use Rattle.cdb.specs.Oracle.{Disk, ended, greatest_size, word_size}
-use Rattle.cdb.specs.Performs.{HandsOn, PerformsIn, Runs, Says, SaysLine, status_of, usage_line, usage_status}
+use Rattle.cdb.specs.Performs.{HandsOn, PerformsIn, Runs, SaysLine, status_of, usage_line, usage_status}
 use Rattle.cdb.specs.declared.left.Left.{Left}
 use Rattle.cdb.specs.declared.system.System.{Ghosts as Systems}
 use Rattle.cdb_tool.specs.Views.Output.{HasHandedOn, OutputFailed, held_by, output_bytes}
 use Rattle.cdb_tool.specs.declared.output.Output.{Output as Writer}
 use Rattle.cdb_tool.proofs.WholeRuns.{prefix_kept}
+use Rattle.cdb.proofs.Explained.{SaysOnly, says_only}
 use Rattle.cdb.proofs.Creates.{Came, asking_none, creates_so, moments_first}
 use Rattle.cdb.proofs.Oracles.{all_taken, handed_all}
 use Rattle.cdb.proofs.Replaced.{said_nothing}
@@ -74,7 +75,7 @@ said_all : (line : List ℕ) (told said : Option (List ℕ)) (unsaid : Type 0) �
 said_all line told said unsaid speaks (inl h) = h
 said_all line told said unsaid speaks (inr h) = absurd (speaks h.1)
 
-said_end : (result : Result Unit Fault) (told before said : Option (List ℕ)) (unsaid : Type 0) (lines : List ℕ) → (unsaid → ⊥) → Appends told before lines → Says result before said unsaid → Appends told said (lines ++ line_of result)
+said_end : (result : Result Unit Fault) (told before said : Option (List ℕ)) (unsaid : Type 0) (lines : List ℕ) → (unsaid → ⊥) → Appends told before lines → SaysOnly result before said unsaid → Appends told said (lines ++ line_of result)
 said_end (Ok done) told before said unsaid lines speaks h k = subst (Appends told said) (sym (append-nil lines)) (Appends-kept told before said lines h k)
 said_end (Err fault) told before said unsaid lines speaks h k = appends_then told before said lines (fault_line fault) h (said_all (fault_line fault) before said unsaid speaks k)
 
@@ -102,7 +103,7 @@ creates_in s m r remaining y name base inputs temporary o true given old new was
 creates_in s m r remaining y name base inputs temporary o false given old new was now left start end told said result h = h
 
 comes_so : {M : Type 0} (m : Ghosts M) (disk : Disk) (c : Created) (now : NameCalls) (made : Option M) (command : Command) (name : List ℕ) (base : Option (List ℕ)) (inputs : List (List ℕ)) (temporary : Option (List ℕ)) (o : MakeOptions) (wide : Bool) (start end final told before said : Option (List ℕ)) (unsaid : Type 0) (answer result : Result Unit Fault) (status : ℕ) → asked_in command ≡ asked.Create name base inputs temporary o wide → Keeps end final → result ≡ answer → (unsaid → ⊥)
-    → Says result before said unsaid → status ≡ status_of command result → Came m disk name c now made start end told before answer → IsCreated m disk name c now made start final told said status ⊎ IsGivenUp c start final told said status
+    → SaysOnly result before said unsaid → status ≡ status_of command result → Came m disk name c now made start end told before answer → IsCreated m disk name c now made start final told said status ⊎ IsGivenUp c start final told said status
 comes_so m disk c now made command name base inputs temporary o wide start end final told before said unsaid answer result status a kept same speaks says is (inl h) =
     let whole : result ≡ c.result = same ∙ h.0.is in
     inl (record {
@@ -126,14 +127,14 @@ comes_so m disk c now made command name base inputs temporary o wide start end f
       lines = subst (λ l. Appends told said (h.lines.front ++ l)) (ap line_of whole) (said_end result told before said unsaid h.lines.front speaks h.lines.appended says);
     })
 
-run_holds : {F I M R Y : Type 0} (s : Ghosts F) (m : Ghosts M) (r : Raw R) (remaining : I → Option (List ℕ)) (y : Systems Y F I M) (planned : Result Asked Usage) (given : Option (List ℕ)) (old new : Y) (was now : NameCalls) (left : Left F M) (start end final told said : Option (List ℕ)) (unwritten unsaid : Type 0) (status : ℕ) (disk : Disk) (input name : List ℕ) (base : Option (List ℕ)) (inputs : List (List ℕ)) (temporary : Option (List ℕ)) (o : MakeOptions) (wide : Bool)
-    → planned ≡ Ok (asked.Create name base inputs temporary o wide) → (unwritten → ⊥) → (unsaid → ⊥) → Keeps end final → HonestCreate s remaining y disk input inputs given (y.calls old) (y.calls new) left.read name was now → Runs s m r remaining y planned given old new was now left start end final told said unwritten unsaid status
-    → CreateHolds m disk name temporary (create_of (word_size wide) (greatest_size wide) disk input name base inputs temporary o) was now left.made start final told said status
-run_holds s m r remaining y planned given old new was now left start end final told said unwritten unsaid status disk input name base inputs temporary o wide plan writes speaks kept honest (inl none) = elim none.why [
+run_holds : {F I M R Y : Type 0} (s : Ghosts F) (m : Ghosts M) (r : Raw R) (remaining : I → Option (List ℕ)) (y : Systems Y F I M) (planned : Result Asked Usage) (explained : Bool) (given : Option (List ℕ)) (old new : Y) (was now : NameCalls) (left : Left F M) (start end final told said : Option (List ℕ)) (unwritten unsaid : Type 0) (status : ℕ) (disk : Disk) (input name : List ℕ) (base : Option (List ℕ)) (inputs : List (List ℕ)) (temporary : Option (List ℕ)) (o : MakeOptions) (wide : Bool)
+    → planned ≡ Ok (asked.Create name base inputs temporary o wide) → (unwritten → ⊥) → (unsaid → ⊥) → Keeps end final → HonestCreate s remaining y disk input inputs given (y.calls old) (y.calls new) left.read name was now → Runs s m r remaining y planned explained given old new was now left start end final told said unwritten unsaid status
+    → CreateHolds m disk name temporary (create_of (word_size wide) (greatest_size wide) disk input name base inputs temporary o) explained was now left.made start final told said status
+run_holds s m r remaining y planned explained given old new was now left start end final told said unwritten unsaid status disk input name base inputs temporary o wide plan writes speaks kept honest (inl none) = elim none.why [
   | inl lacks ↦ (let c = create_of (word_size wide) (greatest_size wide) disk input name base inputs temporary o in
       let is : status ≡ 111 = none.is_status ∙ ap usage_status lacks in
       record {
-        comes = λ had has. inr (record {
+        comes = λ unexplained had has. inr (record {
           fault = NoMemory;
           refusal = tt;
           is_status = is;
@@ -148,7 +149,7 @@ run_holds s m r remaining y planned given old new was now left start end final t
       })
   | inr refused ↦ absurd (let no : ◌≡◌ {A = Result Asked Usage} (Ok (asked.Create name base inputs temporary o wide)) (Err none.usage) = sym plan ∙ refused in cc)
 ]
-run_holds s m r remaining y planned given old new was now left start end final told said unwritten unsaid status disk input name base inputs temporary o wide plan writes speaks kept honest (inr some) =
+run_holds s m r remaining y planned explained given old new was now left start end final told said unwritten unsaid status disk input name base inputs temporary o wide plan writes speaks kept honest (inr some) =
     let command = some.command in
     let does = some.does in
     let a : asked_in command ≡ asked.Create name base inputs temporary o wide = same_asked (asked_in command) (asked.Create name base inputs temporary o wide) (sym some.asks ∙ plan) in
@@ -158,17 +159,17 @@ run_holds s m r remaining y planned given old new was now left start end final t
     let handed = handed_all does.end final unwritten does.answer some.result writes does.hands in
     let c = create_of (word_size wide) (greatest_size wide) disk input name base inputs temporary o in
     record {
-      comes = λ had has. comes_so m disk c now left.made command name base inputs temporary o wide start does.end final told some.before said unsaid does.answer some.result status a handed.0 handed.1 speaks some.says some.is_status (so.answer had has);
+      comes = λ unexplained had has. comes_so m disk c now left.made command name base inputs temporary o wide start does.end final told some.before said unsaid does.answer some.result status a handed.0 handed.1 speaks (says_only explained (asked_in command) some.result (y.calls new) now some.more some.before said unsaid unexplained some.explains some.says) some.is_status (so.answer had has);
       done = λ zero. if_done _ does.answer so.done (sym (some.is_status ∙ status_create command name base inputs temporary o wide some.result a ∙ ap plain handed.1) ∙ zero);
       moments = so.moments;
     }
 
-pub run_is_created : {F I M R Y W V : Type 0} (s : Ghosts F) (m : Ghosts M) (r : Raw R) (remaining : I → Option (List ℕ)) (y : Systems Y F I M) (planned : Result Asked Usage) (given : Option (List ℕ)) (old new : Y) (was now : NameCalls) (left : Left F M) (of_output : W → Option (List ℕ)) (of_errors : V → Option (List ℕ)) (output_old output_new : Writer W) (errors_old errors_new : Writer V) (status : ℕ)
+pub run_is_created : {F I M R Y W V : Type 0} (s : Ghosts F) (m : Ghosts M) (r : Raw R) (remaining : I → Option (List ℕ)) (y : Systems Y F I M) (planned : Result Asked Usage) (explained : Bool) (given : Option (List ℕ)) (old new : Y) (was now : NameCalls) (left : Left F M) (of_output : W → Option (List ℕ)) (of_errors : V → Option (List ℕ)) (output_old output_new : Writer W) (errors_old errors_new : Writer V) (status : ℕ)
     → (held_by output_old ≡ [] → HasHandedOn output_new) → HasHandedOn errors_new
-    → Runs s m r remaining y planned given old new was now left (output_bytes of_output output_old) (output_bytes of_output output_new) (of_output output_new.writer) (output_bytes of_errors errors_old) (output_bytes of_errors errors_new) (OutputFailed output_new) (OutputFailed errors_new) status
-    → IsCreateForetold s m remaining y planned given old new was now left (output_bytes of_output output_old) (of_output output_new.writer) (output_bytes of_errors errors_old) (of_errors errors_new.writer) (IsTaken output_old output_new errors_new) status
-run_is_created s m r remaining y planned given old new was now left of_output of_errors output_old output_new errors_old errors_new status handed said runs = λ disk input name base inputs temporary o wide plan taken honest.
+    → Runs s m r remaining y planned explained given old new was now left (output_bytes of_output output_old) (output_bytes of_output output_new) (of_output output_new.writer) (output_bytes of_errors errors_old) (output_bytes of_errors errors_new) (OutputFailed output_new) (OutputFailed errors_new) status
+    → IsCreateForetold s m remaining y planned explained given old new was now left (output_bytes of_output output_old) (of_output output_new.writer) (output_bytes of_errors errors_old) (of_errors errors_new.writer) (IsTaken output_old output_new errors_new) status
+run_is_created s m r remaining y planned explained given old new was now left of_output of_errors output_old output_new errors_old errors_new status handed said runs = λ disk input name base inputs temporary o wide plan taken honest.
     (let end = output_bytes of_output output_new in
     let kept = subst (Keeps end) (all_taken of_output output_new (handed taken.0) taken.1) (Keeps-refl end) in
-    subst (λ t. CreateHolds m disk name temporary (create_of (word_size wide) (greatest_size wide) disk input name base inputs temporary o) was now left.made (output_bytes of_output output_old) (of_output output_new.writer) (output_bytes of_errors errors_old) t status) (all_taken of_errors errors_new said taken.2)
-    (run_holds s m r remaining y planned given old new was now left (output_bytes of_output output_old) end (of_output output_new.writer) (output_bytes of_errors errors_old) (output_bytes of_errors errors_new) (OutputFailed output_new) (OutputFailed errors_new) status disk input name base inputs temporary o wide plan taken.1 taken.2 kept honest runs))
+    subst (λ t. CreateHolds m disk name temporary (create_of (word_size wide) (greatest_size wide) disk input name base inputs temporary o) explained was now left.made (output_bytes of_output output_old) (of_output output_new.writer) (output_bytes of_errors errors_old) t status) (all_taken of_errors errors_new said taken.2)
+    (run_holds s m r remaining y planned explained given old new was now left (output_bytes of_output output_old) end (of_output output_new.writer) (output_bytes of_errors errors_old) (output_bytes of_errors errors_new) (OutputFailed output_new) (OutputFailed errors_new) status disk input name base inputs temporary o wide plan taken.1 taken.2 kept honest runs))

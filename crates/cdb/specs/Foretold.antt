@@ -154,13 +154,14 @@ abbrev pub AsksNoCreate : Result Asked Usage → Type 0
 AsksNoCreate (Ok (asked.Create name base inputs temporary options wide)) = ⊥
 AsksNoCreate planned = ⊤
 
--- a run without a create whose output and whose lines were taken came to what the oracle says, or to a
+-- a run without a create that explains no fault, and whose output and whose lines were taken came to what the oracle says, or to a
 -- refusal
 abbrev pub IsForetold : {F I M Y : Type 0} → Ghosts F → (I → Option (List ℕ)) → Systems Y F I M
-    → (planned : Result Asked Usage) → (given : Option (List ℕ)) → (old new : Y) → Left F M
-    → (start final told said : Option (List ℕ)) → (taken : Type 0) → (status : ℕ) → Type 0
-IsForetold s remaining y planned given old new left start final told said taken status =
-    (disk : Disk) → (input : List ℕ) → taken → AsksNoCreate planned
+    → (planned : Result Asked Usage) → (explained : Bool) → (given : Option (List ℕ))
+    → (old new : Y) → Left F M → (start final told said : Option (List ℕ)) → (taken : Type 0)
+    → (status : ℕ) → Type 0
+IsForetold s remaining y planned explained given old new left start final told said taken status =
+    (disk : Disk) → (input : List ℕ) → taken → explained ≡ false → AsksNoCreate planned
     → IfOk planned (λ command. Honest s remaining y disk input command given old new left)
     → ComesTrue (foretell planned disk input).outcome start final told said status
     ⊎ IsRefused planned (foretell planned disk input).outcome start final told said status

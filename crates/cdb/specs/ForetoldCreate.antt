@@ -135,12 +135,13 @@ pub record IsCreated {M : Type 0} (m : Ghosts M) (disk : Disk) (name : List ℕ)
   pub true_so : ComesTrue (created_ending c).outcome start final told said status
   pub disk_is : AllByRecursion IsNoFailedRemoval now → HoldsAll m disk name made now c
 
--- what was foretold, from the words to the exit status: it came true, or a refusal was reported; at
--- status 0 the disk is as was said; and at each moment a crash leaves what was there or what was said
+-- what was foretold, from the words to the exit status: unless faults are explained it came true, or a
+-- refusal was reported; at status 0 the disk is as was said; and at each moment a crash leaves what was
+-- there or what was said
 pub record CreateHolds {M : Type 0} (m : Ghosts M) (disk : Disk) (name : List ℕ)
-    (temporary : Option (List ℕ)) (c : Created) (was now : NameCalls) (made : Option M)
-    (start final told said : Option (List ℕ)) (status : ℕ) : Type 0 where
-  pub comes : HadBytes (temporary_of name temporary) now → HasBytes m made
+    (temporary : Option (List ℕ)) (c : Created) (explained : Bool) (was now : NameCalls)
+    (made : Option M) (start final told said : Option (List ℕ)) (status : ℕ) : Type 0 where
+  pub comes : explained ≡ false → HadBytes (temporary_of name temporary) now → HasBytes m made
       → IsCreated m disk name c now made start final told said status
       ⊎ IsGivenUp c start final told said status
   pub done : status ≡ 0 → HoldsAll m disk name made now c
@@ -148,15 +149,15 @@ pub record CreateHolds {M : Type 0} (m : Ghosts M) (disk : Disk) (name : List �
 
 -- a run of these words, which ask for a create
 abbrev pub IsCreateForetold : {F I M Y : Type 0} → Ghosts F → Ghosts M → (I → Option (List ℕ))
-    → Systems Y F I M → (planned : Result Asked Usage) → (given : Option (List ℕ)) → (old new : Y)
-    → (was now : NameCalls) → Left F M → (start final told said : Option (List ℕ))
+    → Systems Y F I M → (planned : Result Asked Usage) → (explained : Bool)
+    → (given : Option (List ℕ)) → (old new : Y) → (was now : NameCalls) → Left F M → (start final told said : Option (List ℕ))
     → (taken : Type 0) → (status : ℕ) → Type 0
-IsCreateForetold s m remaining y planned given old new was now left start final told said taken
+IsCreateForetold s m remaining y planned explained given old new was now left start final told said taken
     status = (disk : Disk) (input name : List ℕ) (base : Option (List ℕ)) (inputs : List (List ℕ))
     (temporary : Option (List ℕ)) (o : MakeOptions) (wide : Bool)
     → planned ≡ Ok (Create name base inputs temporary o wide) → taken
     → HonestCreate s remaining y disk input inputs given (y.calls old) (y.calls new) left.read name was
     now
     → CreateHolds m disk name temporary
-    (create_of (word_size wide) (greatest_size wide) disk input name base inputs temporary o) was now
+    (create_of (word_size wide) (greatest_size wide) disk input name base inputs temporary o) explained was now
     left.made start final told said status

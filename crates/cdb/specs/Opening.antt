@@ -1,12 +1,14 @@
 -- The calls on files, and why one is not opened. The newest call comes first.
-use Rattle.std.specs.Prelude.{ℕ, ◌≡◌, ◌≢◌, ◌⊎◌, List, ◌∷◌, Option, None, Some}
+use Rattle.std.specs.Prelude.{ℕ, ◌≡◌, ◌≢◌, ◌⊎◌, List, [], ◌∷◌, Option, None, Some, string_bytes}
+use Rattle.cdb_files.specs.declared.answer.Answer.TheVariants.{Unknown}
 use Rattle.cdb_files.specs.declared.answer.Lock.{Lock}
 use Rattle.cdb_files.specs.declared.answer.Lock.TheVariants.{Held}
 use Rattle.cdb_files.specs.declared.name_fault.NameFault.{NameFault}
 use Rattle.cdb_files.specs.declared.name_fault.NameFault.TheVariants as why
+use Rattle.cdb_files.specs.declared.refusal.Refusal.{Refusal}
 use Rattle.cdb.specs.declared.left.Left.{Left}
 use Rattle.cdb.specs.declared.open_trace.OpenCall.{OpenCall}
-use Rattle.cdb.specs.declared.open_trace.OpenCall.TheVariants.{Emptied, Locked, ToEmpty, Unopened}
+use Rattle.cdb.specs.declared.open_trace.OpenCall.TheVariants.{Emptied, Locked, Stream, ToEmpty, Unopened}
 use Rattle.cdb_tool.specs.declared.fault.Fault.{Fault}
 use Rattle.cdb_tool.specs.declared.fault.Fault.TheVariants.{Open, NoMemory}
 
@@ -60,3 +62,23 @@ base_left base = record { read = base; other = None; made = None }
 
 abbrev pub both_left : {F M : Type 0} → (old new : F) → Left F M
 both_left old new = record { read = Some old; other = Some new; made = None }
+
+-- the name that a call refused, if it did
+abbrev pub refused_by : OpenCall → (name : List ℕ) → Option (List ℕ)
+refused_by (Unopened why) name = Some name
+refused_by (Locked Held) name = Some name
+refused_by (Stream Unknown) name = Some name
+refused_by call name = None
+
+-- the newest of these names
+abbrev pub if_none : Option (List ℕ) → Option (List ℕ) → Option (List ℕ)
+if_none None before = before
+if_none (Some name) before = Some name
+
+abbrev pub refused_open : OpenCalls → Option (List ℕ)
+refused_open [] = None
+refused_open ((call, name) ∷ calls) = if_none (refused_by call name) (refused_open calls)
+
+-- a refusal is that of the newest call that refused a name
+abbrev pub IsOpenRefusal : Refusal → OpenCalls → Type 0
+IsOpenRefusal refusal calls = refused_open calls ≡ Some (string_bytes refusal.name)

@@ -29,6 +29,7 @@ use Rattle.cdb_tool.specs.declared.fault.Fault.TheVariants.{Open, NoMemory as No
 use Rattle.cdb_files.specs.Folder.{NameCalls}
 use Rattle.cdb_files.specs.declared.answer.Answer.TheVariants as looks
 use Rattle.cdb.specs.Creating.{Creates}
+use Rattle.cdb.specs.Causes.{Explains}
 use Rattle.cdb.specs.Opening.{Misses, OpenCalls, both_left, none_left, read_left}
 use Rattle.cdb.specs.declared.left.Left.{Left}
 use Rattle.cdb.specs.declared.open_trace.OpenCall.TheVariants.{AtPlaces, InTurn, Stream}
@@ -295,10 +296,11 @@ usage_line usage = codes "cdb: " ++ (usage_message usage ++ codes "\n")
 abbrev pub SaysLine : (line : List ℕ) → (told said : Option (List ℕ)) → (unsaid : Type 0) → Type 0
 SaysLine line told said unsaid = Appends told said line ⊎ (AppendsPrefix told said line × unsaid)
 
--- the line of a fault is said, and nothing of a success
-abbrev pub Says : Result Unit Fault → (told said : Option (List ℕ)) → (unsaid : Type 0) → Type 0
-Says (Ok done) told said unsaid = Keeps told said
-Says (Err fault) told said unsaid = SaysLine (fault_line fault) told said unsaid
+-- the line of a fault is said, and more after it; and nothing of a success
+abbrev pub Says : Result Unit Fault → (more : List ℕ) → (told said : Option (List ℕ))
+    → (unsaid : Type 0) → Type 0
+Says (Ok done) more told said unsaid = Keeps told said
+Says (Err fault) more told said unsaid = SaysLine (fault_line fault ++ more) told said unsaid
 
 -- ---- the program
 
@@ -324,10 +326,10 @@ pub record AsksNothing {F M Y : Type 0} (planned : Result Asked Usage) (old new 
   pub kept : Keeps start end
   pub is_status : status ≡ usage_status usage
 
--- the command that they ask for was performed, and then its fault was said
+-- the command that they ask for was performed, and then its fault was said, and explained if it is to be
 pub record AsksFor {F I M R Y : Type 0} (s : Ghosts F) (m : Ghosts M) (r : Raw R)
     (remaining : I → Option (List ℕ)) (y : Systems Y F I M) (planned : Result Asked Usage)
-    (input : Option (List ℕ)) (old new : Y) (was now : NameCalls) (left : Left F M)
+    (explained : Bool) (input : Option (List ℕ)) (old new : Y) (was now : NameCalls) (left : Left F M)
     (start final told said : Option (List ℕ)) (unwritten unsaid : Type 0) (status : ℕ) : Type 0
   where
     pub command : Command
@@ -338,18 +340,20 @@ pub record AsksFor {F I M R Y : Type 0} (s : Ghosts F) (m : Ghosts M) (r : Raw R
         before unwritten result
     pub silent : IsUntouched (asked_in command) told before
     pub same : IsUntouched (asked_in command) was now
-    pub says : Says result before said unsaid
+    pub more : List ℕ
+    pub explains : Explains explained (asked_in command) result (y.calls new) now more
+    pub says : Says result more before said unsaid
     pub is_status : status ≡ status_of command result
 
 -- from its words to its exit status: what was written, what standard output has of it, and what is
 -- said on standard error; whether the one failed, or the other; and which files are handed back
 abbrev pub Runs : {F I M R Y : Type 0} → Ghosts F → Ghosts M → Raw R → (I → Option (List ℕ))
-    → Systems Y F I M → (planned : Result Asked Usage) → (input : Option (List ℕ))
-    → (old new : Y) → (was now : NameCalls) → Left F M
+    → Systems Y F I M → (planned : Result Asked Usage) → (explained : Bool)
+    → (input : Option (List ℕ)) → (old new : Y) → (was now : NameCalls) → Left F M
     → (start end final told said : Option (List ℕ)) → (unwritten unsaid : Type 0) → (status : ℕ)
     → Type 0
-Runs s m r remaining y planned input old new was now left start end final told said unwritten unsaid
+Runs s m r remaining y planned explained input old new was now left start end final told said unwritten unsaid
     status =
     AsksNothing planned old new was now left start end told said unsaid status
-    ⊎ AsksFor s m r remaining y planned input old new was now left start final told said unwritten
+    ⊎ AsksFor s m r remaining y planned explained input old new was now left start final told said unwritten
     unsaid status

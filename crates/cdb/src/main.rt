@@ -2,6 +2,8 @@
 #![tactic(auto)]
 
 mod building;
+mod cause_line;
+mod causes;
 mod contents;
 mod creating;
 mod differing;
@@ -12,11 +14,14 @@ mod performing;
 mod placing;
 mod reading;
 mod real_system;
+mod seen;
 mod steps;
 mod system;
+mod system_words;
 mod telling;
 
 use crate::real_system::RealSystem;
+use crate::seen::{Seen, SeenReader, SeenWriter};
 use cdb_files::RealNames;
 use cdb_form::PIPE;
 use cdb_store::LAST_STANDARD;
@@ -30,22 +35,27 @@ use std::process::ExitCode;
 /// there is part of one write, so that no other program's line comes between.
 const LINES: usize = 4096;
 
+/// As the first word it asks for the file and the cause of a fault.
+const EXPLAIN: &str = "-v";
+
 /// The device that takes all and gives nothing.
 const NULL: &str = "/dev/null";
 
 /// Passes the words and the streams on, and answers the status.
 fn main(rt: HostRuntime) -> ExitCode {
     let _held = all_held(&rt);
-    let status = match begun(&rt) {
+    let seen = Seen::new(rt.alloc());
+    let status = match begun(&rt, &seen) {
         Ok(beginning) => {
             let Beginning {
                 words,
+                explains,
                 mut output,
                 mut errors,
             } = beginning;
-            let mut system = RealSystem::new(&rt);
+            let mut system = RealSystem::new(&rt, &seen);
             let mut names = RealNames::new(&rt);
-            let (alloc, input) = (rt.alloc(), rt.stdin());
+            let (alloc, input) = (rt.alloc(), SeenReader::new(rt.stdin(), &seen));
             let (_, status) = steps::run(
                 alloc,
                 &mut system,
@@ -54,6 +64,7 @@ fn main(rt: HostRuntime) -> ExitCode {
                 input,
                 &mut output,
                 &mut errors,
+                explains,
             );
             status
         }
@@ -63,22 +74,30 @@ fn main(rt: HostRuntime) -> ExitCode {
 }
 
 /// What a command begins with.
-struct Beginning {
+struct Beginning<'a> {
     /// The words of the command line.
     words: Vec<String>,
+    /// Whether a fault is followed by a line with its file and its cause.
+    explains: bool,
     /// Standard output with its buffer.
-    output: Output<Noted<Stdout>>,
+    output: Output<Noted<SeenWriter<'a, Stdout>>>,
     /// Standard error with its buffer, for the lines of duplicates.
-    errors: Output<Noted<Stderr>>,
+    errors: Output<Noted<SeenWriter<'a, Stderr>>>,
 }
 
 /// The words of the command line, and the standard streams that are written, with their buffers.
-fn begun(rt: &HostRuntime) -> Result<Beginning, Usage> {
+fn begun<'a>(rt: &HostRuntime, seen: &'a Seen) -> Result<Beginning<'a>, Usage> {
     let alloc = rt.alloc();
+    let mut words = words_of(rt)?;
+    let explains = words.len() > 1 && words[1].as_str() == EXPLAIN;
+    if explains {
+        words.remove(1);
+    }
     Ok(Beginning {
-        words: words_of(rt)?,
-        output: Output::new(alloc, Noted::over(rt.stdout()), PIPE)?,
-        errors: Output::new(alloc, Noted::over(rt.stderr()), LINES)?,
+        words,
+        explains,
+        output: Output::new(alloc, Noted::over(SeenWriter::output(rt.stdout(), seen)), PIPE)?,
+        errors: Output::new(alloc, Noted::over(SeenWriter::errors(rt.stderr(), seen)), LINES)?,
     })
 }
 

@@ -1,13 +1,15 @@
 // The system's files: the lines that open them, and note it.
-ghost use Rattle.std.specs.Prelude.{◌≡◌, [], ◌∷◌, IfOk};
+ghost use Rattle.std.specs.Prelude.{◌≡◌, [], ◌∷◌, IfOk, None, Some, string_bytes};
+ghost use Rattle.std.specs.Option.{ForSome};
 ghost use Rattle.cdb_store.specs.RealFile.{events_of};
 ghost use Rattle.cdb_store.specs.declared.trace.Call.TheVariants.{Made};
-ghost use Rattle.cdb.specs.Opening.{unopened};
+ghost use Rattle.cdb.specs.Opening.{refused_by, refused_open, unopened};
 ghost use Rattle.cdb.specs.declared.open_trace.OpenCall.TheVariants.{Unopened};
 
 use crate::open_trace::{OpenCall, OpenTrace};
+use crate::seen::{Seen, SeenReader};
 use crate::system::System;
-use cdb_files::{Answer, Lock, NameFault, has_name, locked};
+use cdb_files::{Answer, Cause, Lock, NameFault, Refusal, has_name, locked};
 use cdb_store::{FileStore, LAST_STANDARD, RealFile, StoreFault};
 use cdb_tool::Fault;
 use std::fs::{self, File};
@@ -19,34 +21,67 @@ use std::rt::Files;
 #[derive(Drop)]
 pub(crate) struct RealSystem<'a, R> {
     rt: &'a R,
+    /// What was seen of the streams that were opened, and of the standard ones.
+    seen: &'a Seen,
     trace: OpenTrace,
+    /// The name that was refused last, if there was memory for it.
+    last: Option<Refusal>,
+    ghost newest: { ForSome last (λ refusal.
+        refused_open trace.events ≡ Some (string_bytes refusal.name)) },
 }
 
-impl<'a, R: Files<File = File>> RealSystem<'a, R> {
+/// Why a file was not opened: the fault, and its cause.
+#[derive(Clone, Copy)]
+struct Why {
+    fault: NameFault,
+    cause: Cause,
+}
+
+impl<'a, R: Files<File = File> + AllocGlobal> RealSystem<'a, R> {
     /// Files on which no call was made yet.
-    pub(crate) fn new(rt: &'a R) -> RealSystem<'a, R>
+    pub(crate) fn new(rt: &'a R, seen: &'a Seen) -> RealSystem<'a, R>
         ensures { result.trace.events ≡ [] }
     {
         RealSystem {
             rt,
+            seen,
             trace: OpenTrace::new(),
+            last: None,
         }
     }
 
-    /// Notes that the file of a name was not opened, and answers which fault that is.
-    fn refused(&mut self, why: NameFault, name: &str) -> Fault
-        ensures fault { result ≡ unopened why }
-        ensures trace { self.new.trace.events ≡ (Unopened why, name.now) ∷ self.old.trace.events }
+    /// Notes a call that refused no name.
+    fn note(&mut self, call: &OpenCall, name: &str)
+        requires { refused_by call.now name.now ≡ None }
+        ensures trace { self.new.trace.events ≡ (call.now, name.now) ∷ self.old.trace.events }
     {
-        self.trace.note(&OpenCall::Unopened(why), name.as_bytes());
-        match why {
+        self.trace.note(call, name.as_bytes());
+    }
+
+    /// Notes a call that refused its name.
+    fn refuse(&mut self, call: &OpenCall, name: &str, cause: Cause)
+        requires { refused_by call.now name.now ≡ Some name.now }
+        ensures trace { self.new.trace.events ≡ (call.now, name.now) ∷ self.old.trace.events }
+    {
+        self.last = Refusal::new(self.rt.alloc(), name, "", cause).ok();
+        self.trace.note(call, name.as_bytes());
+    }
+
+    /// Notes that the file of a name was not opened, and answers which fault that is.
+    fn refused(&mut self, why: Why, name: &str) -> Fault
+        ensures fault { result ≡ unopened why.fault }
+        ensures trace { self.new.trace.events ≡ (Unopened why.fault, name.now) ∷ self.old.trace.events }
+    {
+        self.refuse(&OpenCall::Unopened(why.fault), name, why.cause);
+        match why.fault {
             NameFault::Failed => Fault::Open,
             NameFault::NoMemory => Fault::NoMemory,
         }
     }
 }
 
-impl<'a, R: Files<File = File>> System<FileStore, File, FileStore> for RealSystem<'a, R> {
+impl<'a, R: Files<File = File> + AllocGlobal> System<FileStore, SeenReader<'a, File>, FileStore>
+    for RealSystem<'a, R> {
     ghost calls = { λ s. s.trace.events };
 
     ghost gives = { λ _ _. Unit {0} };
@@ -55,11 +90,43 @@ impl<'a, R: Files<File = File>> System<FileStore, File, FileStore> for RealSyste
 
     ghost makes = { λ _ _. Unit {0} };
 
+    fn refusal(&self) -> Option<&Refusal> {
+        self.last.as_ref()
+    }
+
+    fn store_error(&self, file: &FileStore) -> Option<i32> {
+        file.file().last_error()
+    }
+
+    fn made_error(&self, file: &FileStore) -> Option<i32> {
+        file.file().last_error()
+    }
+
+    fn read_error(&self) -> Option<i32> {
+        self.seen.read_error()
+    }
+
+    fn write_error(&self) -> Option<i32> {
+        self.seen.write_error()
+    }
+
+    fn has_failed_on_errors(&self) -> bool {
+        self.seen.has_failed_on_errors()
+    }
+
+    fn count_lines(&self) {
+        self.seen.count_lines();
+    }
+
+    fn line_at(&self, at: u64) -> u64 {
+        self.seen.line_at(at)
+    }
+
     // Shown by tests/cli/cases.py and tests/faults/names.py.
     fn open_store(&mut self, name: &str) -> Result<FileStore, Fault> {
         match opened_at_places(self.rt, name) {
             Ok(store) => {
-                self.trace.note(&OpenCall::AtPlaces, name.as_bytes());
+                self.note(&OpenCall::AtPlaces, name);
                 Ok(store)
             }
             Err(why) => Err(self.refused(why, name)),
@@ -68,11 +135,11 @@ impl<'a, R: Files<File = File>> System<FileStore, File, FileStore> for RealSyste
 
     // Shown by tests/cli/cases.py and tests/faults/closed.py.
     /// The file is given up if it got the number of a standard stream that is closed.
-    fn open(&mut self, name: &str) -> Result<File, Fault> {
+    fn open(&mut self, name: &str) -> Result<SeenReader<'a, File>, Fault> {
         match opened_in_turn(self.rt, name) {
             Ok(file) => {
-                self.trace.note(&OpenCall::InTurn, name.as_bytes());
-                Ok(file)
+                self.note(&OpenCall::InTurn, name);
+                Ok(SeenReader::new(file, self.seen))
             }
             Err(why) => Err(self.refused(why, name)),
         }
@@ -80,19 +147,30 @@ impl<'a, R: Files<File = File>> System<FileStore, File, FileStore> for RealSyste
 
     // Shown by tests/cli/cases.py and tests/faults/names.py.
     fn is_stream(&mut self, name: &str) -> Answer {
-        let is = is_stream(self.rt, name);
-        self.trace.note(&OpenCall::Stream(is), name.as_bytes());
-        is
+        match is_stream(self.rt, name) {
+            Ok(true) => {
+                self.note(&OpenCall::Stream(Answer::Yes), name);
+                Answer::Yes
+            }
+            Ok(false) => {
+                self.note(&OpenCall::Stream(Answer::No), name);
+                Answer::No
+            }
+            Err(cause) => {
+                self.refuse(&OpenCall::Stream(Answer::Unknown), name, cause);
+                Answer::Unknown
+            }
+        }
     }
 
     // Shown by tests/cli/cases.py and tests/faults/others.py.
     fn open_to_empty(&mut self, name: &str) -> Result<RealFile, Fault> {
         match RealFile::opened_to_empty(self.rt, name) {
             Ok(file) => {
-                self.trace.note(&OpenCall::ToEmpty, name.as_bytes());
+                self.note(&OpenCall::ToEmpty, name);
                 Ok(file)
             }
-            Err(error) => Err(self.refused(of_error(&error), name)),
+            Err(error) => Err(self.refused(of_emptying(&error), name)),
         }
     }
 
@@ -100,19 +178,31 @@ impl<'a, R: Files<File = File>> System<FileStore, File, FileStore> for RealSyste
     /// A pipe or a device is never emptied, and its lock is not requested.
     fn lock(&mut self, name: &str, file: &RealFile) -> Lock {
         let lock = match file.metadata() {
-            Ok(found) if !found.is_file() => Lock::Unsupported,
+            Ok(found) if !found.is_file() => Ok(false),
             Ok(_) => locked(file),
-            Err(_) => Lock::Held,
+            Err(error) => Err(Cause::of_error(&error)),
         };
-        self.trace.note(&OpenCall::Locked(lock), name.as_bytes());
-        lock
+        match lock {
+            Ok(true) => {
+                self.note(&OpenCall::Locked(Lock::Taken), name);
+                Lock::Taken
+            }
+            Ok(false) => {
+                self.note(&OpenCall::Locked(Lock::Unsupported), name);
+                Lock::Unsupported
+            }
+            Err(cause) => {
+                self.refuse(&OpenCall::Locked(Lock::Held), name, cause);
+                Lock::Held
+            }
+        }
     }
 
     // Shown by tests/cli/cases.py and tests/faults/others.py.
     fn empty(&mut self, name: &str, file: RealFile) -> Result<FileStore, Fault> {
         match emptied_of(self.rt, name, file) {
             Ok(file) => {
-                self.trace.note(&OpenCall::Emptied, name.as_bytes());
+                self.note(&OpenCall::Emptied, name);
                 Ok(FileStore::made(file))
             }
             Err(why) => Err(self.refused(why, name)),
@@ -121,60 +211,83 @@ impl<'a, R: Files<File = File>> System<FileStore, File, FileStore> for RealSyste
 }
 
 /// Opens the file of a name at places. It has none if it is a pipe or a device.
-fn opened_at_places<R: Files<File = File>>(rt: &R, name: &str) -> Result<FileStore, NameFault> {
-    if is_stream(rt, name) != Answer::No {
-        return Err(NameFault::Failed);
+fn opened_at_places<R: Files<File = File>>(rt: &R, name: &str) -> Result<FileStore, Why> {
+    match is_stream(rt, name) {
+        Ok(false) => {}
+        Ok(true) => return Err(found(Cause::NoPlaces)),
+        Err(cause) => return Err(found(cause)),
     }
-    FileStore::open(rt, name).map_err(of_store)
+    let file = match File::open(rt, name) {
+        Ok(file) => file,
+        Err(error) => return Err(of_error(&error)),
+    };
+    match FileStore::over(RealFile::opened(file)) {
+        Ok(store) => Ok(store),
+        Err(StoreFault::Device) => Err(found(Cause::Failed)),
+        Err(StoreFault::NoMemory) => Err(Why {
+            fault: NameFault::NoMemory,
+            cause: Cause::Failed,
+        }),
+    }
 }
 
 /// Opens the file of a name from its start on, unless it gets the number of a standard stream.
-fn opened_in_turn<R: Files<File = File>>(rt: &R, name: &str) -> Result<File, NameFault> {
+fn opened_in_turn<R: Files<File = File>>(rt: &R, name: &str) -> Result<File, Why> {
     match File::open(rt, name) {
-        Ok(file) if file.as_raw_fd() <= LAST_STANDARD => Err(NameFault::Failed),
+        Ok(file) if file.as_raw_fd() <= LAST_STANDARD => Err(found(Cause::Closed)),
         Ok(file) => Ok(file),
         Err(error) => Err(of_error(&error)),
     }
 }
 
 /// Empties a file, if the name still has it: another create may have replaced it since it was opened.
-fn emptied_of<R: Files<File = File>>(
-    rt: &R,
-    name: &str,
-    file: RealFile,
-) -> Result<RealFile, NameFault>
+fn emptied_of<R: Files<File = File>>(rt: &R, name: &str, file: RealFile) -> Result<RealFile, Why>
     ensures made { IfOk result (λ f. events_of f ≡ (Made, []) ∷ []) }
 {
     match has_name(rt, name, &file) {
-        Answer::Yes => file.emptied().map_err(|error| of_error(&error)),
-        Answer::No | Answer::Unknown => Err(NameFault::Failed),
+        Ok(true) => file.emptied().map_err(|error| of_error(&error)),
+        Ok(false) => Err(found(Cause::Held)),
+        Err(number) => Err(found(Cause::of_number(number))),
+    }
+}
+
+/// Something was found that is no file for this.
+fn found(cause: Cause) -> Why {
+    Why {
+        fault: NameFault::Failed,
+        cause,
     }
 }
 
 /// Why the system opened no file, or did not empty one.
-fn of_error(error: &io::Error) -> NameFault {
-    if error.kind() == ErrorKind::OutOfMemory {
+fn of_error(error: &io::Error) -> Why {
+    let fault = if error.kind() == ErrorKind::OutOfMemory {
         NameFault::NoMemory
     } else {
         NameFault::Failed
+    };
+    Why {
+        fault,
+        cause: Cause::of_error(error),
     }
 }
 
-/// Why a store was not opened.
-fn of_store(fault: StoreFault) -> NameFault {
-    match fault {
-        StoreFault::Device => NameFault::Failed,
-        StoreFault::NoMemory => NameFault::NoMemory,
+/// Why the system opened no file to be emptied: one that was there and was not opened is a link, and one
+/// without a number of the system got that of a standard stream.
+fn of_emptying(error: &io::Error) -> Why {
+    match error.kind() {
+        ErrorKind::AlreadyExists => found(Cause::Link),
+        ErrorKind::InvalidInput if error.raw_os_error().is_none() => found(Cause::Closed),
+        _ => of_error(error),
     }
 }
 
 /// Whether a name is that of a pipe or a device, which is read from its start to its end alone. A name
 /// that nothing has is not.
-fn is_stream<R: Files<File = File>>(rt: &R, name: &str) -> Answer {
+fn is_stream<R: Files<File = File>>(rt: &R, name: &str) -> Result<bool, Cause> {
     match fs::metadata(rt, name) {
-        Ok(found) if !found.is_file() && !found.is_dir() => Answer::Yes,
-        Ok(_) => Answer::No,
-        Err(error) if error.kind() == ErrorKind::NotFound => Answer::No,
-        Err(_) => Answer::Unknown,
+        Ok(found) => Ok(!found.is_file() && !found.is_dir()),
+        Err(error) if error.kind() == ErrorKind::NotFound => Ok(false),
+        Err(error) => Err(Cause::of_error(&error)),
     }
 }

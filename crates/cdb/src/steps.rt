@@ -1,11 +1,14 @@
 // What the program does: the command of its words, and its exit status.
-ghost use Rattle.std.specs.Prelude.{◌≡◌, [], map, string_bytes};
+ghost use Rattle.std.specs.Prelude.{◌≡◌, [], Err, map, string_bytes};
 ghost use Rattle.cdb_tool.specs.Command.{asked_in, has_wide_words, IsInRange, plan_of};
 ghost use Rattle.cdb_tool.specs.Views.Output.{output_bytes, held_by, HasHandedOn, OutputFailed};
+ghost use Rattle.cdb.specs.Causes.{Explains};
 ghost use Rattle.cdb.specs.Foretold.{IsForetold, IsTaken};
 ghost use Rattle.cdb.specs.ForetoldCreate.{IsCreateForetold};
 ghost use Rattle.cdb.specs.Performs.{Does, HandsOn, IsUntouched, Runs};
 
+use crate::cause_line::cause_line;
+use crate::causes::reason_of;
 use crate::left::{Left, none_left};
 use crate::performing::perform_in;
 use crate::system::System;
@@ -27,6 +30,7 @@ pub(crate) fn run<F, J, M, Y, N, I, O, E>(
     input: I,
     output: &mut Output<O>,
     errors: &mut Output<E>,
+    explains: bool,
 ) -> (Left<F, M>, u8)
 where
     F: Store + Drop,
@@ -38,7 +42,7 @@ where
     O: Write,
     E: Write,
     ensures runs { Runs F.Store M.Store N.File.RawFile J.remaining Y.System
-        (plan_of (map string_bytes words.items)) (I.remaining input) system.old system.new
+        (plan_of (map string_bytes words.items)) explains (I.remaining input) system.old system.new
         (N.calls names.old) (N.calls names.new) result.0 (output_bytes O.contents output.old)
         (output_bytes O.contents output.new) (O.contents output.new.writer)
         (output_bytes E.contents errors.old) (output_bytes E.contents errors.new)
@@ -46,18 +50,18 @@ where
     ensures handed { held_by output.old ≡ [] → HasHandedOn output.new }
     ensures said { HasHandedOn errors.new }
     ensures foretold { IsForetold F.Store J.remaining Y.System
-        (plan_of (map string_bytes words.items)) (I.remaining input) system.old system.new result.0
-        (output_bytes O.contents output.old) (O.contents output.new.writer)
+        (plan_of (map string_bytes words.items)) explains (I.remaining input) system.old system.new
+        result.0 (output_bytes O.contents output.old) (O.contents output.new.writer)
         (output_bytes E.contents errors.old) (E.contents errors.new.writer)
         (IsTaken output.old output.new errors.new) result.1 }
     ensures created { IsCreateForetold F.Store M.Store J.remaining Y.System
-        (plan_of (map string_bytes words.items)) (I.remaining input) system.old system.new
+        (plan_of (map string_bytes words.items)) explains (I.remaining input) system.old system.new
         (N.calls names.old) (N.calls names.new) result.0 (output_bytes O.contents output.old)
         (O.contents output.new.writer) (output_bytes E.contents errors.old)
         (E.contents errors.new.writer) (IsTaken output.old output.new errors.new) result.1 }
 {
     let (left, status) = answer::<F, J, M, Y, N, I, O, E>(
-        alloc, system, names, words, input, output, errors,
+        alloc, system, names, words, input, output, errors, explains,
     );
     let _ = errors.flush();
     (left, status)
@@ -73,6 +77,7 @@ fn answer<F, J, M, Y, N, I, O, E>(
     input: I,
     output: &mut Output<O>,
     errors: &mut Output<E>,
+    explains: bool,
 ) -> (Left<F, M>, u8)
 where
     F: Store + Drop,
@@ -84,7 +89,7 @@ where
     O: Write,
     E: Write,
     ensures runs { Runs F.Store M.Store N.File.RawFile J.remaining Y.System
-        (plan_of (map string_bytes words.items)) (I.remaining input) system.old system.new
+        (plan_of (map string_bytes words.items)) explains (I.remaining input) system.old system.new
         (N.calls names.old) (N.calls names.new) result.0 (output_bytes O.contents output.old)
         (output_bytes O.contents output.new) (O.contents output.new.writer)
         (output_bytes E.contents errors.old) (output_bytes E.contents errors.new)
@@ -95,15 +100,56 @@ where
         Ok(command) => command,
         Err(usage) => return (none_left(), refuse(&usage, errors)),
     };
+    if explains {
+        system.count_lines();
+    }
     let (left, performed) = perform::<F, J, M, Y, N, I, O, Output<E>>(
         alloc, system, names, &command, input, output, errors,
     );
     match performed {
         Ok(()) => (left, DONE),
         Err(fault) => {
-            tell(&fault, errors);
+            let more = cause_of::<F, J, M, Y, N>(
+                alloc, explains, &command, &fault, system, names, &left,
+            );
+            tell(&fault, more.as_slice(), errors);
             (left, status_of(&command, &fault))
         }
+    }
+}
+
+/// What is said of a fault after its line: if causes are asked for, a line with the file and the cause, unless
+/// none is known or there is no memory for it.
+#[cold]
+#[inline(never)]
+fn cause_of<F, J, M, Y, N>(
+    alloc: Global,
+    explains: bool,
+    command: &Command,
+    fault: &Fault,
+    system: &Y,
+    names: &N,
+    left: &Left<F, M>,
+) -> Vec<u8>
+where
+    F: Store,
+    J: Read,
+    M: Store,
+    Y: System<F, J, M>,
+    N: Names,
+    ensures { Explains explains (asked_in command.now) (Err fault.now) (Y.calls system.now)
+        (N.calls names.now) result.items }
+{
+    let none = Vec::new(alloc);
+    if !explains {
+        return none;
+    }
+    let Some(reason) = reason_of::<F, J, M, Y, N>(command, fault, system, names, left) else {
+        return none;
+    };
+    match cause_line(alloc, &reason) {
+        Ok(line) => line,
+        Err(_) => none,
     }
 }
 

@@ -1,10 +1,10 @@
 // The files of a system, by their names and the calls on them.
-ghost use Rattle.std.specs.Prelude.{◌≡◌, ◌∷◌, ℕ, List, IfOk, IfErr, OnOk};
-ghost use Rattle.cdb.specs.Opening.{OpenCalls, Misses, MayEmpty};
+ghost use Rattle.std.specs.Prelude.{◌≡◌, ◌∷◌, ℕ, List, IfOk, IfErr, IfSome, OnOk};
+ghost use Rattle.cdb.specs.Opening.{IsOpenRefusal, OpenCalls, Misses, MayEmpty};
 ghost use Rattle.cdb.specs.declared.open_trace.OpenCall.TheVariants.{AtPlaces, InTurn, Stream};
 ghost use Rattle.cdb.specs.declared.open_trace.OpenCall.TheVariants.{Emptied, Locked, ToEmpty};
 
-use cdb_files::{Answer, Lock};
+use cdb_files::{Answer, Lock, Refusal};
 use cdb_store::{RealFile, Store};
 use cdb_tool::Fault;
 use std::io::Read;
@@ -23,6 +23,32 @@ pub(crate) trait System<F: Store, I: Read, M: Store> {
 
     /// This file was given for the name, to be written.
     ghost makes: { List ℕ → M → Type 0 };
+
+    /// The name of the file that was not opened last, and why. `None`: each was, or it is not known.
+    fn refusal(&self) -> Option<&Refusal>
+        ensures { IfSome result (λ refusal. IsOpenRefusal refusal.now (calls self.now)) };
+
+    /// The number of the error of the last call that failed on a file that is read at places, if the
+    /// system gave one.
+    fn store_error(&self, file: &F) -> Option<i32>;
+
+    /// The number of the error of the last call that failed on a file that is made.
+    fn made_error(&self, file: &M) -> Option<i32>;
+
+    /// The number of the error of the last read of an input that failed.
+    fn read_error(&self) -> Option<i32>;
+
+    /// The number of the error of the last write on a standard stream that failed.
+    fn write_error(&self) -> Option<i32>;
+
+    /// Whether that was one on standard error.
+    fn has_failed_on_errors(&self) -> bool;
+
+    /// From here on the lines of what is read from its start on are counted.
+    fn count_lines(&self);
+
+    /// The line, counted from 1, of a place of the input that was read last.
+    fn line_at(&self, at: u64) -> u64;
 
     /// Opens the file of a name, to be read at places. `Open`: it cannot be opened, or it is a pipe
     /// or a device, which has no places to be read at.

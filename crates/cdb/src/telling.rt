@@ -1,6 +1,6 @@
 // The lines on standard error.
-ghost use Rattle.std.specs.Prelude.{◌≡◌};
-ghost use Rattle.cdb_form.specs.Views.KnownBytes.{Writes};
+ghost use Rattle.std.specs.Prelude.{◌≡◌, ◌++◌, OnErr};
+ghost use Rattle.cdb_form.specs.Views.KnownBytes.{AppendsPrefix, Writes};
 ghost use Rattle.cdb_tool.specs.Message.{fault_line};
 ghost use Rattle.cdb_tool.specs.Views.Output.{output_bytes, OutputFailed};
 ghost use Rattle.cdb.specs.Performs.{SaysLine, usage_line, usage_status};
@@ -9,14 +9,24 @@ use cdb_form::{OutFault, write_pieces};
 use cdb_tool::{BAD_USAGE, FAILED, Fault, Output, Usage, write_fault};
 use std::io::Write;
 
-/// Says what a fault is, unless `errors` fails.
+/// Writes the line of a fault, and more after it.
+fn write_told<E: Write>(fault: &Fault, more: &[u8], errors: &mut Output<E>) -> Result<(), OutFault>
+    ensures writes { Writes result (output_bytes E.contents errors.old)
+        (output_bytes E.contents errors.new) (fault_line fault.now ++ more.now) }
+    ensures failed { OnErr result (OutputFailed errors.new) }
+{
+    write_fault(fault, errors)?;
+    errors.take_all(more)
+}
+
+/// Says what a fault is, and more after it, unless `errors` fails.
 #[cold]
 #[inline(never)]
-pub(crate) fn tell<E: Write>(fault: &Fault, errors: &mut Output<E>)
-    ensures { SaysLine (fault_line fault.now) (output_bytes E.contents errors.old)
+pub(crate) fn tell<E: Write>(fault: &Fault, more: &[u8], errors: &mut Output<E>)
+    ensures { SaysLine (fault_line fault.now ++ more.now) (output_bytes E.contents errors.old)
         (output_bytes E.contents errors.new) (OutputFailed errors.new) }
 {
-    let _ = write_fault(fault, errors);
+    let _ = write_told(fault, more, errors);
 }
 
 /// The exit status of words that ask for nothing.

@@ -6,3 +6,4 @@ pub mod Names
 pub mod Opening
 pub mod Unsynced
 pub mod Wanted
+pub mod Refusals

@@ -3,7 +3,6 @@ ghost use Rattle.std.specs.Prelude.{◌≡◌};
 ghost use Rattle.std.specs.Path.{path_parent};
 ghost use Rattle.cdb_files.specs.Names.{folder_from};
 
-use crate::answer::Answer;
 use cdb_store::RealFile;
 use std::fs::{self, File, Metadata};
 use std::io::{self, ErrorKind};
@@ -18,40 +17,39 @@ pub(crate) enum Look {
     There(Metadata),
     /// That nothing is there.
     Missing,
-    /// Nothing: the call failed.
-    Unknown,
+    /// Nothing: the call failed, with an error of this number.
+    Unknown(Option<i32>),
 }
+
+/// Whether something is so, or the number of the error of the call that did not say.
+pub(crate) type Said = Result<bool, Option<i32>>;
 
 /// What a look came to. Only "no such file" says that nothing is there.
 pub(crate) fn looked(answer: io::Result<Metadata>) -> Look {
     match answer {
         Ok(found) => Look::There(found),
         Err(error) if error.kind() == ErrorKind::NotFound => Look::Missing,
-        Err(_) => Look::Unknown,
+        Err(error) => Look::Unknown(error.raw_os_error()),
     }
 }
 
 /// Whether both are of one file: of one device and inode.
-pub(crate) fn is_one(one: &Look, other: &Look) -> Answer {
+pub(crate) fn is_one(one: &Look, other: &Look) -> Said {
     match (one, other) {
         (Look::There(one), Look::There(other)) => {
-            if one.dev() == other.dev() && one.ino() == other.ino() {
-                Answer::Yes
-            } else {
-                Answer::No
-            }
+            Ok(one.dev() == other.dev() && one.ino() == other.ino())
         }
-        (Look::Unknown, _) | (_, Look::Unknown) => Answer::Unknown,
-        _ => Answer::No,
+        (Look::Unknown(number), _) | (_, Look::Unknown(number)) => Err(*number),
+        _ => Ok(false),
     }
 }
 
 /// Whether a file is what a name has, or what it leads to as a link.
-pub(crate) fn is_one_of<R: Files<File = File>>(rt: &R, file: &Look, name: &str) -> Answer {
+pub(crate) fn is_one_of<R: Files<File = File>>(rt: &R, file: &Look, name: &str) -> Said {
     let found = looked(fs::symlink_metadata(rt, name));
     match is_one(file, &found) {
-        Answer::No if is_link(&found) => is_one(file, &looked(fs::metadata(rt, name))),
-        answer => answer,
+        Ok(false) if is_link(&found) => is_one(file, &looked(fs::metadata(rt, name))),
+        said => said,
     }
 }
 
@@ -60,8 +58,12 @@ pub(crate) fn is_link(look: &Look) -> bool {
     matches!(look, Look::There(found) if found.is_symlink())
 }
 
-/// Whether a name has an open file.
-pub fn has_name<R: Files<File = File>>(rt: &R, name: &str, file: &RealFile) -> Answer {
+/// Whether a name has an open file, or the number of the error of the look that failed.
+pub fn has_name<R: Files<File = File>>(
+    rt: &R,
+    name: &str,
+    file: &RealFile,
+) -> Result<bool, Option<i32>> {
     is_one(
         &looked(fs::symlink_metadata(rt, name)),
         &looked(file.metadata()),

@@ -1,7 +1,8 @@
 // Names in folders, by the calls on them.
-ghost use Rattle.std.specs.Prelude.{◌≡◌, [], ◌∷◌, IfOk, IfErr, OnOk};
+ghost use Rattle.std.specs.Prelude.{◌≡◌, [], ◌∷◌, IfOk, IfErr, IfSome, OnOk};
 ghost use Rattle.cdb_store.specs.declared.trace.Call.TheVariants.{Made as FileMade};
 ghost use Rattle.cdb_files.specs.Folder.{IsCleared, HasLock, NameCalls};
+ghost use Rattle.cdb_files.specs.Refusals.{IsRefusal};
 ghost use Rattle.cdb_files.specs.declared.name_trace.NameCall.TheVariants.{
   Special,
   Same,
@@ -25,6 +26,7 @@ ghost use Rattle.std.specs.Prelude.{cond};
 
 use crate::answer::{Answer, Found, Lock};
 use crate::name_fault::NameFault;
+use crate::refusal::Refusal;
 use crate::wanted::Wanted;
 use cdb_store::RawFile;
 
@@ -45,6 +47,14 @@ pub trait Names {
 
     /// The calls, the newest first.
     ghost calls: { Self → NameCalls };
+
+    /// The name that was refused last, and why. `None`: none was, or it is not known.
+    fn refusal(&self) -> Option<&Refusal>
+        ensures { IfSome result (λ refusal. IsRefusal refusal.now (calls self.now)) };
+
+    /// The number of the error of the last call that failed on the file from which a name was taken last,
+    /// if the system gave one.
+    fn file_error(&self) -> Option<i32>;
 
     /// Whether a name leads to something that is no regular file, and so is not to be replaced: a
     /// folder, a device, a socket or a pipe. A name that leads to nothing does not.

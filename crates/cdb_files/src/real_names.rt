@@ -1,19 +1,20 @@
-// The names of the system: the lines that call the system and note what it answered.
-ghost use Rattle.std.specs.Prelude.{◌≡◌, ◌⊎◌, ◌<◌, [], ◌∷◌, IfErr, IfSome, OnOk};
-ghost use Rattle.cdb_files.specs.declared.name_trace.NameCall.TheVariants.{Renamed, NotRenamed};
+ghost use Rattle.std.specs.Prelude.{◌≡◌, [], ◌∷◌, IfErr, None, OnOk, Some, string_bytes, true};
+ghost use Rattle.cdb_files.specs.declared.name_trace.NameCall.TheVariants.{NotOpened, Renamed, NotRenamed};
+ghost use Rattle.std.specs.Option.{ForSome};
 ghost use Rattle.cdb_files.specs.Folder.{IsRemoval, HasLock, IsCleared};
+ghost use Rattle.cdb_files.specs.Refusals.{refused_for, is_of_system, may_be_for, refused_name};
 
 use crate::answer::{Answer, Found, Lock};
 use crate::locks::locked;
-use crate::looks::{Look, folder_of, has_name, is_one, is_one_of, looked};
+use crate::looks::{Look, folder_of, has_name, is_link, is_one, is_one_of, looked};
 use crate::name_fault::NameFault;
 use crate::name_trace::{NameCall, NameTrace};
 use crate::names::{Names, Unrenamed};
+use crate::refusal::{Cause, Refusal};
 use crate::standard_input::input_look;
 use crate::system_links::is_system_link;
 use crate::wanted::Wanted;
 use cdb_store::{READ_AND_WRITTEN, RealFile, Trace};
-use std::alloc::Alloc;
 use std::fs::{self, File, Metadata, Permissions};
 use std::io::{self, ErrorKind};
 use std::os::unix::fs::{MetadataExt, PermissionsExt};
@@ -24,9 +25,15 @@ use std::rt::Files;
 pub struct RealNames<'a, R> {
     rt: &'a R,
     trace: NameTrace,
+    /// The name that was refused last, if there was memory for it.
+    last: Option<Refusal>,
+    /// The number of the error of the last call that failed on the file whose name was removed last.
+    file_error: Option<i32>,
+    ghost newest: { ForSome last (λ refusal. refused_for refusal.cause trace.events
+        ≡ Some (string_bytes refusal.name, string_bytes refusal.other)) },
 }
 
-impl<'a, R: Files<File = File> + Alloc> RealNames<'a, R> {
+impl<'a, R: Files<File = File> + AllocGlobal> RealNames<'a, R> {
     /// Names on which no call was made yet.
     pub fn new(rt: &'a R) -> RealNames<'a, R>
         ensures { result.trace.events ≡ [] }
@@ -34,16 +41,49 @@ impl<'a, R: Files<File = File> + Alloc> RealNames<'a, R> {
         RealNames {
             rt,
             trace: NameTrace::new(),
+            last: None,
+            file_error: None,
         }
     }
 
-    /// Notes a call that is on no file.
+    /// Notes a call that is on no file, and refused no name.
     fn note(&mut self, call: &NameCall, name: &str, other: &str)
+        requires { refused_name call.now name.now other.now ≡ None }
         ensures trace { self.new.trace.events
             ≡ (call.now, name.now, other.now, []) ∷ self.old.trace.events }
     {
         self.trace
             .note(call, name.as_bytes(), other.as_bytes(), &Trace::new());
+    }
+
+    /// Notes a call that is on no file, and refused its first name.
+    fn refuse(&mut self, call: &NameCall, name: &str, other: &str, cause: Cause)
+        requires refused { refused_name call.now name.now other.now ≡ Some name.now }
+        requires why { may_be_for call.now cause ≡ true }
+        ensures trace { self.new.trace.events
+            ≡ (call.now, name.now, other.now, []) ∷ self.old.trace.events }
+    {
+        self.refuse_of(call, name, other, name, cause, &Trace::new());
+    }
+
+    /// Notes a call on a file, of which the calls are given, that refused this name.
+    fn refuse_of(
+        &mut self,
+        call: &NameCall,
+        name: &str,
+        other: &str,
+        refused: &str,
+        cause: Cause,
+        file: &Trace,
+    )
+        requires refused { refused_name call.now name.now other.now ≡ Some refused.now }
+        requires why { may_be_for call.now cause ≡ true }
+        ensures trace { self.new.trace.events
+            ≡ (call.now, name.now, other.now, file.now.events) ∷ self.old.trace.events }
+    {
+        self.last = Refusal::new(self.rt.alloc(), refused, other, cause).ok();
+        self.trace
+            .note(call, name.as_bytes(), other.as_bytes(), file);
     }
 }
 
@@ -70,20 +110,22 @@ const LONGEST: usize = 4095;
 /// The permission bits that the system gives a plain new file of a name, by its umask and the folder's
 /// access list: those of an empty file that has the name with `.bit` after it for a moment. If that is too
 /// long for a name, those for this user alone. It takes no memory, which could be refused.
-fn new_bits<R: Files<File = File>>(rt: &R, name: &str) -> Option<u32> {
+fn new_bits<R: Files<File = File>>(rt: &R, name: &str) -> Result<u32, Option<i32>> {
     let len = name.len();
     if len > LONGEST - SHOWN.len() {
-        return Some(PRIVATE);
+        return Ok(PRIVATE);
     }
     let end = len + SHOWN.len();
     let mut bytes = [0u8; LONGEST];
     bytes[..len].copy_from_slice(name.as_bytes());
     bytes[len..end].copy_from_slice(SHOWN);
-    let shown = str::from_utf8(&bytes[..end]).ok()?;
+    let Ok(shown) = str::from_utf8(&bytes[..end]) else {
+        return Err(None);
+    };
     match made_to_show(rt, shown) {
         Ok(made) => bits_and_gone(rt, shown, &made),
-        Err(error) if error.raw_os_error() == Some(ENAMETOOLONG) => Some(PRIVATE),
-        Err(_) => None,
+        Err(error) if error.raw_os_error() == Some(ENAMETOOLONG) => Ok(PRIVATE),
+        Err(error) => Err(error.raw_os_error()),
     }
 }
 
@@ -103,25 +145,38 @@ fn made_to_show<R: Files<File = File>>(rt: &R, name: &str) -> io::Result<RealFil
     }
 }
 
-/// The permission bits of a file that was just made under a name, which is taken from it. `None`: the
-/// system did not say, or did not remove it.
-fn bits_and_gone<R: Files<File = File>>(rt: &R, name: &str, made: &RealFile) -> Option<u32> {
+/// The permission bits of a file that was just made under a name, which is taken from it. Otherwise the
+/// system did not say, or did not remove it: the number of its error.
+fn bits_and_gone<R: Files<File = File>>(
+    rt: &R,
+    name: &str,
+    made: &RealFile,
+) -> Result<u32, Option<i32>> {
     let found = made.metadata();
-    // Another create of the name may have taken it for one that was left.
-    if !is_removed(rt, name, made) && has_name(rt, name, made) != Answer::No {
-        return None;
+    if let Err(number) = removed(rt, name, made) {
+        // Another create of the name may have taken it for one that was left.
+        match has_name(rt, name, made) {
+            Ok(false) => {}
+            _ => return Err(number),
+        }
     }
-    Some(bits_in(&found.ok()?))
+    match found {
+        Ok(found) => Ok(bits_in(&found)),
+        Err(error) => Err(error.raw_os_error()),
+    }
 }
 
-/// Removes what a name has, if it is an open file, and answers whether it did. A look that failed is made
-/// once more.
-fn is_removed<R: Files<File = File>>(rt: &R, name: &str, file: &RealFile) -> bool {
+/// Removes what a name has, if it is an open file. Otherwise it was not removed: the number of the error, if
+/// a call failed. A look that failed is made once more.
+fn removed<R: Files<File = File>>(rt: &R, name: &str, file: &RealFile) -> Result<(), Option<i32>> {
     let is_own = match has_name(rt, name, file) {
-        Answer::Unknown => has_name(rt, name, file),
-        answer => answer,
+        Err(_) => has_name(rt, name, file)?,
+        Ok(is_own) => is_own,
     };
-    is_own == Answer::Yes && fs::remove_file(rt, name).is_ok()
+    if !is_own {
+        return Err(None);
+    }
+    fs::remove_file(rt, name).map_err(|error| error.raw_os_error())
 }
 
 /// Why a call on a name did nothing.
@@ -133,21 +188,53 @@ fn fault_of(error: &io::Error) -> NameFault {
     }
 }
 
+/// Why a regular file was not opened: what was opened was none, or the system's fault.
+fn unopened(error: &io::Error, _fault: NameFault) -> Cause
+    ensures { may_be_for (NotOpened _fault) result ≡ true }
+{
+    match error.raw_os_error() {
+        None => Cause::Special,
+        number => Cause::of_number(number),
+    }
+}
+
 // That these lines do what they note no proof says: each has its tests, which are named at it.
-impl<'a, R: Files<File = File> + Alloc> Names for RealNames<'a, R> {
+impl<'a, R: Files<File = File> + AllocGlobal> Names for RealNames<'a, R> {
     type File = RealFile;
 
     ghost calls = { λ n. n.trace.events };
 
+    fn refusal(&self) -> Option<&Refusal> {
+        self.last.as_ref()
+    }
+
+    fn file_error(&self) -> Option<i32> {
+        self.file_error
+    }
+
     // Shown by tests/faults/names.py, and by the kinds of files in tests/cli/cases.py.
     fn is_special(&mut self, name: &str) -> Answer {
         let is = match looked(fs::metadata(self.rt, name)) {
-            Look::There(found) if !found.is_file() => Answer::Yes,
+            Look::There(found) if !found.is_file() => Ok(true),
             Look::There(_) | Look::Missing => is_system_link(self.rt, name),
-            Look::Unknown => Answer::Unknown,
+            Look::Unknown(number) => Err(number),
         };
-        self.note(&NameCall::Special(is), name, "");
-        is
+        match is {
+            Ok(false) => {
+                self.note(&NameCall::Special(Answer::No), name, "");
+                Answer::No
+            }
+            Ok(true) => {
+                let call = NameCall::Special(Answer::Yes);
+                self.refuse(&call, name, "", Cause::Special);
+                Answer::Yes
+            }
+            Err(number) => {
+                let call = NameCall::Special(Answer::Unknown);
+                self.refuse(&call, name, "", Cause::of_number(number));
+                Answer::Unknown
+            }
+        }
     }
 
     // Shown by tests/faults/names.py, and by the rows over links and two file systems of the tests
@@ -155,24 +242,54 @@ impl<'a, R: Files<File = File> + Alloc> Names for RealNames<'a, R> {
     fn is_file_of(&mut self, name: &str, other: &str) -> Answer {
         let own = looked(fs::symlink_metadata(self.rt, name));
         let is = match &own {
-            Look::Missing => Answer::No,
-            Look::Unknown => Answer::Unknown,
+            Look::Missing => Ok(false),
+            Look::Unknown(number) => Err(*number),
             Look::There(_) => is_one_of(self.rt, &own, other),
         };
-        self.note(&NameCall::Same(is), name, other);
-        is
+        match is {
+            Ok(false) => {
+                self.note(&NameCall::Same(Answer::No), name, other);
+                Answer::No
+            }
+            Ok(true) => {
+                self.refuse(&NameCall::Same(Answer::Yes), name, other, Cause::Same);
+                Answer::Yes
+            }
+            Err(number) => {
+                let call = NameCall::Same(Answer::Unknown);
+                self.refuse(&call, name, other, Cause::of_number(number));
+                Answer::Unknown
+            }
+        }
     }
 
     // Shown by tests/faults/names.py and others.py.
     fn look(&mut self, name: &str) -> Found {
-        let found = match looked(fs::symlink_metadata(self.rt, name)) {
-            Look::There(found) if found.is_file() => Found::File,
-            Look::There(_) => Found::Other,
-            Look::Missing => Found::Nothing,
-            Look::Unknown => Found::Unknown,
-        };
-        self.note(&NameCall::Looked(found), name, "");
-        found
+        let found = looked(fs::symlink_metadata(self.rt, name));
+        match &found {
+            Look::Missing => {
+                self.note(&NameCall::Looked(Found::Nothing), name, "");
+                Found::Nothing
+            }
+            Look::There(there) if there.is_file() => {
+                self.note(&NameCall::Looked(Found::File), name, "");
+                Found::File
+            }
+            Look::There(_) => {
+                let cause = if is_link(&found) {
+                    Cause::Link
+                } else {
+                    Cause::Special
+                };
+                self.refuse(&NameCall::Looked(Found::Other), name, "", cause);
+                Found::Other
+            }
+            Look::Unknown(number) => {
+                let call = NameCall::Looked(Found::Unknown);
+                self.refuse(&call, name, "", Cause::of_number(*number));
+                Found::Unknown
+            }
+        }
     }
 
     // Shown by tests/faults/others.py: a pipe that takes the name makes no create wait.
@@ -184,7 +301,12 @@ impl<'a, R: Files<File = File> + Alloc> Names for RealNames<'a, R> {
             }
             Err(error) => {
                 let fault = fault_of(&error);
-                self.note(&NameCall::NotOpened(fault), name, "");
+                self.refuse(
+                    &NameCall::NotOpened(fault),
+                    name,
+                    "",
+                    unopened(&error, fault),
+                );
                 Err(fault)
             }
         }
@@ -199,7 +321,8 @@ impl<'a, R: Files<File = File> + Alloc> Names for RealNames<'a, R> {
             }
             Err(error) => {
                 let fault = fault_of(&error);
-                self.note(&NameCall::NotMade(fault), name, "");
+                let cause = Cause::of_error(&error);
+                self.refuse(&NameCall::NotMade(fault), name, "", cause);
                 Err(fault)
             }
         }
@@ -207,62 +330,122 @@ impl<'a, R: Files<File = File> + Alloc> Names for RealNames<'a, R> {
 
     // Shown by tests/cli/orders.py, locked.py and tests/faults/others.py.
     fn lock(&mut self, name: &str, file: &RealFile) -> Lock {
-        let lock = locked(file);
-        self.note(&NameCall::Locked(lock), name, "");
-        lock
+        match locked(file) {
+            Ok(true) => {
+                self.note(&NameCall::Locked(Lock::Taken), name, "");
+                Lock::Taken
+            }
+            Ok(false) => {
+                self.note(&NameCall::Locked(Lock::Unsupported), name, "");
+                Lock::Unsupported
+            }
+            Err(cause) => {
+                self.refuse(&NameCall::Locked(Lock::Held), name, "", cause);
+                Lock::Held
+            }
+        }
     }
 
     // Shown by tests/cli/orders.py and tests/faults/others.py.
     fn has_file(&mut self, name: &str, file: &RealFile) -> Answer {
-        let is = has_name(self.rt, name, file);
-        self.note(&NameCall::Own(is), name, "");
-        is
+        match has_name(self.rt, name, file) {
+            Ok(true) => {
+                self.note(&NameCall::Own(Answer::Yes), name, "");
+                Answer::Yes
+            }
+            Ok(false) => {
+                self.refuse(&NameCall::Own(Answer::No), name, "", Cause::Held);
+                Answer::No
+            }
+            Err(number) => {
+                let call = NameCall::Own(Answer::Unknown);
+                self.refuse(&call, name, "", Cause::of_number(number));
+                Answer::Unknown
+            }
+        }
     }
 
     // Shown by tests/cli/standard.py.
     fn is_input(&mut self, name: &str) -> Answer {
         let is = match looked(fs::symlink_metadata(self.rt, name)) {
-            Look::Missing => Answer::No,
+            Look::Missing => Ok(false),
             found => is_one(&found, &input_look(self.rt)),
         };
-        self.note(&NameCall::Input(is), name, "");
-        is
+        match is {
+            Ok(false) => {
+                self.note(&NameCall::Input(Answer::No), name, "");
+                Answer::No
+            }
+            Ok(true) => {
+                self.refuse(&NameCall::Input(Answer::Yes), name, "", Cause::Input);
+                Answer::Yes
+            }
+            Err(number) => {
+                let call = NameCall::Input(Answer::Unknown);
+                self.refuse(&call, name, "", Cause::of_number(number));
+                Answer::Unknown
+            }
+        }
     }
 
     // Shown by tests/cli/permissions.py and tests/faults/names.py.
     fn bits_for(&mut self, name: &str) -> Option<Wanted> {
         let bits = match looked(fs::symlink_metadata(self.rt, name)) {
-            Look::There(found) if found.is_file() => Some(Wanted::Old(bits_in(&found))),
+            Look::There(found) if found.is_file() => Ok(Wanted::Old(bits_in(&found))),
             Look::There(_) | Look::Missing => new_bits(self.rt, name).map(Wanted::New),
-            Look::Unknown => None,
+            Look::Unknown(number) => Err(number),
         };
-        self.note(&NameCall::Bits(bits), name, "");
-        bits
+        match bits {
+            Ok(bits) => {
+                self.note(&NameCall::Bits(Some(bits)), name, "");
+                Some(bits)
+            }
+            Err(number) => {
+                let cause = Cause::of_number(number);
+                self.refuse(&NameCall::Bits(None), name, "", cause);
+                None
+            }
+        }
     }
 
     // Shown by tests/cli/permissions.py and tests/faults/names.py.
     fn bits_of(&mut self, name: &str, file: &RealFile) -> Option<u32> {
-        let bits = match file.metadata() {
-            Ok(found) => Some(bits_in(&found)),
-            Err(_) => None,
-        };
-        self.trace
-            .note(&NameCall::Seen(bits), name.as_bytes(), b"", file.trace());
-        bits
+        match file.metadata() {
+            Ok(found) => {
+                let bits = bits_in(&found);
+                self.trace.note(
+                    &NameCall::Seen(Some(bits)),
+                    name.as_bytes(),
+                    b"",
+                    file.trace(),
+                );
+                Some(bits)
+            }
+            Err(error) => {
+                let cause = Cause::of_error(&error);
+                self.refuse_of(&NameCall::Seen(None), name, "", name, cause, file.trace());
+                None
+            }
+        }
     }
 
     // Shown by tests/cli/permissions.py and tests/faults/names.py.
+    /// The name is refused until the file is seen to have its bits.
     fn set_bits(&mut self, name: &str, file: &RealFile, bits: u32) {
-        let _ = file.set_permissions(Permissions::from_mode(bits));
-        self.trace
-            .note(&NameCall::Set(bits), name.as_bytes(), b"", file.trace());
+        let cause = match file.set_permissions(Permissions::from_mode(bits)) {
+            Ok(()) => Cause::Bits,
+            Err(error) => Cause::of_error(&error),
+        };
+        self.refuse_of(&NameCall::Set(bits), name, "", name, cause, file.trace());
     }
 
     // Shown by tests/cli/taken.py, orders.py and tests/faults/others.py.
+    /// Why it was not removed is not kept: that would hide why the create ended.
     fn remove_own(&mut self, name: &str, file: &RealFile) {
-        let removed = is_removed(self.rt, name, file);
+        self.file_error = file.last_error();
+        let is_removed = removed(self.rt, name, file).is_ok();
         self.trace
-            .note(&removal(removed), name.as_bytes(), b"", file.trace());
+            .note(&removal(is_removed), name.as_bytes(), b"", file.trace());
     }
 
     // Shown by tests/cli/taken.py, tests/faults/names.py and syncs.py.
@@ -280,23 +463,18 @@ impl<'a, R: Files<File = File> + Alloc> Names for RealNames<'a, R> {
             ∷ self.old.trace.events) }
         ensures kept { IfErr result (λ u. u.file ≡ file) }
     {
-        let found = looked(file.metadata());
-        let is_whole = matches!(&found, Look::There(found) if found.len() == len);
-        let is_own = is_one(&looked(fs::symlink_metadata(self.rt, name)), &found);
-        let answer = if is_whole && is_own == Answer::Yes {
-            fs::rename(self.rt, name, other).map_err(|error| fault_of(&error))
-        } else {
-            Err(NameFault::Failed)
-        };
-        let call = match answer {
-            Ok(()) => NameCall::Renamed(len),
-            Err(fault) => NameCall::NotRenamed(len, fault),
-        };
-        self.trace
-            .note(&call, name.as_bytes(), other.as_bytes(), file.trace());
-        match answer {
-            Ok(()) => Ok(()),
-            Err(fault) => Err(Unrenamed { file, fault }),
+        match renamed(self.rt, &file, len, name, other) {
+            Ok(()) => {
+                let call = NameCall::Renamed(len);
+                self.trace
+                    .note(&call, name.as_bytes(), other.as_bytes(), file.trace());
+                Ok(())
+            }
+            Err((fault, cause)) => {
+                let call = NameCall::NotRenamed(len, fault);
+                self.refuse_of(&call, name, other, other, cause, file.trace());
+                Err(Unrenamed { file, fault })
+            }
         }
     }
 
@@ -306,13 +484,40 @@ impl<'a, R: Files<File = File> + Alloc> Names for RealNames<'a, R> {
             Ok(folder) => folder.sync_all().is_ok(),
             Err(_) => false,
         };
-        let call = if is_synced {
-            NameCall::Synced
+        if is_synced {
+            self.note(&NameCall::Synced, name, "");
         } else {
-            NameCall::NotSynced
-        };
-        self.note(&call, name, "");
+            self.note(&NameCall::NotSynced, name, "");
+        }
         is_synced
+    }
+}
+
+/// Gives a file of this length the other name, if its own name still has it.
+fn renamed<R: Files<File = File>>(
+    rt: &R,
+    file: &RealFile,
+    len: u64,
+    name: &str,
+    other: &str,
+) -> Result<(), (NameFault, Cause)>
+    ensures { IfErr result (λ e. may_be_for (NotRenamed len e.0) e.1 ≡ true) }
+{
+    let found = match file.metadata() {
+        Ok(found) => Look::There(found),
+        Err(error) => return Err((NameFault::Failed, Cause::of_error(&error))),
+    };
+    let is_whole = matches!(&found, Look::There(found) if found.len() == len);
+    let is_own = match is_one(&looked(fs::symlink_metadata(rt, name)), &found) {
+        Ok(is_own) => is_own,
+        Err(number) => return Err((NameFault::Failed, Cause::of_number(number))),
+    };
+    if !is_own || !is_whole {
+        return Err((NameFault::Failed, Cause::Replaced));
+    }
+    match fs::rename(rt, name, other) {
+        Ok(()) => Ok(()),
+        Err(error) => Err((fault_of(&error), Cause::of_error(&error))),
     }
 }
 

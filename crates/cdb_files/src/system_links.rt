@@ -1,6 +1,5 @@
 // The links of the system, which no database may replace.
-use crate::answer::Answer;
-use crate::looks::{Look, folder_of, is_link, is_one, looked};
+use crate::looks::{Look, Said, folder_of, is_link, is_one, looked};
 use std::alloc::Alloc;
 use std::fs::{self, File};
 use std::os::unix::fs::MetadataExt;
@@ -10,73 +9,74 @@ use std::rt::Files;
 /// How many links the system follows from a name.
 const LINKS: u32 = 40;
 
+/// The system's number for "cannot allocate memory".
+const ENOMEM: i32 = 12;
+
+/// The system's number for "too many levels of symbolic links".
+const ELOOP: i32 = 40;
+
 /// Whether a name is that of a link in `/dev`, or of one that lies in `/proc` or leads there by a link, as
 /// `/dev/stdout` does wherever it lies.
-pub(crate) fn is_system_link<R: Files<File = File> + Alloc>(rt: &R, name: &str) -> Answer {
-    match link_at(rt, name) {
-        Answer::Yes => leads_into_system(rt, name),
-        answer => answer,
+pub(crate) fn is_system_link<R: Files<File = File> + Alloc>(rt: &R, name: &str) -> Said {
+    if link_at(rt, name)? {
+        return leads_into_system(rt, name);
     }
+    Ok(false)
 }
 
 /// Whether a link is one, or leads to one. Memory that is refused is no answer.
-fn leads_into_system<R: Files<File = File> + Alloc>(rt: &R, name: &str) -> Answer {
+fn leads_into_system<R: Files<File = File> + Alloc>(rt: &R, name: &str) -> Said {
     let Ok(mut at) = PathBuf::from_str(rt.alloc(), name) else {
-        return Answer::Unknown;
+        return Err(Some(ENOMEM));
     };
     for _ in 0..LINKS {
-        match link_at(rt, at.as_path().as_str()) {
-            Answer::Yes => {}
-            answer => return answer,
+        if !link_at(rt, at.as_path().as_str())? {
+            return Ok(false);
         }
-        match is_in_system(rt, folder_of(at.as_path().as_str())) {
-            Answer::No => {}
-            answer => return answer,
+        if is_in_system(rt, folder_of(at.as_path().as_str()))? {
+            return Ok(true);
         }
-        let Ok(text) = fs::read_link(rt, at.as_path().as_str()) else {
-            return Answer::Unknown;
+        let text = match fs::read_link(rt, at.as_path().as_str()) {
+            Ok(text) => text,
+            Err(error) => return Err(error.raw_os_error()),
         };
         at.pop();
         if at.push(text.as_path().as_str()).is_err() {
-            return Answer::Unknown;
+            return Err(Some(ENOMEM));
         }
     }
-    Answer::Unknown
+    Err(Some(ELOOP))
 }
 
 /// Whether a name is that of a link.
-fn link_at<R: Files<File = File>>(rt: &R, name: &str) -> Answer {
+fn link_at<R: Files<File = File>>(rt: &R, name: &str) -> Said {
     match looked(fs::symlink_metadata(rt, name)) {
-        Look::Unknown => Answer::Unknown,
-        found if is_link(&found) => Answer::Yes,
-        _ => Answer::No,
+        Look::Unknown(number) => Err(number),
+        found => Ok(is_link(&found)),
     }
 }
 
 /// Whether a folder is `/dev`, or lies in `/proc`.
-fn is_in_system<R: Files<File = File>>(rt: &R, folder: &str) -> Answer {
+fn is_in_system<R: Files<File = File>>(rt: &R, folder: &str) -> Said {
     let found = looked(fs::metadata(rt, folder));
-    match is_one(&found, &looked(fs::metadata(rt, "/dev"))) {
-        Answer::No => is_in_processes(rt, &found),
-        answer => answer,
+    if is_one(&found, &looked(fs::metadata(rt, "/dev")))? {
+        return Ok(true);
     }
+    is_in_processes(rt, &found)
 }
 
 /// Whether a folder is of the file system that `/proc` has, if that has one of its own.
-fn is_in_processes<R: Files<File = File>>(rt: &R, folder: &Look) -> Answer {
-    match (
-        folder,
-        looked(fs::metadata(rt, "/proc")),
-        looked(fs::metadata(rt, "/")),
-    ) {
+fn is_in_processes<R: Files<File = File>>(rt: &R, folder: &Look) -> Said {
+    let processes = looked(fs::metadata(rt, "/proc"));
+    let root = looked(fs::metadata(rt, "/"));
+    match (folder, &processes, &root) {
         (Look::There(folder), Look::There(processes), Look::There(root)) => {
-            if folder.dev() == processes.dev() && processes.dev() != root.dev() {
-                Answer::Yes
-            } else {
-                Answer::No
-            }
+            Ok(folder.dev() == processes.dev() && processes.dev() != root.dev())
         }
-        (_, Look::Missing, _) => Answer::No,
-        _ => Answer::Unknown,
+        (_, Look::Missing, _) => Ok(false),
+        (Look::Unknown(number), _, _) => Err(*number),
+        (_, Look::Unknown(number), _) => Err(*number),
+        (_, _, Look::Unknown(number)) => Err(*number),
+        _ => Err(None),
     }
 }

@@ -43,7 +43,7 @@ impl RealFile {
     ghost use Rattle.cdb_store.specs.RealFile.{events_of, trace_of};
 
     /// A file that was just opened, of which nothing is known.
-    pub(crate) fn opened(file: File) -> RealFile
+    pub fn opened(file: File) -> RealFile
         ensures { result.trace.events ≡ [] }
     {
         RealFile {

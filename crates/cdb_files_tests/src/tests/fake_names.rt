@@ -4,7 +4,9 @@ ghost use Rattle.cdb_files.specs.Folder.{IsCleared};
 ghost use Rattle.cdb_files.specs.declared.name_trace.NameCall.TheVariants.{Renamed, NotRenamed};
 
 use super::fake_file::FakeFile;
-use cdb_files::{Answer, Found, Lock, NameCall, NameFault, NameTrace, Names, Unrenamed, Wanted};
+use cdb_files::{
+    Answer, Found, Lock, NameCall, NameFault, NameTrace, Names, Refusal, Unrenamed, Wanted,
+};
 use cdb_store::Trace;
 use std::alloc::Global;
 
@@ -135,6 +137,14 @@ impl Names for FakeNames {
     type File = FakeFile;
 
     ghost calls = { λ n. n.trace.events };
+
+    fn refusal(&self) -> Option<&Refusal> {
+        None
+    }
+
+    fn file_error(&self) -> Option<i32> {
+        None
+    }
 
     fn is_special(&mut self, name: &str) -> Answer {
         let is = self.answer(Answer::No);

@@ -1,6 +1,7 @@
-use Rattle.std.proofs.Common.{inl, inr, refl, Ok, Err}
+use Rattle.std.proofs.Common.{[], inl, inr, refl, Ok, Err}
 use Rattle.std.proofs.KnownBytes.{Keeps-refl}
 use Rattle.cdb_tool.specs.Views.Output.{output_bytes}
+use Rattle.cdb.proofs.Explained.{none_said}
 use Rattle.cdb.proofs.steps.answer.Goals as goal
 
 pub returns-in-Err-clause-runs : goal.returns-in-Err-clause-runs
@@ -24,6 +25,8 @@ returns-in-Ok-performed-clause-runs g c = inr (record {
   does = rw c.in-Ok-performed.is at c.perform-left.ensures.does;
   silent = c.perform-left.ensures.silent;
   same = c.perform-left.ensures.same;
+  more = [];
+  explains = none_said c.args.explains _ _ _ _;
   says = Keeps-refl _;
   is_status = refl;
 })
@@ -37,6 +40,8 @@ returns-clause-runs g c = inr (record {
   does = rw c.in-Err-performed.is at c.perform-left.ensures.does;
   silent = c.perform-left.ensures.silent;
   same = c.perform-left.ensures.same;
-  says = c.tell.ensures;
+  more = c.cause_of-more.result.items;
+  explains = c.cause_of-more.ensures;
+  says = rw c.as_slice.ensures.value at c.tell.ensures;
   is_status = c.status_of.ensures;
 })

@@ -1,0 +1,92 @@
+// The line that says which file a fault is of, and why.
+ghost use Rattle.std.specs.Prelude.{◌≡◌, ◌++◌, ◌<◌, IfOk, OnOk, codes, true};
+ghost use Rattle.cdb.specs.Causes.{IsAddedTo, IsCauseLine, digit, is_control, reason_name, shown, shown_byte};
+
+use crate::causes::{Reason, Told};
+use crate::system_words::system_words;
+use itoa::Buffer;
+use std::alloc::{AllocError, Global};
+
+/// The digit of a number below 16.
+fn digit(n: u8) -> u8
+    requires { n < 16 }
+    ensures { result ≡ digit n }
+{
+    if n < 10 { n + 48 } else { n + 87 }
+}
+
+/// Whether a byte could end the line or command a terminal.
+fn is_control(byte: u8) -> bool
+    ensures { result ≡ is_control byte }
+{
+    byte < 32 || byte == 127
+}
+
+/// Adds a byte of a name.
+fn push_shown(line: &mut Vec<u8>, byte: u8) -> Result<(), AllocError>
+    ensures { OnOk result (line.new.items ≡ line.old.items ++ shown_byte byte) }
+{
+    if is_control(byte) {
+        line.extend_from_slice(b"\\x")?;
+        return line.extend_from_slice(&[digit(byte / 16), digit(byte % 16)]);
+    }
+    Ok(line.push(byte)?)
+}
+
+/// Adds a name.
+fn push_name(line: &mut Vec<u8>, name: &[u8]) -> Result<(), AllocError>
+    ensures { OnOk result (line.new.items ≡ line.old.items ++ shown name.now) }
+{
+    for byte in name {
+        push_shown(line, *byte)?;
+    }
+    Ok(())
+}
+
+/// Adds the name of a reason's file.
+fn push_whole(line: &mut Vec<u8>, reason: &Reason<'_>) -> Result<(), AllocError>
+    ensures { OnOk result (line.new.items ≡ line.old.items ++ shown (reason_name reason.now)) }
+{
+    push_name(line, reason.name.as_bytes())?;
+    if reason.is_temporary {
+        push_name(line, b".tmp")?;
+    }
+    Ok(())
+}
+
+/// Adds what is said of a file.
+fn push_told(line: &mut Vec<u8>, told: Told) -> Result<(), AllocError>
+    ensures { OnOk result (IsAddedTo line.old.items line.new.items) }
+{
+    let mut digits = Buffer::new();
+    let (what, words) = match told {
+        Told::Name => ("", ""),
+        Told::Words(words) => ("", words),
+        Told::Error(number) => match system_words(number) {
+            Some(words) => ("", words),
+            None => ("error ", digits.format(number)),
+        },
+        Told::Line(number) => ("line ", digits.format(number)),
+    };
+    line.extend_from_slice(what.as_bytes())?;
+    line.extend_from_slice(words.as_bytes())
+}
+
+/// Whether a name and what is said of it are apart.
+fn is_between(reason: &Reason<'_>) -> bool {
+    !reason.name.is_empty() && !matches!(reason.told, Told::Name)
+}
+
+/// The line of a reason, with its newline.
+pub(crate) fn cause_line(alloc: Global, reason: &Reason<'_>) -> Result<Vec<u8>, AllocError>
+    ensures { IfOk result (λ line. IsCauseLine (reason_name reason.now) line.items) }
+{
+    let mut line = Vec::new(alloc);
+    line.extend_from_slice(b"cdb: ")?;
+    push_whole(&mut line, reason)?;
+    let between: &[u8] = if is_between(reason) { b": " } else { b"" };
+    line.extend_from_slice(between)?;
+    push_told(&mut line, reason.told)?;
+    line.push(b'\n')?;
+    Ok(line)
+}

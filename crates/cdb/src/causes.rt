@@ -1,0 +1,360 @@
+// The cause of a fault: which file, and why.
+ghost use Rattle.std.specs.Prelude.{◌≡◌, ◌⊎◌, IfSome, codes, string_bytes};
+ghost use Rattle.cdb_tool.specs.Command.{asked_in};
+ghost use Rattle.cdb.specs.Causes.{IsCause, IsMadeName, IsNoNameOf, IsOfDatabase, IsRefused};
+ghost use Rattle.cdb.specs.Causes.{new_name, read_name, reason_name};
+
+use crate::left::Left;
+use crate::system::System;
+use cdb_files::{Cause, Names, Refusal};
+use cdb_form::{TextFault, WalkFault};
+use cdb_make::MakeFault;
+use cdb_read::ReadFault;
+use cdb_store::Store;
+use cdb_tool::{Command, Fault};
+use std::io::Read;
+
+/// What is said of a file.
+#[derive(Clone, Copy)]
+pub(crate) enum Told {
+    /// Its name alone.
+    Name,
+    /// What was found.
+    Words(&'static str),
+    /// The system's error of this number.
+    Error(i32),
+    /// The line at which it was left.
+    Line(u64),
+}
+
+/// Which file a fault is of, and why.
+#[derive(Clone, Copy)]
+pub(crate) struct Reason<'a> {
+    /// The name of the file, but for `.tmp` after it. It is empty if the name itself is.
+    pub(crate) name: &'a str,
+    /// Whether `.tmp` stands after it.
+    pub(crate) is_temporary: bool,
+    /// Why.
+    pub(crate) told: Told,
+}
+
+/// The name of standard input in what is said of it.
+const STANDARD_INPUT: &str = "standard input";
+
+/// The name of standard output.
+const STANDARD_OUTPUT: &str = "standard output";
+
+/// The name of standard error, on which the lines of duplicates are written.
+const STANDARD_ERROR: &str = "standard error";
+
+/// The reason of a file of a whole name.
+fn of_name(name: &str, told: Told) -> Reason<'_>
+    ensures { reason_name result ≡ name.now }
+{
+    Reason {
+        name,
+        is_temporary: false,
+        told,
+    }
+}
+
+/// What is said of a call that failed with an error of this number, if the system gave one.
+fn of_number(number: Option<i32>) -> Told {
+    match number {
+        Some(number) => Told::Error(number),
+        None => Told::Name,
+    }
+}
+
+/// What is said of a name that was refused since its file is that of another name too: of the database, of
+/// the base, or of an input.
+fn of_same(command: &Command, refused: &str, other: &str) -> Told {
+    let Command::Create { name, base, .. } = command else {
+        return Told::Name;
+    };
+    if name.as_str() == other && name.as_str() != refused {
+        return Told::Words("is the database");
+    }
+    match base {
+        Some(base) if base.as_str() == other => Told::Words("is the base"),
+        _ => Told::Words("is an input"),
+    }
+}
+
+/// What is said of a name that was refused.
+fn of_refusal<'a>(command: &Command, refusal: &'a Refusal) -> Reason<'a>
+    ensures { reason_name result ≡ string_bytes refusal.now.name }
+{
+    let told = match refusal.cause {
+        Cause::System(number) => Told::Error(number),
+        Cause::Failed => Told::Name,
+        Cause::Held => Told::Words("another create is at work on it"),
+        Cause::Link => Told::Words("is a link"),
+        Cause::Special => Told::Words("is no regular file"),
+        Cause::NoPlaces => Told::Words("a pipe or a device has no places"),
+        Cause::Same => of_same(command, refusal.name.as_str(), refusal.other.as_str()),
+        Cause::Input => Told::Words("is an input"),
+        Cause::Replaced => Told::Words("its temporary file was replaced"),
+        Cause::Bits => Told::Words("does not get its permissions"),
+        Cause::Closed => Told::Words("a standard stream is closed"),
+    };
+    of_name(refusal.name.as_str(), told)
+}
+
+/// What is said of the name of a create on which no call was made.
+fn of_no_name(command: &Command) -> Option<Reason<'_>>
+    ensures { IfSome result (λ r. IsNoNameOf (asked_in command.now) (reason_name r)) }
+{
+    let Command::Create { name, .. } = command else {
+        return None;
+    };
+    let told = match name.as_bytes().last() {
+        None => Told::Words("the name is empty"),
+        Some(b'/') => Told::Words("the name ends in a slash"),
+        Some(_) => return None,
+    };
+    Some(of_name(name.as_str(), told))
+}
+
+/// What is said of a name that was refused, if one was.
+fn of_refusals<'a, F, J, M, Y, N>(
+    command: &'a Command,
+    system: &'a Y,
+    names: &'a N,
+) -> Option<Reason<'a>>
+where
+    F: Store,
+    J: Read,
+    M: Store,
+    Y: System<F, J, M>,
+    N: Names,
+    ensures { IfSome result (λ r. IsRefused (Y.calls system.now) (N.calls names.now) (reason_name r)) }
+{
+    if let Some(refusal) = system.refusal() {
+        return Some(of_refusal(command, refusal));
+    }
+    if let Some(refusal) = names.refusal() {
+        return Some(of_refusal(command, refusal));
+    }
+    None
+}
+
+/// What a command reads: its database, the base of a create, or standard input.
+fn read_name(command: &Command) -> &str
+    ensures { result.now ≡ read_name (asked_in command.now) }
+{
+    match command {
+        Command::Query { name, .. } => name.as_str(),
+        Command::Dump { name, .. }
+        | Command::List { name, .. }
+        | Command::Stats { name, .. }
+        | Command::Check { name, .. } => match name {
+            Some(name) => name.as_str(),
+            None => STANDARD_INPUT,
+        },
+        Command::Create { name, base, .. } => match base {
+            Some(base) => base.as_str(),
+            None => name.as_str(),
+        },
+        Command::Difference { old, .. } => old.as_str(),
+        Command::Help => "",
+    }
+}
+
+/// The new one of two databases.
+fn new_name(command: &Command) -> &str
+    ensures { result.now ≡ new_name (asked_in command.now) }
+{
+    match command {
+        Command::Difference { new, .. } => new.as_str(),
+        _ => "",
+    }
+}
+
+/// What is said of a database that was not read: that its file failed, or its name.
+fn of_unread(name: &str, fault: ReadFault, number: Option<i32>) -> Option<Reason<'_>>
+    ensures { IfSome result (λ r. reason_name r ≡ name.now) }
+{
+    match fault {
+        ReadFault::Device => Some(of_name(name, of_number(number))),
+        ReadFault::NoMemory | ReadFault::Output => None,
+        _ => Some(of_name(name, Told::Name)),
+    }
+}
+
+/// The number of the error of the last call that failed on a file that was read.
+fn read_number<F, J, M, Y>(system: &Y, file: &Option<F>) -> Option<i32>
+where
+    F: Store,
+    J: Read,
+    M: Store,
+    Y: System<F, J, M>,
+{
+    match file {
+        Some(file) => system.store_error(file),
+        None => None,
+    }
+}
+
+/// Whether the input of this number, counted from 1, is standard input, and the first one that is.
+fn is_first_standard(inputs: &[String], number: u64) -> bool {
+    let mut at = 0u64;
+    for input in inputs {
+        at = at.saturating_add(1);
+        if input.as_str() == "-" {
+            return at == number;
+        }
+    }
+    false
+}
+
+/// The name of an input, counted from 1, and whether its first byte is the first that was read of it.
+fn input_of(command: &Command, number: u64) -> (&str, bool) {
+    let Command::Create { inputs, .. } = command else {
+        return ("", false);
+    };
+    let mut at = 0u64;
+    for input in inputs {
+        at = at.saturating_add(1);
+        if at == number && input.as_str() != "-" {
+            return (input.as_str(), true);
+        }
+    }
+    let is_first = inputs.is_empty() || is_first_standard(inputs.as_slice(), number);
+    (STANDARD_INPUT, is_first)
+}
+
+/// What is said of an input whose text was not read.
+fn of_text<'a, F, J, M, Y>(
+    command: &'a Command,
+    number: u64,
+    fault: TextFault,
+    system: &Y,
+) -> Reason<'a>
+where
+    F: Store,
+    J: Read,
+    M: Store,
+    Y: System<F, J, M>,
+{
+    let (name, is_first) = input_of(command, number);
+    let told = match fault.place() {
+        Some(at) if is_first => Told::Line(system.line_at(at)),
+        Some(_) => Told::Name,
+        None if fault == TextFault::Input => of_number(system.read_error()),
+        None => Told::Name,
+    };
+    of_name(name, told)
+}
+
+/// What is said of a database that was not made, since its file failed.
+fn of_made<'a, F, J, M, Y, N>(
+    command: &'a Command,
+    system: &Y,
+    names: &N,
+    left: &Left<F, M>,
+) -> Option<Reason<'a>>
+where
+    F: Store,
+    J: Read,
+    M: Store,
+    Y: System<F, J, M>,
+    N: Names,
+    ensures { IfSome result (λ r. IsMadeName (asked_in command.now) (reason_name r)) }
+{
+    let Command::Create {
+        name,
+        temporary,
+        ..
+    } = command
+    else {
+        return None;
+    };
+    if let Some(made) = &left.made {
+        return Some(of_name(name.as_str(), of_number(system.made_error(made))));
+    }
+    let told = of_number(names.file_error());
+    match temporary {
+        Some(temporary) => Some(of_name(temporary.as_str(), told)),
+        None => Some(Reason {
+            name: name.as_str(),
+            is_temporary: true,
+            told,
+        }),
+    }
+}
+
+/// Which file a fault is of, and why, if it is of a file.
+pub(crate) fn reason_of<'a, F, J, M, Y, N>(
+    command: &'a Command,
+    fault: &Fault,
+    system: &'a Y,
+    names: &'a N,
+    left: &Left<F, M>,
+) -> Option<Reason<'a>>
+where
+    F: Store,
+    J: Read,
+    M: Store,
+    Y: System<F, J, M>,
+    N: Names,
+    ensures { IfSome result (λ r. IsCause (asked_in command.now) fault.now (Y.calls system.now)
+        (N.calls names.now) (reason_name r)) }
+{
+    match *fault {
+        Fault::Open => match of_refusals::<F, J, M, Y, N>(command, system, names) {
+            Some(reason) => Some(reason),
+            None => of_no_name(command),
+        },
+        Fault::Rename | Fault::NoMemory => { of_refusals::<F, J, M, Y, N>(command, system, names) }
+        Fault::Text(number, fault) => {
+            Some(of_text::<F, J, M, Y>(command, number, fault, system))
+        }
+        Fault::Make(MakeFault::Writing) | Fault::Make(MakeFault::Lookup) => {
+            of_made::<F, J, M, Y, N>(command, system, names, left)
+        }
+        Fault::Walk(WalkFault::Input) => {
+            let told = of_number(system.read_error());
+            Some(of_name(read_name(command), told))
+        }
+        Fault::Output => {
+            let told = of_number(system.write_error());
+            let name = if system.has_failed_on_errors() {
+                STANDARD_ERROR
+            } else {
+                STANDARD_OUTPUT
+            };
+            Some(of_name(name, told))
+        }
+        _ => of_database::<F, J, M, Y>(command, fault, system, left),
+    }
+}
+
+/// Which database a fault is of, and why, if it is of one that is read.
+fn of_database<'a, F, J, M, Y>(
+    command: &'a Command,
+    fault: &Fault,
+    system: &Y,
+    left: &Left<F, M>,
+) -> Option<Reason<'a>>
+where
+    F: Store,
+    J: Read,
+    M: Store,
+    Y: System<F, J, M>,
+    ensures { IfSome result (λ r. IsOfDatabase (asked_in command.now) fault.now (reason_name r)) }
+{
+    match *fault {
+        Fault::Read(fault) | Fault::Old(fault) => {
+            let number = read_number::<F, J, M, Y>(system, &left.read);
+            of_unread(read_name(command), fault, number)
+        }
+        Fault::New(fault) => {
+            let number = read_number::<F, J, M, Y>(system, &left.other);
+            of_unread(new_name(command), fault, number)
+        }
+        Fault::Walk(_) | Fault::NoOldTables => Some(of_name(read_name(command), Told::Name)),
+        Fault::NoNewTables => Some(of_name(new_name(command), Told::Name)),
+        _ => None,
+    }
+}
