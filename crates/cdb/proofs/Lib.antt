@@ -2,5 +2,9 @@ mod Databases
 mod Opens
 mod Oracles
 mod Replaced
+mod CreateReads
+mod CreateEnds
+mod CreateApart
+mod CreatePlaced
 mod Creates
 mod RunCreates
