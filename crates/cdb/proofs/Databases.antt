@@ -8,7 +8,7 @@ use Rattle.cdb_command.specs.declared.usage.Usage.{Usage}
 use Rattle.cdb_files.specs.Folder.{NameCalls}
 use Rattle.cdb_files.specs.Replacing.{Tells}
 use Rattle.cdb_files.specs.declared.replace.ReplaceFault.{ReplaceFault}
-use Rattle.cdb_form.specs.Views.KnownBytes.{AppendsPrefix, Writes}
+use Rattle.cdb_form.specs.Views.KnownBytes.{Writes}
 use Rattle.cdb_store.specs.declared.raw.RawFile.{Ghosts as Raw}
 use Rattle.cdb_store.specs.declared.store.Store.{Ghosts}
 use Rattle.cdb_make.specs.Views.Maker.{WhereHonest}
@@ -16,7 +16,7 @@ use Rattle.cdb_tool.specs.Message.{fault_line}
 use Rattle.cdb_tool.specs.Runs.Make.{HandsBack, OfBase, Makes}
 use Rattle.cdb_tool.specs.Runs.Make as run
 use Rattle.cdb_tool.specs.declared.fault.Fault.{Fault}
-use Rattle.cdb_tool.proofs.WholeRuns.{prefix_kept, whole_prefix}
+use Rattle.cdb_tool.proofs.WholeRuns.{prefix_kept}
 use Rattle.cdb.specs.Creating.{Making, HasDatabase, IsBufferedRun, IsDatabase, IsRun, Syncs}
 use Rattle.cdb.specs.Performs.{Says, SaysLine, Runs, usage_line}
 use Rattle.cdb.specs.declared.left.Left.{Left}

@@ -3,5 +3,9 @@ mod Opens
 mod Oracles
 mod Explained
 mod Replaced
+mod CreateReads
+mod CreateEnds
+mod CreateApart
+mod CreatePlaced
 mod Creates
 mod RunCreates

@@ -1,5 +1,5 @@
 -- A create in a temporary file comes to what the function of its bytes says.
-use Rattle.std.proofs.Common.{ℕ, Bool, true, false, ◌+◌, ◌≢◌, ◌⊎◌, List, [], ◌∷◌, ◌++◌, length, take, Option, Some, None, Result, Ok, Err, ◌≡◌, ◌∙◌, ap, inl, inr, refl, subst, sym, arith, append-nil, bytes_eq}
+use Rattle.std.proofs.Common.{ℕ, true, false, ◌+◌, ◌≢◌, ◌⊎◌, List, [], ◌∷◌, ◌++◌, take, Option, Some, None, Result, Ok, Err, ◌≡◌, ◌∙◌, ap, inl, inr, refl, subst, sym, arith, append-nil, bytes_eq}
 use Rattle.std.specs.Prelude.{OnOk, IfErr, ⊤}
 use Rattle.std.specs.List.{AllByRecursion}
 use Rattle.std.proofs.lemmas.Bool.{false_from_ne_true}
@@ -7,21 +7,19 @@ use Rattle.std.proofs.lemmas.List.{append_cancel_right}
 use Rattle.std.proofs.lemmas.Slice.Eq.{bytes_eq-Decides}
 use Rattle.std.specs.Io.KnownBytes.{Appends, Keeps}
 use Rattle.std.proofs.KnownBytes.{Keeps-refl}
-use Rattle.cdb_files.specs.Folder.{Has, IsCleared, LeavesFile, MayHave, NameCalls, AreApart}
-use Rattle.cdb_files.specs.Replacing.{Answers, AreOfReplacing, AtEach, AtEachMoment, ClearsFile, HasCleared, IsNew, IsOfReplacing, IsReady, IsRenamed, LeavesOldOrNew, NameEvent, RenamesFile, Tells, TellsOfFile, TellsOfNone, StopsUnbuilt, renames}
+use Rattle.cdb_files.specs.Folder.{Has, LeavesFile, MayHave, NameCalls}
+use Rattle.cdb_files.specs.Replacing.{Answers, AreOfReplacing, AtEach, ClearsFile, HasCleared, IsNew, IsOfReplacing, IsReady, IsRenamed, LeavesOldOrNew, NameEvent, Tells, TellsOfFile, StopsUnbuilt, renames}
 use Rattle.cdb_files.specs.declared.name_trace.NameCall.{NameCall}
 use Rattle.cdb_files.specs.declared.name_trace.NameCall.TheVariants.{NotRemoved, NotRenamed, NotSynced, Removed, Renamed, Synced}
 use Rattle.cdb_files.specs.declared.name_trace.NameCall.TheVariants as name_call
 use Rattle.cdb_files.specs.declared.replace.ReplaceFault.{ReplaceFault}
 use Rattle.cdb_files.specs.declared.replace.ReplaceFault.TheVariants as replace
 use Rattle.cdb_form.specs.Views.KnownBytes.{AppendsPrefix}
-use Rattle.cdb_form.specs.Format.File.{file_bytes}
-use Rattle.cdb_store.specs.Calls.{Agrees, Calls, FileImage, lost, IsSynced}
+use Rattle.cdb_store.specs.Calls.{Calls, FileImage, IsSynced}
 use Rattle.cdb_store.specs.FileStore.{calls_of, images_of}
 use Rattle.cdb_store.specs.declared.file.FileStore.{FileStore}
 use Rattle.cdb_store.specs.declared.raw.RawFile.{Ghosts as Raw}
 use Rattle.cdb_store.specs.declared.store.Store.{Ghosts}
-use Rattle.cdb_make.specs.declared.fault.MakeFault.TheVariants as make
 use Rattle.cdb_tool.specs.Runs.Make.{OfBase}
 use Rattle.cdb_tool.specs.Runs.Make as run
 use Rattle.cdb_tool.specs.declared.fault.Fault.{Fault}

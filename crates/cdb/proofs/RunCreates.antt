@@ -1,39 +1,37 @@
 -- A run whose words ask for a create comes to what the oracle says.
-use Rattle.std.proofs.Common.{ℕ, Bool, true, false, ◌⊎◌, List, [], ◌∷◌, ◌++◌, map, Option, Some, None, Result, Ok, Err, ◌≡◌, ◌∙◌, ap, inl, inr, refl, subst, sym, append-nil, option_map, arith, string_bytes}
+use Rattle.std.proofs.Common.{ℕ, Bool, true, false, ◌⊎◌, List, [], ◌++◌, Option, Result, Ok, Err, ◌≡◌, ◌∙◌, ap, inl, inr, refl, subst, sym, append-nil, option_map, arith, string_bytes}
 use Rattle.std.specs.Prelude.{OnOk}
 use Rattle.std.specs.Io.KnownBytes.{Appends, Keeps}
 use Rattle.std.proofs.KnownBytes.{Appends-kept, Keeps-refl, Keeps-trans}
 use Rattle.cdb_form.proofs.Bytes.WritingLemmas.{appends_then}
-use Rattle.cdb_form.specs.Views.KnownBytes.{AppendsPrefix}
 use Rattle.cdb_command.specs.Asked.{Asked, asked_in, has_wide_words}
 use Rattle.cdb_command.specs.Asked as asked
 use Rattle.cdb_command.specs.declared.command.Command.{Command}
 use Rattle.cdb_command.specs.declared.command.Command.TheVariants as command
 use Rattle.cdb_command.specs.declared.options.MakeOptions.{MakeOptions}
 use Rattle.cdb_command.specs.declared.usage.Usage.{Usage}
-use Rattle.cdb_command.specs.declared.usage.Usage.TheVariants as usage
-use Rattle.cdb_files.specs.Folder.{Has, MayHave, NameCalls}
-use Rattle.cdb_files.specs.Replacing.{AtEach}
-use Rattle.cdb_files.specs.declared.name_trace.NameCall.TheVariants.{Made, Removed, NotRemoved, Renamed, NotRenamed, Synced}
+use Rattle.cdb_files.specs.Folder.{NameCalls}
 use Rattle.cdb_store.specs.declared.raw.RawFile.{Ghosts as Raw}
 use Rattle.cdb_store.specs.declared.store.Store.{Ghosts}
 use Rattle.cdb_tool.specs.Message.{fault_line}
 use Rattle.cdb_tool.specs.Status.{plain_status}
 use Rattle.cdb_tool.specs.declared.fault.Fault.{Fault}
-use Rattle.cdb_tool.specs.declared.fault.Fault.TheVariants.{Missing, NoMemory, Output}
-use Rattle.cdb.specs.Created.{Created, create_of, created_ending, is_in_place, is_no_name, is_standard}
-use Rattle.cdb.specs.Creating.{Creates, temporary_of}
+use Rattle.cdb_tool.specs.declared.fault.Fault.TheVariants.{Missing, NoMemory}
+use Rattle.cdb.specs.Created.{Created, create_of}
+use Rattle.cdb.specs.Creating.{Creates}
 use Rattle.cdb.specs.Foretold.{IsTaken}
 use Rattle.cdb.specs.ForetoldCreate.{CreateHolds, HonestCreate, IsCreateForetold, IsCreateRefusal, IsCreated, IsGivenUp, passing}
 use Rattle.cdb.specs.Oracle.{Disk, ended, greatest_size, word_size}
-use Rattle.cdb.specs.Performs.{HandsOn, PerformsIn, Runs, SaysLine, status_of, usage_line, usage_status}
+use Rattle.cdb.specs.Performs.{PerformsIn, Runs, SaysLine, status_of, usage_line, usage_status}
 use Rattle.cdb.specs.declared.left.Left.{Left}
 use Rattle.cdb.specs.declared.system.System.{Ghosts as Systems}
 use Rattle.cdb_tool.specs.Views.Output.{HasHandedOn, OutputFailed, held_by, output_bytes}
 use Rattle.cdb_tool.specs.declared.output.Output.{Output as Writer}
 use Rattle.cdb_tool.proofs.WholeRuns.{prefix_kept}
 use Rattle.cdb.proofs.Explained.{SaysOnly, says_only}
-use Rattle.cdb.proofs.Creates.{Came, asking_none, creates_so, moments_first}
+use Rattle.cdb.proofs.CreateEnds.{Came}
+use Rattle.cdb.proofs.CreateReads.{asking_none, moments_first}
+use Rattle.cdb.proofs.Creates.{creates_so}
 use Rattle.cdb.proofs.Oracles.{all_taken, handed_all}
 use Rattle.cdb.proofs.Replaced.{said_nothing}
 

@@ -1,6 +1,6 @@
 -- What the oracle says of worked creates.
 use Rattle.std.specs.Fmt.{digits}
-use Rattle.std.specs.Prelude.{ℕ, ◌≡◌, true, false, bytes_eq, if◌then◌else◌, List, [], ◌∷◌, ◌++◌}
+use Rattle.std.specs.Prelude.{ℕ, ◌≡◌, true, false, bytes_eq, if◌then◌else◌, List, [], ◌∷◌}
 use Rattle.std.specs.Prelude.{length, codes, Option, None, Some, Ok, refl}
 use Rattle.cdb_command.specs.Asked.{Create}
 use Rattle.cdb_command.specs.declared.options.MakeOptions.{MakeOptions}
@@ -8,7 +8,7 @@ use Rattle.cdb_command.specs.declared.style.Style.TheVariants.{Native}
 use Rattle.cdb_form.specs.Examples.WorkedFiles.{words_of, repeat, two_file}
 use Rattle.cdb_form.specs.Format.File.{file_bytes, file_pointers, pointers_from}
 use Rattle.cdb_form.specs.Format.Reading.{head_at}
-use Rattle.cdb_form.specs.Format.Record.{KeyValue, record_bytes, record_of}
+use Rattle.cdb_form.specs.Format.Record.{record_bytes, record_of}
 use Rattle.cdb_form.specs.Format.Table.{file_tables, table_slots, filled_slots, slots_with}
 use Rattle.cdb_form.specs.Format.Table.{table_entries, entries_from}
 use Rattle.cdb_form.specs.Format.Walk.{walk_of, walk_from, whole_records, record_end}

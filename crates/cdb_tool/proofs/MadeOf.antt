@@ -1,21 +1,19 @@
 -- A run that makes a database comes to what the function of its bytes says, or to a refusal.
-use Rattle.std.proofs.Common.{◌≡◌, ◌≢◌, ◌⊎◌, ◌+◌, ◌<◌, ◌≤◌, true, false, Bool, ℕ, inl, inr, List, [], ◌∷◌, ◌++◌, length, map, refl, sym, ap, subst, ◌∙◌, arith, append_assoc, append-nil, Option, Some, None, Result, Ok, Err, is_some, flat_map, IfSome, nat_lt, if◌then◌else◌}
-use Rattle.std.specs.Prelude.{⊤, OnOk, IfErr, option_map, fold}
+use Rattle.std.proofs.Common.{◌≡◌, ◌+◌, ◌<◌, ◌≤◌, true, false, Bool, ℕ, inl, inr, List, [], ◌∷◌, ◌++◌, length, map, refl, sym, ap, subst, ◌∙◌, arith, append_assoc, append-nil, Option, Some, None, Result, Ok, Err, is_some, flat_map, IfSome, nat_lt, if◌then◌else◌}
+use Rattle.std.specs.Prelude.{⊤, option_map, fold}
 use Rattle.std.proofs.lemmas.Bool.{cond-true, cond-false, lt-ltb, le-ltb}
 use Rattle.std.proofs.lemmas.List.{map-append}
 use Rattle.std.proofs.lemmas.List.Sums.{fold-append}
-use Rattle.std.proofs.KnownBytes.{Keeps-refl}
 use Rattle.std.specs.Io.KnownBytes.{Appends}
 use Rattle.cdb_command.specs.declared.options.MakeOptions.{MakeOptions}
-use Rattle.cdb_command.specs.declared.style.Style.{Style}
 use Rattle.cdb_command.specs.declared.style.Style.TheVariants.{Native, Map}
-use Rattle.cdb_form.specs.Format.File.{file_size, file_bytes}
+use Rattle.cdb_form.specs.Format.File.{file_size}
 use Rattle.cdb_form.specs.Format.Record.{KeyValue, AreBytes}
 use Rattle.cdb_form.specs.Format.Walk.{Walked, walk_of}
 use Rattle.cdb_form.specs.Text.Amending.{Change, Putting, Removing, SpellsChange}
 use Rattle.cdb_form.specs.Text.Map.{map_lines}
 use Rattle.cdb_form.specs.Text.Native.{Spells}
-use Rattle.cdb_form.specs.Text.Parse.{Parsed, parse}
+use Rattle.cdb_form.specs.Text.Parse.{Parsed}
 use Rattle.cdb_form.specs.Views.KnownBytes.{AppendsPrefix, FromTo}
 use Rattle.cdb_form.specs.Text.Form.{Spelled}
 use Rattle.cdb_form.specs.Text.Map.{Lacks, is_newline, line_records, with_newlines}
@@ -29,24 +27,21 @@ use Rattle.cdb_form.specs.declared.damage.Damage.{Damage}
 use Rattle.cdb_form.specs.declared.text.fault.TextFault.{TextFault}
 use Rattle.cdb_form.specs.declared.text.fault.TextFault.TheVariants as text
 use Rattle.cdb_form.proofs.NativeTexts.Parsing.{native_is, native_fault_is, native_begins, amending_is, amending_fault_is, amending_begins, bytes_left}
-use Rattle.cdb_make.specs.Views.Maker.{IsFile}
-use Rattle.cdb_make.specs.declared.fault.MakeFault.{MakeFault}
 use Rattle.cdb_make.specs.declared.fault.MakeFault.TheVariants as make
 use Rattle.cdb_read.specs.Views.ReadFault.{damage_fault}
 use Rattle.cdb_read.specs.declared.fault.ReadFault.{ReadFault}
 use Rattle.cdb_read.specs.declared.fault.ReadFault.TheVariants as read
 use Rattle.cdb_tool.specs.Runs.Base.{NotAdded}
-use Rattle.cdb_tool.specs.Runs.Course.{Course, Task, Incoming, task_of, from_input, from_inputs, with_put, with_change, with_next, is_going, at_start, course_of, said, mode_of, Goes, StopsSo}
+use Rattle.cdb_tool.specs.Runs.Course.{Course, Task, Incoming, task_of, from_input, from_inputs, with_change, with_next, is_going, at_start, course_of, said, mode_of, StopsSo}
 use Rattle.cdb_make.specs.Survivors.{put_result}
 use Rattle.cdb_tool.specs.Runs.Inputs.{InputForm, Puts, Changes, input_form, OneInput, InputsLeft, IsInputOf, BeginsWithItems, HasItemFault, ReadsOne, ReadsFirst, AreInputs, AreAllInputs, OneBegins, FirstBegins, FirstHas, bytes_of}
 use Rattle.cdb_tool.specs.Runs.Inputs as form
 use Rattle.cdb_tool.specs.Runs.Make.{records_of, IsSomeBase, Makes, MakesDatabase, MeetsInput, Stops, BaseStops, InputsStop, RunFails, Runs, came}
 use Rattle.cdb_tool.specs.Runs.Make as make_run
-use Rattle.cdb_tool.specs.Runs.MakesSo.{one_input, KnownFor, EachOfBytes, Known, MakesSo, IsMakeRefusal, MakeRefused, ComesOf}
+use Rattle.cdb_tool.specs.Runs.MakesSo.{one_input, KnownFor, Known, MakesSo, IsMakeRefusal, ComesOf}
 use Rattle.cdb_tool.specs.Runs.Made.{input_parsed, Given, with_input, given_from, Made, ended_by, made_from, walk_fault, base_fault, unless_stopped, made_of}
 use Rattle.cdb_tool.specs.declared.fault.Fault.{Fault}
 use Rattle.cdb_tool.specs.declared.fault.Fault.TheVariants.{Text, Make, Duplicate, Missing, Read, Walk, Output, Long, Open, Rename, NoMemory, Old, New, NoOldTables, NoNewTables}
-use Rattle.cdb_tool.proofs.Courses.{came_none}
 
 -- ---- an input
 

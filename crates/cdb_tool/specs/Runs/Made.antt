@@ -1,17 +1,11 @@
 -- What a run that makes a database comes to, if nothing is refused: a function of its options and of the
 -- bytes that it reads.
-use Rattle.std.specs.Prelude.{ℕ, ◌+◌, ◌≡◌, ◌⊎◌, ⊤, nat_lt, map, OnOk, if◌then◌else◌, List, [], ◌∷◌, Option, None, Some}
+use Rattle.std.specs.Prelude.{ℕ, ◌+◌, nat_lt, if◌then◌else◌, List, [], ◌∷◌, Option, None, Some}
 use Rattle.std.specs.Prelude.{option_map, is_some, Result, Ok, Err, false, true}
-use Rattle.std.specs.Io.KnownBytes.{Appends}
 use Rattle.cdb_command.specs.declared.options.MakeOptions.{MakeOptions}
 use Rattle.cdb_command.specs.declared.style.Style.TheVariants.{Native, Map}
 use Rattle.cdb_form.specs.Format.File.{file_size, file_bytes}
-use Rattle.cdb_form.specs.Format.Record.{KeyValue, AreBytes}
-use Rattle.cdb_form.specs.Views.KnownBytes.{AppendsPrefix}
-use Rattle.cdb_form.specs.declared.text.fault.TextFault.TheVariants as text
-use Rattle.cdb_make.specs.Views.Maker.{IsFile}
-use Rattle.cdb_make.specs.declared.fault.MakeFault.TheVariants as make
-use Rattle.cdb_read.specs.declared.fault.ReadFault.TheVariants as read
+use Rattle.cdb_form.specs.Format.Record.{KeyValue}
 use Rattle.cdb_form.specs.Format.Walk.{Walked, walk_of}
 use Rattle.cdb_form.specs.Text.Amending.{Change}
 use Rattle.cdb_form.specs.Text.Parse.{Parsed, parse, parse_map}
@@ -19,11 +13,10 @@ use Rattle.cdb_form.specs.declared.text.fault.TextFault.{TextFault}
 use Rattle.cdb_make.specs.declared.fault.MakeFault.TheVariants.{TooBig}
 use Rattle.cdb_read.specs.Views.ReadFault.{damage_fault}
 use Rattle.cdb_tool.specs.Runs.Course.{Task, task_of, from_inputs, course_of}
-use Rattle.cdb_tool.specs.Runs.Inputs.{InputForm, Puts, Changes, input_form, OneInput, InputsLeft}
-use Rattle.cdb_tool.specs.Runs.Inputs as form
+use Rattle.cdb_tool.specs.Runs.Inputs.{InputForm, Puts, Changes, input_form}
 use Rattle.cdb_tool.specs.Runs.Make.{records_of}
 use Rattle.cdb_tool.specs.declared.fault.Fault.{Fault}
-use Rattle.cdb_tool.specs.declared.fault.Fault.TheVariants.{Text, Make, Read, Output, NoMemory}
+use Rattle.cdb_tool.specs.declared.fault.Fault.TheVariants.{Text, Make, Read}
 
 -- ---- the inputs
 

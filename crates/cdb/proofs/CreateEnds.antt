@@ -1,0 +1,319 @@
+-- What a create comes to that makes nothing, and what each name has then.
+use Rattle.std.proofs.Common.{ℕ, Bool, true, false, ◌||◌, ◌≢◌, ◌⊎◌, List, [], ◌∷◌, ◌++◌, Option, Some, None, Result, Ok, Err, ◌≡◌, ◌∙◌, ap, inl, inr, refl, subst, sym, append_assoc, length, length-append, arith, bytes_eq, option_map, codes}
+use Rattle.std.specs.Prelude.{OnOk}
+use Rattle.std.specs.List.{AllByRecursion}
+use Rattle.std.proofs.lemmas.Bool.{cond-true, cond-false, false_from_ne_true, or_from, or_left, or_parts, or_right}
+use Rattle.std.proofs.lemmas.List.{append_cancel_right}
+use Rattle.std.proofs.lemmas.Slice.Eq.{bytes_eq-Decides}
+use Rattle.std.specs.Io.KnownBytes.{Appends, Keeps}
+use Rattle.cdb_command.specs.declared.options.MakeOptions.{MakeOptions}
+use Rattle.cdb_files.specs.Folder.{Has, MayHave, NameCalls}
+use Rattle.cdb_files.specs.Replacing.{AtEach, AtEachMoment}
+use Rattle.cdb_files.specs.declared.answer.Answer.TheVariants as looks
+use Rattle.cdb_files.specs.declared.answer.Answer.{Answer}
+use Rattle.cdb_files.specs.declared.name_fault.NameFault.{NameFault}
+use Rattle.cdb_files.specs.declared.name_fault.NameFault.TheVariants as why
+use Rattle.cdb_files.specs.declared.name_trace.NameCall.TheVariants as name_call
+use Rattle.cdb_form.specs.Views.KnownBytes.{AppendsPrefix}
+use Rattle.cdb_store.specs.declared.raw.RawFile.{Ghosts as Raw}
+use Rattle.cdb_store.specs.declared.store.Store.{Ghosts}
+use Rattle.cdb_tool.specs.Runs.Inputs.{InputsLeft}
+use Rattle.cdb_tool.specs.Runs.Make.{HandsBack}
+use Rattle.cdb_tool.specs.declared.fault.Fault.{Fault}
+use Rattle.cdb_tool.specs.declared.fault.Fault.TheVariants.{NoMemory, Open}
+use Rattle.cdb_tool.specs.Runs.Made.{Made, made_file, made_of}
+use Rattle.cdb.specs.Created.{Created, base_of, both, create_of, each_of, if_opened, in_temporary, input_of, inputs_of, is_base, is_in_place, is_input, is_no_name, in_place, is_read, is_standard, placed, unopened}
+use Rattle.cdb.specs.Creating.{AsksBase, AsksOne, FindsBase, FindsInput, FindsOne, Making, MayBeOne, NotOpened, Replaces, temporary_of}
+use Rattle.cdb.specs.Foretold.{IsAnswered, if_some}
+use Rattle.cdb.specs.ForetoldCreate.{HadBytes, HasBytes, HoldsAll, IsCreateRefusal, IsNoAlias, IsNoFailedRemoval, LeavesAll, passing, place_of}
+use Rattle.cdb.specs.Inputs.{inputs_read, IsStandard, MissesBase}
+use Rattle.cdb.specs.Opening.{OpenCalls, unopened as unopened_fault}
+use Rattle.cdb.specs.Oracle.{Disk}
+use Rattle.cdb.specs.declared.open_trace.OpenCall.TheVariants.{Unopened}
+use Rattle.cdb.specs.declared.system.System.{Ghosts as Systems}
+use Rattle.cdb.proofs.Replaced.{none_appended, said_nothing}
+use Rattle.cdb.proofs.CreateReads.{AllKnown, Asking, all_back, asked_kept, base_grows, grows, moments_first, read_input, standard_not}
+
+-- ---- the oracle
+
+-- it is made in its temporary file of all that is read
+pub oracle_is : {F : Type 0} (s : Ghosts F) (w g : ℕ) (disk : Disk) (input name : List ℕ) (base : Option (List ℕ)) (inputs : List (List ℕ)) (temporary : Option (List ℕ)) (o : MakeOptions) (read : Option F) (left : InputsLeft) → (k : AllKnown s disk base inputs input read left) → is_standard name ≡ false → is_in_place name temporary ≡ false → is_read (temporary_of name temporary) base inputs ≡ false → is_no_name name ≡ false
+    → (made : Made) → made ≡ made_of w g o k.old k.files input → create_of w g disk input name base inputs temporary o ≡ in_temporary disk (temporary_of name temporary) name made.lines (made_file w made) made.result
+oracle_is s w g disk input name base inputs temporary o read left k standard placed_in other named made is =
+    let f : Option (List ℕ) → List (Option (List ℕ)) → Created = λ old files. placed w disk name base inputs temporary (made_of w g o old files input) in
+    let m = made_of w g o k.old k.files input in
+    ap (λ x. if_opened disk (both f x (inputs_of disk inputs))) k.base_is
+    ∙ ap (λ x. if_opened disk (both f (Some k.old) x)) k.are
+    ∙ cond-false (is_standard name) _ _ standard
+    ∙ cond-false (is_in_place name temporary) _ _ placed_in
+    ∙ cond-false (is_read (temporary_of name temporary) base inputs || is_no_name name) _ _ (or_from _ _ other named)
+    ∙ ap (λ v. in_temporary disk (temporary_of name temporary) name v.lines (made_file w v) v.result) (sym is)
+
+-- what it says of the name
+pub name_holds : (disk : Disk) (temporary name lines file : List ℕ) (result : Result Unit Fault) → temporary ≢ name → result ≡ Ok tt → (in_temporary disk temporary name lines file result).disk name ≡ Some file
+name_holds disk temporary name lines file result apart e =
+    let other : bytes_eq name temporary ≡ false = false_from_ne_true (bytes_eq name temporary) (λ t. apart (sym ((bytes_eq-Decides name temporary).0 t))) in
+    ap (λ r. (in_temporary disk temporary name lines file r).disk name) e
+    ∙ cond-false (bytes_eq name temporary) _ _ other ∙ cond-true (bytes_eq name name) _ _ ((bytes_eq-Decides name name).1 refl)
+
+pub lines_of : (disk : Disk) (temporary name lines file : List ℕ) (result : Result Unit Fault) → (in_temporary disk temporary name lines file result).lines ≡ lines
+lines_of disk temporary name lines file (Ok done) = refl
+lines_of disk temporary name lines file (Err f) = refl
+
+pub result_of : (disk : Disk) (temporary name lines file : List ℕ) (result : Result Unit Fault) → (in_temporary disk temporary name lines file result).result ≡ result
+result_of disk temporary name lines file (Ok done) = refl
+result_of disk temporary name lines file (Err f) = refl
+
+-- ---- what comes of a create
+
+-- it came to what was said, or a refusal was reported
+pub record CameTrue (c : Created) (start end told said : Option (List ℕ)) (result : Result Unit Fault) : Type 0 where
+  pub is : result ≡ c.result
+  pub output : Appends start end c.output
+  pub lines : Appends told said c.lines
+
+pub record GaveUp (c : Created) (start end told said : Option (List ℕ)) (result : Result Unit Fault) : Type 0 where
+  pub fault : Fault
+  pub is : result ≡ Err fault
+  pub refusal : IsCreateRefusal fault
+  pub output : AppendsPrefix start end c.output
+  pub lines : AppendsPrefix told said c.lines
+
+-- and so did the disk
+abbrev pub Came : {M : Type 0} → Ghosts M → Disk → (name : List ℕ) → Created → NameCalls → Option M → (start end told said : Option (List ℕ)) → Result Unit Fault → Type 0
+Came m disk name c now made start end told said result =
+    (CameTrue c start end told said result × (AllByRecursion IsNoFailedRemoval now → HoldsAll m disk name made now c)) ⊎ GaveUp c start end told said result
+
+pub record CreateSo {M : Type 0} (m : Ghosts M) (disk : Disk) (name : List ℕ) (temporary : Option (List ℕ)) (c : Created) (was now : NameCalls) (made : Option M) (start end told said : Option (List ℕ)) (result : Result Unit Fault) : Type 0 where
+  pub answer : HadBytes (temporary_of name temporary) now → HasBytes m made → Came m disk name c now made start end told said result
+  pub done : OnOk result (HoldsAll m disk name made now c)
+  pub moments : AtEachMoment (LeavesAll disk (passing name temporary) c.disk) was now
+
+-- ---- names
+
+pub same_name : (a b : List ℕ) → bytes_eq a b ≡ true → a ≡ b
+same_name a b e = (bytes_eq-Decides a b).0 e
+
+pub other_name : (a b : List ℕ) → bytes_eq a b ≡ false → a ≢ b
+other_name a b e same = let no : true ≡ false = sym ((bytes_eq-Decides a b).1 same) ∙ e in cc
+
+pub same_some : (a b : List ℕ) → ◌≡◌ {A = Option (List ℕ)} (Some a) (Some b) → a ≡ b
+same_some a b e = cc
+
+-- the temporary name is another
+length_more : (xs ys : List ℕ) → xs ++ ys ≡ xs → length ys ≡ 0
+length_more xs ys e = omega (arith, ap length e, length-append xs ys)
+
+longer : (name : List ℕ) → name ++ codes ".tmp" ≡ name → ⊥
+longer name e = let h : length (codes ".tmp") ≡ 0 = length_more name (codes ".tmp") e in omega (arith, h)
+
+pub since_asked : (asked now since : NameCalls) → now ≡ since ++ asked → AllByRecursion IsNoAlias now → AllByRecursion IsNoAlias asked
+since_asked asked now since e all = all_back IsNoAlias since asked (subst (AllByRecursion IsNoAlias) e all)
+
+pub apart_is : (name : List ℕ) (temporary : Option (List ℕ)) → is_in_place name temporary ≡ false → temporary_of name temporary ≢ name
+apart_is name None e same = longer name same
+apart_is name (Some t) e same = absurd (let both = or_parts (bytes_eq t (codes "-")) (bytes_eq t name) e in let no : true ≡ false = sym ((bytes_eq-Decides t name).1 same) ∙ both.1 in cc)
+
+-- ---- what a name has is what it may have
+
+pub has_may : (place : List ℕ → Bool) (first : Option (List ℕ)) (calls : NameCalls) (held : Option (List ℕ)) → Has place first calls held → MayHave place first calls held
+has_may place first [] held h = h
+has_may place first ((name_call.Made, made, other, file) ∷ calls) held (inl here) = inl here
+has_may place first ((name_call.Made, made, other, file) ∷ calls) held (inr there) = inr (has_may place first calls held there.1)
+has_may place first ((name_call.Removed, gone, other, file) ∷ calls) held (inl here) = inl here
+has_may place first ((name_call.Removed, gone, other, file) ∷ calls) held (inr there) = inr (has_may place first calls held there.1)
+has_may place first ((name_call.NotRemoved, gone, other, file) ∷ calls) held (inl here) = inl here
+has_may place first ((name_call.NotRemoved, gone, other, file) ∷ calls) held (inr there) = inr (has_may place first calls held there)
+has_may place first ((name_call.Renamed len, from, to, file) ∷ calls) held (inl here) = inl here
+has_may place first ((name_call.Renamed len, from, to, file) ∷ calls) held (inr (to_not, inl gone)) = inr (inl gone)
+has_may place first ((name_call.Renamed len, from, to, file) ∷ calls) held (inr (to_not, inr there)) = inr (inr (has_may place first calls held there.1))
+has_may place first ((name_call.NotRenamed len fault, from, to, file) ∷ calls) held (inl here) = inl here
+has_may place first ((name_call.NotRenamed len fault, from, to, file) ∷ calls) held (inr (inl gone)) = inr (inl gone)
+has_may place first ((name_call.NotRenamed len fault, from, to, file) ∷ calls) held (inr (inr there)) = inr (inr (has_may place first calls held there))
+has_may place first ((name_call.Synced, synced, other, file) ∷ calls) held h = (has_may place first calls held h, λ _. h)
+has_may place first ((call, one, other, file) ∷ calls) held h = has_may place first calls held h
+
+last_moment : (P : NameCalls → Type 0) (since old now : NameCalls) → now ≡ since ++ old → AtEach P since old → P now
+last_moment P [] old now e h = subst P (sym e) h
+last_moment P (call ∷ since) old now e h = subst P (sym e) h.0
+
+pub first_is : (place : List ℕ → Bool) (first held : Option (List ℕ)) (was : NameCalls) → was ≡ [] → MayHave place first was held → held ≡ first
+first_is place first held was e h = subst (λ c. MayHave place first c held) e h
+
+pub last_leaves : (disk after : Disk) (out : Option (List ℕ)) (was now : NameCalls) → AtEachMoment (LeavesAll disk out after) was now → LeavesAll disk out after now
+last_leaves disk after out was now h = last_moment (LeavesAll disk out after) h.since was now h.calls h.each
+
+-- nothing was done but ask
+pub has_first : (disk : Disk) (was now : NameCalls) → was ≡ [] → Asking was now → (other : List ℕ) (held : Option (List ℕ)) → Has (place_of other) (disk other) now held → held ≡ disk other
+has_first disk was now first a other held h =
+    first_is (place_of other) (disk other) held was first (asked_kept was now a (place_of other) (disk other) held (has_may (place_of other) (disk other) now held h))
+
+pub holds_first : {M : Type 0} (m : Ghosts M) (disk : Disk) (name : List ℕ) (c : Created) (was now : NameCalls) → was ≡ [] → Asking was now → ((other : List ℕ) → c.disk other ≡ disk other) → HoldsAll m disk name None now c
+holds_first m disk name c was now first a same = λ other held sure h. has_first disk was now first a other held h ∙ sym (same other)
+
+-- ---- nothing was made
+
+-- a file cannot be opened, as was said; or a refusal
+abbrev EndsEarly : Created → Disk → (start end told said : Option (List ℕ)) → Fault → Type 0
+EndsEarly c disk start end told said fault = (CameTrue c start end told said (Err fault) × (c ≡ unopened disk)) ⊎ GaveUp c start end told said (Err fault)
+
+pub ends_early : {M : Type 0} (m : Ghosts M) (c : Created) (disk : Disk) (name : List ℕ) (temporary : Option (List ℕ)) (was now : NameCalls) (start end told said : Option (List ℕ)) (fault : Fault) → was ≡ [] → Asking was now → EndsEarly c disk start end told said fault
+    → CreateSo m disk name temporary c was now None start end told said (Err fault)
+ends_early m c disk name temporary was now start end told said fault first a h = record {
+  answer = λ had has. elim h [
+    | inl so ↦ inl (so.0, λ removed. holds_first m disk name c was now first a (λ other. ap (λ (v : Created). v.disk other) so.1))
+    | inr gave ↦ inr gave
+  ];
+  done = tt;
+  moments = moments_first disk c.disk (passing name temporary) was now first a;
+}
+
+pub open_so : (c : Created) (disk : Disk) (start end told said : Option (List ℕ)) → c ≡ unopened disk → Keeps start end × Keeps told said → EndsEarly c disk start end told said Open
+open_so c disk start end told said e k = inl (
+  record {
+    is = sym (ap (λ (v : Created). v.result) e);
+    output = subst (Appends start end) (sym (ap (λ (v : Created). v.output) e)) (none_appended start end k.0);
+    lines = subst (Appends told said) (sym (ap (λ (v : Created). v.lines) e)) (none_appended told said k.1);
+  },
+  e,
+)
+
+pub refused_early : (c : Created) (disk : Disk) (start end told said : Option (List ℕ)) (fault : Fault) → IsCreateRefusal fault → Keeps start end × Keeps told said → EndsEarly c disk start end told said fault
+refused_early c disk start end told said fault is k = inr (record { fault = fault; is = refl; refusal = is; output = said_nothing start end c.output k.0; lines = said_nothing told said c.lines k.1 })
+
+pub memory_so : (c : Created) (disk : Disk) (start end told said : Option (List ℕ)) (fault : Fault) → fault ≡ NoMemory → Keeps start end × Keeps told said → EndsEarly c disk start end told said fault
+memory_so c disk start end told said fault e k = refused_early c disk start end told said fault (subst IsCreateRefusal (sym e) tt) k
+
+missed_why : (c : Created) (disk : Disk) (start end told said : Option (List ℕ)) (fault : Fault) (cause : NameFault) → fault ≡ unopened_fault cause → (cause ≡ why.Failed → c ≡ unopened disk) → Keeps start end × Keeps told said → EndsEarly c disk start end told said fault
+missed_why c disk start end told said fault why.Failed e h k = subst (λ f. EndsEarly c disk start end told said f) (sym e) (open_so c disk start end told said (h refl) k)
+missed_why c disk start end told said fault why.NoMemory e h k = memory_so c disk start end told said fault e k
+
+-- ---- what was not opened
+
+both_none : {A B C : Type 0} (f : A → B → C) (x : Option A) → both f x None ≡ None
+both_none f None = refl
+both_none f (Some a) = refl
+
+-- an input is not there
+missing_each : (disk : Disk) (first : List (List ℕ)) (name : List ℕ) (more : List (List ℕ)) → input_of disk name ≡ None → each_of disk (first ++ name ∷ more) ≡ None
+missing_each disk [] name more e = ap (λ o. both (λ p ps. p ∷ ps) o (each_of disk more)) e
+missing_each disk (n ∷ first) name more e = ap (λ o. both (λ p ps. p ∷ ps) (input_of disk n) o) (missing_each disk first name more e) ∙ both_none (λ p ps. p ∷ ps) (input_of disk n)
+
+missing_inputs : (disk : Disk) (names first : List (List ℕ)) (name : List ℕ) (more : List (List ℕ)) → names ≡ first ++ name ∷ more → input_of disk name ≡ None → inputs_of disk names ≡ None
+missing_inputs disk [] [] name more e h = absurd (let no : ◌≡◌ {A = List (List ℕ)} [] (name ∷ more) = e in cc)
+missing_inputs disk [] (n ∷ first) name more e h = absurd (let no : ◌≡◌ {A = List (List ℕ)} [] (n ∷ (first ++ name ∷ more)) = e in cc)
+missing_inputs disk (n ∷ names) first name more e h = ap (each_of disk) e ∙ missing_each disk first name more h
+
+no_inputs : (w g : ℕ) (disk : Disk) (input name : List ℕ) (base : Option (List ℕ)) (inputs : List (List ℕ)) (temporary : Option (List ℕ)) (o : MakeOptions) → inputs_of disk inputs ≡ None → create_of w g disk input name base inputs temporary o ≡ unopened disk
+no_inputs w g disk input name base inputs temporary o e =
+    let f : Option (List ℕ) → List (Option (List ℕ)) → Created = λ old files. placed w disk name base inputs temporary (made_of w g o old files input) in
+    ap (λ x. if_opened disk (both f (base_of disk base) x)) e ∙ ap (if_opened disk) (both_none f (base_of disk base))
+
+no_base : (w g : ℕ) (disk : Disk) (input name : List ℕ) (base : Option (List ℕ)) (inputs : List (List ℕ)) (temporary : Option (List ℕ)) (o : MakeOptions) → base_of disk base ≡ None → create_of w g disk input name base inputs temporary o ≡ unopened disk
+no_base w g disk input name base inputs temporary o e =
+    let f : Option (List ℕ) → List (Option (List ℕ)) → Created = λ old files. placed w disk name base inputs temporary (made_of w g o old files input) in
+    ap (λ x. if_opened disk (both f x (inputs_of disk inputs))) e
+
+-- its last call was answered as the disk is
+head_answered : {F I M Y : Type 0} (s : Ghosts F) (remaining : I → Option (List ℕ)) (y : Systems Y F I M) (disk : Disk) (read : Option F) (old mid new calls : OpenCalls) (cause : NameFault) (name : List ℕ) → new ≡ calls ++ old → ((c : OpenCalls) × (mid ≡ c ++ old)) → new ≡ (Unopened cause, name) ∷ mid
+    → AllByRecursion (λ c. IsAnswered s remaining y disk (if_some read) c.0 c.1) calls → cause ≡ why.Failed → disk name ≡ None
+head_answered s remaining y disk read old mid new calls cause name e before is all failed =
+    let split : calls ≡ (Unopened cause, name) ∷ before.0 = append_cancel_right calls ((Unopened cause, name) ∷ before.0) old (sym e ∙ is ∙ ap (λ c. (Unopened cause, name) ∷ c) before.1) in
+    let answered = (subst (AllByRecursion (λ c. IsAnswered s remaining y disk (if_some read) c.0 c.1)) split all).0 in
+    subst (λ v. IsAnswered s remaining y disk (if_some read) (Unopened v) name) failed answered
+
+input_missing : (disk : Disk) (name : List ℕ) → (IsStandard name → ⊥) → disk name ≡ None → input_of disk name ≡ None
+input_missing disk name other e = cond-false (is_standard name) _ _ (standard_not name other) ∙ ap (option_map (λ b. Some b)) e
+
+base_missed : {F I M Y : Type 0} (s : Ghosts F) (remaining : I → Option (List ℕ)) (y : Systems Y F I M) (w g : ℕ) (disk : Disk) (input name : List ℕ) (base : Option (List ℕ)) (inputs : List (List ℕ)) (temporary : Option (List ℕ)) (o : MakeOptions) (old new calls : OpenCalls) (read : Option F) (start end told said : Option (List ℕ)) (fault : Fault)
+    → new ≡ calls ++ old → AllByRecursion (λ c. IsAnswered s remaining y disk (if_some read) c.0 c.1) calls → MissesBase base old new fault → Keeps start end × Keeps told said
+    → EndsEarly (create_of w g disk input name base inputs temporary o) disk start end told said fault
+base_missed s remaining y w g disk input name None inputs temporary o old new calls read start end told said fault e all h k = absurd h
+base_missed s remaining y w g disk input name (Some base) inputs temporary o old new calls read start end told said fault e all h k =
+    missed_why _ disk start end told said fault h.why h.is (λ failed. no_base w g disk input name (Some base) inputs temporary o
+    (ap (option_map (λ b. Some b)) (head_answered s remaining y disk read old old new calls h.why base e ([], refl) h.calls all failed))) k
+
+pub not_opened_so : {F I M Y : Type 0} (s : Ghosts F) (remaining : I → Option (List ℕ)) (y : Systems Y F I M) (w g : ℕ) (disk : Disk) (input name : List ℕ) (base : Option (List ℕ)) (inputs : List (List ℕ)) (temporary : Option (List ℕ)) (o : MakeOptions) (old new calls : OpenCalls) (read : Option F) (start end told said : Option (List ℕ)) (fault : Fault)
+    → new ≡ calls ++ old → AllByRecursion (λ c. IsAnswered s remaining y disk (if_some read) c.0 c.1) calls → NotOpened y base inputs old new read fault → Keeps start end × Keeps told said
+    → EndsEarly (create_of w g disk input name base inputs temporary o) disk start end told said fault
+not_opened_so s remaining y w g disk input name base inputs temporary o old new calls read start end told said fault e all h k = elim h.calls [
+  | inl missed ↦ base_missed s remaining y w g disk input name base inputs temporary o old new calls read start end told said fault e all missed.0 k
+  | inr stopped ↦ elim stopped.2.last [
+    | inl memory ↦ memory_so _ disk start end told said fault memory.1 k
+    | inr missed ↦ (let stops = stopped.2 in
+        let m = missed.3.1 in
+        let before = base_grows y base read old stopped.0 stopped.1 in
+        let opened = grows y stops.opened stops.turns stopped.0 stops.mid stops.opens in
+        let since : stops.mid ≡ (opened.0 ++ before.0) ++ old = opened.1 ∙ ap (λ c. opened.0 ++ c) before.1 ∙ sym (append_assoc opened.0 before.0 old) in
+        missed_why _ disk start end told said fault m.why m.is (λ failed. no_inputs w g disk input name base inputs temporary o
+        (missing_inputs disk inputs stops.opened missed.0 missed.1 (stops.are ∙ ap (λ l. stops.opened ++ l) missed.2)
+        (input_missing disk missed.0 missed.3.0 (head_answered s remaining y disk read old stops.mid new calls m.why missed.0 e (opened.0 ++ before.0, since) m.calls all failed)))) k)
+  ]
+]
+
+-- ---- a file that is read has the temporary name
+
+alias_yes : (said : Answer) (one two : List ℕ) → said ≢ looks.No → IsNoAlias (name_call.Same said, one, two, []) → bytes_eq one two ≡ true
+alias_yes said one two h alone = (bytes_eq-Decides one two).1 (alone.1 h)
+
+pub record Found (is : Bool) (was now : NameCalls) : Type 0 where
+  pub one : is ≡ true
+  pub kept : (place : List ℕ → Bool) (first held : Option (List ℕ)) → MayHave place first now held → MayHave place first was held
+
+one_kept : (name file : List ℕ) (was now : NameCalls) → AsksOne name file was now → (place : List ℕ → Bool) (first held : Option (List ℕ)) → MayHave place first now held → MayHave place first was held
+one_kept name file was now (inl asked) place first held h = subst (λ c. MayHave place first c held) asked.1 h
+one_kept name file was now (inr asked) place first held h = subst (λ c. MayHave place first c held) asked.1 h
+
+base_kept : (name : List ℕ) (base : Option (List ℕ)) (was now : NameCalls) → AsksBase name base was now → (place : List ℕ → Bool) (first held : Option (List ℕ)) → MayHave place first now held → MayHave place first was held
+base_kept name None was now e place first held h = subst (λ c. MayHave place first c held) e h
+base_kept name (Some file) was now e place first held h = subst (λ c. MayHave place first c held) e h
+
+found_one : (name file : List ℕ) (was now : NameCalls) → MayBeOne name file was now → AllByRecursion IsNoAlias now → Found (bytes_eq name file) was now
+found_one name file was now (said, other, e) all =
+    record { one = alias_yes said name file other (subst (AllByRecursion IsNoAlias) e all).0; kept = λ place first held h. subst (λ c. MayHave place first c held) e h }
+
+found_input : (name : List ℕ) (files : List (List ℕ)) (was now : NameCalls) → FindsInput name files was now → AllByRecursion IsNoAlias now → Found (is_input name files) was now
+found_input name [] was now h all = absurd h
+found_input name (file ∷ files) was now (inl (inl (standard, (said, other, e)))) all =
+    absurd (other ((subst (AllByRecursion IsNoAlias) e all).0))
+found_input name (file ∷ files) was now (inl (inr here)) all =
+    let h = found_one name file was now here.1 all in
+    record { one = or_left _ _ (cond-false (is_standard file) _ _ (standard_not file here.0) ∙ h.one); kept = h.kept }
+found_input name (file ∷ files) was now (inr (mid, asks, more)) all =
+    let h = found_input name files mid now more all in
+    record { one = or_right _ _ h.one; kept = λ place first held may. one_kept name file was mid asks place first held (h.kept place first held may) }
+
+found_base : (name : List ℕ) (base : Option (List ℕ)) (was now : NameCalls) → FindsBase name base was now → AllByRecursion IsNoAlias now → Found (is_base name base) was now
+found_base name None was now h all = absurd h
+found_base name (Some file) was now h all = found_one name file was now h all
+
+pub found : (name : List ℕ) (base : Option (List ℕ)) (inputs : List (List ℕ)) (was now : NameCalls) → FindsOne name base inputs was now → AllByRecursion IsNoAlias now → Found (is_read name base inputs) was now
+found name base inputs was now (inl h) all =
+    let f = found_base name base was now h all in
+    record { one = or_left _ _ f.one; kept = f.kept }
+found name base inputs was now (inr (mid, asks, more)) all =
+    let f = found_input name (inputs_read inputs) mid now more all in
+    record { one = or_right _ _ (sym (read_input name inputs) ∙ f.one); kept = λ place first held may. base_kept name base was mid asks place first held (f.kept place first held may) }
+
+pub constant : {A B : Type 0} (disk : Disk) (f : A → B → Created) (x : Option A) (y : Option B) → ((a : A) (b : B) → f a b ≡ unopened disk) → if_opened disk (both f x y) ≡ unopened disk
+constant disk f (Some a) (Some b) h = h a b
+constant disk f (Some a) None h = refl
+constant disk f None y h = refl
+
+pub read_unopened : (w g : ℕ) (disk : Disk) (input name : List ℕ) (base : Option (List ℕ)) (inputs : List (List ℕ)) (temporary : Option (List ℕ)) (o : MakeOptions) → is_standard name ≡ false → is_in_place name temporary ≡ false → is_read (temporary_of name temporary) base inputs ≡ true
+    → create_of w g disk input name base inputs temporary o ≡ unopened disk
+read_unopened w g disk input name base inputs temporary o standard in_place is =
+    constant disk (λ old files. placed w disk name base inputs temporary (made_of w g o old files input)) (base_of disk base) (inputs_of disk inputs)
+    (λ old files. cond-false (is_standard name) _ _ standard ∙ cond-false (is_in_place name temporary) _ _ in_place
+    ∙ cond-true (is_read (temporary_of name temporary) base inputs || is_no_name name) _ _ (or_left _ _ is))
+
+pub hands_none : {F : Type 0} (s : Ghosts F) (old new : Option F) → HandsBack s old new → old ≡ None → new ≡ None
+hands_none s None None h e = refl
+hands_none s None (Some store) h e = absurd h
+hands_none s (Some store) new h e = absurd (let no : ◌≡◌ {A = Option _} (Some store) None = e in cc)
+
+pub back_none : {F R : Type 0} (s : Ghosts F) (r : Raw R) (m : Making F) (temporary name : List ℕ) (old new : NameCalls) (back : Option F) (told said : Option (List ℕ)) (result : Result Unit Fault) → Replaces s r m temporary name old new back told said result → m.base ≡ None → back ≡ None
+back_none s r m temporary name old new back told said result h e = elim h.lines [
+  | inl none ↦ none.gave_up ∙ e
+  | inr some ↦ elim some.tells_so [ inl ran ↦ hands_none s m.base back ran.hands e | inr lacks ↦ lacks.0 ∙ e ]
+]
