@@ -1,6 +1,6 @@
 -- Which file a fault is of, and the line that names it.
 use Rattle.std.specs.Prelude.{ℕ, ◌≡◌, ◌⊎◌, ◌++◌, List, [], ◌∷◌, Option, None, Some, codes}
-use Rattle.std.specs.Prelude.{◌+◌, ◌/◌, ◌%◌, ◌==◌, ◌||◌, nat_lt, if◌then◌else◌, flat_map}
+use Rattle.std.specs.Prelude.{◌+◌, ◌-◌, ◌/◌, ◌%◌, ◌==◌, ◌||◌, nat_lt, if◌then◌else◌, flat_map, get_or, bytes_eq}
 use Rattle.std.specs.Prelude.{Bool, true, false, Result, Ok, Err, cond}
 use Rattle.cdb_command.specs.Asked.{Asked}
 use Rattle.cdb_command.specs.Asked as asked
@@ -33,6 +33,9 @@ IsNoNameOf (asked.Create database base inputs temporary options wide) name =
     (name ≡ database) × IsNoName name
 IsNoNameOf command name = ⊥
 
+abbrev pub said_input : List ℕ → List ℕ
+said_input name = if bytes_eq name (codes "-") then codes "standard input" else name
+
 abbrev pub or_standard : Option (List ℕ) → List ℕ
 or_standard None = codes "standard input"
 or_standard (Some name) = name
@@ -63,9 +66,11 @@ IsMadeName (asked.Create database base inputs temporary options wide) name =
     (name ≡ database) ⊎ (name ≡ temporary_of database temporary)
 IsMadeName command name = ⊥
 
--- an input, or standard input
-abbrev pub IsInputOf : Asked → (name : List ℕ) → Type 0
-IsInputOf command name = Unit {0}
+-- an input, counted from 1. A hyphen is standard input, and no inputs are one
+abbrev pub input_name : Asked → (number : ℕ) → List ℕ
+input_name (asked.Create database base inputs temporary options wide) number =
+    said_input (get_or inputs (number - 1) (codes "-"))
+input_name command number = []
 
 -- the file of a fault that is of a database which is read
 abbrev pub IsOfDatabase : Asked → Fault → (name : List ℕ) → Type 0
@@ -83,7 +88,7 @@ abbrev pub IsCause : Asked → Fault → (opened : OpenCalls) → (named : NameC
 IsCause command Open opened named name = IsRefused opened named name ⊎ IsNoNameOf command name
 IsCause command Rename opened named name = IsRefused opened named name
 IsCause command NoMemory opened named name = IsRefused opened named name
-IsCause command (Text input fault) opened named name = IsInputOf command name
+IsCause command (Text input fault) opened named name = name ≡ input_name command input
 IsCause command (Make fault) opened named name = IsMadeName command name
 IsCause command Output opened named name =
     (name ≡ codes "standard output") ⊎ (name ≡ codes "standard error")

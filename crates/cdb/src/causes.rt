@@ -2,8 +2,9 @@
 ghost use Rattle.std.specs.Prelude.{◌≡◌, ◌⊎◌, IfSome, codes, string_bytes};
 ghost use Rattle.cdb_tool.specs.Command.{asked_in};
 ghost use Rattle.cdb.specs.Causes.{IsCause, IsMadeName, IsNoNameOf, IsOfDatabase, IsRefused};
-ghost use Rattle.cdb.specs.Causes.{new_name, read_name, reason_name};
+ghost use Rattle.cdb.specs.Causes.{input_name, new_name, read_name, reason_name, said_input};
 
+use crate::inputs::is_standard;
 use crate::left::Left;
 use crate::system::System;
 use cdb_files::{Cause, Names, Refusal};
@@ -196,32 +197,52 @@ where
     }
 }
 
-/// Whether the input of this number, counted from 1, is standard input, and the first one that is.
-fn is_first_standard(inputs: &[String], number: u64) -> bool {
-    let mut at = 0u64;
-    for input in inputs {
-        at = at.saturating_add(1);
-        if input.as_str() == "-" {
-            return at == number;
+/// Whether the input at this place is the first one that is standard input.
+fn is_first_standard(inputs: &[String], at: usize) -> bool {
+    for (n, input) in inputs.iter().enumerate() {
+        if is_standard(input.as_str()) {
+            return n == at;
         }
     }
-    false
+    inputs.is_empty()
 }
 
-/// The name of an input, counted from 1, and whether its first byte is the first that was read of it.
-fn input_of(command: &Command, number: u64) -> (&str, bool) {
+/// The name of an input, counted from 1. No input is standard input, as each `-` is.
+fn input_name(command: &Command, number: u64) -> &str
+    ensures { result.now ≡ input_name (asked_in command.now) number }
+{
     let Command::Create { inputs, .. } = command else {
-        return ("", false);
+        return "";
     };
-    let mut at = 0u64;
-    for input in inputs {
-        at = at.saturating_add(1);
-        if at == number && input.as_str() != "-" {
-            return (input.as_str(), true);
-        }
+    let at = number.saturating_sub(1) as usize;
+    if at >= inputs.len() {
+        return STANDARD_INPUT;
     }
-    let is_first = inputs.is_empty() || is_first_standard(inputs.as_slice(), number);
-    (STANDARD_INPUT, is_first)
+    said_input(inputs[at].as_str())
+}
+
+/// What an input of a name is called.
+fn said_input(name: &str) -> &str
+    ensures { result.now ≡ said_input name.now }
+{
+    if is_standard(name) {
+        STANDARD_INPUT
+    } else {
+        name
+    }
+}
+
+/// Whether the places of an input, counted from 1, are counted from the first byte that was read of its file:
+/// it is a file of its own, or the first that is standard input.
+fn is_from_first(command: &Command, number: u64) -> bool {
+    let Command::Create { inputs, .. } = command else {
+        return false;
+    };
+    let at = number.saturating_sub(1) as usize;
+    if at < inputs.len() && !is_standard(inputs[at].as_str()) {
+        return true;
+    }
+    is_first_standard(inputs.as_slice(), at)
 }
 
 /// What is said of an input whose text was not read.
@@ -236,15 +257,15 @@ where
     J: Read,
     M: Store,
     Y: System<F, J, M>,
+    ensures { reason_name result ≡ input_name (asked_in command.now) number }
 {
-    let (name, is_first) = input_of(command, number);
     let told = match fault.place() {
-        Some(at) if is_first => Told::Line(system.line_at(at)),
+        Some(at) if is_from_first(command, number) => Told::Line(system.line_at(at)),
         Some(_) => Told::Name,
         None if fault == TextFault::Input => of_number(system.read_error()),
         None => Told::Name,
     };
-    of_name(name, told)
+    of_name(input_name(command, number), told)
 }
 
 /// What is said of a database that was not made, since its file failed.
