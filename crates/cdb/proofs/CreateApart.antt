@@ -23,13 +23,13 @@ use Rattle.cdb_tool.specs.declared.fault.Fault.TheVariants.{Open}
 use Rattle.cdb_tool.specs.Runs.Made.{Made, made_file, made_of}
 use Rattle.cdb.specs.Created.{Created, base_of, create_of, in_temporary, inputs_of, is_in_place, is_no_name, in_place, is_read, is_standard, placed, unopened}
 use Rattle.cdb.specs.Creating.{IsBufferedRun, AsksAll, Making, OpensAll, Replaces, answer_of, temporary_of}
-use Rattle.cdb.specs.ForetoldCreate.{HadBytes, HoldsAll, HonestCreate, IsNoFailedRemoval, LeavesAll, passing, place_of}
+use Rattle.cdb.specs.ForetoldCreate.{HadBytes, HoldsAll, HonestCreate, IsNoFailedRemoval, IsNoFailedRename, KeepsAll, LeavesAll, passing, place_of}
 use Rattle.cdb.specs.Opening.{OpenCalls}
 use Rattle.cdb.specs.Oracle.{Disk}
 use Rattle.cdb.specs.declared.system.System.{Ghosts as Systems}
 use Rattle.cdb.proofs.Replaced.{IsGone, KeepsOthers, LeavesOldOrMade, ReplacesSo, at_name, none_appended, not_at, replaces_so, said_nothing}
 use Rattle.cdb.proofs.CreateReads.{Asking, IsQuestion, all_known_by, asked_all, asked_kept, asking_all, moments_first}
-use Rattle.cdb.proofs.CreateEnds.{Came, CreateSo, apart_is, constant, ends_early, first_is, has_may, last_leaves, lines_of, name_holds, open_so, oracle_is, other_name, result_of, same_name, same_some, since_asked}
+use Rattle.cdb.proofs.CreateEnds.{Came, CreateSo, apart_is, constant, ends_early, first_is, has_may, last_leaves, last_moment, lines_of, name_holds, open_so, oracle_is, other_name, result_of, same_name, same_some, since_asked}
 
 -- ---- in a temporary file
 
@@ -160,6 +160,21 @@ finished m w disk t name made c asked now start end told said held result apart 
     let written : c.output ≡ [] = ap (λ (v : Created). v.output) is ∙ output_of disk t name made.lines (made_file w made) made.result in
     finished_so m w disk t name made c asked now start end told said held result apart is lines ends (subst (Appends start end) (sym written) (none_appended start end kept)) (said_nothing start end c.output kept) all has so had
 
+others_at : (since asked now : NameCalls) (temporary name : List ℕ) → now ≡ since ++ asked → AtEach (KeepsOthers temporary name asked) since asked → KeepsOthers temporary name asked now
+others_at since asked now t name e h = last_moment (KeepsOthers t name asked) since asked now e h
+
+-- after a fault, with no rename done or tried, each other name has what it had
+failed_so : (w : ℕ) (disk : Disk) (temporary name : List ℕ) (made : Made) (was asked now : NameCalls) (told said : Option (List ℕ)) (result : Result Unit Fault) → was ≡ [] → Asking was asked → ReplacesSo w temporary name made asked now told said result → OnErr result (AllByRecursion IsNoFailedRename now → KeepsAll disk (Some temporary) now)
+failed_so w disk t name made was asked now told said (Ok done) first a so = tt
+failed_so w disk t name made was asked now told said (Err f) first a so = λ tried other held out h.
+    (let may = has_may (place_of other) (disk other) now held h in
+    let before : MayHave (place_of other) (disk other) asked held = elim (cases_Bool (bytes_eq name other)) [
+      | inl e ↦ (let same = same_name name other e in
+          subst (λ (x : List ℕ). MayHave (place_of x) (disk other) now held → MayHave (place_of x) (disk other) asked held) same (so.unrenamed tried (disk other) held) may)
+      | inr e ↦ others_at so.since asked now t name so.calls so.others other (λ same. out (ap (λ (x : List ℕ). Some x) same)) (other_name name other e) (disk other) held may
+    ] in
+    first_is (place_of other) (disk other) held was first (asked_kept was asked a (place_of other) (disk other) held before))
+
 passing_temporary : (name : List ℕ) (temporary : Option (List ℕ)) → is_standard name ≡ false → is_in_place name temporary ≡ false → passing name temporary ≡ Some (temporary_of name temporary)
 passing_temporary name temporary standard in_place = cond-false (is_standard name) _ _ standard ∙ cond-false (is_in_place name temporary) _ _ in_place
 
@@ -183,6 +198,7 @@ named_so s m remaining y r w g disk input name base inputs temporary o given old
     record {
       answer = λ had has. finished m w disk t name made _ asked now start end told said honest.held result apart is kept all honest.has so had;
       done = replaced_holds m w disk t name made _ asked now told said result apart is all so;
+      failed = subst (λ out. OnErr result (AllByRecursion IsNoFailedRename now → KeepsAll disk out now)) (sym (passing_temporary name temporary standard in_place)) (failed_so w disk t name made was asked now told said result honest.first (asking_all t base inputs was asked asks) so);
       moments = subst (λ out. AtEachMoment (LeavesAll disk out (create_of w g disk input name base inputs temporary o).disk) was now) (sym (passing_temporary name temporary standard in_place)) moments;
     }
 

@@ -1,6 +1,6 @@
 -- What a create comes to that makes nothing, and what each name has then.
 use Rattle.std.proofs.Common.{ℕ, Bool, true, false, ◌||◌, ◌≢◌, ◌⊎◌, List, [], ◌∷◌, ◌++◌, Option, Some, None, Result, Ok, Err, ◌≡◌, ◌∙◌, ap, inl, inr, refl, subst, sym, append_assoc, length, length-append, arith, bytes_eq, option_map, codes}
-use Rattle.std.specs.Prelude.{OnOk}
+use Rattle.std.specs.Prelude.{OnErr, OnOk}
 use Rattle.std.specs.List.{AllByRecursion}
 use Rattle.std.proofs.lemmas.Bool.{cond-true, cond-false, false_from_ne_true, or_from, or_left, or_parts, or_right}
 use Rattle.std.proofs.lemmas.List.{append_cancel_right}
@@ -25,7 +25,7 @@ use Rattle.cdb_tool.specs.Runs.Made.{Made, made_file, made_of}
 use Rattle.cdb.specs.Created.{Created, base_of, both, create_of, each_of, if_opened, in_temporary, input_of, inputs_of, is_base, is_in_place, is_input, is_no_name, in_place, is_read, is_standard, placed, unopened}
 use Rattle.cdb.specs.Creating.{AsksBase, AsksOne, FindsBase, FindsInput, FindsOne, Making, MayBeOne, NotOpened, Replaces, temporary_of}
 use Rattle.cdb.specs.Foretold.{IsAnswered, if_some}
-use Rattle.cdb.specs.ForetoldCreate.{HadBytes, HasBytes, HoldsAll, IsCreateRefusal, IsNoAlias, IsNoFailedRemoval, LeavesAll, passing, place_of}
+use Rattle.cdb.specs.ForetoldCreate.{HadBytes, HasBytes, HoldsAll, IsCreateRefusal, IsNoAlias, IsNoFailedRemoval, IsNoFailedRename, KeepsAll, LeavesAll, passing, place_of}
 use Rattle.cdb.specs.Inputs.{inputs_read, IsStandard, MissesBase}
 use Rattle.cdb.specs.Opening.{OpenCalls, unopened as unopened_fault}
 use Rattle.cdb.specs.Oracle.{Disk}
@@ -87,6 +87,7 @@ Came m disk name c now made start end told said result =
 pub record CreateSo {M : Type 0} (m : Ghosts M) (disk : Disk) (name : List ℕ) (temporary : Option (List ℕ)) (c : Created) (was now : NameCalls) (made : Option M) (start end told said : Option (List ℕ)) (result : Result Unit Fault) : Type 0 where
   pub answer : HadBytes (temporary_of name temporary) now → HasBytes m made → Came m disk name c now made start end told said result
   pub done : OnOk result (HoldsAll m disk name made now c)
+  pub failed : OnErr result (AllByRecursion IsNoFailedRename now → KeepsAll disk (passing name temporary) now)
   pub moments : AtEachMoment (LeavesAll disk (passing name temporary) c.disk) was now
 
 -- ---- names
@@ -133,7 +134,7 @@ has_may place first ((name_call.NotRenamed len fault, from, to, file) ∷ calls)
 has_may place first ((name_call.Synced, synced, other, file) ∷ calls) held h = (has_may place first calls held h, λ _. h)
 has_may place first ((call, one, other, file) ∷ calls) held h = has_may place first calls held h
 
-last_moment : (P : NameCalls → Type 0) (since old now : NameCalls) → now ≡ since ++ old → AtEach P since old → P now
+pub last_moment : (P : NameCalls → Type 0) (since old now : NameCalls) → now ≡ since ++ old → AtEach P since old → P now
 last_moment P [] old now e h = subst P (sym e) h
 last_moment P (call ∷ since) old now e h = subst P (sym e) h.0
 
@@ -147,6 +148,9 @@ last_leaves disk after out was now h = last_moment (LeavesAll disk out after) h.
 pub has_first : (disk : Disk) (was now : NameCalls) → was ≡ [] → Asking was now → (other : List ℕ) (held : Option (List ℕ)) → Has (place_of other) (disk other) now held → held ≡ disk other
 has_first disk was now first a other held h =
     first_is (place_of other) (disk other) held was first (asked_kept was now a (place_of other) (disk other) held (has_may (place_of other) (disk other) now held h))
+
+pub keeps_first : (disk : Disk) (out : Option (List ℕ)) (was now : NameCalls) → was ≡ [] → Asking was now → KeepsAll disk out now
+keeps_first disk out was now first a = λ other held not_out h. has_first disk was now first a other held h
 
 pub holds_first : {M : Type 0} (m : Ghosts M) (disk : Disk) (name : List ℕ) (c : Created) (was now : NameCalls) → was ≡ [] → Asking was now → ((other : List ℕ) → c.disk other ≡ disk other) → HoldsAll m disk name None now c
 holds_first m disk name c was now first a same = λ other held sure h. has_first disk was now first a other held h ∙ sym (same other)
@@ -165,6 +169,7 @@ ends_early m c disk name temporary was now start end told said fault first a h =
     | inr gave ↦ inr gave
   ];
   done = tt;
+  failed = λ tried. keeps_first disk (passing name temporary) was now first a;
   moments = moments_first disk c.disk (passing name temporary) was now first a;
 }
 

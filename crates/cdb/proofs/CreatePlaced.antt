@@ -1,6 +1,7 @@
 -- A create in place, and one on standard output, come to what the oracle says.
 use Rattle.std.proofs.Common.{ℕ, true, false, ◌⊎◌, List, [], ◌∷◌, ◌++◌, Option, Some, None, Result, Ok, Err, ◌≡◌, ◌∙◌, ap, inl, inr, refl, subst, sym, bytes_eq}
-use Rattle.std.specs.Prelude.{OnOk, IfErr}
+use Rattle.std.specs.List.{AllByRecursion}
+use Rattle.std.specs.Prelude.{OnErr, OnOk, IfErr}
 use Rattle.std.proofs.lemmas.Bool.{cond-true, cond-false}
 use Rattle.std.specs.Io.KnownBytes.{Appends, Keeps}
 use Rattle.cdb_command.specs.declared.options.MakeOptions.{MakeOptions}
@@ -21,7 +22,7 @@ use Rattle.cdb_tool.specs.Runs.Made.{Made, made_file, made_of}
 use Rattle.cdb_tool.specs.Runs.MakesSo.{Known}
 use Rattle.cdb.specs.Created.{Created, base_of, both, create_of, if_opened, inputs_of, is_in_place, in_place, is_read, is_standard, on_output, placed, unopened}
 use Rattle.cdb.specs.Creating.{HasDatabase, IsBufferedRun, IsRun, MakesEmptied, MakesOnOutput, Syncs, WritesAll, AsksAll, Making, OpensAll}
-use Rattle.cdb.specs.ForetoldCreate.{HoldsAll, HonestCreate, IsCreateRefusal, passing}
+use Rattle.cdb.specs.ForetoldCreate.{HoldsAll, HonestCreate, IsCreateRefusal, IsNoFailedRename, KeepsAll, passing}
 use Rattle.cdb.specs.Opening.{Empties, MissesEmptying, OpenCalls, unopened as unopened_fault}
 use Rattle.cdb.specs.Oracle.{Disk}
 use Rattle.cdb.specs.declared.open_trace.OpenCall.TheVariants.{Emptied, Locked, ToEmpty}
@@ -29,7 +30,7 @@ use Rattle.cdb.specs.declared.system.System.{Ghosts as Systems}
 use Rattle.cdb.specs.declared.left.Left.{Left}
 use Rattle.cdb.proofs.Replaced.{BaseHas, EndsSo, WasRefused, database_is, made_here, ran_err, ran_ok, whole_lines, none_appended, said_nothing}
 use Rattle.cdb.proofs.CreateReads.{AllKnown, Asking, all_known_by, asked_all, asking_all, asking_none, moments_first}
-use Rattle.cdb.proofs.CreateEnds.{Came, CameTrue, CreateSo, GaveUp, constant, hands_none, has_first, holds_first, same_name}
+use Rattle.cdb.proofs.CreateEnds.{Came, CameTrue, CreateSo, GaveUp, constant, hands_none, has_first, holds_first, keeps_first, same_name}
 
 -- ---- in place
 
@@ -152,6 +153,10 @@ place_done : {F M : Type 0} (s : Ghosts F) (m : Ghosts M) (disk : Disk) (name : 
 place_done s m disk name mk x files input back last c was now (Ok done) first a has known is database = place_holds s m disk name mk x files input back last c was now first a has known is database
 place_done s m disk name mk x files input back last c was now (Err f) first a has known is database = tt
 
+if_err : (P : Type 0) (result : Result Unit Fault) → P → OnErr result P
+if_err P (Ok done) p = tt
+if_err P (Err f) p = p
+
 pub emptied_so : {F I M Y : Type 0} (s : Ghosts F) (m : Ghosts M) (remaining : I → Option (List ℕ)) (y : Systems Y F I M) (w g : ℕ) (disk : Disk) (input name : List ℕ) (base : Option (List ℕ)) (inputs : List (List ℕ)) (temporary : Option (List ℕ)) (o : MakeOptions) (given : Option (List ℕ)) (old mid new : OpenCalls) (file : Option F) (items : InputsLeft) (left : Left F M) (was now : NameCalls) (start end told said : Option (List ℕ)) (result : Result Unit Fault)
     → is_standard name ≡ false → is_in_place name temporary ≡ true → HonestCreate s remaining y disk input inputs given old new left.read name was now → OpensAll y remaining base inputs given old mid file items → Keeps start end → AsksAll name base inputs was now → Empties name mid new
     → MakesEmptied y s m (record { word = w; greatest = g; options = o; base = file; inputs = items }) name left told said result → CreateSo m disk name temporary (create_of w g disk input name base inputs temporary o) was now left.made start end told said result
@@ -166,6 +171,7 @@ emptied_so s m remaining y w g disk input name base inputs temporary o given old
     let so : CreateSo m disk name temporary c was now (Some h.last) start end told said result = record {
       answer = λ had has. synced_so s m disk name mk known.old known.files input left.read h.built h.last c was now start end told said h.made result has.0 honest.first a known.has known.known is kept h.run h.syncs h.has has.1;
       done = place_done s m disk name mk known.old known.files input left.read h.last c was now result honest.first a known.has known.known is h.has;
+      failed = if_err (AllByRecursion IsNoFailedRename now → KeepsAll disk (passing name temporary) now) result (λ tried. keeps_first disk (passing name temporary) was now honest.first a);
       moments = moments_first disk c.disk (passing name temporary) was now honest.first a;
     } in
     subst (λ v. CreateSo m disk name temporary c was now v start end told said result) (sym h.is_last) so
@@ -266,5 +272,6 @@ output_so s m remaining y w g disk input name base inputs temporary o given old 
         | inr gave ↦ inr gave
       ];
       done = if_ok (HoldsAll m disk name None now c) result holds;
+      failed = if_err (AllByRecursion IsNoFailedRename now → KeepsAll disk (passing name temporary) now) result (λ tried. keeps_first disk (passing name temporary) was now honest.first a);
       moments = moments_first disk c.disk (passing name temporary) was now honest.first a;
     }

@@ -1,6 +1,6 @@
 -- A create in a temporary file comes to what the function of its bytes says.
 use Rattle.std.proofs.Common.{ℕ, true, false, ◌+◌, ◌≢◌, ◌⊎◌, List, [], ◌∷◌, ◌++◌, take, Option, Some, None, Result, Ok, Err, ◌≡◌, ◌∙◌, ap, inl, inr, refl, subst, sym, arith, append-nil, bytes_eq}
-use Rattle.std.specs.Prelude.{OnOk, IfErr, ⊤}
+use Rattle.std.specs.Prelude.{OnErr, OnOk, IfErr, ⊤}
 use Rattle.std.specs.List.{AllByRecursion}
 use Rattle.std.proofs.lemmas.Bool.{false_from_ne_true}
 use Rattle.std.proofs.lemmas.List.{append_cancel_right}
@@ -28,7 +28,7 @@ use Rattle.cdb_tool.specs.Runs.Made.{Made, made_file, made_of}
 use Rattle.cdb_tool.specs.Runs.MakesSo.{ComesOf, IsMakeRefusal, Known}
 use Rattle.cdb_tool.proofs.MadeOf.{made_so, run_comes}
 use Rattle.cdb.specs.Creating.{IsBufferedRun, IsDatabase, IsRun, Making, Replaces, answer_of, fault_of}
-use Rattle.cdb.specs.ForetoldCreate.{HadBytes, IsCreateRefusal, place_of}
+use Rattle.cdb.specs.ForetoldCreate.{HadBytes, IsCreateRefusal, IsNoFailedRename, place_of}
 
 -- ---- what it comes to
 
@@ -70,6 +70,10 @@ pub record WasRefused (made : Made) (told said : Option (List ℕ)) (fault : Fau
 abbrev pub IsGone : (temporary : List ℕ) → NameCalls → Type 0
 IsGone temporary calls = (before : NameCalls) × HasCleared temporary before calls
 
+-- without a rename, done or tried, the place of the name keeps what it had
+abbrev pub KeepsName : (name : List ℕ) → (old now : NameCalls) → Type 0
+KeepsName name old now = AllByRecursion IsNoFailedRename now → (first held : Option (List ℕ)) → MayHave (place_of name) first now held → MayHave (place_of name) first old held
+
 -- what a replacement comes to
 pub record ReplacesSo (w : ℕ) (temporary name : List ℕ) (made : Made) (old new : NameCalls) (told said : Option (List ℕ)) (result : Result Unit Fault) : Type 0 where
   pub since : NameCalls
@@ -78,6 +82,7 @@ pub record ReplacesSo (w : ℕ) (temporary name : List ℕ) (made : Made) (old n
   pub others : AtEach (KeepsOthers temporary name old) since old
   pub ok : OnOk result ((first held : Option (List ℕ)) → Has (place_of name) first new held → HasMade w made told said held)
   pub renamed : OnOk result (IsRenamed temporary name new)
+  pub unrenamed : OnErr result (KeepsName name old new)
   pub err : IfErr result (λ fault. HadBytes temporary new → (EndsSo made told said result × IsGone temporary new) ⊎ WasRefused made told said fault)
 
 -- ---- the database of some bytes
@@ -133,6 +138,28 @@ calls_kept t n whole (call ∷ since) old all = λ other at an first held h.
 others_kept : (temporary name : List ℕ) (whole : List ℕ → Type 0) (since old : NameCalls) → AllByRecursion (IsOfReplacing temporary name whole) since → AtEach (KeepsOthers temporary name old) since old
 others_kept t n whole [] old all = λ other at an first held h. h
 others_kept t n whole (call ∷ since) old all = (calls_kept t n whole (call ∷ since) old all, others_kept t n whole since old all.1)
+
+-- without a rename the name is left too
+unrenamed_kept : (temporary name : List ℕ) (whole : List ℕ → Type 0) (call : NameEvent) (calls : NameCalls) → temporary ≢ name → IsOfReplacing temporary name whole call → IsNoFailedRename call → renames (call ∷ calls) ≡ 0 → (first : Option (List ℕ))
+    → (renames calls ≡ 0) × ((held : Option (List ℕ)) → MayHave (place_of name) first (call ∷ calls) held → MayHave (place_of name) first calls held)
+unrenamed_kept t n whole (name_call.Made, made, two, file) calls apart is tried none first = (none, λ held h. elim h [ inl here ↦ absurd (not_here made t n is apart here.0) | inr there ↦ there ])
+unrenamed_kept t n whole (Removed, gone, two, file) calls apart is tried none first = (none, λ held h. elim h [ inl here ↦ absurd (not_here gone t n is apart here.0) | inr there ↦ there ])
+unrenamed_kept t n whole (NotRemoved, gone, two, file) calls apart is tried none first = (none, λ held h. elim h [ inl here ↦ absurd (not_here gone t n is apart here.0) | inr there ↦ there ])
+unrenamed_kept t n whole (Renamed len, from, to, file) calls apart is tried none first = absurd (omega (arith, none))
+unrenamed_kept t n whole (NotRenamed len fault, from, to, file) calls apart is tried none first = absurd tried
+unrenamed_kept t n whole (Synced, one, two, file) calls apart is tried none first = (none, λ held h. h.0)
+unrenamed_kept t n whole (call, one, two, file) calls apart is tried none first = (none, λ held h. h)
+
+all_unrenamed : (temporary name : List ℕ) (whole : List ℕ → Type 0) (since old : NameCalls) → temporary ≢ name → AllByRecursion (IsOfReplacing temporary name whole) since → AllByRecursion IsNoFailedRename (since ++ old) → renames (since ++ old) ≡ 0
+    → (first held : Option (List ℕ)) → MayHave (place_of name) first (since ++ old) held → MayHave (place_of name) first old held
+all_unrenamed t n whole [] old apart all tried none first held h = h
+all_unrenamed t n whole (call ∷ since) old apart all tried none first held h =
+    let one = unrenamed_kept t n whole call (since ++ old) apart all.0 tried.0 none first in
+    all_unrenamed t n whole since old apart all.1 tried.1 one.0 first held (one.1 held h)
+
+keeps_name : (temporary name : List ℕ) (whole : List ℕ → Type 0) (old new : NameCalls) → temporary ≢ name → AreOfReplacing temporary name whole old new → renames new ≡ 0 → KeepsName name old new
+keeps_name t n whole old new apart calls none = λ tried first held h.
+    all_unrenamed t n whole calls.since old apart calls.each (subst (AllByRecursion IsNoFailedRename) calls.calls tried) (sym (ap renames calls.calls) ∙ none) first held (subst (λ c. MayHave (place_of n) first c held) calls.calls h)
 
 -- ---- at each moment
 
@@ -349,6 +376,10 @@ renamed_part : (A B : Type 0) (answer : Result Unit (ReplaceFault Fault)) → On
 renamed_part A B (Ok done) h = h.0
 renamed_part A B (Err e) h = tt
 
+if_failed : (A B : Type 0) (answer : Result Unit (ReplaceFault Fault)) → (A → B) → OnErr answer A → OnErr answer B
+if_failed A B (Ok done) go h = tt
+if_failed A B (Err e) go h = go h
+
 -- what is said of each moment and of the other names, whatever it answers
 record Moments (w : ℕ) (temporary name : List ℕ) (made : Made) (old new : NameCalls) : Type 0 where
   since : NameCalls
@@ -357,25 +388,27 @@ record Moments (w : ℕ) (temporary name : List ℕ) (made : Made) (old new : Na
   others : AtEach (KeepsOthers temporary name old) since old
 
 answered : {F R : Type 0} (f : Ghosts F) (r : Raw R) (m : Making F) (x : Option (List ℕ)) (files : List (Option (List ℕ))) (input temporary name : List ℕ) (old new : NameCalls) (back : Option F) (told said : Option (List ℕ)) (answer : Result Unit (ReplaceFault Fault)) → renames old ≡ 0 → BaseHas f back x → Known files input m.inputs
-    → Moments m.word temporary name (made_here m x files input) old new → AreOfReplacing temporary name (IsDatabase f m back) old new → OnOk answer (IsRenamed temporary name new)
+    → Moments m.word temporary name (made_here m x files input) old new → AreOfReplacing temporary name (IsDatabase f m back) old new → OnOk answer (IsRenamed temporary name new) → OnErr answer (KeepsName name old new)
     → Tells r (λ base. base ≡ m.base) (λ base before after images made. IsBufferedRun f m base images before after made) temporary name old new back told said answer
     → ReplacesSo m.word temporary name (made_here m x files input) old new told said (answer_of answer)
-answered f r m x files input temporary name old new back told said (Ok done) none has known k calls renamed lines = record {
+answered f r m x files input temporary name old new back told said (Ok done) none has known k calls renamed keeps lines = record {
   since = k.since;
   calls = k.calls;
   moments = k.moments;
   others = k.others;
   ok = replaced_ok f r m back x files input temporary name old new told said none has known calls renamed (no_file f r m temporary name old new back told said lines);
   renamed = renamed;
+  unrenamed = tt;
   err = tt;
 }
-answered f r m x files input temporary name old new back told said (Err e) none has known k calls renamed lines = record {
+answered f r m x files input temporary name old new back told said (Err e) none has known k calls renamed keeps lines = record {
   since = k.since;
   calls = k.calls;
   moments = k.moments;
   others = k.others;
   ok = tt;
   renamed = tt;
+  unrenamed = keeps;
   err = λ had. replaced_err f r m back x files input temporary name old new told said e has known had lines;
 }
 
@@ -392,4 +425,4 @@ replaces_so f r m x files input temporary name old new back told said result apa
       moments = each_weaker _ _ moments.since old (λ now k. one_moment f m back x files input temporary name old now apart has known k) moments.each;
       others = others_kept temporary name (IsDatabase f m back) moments.since old (subst (AllByRecursion (IsOfReplacing temporary name (IsDatabase f m back))) same h.calls.each);
     })
-    h.calls (renamed_part _ _ h.answer h.ok) h.lines)
+    h.calls (renamed_part _ _ h.answer h.ok) (if_failed _ _ h.answer (λ same. keeps_name temporary name (IsDatabase f m back) old new apart h.calls (same ∙ none)) h.unrenamed) h.lines)

@@ -1,6 +1,6 @@
 -- A run whose words ask for a create comes to what the oracle says.
 use Rattle.std.proofs.Common.{ℕ, Bool, true, false, ◌⊎◌, List, [], ◌++◌, Option, Result, Ok, Err, ◌≡◌, ◌∙◌, ap, inl, inr, refl, subst, sym, append-nil, option_map, arith, string_bytes}
-use Rattle.std.specs.Prelude.{OnOk}
+use Rattle.std.specs.Prelude.{OnErr, OnOk}
 use Rattle.std.specs.Io.KnownBytes.{Appends, Keeps}
 use Rattle.std.proofs.KnownBytes.{Appends-kept, Keeps-refl, Keeps-trans}
 use Rattle.cdb_form.proofs.Bytes.WritingLemmas.{appends_then}
@@ -29,7 +29,7 @@ use Rattle.cdb_tool.specs.Views.Output.{HasHandedOn, OutputFailed, held_by, outp
 use Rattle.cdb_tool.specs.declared.output.Output.{Output as Writer}
 use Rattle.cdb_tool.proofs.WholeRuns.{prefix_kept}
 use Rattle.cdb.proofs.Explained.{SaysOnly, says_only}
-use Rattle.cdb.proofs.CreateEnds.{Came}
+use Rattle.cdb.proofs.CreateEnds.{Came, keeps_first}
 use Rattle.cdb.proofs.CreateReads.{asking_none, moments_first}
 use Rattle.cdb.proofs.Creates.{creates_so}
 use Rattle.cdb.proofs.Oracles.{all_taken, handed_all}
@@ -100,6 +100,10 @@ creates_in : {F I M R Y : Type 0} (s : Ghosts F) (m : Ghosts M) (r : Raw R) (rem
 creates_in s m r remaining y name base inputs temporary o true given old new was now left start end told said result h = h
 creates_in s m r remaining y name base inputs temporary o false given old new was now left start end told said result h = h
 
+if_not_done : (P : Type 0) (answer : Result Unit Fault) → OnErr answer P → (plain answer ≡ 0 → ⊥) → P
+if_not_done P (Ok done) h some = absurd (some refl)
+if_not_done P (Err fault) h some = h
+
 comes_so : {M : Type 0} (m : Ghosts M) (disk : Disk) (c : Created) (now : NameCalls) (made : Option M) (command : Command) (name : List ℕ) (base : Option (List ℕ)) (inputs : List (List ℕ)) (temporary : Option (List ℕ)) (o : MakeOptions) (wide : Bool) (start end final told before said : Option (List ℕ)) (unsaid : Type 0) (answer result : Result Unit Fault) (status : ℕ) → asked_in command ≡ asked.Create name base inputs temporary o wide → Keeps end final → result ≡ answer → (unsaid → ⊥)
     → SaysOnly result before said unsaid → status ≡ status_of command result → Came m disk name c now made start end told before answer → IsCreated m disk name c now made start final told said status ⊎ IsGivenUp c start final told said status
 comes_so m disk c now made command name base inputs temporary o wide start end final told before said unsaid answer result status a kept same speaks says is (inl h) =
@@ -143,6 +147,7 @@ run_holds s m r remaining y planned explained given old new was now left start e
           lines = subst (Appends told said) (ap usage_line lacks) (said_all (usage_line none.usage) told said unsaid speaks none.line);
         });
         done = λ zero. absurd (omega (arith, zero, is));
+        failed = λ some tried. keeps_first disk (passing name temporary) was now honest.first (asking_none was now none.same);
         moments = moments_first disk c.disk (passing name temporary) was now honest.first (asking_none was now none.same);
       })
   | inr refused ↦ absurd (let no : ◌≡◌ {A = Result Asked Usage} (Ok (asked.Create name base inputs temporary o wide)) (Err none.usage) = sym plan ∙ refused in cc)
@@ -156,9 +161,11 @@ run_holds s m r remaining y planned explained given old new was now left start e
     let so = creates_so s m r remaining y (word_size wide) (greatest_size wide) disk input name base inputs temporary o given (y.calls old) (y.calls new) left was now start does.end told some.before does.answer honest creates in
     let handed = handed_all does.end final unwritten does.answer some.result writes does.hands in
     let c = create_of (word_size wide) (greatest_size wide) disk input name base inputs temporary o in
+    let some_is : status ≡ plain does.answer = some.is_status ∙ status_create command name base inputs temporary o wide some.result a ∙ ap plain handed.1 in
     record {
       comes = λ unexplained had has. comes_so m disk c now left.made command name base inputs temporary o wide start does.end final told some.before said unsaid does.answer some.result status a handed.0 handed.1 speaks (says_only explained (asked_in command) some.result (y.calls new) now some.more some.before said unsaid unexplained some.explains some.says) some.is_status (so.answer had has);
-      done = λ zero. if_done _ does.answer so.done (sym (some.is_status ∙ status_create command name base inputs temporary o wide some.result a ∙ ap plain handed.1) ∙ zero);
+      done = λ zero. if_done _ does.answer so.done (sym some_is ∙ zero);
+      failed = λ other. if_not_done _ does.answer so.failed (λ zero. other (some_is ∙ zero));
       moments = so.moments;
     }
 

@@ -10,7 +10,7 @@ use Rattle.cdb_command.specs.declared.usage.Usage.{Usage}
 use Rattle.cdb_files.specs.Folder.{Has, IsCleared, MayHave, NameCalls}
 use Rattle.cdb_files.specs.Replacing.{AtEachMoment, IsNew, NameEvent}
 use Rattle.cdb_files.specs.declared.answer.Answer.TheVariants.{No}
-use Rattle.cdb_files.specs.declared.name_trace.NameCall.TheVariants.{Input, NotRemoved, Same}
+use Rattle.cdb_files.specs.declared.name_trace.NameCall.TheVariants.{Input, NotRemoved, NotRenamed, Same}
 use Rattle.cdb_form.specs.Format.Record.{AreBytes}
 use Rattle.cdb_form.specs.Views.KnownBytes.{AppendsPrefix}
 use Rattle.cdb_store.specs.Calls.{Agrees, Calls, lost}
@@ -78,6 +78,11 @@ abbrev pub IsNoFailedRemoval : NameEvent → Type 0
 IsNoFailedRemoval (NotRemoved, name, other, file) = ⊥
 IsNoFailedRemoval (call, name, other, file) = ⊤
 
+-- no rename failed, of which it is not known whether it was done
+abbrev pub IsNoFailedRename : NameEvent → Type 0
+IsNoFailedRename (NotRenamed len fault, from, to, file) = ⊥
+IsNoFailedRename (call, name, other, file) = ⊤
+
 -- ---- the disk
 
 -- what a name has then: what the calls on names left, and the name of the database, if that was made in
@@ -108,6 +113,11 @@ LeavesAll disk passing after now = (other : List ℕ) (held : Option (List ℕ))
     → passing ≢ Some other → MayHave (place_of other) (disk other) now held
     → (held ≡ disk other) ⊎ (held ≡ after other)
 
+-- each other name has what it had
+abbrev pub KeepsAll : Disk → (passing : Option (List ℕ)) → NameCalls → Type 0
+KeepsAll disk passing now = (other : List ℕ) (held : Option (List ℕ)) → passing ≢ Some other
+    → Has (place_of other) (disk other) now held → held ≡ disk other
+
 -- ---- what comes of it
 
 -- a refusal of what is read or built, or of a call on a name
@@ -136,8 +146,8 @@ pub record IsCreated {M : Type 0} (m : Ghosts M) (disk : Disk) (name : List ℕ)
   pub disk_is : AllByRecursion IsNoFailedRemoval now → HoldsAll m disk name made now c
 
 -- what was foretold, from the words to the exit status: unless faults are explained it came true, or a
--- refusal was reported; at status 0 the disk is as was said; and at each moment a crash leaves what was
--- there or what was said
+-- refusal was reported; at status 0 the disk is as was said, at another as it was; and at each moment a
+-- crash leaves what was there or what was said
 pub record CreateHolds {M : Type 0} (m : Ghosts M) (disk : Disk) (name : List ℕ)
     (temporary : Option (List ℕ)) (c : Created) (explained : Bool) (was now : NameCalls)
     (made : Option M) (start final told said : Option (List ℕ)) (status : ℕ) : Type 0 where
@@ -145,6 +155,8 @@ pub record CreateHolds {M : Type 0} (m : Ghosts M) (disk : Disk) (name : List �
       → IsCreated m disk name c now made start final told said status
       ⊎ IsGivenUp c start final told said status
   pub done : status ≡ 0 → HoldsAll m disk name made now c
+  pub failed : status ≢ 0 → AllByRecursion IsNoFailedRename now
+      → KeepsAll disk (passing name temporary) now
   pub moments : AtEachMoment (LeavesAll disk (passing name temporary) c.disk) was now
 
 -- a run of these words, which ask for a create
