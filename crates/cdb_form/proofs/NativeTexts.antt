@@ -8,4 +8,5 @@ pub mod TextLaws
 pub mod RecordLemmas
 pub mod WholeText
 pub mod FormReads
+pub mod KeyTexts
 pub mod PrefixLemmas

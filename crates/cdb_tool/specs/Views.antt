@@ -4,3 +4,4 @@ pub mod Input
 pub mod Inputs
 pub mod Output
 pub mod ItemReader
+pub mod KeyReader
