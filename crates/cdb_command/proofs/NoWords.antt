@@ -5,7 +5,8 @@ use Rattle.cdb_command.specs.Line.{Text, Given}
 use Rattle.cdb_command.specs.Asked.{Gives, asked_in, ◌>>=◌}
 use Rattle.cdb_command.specs.Rules.{letters_in, only_letter, no_stray, first_stray, taken_by}
 use Rattle.cdb_command.specs.Rules.{options_in, decimal_in, number_in, two_names, one_name}
-use Rattle.cdb_command.specs.Rules.{first_name, not_both, command_in, line_plan}
+use Rattle.cdb_command.specs.Rules.{first_name, not_both, lookups_in, key_query_in, query_in}
+use Rattle.cdb_command.specs.Rules.{command_in, line_plan}
 use Rattle.cdb_command.specs.declared.command.Command.{Command}
 use Rattle.cdb_command.specs.declared.rules.letter.Letter.{Letter}
 use Rattle.cdb_command.specs.declared.rules.letter.Letter.TheVariants as letter
@@ -67,8 +68,13 @@ first_none (x ∷ more) = given (x, more)
 both_none : (f : Flags) → NoWords (not_both f)
 both_none f = either _ _ _ (other _ (λ h. cc)) (given tt)
 
+query_none : (g : Given) (number : Option ℕ) → NoWords (query_in g number)
+query_none g number = either g.flags.inputs (lookups_in g number) (key_query_in g number)
+    (then (first_name g.names) _ (first_none g.names) (λ p. given _))
+    (then (two_names g.names) _ (two_none g.names) (λ p. given _))
+
 command_none : (x : Letter) (g : Given) (number : Option ℕ) → NoWords (command_in x g number)
-command_none letter.Query g number = then (two_names g.names) _ (two_none g.names) (λ p. given _)
+command_none letter.Query g number = query_none g number
 command_none letter.Dump g number = then (one_name g.names) _ (one_none g.names) (λ n. given _)
 command_none letter.List g number = then (one_name g.names) _ (one_none g.names) (λ n. given _)
 command_none letter.Stats g number = then (one_name g.names) _ (one_none g.names) (λ n. given _)
@@ -81,10 +87,11 @@ command_none letter.Create g number = then (first_name g.names) _ (first_none g.
 plan_none : (g : Given) → NoWords (line_plan g)
 plan_none g =
     either g.flags.help _ _ (given _)
+    (either g.flags.version _ _ (given _)
     (then (only_letter (letters_in g.flags)) _ (letter_none (letters_in g.flags))
     (λ x. then (no_stray (first_stray (taken_by x g) (options_in g))) _ (stray_none _)
     (λ _. then (number_in g.number) _ (number_none g.number)
-    (λ number. command_none x g number))))
+    (λ number. command_none x g number)))))
 
 pub gives_no_words : (r : Result Command Usage) (g : Given)
     → Gives asked_in r (line_plan g) → IfErr r (λ u. u ≢ Words)

@@ -8,7 +8,8 @@ use Rattle.cdb_command.specs.Line.{Text, Given}
 use Rattle.cdb_command.specs.Asked.{Gives, asked_in, IsInRange, ◌>>=◌}
 use Rattle.cdb_command.specs.Rules.{letters_in, only_letter, no_stray, first_stray, taken_by}
 use Rattle.cdb_command.specs.Rules.{options_in, value_number, decimal_in, number_in, two_names}
-use Rattle.cdb_command.specs.Rules.{one_name, first_name, not_both, command_in, line_plan}
+use Rattle.cdb_command.specs.Rules.{one_name, first_name, not_both, lookups_in, key_query_in}
+use Rattle.cdb_command.specs.Rules.{query_in, command_in, line_plan}
 use Rattle.cdb_command.specs.declared.command.Command.{Command}
 use Rattle.cdb_command.specs.declared.rules.letter.Letter.{Letter}
 use Rattle.cdb_command.specs.declared.rules.letter.Letter.TheVariants as letter
@@ -56,9 +57,15 @@ number_range : (text : Option Text) → Within (λ number. IfSome number Counts)
 number_range None = of None tt
 number_range (Some text) = kept (decimal_in text) _ (decimal_range text) (λ n p. of (Some n) p)
 
+query_range : (g : Given) (number : Option ℕ) → IfSome number Counts
+    → Within IsInRange (query_in g number)
+query_range g number p = either g.flags.inputs (lookups_in g number) (key_query_in g number)
+    (then (first_name g.names) _ (λ names. of _ p))
+    (then (two_names g.names) _ (λ names. of _ p))
+
 command_range : (x : Letter) (g : Given) (number : Option ℕ) → IfSome number Counts
     → Within IsInRange (command_in x g number)
-command_range letter.Query g number p = then (two_names g.names) _ (λ names. of _ p)
+command_range letter.Query g number p = query_range g number p
 command_range letter.Dump g number p = then (one_name g.names) _ (λ name. of _ tt)
 command_range letter.List g number p = then (one_name g.names) _ (λ name. of _ tt)
 command_range letter.Stats g number p = then (one_name g.names) _ (λ name. of _ tt)
@@ -70,10 +77,11 @@ command_range letter.Create g number p =
 plan_range : (g : Given) → Within IsInRange (line_plan g)
 plan_range g =
     either g.flags.help _ _ (of _ tt)
+    (either g.flags.version _ _ (of _ tt)
     (then (only_letter (letters_in g.flags)) _
     (λ x. then (no_stray (first_stray (taken_by x g) (options_in g))) _
     (λ _. kept (number_in g.number) _ (number_range g.number)
-    (λ number p. command_range x g number p))))
+    (λ number p. command_range x g number p)))))
 
 pub gives_in_range : (r : Result Command Usage) (g : Given)
     → Gives asked_in r (line_plan g) → IfOk r (λ command. IsInRange (asked_in command))

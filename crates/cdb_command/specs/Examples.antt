@@ -8,7 +8,8 @@ use Rattle.clap.specs.Faults.{walk_fault, flags_fault, defaults_fault}
 use Rattle.clap.specs.Walk.{bundle_met, walked}
 use Rattle.cdb_form.specs.declared.mode.Mode.TheVariants.{Add}
 use Rattle.cdb_command.specs.Line.{Text}
-use Rattle.cdb_command.specs.Asked.{Asked, Query, Dump, Difference, Create, Help}
+use Rattle.cdb_command.specs.Asked.{Asked, Query, Lookups, Dump, Difference, Create, Help, Version}
+use Rattle.cdb_command.specs.Explained.{explains_in}
 use Rattle.cdb_command.specs.Words.{plan_of, cdb_rows, cdb_faults}
 use Rattle.cdb_command.specs.declared.style.Style.TheVariants.{Native, Map}
 use Rattle.cdb_command.specs.declared.usage.Usage.{Usage}
@@ -106,3 +107,40 @@ difference_as_a_map = refl
 pub difference_and_create : asks (codes "-Dc" ∷ codes "x" ∷ codes "y" ∷ []) ≡ Err TwoCommands
 unfolding cdb_rows cdb_faults walk_fault flags_fault defaults_fault bundle_met walked chars encode
 difference_and_create = refl
+
+pub version_with_letters : asks (codes "-V" ∷ codes "-q" ∷ []) ≡ Ok Version
+unfolding cdb_rows cdb_faults walk_fault flags_fault defaults_fault bundle_met walked chars encode
+version_with_letters = refl
+
+pub help_before_version : asks (codes "-Vh" ∷ []) ≡ Ok Help
+unfolding cdb_rows cdb_faults walk_fault flags_fault defaults_fault bundle_met walked chars encode
+help_before_version = refl
+
+pub looked_up : asks (codes "-qim" ∷ codes "-v" ∷ codes "x" ∷ codes "-" ∷ codes "y" ∷ []) ≡ Ok (Lookups (codes "x") (codes "-" ∷ codes "y" ∷ []) None Map false)
+unfolding cdb_rows cdb_faults walk_fault flags_fault defaults_fault bundle_met walked chars encode
+looked_up = refl
+
+pub looked_up_from_standard_input : asks (codes "-iWqn" ∷ codes "2" ∷ codes "x" ∷ []) ≡ Ok (Lookups (codes "x") [] (Some 2) Native true)
+unfolding cdb_rows cdb_faults walk_fault flags_fault defaults_fault bundle_met walked chars encode
+looked_up_from_standard_input = refl
+
+pub looked_up_without_database : asks (codes "-qi" ∷ []) ≡ Err Names
+unfolding cdb_rows cdb_faults walk_fault flags_fault defaults_fault bundle_met walked chars encode
+looked_up_without_database = refl
+
+pub inputs_of_statistics : asks (codes "-si" ∷ codes "x" ∷ []) ≡ Err (Option (code "i"))
+unfolding cdb_rows cdb_faults walk_fault flags_fault defaults_fault bundle_met walked chars encode
+inputs_of_statistics = refl
+
+-- whether faults are explained
+pub explained_among_letters : explains_in (codes "cdb" ∷ codes "-c" ∷ codes "x" ∷ codes "-wv" ∷ []) ≡ true
+explained_among_letters = refl
+
+pub explained_beside_a_bad_letter : explains_in (codes "cdb" ∷ codes "-Zv" ∷ []) ≡ true
+explained_beside_a_bad_letter = refl
+
+pub value_is_no_letter : explains_in (codes "cdb" ∷ codes "-ctv" ∷ codes "x" ∷ []) ≡ false
+value_is_no_letter = refl
+
+pub name_is_no_letter : explains_in (codes "cdb" ∷ codes "-q" ∷ codes "x" ∷ codes "--" ∷ codes "-v" ∷ []) ≡ false
+name_is_no_letter = refl

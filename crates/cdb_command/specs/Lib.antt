@@ -3,5 +3,6 @@ pub mod Line
 pub mod Asked
 pub mod Rules
 pub mod Words
+pub mod Explained
 pub mod Usage
 pub mod Examples

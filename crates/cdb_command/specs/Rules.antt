@@ -9,8 +9,8 @@ use Rattle.std.specs.Str.Parse.{digits_value}
 use Rattle.cdb_form.specs.declared.mode.Mode.{Mode}
 use Rattle.cdb_form.specs.declared.mode.Mode.TheVariants.{Add, Warn, Insert, Replace}
 use Rattle.cdb_command.specs.Line.{Text, Given}
-use Rattle.cdb_command.specs.Asked.{Asked, Query, Dump, Listing, Stats, Check, Difference}
-use Rattle.cdb_command.specs.Asked.{Create, Help, ◌>>=◌}
+use Rattle.cdb_command.specs.Asked.{Asked, Query, Lookups, Dump, Listing, Stats, Check, Difference}
+use Rattle.cdb_command.specs.Asked.{Create, Help, Version, ◌>>=◌}
 use Rattle.cdb_command.specs.declared.rules.letter.Letter.{Letter}
 use Rattle.cdb_command.specs.declared.rules.letter.Letter.TheVariants as letter
 use Rattle.cdb_command.specs.declared.line.Flags.{Flags}
@@ -63,7 +63,7 @@ takes_base g base = not (unwrap_or (option_map is_hyphen g.temporary) false)
     && (writes_out g.names || not (is_built_in g.temporary g.names base))
 
 abbrev pub taken_by : Letter → Given → Text
-taken_by letter.Query g = codes "mn"
+taken_by letter.Query g = codes "mni"
 taken_by letter.Dump g = codes "m"
 taken_by letter.List g = codes "m"
 taken_by letter.Stats g = []
@@ -78,10 +78,14 @@ making_options_in g = when (is_some g.temporary) (code "t") ++ (when g.flags.war
     ++ (when g.flags.stop (code "e") ++ (when g.flags.replace (code "r")
     ++ (when g.flags.insert (code "u") ++ when (is_some g.base) (code "b")))))
 
+-- before them those that a query takes beside `m`
+abbrev pub query_options_in : Given → Text
+query_options_in g = when (is_some g.number) (code "n")
+    ++ (when g.flags.inputs (code "i") ++ making_options_in g)
+
 -- all that some command takes
 abbrev pub options_in : Given → Text
-options_in g =
-    when g.flags.map (code "m") ++ (when (is_some g.number) (code "n") ++ making_options_in g)
+options_in g = when g.flags.map (code "m") ++ query_options_in g
 
 abbrev pub first_stray : Text → Text → Option ℕ
 first_stray taken options = find (λ option. not (list_any (λ o. o == option) taken)) options
@@ -147,9 +151,18 @@ options_of f = record {
 
 -- ---- the plan
 
-abbrev pub query_in : Given → Option ℕ → Result Asked Usage
-query_in g number =
+-- of one key
+abbrev pub key_query_in : Given → Option ℕ → Result Asked Usage
+key_query_in g number =
     two_names g.names >>= λ p. Ok (Query p.0 p.1 number g.flags.map g.flags.wide)
+
+-- of the keys that inputs give
+abbrev pub lookups_in : Given → Option ℕ → Result Asked Usage
+lookups_in g number = first_name g.names >>= λ p.
+    Ok (Lookups p.0 p.1 number (style_in g.flags) g.flags.wide)
+
+abbrev pub query_in : Given → Option ℕ → Result Asked Usage
+query_in g number = if g.flags.inputs then lookups_in g number else key_query_in g number
 
 abbrev pub difference_in : Given → Result Asked Usage
 difference_in g = two_names g.names >>= λ p. Ok (Difference p.0 p.1 g.flags.wide)
@@ -171,13 +184,14 @@ command_in letter.Check g number = one_name g.names >>= λ name. Ok (Check name 
 command_in letter.Difference g number = difference_in g
 command_in letter.Create g number = create_in g
 
--- without `-h` each step names the next fault
-abbrev pub plan_without_help : Given → Result Asked Usage
-plan_without_help g = do
+-- without `-h` and `-V` each step names the next fault
+abbrev pub plan_of_letters : Given → Result Asked Usage
+plan_of_letters g = do
   letter ← only_letter (letters_in g.flags)
   _ ← no_stray (first_stray (taken_by letter g) (options_in g))
   number ← number_in g.number
   command_in letter g number
 
 abbrev pub line_plan : Given → Result Asked Usage
-line_plan g = if g.flags.help then Ok Help else plan_without_help g
+line_plan g =
+    if g.flags.help then Ok Help else if g.flags.version then Ok Version else plan_of_letters g

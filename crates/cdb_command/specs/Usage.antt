@@ -22,10 +22,17 @@ usage_message fault = codes "bad command line, see cdb -h"
 -- what `-h` writes
 abbrev pub usage_text : List ℕ
 usage_text = codes "usage: cdb -q [-W] [-m] [-n number] database key\n"
+    ++ (codes "       cdb -q -i [-W] [-m] [-n number] database [input ...]\n"
     ++ (codes "       cdb -d [-W] [-m] [database]\n"
     ++ (codes "       cdb -l [-W] [-m] [database]\n"
     ++ (codes "       cdb -s [-W] [database]\n"
     ++ (codes "       cdb -c [-W] [-m] [-t temporary] [-b base] [-weru] database [input ...]\n"
     ++ (codes "       cdb -k [-W] [database]\n"
     ++ (codes "       cdb -D [-W] old new\n"
-    ++ codes "       cdb -h\n"))))))
+    ++ (codes "       cdb -h\n"
+    ++ (codes "       cdb -V\n"
+    ++ codes "       with each: -v  say which file and why\n")))))))))
+
+-- what `-V` writes
+abbrev pub version_text : List ℕ
+version_text = codes "cdb 1.1.0~dev (Pezundrix)\n"

@@ -40,10 +40,11 @@ option letter = option_rule (code letter ∷ []) (code letter)
 
 abbrev pub command_rules : List Rule
 command_rules = flag "q" ∷ flag "d" ∷ flag "l" ∷ flag "s" ∷ flag "c" ∷ flag "k" ∷ flag "D"
-    ∷ flag "h" ∷ []
+    ∷ flag "h" ∷ flag "V" ∷ []
 
 abbrev pub letter_rules : List Rule
-letter_rules = flag "m" ∷ flag "W" ∷ flag "w" ∷ flag "e" ∷ flag "r" ∷ flag "u" ∷ []
+letter_rules = flag "m" ∷ flag "W" ∷ flag "w" ∷ flag "e" ∷ flag "r" ∷ flag "u"
+    ∷ flag "i" ∷ flag "v" ∷ []
 
 abbrev pub value_rules : List Rule
 value_rules = option "n" ∷ option "t" ∷ option "b" ∷ names_rule ∷ []
@@ -83,7 +84,9 @@ flags_of rows = record {
   check = has (codes "k") rows;
   difference = has (codes "D") rows;
   help = has (codes "h") rows;
+  version = has (codes "V") rows;
   map = has (codes "m") rows;
+  inputs = has (codes "i") rows;
   wide = has (codes "W") rows;
   warn = has (codes "w") rows;
   stop = has (codes "e") rows;

@@ -15,6 +15,15 @@ pub enum Command {
         lines: bool,
         wide: bool,
     },
+    /// The records of keys are written as a text, or of each key the value with a number alone. The
+    /// inputs give the keys.
+    Lookups {
+        name: String,
+        inputs: Vec<String>,
+        number: Option<u64>,
+        style: Style,
+        wide: bool,
+    },
     /// The records are written as a text.
     Dump {
         name: Option<String>,
@@ -56,4 +65,6 @@ pub enum Command {
     },
     /// The usage text is written.
     Help,
+    /// The version is written.
+    Version,
 }

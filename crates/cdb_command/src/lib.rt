@@ -2,6 +2,7 @@
 #![tactic(auto)]
 
 mod command;
+mod explained;
 mod line;
 mod options;
 mod owned;
@@ -14,8 +15,9 @@ mod usage_text;
 mod words;
 
 pub use command::Command;
+pub use explained::explains;
 pub use options::MakeOptions;
 pub use planning::plan;
 pub use style::Style;
 pub use usage::Usage;
-pub use usage_text::write_usage;
+pub use usage_text::{write_usage, write_version};

@@ -58,8 +58,7 @@ fn with_commands<'a>(alloc: Global, parser: Command<'a>) -> Result<Command<'a>, 
 {
     let parser = with_three(alloc, parser, ("q", 'q'), ("d", 'd'), ("l", 'l'))?;
     let parser = with_three(alloc, parser, ("s", 's'), ("c", 'c'), ("k", 'k'))?;
-    let parser = parser.arg(flag(alloc, "D", 'D'))?;
-    parser.arg(flag(alloc, "h", 'h'))
+    with_three(alloc, parser, ("D", 'D'), ("h", 'h'), ("V", 'V'))
 }
 
 /// The command with the letters of their options.
@@ -67,7 +66,9 @@ fn with_letters<'a>(alloc: Global, parser: Command<'a>) -> Result<Command<'a>, A
     ensures { IfOk result (λ r. app_of r ≡ with_rules (app_of parser.entry) letter_rules) }
 {
     let parser = with_three(alloc, parser, ("m", 'm'), ("W", 'W'), ("w", 'w'))?;
-    with_three(alloc, parser, ("e", 'e'), ("r", 'r'), ("u", 'u'))
+    let parser = with_three(alloc, parser, ("e", 'e'), ("r", 'r'), ("u", 'u'))?;
+    let parser = parser.arg(flag(alloc, "i", 'i'))?;
+    parser.arg(flag(alloc, "v", 'v'))
 }
 
 /// The command with the options that have values, and with names.

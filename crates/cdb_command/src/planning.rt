@@ -16,27 +16,28 @@ use std::alloc::Global;
 /// after them; a letter without a value that comes often is as one. After `--` all words are
 /// names. The answer is the first that holds of these:
 /// - `Words`: an unknown letter, `-n`, `-t` or `-b` without a value, or one of them twice;
-/// - `Ok(Help)`: `-h` is there;
+/// - `Ok(Help)`: `-h` is there; `Ok(Version)`: `-V` is there;
 /// - `NoCommand`, `TwoCommands`: none or several of `-q`, `-d`, `-l`, `-s`, `-c`, `-k` and
 ///   `-D`;
-/// - `Option(letter)`: the command doesn't take this option, the first such of `m n t w e r u b`.
-///   `-q` takes `m` and `n`, `-d` and `-l` take `m`, and `-c` takes all but `n`. It takes no `b`
+/// - `Option(letter)`: the command doesn't take this option, the first such of `m n i t w e r u b`.
+///   `-q` takes `m`, `n` and `i`, `-d` and `-l` take `m`, and `-c` takes all but `n` and `i`. It takes no `b`
 ///   beside `-t -`, nor if it would build in the base: if `-t`, or the database's name and `.tmp`,
 ///   is the base's name. A database named `-` is built in no file;
 /// - `Number`: the value of `-n` isn't decimal digits alone, of a number from 1 to 4294967295;
-/// - `Names`: `-q` and `-D` take two names, `-c` one and any number of inputs, the others one at most;
+/// - `Names`: `-q` and `-D` take two names, `-c` and `-q` with `-i` one and any number of inputs, the
+///   others one at most;
 /// - `Both`: `-r` and `-u`;
-/// - the command. If it reads one file, no name and `-` are standard input. `-W` goes with
-///   every command.
+/// - the command. If it reads one file, no name and `-` are standard input. `-W` and `-v` go
+///   with every command; `explains` answers whether `-v` is there.
 ///
 /// `NoMemory` may come in place of any. The limit of a create is the greatest length in bytes of a
 /// file of its width, 4294967295 or 9223372036854775807.
-pub fn plan(alloc: Global, words: Vec<String>) -> Result<Command, Usage>
-    ensures exact { Gives asked_in result (plan_of (map string_bytes words.items)) }
+pub fn plan(alloc: Global, words: &[String]) -> Result<Command, Usage>
+    ensures exact { Gives asked_in result (plan_of (map string_bytes words.now)) }
     ensures range { IfOk result (λ command. IsInRange (asked_in command)) }
     ensures refused { IfErr result
-        (λ u. u ≡ Words → cdb_faults (map string_bytes words.items) ≢ []) }
+        (λ u. u ≡ Words → cdb_faults (map string_bytes words.now) ≢ []) }
 {
-    let matches = matches_of(alloc, words.as_slice())?;
+    let matches = matches_of(alloc, words)?;
     asked_on(alloc, &line_of(&matches))
 }

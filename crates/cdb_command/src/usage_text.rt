@@ -1,16 +1,17 @@
 // The text that says how the program is called.
 ghost use Rattle.cdb_form.specs.Views.KnownBytes.{Writes};
-ghost use Rattle.cdb_command.specs.Usage.{usage_text};
+ghost use Rattle.cdb_command.specs.Usage.{usage_text, version_text};
 
-use cdb_form::{OutFault, write_pieces};
+use cdb_form::{OutFault, write_pieces, write_whole};
 use std::io::Write;
 
 /// Writes the usage text. After an `OutFault` the writer holds a prefix of it.
 pub fn write_usage<W: Write>(w: &mut W) -> Result<(), OutFault>
     ensures { Writes result (W.contents w.old) (W.contents w.new) usage_text }
 {
-    let lines: [&[u8]; 8] = [
+    let lines: [&[u8]; 11] = [
         b"usage: cdb -q [-W] [-m] [-n number] database key\n",
+        b"       cdb -q -i [-W] [-m] [-n number] database [input ...]\n",
         b"       cdb -d [-W] [-m] [database]\n",
         b"       cdb -l [-W] [-m] [database]\n",
         b"       cdb -s [-W] [database]\n",
@@ -18,6 +19,19 @@ pub fn write_usage<W: Write>(w: &mut W) -> Result<(), OutFault>
         b"       cdb -k [-W] [database]\n",
         b"       cdb -D [-W] old new\n",
         b"       cdb -h\n",
+        b"       cdb -V\n",
+        b"       with each: -v  say which file and why\n",
     ];
     write_pieces(w, &lines)
+}
+
+/// The version of the program.
+const VERSION: &[u8] = b"cdb 1.1.0~dev (Pezundrix)\n";
+
+/// Writes the name of the program and its version. After an `OutFault` the writer holds a prefix of
+/// that.
+pub fn write_version<W: Write>(w: &mut W) -> Result<(), OutFault>
+    ensures { Writes result (W.contents w.old) (W.contents w.new) version_text }
+{
+    write_whole(w, VERSION)
 }

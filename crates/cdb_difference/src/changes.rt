@@ -29,7 +29,7 @@ fn write_put_head<W: Write>(w: &mut W, key: &[u8], vlen: u64) -> Result<(), OutF
 
 /// Writes a put of a key and a value that a finder gave, whose bytes go from the store to the writer
 /// in pieces. After a fault the writer holds a prefix of it.
-fn write_put<L: Width, S: Store, W: Write>(
+pub fn write_put<L: Width, S: Store, W: Write>(
     finder: &mut Finder<'_, S, L>,
     key: &[u8],
     value: Span,

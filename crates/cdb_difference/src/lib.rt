@@ -13,5 +13,6 @@ mod same;
 mod stop;
 mod write;
 
+pub use changes::write_put;
 pub use stop::Stop;
 pub use write::write_difference;

@@ -8,5 +8,6 @@ pub mod TextLaws
 pub mod RecordLemmas
 pub mod WholeText
 pub mod FormReads
+pub mod KeyTexts
 pub mod PrefixLemmas
 pub mod Parsing

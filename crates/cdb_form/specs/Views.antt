@@ -14,5 +14,6 @@ pub mod FormReader
 pub mod TextReader
 pub mod AmendReader
 pub mod MapReader
+pub mod ListReader
 pub mod RecordReader
 pub mod Repeats

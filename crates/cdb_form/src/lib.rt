@@ -42,6 +42,7 @@ pub use text::amend_reader::AmendReader;
 pub use text::amend_writer::write_removal;
 pub use text::at_hand::{AtHand, NoneAtHand};
 pub use text::fault::TextFault;
+pub use text::list_reader::ListReader;
 pub use text::list_writer::{write_list_record, write_map_key};
 pub use text::map_reader::MapReader;
 pub use text::map_writer::write_map_record;

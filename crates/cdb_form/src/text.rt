@@ -8,6 +8,7 @@ pub(crate) mod going;
 mod kind;
 mod lanes;
 pub(crate) mod line;
+pub(crate) mod list_reader;
 pub(crate) mod list_writer;
 mod map_parser;
 pub(crate) mod map_reader;

@@ -115,7 +115,7 @@ inputs_next st g (q ∷ read) last inputs mid rest e is = (e.0, e.1, inputs_next
 one_begins : (st : InputForm) (g : ℕ) (last : List Change) (each more : List OneInput) (shared : Option (List ℕ)) (one : OneInput) → each ≡ one ∷ more → IfSome (bytes_of one shared) (BeginsWithItems st g last) → OneBegins st g last each shared
 one_begins st g last each more shared one e b = subst (λ v. OneBegins st g last v shared) (sym e) b
 
-first_begins : (st : InputForm) (g : ℕ) (last : List Change) (rest : InputsLeft) (x : Option (List ℕ)) → FirstHas rest x → IfSome x (BeginsWithItems st g last) → FirstBegins st g last rest
+pub first_begins : (st : InputForm) (g : ℕ) (last : List Change) (rest : InputsLeft) (x : Option (List ℕ)) → FirstHas rest x → IfSome x (BeginsWithItems st g last) → FirstBegins st g last rest
 first_begins st g last rest x h b = one_begins st g last rest.each h.more rest.shared h.one h.first (subst (λ v. IfSome v (BeginsWithItems st g last)) h.has b)
 
 stopped : (w g : ℕ) (o : Task) (read : List (List Change)) (x : Option (List ℕ)) (inputs rest : InputsLeft) (start now : Option (List ℕ)) (f : Fault) → AreInputs (task_form o) g read inputs rest → FirstHas rest x → StopsIn w g o read x start now f → Stops w g o inputs start now f
@@ -216,6 +216,7 @@ begins_none st g None = tt
 begins_none (form.Puts style.Native) g (Some text) = ([], refl, (text, refl))
 begins_none (form.Puts style.Map) g (Some text) = ([], refl, (map_lines text, refl))
 begins_none form.Changes g (Some text) = (text, refl)
+begins_none form.Lists g (Some text) = (text, refl)
 
 pub no_window : {S K : Type 0} {s : Ghosts S} {k : Widths K} (g : ℕ) (t : Task) (read : List (List Change)) (x start now : Option (List ℕ)) (m : Batch S K s k) → InCourse t (from_inputs 1 read) start now m → WhereHonest (s.image m.maker.store) (InputFails k.WORD g t read x start now NoMemory)
 no_window {k = k} g t read x start now m h = record {

@@ -6,6 +6,8 @@ pub mod NativeInputs
 pub mod WholeRuns
 pub mod InputTexts
 pub mod ItemTexts
+pub mod KeyInputs
+pub mod LookupRuns
 pub mod BaseRecords
 pub mod Courses
 pub mod InputRuns

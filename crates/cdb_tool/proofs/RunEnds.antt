@@ -39,7 +39,7 @@ one_none : (st : InputForm) (g : ℕ) (each : List OneInput) (shared : Option (L
 one_none st g [] shared = refl
 one_none st g (one ∷ each) shared = begins_none st g (bytes_of one shared)
 
-first_none : (st : InputForm) (g : ℕ) (inputs : InputsLeft) → FirstBegins st g [] inputs
+pub first_none : (st : InputForm) (g : ℕ) (inputs : InputsLeft) → FirstBegins st g [] inputs
 first_none st g inputs = one_none st g inputs.each inputs.shared
 
 -- nothing was read

@@ -5,3 +5,4 @@ pub mod Inputs
 pub mod Noted
 pub mod Output
 pub mod ItemReader
+pub mod KeyReader

@@ -12,7 +12,9 @@ mod output;
 mod runs;
 mod status;
 
-pub use cdb_command::{Command, MakeOptions, Style, Usage, plan, write_usage};
+pub use cdb_command::{
+    Command, MakeOptions, Style, Usage, explains, plan, write_usage, write_version,
+};
 pub use fault::Fault;
 pub use input::{InWindow, Input};
 pub use inputs::{Inputs, Turn};
@@ -24,6 +26,7 @@ pub use runs::content::Content;
 pub use runs::difference::difference_run;
 pub use runs::flushed::flushed;
 pub use runs::load::{load, load_from};
+pub use runs::lookups::lookups_run;
 pub use runs::make::{make_run, make_run_from, put_inputs};
 pub use runs::make_bytes::make_bytes;
 pub use runs::query::{query_from, query_run};

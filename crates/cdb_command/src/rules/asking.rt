@@ -2,8 +2,8 @@
 ghost use Rattle.std.specs.Prelude.{◌≡◌, option_map, string_bytes};
 ghost use Rattle.cdb_command.specs.Line.{given_in};
 ghost use Rattle.cdb_command.specs.Asked.{Gives, asked_in};
-ghost use Rattle.cdb_command.specs.Rules.{one_name, query_in, create_in, difference_in};
-ghost use Rattle.cdb_command.specs.Rules.{command_in, line_plan};
+ghost use Rattle.cdb_command.specs.Rules.{one_name, key_query_in, lookups_in, query_in, create_in};
+ghost use Rattle.cdb_command.specs.Rules.{difference_in, command_in, line_plan};
 
 use crate::command::Command;
 use crate::line::Line;
@@ -23,9 +23,9 @@ fn input_of(alloc: Global, line: &Line<'_, '_>) -> Result<Option<String>, Usage>
     owned_option(alloc, one_name(line.names)?)
 }
 
-/// A query, of a value with a number or of all.
-fn query_of(alloc: Global, line: &Line<'_, '_>, number: Option<u64>) -> Result<Command, Usage>
-    ensures { Gives asked_in result (query_in (given_in line.now) number) }
+/// A query of one key, of a value with a number or of all.
+fn key_query_of(alloc: Global, line: &Line<'_, '_>, number: Option<u64>) -> Result<Command, Usage>
+    ensures { Gives asked_in result (key_query_in (given_in line.now) number) }
 {
     let (name, key) = two_names(line.names)?;
     Ok(Command::Query {
@@ -35,6 +35,31 @@ fn query_of(alloc: Global, line: &Line<'_, '_>, number: Option<u64>) -> Result<C
         lines: line.flags.map,
         wide: line.flags.wide,
     })
+}
+
+/// A query of the keys that inputs give.
+fn lookups_of(alloc: Global, line: &Line<'_, '_>, number: Option<u64>) -> Result<Command, Usage>
+    ensures { Gives asked_in result (lookups_in (given_in line.now) number) }
+{
+    let (name, inputs) = first_name(line.names)?;
+    Ok(Command::Lookups {
+        name: owned(alloc, name)?,
+        inputs: owned_all(alloc, inputs)?,
+        number,
+        style: style_of(line.flags),
+        wide: line.flags.wide,
+    })
+}
+
+/// A query, of one key or of those that inputs give.
+fn query_of(alloc: Global, line: &Line<'_, '_>, number: Option<u64>) -> Result<Command, Usage>
+    ensures { Gives asked_in result (query_in (given_in line.now) number) }
+{
+    if line.flags.inputs {
+        lookups_of(alloc, line, number)
+    } else {
+        key_query_of(alloc, line, number)
+    }
 }
 
 /// A difference of two files.
@@ -104,6 +129,9 @@ pub(crate) fn asked_on(alloc: Global, line: &Line<'_, '_>) -> Result<Command, Us
 {
     if line.flags.help {
         return Ok(Command::Help);
+    }
+    if line.flags.version {
+        return Ok(Command::Version);
     }
     let letter = only_letter(line.flags)?;
     without_stray(letter, line)?;

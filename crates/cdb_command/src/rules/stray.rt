@@ -1,8 +1,8 @@
 // Options that a command does not take.
 ghost use Rattle.std.specs.Prelude.{◌≡◌, []};
 ghost use Rattle.cdb_command.specs.Line.{given_in};
-ghost use Rattle.cdb_command.specs.Rules.{taken_by, making_options_in, options_in, first_stray};
-ghost use Rattle.cdb_command.specs.Rules.{no_stray};
+ghost use Rattle.cdb_command.specs.Rules.{taken_by, making_options_in, query_options_in, options_in};
+ghost use Rattle.cdb_command.specs.Rules.{first_stray, no_stray};
 ghost use Rattle.cdb_command.specs.declared.rules.letter.Letter.TheVariants as letter;
 
 use crate::line::Line;
@@ -10,26 +10,54 @@ use crate::rules::base::takes_base;
 use crate::rules::letter::Letter;
 use crate::usage::Usage;
 
-/// The first option on a line, in the order `m n t w e r u b`, that the command does not take.
+/// The first option on a line, in the order `m n i t w e r u b`, that the command does not take.
 fn stray_option(letter: Letter, line: &Line<'_, '_>) -> Option<char>
     ensures { result ≡ first_stray (taken_by letter (given_in line.now))
         (options_in (given_in line.now)) }
 {
-    let flags = line.flags;
-    let (takes_map, takes_number, takes_making) = match letter {
-        Letter::Query => (true, true, false),
-        Letter::Dump | Letter::List => (true, false, false),
-        Letter::Stats | Letter::Check | Letter::Difference => (false, false, false),
-        Letter::Create => (true, false, true),
-    };
-    if flags.map && !takes_map {
+    match letter {
+        Letter::Query => making_option(line),
+        Letter::Dump | Letter::List => query_option(line),
+        Letter::Stats | Letter::Check | Letter::Difference => any_option(line),
+        Letter::Create => create_option(line),
+    }
+}
+
+/// The first option on a line, if there is one.
+fn any_option(line: &Line<'_, '_>) -> Option<char>
+    ensures { result ≡ first_stray [] (options_in (given_in line.now)) }
+{
+    if line.flags.map {
         Some('m')
-    } else if line.number.is_some() && !takes_number {
+    } else {
+        query_option(line)
+    }
+}
+
+/// The first option on a line but `m`.
+fn query_option(line: &Line<'_, '_>) -> Option<char>
+    ensures { result ≡ first_stray [] (query_options_in (given_in line.now)) }
+{
+    if line.number.is_some() {
         Some('n')
-    } else if takes_making {
-        stray_base(line)
+    } else if line.flags.inputs {
+        Some('i')
     } else {
         making_option(line)
+    }
+}
+
+/// The first option on a line that a create does not take.
+fn create_option(line: &Line<'_, '_>) -> Option<char>
+    ensures { result ≡ first_stray (taken_by letter.Create (given_in line.now))
+        (options_in (given_in line.now)) }
+{
+    if line.number.is_some() {
+        Some('n')
+    } else if line.flags.inputs {
+        Some('i')
+    } else {
+        stray_base(line)
     }
 }
 

@@ -7,7 +7,7 @@ use std::test::Fail;
 
 /// Whether a line asks for the command that is shown so.
 fn asks(alloc: Global, line: &str, shown: &str) -> Result<bool, AllocError> {
-    match plan(alloc, words_of(alloc, line)?) {
+    match plan(alloc, words_of(alloc, line)?.as_slice()) {
         Ok(command) => Ok(format!(in alloc; "{command:?}")?.as_str() == shown),
         Err(_) => Ok(false),
     }
@@ -31,8 +31,24 @@ fn creates(
 }
 
 /// Lines, and the commands that they ask for.
-const READ: [(&str, &str); 13] = [
+const READ: [(&str, &str); 20] = [
     ("-h -q -d", "Help"),
+    ("-v -h", "Help"),
+    ("-q -V -d", "Version"),
+    ("-Vh", "Help"),
+    (
+        "-qi x",
+        "Lookups { name: \"x\", inputs: [], number: None, style: Native, wide: false }",
+    ),
+    (
+        "x -Wi - y -mvqn 2",
+        "Lookups { name: \"x\", inputs: [\"-\", \"y\"], number: Some(2), style: Map, wide: true }",
+    ),
+    ("-kv x", "Check { name: Some(\"x\"), wide: false }"),
+    (
+        "-q x -n 1 -- -v",
+        "Query { name: \"x\", key: \"-v\", number: Some(1), lines: false, wide: false }",
+    ),
     (
         "-q x -- -k",
         "Query { name: \"x\", key: \"-k\", number: None, lines: false, wide: false }",

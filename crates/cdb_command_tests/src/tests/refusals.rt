@@ -30,7 +30,7 @@ fn came_of_create(planned: &Result<Command, Usage>) -> Came {
 /// How it ends.
 fn plan_create(alloc: Global) -> Came {
     match words_of(alloc, "-cew -t temporary -b base database one two") {
-        Ok(words) => came_of_create(&plan(alloc, words)),
+        Ok(words) => came_of_create(&plan(alloc, words.as_slice())),
         Err(_) => Came::NoInputs,
     }
 }
@@ -47,7 +47,7 @@ fn came_of_refused(planned: &Result<Command, Usage>) -> Came {
 /// How it ends.
 fn plan_refused(alloc: Global) -> Came {
     match words_of(alloc, "-q -n 1 -n 2 database key") {
-        Ok(words) => came_of_refused(&plan(alloc, words)),
+        Ok(words) => came_of_refused(&plan(alloc, words.as_slice())),
         Err(_) => Came::NoInputs,
     }
 }

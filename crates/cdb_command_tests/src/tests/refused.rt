@@ -7,14 +7,14 @@ use std::test::Fail;
 
 /// Whether a line is refused with this fault.
 fn is_refused(alloc: Global, line: &str, fault: &Usage) -> Result<bool, AllocError> {
-    match plan(alloc, words_of(alloc, line)?) {
+    match plan(alloc, words_of(alloc, line)?.as_slice()) {
         Ok(_) => Ok(false),
         Err(usage) => Ok(usage == *fault),
     }
 }
 
 /// Lines, and their faults.
-const REFUSED: [(&str, Usage); 52] = [
+const REFUSED: [(&str, Usage); 64] = [
     ("", Usage::NoCommand),
     ("x", Usage::NoCommand),
     ("-q -d x", Usage::TwoCommands),
@@ -64,6 +64,18 @@ const REFUSED: [(&str, Usage); 52] = [
     ("-c x -b", Usage::Words),
     ("-c -b x -b y z", Usage::Words),
     ("-h -Z", Usage::Words),
+    ("-V -Z", Usage::Words),
+    ("-i x", Usage::NoCommand),
+    ("-v", Usage::NoCommand),
+    ("-qid x", Usage::TwoCommands),
+    ("-di x", Usage::Option('i')),
+    ("-c -n 1 -i x", Usage::Option('n')),
+    ("-ci -w x", Usage::Option('i')),
+    ("-D -it z x y", Usage::Option('i')),
+    ("-qi -w x", Usage::Option('w')),
+    ("-qi -n 0 x", Usage::Number),
+    ("-qi", Usage::Names),
+    ("-q -v x", Usage::Names),
     ("-q x -k -n", Usage::Words),
     ("-q -n 1 -n 2 x k", Usage::Words),
     ("-c -t a -t b x", Usage::Words),

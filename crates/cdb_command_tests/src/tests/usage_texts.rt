@@ -1,10 +1,11 @@
-// The usage text, and a writer that takes a prefix of it.
-use cdb_command::write_usage;
+// The usage text, and a writer that takes a prefix of it; the version.
+use cdb_command::{write_usage, write_version};
 use cdb_form::OutFault;
 use std::prelude::*;
 use std::test::Fail;
 
 const TEXT: &str = "usage: cdb -q [-W] [-m] [-n number] database key
+       cdb -q -i [-W] [-m] [-n number] database [input ...]
        cdb -d [-W] [-m] [database]
        cdb -l [-W] [-m] [database]
        cdb -s [-W] [database]
@@ -12,6 +13,8 @@ const TEXT: &str = "usage: cdb -q [-W] [-m] [-n number] database key
        cdb -k [-W] [database]
        cdb -D [-W] old new
        cdb -h
+       cdb -V
+       with each: -v  say which file and why
 ";
 
 /// Whether so much room holds these bytes then, and the answer is this one.
@@ -32,5 +35,21 @@ fn the_usage_text_is_written(rt: HostRuntime) -> Result<(), Fail> {
         writes(20, Err(OutFault), "usage: cdb -q [-W] ["),
         "a front of 20"
     );
+    Ok(())
+}
+
+/// Whether the version is a line that begins so.
+fn is_versioned(front: &str) -> bool {
+    let mut bytes = [0; 100];
+    let mut left = &mut bytes[..];
+    let written = write_version(&mut left);
+    let held = 100 - left.len();
+    let text = bytes.get(..held).unwrap_or(&[]);
+    written.is_ok() && text.starts_with(front.as_bytes()) && text.ends_with(b" (Pezundrix)\n")
+}
+
+#[test]
+fn the_version_is_written(rt: HostRuntime) -> Result<(), Fail> {
+    assert!(rt; is_versioned("cdb 1."), "the version");
     Ok(())
 }

@@ -358,19 +358,19 @@ base_length F g from o f s h = IfSome_then o h (λ t. stops_number (λ g k. Rest
 
 -- ---- at the start of an item: its mark h, and then B
 
-record IsMark {X : Type 0} (S : ℕ → List ℕ → X → Type 0) (h : ℕ) (B : (ℕ → List ℕ → Type 0) → ℕ → List ℕ → Type 0) : Type 0 where
-  to : (g : ℕ) (t : List ℕ) → B (Form S) g t → Form S g (h ∷ t)
-  from : (g : ℕ) (t : List ℕ) → Form S g (h ∷ t) → B (Form S) g t
-  item : (g : ℕ) (t first rest : List ℕ) (i : X) → S g first i → h ∷ t ≡ first ++ rest → B Any g t
+pub record IsMark {X : Type 0} (S : ℕ → List ℕ → X → Type 0) (h : ℕ) (B : (ℕ → List ℕ → Type 0) → ℕ → List ℕ → Type 0) : Type 0 where
+  pub to : (g : ℕ) (t : List ℕ) → B (Form S) g t → Form S g (h ∷ t)
+  pub from : (g : ℕ) (t : List ℕ) → Form S g (h ∷ t) → B (Form S) g t
+  pub item : (g : ℕ) (t first rest : List ℕ) (i : X) → S g first i → h ∷ t ≡ first ++ rest → B Any g t
 
-behind_tail : (x y : ℕ) (s t : List ℕ) → x ∷ s ≡ y ∷ t → s ≡ t
+pub behind_tail : (x y : ℕ) (s t : List ℕ) → x ∷ s ≡ y ∷ t → s ≡ t
 behind_tail x y s t e = cc
 
 first_is : (c d : ℕ) (s t : List ℕ) → c ∷ s ≡ d ∷ t → c ≡ d
 first_is c d s t e = cc
 
 -- an item at the start of a text of the form that does not begin with a newline
-from_cases : {X : Type 0} (S : ℕ → List ℕ → X → Type 0) (h : ℕ) (B : (ℕ → List ℕ → Type 0) → ℕ → List ℕ → Type 0) (g : ℕ) (t : List ℕ) → (h ≡ 10 → ⊥)
+pub from_cases : {X : Type 0} (S : ℕ → List ℕ → X → Type 0) (h : ℕ) (B : (ℕ → List ℕ → Type 0) → ℕ → List ℕ → Type 0) (g : ℕ) (t : List ℕ) → (h ≡ 10 → ⊥)
     → ((first more : List ℕ) (i : X) → S g first i → h ∷ t ≡ first ++ more → Form S g more → B (Form S) g t) → Form S g (h ∷ t) → B (Form S) g t
 from_cases S h B g t other behind ([], e) = absurd (other (first_is h 10 t [] e))
 from_cases S h B g t other behind (i ∷ xs, (first, more, sp, e, reads)) = behind first more i sp e (xs, reads)
@@ -498,7 +498,7 @@ no_item_stops S h B k g from text Endless p is first rest i sp e = absurd is
 no_item_stops S h B k g from text NoMemory p is first rest i sp e = absurd is
 
 -- whatever is to follow the item, it stops there
-item_fails : {X : Type 0} (S : ℕ → List ℕ → X → Type 0) → IsSpelling S → (h : ℕ) (B : (ℕ → List ℕ → Type 0) → ℕ → List ℕ → Type 0) → IsMark S h B → (g from to : ℕ) (o : Option (List ℕ)) (f : TextFault) → to ≡ from + 1
+pub item_fails : {X : Type 0} (S : ℕ → List ℕ → X → Type 0) → IsSpelling S → (h : ℕ) (B : (ℕ → List ℕ → Type 0) → ℕ → List ℕ → Type 0) → IsMark S h B → (g from to : ℕ) (o : Option (List ℕ)) (f : TextFault) → to ≡ from + 1
     → ((F : ℕ → List ℕ → Type 0) → Starts F → IfSome o (λ t. StopsAt (B F) g to t f)) → IfSome o (λ text. FailsItem S g from (h ∷ text) f)
 item_fails S is h B k g from to None f e p = tt
 item_fails S is h B k g from to (Some t) f e p = record { fault = stops_mark S is h B k g from to t f e (p (Form S) (prefix_form S)); no_item = no_item_stops S h B k g to t f (p Any prefix_any) }
@@ -519,20 +519,20 @@ bare_form S is g [] v form h = not_empty S is g form
 bare_form S is g (x ∷ u) v form h = let e : [] ≡ x ∷ (u ++ v) = h in cc
 
 -- no item begins with this byte
-abbrev BeginsNone : {X : Type 0} → (ℕ → List ℕ → X → Type 0) → ℕ → Type 0
+abbrev pub BeginsNone : {X : Type 0} → (ℕ → List ℕ → X → Type 0) → ℕ → Type 0
 BeginsNone {X} S c = (g : ℕ) (first x y : List ℕ) (i : X) → S g first i → first ++ x ≡ c ∷ y → ⊥
 
 never_form : {X : Type 0} (S : ℕ → List ℕ → X → Type 0) (g c : ℕ) → c ≢ 10 → BeginsNone S c → Never (Form S g) [] c
 never_form S g c newline other m ([], e) = newline (first_is c 10 m [] e)
 never_form S g c newline other m (i ∷ xs, (first, more, sp, e, reads)) = other g first more m i sp (sym e)
 
-ended_item : {X : Type 0} (S : ℕ → List ℕ → X → Type 0) → IsSpelling S → (g from : ℕ) (t : List ℕ) → t ≡ [] → FailsItem S g from t (Ended from)
+pub ended_item : {X : Type 0} (S : ℕ → List ℕ → X → Type 0) → IsSpelling S → (g from : ℕ) (t : List ℕ) → t ≡ [] → FailsItem S g from t (Ended from)
 ended_item S is g from t e = record {
   fault = stops_form S g from t (Ended from) (subst (Prefix (Form S g)) (sym e) (prefix_form S g), subst (Bare (Form S g)) (sym e) (bare_form S is g), omega (arith, ap length e));
   no_item = λ of. subst (HasNoItem S g) (sym e) (no_item_empty S is g);
 }
 
-syntax_item : {X : Type 0} (S : ℕ → List ℕ → X → Type 0) → IsSpelling S → (g from c : ℕ) (o m : List ℕ) → o ≡ c ∷ m → c ≢ 10 → BeginsNone S c → FailsItem S g from o (Syntax from)
+pub syntax_item : {X : Type 0} (S : ℕ → List ℕ → X → Type 0) → IsSpelling S → (g from c : ℕ) (o m : List ℕ) → o ≡ c ∷ m → c ≢ 10 → BeginsNone S c → FailsItem S g from o (Syntax from)
 syntax_item S is g from c o m h newline other = record {
   fault = stops_form S g from o (Syntax from) ([], c, m, h, omega arith, prefix_form S g, bare_form S is g, λ g' le. never_form S g' c newline other);
   no_item = λ of first rest i sp e. other g first rest m i sp (sym e ∙ h);

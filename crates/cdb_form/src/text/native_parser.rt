@@ -1,10 +1,11 @@
-// The parser of a native text, and of an amending one: a machine that takes byte after byte.
+// The parser of a native text, of an amending one, and of a list: a machine that takes byte after byte.
 ghost use Rattle.std.specs.Prelude.{◌≡◌, ◌≢◌, true, false, Some, ℕ, List, ◌+◌, ◌*◌, ◌^◌, ◌<◌, ◌≤◌, []};
 ghost use Rattle.std.specs.Prelude.{◌∷◌, ◌++◌, codes, length, OnOk, IfOk, IfErr};
-ghost use Rattle.std.specs.Prelude.{MatchOption, SomeIff};
+ghost use Rattle.std.specs.Prelude.{MatchBool, MatchOption, SomeIff};
 ghost use Rattle.std.specs.Io.KnownBytes.{Consumes};
 ghost use Rattle.cdb_form.specs.Format.Record.{AreBytes};
 ghost use Rattle.cdb_form.specs.Text.Amending.{SpellsChange, SpellsRemoval};
+ghost use Rattle.cdb_form.specs.Text.List.{SpellsKey};
 ghost use Rattle.cdb_form.specs.Text.Native.{IsNumeral, Spells};
 ghost use Rattle.cdb_form.specs.Views.FormReader.{ReadsItem};
 ghost use Rattle.cdb_form.specs.Views.NativeParser.{FailsNumber, FailsByte, FailsField};
@@ -198,6 +199,60 @@ impl<R: Read> Source<R> {
             Some(b'-') if removals => {
                 self.removal(into, greatest)?;
                 Ok(Some(ChangeKind::Remove))
+            }
+            Some(_) => Err(TextFault::Syntax(start)),
+        }
+    }
+
+    /// Takes the key after a plus.
+    fn listed(&mut self, into: &mut Record, greatest: u64) -> Result<(), TextFault>
+        requires least { 9 ≤ greatest }
+        requires most { greatest < 2 ^ 63 }
+        ensures read { OnOk result (ReadsBehind SpellsKey (codes "+") greatest
+            (R.remaining self.old.reader) (R.remaining self.new.reader)
+            self.old.taken self.new.taken into.new.key.items) }
+        ensures fewer { OnOk result (self.new.asks < self.old.asks) }
+        ensures fails { (from : ℕ) → self.old.taken ≡ from + 1 →
+            IfErr result (FailsIn R.remaining self.old self.new (λ text.
+            FailsItem SpellsKey greatest from (codes "+" ++ text))) }
+        ensures later { self.old.taken ≤ self.new.taken }
+        ensures leaves { IfErr result (Leaves R.remaining self.old self.new) }
+        ensures spends { OnOk result (budget self.old ≤ budget self.new) }
+    {
+        let klen = self.number(greatest, b':')?;
+        self.field(&mut into.key, klen, b'\n')?;
+        Ok(())
+    }
+
+    /// Takes the next key of a list text, and answers whether there is one: none is at the newline that
+    /// ends the text.
+    #[inline(never)]
+    pub(crate) fn list_entry(
+        &mut self,
+        into: &mut Record,
+        greatest: u64,
+    ) -> Result<bool, TextFault>
+        requires least { 9 ≤ greatest }
+        requires most { greatest < 2 ^ 63 }
+        ensures read { IfOk result (λ given. MatchBool given
+            (ReadsItem SpellsKey greatest (R.remaining self.old.reader)
+            (R.remaining self.new.reader) self.old.taken self.new.taken into.new.key.items)
+            (Consumes (R.remaining self.old.reader) (R.remaining self.new.reader) (codes "\n")
+            × (self.new.taken ≡ self.old.taken + 1))) }
+        ensures fewer { OnOk result (self.new.asks < self.old.asks) }
+        ensures fails { IfErr result (FailsIn R.remaining self.old self.new
+            (FailsItem SpellsKey greatest self.old.taken)) }
+        ensures later { self.old.taken ≤ self.new.taken }
+        ensures leaves { IfErr result (Leaves R.remaining self.old self.new) }
+        ensures spends { OnOk result (budget self.old ≤ budget self.new) }
+    {
+        let start = self.taken;
+        match self.byte()? {
+            None => Err(TextFault::Ended(start)),
+            Some(b'\n') => Ok(false),
+            Some(b'+') => {
+                self.listed(into, greatest)?;
+                Ok(true)
             }
             Some(_) => Err(TextFault::Syntax(start)),
         }

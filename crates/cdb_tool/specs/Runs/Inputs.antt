@@ -1,10 +1,12 @@
 -- The items of the inputs of a run, by the form of its inputs. An input is the bytes of its reader,
 -- where they are known.
 use Rattle.std.specs.Prelude.{ℕ, ◌≡◌, ◌+◌, ◌*◌, ◌^◌, ◌≤◌, Bool, true, false, List, [], ◌∷◌, ◌++◌}
-use Rattle.std.specs.Prelude.{length, map, Option, Some, IfSome}
+use Rattle.std.specs.Prelude.{length, map, flat_map, Option, Some, IfSome}
 use Rattle.cdb_form.specs.Format.Record.{KeyValue}
-use Rattle.cdb_form.specs.Text.Amending.{Change, Putting, SpellsChange, SpelledChanges, ReadsChanges}
+use Rattle.cdb_form.specs.Text.Amending.{Change, Putting, Removing, SpellsChange, SpelledChanges}
+use Rattle.cdb_form.specs.Text.Amending.{ReadsChanges}
 use Rattle.cdb_form.specs.Text.Form.{WholeItems, HasFault}
+use Rattle.cdb_form.specs.Text.List.{SpellsKey, SpelledKeys, ReadsKeys}
 use Rattle.cdb_form.specs.Text.Map.{map_lines}
 use Rattle.cdb_form.specs.Text.Native.{Spells, Spelled, Reads}
 use Rattle.cdb_form.specs.Views.KnownBytes.{FromTo}
@@ -15,16 +17,34 @@ use Rattle.cdb_form.specs.declared.text.fault.TextFault.TheVariants.{Ended, Endl
 use Rattle.cdb_command.specs.declared.style.Style.{Style}
 use Rattle.cdb_command.specs.declared.style.Style.TheVariants.{Native, Map}
 
--- an input puts the records of a style, or is an amending text
+-- an input puts the records of a style, is an amending text, or is a list text
 pub data InputForm : Type 0 where
   Puts : Style → InputForm
   Changes : InputForm
+  Lists : InputForm
 
 -- with a base a native input is an amending text; in a map text nothing removes
 abbrev pub input_form : Style → Bool → InputForm
 input_form Native true = Changes
 input_form Native false = Puts Native
 input_form Map amends = Puts Map
+
+-- keys come from list texts, or from the lines of map texts, which may have values too
+abbrev pub keys_form : Style → InputForm
+keys_form Native = Lists
+keys_form Map = Puts Map
+
+-- the key of an item
+abbrev pub key_of : Change → List ℕ
+key_of (Putting r) = r.key
+key_of (Removing key) = key
+
+-- those of some items, and of the items of some inputs
+abbrev pub keys_of : List Change → List (List ℕ)
+keys_of items = map key_of items
+
+abbrev pub keys_of_each : List (List Change) → List (List ℕ)
+keys_of_each read = flat_map keys_of read
 
 -- a text has this fault, behind these items, all that are whole
 pub record HasFaultBehind {X : Type 0} (spelling : ℕ → List ℕ → X → Type 0) (greatest : ℕ)
@@ -84,12 +104,15 @@ abbrev pub IsInputOf : InputForm → ℕ → List Change → (input rest : List 
 IsInputOf (Puts style) greatest items input rest =
     ArePuts items (λ records. IsInput style greatest records input rest)
 IsInputOf Changes greatest items input rest = ReadsChanges greatest items input rest
+IsInputOf Lists greatest items input rest = ReadsKeys greatest (keys_of items) input rest
 
 abbrev pub BeginsWithItems : InputForm → ℕ → List Change → List ℕ → Type 0
 BeginsWithItems (Puts style) greatest items input =
     ArePuts items (λ records. BeginsWith style greatest records input)
 BeginsWithItems Changes greatest items input =
     (rest : List ℕ) × SpelledChanges greatest items input rest
+BeginsWithItems Lists greatest items input =
+    (rest : List ℕ) × SpelledKeys greatest (keys_of items) input rest
 
 -- an input has this fault behind these items
 abbrev pub HasItemFault : InputForm → ℕ → List Change → TextFault → List ℕ → Type 0
@@ -98,6 +121,10 @@ HasItemFault (Puts style) greatest items fault input =
 HasItemFault Changes greatest items fault input =
     HasFaultOf (HasFaultBehind SpellsChange greatest input items fault)
     (λ part. HasFaultBehind SpellsChange greatest part items (Ended (length part))) fault input
+HasItemFault Lists greatest items fault input =
+    HasFaultOf (HasFaultBehind SpellsKey greatest input (keys_of items) fault)
+    (λ part. HasFaultBehind SpellsKey greatest part (keys_of items) (Ended (length part))) fault
+    input
 
 -- ---- the inputs, one after the other
 

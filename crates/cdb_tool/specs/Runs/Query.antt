@@ -5,7 +5,9 @@ use Rattle.std.specs.Prelude.{List, [], ◌∷◌, ◌++◌, length, take, drop,
 use Rattle.std.specs.Prelude.{Option, None, Some, Result, Ok, Err, OnOk, IfErr}
 use Rattle.std.specs.Io.KnownBytes.{Appends, Keeps}
 use Rattle.cdb_store.specs.declared.store.Store.{Ghosts}
+use Rattle.cdb_command.specs.declared.style.Style.{Style}
 use Rattle.cdb_form.specs.Format.Pair.{head_size}
+use Rattle.cdb_form.specs.Format.Record.{record_of}
 use Rattle.cdb_form.specs.Views.KnownBytes.{AppendsPrefix}
 use Rattle.cdb_form.specs.declared.damage.Damage.{Damage}
 use Rattle.cdb_form.specs.declared.damage.Damage.TheVariants as damage
@@ -17,14 +19,18 @@ use Rattle.cdb_read.specs.Views.ReadFault.{damage_fault}
 use Rattle.cdb_store.specs.Reads.{OnlyReads}
 use Rattle.cdb_read.specs.declared.fault.ReadFault.TheVariants as read
 use Rattle.cdb_read.specs.declared.span.Span.{Span}
+use Rattle.cdb_tool.specs.Runs.Form.{item_of}
 use Rattle.cdb_tool.specs.declared.fault.Fault.{Fault}
 use Rattle.cdb_tool.specs.declared.fault.Fault.TheVariants.{Missing, Read, Output}
+use Rattle.cdb_tool.specs.declared.runs.content.Content.TheVariants.{Records}
+use Rattle.cdb_tool.specs.declared.runs.shown.Shown.{Shown}
+use Rattle.cdb_tool.specs.declared.runs.shown.Shown.TheVariants as shown
 
--- what is asked: all values of a key, or the one of a number, from 1 on, in lines or not
+-- what is asked: all values of a key, or the one of a number, from 1 on, and how each is written
 pub record Query : Type 0 where
   pub key : List ℕ
   pub number : Option ℕ
-  pub lines : Bool
+  pub shown : List ℕ → List ℕ
 
 -- the values that are asked for
 abbrev pub asked_of : Option ℕ → List (List ℕ) → List (List ℕ)
@@ -35,14 +41,23 @@ asked_of (Some number) values = take 1 (drop (number - 1) values)
 abbrev pub value_text : Bool → List ℕ → List ℕ
 value_text lines value = value ++ (if lines then codes "\n" else [])
 
+-- a value as it is written as a record of this key
+abbrev pub record_text : Style → (key value : List ℕ) → List ℕ
+record_text style key value = item_of Records style (record_of key value)
+
+-- as the code says it
+abbrev pub shown_text : Shown → List ℕ → List ℕ
+shown_text (shown.Value lines) = value_text lines
+shown_text (shown.Record key style) = record_text style key.now
+
 -- the text of the values at some spans of an image
-abbrev pub values_text : Bool → List ℕ → List Span → List ℕ
-values_text lines b spans = flat_map (value_text lines) (map (bytes_of b) spans)
+abbrev pub values_text : (List ℕ → List ℕ) → List ℕ → List Span → List ℕ
+values_text shown b spans = flat_map shown (map (bytes_of b) spans)
 
 -- what is written of some spans of an image
 abbrev pub spans_text : List ℕ → Query → List Span → List ℕ
 spans_text b q spans =
-    flat_map (value_text q.lines) (asked_of q.number (map (bytes_of b) spans))
+    flat_map q.shown (asked_of q.number (map (bytes_of b) spans))
 
 -- what is written of the values that the key has in an image
 abbrev pub query_text : ℕ → List ℕ → Query → List ℕ
@@ -114,13 +129,13 @@ pub record Queries {S : Type 0} (w : ℕ) (s : Ghosts S) (q : Query) (old new : 
 -- ---- the values that a finder has left
 
 -- it gave these spans, and then this damage or none: all their values were written whole
-pub record WritesAll {S L : Type 0} {s : Ghosts S} {l : Widths L} (w : ℕ) (lines : Bool)
+pub record WritesAll {S L : Type 0} {s : Ghosts S} {l : Widths L} (w : ℕ) (shown : List ℕ → List ℕ)
     (old new : Finder S L s l) (start end : Option (List ℕ)) (spans : List Span)
     (damage : Option Damage) : Type 0 where
   pub given : (b : List ℕ) → s.image new.reader.now.store b
       → left_in w b old ≡ record { spans = spans; damage = damage }
   pub written : (b : List ℕ) → s.image new.reader.now.store b
-      → Appends start end (values_text lines b spans)
+      → Appends start end (values_text shown b spans)
 
 abbrev pub in_hand : Option Span → List Span
 in_hand None = []
@@ -128,7 +143,7 @@ in_hand (Some span) = span ∷ []
 
 -- it has others left: the values that it gave were written whole, but of the last, where that is
 -- still in hand, a prefix
-pub record WritesSome {S L : Type 0} {s : Ghosts S} {l : Widths L} (w : ℕ) (lines : Bool)
+pub record WritesSome {S L : Type 0} {s : Ghosts S} {l : Widths L} (w : ℕ) (shown : List ℕ → List ℕ)
     (old new : Finder S L s l) (start end : Option (List ℕ)) : Type 0 where
   pub spans : List Span
   pub hand : Option Span
@@ -136,35 +151,35 @@ pub record WritesSome {S L : Type 0} {s : Ghosts S} {l : Widths L} (w : ℕ) (li
   pub given : (b : List ℕ) → s.image new.reader.now.store b
       → left_in w b old ≡ with_spans (spans ++ in_hand hand) (left_in w b new)
   pub written : (b : List ℕ) → s.image new.reader.now.store b
-      → Appends start before (values_text lines b spans)
+      → Appends start before (values_text shown b spans)
   pub front : (b : List ℕ) → s.image new.reader.now.store b
-      → AppendsPrefix before end (values_text lines b (in_hand hand))
+      → AppendsPrefix before end (values_text shown b (in_hand hand))
 
 -- all values were written, at least one
-pub record WritesEach {S L : Type 0} {s : Ghosts S} {l : Widths L} (w : ℕ) (lines : Bool)
+pub record WritesEach {S L : Type 0} {s : Ghosts S} {l : Widths L} (w : ℕ) (shown : List ℕ → List ℕ)
     (old new : Finder S L s l) (start end : Option (List ℕ)) : Type 0 where
   pub spans : List Span
   pub some : spans ≢ []
-  pub all : WritesAll w lines old new start end spans None
+  pub all : WritesAll w shown old new start end spans None
   pub ended : HasEnded new
 
 -- a damage followed them
-pub record WritesToDamage {S L : Type 0} {s : Ghosts S} {l : Widths L} (w : ℕ) (lines : Bool)
+pub record WritesToDamage {S L : Type 0} {s : Ghosts S} {l : Widths L} (w : ℕ) (shown : List ℕ → List ℕ)
     (old new : Finder S L s l) (start end : Option (List ℕ)) (found : Damage) : Type 0 where
   pub spans : List Span
-  pub all : WritesAll w lines old new start end spans (Some found)
+  pub all : WritesAll w shown old new start end spans (Some found)
 
 -- what a fault leaves
-abbrev pub LeftFails : {S L : Type 0} {s : Ghosts S} {l : Widths L} → ℕ → Bool
-    → (old new : Finder S L s l) → Option (List ℕ) → Option (List ℕ) → Fault → Type 0
-LeftFails w lines old new start end Missing =
-    HasEnded new × WritesAll w lines old new start end [] None
-LeftFails w lines old new start end (Read (read.Table n)) =
-    HasNoTable new n × WritesToDamage w lines old new start end (damage.Table n)
-LeftFails w lines old new start end (Read (read.Record place)) =
-    HasNoRecord new place × WritesToDamage w lines old new start end (damage.Record place)
-LeftFails {s = s} w lines old new start end (Read read.Device) =
+abbrev pub LeftFails : {S L : Type 0} {s : Ghosts S} {l : Widths L} → ℕ
+    → (List ℕ → List ℕ) → (old new : Finder S L s l) → Option (List ℕ) → Option (List ℕ) → Fault → Type 0
+LeftFails w shown old new start end Missing =
+    HasEnded new × WritesAll w shown old new start end [] None
+LeftFails w shown old new start end (Read (read.Table n)) =
+    HasNoTable new n × WritesToDamage w shown old new start end (damage.Table n)
+LeftFails w shown old new start end (Read (read.Record place)) =
+    HasNoRecord new place × WritesToDamage w shown old new start end (damage.Record place)
+LeftFails {s = s} w shown old new start end (Read read.Device) =
     (s.failures old.reader.now.store < s.failures new.reader.now.store)
-    × WritesSome w lines old new start end
-LeftFails w lines old new start end Output = WritesSome w lines old new start end
-LeftFails w lines old new start end fault = ⊥
+    × WritesSome w shown old new start end
+LeftFails w shown old new start end Output = WritesSome w shown old new start end
+LeftFails w shown old new start end fault = ⊥

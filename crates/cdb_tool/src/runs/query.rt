@@ -1,14 +1,19 @@
 // The values of a key.
-ghost use Rattle.std.specs.Prelude.{◌≡◌, ◌+◌, ◌≤◌, ℕ, List, Some, None, IfSome, IfErr, OnOk};
+ghost use Rattle.std.specs.Prelude.{◌≡◌, ◌+◌, ◌≤◌, ◌++◌, ℕ, List, Some, None, IfSome, IfErr, OnOk, codes};
 ghost use Rattle.cdb_form.specs.Views.KnownBytes.{Writes};
 ghost use Rattle.cdb_read.specs.Lookup.{bytes_of};
 ghost use Rattle.cdb_store.specs.Reads.{OnlyReads};
 ghost use Rattle.cdb_read.specs.Views.Reads.{CopyingFails};
-ghost use Rattle.cdb_tool.specs.Runs.Query.{Queries, value_text, WritesEach, LeftFails};
+ghost use Rattle.cdb_tool.specs.Runs.Query.{Queries, value_text, record_text, shown_text};
+ghost use Rattle.cdb_tool.specs.Runs.Query.{WritesEach, LeftFails};
+ghost use Rattle.cdb_command.specs.declared.style.Style.TheVariants.{Map};
 
 use crate::fault::Fault;
 use crate::runs::flushed::flushed;
-use cdb_form::{Width, write_whole};
+use crate::runs::shown::Shown;
+use cdb_command::Style;
+use cdb_difference::write_put;
+use cdb_form::{OutFault, Width, write_pieces, write_whole};
 use cdb_read::{Finder, ReadFault, Reader, Span};
 use cdb_store::Store;
 use std::io::Write;
@@ -40,6 +45,93 @@ fn write_value<L: Width, S: Store, W: Write>(
     Ok(())
 }
 
+/// Writes what comes before the value of a record in a map text. After an `OutFault` the writer holds a
+/// prefix of it.
+fn write_map_head<W: Write>(w: &mut W, key: &[u8]) -> Result<(), OutFault>
+    ensures { Writes result (W.contents w.old) (W.contents w.new) (key.now ++ codes " ") }
+{
+    write_pieces(w, &[key, b" "])
+}
+
+/// Writes a value that a finder gave as a record of a map text. After a fault the writer holds a
+/// prefix of that.
+fn write_map_put<L: Width, S: Store, W: Write>(
+    finder: &mut Finder<'_, S, L>,
+    key: &[u8],
+    value: Span,
+    w: &mut W,
+) -> Result<(), ReadFault>
+    requires inside { value.place + value.len ≤ S.size finder.old.reader.now.store }
+    ensures same_reader { finder.new.reader.ghost_name ≡ finder.old.reader.ghost_name }
+    ensures key { finder.new.key.now ≡ finder.old.key.now }
+    ensures stays { finder.new.searching ≡ finder.old.searching }
+    ensures reads { OnlyReads S.Store finder.old.reader.now.store finder.new.reader.now.store }
+    ensures writes { (b : List ℕ) → S.image finder.new.reader.now.store b
+        → Writes result (W.contents w.old) (W.contents w.new)
+        (record_text Map key.now (bytes_of b value)) }
+    ensures fails { IfErr result
+        (CopyingFails S.Store finder.old.reader.now.store finder.new.reader.now.store) }
+{
+    write_map_head(w, key)?;
+    finder.copy(value, w)?;
+    write_whole(w, b"\n")?;
+    Ok(())
+}
+
+/// Writes a value that a finder gave. After a fault the writer holds a prefix of that.
+#[inline(always)]
+fn write_shown<L: Width, S: Store, W: Write>(
+    finder: &mut Finder<'_, S, L>,
+    value: Span,
+    shown: Shown<'_>,
+    w: &mut W,
+) -> Result<(), ReadFault>
+    requires inside { value.place + value.len ≤ S.size finder.old.reader.now.store }
+    ensures same_reader { finder.new.reader.ghost_name ≡ finder.old.reader.ghost_name }
+    ensures key { finder.new.key.now ≡ finder.old.key.now }
+    ensures stays { finder.new.searching ≡ finder.old.searching }
+    ensures reads { OnlyReads S.Store finder.old.reader.now.store finder.new.reader.now.store }
+    ensures writes { (b : List ℕ) → S.image finder.new.reader.now.store b
+        → Writes result (W.contents w.old) (W.contents w.new)
+        (shown_text shown.entry (bytes_of b value)) }
+    ensures fails { IfErr result
+        (CopyingFails S.Store finder.old.reader.now.store finder.new.reader.now.store) }
+{
+    match shown {
+        Shown::Value { lines } => write_value(finder, value, lines, w),
+        Shown::Record {
+            key,
+            style: Style::Native,
+        } => write_put(finder, key, value, w),
+        Shown::Record {
+            key,
+            style: Style::Map,
+        } => write_map_put(finder, key, value, w),
+    }
+}
+
+/// Writes the values that a finder has left, one after the other, as `query_from` does.
+fn write_left<L: Width, S: Store, W: Write>(
+    finder: &mut Finder<'_, S, L>,
+    shown: Shown<'_>,
+    w: &mut W,
+) -> Result<(), Fault>
+    ensures same_reader { finder.new.reader.ghost_name ≡ finder.old.reader.ghost_name }
+    ensures key { finder.new.key.now ≡ finder.old.key.now }
+    ensures reads { OnlyReads S.Store finder.old.reader.now.store finder.new.reader.now.store }
+    ensures ok { OnOk result (WritesEach L.WORD (shown_text shown.entry) finder.old finder.new
+        (W.contents w.old) (W.contents w.new)) }
+    ensures fails { IfErr result (LeftFails L.WORD (shown_text shown.entry) finder.old finder.new
+        (W.contents w.old) (W.contents w.new)) }
+{
+    let mut found = false;
+    while let Some(value) = finder.next()? {
+        write_shown(finder, value, shown, w)?;
+        found = true;
+    }
+    if found { Ok(()) } else { Err(Fault::Missing) }
+}
+
 /// Writes the values that a finder has left, one after the other, with a newline after each in lines.
 ///
 /// It does what `query_run` does, and leaves in the finder what it did not give. The faults:
@@ -59,30 +151,25 @@ pub fn query_from<L: Width, S: Store, W: Write>(
     ensures same_reader { finder.new.reader.ghost_name ≡ finder.old.reader.ghost_name }
     ensures key { finder.new.key.now ≡ finder.old.key.now }
     ensures reads { OnlyReads S.Store finder.old.reader.now.store finder.new.reader.now.store }
-    ensures ok { OnOk result (WritesEach L.WORD lines finder.old finder.new
+    ensures ok { OnOk result (WritesEach L.WORD (value_text lines) finder.old finder.new
         (W.contents w.old) (W.contents w.new)) }
-    ensures fails { IfErr result (LeftFails L.WORD lines finder.old finder.new
+    ensures fails { IfErr result (LeftFails L.WORD (value_text lines) finder.old finder.new
         (W.contents w.old) (W.contents w.new)) }
 {
-    let mut found = false;
-    while let Some(value) = finder.next()? {
-        write_value(finder, value, lines, w)?;
-        found = true;
-    }
-    if found { Ok(()) } else { Err(Fault::Missing) }
+    write_left(finder, Shown::Value { lines }, w)
 }
 
 /// Writes all values of a key.
 fn write_all<L: Width, S: Store, W: Write>(
     reader: &mut Reader<S, L>,
     key: &[u8],
-    lines: bool,
+    shown: Shown<'_>,
     w: &mut W,
 ) -> Result<(), Fault>
-    ensures { Queries L.WORD S.Store (record { key = key.now; number = None; lines = lines })
+    ensures { Queries L.WORD S.Store (record { key = key.now; number = None; shown = shown_text shown.entry })
         reader.old.store reader.new.store (W.contents w.old) (W.contents w.new) result }
 {
-    query_from(&mut reader.find(key), lines, w)
+    write_left(&mut reader.find(key), shown, w)
 }
 
 /// Writes the value of a key that has this number, counted from 1. The ones before it are found and
@@ -91,11 +178,11 @@ fn write_nth<L: Width, S: Store, W: Write>(
     reader: &mut Reader<S, L>,
     key: &[u8],
     number: u64,
-    lines: bool,
+    shown: Shown<'_>,
     w: &mut W,
 ) -> Result<(), Fault>
     requires { 1 ≤ number }
-    ensures { Queries L.WORD S.Store (record { key = key.now; number = Some number; lines = lines })
+    ensures { Queries L.WORD S.Store (record { key = key.now; number = Some number; shown = shown_text shown.entry })
         reader.old.store reader.new.store (W.contents w.old) (W.contents w.new) result }
 {
     let mut finder = reader.find(key);
@@ -103,11 +190,31 @@ fn write_nth<L: Width, S: Store, W: Write>(
     while let Some(value) = finder.next()? {
         left -= 1;
         if left == 0 {
-            write_value(&mut finder, value, lines, w)?;
+            write_shown(&mut finder, value, shown, w)?;
             return Ok(());
         }
     }
     Err(Fault::Missing)
+}
+
+/// Writes values of a key of a database that is open: all, or the one with a number.
+#[inline(always)]
+pub(crate) fn look_up<L: Width, S: Store, W: Write>(
+    reader: &mut Reader<S, L>,
+    key: &[u8],
+    number: Option<u64>,
+    shown: Shown<'_>,
+    w: &mut W,
+) -> Result<(), Fault>
+    requires { IfSome number (λ j. 1 ≤ j) }
+    ensures { Queries L.WORD S.Store
+        (record { key = key.now; number = number; shown = shown_text shown.entry })
+        reader.old.store reader.new.store (W.contents w.old) (W.contents w.new) result }
+{
+    match number {
+        None => write_all(reader, key, shown, w),
+        Some(number) => write_nth(reader, key, number, shown, w),
+    }
 }
 
 /// Writes values of a key, which the writer may keep in a buffer.
@@ -119,17 +226,14 @@ fn query_unflushed<L: Width, S: Store, W: Write>(
     w: &mut W,
 ) -> (S, Result<(), Fault>)
     requires { IfSome number (λ j. 1 ≤ j) }
-    ensures { Queries L.WORD S.Store (record { key = key.now; number = number; lines = lines })
+    ensures { Queries L.WORD S.Store (record { key = key.now; number = number; shown = value_text lines })
         store result.0 (W.contents w.old) (W.contents w.new) result.1 }
 {
     let mut reader = match Reader::<S, L>::open(store) {
         Ok(reader) => reader,
         Err(unread) => return (unread.store, Err(Fault::from(unread.fault))),
     };
-    let answer = match number {
-        None => write_all(&mut reader, key, lines, w),
-        Some(number) => write_nth(&mut reader, key, number, lines, w),
-    };
+    let answer = look_up(&mut reader, key, number, Shown::Value { lines }, w);
     (reader.into_store(), answer)
 }
 
@@ -158,7 +262,7 @@ pub fn query_run<L: Width, S: Store, W: Write>(
     w: &mut W,
 ) -> (S, Result<(), Fault>)
     requires { IfSome number (λ j. 1 ≤ j) }
-    ensures { Queries L.WORD S.Store (record { key = key.now; number = number; lines = lines })
+    ensures { Queries L.WORD S.Store (record { key = key.now; number = number; shown = value_text lines })
         store result.0 (W.contents w.old) (W.contents w.new) result.1 }
 {
     let (store, queried) = query_unflushed::<L, S, W>(store, key, number, lines, w);

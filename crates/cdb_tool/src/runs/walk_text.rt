@@ -59,7 +59,7 @@ fn write_item<W: Write>(
 }
 
 /// Writes what ends the text. After an `OutFault` the writer holds a prefix of it.
-fn write_last<W: Write>(w: &mut W, style: Style) -> Result<(), OutFault>
+pub(crate) fn write_last<W: Write>(w: &mut W, style: Style) -> Result<(), OutFault>
     ensures { Writes result (W.contents w.old) (W.contents w.new) (end_of style) }
 {
     match style {

@@ -27,21 +27,21 @@ loop-value-preserved g c =
       passed = passed_more {s = g.S.Store} {l = g.L.Width} _ _ _ c.loop-value.finder c.next.new.self _ c.loop-value.left (c.loop-value.left - 1) _ _ c.in-Some.value inv.passed c.next.ensures.reads one less some;
     }
 
-pub returns-in_err-write_value : goal.returns-in_err-write_value
-returns-in_err-write_value g c =
-    let p = err_from_is_err_and c.from_residual-in_err-write_value.result c.from_residual-in_err-write_value.ensures.1 in
+pub returns-in_err-write_shown : goal.returns-in_err-write_shown
+returns-in_err-write_shown g c =
+    let p = err_from_is_err_and c.from_residual-in_err-write_shown.result c.from_residual-in_err-write_shown.ensures.1 in
     let inv = c.loop-value.invariant in
     let one = rw c.in-Some.is at c.in_ok-value.ensures.gives in
     let more = inv.passed.more in
     let counted = inv.passed.counted in
     let count : length inv.passed.spans + 1 ≡ c.args.number = omega (arith, c.if-left-eq0.true, more, counted) in
-    let written = c.write_value.ensures in
+    let written = c.write_shown.ensures in
     let next = found_more {s = g.S.Store} {l = g.L.Width} _ _ _ c.loop-value.finder c.next.new.self _ c.in-Some.value inv.passed.found c.next.ensures.reads one in
-    let found = found_still {s = g.S.Store} {l = g.L.Width} _ _ _ c.next.new.self c.write_value.new.finder _ next written.reads written.key written.stays in
+    let found = found_still {s = g.S.Store} {l = g.L.Width} _ _ _ c.next.new.self c.write_shown.new.finder _ next written.reads written.key written.stays in
     rw (p.1, p.2)
-    (handed_back c.write_value.new.finder.reader.now.store _ (search rules)
-    (copying_fails _ g.S.Store _ _ c.next.new.self.reader.now.store _ _ _ c.in_err-write_value.field-0.0 next.reads written.reads c.args.reader.now.long c.in_err-write_value.ensures.fails
-    (λ b is. nth_prefix {s = g.S.Store} {l = g.L.Width} _ _ _ _ c.write_value.new.finder _ _ _ _ inv.passed.spans c.in-Some.value b found count is inv.passed.kept (c.in_err-write_value.ensures.writes b is).err)))
+    (handed_back c.write_shown.new.finder.reader.now.store _ (search rules)
+    (copying_fails _ g.S.Store _ _ c.next.new.self.reader.now.store _ _ _ c.in_err-write_shown.field-0.0 next.reads written.reads c.args.reader.now.long c.in_err-write_shown.ensures.fails
+    (λ b is. nth_prefix {s = g.S.Store} {l = g.L.Width} _ _ _ _ c.write_shown.new.finder _ _ _ _ inv.passed.spans c.in-Some.value b found count is inv.passed.kept (c.in_err-write_shown.ensures.writes b is).err)))
 
 pub returns-then-left-eq0 : goal.returns-then-left-eq0
 returns-then-left-eq0 g c =
@@ -50,11 +50,11 @@ returns-then-left-eq0 g c =
     let more = inv.passed.more in
     let counted = inv.passed.counted in
     let count : length inv.passed.spans + 1 ≡ c.args.number = omega (arith, c.if-left-eq0.true, more, counted) in
-    let written = c.write_value.ensures in
+    let written = c.write_shown.ensures in
     let next = found_more {s = g.S.Store} {l = g.L.Width} _ _ _ c.loop-value.finder c.next.new.self _ c.in-Some.value inv.passed.found c.next.ensures.reads one in
-    let found = found_still {s = g.S.Store} {l = g.L.Width} _ _ _ c.next.new.self c.write_value.new.finder _ next written.reads written.key written.stays in
-    handed_back c.write_value.new.finder.reader.now.store _ (search rules)
-    (nth_written {s = g.S.Store} {l = g.L.Width} _ _ _ _ c.write_value.new.finder _ _ _ _ inv.passed.spans c.in-Some.value found count c.args.reader.now.long inv.passed.kept (λ b is. (c.in_ok-write_value.ensures.writes b is).ok))
+    let found = found_still {s = g.S.Store} {l = g.L.Width} _ _ _ c.next.new.self c.write_shown.new.finder _ next written.reads written.key written.stays in
+    handed_back c.write_shown.new.finder.reader.now.store _ (search rules)
+    (nth_written {s = g.S.Store} {l = g.L.Width} _ _ _ _ c.write_shown.new.finder _ _ _ _ inv.passed.spans c.in-Some.value found count c.args.reader.now.long inv.passed.kept (λ b is. (c.in_ok-write_shown.ensures.writes b is).ok))
 
 pub returns : goal.returns
 returns g c = grind (arith, common_steps)

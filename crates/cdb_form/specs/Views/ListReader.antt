@@ -1,0 +1,57 @@
+-- What a clause reads of a reader of a list text.
+use Rattle.std.specs.Io.KnownBytes.{Consumes}
+use Rattle.std.specs.Prelude.{ℕ, List, ◌+◌, ◌<◌, ◌≤◌, Option, ◌≡◌, codes}
+use Rattle.cdb_form.specs.Text.List.{SpellsKey}
+use Rattle.cdb_form.specs.Views.FormReader.{MeetsFault, ReadsItem}
+use Rattle.cdb_form.specs.Views.Source.{budget}
+use Rattle.cdb_form.specs.declared.text.fault.TextFault.{TextFault}
+use Rattle.cdb_form.specs.declared.text.going.Going.TheVariants.{On, AtEnd, Failed}
+use Rattle.cdb_form.specs.declared.text.list_reader.ListReader.{ListReader}
+
+-- the bytes that its reader has left, where they are known
+abbrev pub unread : {R L : Type 0} → (R → Option (List ℕ)) → ListReader R L → Option (List ℕ)
+unread remaining t = remaining t.source.reader
+
+-- how many bytes it read
+abbrev pub taken_of : {R L : Type 0} → ListReader R L → ℕ
+taken_of t = t.source.taken
+
+-- how often its reader may still be asked
+abbrev pub asks_left : {R L : Type 0} → ListReader R L → ℕ
+asks_left t = t.source.asks
+
+-- it has answered neither `false` nor a fault
+abbrev pub IsGoing : {R L : Type 0} → ListReader R L → Type 0
+IsGoing t = t.going ≡ On
+
+-- it has answered `false`
+abbrev pub HasEnded : {R L : Type 0} → ListReader R L → Type 0
+HasEnded t = t.going ≡ AtEnd
+
+-- it has answered this fault
+abbrev pub HasFailed : {R L : Type 0} → ListReader R L → TextFault → Type 0
+HasFailed t fault = t.going ≡ Failed fault
+
+-- a call gave a key, which was spelled by what was unread
+pub record GivesKey {R L : Type 0} (greatest : ℕ) (remaining : R → Option (List ℕ))
+    (old new : ListReader R L) (key : List ℕ) : Type 0 where
+  pub was : IsGoing old
+  pub reads : ReadsItem SpellsKey greatest (unread remaining old) (unread remaining new)
+      (taken_of old) (taken_of new) key
+  pub going : IsGoing new
+  pub fewer : asks_left new < asks_left old
+  pub spends : budget old.source ≤ budget new.source
+
+-- a call told the end: the first such call took the newline that ends the text
+pub record GivesEnd {R L : Type 0} (remaining : R → Option (List ℕ)) (old new : ListReader R L) :
+    Type 0 where
+  pub ended : HasEnded new
+  pub newline : IsGoing old → Consumes (unread remaining old) (unread remaining new) (codes "\n")
+  pub counted : IsGoing old → taken_of new ≡ taken_of old + 1
+  pub spends : budget old.source ≤ budget new.source
+
+-- a call answered a fault, as every later one will
+pub record Fails {R L : Type 0} (greatest : ℕ) (remaining : R → Option (List ℕ))
+    (old new : ListReader R L) (fault : TextFault) : Type 0 where
+  pub failed : HasFailed new fault
+  pub meets : IsGoing old → MeetsFault SpellsKey greatest remaining old.source new.source fault

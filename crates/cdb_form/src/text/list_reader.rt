@@ -1,0 +1,93 @@
+// Keys out of a list text.
+ghost use Rattle.std.specs.Prelude.{◌≡◌, ◌^◌, ◌≤◌, false, IfOk, IfErr, MatchBool};
+ghost use Rattle.cdb_form.specs.Views.Repeats.{Repeats};
+
+use crate::record::Record;
+use crate::text::fault::TextFault;
+use crate::text::going::Going;
+use crate::text::source::Source;
+use crate::width::Width;
+use std::io::Read;
+use std::marker::PhantomData;
+
+/// Reads the keys of a list text, one after the other.
+///
+/// Its reader is asked for no byte past those that the answer needs, and for at most 4096 at once.
+/// What follows the newline that ends the text stays unread.
+#[derive(Drop)]
+pub struct ListReader<R, L> {
+    source: Source<R>,
+    going: Going,
+    width: PhantomData<L>,
+}
+
+impl<R: Read, L: Width> ListReader<R, L> {
+    ghost use Rattle.cdb_form.specs.Views.ListReader.{unread, taken_of, asks_left, IsGoing};
+    ghost use Rattle.cdb_form.specs.Views.ListReader.{HasEnded, HasFailed, GivesKey, GivesEnd, Fails};
+
+    /// A reader of the text that `reader` gives, which may be asked 2^48 times.
+    pub fn new(reader: R) -> ListReader<R, L>
+        ensures unread { unread R.remaining result ≡ R.remaining reader }
+        ensures taken { taken_of result ≡ 0 }
+        ensures asks { asks_left result ≡ 2 ^ 48 }
+        ensures going { IsGoing result }
+    {
+        ListReader::with_bound(reader, 1 << 48)
+    }
+
+    /// A reader of the text that `reader` gives, which may be asked so many times.
+    pub fn with_bound(reader: R, asks: u64) -> ListReader<R, L>
+        requires { asks ≤ 2 ^ 48 }
+        ensures unread { unread R.remaining result ≡ R.remaining reader }
+        ensures taken { taken_of result ≡ 0 }
+        ensures asks { asks_left result ≡ asks }
+        ensures going { IsGoing result }
+    {
+        ListReader {
+            source: Source::new(reader, asks),
+            going: Going::On,
+            width: PhantomData,
+        }
+    }
+
+    /// Its reader, which goes on after what was read of it.
+    pub fn into_reader(self) -> R
+        ensures { R.remaining result ≡ unread R.remaining self }
+    {
+        self.source.reader
+    }
+
+    /// Reads the next key over that of a record, whose memory it takes, and answers whether there is
+    /// one: none is at the newline that ends the text.
+    ///
+    /// After the end it answers `Ok(false)` for good, and after a fault that fault. The faults are
+    /// those of `TextReader::next`, of a list text. After a key the record's `value` holds any
+    /// bytes; after `false` and after a fault the record holds anything.
+    #[inline(always)]
+    pub fn read_into(&mut self, into: &mut Record) -> Result<bool, TextFault>
+        ensures gives { IfOk result (λ given. MatchBool given
+            (GivesKey L.GREATEST R.remaining self.old self.new into.new.key.items)
+            (GivesEnd R.remaining self.old self.new)) }
+        ensures fails { IfErr result (Fails L.GREATEST R.remaining self.old self.new) }
+        ensures ended { HasEnded self.old → Repeats (Ok false) self.old self.new result }
+        ensures failed { (fault : _) → HasFailed self.old fault
+            → Repeats (Err fault) self.old self.new result }
+    {
+        match self.going {
+            Going::On => {}
+            Going::AtEnd => return Ok(false),
+            Going::Failed(fault) => return Err(fault),
+        }
+        match self.source.list_entry(into, L::GREATEST) {
+            Ok(true) => Ok(true),
+            Ok(false) => {
+                self.going = Going::AtEnd;
+                Ok(false)
+            }
+            Err(fault) => {
+                self.going = Going::Failed(fault);
+                Err(fault)
+            }
+        }
+    }
+}
