@@ -137,8 +137,8 @@ def version():
 
 
 def release_time():
-    """When the version was released: the date of its heading in CHANGELOG.md."""
-    heading = re.search(rf"^## {re.escape(version())} \((.*)\)$", read("CHANGELOG.md").decode(), re.M)
+    """When the version was released, or the one before it: the first date of a heading in CHANGELOG.md."""
+    heading = re.search(r"^## \d\S* \((.*)\)$", read("CHANGELOG.md").decode(), re.M)
     return datetime.datetime.fromisoformat(heading[1]).replace(tzinfo=datetime.timezone.utc)
 
 

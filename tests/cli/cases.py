@@ -8,6 +8,8 @@ FOLDER, a PIPE or a Link each, by its name. No file may become longer than `most
 number; a `sealed` folder takes no new name. The program's memory has at most `space` bytes.
 """
 
+import os
+
 from files import (
     BARE_FILE,
     BARE_TEXT,
@@ -123,6 +125,12 @@ def again(record, number=1):
     return f"input {number}: record {record}: duplicate key"
 
 
+def looks(given, stdin, stdout, line=None, status=0, file=TWO_FILE, inputs=None):
+    """A query of the keys that inputs give, of the database x."""
+    files = {"x": file, **(inputs or {})}
+    return case(["-q", "-i", "x", *given], stdin, stdout, line, status, files)
+
+
 def creates(given, file, stdin=b"", line=None, inputs=None):
     """A create of the database x, of standard input or of inputs, where an old one stands."""
     inputs = inputs or {}
@@ -199,6 +207,7 @@ def of_new(line):
 
 USAGE = b"""\
 usage: cdb -q [-W] [-m] [-n number] database key
+       cdb -q -i [-W] [-m] [-n number] database [input ...]
        cdb -d [-W] [-m] [database]
        cdb -l [-W] [-m] [database]
        cdb -s [-W] [database]
@@ -206,7 +215,12 @@ usage: cdb -q [-W] [-m] [-n number] database key
        cdb -k [-W] [database]
        cdb -D [-W] old new
        cdb -h
+       cdb -V
+       with each: -v  say which file and why
 """
+
+with open(os.path.join(os.path.dirname(os.path.abspath(__file__)), "..", "..", "VERSION"), "rb") as version:
+    VERSION = b"cdb " + version.read().strip() + b" (Pezundrix)\n"
 
 DISTANCES = [f"distance {n}" for n in range(10)] + ["distance 10 or more"]
 
@@ -564,6 +578,52 @@ CASES = {
     "a query to a pipe that nobody reads": case(["-q", "x", "one"], b"", UNREAD, NO_OUTPUT, 111, {"x": TWO_FILE}),
     "a query to no standard output": case(["-q", "x", "one"], b"", CLOSED, NO_OUTPUT, 111, {"x": TWO_FILE}),
     "a missing value to a full device": case(["-q", "x", "1"], b"", "/dev/full", None, 100, {"x": TWO_FILE}),
+    # queries of the keys that inputs give
+    "records of keys": looks([], b"+3:two\n+3:one\n\n", b"+3,7:two->Goodbye\n+3,5:one->Hello\n\n"),
+    "records of no key": looks([], b"\n", b"\n"),
+    "records of a list": looks(["k"], b"", TWO_TEXT, inputs={"k": b"+3:one\n+3:two\n\n"}),
+    "records of keys of three inputs": looks(
+        ["k", "-", "-"], b"+3:two\n\n+03:two\n\n", TWO_TEXT[:-1] + b"+3,7:two->Goodbye\n\n",
+        inputs={"k": b"+3:one\n\nrest"},
+    ),
+    "records of keys as maps": looks(
+        ["-m"], b"\n# none\n two\nmissing\none 1 2", b"two Goodbye\none Hello\n", None, 100
+    ),
+    "records of a key without a value": looks([], b"+1:x\n+3:one\n+0:\n\n", FIRST_TEXT + b"\n", None, 100),
+    "all records of a key": looks([], b"+1:a\n\n", pairs(b"1", b"22", b"333"), file=of_a(b"1", b"22", b"333")),
+    "records with a number": looks(
+        ["-n", "2"], b"+1:a\n+1:a\n\n", pairs(b"22", b"22"), file=of_a(b"1", b"22", b"333")
+    ),
+    "records with a number too large": looks(
+        ["-n", "3"], b"+1:a\n\n", b"\n", None, 100, file=of_a(b"1", b"22")
+    ),
+    "records of a key with a newline": looks(
+        [], b"+2:\n\xff\n\n", b"+2,1:\n\xff->1\n\n", file=file_of([(b"\n\xff", b"1")])
+    ),
+    "records in words of 8 bytes": case(
+        ["-qWi", "x"], b"+3:two\n\n", b"+3,7:two->Goodbye\n\n", files={"x": WIDE_TWO}
+    ),
+    "records of keys cut behind one": looks(
+        [], b"+3:one\n+3:tw", FIRST_TEXT, f"input 1: byte 12: {EARLY}", 111
+    ),
+    "records of keys without an end": looks([], b"+3:one\n", FIRST_TEXT, f"input 1: byte 7: {EARLY}", 111),
+    "records of records": looks([], TWO_TEXT, b"", f"input 1: byte 2: {NO_RECORD}", 111),
+    "records of a key without a plus": looks([], b"3:one\n\n", b"", f"input 1: byte 0: {NO_RECORD}", 111),
+    "records of a key too long": looks([], b"+4294967296:", b"", f"input 1: byte 10: {LARGE_LENGTH}", 111),
+    "records of keys with a fault in the second input": looks(
+        ["-", "k"], b"+3:two\n\n", b"+3,7:two->Goodbye\n", f"input 2: byte 1: {NO_RECORD}", 111,
+        inputs={"k": b"+x"},
+    ),
+    "records up to a damage": looks(
+        [], b"+3:one\n+3:two\n+3:one\n\n", FIRST_TEXT, not_whole(2065), 111, file=two_with(2086, b"\x11")
+    ),
+    "records of a cut head": looks([], b"+3:one\n\n", b"", SHORT, 111, file=TWO_FILE[:2047]),
+    "records of no such file": case(["-qi", "x"], b"\n", b"", NO_FILE, 111),
+    "records of no such input": looks(["k"], b"\n", b"", NO_FILE, 111),
+    "records of a folder of keys": looks([], "/", b"", NO_INPUT, 111),
+    "records to a full device": looks([], b"+3:one\n\n", "/dev/full", NO_OUTPUT, 111),
+    "records to no standard output": looks([], b"+3:one\n\n", CLOSED, NO_OUTPUT, 111),
+    "a database of keys without a name": not_understood("-qi"),
     # dump and list
     "a dump of a name": reads(["-d", "x"], TWO_FILE, TWO_TEXT),
     "a dump of a hyphen": case(["-d", "-"], TWO_FILE, TWO_TEXT),
@@ -674,6 +734,13 @@ CASES = {
     "help to a full device": not_written(["-h"], b"", "/dev/full"),
     "help to a pipe that nobody reads": not_written(["-h"], b"", UNREAD),
     "help to no standard output": not_written(["-h"], b"", CLOSED),
+    "version": case(["-V"], b"", VERSION),
+    "version before all else but help": case(["-V", "-q", "-d"], b"", VERSION),
+    "version and help": case(["-Vh"], b"", USAGE),
+    "version with names": case(["x", "-V", "y"], b"", VERSION),
+    "version to a full device": not_written(["-V"], b"", "/dev/full"),
+    "version to no standard output": not_written(["-V"], b"", CLOSED),
+    "version with another letter": not_understood("-V", "-Z"),
     "no words": not_understood(),
     "an empty word": not_understood(""),
     "a hyphen alone": not_understood("-"),

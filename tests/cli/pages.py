@@ -22,6 +22,8 @@ LIBRARY = os.path.join(HERE, "..", "..", "docs", "LIBRARY.md")
 CALLER = os.path.join(HERE, "..", "..", "crates", "cdb_uses", "src", "files.rt")
 # What stands in a diagnostic in place of a number, and of another diagnostic.
 NUMBER = "[A-Z]"
+# The line of the usage text that is no form of a command.
+EACH = "       with each: -v  say which file and why\n"
 OTHER = "..."
 
 
@@ -102,7 +104,7 @@ def main():
     }
     patterns = diagnostics_of(page)
     wrong = []
-    if usage_of(page) != usage:
+    if usage_of(page) + EACH != usage:
         wrong.append(f"the synopsis tells\n{usage_of(page)}and the program\n{usage}")
     missing = letters_of(usage) - described_in(page)
     if missing:

@@ -48,8 +48,8 @@ for number in range(1, 64):
     SETS["create with " + "".join(sorted(chosen))] = with_letters(chosen)
 
 # Each letter that a command does not take.
-OPTIONS = {"m": ["-m"], "n": ["-n", "1"], "t": ["-t", "y"], "b": ["-b", "y"], **{it: [f"-{it}"] for it in "weru"}}
-TAKEN = {"q": "mn", "d": "m", "l": "m", "s": "", "k": "", "D": "", "c": "mtwerub"}
+OPTIONS = {"m": ["-m"], "n": ["-n", "1"], "t": ["-t", "y"], "b": ["-b", "y"], **{it: [f"-{it}"] for it in "iweru"}}
+TAKEN = {"q": "mni", "d": "m", "l": "m", "s": "", "k": "", "D": "", "c": "mtwerub"}
 for command, taken in TAKEN.items():
     for option, option_words in OPTIONS.items():
         if option not in taken:

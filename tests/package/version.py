@@ -12,6 +12,8 @@ import sys
 
 TOP = os.path.join(os.path.dirname(os.path.abspath(__file__)), "..", "..")
 # A file of a release, as pages name it.
+# Three numbers, and what a version has that comes before a release.
+NUMBERED = re.compile(r"\d+\.\d+\.\d+(~dev)?")
 RELEASED = re.compile(r"pezundrix[-_](\d+\.\d+\.\d+)")
 
 
@@ -19,6 +21,13 @@ def text_of(name):
     """The text of a file, named from the top."""
     with open(os.path.join(TOP, name), encoding="utf-8") as file:
         return file.read()
+
+
+def is_in_program(version):
+    """Whether the program writes the version, and its contract says so."""
+    line = f'"cdb {version} (Pezundrix)\\n"'
+    places = ["crates/cdb_command/src/usage_text.rt", "crates/cdb_command/specs/Usage.antt"]
+    return all(text_of(place).count(line) == 1 for place in places)
 
 
 def named_in_pages(version):
@@ -29,7 +38,9 @@ def named_in_pages(version):
 
 
 def heads_changelog(version):
-    """Whether the changelog has the version, with a date, as its first release."""
+    """Whether the changelog has the version, with a date, as its first release; or its first head is not released."""
+    if version.endswith("~dev"):
+        return re.search(r"^## (.*)$", text_of("CHANGELOG.md"), re.M)[1] == "Unreleased"
     heads = re.findall(r"^## (\d\S*) \((.*)\)$", text_of("CHANGELOG.md"), re.M)
     if not heads or heads[0][0] != version:
         return False
@@ -48,8 +59,9 @@ def main():
     if len(sys.argv) != 1:
         sys.exit(__doc__)
     version = text_of("VERSION").removesuffix("\n")
-    held = {"VERSION is three numbers": re.fullmatch(r"\d+\.\d+\.\d+", version) is not None}
+    held = {"VERSION is three numbers": NUMBERED.fullmatch(version) is not None}
     held["CHANGELOG.md"] = heads_changelog(version)
+    held["crates/cdb_command"] = is_in_program(version)
     held |= named_in_pages(version) | named_in_texts(version)
     wrong = [place for place, holds in held.items() if not holds]
     for place in wrong:

@@ -18,7 +18,7 @@ use Rattle.cdb_form.specs.declared.damage.Damage.TheVariants.{Short}
 use Rattle.cdb_form.specs.declared.walk.fault.WalkFault.TheVariants as walk
 use Rattle.cdb_command.specs.Asked.{Asked, asked_in, has_wide_words}
 use Rattle.cdb_command.specs.Asked as asked
-use Rattle.cdb_command.specs.Usage.{usage_text}
+use Rattle.cdb_command.specs.Usage.{usage_text, version_text}
 use Rattle.cdb_command.specs.declared.usage.Usage.{Usage}
 use Rattle.cdb_command.specs.declared.command.Command.{Command}
 use Rattle.cdb_command.specs.declared.command.Command.TheVariants as command
@@ -57,7 +57,7 @@ use Rattle.cdb.specs.Created.{foretell}
 use Rattle.cdb.specs.Foretold.{IsInOrder, AreAnswered, AsksNoCreate, ComesTrue, Honest, IsAnswered, IsForetold, IsRefusal, IsRefused, IsTaken, MayFail, Reveals, Shows, reads_in_turn, stores_in, writes_output}
 use Rattle.cdb.specs.Opening.{OpenCalls, unopened}
 use Rattle.cdb.specs.Oracle.{Disk, Outcome, check_outcome, command_outcome, difference_outcome, ended, met, of_file, oracle, query_outcome, short_or, stats_outcome, text_outcome, unless_damaged}
-use Rattle.cdb.specs.Performs.{ChecksStore, HandsOn, IsUntouched, LacksMemory, PerformsDifference, PerformsIn, PerformsOn, PerformsQuery, PerformsText, Refuses, Runs, SaysLine, Takes, WritesText, WritesUsage, status_of, usage_line, usage_status}
+use Rattle.cdb.specs.Performs.{ChecksStore, HandsOn, IsUntouched, LacksMemory, PerformsDifference, PerformsIn, PerformsOn, PerformsQuery, PerformsText, Refuses, Runs, SaysLine, Takes, Tells, WritesText, status_of, usage_line, usage_status}
 use Rattle.cdb.proofs.Explained.{SaysOnly, says_only}
 use Rattle.cdb.specs.declared.left.Left.{Left}
 use Rattle.cdb.specs.declared.open_trace.OpenCall.TheVariants.{AtPlaces, InTurn, Stream, Unopened}
@@ -529,14 +529,14 @@ difference_foretold remaining w s y first second disk old new left start end res
     (λ b x. compared w s (disk second) files.new_last (files.old_last ∷ []) (difference_outcome w b) start end result sized two calls.0
     (λ c y. difference_comes w s files.old files.old_last files.new files.new_last b c start end result x y files.tells))
 
--- ---- help
+-- ---- help and version
 
-help_ended : (start end : Option (List ℕ)) (fault : Fault) → fault ≡ Output → AppendsPrefix start end usage_text → Comes true false plain_status (ended plain_status usage_text (Ok tt)) start end (Err fault)
-help_ended start end fault is h = subst (λ f. Comes true false plain_status (ended plain_status usage_text (Ok tt)) start end (Err f)) (sym is) (gives_up true false plain_status (ended plain_status usage_text (Ok tt)) start end Output refl h)
+told_ended : (text : List ℕ) (start end : Option (List ℕ)) (fault : Fault) → fault ≡ Output → AppendsPrefix start end text → Comes true false plain_status (ended plain_status text (Ok tt)) start end (Err fault)
+told_ended text start end fault is h = subst (λ f. Comes true false plain_status (ended plain_status text (Ok tt)) start end (Err f)) (sym is) (gives_up true false plain_status (ended plain_status text (Ok tt)) start end Output refl h)
 
-help_comes : (start end : Option (List ℕ)) (result : Result Unit Fault) → WritesUsage start end result → Comes true false plain_status (ended plain_status usage_text (Ok tt)) start end result
-help_comes start end (Ok done) h = comes_so true false plain_status _ usage_text start end (Ok tt) refl h.ok
-help_comes start end (Err fault) h = help_ended start end fault h.err.0 h.err.1
+told_comes : (text : List ℕ) (start end : Option (List ℕ)) (result : Result Unit Fault) → Tells text start end result → Comes true false plain_status (ended plain_status text (Ok tt)) start end result
+told_comes text start end (Ok done) h = comes_so true false plain_status _ text start end (Ok tt) refl h.ok
+told_comes text start end (Err fault) h = told_ended text start end fault h.err.0 h.err.1
 
 -- ---- the end of a command
 
@@ -640,7 +640,9 @@ command_comes s m r remaining y (command.Difference first second true) disk inpu
 command_comes s m r remaining y (command.Difference first second false) disk input given old new was now left start end told said result sized calls honest h =
     difference_foretold remaining 4 s y (string_bytes first) (string_bytes second) disk old new left start end result sized calls honest.in_order.0 honest.in_order.1 h
 command_comes s m r remaining y (command.Create name base inputs temporary options wide) disk input given old new was now left start end told said result sized calls honest h = tt
-command_comes s m r remaining y command.Help disk input given old new was now left start end told said result sized calls honest h = help_comes start end result h.2
+command_comes s m r remaining y command.Help disk input given old new was now left start end told said result sized calls honest h = told_comes usage_text start end result h.2
+command_comes s m r remaining y command.Version disk input given old new was now left start end told said result sized calls honest h = told_comes version_text start end result h.2
+command_comes s m r remaining y (command.Lookups name inputs number style wide) disk input given old new was now left start end told said result sized calls honest h = tt
 
 -- only a create says anything before it ends
 is_silent : (command : Command) (disk : Disk) (input : List ℕ) (told before : Option (List ℕ)) → IsUntouched (asked_in command) told before → IfSome (command_outcome (asked_in command) disk input) (λ o. before ≡ told)
@@ -652,6 +654,8 @@ is_silent (command.Check name wide) disk input told before h = h
 is_silent (command.Difference first second wide) disk input told before h = h
 is_silent (command.Create name base inputs temporary options wide) disk input told before h = tt
 is_silent command.Help disk input told before h = h
+is_silent command.Version disk input told before h = h
+is_silent (command.Lookups name inputs number style wide) disk input told before h = tt
 
 -- ---- the program
 

@@ -1,10 +1,10 @@
 -- What the program comes to if nothing is refused: a function of its words, of what each file has and
--- of what standard input has. Of a create it says nothing.
+-- of what standard input has. Of a create, and of a query of many keys, it says nothing.
 use Rattle.std.specs.Prelude.{ℕ, Bool, nat_lt, if◌then◌else◌, List, [], length, Option, None, Some}
 use Rattle.std.specs.Prelude.{Result, Ok, Err}
 use Rattle.cdb_command.specs.Asked.{Asked}
 use Rattle.cdb_command.specs.Asked as asked
-use Rattle.cdb_command.specs.Usage.{usage_text}
+use Rattle.cdb_command.specs.Usage.{usage_text, version_text}
 use Rattle.cdb_command.specs.declared.usage.Usage.{Usage}
 use Rattle.cdb_form.specs.Format.Pair.{head_size}
 use Rattle.cdb_form.specs.Format.Walk.{walk_of}
@@ -18,7 +18,7 @@ use Rattle.cdb_read.specs.Views.ReadFault.{damage_fault}
 use Rattle.cdb_tool.specs.Message.{fault_line}
 use Rattle.cdb_tool.specs.Runs.Difference.{difference_of}
 use Rattle.cdb_tool.specs.Runs.Form.{Form, dump_form, list_form}
-use Rattle.cdb_tool.specs.Runs.Query.{Query, query_text, query_answer}
+use Rattle.cdb_tool.specs.Runs.Query.{Query, query_text, query_answer, value_text}
 use Rattle.cdb_tool.specs.Runs.Stats.{statistics_text}
 use Rattle.cdb_tool.specs.Runs.WalkText.{walk_text}
 use Rattle.cdb_tool.specs.Status.{check_status, plain_status}
@@ -117,7 +117,9 @@ greatest_size wide = if wide then 9223372036854775807 else 4294967295
 abbrev pub command_outcome : Asked → Disk → (input : List ℕ) → Option Outcome
 command_outcome (asked.Query name key number lines wide) disk input =
     Some (of_file (disk name)
-    (query_outcome (word_size wide) (record { key = key; number = number; lines = lines })))
+    (query_outcome (word_size wide)
+    (record { key = key; number = number; shown = value_text lines })))
+command_outcome (asked.Lookups name inputs number style wide) disk input = None
 command_outcome (asked.Dump name style wide) disk input =
     Some (of_read disk input name (text_outcome (word_size wide) (dump_form style)))
 command_outcome (asked.Listing name style wide) disk input =
@@ -131,6 +133,7 @@ command_outcome (asked.Difference old new wide) disk input =
     of_file (disk new) (difference_outcome (word_size wide) bytes)))
 command_outcome (asked.Create name base inputs temporary options wide) disk input = None
 command_outcome asked.Help disk input = Some (ended plain_status usage_text (Ok tt))
+command_outcome asked.Version disk input = Some (ended plain_status version_text (Ok tt))
 
 -- of what the words are planned to ask for
 abbrev pub oracle : Result Asked Usage → Disk → (input : List ℕ) → Option Outcome

@@ -1,11 +1,12 @@
 -- What a command does: the calls on files, in their order, and what it writes on its output.
-use Rattle.std.specs.Prelude.{ℕ, ◌≡◌, ◌⊎◌, ◌≤◌, Bool, true, false, List, [], ◌∷◌, ◌++◌, length}
+use Rattle.std.specs.Prelude.{ℕ, ◌≡◌, ◌⊎◌, ◌≤◌, Bool, true, false, List, [], ◌∷◌, ◌++◌, length, map}
 use Rattle.std.specs.Prelude.{Option, Some, None, Result, Ok, Err, OnOk, IfErr, IsOk, IfSome, ⊤, codes}
 use Rattle.std.specs.Io.KnownBytes.{Keeps, Appends, append_known}
 use Rattle.cdb_command.specs.Asked.{Asked, asked_in, has_wide_words}
 use Rattle.cdb_command.specs.Asked as asked
-use Rattle.cdb_command.specs.Usage.{usage_message, usage_text}
+use Rattle.cdb_command.specs.Usage.{usage_message, usage_text, version_text}
 use Rattle.cdb_command.specs.declared.command.Command.{Command}
+use Rattle.cdb_command.specs.declared.style.Style.{Style}
 use Rattle.cdb_command.specs.declared.usage.Usage.{Usage}
 use Rattle.cdb_command.specs.declared.usage.Usage.TheVariants.{NoMemory}
 use Rattle.cdb_form.specs.Views.KnownBytes.{AppendsPrefix}
@@ -19,17 +20,22 @@ use Rattle.cdb_tool.specs.Runs.Check.{FindsSound, CheckingFails}
 use Rattle.cdb_tool.specs.Runs.Difference.{TellsDifference}
 use Rattle.cdb_tool.specs.Runs.Form.{Form, dump_form, list_form}
 use Rattle.cdb_tool.specs.Runs.Load.{IsNotLoaded}
-use Rattle.cdb_tool.specs.Runs.Query.{Query, Queries}
+use Rattle.cdb_tool.specs.Runs.Inputs.{InputsLeft}
+use Rattle.cdb_tool.specs.Runs.Lookups.{LooksUp}
+use Rattle.cdb_tool.specs.Runs.Query.{Query, Queries, value_text}
 use Rattle.cdb_tool.specs.Runs.Stats.{TellsStats}
 use Rattle.cdb_tool.specs.Runs.WalkText.{WritesWalk}
 use Rattle.cdb_tool.specs.Message.{fault_line}
 use Rattle.cdb_tool.specs.Status.{exit_status}
+use Rattle.cdb_tool.specs.Views.Inputs.{one_of}
 use Rattle.cdb_tool.specs.declared.fault.Fault.{Fault}
 use Rattle.cdb_tool.specs.declared.fault.Fault.TheVariants.{Open, NoMemory as NoRoom, Output}
 use Rattle.cdb_files.specs.Folder.{NameCalls}
 use Rattle.cdb_files.specs.declared.answer.Answer.TheVariants as looks
 use Rattle.cdb.specs.Creating.{Creates}
 use Rattle.cdb.specs.Causes.{Explains}
+use Rattle.cdb_tool.specs.declared.inputs.Turn.{Turn}
+use Rattle.cdb.specs.Inputs.{OpensInputs, StopsOpening}
 use Rattle.cdb.specs.Opening.{Misses, OpenCalls, both_left, none_left, read_left}
 use Rattle.cdb.specs.declared.left.Left.{Left}
 use Rattle.cdb.specs.declared.open_trace.OpenCall.TheVariants.{AtPlaces, InTurn, Stream}
@@ -203,12 +209,53 @@ PerformsDifference w s y first second old new left start end result =
     ⊎ ((y.calls new ≡ (AtPlaces, second) ∷ (AtPlaces, first) ∷ y.calls old)
     × ComparesFiles w s y first second left start end result)
 
--- ---- help
+-- ---- many keys
 
--- the usage text is written
-pub record WritesUsage (start end : Option (List ℕ)) (result : Result Unit Fault) : Type 0 where
-  pub ok : OnOk result (Appends start end usage_text)
-  pub err : IfErr result (λ fault. (fault ≡ Output) × AppendsPrefix start end usage_text)
+-- the records of the keys of the inputs that were opened behind the file that came, which is left so
+pub record LooksUpFile {F I M Y : Type 0} (w most : ℕ) (s : Ghosts F) (remaining : I → Option (List ℕ))
+    (y : Systems Y F I M) (name : List ℕ) (inputs : List (List ℕ)) (number : Option ℕ) (style : Style)
+    (input : Option (List ℕ)) (old new : OpenCalls) (left : Left F M) (start end : Option (List ℕ))
+    (result : Result Unit Fault) : Type 0 where
+  pub file : F
+  pub came : y.gives name file
+  pub last : F
+  pub is_last : left ≡ read_left last
+  pub turns : List (Turn I)
+  pub opens : OpensInputs y inputs turns ((AtPlaces, name) ∷ old) new
+  pub each : InputsLeft
+  pub each_are : each ≡ record { each = map (one_of remaining) turns; shared = input }
+  pub looks : LooksUp w most s number style each file last start end result
+
+-- an input was not opened, and nothing was written; the file is left as it came
+pub record RefusesInputs {F I M Y : Type 0} (y : Systems Y F I M) (name : List ℕ)
+    (inputs : List (List ℕ)) (old new : OpenCalls) (left : Left F M) (start end : Option (List ℕ))
+    (result : Result Unit Fault) : Type 0 where
+  pub file : F
+  pub came : y.gives name file
+  pub is_left : left ≡ read_left file
+  pub fault : Fault
+  pub is : result ≡ Err fault
+  pub stops : StopsOpening y inputs ((AtPlaces, name) ∷ old) new fault
+  pub kept : Keeps start end
+
+-- the file is opened, to be read at places, and then the inputs; standard input has these bytes
+abbrev pub PerformsLookups : {F I M Y : Type 0} → (w most : ℕ) → Ghosts F → (I → Option (List ℕ))
+    → Systems Y F I M → (name : List ℕ) → (inputs : List (List ℕ)) → Option ℕ → Style
+    → (input : Option (List ℕ)) → (old new : Y) → Left F M → (start end : Option (List ℕ))
+    → Result Unit Fault → Type 0
+PerformsLookups w most s remaining y name inputs number style input old new left start end result =
+    ((left ≡ none_left) × Refuses name (y.calls old) (y.calls new) start end result)
+    ⊎ RefusesInputs y name inputs (y.calls old) (y.calls new) left start end result
+    ⊎ LooksUpFile w most s remaining y name inputs number style input (y.calls old) (y.calls new) left
+    start end result
+
+-- ---- help and version
+
+-- this text is written
+pub record Tells (text : List ℕ) (start end : Option (List ℕ)) (result : Result Unit Fault) : Type 0
+  where
+    pub ok : OnOk result (Appends start end text)
+    pub err : IfErr result (λ fault. (fault ≡ Output) × AppendsPrefix start end text)
 
 -- ---- each command, in words of w bytes of files of at most so many; what is left open is handed back
 abbrev pub Performs : {F I M R Y : Type 0} → (w most : ℕ) → Ghosts F → Ghosts M → Raw R
@@ -217,8 +264,11 @@ abbrev pub Performs : {F I M R Y : Type 0} → (w most : ℕ) → Ghosts F → G
     → Result Unit Fault → Type 0
 Performs w most s m r remaining y (asked.Query name key number lines wide) input old new was now
     left start end told said result =
-    PerformsQuery w s y name (record { key = key; number = number; lines = lines }) old new left
-    start end result
+    PerformsQuery w s y name (record { key = key; number = number; shown = value_text lines }) old new
+    left start end result
+Performs w most s m r remaining y (asked.Lookups name inputs number style wide) input old new was now
+    left start end told said result =
+    PerformsLookups w most s remaining y name inputs number style input old new left start end result
 Performs w most s m r remaining y (asked.Dump name style wide) input old new was now left start end
     told said result =
     (left ≡ none_left)
@@ -243,7 +293,10 @@ Performs w most s m r remaining y (asked.Create name base inputs temporary optio
     Creates w most y s m r remaining options name base inputs temporary input (y.calls old)
     (y.calls new) was now left start end told said result
 Performs w most s m r remaining y asked.Help input old new was now left start end told said result =
-    (new ≡ old) × (left ≡ none_left) × WritesUsage start end result
+    (new ≡ old) × (left ≡ none_left) × Tells usage_text start end result
+Performs w most s m r remaining y asked.Version input old new was now left start end told said
+    result =
+    (new ≡ old) × (left ≡ none_left) × Tells version_text start end result
 
 -- in words of 8 bytes or of 4
 abbrev pub PerformsIn : {F I M R Y : Type 0} → (wide : Bool) → Ghosts F → Ghosts M → Raw R

@@ -9,6 +9,7 @@ mod creating;
 mod differing;
 mod inputs;
 mod left;
+mod looking;
 mod open_trace;
 mod performing;
 mod placing;

@@ -1,25 +1,35 @@
 // Each command, with words of one width.
 ghost use Rattle.cdb_tool.specs.Command.{asked_in, FitsIn};
 ghost use Rattle.cdb_form.specs.Format.Pair.{head_size};
-ghost use Rattle.cdb.specs.Performs.{IsUntouched, Performs, WritesUsage};
+ghost use Rattle.cdb_tool.specs.Command.{usage_text, version_text};
+ghost use Rattle.cdb.specs.Performs.{IsUntouched, Performs, Tells};
 
 use crate::creating::{Creation, create};
 use crate::differing::difference;
 use crate::left::{Left, none_left};
+use crate::looking::lookups;
 use crate::reading::{check, query, stats, text};
 use crate::system::System;
 use cdb_files::Names;
 use cdb_form::Width;
 use cdb_store::Store;
-use cdb_tool::{Command, Content, Fault, flushed, write_usage};
+use cdb_tool::{Command, Content, Fault, flushed, write_usage, write_version};
 use std::alloc::Global;
 use std::io::{Read, Write};
 
 /// Writes how the program is called.
 fn help<O: Write>(output: &mut O) -> Result<(), Fault>
-    ensures { WritesUsage (O.contents output.old) (O.contents output.new) result }
+    ensures { Tells usage_text (O.contents output.old) (O.contents output.new) result }
 {
     let written = write_usage(output);
+    flushed(output, written.map_err(Fault::from))
+}
+
+/// Writes which version the program is.
+fn version<O: Write>(output: &mut O) -> Result<(), Fault>
+    ensures { Tells version_text (O.contents output.old) (O.contents output.new) result }
+{
+    let written = write_version(output);
     flushed(output, written.map_err(Fault::from))
 }
 
@@ -68,6 +78,22 @@ where
             *lines,
             output,
         ),
+        Command::Lookups {
+            name,
+            inputs,
+            number,
+            style,
+            ..
+        } => lookups::<L, F, J, M, Y, I, O>(
+            alloc,
+            system,
+            name.as_str(),
+            inputs.as_slice(),
+            *number,
+            *style,
+            input,
+            output,
+        ),
         Command::Dump { name, style, .. } => {
             let content = Content::Records;
             let answer = text::<L, F, J, M, Y, I, O>(
@@ -113,5 +139,6 @@ where
             )
         }
         Command::Help => (none_left(), help(output)),
+        Command::Version => (none_left(), version(output)),
     }
 }

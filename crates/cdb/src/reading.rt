@@ -5,6 +5,7 @@ ghost use Rattle.cdb_store.specs.contracts.memory.MemStoreStore.TheImpl.{ghosts 
 ghost use Rattle.cdb_store.specs.Contents.{contents};
 ghost use Rattle.cdb_tool.specs.Runs.Form.{form_of};
 ghost use Rattle.cdb_tool.specs.Runs.Load.{IsNotLoaded};
+ghost use Rattle.cdb_tool.specs.Runs.Query.{value_text};
 ghost use Rattle.cdb.specs.Performs.{PerformsQuery, PerformsText, PerformsOn, LacksMemory, WritesText};
 ghost use Rattle.cdb.specs.Performs.{Takes, TellsStore, ChecksStore};
 
@@ -39,7 +40,7 @@ where
     O: Write,
     requires { IfSome number (λ n. 1 ≤ n) }
     ensures { PerformsQuery L.WORD F.Store Y.System name.now
-        (record { key = key.now; number = number; lines = lines }) system.old system.new result.0
+        (record { key = key.now; number = number; shown = value_text lines }) system.old system.new result.0
         (O.contents output.old) (O.contents output.new) result.1 }
 {
     match system.open_store(name) {

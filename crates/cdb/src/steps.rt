@@ -96,7 +96,7 @@ where
         (OutputFailed output.new) (OutputFailed errors.new) result.1 }
     ensures handed { held_by output.old ≡ [] → HasHandedOn output.new }
 {
-    let command = match plan(alloc, words) {
+    let command = match plan(alloc, words.as_slice()) {
         Ok(command) => command,
         Err(usage) => return (none_left(), refuse(&usage, errors)),
     };
@@ -215,12 +215,13 @@ fn is_wide(command: &Command) -> bool
 {
     match *command {
         Command::Query { wide, .. }
+        | Command::Lookups { wide, .. }
         | Command::Dump { wide, .. }
         | Command::List { wide, .. }
         | Command::Stats { wide, .. }
         | Command::Check { wide, .. }
         | Command::Difference { wide, .. }
         | Command::Create { wide, .. } => wide,
-        Command::Help => false,
+        Command::Help | Command::Version => false,
     }
 }

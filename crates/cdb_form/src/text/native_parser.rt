@@ -227,11 +227,7 @@ impl<R: Read> Source<R> {
     /// Takes the next key of a list text, and answers whether there is one: none is at the newline that
     /// ends the text.
     #[inline(never)]
-    pub(crate) fn list_entry(
-        &mut self,
-        into: &mut Record,
-        greatest: u64,
-    ) -> Result<bool, TextFault>
+    pub(crate) fn list_entry(&mut self, into: &mut Record, greatest: u64) -> Result<bool, TextFault>
         requires least { 9 ≤ greatest }
         requires most { greatest < 2 ^ 63 }
         ensures read { IfOk result (λ given. MatchBool given

@@ -199,11 +199,7 @@ fn look_up_all<L: Width, S: Store, J: Read + Drop, I: Read + Drop, W: Write>(
     let mut missing = false;
     look_up_inputs::<L, S, J, I, W>(alloc, reader, number, style, inputs, &mut missing, w)?;
     write_last(w, style)?;
-    if missing {
-        Err(Fault::Missing)
-    } else {
-        Ok(())
-    }
+    if missing { Err(Fault::Missing) } else { Ok(()) }
 }
 
 /// Writes the records, which the writer may keep in a buffer.

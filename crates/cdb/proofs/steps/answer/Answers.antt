@@ -7,7 +7,7 @@ use Rattle.cdb.proofs.steps.answer.Goals as goal
 pub returns-in-Err-clause-runs : goal.returns-in-Err-clause-runs
 returns-in-Err-clause-runs g c = inl (record {
   usage = c.in-Err.usage;
-  why = c.in-Err.ensures.exact;
+  why = rw c.as_slice.ensures.value at c.in-Err.ensures.exact;
   line = c.refuse.ensures.line;
   untouched = refl;
   none = c.none_left.ensures;
@@ -19,7 +19,7 @@ returns-in-Err-clause-runs g c = inl (record {
 pub returns-in-Ok-performed-clause-runs : goal.returns-in-Ok-performed-clause-runs
 returns-in-Ok-performed-clause-runs g c = inr (record {
   command = c.in-Ok.command;
-  asks = c.in-Ok.ensures.exact;
+  asks = rw c.as_slice.ensures.value at c.in-Ok.ensures.exact;
   result = Ok c.in-Ok-performed.field-0;
   before = output_bytes g.E.Write.contents c.perform-left.new.errors;
   does = rw c.in-Ok-performed.is at c.perform-left.ensures.does;
@@ -34,7 +34,7 @@ returns-in-Ok-performed-clause-runs g c = inr (record {
 pub returns-clause-runs : goal.returns-clause-runs
 returns-clause-runs g c = inr (record {
   command = c.in-Ok.command;
-  asks = c.in-Ok.ensures.exact;
+  asks = rw c.as_slice.ensures.value at c.in-Ok.ensures.exact;
   result = Err c.in-Err-performed.fault;
   before = output_bytes g.E.Write.contents c.perform-left.new.errors;
   does = rw c.in-Err-performed.is at c.perform-left.ensures.does;
