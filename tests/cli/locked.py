@@ -4,7 +4,7 @@
     tests/cli/locked.py PROGRAM
 
 A create that finds the temporary file of another that is still at work is to end with `file cannot be
-opened` and touch nothing. The file of one that was killed is removed. Whatever is killed, the
+opened` and touch nothing; with `-v` it says that another is at work. The file of one that was killed is removed. Whatever is killed, the
 database is one of the whole files, and of a create that answered 0 it was the file. A create in place
 that finds another at work in the file is to end so too.
 """
@@ -21,6 +21,7 @@ from files import TWO_FILE, TWO_TEXT, file_of, text_of
 from waiting import waits
 
 OPEN = b"cdb: file cannot be opened\n"
+WHY = OPEN + b"cdb: %s: another create is at work on it\n"
 OLD = file_of([(b"old", b"database")])
 IN_PLACE = ["-c", "-t", "-", "x"]
 ROUNDS = 200
@@ -48,9 +49,9 @@ def started(program, folder):
     raise TimeoutError("no temporary file")
 
 
-def created(program, folder, text):
+def created(program, folder, text, letters=()):
     """The status and the errors of a create."""
-    words = [program, "-c", "x"]
+    words = [program, *letters, "-c", "x"]
     done = subprocess.run(words, cwd=folder, input=text, stderr=subprocess.PIPE, timeout=60, check=False)
     return done.returncode, done.stderr
 
@@ -76,12 +77,13 @@ def second_is_refused(program, text):
 
     def run(folder, read_file):
         first = started(program, folder)
-        second = created(program, folder, text)
+        second = created(program, folder, text), created(program, folder, text, ["-v"])
         between = read_file("x"), read_file("x.tmp") is not None
         answer = ended(first, TWO_TEXT)
         return second, between, answer, read_file("x"), read_file("x.tmp")
 
-    wanted = ((111, OPEN), (OLD, True), (0, b""), TWO_FILE, None)
+    refused = (111, OPEN), (111, WHY % b"x.tmp")
+    wanted = (refused, (OLD, True), (0, b""), TWO_FILE, None)
     return in_folder(run) == wanted
 
 
@@ -111,7 +113,7 @@ def first_is_killed(program):
     return in_folder(run) == (True, (0, b""), TWO_FILE, None)
 
 
-def in_place_is_refused(program, words):
+def in_place_is_refused(program, words, lines=OPEN):
     """A second create while the first is at work in place, which has emptied the file by then and written a head
     of ones."""
 
@@ -125,7 +127,7 @@ def in_place_is_refused(program, words):
         between = read_file("x")
         return (second.returncode, second.stderr), between, ended(first, TWO_TEXT), read_file("x")
 
-    return in_folder(run) == ((111, OPEN), b"\xff" * 2048, (0, b""), TWO_FILE)
+    return in_folder(run) == ((111, lines), b"\xff" * 2048, (0, b""), TWO_FILE)
 
 
 def in_place_is_killed(program):
@@ -188,6 +190,7 @@ def main():
         "a first create that is killed": first_is_killed(program),
         "a second create in place": in_place_is_refused(program, IN_PLACE),
         "a second create in place, by the name itself": in_place_is_refused(program, ["-c", "-t", "x", "x"]),
+        "a second create in place, with -v": in_place_is_refused(program, ["-v", *IN_PLACE], WHY % b"x"),
         "a create in place after one that was killed": in_place_is_killed(program),
     }
     for n in range(ROUNDS):

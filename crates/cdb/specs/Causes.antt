@@ -1,7 +1,7 @@
 -- Which file a fault is of, and the line that names it.
 use Rattle.std.specs.Prelude.{ℕ, ◌≡◌, ◌⊎◌, ◌++◌, List, [], ◌∷◌, Option, None, Some, codes}
 use Rattle.std.specs.Prelude.{◌+◌, ◌-◌, ◌/◌, ◌%◌, ◌==◌, ◌||◌, nat_lt, if◌then◌else◌, flat_map, get_or, bytes_eq}
-use Rattle.std.specs.Prelude.{Bool, true, false, Result, Ok, Err, cond}
+use Rattle.std.specs.Prelude.{Bool, true, false, Result, Ok, Err}
 use Rattle.cdb_command.specs.Asked.{Asked}
 use Rattle.cdb_command.specs.Asked as asked
 use Rattle.cdb_files.specs.declared.refusal.Cause.{Cause}
