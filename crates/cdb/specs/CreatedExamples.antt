@@ -1,7 +1,20 @@
 -- What the oracle says of worked creates.
 use Rattle.std.specs.Fmt.{digits}
 use Rattle.std.specs.Prelude.{ℕ, ◌≡◌, true, false, bytes_eq, if◌then◌else◌, List, [], ◌∷◌}
-use Rattle.std.specs.Prelude.{length, codes, Option, None, Some, Ok, refl}
+use Rattle.std.specs.Prelude.{length, codes, Option, None, Some, Ok, refl, zero, suc, IfSome}
+use Rattle.std.proofs.Common.{arith, inl, subst}
+use Rattle.cdb_files.specs.Folder.{NameCalls}
+use Rattle.cdb_files.specs.declared.answer.Answer.TheVariants as looks
+use Rattle.cdb_files.specs.declared.name_trace.NameCall.TheVariants as name_call
+use Rattle.cdb_store.specs.Calls.{Calls, FileImage}
+use Rattle.cdb_store.specs.contracts.memory.MemStoreStore.TheImpl.{ghosts as in_memory}
+use Rattle.cdb_store.specs.declared.memory.MemStore.{MemStore}
+use Rattle.cdb_store.specs.declared.trace.Call.TheVariants as file_call
+use Rattle.cdb_form.specs.Format.Record.{AreBytes}
+use Rattle.cdb_tool.specs.Runs.MakesSo.{KnownFor}
+use Rattle.cdb.specs.ForetoldCreate.{HonestCreate}
+use Rattle.cdb.specs.Opening.{OpenCalls}
+use Rattle.cdb.specs.declared.system.System.{Ghosts as Systems}
 use Rattle.cdb_command.specs.Asked.{Create}
 use Rattle.cdb_command.specs.declared.options.MakeOptions.{MakeOptions}
 use Rattle.cdb_command.specs.declared.style.Style.TheVariants.{Native}
@@ -86,3 +99,51 @@ stopped = refl
 removed : (of_file plain (Some (codes "a.cdb")) old (codes "-3:two\n\n")).disk (codes "a.cdb") ≡ Some (file_bytes 4 (record_of (codes "one") (codes "Hello") ∷ []))
 unfolding old plain text_from two_file words_of repeat walk_of walk_from whole_records record_end head_at
 removed = refl
+
+-- ---- calls by which it comes true
+
+-- the names, the file of no records, and the calls on it: made, written and synced
+abbrev its : List ℕ
+its = codes "a.cdb"
+
+abbrev temporary : List ℕ
+temporary = codes "a.cdb.tmp"
+
+unfoldable empty_file : List ℕ
+empty_file = file_bytes 4 []
+
+abbrev file_calls : Calls
+file_calls = (file_call.Synced, []) ∷ (file_call.Wrote 0, empty_file) ∷ (file_call.Made, []) ∷ []
+
+-- the calls on names of a create of an empty text, the newest first
+abbrev name_calls : NameCalls
+name_calls =
+    (name_call.Synced, its, [], []) ∷ (name_call.Renamed 2048, temporary, its, file_calls)
+    ∷ (name_call.Same looks.No, temporary, its, []) ∷ (name_call.Own looks.Yes, temporary, [], [])
+    ∷ (name_call.Made, temporary, [], []) ∷ (name_call.Special looks.No, its, [], [])
+    ∷ (name_call.Input looks.No, temporary, [], []) ∷ []
+
+newline_is : AreBytes (codes "\n")
+newline_is zero = omega arith
+newline_is (suc k) = omega arith
+
+is_written : FileImage 2048 file_calls empty_file
+unfolding empty_file file_bytes file_tables table_slots filled_slots slots_with table_entries entries_from file_pointers pointers_from record_bytes
+is_written = (empty_file, ([], refl, omega arith, refl), omega arith, refl)
+
+of_none : (files : List (Option (List ℕ))) → ◌≡◌ {A = Option (List (Option (List ℕ)))} (Some (None ∷ [])) (Some files) → KnownFor files (Some (codes "\n")) (codes "\n")
+of_none files e = subst (λ (v : Option (List (Option (List ℕ)))). IfSome v (λ fs. KnownFor fs (Some (codes "\n")) (codes "\n"))) e refl
+
+create_is_honest : (y : Systems OpenCalls MemStore (List ℕ) MemStore) → HonestCreate in_memory Some y nothing (codes "\n") [] (Some (codes "\n")) [] [] None its [] name_calls
+unfolding nothing
+create_is_honest y = record {
+  calls = [];
+  are = refl;
+  answered = tt;
+  reads = λ files e. of_none files e;
+  bytes = record { files = λ name. tt; standard = newline_is };
+  first = refl;
+  alone = (tt, (tt, ((λ said same. (let no : temporary ≡ its = same in cc), λ said. absurd (said refl)), (tt, (tt, (tt, (refl, tt)))))));
+  held = Some empty_file;
+  has = inl (refl, λ synced. is_written);
+}
