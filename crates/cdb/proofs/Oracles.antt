@@ -54,7 +54,7 @@ use Rattle.cdb_tool.proofs.WholeRuns.{prefix_kept}
 use Rattle.cdb_tool.specs.declared.fault.Fault.{Fault}
 use Rattle.cdb_tool.specs.declared.fault.Fault.TheVariants.{Text, Make, Duplicate, Missing, Read, Walk, Output, Long, Open, Rename, NoMemory, Old, New, NoOldTables, NoNewTables}
 use Rattle.cdb.specs.Created.{foretell}
-use Rattle.cdb.specs.Foretold.{IsInOrder, AreAnswered, AsksNoCreate, ComesTrue, Honest, IsAnswered, IsForetold, IsRefusal, IsRefused, IsTaken, MayFail, Reveals, Shows, reads_in_turn, stores_in, writes_output}
+use Rattle.cdb.specs.Foretold.{IsInOrder, AreAnswered, AsksNeither, ComesTrue, Honest, IsAnswered, IsForetold, IsRefusal, IsRefused, IsTaken, MayFail, Reveals, Shows, reads_in_turn, stores_in, writes_output}
 use Rattle.cdb.specs.Opening.{OpenCalls, unopened}
 use Rattle.cdb.specs.Oracle.{Disk, Outcome, check_outcome, command_outcome, difference_outcome, ended, met, of_file, oracle, query_outcome, short_or, stats_outcome, text_outcome, unless_damaged}
 use Rattle.cdb.specs.Performs.{ChecksStore, HandsOn, IsUntouched, LacksMemory, PerformsDifference, PerformsIn, PerformsOn, PerformsQuery, PerformsText, Refuses, Runs, SaysLine, Takes, Tells, WritesText, status_of, usage_line, usage_status}
@@ -709,8 +709,9 @@ all_taken contents o handed works = elim handed [
 ]
 
 -- what is said of the outcome of a command that makes nothing is said of what the whole function gives
-total_so : (planned : Result Asked Usage) (disk : Disk) (input : List ℕ) (P : Outcome → Type 0) → AsksNoCreate planned → IfSome (oracle planned disk input) P → P (foretell planned disk input).outcome
+total_so : (planned : Result Asked Usage) (disk : Disk) (input : List ℕ) (P : Outcome → Type 0) → AsksNeither planned → IfSome (oracle planned disk input) P → P (foretell planned disk input).outcome
 total_so (Ok (asked.Query name key number lines wide)) disk input P none h = h
+total_so (Ok (asked.Lookups name inputs number style wide)) disk input P none h = absurd none
 total_so (Ok (asked.Dump name style wide)) disk input P none h = h
 total_so (Ok (asked.Listing name style wide)) disk input P none h = h
 total_so (Ok (asked.Stats name wide)) disk input P none h = h
@@ -718,6 +719,7 @@ total_so (Ok (asked.Check name wide)) disk input P none h = h
 total_so (Ok (asked.Difference old new wide)) disk input P none h = h
 total_so (Ok (asked.Create name base inputs temporary options wide)) disk input P none h = absurd none
 total_so (Ok asked.Help) disk input P none h = h
+total_so (Ok asked.Version) disk input P none h = h
 total_so (Err usage) disk input P none h = h
 
 pub run_is_foretold : {F I M R Y W V : Type 0} (s : Ghosts F) (m : Ghosts M) (r : Raw R) (remaining : I → Option (List ℕ)) (y : Systems Y F I M) (planned : Result Asked Usage) (explained : Bool) (given : Option (List ℕ)) (old new : Y) (was now : NameCalls) (left : Left F M) (of_output : W → Option (List ℕ)) (of_errors : V → Option (List ℕ)) (output_old output_new : Writer W) (errors_old errors_new : Writer V) (status : ℕ)

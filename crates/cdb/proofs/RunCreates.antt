@@ -67,6 +67,8 @@ status_create (command.List n s w) name base inputs temporary o wide (Err fault)
 status_create (command.Stats n w) name base inputs temporary o wide (Err fault) e = refl
 status_create (command.Difference a b w) name base inputs temporary o wide (Err fault) e = refl
 status_create command.Help name base inputs temporary o wide (Err fault) e = refl
+status_create command.Version name base inputs temporary o wide (Err fault) e = refl
+status_create (command.Lookups n i k s w) name base inputs temporary o wide (Err fault) e = refl
 status_create (command.Check n w) name base inputs temporary o wide (Err fault) e = absurd (let no : asked.Check (option_map string_bytes n) w ≡ asked.Create name base inputs temporary o wide = e in cc)
 
 said_all : (line : List ℕ) (told said : Option (List ℕ)) (unsaid : Type 0) → (unsaid → ⊥) → SaysLine line told said unsaid → Appends told said line

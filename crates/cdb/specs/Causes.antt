@@ -47,6 +47,7 @@ base_or name (Some base) = base
 
 abbrev pub read_name : Asked → List ℕ
 read_name (asked.Query name key number lines wide) = name
+read_name (asked.Lookups name inputs number style wide) = name
 read_name (asked.Dump name style wide) = or_standard name
 read_name (asked.Listing name style wide) = or_standard name
 read_name (asked.Stats name wide) = or_standard name
@@ -54,6 +55,7 @@ read_name (asked.Check name wide) = or_standard name
 read_name (asked.Difference old new wide) = old
 read_name (asked.Create name base inputs temporary options wide) = base_or name base
 read_name asked.Help = []
+read_name asked.Version = []
 
 -- the new one of two
 abbrev pub new_name : Asked → List ℕ
@@ -67,9 +69,13 @@ IsMadeName (asked.Create database base inputs temporary options wide) name =
 IsMadeName command name = ⊥
 
 -- an input, counted from 1. A hyphen is standard input, and no inputs are one
+abbrev pub input_at : List (List ℕ) → (number : ℕ) → List ℕ
+input_at inputs number = said_input (get_or inputs (number - 1) (codes "-"))
+
 abbrev pub input_name : Asked → (number : ℕ) → List ℕ
 input_name (asked.Create database base inputs temporary options wide) number =
-    said_input (get_or inputs (number - 1) (codes "-"))
+    input_at inputs number
+input_name (asked.Lookups database inputs number style wide) n = input_at inputs n
 input_name command number = []
 
 -- the file of a fault that is of a database which is read

@@ -149,19 +149,20 @@ abbrev pub IsTaken : {O E : Type 0} → (old new : Writer O) → (errors : Write
 IsTaken old new errors =
     (held_by old ≡ []) × (OutputFailed new → ⊥) × (OutputFailed errors → ⊥)
 
--- the words ask for no create
-abbrev pub AsksNoCreate : Result Asked Usage → Type 0
-AsksNoCreate (Ok (asked.Create name base inputs temporary options wide)) = ⊥
-AsksNoCreate planned = ⊤
+-- the words ask neither for a create nor for a query of many keys
+abbrev pub AsksNeither : Result Asked Usage → Type 0
+AsksNeither (Ok (asked.Create name base inputs temporary options wide)) = ⊥
+AsksNeither (Ok (asked.Lookups name inputs number style wide)) = ⊥
+AsksNeither planned = ⊤
 
--- a run without a create that explains no fault, and whose output and whose lines were taken came to what the oracle says, or to a
+-- a run of such words that explains no fault, and whose output and whose lines were taken came to what the oracle says, or to a
 -- refusal
 abbrev pub IsForetold : {F I M Y : Type 0} → Ghosts F → (I → Option (List ℕ)) → Systems Y F I M
     → (planned : Result Asked Usage) → (explained : Bool) → (given : Option (List ℕ))
     → (old new : Y) → Left F M → (start final told said : Option (List ℕ)) → (taken : Type 0)
     → (status : ℕ) → Type 0
 IsForetold s remaining y planned explained given old new left start final told said taken status =
-    (disk : Disk) → (input : List ℕ) → taken → explained ≡ false → AsksNoCreate planned
+    (disk : Disk) → (input : List ℕ) → taken → explained ≡ false → AsksNeither planned
     → IfOk planned (λ command. Honest s remaining y disk input command given old new left)
     → ComesTrue (foretell planned disk input).outcome start final told said status
     ⊎ IsRefused planned (foretell planned disk input).outcome start final told said status

@@ -1,8 +1,8 @@
 // The cause of a fault: which file, and why.
-ghost use Rattle.std.specs.Prelude.{◌≡◌, ◌⊎◌, IfSome, codes, string_bytes};
+ghost use Rattle.std.specs.Prelude.{◌≡◌, ◌⊎◌, IfSome, codes, map, string_bytes};
 ghost use Rattle.cdb_tool.specs.Command.{asked_in};
 ghost use Rattle.cdb.specs.Causes.{IsCause, IsMadeName, IsNoNameOf, IsOfDatabase, IsRefused};
-ghost use Rattle.cdb.specs.Causes.{input_name, new_name, read_name, reason_name, said_input};
+ghost use Rattle.cdb.specs.Causes.{input_at, input_name, new_name, read_name, reason_name, said_input};
 
 use crate::inputs::is_standard;
 use crate::left::Left;
@@ -145,7 +145,7 @@ fn read_name(command: &Command) -> &str
     ensures { result.now ≡ read_name (asked_in command.now) }
 {
     match command {
-        Command::Query { name, .. } => name.as_str(),
+        Command::Query { name, .. } | Command::Lookups { name, .. } => name.as_str(),
         Command::Dump { name, .. }
         | Command::List { name, .. }
         | Command::Stats { name, .. }
@@ -158,7 +158,7 @@ fn read_name(command: &Command) -> &str
             None => name.as_str(),
         },
         Command::Difference { old, .. } => old.as_str(),
-        Command::Help => "",
+        Command::Help | Command::Version => "",
     }
 }
 
@@ -208,17 +208,26 @@ fn is_first_standard(inputs: &[String], at: usize) -> bool {
 }
 
 /// The name of an input, counted from 1. No input is standard input, as each `-` is.
-fn input_name(command: &Command, number: u64) -> &str
-    ensures { result.now ≡ input_name (asked_in command.now) number }
+fn input_at(inputs: &[String], number: u64) -> &str
+    ensures { result.now ≡ input_at (map string_bytes inputs.now) number }
 {
-    let Command::Create { inputs, .. } = command else {
-        return "";
-    };
     let at = number.saturating_sub(1) as usize;
     if at >= inputs.len() {
         return STANDARD_INPUT;
     }
     said_input(inputs[at].as_str())
+}
+
+/// The name of an input of a command.
+fn input_name(command: &Command, number: u64) -> &str
+    ensures { result.now ≡ input_name (asked_in command.now) number }
+{
+    match command {
+        Command::Create { inputs, .. } | Command::Lookups { inputs, .. } => {
+            input_at(inputs.as_slice(), number)
+        }
+        _ => "",
+    }
 }
 
 /// What an input of a name is called.
@@ -235,8 +244,9 @@ fn said_input(name: &str) -> &str
 /// Whether the places of an input, counted from 1, are counted from the first byte that was read of its file:
 /// it is a file of its own, or the first that is standard input.
 fn is_from_first(command: &Command, number: u64) -> bool {
-    let Command::Create { inputs, .. } = command else {
-        return false;
+    let inputs = match command {
+        Command::Create { inputs, .. } | Command::Lookups { inputs, .. } => inputs,
+        _ => return false,
     };
     let at = number.saturating_sub(1) as usize;
     if at < inputs.len() && !is_standard(inputs[at].as_str()) {

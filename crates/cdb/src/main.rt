@@ -36,9 +36,6 @@ use std::process::ExitCode;
 /// there is part of one write, so that no other program's line comes between.
 const LINES: usize = 4096;
 
-/// As the first word it asks for the file and the cause of a fault.
-const EXPLAIN: &str = "-v";
-
 /// The device that takes all and gives nothing.
 const NULL: &str = "/dev/null";
 
@@ -50,7 +47,6 @@ fn main(rt: HostRuntime) -> ExitCode {
         Ok(beginning) => {
             let Beginning {
                 words,
-                explains,
                 mut output,
                 mut errors,
             } = beginning;
@@ -65,7 +61,6 @@ fn main(rt: HostRuntime) -> ExitCode {
                 input,
                 &mut output,
                 &mut errors,
-                explains,
             );
             status
         }
@@ -78,8 +73,6 @@ fn main(rt: HostRuntime) -> ExitCode {
 struct Beginning<'a> {
     /// The words of the command line.
     words: Vec<String>,
-    /// Whether a fault is followed by a line with its file and its cause.
-    explains: bool,
     /// Standard output with its buffer.
     output: Output<Noted<SeenWriter<'a, Stdout>>>,
     /// Standard error with its buffer, for the lines of duplicates.
@@ -89,14 +82,8 @@ struct Beginning<'a> {
 /// The words of the command line, and the standard streams that are written, with their buffers.
 fn begun<'a>(rt: &HostRuntime, seen: &'a Seen) -> Result<Beginning<'a>, Usage> {
     let alloc = rt.alloc();
-    let mut words = words_of(rt)?;
-    let explains = words.len() > 1 && words[1].as_str() == EXPLAIN;
-    if explains {
-        words.remove(1);
-    }
     Ok(Beginning {
-        words,
-        explains,
+        words: words_of(rt)?,
         output: Output::new(alloc, Noted::over(SeenWriter::output(rt.stdout(), seen)), PIPE)?,
         errors: Output::new(alloc, Noted::over(SeenWriter::errors(rt.stderr(), seen)), LINES)?,
     })

@@ -1,6 +1,6 @@
 // What the program does: the command of its words, and its exit status.
 ghost use Rattle.std.specs.Prelude.{◌≡◌, [], Err, map, string_bytes};
-ghost use Rattle.cdb_tool.specs.Command.{asked_in, has_wide_words, IsInRange, plan_of};
+ghost use Rattle.cdb_tool.specs.Command.{asked_in, explains_in, has_wide_words, IsInRange, plan_of};
 ghost use Rattle.cdb_tool.specs.Views.Output.{output_bytes, held_by, HasHandedOn, OutputFailed};
 ghost use Rattle.cdb.specs.Causes.{Explains};
 ghost use Rattle.cdb.specs.Foretold.{IsForetold, IsTaken};
@@ -16,7 +16,7 @@ use crate::telling::{refuse, tell};
 use cdb_files::Names;
 use cdb_form::{Narrow, Wide};
 use cdb_store::Store;
-use cdb_tool::{Command, DONE, Fault, Output, plan, status_of};
+use cdb_tool::{Command, DONE, Fault, Output, explains, plan, status_of};
 use std::alloc::Global;
 use std::io::{Read, Write};
 
@@ -30,7 +30,6 @@ pub(crate) fn run<F, J, M, Y, N, I, O, E>(
     input: I,
     output: &mut Output<O>,
     errors: &mut Output<E>,
-    explains: bool,
 ) -> (Left<F, M>, u8)
 where
     F: Store + Drop,
@@ -42,7 +41,8 @@ where
     O: Write,
     E: Write,
     ensures runs { Runs F.Store M.Store N.File.RawFile J.remaining Y.System
-        (plan_of (map string_bytes words.items)) explains (I.remaining input) system.old system.new
+        (plan_of (map string_bytes words.items)) (explains_in (map string_bytes words.items))
+        (I.remaining input) system.old system.new
         (N.calls names.old) (N.calls names.new) result.0 (output_bytes O.contents output.old)
         (output_bytes O.contents output.new) (O.contents output.new.writer)
         (output_bytes E.contents errors.old) (output_bytes E.contents errors.new)
@@ -50,18 +50,20 @@ where
     ensures handed { held_by output.old ≡ [] → HasHandedOn output.new }
     ensures said { HasHandedOn errors.new }
     ensures foretold { IsForetold F.Store J.remaining Y.System
-        (plan_of (map string_bytes words.items)) explains (I.remaining input) system.old system.new
+        (plan_of (map string_bytes words.items)) (explains_in (map string_bytes words.items))
+        (I.remaining input) system.old system.new
         result.0 (output_bytes O.contents output.old) (O.contents output.new.writer)
         (output_bytes E.contents errors.old) (E.contents errors.new.writer)
         (IsTaken output.old output.new errors.new) result.1 }
     ensures created { IsCreateForetold F.Store M.Store J.remaining Y.System
-        (plan_of (map string_bytes words.items)) explains (I.remaining input) system.old system.new
+        (plan_of (map string_bytes words.items)) (explains_in (map string_bytes words.items))
+        (I.remaining input) system.old system.new
         (N.calls names.old) (N.calls names.new) result.0 (output_bytes O.contents output.old)
         (O.contents output.new.writer) (output_bytes E.contents errors.old)
         (E.contents errors.new.writer) (IsTaken output.old output.new errors.new) result.1 }
 {
     let (left, status) = answer::<F, J, M, Y, N, I, O, E>(
-        alloc, system, names, words, input, output, errors, explains,
+        alloc, system, names, words, input, output, errors,
     );
     let _ = errors.flush();
     (left, status)
@@ -77,7 +79,6 @@ fn answer<F, J, M, Y, N, I, O, E>(
     input: I,
     output: &mut Output<O>,
     errors: &mut Output<E>,
-    explains: bool,
 ) -> (Left<F, M>, u8)
 where
     F: Store + Drop,
@@ -89,7 +90,8 @@ where
     O: Write,
     E: Write,
     ensures runs { Runs F.Store M.Store N.File.RawFile J.remaining Y.System
-        (plan_of (map string_bytes words.items)) explains (I.remaining input) system.old system.new
+        (plan_of (map string_bytes words.items)) (explains_in (map string_bytes words.items))
+        (I.remaining input) system.old system.new
         (N.calls names.old) (N.calls names.new) result.0 (output_bytes O.contents output.old)
         (output_bytes O.contents output.new) (O.contents output.new.writer)
         (output_bytes E.contents errors.old) (output_bytes E.contents errors.new)
@@ -100,7 +102,8 @@ where
         Ok(command) => command,
         Err(usage) => return (none_left(), refuse(&usage, errors)),
     };
-    if explains {
+    let is_explained = explains(words.as_slice());
+    if is_explained {
         system.count_lines();
     }
     let (left, performed) = perform::<F, J, M, Y, N, I, O, Output<E>>(
@@ -110,7 +113,7 @@ where
         Ok(()) => (left, DONE),
         Err(fault) => {
             let more = cause_of::<F, J, M, Y, N>(
-                alloc, explains, &command, &fault, system, names, &left,
+                alloc, is_explained, &command, &fault, system, names, &left,
             );
             tell(&fault, more.as_slice(), errors);
             (left, status_of(&command, &fault))

@@ -26,7 +26,7 @@ returns-in-Ok-performed-clause-runs g c = inr (record {
   silent = c.perform-left.ensures.silent;
   same = c.perform-left.ensures.same;
   more = [];
-  explains = none_said c.args.explains _ _ _ _;
+  explains = none_said _ _ _ _ _;
   says = Keeps-refl _;
   is_status = refl;
 })
@@ -41,7 +41,7 @@ returns-clause-runs g c = inr (record {
   silent = c.perform-left.ensures.silent;
   same = c.perform-left.ensures.same;
   more = c.cause_of-more.result.items;
-  explains = c.cause_of-more.ensures;
+  explains = rw c.as_slice-2.ensures.value at (rw c.explains-is_explained.ensures at c.cause_of-more.ensures);
   says = rw c.as_slice.ensures.value at c.tell.ensures;
   is_status = c.status_of.ensures;
 })
