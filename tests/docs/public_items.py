@@ -10,7 +10,6 @@ FOR_CALLERS = {
     "cdb_tool::make_run": "the program's inputs share one window: it calls make_run_from",
     "cdb_tool::dump_run": "the program has bytes at hand: it calls text_run_buffered",
     "cdb_tool::list_run": "as dump_run",
-    "cdb_tool::query_from": "the program asks by query_run; a caller that keeps the finder goes on after a fault",
 }
 ITEM = re.compile(
     r"^( *)pub (?:const |unsafe |extern \"C\" )*(fn|struct|enum|trait|const) (\w+)", re.M

@@ -30,6 +30,7 @@ pub use runs::lookups::lookups_run;
 pub use runs::make::{make_run, make_run_from, put_inputs};
 pub use runs::make_bytes::make_bytes;
 pub use runs::query::{query_from, query_run};
+pub use runs::shown::Shown;
 pub use runs::stats::stats_run;
 pub use runs::texts::{dump_run, list_run, text_run_buffered};
 pub use status::{BAD_USAGE, DONE, FAILED, status_of};

@@ -12,7 +12,7 @@ mod make_base;
 pub mod make_bytes;
 mod make_input;
 pub mod query;
-mod shown;
+pub mod shown;
 pub mod stats;
 mod stats_text;
 pub mod texts;

@@ -242,15 +242,15 @@ impl<R: Read> Source<R> {
         ensures leaves { IfErr result (Leaves R.remaining self.old self.new) }
         ensures spends { OnOk result (budget self.old ≤ budget self.new) }
     {
-        let start = self.taken;
+        let at = self.taken;
         match self.byte()? {
-            None => Err(TextFault::Ended(start)),
+            None => Err(TextFault::Ended(at)),
             Some(b'\n') => Ok(false),
             Some(b'+') => {
                 self.listed(into, greatest)?;
                 Ok(true)
             }
-            Some(_) => Err(TextFault::Syntax(start)),
+            Some(_) => Err(TextFault::Syntax(at)),
         }
     }
 }

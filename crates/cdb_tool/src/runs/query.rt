@@ -110,8 +110,18 @@ fn write_shown<L: Width, S: Store, W: Write>(
     }
 }
 
-/// Writes the values that a finder has left, one after the other, as `query_from` does.
-fn write_left<L: Width, S: Store, W: Write>(
+/// Writes the values that a finder has left, one after the other, as `shown` says.
+///
+/// It does what `query_run` does, and leaves in the finder what it did not give. The faults:
+/// - `Missing`: no value was left;
+/// - `Read(Table(n))`, `Read(Record(place))`: this damage follows the values, which were all written;
+/// - `Read(Device)`: the store failed. The values that the finder gave before were written whole, and
+///   of the one in hand a prefix;
+/// - `Output`: the writer failed, and holds as much.
+///
+/// After `Read(Device)` a further call goes on with the values that the finder has left. The writer is
+/// not flushed.
+pub fn query_from<L: Width, S: Store, W: Write>(
     finder: &mut Finder<'_, S, L>,
     shown: Shown<'_>,
     w: &mut W,
@@ -132,33 +142,6 @@ fn write_left<L: Width, S: Store, W: Write>(
     if found { Ok(()) } else { Err(Fault::Missing) }
 }
 
-/// Writes the values that a finder has left, one after the other, with a newline after each in lines.
-///
-/// It does what `query_run` does, and leaves in the finder what it did not give. The faults:
-/// - `Missing`: no value was left;
-/// - `Read(Table(n))`, `Read(Record(place))`: this damage follows the values, which were all written;
-/// - `Read(Device)`: the store failed. The values that the finder gave before were written whole, and
-///   of the one in hand a prefix;
-/// - `Output`: the writer failed, and holds as much.
-///
-/// After `Read(Device)` a further call goes on with the values that the finder has left. The writer is
-/// not flushed.
-pub fn query_from<L: Width, S: Store, W: Write>(
-    finder: &mut Finder<'_, S, L>,
-    lines: bool,
-    w: &mut W,
-) -> Result<(), Fault>
-    ensures same_reader { finder.new.reader.ghost_name ≡ finder.old.reader.ghost_name }
-    ensures key { finder.new.key.now ≡ finder.old.key.now }
-    ensures reads { OnlyReads S.Store finder.old.reader.now.store finder.new.reader.now.store }
-    ensures ok { OnOk result (WritesEach L.WORD (value_text lines) finder.old finder.new
-        (W.contents w.old) (W.contents w.new)) }
-    ensures fails { IfErr result (LeftFails L.WORD (value_text lines) finder.old finder.new
-        (W.contents w.old) (W.contents w.new)) }
-{
-    write_left(finder, Shown::Value { lines }, w)
-}
-
 /// Writes all values of a key.
 fn write_all<L: Width, S: Store, W: Write>(
     reader: &mut Reader<S, L>,
@@ -169,7 +152,7 @@ fn write_all<L: Width, S: Store, W: Write>(
     ensures { Queries L.WORD S.Store (record { key = key.now; number = None; shown = shown_text shown.entry })
         reader.old.store reader.new.store (W.contents w.old) (W.contents w.new) result }
 {
-    write_left(&mut reader.find(key), shown, w)
+    query_from(&mut reader.find(key), shown, w)
 }
 
 /// Writes the value of a key that has this number, counted from 1. The ones before it are found and

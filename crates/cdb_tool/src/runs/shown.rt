@@ -2,8 +2,8 @@
 use cdb_command::Style;
 
 /// How each value is written.
-#[derive(Clone, Copy)]
-pub(crate) enum Shown<'a> {
+#[derive(Clone, Copy, Debug)]
+pub enum Shown<'a> {
     /// Alone, with a newline after it in lines.
     Value { lines: bool },
     /// As a record of this key.

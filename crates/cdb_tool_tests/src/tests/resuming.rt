@@ -3,7 +3,7 @@ use super::worked::File;
 use cdb_form::Narrow;
 use cdb_read::{ReadFault, Reader};
 use cdb_store::{FuseStore, MemStore};
-use cdb_tool::{Fault, query_from};
+use cdb_tool::{Fault, Shown, query_from};
 use std::alloc::{AllocError, Global};
 use std::prelude::*;
 use std::test::Fail;
@@ -19,8 +19,9 @@ fn resumes(alloc: Global, calls: u64) -> Result<bool, AllocError> {
     };
     let mut finder = reader.find(b"a");
     let (mut first, mut second) = (Vec::new(alloc), Vec::new(alloc));
-    let answer = query_from(&mut finder, false, &mut first);
-    let again = query_from(&mut finder, false, &mut second);
+    let shown = Shown::Value { lines: false };
+    let answer = query_from(&mut finder, shown, &mut first);
+    let again = query_from(&mut finder, shown, &mut second);
     if answer == Ok(()) {
         return Ok(first.as_slice() == b"1234".as_slice() && again == Err(Fault::Missing));
     }

@@ -2,7 +2,7 @@ use Rattle.std.proofs.Common.{◌≡◌}
 use Rattle.cdb_read.specs.Views.Finder.{left_in, slots_left}
 use Rattle.cdb_tool.specs.Runs.Query.{shown_text}
 use Rattle.cdb_tool.proofs.Queries.{WrittenSoFar}
-use Rattle.cdb_tool.proofs.runs.query.write_left.Given as goal
+use Rattle.cdb_tool.proofs.runs.query.query_from.Given as goal
 
 -- the values so far were written
 abbrev pub invariant-loop-value : goal.invariant-loop-value

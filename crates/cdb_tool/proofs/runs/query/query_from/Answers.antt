@@ -3,7 +3,7 @@ use Rattle.std.proofs.Common.{◌∙◌, arith}
 use Rattle.std.proofs.lemmas.Result.{err_from_is_err_and}
 use Rattle.cdb_read.proofs.FoundSoFar.{found_more, found_still}
 use Rattle.cdb_tool.proofs.Queries.{written_more, finding_fails, value_fails}
-use Rattle.cdb_tool.proofs.runs.query.write_left.Goals as goal
+use Rattle.cdb_tool.proofs.runs.query.query_from.Goals as goal
 
 pub loop-value-preserved : goal.loop-value-preserved
 loop-value-preserved g c =
