@@ -34,6 +34,7 @@ cp data.cdb primary/data.cdb
 printf '+5,4:abuse->kris\n+10,4:postmaster->kris\n\n' | cdb -c map.cdb
 printf 'postmaster alice\nabuse root\n' > source
 printf '+7,5:old.net->carol\n\n' | cdb -c owners.cdb
+printf 'old.net x\nold.net\n' > hosts
 host=old.net
 """,
     "man/cdb.1": "",
@@ -57,6 +58,8 @@ WRITTEN = {
         "sound\n" + STATISTICS,
         "",
         "old.net: carol\n",
+        "old.net carol\nold.net carol\n",
+        "",
         "",
         "",
         "",
