@@ -113,7 +113,13 @@ where
         Ok(()) => (left, DONE),
         Err(fault) => {
             let more = cause_of::<F, J, M, Y, N>(
-                alloc, is_explained, &command, &fault, system, names, &left,
+                alloc,
+                is_explained,
+                &command,
+                &fault,
+                system,
+                names,
+                &left,
             );
             tell(&fault, more.as_slice(), errors);
             (left, status_of(&command, &fault))
