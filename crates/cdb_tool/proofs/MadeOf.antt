@@ -6,11 +6,13 @@ use Rattle.std.proofs.lemmas.List.{map-append}
 use Rattle.std.proofs.lemmas.List.Sums.{fold-append}
 use Rattle.std.specs.Io.KnownBytes.{Appends}
 use Rattle.cdb_command.specs.declared.options.MakeOptions.{MakeOptions}
+use Rattle.cdb_command.specs.declared.style.Style.{Style}
 use Rattle.cdb_command.specs.declared.style.Style.TheVariants.{Native, Map}
 use Rattle.cdb_form.specs.Format.File.{file_size}
 use Rattle.cdb_form.specs.Format.Record.{KeyValue, AreBytes}
 use Rattle.cdb_form.specs.Format.Walk.{Walked, walk_of}
 use Rattle.cdb_form.specs.Text.Amending.{Change, Putting, Removing, SpellsChange}
+use Rattle.cdb_form.specs.Text.List.{SpellsKey}
 use Rattle.cdb_form.specs.Text.Map.{map_lines}
 use Rattle.cdb_form.specs.Text.Native.{Spells}
 use Rattle.cdb_form.specs.Text.Parse.{Parsed}
@@ -34,7 +36,7 @@ use Rattle.cdb_read.specs.declared.fault.ReadFault.TheVariants as read
 use Rattle.cdb_tool.specs.Runs.Base.{NotAdded}
 use Rattle.cdb_tool.specs.Runs.Course.{Course, Task, Incoming, task_of, from_input, from_inputs, with_change, with_next, is_going, at_start, course_of, said, mode_of, StopsSo}
 use Rattle.cdb_make.specs.Survivors.{put_result}
-use Rattle.cdb_tool.specs.Runs.Inputs.{InputForm, Puts, Changes, input_form, OneInput, InputsLeft, IsInputOf, BeginsWithItems, HasItemFault, ReadsOne, ReadsFirst, AreInputs, AreAllInputs, OneBegins, FirstBegins, FirstHas, bytes_of}
+use Rattle.cdb_tool.specs.Runs.Inputs.{InputForm, Puts, Changes, Lists, input_form, keys_of, OneInput, InputsLeft, IsInputOf, BeginsWithItems, HasItemFault, ReadsOne, ReadsFirst, AreInputs, AreAllInputs, OneBegins, FirstBegins, FirstHas, bytes_of}
 use Rattle.cdb_tool.specs.Runs.Inputs as form
 use Rattle.cdb_tool.specs.Runs.Make.{records_of, IsSomeBase, Makes, MakesDatabase, MeetsInput, Stops, BaseStops, InputsStop, RunFails, Runs, came}
 use Rattle.cdb_tool.specs.Runs.Make as make_run
@@ -45,32 +47,46 @@ use Rattle.cdb_tool.specs.declared.fault.Fault.TheVariants.{Text, Make, Duplicat
 
 -- ---- an input
 
+-- a run that makes a database reads no list texts
+abbrev IsMakeForm : InputForm → Type 0
+IsMakeForm (Puts style) = ⊤
+IsMakeForm Changes = ⊤
+IsMakeForm Lists = ⊥
+
+makes_form : (style : Style) (amends : Bool) → IsMakeForm (input_form style amends)
+makes_form Native true = tt
+makes_form Native false = tt
+makes_form Map amends = tt
+
 -- it is what the function says
-text_input : (f : InputForm) (g : ℕ) (items : List Change) (input rest : List ℕ) → AreBytes input → IsInputOf f g items input rest → (input_parsed f g input ≡ record { items = items; ends = Ok rest }) × AreBytes rest
-text_input (Puts Native) g items input rest are (records, is, reads) = (
+text_input : (f : InputForm) (makes : IsMakeForm f) (g : ℕ) (items : List Change) (input rest : List ℕ) → AreBytes input → IsInputOf f g items input rest → (input_parsed f g input ≡ record { items = items; ends = Ok rest }) × AreBytes rest
+text_input (Puts Native) makes g items input rest are (records, is, reads) = (
   native_is g input records rest are reads ∙ ap (λ xs. let p : Parsed = record { items = xs; ends = Ok rest } in p) (sym is),
   bytes_left Spells g records input rest reads are,
 )
-text_input (Puts Map) g items input rest are (records, is, (lines, ends)) = (
+text_input (Puts Map) makes g items input rest are (records, is, (lines, ends)) = (
   ap (λ rs. let p : Parsed = record { items = map Putting rs; ends = Ok [] } in p) lines ∙ ap (λ xs. let p : Parsed = record { items = xs; ends = Ok [] } in p) (sym is) ∙ ap (λ r. let p : Parsed = record { items = items; ends = Ok r } in p) (sym ends),
   subst AreBytes (sym ends) AreBytes-nil,
 )
-text_input Changes g items input rest are reads = (amending_is g input items rest are reads, bytes_left SpellsChange g items input rest reads are)
+text_input Changes makes g items input rest are reads = (amending_is g input items rest are reads, bytes_left SpellsChange g items input rest reads are)
+text_input Lists makes g items input rest are reads = absurd makes
 
 -- and begins so
-text_begins : (f : InputForm) (g : ℕ) (items : List Change) (input : List ℕ) → AreBytes input → BeginsWithItems f g items input → (more : List Change) × ((input_parsed f g input).items ≡ items ++ more)
-text_begins (Puts Native) g items input are (records, is, (rest, spelled)) =
+text_begins : (f : InputForm) (makes : IsMakeForm f) (g : ℕ) (items : List Change) (input : List ℕ) → AreBytes input → BeginsWithItems f g items input → (more : List Change) × ((input_parsed f g input).items ≡ items ++ more)
+text_begins (Puts Native) makes g items input are (records, is, (rest, spelled)) =
     let h = native_begins g input records rest are spelled in
     (h.0, h.1 ∙ ap (λ xs. xs ++ h.0) (sym is))
-text_begins (Puts Map) g items input are (records, is, (more, lines)) =
+text_begins (Puts Map) makes g items input are (records, is, (more, lines)) =
     (map Putting more, ap (map Putting) lines ∙ map-append Putting records more ∙ ap (λ xs. xs ++ map Putting more) (sym is))
-text_begins Changes g items input are (rest, spelled) = amending_begins g input items rest are spelled
+text_begins Changes makes g items input are (rest, spelled) = amending_begins g input items rest are spelled
+text_begins Lists makes g items input are begins = absurd makes
 
 -- a form whose texts may have a fault
 abbrev HasFaults : InputForm → Type 0
 HasFaults (Puts Native) = ⊤
 HasFaults (Puts Map) = ⊥
 HasFaults Changes = ⊤
+HasFaults Lists = ⊥
 
 native_form : (o : MakeOptions) (amends : Bool) → o.style ≡ Native → HasFaults (input_form o.style amends)
 native_form o true e = subst (λ s. HasFaults (input_form s true)) (sym e) tt
@@ -82,6 +98,7 @@ text_fails (Puts Native) g items input fault may is are (records, same, has) =
     native_fault_is g input records h.rest fault are h.whole is h.has ∙ ap (λ xs. let p : Parsed = record { items = xs; ends = Err fault } in p) (sym same)
 text_fails (Puts Map) g items input fault may is are h = absurd may
 text_fails Changes g items input fault may is are has = let h = has.of_text is in amending_fault_is g input items h.rest fault are h.whole is h.has
+text_fails Lists g items input fault may is are has = absurd may
 
 -- ---- the inputs
 
@@ -124,22 +141,22 @@ reads_shared : (f : InputForm) (g : ℕ) (items : List Change) (one : OneInput) 
 reads_shared f g items one shared old None e k h = absurd (subst (λ o. FromTo o None (IsInputOf f g items)) k (subst (λ o. ReadsOne f g items o old None) e h))
 reads_shared f g items one shared old (Some rest) e k h = (rest, refl, subst (λ o. FromTo o (Some rest) (IsInputOf f g items)) k (subst (λ o. ReadsOne f g items o old (Some rest)) e h))
 
-first_known : (f : InputForm) (g number : ℕ) (items : List Change) (inputs : List (Option (List ℕ))) (shared : List ℕ) (old rest : InputsLeft) → Known inputs shared old → ReadsFirst f g items old rest → FirstKnown f g number items inputs shared rest
-first_known f g number items [] shared old rest k h = absurd (let e : h.one ∷ rest.each ≡ [] = sym h.first ∙ k.each in cc)
-first_known f g number items (Some input ∷ inputs) shared old rest k h =
+first_known : (f : InputForm) (makes : IsMakeForm f) (g number : ℕ) (items : List Change) (inputs : List (Option (List ℕ))) (shared : List ℕ) (old rest : InputsLeft) → Known inputs shared old → ReadsFirst f g items old rest → FirstKnown f g number items inputs shared rest
+first_known f makes g number items [] shared old rest k h = absurd (let e : h.one ∷ rest.each ≡ [] = sym h.first ∙ k.each in cc)
+first_known f makes g number items (Some input ∷ inputs) shared old rest k h =
     let same = first_is h.one (form.Own (Some input)) rest.each (map one_input inputs) (sym h.first ∙ k.each) in
     let reads = reads_own f g items h.one input old.shared rest.shared same.0 h.reads in
-    let is = text_input f g items input reads.0.0 k.own.0 reads.0.1 in
+    let is = text_input f makes g items input reads.0.0 k.own.0 reads.0.1 in
     record {
       more = inputs;
       left = shared;
       is_known = record { each = same.1; known = subst (λ s. KnownFor inputs s shared) (sym reads.1) k.known; own = k.own.1; bytes = k.bytes };
       given = given_read number (input_parsed f g input) items reads.0.0 (λ rest. given_from f g (number + 1) inputs shared) is.0;
     }
-first_known f g number items (None ∷ inputs) shared old rest k h =
+first_known f makes g number items (None ∷ inputs) shared old rest k h =
     let same = first_is h.one form.Shared rest.each (map one_input inputs) (sym h.first ∙ k.each) in
     let reads = reads_shared f g items h.one shared old.shared rest.shared same.0 k.known h.reads in
-    let is = text_input f g items shared reads.0 k.bytes reads.2 in
+    let is = text_input f makes g items shared reads.0 k.bytes reads.2 in
     record {
       more = inputs;
       left = reads.0;
@@ -147,16 +164,16 @@ first_known f g number items (None ∷ inputs) shared old rest k h =
       given = given_read number (input_parsed f g shared) items reads.0 (λ rest. given_from f g (number + 1) inputs rest) is.0;
     }
 
-left_known : (f : InputForm) (g number : ℕ) (read : List (List Change)) (inputs : List (Option (List ℕ))) (shared : List ℕ) (old rest : InputsLeft) → Known inputs shared old → AreInputs f g read old rest → LeftKnown f g number read inputs shared rest
-left_known f g number [] inputs shared old rest k e = record {
+left_known : (f : InputForm) (makes : IsMakeForm f) (g number : ℕ) (read : List (List Change)) (inputs : List (Option (List ℕ))) (shared : List ℕ) (old rest : InputsLeft) → Known inputs shared old → AreInputs f g read old rest → LeftKnown f g number read inputs shared rest
+left_known f makes g number [] inputs shared old rest k e = record {
   more = inputs;
   left = shared;
   is_known = subst (Known inputs shared) e k;
   given = ap (λ (n : ℕ). given_from f g n inputs shared) (omega arith);
 }
-left_known f g number (items ∷ read) inputs shared old rest k (next, first, others) =
-    let one = first_known f g number items inputs shared old next k first in
-    let more = left_known f g (number + 1) read one.more one.left next rest one.is_known others in
+left_known f makes g number (items ∷ read) inputs shared old rest k (next, first, others) =
+    let one = first_known f makes g number items inputs shared old next k first in
+    let more = left_known f makes g (number + 1) read one.more one.left next rest one.is_known others in
     record {
       more = more.more;
       left = more.left;
@@ -169,9 +186,9 @@ none_known : (inputs : List (Option (List ℕ))) (shared : List ℕ) (left : Inp
 none_known [] shared left k e = refl
 none_known (input ∷ inputs) shared left k e = absurd (let h : ◌≡◌ {A = List OneInput} [] (one_input input ∷ map one_input inputs) = sym e ∙ k.each in cc)
 
-all_given : (f : InputForm) (g : ℕ) (read : List (List Change)) (inputs : List (Option (List ℕ))) (shared : List ℕ) (old : InputsLeft) → Known inputs shared old → AreAllInputs f g read old → given_from f g 1 inputs shared ≡ record { items = read; fault = None }
-all_given f g read inputs shared old k are =
-    let left = left_known f g 1 read inputs shared old are.rest k are.are in
+all_given : (f : InputForm) (makes : IsMakeForm f) (g : ℕ) (read : List (List Change)) (inputs : List (Option (List ℕ))) (shared : List ℕ) (old : InputsLeft) → Known inputs shared old → AreAllInputs f g read old → given_from f g 1 inputs shared ≡ record { items = read; fault = None }
+all_given f makes g read inputs shared old k are =
+    let left = left_known f makes g 1 read inputs shared old are.rest k are.are in
     left.given ∙ ap (λ is. after read (given_from f g (1 + length read) is left.left)) (none_known left.more left.left are.rest left.is_known are.none)
     ∙ ap (λ xs. let v : Given = record { items = xs; fault = None } in v) (append-nil read)
 
@@ -207,17 +224,17 @@ input_begins number all items more (Err fault) next e =
     let h = items_more number 1 items more in
     (h.0, append-nil (from_input number 1 all) ∙ ap (from_input number 1) e ∙ h.1)
 
-first_begins : (f : InputForm) (g number : ℕ) (items : List Change) (inputs : List (Option (List ℕ))) (shared : List ℕ) (left : InputsLeft) → Known inputs shared left → FirstBegins f g items left → GivenBegins number items (given_from f g number inputs shared)
-first_begins f g number items [] shared left k h =
+first_begins : (f : InputForm) (makes : IsMakeForm f) (g number : ℕ) (items : List Change) (inputs : List (Option (List ℕ))) (shared : List ℕ) (left : InputsLeft) → Known inputs shared left → FirstBegins f g items left → GivenBegins number items (given_from f g number inputs shared)
+first_begins f makes g number items [] shared left k h =
     let none : items ≡ [] = subst (λ each. OneBegins f g items each left.shared) k.each h in
     ([], sym (append-nil (from_input number 1 items) ∙ ap (from_input number 1) none))
-first_begins f g number items (Some own ∷ inputs) shared left k h =
+first_begins f makes g number items (Some own ∷ inputs) shared left k h =
     let begins : BeginsWithItems f g items own = subst (λ each. OneBegins f g items each left.shared) k.each h in
-    let more = text_begins f g items own k.own.0 begins in
+    let more = text_begins f makes g items own k.own.0 begins in
     input_begins number (input_parsed f g own).items items more.0 (input_parsed f g own).ends (λ rest. given_from f g (number + 1) inputs shared) more.1
-first_begins f g number items (None ∷ inputs) shared left k h =
+first_begins f makes g number items (None ∷ inputs) shared left k h =
     let begins : BeginsWithItems f g items shared = subst (λ s. IfSome s (BeginsWithItems f g items)) k.known (subst (λ each. OneBegins f g items each left.shared) k.each h) in
-    let more = text_begins f g items shared k.bytes begins in
+    let more = text_begins f makes g items shared k.bytes begins in
     input_begins number (input_parsed f g shared).items items more.0 (input_parsed f g shared).ends (λ rest. given_from f g (number + 1) inputs rest) more.1
 
 -- behind those that were read
@@ -230,11 +247,11 @@ inputs_then i (items ∷ read) others =
 came_is : (read : List (List Change)) (last : List Change) → came read last ≡ from_inputs 1 read ++ from_input (1 + length read) 1 last
 came_is read last = inputs_then 1 read (last ∷ []) ∙ ap (λ t. from_inputs 1 read ++ t) (append-nil (from_input (1 + length read) 1 last))
 
-begins_given : (f : InputForm) (g : ℕ) (read : List (List Change)) (last : List Change) (inputs : List (Option (List ℕ))) (shared : List ℕ) (old rest : InputsLeft) → Known inputs shared old → AreInputs f g read old rest → FirstBegins f g last rest
+begins_given : (f : InputForm) (makes : IsMakeForm f) (g : ℕ) (read : List (List Change)) (last : List Change) (inputs : List (Option (List ℕ))) (shared : List ℕ) (old rest : InputsLeft) → Known inputs shared old → AreInputs f g read old rest → FirstBegins f g last rest
     → (more : List Incoming) × (from_inputs 1 (given_from f g 1 inputs shared).items ≡ came read last ++ more)
-begins_given f g read last inputs shared old rest k are begins =
-    let left = left_known f g 1 read inputs shared old rest k are in
-    let first = first_begins f g (1 + length read) last left.more left.left rest left.is_known begins in
+begins_given f makes g read last inputs shared old rest k are begins =
+    let left = left_known f makes g 1 read inputs shared old rest k are in
+    let first = first_begins f makes g (1 + length read) last left.more left.left rest left.is_known begins in
     let others = given_from f g (1 + length read) left.more left.left in (
       first.0,
       ap (λ (v : Given). from_inputs 1 v.items) left.given ∙ inputs_then 1 read others.items ∙ ap (λ t. from_inputs 1 read ++ t) first.1
@@ -347,7 +364,7 @@ text_met : (w g : ℕ) (t : Task) (inputs : List (Option (List ℕ))) (shared : 
     → ComesOf w (made_from w t (given_from (make_run.form_of t) g 1 inputs shared)) images old new (Err (Text n f))
 text_met w g t inputs shared left images old new n f k is h =
     let form = make_run.form_of t in
-    let rest = left_known form g 1 h.read inputs shared left h.rest k h.are in
+    let rest = left_known form (makes_form t.options.style (is_some t.base)) g 1 h.read inputs shared left h.rest k h.are in
     let fails = first_fails form g (1 + length h.read) h.last rest.more rest.left h.rest h.input f (native_form t.options (is_some t.base) (h.native is)) is rest.is_known h.first h.has in
     let given : given_from form g 1 inputs shared ≡ record { items = h.read ++ h.last ∷ []; fault = Some (Text n f) } =
     rest.given ∙ ap (after h.read) fails ∙ ap (λ (m : ℕ). let v : Given = record { items = h.read ++ h.last ∷ []; fault = Some (Text m f) } in v) (omega (arith, h.numbered)) in
@@ -395,7 +412,7 @@ stopped_in : (w g : ℕ) (t : Task) (inputs : List (Option (List ℕ))) (shared 
     → ComesOf w (made_from w t (given_from (make_run.form_of t) g 1 inputs shared)) images old new (Err f)
 stopped_in w g t inputs shared left images old new f k h =
     let form = make_run.form_of t in
-    let begins = begins_given form g h.read h.last inputs shared left h.rest k h.are h.begins in
+    let begins = begins_given form (makes_form t.options.style (is_some t.base)) g h.read h.last inputs shared left h.rest k h.are h.begins in
     stops_in w g t (given_from form g 1 inputs shared) (came h.read h.last) begins.0 images old new f begins.1 h.stops
 
 -- the reader of an input failed
@@ -442,13 +459,16 @@ part_begins (Puts Map) g items input fault is (records, same, has) =
 part_begins Changes g items input fault is has =
     let stops = has.of_reader is in
     (_, spelled_behind SpellsChange g items stops.part stops.amid.rest stops.more input stops.split stops.amid.whole.spelled)
+part_begins Lists g items input fault is has =
+    let stops = has.of_reader is in
+    (_, spelled_behind SpellsKey g (keys_of items) stops.part stops.amid.rest stops.more input stops.split stops.amid.whole.spelled)
 
 reader_failed : (w g : ℕ) (t : Task) (inputs : List (Option (List ℕ))) (shared : List ℕ) (left : InputsLeft) (images : List ℕ → Type 0) (old new : Option (List ℕ)) (n : ℕ) (f : TextFault) → Known inputs shared left → IsReadFault f → IsMakeRefusal (Text n f) → MeetsInput w g t left old new n f
     → ComesOf w (made_from w t (given_from (make_run.form_of t) g 1 inputs shared)) images old new (Err (Text n f))
 reader_failed w g t inputs shared left images old new n f k is may h =
     let form = make_run.form_of t in
     let first = first_begins_so form g h.last h.rest h.input h.first (λ input has. part_begins form g h.last input f is has) h.has in
-    let begins = begins_given form g h.read h.last inputs shared left h.rest k h.are first in
+    let begins = begins_given form (makes_form t.options.style (is_some t.base)) g h.read h.last inputs shared left h.rest k h.are first in
     refused_in w t (given_from form g 1 inputs shared) (came h.read h.last) begins.0 images old new (Text n f) begins.1 may (whole_lines old new _ h.goes.lines)
 
 inputs_stop : (w g : ℕ) (t : Task) (inputs : List (Option (List ℕ))) (shared : List ℕ) (left : InputsLeft) (images : List ℕ → Type 0) (old new : Option (List ℕ)) (f : Fault) → Known inputs shared left → make_run.InputsFail w g t left old new f
@@ -487,7 +507,7 @@ pub made_so : (w g : ℕ) (o : MakeOptions) (base : Option (List ℕ)) (inputs :
 made_so w g o base inputs shared left images old new k h =
     let t = task_of o (records_of w base) in
     let m = h.made in
-    let given = all_given (make_run.form_of t) g m.read inputs shared left k m.are in
+    let given = all_given (make_run.form_of t) (makes_form t.options.style (is_some t.base)) g m.read inputs shared left k m.are in
     subst (λ why. MakesSo w (unless_stopped why (made_from w t (given_from (make_run.form_of t) g 1 inputs shared))) images old new (Ok tt)) (sym (some_base w o.limit base h.based))
     (subst (λ v. MakesSo w (made_from w t v) images old new (Ok tt)) (sym given)
     (record { is = sym (ap (λ e. ended_by e None) m.goes.going); lines = m.goes.lines; file = m.file }))

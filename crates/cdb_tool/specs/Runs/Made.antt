@@ -13,18 +13,19 @@ use Rattle.cdb_form.specs.declared.text.fault.TextFault.{TextFault}
 use Rattle.cdb_make.specs.declared.fault.MakeFault.TheVariants.{TooBig}
 use Rattle.cdb_read.specs.Views.ReadFault.{damage_fault}
 use Rattle.cdb_tool.specs.Runs.Course.{Task, task_of, from_inputs, course_of}
-use Rattle.cdb_tool.specs.Runs.Inputs.{InputForm, Puts, Changes, input_form}
+use Rattle.cdb_tool.specs.Runs.Inputs.{InputForm, Puts, Changes, Lists, input_form}
 use Rattle.cdb_tool.specs.Runs.Make.{records_of}
 use Rattle.cdb_tool.specs.declared.fault.Fault.{Fault}
 use Rattle.cdb_tool.specs.declared.fault.Fault.TheVariants.{Text, Make, Read}
 
 -- ---- the inputs
 
--- what an input says
+-- what an input says. No run that makes a database reads list texts
 abbrev pub input_parsed : InputForm → (g : ℕ) → List ℕ → Parsed
 input_parsed (Puts Native) g input = parse false g input
 input_parsed (Puts Map) g input = parse_map input
 input_parsed Changes g input = parse true g input
+input_parsed Lists g input = record { items = []; ends = Ok input }
 
 -- the items of each input, up to the first with a fault, and that fault
 pub record Given : Type 0 where
