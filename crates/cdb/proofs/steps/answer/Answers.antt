@@ -42,6 +42,6 @@ returns-clause-runs g c = inr (record {
   same = c.perform-left.ensures.same;
   more = c.cause_of-more.result.items;
   explains = rw c.as_slice-2.ensures.value at (rw c.explains-is_explained.ensures at c.cause_of-more.ensures);
-  says = rw c.as_slice.ensures.value at c.tell.ensures;
+  says = rw c.as_slice-in-Err-performed.ensures.value at c.tell.ensures;
   is_status = c.status_of.ensures;
 })
