@@ -40,10 +40,6 @@ all_back P (x ∷ xs) ys h = all_back P xs ys h.1
 
 -- ---- what was opened
 
--- the calls since, each answered as the disk is
-abbrev Since : {F I M Y : Type 0} → Ghosts F → (I → Option (List ℕ)) → Systems Y F I M → Disk → Option F → (old new : OpenCalls) → Type 0
-Since s remaining y disk read old new = (calls : OpenCalls) × (new ≡ calls ++ old) × AllByRecursion (λ c. IsAnswered s remaining y disk (if_some read) c.0 c.1) calls
-
 revealed : (file left : Option (List ℕ)) → Reveals file left → (b : List ℕ) × (file ≡ Some b) × (left ≡ Some b)
 revealed (Some b) (Some c) h = (b, refl, ap (λ (z : List ℕ). Some z) h)
 revealed (Some b) None h = absurd h

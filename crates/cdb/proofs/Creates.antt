@@ -28,9 +28,6 @@ with_none : {F M : Type 0} (m : Ghosts M) (disk : Disk) (name : List ℕ) (tempo
     → CreateSo m disk name temporary c was now left.made start end told said result
 with_none m disk name temporary c was now base left start end told said result e h = subst (λ (v : Option _). CreateSo m disk name temporary c was now v start end told said result) (sym (ap (λ (l : Left _ _). l.made) e)) h
 
-standard_now : (name : List ℕ) → IsStandard name → is_standard name ≡ true
-standard_now name is = standard_is name is
-
 in_place_now : (name : List ℕ) (temporary : Option (List ℕ)) → IsInPlace name temporary → is_in_place name temporary ≡ true
 in_place_now name None h = absurd h
 in_place_now name (Some t) (inl h) = or_left _ _ ((bytes_eq-Decides t (codes "-")).1 h)

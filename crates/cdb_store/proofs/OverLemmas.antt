@@ -75,10 +75,6 @@ over_put len rest more {pos = pos} {next = next} {held = held} {n = n} {items = 
     let after = Over pos (take held items ++ bytes) i in
     subst (λ (v : List ℕ). AfterWrite next bytes h (Over pos v i)) (sym joined) (write_between begun (over_more (take held items) bytes (omega arith) inside sized) (same_refl after))
 
--- what is equal to a buffer and its store has the same images
-pub over_alike : {S : Type 0} (image : S → List ℕ → Type 0) {pos next : ℕ} {xs ys : List ℕ} {a b : S} → next ≡ pos → ys ≡ xs → b ≡ a → SameImages (Over pos xs (image a)) (Over next ys (image b))
-over_alike image {pos = pos} {xs = xs} {a = a} here same is = rw here (rw same (rw is (same_refl (Over pos xs (image a)))))
-
 pub over_emptied : (pos : ℕ) (bytes : List ℕ) (i : List ℕ → Type 0) → bytes ≡ [] → SameImages (Over pos bytes i) i
 over_emptied pos bytes i e = rw e (over_nothing pos i)
 

@@ -118,10 +118,6 @@ stops_more w s number style listed key old new start mid now missing NoMemory h 
 pub looked_none : {S : Type 0} (w : ℕ) (s : Ghosts S) (number : Option ℕ) (style : Style) (store : S) (start : Option (List ℕ)) → HasLooked w s number style [] store start start false
 looked_none w s number style store start = record { answered = λ b is. refl; written = λ b is. appends_none start }
 
--- another store that was only read has fewer images
-pub looked_still : {S : Type 0} (w : ℕ) (s : Ghosts S) (number : Option ℕ) (style : Style) (listed : List (List ℕ)) (old new : S) (start now : Option (List ℕ)) (missing : Bool) → HasLooked w s number style listed old start now missing → OnlyReads s old new → HasLooked w s number style listed new start now missing
-looked_still w s number style listed old new start now missing h reads = record { answered = λ b is. h.answered b (reads.images b is); written = λ b is. h.written b (reads.images b is) }
-
 -- it stopped later in the reading of the same store
 pub stops_later : {S : Type 0} (w : ℕ) (s : Ghosts S) (number : Option ℕ) (style : Style) (listed : List (List ℕ)) (old mid new : S) (start now : Option (List ℕ)) (f : Fault) → OnlyReads s old mid → StopsAt w s number style listed mid new start now f → StopsAt w s number style listed old new start now f
 stops_later w s number style listed old mid new start now (Read (read.Table n)) reads h = h

@@ -43,7 +43,7 @@ fn is_versioned(front: &str) -> bool {
     let mut bytes = [0; 100];
     let mut left = &mut bytes[..];
     let written = write_version(&mut left);
-    let held = 100 - left.len();
+    let held = 100usize.saturating_sub(left.len());
     let text = bytes.get(..held).unwrap_or(&[]);
     written.is_ok() && text.starts_with(front.as_bytes()) && text.ends_with(b" (Pezundrix)\n")
 }
