@@ -8,10 +8,9 @@ use Rattle.cdb_store.specs.declared.raw.RawFile.{Ghosts as Raw}
 use Rattle.cdb_store.specs.declared.store.Store.{Ghosts}
 use Rattle.cdb_tool.specs.declared.fault.Fault.{Fault}
 use Rattle.cdb_tool.specs.declared.fault.Fault.TheVariants.{NoMemory, Open}
-use Rattle.cdb.specs.Created.{Created, create_of, is_in_place, is_standard}
+use Rattle.cdb.specs.Created.{Created, create_of, is_in_place}
 use Rattle.cdb.specs.Creating.{Creates, IsInPlace, Making, temporary_of}
 use Rattle.cdb.specs.ForetoldCreate.{HonestCreate}
-use Rattle.cdb.specs.Inputs.{IsStandard}
 use Rattle.cdb.specs.Opening.{OpenCalls, base_left}
 use Rattle.cdb.specs.Oracle.{Disk}
 use Rattle.cdb.specs.declared.system.System.{Ghosts as Systems}

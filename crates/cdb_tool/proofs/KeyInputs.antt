@@ -9,7 +9,6 @@ use Rattle.cdb_form.specs.Text.List.{SpellsKey, SpelledKeys, ReadsKeys}
 use Rattle.cdb_form.specs.Views.FormReader.{MeetsFault}
 use Rattle.cdb_form.specs.Views.KnownBytes.{FromTo}
 use Rattle.cdb_form.specs.Views.ListReader as lists
-use Rattle.cdb_form.specs.Views.MapReader as maps
 use Rattle.cdb_form.specs.Views.Source.{budget}
 use Rattle.cdb_form.specs.declared.text.fault.TextFault.{TextFault}
 use Rattle.cdb_form.specs.declared.text.fault.TextFault.TheVariants.{Ended}

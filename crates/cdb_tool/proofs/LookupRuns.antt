@@ -1,5 +1,5 @@
 -- The keys that were looked up so far, and how their query ends.
-use Rattle.std.proofs.Common.{◌≡◌, ◌≢◌, ◌∙◌, ℕ, ◌+◌, ◌<◌, ◌≤◌, Bool, true, false, List, [], ◌∷◌, ◌++◌, length, map, fold, refl, sym, ap, subst, inl, inr, arith, append_assoc, length-append, Option, None, Some, Result, Ok, Err, IfOk, IfErr, OnOk, IfSome}
+use Rattle.std.proofs.Common.{◌≡◌, ◌≢◌, ◌∙◌, ℕ, ◌+◌, ◌≤◌, Bool, true, false, List, [], ◌∷◌, ◌++◌, length, map, fold, refl, sym, ap, subst, arith, append_assoc, length-append, Option, Result, Ok, Err, IfSome}
 use Rattle.std.proofs.lemmas.List.{append-nil}
 use Rattle.std.proofs.lemmas.List.Concat.{flat_map-append}
 use Rattle.std.specs.Io.KnownBytes.{Appends}
@@ -18,8 +18,8 @@ use Rattle.cdb_read.specs.declared.fault.ReadFault.TheVariants as read
 use Rattle.cdb_read.proofs.FoundSoFar.{reads_none}
 use Rattle.cdb_command.specs.declared.style.Style.{Style}
 use Rattle.cdb_tool.specs.Runs.Form.{end_of}
-use Rattle.cdb_tool.specs.Runs.Inputs.{InputForm, InputsLeft, OneInput, AreAllInputs, AreInputs, BeginsWithItems, FirstBegins, FirstHas, HasItemFault, ReadsOne, keys_form, keys_of, keys_of_each}
-use Rattle.cdb_tool.specs.Runs.Lookups.{key_query, Looked, joined, with_one, with_key, looked_up, ComesTo, missing_answer, HasLooked, StopsAt, StopsIn, HasFaultIn, Stops, LooksUpAll, Fails, Leaves}
+use Rattle.cdb_tool.specs.Runs.Inputs.{InputForm, InputsLeft, OneInput, AreAllInputs, AreInputs, BeginsWithItems, FirstHas, HasItemFault, ReadsOne, keys_form, keys_of, keys_of_each}
+use Rattle.cdb_tool.specs.Runs.Lookups.{key_query, Looked, joined, with_one, with_key, looked_up, ComesTo, missing_answer, HasLooked, StopsAt, StopsIn, Stops, Fails, Leaves}
 use Rattle.cdb_tool.specs.Runs.Query.{Queries, query_text, query_answer}
 use Rattle.cdb_tool.specs.Views.Fault.{text_fault, read_fault}
 use Rattle.cdb_tool.specs.Views.Inputs.{inputs_left, one_of, shared_bytes}
@@ -32,7 +32,7 @@ use Rattle.cdb_tool.specs.declared.inputs.SharedInput.{SharedInput}
 use Rattle.cdb_tool.specs.declared.inputs.SharedInput.TheVariants.{Unread}
 use Rattle.cdb_tool.specs.declared.inputs.Turn.{Turn}
 use Rattle.cdb_tool.specs.declared.runs.key_reader.KeyReader.{KeyReader}
-use Rattle.cdb_tool.proofs.InputRuns.{inputs_next, left_now, next_has, first_begins, begins_none}
+use Rattle.cdb_tool.proofs.InputRuns.{inputs_next, left_now, first_begins, begins_none}
 use Rattle.cdb_tool.proofs.KeyInputs.{GaveKeys, keys_first, keys_fault}
 use Rattle.cdb_tool.proofs.Queries.{none_prefix}
 use Rattle.cdb_tool.proofs.RunEnds.{first_none}

@@ -1,15 +1,12 @@
-use Rattle.std.proofs.Common.{◌≡◌, ◌∙◌, ◌∷◌, ◌++◌, [], ℕ, List, refl, sym, subst, append_assoc, arith, Ok, Err, IfSome, true}
+use Rattle.std.proofs.Common.{◌∙◌, ◌∷◌, ◌++◌, [], refl, sym, subst, IfSome, true}
 use Rattle.std.proofs.lemmas.List.{append-nil}
 use Rattle.cdb_store.proofs.Reading.{reads_more}
-use Rattle.cdb_form.specs.Text.Amending.{Change}
 use Rattle.cdb_form.specs.Views.KnownBytes.{FromTo}
 use Rattle.cdb_read.proofs.FoundSoFar.{reads_none}
 use Rattle.cdb_tool.specs.Runs.Inputs.{IsInputOf, BeginsWithItems}
-use Rattle.cdb_tool.specs.Runs.Lookups.{HasLooked, key_query}
-use Rattle.cdb_tool.specs.Runs.Query.{Queries}
+use Rattle.cdb_tool.specs.Runs.Lookups.{HasLooked}
 use Rattle.cdb_tool.specs.Views.KeyReader.{form_of, unread}
-use Rattle.cdb_tool.specs.declared.fault.Fault.TheVariants.{Missing}
-use Rattle.cdb_tool.proofs.KeyInputs.{keys_none, keys_more, keys_all, keys_first, keys_fewer, keys_behind, same_form}
+use Rattle.cdb_tool.proofs.KeyInputs.{keys_none, keys_more, keys_all, keys_first, keys_behind, same_form}
 use Rattle.cdb_tool.proofs.LookupRuns.{found_more, missing_more, text_stops, key_stops}
 use Rattle.cdb_tool.proofs.runs.lookups.look_up_input.Goals as goal
 

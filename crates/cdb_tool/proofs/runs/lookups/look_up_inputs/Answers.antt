@@ -1,4 +1,3 @@
-use Rattle.std.proofs.Common.{ap, ◌+◌, ℕ}
 use Rattle.std.proofs.lemmas.Result.{err_from_is_err_and}
 use Rattle.cdb_store.proofs.Reading.{reads_more}
 use Rattle.cdb_tool.proofs.InputRuns.{next_has}
