@@ -12,7 +12,7 @@ use Rattle.cdb_tool.specs.declared.fault.Fault.{Fault}
 use Rattle.cdb_tool.specs.declared.fault.Fault.TheVariants.{Text, Make, Read, Walk, Output, Open}
 use Rattle.cdb_tool.specs.declared.fault.Fault.TheVariants.{Rename, NoMemory, Old, New}
 use Rattle.cdb_tool.specs.declared.fault.Fault.TheVariants.{NoOldTables, NoNewTables}
-use Rattle.cdb.specs.Creating.{temporary_of}
+use Rattle.cdb.specs.Creating.{IsInPlace, temporary_of}
 use Rattle.cdb.specs.Opening.{OpenCalls, refused_open}
 use Rattle.cdb.specs.declared.causes.Reason.{Reason}
 
@@ -65,7 +65,8 @@ new_name command = []
 -- where a create makes its database: in place, or in a temporary file
 abbrev pub IsMadeName : Asked → (name : List ℕ) → Type 0
 IsMadeName (asked.Create database base inputs temporary options wide) name =
-    (name ≡ database) ⊎ (name ≡ temporary_of database temporary)
+    (IsInPlace database temporary × (name ≡ database))
+    ⊎ ((IsInPlace database temporary → ⊥) × (name ≡ temporary_of database temporary))
 IsMadeName command name = ⊥
 
 -- an input, counted from 1. A hyphen is standard input, and no inputs are one

@@ -4,6 +4,7 @@ ghost use Rattle.cdb_tool.specs.Command.{asked_in};
 ghost use Rattle.cdb.specs.Causes.{IsCause, IsMadeName, IsNoNameOf, IsOfDatabase, IsRefused};
 ghost use Rattle.cdb.specs.Causes.{input_at, input_name, new_name, read_name, reason_name, said_input};
 
+use crate::creating::is_in_place;
 use crate::inputs::is_standard;
 use crate::left::Left;
 use crate::system::System;
@@ -278,6 +279,20 @@ where
     of_name(input_name(command, number), told)
 }
 
+/// The number of the error of the last call that failed on a file that was made in place.
+fn made_number<F, J, M, Y>(system: &Y, file: &Option<M>) -> Option<i32>
+where
+    F: Store,
+    J: Read,
+    M: Store,
+    Y: System<F, J, M>,
+{
+    match file {
+        Some(file) => system.made_error(file),
+        None => None,
+    }
+}
+
 /// What is said of a database that was not made, since its file failed.
 fn of_made<'a, F, J, M, Y, N>(
     command: &'a Command,
@@ -301,8 +316,8 @@ where
     else {
         return None;
     };
-    if let Some(made) = &left.made {
-        return Some(of_name(name.as_str(), of_number(system.made_error(made))));
+    if is_in_place(name.as_str(), temporary) {
+        return Some(of_name(name.as_str(), of_number(made_number(system, &left.made))));
     }
     let told = of_number(names.file_error());
     match temporary {

@@ -185,7 +185,7 @@ fn write_bytes<O: Write>(bytes: &[u8], output: &mut O) -> Result<(), Fault>
 }
 
 /// Whether the database is made in the file of its name.
-fn is_in_place(name: &str, temporary: &Option<String>) -> bool
+pub(crate) fn is_in_place(name: &str, temporary: &Option<String>) -> bool
     ensures { IsTrue result ↔ IsInPlace name.now (option_map string_bytes temporary.now) }
 {
     match temporary {

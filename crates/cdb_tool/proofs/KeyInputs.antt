@@ -1,5 +1,5 @@
 -- What a reader gave of the keys of an input, whatever its form.
-use Rattle.std.proofs.Common.{◌≡◌, ◌≢◌, ℕ, ◌^◌, ◌<◌, ◌≤◌, List, [], ◌∷◌, ◌++◌, refl, Option, Some, None, IfSome, map, sym, ap, subst, ◌∙◌, append_assoc, length, take, drop, arith}
+use Rattle.std.proofs.Common.{◌≡◌, ◌≢◌, ℕ, ◌^◌, ◌≤◌, List, [], ◌∷◌, ◌++◌, refl, Option, Some, None, IfSome, map, sym, ap, subst, ◌∙◌, append_assoc, length, take, drop, arith}
 use Rattle.std.proofs.lemmas.List.{map-append, take-append-drop, length-take-le}
 use Rattle.std.specs.Prelude.{codes}
 use Rattle.std.specs.Io.KnownBytes.{Consumes}
@@ -18,7 +18,7 @@ use Rattle.cdb_form.proofs.NativeTexts.KeyTexts.{keys}
 use Rattle.cdb_form.proofs.NativeTexts.WholeForm.{SoFar, so_far_none, so_far_more, so_far_fault, so_far_part}
 use Rattle.cdb_tool.specs.Runs.Inputs.{HasFaultBehind, HasItemFault, IsInputOf, BeginsWithItems, key_of, keys_of}
 use Rattle.cdb_tool.specs.Runs.Inputs as form
-use Rattle.cdb_tool.specs.Views.KeyReader.{form_of, unread, asks_left, IsNew, GivesKey, GivesEnd, Fails}
+use Rattle.cdb_tool.specs.Views.KeyReader.{form_of, unread, IsNew, GivesKey, GivesEnd, Fails}
 use Rattle.cdb_tool.specs.declared.runs.key_reader.KeyReader.{KeyReader}
 use Rattle.cdb_tool.specs.declared.runs.key_reader.KeyReader.TheVariants as reader
 use Rattle.cdb_tool.proofs.InputTexts.{GaveMap, map_none, map_more, map_all, map_first, map_fault}
@@ -67,11 +67,6 @@ keys_more g remaining input (reader.Map t) (reader.Map u) items key h m = record
   gave = (h.0 ++ m.given ∷ [], more_puts items h.0 m.given h.1, map_more remaining input t u h.0 m.given h.2 m.gives);
 }
 keys_more g remaining input t u items key h m = absurd m
-
-pub keys_fewer : {R L : Type 0} (g : ℕ) (remaining : R → Option (List ℕ)) (t u : KeyReader R L) (key : List ℕ) → GivesKey g remaining t u key → asks_left u < asks_left t
-keys_fewer g remaining (reader.List t) (reader.List u) key m = m.fewer
-keys_fewer g remaining (reader.Map t) (reader.Map u) key m = m.gives.fewer
-keys_fewer g remaining t u key m = absurd m
 
 pub same_form : {R L : Type 0} (g : ℕ) (remaining : R → Option (List ℕ)) (t u : KeyReader R L) (key : List ℕ) → GivesKey g remaining t u key → form_of u ≡ form_of t
 same_form g remaining (reader.List t) (reader.List u) key m = refl

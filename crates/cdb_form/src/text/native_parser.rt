@@ -143,17 +143,24 @@ impl<R: Read> Source<R> {
         Ok(())
     }
 
-    /// Takes the removal after a minus, and keeps its key.
-    fn removal(&mut self, into: &mut Record, greatest: u64) -> Result<(), TextFault>
+    /// Takes the key after a mark, with its length before it and a newline after it: a removal's after a
+    /// minus, or that of a list text after a plus.
+    fn marked_key(&mut self, into: &mut Record, greatest: u64) -> Result<(), TextFault>
         requires least { 9 ≤ greatest }
         requires most { greatest < 2 ^ 63 }
-        ensures read { OnOk result (ReadsBehind SpellsRemoval (codes "-") greatest
+        ensures removes { OnOk result (ReadsBehind SpellsRemoval (codes "-") greatest
+            (R.remaining self.old.reader) (R.remaining self.new.reader)
+            self.old.taken self.new.taken into.new.key.items) }
+        ensures lists { OnOk result (ReadsBehind SpellsKey (codes "+") greatest
             (R.remaining self.old.reader) (R.remaining self.new.reader)
             self.old.taken self.new.taken into.new.key.items) }
         ensures fewer { OnOk result (self.new.asks < self.old.asks) }
-        ensures fails { (from : ℕ) → self.old.taken ≡ from + 1 →
+        ensures fails_removing { (from : ℕ) → self.old.taken ≡ from + 1 →
             IfErr result (FailsIn R.remaining self.old self.new (λ text.
             FailsItem SpellsChange greatest from (codes "-" ++ text))) }
+        ensures fails_listing { (from : ℕ) → self.old.taken ≡ from + 1 →
+            IfErr result (FailsIn R.remaining self.old self.new (λ text.
+            FailsItem SpellsKey greatest from (codes "+" ++ text))) }
         ensures later { self.old.taken ≤ self.new.taken }
         ensures leaves { IfErr result (Leaves R.remaining self.old self.new) }
         ensures spends { OnOk result (budget self.old ≤ budget self.new) }
@@ -197,31 +204,11 @@ impl<R: Read> Source<R> {
                 Ok(Some(ChangeKind::Put))
             }
             Some(b'-') if removals => {
-                self.removal(into, greatest)?;
+                self.marked_key(into, greatest)?;
                 Ok(Some(ChangeKind::Remove))
             }
             Some(_) => Err(TextFault::Syntax(start)),
         }
-    }
-
-    /// Takes the key after a plus.
-    fn listed(&mut self, into: &mut Record, greatest: u64) -> Result<(), TextFault>
-        requires least { 9 ≤ greatest }
-        requires most { greatest < 2 ^ 63 }
-        ensures read { OnOk result (ReadsBehind SpellsKey (codes "+") greatest
-            (R.remaining self.old.reader) (R.remaining self.new.reader)
-            self.old.taken self.new.taken into.new.key.items) }
-        ensures fewer { OnOk result (self.new.asks < self.old.asks) }
-        ensures fails { (from : ℕ) → self.old.taken ≡ from + 1 →
-            IfErr result (FailsIn R.remaining self.old self.new (λ text.
-            FailsItem SpellsKey greatest from (codes "+" ++ text))) }
-        ensures later { self.old.taken ≤ self.new.taken }
-        ensures leaves { IfErr result (Leaves R.remaining self.old self.new) }
-        ensures spends { OnOk result (budget self.old ≤ budget self.new) }
-    {
-        let klen = self.number(greatest, b':')?;
-        self.field(&mut into.key, klen, b'\n')?;
-        Ok(())
     }
 
     /// Takes the next key of a list text, and answers whether there is one: none is at the newline that
@@ -247,7 +234,7 @@ impl<R: Read> Source<R> {
             None => Err(TextFault::Ended(at)),
             Some(b'\n') => Ok(false),
             Some(b'+') => {
-                self.listed(into, greatest)?;
+                self.marked_key(into, greatest)?;
                 Ok(true)
             }
             Some(_) => Err(TextFault::Syntax(at)),

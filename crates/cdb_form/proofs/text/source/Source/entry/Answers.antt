@@ -32,20 +32,20 @@ returns-in_err-record-in-Some-eq43-clause-leaves g c =
 pub returns-in-None-clause-fails : goal.returns-in-None-clause-fails
 returns-in-None-clause-fails g c = ended_first c.args.removals _ _ _ (rw c.in-None.is at c.in_ok-byte.ensures.bytes).0
 
-pub returns-in_err-removal-in-Some-eq45-clause-fails : goal.returns-in_err-removal-in-Some-eq45-clause-fails
-returns-in_err-removal-in-Some-eq45-clause-fails g c =
-    let p = err_from_is_err_and c.from_residual-in_err-removal-in-Some-eq45.result c.from_residual-in_err-removal-in-Some-eq45.ensures.1 in
+pub returns-in_err-marked_key-in-Some-eq45-clause-fails : goal.returns-in_err-marked_key-in-Some-eq45-clause-fails
+returns-in_err-marked_key-in-Some-eq45-clause-fails g c =
+    let p = err_from_is_err_and c.from_residual-in_err-marked_key-in-Some-eq45.result c.from_residual-in_err-marked_key-in-Some-eq45.ensures.1 in
     let minus : c.in-Some-eq45.field-0 ≡ 45 = omega arith in
     let counted = rw c.in-Some-eq45.is at c.in_ok-byte.ensures.counted in
-    let h = c.in_err-removal-in-Some-eq45.ensures in
-    rw (p.1, p.2, c.if-removals.true) (mark_first (FailsEntry true c.args.greatest c.args.self.now.taken) 45 _ _ _ (seen_past _ _ _ _ _ [] 45 c.in_err-removal-in-Some-eq45.field-0.0 (rw (c.in-Some-eq45.is, minus) at c.in_ok-byte.ensures.bytes) counted h.later) (h.fails c.args.self.now.taken counted))
+    let h = c.in_err-marked_key-in-Some-eq45.ensures in
+    rw (p.1, p.2, c.if-removals.true) (mark_first (FailsEntry true c.args.greatest c.args.self.now.taken) 45 _ _ _ (seen_past _ _ _ _ _ [] 45 c.in_err-marked_key-in-Some-eq45.field-0.0 (rw (c.in-Some-eq45.is, minus) at c.in_ok-byte.ensures.bytes) counted h.later) (h.fails_removing c.args.self.now.taken counted))
 
-pub returns-in_err-removal-in-Some-eq45-clause-leaves : goal.returns-in_err-removal-in-Some-eq45-clause-leaves
-returns-in_err-removal-in-Some-eq45-clause-leaves g c =
-    let p = err_from_is_err_and c.from_residual-in_err-removal-in-Some-eq45.result c.from_residual-in_err-removal-in-Some-eq45.ensures.1 in
+pub returns-in_err-marked_key-in-Some-eq45-clause-leaves : goal.returns-in_err-marked_key-in-Some-eq45-clause-leaves
+returns-in_err-marked_key-in-Some-eq45-clause-leaves g c =
+    let p = err_from_is_err_and c.from_residual-in_err-marked_key-in-Some-eq45.result c.from_residual-in_err-marked_key-in-Some-eq45.ensures.1 in
     let minus : c.in-Some-eq45.field-0 ≡ 45 = omega arith in
     let counted = rw c.in-Some-eq45.is at c.in_ok-byte.ensures.counted in
-    rw (p.1, p.2) (leaves_past _ _ _ _ [] 45 _ (rw (c.in-Some-eq45.is, minus) at c.in_ok-byte.ensures.bytes) counted (omega (arith, counted, c.in_ok-byte.ensures.spends)) c.in_err-removal-in-Some-eq45.ensures.leaves)
+    rw (p.1, p.2) (leaves_past _ _ _ _ [] 45 _ (rw (c.in-Some-eq45.is, minus) at c.in_ok-byte.ensures.bytes) counted (omega (arith, counted, c.in_ok-byte.ensures.spends)) c.in_err-marked_key-in-Some-eq45.ensures.leaves)
 
 pub returns-in-Some-2-clause-fails : goal.returns-in-Some-2-clause-fails
 returns-in-Some-2-clause-fails g c =
@@ -65,8 +65,8 @@ returns-in-None-clause-leaves g c = grind (arith, common_steps)
 pub returns-in_ok-record-in-Some-eq43-clause-read : goal.returns-in_ok-record-in-Some-eq43-clause-read
 returns-in_ok-record-in-Some-eq43-clause-read g c = grind (arith, common_steps)
 
-pub returns-in_ok-removal-in-Some-eq45-clause-later : goal.returns-in_ok-removal-in-Some-eq45-clause-later
-returns-in_ok-removal-in-Some-eq45-clause-later g c = grind (arith, common_steps)
+pub returns-in_ok-marked_key-in-Some-eq45-clause-later : goal.returns-in_ok-marked_key-in-Some-eq45-clause-later
+returns-in_ok-marked_key-in-Some-eq45-clause-later g c = grind (arith, common_steps)
 
 pub returns-in-Some-eq10-clause-read : goal.returns-in-Some-eq10-clause-read
 returns-in-Some-eq10-clause-read g c = grind (arith, common_steps)
@@ -74,17 +74,17 @@ returns-in-Some-eq10-clause-read g c = grind (arith, common_steps)
 pub returns-in-Some-eq10-clause-later : goal.returns-in-Some-eq10-clause-later
 returns-in-Some-eq10-clause-later g c = grind (arith, common_steps)
 
-pub returns-in_ok-removal-in-Some-eq45-clause-fails : goal.returns-in_ok-removal-in-Some-eq45-clause-fails
-returns-in_ok-removal-in-Some-eq45-clause-fails g c = grind (arith, common_steps)
+pub returns-in_ok-marked_key-in-Some-eq45-clause-fails : goal.returns-in_ok-marked_key-in-Some-eq45-clause-fails
+returns-in_ok-marked_key-in-Some-eq45-clause-fails g c = grind (arith, common_steps)
 
 pub returns-in_ok-record-in-Some-eq43-clause-fails : goal.returns-in_ok-record-in-Some-eq43-clause-fails
 returns-in_ok-record-in-Some-eq43-clause-fails g c = grind (arith, common_steps)
 
-pub removal-requires-clause-most : goal.removal-requires-clause-most
-removal-requires-clause-most g c = grind (arith, common_steps)
+pub marked_key-requires-clause-most : goal.marked_key-requires-clause-most
+marked_key-requires-clause-most g c = grind (arith, common_steps)
 
-pub returns-in_ok-removal-in-Some-eq45-clause-puts : goal.returns-in_ok-removal-in-Some-eq45-clause-puts
-returns-in_ok-removal-in-Some-eq45-clause-puts g c = search rules
+pub returns-in_ok-marked_key-in-Some-eq45-clause-puts : goal.returns-in_ok-marked_key-in-Some-eq45-clause-puts
+returns-in_ok-marked_key-in-Some-eq45-clause-puts g c = search rules
 
 pub returns-in_ok-record-in-Some-eq43-clause-leaves : goal.returns-in_ok-record-in-Some-eq43-clause-leaves
 returns-in_ok-record-in-Some-eq43-clause-leaves g c = omega arith
