@@ -14,6 +14,7 @@
 # make interop    builds it, and compares it with the cdb programs that are installed
 # make bench      times it beside tinycdb and freecdb, if they are installed
 # make clean      removes what was built, and the proofs that were kept
+# make help       shows these lines
 
 PREFIX ?= /usr/local
 LIBDIR ?= $(PREFIX)/lib
@@ -39,9 +40,12 @@ OTHER_LIBRARIES = $(filter-out $(LIBDIR)/%,$(wildcard /usr/lib/libcdb.so.1 /usr/
 # The toolchain's own C, over malloc, by which the maker gets memory.
 HEAP = $(dir $(shell $(RT) doc))c/liblibc_c.a $(dir $(shell $(RT) doc))c/libos_c.a
 
-.PHONY: all try quick demo proofs test wrong tests clib dist deb install install-clib uninstall interop bench clean
+.PHONY: help all try quick demo proofs test wrong tests clib dist deb install install-clib uninstall interop bench clean
 
 all: bin/cdb
+
+help:
+	@sed -n '/^# make/s/^# //p' Makefile
 
 bin/cdb: $(SOURCES)
 	@RT='$(RT)' CC='$(CC)' $(PYTHON) tools/build.py crates/cdb bin/cdb

@@ -1,5 +1,5 @@
 #!/usr/bin/env python3
-"""Times `cdb` beside tinycdb and freecdb, where they are installed.
+"""Times `cdb` beside tinycdb, freecdb and postmap, where they are installed.
 
 The input is made from a fixed seed: records with keys of 10 bytes and values of 20 to 100, which
 come from files, and then a few records with values of 5 MB, which come through a pipe. The
@@ -44,6 +44,27 @@ def write_large_text(path, records):
             out.write(chosen.randbytes(LARGE_VALUE))
             out.write(b"\n")
         out.write(b"\n")
+
+
+def write_keys(text, listed, lines):
+    """Keys drawn from a text, as many as it has records: as a list text, and a line each."""
+    with open(text, "rb") as records:
+        keys = [it[it.index(b":") + 1 : it.index(b"->")] for it in records if it.startswith(b"+")]
+    drawn = random.Random(SEED).choices(keys, k=len(keys))
+    with open(listed, "wb") as out:
+        out.write(b"".join(b"+%d:%s\n" % (len(key), key) for key in drawn) + b"\n")
+    with open(lines, "wb") as out:
+        out.write(b"".join(key + b"\n" for key in drawn))
+
+
+def apart(work, *given):
+    """Does some work in a process of its own."""
+    child = os.fork()
+    if child == 0:
+        work(*given)
+        os._exit(0)
+    if os.waitpid(child, 0)[1] != 0:
+        sys.exit(f"{work.__name__} failed")
 
 
 def feed(path):
@@ -106,6 +127,13 @@ def tinycdb():
     return None
 
 
+def has_postmap():
+    """Whether postmap is installed and reads databases of this format."""
+    if not (shutil.which("postmap") and shutil.which("postconf")):
+        return False
+    return b"cdb" in subprocess.run(["postconf", "-m"], capture_output=True, check=False).stdout.split()
+
+
 def compare_large(ours, tiny, records, rounds):
     """Compares the programs on a few long records that come through a pipe."""
     with tempfile.TemporaryDirectory() as folder:
@@ -154,6 +182,13 @@ def main():
         if shutil.which("cdbdump"):
             dumpers.append(("freecdb cdbdump", ["cdbdump"], database, path("free.text")))
         compare("dump", dumpers, options.rounds)
+        # Apart, since the memory that this process had counts for each that it starts.
+        apart(write_keys, text, path("keys"), path("lines"))
+        askers = [("cdb -q -i", [ours, "-q", "-i", database], path("keys"), path("ours.asked"))]
+        if has_postmap():
+            map_name = "cdb:" + database.removesuffix(".cdb")
+            askers.append(("postmap -q -", ["postmap", "-q", "-", map_name], path("lines"), path("postmap.asked")))
+        compare("queries of as many keys, drawn", askers, options.rounds)
     if options.large:
         compare_large(ours, tiny, options.large, options.rounds)
 

@@ -8,8 +8,8 @@
 
 Each prints the SHA-256 of the files that it made. The same commit, and the same program, libraries
 and pages, give the same bytes: every date is that of the version in CHANGELOG.md, or of the commit,
-and every file belongs to root. A package needs the command `dpkg-deb` and nothing else of Debian;
-those of the libraries need `strip` too.
+and every file belongs to root. A package needs the commands `dpkg-deb` and `strip`. If the environment has
+HOMEPAGE, VCS_GIT or MAINTAINER, as who publishes the packages sets them, each package has that field.
 """
 
 import datetime
@@ -24,6 +24,8 @@ import tempfile
 TOP = os.path.join(os.path.dirname(os.path.abspath(__file__)), "..")
 NAME = "pezundrix"
 MAINTAINER = "Pezundrix maintainers <maintainers@users.noreply.pezundrix.example>"
+# The fields that only who publishes the packages knows, and the variables of the environment that give them.
+PUBLISHED = {"Homepage": "HOMEPAGE", "Vcs-Git": "VCS_GIT"}
 PAGES = ("cdb.1", "cdb.5")
 
 CONTROL = """\
@@ -31,7 +33,7 @@ Package: {name}
 Version: {version}
 Architecture: {architecture}
 Maintainer: {maintainer}
-Installed-Size: {size}
+{published}Installed-Size: {size}
 {depends}Conflicts: tinycdb
 Replaces: tinycdb
 Section: utils
@@ -52,7 +54,7 @@ Version: {version}
 Architecture: {architecture}
 Multi-Arch: same
 Maintainer: {maintainer}
-Installed-Size: {size}
+{published}Installed-Size: {size}
 {depends}Provides: libcdb1 (= {interface})
 Conflicts: libcdb1:{architecture}
 Replaces: libcdb1:{architecture}
@@ -73,7 +75,7 @@ Version: {version}
 Architecture: {architecture}
 Multi-Arch: same
 Maintainer: {maintainer}
-Installed-Size: {size}
+{published}Installed-Size: {size}
 Depends: {name}-libcdb1 (= {version})
 Provides: libcdb-dev (= {interface})
 Conflicts: libcdb-dev
@@ -107,9 +109,8 @@ CHANGELOG = """\
  -- {maintainer}  {date}
 """
 
-# The program is packed as it was proved and built: dpkg-deb is all that the package needs, so nothing
-# strips it.
-OVERRIDES = "{name}: unstripped-binary-or-object\n{name}: statically-linked-binary\n"
+# The program needs no library, so that it starts sooner.
+OVERRIDES = "{name}: statically-linked-binary\n"
 # The library keeps the name by which programs load tinycdb's, and the package has one of its own.
 SHARED_OVERRIDES = "{name}-libcdb1: package-name-doesnt-match-sonames libcdb1\n"
 
@@ -174,7 +175,10 @@ def license_lines():
 
 def facts():
     """What the texts of each package name."""
-    return dict(name=NAME, version=version(), maintainer=MAINTAINER, interface=interface())
+    maintainer = os.environ.get("MAINTAINER") or MAINTAINER
+    fields = [(it, os.environ.get(variable)) for it, variable in PUBLISHED.items()]
+    published = "".join(f"{it}: {value}\n" for it, value in fields if value)
+    return dict(name=NAME, version=version(), maintainer=maintainer, published=published, interface=interface())
 
 
 def interface():
@@ -320,8 +324,7 @@ def make_package(package, files, architecture, folder):
 
 def make_deb(path, folder):
     """Makes the package of a static program, and answers its name."""
-    with open(path, "rb") as file:
-        program = file.read()
+    program = stripped(path)
     if depends_of(program):
         sys.exit(f"{path} is not static: with a C compiler and a static C library, `make` links it so")
     files = files_of(program, release_time())
@@ -329,7 +332,7 @@ def make_deb(path, folder):
 
 
 def stripped(path):
-    """A library without the symbols that no program needs."""
+    """A program or a library without the symbols that nothing needs."""
     with tempfile.TemporaryDirectory() as folder:
         copy = os.path.join(folder, "copy")
         words = ["strip", "-D", "--strip-unneeded", "--remove-section=.comment", "-o", copy, path]

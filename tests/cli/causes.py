@@ -10,9 +10,15 @@ from cases import (
     NO_OUTPUT,
     NO_RECORD,
     SHORT,
+    STOPPED,
+    again,
     case,
+    creates,
+    keeps,
+    of_a,
+    pairs,
 )
-from files import FOUR_FILE, LARGE_TEXT, ONE_FILE, TWO_FILE, TWO_TEXT
+from files import FOUR_FILE, LARGE_TEXT, ONE_FILE, TWO_FILE, TWO_TEXT, file_of, text_of
 from places import CLOSED, FOLDER, PIPE, UNREAD, Link
 
 MISSING = "No such file or directory"
@@ -106,5 +112,106 @@ CAUSES = {
     "a value that is missing": case(["-v", "-q", "x", "no"], status=100, files={"x": FOUR_FILE}),
     "a query that is answered": case(["-v", "-q", "x", "one"], stdout=b"Hello", files={"x": ONE_FILE}),
 }
-# Bad words have no second line.
-CAUSES["two commands"] = case(["-v", "-q", "-d", "x"], line=BAD_WORDS, status=2)
+
+
+def worded(given, cause):
+    """A run of bad words with `-v`, and the line that says which are bad."""
+    return case(given, line=[BAD_WORDS, cause], status=2)
+
+
+WORDS = {
+    "an unknown letter": worded(["-v", "-Z"], "-Z: unknown letter"),
+    "an unknown letter beside the one that asks": worded(["-Zv"], "-Z: unknown letter"),
+    "a letter beyond ASCII": worded(["-v", "-q\u00e9", "x", "k"], "-\\xc3\\xa9: unknown letter"),
+    "a hyphen among letters": worded(["-vq-d", "x"], "--: unknown letter"),
+    "a long word": worded(["-v", "-c", "--map=1", "x"], "--map=1: unknown option"),
+    "a long word with a newline": worded(["-v", "--a\ncdb: b"], "--a\\x0acdb: b: unknown option"),
+    "the first of two bad words": worded(["-v", "-q", "-Y", "--map"], "-Y: unknown letter"),
+    "a letter without its value": worded(["-vq", "x", "k", "-n"], "-n: no value"),
+    "a letter for a value": worded(["-vc", "-t", "-m", "x"], "-t: no value"),
+    "hyphens for a value": worded(["-vc", "x", "-b", "--", "y"], "-b: no value"),
+    "a letter with a value twice": worded(["-v", "-c", "-ta", "-t", "b", "x"], "-t: given twice"),
+    "no command": worded(["-v"], "no command"),
+    "names alone": worded(["-v", "x", "y"], "no command"),
+    "two commands": worded(["-v", "-q", "-d", "x"], "two commands: -q and -d"),
+    "three commands in any order": worded(["-vkDl", "x"], "two commands: -l and -k"),
+    "a map of statistics": worded(["-v", "-s", "-m", "x"], "-m: not with -s"),
+    "inputs of a dump": worded(["-v", "-di", "x"], "-i: not with -d"),
+    "a base of a query": worded(["-v", "-q", "-b", "y", "x", "k"], "-b: not with -q"),
+    "a number of a create": worded(["-v", "-c", "-n", "1", "x"], "-n: not with -c"),
+    "a base in place": worded(["-v", "-c", "-t", "-", "-b", "y", "x"], "-b: not with -t -"),
+    "a base that is built in": worded(["-v", "-c", "-b", "x.tmp", "x"], "-b x.tmp: is the temporary file"),
+    "a base that is the temporary file": worded(["-v", "-c", "-b", "y\\", "-t", "y\\", "x"], "-b y\\x5c: is the temporary file"),
+    "a number of 0": worded(["-v", "-q", "-n", "0", "x", "k"], "-n 0: not from 1 to 4294967295"),
+    "a number of 33 bits": worded(["-v", "-qn4294967296", "x", "k"], "-n 4294967296: not from 1 to 4294967295"),
+    "a number that is empty": worded(["-v", "-q", "-n", "", "x", "k"], "-n : not from 1 to 4294967295"),
+    "a number of other bytes": worded(["-v", "-q", "-n", "1\t\u00e9", "x", "k"], "-n 1\\x09\\xc3\\xa9: not from 1 to 4294967295"),
+    "no database": worded(["-v", "-q"], "no database"),
+    "no database of many keys": worded(["-vqi"], "no database"),
+    "no database to create": worded(["-v", "-c"], "no database"),
+    "no key": worded(["-v", "-q", "x"], "no key"),
+    "no old database": worded(["-v", "-D"], "no old database"),
+    "no new database": worded(["-v", "-D", "x"], "no new database"),
+    "a second key": worded(["-v", "-q", "x", "k", "l\x7f"], "l\\x7f: one name too many"),
+    "a second file of statistics": worded(["-v", "-s", "x", "y"], "y: one name too many"),
+    "replaced and inserted": worded(["-v", "-cru", "x"], "-r: not with -u"),
+    "a letter that no one asks to explain": case(["-Z"], line=BAD_WORDS, status=2),
+    "a letter after the names": case(["-Z", "--", "-v"], line=BAD_WORDS, status=2),
+}
+CAUSES.update({f"bad words: {name}": row for name, row in WORDS.items()})
+
+# Duplicates, each explained by the name of its input and its key.
+LONG = b"k" * 256
+EXPLAINED = {
+    "a duplicate of standard input": creates(
+        ["-vcw", "x"], of_a(b"1", b"2"), pairs(b"1", b"2"), [again(2), "standard input: key a"]
+    ),
+    "a duplicate that is not warned of": creates(["-vc", "x"], of_a(b"1", b"2"), pairs(b"1", b"2")),
+    "a duplicate that ends the run": keeps(
+        ["-vce", "x"], [again(2), "standard input: key a", STOPPED], pairs(b"1", b"2")
+    ),
+    "duplicates of several inputs": creates(
+        ["-vcwm", "x", "m", "-", "n"],
+        file_of([(b"one", b"1"), (b"one", b"2"), (b"two", b"3"), (b"one", b"4"), (b"two", b"5")]),
+        b"two 3\n",
+        [again(2), "m: key one", again(1, 3), "n: key one", again(2, 3), "n: key two"],
+        {"m": b"# a\none 1\n\none 2\n", "n": b"one 4\ntwo 5\n"},
+    ),
+    "a name and a key with other bytes": creates(
+        ["-vcw", "x", "a\n\u00e9"],
+        file_of([(b"\\\n\xff ~", b"1"), (b"\\\n\xff ~", b"2")]),
+        b"",
+        [again(2), "a\\x0a\\xc3\\xa9: key \\x5c\\x0a\\xff ~"],
+        {"a\n\u00e9": text_of([(b"\\\n\xff ~", b"1"), (b"\\\n\xff ~", b"2")])},
+    ),
+    "a key that is empty": creates(
+        ["-vcw", "x"], file_of([(b"", b"1"), (b"", b"2")]), text_of([(b"", b"1"), (b"", b"2")]), [again(2), "standard input: key "]
+    ),
+    "a key of as many bytes as are shown": creates(
+        ["-vcwr", "x"],
+        file_of([(LONG, b"2")]),
+        text_of([(LONG, b"1"), (LONG, b"2")]),
+        [again(2), f"standard input: key {LONG.decode()}"],
+    ),
+    "a longer key": creates(
+        ["-vcwu", "x"],
+        file_of([(LONG + b"\0", b"1")]),
+        text_of([(LONG + b"\0", b"1"), (LONG + b"\0", b"2")]),
+        [again(2), f"standard input: key {LONG.decode()}..."],
+    ),
+    "a duplicate of a base": creates(
+        ["-vcw", "-b", "y", "x", "n"],
+        file_of([(b"one", b"Hello"), (b"one", b"1")]),
+        b"",
+        [again(1), "n: key one"],
+        {"y": ONE_FILE, "n": b"+3,1:one->1\n\n"},
+    ),
+    "a duplicate after a removal": creates(
+        ["-vcw", "-b", "y", "x", "n"],
+        file_of([(b"one", b"1"), (b"one", b"2")]),
+        b"",
+        [again(3), "n: key one"],
+        {"y": ONE_FILE, "n": b"-3:one\n+3,1:one->1\n+3,1:one->2\n\n"},
+    ),
+}
+CAUSES.update({f"duplicates: {name}": row for name, row in EXPLAINED.items()})

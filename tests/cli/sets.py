@@ -21,6 +21,8 @@ def left_by(letters):
         is_there = key in dict(records)
         if is_there and letters & set("we"):
             lines.append(again(number))
+            if "v" in letters:
+                lines.append(f"standard input: key {key.decode()}")
         if is_there and "e" in letters:
             return None, [*lines, STOPPED]
         if is_there and "r" in letters:
@@ -31,10 +33,10 @@ def left_by(letters):
 
 
 def with_letters(letters):
-    """A create with some of the letters m, t, w, e, r and u."""
+    """A create with some of the letters m, t, w, e, r, u and v."""
     given = ["-" + "".join(sorted({"c", *letters} - {"t"})), *(["-t", "y"] if "t" in letters else []), "x"]
     if {"r", "u"} <= letters:
-        return case(given, line=BAD_WORDS, status=2)
+        return case(given, line=[BAD_WORDS, *(["-r: not with -u"] if "v" in letters else [])], status=2)
     records, lines = left_by(letters)
     text = PUT_TEXTS["m" in letters]
     if records is None:
@@ -43,8 +45,8 @@ def with_letters(letters):
 
 
 # Each set of letters of a create.
-for number in range(1, 64):
-    chosen = {letter for n, letter in enumerate("mtweru") if number >> n & 1}
+for number in range(1, 128):
+    chosen = {letter for n, letter in enumerate("mtweruv") if number >> n & 1}
     SETS["create with " + "".join(sorted(chosen))] = with_letters(chosen)
 
 # Each letter that a command does not take.

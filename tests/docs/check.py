@@ -5,10 +5,10 @@
 
 Each link of a page leads to a file, and to a heading if it names one. Each path in backquotes is that
 of a file or a folder, each name is one of the sources, each `make TARGET` a target of the Makefile.
-The page CALLING.md of a crate names each public item and function of its library, each function that
-it declares is one of the sources, and so is each clause that it quotes. Something else than a test
-calls each public item, or public_items.py says why it is there. docs/audit/PROMISES.md names each
-wrong body. docs/audit/ORACLE.md shows each definition of the oracle as it reads.
+The page CALLING.md of a crate names each public item and function of its library. Something else than
+a test calls each public item, or public_items.py says why it is there. What tools/pages.py writes of
+the pages is what the sources give, and CONTRIBUTING.md names each part of the tests. docs/audit/ORACLE.md
+shows each definition of the oracle as it reads.
 """
 
 import glob
@@ -17,17 +17,17 @@ import re
 import subprocess
 import sys
 
-from calling_clauses import definitions, wrong_clauses
 from public_items import wrong_items
 from sources import TOP, sources_of, text_of
 
-PROMISES = "docs/audit/PROMISES.md"
+PAGES = "tools/pages.py"
 ORACLE = "docs/audit/ORACLE.md"
 ORACLE_SOURCES = (
     "crates/cdb/specs/Created.antt",
     "crates/cdb/specs/Oracle.antt",
     "crates/cdb/src/steps.rt",
     "crates/cdb_form/specs/Text/Parse.antt",
+    "crates/cdb_tool/specs/Runs/LookedUp.antt",
     "crates/cdb_tool/specs/Runs/Made.antt",
 )
 # What is built or kept and no file of the repository; what stands for a name of the reader's own;
@@ -132,23 +132,14 @@ def public_of(crate):
     return items, functions
 
 
-def declared_in(text):
-    """The functions that a page declares in its blocks of code."""
-    blocks = re.findall(r"^```text\n(.*?)^```", text, re.M | re.S)
-    return set(re.findall(r"\bfn (?:\w+(?:<[^>]*>)?::)?(\w+)", "\n".join(blocks)))
-
-
-def wrong_calling(crate, sources):
-    """What a crate's page on calling leaves out, or names and is not there."""
+def wrong_calling(crate):
+    """The public items that a crate's page on calling leaves out."""
     page = f"crates/{crate}/CALLING.md"
     text = text_of(page)
     items, functions = public_of(crate)
     for name in sorted(items | functions):
         if not re.search(rf"\b{name}\b", text):
             yield f"{page}: {name} is not named"
-    for name in sorted(declared_in(text) - items - functions):
-        if not re.search(rf"\bfn {name}\b", sources):
-            yield f"{page}: {name} is no function"
 
 
 def edits():
@@ -157,12 +148,18 @@ def edits():
     return {os.path.basename(it).split(".")[-2] for it in paths}
 
 
-def wrong_promises():
-    """The wrong bodies that the page of promises leaves out."""
-    text = text_of(PROMISES)
-    for name in sorted(edits()):
-        if not re.search(rf"`{name}`", text):
-            yield f"{PROMISES}: the wrong body {name} is not named"
+def wrong_parts():
+    """The parts of the tests that CONTRIBUTING.md does not name."""
+    page = text_of("CONTRIBUTING.md")
+    for script in sorted(set(re.findall(r'Part\("(tests/[^"]*)"', text_of("tests/run.py")))):
+        if os.path.basename(script) not in page:
+            yield f"CONTRIBUTING.md: {script} is not named"
+
+
+def wrong_pages():
+    """The pages of which a part is not what the sources give."""
+    done = subprocess.run([PAGES, "--check"], cwd=TOP, stdout=subprocess.PIPE, check=False)
+    return done.stdout.decode().splitlines() or ([f"{PAGES} failed"] if done.returncode else [])
 
 
 def wrong_oracle():
@@ -189,13 +186,11 @@ def main():
         text = text_of(page)
         wrong += [*wrong_links(page, text), *wrong_names(page, text, names, targets)]
         count += 1
-    sources = "\n".join(text_of(it) for it in listed if it.endswith(".rt"))
-    made = definitions()
     for path in sorted(glob.glob("crates/*/CALLING.md", root_dir=TOP)):
         crate = path.split("/")[1]
-        wrong += [*wrong_calling(crate, sources), *wrong_clauses(crate, made)]
+        wrong += wrong_calling(crate)
         count += 1
-    wrong += [*wrong_promises(), *wrong_oracle(), *wrong_items()]
+    wrong += [*wrong_parts(), *wrong_pages(), *wrong_oracle(), *wrong_items()]
     for it in wrong:
         print(it)
     failed = len({it.split(":")[0] for it in wrong})

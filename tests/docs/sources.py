@@ -2,7 +2,6 @@
 
 import glob
 import os
-import re
 
 TOP = os.path.normpath(os.path.join(os.path.dirname(os.path.abspath(__file__)), "..", ".."))
 
@@ -21,8 +20,3 @@ def sources_of(crate):
 def crates():
     """The names of all crates."""
     return sorted(path.split("/")[1] for path in glob.glob("crates/*/src", root_dir=TOP))
-
-
-def words_of(text):
-    """The names and other words in a text."""
-    return set(re.findall(r"\w+", text))

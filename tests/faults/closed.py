@@ -19,7 +19,7 @@ from files import TWO_FILE, file_of, text_of
 from refusing import Refusing
 
 PUT = [(b"a", b"1"), (b"b", b"2"), (b"a", b"3")]
-OLD, NEW = TWO_FILE, file_of(PUT)
+OLD, NEW, MADE = TWO_FILE, file_of(PUT), file_of(PUT[:2])
 # `/` and the current folder, of which one is enough to hold a place; and most opens that are refused.
 FOLDERS = 2
 MOST = 5
@@ -39,6 +39,27 @@ def left_by(program, closed, refused):
         done, _ = program.run(["-cw", "x"], text_of(PUT), 1, refused, folder, closed)
         with open(path, "rb") as file:
             return done.returncode, done.stderr, file.read(), os.listdir(folder)
+
+
+def made_by(program, closed, refused):
+    """The status, the lines, the database and the names that a create of a file without duplicates leaves."""
+    with tempfile.TemporaryDirectory() as folder:
+        for name, what in (("x", OLD), ("in", text_of(PUT[:2]))):
+            with open(os.path.join(folder, name), "wb") as file:
+                file.write(what)
+        done, _ = program.run(["-c", "x", "in"], b"", 1, refused, folder, closed)
+        with open(os.path.join(folder, "x"), "rb") as file:
+            return done.returncode, done.stderr, file.read(), sorted(os.listdir(folder))
+
+
+def is_made(closed, refused, made):
+    """Whether that create may leave this: the new database, whatever is closed, or the old one if no place
+    could be held."""
+    if refused <= FOLDERS or made[0] == 0:
+        return made == (0, b"", MADE, ["in", "x"])
+    status, lines, *files = made
+    is_told = lines == b"" if 2 in closed else lines.startswith(b"cdb: ") and lines.count(b"\n") == 1
+    return status == 111 and is_told and files == [OLD, ["in", "x"]]
 
 
 def wanted(closed):
@@ -84,6 +105,12 @@ def main():
         else:
             failed += 1
             print(f"closed {closed}, {refused} opens refused: {left!r:.200}")
+        made = made_by(program, closed, refused)
+        if is_made(closed, refused, made):
+            passed += 1
+        else:
+            failed += 1
+            print(f"closed {closed}, {refused} opens refused, a file's records: {made!r:.200}")
     if is_given_up(program):
         passed += 1
     else:

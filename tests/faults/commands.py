@@ -25,6 +25,11 @@ def lines(count):
     return b"".join(b"key%d value %d\n" % (n % count, n) for n in range(2 * count))
 
 
+def shorter_lines():
+    """The map text of some keys that come again and again, each time with a shorter value."""
+    return b"".join(b"key%d %s\n" % (key, b"v" * (2 * rounds)) for rounds in range(60, 0, -1) for key in range(60))
+
+
 @dataclass
 class Command:
     """A run of the program."""
@@ -32,6 +37,10 @@ class Command:
     words: list
     stdin: bytes = b""
     files: dict = field(default_factory=dict)
+
+    def is_in_place(self):
+        """Whether it makes its database in the file of its name."""
+        return "-t" in self.words
 
 
 RECORDS = records()
@@ -42,6 +51,8 @@ KEPT = {"x": OLD}
 # Some of the records, and the same with one left out, one changed and one added.
 SOME = RECORDS[90:110]
 LATER = [*SOME[1:4], (b"key94", b"again"), *SOME[5:], (b"new", b"one")]
+# Keys that a query looks up, of which one has no value and one a long one.
+KEYS = b"".join(b"+%d:%s\n" % (len(key), key) for key in [*(key for key, _ in RECORDS[90:110]), b"none"]) + b"\n"
 CHANGES = b"-4:key3\n+4,5:key7->again\n+3,3:new->one\n" * 3 + b"\n"
 COMMANDS = {
     "create on output": Command(["-c", "-"], TEXT),
@@ -50,6 +61,7 @@ COMMANDS = {
     "create of a map": Command(["-cm", "x"], lines(40), KEPT),
     "create with warnings": Command(["-cmw", "x"], lines(200), KEPT),
     "create with replacements": Command(["-cmr", "x"], lines(200), KEPT),
+    "create in place that gets shorter": Command(["-cmr", "-t", "-", "x"], shorter_lines(), KEPT),
     "create that stops": Command(["-cme", "x"], lines(40), KEPT),
     "create beside an old temporary file": Command(["-c", "x"], TEXT, {**KEPT, "x.tmp": b"old"}),
     "create with warnings on output": Command(["-cmw", "-"], lines(40)),
@@ -58,6 +70,8 @@ COMMANDS = {
     "wide create": Command(["-cW", "x"], TEXT, KEPT),
     "query": Command(["-q", "x", "key7"], b"", {"x": DATABASE}),
     "query of a line": Command(["-qm", "-n", "1", "x", "key9"], b"", {"x": DATABASE}),
+    "query of many keys": Command(["-q", "-i", "x", "in", "-"], KEYS, {"x": DATABASE, "in": KEYS}),
+    "query of many keys of a map": Command(["-qim", "-n", "1", "x"], b"key7\nkey9 more\nnone\n", {"x": DATABASE}),
     "dump": Command(["-d"], DATABASE),
     "dump of a file": Command(["-d", "x"], b"", {"x": DATABASE}),
     "list": Command(["-lm"], DATABASE),
@@ -68,5 +82,6 @@ COMMANDS = {
     "difference": Command(["-D", "x", "y"], b"", {"x": file_of(SOME), "y": file_of(LATER)}),
     "difference of nothing": Command(["-D", "x", "y"], b"", {"x": file_of(SOME[:3]), "y": file_of(SOME[:3])}),
     "help": Command(["-h"]),
+    "version": Command(["-V"]),
     "bad words": Command(["-Z"]),
 }

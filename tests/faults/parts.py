@@ -28,6 +28,7 @@ SMALL = {
     "a small create in place": Command(["-c", "-t", "-", "x"], TWO_TEXT, KEPT),
     "a small amending": Command(["-c", "-b", "base", "x"], b"-3:one\n\n", {**KEPT, "base": TWO_FILE}),
     "a small query": Command(["-q", "x", "a"], b"", {"x": FOUR_FILE}),
+    "a small query of keys": Command(["-q", "-i", "x"], b"+1:a\n+1:c\n\n", {"x": FOUR_FILE}),
     "a small dump": Command(["-d"], TWO_FILE),
     "a small list": Command(["-l", "x"], b"", {"x": TWO_FILE}),
     "small statistics": Command(["-s"], FOUR_FILE),
@@ -35,6 +36,7 @@ SMALL = {
     "a small check": Command(["-k", "x"], b"", {"x": FOUR_FILE}),
     "a faulty text": Command(["-c", "x"], TWO_TEXT[:-1] + b"*", KEPT),
     "help": COMMANDS["help"],
+    "version": COMMANDS["version"],
     "bad words": COMMANDS["bad words"],
 }
 RUNS = COMMANDS | SMALL

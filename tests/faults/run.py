@@ -8,8 +8,8 @@ The library is refuse.c, built to be loaded ahead of the C library. Each run of 
 once with nothing refused, which counts its asks. Then it is made twice for each of them: with that
 ask refused alone, and with that one and all later ones. It must end as with nothing refused, where
 the ask was not needed; or else by the status 111 and the line of a fault, with a front of its output
-and of its lines, the old database as it was, and no temporary file, unless that could not be
-removed or locked. The line of an ask that is refused alone is one of its own kind. Where the writing
+and of its lines, the old database as it was unless it is made in place, and no temporary file, unless that
+could not be removed or locked. The line of an ask that is refused alone is one of its own kind. Where the writing
 of a line is refused, the line may be missing.
 """
 
@@ -88,10 +88,13 @@ def run(program, command, first=0, last=0):
     return Left(done, files, asks, [it.what for it in calls])
 
 
-def lines_of(left, first, last):
-    """The lines that can tell a refusal: that of memory has its line alone."""
+def lines_of(command, left, first, last):
+    """The lines that can tell a refusal: that of memory has its line alone. A file that is made in place and
+    cannot be emptied is none that was opened."""
     if not left.calls:
         return {NO_MEMORY}
+    if command.is_in_place() and last == first and left.calls[:first].count("cut") == 1 and left.calls[first - 1] == "cut":
+        return {NO_FILE}
     return CALL_LINES[left.calls[first - 1]] if last == first else EACH_LINE
 
 
@@ -108,8 +111,10 @@ def is_silenced(what, errors, free):
 
 def stays(command, left, may_stay):
     """Whether a fault left the files as they were. A temporary file that was there before may be
-    removed, and one may stay whose removal or lock was refused."""
+    removed, and one may stay whose removal or lock was refused. A database that is made in place may be any."""
     before, after = dict(command.files), dict(left.files)
+    if command.is_in_place():
+        before.pop("x"), after.pop("x")
     old, temporary = before.pop("x.tmp", None), after.pop("x.tmp", None)
     return after == before and (may_stay or temporary in (None, old))
 
@@ -118,7 +123,7 @@ def came_of(what, command, left, free, first, last):
     """What came of a refusal, or what is wrong."""
     if left.is_as(free):
         return DONE
-    is_told = tells(lines_of(left, first, last), left.errors, free.errors)
+    is_told = tells(lines_of(command, left, first, last), left.errors, free.errors)
     is_silenced_here = is_silenced(what, left.errors, free.errors)
     # The same answer, of which a line was not written, or a removal not done.
     if is_silenced_here and (left.status, left.output) == (free.status, free.output):

@@ -87,6 +87,26 @@ def conflicts(package):
     return fields == [b"tinycdb", b"tinycdb", b""]
 
 
+def has_fields(program, folder):
+    """Whether a package that somebody publishes says where it comes from, and one that nobody does does not."""
+    wanted = {"Homepage": "https://maps.example/cdb", "Vcs-Git": "https://maps.example/cdb.git", "Maintainer": "Ann <ann@maps.example>"}
+    given = {it.upper().replace("-", "_"): value for it, value in wanted.items()}
+    found = []
+    for environment in (given, dict.fromkeys(given, "")):
+        place = tempfile.mkdtemp(dir=folder)
+        words = [TOOL, "deb", program, place]
+        made = subprocess.run(words, env={**os.environ, **environment}, stdout=subprocess.PIPE, check=True)
+        package = made.stdout.decode().removesuffix("\n").split("  ")[1]
+        found.append([output_of(["dpkg-deb", "--field", package, it]).decode().strip() for it in wanted])
+    return found[0] == list(wanted.values()) and found[1][:2] == ["", ""] and found[1][2] != ""
+
+
+def is_stripped(tree):
+    """Whether the program has no symbols that it does not need."""
+    with open(os.path.join(tree, "usr", "bin", "cdb"), "rb") as file:
+        return b".symtab" not in file.read()
+
+
 def has_no_error(package):
     """Whether lintian finds no error."""
     done = subprocess.run(["lintian", "--allow-root", package], capture_output=True, check=False)
@@ -112,6 +132,8 @@ def tests_of(program, folder):
         "the package has the same bytes each time, and their sum": is_same,
         "the package holds its files": holds_files(tree),
         "the package conflicts with tinycdb": conflicts(package),
+        "the package says who publishes it, if somebody does": has_fields(program, folder),
+        "the program is stripped": is_stripped(tree),
         "bash completes the letters": completes(program, tree),
         "the example runs from the package": runs_example(os.path.join(tree, "usr", "bin", "cdb"), folder),
     }

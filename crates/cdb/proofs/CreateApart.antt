@@ -21,11 +21,11 @@ use Rattle.cdb_tool.specs.Runs.Inputs.{InputsLeft}
 use Rattle.cdb_tool.specs.declared.fault.Fault.{Fault}
 use Rattle.cdb_tool.specs.declared.fault.Fault.TheVariants.{Open}
 use Rattle.cdb_tool.specs.Runs.Made.{Made, made_file, made_of}
-use Rattle.cdb.specs.Created.{Created, base_of, create_of, in_temporary, inputs_of, is_in_place, is_no_name, in_place, is_read, is_standard, placed, unopened}
+use Rattle.cdb.specs.Created.{Created, base_of, create_of, in_temporary, is_in_place, is_no_name, in_place, is_read, placed, unopened}
 use Rattle.cdb.specs.Creating.{IsBufferedRun, AsksAll, Making, OpensAll, Replaces, answer_of, temporary_of}
 use Rattle.cdb.specs.ForetoldCreate.{HadBytes, HoldsAll, HonestCreate, IsNoFailedRemoval, IsNoFailedRename, KeepsAll, LeavesAll, passing, place_of}
 use Rattle.cdb.specs.Opening.{OpenCalls}
-use Rattle.cdb.specs.Oracle.{Disk}
+use Rattle.cdb.specs.Oracle.{Disk, inputs_of, is_standard}
 use Rattle.cdb.specs.declared.system.System.{Ghosts as Systems}
 use Rattle.cdb.proofs.Replaced.{IsGone, KeepsOthers, LeavesOldOrMade, ReplacesSo, at_name, none_appended, not_at, replaces_so, said_nothing}
 use Rattle.cdb.proofs.CreateReads.{Asking, IsQuestion, all_known_by, asked_all, asked_kept, asking_all, moments_first}

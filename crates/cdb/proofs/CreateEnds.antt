@@ -22,13 +22,13 @@ use Rattle.cdb_tool.specs.Runs.Make.{HandsBack}
 use Rattle.cdb_tool.specs.declared.fault.Fault.{Fault}
 use Rattle.cdb_tool.specs.declared.fault.Fault.TheVariants.{NoMemory, Open}
 use Rattle.cdb_tool.specs.Runs.Made.{Made, made_file, made_of}
-use Rattle.cdb.specs.Created.{Created, base_of, both, create_of, each_of, if_opened, in_temporary, input_of, inputs_of, is_base, is_in_place, is_input, is_no_name, in_place, is_read, is_standard, placed, unopened}
+use Rattle.cdb.specs.Created.{Created, base_of, create_of, if_opened, in_temporary, is_base, is_in_place, is_input, is_no_name, in_place, is_read, placed, unopened}
 use Rattle.cdb.specs.Creating.{AsksBase, AsksOne, FindsBase, FindsInput, FindsOne, Making, MayBeOne, NotOpened, Replaces, temporary_of}
 use Rattle.cdb.specs.Foretold.{IsAnswered, if_some}
 use Rattle.cdb.specs.ForetoldCreate.{HadBytes, HasBytes, HoldsAll, IsCreateRefusal, IsNoAlias, IsNoFailedRemoval, IsNoFailedRename, KeepsAll, LeavesAll, passing, place_of}
 use Rattle.cdb.specs.Inputs.{inputs_read, IsStandard, MissesBase}
 use Rattle.cdb.specs.Opening.{OpenCalls, unopened as unopened_fault}
-use Rattle.cdb.specs.Oracle.{Disk}
+use Rattle.cdb.specs.Oracle.{Disk, both, each_of, input_of, inputs_of, is_standard}
 use Rattle.cdb.specs.declared.open_trace.OpenCall.TheVariants.{Unopened}
 use Rattle.cdb.specs.declared.system.System.{Ghosts as Systems}
 use Rattle.cdb.proofs.Replaced.{none_appended, said_nothing}
@@ -204,7 +204,7 @@ missing_each : (disk : Disk) (first : List (List ℕ)) (name : List ℕ) (more :
 missing_each disk [] name more e = ap (λ o. both (λ p ps. p ∷ ps) o (each_of disk more)) e
 missing_each disk (n ∷ first) name more e = ap (λ o. both (λ p ps. p ∷ ps) (input_of disk n) o) (missing_each disk first name more e) ∙ both_none (λ p ps. p ∷ ps) (input_of disk n)
 
-missing_inputs : (disk : Disk) (names first : List (List ℕ)) (name : List ℕ) (more : List (List ℕ)) → names ≡ first ++ name ∷ more → input_of disk name ≡ None → inputs_of disk names ≡ None
+pub missing_inputs : (disk : Disk) (names first : List (List ℕ)) (name : List ℕ) (more : List (List ℕ)) → names ≡ first ++ name ∷ more → input_of disk name ≡ None → inputs_of disk names ≡ None
 missing_inputs disk [] [] name more e h = absurd (let no : ◌≡◌ {A = List (List ℕ)} [] (name ∷ more) = e in cc)
 missing_inputs disk [] (n ∷ first) name more e h = absurd (let no : ◌≡◌ {A = List (List ℕ)} [] (n ∷ (first ++ name ∷ more)) = e in cc)
 missing_inputs disk (n ∷ names) first name more e h = ap (each_of disk) e ∙ missing_each disk first name more h
@@ -227,7 +227,7 @@ head_answered s remaining y disk read old mid new calls cause name e before is a
     let answered = (subst (AllByRecursion (λ c. IsAnswered s remaining y disk (if_some read) c.0 c.1)) split all).0 in
     subst (λ v. IsAnswered s remaining y disk (if_some read) (Unopened v) name) failed answered
 
-input_missing : (disk : Disk) (name : List ℕ) → (IsStandard name → ⊥) → disk name ≡ None → input_of disk name ≡ None
+pub input_missing : (disk : Disk) (name : List ℕ) → (IsStandard name → ⊥) → disk name ≡ None → input_of disk name ≡ None
 input_missing disk name other e = cond-false (is_standard name) _ _ (standard_not name other) ∙ ap (option_map (λ b. Some b)) e
 
 base_missed : {F I M Y : Type 0} (s : Ghosts F) (remaining : I → Option (List ℕ)) (y : Systems Y F I M) (w g : ℕ) (disk : Disk) (input name : List ℕ) (base : Option (List ℕ)) (inputs : List (List ℕ)) (temporary : Option (List ℕ)) (o : MakeOptions) (old new calls : OpenCalls) (read : Option F) (start end told said : Option (List ℕ)) (fault : Fault)

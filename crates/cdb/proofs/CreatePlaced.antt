@@ -20,11 +20,11 @@ use Rattle.cdb_tool.specs.declared.fault.Fault.{Fault}
 use Rattle.cdb_tool.specs.declared.fault.Fault.TheVariants.{Make}
 use Rattle.cdb_tool.specs.Runs.Made.{Made, made_file, made_of}
 use Rattle.cdb_tool.specs.Runs.MakesSo.{Known}
-use Rattle.cdb.specs.Created.{Created, base_of, both, create_of, if_opened, inputs_of, is_in_place, in_place, is_read, is_standard, on_output, placed, unopened}
+use Rattle.cdb.specs.Created.{Created, base_of, create_of, if_opened, is_in_place, in_place, is_read, on_output, placed, unopened}
 use Rattle.cdb.specs.Creating.{HasDatabase, IsBufferedRun, IsRun, MakesEmptied, MakesOnOutput, Syncs, WritesAll, AsksAll, Making, OpensAll}
 use Rattle.cdb.specs.ForetoldCreate.{HoldsAll, HonestCreate, IsCreateRefusal, IsNoFailedRename, KeepsAll, passing}
 use Rattle.cdb.specs.Opening.{Empties, MissesEmptying, OpenCalls, unopened as unopened_fault}
-use Rattle.cdb.specs.Oracle.{Disk}
+use Rattle.cdb.specs.Oracle.{Disk, both, inputs_of, is_standard}
 use Rattle.cdb.specs.declared.open_trace.OpenCall.TheVariants.{Emptied, Locked, ToEmpty}
 use Rattle.cdb.specs.declared.system.System.{Ghosts as Systems}
 use Rattle.cdb.specs.declared.left.Left.{Left}

@@ -17,13 +17,13 @@ use Rattle.cdb_tool.specs.declared.inputs.Turn.{Turn}
 use Rattle.cdb_tool.specs.declared.inputs.Turn.TheVariants.{Own, Shared}
 use Rattle.cdb_tool.specs.Runs.Inputs as form
 use Rattle.cdb_tool.specs.Runs.MakesSo.{EachOfBytes, Known, KnownFor, one_input}
-use Rattle.cdb.specs.Created.{base_of, both, each_of, input_of, inputs_of, is_base, is_input, is_read, is_standard}
+use Rattle.cdb.specs.Created.{base_of, is_base, is_input, is_read}
 use Rattle.cdb.specs.Creating.{AsksAll, AsksBase, AsksEach, AsksOne, FindsBase, FindsInput, FindsOne, OpensAll}
-use Rattle.cdb.specs.Foretold.{IsAnswered, Reveals, Shows, if_some}
-use Rattle.cdb.specs.ForetoldCreate.{IsNoAlias, IsOfBytes, LeavesAll, place_of}
+use Rattle.cdb.specs.Foretold.{IsAnswered, Reveals, Shows, if_some, IsOfBytes}
+use Rattle.cdb.specs.ForetoldCreate.{IsNoAlias, LeavesAll, place_of}
 use Rattle.cdb.specs.Inputs.{inputs_read, IsStandard, OpensBase, OpensEach, OpensInput, OpensInputs}
 use Rattle.cdb.specs.Opening.{OpenCalls}
-use Rattle.cdb.specs.Oracle.{Disk}
+use Rattle.cdb.specs.Oracle.{Disk, both, each_of, input_of, inputs_of, is_standard}
 use Rattle.cdb.specs.declared.open_trace.OpenCall.TheVariants.{AtPlaces, InTurn}
 use Rattle.cdb.specs.declared.system.System.{Ghosts as Systems}
 use Rattle.cdb.proofs.Replaced.{BaseHas}
@@ -155,7 +155,7 @@ inputs_grow : {F I M Y : Type 0} (y : Systems Y F I M) (names : List (List ℕ))
 inputs_grow y [] turns old new h = ([], h.1)
 inputs_grow y (name ∷ names) turns old new h = grows y (name ∷ names) turns old new h
 
-inputs_known : {F I M Y : Type 0} (s : Ghosts F) (remaining : I → Option (List ℕ)) (y : Systems Y F I M) (disk : Disk) (read : Option F) (names : List (List ℕ)) (turns : List (Turn I)) (old new calls : OpenCalls) → ((name : List ℕ) → IfSome (disk name) AreBytes) → OpensInputs y names turns old new
+pub inputs_known : {F I M Y : Type 0} (s : Ghosts F) (remaining : I → Option (List ℕ)) (y : Systems Y F I M) (disk : Disk) (read : Option F) (names : List (List ℕ)) (turns : List (Turn I)) (old new calls : OpenCalls) → ((name : List ℕ) → IfSome (disk name) AreBytes) → OpensInputs y names turns old new
     → new ≡ calls ++ old → AllByRecursion (λ c. IsAnswered s remaining y disk (if_some read) c.0 c.1) calls → (files : List (Option (List ℕ))) × (inputs_of disk names ≡ Some files) × (map (one_of remaining) turns ≡ map one_input files) × EachOfBytes files
 inputs_known s remaining y disk read [] turns old new calls bytes h e all = (None ∷ [], refl, ap (map (one_of remaining)) h.0, tt)
 inputs_known s remaining y disk read (name ∷ names) turns old new calls bytes h e all =

@@ -4,7 +4,7 @@ use Rattle.std.specs.Prelude.{OnOk, OnErr}
 use Rattle.std.specs.Io.KnownBytes.{Keeps}
 use Rattle.std.proofs.KnownBytes.{Appends-kept, Keeps-trans}
 use Rattle.cdb_command.specs.Asked.{Asked}
-use Rattle.cdb_command.specs.declared.usage.Usage.{Usage}
+use Rattle.cdb_command.specs.Refused.{Refused}
 use Rattle.cdb_files.specs.Folder.{NameCalls}
 use Rattle.cdb_files.specs.Replacing.{Tells}
 use Rattle.cdb_files.specs.declared.replace.ReplaceFault.{ReplaceFault}
@@ -18,7 +18,7 @@ use Rattle.cdb_tool.specs.Runs.Make as run
 use Rattle.cdb_tool.specs.declared.fault.Fault.{Fault}
 use Rattle.cdb_tool.proofs.WholeRuns.{prefix_kept}
 use Rattle.cdb.specs.Creating.{Making, HasDatabase, IsBufferedRun, IsDatabase, IsRun, Syncs}
-use Rattle.cdb.specs.Performs.{Says, SaysLine, Runs, usage_line}
+use Rattle.cdb.specs.Performs.{Says, SaysLine, Runs, refused_lines}
 use Rattle.cdb.specs.declared.left.Left.{Left}
 use Rattle.cdb.specs.declared.system.System.{Ghosts as Systems}
 
@@ -97,10 +97,10 @@ says_kept : (result : Result Unit Fault) (more : List ℕ) (told mid said : Opti
 says_kept (Ok done) more told mid said was is stays h k = Keeps-trans told mid said h k
 says_kept (Err fault) more told mid said was is stays h k = line_kept (fault_line fault ++ more) told mid said was is stays h k
 
-pub run_kept : {F I M R Y : Type 0} (s : Ghosts F) (m : Ghosts M) (r : Raw R) (remaining : I → Option (List ℕ)) (y : Systems Y F I M) (planned : Result Asked Usage) (explained : Bool) (input : Option (List ℕ)) (old new : Y) (was now : NameCalls) (left : Left F M) (start end final told mid said : Option (List ℕ)) (unwritten before after : Type 0) (status : ℕ)
+pub run_kept : {F I M R Y : Type 0} (s : Ghosts F) (m : Ghosts M) (r : Raw R) (remaining : I → Option (List ℕ)) (y : Systems Y F I M) (planned : Result Asked Refused) (explained : Bool) (input : Option (List ℕ)) (old new : Y) (was now : NameCalls) (left : Left F M) (start end final told mid said : Option (List ℕ)) (unwritten before after : Type 0) (status : ℕ)
     → Runs s m r remaining y planned explained input old new was now left start end final told mid unwritten before status → (before → after) → Keeps mid said → Runs s m r remaining y planned explained input old new was now left start end final told said unwritten after status
 run_kept s m r remaining y planned explained input old new was now left start end final told mid said unwritten before after status h stays k = elim h as (λ _. Runs s m r remaining y planned explained input old new was now left start end final told said unwritten after status) [
-  | inl none ↦ inl (record { usage = none.usage; why = none.why; line = line_kept (usage_line none.usage) told mid said before after stays none.line k; untouched = none.untouched; none = none.none; same = none.same; kept = none.kept; is_status = none.is_status })
+  | inl none ↦ inl (record { refused = none.refused; why = none.why; line = line_kept (refused_lines explained none.refused) told mid said before after stays none.line k; untouched = none.untouched; none = none.none; same = none.same; kept = none.kept; is_status = none.is_status })
   | inr some ↦
       inr (record {
         command = some.command;

@@ -1,5 +1,7 @@
 mod Databases
 mod Opens
+mod Coming
+mod ManyKeys
 mod Oracles
 mod Explained
 mod Replaced
@@ -8,4 +10,5 @@ mod CreateEnds
 mod CreateApart
 mod CreatePlaced
 mod Creates
+mod NamedCreates
 mod RunCreates

@@ -1,9 +1,9 @@
 -- That a run comes to what the oracle says, from what each command does.
 use Rattle.std.proofs.Common.{ℕ, Bool, ◌⊎◌, true, false, ◌<◌, ◌≤◌, List, [], ◌∷◌, ◌++◌, length, flat_map, Option, Some, None, IfSome, Result, Ok, Err, ◌≡◌, ◌∙◌, ap, inl, inr, refl, subst, sym, arith, append_assoc}
-use Rattle.std.specs.Prelude.{nat_lt, IfOk, if◌then◌else◌, string_bytes}
+use Rattle.std.specs.Prelude.{map, nat_lt, IfOk, if◌then◌else◌, string_bytes}
 use Rattle.std.proofs.lemmas.Bool.{cond-true, cond-false, lt-ltb, le-ltb}
 use Rattle.std.proofs.lemmas.Grind.{flat_map-append}
-use Rattle.std.proofs.lemmas.List.{append-nil, append_cancel_right}
+use Rattle.std.proofs.lemmas.List.{append-nil}
 use Rattle.std.specs.Io.KnownBytes.{Keeps, Appends, append_known}
 use Rattle.std.proofs.KnownBytes.{Appends-kept, Keeps-refl, Keeps-trans}
 use Rattle.cdb_form.proofs.Bytes.WritingLemmas.{same_appends}
@@ -15,17 +15,16 @@ use Rattle.cdb_form.specs.Text.Amending.{amending_text}
 use Rattle.cdb_form.specs.declared.damage.Damage.{Damage}
 use Rattle.cdb_form.specs.declared.damage.Damage.TheVariants as damage
 use Rattle.cdb_form.specs.declared.damage.Damage.TheVariants.{Short}
+use Rattle.cdb_form.specs.declared.text.fault.TextFault.TheVariants as text
 use Rattle.cdb_form.specs.declared.walk.fault.WalkFault.TheVariants as walk
 use Rattle.cdb_command.specs.Asked.{Asked, asked_in, has_wide_words}
 use Rattle.cdb_command.specs.Asked as asked
 use Rattle.cdb_command.specs.Usage.{usage_text, version_text}
-use Rattle.cdb_command.specs.declared.usage.Usage.{Usage}
+use Rattle.cdb_command.specs.Refused.{Refused, usage_of}
 use Rattle.cdb_command.specs.declared.command.Command.{Command}
 use Rattle.cdb_command.specs.declared.command.Command.TheVariants as command
 use Rattle.cdb_files.specs.Folder.{NameCalls}
 use Rattle.cdb_files.specs.declared.answer.Answer.TheVariants as looks
-use Rattle.cdb_files.specs.declared.name_fault.NameFault.{NameFault}
-use Rattle.cdb_files.specs.declared.name_fault.NameFault.TheVariants as why
 use Rattle.cdb_read.proofs.Walked.Walks.{walk_head}
 use Rattle.cdb_read.proofs.WholeFiles.FaultLaws.{sound_is_no_damage}
 use Rattle.cdb_read.specs.Faults.{first_fault}
@@ -54,119 +53,33 @@ use Rattle.cdb_tool.proofs.WholeRuns.{prefix_kept}
 use Rattle.cdb_tool.specs.declared.fault.Fault.{Fault}
 use Rattle.cdb_tool.specs.declared.fault.Fault.TheVariants.{Text, Make, Duplicate, Missing, Read, Walk, Output, Long, Open, Rename, NoMemory, Old, New, NoOldTables, NoNewTables}
 use Rattle.cdb.specs.Created.{foretell}
-use Rattle.cdb.specs.Foretold.{IsInOrder, AreAnswered, AsksNeither, ComesTrue, Honest, IsAnswered, IsForetold, IsRefusal, IsRefused, IsTaken, MayFail, Reveals, Shows, reads_in_turn, stores_in, writes_output}
-use Rattle.cdb.specs.Opening.{OpenCalls, unopened}
+use Rattle.cdb.specs.Foretold.{IsInOrder, AsksNoCreate, ComesTrue, Database, Honest, IsForetold, IsRefusal, IsRefused, IsTaken, MayFail, Nothing, Reading, Reveals, Shows, reads_in_turn, stores_in, writes_output}
+use Rattle.cdb.proofs.Coming.{Comes, EachAnswered, IsSized, comes_so, each_answered, gives_none, gives_up, long_is, no_prefix, nothing_written, of_shown, output_of, refused_so, short_is}
+use Rattle.cdb.proofs.ManyKeys.{lookups_foretold}
 use Rattle.cdb.specs.Oracle.{Disk, Outcome, check_outcome, command_outcome, difference_outcome, ended, met, of_file, oracle, query_outcome, short_or, stats_outcome, text_outcome, unless_damaged}
-use Rattle.cdb.specs.Performs.{ChecksStore, HandsOn, IsUntouched, LacksMemory, PerformsDifference, PerformsIn, PerformsOn, PerformsQuery, PerformsText, Refuses, Runs, SaysLine, Takes, Tells, WritesText, status_of, usage_line, usage_status}
+use Rattle.cdb.specs.Performs.{ChecksStore, HandsOn, IsUntouched, LacksMemory, PerformsDifference, PerformsIn, PerformsOn, PerformsQuery, PerformsText, Runs, SaysLine, Takes, Tells, WritesText, refused_lines, status_of, usage_line, usage_status}
 use Rattle.cdb.proofs.Explained.{SaysOnly, says_only}
 use Rattle.cdb.specs.declared.left.Left.{Left}
 use Rattle.cdb.specs.declared.open_trace.OpenCall.TheVariants.{AtPlaces, InTurn, Stream, Unopened}
 use Rattle.cdb.specs.declared.system.System.{Ghosts as Systems}
 
--- ---- a command whose faults have these statuses, before its output is handed on
-
--- it wrote and answered what was said
-record Does (status : Fault → ℕ) (o : Outcome) (start end : Option (List ℕ)) (result : Result Unit Fault) : Type 0 where
-  is : ended status o.output result ≡ o
-  written : Appends start end o.output
-
--- or it was refused something
-record GivesUp (writes reads : Bool) (o : Outcome) (start end : Option (List ℕ)) (result : Result Unit Fault) : Type 0 where
-  fault : Fault
-  is : result ≡ Err fault
-  refusal : IsRefusal writes reads fault
-  written : AppendsPrefix start end o.output
-
-abbrev Comes : (writes reads : Bool) → (Fault → ℕ) → Outcome → (start end : Option (List ℕ)) → Result Unit Fault → Type 0
-Comes writes reads status o start end result = Does status o start end result ⊎ GivesUp writes reads o start end result
-
-ended_twice : (status : Fault → ℕ) (text : List ℕ) (result : Result Unit Fault) → ended status (ended status text result).output result ≡ ended status text result
-ended_twice status text (Ok done) = refl
-ended_twice status text (Err fault) = refl
-
-output_of : (status : Fault → ℕ) (text : List ℕ) (result : Result Unit Fault) → (ended status text result).output ≡ text
-output_of status text (Ok done) = refl
-output_of status text (Err fault) = refl
-
--- it wrote this text, and answered so
-comes_so : (writes reads : Bool) (status : Fault → ℕ) (o : Outcome) (text : List ℕ) (start end : Option (List ℕ)) (result : Result Unit Fault) → o ≡ ended status text result → Appends start end text → Comes writes reads status o start end result
-comes_so writes reads status o text start end result e h =
-    subst (λ o. Comes writes reads status o start end result) (sym e) (inl (record {
-      is = ended_twice status text result;
-      written = same_appends start end text _ (sym (output_of status text result)) h;
-    }))
-
-nothing_written : (start end : Option (List ℕ)) → Keeps start end → Appends start end []
-nothing_written None end k = tt
-nothing_written (Some xs) None k = absurd k
-nothing_written (Some xs) (Some ys) k = k ∙ sym (append-nil xs)
-
-gives_up : (writes reads : Bool) (status : Fault → ℕ) (o : Outcome) (start end : Option (List ℕ)) (fault : Fault) → IsRefusal writes reads fault → AppendsPrefix start end o.output → Comes writes reads status o start end (Err fault)
-gives_up writes reads status o start end fault refusal h = inr (record { fault = fault; is = refl; refusal = refusal; written = h })
-
-no_prefix : (o : Outcome) (start end : Option (List ℕ)) → Keeps start end → AppendsPrefix start end o.output
-no_prefix o start end k = record { front = []; more = o.output; split = refl; appended = nothing_written start end k }
-
-gives_none : (writes reads : Bool) (status : Fault → ℕ) (o : Outcome) (start end : Option (List ℕ)) (fault : Fault) → IsRefusal writes reads fault → Keeps start end → Comes writes reads status o start end (Err fault)
-gives_none writes reads status o start end fault refusal k = gives_up writes reads status o start end fault refusal (no_prefix o start end k)
-
--- ---- the calls
-
--- those of a run, whichever list has them
-abbrev EachAnswered : {F I M Y : Type 0} → Ghosts F → (I → Option (List ℕ)) → Systems Y F I M → Disk → List F → (old new : OpenCalls) → Type 0
-EachAnswered s remaining y disk stores old new = (calls : OpenCalls) → new ≡ calls ++ old → AreAnswered s remaining y disk calls stores
-
-each_answered : {F I M Y : Type 0} (s : Ghosts F) (remaining : I → Option (List ℕ)) (y : Systems Y F I M) (disk : Disk) (stores : List F) (old new calls : OpenCalls) → new ≡ calls ++ old → AreAnswered s remaining y disk calls stores → EachAnswered s remaining y disk stores old new
-each_answered s remaining y disk stores old new calls is h = λ others are. subst (λ c. AreAnswered s remaining y disk c stores) (append_cancel_right calls others old (sym is ∙ are)) h
-
--- a file that was not opened
-missed_so : {F I M Y : Type 0} (writes reads : Bool) (s : Ghosts F) (remaining : I → Option (List ℕ)) (y : Systems Y F I M) (status : Fault → ℕ) (name : List ℕ) (disk : Disk) (stores : List F) (outcome : List ℕ → Outcome) (why : NameFault) (start end : Option (List ℕ)) → 111 ≡ status Open → IsAnswered s remaining y disk stores (Unopened why) name → Keeps start end
-    → Comes writes reads status (of_file (disk name) outcome) start end (Err (unopened why))
-missed_so writes reads s remaining y status name disk stores outcome why.Failed start end plain none k =
-    comes_so writes reads status _ [] start end (Err Open) (ap (λ file. of_file file outcome) none ∙ ap (λ n. record { status = n; output = []; lines = fault_line Open }) plain) (nothing_written start end k)
-missed_so writes reads s remaining y status name disk stores outcome why.NoMemory start end plain none k = gives_none writes reads status _ start end NoMemory tt k
-
-refused_so : {F I M Y : Type 0} (writes reads : Bool) (s : Ghosts F) (remaining : I → Option (List ℕ)) (y : Systems Y F I M) (status : Fault → ℕ) (name : List ℕ) (disk : Disk) (stores : List F) (outcome : List ℕ → Outcome) (old new more : OpenCalls) (start end : Option (List ℕ)) (result : Result Unit Fault) → 111 ≡ status Open → EachAnswered s remaining y disk stores old new → Refuses name (more ++ old) new start end result
-    → Comes writes reads status (of_file (disk name) outcome) start end result
-refused_so writes reads s remaining y status name disk stores outcome old new more start end result plain answers refuses =
-    let m = refuses.misses in
-    let answer = (answers ((Unopened m.why, name) ∷ more) m.calls).0 in
-    subst (Comes writes reads status (of_file (disk name) outcome) start end) (sym (refuses.is ∙ ap (λ f. Err f) m.is))
-    (missed_so writes reads s remaining y status name disk stores outcome m.why start end plain answer refuses.kept)
-
--- each image of a store has its length
-abbrev IsSized : {S : Type 0} → Ghosts S → Type 0
-IsSized s = (store : _) → (b : List ℕ) → s.image store b → length b ≡ s.size store
-
--- what a file shows is what is done with its bytes
-of_shown : {F : Type 0} (writes reads : Bool) (s : Ghosts F) (status : Fault → ℕ) (file : Option (List ℕ)) (last : F) (others : List F) (outcome : List ℕ → Outcome) (start end : Option (List ℕ)) (result : Result Unit Fault) → Shows s file (last ∷ others) → ((bytes : List ℕ) → s.image last bytes → s.failures last ≡ 0 → Comes writes reads status (outcome bytes) start end result)
-    → Comes writes reads status (of_file file outcome) start end result
-of_shown writes reads s status None last others outcome start end result shows h = absurd shows
-of_shown writes reads s status (Some bytes) last others outcome start end result shows h = h bytes shows.0 shows.1
-
 -- ---- query
 
-short_is : {A : Type 0} (w : ℕ) (bytes : List ℕ) (x y : A) → length bytes < head_size w → (if nat_lt (length bytes) (head_size w) then x else y) ≡ x
-short_is w bytes x y h = cond-true (nat_lt (length bytes) (head_size w)) x y (lt-ltb (length bytes) (head_size w) h)
-
-long_is : {A : Type 0} (w : ℕ) (bytes : List ℕ) (x y : A) → head_size w ≤ length bytes → (if nat_lt (length bytes) (head_size w) then x else y) ≡ y
-long_is w bytes x y h = cond-false (nat_lt (length bytes) (head_size w)) x y (le-ltb (length bytes) (head_size w) h)
-
 -- a look-up answered
-query_answered : {S : Type 0} (w : ℕ) (s : Ghosts S) (q : Query) (store : S) (bytes : List ℕ) (start end : Option (List ℕ)) (answer : Result Unit Fault) → s.image store bytes → length bytes ≡ s.size store → Answers w s q store start end answer → Comes true false plain_status (query_outcome w q bytes) start end answer
+query_answered : {S : Type 0} (w : ℕ) (s : Ghosts S) (q : Query) (store : S) (bytes : List ℕ) (start end : Option (List ℕ)) (answer : Result Unit Fault) → s.image store bytes → length bytes ≡ s.size store → Answers w s q store start end answer → Comes true Nothing plain_status (query_outcome w q bytes) start end answer
 query_answered w s q store bytes start end answer is size h =
     let long = subst (λ n. head_size w ≤ n) (sym size) h.long in
-    comes_so true false plain_status _ (query_text w bytes q) start end answer
+    comes_so true Nothing plain_status _ (query_text w bytes q) start end answer
     (long_is w bytes _ _ long ∙ ap (ended plain_status (query_text w bytes q)) (sym (h.answered bytes is)))
     (h.written bytes is)
 
-query_ended : {S : Type 0} (w : ℕ) (s : Ghosts S) (q : Query) (file last : S) (bytes : List ℕ) (start end : Option (List ℕ)) (fault : Fault) → s.image last bytes → length bytes ≡ s.size last → s.failures last ≡ 0 → QueryFails w s q file last start end fault → Comes true false plain_status (query_outcome w q bytes) start end (Err fault)
+query_ended : {S : Type 0} (w : ℕ) (s : Ghosts S) (q : Query) (file last : S) (bytes : List ℕ) (start end : Option (List ℕ)) (fault : Fault) → s.image last bytes → length bytes ≡ s.size last → s.failures last ≡ 0 → QueryFails w s q file last start end fault → Comes true Nothing plain_status (query_outcome w q bytes) start end (Err fault)
 query_ended w s q file last bytes start end Missing is size works h = query_answered w s q last bytes start end (Err Missing) is size h
 query_ended w s q file last bytes start end (Read (read.Table n)) is size works h = query_answered w s q last bytes start end _ is size h
 query_ended w s q file last bytes start end (Read (read.Record place)) is size works h = query_answered w s q last bytes start end _ is size h
 query_ended w s q file last bytes start end (Read read.Short) is size works h =
     let short = subst (λ n. n < head_size w) (sym (size ∙ ap s.size h.unread)) h.short in
-    comes_so true false plain_status _ [] start end (Err (Read read.Short)) (short_is w bytes _ _ short) (nothing_written start end h.kept)
+    comes_so true Nothing plain_status _ [] start end (Err (Read read.Short)) (short_is w bytes _ _ short) (nothing_written start end h.kept)
 query_ended w s q file last bytes start end (Read read.Device) is size works h = absurd (omega (arith, h.0, works))
 query_ended w s q file last bytes start end (Read (read.Slot n i)) is size works h = absurd h
 query_ended w s q file last bytes start end (Read (read.Twice place)) is size works h = absurd h
@@ -176,7 +89,7 @@ query_ended w s q file last bytes start end (Read read.Output) is size works h =
 query_ended w s q file last bytes start end Output is size works h =
     let long = subst (λ n. head_size w ≤ n) (sym size) h.0 in
     let text = ap (λ (o : Outcome). o.output) (long_is w bytes _ _ long) ∙ output_of plain_status (query_text w bytes q) (query_answer w bytes q) in
-    gives_up true false plain_status _ start end Output refl (subst (AppendsPrefix start end) (sym text) (h.1.written bytes is))
+    gives_up true Nothing plain_status _ start end Output refl (subst (AppendsPrefix start end) (sym text) (h.1.written bytes is))
 query_ended w s q file last bytes start end (Text input fault) is size works h = absurd h
 query_ended w s q file last bytes start end (Make fault) is size works h = absurd h
 query_ended w s q file last bytes start end Duplicate is size works h = absurd h
@@ -190,17 +103,17 @@ query_ended w s q file last bytes start end NoMemory is size works h = absurd h
 query_ended w s q file last bytes start end (Old fault) is size works h = absurd h
 query_ended w s q file last bytes start end (New fault) is size works h = absurd h
 
-query_comes : {S : Type 0} (w : ℕ) (s : Ghosts S) (q : Query) (file last : S) (bytes : List ℕ) (start end : Option (List ℕ)) (result : Result Unit Fault) → s.image last bytes → length bytes ≡ s.size last → s.failures last ≡ 0 → Queries w s q file last start end result → Comes true false plain_status (query_outcome w q bytes) start end result
+query_comes : {S : Type 0} (w : ℕ) (s : Ghosts S) (q : Query) (file last : S) (bytes : List ℕ) (start end : Option (List ℕ)) (result : Result Unit Fault) → s.image last bytes → length bytes ≡ s.size last → s.failures last ≡ 0 → Queries w s q file last start end result → Comes true Nothing plain_status (query_outcome w q bytes) start end result
 query_comes w s q file last bytes start end (Ok done) is size works h = query_answered w s q last bytes start end (Ok tt) is size h.ok
 query_comes w s q file last bytes start end (Err fault) is size works h = query_ended w s q file last bytes start end fault is size works h.err
 
 query_foretold : {F I M Y : Type 0} (remaining : I → Option (List ℕ)) (w : ℕ) (s : Ghosts F) (y : Systems Y F I M) (name : List ℕ) (q : Query) (disk : Disk) (old new : Y) (left : Left F M) (start end : Option (List ℕ)) (result : Result Unit Fault) → IsSized s → EachAnswered s remaining y disk (stores_in left) (y.calls old) (y.calls new)
-    → PerformsQuery w s y name q old new left start end result → Comes true false plain_status (of_file (disk name) (query_outcome w q)) start end result
+    → PerformsQuery w s y name q old new left start end result → Comes true Nothing plain_status (of_file (disk name) (query_outcome w q)) start end result
 query_foretold remaining w s y name q disk old new left start end result sized answers (inl none) =
-    refused_so true false s remaining y plain_status name disk (stores_in left) (query_outcome w q) (y.calls old) (y.calls new) [] start end result refl answers none.1
+    refused_so true Nothing s remaining y plain_status name disk (stores_in left) (query_outcome w q) (y.calls old) (y.calls new) [] start end result refl answers none.1
 query_foretold remaining w s y name q disk old new left start end result sized answers (inr some) =
     let file = some.1 in
-    of_shown true false s plain_status (disk name) file.last [] (query_outcome w q) start end result (subst (λ l. EachAnswered s remaining y disk (stores_in l) (y.calls old) (y.calls new)) file.is_last answers ((AtPlaces, name) ∷ []) some.0).0
+    of_shown true Nothing s plain_status (disk name) file.last [] (query_outcome w q) start end result (subst (λ l. EachAnswered s remaining y disk (stores_in l) (y.calls old) (y.calls new)) file.is_last answers ((AtPlaces, name) ∷ []) some.0).0
     (λ bytes is works. query_comes w s q file.file file.last bytes start end result is (sized file.last bytes is) works file.queries)
 
 -- ---- dump and list
@@ -215,10 +128,10 @@ first_written form records first more ending e =
 text_output : (w : ℕ) (form : Form) (bytes : List ℕ) → (text_outcome w form bytes).output ≡ walk_text form (walk_of w bytes)
 text_output w form bytes = output_of plain_status (walk_text form (walk_of w bytes)) (met (walk_of w bytes).damage)
 
-text_walked : (w : ℕ) (form : Form) (bytes : List ℕ) (damage : Option Damage) (start end : Option (List ℕ)) (result : Result Unit Fault) → ((text : List ℕ) → ended plain_status text (met damage) ≡ ended plain_status text result) → Writes w form (Some bytes) damage start end → Comes true true plain_status (text_outcome w form bytes) start end result
+text_walked : (w : ℕ) (form : Form) (bytes : List ℕ) (damage : Option Damage) (start end : Option (List ℕ)) (result : Result Unit Fault) → ((text : List ℕ) → ended plain_status text (met damage) ≡ ended plain_status text result) → Writes w form (Some bytes) damage start end → Comes true Database plain_status (text_outcome w form bytes) start end result
 text_walked w form bytes damage start end result same h =
     let text = walk_text form h.walked in
-    comes_so true true plain_status _ text start end result
+    comes_so true Database plain_status _ text start end result
     (ap (λ k. ended plain_status (walk_text form k) (met k.damage)) h.is ∙ ap (λ d. ended plain_status text (met d)) h.ends ∙ same text)
     h.appended
 
@@ -235,14 +148,14 @@ text_first w form bytes rest start end h =
 text_prefix : (w : ℕ) (form : Form) (bytes : List ℕ) (start end : Option (List ℕ)) → WritesPrefix w form (Some bytes) start end → AppendsPrefix start end (text_outcome w form bytes).output
 text_prefix w form bytes start end h = subst (AppendsPrefix start end) (sym (text_output w form bytes ∙ ap (walk_text form) h.is)) h.appended
 
-text_ended : (w : ℕ) (form : Form) (bytes : List ℕ) (rest start end : Option (List ℕ)) (fault : Fault) → WritingFails w form (Some bytes) rest start end fault → Comes true true plain_status (text_outcome w form bytes) start end (Err fault)
+text_ended : (w : ℕ) (form : Form) (bytes : List ℕ) (rest start end : Option (List ℕ)) (fault : Fault) → WritingFails w form (Some bytes) rest start end fault → Comes true Database plain_status (text_outcome w form bytes) start end (Err fault)
 text_ended w form bytes rest start end (Walk walk.Short) h = text_walked w form bytes _ start end _ (λ text. refl) h
 text_ended w form bytes rest start end (Walk (walk.Table n)) h = text_walked w form bytes _ start end _ (λ text. refl) h
 text_ended w form bytes rest start end (Walk (walk.Record place)) h = text_walked w form bytes _ start end _ (λ text. refl) h
-text_ended w form bytes rest start end (Walk walk.Input) h = gives_up true true plain_status _ start end _ refl (text_first w form bytes rest start end h)
+text_ended w form bytes rest start end (Walk walk.Input) h = gives_up true Database plain_status _ start end _ refl (text_first w form bytes rest start end h)
 text_ended w form bytes rest start end (Walk walk.NoMemory) h = absurd h
-text_ended w form bytes rest start end NoMemory h = gives_up true true plain_status _ start end _ tt (text_first w form bytes rest start end h)
-text_ended w form bytes rest start end Output h = gives_up true true plain_status _ start end _ refl (text_prefix w form bytes start end h)
+text_ended w form bytes rest start end NoMemory h = gives_up true Database plain_status _ start end _ tt (text_first w form bytes rest start end h)
+text_ended w form bytes rest start end Output h = gives_up true Database plain_status _ start end _ refl (text_prefix w form bytes start end h)
 text_ended w form bytes rest start end (Text input fault) h = absurd h
 text_ended w form bytes rest start end (Make fault) h = absurd h
 text_ended w form bytes rest start end Duplicate h = absurd h
@@ -256,22 +169,22 @@ text_ended w form bytes rest start end NoNewTables h = absurd h
 text_ended w form bytes rest start end (Old fault) h = absurd h
 text_ended w form bytes rest start end (New fault) h = absurd h
 
-text_comes : (w : ℕ) (form : Form) (bytes : List ℕ) (start end : Option (List ℕ)) (result : Result Unit Fault) → WritesText w form (Some bytes) start end result → Comes true true plain_status (text_outcome w form bytes) start end result
+text_comes : (w : ℕ) (form : Form) (bytes : List ℕ) (start end : Option (List ℕ)) (result : Result Unit Fault) → WritesText w form (Some bytes) start end result → Comes true Database plain_status (text_outcome w form bytes) start end result
 text_comes w form bytes start end (Ok done) h = text_walked w form bytes None start end (Ok tt) (λ text. refl) h.walk.ok.0
 text_comes w form bytes start end (Err fault) h = text_ended w form bytes h.rest start end fault h.walk.err
 
-text_revealed : (w : ℕ) (form : Form) (file left start end : Option (List ℕ)) (result : Result Unit Fault) → Reveals file left → WritesText w form left start end result → Comes true true plain_status (of_file file (text_outcome w form)) start end result
+text_revealed : (w : ℕ) (form : Form) (file left start end : Option (List ℕ)) (result : Result Unit Fault) → Reveals file left → WritesText w form left start end result → Comes true Database plain_status (of_file file (text_outcome w form)) start end result
 text_revealed w form (Some bytes) (Some left) start end result is h = text_comes w form bytes start end result (subst (λ b. WritesText w form (Some b) start end result) is h)
 text_revealed w form (Some bytes) None start end result is h = absurd is
 text_revealed w form None left start end result is h = absurd is
 
-lacks_memory : (status : Fault → ℕ) (o : Outcome) (start end : Option (List ℕ)) (result : Result Unit Fault) → LacksMemory start end result → Comes true true status o start end result
-lacks_memory status o start end result h = subst (Comes true true status o start end) (sym h.0) (gives_none true true status o start end NoMemory tt h.1)
+lacks_memory : (status : Fault → ℕ) (o : Outcome) (start end : Option (List ℕ)) (result : Result Unit Fault) → LacksMemory start end result → Comes true Database status o start end result
+lacks_memory status o start end result h = subst (Comes true Database status o start end) (sym h.0) (gives_none true Database status o start end NoMemory tt h.1)
 
 text_named : {F I M Y : Type 0} (s : Ghosts F) (remaining : I → Option (List ℕ)) (w : ℕ) (y : Systems Y F I M) (form : Form) (name : List ℕ) (given : Option (List ℕ)) (disk : Disk) (stores : List F) (old new : Y) (start end : Option (List ℕ)) (result : Result Unit Fault) → EachAnswered s remaining y disk stores (y.calls old) (y.calls new)
-    → PerformsText w remaining y form (Some name) given old new start end result → Comes true true plain_status (of_file (disk name) (text_outcome w form)) start end result
+    → PerformsText w remaining y form (Some name) given old new start end result → Comes true Database plain_status (of_file (disk name) (text_outcome w form)) start end result
 text_named s remaining w y form name given disk stores old new start end result answers (inl refuses) =
-    refused_so true true s remaining y plain_status name disk stores (text_outcome w form) (y.calls old) (y.calls new) [] start end result refl answers refuses
+    refused_so true Database s remaining y plain_status name disk stores (text_outcome w form) (y.calls old) (y.calls new) [] start end result refl answers refuses
 text_named s remaining w y form name given disk stores old new start end result answers (inr opened) =
     let reveals = (answers ((InTurn, name) ∷ []) opened.0).0 in
     elim opened.1 [
@@ -280,7 +193,7 @@ text_named s remaining w y form name given disk stores old new start end result 
     ]
 
 text_input : {F I M Y : Type 0} (remaining : I → Option (List ℕ)) (w : ℕ) (y : Systems Y F I M) (form : Form) (given : Option (List ℕ)) (input : List ℕ) (old new : Y) (start end : Option (List ℕ)) (result : Result Unit Fault) → given ≡ Some input
-    → PerformsText w remaining y form None given old new start end result → Comes true true plain_status (text_outcome w form input) start end result
+    → PerformsText w remaining y form None given old new start end result → Comes true Database plain_status (text_outcome w form input) start end result
 text_input remaining w y form given input old new start end result is h = elim h.1 [
   | inl lacks ↦ lacks_memory plain_status _ start end result lacks
   | inr writes ↦ text_comes w form input start end result (subst (λ g. WritesText w form g start end result) is writes)
@@ -294,12 +207,12 @@ stats_met w bytes damage e = ap (λ d. ended plain_status (unless_damaged d (sta
 stats_whole : (w : ℕ) (bytes : List ℕ) (damage : Option Damage) → head_size w ≤ length bytes → statistics_damage w bytes ≡ damage → stats_outcome w bytes ≡ ended plain_status (unless_damaged damage (statistics_text w bytes)) (met damage)
 stats_whole w bytes damage long e = stats_met w bytes damage (long_is w bytes _ _ long ∙ e)
 
-stats_damaged : {S : Type 0} (reads : Bool) (w : ℕ) (s : Ghosts S) (last : S) (bytes : List ℕ) (damage : Damage) (start end : Option (List ℕ)) → s.image last bytes → length bytes ≡ s.size last → HasDamage w s last damage start end → Comes true reads plain_status (stats_outcome w bytes) start end (met (Some damage))
+stats_damaged : {S : Type 0} (reads : Reading) (w : ℕ) (s : Ghosts S) (last : S) (bytes : List ℕ) (damage : Damage) (start end : Option (List ℕ)) → s.image last bytes → length bytes ≡ s.size last → HasDamage w s last damage start end → Comes true reads plain_status (stats_outcome w bytes) start end (met (Some damage))
 stats_damaged reads w s last bytes damage start end is size h =
     let long = subst (λ n. head_size w ≤ n) (sym size) h.long in
     comes_so true reads plain_status _ [] start end (met (Some damage)) (stats_whole w bytes (Some damage) long (h.is bytes is)) (nothing_written start end h.kept)
 
-stats_ended : {S : Type 0} (reads : Bool) (w : ℕ) (s : Ghosts S) (file last : S) (bytes : List ℕ) (start end : Option (List ℕ)) (fault : Fault) → s.image last bytes → length bytes ≡ s.size last → s.failures last ≡ 0 → TellingFails w s file last start end fault → Comes true reads plain_status (stats_outcome w bytes) start end (Err fault)
+stats_ended : {S : Type 0} (reads : Reading) (w : ℕ) (s : Ghosts S) (file last : S) (bytes : List ℕ) (start end : Option (List ℕ)) (fault : Fault) → s.image last bytes → length bytes ≡ s.size last → s.failures last ≡ 0 → TellingFails w s file last start end fault → Comes true reads plain_status (stats_outcome w bytes) start end (Err fault)
 stats_ended reads w s file last bytes start end (Read read.Short) is size works h =
     let short = subst (λ n. n < head_size w) (sym (size ∙ ap s.size h.unread)) h.short in
     comes_so true reads plain_status _ [] start end (Err (Read read.Short)) (stats_met w bytes (Some Short) (short_is w bytes _ _ short)) (nothing_written start end h.kept)
@@ -329,7 +242,7 @@ stats_ended reads w s file last bytes start end NoMemory is size works h = absur
 stats_ended reads w s file last bytes start end (Old fault) is size works h = absurd h
 stats_ended reads w s file last bytes start end (New fault) is size works h = absurd h
 
-stats_comes : {S : Type 0} (reads : Bool) (w : ℕ) (s : Ghosts S) (file last : S) (bytes : List ℕ) (start end : Option (List ℕ)) (result : Result Unit Fault) → s.image last bytes → length bytes ≡ s.size last → s.failures last ≡ 0 → TellsStats w s file last start end result → Comes true reads plain_status (stats_outcome w bytes) start end result
+stats_comes : {S : Type 0} (reads : Reading) (w : ℕ) (s : Ghosts S) (file last : S) (bytes : List ℕ) (start end : Option (List ℕ)) (result : Result Unit Fault) → s.image last bytes → length bytes ≡ s.size last → s.failures last ≡ 0 → TellsStats w s file last start end result → Comes true reads plain_status (stats_outcome w bytes) start end result
 stats_comes reads w s file last bytes start end (Ok done) is size works h =
     let long = subst (λ n. head_size w ≤ n) (sym size) h.ok.long in
     comes_so true reads plain_status _ (statistics_text w bytes) start end (Ok tt) (stats_whole w bytes None long (h.ok.whole bytes is)) (h.ok.written bytes is)
@@ -337,10 +250,10 @@ stats_comes reads w s file last bytes start end (Err fault) is size works h = st
 
 -- ---- check
 
-check_met : (reads : Bool) (w : ℕ) (bytes : List ℕ) (damage : Option Damage) (start end : Option (List ℕ)) → first_fault w bytes ≡ damage → Keeps start end → Comes false reads check_status (check_outcome w bytes) start end (met damage)
+check_met : (reads : Reading) (w : ℕ) (bytes : List ℕ) (damage : Option Damage) (start end : Option (List ℕ)) → first_fault w bytes ≡ damage → Keeps start end → Comes false reads check_status (check_outcome w bytes) start end (met damage)
 check_met reads w bytes damage start end e k = comes_so false reads check_status _ [] start end (met damage) (ap (λ d. ended check_status [] (met d)) e) (nothing_written start end k)
 
-check_ended : {S : Type 0} (reads : Bool) (w : ℕ) (s : Ghosts S) (file last : S) (bytes : List ℕ) (start end : Option (List ℕ)) (fault : Fault) → s.image last bytes → s.failures last ≡ 0 → Keeps start end → CheckingFails w s file last fault → Comes false reads check_status (check_outcome w bytes) start end (Err fault)
+check_ended : {S : Type 0} (reads : Reading) (w : ℕ) (s : Ghosts S) (file last : S) (bytes : List ℕ) (start end : Option (List ℕ)) (fault : Fault) → s.image last bytes → s.failures last ≡ 0 → Keeps start end → CheckingFails w s file last fault → Comes false reads check_status (check_outcome w bytes) start end (Err fault)
 check_ended reads w s file last bytes start end (Read read.Short) is works k h = check_met reads w bytes (Some damage.Short) start end (h.first bytes is) k
 check_ended reads w s file last bytes start end (Read (read.Table n)) is works k h = check_met reads w bytes (Some (damage.Table n)) start end (h.first bytes is) k
 check_ended reads w s file last bytes start end (Read (read.Record place)) is works k h = check_met reads w bytes (Some (damage.Record place)) start end (h.first bytes is) k
@@ -365,7 +278,7 @@ check_ended reads w s file last bytes start end NoNewTables is works k h = absur
 check_ended reads w s file last bytes start end (Old fault) is works k h = absurd h
 check_ended reads w s file last bytes start end (New fault) is works k h = absurd h
 
-check_comes : {S : Type 0} (reads : Bool) (w : ℕ) (s : Ghosts S) (file last : S) (bytes : List ℕ) (start end : Option (List ℕ)) (result : Result Unit Fault) → 0 < w → s.image last bytes → s.failures last ≡ 0 → ChecksStore w start end result s file last → Comes false reads check_status (check_outcome w bytes) start end result
+check_comes : {S : Type 0} (reads : Reading) (w : ℕ) (s : Ghosts S) (file last : S) (bytes : List ℕ) (start end : Option (List ℕ)) (result : Result Unit Fault) → 0 < w → s.image last bytes → s.failures last ≡ 0 → ChecksStore w start end result s file last → Comes false reads check_status (check_outcome w bytes) start end result
 check_comes reads w s file last bytes start end (Ok done) some is works h = check_met reads w bytes None start end ((sound_is_no_damage w bytes some).0 (h.sound.sound bytes is)) h.kept
 check_comes reads w s file last bytes start end (Err fault) some is works h = check_ended reads w s file last bytes start end fault is works h.kept h.fails
 
@@ -378,14 +291,14 @@ unknown_is_no : looks.Unknown ≡ looks.No → ⊥
 unknown_is_no e = cc
 
 on_named : {F I M Y : Type 0} (writes : Bool) (s : Ghosts F) (remaining : I → Option (List ℕ)) (y : Systems Y F I M) (status : Fault → ℕ) (most : ℕ) (name : List ℕ) (given : Option (List ℕ)) (disk : Disk) (outcome : List ℕ → Outcome) (old new : Y) (left : Left F M) (start end : Option (List ℕ)) (result : Result Unit Fault) (file : F → F → Type 0) (taken : MemStore → MemStore → Type 0)
-    → 111 ≡ status Open → EachAnswered s remaining y disk (stores_in left) (y.calls old) (y.calls new) → ((store last : F) (bytes : List ℕ) → s.image last bytes → s.failures last ≡ 0 → file store last → Comes writes false status (outcome bytes) start end result)
-    → PerformsOn s remaining y most (Some name) given old new left start end result file taken → Comes writes false status (of_file (disk name) outcome) start end result
+    → 111 ≡ status Open → EachAnswered s remaining y disk (stores_in left) (y.calls old) (y.calls new) → ((store last : F) (bytes : List ℕ) → s.image last bytes → s.failures last ≡ 0 → file store last → Comes writes Nothing status (outcome bytes) start end result)
+    → PerformsOn s remaining y most (Some name) given old new left start end result file taken → Comes writes Nothing status (of_file (disk name) outcome) start end result
 on_named writes s remaining y status most name given disk outcome old new left start end result file taken plain answers comes h = elim h [
-  | inl none ↦ refused_so writes false s remaining y status name disk (stores_in left) outcome (y.calls old) (y.calls new) ((Stream looks.No, name) ∷ []) start end result plain answers none.1
+  | inl none ↦ refused_so writes Nothing s remaining y status name disk (stores_in left) outcome (y.calls old) (y.calls new) ((Stream looks.No, name) ∷ []) start end result plain answers none.1
   | inr h ↦ elim h [
     | inl some ↦
         (let of = some.1 in
-        of_shown writes false s status (disk name) of.last [] outcome start end result (subst (λ l. EachAnswered s remaining y disk (stores_in l) (y.calls old) (y.calls new)) of.is_last answers ((AtPlaces, name) ∷ (Stream looks.No, name) ∷ []) some.0).0 (λ bytes is works. comes of.file of.last bytes is works of.does))
+        of_shown writes Nothing s status (disk name) of.last [] outcome start end result (subst (λ l. EachAnswered s remaining y disk (stores_in l) (y.calls old) (y.calls new)) of.is_last answers ((AtPlaces, name) ∷ (Stream looks.No, name) ∷ []) some.0).0 (λ bytes is works. comes of.file of.last bytes is works of.does))
     | inr h ↦ elim h [
       | inl none ↦
           (let m = none.1.misses in
@@ -398,11 +311,11 @@ on_named writes s remaining y status most name given disk outcome old new left s
   ]
 ]
 
-not_taken : (writes : Bool) (status : Fault → ℕ) (most : ℕ) (input : List ℕ) (outcome : List ℕ → Outcome) (start end : Option (List ℕ)) (fault : Fault) → 111 ≡ status Long → IsNotLoaded most (Some input) fault → Keeps start end → Comes writes true status (if nat_lt most (length input) then ended plain_status [] (Err Long) else outcome input) start end (Err fault)
+not_taken : (writes : Bool) (status : Fault → ℕ) (most : ℕ) (input : List ℕ) (outcome : List ℕ → Outcome) (start end : Option (List ℕ)) (fault : Fault) → 111 ≡ status Long → IsNotLoaded most (Some input) fault → Keeps start end → Comes writes Database status (if nat_lt most (length input) then ended plain_status [] (Err Long) else outcome input) start end (Err fault)
 not_taken writes status most input outcome start end Long plain h k =
-    comes_so writes true status _ [] start end (Err Long) (cond-true (nat_lt most (length input)) _ _ (lt-ltb most (length input) h) ∙ ap (λ n. record { status = n; output = []; lines = fault_line Long }) plain) (nothing_written start end k)
-not_taken writes status most input outcome start end (Walk walk.Input) plain h k = gives_none writes true status _ start end _ refl k
-not_taken writes status most input outcome start end NoMemory plain h k = gives_none writes true status _ start end _ tt k
+    comes_so writes Database status _ [] start end (Err Long) (cond-true (nat_lt most (length input)) _ _ (lt-ltb most (length input) h) ∙ ap (λ n. record { status = n; output = []; lines = fault_line Long }) plain) (nothing_written start end k)
+not_taken writes status most input outcome start end (Walk walk.Input) plain h k = gives_none writes Database status _ start end _ refl k
+not_taken writes status most input outcome start end NoMemory plain h k = gives_none writes Database status _ start end _ tt k
 not_taken writes status most input outcome start end (Walk walk.Short) plain h k = absurd h
 not_taken writes status most input outcome start end (Walk (walk.Table n)) plain h k = absurd h
 not_taken writes status most input outcome start end (Walk (walk.Record place)) plain h k = absurd h
@@ -421,25 +334,25 @@ not_taken writes status most input outcome start end (Old fault) plain h k = abs
 not_taken writes status most input outcome start end (New fault) plain h k = absurd h
 
 on_input : (writes : Bool) (status : Fault → ℕ) (most : ℕ) (given : Option (List ℕ)) (input : List ℕ) (outcome : List ℕ → Outcome) (start end : Option (List ℕ)) (result : Result Unit Fault) (taken : MemStore → MemStore → Type 0)
-    → 111 ≡ status Long → given ≡ Some input → ((store last : MemStore) → taken store last → Comes writes true status (outcome (contents store)) start end result)
-    → Takes most given start end result taken → Comes writes true status (if nat_lt most (length input) then ended plain_status [] (Err Long) else outcome input) start end result
+    → 111 ≡ status Long → given ≡ Some input → ((store last : MemStore) → taken store last → Comes writes Database status (outcome (contents store)) start end result)
+    → Takes most given start end result taken → Comes writes Database status (if nat_lt most (length input) then ended plain_status [] (Err Long) else outcome input) start end result
 on_input writes status most given input outcome start end result taken plain is comes (inl none) =
-    subst (Comes writes true status _ start end) (sym none.is) (not_taken writes status most input outcome start end none.fault plain (subst (λ g. IsNotLoaded most g none.fault) is none.why) none.kept)
+    subst (Comes writes Database status _ start end) (sym none.is) (not_taken writes status most input outcome start end none.fault plain (subst (λ g. IsNotLoaded most g none.fault) is none.why) none.kept)
 on_input writes status most given input outcome start end result taken plain is comes (inr some) =
     let whole : contents some.store ≡ input = subst (λ g. IfSome g (λ f. contents some.store ≡ f)) is some.whole in
     let few = subst (λ b. length b ≤ most) whole some.few in
-    subst (λ o. Comes writes true status o start end result) (sym (cond-false (nat_lt most (length input)) _ _ (le-ltb most (length input) few)))
-    (subst (λ b. Comes writes true status (outcome b) start end result) whole (comes some.store some.left some.does))
+    subst (λ o. Comes writes Database status o start end result) (sym (cond-false (nat_lt most (length input)) _ _ (le-ltb most (length input) few)))
+    (subst (λ b. Comes writes Database status (outcome b) start end result) whole (comes some.store some.left some.does))
 
-stats_taken : (w : ℕ) (store last : MemStore) (start end : Option (List ℕ)) (result : Result Unit Fault) → TellsStats w in_memory store last start end result → Comes true true plain_status (stats_outcome w (contents store)) start end result
+stats_taken : (w : ℕ) (store last : MemStore) (start end : Option (List ℕ)) (result : Result Unit Fault) → TellsStats w in_memory store last start end result → Comes true Database plain_status (stats_outcome w (contents store)) start end result
 stats_taken w store last start end result h =
-    subst (λ b. Comes true true plain_status (stats_outcome w b) start end result) (h.reads.images (contents last) refl)
-    (stats_comes true w in_memory store last (contents last) start end result refl refl refl h)
+    subst (λ b. Comes true Database plain_status (stats_outcome w b) start end result) (h.reads.images (contents last) refl)
+    (stats_comes Database w in_memory store last (contents last) start end result refl refl refl h)
 
-check_taken : (w : ℕ) (store last : MemStore) (start end : Option (List ℕ)) (result : Result Unit Fault) → 0 < w → ChecksStore w start end result in_memory store last → Comes false true check_status (check_outcome w (contents store)) start end result
+check_taken : (w : ℕ) (store last : MemStore) (start end : Option (List ℕ)) (result : Result Unit Fault) → 0 < w → ChecksStore w start end result in_memory store last → Comes false Database check_status (check_outcome w (contents store)) start end result
 check_taken w store last start end result some h =
-    subst (λ b. Comes false true check_status (check_outcome w b) start end result) (h.reads.images (contents last) refl)
-    (check_comes true w in_memory store last (contents last) start end result some refl refl h)
+    subst (λ b. Comes false Database check_status (check_outcome w b) start end result) (h.reads.images (contents last) refl)
+    (check_comes Database w in_memory store last (contents last) start end result some refl refl h)
 
 -- ---- difference
 
@@ -480,12 +393,12 @@ old_lacks w b c lacks = cond-true (lacks_tables w b) _ _ lacks
 new_lacks : (w : ℕ) (b c : List ℕ) → lacks_tables w b ≡ false → lacks_tables w c ≡ true → difference_outcome w b c ≡ ended plain_status [] (Err NoNewTables)
 new_lacks w b c has lacks = cond-false (lacks_tables w b) _ _ has ∙ cond-true (lacks_tables w c) _ _ lacks
 
-difference_refused : {S : Type 0} (w : ℕ) (s : Ghosts S) (old_last new_last : S) (b c : List ℕ) (start end : Option (List ℕ)) (fault : Fault) → Compared w s old_last b → Compared w s new_last c → HaveTables w s s old_last new_last → IsRefusal true false fault → AppendsPrefix start end (amending_text (difference_of w b c)) → Comes true false plain_status (difference_outcome w b c) start end (Err fault)
+difference_refused : {S : Type 0} (w : ℕ) (s : Ghosts S) (old_last new_last : S) (b c : List ℕ) (start end : Option (List ℕ)) (fault : Fault) → Compared w s old_last b → Compared w s new_last c → HaveTables w s s old_last new_last → IsRefusal true Nothing fault → AppendsPrefix start end (amending_text (difference_of w b c)) → Comes true Nothing plain_status (difference_outcome w b c) start end (Err fault)
 difference_refused w s old_last new_last b c start end fault x y tables refusal part =
-    gives_up true false plain_status _ start end fault refusal (subst (AppendsPrefix start end) (sym (ap (λ (o : Outcome). o.output) (differs_so w b c (tables.of_old b x.is) (tables.of_new c y.is)))) part)
+    gives_up true Nothing plain_status _ start end fault refusal (subst (AppendsPrefix start end) (sym (ap (λ (o : Outcome). o.output) (differs_so w b c (tables.of_old b x.is) (tables.of_new c y.is)))) part)
 
 difference_ended : {S : Type 0} (w : ℕ) (s : Ghosts S) (old old_last new new_last : S) (b c : List ℕ) (start end : Option (List ℕ)) (fault : Fault) → Compared w s old_last b → Compared w s new_last c → (comes_after_heads fault ≡ true → HaveTables w s s old_last new_last) → AppendsPrefix start end (amending_text (difference_of w b c)) → DifferenceFails w s s old old_last new new_last start end fault
-    → Comes true false plain_status (difference_outcome w b c) start end (Err fault)
+    → Comes true Nothing plain_status (difference_outcome w b c) start end (Err fault)
 difference_ended w s old old_last new new_last b c start end (Old fault) x y tables part h = absurd (not_read w s old old_last new_last b c start end fault x.is y.is x.size x.works x.whole x.finds h)
 difference_ended w s old old_last new new_last b c start end (New fault) x y tables part h = absurd (not_read w s new new_last old_last c b start end fault y.is x.is y.size y.works y.whole y.finds h)
 difference_ended w s old old_last new new_last b c start end Output x y tables part h = difference_refused w s old_last new_last b c start end Output x y (tables refl) refl part
@@ -499,29 +412,29 @@ difference_ended w s old old_last new new_last b c start end (Walk fault) x y ta
 difference_ended w s old old_last new new_last b c start end Long x y tables part h = absurd h
 difference_ended w s old old_last new new_last b c start end Open x y tables part h = absurd h
 difference_ended w s old old_last new new_last b c start end Rename x y tables part h = absurd h
-difference_ended w s old old_last new new_last b c start end NoOldTables x y tables part h = comes_so true false plain_status _ [] start end (Err NoOldTables) (old_lacks w b c (h.lacks b x.is)) (nothing_written start end h.kept)
-difference_ended w s old old_last new new_last b c start end NoNewTables x y tables part h = comes_so true false plain_status _ [] start end (Err NoNewTables) (new_lacks w b c (h.0 b x.is) (h.1.lacks c y.is)) (nothing_written start end h.1.kept)
+difference_ended w s old old_last new new_last b c start end NoOldTables x y tables part h = comes_so true Nothing plain_status _ [] start end (Err NoOldTables) (old_lacks w b c (h.lacks b x.is)) (nothing_written start end h.kept)
+difference_ended w s old old_last new new_last b c start end NoNewTables x y tables part h = comes_so true Nothing plain_status _ [] start end (Err NoNewTables) (new_lacks w b c (h.0 b x.is) (h.1.lacks c y.is)) (nothing_written start end h.1.kept)
 
-difference_comes : {S : Type 0} (w : ℕ) (s : Ghosts S) (old old_last new new_last : S) (b c : List ℕ) (start end : Option (List ℕ)) (result : Result Unit Fault) → Compared w s old_last b → Compared w s new_last c → TellsDifference w s s old old_last new new_last start end result → Comes true false plain_status (difference_outcome w b c) start end result
+difference_comes : {S : Type 0} (w : ℕ) (s : Ghosts S) (old old_last new new_last : S) (b c : List ℕ) (start end : Option (List ℕ)) (result : Result Unit Fault) → Compared w s old_last b → Compared w s new_last c → TellsDifference w s s old old_last new new_last start end result → Comes true Nothing plain_status (difference_outcome w b c) start end result
 difference_comes w s old old_last new new_last b c start end (Ok done) x y h =
     let written = h.ok b c x.is y.is in
-    comes_so true false plain_status _ (amending_text (difference_of w b c)) start end (Ok tt) (differs_so w b c (h.ok_tables.of_old b x.is) (h.ok_tables.of_new c y.is)) (same_appends start end _ _ (ap amending_text (written.are x.finds y.finds)) written.written)
+    comes_so true Nothing plain_status _ (amending_text (difference_of w b c)) start end (Ok tt) (differs_so w b c (h.ok_tables.of_old b x.is) (h.ok_tables.of_new c y.is)) (same_appends start end _ _ (ap amending_text (written.are x.finds y.finds)) written.written)
 difference_comes w s old old_last new new_last b c start end (Err fault) x y h = difference_ended w s old old_last new new_last b c start end fault x y h.err_tables ((h.front b c x.is y.is).are x.finds y.finds) h.err
 
-compared : {S : Type 0} (w : ℕ) (s : Ghosts S) (file : Option (List ℕ)) (last : S) (others : List S) (outcome : List ℕ → Outcome) (start end : Option (List ℕ)) (result : Result Unit Fault) → IsSized s → IsInOrder w file → Shows s file (last ∷ others) → ((bytes : List ℕ) → Compared w s last bytes → Comes true false plain_status (outcome bytes) start end result)
-    → Comes true false plain_status (of_file file outcome) start end result
+compared : {S : Type 0} (w : ℕ) (s : Ghosts S) (file : Option (List ℕ)) (last : S) (others : List S) (outcome : List ℕ → Outcome) (start end : Option (List ℕ)) (result : Result Unit Fault) → IsSized s → IsInOrder w file → Shows s file (last ∷ others) → ((bytes : List ℕ) → Compared w s last bytes → Comes true Nothing plain_status (outcome bytes) start end result)
+    → Comes true Nothing plain_status (of_file file outcome) start end result
 compared w s None last others outcome start end result sized order shows h = absurd shows
 compared w s (Some bytes) last others outcome start end result sized order shows h = h bytes (record { is = shows.0; size = sized last bytes shows.0; works = shows.1; whole = order.0; finds = order.1 })
 
 difference_foretold : {F I M Y : Type 0} (remaining : I → Option (List ℕ)) (w : ℕ) (s : Ghosts F) (y : Systems Y F I M) (first second : List ℕ) (disk : Disk) (old new : Y) (left : Left F M) (start end : Option (List ℕ)) (result : Result Unit Fault) → IsSized s → EachAnswered s remaining y disk (stores_in left) (y.calls old) (y.calls new) → IsInOrder w (disk first) → IsInOrder w (disk second)
-    → PerformsDifference w s y first second old new left start end result → Comes true false plain_status (of_file (disk first) (λ b. of_file (disk second) (difference_outcome w b))) start end result
+    → PerformsDifference w s y first second old new left start end result → Comes true Nothing plain_status (of_file (disk first) (λ b. of_file (disk second) (difference_outcome w b))) start end result
 difference_foretold remaining w s y first second disk old new left start end result sized answers one two (inl none) =
-    refused_so true false s remaining y plain_status first disk (stores_in left) _ (y.calls old) (y.calls new) [] start end result refl answers none.1
+    refused_so true Nothing s remaining y plain_status first disk (stores_in left) _ (y.calls old) (y.calls new) [] start end result refl answers none.1
 difference_foretold remaining w s y first second disk old new left start end result sized answers one two (inr (inl half)) =
     let m = half.refuses.misses in
     let calls = subst (λ l. EachAnswered s remaining y disk (stores_in l) (y.calls old) (y.calls new)) half.is_left answers ((Unopened m.why, second) ∷ (AtPlaces, first) ∷ []) m.calls in
-    of_shown true false s plain_status (disk first) half.file [] _ start end result calls.1.0
-    (λ b is works. refused_so true false s remaining y plain_status second disk (stores_in left) (difference_outcome w b) (y.calls old) (y.calls new) ((AtPlaces, first) ∷ []) start end result refl answers half.refuses)
+    of_shown true Nothing s plain_status (disk first) half.file [] _ start end result calls.1.0
+    (λ b is works. refused_so true Nothing s remaining y plain_status second disk (stores_in left) (difference_outcome w b) (y.calls old) (y.calls new) ((AtPlaces, first) ∷ []) start end result refl answers half.refuses)
 difference_foretold remaining w s y first second disk old new left start end result sized answers one two (inr (inr both)) =
     let files = both.1 in
     let calls = subst (λ l. EachAnswered s remaining y disk (stores_in l) (y.calls old) (y.calls new)) files.are_last answers ((AtPlaces, second) ∷ (AtPlaces, first) ∷ []) both.0 in
@@ -531,16 +444,16 @@ difference_foretold remaining w s y first second disk old new left start end res
 
 -- ---- help and version
 
-told_ended : (text : List ℕ) (start end : Option (List ℕ)) (fault : Fault) → fault ≡ Output → AppendsPrefix start end text → Comes true false plain_status (ended plain_status text (Ok tt)) start end (Err fault)
-told_ended text start end fault is h = subst (λ f. Comes true false plain_status (ended plain_status text (Ok tt)) start end (Err f)) (sym is) (gives_up true false plain_status (ended plain_status text (Ok tt)) start end Output refl h)
+told_ended : (text : List ℕ) (start end : Option (List ℕ)) (fault : Fault) → fault ≡ Output → AppendsPrefix start end text → Comes true Nothing plain_status (ended plain_status text (Ok tt)) start end (Err fault)
+told_ended text start end fault is h = subst (λ f. Comes true Nothing plain_status (ended plain_status text (Ok tt)) start end (Err f)) (sym is) (gives_up true Nothing plain_status (ended plain_status text (Ok tt)) start end Output refl h)
 
-told_comes : (text : List ℕ) (start end : Option (List ℕ)) (result : Result Unit Fault) → Tells text start end result → Comes true false plain_status (ended plain_status text (Ok tt)) start end result
-told_comes text start end (Ok done) h = comes_so true false plain_status _ text start end (Ok tt) refl h.ok
+told_comes : (text : List ℕ) (start end : Option (List ℕ)) (result : Result Unit Fault) → Tells text start end result → Comes true Nothing plain_status (ended plain_status text (Ok tt)) start end result
+told_comes text start end (Ok done) h = comes_so true Nothing plain_status _ text start end (Ok tt) refl h.ok
 told_comes text start end (Err fault) h = told_ended text start end fault h.err.0 h.err.1
 
 -- ---- the end of a command
 
-abbrev Foretold : (planned : Result Asked Usage) → Outcome → (start final told said : Option (List ℕ)) → (status : ℕ) → Type 0
+abbrev Foretold : (planned : Result Asked Refused) → Outcome → (start final told said : Option (List ℕ)) → (status : ℕ) → Type 0
 Foretold planned o start final told said status = ComesTrue o start final told said status ⊎ IsRefused planned o start final told said status
 
 status_is : (command : Command) (text : List ℕ) (result : Result Unit Fault) → status_of command result ≡ (ended (exit_status command) text result).status
@@ -559,9 +472,13 @@ refusal_status : (command : Command) (fault : Fault) → IsRefusal (writes_outpu
 refusal_status (command.Check name wide) NoMemory h = refl
 refusal_status (command.Check name wide) Output h = refl
 refusal_status (command.Check name wide) (Walk walk.Input) h = refl
+refusal_status (command.Check name wide) (Text n text.Input) h = refl
+refusal_status (command.Check name wide) (Text n text.Endless) h = refl
 refusal_status command NoMemory h = refl
 refusal_status command Output h = refl
 refusal_status command (Walk walk.Input) h = refl
+refusal_status command (Text n text.Input) h = refl
+refusal_status command (Text n text.Endless) h = refl
 refusal_status command fault h = absurd h
 
 nothing_held : (known : Option (List ℕ)) → append_known known [] ≡ known
@@ -592,57 +509,60 @@ ends_so command o start end final told said unsaid result status taken k says is
 
 -- ---- each command
 
-abbrev CommandComes : {F I M R Y : Type 0} → Ghosts F → Ghosts M → Raw R → (I → Option (List ℕ)) → Systems Y F I M → Command → Disk → (input : List ℕ) → (given : Option (List ℕ)) → (old new : Y) → (was now : NameCalls) → Left F M → (start end told said : Option (List ℕ)) → Result Unit Fault → Type 0
-CommandComes s m r remaining y command disk input given old new was now left start end told said result =
-    Honest s remaining y disk input (asked_in command) given old new left → PerformsIn (has_wide_words (asked_in command)) s m r remaining y (asked_in command) given old new was now left start end told said result
+abbrev CommandComes : {F I M R Y : Type 0} → Ghosts F → Ghosts M → Raw R → (I → Option (List ℕ)) → Systems Y F I M → (explained : Bool) → Command → Disk → (input : List ℕ) → (given : Option (List ℕ)) → (old new : Y) → (was now : NameCalls) → Left F M → (start end told said : Option (List ℕ)) → Result Unit Fault → Type 0
+CommandComes s m r remaining y explained command disk input given old new was now left start end told said result =
+    Honest s remaining y disk input (asked_in command) given old new left → PerformsIn (has_wide_words (asked_in command)) s m r remaining y explained (asked_in command) given old new was now left start end told said result
     → IfSome (command_outcome (asked_in command) disk input) (λ o. Comes (writes_output (asked_in command)) (reads_in_turn (asked_in command)) (exit_status command) o start end result)
 
-command_comes : {F I M R Y : Type 0} (s : Ghosts F) (m : Ghosts M) (r : Raw R) (remaining : I → Option (List ℕ)) (y : Systems Y F I M) (command : Command) (disk : Disk) (input : List ℕ) (given : Option (List ℕ)) (old new : Y) (was now : NameCalls) (left : Left F M) (start end told said : Option (List ℕ)) (result : Result Unit Fault) → IsSized s → EachAnswered s remaining y disk (stores_in left) (y.calls old) (y.calls new)
-    → CommandComes s m r remaining y command disk input given old new was now left start end told said result
-command_comes s m r remaining y (command.Query name key number lines true) disk input given old new was now left start end told said result sized calls honest h =
+command_comes : {F I M R Y : Type 0} (s : Ghosts F) (m : Ghosts M) (r : Raw R) (remaining : I → Option (List ℕ)) (y : Systems Y F I M) (explained : Bool) (command : Command) (disk : Disk) (input : List ℕ) (given : Option (List ℕ)) (old new : Y) (was now : NameCalls) (left : Left F M) (start end told said : Option (List ℕ)) (result : Result Unit Fault) → IsSized s → EachAnswered s remaining y disk (stores_in left) (y.calls old) (y.calls new)
+    → CommandComes s m r remaining y explained command disk input given old new was now left start end told said result
+command_comes s m r remaining y explained (command.Query name key number lines true) disk input given old new was now left start end told said result sized calls honest h =
     query_foretold remaining 8 s y (string_bytes name) _ disk old new left start end result sized calls h
-command_comes s m r remaining y (command.Query name key number lines false) disk input given old new was now left start end told said result sized calls honest h =
+command_comes s m r remaining y explained (command.Query name key number lines false) disk input given old new was now left start end told said result sized calls honest h =
     query_foretold remaining 4 s y (string_bytes name) _ disk old new left start end result sized calls h
-command_comes s m r remaining y (command.Dump (Some name) style true) disk input given old new was now left start end told said result sized calls honest h =
+command_comes s m r remaining y explained (command.Dump (Some name) style true) disk input given old new was now left start end told said result sized calls honest h =
     text_named s remaining 8 y (dump_form style) (string_bytes name) given disk (stores_in left) old new start end result calls h.1
-command_comes s m r remaining y (command.Dump (Some name) style false) disk input given old new was now left start end told said result sized calls honest h =
+command_comes s m r remaining y explained (command.Dump (Some name) style false) disk input given old new was now left start end told said result sized calls honest h =
     text_named s remaining 4 y (dump_form style) (string_bytes name) given disk (stores_in left) old new start end result calls h.1
-command_comes s m r remaining y (command.Dump None style true) disk input given old new was now left start end told said result sized calls honest h =
+command_comes s m r remaining y explained (command.Dump None style true) disk input given old new was now left start end told said result sized calls honest h =
     text_input remaining 8 y (dump_form style) given input old new start end result honest.reads h.1
-command_comes s m r remaining y (command.Dump None style false) disk input given old new was now left start end told said result sized calls honest h =
+command_comes s m r remaining y explained (command.Dump None style false) disk input given old new was now left start end told said result sized calls honest h =
     text_input remaining 4 y (dump_form style) given input old new start end result honest.reads h.1
-command_comes s m r remaining y (command.List (Some name) style true) disk input given old new was now left start end told said result sized calls honest h =
+command_comes s m r remaining y explained (command.List (Some name) style true) disk input given old new was now left start end told said result sized calls honest h =
     text_named s remaining 8 y (list_form style) (string_bytes name) given disk (stores_in left) old new start end result calls h.1
-command_comes s m r remaining y (command.List (Some name) style false) disk input given old new was now left start end told said result sized calls honest h =
+command_comes s m r remaining y explained (command.List (Some name) style false) disk input given old new was now left start end told said result sized calls honest h =
     text_named s remaining 4 y (list_form style) (string_bytes name) given disk (stores_in left) old new start end result calls h.1
-command_comes s m r remaining y (command.List None style true) disk input given old new was now left start end told said result sized calls honest h =
+command_comes s m r remaining y explained (command.List None style true) disk input given old new was now left start end told said result sized calls honest h =
     text_input remaining 8 y (list_form style) given input old new start end result honest.reads h.1
-command_comes s m r remaining y (command.List None style false) disk input given old new was now left start end told said result sized calls honest h =
+command_comes s m r remaining y explained (command.List None style false) disk input given old new was now left start end told said result sized calls honest h =
     text_input remaining 4 y (list_form style) given input old new start end result honest.reads h.1
-command_comes s m r remaining y (command.Stats (Some name) true) disk input given old new was now left start end told said result sized calls honest h =
-    on_named true s remaining y plain_status _ (string_bytes name) given disk (stats_outcome 8) old new left start end result _ _ refl calls (λ store last bytes is works does. stats_comes false 8 s store last bytes start end result is (sized last bytes is) works does) h
-command_comes s m r remaining y (command.Stats (Some name) false) disk input given old new was now left start end told said result sized calls honest h =
-    on_named true s remaining y plain_status _ (string_bytes name) given disk (stats_outcome 4) old new left start end result _ _ refl calls (λ store last bytes is works does. stats_comes false 4 s store last bytes start end result is (sized last bytes is) works does) h
-command_comes s m r remaining y (command.Stats None true) disk input given old new was now left start end told said result sized calls honest h =
+command_comes s m r remaining y explained (command.Stats (Some name) true) disk input given old new was now left start end told said result sized calls honest h =
+    on_named true s remaining y plain_status _ (string_bytes name) given disk (stats_outcome 8) old new left start end result _ _ refl calls (λ store last bytes is works does. stats_comes Nothing 8 s store last bytes start end result is (sized last bytes is) works does) h
+command_comes s m r remaining y explained (command.Stats (Some name) false) disk input given old new was now left start end told said result sized calls honest h =
+    on_named true s remaining y plain_status _ (string_bytes name) given disk (stats_outcome 4) old new left start end result _ _ refl calls (λ store last bytes is works does. stats_comes Nothing 4 s store last bytes start end result is (sized last bytes is) works does) h
+command_comes s m r remaining y explained (command.Stats None true) disk input given old new was now left start end told said result sized calls honest h =
     on_input true plain_status _ given input (stats_outcome 8) start end result _ refl honest.reads (λ store last does. stats_taken 8 store last start end result does) h.2
-command_comes s m r remaining y (command.Stats None false) disk input given old new was now left start end told said result sized calls honest h =
+command_comes s m r remaining y explained (command.Stats None false) disk input given old new was now left start end told said result sized calls honest h =
     on_input true plain_status _ given input (stats_outcome 4) start end result _ refl honest.reads (λ store last does. stats_taken 4 store last start end result does) h.2
-command_comes s m r remaining y (command.Check (Some name) true) disk input given old new was now left start end told said result sized calls honest h =
-    on_named false s remaining y check_status _ (string_bytes name) given disk (check_outcome 8) old new left start end result _ _ refl calls (λ store last bytes is works does. check_comes false 8 s store last bytes start end result (omega arith) is works does) h
-command_comes s m r remaining y (command.Check (Some name) false) disk input given old new was now left start end told said result sized calls honest h =
-    on_named false s remaining y check_status _ (string_bytes name) given disk (check_outcome 4) old new left start end result _ _ refl calls (λ store last bytes is works does. check_comes false 4 s store last bytes start end result (omega arith) is works does) h
-command_comes s m r remaining y (command.Check None true) disk input given old new was now left start end told said result sized calls honest h =
+command_comes s m r remaining y explained (command.Check (Some name) true) disk input given old new was now left start end told said result sized calls honest h =
+    on_named false s remaining y check_status _ (string_bytes name) given disk (check_outcome 8) old new left start end result _ _ refl calls (λ store last bytes is works does. check_comes Nothing 8 s store last bytes start end result (omega arith) is works does) h
+command_comes s m r remaining y explained (command.Check (Some name) false) disk input given old new was now left start end told said result sized calls honest h =
+    on_named false s remaining y check_status _ (string_bytes name) given disk (check_outcome 4) old new left start end result _ _ refl calls (λ store last bytes is works does. check_comes Nothing 4 s store last bytes start end result (omega arith) is works does) h
+command_comes s m r remaining y explained (command.Check None true) disk input given old new was now left start end told said result sized calls honest h =
     on_input false check_status _ given input (check_outcome 8) start end result _ refl honest.reads (λ store last does. check_taken 8 store last start end result (omega arith) does) h.2
-command_comes s m r remaining y (command.Check None false) disk input given old new was now left start end told said result sized calls honest h =
+command_comes s m r remaining y explained (command.Check None false) disk input given old new was now left start end told said result sized calls honest h =
     on_input false check_status _ given input (check_outcome 4) start end result _ refl honest.reads (λ store last does. check_taken 4 store last start end result (omega arith) does) h.2
-command_comes s m r remaining y (command.Difference first second true) disk input given old new was now left start end told said result sized calls honest h =
+command_comes s m r remaining y explained (command.Difference first second true) disk input given old new was now left start end told said result sized calls honest h =
     difference_foretold remaining 8 s y (string_bytes first) (string_bytes second) disk old new left start end result sized calls honest.in_order.0 honest.in_order.1 h
-command_comes s m r remaining y (command.Difference first second false) disk input given old new was now left start end told said result sized calls honest h =
+command_comes s m r remaining y explained (command.Difference first second false) disk input given old new was now left start end told said result sized calls honest h =
     difference_foretold remaining 4 s y (string_bytes first) (string_bytes second) disk old new left start end result sized calls honest.in_order.0 honest.in_order.1 h
-command_comes s m r remaining y (command.Create name base inputs temporary options wide) disk input given old new was now left start end told said result sized calls honest h = tt
-command_comes s m r remaining y command.Help disk input given old new was now left start end told said result sized calls honest h = told_comes usage_text start end result h.2
-command_comes s m r remaining y command.Version disk input given old new was now left start end told said result sized calls honest h = told_comes version_text start end result h.2
-command_comes s m r remaining y (command.Lookups name inputs number style wide) disk input given old new was now left start end told said result sized calls honest h = tt
+command_comes s m r remaining y explained (command.Create name base inputs temporary options wide) disk input given old new was now left start end told said result sized calls honest h = tt
+command_comes s m r remaining y explained command.Help disk input given old new was now left start end told said result sized calls honest h = told_comes usage_text start end result h.2
+command_comes s m r remaining y explained command.Version disk input given old new was now left start end told said result sized calls honest h = told_comes version_text start end result h.2
+command_comes s m r remaining y explained (command.Lookups name inputs number style true) disk input given old new was now left start end told said result sized calls honest h =
+    lookups_foretold remaining 8 9223372036854775807 s y (string_bytes name) (map string_bytes inputs.items) number style given disk input old new left start end result sized calls honest.reads h
+command_comes s m r remaining y explained (command.Lookups name inputs number style false) disk input given old new was now left start end told said result sized calls honest h =
+    lookups_foretold remaining 4 4294967295 s y (string_bytes name) (map string_bytes inputs.items) number style given disk input old new left start end result sized calls honest.reads h
 
 -- only a create says anything before it ends
 is_silent : (command : Command) (disk : Disk) (input : List ℕ) (told before : Option (List ℕ)) → IsUntouched (asked_in command) told before → IfSome (command_outcome (asked_in command) disk input) (λ o. before ≡ told)
@@ -655,7 +575,7 @@ is_silent (command.Difference first second wide) disk input told before h = h
 is_silent (command.Create name base inputs temporary options wide) disk input told before h = tt
 is_silent command.Help disk input told before h = h
 is_silent command.Version disk input told before h = h
-is_silent (command.Lookups name inputs number style wide) disk input told before h = tt
+is_silent (command.Lookups name inputs number style wide) disk input told before h = h
 
 -- ---- the program
 
@@ -667,23 +587,24 @@ each_some : {A : Type 0} (x : Option A) (R : A → Type 0) → ((a : A) → R a)
 each_some None R f = tt
 each_some (Some a) R f = f a
 
-no_memory_may : (planned : Result Asked Usage) → MayFail planned NoMemory
+no_memory_may : (planned : Result Asked Refused) → MayFail planned NoMemory
 no_memory_may (Ok command) = tt
 no_memory_may (Err usage) = refl
 
-run_foretold : {F I M R Y : Type 0} (s : Ghosts F) (m : Ghosts M) (r : Raw R) (remaining : I → Option (List ℕ)) (y : Systems Y F I M) (planned : Result Asked Usage) (explained : Bool) (given : Option (List ℕ)) (old new : Y) (was now : NameCalls) (left : Left F M) (start end final told said : Option (List ℕ)) (unwritten unsaid : Type 0) (status : ℕ) (disk : Disk) (input : List ℕ)
+run_foretold : {F I M R Y : Type 0} (s : Ghosts F) (m : Ghosts M) (r : Raw R) (remaining : I → Option (List ℕ)) (y : Systems Y F I M) (planned : Result Asked Refused) (explained : Bool) (given : Option (List ℕ)) (old new : Y) (was now : NameCalls) (left : Left F M) (start end final told said : Option (List ℕ)) (unwritten unsaid : Type 0) (status : ℕ) (disk : Disk) (input : List ℕ)
     → IsSized s → explained ≡ false → (unwritten → ⊥) → (unsaid → ⊥) → Keeps end final → Runs s m r remaining y planned explained given old new was now left start end final told said unwritten unsaid status
     → IfOk planned (λ command. Honest s remaining y disk input command given old new left) → IfSome (oracle planned disk input) (λ o. Foretold planned o start final told said status)
 run_foretold s m r remaining y planned explained given old new was now left start end final told said unwritten unsaid status disk input sized plain writes speaks k (inl none) honest =
     let kept = Keeps-trans start end final none.kept k in
-    let line = line_said (usage_line none.usage) told said unsaid speaks none.line in
+    let alone : SaysLine (usage_line (usage_of none.refused)) told said unsaid = subst (λ b. SaysLine (refused_lines b none.refused) told said unsaid) plain none.line in
+    let line = line_said (usage_line (usage_of none.refused)) told said unsaid speaks alone in
     elim none.why [
       | inl lacks ↦ each_some (oracle planned disk input) (λ o. Foretold planned o start final told said status) (λ o. inr (record {
         fault = NoMemory;
         refusal = no_memory_may planned;
-        is_status = none.is_status ∙ ap usage_status lacks;
+        is_status = none.is_status ∙ ap (λ x. usage_status (usage_of x)) lacks;
         output = no_prefix o start final kept;
-        lines = same_appends told said _ _ (ap usage_line lacks) line;
+        lines = same_appends told said _ _ (ap (λ x. usage_line (usage_of x)) lacks) line;
       }))
       | inr refused ↦ subst (λ p. IfSome (oracle p disk input) (λ o. Foretold p o start final told said status)) (sym refused) (inl (record {
         is_status = none.is_status;
@@ -698,7 +619,7 @@ run_foretold s m r remaining y planned explained given old new was now left star
     subst (λ p. IfSome (oracle p disk input) (λ o. Foretold p o start final told said status)) (sym some.asks)
     (some_so (command_outcome (asked_in command) disk input) (λ o. Comes (writes_output (asked_in command)) (reads_in_turn (asked_in command)) (exit_status command) o start some.does.end some.does.answer) (λ o. some.before ≡ told) (λ o. Foretold (Ok (asked_in command)) o start final told said status)
     (λ o comes silent. ends_so command o start some.does.end final told said unsaid some.result status speaks handed.0 (subst (λ t. SaysOnly some.result t said unsaid) silent (says_only explained (asked_in command) some.result (y.calls new) now some.more some.before said unsaid plain some.explains some.says)) some.is_status (subst (Comes (writes_output (asked_in command)) (reads_in_turn (asked_in command)) (exit_status command) o start some.does.end) (sym handed.1) comes))
-    (command_comes s m r remaining y command disk input given old new was now left start some.does.end told some.before some.does.answer sized (each_answered s remaining y disk (stores_in left) (y.calls old) (y.calls new) honest.calls honest.are honest.answered) honest some.does.performs)
+    (command_comes s m r remaining y explained command disk input given old new was now left start some.does.end told some.before some.does.answer sized (each_answered s remaining y disk (stores_in left) (y.calls old) (y.calls new) honest.calls honest.are honest.answered) honest some.does.performs)
     (is_silent command disk input told some.before some.silent))
 
 -- an output that was flushed and did not fail holds nothing back
@@ -709,9 +630,9 @@ all_taken contents o handed works = elim handed [
 ]
 
 -- what is said of the outcome of a command that makes nothing is said of what the whole function gives
-total_so : (planned : Result Asked Usage) (disk : Disk) (input : List ℕ) (P : Outcome → Type 0) → AsksNeither planned → IfSome (oracle planned disk input) P → P (foretell planned disk input).outcome
+total_so : (planned : Result Asked Refused) (disk : Disk) (input : List ℕ) (P : Outcome → Type 0) → AsksNoCreate planned → IfSome (oracle planned disk input) P → P (foretell planned disk input).outcome
 total_so (Ok (asked.Query name key number lines wide)) disk input P none h = h
-total_so (Ok (asked.Lookups name inputs number style wide)) disk input P none h = absurd none
+total_so (Ok (asked.Lookups name inputs number style wide)) disk input P none h = h
 total_so (Ok (asked.Dump name style wide)) disk input P none h = h
 total_so (Ok (asked.Listing name style wide)) disk input P none h = h
 total_so (Ok (asked.Stats name wide)) disk input P none h = h
@@ -722,7 +643,7 @@ total_so (Ok asked.Help) disk input P none h = h
 total_so (Ok asked.Version) disk input P none h = h
 total_so (Err usage) disk input P none h = h
 
-pub run_is_foretold : {F I M R Y W V : Type 0} (s : Ghosts F) (m : Ghosts M) (r : Raw R) (remaining : I → Option (List ℕ)) (y : Systems Y F I M) (planned : Result Asked Usage) (explained : Bool) (given : Option (List ℕ)) (old new : Y) (was now : NameCalls) (left : Left F M) (of_output : W → Option (List ℕ)) (of_errors : V → Option (List ℕ)) (output_old output_new : Writer W) (errors_old errors_new : Writer V) (status : ℕ)
+pub run_is_foretold : {F I M R Y W V : Type 0} (s : Ghosts F) (m : Ghosts M) (r : Raw R) (remaining : I → Option (List ℕ)) (y : Systems Y F I M) (planned : Result Asked Refused) (explained : Bool) (given : Option (List ℕ)) (old new : Y) (was now : NameCalls) (left : Left F M) (of_output : W → Option (List ℕ)) (of_errors : V → Option (List ℕ)) (output_old output_new : Writer W) (errors_old errors_new : Writer V) (status : ℕ)
     → IsSized s → (held_by output_old ≡ [] → HasHandedOn output_new) → HasHandedOn errors_new
     → Runs s m r remaining y planned explained given old new was now left (output_bytes of_output output_old) (output_bytes of_output output_new) (of_output output_new.writer) (output_bytes of_errors errors_old) (output_bytes of_errors errors_new) (OutputFailed output_new) (OutputFailed errors_new) status
     → IsForetold s remaining y planned explained given old new left (output_bytes of_output output_old) (of_output output_new.writer) (output_bytes of_errors errors_old) (of_errors errors_new.writer) (IsTaken output_old output_new errors_new) status

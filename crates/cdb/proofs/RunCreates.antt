@@ -9,7 +9,7 @@ use Rattle.cdb_command.specs.Asked as asked
 use Rattle.cdb_command.specs.declared.command.Command.{Command}
 use Rattle.cdb_command.specs.declared.command.Command.TheVariants as command
 use Rattle.cdb_command.specs.declared.options.MakeOptions.{MakeOptions}
-use Rattle.cdb_command.specs.declared.usage.Usage.{Usage}
+use Rattle.cdb_command.specs.Refused.{Refused, usage_of}
 use Rattle.cdb_files.specs.Folder.{NameCalls}
 use Rattle.cdb_store.specs.declared.raw.RawFile.{Ghosts as Raw}
 use Rattle.cdb_store.specs.declared.store.Store.{Ghosts}
@@ -22,12 +22,13 @@ use Rattle.cdb.specs.Creating.{Creates}
 use Rattle.cdb.specs.Foretold.{IsTaken}
 use Rattle.cdb.specs.ForetoldCreate.{CreateHolds, HonestCreate, IsCreateForetold, IsCreateRefusal, IsCreated, IsGivenUp, passing}
 use Rattle.cdb.specs.Oracle.{Disk, ended, greatest_size, word_size}
-use Rattle.cdb.specs.Performs.{PerformsIn, Runs, SaysLine, status_of, usage_line, usage_status}
+use Rattle.cdb.specs.Performs.{IsShown, PerformsIn, Runs, SaysLine, refused_lines, status_of, usage_line, usage_status}
 use Rattle.cdb.specs.declared.left.Left.{Left}
 use Rattle.cdb.specs.declared.system.System.{Ghosts as Systems}
 use Rattle.cdb_tool.specs.Views.Output.{HasHandedOn, OutputFailed, held_by, output_bytes}
 use Rattle.cdb_tool.specs.declared.output.Output.{Output as Writer}
 use Rattle.cdb_tool.proofs.WholeRuns.{prefix_kept}
+use Rattle.cdb.proofs.NamedCreates.{named_holds}
 use Rattle.cdb.proofs.Explained.{SaysOnly, says_only}
 use Rattle.cdb.proofs.CreateEnds.{Came, keeps_first}
 use Rattle.cdb.proofs.CreateReads.{asking_none, moments_first}
@@ -93,85 +94,80 @@ if_done P (Err fault) h e = absurd (not_nothing fault e)
 
 -- ---- the command
 
-same_asked : (a b : Asked) → ◌≡◌ {A = Result Asked Usage} (Ok a) (Ok b) → a ≡ b
+same_asked : (a b : Asked) → ◌≡◌ {A = Result Asked Refused} (Ok a) (Ok b) → a ≡ b
 same_asked a b e = cc
 
-creates_in : {F I M R Y : Type 0} (s : Ghosts F) (m : Ghosts M) (r : Raw R) (remaining : I → Option (List ℕ)) (y : Systems Y F I M) (name : List ℕ) (base : Option (List ℕ)) (inputs : List (List ℕ)) (temporary : Option (List ℕ)) (o : MakeOptions) (wide : Bool) (given : Option (List ℕ)) (old new : Y) (was now : NameCalls) (left : Left F M) (start end told said : Option (List ℕ)) (result : Result Unit Fault)
-    → PerformsIn wide s m r remaining y (asked.Create name base inputs temporary o wide) given old new was now left start end told said result
-    → Creates (word_size wide) (greatest_size wide) y s m r remaining o name base inputs temporary given (y.calls old) (y.calls new) was now left start end told said result
-creates_in s m r remaining y name base inputs temporary o true given old new was now left start end told said result h = h
-creates_in s m r remaining y name base inputs temporary o false given old new was now left start end told said result h = h
+creates_in : {F I M R Y : Type 0} (s : Ghosts F) (m : Ghosts M) (r : Raw R) (remaining : I → Option (List ℕ)) (y : Systems Y F I M) (name : List ℕ) (base : Option (List ℕ)) (inputs : List (List ℕ)) (temporary : Option (List ℕ)) (o : MakeOptions) (wide explained : Bool) (given : Option (List ℕ)) (old new : Y) (was now : NameCalls) (left : Left F M) (start end told said : Option (List ℕ)) (result : Result Unit Fault)
+    → PerformsIn wide s m r remaining y explained (asked.Create name base inputs temporary o wide) given old new was now left start end told said result
+    → (shown : MakeOptions) × IsShown explained inputs o shown × Creates (word_size wide) (greatest_size wide) y s m r remaining shown name base inputs temporary given (y.calls old) (y.calls new) was now left start end told said result
+creates_in s m r remaining y name base inputs temporary o true explained given old new was now left start end told said result h = h
+creates_in s m r remaining y name base inputs temporary o false explained given old new was now left start end told said result h = h
 
 if_not_done : (P : Type 0) (answer : Result Unit Fault) → OnErr answer P → (plain answer ≡ 0 → ⊥) → P
 if_not_done P (Ok done) h some = absurd (some refl)
 if_not_done P (Err fault) h some = h
 
-comes_so : {M : Type 0} (m : Ghosts M) (disk : Disk) (c : Created) (now : NameCalls) (made : Option M) (command : Command) (name : List ℕ) (base : Option (List ℕ)) (inputs : List (List ℕ)) (temporary : Option (List ℕ)) (o : MakeOptions) (wide : Bool) (start end final told before said : Option (List ℕ)) (unsaid : Type 0) (answer result : Result Unit Fault) (status : ℕ) → asked_in command ≡ asked.Create name base inputs temporary o wide → Keeps end final → result ≡ answer → (unsaid → ⊥)
-    → SaysOnly result before said unsaid → status ≡ status_of command result → Came m disk name c now made start end told before answer → IsCreated m disk name c now made start final told said status ⊎ IsGivenUp c start final told said status
-comes_so m disk c now made command name base inputs temporary o wide start end final told before said unsaid answer result status a kept same speaks says is (inl h) =
+comes_so : {M : Type 0} (m : Ghosts M) (disk : Disk) (c : Created) (explained : Bool) (now : NameCalls) (made : Option M) (command : Command) (name : List ℕ) (base : Option (List ℕ)) (inputs : List (List ℕ)) (temporary : Option (List ℕ)) (o : MakeOptions) (wide : Bool) (start end final told before said : Option (List ℕ)) (unsaid : Type 0) (answer result : Result Unit Fault) (status : ℕ) → asked_in command ≡ asked.Create name base inputs temporary o wide → Keeps end final → result ≡ answer → (unsaid → ⊥)
+    → (explained ≡ false → SaysOnly result before said unsaid) → status ≡ status_of command result → Came m disk name c now made start end told before answer → IsCreated m disk name c explained now made start final told said status ⊎ IsGivenUp c explained start final told said status
+comes_so m disk c explained now made command name base inputs temporary o wide start end final told before said unsaid answer result status a kept same speaks says is (inl h) =
     let whole : result ≡ c.result = same ∙ h.0.is in
     inl (record {
-      true_so = record {
-        is_status = is ∙ status_create command name base inputs temporary o wide result a ∙ ap plain whole ∙ sym (status_plain c.output c.result);
-        output = subst (Appends start final) (sym (output_plain c.output c.result)) (Appends-kept start end final c.output h.0.output kept);
-        lines = subst (λ l. Appends told said (c.lines ++ l)) (ap line_of whole ∙ sym (line_plain c.output c.result)) (said_end result told before said unsaid c.lines speaks h.0.lines says);
-      };
+      is_status = is ∙ status_create command name base inputs temporary o wide result a ∙ ap plain whole ∙ sym (status_plain c.output c.result);
+      output = subst (Appends start final) (sym (output_plain c.output c.result)) (Appends-kept start end final c.output h.0.output kept);
+      lines = λ unexplained. subst (λ l. Appends told said (c.lines ++ l)) (ap line_of whole ∙ sym (line_plain c.output c.result)) (said_end result told before said unsaid c.lines speaks h.0.lines (says unexplained));
       disk_is = h.1;
     })
-comes_so m disk c now made command name base inputs temporary o wide start end final told before said unsaid answer result status a kept same speaks says is (inr h) =
+comes_so m disk c explained now made command name base inputs temporary o wide start end final told before said unsaid answer result status a kept same speaks says is (inr h) =
     let whole : result ≡ Err h.fault = same ∙ h.is in
     inr (record {
       fault = h.fault;
       refusal = h.refusal;
       is_status = is ∙ status_create command name base inputs temporary o wide result a ∙ ap plain whole ∙ refused_plain h.fault h.refusal;
       output = prefix_kept start end final c.output h.output kept;
-      front = h.lines.front;
-      more = h.lines.more;
-      split = h.lines.split;
-      lines = subst (λ l. Appends told said (h.lines.front ++ l)) (ap line_of whole) (said_end result told before said unsaid h.lines.front speaks h.lines.appended says);
+      lines = λ unexplained. (h.lines.front, h.lines.more, h.lines.split, subst (λ l. Appends told said (h.lines.front ++ l)) (ap line_of whole) (said_end result told before said unsaid h.lines.front speaks h.lines.appended (says unexplained)));
     })
 
-run_holds : {F I M R Y : Type 0} (s : Ghosts F) (m : Ghosts M) (r : Raw R) (remaining : I → Option (List ℕ)) (y : Systems Y F I M) (planned : Result Asked Usage) (explained : Bool) (given : Option (List ℕ)) (old new : Y) (was now : NameCalls) (left : Left F M) (start end final told said : Option (List ℕ)) (unwritten unsaid : Type 0) (status : ℕ) (disk : Disk) (input name : List ℕ) (base : Option (List ℕ)) (inputs : List (List ℕ)) (temporary : Option (List ℕ)) (o : MakeOptions) (wide : Bool)
+run_holds : {F I M R Y : Type 0} (s : Ghosts F) (m : Ghosts M) (r : Raw R) (remaining : I → Option (List ℕ)) (y : Systems Y F I M) (planned : Result Asked Refused) (explained : Bool) (given : Option (List ℕ)) (old new : Y) (was now : NameCalls) (left : Left F M) (start end final told said : Option (List ℕ)) (unwritten unsaid : Type 0) (status : ℕ) (disk : Disk) (input name : List ℕ) (base : Option (List ℕ)) (inputs : List (List ℕ)) (temporary : Option (List ℕ)) (o : MakeOptions) (wide : Bool)
     → planned ≡ Ok (asked.Create name base inputs temporary o wide) → (unwritten → ⊥) → (unsaid → ⊥) → Keeps end final → HonestCreate s remaining y disk input inputs given (y.calls old) (y.calls new) left.read name was now → Runs s m r remaining y planned explained given old new was now left start end final told said unwritten unsaid status
     → CreateHolds m disk name temporary (create_of (word_size wide) (greatest_size wide) disk input name base inputs temporary o) explained was now left.made start final told said status
 run_holds s m r remaining y planned explained given old new was now left start end final told said unwritten unsaid status disk input name base inputs temporary o wide plan writes speaks kept honest (inl none) = elim none.why [
   | inl lacks ↦ (let c = create_of (word_size wide) (greatest_size wide) disk input name base inputs temporary o in
-      let is : status ≡ 111 = none.is_status ∙ ap usage_status lacks in
+      let is : status ≡ 111 = none.is_status ∙ ap (λ x. usage_status (usage_of x)) lacks in
       record {
-        comes = λ unexplained had has. inr (record {
+        comes = λ had has. inr (record {
           fault = NoMemory;
           refusal = tt;
           is_status = is;
           output = said_nothing start final c.output (Keeps-trans start end final none.kept kept);
-          front = [];
-          more = c.lines;
-          split = refl;
-          lines = subst (Appends told said) (ap usage_line lacks) (said_all (usage_line none.usage) told said unsaid speaks none.line);
+          lines = λ unexplained. ([], c.lines, refl, subst (Appends told said) (ap (λ x. usage_line (usage_of x)) lacks) (said_all (usage_line (usage_of none.refused)) told said unsaid speaks (subst (λ b. SaysLine (refused_lines b none.refused) told said unsaid) unexplained none.line)));
         });
         done = λ zero. absurd (omega (arith, zero, is));
         failed = λ some tried. keeps_first disk (passing name temporary) was now honest.first (asking_none was now none.same);
         moments = moments_first disk c.disk (passing name temporary) was now honest.first (asking_none was now none.same);
       })
-  | inr refused ↦ absurd (let no : ◌≡◌ {A = Result Asked Usage} (Ok (asked.Create name base inputs temporary o wide)) (Err none.usage) = sym plan ∙ refused in cc)
+  | inr refused ↦ absurd (let no : ◌≡◌ {A = Result Asked Refused} (Ok (asked.Create name base inputs temporary o wide)) (Err none.refused) = sym plan ∙ refused in cc)
 ]
 run_holds s m r remaining y planned explained given old new was now left start end final told said unwritten unsaid status disk input name base inputs temporary o wide plan writes speaks kept honest (inr some) =
     let command = some.command in
     let does = some.does in
     let a : asked_in command ≡ asked.Create name base inputs temporary o wide = same_asked (asked_in command) (asked.Create name base inputs temporary o wide) (sym some.asks ∙ plan) in
-    let performs = subst (λ q. PerformsIn (has_wide_words q) s m r remaining y q given old new was now left start does.end told some.before does.answer) a does.performs in
-    let creates = creates_in s m r remaining y name base inputs temporary o wide given old new was now left start does.end told some.before does.answer performs in
-    let so = creates_so s m r remaining y (word_size wide) (greatest_size wide) disk input name base inputs temporary o given (y.calls old) (y.calls new) left was now start does.end told some.before does.answer honest creates in
+    let performs = subst (λ q. PerformsIn (has_wide_words q) s m r remaining y explained q given old new was now left start does.end told some.before does.answer) a does.performs in
+    let shows = creates_in s m r remaining y name base inputs temporary o wide explained given old new was now left start does.end told some.before does.answer performs in
+    let shown = shows.0 in
+    let creates = shows.2 in
+    let so = creates_so s m r remaining y (word_size wide) (greatest_size wide) disk input name base inputs temporary shown given (y.calls old) (y.calls new) left was now start does.end told some.before does.answer honest creates in
     let handed = handed_all does.end final unwritten does.answer some.result writes does.hands in
-    let c = create_of (word_size wide) (greatest_size wide) disk input name base inputs temporary o in
+    let c = create_of (word_size wide) (greatest_size wide) disk input name base inputs temporary shown in
     let some_is : status ≡ plain does.answer = some.is_status ∙ status_create command name base inputs temporary o wide some.result a ∙ ap plain handed.1 in
-    record {
-      comes = λ unexplained had has. comes_so m disk c now left.made command name base inputs temporary o wide start does.end final told some.before said unsaid does.answer some.result status a handed.0 handed.1 speaks (says_only explained (asked_in command) some.result (y.calls new) now some.more some.before said unsaid unexplained some.explains some.says) some.is_status (so.answer had has);
+    named_holds m (word_size wide) (greatest_size wide) disk input name base inputs temporary o shown explained was now left.made start final told said status shows.1
+    (record {
+      comes = λ had has. comes_so m disk c explained now left.made command name base inputs temporary o wide start does.end final told some.before said unsaid does.answer some.result status a handed.0 handed.1 speaks (λ unexplained. says_only explained (asked_in command) some.result (y.calls new) now some.more some.before said unsaid unexplained some.explains some.says) some.is_status (so.answer had has);
       done = λ zero. if_done _ does.answer so.done (sym some_is ∙ zero);
       failed = λ other. if_not_done _ does.answer so.failed (λ zero. other (some_is ∙ zero));
       moments = so.moments;
-    }
+    })
 
-pub run_is_created : {F I M R Y W V : Type 0} (s : Ghosts F) (m : Ghosts M) (r : Raw R) (remaining : I → Option (List ℕ)) (y : Systems Y F I M) (planned : Result Asked Usage) (explained : Bool) (given : Option (List ℕ)) (old new : Y) (was now : NameCalls) (left : Left F M) (of_output : W → Option (List ℕ)) (of_errors : V → Option (List ℕ)) (output_old output_new : Writer W) (errors_old errors_new : Writer V) (status : ℕ)
+pub run_is_created : {F I M R Y W V : Type 0} (s : Ghosts F) (m : Ghosts M) (r : Raw R) (remaining : I → Option (List ℕ)) (y : Systems Y F I M) (planned : Result Asked Refused) (explained : Bool) (given : Option (List ℕ)) (old new : Y) (was now : NameCalls) (left : Left F M) (of_output : W → Option (List ℕ)) (of_errors : V → Option (List ℕ)) (output_old output_new : Writer W) (errors_old errors_new : Writer V) (status : ℕ)
     → (held_by output_old ≡ [] → HasHandedOn output_new) → HasHandedOn errors_new
     → Runs s m r remaining y planned explained given old new was now left (output_bytes of_output output_old) (output_bytes of_output output_new) (of_output output_new.writer) (output_bytes of_errors errors_old) (output_bytes of_errors errors_new) (OutputFailed output_new) (OutputFailed errors_new) status
     → IsCreateForetold s m remaining y planned explained given old new was now left (output_bytes of_output output_old) (of_output output_new.writer) (output_bytes of_errors errors_old) (of_errors errors_new.writer) (IsTaken output_old output_new errors_new) status

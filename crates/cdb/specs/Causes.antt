@@ -1,9 +1,11 @@
 -- Which file a fault is of, and the line that names it.
-use Rattle.std.specs.Prelude.{ℕ, ◌≡◌, ◌⊎◌, ◌++◌, List, [], ◌∷◌, Option, None, Some, codes}
-use Rattle.std.specs.Prelude.{◌+◌, ◌-◌, ◌/◌, ◌%◌, ◌==◌, ◌||◌, nat_lt, if◌then◌else◌, flat_map, get_or, bytes_eq}
+use Rattle.std.specs.Prelude.{ℕ, ◌≡◌, ◌⊎◌, ◌++◌, List, [], Option, None, Some, codes}
+use Rattle.std.specs.Prelude.{◌-◌, if◌then◌else◌}
 use Rattle.std.specs.Prelude.{Bool, true, false, Result, Ok, Err}
 use Rattle.cdb_command.specs.Asked.{Asked}
 use Rattle.cdb_command.specs.Asked as asked
+use Rattle.cdb_command.specs.Shown.{shown}
+pub use Rattle.cdb_tool.specs.Message.{said_input, input_at}
 use Rattle.cdb_files.specs.declared.refusal.Cause.{Cause}
 use Rattle.cdb_files.specs.Folder.{NameCalls}
 use Rattle.cdb_files.specs.Refusals.{refused_for}
@@ -32,9 +34,6 @@ abbrev pub IsNoNameOf : Asked → (name : List ℕ) → Type 0
 IsNoNameOf (asked.Create database base inputs temporary options wide) name =
     (name ≡ database) × IsNoName name
 IsNoNameOf command name = ⊥
-
-abbrev pub said_input : List ℕ → List ℕ
-said_input name = if bytes_eq name (codes "-") then codes "standard input" else name
 
 abbrev pub or_standard : Option (List ℕ) → List ℕ
 or_standard None = codes "standard input"
@@ -69,10 +68,6 @@ IsMadeName (asked.Create database base inputs temporary options wide) name =
     ⊎ ((IsInPlace database temporary → ⊥) × (name ≡ temporary_of database temporary))
 IsMadeName command name = ⊥
 
--- an input, counted from 1. A hyphen is standard input, and no inputs are one
-abbrev pub input_at : List (List ℕ) → (number : ℕ) → List ℕ
-input_at inputs number = said_input (get_or inputs (number - 1) (codes "-"))
-
 abbrev pub input_name : Asked → (number : ℕ) → List ℕ
 input_name (asked.Create database base inputs temporary options wide) number =
     input_at inputs number
@@ -102,20 +97,6 @@ IsCause command Output opened named name =
 IsCause command fault opened named name = IsOfDatabase command fault name
 
 -- ---- the line that names it
-
--- a byte of a name that could end the line or command a terminal is written as its number
-abbrev pub is_control : ℕ → Bool
-is_control b = nat_lt b 32 || (b == 127)
-
-abbrev pub digit : ℕ → ℕ
-digit n = if nat_lt n 10 then n + 48 else (n + 87)
-
-abbrev pub shown_byte : ℕ → List ℕ
-shown_byte b =
-    if is_control b then (codes "\\x" ++ digit (b / 16) ∷ digit (b % 16) ∷ []) else (b ∷ [])
-
-abbrev pub shown : List ℕ → List ℕ
-shown name = flat_map shown_byte name
 
 -- words were added
 abbrev pub IsAddedTo : (old new : List ℕ) → Type 0

@@ -5,13 +5,14 @@ use Rattle.std.specs.Prelude.{◌++◌, codes, Option, None, Some, option_map, R
 use Rattle.cdb_command.specs.Asked.{Asked}
 use Rattle.cdb_command.specs.Asked as asked
 use Rattle.cdb_command.specs.declared.options.MakeOptions.{MakeOptions}
-use Rattle.cdb_command.specs.declared.usage.Usage.{Usage}
+use Rattle.cdb_command.specs.Refused.{Refused}
 use Rattle.cdb_tool.specs.Runs.Made.{Made, made_of, made_file}
 use Rattle.cdb_tool.specs.Status.{plain_status}
 use Rattle.cdb_tool.specs.declared.fault.Fault.{Fault}
 use Rattle.cdb_tool.specs.declared.fault.Fault.TheVariants.{Open}
 use Rattle.cdb.specs.Creating.{temporary_of}
-use Rattle.cdb.specs.Oracle.{Disk, Outcome, command_outcome, ended, greatest_size, oracle, word_size}
+use Rattle.cdb.specs.Oracle.{Disk, Outcome, both, command_outcome, ended, greatest_size, inputs_of}
+use Rattle.cdb.specs.Oracle.{is_standard, oracle, word_size}
 
 -- ---- the disk
 
@@ -29,30 +30,6 @@ pub record Created : Type 0 where
   pub unsure : Option (List ℕ)
 
 -- ---- what is read
-
--- a name is that of standard input
-abbrev pub is_standard : List ℕ → Bool
-is_standard name = bytes_eq name (codes "-")
-
--- both, if there are both
-abbrev pub both : {A B C : Type 0} → (A → B → C) → Option A → Option B → Option C
-both f (Some a) (Some b) = Some (f a b)
-both f (Some a) None = None
-both f None b = None
-
--- the bytes of an input, or none for standard input; and those of all
-abbrev pub input_of : Disk → List ℕ → Option (Option (List ℕ))
-input_of disk name =
-    if is_standard name then Some None else option_map (λ bytes. Some bytes) (disk name)
-
-abbrev pub each_of : Disk → List (List ℕ) → Option (List (Option (List ℕ)))
-each_of disk [] = Some []
-each_of disk (name ∷ names) = both (λ x xs. x ∷ xs) (input_of disk name) (each_of disk names)
-
--- no names stand for standard input
-abbrev pub inputs_of : Disk → List (List ℕ) → Option (List (Option (List ℕ)))
-inputs_of disk [] = Some (None ∷ [])
-inputs_of disk (name ∷ names) = each_of disk (name ∷ names)
 
 -- the bytes of a base, if there is one
 abbrev pub base_of : Disk → Option (List ℕ) → Option (Option (List ℕ))
@@ -183,6 +160,6 @@ command_ending (asked.Create name base inputs temporary options wide) disk input
     temporary options)
 command_ending command disk input = reading_ending disk (command_outcome command disk input)
 
-abbrev pub foretell : Result Asked Usage → Disk → (input : List ℕ) → Ending
+abbrev pub foretell : Result Asked Refused → Disk → (input : List ℕ) → Ending
 foretell (Ok command) disk input = command_ending command disk input
-foretell (Err usage) disk input = reading_ending disk (oracle (Err usage) disk input)
+foretell (Err refused) disk input = reading_ending disk (oracle (Err refused) disk input)

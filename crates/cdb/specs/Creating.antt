@@ -59,10 +59,15 @@ abbrev pub HasDatabase : {F : Type 0} → Ghosts F → Making F → Option F →
     → Type 0
 HasDatabase f m back images = (b : List ℕ) → images b → IsDatabase f m back b
 
--- a fault of the store that is built in comes only if that store failed
+-- a fault of the store that is built in comes only if that store failed since it had failed so often,
+-- and want of memory only if it did not
+abbrev pub IsCaused : Fault → (before after : ℕ) → Type 0
+IsCaused fault before after =
+    (IsOfStore fault → before < after) × (fault ≡ NoMemory → after ≡ before)
+
 abbrev pub HasCause : {S : Type 0} → Ghosts S → (store left : S) → Result Unit Fault → Type 0
 HasCause s store left made =
-    IfErr made (λ fault. IsOfStore fault → s.failures store < s.failures left)
+    IfErr made (λ fault. IsCaused fault (s.failures store) (s.failures left))
 
 -- a run made it, or failed to: the base as it is then, the images that are left, the lines that were
 -- said, and the answer. A fault of the base's store comes only if that store failed
@@ -240,7 +245,7 @@ pub record Replaces {F R : Type 0} (f : Ghosts F) (r : Raw R) (m : Making F)
   pub renamed : OnOk answer (renames new ≡ renames old + 1)
   pub unrenamed : OnErr answer (renames new ≡ renames old)
   pub build : IfErr answer (IsOfBuilder (FailsToBuild {file = r}
-      (λ store left fault. IsOfStore fault → failures_of store < failures_of left) temporary new))
+      (λ store left fault. IsCaused fault (failures_of store) (failures_of left)) temporary new))
   pub lines : Tells r (λ base. base ≡ m.base)
       (λ base before after images made. IsBufferedRun f m base images before after made)
       temporary name old new back told said answer

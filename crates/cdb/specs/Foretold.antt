@@ -3,22 +3,25 @@ use Rattle.std.specs.Prelude.{ℕ, ◌≡◌, ◌⊎◌, Bool, true, false, List
 use Rattle.std.specs.Io.KnownBytes.{Appends}
 use Rattle.cdb_command.specs.Asked.{Asked}
 use Rattle.cdb_command.specs.Asked as asked
-use Rattle.cdb_command.specs.declared.usage.Usage.{Usage}
+use Rattle.cdb_command.specs.Refused.{Refused}
 use Rattle.cdb_files.specs.declared.answer.Answer.TheVariants.{No}
 use Rattle.cdb_files.specs.declared.name_fault.NameFault.TheVariants as why
 use Rattle.cdb_form.specs.Format.Walk.{walk_of}
+use Rattle.cdb_form.specs.Format.Record.{AreBytes}
 use Rattle.cdb_form.specs.Views.KnownBytes.{AppendsPrefix}
+use Rattle.cdb_form.specs.declared.text.fault.TextFault.TheVariants as text
 use Rattle.cdb_form.specs.declared.walk.fault.WalkFault.TheVariants as walk
 use Rattle.cdb_read.specs.InOrder.{FindsInOrder}
 use Rattle.cdb_store.specs.declared.store.Store.{Ghosts}
 use Rattle.cdb_tool.specs.Message.{fault_line}
+use Rattle.cdb_tool.specs.Runs.MakesSo.{KnownFor}
 use Rattle.cdb_tool.specs.Views.Output.{held_by, OutputFailed}
 use Rattle.cdb_tool.specs.declared.fault.Fault.{Fault}
-use Rattle.cdb_tool.specs.declared.fault.Fault.TheVariants.{Walk, Output, NoMemory}
+use Rattle.cdb_tool.specs.declared.fault.Fault.TheVariants.{Text, Walk, Output, NoMemory}
 use Rattle.cdb_tool.specs.declared.output.Output.{Output as Writer}
 use Rattle.cdb.specs.Opening.{OpenCalls}
 use Rattle.cdb.specs.Created.{foretell}
-use Rattle.cdb.specs.Oracle.{Disk, Outcome, word_size}
+use Rattle.cdb.specs.Oracle.{Disk, Outcome, inputs_of, word_size}
 use Rattle.cdb.specs.declared.left.Left.{Left}
 use Rattle.cdb.specs.declared.open_trace.OpenCall.{OpenCall}
 use Rattle.cdb.specs.declared.open_trace.OpenCall.TheVariants.{AtPlaces, InTurn, Stream, Emptied}
@@ -74,13 +77,27 @@ if_some (Some store) = store ∷ []
 abbrev pub stores_in : {F M : Type 0} → Left F M → List F
 stores_in left = if_some left.other ++ if_some left.read
 
+-- the files and standard input have bytes
+pub record IsOfBytes (disk : Disk) (input : List ℕ) : Type 0 where
+  pub files : (name : List ℕ) → IfSome (disk name) AreBytes
+  pub standard : AreBytes input
+
+-- they do, and standard input has these, if one of these inputs begins with them
+pub record GivesInputs (disk : Disk) (inputs : List (List ℕ)) (input : List ℕ)
+    (given : Option (List ℕ)) : Type 0 where
+  pub bytes : IsOfBytes disk input
+  pub known : (files : List (Option (List ℕ))) → inputs_of disk inputs ≡ Some files
+      → KnownFor files given input
+
 -- standard input has these bytes, if it is read
-abbrev pub ReadsInput : Asked → (input : List ℕ) → (given : Option (List ℕ)) → Type 0
-ReadsInput (asked.Dump None style wide) input given = given ≡ Some input
-ReadsInput (asked.Listing None style wide) input given = given ≡ Some input
-ReadsInput (asked.Stats None wide) input given = given ≡ Some input
-ReadsInput (asked.Check None wide) input given = given ≡ Some input
-ReadsInput command input given = ⊤
+abbrev pub ReadsInput : Disk → Asked → (input : List ℕ) → (given : Option (List ℕ)) → Type 0
+ReadsInput disk (asked.Dump None style wide) input given = given ≡ Some input
+ReadsInput disk (asked.Listing None style wide) input given = given ≡ Some input
+ReadsInput disk (asked.Stats None wide) input given = given ≡ Some input
+ReadsInput disk (asked.Check None wide) input given = given ≡ Some input
+ReadsInput disk (asked.Lookups name inputs number style wide) input given =
+    GivesInputs disk inputs input given
+ReadsInput disk command input given = ⊤
 
 -- a file has no damage, and its look-ups give what its walk gives, as in each file that cdb made
 abbrev pub IsInOrder : ℕ → (file : Option (List ℕ)) → Type 0
@@ -99,7 +116,7 @@ pub record Honest {F I M Y : Type 0} (s : Ghosts F) (remaining : I → Option (L
   pub calls : OpenCalls
   pub are : y.calls new ≡ calls ++ y.calls old
   pub answered : AreAnswered s remaining y disk calls (stores_in left)
-  pub reads : ReadsInput command input given
+  pub reads : ReadsInput disk command input given
   pub in_order : AreInOrder disk command
 
 -- ---- what comes of it
@@ -111,32 +128,41 @@ pub record ComesTrue (o : Outcome) (start final told said : Option (List ℕ)) (
     pub output : Appends start final o.output
     pub lines : Appends told said o.lines
 
--- whether a command writes on standard output, and whether it reads from its start what it reads
+-- whether a command writes on standard output
 abbrev pub writes_output : Asked → Bool
 writes_output (asked.Check name wide) = false
 writes_output command = true
 
-abbrev pub reads_in_turn : Asked → Bool
-reads_in_turn (asked.Dump name style wide) = true
-reads_in_turn (asked.Listing name style wide) = true
-reads_in_turn (asked.Stats None wide) = true
-reads_in_turn (asked.Check None wide) = true
-reads_in_turn command = false
+-- what it reads from its start: nothing, a database, or the texts of some inputs
+pub data Reading : Type 0 where
+  Nothing : Reading
+  Database : Reading
+  Texts : Reading
+
+abbrev pub reads_in_turn : Asked → Reading
+reads_in_turn (asked.Lookups name inputs number style wide) = Texts
+reads_in_turn (asked.Dump name style wide) = Database
+reads_in_turn (asked.Listing name style wide) = Database
+reads_in_turn (asked.Stats None wide) = Database
+reads_in_turn (asked.Check None wide) = Database
+reads_in_turn command = Nothing
 
 -- an allocation failed; standard output, where it is written; or a reader, where one is read
-abbrev pub IsRefusal : (writes reads : Bool) → Fault → Type 0
+abbrev pub IsRefusal : (writes : Bool) → (reads : Reading) → Fault → Type 0
 IsRefusal writes reads NoMemory = ⊤
 IsRefusal writes reads Output = writes ≡ true
-IsRefusal writes reads (Walk walk.Input) = reads ≡ true
+IsRefusal writes reads (Walk walk.Input) = reads ≡ Database
+IsRefusal writes reads (Text n text.Input) = reads ≡ Texts
+IsRefusal writes reads (Text n text.Endless) = reads ≡ Texts
 IsRefusal writes reads fault = ⊥
 
 -- a refusal of what the words ask for
-abbrev pub MayFail : (planned : Result Asked Usage) → Fault → Type 0
+abbrev pub MayFail : (planned : Result Asked Refused) → Fault → Type 0
 MayFail (Ok command) fault = IsRefusal (writes_output command) (reads_in_turn command) fault
-MayFail (Err usage) fault = fault ≡ NoMemory
+MayFail (Err refused) fault = fault ≡ NoMemory
 
 -- that was reported, and what was written is a prefix
-pub record IsRefused (planned : Result Asked Usage) (o : Outcome)
+pub record IsRefused (planned : Result Asked Refused) (o : Outcome)
     (start final told said : Option (List ℕ)) (status : ℕ) : Type 0 where
   pub fault : Fault
   pub refusal : MayFail planned fault
@@ -149,20 +175,19 @@ abbrev pub IsTaken : {O E : Type 0} → (old new : Writer O) → (errors : Write
 IsTaken old new errors =
     (held_by old ≡ []) × (OutputFailed new → ⊥) × (OutputFailed errors → ⊥)
 
--- the words ask neither for a create nor for a query of many keys
-abbrev pub AsksNeither : Result Asked Usage → Type 0
-AsksNeither (Ok (asked.Create name base inputs temporary options wide)) = ⊥
-AsksNeither (Ok (asked.Lookups name inputs number style wide)) = ⊥
-AsksNeither planned = ⊤
+-- the words ask for no create
+abbrev pub AsksNoCreate : Result Asked Refused → Type 0
+AsksNoCreate (Ok (asked.Create name base inputs temporary options wide)) = ⊥
+AsksNoCreate planned = ⊤
 
--- a run of such words that explains no fault, and whose output and whose lines were taken came to what the oracle says, or to a
--- refusal
+-- a run of such words that explains no fault, and whose output and whose lines were taken came to what
+-- the oracle says, or to a refusal
 abbrev pub IsForetold : {F I M Y : Type 0} → Ghosts F → (I → Option (List ℕ)) → Systems Y F I M
-    → (planned : Result Asked Usage) → (explained : Bool) → (given : Option (List ℕ))
+    → (planned : Result Asked Refused) → (explained : Bool) → (given : Option (List ℕ))
     → (old new : Y) → Left F M → (start final told said : Option (List ℕ)) → (taken : Type 0)
     → (status : ℕ) → Type 0
 IsForetold s remaining y planned explained given old new left start final told said taken status =
-    (disk : Disk) → (input : List ℕ) → taken → explained ≡ false → AsksNeither planned
+    (disk : Disk) → (input : List ℕ) → taken → explained ≡ false → AsksNoCreate planned
     → IfOk planned (λ command. Honest s remaining y disk input command given old new left)
     → ComesTrue (foretell planned disk input).outcome start final told said status
     ⊎ IsRefused planned (foretell planned disk input).outcome start final told said status

@@ -1,17 +1,16 @@
 -- What the oracle says of a create comes true if the calls were answered as the disk is. The newest call
 -- comes first.
 use Rattle.std.specs.Prelude.{ℕ, ◌≡◌, ◌≢◌, ◌⊎◌, ⊤, bytes_eq, Bool, true, false, List, [], ◌++◌}
-use Rattle.std.specs.Prelude.{if◌then◌else◌, Option, None, Some, Result, Ok, IfSome}
+use Rattle.std.specs.Prelude.{if◌then◌else◌, Option, None, Some, Result, Ok}
 use Rattle.std.specs.List.{AllByRecursion}
 use Rattle.std.specs.Io.KnownBytes.{Appends}
 use Rattle.cdb_command.specs.Asked.{Asked, Create}
 use Rattle.cdb_command.specs.declared.options.MakeOptions.{MakeOptions}
-use Rattle.cdb_command.specs.declared.usage.Usage.{Usage}
+use Rattle.cdb_command.specs.Refused.{Refused}
 use Rattle.cdb_files.specs.Folder.{Has, IsCleared, MayHave, NameCalls}
 use Rattle.cdb_files.specs.Replacing.{AtEachMoment, IsNew, NameEvent}
 use Rattle.cdb_files.specs.declared.answer.Answer.TheVariants.{No}
 use Rattle.cdb_files.specs.declared.name_trace.NameCall.TheVariants.{Input, NotRemoved, NotRenamed, Same}
-use Rattle.cdb_form.specs.Format.Record.{AreBytes}
 use Rattle.cdb_form.specs.Views.KnownBytes.{AppendsPrefix}
 use Rattle.cdb_store.specs.Calls.{Agrees, Calls, lost}
 use Rattle.cdb_store.specs.declared.store.Store.{Ghosts}
@@ -19,12 +18,11 @@ use Rattle.cdb_tool.specs.Message.{fault_line}
 use Rattle.cdb_tool.specs.Runs.MakesSo.{IsMakeRefusal, KnownFor}
 use Rattle.cdb_tool.specs.declared.fault.Fault.{Fault}
 use Rattle.cdb_tool.specs.declared.fault.Fault.TheVariants.{Open, Rename}
-use Rattle.cdb.specs.Created.{Created, create_of, created_ending, inputs_of, is_in_place}
-use Rattle.cdb.specs.Created.{is_standard}
+use Rattle.cdb.specs.Created.{Created, create_of, created_ending, is_in_place}
 use Rattle.cdb.specs.Creating.{temporary_of}
-use Rattle.cdb.specs.Foretold.{ComesTrue, IsAnswered, if_some}
+use Rattle.cdb.specs.Foretold.{IsAnswered, IsOfBytes, if_some}
 use Rattle.cdb.specs.Opening.{OpenCalls}
-use Rattle.cdb.specs.Oracle.{Disk, greatest_size, word_size}
+use Rattle.cdb.specs.Oracle.{Disk, greatest_size, inputs_of, is_standard, word_size}
 use Rattle.cdb.specs.declared.left.Left.{Left}
 use Rattle.cdb.specs.declared.system.System.{Ghosts as Systems}
 
@@ -40,11 +38,6 @@ IsNoAlias (call, one, two, file) = ⊤
 -- the place of a name, to which no other leads
 abbrev pub place_of : (name : List ℕ) → List ℕ → Bool
 place_of name other = bytes_eq other name
-
--- the files and standard input have bytes
-pub record IsOfBytes (disk : Disk) (input : List ℕ) : Type 0 where
-  pub files : (name : List ℕ) → IfSome (disk name) AreBytes
-  pub standard : AreBytes input
 
 -- each call was answered as the disk is, no call on names came before, and the name has something
 pub record HonestCreate {F I M Y : Type 0} (s : Ghosts F) (remaining : I → Option (List ℕ))
@@ -126,34 +119,38 @@ IsCreateRefusal Open = ⊤
 IsCreateRefusal Rename = ⊤
 IsCreateRefusal fault = IsMakeRefusal fault
 
--- it was reported, and what was written is a prefix
-pub record IsGivenUp (c : Created) (start final told said : Option (List ℕ)) (status : ℕ) : Type 0
-  where
-    pub fault : Fault
-    pub refusal : IsCreateRefusal fault
-    pub is_status : status ≡ 111
-    pub output : AppendsPrefix start final c.output
-    pub front : List ℕ
-    pub more : List ℕ
-    pub split : c.lines ≡ front ++ more
-    pub lines : Appends told said (front ++ fault_line fault)
+-- of these lines a part was said, and then the last one
+abbrev pub SaysPart : (lines last : List ℕ) → (told said : Option (List ℕ)) → Type 0
+SaysPart lines last told said =
+    (part : List ℕ) × (more : List ℕ) × (lines ≡ part ++ more) × Appends told said (part ++ last)
 
--- it came to what was said, and so did the disk
+-- it was reported, and what was written is a prefix; and so is what was said, unless faults are explained
+pub record IsGivenUp (c : Created) (explained : Bool) (start final told said : Option (List ℕ))
+    (status : ℕ) : Type 0 where
+  pub fault : Fault
+  pub refusal : IsCreateRefusal fault
+  pub is_status : status ≡ 111
+  pub output : AppendsPrefix start final c.output
+  pub lines : explained ≡ false → SaysPart c.lines (fault_line fault) told said
+
+-- it came to what was said, and so did the disk, and the lines unless faults are explained
 pub record IsCreated {M : Type 0} (m : Ghosts M) (disk : Disk) (name : List ℕ) (c : Created)
-    (now : NameCalls) (made : Option M) (start final told said : Option (List ℕ)) (status : ℕ)
-    : Type 0 where
-  pub true_so : ComesTrue (created_ending c).outcome start final told said status
+    (explained : Bool) (now : NameCalls) (made : Option M) (start final told said : Option (List ℕ))
+    (status : ℕ) : Type 0 where
+  pub is_status : status ≡ (created_ending c).outcome.status
+  pub output : Appends start final (created_ending c).outcome.output
+  pub lines : explained ≡ false → Appends told said (created_ending c).outcome.lines
   pub disk_is : AllByRecursion IsNoFailedRemoval now → HoldsAll m disk name made now c
 
--- what was foretold, from the words to the exit status: unless faults are explained it came true, or a
--- refusal was reported; at status 0 the disk is as was said, at another as it was; and at each moment a
--- crash leaves what was there or what was said
+-- what was foretold, from the words to the exit status: it came true, or a refusal was reported; at
+-- status 0 the disk is as was said, at another as it was; and at each moment a crash leaves what was there
+-- or what was said
 pub record CreateHolds {M : Type 0} (m : Ghosts M) (disk : Disk) (name : List ℕ)
     (temporary : Option (List ℕ)) (c : Created) (explained : Bool) (was now : NameCalls)
     (made : Option M) (start final told said : Option (List ℕ)) (status : ℕ) : Type 0 where
-  pub comes : explained ≡ false → HadBytes (temporary_of name temporary) now → HasBytes m made
-      → IsCreated m disk name c now made start final told said status
-      ⊎ IsGivenUp c start final told said status
+  pub comes : HadBytes (temporary_of name temporary) now → HasBytes m made
+      → IsCreated m disk name c explained now made start final told said status
+      ⊎ IsGivenUp c explained start final told said status
   pub done : status ≡ 0 → HoldsAll m disk name made now c
   pub failed : status ≢ 0 → AllByRecursion IsNoFailedRename now
       → KeepsAll disk (passing name temporary) now
@@ -161,7 +158,7 @@ pub record CreateHolds {M : Type 0} (m : Ghosts M) (disk : Disk) (name : List �
 
 -- a run of these words, which ask for a create
 abbrev pub IsCreateForetold : {F I M Y : Type 0} → Ghosts F → Ghosts M → (I → Option (List ℕ))
-    → Systems Y F I M → (planned : Result Asked Usage) → (explained : Bool)
+    → Systems Y F I M → (planned : Result Asked Refused) → (explained : Bool)
     → (given : Option (List ℕ)) → (old new : Y) → (was now : NameCalls) → Left F M → (start final told said : Option (List ℕ))
     → (taken : Type 0) → (status : ℕ) → Type 0
 IsCreateForetold s m remaining y planned explained given old new was now left start final told said taken

@@ -1,11 +1,12 @@
 -- What the program comes to if nothing is refused: a function of its words, of what each file has and
--- of what standard input has. Of a create, and of a query of many keys, it says nothing.
-use Rattle.std.specs.Prelude.{ℕ, Bool, nat_lt, if◌then◌else◌, List, [], length, Option, None, Some}
-use Rattle.std.specs.Prelude.{Result, Ok, Err}
+-- of what standard input has. Of a create it says nothing.
+use Rattle.std.specs.Prelude.{ℕ, Bool, bytes_eq, nat_lt, if◌then◌else◌, List, [], ◌∷◌, length, codes}
+use Rattle.std.specs.Prelude.{Option, None, Some, option_map, Result, Ok, Err}
 use Rattle.cdb_command.specs.Asked.{Asked}
 use Rattle.cdb_command.specs.Asked as asked
 use Rattle.cdb_command.specs.Usage.{usage_text, version_text}
-use Rattle.cdb_command.specs.declared.usage.Usage.{Usage}
+use Rattle.cdb_command.specs.declared.style.Style.{Style}
+use Rattle.cdb_command.specs.Refused.{Refused, usage_of}
 use Rattle.cdb_form.specs.Format.Pair.{head_size}
 use Rattle.cdb_form.specs.Format.Walk.{walk_of}
 use Rattle.cdb_form.specs.Text.Amending.{amending_text}
@@ -18,6 +19,7 @@ use Rattle.cdb_read.specs.Views.ReadFault.{damage_fault}
 use Rattle.cdb_tool.specs.Message.{fault_line}
 use Rattle.cdb_tool.specs.Runs.Difference.{difference_of}
 use Rattle.cdb_tool.specs.Runs.Form.{Form, dump_form, list_form}
+use Rattle.cdb_tool.specs.Runs.LookedUp.{records_asked}
 use Rattle.cdb_tool.specs.Runs.Query.{Query, query_text, query_answer, value_text}
 use Rattle.cdb_tool.specs.Runs.Stats.{statistics_text}
 use Rattle.cdb_tool.specs.Runs.WalkText.{walk_text}
@@ -59,6 +61,14 @@ abbrev pub query_outcome : ℕ → Query → List ℕ → Outcome
 query_outcome w q bytes =
     if nat_lt (length bytes) (head_size w) then ended plain_status [] (met (Some Short))
     else ended plain_status (query_text w bytes q) (query_answer w bytes q)
+
+-- the records of the keys that inputs give, in texts with lengths of at most g
+abbrev pub lookups_outcome : (w g : ℕ) → Option ℕ → Style → (inputs : List (Option (List ℕ)))
+    → (shared : List ℕ) → List ℕ → Outcome
+lookups_outcome w g number style inputs shared bytes =
+    if nat_lt (length bytes) (head_size w) then ended plain_status [] (met (Some Short))
+    else let looked = records_asked w g number style inputs shared bytes in
+    ended plain_status looked.text looked.answer
 
 -- the whole records before the damage, or their keys
 abbrev pub text_outcome : ℕ → Form → List ℕ → Outcome
@@ -104,6 +114,35 @@ of_taken most disk input (Some name) outcome = of_file (disk name) outcome
 of_taken most disk input None outcome =
     if nat_lt most (length input) then ended plain_status [] (Err Long) else outcome input
 
+-- a name is that of standard input
+abbrev pub is_standard : List ℕ → Bool
+is_standard name = bytes_eq name (codes "-")
+
+-- both, if there are both
+abbrev pub both : {A B C : Type 0} → (A → B → C) → Option A → Option B → Option C
+both f (Some a) (Some b) = Some (f a b)
+both f (Some a) None = None
+both f None b = None
+
+-- the bytes of an input, or none for standard input; and those of all
+abbrev pub input_of : Disk → List ℕ → Option (Option (List ℕ))
+input_of disk name =
+    if is_standard name then Some None else option_map (λ bytes. Some bytes) (disk name)
+
+abbrev pub each_of : Disk → List (List ℕ) → Option (List (Option (List ℕ)))
+each_of disk [] = Some []
+each_of disk (name ∷ names) = both (λ x xs. x ∷ xs) (input_of disk name) (each_of disk names)
+
+-- no names stand for standard input
+abbrev pub inputs_of : Disk → List (List ℕ) → Option (List (Option (List ℕ)))
+inputs_of disk [] = Some (None ∷ [])
+inputs_of disk (name ∷ names) = each_of disk (name ∷ names)
+
+-- they are all there, or one cannot be opened
+abbrev pub of_inputs : Option (List (Option (List ℕ))) → (List (Option (List ℕ)) → Outcome) → Outcome
+of_inputs None outcome = ended plain_status [] (Err Open)
+of_inputs (Some inputs) outcome = outcome inputs
+
 -- ---- the oracle
 
 -- how many bytes a word has, and how many a file that is taken into memory
@@ -119,7 +158,9 @@ command_outcome (asked.Query name key number lines wide) disk input =
     Some (of_file (disk name)
     (query_outcome (word_size wide)
     (record { key = key; number = number; shown = value_text lines })))
-command_outcome (asked.Lookups name inputs number style wide) disk input = None
+command_outcome (asked.Lookups name inputs number style wide) disk input =
+    Some (of_file (disk name) (λ bytes. of_inputs (inputs_of disk inputs) (λ files.
+    lookups_outcome (word_size wide) (greatest_size wide) number style files input bytes)))
 command_outcome (asked.Dump name style wide) disk input =
     Some (of_read disk input name (text_outcome (word_size wide) (dump_form style)))
 command_outcome (asked.Listing name style wide) disk input =
@@ -136,7 +177,11 @@ command_outcome asked.Help disk input = Some (ended plain_status usage_text (Ok 
 command_outcome asked.Version disk input = Some (ended plain_status version_text (Ok tt))
 
 -- of what the words are planned to ask for
-abbrev pub oracle : Result Asked Usage → Disk → (input : List ℕ) → Option Outcome
+abbrev pub oracle : Result Asked Refused → Disk → (input : List ℕ) → Option Outcome
 oracle (Ok command) disk input = command_outcome command disk input
-oracle (Err usage) disk input =
-    Some (record { status = usage_status usage; output = []; lines = usage_line usage })
+oracle (Err refused) disk input =
+    Some (record {
+      status = usage_status (usage_of refused);
+      output = [];
+      lines = usage_line (usage_of refused);
+    })

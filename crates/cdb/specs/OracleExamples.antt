@@ -1,13 +1,18 @@
 -- What the oracle says of worked files, and calls by which it comes true.
 use Rattle.std.specs.Prelude.{ℕ, ◌≡◌, true, false, bytes_eq, if◌then◌else◌, List, [], ◌∷◌, ◌++◌}
-use Rattle.std.specs.Prelude.{take, codes, Option, None, Some, ⊤, refl}
+use Rattle.std.specs.Prelude.{take, codes, Option, None, Some, IfSome, ⊤, refl, zero, suc}
+use Rattle.std.proofs.Common.{arith, subst}
+use Rattle.std.proofs.lemmas.Bool.{cond_both}
 use Rattle.std.specs.Fmt.{digits}
-use Rattle.cdb_command.specs.Asked.{Query, Dump, Listing, Stats, Check, Difference}
+use Rattle.cdb_command.specs.Asked.{Query, Lookups, Dump, Listing, Stats, Check, Difference}
 use Rattle.cdb_command.specs.declared.style.Style.TheVariants.{Native, Map}
 use Rattle.cdb_form.specs.Examples.WorkedFiles.{words_of, repeat, put_at, two_file, foreign_file}
+use Rattle.cdb_form.proofs.Bytes.ByteLemmas.{AreBytes-nil}
 use Rattle.cdb_form.specs.Format.Reading.{head_at}
+use Rattle.cdb_form.specs.Format.Record.{AreBytes}
 use Rattle.cdb_form.specs.Format.Table.{entries_from}
 use Rattle.cdb_form.specs.Format.Walk.{walk_of, walk_from, whole_records, record_end}
+use Rattle.cdb_form.specs.Text.Parse.{text_from}
 use Rattle.cdb_read.specs.Difference.{difference, first_keys, values_eq}
 use Rattle.cdb_read.specs.OtherWidth.{lacks_tables}
 use Rattle.cdb_read.specs.Faults.{first_fault, first_of, slots_fault}
@@ -17,10 +22,11 @@ use Rattle.cdb_read.specs.Statistics.{distances_in, statistics_of, statistics_da
 use Rattle.cdb_store.specs.Contents.{contents}
 use Rattle.cdb_store.specs.contracts.memory.MemStoreStore.TheImpl.{ghosts as in_memory}
 use Rattle.cdb_store.specs.declared.memory.MemStore.{MemStore}
+use Rattle.cdb_tool.specs.Runs.MakesSo.{KnownFor}
 use Rattle.cdb_tool.specs.Runs.StatsText.{distance_lines, stats_text}
 use Rattle.cdb.specs.Foretold.{Honest, Reveals}
 use Rattle.cdb.specs.Opening.{OpenCalls, none_left, read_left}
-use Rattle.cdb.specs.Oracle.{Disk, Outcome, command_outcome}
+use Rattle.cdb.specs.Oracle.{Disk, Outcome, command_outcome, lookups_outcome}
 use Rattle.cdb.specs.declared.open_trace.OpenCall.TheVariants.{AtPlaces, InTurn}
 use Rattle.cdb.specs.declared.system.System.{Ghosts as Systems}
 
@@ -109,6 +115,30 @@ difference_is : command_outcome (Difference name other false) disk [] ≡ comes 
 unfolding disk name other comes two_stats two_file foreign_file put_at words_of repeat walk_of walk_from whole_records record_end head_at lookup_of met_slots found_at statistics_of statistics_damage distances_in stats_text distance_lines first_fault first_of slots_fault all_slots entries_from digits difference first_keys values_eq lacks_tables
 difference_is = refl
 
+-- the records of two keys of standard input, of which one has no value
+keys_asked : command_outcome (Lookups name [] None Native false) disk (codes "+1:a\n+3:two\n\n") ≡ comes 100 (codes "+3,7:two->Goodbye\n\n") []
+unfolding disk name other comes two_stats two_file put_at words_of repeat walk_of walk_from whole_records record_end head_at lookup_of met_slots found_at statistics_of statistics_damage distances_in stats_text distance_lines first_fault first_of slots_fault all_slots entries_from digits text_from
+keys_asked = refl
+
+-- of a map text, the first of each
+lines_asked : command_outcome (Lookups name (codes "-" ∷ []) (Some 1) Map false) disk (codes "two\none and more\n") ≡ comes 0 (codes "two Goodbye\none Hello\n") []
+unfolding disk name other comes two_stats two_file put_at words_of repeat walk_of walk_from whole_records record_end head_at lookup_of met_slots found_at statistics_of statistics_damage distances_in stats_text distance_lines first_fault first_of slots_fault all_slots entries_from digits text_from
+lines_asked = refl
+
+-- of a list that is cut, and of an input that is not there
+cut_list_is : command_outcome (Lookups name [] None Native false) disk (codes "+3:one\n+3:tw") ≡ comes 111 (codes "+3,5:one->Hello\n") (codes "cdb: input 1: byte 12: text ends early\n")
+unfolding disk name other comes two_stats two_file put_at words_of repeat walk_of walk_from whole_records record_end head_at lookup_of met_slots found_at statistics_of statistics_damage distances_in stats_text distance_lines first_fault first_of slots_fault all_slots entries_from digits text_from
+cut_list_is = refl
+
+no_list_is : command_outcome (Lookups name (codes "-" ∷ codes "c" ∷ []) None Native false) disk (codes "+3:one\n\n") ≡ comes 111 [] (codes "cdb: file cannot be opened\n")
+unfolding disk name other comes two_stats two_file put_at words_of repeat walk_of walk_from whole_records record_end head_at lookup_of met_slots found_at statistics_of statistics_damage distances_in stats_text distance_lines first_fault first_of slots_fault all_slots entries_from digits text_from
+no_list_is = refl
+
+-- the record of the second key reaches past the end of the file; a third is not looked up
+damage_asked : lookups_outcome 4 4294967295 None Native (None ∷ []) (codes "+3:one\n+3:two\n+3:one\n\n") (put_at 2068 (200 ∷ []) two_file) ≡ record { status = 111; output = codes "+3,5:one->Hello\n"; lines = codes "cdb: record at 2064: not whole\n" }
+unfolding disk name other comes two_stats two_file put_at words_of repeat walk_of walk_from whole_records record_end head_at lookup_of met_slots found_at statistics_of statistics_damage distances_in stats_text distance_lines first_fault first_of slots_fault all_slots entries_from digits text_from
+damage_asked = refl
+
 -- ---- calls by which it comes true
 
 -- a system that opens each file of a disk: in memory, to be read at places, or as its bytes
@@ -141,5 +171,33 @@ dump_is_honest = record {
   are = refl;
   answered = (λ reader came. came, tt);
   reads = tt;
+  in_order = tt;
+}
+
+-- a query of the keys of an empty list, of which standard input is the only input
+empty_list_is : AreBytes (codes "\n")
+empty_list_is zero = omega arith
+empty_list_is (suc k) = omega arith
+
+unfoldable small : Disk
+unfolding name
+small file = if bytes_eq file name then Some [] else None
+
+small_has : (file : List ℕ) → IfSome (small file) AreBytes
+unfolding small name
+small_has file = cond_both (bytes_eq file name) _ _ (λ o. IfSome o AreBytes) (λ is. AreBytes-nil) (λ no. tt)
+
+of_none : (files : List (Option (List ℕ))) → ◌≡◌ {A = Option (List (Option (List ℕ)))} (Some (None ∷ [])) (Some files) → KnownFor files (Some (codes "\n")) (codes "\n")
+of_none files e = subst (λ (v : Option (List (Option (List ℕ)))). IfSome v (λ fs. KnownFor fs (Some (codes "\n")) (codes "\n"))) e refl
+
+lookups_are_honest : (store : MemStore) → [] ≡ contents store
+    → Honest in_memory Some (of_disk small) small (codes "\n") (Lookups name [] None Native false) (Some (codes "\n"))
+    [] ((AtPlaces, name) ∷ []) (read_left {M = MemStore} store)
+unfolding small name of_disk
+lookups_are_honest store has = record {
+  calls = (AtPlaces, name) ∷ [];
+  are = refl;
+  answered = ((has, refl), tt);
+  reads = record { bytes = record { files = small_has; standard = empty_list_is }; known = of_none };
   in_order = tt;
 }

@@ -1,12 +1,15 @@
 -- What a command does: the calls on files, in their order, and what it writes on its output.
-use Rattle.std.specs.Prelude.{ℕ, ◌≡◌, ◌⊎◌, ◌≤◌, Bool, true, false, List, [], ◌∷◌, ◌++◌, length, map}
-use Rattle.std.specs.Prelude.{Option, Some, None, Result, Ok, Err, OnOk, IfErr, IsOk, IfSome, ⊤, codes}
+use Rattle.std.specs.Prelude.{ℕ, ◌≡◌, ◌⊎◌, ◌≤◌, Bool, true, false, List, [], ◌∷◌, ◌++◌, length, map, option_map, string_bytes}
+use Rattle.std.specs.Prelude.{Option, Some, None, Result, Ok, Err, OnOk, IfErr, IfSome, ⊤, codes}
 use Rattle.std.specs.Io.KnownBytes.{Keeps, Appends, append_known}
 use Rattle.cdb_command.specs.Asked.{Asked, asked_in, has_wide_words}
 use Rattle.cdb_command.specs.Asked as asked
 use Rattle.cdb_command.specs.Usage.{usage_message, usage_text, version_text}
 use Rattle.cdb_command.specs.declared.command.Command.{Command}
 use Rattle.cdb_command.specs.declared.style.Style.{Style}
+use Rattle.cdb_command.specs.Refused.{Refused, refused_line, usage_of}
+use Rattle.cdb_command.specs.Refused as words
+use Rattle.cdb_command.specs.declared.options.MakeOptions.{MakeOptions}
 use Rattle.cdb_command.specs.declared.usage.Usage.{Usage}
 use Rattle.cdb_command.specs.declared.usage.Usage.TheVariants.{NoMemory}
 use Rattle.cdb_form.specs.Views.KnownBytes.{AppendsPrefix}
@@ -21,6 +24,7 @@ use Rattle.cdb_tool.specs.Runs.Difference.{TellsDifference}
 use Rattle.cdb_tool.specs.Runs.Form.{Form, dump_form, list_form}
 use Rattle.cdb_tool.specs.Runs.Load.{IsNotLoaded}
 use Rattle.cdb_tool.specs.Runs.Inputs.{InputsLeft}
+use Rattle.cdb_tool.specs.Runs.Flushed.{IsWhole}
 use Rattle.cdb_tool.specs.Runs.Lookups.{LooksUp}
 use Rattle.cdb_tool.specs.Runs.Query.{Query, Queries, value_text}
 use Rattle.cdb_tool.specs.Runs.Stats.{TellsStats}
@@ -257,80 +261,90 @@ pub record Tells (text : List ℕ) (start end : Option (List ℕ)) (result : Res
     pub ok : OnOk result (Appends start end text)
     pub err : IfErr result (λ fault. (fault ≡ Output) × AppendsPrefix start end text)
 
+-- ---- the options of a create, with the names of its inputs if duplicates are explained
+abbrev pub IsShown : (explained : Bool) → (inputs : List (List ℕ)) → (options shown : MakeOptions)
+    → Type 0
+IsShown false inputs options shown = shown ≡ options
+IsShown true inputs options shown =
+    (option_map (λ names. map string_bytes names.now) shown.names ≡ Some inputs)
+    × (shown ≡ record options { names = shown.names })
+
 -- ---- each command, in words of w bytes of files of at most so many; what is left open is handed back
 abbrev pub Performs : {F I M R Y : Type 0} → (w most : ℕ) → Ghosts F → Ghosts M → Raw R
-    → (I → Option (List ℕ)) → Systems Y F I M → Asked → (input : Option (List ℕ)) → (old new : Y)
-    → (was now : NameCalls) → Left F M → (start end told said : Option (List ℕ))
-    → Result Unit Fault → Type 0
-Performs w most s m r remaining y (asked.Query name key number lines wide) input old new was now
+    → (I → Option (List ℕ)) → Systems Y F I M → (explained : Bool) → Asked
+    → (input : Option (List ℕ)) → (old new : Y) → (was now : NameCalls) → Left F M
+    → (start end told said : Option (List ℕ)) → Result Unit Fault → Type 0
+Performs w most s m r remaining y explained (asked.Query name key number lines wide) input old new was now
     left start end told said result =
     PerformsQuery w s y name (record { key = key; number = number; shown = value_text lines }) old new
     left start end result
-Performs w most s m r remaining y (asked.Lookups name inputs number style wide) input old new was now
+Performs w most s m r remaining y explained (asked.Lookups name inputs number style wide) input old new was now
     left start end told said result =
     PerformsLookups w most s remaining y name inputs number style input old new left start end result
-Performs w most s m r remaining y (asked.Dump name style wide) input old new was now left start end
+Performs w most s m r remaining y explained (asked.Dump name style wide) input old new was now left start end
     told said result =
     (left ≡ none_left)
     × PerformsText w remaining y (dump_form style) name input old new start end result
-Performs w most s m r remaining y (asked.Listing name style wide) input old new was now left start
+Performs w most s m r remaining y explained (asked.Listing name style wide) input old new was now left start
     end told said result =
     (left ≡ none_left)
     × PerformsText w remaining y (list_form style) name input old new start end result
-Performs w most s m r remaining y (asked.Stats name wide) input old new was now left start end told
+Performs w most s m r remaining y explained (asked.Stats name wide) input old new was now left start end told
     said result =
     PerformsOn s remaining y most name input old new left start end result
     (TellsStore w start end result s) (TellsStore w start end result in_memory)
-Performs w most s m r remaining y (asked.Check name wide) input old new was now left start end told
+Performs w most s m r remaining y explained (asked.Check name wide) input old new was now left start end told
     said result =
     PerformsOn s remaining y most name input old new left start end result
     (ChecksStore w start end result s) (ChecksStore w start end result in_memory)
-Performs w most s m r remaining y (asked.Difference first second wide) input old new was now left
+Performs w most s m r remaining y explained (asked.Difference first second wide) input old new was now left
     start end told said result =
     PerformsDifference w s y first second old new left start end result
-Performs w most s m r remaining y (asked.Create name base inputs temporary options wide) input old new
+Performs w most s m r remaining y explained (asked.Create name base inputs temporary options wide) input old new
     was now left start end told said result =
-    Creates w most y s m r remaining options name base inputs temporary input (y.calls old)
+    (shown : MakeOptions) × IsShown explained inputs options shown
+    × Creates w most y s m r remaining shown name base inputs temporary input (y.calls old)
     (y.calls new) was now left start end told said result
-Performs w most s m r remaining y asked.Help input old new was now left start end told said result =
+Performs w most s m r remaining y explained asked.Help input old new was now left start end told said result =
     (new ≡ old) × (left ≡ none_left) × Tells usage_text start end result
-Performs w most s m r remaining y asked.Version input old new was now left start end told said
+Performs w most s m r remaining y explained asked.Version input old new was now left start end told said
     result =
     (new ≡ old) × (left ≡ none_left) × Tells version_text start end result
 
 -- in words of 8 bytes or of 4
 abbrev pub PerformsIn : {F I M R Y : Type 0} → (wide : Bool) → Ghosts F → Ghosts M → Raw R
-    → (I → Option (List ℕ)) → Systems Y F I M → Asked → (input : Option (List ℕ)) → (old new : Y)
-    → (was now : NameCalls) → Left F M → (start end told said : Option (List ℕ))
-    → Result Unit Fault → Type 0
-PerformsIn true s m r remaining y command input old new was now left start end told said result =
-    Performs 8 9223372036854775807 s m r remaining y command input old new was now left start end
+    → (I → Option (List ℕ)) → Systems Y F I M → (explained : Bool) → Asked
+    → (input : Option (List ℕ)) → (old new : Y) → (was now : NameCalls) → Left F M
+    → (start end told said : Option (List ℕ)) → Result Unit Fault → Type 0
+PerformsIn true s m r remaining y explained command input old new was now left start end told said result =
+    Performs 8 9223372036854775807 s m r remaining y explained command input old new was now left start end
     told said result
-PerformsIn false s m r remaining y command input old new was now left start end told said result =
-    Performs 4 4294967295 s m r remaining y command input old new was now left start end told said
+PerformsIn false s m r remaining y explained command input old new was now left start end told said result =
+    Performs 4 4294967295 s m r remaining y explained command input old new was now left start end told said
     result
 
 -- ---- the end of a command
 
--- what is written reaches the output, all of it if the command succeeds or the output did not fail; an
--- output that failed, which is then left unwritten, is a fault if no other came
+-- what is written reaches the output, all of it if the command succeeds, if no more than a value is
+-- missing, or if the output did not fail; an output that failed, which is then left unwritten, is a fault
+-- if no other came than a missing value
 pub record HandsOn (end final : Option (List ℕ)) (unwritten : Type 0)
     (answer result : Result Unit Fault) : Type 0 where
   pub held : List ℕ
   pub all : Keeps end (append_known final held)
-  pub handed : OnOk result (held ≡ [])
+  pub handed : IsWhole result → held ≡ []
   pub taken : (held ≡ []) ⊎ unwritten
-  pub answered : (result ≡ answer) ⊎ (IsOk answer × (result ≡ Err Output) × unwritten)
+  pub answered : (result ≡ answer) ⊎ (IsWhole answer × (result ≡ Err Output) × unwritten)
 
 -- the command was performed, and what it wrote was handed on
 pub record Does {F I M R Y : Type 0} (s : Ghosts F) (m : Ghosts M) (r : Raw R)
-    (remaining : I → Option (List ℕ)) (y : Systems Y F I M) (command : Asked)
+    (remaining : I → Option (List ℕ)) (y : Systems Y F I M) (explained : Bool) (command : Asked)
     (input : Option (List ℕ)) (old new : Y) (was now : NameCalls) (left : Left F M)
     (start final told said : Option (List ℕ)) (unwritten : Type 0) (result : Result Unit Fault)
     : Type 0 where
   pub end : Option (List ℕ)
   pub answer : Result Unit Fault
-  pub performs : PerformsIn (has_wide_words command) s m r remaining y command input old new was now
+  pub performs : PerformsIn (has_wide_words command) s m r remaining y explained command input old new was now
       left start end told said answer
   pub hands : HandsOn end final unwritten answer result
 
@@ -344,6 +358,11 @@ IsUntouched command old new = new ≡ old
 -- the line of words that ask for nothing
 abbrev pub usage_line : Usage → List ℕ
 usage_line usage = codes "cdb: " ++ (usage_message usage ++ codes "\n")
+
+-- and of words of which each is to be explained: the line that says which has no meaning follows it
+abbrev pub refused_lines : (explained : Bool) → Refused → List ℕ
+refused_lines true refused = usage_line (usage_of refused) ++ refused_line refused
+refused_lines false refused = usage_line (usage_of refused)
 
 -- a line is said; or standard error failed, and has a prefix of it
 abbrev pub SaysLine : (line : List ℕ) → (told said : Option (List ℕ)) → (unsaid : Type 0) → Type 0
@@ -367,21 +386,21 @@ status_of command (Ok done) = 0
 status_of command (Err fault) = exit_status command fault
 
 -- the words ask for nothing, or memory for them was refused
-pub record AsksNothing {F M Y : Type 0} (planned : Result Asked Usage) (old new : Y)
+pub record AsksNothing {F M Y : Type 0} (planned : Result Asked Refused) (explained : Bool) (old new : Y)
     (was now : NameCalls) (left : Left F M) (start end told said : Option (List ℕ)) (unsaid : Type 0) (status : ℕ)
     : Type 0 where
-  pub usage : Usage
-  pub why : (usage ≡ NoMemory) ⊎ (planned ≡ Err usage)
-  pub line : SaysLine (usage_line usage) told said unsaid
+  pub refused : Refused
+  pub why : (refused ≡ words.NoMemory) ⊎ (planned ≡ Err refused)
+  pub line : SaysLine (refused_lines explained refused) told said unsaid
   pub untouched : new ≡ old
   pub none : left ≡ none_left
   pub same : now ≡ was
   pub kept : Keeps start end
-  pub is_status : status ≡ usage_status usage
+  pub is_status : status ≡ usage_status (usage_of refused)
 
 -- the command that they ask for was performed, and then its fault was said, and explained if it is to be
 pub record AsksFor {F I M R Y : Type 0} (s : Ghosts F) (m : Ghosts M) (r : Raw R)
-    (remaining : I → Option (List ℕ)) (y : Systems Y F I M) (planned : Result Asked Usage)
+    (remaining : I → Option (List ℕ)) (y : Systems Y F I M) (planned : Result Asked Refused)
     (explained : Bool) (input : Option (List ℕ)) (old new : Y) (was now : NameCalls) (left : Left F M)
     (start final told said : Option (List ℕ)) (unwritten unsaid : Type 0) (status : ℕ) : Type 0
   where
@@ -389,7 +408,7 @@ pub record AsksFor {F I M R Y : Type 0} (s : Ghosts F) (m : Ghosts M) (r : Raw R
     pub asks : planned ≡ Ok (asked_in command)
     pub result : Result Unit Fault
     pub before : Option (List ℕ)
-    pub does : Does s m r remaining y (asked_in command) input old new was now left start final told
+    pub does : Does s m r remaining y explained (asked_in command) input old new was now left start final told
         before unwritten result
     pub silent : IsUntouched (asked_in command) told before
     pub same : IsUntouched (asked_in command) was now
@@ -401,12 +420,12 @@ pub record AsksFor {F I M R Y : Type 0} (s : Ghosts F) (m : Ghosts M) (r : Raw R
 -- from its words to its exit status: what was written, what standard output has of it, and what is
 -- said on standard error; whether the one failed, or the other; and which files are handed back
 abbrev pub Runs : {F I M R Y : Type 0} → Ghosts F → Ghosts M → Raw R → (I → Option (List ℕ))
-    → Systems Y F I M → (planned : Result Asked Usage) → (explained : Bool)
+    → Systems Y F I M → (planned : Result Asked Refused) → (explained : Bool)
     → (input : Option (List ℕ)) → (old new : Y) → (was now : NameCalls) → Left F M
     → (start end final told said : Option (List ℕ)) → (unwritten unsaid : Type 0) → (status : ℕ)
     → Type 0
 Runs s m r remaining y planned explained input old new was now left start end final told said unwritten unsaid
     status =
-    AsksNothing planned old new was now left start end told said unsaid status
+    AsksNothing planned explained old new was now left start end told said unsaid status
     ⊎ AsksFor s m r remaining y planned explained input old new was now left start final told said unwritten
     unsaid status

@@ -1,7 +1,6 @@
 // What builds the database of what was opened.
 ghost use Rattle.std.specs.Prelude.{◌≡◌, ◌<◌};
-ghost use Rattle.cdb_tool.specs.Runs.Make.{IsOfStore};
-ghost use Rattle.cdb.specs.Creating.{IsBufferedRun, IsDatabase, MakesIn};
+ghost use Rattle.cdb.specs.Creating.{IsBufferedRun, IsCaused, IsDatabase, MakesIn};
 ghost use Rattle.cdb.specs.Contents.{making_of};
 
 use crate::contents::Contents;
@@ -17,7 +16,7 @@ use std::marker::PhantomData;
 pub(crate) fn make_in<L, S, F, J, I, E>(
     alloc: Global,
     store: S,
-    contents: Contents<L, F, J, I>,
+    contents: Contents<'_, L, F, J, I>,
     errors: &mut E,
 ) -> (S, Option<F>, Result<(), Fault>)
 where
@@ -27,7 +26,7 @@ where
     J: Read + Drop,
     I: Read + Drop,
     E: Write,
-    ensures { MakesIn S.Store F.Store (making_of L.WORD L.GREATEST J.remaining I.remaining contents)
+    ensures { MakesIn S.Store F.Store (making_of L.WORD L.GREATEST J.remaining I.remaining contents.entry)
         store result.0 result.1 (E.contents errors.old) (E.contents errors.new) result.2 }
 {
     let Contents {
@@ -42,15 +41,15 @@ where
 /// Builds the database in a file that is empty, through a buffer. The base is handed back, also if
 /// there is no file to build in.
 #[derive(Drop)]
-pub(crate) struct Building<L: Width, F, J, I, E> {
+pub(crate) struct Building<'a, L: Width, F, J, I, E> {
     pub(crate) alloc: Global,
     /// What was opened.
-    pub(crate) contents: Contents<L, F, J, I>,
+    pub(crate) contents: Contents<'a, L, F, J, I>,
     /// What the lines of duplicates are written to.
     pub(crate) errors: PhantomData<E>,
 }
 
-impl<S, L, F, J, I, E> Builder<S> for Building<L, F, J, I, E>
+impl<'a, S, L, F, J, I, E> Builder<S> for Building<'a, L, F, J, I, E>
 where
     S: Store + Drop,
     L: Width,
@@ -68,7 +67,7 @@ where
     ghost builds = { λ b. IsDatabase F.Store
         (making_of L.WORD L.GREATEST J.remaining I.remaining b.contents) };
 
-    ghost fails = { λ _ old new fault. IsOfStore fault → S.failures old < S.failures new };
+    ghost fails = { λ _ old new fault. IsCaused fault (S.failures old) (S.failures new) };
 
     ghost tells = { λ b back told said images made. IsBufferedRun F.Store
         (making_of L.WORD L.GREATEST J.remaining I.remaining b.contents) back images

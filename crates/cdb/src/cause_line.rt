@@ -1,36 +1,22 @@
 // The line that says which file a fault is of, and why.
-ghost use Rattle.std.specs.Prelude.{◌≡◌, ◌++◌, ◌<◌, IfOk, OnOk, codes, true};
-ghost use Rattle.cdb.specs.Causes.{IsAddedTo, IsCauseLine, digit, is_control, reason_name, shown, shown_byte};
+ghost use Rattle.std.specs.Prelude.{◌≡◌, ◌++◌, IfOk, OnOk, codes, true};
+ghost use Rattle.cdb_command.specs.Shown.{shown, shown_byte};
+ghost use Rattle.cdb.specs.Causes.{IsAddedTo, IsCauseLine, reason_name};
 
 use crate::causes::{Reason, Told};
 use crate::system_words::system_words;
+use cdb_tool::escaped;
 use itoa::Buffer;
 use std::alloc::{AllocError, Global};
-
-/// The digit of a number below 16.
-fn digit(n: u8) -> u8
-    requires { n < 16 }
-    ensures { result ≡ digit n }
-{
-    if n < 10 { n + 48 } else { n + 87 }
-}
-
-/// Whether a byte could end the line or command a terminal.
-fn is_control(byte: u8) -> bool
-    ensures { result ≡ is_control byte }
-{
-    byte < 32 || byte == 127
-}
 
 /// Adds a byte of a name.
 fn push_shown(line: &mut Vec<u8>, byte: u8) -> Result<(), AllocError>
     ensures { OnOk result (line.new.items ≡ line.old.items ++ shown_byte byte) }
 {
-    if is_control(byte) {
-        line.extend_from_slice(b"\\x")?;
-        return line.extend_from_slice(&[digit(byte / 16), digit(byte % 16)]);
+    match escaped(byte) {
+        Some(escaped) => line.extend_from_slice(&escaped),
+        None => Ok(line.push(byte)?),
     }
-    Ok(line.push(byte)?)
 }
 
 /// Adds a name.

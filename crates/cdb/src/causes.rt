@@ -12,9 +12,7 @@ use cdb_files::{Cause, Names, Refusal};
 use cdb_form::{TextFault, WalkFault};
 use cdb_make::MakeFault;
 use cdb_read::ReadFault;
-use cdb_store::Store;
 use cdb_tool::{Command, Fault};
-use std::io::Read;
 
 /// What is said of a file.
 #[derive(Clone, Copy)]
@@ -119,16 +117,9 @@ fn of_no_name(command: &Command) -> Option<Reason<'_>>
 }
 
 /// What is said of a name that was refused, if one was.
-fn of_refusals<'a, F, J, M, Y, N>(
-    command: &'a Command,
-    system: &'a Y,
-    names: &'a N,
-) -> Option<Reason<'a>>
+fn of_refusals<'a, Y, N>(command: &'a Command, system: &'a Y, names: &'a N) -> Option<Reason<'a>>
 where
-    F: Store,
-    J: Read,
-    M: Store,
-    Y: System<F, J, M>,
+    Y: System,
     N: Names,
     ensures { IfSome result (λ r. IsRefused (Y.calls system.now) (N.calls names.now) (reason_name r)) }
 {
@@ -185,12 +176,9 @@ fn of_unread(name: &str, fault: ReadFault, number: Option<i32>) -> Option<Reason
 }
 
 /// The number of the error of the last call that failed on a file that was read.
-fn read_number<F, J, M, Y>(system: &Y, file: &Option<F>) -> Option<i32>
+fn read_number<Y>(system: &Y, file: &Option<Y::File>) -> Option<i32>
 where
-    F: Store,
-    J: Read,
-    M: Store,
-    Y: System<F, J, M>,
+    Y: System,
 {
     match file {
         Some(file) => system.store_error(file),
@@ -257,17 +245,9 @@ fn is_from_first(command: &Command, number: u64) -> bool {
 }
 
 /// What is said of an input whose text was not read.
-fn of_text<'a, F, J, M, Y>(
-    command: &'a Command,
-    number: u64,
-    fault: TextFault,
-    system: &Y,
-) -> Reason<'a>
+fn of_text<'a, Y>(command: &'a Command, number: u64, fault: TextFault, system: &Y) -> Reason<'a>
 where
-    F: Store,
-    J: Read,
-    M: Store,
-    Y: System<F, J, M>,
+    Y: System,
     ensures { reason_name result ≡ input_name (asked_in command.now) number }
 {
     let told = match fault.place() {
@@ -280,12 +260,9 @@ where
 }
 
 /// The number of the error of the last call that failed on a file that was made in place.
-fn made_number<F, J, M, Y>(system: &Y, file: &Option<M>) -> Option<i32>
+fn made_number<Y>(system: &Y, file: &Option<Y::Made>) -> Option<i32>
 where
-    F: Store,
-    J: Read,
-    M: Store,
-    Y: System<F, J, M>,
+    Y: System,
 {
     match file {
         Some(file) => system.made_error(file),
@@ -294,17 +271,14 @@ where
 }
 
 /// What is said of a database that was not made, since its file failed.
-fn of_made<'a, F, J, M, Y, N>(
+fn of_made<'a, Y, N>(
     command: &'a Command,
     system: &Y,
     names: &N,
-    left: &Left<F, M>,
+    left: &Left<Y::File, Y::Made>,
 ) -> Option<Reason<'a>>
 where
-    F: Store,
-    J: Read,
-    M: Store,
-    Y: System<F, J, M>,
+    Y: System,
     N: Names,
     ensures { IfSome result (λ r. IsMadeName (asked_in command.now) (reason_name r)) }
 {
@@ -331,33 +305,28 @@ where
 }
 
 /// Which file a fault is of, and why, if it is of a file.
-pub(crate) fn reason_of<'a, F, J, M, Y, N>(
+pub(crate) fn reason_of<'a, Y, N>(
     command: &'a Command,
     fault: &Fault,
     system: &'a Y,
     names: &'a N,
-    left: &Left<F, M>,
+    left: &Left<Y::File, Y::Made>,
 ) -> Option<Reason<'a>>
 where
-    F: Store,
-    J: Read,
-    M: Store,
-    Y: System<F, J, M>,
+    Y: System,
     N: Names,
     ensures { IfSome result (λ r. IsCause (asked_in command.now) fault.now (Y.calls system.now)
         (N.calls names.now) (reason_name r)) }
 {
     match *fault {
-        Fault::Open => match of_refusals::<F, J, M, Y, N>(command, system, names) {
+        Fault::Open => match of_refusals::<Y, N>(command, system, names) {
             Some(reason) => Some(reason),
             None => of_no_name(command),
         },
-        Fault::Rename | Fault::NoMemory => { of_refusals::<F, J, M, Y, N>(command, system, names) }
-        Fault::Text(number, fault) => {
-            Some(of_text::<F, J, M, Y>(command, number, fault, system))
-        }
+        Fault::Rename | Fault::NoMemory => { of_refusals::<Y, N>(command, system, names) }
+        Fault::Text(number, fault) => { Some(of_text::<Y>(command, number, fault, system)) }
         Fault::Make(MakeFault::Writing) | Fault::Make(MakeFault::Lookup) => {
-            of_made::<F, J, M, Y, N>(command, system, names, left)
+            of_made::<Y, N>(command, system, names, left)
         }
         Fault::Walk(WalkFault::Input) => {
             let told = of_number(system.read_error());
@@ -372,31 +341,28 @@ where
             };
             Some(of_name(name, told))
         }
-        _ => of_database::<F, J, M, Y>(command, fault, system, left),
+        _ => of_database::<Y>(command, fault, system, left),
     }
 }
 
 /// Which database a fault is of, and why, if it is of one that is read.
-fn of_database<'a, F, J, M, Y>(
+fn of_database<'a, Y>(
     command: &'a Command,
     fault: &Fault,
     system: &Y,
-    left: &Left<F, M>,
+    left: &Left<Y::File, Y::Made>,
 ) -> Option<Reason<'a>>
 where
-    F: Store,
-    J: Read,
-    M: Store,
-    Y: System<F, J, M>,
+    Y: System,
     ensures { IfSome result (λ r. IsOfDatabase (asked_in command.now) fault.now (reason_name r)) }
 {
     match *fault {
         Fault::Read(fault) | Fault::Old(fault) => {
-            let number = read_number::<F, J, M, Y>(system, &left.read);
+            let number = read_number::<Y>(system, &left.read);
             of_unread(read_name(command), fault, number)
         }
         Fault::New(fault) => {
-            let number = read_number::<F, J, M, Y>(system, &left.other);
+            let number = read_number::<Y>(system, &left.other);
             of_unread(new_name(command), fault, number)
         }
         Fault::Walk(_) | Fault::NoOldTables => Some(of_name(read_name(command), Told::Name)),

@@ -8,23 +8,23 @@ use std::marker::PhantomData;
 
 /// What a database is made of, with its files opened. Its limit is one of its width.
 #[derive(Drop)]
-pub(crate) struct Contents<L: Width, F, J, I> {
+pub(crate) struct Contents<'a, L: Width, F, J, I> {
     /// The base, if one is amended.
     pub(crate) base: Option<F>,
     /// The inputs, in their order.
     pub(crate) inputs: Inputs<J, I>,
     /// How it is made.
-    pub(crate) options: MakeOptions,
+    pub(crate) options: MakeOptions<'a>,
     /// The width of its words.
     pub(crate) width: PhantomData<L>,
     ghost head: { head_size L.WORD ≤ options.limit },
     ghost words: { options.limit ≤ L.GREATEST },
 }
 
-impl<L: Width, F: Drop, J: Drop, I: Drop> Contents<L, F, J, I> {
+impl<'a, L: Width, F: Drop, J: Drop, I: Drop> Contents<'a, L, F, J, I> {
     /// The base. The inputs are closed.
     pub(crate) fn into_base(self) -> Option<F>
-        ensures { result ≡ self.base }
+        ensures { result ≡ self.entry.base }
     {
         let Contents { base, .. } = self;
         base

@@ -36,14 +36,14 @@ pub(crate) struct Creation<'a> {
     /// The file in which the database is made; `None` is its name with `.tmp` after it.
     pub(crate) temporary: &'a Option<String>,
     /// How it is made.
-    pub(crate) options: MakeOptions,
+    pub(crate) options: MakeOptions<'a>,
 }
 
 /// Makes a database, on standard output or under its name: in place, or in a temporary file. The
 /// base and then all inputs are opened before anything is made. A base that was opened is handed back,
 /// however the create ends, and a file that was made in place.
 #[inline(never)]
-pub(crate) fn create<L, F, J, M, Y, N, I, O, E>(
+pub(crate) fn create<L, Y, N, I, O, E>(
     alloc: Global,
     system: &mut Y,
     names: &mut N,
@@ -51,20 +51,17 @@ pub(crate) fn create<L, F, J, M, Y, N, I, O, E>(
     input: I,
     output: &mut O,
     errors: &mut E,
-) -> (Left<F, M>, Result<(), Fault>)
+) -> (Left<Y::File, Y::Made>, Result<(), Fault>)
 where
     L: Width,
-    F: Store + Drop,
-    J: Read + Drop,
-    M: Store + Drop,
-    Y: System<F, J, M>,
+    Y: System,
     N: Names,
     I: Read + Drop,
     O: Write,
     E: Write,
     requires head { head_size L.WORD ≤ creation.options.limit }
     requires words { creation.options.limit ≤ L.GREATEST }
-    ensures { Creates L.WORD L.GREATEST Y.System F.Store M.Store N.File.RawFile J.remaining
+    ensures { Creates L.WORD L.GREATEST Y.System Y.File.Store Y.Made.Store N.File.RawFile Y.Stream.remaining
         creation.entry.options creation.entry.name.now
         (option_map string_bytes creation.entry.base.now) (map string_bytes creation.entry.inputs.now)
         (option_map string_bytes creation.entry.temporary.now) (I.remaining input)
@@ -72,24 +69,22 @@ where
         (O.contents output.old) (O.contents output.new)
         (E.contents errors.old) (E.contents errors.new) result.1 }
 {
-    let contents = match open_all::<L, F, J, M, Y, I>(alloc, system, creation, input) {
+    let contents = match open_all::<L, Y, I>(alloc, system, creation, input) {
         Ok(contents) => contents,
         Err(unopened) => return (base_left(unopened.base), Err(unopened.fault)),
     };
     if is_standard(creation.name) {
-        let (read, made) = make_on_output::<L, F, J, I, O, E>(alloc, contents, output, errors);
+        let (read, made) = make_on_output::<L, _, _, I, O, E>(alloc, contents, output, errors);
         return (base_left(read), made);
     }
     if is_in_place(creation.name, creation.temporary) {
-        return make_in_place::<L, F, J, M, Y, N, I, E>(
-            alloc, system, names, creation, contents, errors,
-        );
+        return make_in_place::<L, Y, N, I, E>(alloc, system, names, creation, contents, errors);
     }
     let temporary = match temporary_name(alloc, creation.name, creation.temporary) {
         Ok(temporary) => temporary,
         Err(_) => return (base_left(contents.into_base()), Err(Fault::NoMemory)),
     };
-    let (read, made) = replace_database::<L, F, J, N, I, E>(
+    let (read, made) = replace_database::<L, Y::File, Y::Stream, N, I, E>(
         alloc,
         names,
         temporary.as_str(),
@@ -109,35 +104,32 @@ struct Unopened<F> {
 }
 
 /// Opens what is read: the base, and then all inputs.
-fn open_all<L, F, J, M, Y, I>(
+fn open_all<'a, L, Y, I>(
     alloc: Global,
     system: &mut Y,
-    creation: Creation<'_>,
+    creation: Creation<'a>,
     input: I,
-) -> Result<Contents<L, F, J, I>, Unopened<F>>
+) -> Result<Contents<'a, L, Y::File, Y::Stream, I>, Unopened<Y::File>>
 where
     L: Width,
-    F: Store + Drop,
-    J: Read + Drop,
-    M: Store + Drop,
-    Y: System<F, J, M>,
+    Y: System,
     I: Read + Drop,
     requires head { head_size L.WORD ≤ creation.options.limit }
     requires words { creation.options.limit ≤ L.GREATEST }
-    ensures ok { IfOk result (λ c. OpensAll Y.System J.remaining
+    ensures ok { IfOk result (λ c. OpensAll Y.System Y.Stream.remaining
         (option_map string_bytes creation.entry.base.now) (map string_bytes creation.entry.inputs.now)
         (I.remaining input) (Y.calls system.old) (Y.calls system.new) c.base
-        (inputs_left J.remaining I.remaining c.inputs)) }
+        (inputs_left Y.Stream.remaining I.remaining c.inputs)) }
     ensures options { IfOk result (λ c. c.options ≡ creation.entry.options) }
     ensures fails { IfErr result (λ u. NotOpened Y.System
         (option_map string_bytes creation.entry.base.now) (map string_bytes creation.entry.inputs.now)
         (Y.calls system.old) (Y.calls system.new) u.base u.fault) }
 {
-    let base = match open_base::<F, J, M, Y>(system, creation.base) {
+    let base = match open_base::<Y>(system, creation.base) {
         Ok(base) => base,
         Err(fault) => return Err(Unopened { base: None, fault }),
     };
-    match open_inputs::<F, J, M, Y, I>(alloc, system, creation.inputs, input) {
+    match open_inputs::<Y, I>(alloc, system, creation.inputs, input) {
         Ok(inputs) => Ok(Contents {
             base,
             inputs,
@@ -152,7 +144,7 @@ where
 #[inline(never)]
 fn make_on_output<L, F, J, I, O, E>(
     alloc: Global,
-    contents: Contents<L, F, J, I>,
+    contents: Contents<'_, L, F, J, I>,
     output: &mut O,
     errors: &mut E,
 ) -> (Option<F>, Result<(), Fault>)
@@ -164,7 +156,7 @@ where
     O: Write,
     E: Write,
     ensures { MakesOnOutput F.Store
-        (making_of L.WORD L.GREATEST J.remaining I.remaining contents) result.0
+        (making_of L.WORD L.GREATEST J.remaining I.remaining contents.entry) result.0
         (O.contents output.old) (O.contents output.new)
         (E.contents errors.old) (E.contents errors.new) result.1 }
 {

@@ -4,29 +4,25 @@ ghost use Rattle.cdb.specs.Performs.{PerformsDifference};
 use crate::left::{Left, both_left, none_left, read_left};
 use crate::system::System;
 use cdb_form::Width;
-use cdb_store::Store;
 use cdb_tool::{Fault, difference_run};
 use std::alloc::Global;
-use std::io::{Read, Write};
+use std::io::Write;
 
 /// Writes what changed between the databases of two names, as a text that amends the old one. Both are
 /// opened before anything is written.
 #[inline(never)]
-pub(crate) fn difference<L, F, J, M, Y, O>(
+pub(crate) fn difference<L, Y, O>(
     alloc: Global,
     system: &mut Y,
     old: &str,
     new: &str,
     output: &mut O,
-) -> (Left<F, M>, Result<(), Fault>)
+) -> (Left<Y::File, Y::Made>, Result<(), Fault>)
 where
     L: Width,
-    F: Store + Drop,
-    J: Read + Drop,
-    M: Store + Drop,
-    Y: System<F, J, M>,
+    Y: System,
     O: Write,
-    ensures { PerformsDifference L.WORD F.Store Y.System old.now new.now system.old system.new
+    ensures { PerformsDifference L.WORD Y.File.Store Y.System old.now new.now system.old system.new
         result.0 (O.contents output.old) (O.contents output.new) result.1 }
 {
     let first = match system.open_store(old) {
@@ -37,6 +33,8 @@ where
         Ok(file) => file,
         Err(fault) => return (read_left(first), Err(fault)),
     };
-    let (first, second, answer) = difference_run::<L, F, F, O>(alloc, first, second, output);
+    let (first, second, answer) = difference_run::<L, Y::File, Y::File, O>(
+        alloc, first, second, output,
+    );
     (both_left(first, second), answer)
 }

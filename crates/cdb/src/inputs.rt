@@ -5,7 +5,6 @@ ghost use Rattle.cdb.specs.Inputs.{IsStandard, OpensBase, MissesBase, OpensInput
 ghost use Rattle.cdb.specs.Inputs.{OpensInputs, StopsOpening, MissesInput};
 
 use crate::system::System;
-use cdb_store::Store;
 use cdb_tool::{Fault, Inputs, Turn};
 use std::alloc::Global;
 use std::io::Read;
@@ -21,10 +20,10 @@ pub(crate) fn is_standard(name: &str) -> bool
 }
 
 /// Opens the base, if there is one.
-pub(crate) fn open_base<F: Store + Drop, J: Read, M: Store, Y: System<F, J, M>>(
+pub(crate) fn open_base<Y: System>(
     system: &mut Y,
     name: &Option<String>,
-) -> Result<Option<F>, Fault>
+) -> Result<Option<Y::File>, Fault>
     ensures ok { IfOk result (λ base. OpensBase Y.System (option_map string_bytes name.now) base
         (Y.calls system.old) (Y.calls system.new)) }
     ensures missed { IfErr result (MissesBase (option_map string_bytes name.now)
@@ -37,10 +36,7 @@ pub(crate) fn open_base<F: Store + Drop, J: Read, M: Store, Y: System<F, J, M>>(
 }
 
 /// Opens an input, unless it is standard input.
-fn open_input<F: Store, J: Read + Drop, M: Store, Y: System<F, J, M>>(
-    system: &mut Y,
-    name: &str,
-) -> Result<Turn<J>, Fault>
+fn open_input<Y: System>(system: &mut Y, name: &str) -> Result<Turn<Y::Stream>, Fault>
     ensures ok { IfOk result (λ turn. OpensInput Y.System name.now turn
         (Y.calls system.old) (Y.calls system.new)) }
     ensures missed { IfErr result (MissesInput name.now
@@ -53,11 +49,11 @@ fn open_input<F: Store, J: Read + Drop, M: Store, Y: System<F, J, M>>(
 }
 
 /// Opens the inputs of these names.
-fn open_each<F: Store, J: Read + Drop, M: Store, Y: System<F, J, M>>(
+fn open_each<Y: System>(
     alloc: Global,
     system: &mut Y,
     names: &[String],
-) -> Result<Vec<Turn<J>>, Fault>
+) -> Result<Vec<Turn<Y::Stream>>, Fault>
     ensures ok { IfOk result (λ turns. OpensEach Y.System (map string_bytes names.now) turns.items
         (Y.calls system.old) (Y.calls system.new)) }
     ensures stops { IfErr result (StopsOpening Y.System (map string_bytes names.now)
@@ -65,26 +61,26 @@ fn open_each<F: Store, J: Read + Drop, M: Store, Y: System<F, J, M>>(
 {
     let mut turns = Vec::new(alloc);
     for name in names {
-        let turn = open_input::<F, J, M, Y>(system, name.as_str())?;
+        let turn = open_input::<Y>(system, name.as_str())?;
         turns.push(turn)?;
     }
     Ok(turns)
 }
 
 /// Opens the inputs of these names. No name is standard input, as each `-` is.
-pub(crate) fn open_inputs<F: Store, J: Read + Drop, M: Store, Y: System<F, J, M>, I: Read + Drop>(
+pub(crate) fn open_inputs<Y: System, I: Read + Drop>(
     alloc: Global,
     system: &mut Y,
     names: &[String],
     input: I,
-) -> Result<Inputs<J, I>, Fault>
+) -> Result<Inputs<Y::Stream, I>, Fault>
     ensures ok { IfOk result (λ i. OpensInputs Y.System (map string_bytes names.now) i.turns.items
         (Y.calls system.old) (Y.calls system.new)) }
     ensures shared { IfOk result (λ i. i.shared ≡ input) }
     ensures stops { IfErr result (StopsOpening Y.System (map string_bytes names.now)
         (Y.calls system.old) (Y.calls system.new)) }
 {
-    let mut turns = open_each::<F, J, M, Y>(alloc, system, names)?;
+    let mut turns = open_each::<Y>(alloc, system, names)?;
     if names.is_empty() {
         turns.push(Turn::Shared)?;
     }

@@ -6,7 +6,6 @@ use crate::inputs::open_inputs;
 use crate::left::{Left, none_left, read_left};
 use crate::system::System;
 use cdb_form::Width;
-use cdb_store::Store;
 use cdb_tool::{Fault, Style, lookups_run};
 use std::alloc::Global;
 use std::io::{Read, Write};
@@ -14,7 +13,7 @@ use std::io::{Read, Write};
 /// Writes the records of the keys of some inputs, whose values are counted from 1. The database is
 /// opened first, and then all inputs, before anything is written.
 #[inline(never)]
-pub(crate) fn lookups<L, F, J, M, Y, I, O>(
+pub(crate) fn lookups<L, Y, I, O>(
     alloc: Global,
     system: &mut Y,
     name: &str,
@@ -23,17 +22,14 @@ pub(crate) fn lookups<L, F, J, M, Y, I, O>(
     style: Style,
     input: I,
     output: &mut O,
-) -> (Left<F, M>, Result<(), Fault>)
+) -> (Left<Y::File, Y::Made>, Result<(), Fault>)
 where
     L: Width,
-    F: Store + Drop,
-    J: Read + Drop,
-    M: Store + Drop,
-    Y: System<F, J, M>,
+    Y: System,
     I: Read + Drop,
     O: Write,
     requires { IfSome number (λ n. 1 ≤ n) }
-    ensures { PerformsLookups L.WORD L.GREATEST F.Store J.remaining Y.System name.now
+    ensures { PerformsLookups L.WORD L.GREATEST Y.File.Store Y.Stream.remaining Y.System name.now
         (map string_bytes inputs.now) number style (I.remaining input) system.old system.new
         result.0 (O.contents output.old) (O.contents output.new) result.1 }
 {
@@ -41,9 +37,9 @@ where
         Ok(store) => store,
         Err(fault) => return (none_left(), Err(fault)),
     };
-    match open_inputs::<F, J, M, Y, I>(alloc, system, inputs, input) {
+    match open_inputs::<Y, I>(alloc, system, inputs, input) {
         Ok(inputs) => {
-            let (store, answer) = lookups_run::<L, F, J, I, O>(
+            let (store, answer) = lookups_run::<L, Y::File, Y::Stream, I, O>(
                 alloc, store, inputs, number, style, output,
             );
             (read_left(store), answer)

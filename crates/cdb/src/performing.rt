@@ -2,7 +2,8 @@
 ghost use Rattle.cdb_tool.specs.Command.{asked_in, FitsIn};
 ghost use Rattle.cdb_form.specs.Format.Pair.{head_size};
 ghost use Rattle.cdb_tool.specs.Command.{usage_text, version_text};
-ghost use Rattle.cdb.specs.Performs.{IsUntouched, Performs, Tells};
+ghost use Rattle.std.specs.Prelude.{◌≡◌, map, string_bytes};
+ghost use Rattle.cdb.specs.Performs.{IsShown, IsUntouched, Performs, Tells};
 
 use crate::creating::{Creation, create};
 use crate::differing::difference;
@@ -12,8 +13,7 @@ use crate::reading::{check, query, stats, text};
 use crate::system::System;
 use cdb_files::Names;
 use cdb_form::Width;
-use cdb_store::Store;
-use cdb_tool::{Command, Content, Fault, flushed, write_usage, write_version};
+use cdb_tool::{Command, Content, Fault, MakeOptions, flushed, write_usage, write_version};
 use std::alloc::Global;
 use std::io::{Read, Write};
 
@@ -33,29 +33,47 @@ fn version<O: Write>(output: &mut O) -> Result<(), Fault>
     flushed(output, written.map_err(Fault::from))
 }
 
-/// Performs a command, with words as wide as `L` says, and hands back what it leaves open.
-pub(crate) fn perform_in<L, F, J, M, Y, N, I, O, E>(
+/// The options of a create, with the names of its inputs if duplicates are to be explained.
+fn shown_options<'a>(
+    explains: bool,
+    inputs: &'a [String],
+    options: MakeOptions<'a>,
+) -> MakeOptions<'a>
+    ensures shown { IsShown explains (map string_bytes inputs.entry.now) options.entry result }
+    ensures limit { result.limit ≡ options.entry.limit }
+{
+    if explains {
+        MakeOptions {
+            names: Some(inputs),
+            ..options
+        }
+    } else {
+        options
+    }
+}
+
+/// Performs a command, with words as wide as `L` says, and hands back what it leaves open. With
+/// `explains` duplicates are explained.
+pub(crate) fn perform_in<L, Y, N, I, O, E>(
     alloc: Global,
     system: &mut Y,
     names: &mut N,
     command: &Command,
+    explains: bool,
     input: I,
     output: &mut O,
     errors: &mut E,
-) -> (Left<F, M>, Result<(), Fault>)
+) -> (Left<Y::File, Y::Made>, Result<(), Fault>)
 where
     L: Width,
-    F: Store + Drop,
-    J: Read + Drop,
-    M: Store + Drop,
-    Y: System<F, J, M>,
+    Y: System,
     N: Names,
     I: Read + Drop,
     O: Write,
     E: Write,
     requires { FitsIn (head_size L.WORD) L.GREATEST (asked_in command.now) }
-    ensures performs { Performs L.WORD L.GREATEST F.Store M.Store N.File.RawFile J.remaining
-        Y.System (asked_in command.now) (I.remaining input) system.old system.new
+    ensures performs { Performs L.WORD L.GREATEST Y.File.Store Y.Made.Store N.File.RawFile Y.Stream.remaining
+        Y.System explains (asked_in command.now) (I.remaining input) system.old system.new
         (N.calls names.old) (N.calls names.new) result.0
         (O.contents output.old) (O.contents output.new)
         (E.contents errors.old) (E.contents errors.new) result.1 }
@@ -70,21 +88,14 @@ where
             number,
             lines,
             ..
-        } => query::<L, F, J, M, Y, O>(
-            system,
-            name.as_str(),
-            key.as_str(),
-            *number,
-            *lines,
-            output,
-        ),
+        } => query::<L, Y, O>(system, name.as_str(), key.as_str(), *number, *lines, output),
         Command::Lookups {
             name,
             inputs,
             number,
             style,
             ..
-        } => lookups::<L, F, J, M, Y, I, O>(
+        } => lookups::<L, Y, I, O>(
             alloc,
             system,
             name.as_str(),
@@ -96,23 +107,17 @@ where
         ),
         Command::Dump { name, style, .. } => {
             let content = Content::Records;
-            let answer = text::<L, F, J, M, Y, I, O>(
-                alloc, system, content, name, *style, input, output,
-            );
+            let answer = text::<L, Y, I, O>(alloc, system, content, name, *style, input, output);
             (none_left(), answer)
         }
         Command::List { name, style, .. } => {
             let content = Content::Keys;
-            let answer = text::<L, F, J, M, Y, I, O>(
-                alloc, system, content, name, *style, input, output,
-            );
+            let answer = text::<L, Y, I, O>(alloc, system, content, name, *style, input, output);
             (none_left(), answer)
         }
-        Command::Stats { name, .. } => {
-            stats::<L, F, J, M, Y, I, O>(alloc, system, name, input, output)
-        }
-        Command::Check { name, .. } => check::<L, F, J, M, Y, I>(alloc, system, name, input),
-        Command::Difference { old, new, .. } => difference::<L, F, J, M, Y, O>(
+        Command::Stats { name, .. } => { stats::<L, Y, I, O>(alloc, system, name, input, output) }
+        Command::Check { name, .. } => check::<L, Y, I>(alloc, system, name, input),
+        Command::Difference { old, new, .. } => difference::<L, Y, O>(
             alloc,
             system,
             old.as_str(),
@@ -132,11 +137,9 @@ where
                 base,
                 inputs: inputs.as_slice(),
                 temporary,
-                options: *options,
+                options: shown_options(explains, inputs.as_slice(), *options),
             };
-            create::<L, F, J, M, Y, N, I, O, E>(
-                alloc, system, names, creation, input, output, errors,
-            )
+            create::<L, Y, N, I, O, E>(alloc, system, names, creation, input, output, errors)
         }
         Command::Help => (none_left(), help(output)),
         Command::Version => (none_left(), version(output)),

@@ -124,12 +124,9 @@ fn may_be_read<N: Names>(names: &mut N, name: &str, creation: Creation<'_>) -> b
 
 /// Empties the file of a name, or makes one, once its lock is held. `Open`: another process holds it, or
 /// the file cannot be opened or emptied, or the name is that of a link.
-fn emptied<F, J, M, Y>(system: &mut Y, name: &str) -> Result<M, Fault>
+fn emptied<Y>(system: &mut Y, name: &str) -> Result<Y::Made, Fault>
 where
-    F: Store,
-    J: Read,
-    M: Store,
-    Y: System<F, J, M>,
+    Y: System,
     ensures calls { OnOk result (Empties name.now (Y.calls system.old) (Y.calls system.new)) }
     ensures makes { IfOk result (Y.makes name.now) }
     ensures fails { IfErr result
@@ -149,25 +146,22 @@ where
 ///
 /// The base is handed back, and the file if it was opened.
 #[inline(never)]
-pub(crate) fn make_in_place<L, F, J, M, Y, N, I, E>(
+pub(crate) fn make_in_place<L, Y, N, I, E>(
     alloc: Global,
     system: &mut Y,
     names: &mut N,
     creation: Creation<'_>,
-    contents: Contents<L, F, J, I>,
+    contents: Contents<'_, L, Y::File, Y::Stream, I>,
     errors: &mut E,
-) -> (Left<F, M>, Result<(), Fault>)
+) -> (Left<Y::File, Y::Made>, Result<(), Fault>)
 where
     L: Width,
-    F: Store + Drop,
-    J: Read + Drop,
-    M: Store + Drop,
-    Y: System<F, J, M>,
+    Y: System,
     N: Names,
     I: Read + Drop,
     E: Write,
-    ensures { MakesInPlace Y.System F.Store M.Store
-        (making_of L.WORD L.GREATEST J.remaining I.remaining contents)
+    ensures { MakesInPlace Y.System Y.File.Store Y.Made.Store
+        (making_of L.WORD L.GREATEST Y.Stream.remaining I.remaining contents.entry)
         creation.entry.name.now (option_map string_bytes creation.entry.base.now)
         (map string_bytes creation.entry.inputs.now)
         (Y.calls system.old) (Y.calls system.new) (N.calls names.old) (N.calls names.new) result.0
@@ -176,11 +170,11 @@ where
     if may_be_read(names, creation.name, creation) {
         return (base_left(contents.into_base()), Err(Fault::Open));
     }
-    let store = match emptied::<F, J, M, Y>(system, creation.name) {
+    let store = match emptied::<Y>(system, creation.name) {
         Ok(store) => store,
         Err(fault) => return (base_left(contents.into_base()), Err(fault)),
     };
-    let building = Building::<L, F, J, I, E> {
+    let building = Building::<L, Y::File, Y::Stream, I, E> {
         alloc,
         contents,
         errors: PhantomData,
@@ -216,7 +210,7 @@ pub(crate) fn replace_database<L, F, J, N, I, E>(
     names: &mut N,
     temporary: &str,
     creation: Creation<'_>,
-    contents: Contents<L, F, J, I>,
+    contents: Contents<'_, L, F, J, I>,
     errors: &mut E,
 ) -> (Option<F>, Result<(), Fault>)
 where
@@ -227,7 +221,7 @@ where
     I: Read + Drop,
     E: Write,
     ensures { MakesApart F.Store N.File.RawFile
-        (making_of L.WORD L.GREATEST J.remaining I.remaining contents)
+        (making_of L.WORD L.GREATEST J.remaining I.remaining contents.entry)
         temporary.now creation.entry.name.now (option_map string_bytes creation.entry.base.now)
         (map string_bytes creation.entry.inputs.now) (N.calls names.old) (N.calls names.new) result.0
         (E.contents errors.old) (E.contents errors.new) result.1 }
@@ -240,7 +234,7 @@ where
         contents,
         errors: PhantomData,
     };
-    let (base, answer) = replace_file::<N, Building<L, F, J, I, E>>(
+    let (base, answer) = replace_file::<N, Building<'_, L, F, J, I, E>>(
         names,
         creation.name,
         temporary,

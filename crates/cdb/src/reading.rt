@@ -23,29 +23,26 @@ use std::io::{Read, Write};
 
 /// Writes the values of a key, which are counted from 1.
 #[inline(never)]
-pub(crate) fn query<L, F, J, M, Y, O>(
+pub(crate) fn query<L, Y, O>(
     system: &mut Y,
     name: &str,
     key: &str,
     number: Option<u64>,
     lines: bool,
     output: &mut O,
-) -> (Left<F, M>, Result<(), Fault>)
+) -> (Left<Y::File, Y::Made>, Result<(), Fault>)
 where
     L: Width,
-    F: Store + Drop,
-    J: Read + Drop,
-    M: Store + Drop,
-    Y: System<F, J, M>,
+    Y: System,
     O: Write,
     requires { IfSome number (λ n. 1 ≤ n) }
-    ensures { PerformsQuery L.WORD F.Store Y.System name.now
+    ensures { PerformsQuery L.WORD Y.File.Store Y.System name.now
         (record { key = key.now; number = number; shown = value_text lines }) system.old system.new result.0
         (O.contents output.old) (O.contents output.new) result.1 }
 {
     match system.open_store(name) {
         Ok(store) => {
-            let (store, answer) = query_run::<L, F, O>(
+            let (store, answer) = query_run::<L, Y::File, O>(
                 store,
                 key.as_bytes(),
                 number,
@@ -76,7 +73,7 @@ fn write_text<L: Width, I: Read + Drop, O: Write>(
 
 /// Writes the text of a file, or of standard input.
 #[inline(never)]
-pub(crate) fn text<L, F, J, M, Y, I, O>(
+pub(crate) fn text<L, Y, I, O>(
     alloc: Global,
     system: &mut Y,
     content: Content,
@@ -87,20 +84,17 @@ pub(crate) fn text<L, F, J, M, Y, I, O>(
 ) -> Result<(), Fault>
 where
     L: Width,
-    F: Store + Drop,
-    J: Read + Drop,
-    M: Store + Drop,
-    Y: System<F, J, M>,
+    Y: System,
     I: Read + Drop,
     O: Write,
-    ensures { PerformsText L.WORD J.remaining Y.System (form_of content style)
+    ensures { PerformsText L.WORD Y.Stream.remaining Y.System (form_of content style)
         (option_map string_bytes name.now) (I.remaining input) system.old system.new
         (O.contents output.old) (O.contents output.new) result }
 {
     match name {
         Some(name) => {
             let file = system.open(name.as_str())?;
-            write_text::<L, J, O>(alloc, content, style, file, output)
+            write_text::<L, Y::Stream, O>(alloc, content, style, file, output)
         }
         None => write_text::<L, I, O>(alloc, content, style, input, output),
     }
@@ -131,25 +125,22 @@ fn stats_of_stream<L: Width, I: Read + Drop, O: Write>(
 
 /// Writes the statistics of a file, or of a stream: standard input, a pipe or a device.
 #[inline(never)]
-pub(crate) fn stats<L, F, J, M, Y, I, O>(
+pub(crate) fn stats<L, Y, I, O>(
     alloc: Global,
     system: &mut Y,
     name: &Option<String>,
     input: I,
     output: &mut O,
-) -> (Left<F, M>, Result<(), Fault>)
+) -> (Left<Y::File, Y::Made>, Result<(), Fault>)
 where
     L: Width,
-    F: Store + Drop,
-    J: Read + Drop,
-    M: Store + Drop,
-    Y: System<F, J, M>,
+    Y: System,
     I: Read + Drop,
     O: Write,
-    ensures { PerformsOn F.Store J.remaining Y.System L.GREATEST
+    ensures { PerformsOn Y.File.Store Y.Stream.remaining Y.System L.GREATEST
         (option_map string_bytes name.now) (I.remaining input) system.old system.new result.0
         (O.contents output.old) (O.contents output.new) result.1
-        (TellsStore L.WORD (O.contents output.old) (O.contents output.new) result.1 F.Store)
+        (TellsStore L.WORD (O.contents output.old) (O.contents output.new) result.1 Y.File.Store)
         (TellsStore L.WORD (O.contents output.old) (O.contents output.new) result.1 in_memory) }
 {
     let Some(name) = name else {
@@ -160,12 +151,12 @@ where
     };
     match system.is_stream(name.as_str()) {
         Answer::Yes => match system.open(name.as_str()) {
-            Ok(file) => (none_left(), stats_of_stream::<L, J, O>(alloc, file, output)),
+            Ok(file) => (none_left(), stats_of_stream::<L, _, O>(alloc, file, output)),
             Err(fault) => (none_left(), Err(fault)),
         },
         Answer::No => match system.open_store(name.as_str()) {
             Ok(store) => {
-                let (store, answer) = stats_run::<L, F, O>(store, output);
+                let (store, answer) = stats_run::<L, Y::File, O>(store, output);
                 (read_left(store), answer)
             }
             Err(fault) => (none_left(), Err(fault)),
@@ -185,22 +176,19 @@ fn check_of_stream<L: Width, I: Read + Drop>(alloc: Global, input: I) -> Result<
 
 /// Checks a file, or a stream: standard input, a pipe or a device. Nothing is written.
 #[inline(never)]
-pub(crate) fn check<L, F, J, M, Y, I>(
+pub(crate) fn check<L, Y, I>(
     alloc: Global,
     system: &mut Y,
     name: &Option<String>,
     input: I,
-) -> (Left<F, M>, Result<(), Fault>)
+) -> (Left<Y::File, Y::Made>, Result<(), Fault>)
 where
     L: Width,
-    F: Store + Drop,
-    J: Read + Drop,
-    M: Store + Drop,
-    Y: System<F, J, M>,
+    Y: System,
     I: Read + Drop,
-    ensures { (known : Option (List ℕ)) → PerformsOn F.Store J.remaining Y.System L.GREATEST
+    ensures { (known : Option (List ℕ)) → PerformsOn Y.File.Store Y.Stream.remaining Y.System L.GREATEST
         (option_map string_bytes name.now) (I.remaining input) system.old system.new result.0
-        known known result.1 (ChecksStore L.WORD known known result.1 F.Store)
+        known known result.1 (ChecksStore L.WORD known known result.1 Y.File.Store)
         (ChecksStore L.WORD known known result.1 in_memory) }
 {
     let Some(name) = name else {
@@ -208,12 +196,12 @@ where
     };
     match system.is_stream(name.as_str()) {
         Answer::Yes => match system.open(name.as_str()) {
-            Ok(file) => (none_left(), check_of_stream::<L, J>(alloc, file)),
+            Ok(file) => (none_left(), check_of_stream::<L, Y::Stream>(alloc, file)),
             Err(fault) => (none_left(), Err(fault)),
         },
         Answer::No => match system.open_store(name.as_str()) {
             Ok(store) => {
-                let (store, answer) = check_run::<L, F>(alloc, store);
+                let (store, answer) = check_run::<L, Y::File>(alloc, store);
                 (read_left(store), answer)
             }
             Err(fault) => (none_left(), Err(fault)),

@@ -80,8 +80,13 @@ impl<'a, R: Files<File = File> + AllocGlobal> RealSystem<'a, R> {
     }
 }
 
-impl<'a, R: Files<File = File> + AllocGlobal> System<FileStore, SeenReader<'a, File>, FileStore>
-    for RealSystem<'a, R> {
+impl<'a, R: Files<File = File> + AllocGlobal> System for RealSystem<'a, R> {
+    type File = FileStore;
+
+    type Stream = SeenReader<'a, File>;
+
+    type Made = FileStore;
+
     ghost calls = { λ s. s.trace.events };
 
     ghost gives = { λ _ _. Unit {0} };

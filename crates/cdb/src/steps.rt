@@ -15,14 +15,13 @@ use crate::system::System;
 use crate::telling::{refuse, tell};
 use cdb_files::Names;
 use cdb_form::{Narrow, Wide};
-use cdb_store::Store;
 use cdb_tool::{Command, DONE, Fault, Output, explains, plan, status_of};
 use std::alloc::Global;
 use std::io::{Read, Write};
 
 /// Does what the words ask for, of which the first is the program's name, hands back what it leaves
 /// open, and answers the exit status. A fault has its line on `errors`, unless that fails.
-pub(crate) fn run<F, J, M, Y, N, I, O, E>(
+pub(crate) fn run<Y, N, I, O, E>(
     alloc: Global,
     system: &mut Y,
     names: &mut N,
@@ -30,17 +29,14 @@ pub(crate) fn run<F, J, M, Y, N, I, O, E>(
     input: I,
     output: &mut Output<O>,
     errors: &mut Output<E>,
-) -> (Left<F, M>, u8)
+) -> (Left<Y::File, Y::Made>, u8)
 where
-    F: Store + Drop,
-    J: Read + Drop,
-    M: Store + Drop,
-    Y: System<F, J, M>,
+    Y: System,
     N: Names,
     I: Read + Drop,
     O: Write,
     E: Write,
-    ensures runs { Runs F.Store M.Store N.File.RawFile J.remaining Y.System
+    ensures runs { Runs Y.File.Store Y.Made.Store N.File.RawFile Y.Stream.remaining Y.System
         (plan_of (map string_bytes words.items)) (explains_in (map string_bytes words.items))
         (I.remaining input) system.old system.new
         (N.calls names.old) (N.calls names.new) result.0 (output_bytes O.contents output.old)
@@ -49,20 +45,20 @@ where
         (OutputFailed output.new) (OutputFailed errors.new) result.1 }
     ensures handed { held_by output.old ≡ [] → HasHandedOn output.new }
     ensures said { HasHandedOn errors.new }
-    ensures foretold { IsForetold F.Store J.remaining Y.System
+    ensures foretold { IsForetold Y.File.Store Y.Stream.remaining Y.System
         (plan_of (map string_bytes words.items)) (explains_in (map string_bytes words.items))
         (I.remaining input) system.old system.new
         result.0 (output_bytes O.contents output.old) (O.contents output.new.writer)
         (output_bytes E.contents errors.old) (E.contents errors.new.writer)
         (IsTaken output.old output.new errors.new) result.1 }
-    ensures created { IsCreateForetold F.Store M.Store J.remaining Y.System
+    ensures created { IsCreateForetold Y.File.Store Y.Made.Store Y.Stream.remaining Y.System
         (plan_of (map string_bytes words.items)) (explains_in (map string_bytes words.items))
         (I.remaining input) system.old system.new
         (N.calls names.old) (N.calls names.new) result.0 (output_bytes O.contents output.old)
         (O.contents output.new.writer) (output_bytes E.contents errors.old)
         (E.contents errors.new.writer) (IsTaken output.old output.new errors.new) result.1 }
 {
-    let (left, status) = answer::<F, J, M, Y, N, I, O, E>(
+    let (left, status) = answer::<Y, N, I, O, E>(
         alloc, system, names, words, input, output, errors,
     );
     let _ = errors.flush();
@@ -71,7 +67,7 @@ where
 
 /// Does what the words ask for, and answers the exit status. What is said stays where `errors` holds
 /// it.
-fn answer<F, J, M, Y, N, I, O, E>(
+fn answer<Y, N, I, O, E>(
     alloc: Global,
     system: &mut Y,
     names: &mut N,
@@ -79,17 +75,14 @@ fn answer<F, J, M, Y, N, I, O, E>(
     input: I,
     output: &mut Output<O>,
     errors: &mut Output<E>,
-) -> (Left<F, M>, u8)
+) -> (Left<Y::File, Y::Made>, u8)
 where
-    F: Store + Drop,
-    J: Read + Drop,
-    M: Store + Drop,
-    Y: System<F, J, M>,
+    Y: System,
     N: Names,
     I: Read + Drop,
     O: Write,
     E: Write,
-    ensures runs { Runs F.Store M.Store N.File.RawFile J.remaining Y.System
+    ensures runs { Runs Y.File.Store Y.Made.Store N.File.RawFile Y.Stream.remaining Y.System
         (plan_of (map string_bytes words.items)) (explains_in (map string_bytes words.items))
         (I.remaining input) system.old system.new
         (N.calls names.old) (N.calls names.new) result.0 (output_bytes O.contents output.old)
@@ -98,21 +91,28 @@ where
         (OutputFailed output.new) (OutputFailed errors.new) result.1 }
     ensures handed { held_by output.old ≡ [] → HasHandedOn output.new }
 {
+    let is_explained = explains(words.as_slice());
     let command = match plan(alloc, words.as_slice()) {
         Ok(command) => command,
-        Err(usage) => return (none_left(), refuse(&usage, errors)),
+        Err(fault) => return (none_left(), refuse(&fault, is_explained, errors)),
     };
-    let is_explained = explains(words.as_slice());
     if is_explained {
         system.count_lines();
     }
-    let (left, performed) = perform::<F, J, M, Y, N, I, O, Output<E>>(
-        alloc, system, names, &command, input, output, errors,
+    let (left, performed) = perform::<Y, N, I, O, Output<E>>(
+        alloc,
+        system,
+        names,
+        &command,
+        is_explained,
+        input,
+        output,
+        errors,
     );
     match performed {
         Ok(()) => (left, DONE),
         Err(fault) => {
-            let more = cause_of::<F, J, M, Y, N>(
+            let more = cause_of::<Y, N>(
                 alloc,
                 is_explained,
                 &command,
@@ -131,20 +131,17 @@ where
 /// none is known or there is no memory for it.
 #[cold]
 #[inline(never)]
-fn cause_of<F, J, M, Y, N>(
+fn cause_of<Y, N>(
     alloc: Global,
     explains: bool,
     command: &Command,
     fault: &Fault,
     system: &Y,
     names: &N,
-    left: &Left<F, M>,
+    left: &Left<Y::File, Y::Made>,
 ) -> Vec<u8>
 where
-    F: Store,
-    J: Read,
-    M: Store,
-    Y: System<F, J, M>,
+    Y: System,
     N: Names,
     ensures { Explains explains (asked_in command.now) (Err fault.now) (Y.calls system.now)
         (N.calls names.now) result.items }
@@ -153,7 +150,7 @@ where
     if !explains {
         return none;
     }
-    let Some(reason) = reason_of::<F, J, M, Y, N>(command, fault, system, names, left) else {
+    let Some(reason) = reason_of::<Y, N>(command, fault, system, names, left) else {
         return none;
     };
     match cause_line(alloc, &reason) {
@@ -162,27 +159,25 @@ where
     }
 }
 
-/// Performs a command, in its width.
-fn perform<F, J, M, Y, N, I, O, E>(
+/// Performs a command, in its width. With `explains` duplicates are explained.
+fn perform<Y, N, I, O, E>(
     alloc: Global,
     system: &mut Y,
     names: &mut N,
     command: &Command,
+    explains: bool,
     input: I,
     output: &mut Output<O>,
     errors: &mut E,
-) -> (Left<F, M>, Result<(), Fault>)
+) -> (Left<Y::File, Y::Made>, Result<(), Fault>)
 where
-    F: Store + Drop,
-    J: Read + Drop,
-    M: Store + Drop,
-    Y: System<F, J, M>,
+    Y: System,
     N: Names,
     I: Read + Drop,
     O: Write,
     E: Write,
     requires { IsInRange (asked_in command.now) }
-    ensures does { Does F.Store M.Store N.File.RawFile J.remaining Y.System (asked_in command.now)
+    ensures does { Does Y.File.Store Y.Made.Store N.File.RawFile Y.Stream.remaining Y.System explains (asked_in command.now)
         (I.remaining input) system.old system.new (N.calls names.old) (N.calls names.new) result.0
         (output_bytes O.contents output.old) (O.contents output.new.writer)
         (E.contents errors.old) (E.contents errors.new) (OutputFailed output.new) result.1 }
@@ -192,12 +187,12 @@ where
     ensures handed { HasHandedOn output.new }
 {
     let performed = if is_wide(command) {
-        perform_in::<Wide, F, J, M, Y, N, I, Output<O>, E>(
-            alloc, system, names, command, input, output, errors,
+        perform_in::<Wide, Y, N, I, Output<O>, E>(
+            alloc, system, names, command, explains, input, output, errors,
         )
     } else {
-        perform_in::<Narrow, F, J, M, Y, N, I, Output<O>, E>(
-            alloc, system, names, command, input, output, errors,
+        perform_in::<Narrow, Y, N, I, Output<O>, E>(
+            alloc, system, names, command, explains, input, output, errors,
         )
     };
     let (left, answer) = performed;
@@ -205,16 +200,17 @@ where
 }
 
 /// Hands on what the output of a command still holds, after a fault too. A flush that fails is
-/// `Output` if no other fault came.
+/// `Output` if no other fault came than `Missing`, after which all that was found is to be written.
 fn handed_on<O: Write>(output: &mut Output<O>, answer: Result<(), Fault>) -> Result<(), Fault>
     ensures hands { HandsOn (output_bytes O.contents output.old) (O.contents output.new.writer)
         (OutputFailed output.new) answer result }
     ensures handed { HasHandedOn output.new }
 {
     match (answer, output.flush()) {
-        (Err(fault), _) => Err(fault),
+        (answer, Ok(())) => answer,
         (Ok(()), Err(_)) => Err(Fault::Output),
-        (Ok(()), Ok(())) => Ok(()),
+        (Err(Fault::Missing), Err(_)) => Err(Fault::Output),
+        (Err(fault), Err(_)) => Err(fault),
     }
 }
 

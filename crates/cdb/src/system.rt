@@ -9,20 +9,28 @@ use cdb_store::{RealFile, Store};
 use cdb_tool::Fault;
 use std::io::Read;
 
-/// The files of a system, by their names, each call on which is noted in proof-only data. `F` is a
-/// file that is read at places, `I` one that is read from its start on, and `M` one that is made.
-pub(crate) trait System<F: Store, I: Read, M: Store> {
+/// The files of a system, by their names, each call on which is noted in proof-only data.
+pub(crate) trait System {
+    /// A file that is read at places.
+    type File: Store + Drop;
+
+    /// A file that is read from its start on.
+    type Stream: Read + Drop;
+
+    /// A file that is made.
+    type Made: Store + Drop;
+
     /// The calls, the newest first.
     ghost calls: { Self → OpenCalls };
 
     /// This file was given for the name, to be read at places.
-    ghost gives: { List ℕ → F → Type 0 };
+    ghost gives: { List ℕ → Self.File → Type 0 };
 
     /// This file was given for the name, to be read from its start on.
-    ghost reads: { List ℕ → I → Type 0 };
+    ghost reads: { List ℕ → Self.Stream → Type 0 };
 
     /// This file was given for the name, to be written.
-    ghost makes: { List ℕ → M → Type 0 };
+    ghost makes: { List ℕ → Self.Made → Type 0 };
 
     /// The name of the file that was not opened last, and why. `None`: each was, or it is not known.
     fn refusal(&self) -> Option<&Refusal>
@@ -30,10 +38,10 @@ pub(crate) trait System<F: Store, I: Read, M: Store> {
 
     /// The number of the error of the last call that failed on a file that is read at places, if the
     /// system gave one.
-    fn store_error(&self, file: &F) -> Option<i32>;
+    fn store_error(&self, file: &Self::File) -> Option<i32>;
 
     /// The number of the error of the last call that failed on a file that is made.
-    fn made_error(&self, file: &M) -> Option<i32>;
+    fn made_error(&self, file: &Self::Made) -> Option<i32>;
 
     /// The number of the error of the last read of an input that failed.
     fn read_error(&self) -> Option<i32>;
@@ -52,13 +60,13 @@ pub(crate) trait System<F: Store, I: Read, M: Store> {
 
     /// Opens the file of a name, to be read at places. `Open`: it cannot be opened, or it is a pipe
     /// or a device, which has no places to be read at.
-    fn open_store(&mut self, name: &str) -> Result<F, Fault>
+    fn open_store(&mut self, name: &str) -> Result<Self::File, Fault>
         ensures calls { OnOk result (calls self.new ≡ (AtPlaces, name.now) ∷ calls self.old) }
         ensures gives { IfOk result (gives name.now) }
         ensures fails { IfErr result (Misses name.now (calls self.old) (calls self.new)) };
 
     /// Opens the file of a name, to be read from its start on. `Open`: it cannot be opened.
-    fn open(&mut self, name: &str) -> Result<I, Fault>
+    fn open(&mut self, name: &str) -> Result<Self::Stream, Fault>
         ensures calls { OnOk result (calls self.new ≡ (InTurn, name.now) ∷ calls self.old) }
         ensures reads { IfOk result (reads name.now) }
         ensures fails { IfErr result (Misses name.now (calls self.old) (calls self.new)) };
@@ -79,7 +87,7 @@ pub(crate) trait System<F: Store, I: Read, M: Store> {
 
     /// Empties the file of a name, whose lock is held, to be read and written at places. `Open`: it
     /// cannot be emptied, or the name does not have it any more.
-    fn empty(&mut self, name: &str, file: RealFile) -> Result<M, Fault>
+    fn empty(&mut self, name: &str, file: RealFile) -> Result<Self::Made, Fault>
         requires held { MayEmpty name.now (calls self.old) }
         ensures calls { OnOk result (calls self.new ≡ (Emptied, name.now) ∷ calls self.old) }
         ensures makes { IfOk result (makes name.now) }

@@ -1,12 +1,13 @@
 // The lines on standard error.
 ghost use Rattle.std.specs.Prelude.{◌≡◌, ◌++◌, OnErr};
 ghost use Rattle.cdb_form.specs.Views.KnownBytes.{AppendsPrefix, Writes};
+ghost use Rattle.cdb_tool.specs.Command.{refused_in, usage_of};
 ghost use Rattle.cdb_tool.specs.Message.{fault_line};
 ghost use Rattle.cdb_tool.specs.Views.Output.{output_bytes, OutputFailed};
-ghost use Rattle.cdb.specs.Performs.{SaysLine, usage_line, usage_status};
+ghost use Rattle.cdb.specs.Performs.{SaysLine, refused_lines, usage_line, usage_status};
 
 use cdb_form::{OutFault, write_pieces};
-use cdb_tool::{BAD_USAGE, FAILED, Fault, Output, Usage, write_fault};
+use cdb_tool::{BAD_USAGE, FAILED, Fault, Output, Usage, WordFault, write_fault, write_word_fault};
 use std::io::Write;
 
 /// Writes the line of a fault, and more after it.
@@ -39,16 +40,34 @@ fn refused_status(usage: &Usage) -> u8
     }
 }
 
+/// Writes why the words ask for nothing, and if it is to be explained which word or letters that is of.
+fn write_refused<E: Write>(
+    fault: &WordFault<'_>,
+    explains: bool,
+    errors: &mut Output<E>,
+) -> Result<(), OutFault>
+    ensures writes { Writes result (output_bytes E.contents errors.old)
+        (output_bytes E.contents errors.new) (refused_lines explains (refused_in fault.now)) }
+    ensures failed { OnErr result (OutputFailed errors.new) }
+{
+    errors.take_pieces(&[b"cdb: ", fault.usage().message().as_bytes(), b"\n"])?;
+    if explains {
+        write_word_fault(fault, errors)?;
+    }
+    Ok(())
+}
+
 /// Says why the words ask for nothing, unless `errors` fails, and answers the exit status.
 #[cold]
 #[inline(never)]
-pub(crate) fn refuse<E: Write>(usage: &Usage, errors: &mut Output<E>) -> u8
-    ensures line { SaysLine (usage_line usage.now) (output_bytes E.contents errors.old)
-        (output_bytes E.contents errors.new) (OutputFailed errors.new) }
-    ensures status { result ≡ usage_status usage.now }
+pub(crate) fn refuse<E: Write>(fault: &WordFault<'_>, explains: bool, errors: &mut Output<E>) -> u8
+    ensures line { SaysLine (refused_lines explains (refused_in fault.now))
+        (output_bytes E.contents errors.old) (output_bytes E.contents errors.new)
+        (OutputFailed errors.new) }
+    ensures status { result ≡ usage_status (usage_of (refused_in fault.now)) }
 {
-    let _ = errors.take_pieces(&[b"cdb: ", usage.message().as_bytes(), b"\n"]);
-    refused_status(usage)
+    let _ = write_refused(fault, explains, errors);
+    refused_status(&fault.usage())
 }
 
 /// Says why the program cannot begin, at once, as far as `errors` takes it, and answers the exit

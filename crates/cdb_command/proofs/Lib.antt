@@ -1,4 +1,5 @@
 -- Lemmas that answers name.
+pub mod Letters
 pub mod NoWords
 pub mod Ranges
 pub mod Strays

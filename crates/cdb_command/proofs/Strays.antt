@@ -1,6 +1,6 @@
 -- Which option on a line a command does not take first.
 use Prim.Native.Char.{code}
-use Rattle.std.proofs.Common.{◌≡◌, ◌∙◌, ℕ, ◌==◌, Bool, true, false, List, [], ◌++◌, refl, codes, is_some}
+use Rattle.std.proofs.Common.{◌≡◌, ◌∙◌, ℕ, ◌==◌, Bool, true, false, [], ◌++◌, refl, codes, is_some}
 use Rattle.std.specs.List.{list_any}
 use Rattle.cdb_command.specs.Line.{Text, Given}
 use Rattle.cdb_command.specs.Rules.{when, first_stray, making_options_in, query_options_in, options_in}

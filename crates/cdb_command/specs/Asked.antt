@@ -6,8 +6,9 @@ use Rattle.cdb_command.specs.declared.command.Command.{Command}
 use Rattle.cdb_command.specs.declared.command.Command.TheVariants as command
 use Rattle.cdb_command.specs.declared.options.MakeOptions.{MakeOptions}
 use Rattle.cdb_command.specs.declared.style.Style.{Style}
-use Rattle.cdb_command.specs.declared.usage.Usage.{Usage}
-use Rattle.cdb_command.specs.declared.usage.Usage.TheVariants.{NoMemory}
+use Rattle.cdb_command.specs.declared.word_fault.WordFault.{WordFault}
+use Rattle.cdb_command.specs.declared.word_fault.WordFault.TheVariants.{NoMemory}
+use Rattle.cdb_command.specs.Refused.{Refused, refused_in}
 
 -- a `Command`
 pub data Asked : Type 0 where
@@ -82,16 +83,17 @@ FitsIn least greatest Help = Unit
 FitsIn least greatest Version = Unit
 
 -- the answer is the one that is wanted, or tells that memory was refused
-abbrev pub Gives : {T A : Type 0} → (T → A) → Result T Usage → Result A Usage → Type 0
+abbrev pub Gives : {T A : Type 0} → (T → A) → Result T WordFault → Result A Refused → Type 0
 Gives view (Ok x) wanted = wanted ≡ Ok (view x)
-Gives view (Err fault) wanted = (fault ≡ NoMemory) ⊎ (wanted ≡ Err fault)
+Gives view (Err fault) wanted = (fault ≡ NoMemory) ⊎ (wanted ≡ Err (refused_in fault))
 
 -- what follows where there is no fault
 infixl 10 ◌>>=◌
-abbrev pub ◌>>=◌ : {A B : Type 0} → Result A Usage → (A → Result B Usage) → Result B Usage
+abbrev pub ◌>>=◌ : {A B : Type 0} → Result A Refused → (A → Result B Refused) → Result B Refused
 (Ok x) >>= next = next x
 (Err fault) >>= next = Err fault
 
-abbrev pub map_ok : {A B : Type 0} → (A → B) → Result A Usage → Result B Usage
-map_ok f (Ok x) = Ok (f x)
-map_ok f (Err fault) = Err fault
+-- what an answer has, as the rules say it
+abbrev pub map_told : {A B : Type 0} → (A → B) → Result A WordFault → Result B Refused
+map_told f (Ok x) = Ok (f x)
+map_told f (Err fault) = Err (refused_in fault)

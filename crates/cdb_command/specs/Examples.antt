@@ -12,31 +12,31 @@ use Rattle.cdb_command.specs.Asked.{Asked, Query, Lookups, Dump, Difference, Cre
 use Rattle.cdb_command.specs.Explained.{explains_in}
 use Rattle.cdb_command.specs.Words.{plan_of, cdb_rows, cdb_faults}
 use Rattle.cdb_command.specs.declared.style.Style.TheVariants.{Native, Map}
-use Rattle.cdb_command.specs.declared.usage.Usage.{Usage}
-use Rattle.cdb_command.specs.declared.usage.Usage.TheVariants.{Words, NoCommand, TwoCommands}
-use Rattle.cdb_command.specs.declared.usage.Usage.TheVariants.{Option, Names, Both}
+use Rattle.cdb_command.specs.Refused.{Refused, Unknown, Long, NoValue, Twice, NoCommand, TwoCommands}
+use Rattle.cdb_command.specs.Refused.{Option, BaseBuiltIn, Lacks, Surplus, Both, refused_line}
+use Rattle.cdb_command.specs.declared.word_fault.Lacking.TheVariants.{Database, Key, New}
 
 -- what the words behind the program's name ask for
-abbrev pub asks : List Text → Result Asked Usage
+abbrev pub asks : List Text → Result Asked Refused
 asks words = plan_of (codes "cdb" ∷ words)
 
 pub no_letter : asks [] ≡ Err NoCommand
 unfolding cdb_rows cdb_faults walk_fault flags_fault defaults_fault bundle_met walked chars encode
 no_letter = refl
 
-pub unknown_letter : asks (codes "-Z" ∷ []) ≡ Err Words
+pub unknown_letter : asks (codes "-Z" ∷ []) ≡ Err (Unknown (code "Z"))
 unfolding cdb_rows cdb_faults walk_fault flags_fault defaults_fault bundle_met walked chars encode
 unknown_letter = refl
 
-pub two_letters : asks (codes "-q" ∷ codes "-d" ∷ codes "x" ∷ []) ≡ Err TwoCommands
+pub two_letters : asks (codes "-q" ∷ codes "-d" ∷ codes "x" ∷ []) ≡ Err (TwoCommands (code "q") (code "d"))
 unfolding cdb_rows cdb_faults walk_fault flags_fault defaults_fault bundle_met walked chars encode
 two_letters = refl
 
-pub map_of_statistics : asks (codes "-s" ∷ codes "-m" ∷ []) ≡ Err (Option (code "m"))
+pub map_of_statistics : asks (codes "-s" ∷ codes "-m" ∷ []) ≡ Err (Option (code "m") (code "s"))
 unfolding cdb_rows cdb_faults walk_fault flags_fault defaults_fault bundle_met walked chars encode
 map_of_statistics = refl
 
-pub query_without_key : asks (codes "-q" ∷ codes "x" ∷ []) ≡ Err Names
+pub query_without_key : asks (codes "-q" ∷ codes "x" ∷ []) ≡ Err (Lacks Key)
 unfolding cdb_rows cdb_faults walk_fault flags_fault defaults_fault bundle_met walked chars encode
 query_without_key = refl
 
@@ -72,6 +72,7 @@ pub created : asks (codes "-cm" ∷ codes "x" ∷ []) ≡ Ok (Create (codes "x")
   stop = false;
   style = Map;
   limit = 4294967295;
+  names = None;
 }) false)
 unfolding cdb_rows cdb_faults walk_fault flags_fault defaults_fault bundle_met walked chars encode
 created = refl
@@ -83,12 +84,13 @@ pub base_of_the_same_name : asks (codes "-c" ∷ codes "-b" ∷ codes "x" ∷ co
       stop = false;
       style = Native;
       limit = 4294967295;
+      names = None;
     }) false)
 unfolding cdb_rows cdb_faults walk_fault flags_fault defaults_fault bundle_met walked chars encode
 base_of_the_same_name = refl
 
 pub base_that_is_built_in : asks (codes "-c" ∷ codes "-b" ∷ codes "x.tmp" ∷ codes "x" ∷ [])
-    ≡ Err (Option (code "b"))
+    ≡ Err (BaseBuiltIn (codes "x.tmp"))
 unfolding cdb_rows cdb_faults walk_fault flags_fault defaults_fault bundle_met walked chars encode
 base_that_is_built_in = refl
 
@@ -96,15 +98,15 @@ pub difference : asks (codes "-WD" ∷ codes "x" ∷ codes "y" ∷ []) ≡ Ok (D
 unfolding cdb_rows cdb_faults walk_fault flags_fault defaults_fault bundle_met walked chars encode
 difference = refl
 
-pub difference_of_one : asks (codes "-D" ∷ codes "x" ∷ []) ≡ Err Names
+pub difference_of_one : asks (codes "-D" ∷ codes "x" ∷ []) ≡ Err (Lacks New)
 unfolding cdb_rows cdb_faults walk_fault flags_fault defaults_fault bundle_met walked chars encode
 difference_of_one = refl
 
-pub difference_as_a_map : asks (codes "-Dm" ∷ codes "x" ∷ codes "y" ∷ []) ≡ Err (Option (code "m"))
+pub difference_as_a_map : asks (codes "-Dm" ∷ codes "x" ∷ codes "y" ∷ []) ≡ Err (Option (code "m") (code "D"))
 unfolding cdb_rows cdb_faults walk_fault flags_fault defaults_fault bundle_met walked chars encode
 difference_as_a_map = refl
 
-pub difference_and_create : asks (codes "-Dc" ∷ codes "x" ∷ codes "y" ∷ []) ≡ Err TwoCommands
+pub difference_and_create : asks (codes "-Dc" ∷ codes "x" ∷ codes "y" ∷ []) ≡ Err (TwoCommands (code "c") (code "D"))
 unfolding cdb_rows cdb_faults walk_fault flags_fault defaults_fault bundle_met walked chars encode
 difference_and_create = refl
 
@@ -124,13 +126,47 @@ pub looked_up_from_standard_input : asks (codes "-iWqn" ∷ codes "2" ∷ codes 
 unfolding cdb_rows cdb_faults walk_fault flags_fault defaults_fault bundle_met walked chars encode
 looked_up_from_standard_input = refl
 
-pub looked_up_without_database : asks (codes "-qi" ∷ []) ≡ Err Names
+pub looked_up_without_database : asks (codes "-qi" ∷ []) ≡ Err (Lacks Database)
 unfolding cdb_rows cdb_faults walk_fault flags_fault defaults_fault bundle_met walked chars encode
 looked_up_without_database = refl
 
-pub inputs_of_statistics : asks (codes "-si" ∷ codes "x" ∷ []) ≡ Err (Option (code "i"))
+pub inputs_of_statistics : asks (codes "-si" ∷ codes "x" ∷ []) ≡ Err (Option (code "i") (code "s"))
 unfolding cdb_rows cdb_faults walk_fault flags_fault defaults_fault bundle_met walked chars encode
 inputs_of_statistics = refl
+
+pub letter_without_value : asks (codes "-q" ∷ codes "-vn" ∷ []) ≡ Err (NoValue (code "n"))
+unfolding cdb_rows cdb_faults walk_fault flags_fault defaults_fault bundle_met walked chars encode
+letter_without_value = refl
+
+pub value_before_a_letter : asks (codes "-qn" ∷ codes "-m" ∷ codes "x" ∷ []) ≡ Err (NoValue (code "n"))
+unfolding cdb_rows cdb_faults walk_fault flags_fault defaults_fault bundle_met walked chars encode
+value_before_a_letter = refl
+
+pub letter_with_value_twice : asks (codes "-qn1" ∷ codes "-n" ∷ codes "2" ∷ codes "x" ∷ []) ≡ Err (Twice (code "n"))
+unfolding cdb_rows cdb_faults walk_fault flags_fault defaults_fault bundle_met walked chars encode
+letter_with_value_twice = refl
+
+pub long_word : asks (codes "-c" ∷ codes "--map" ∷ codes "x" ∷ []) ≡ Err (Long (codes "--map"))
+unfolding cdb_rows cdb_faults walk_fault flags_fault defaults_fault bundle_met walked chars encode
+long_word = refl
+
+pub first_of_two_bad_words : asks (codes "-qY" ∷ codes "--map" ∷ []) ≡ Err (Unknown (code "Y"))
+unfolding cdb_rows cdb_faults walk_fault flags_fault defaults_fault bundle_met walked chars encode
+first_of_two_bad_words = refl
+
+pub one_name_too_many : asks (codes "-q" ∷ codes "x" ∷ codes "k" ∷ codes "z" ∷ []) ≡ Err (Surplus (codes "z"))
+unfolding cdb_rows cdb_faults walk_fault flags_fault defaults_fault bundle_met walked chars encode
+one_name_too_many = refl
+
+-- what is said of them
+pub said_of_two : refused_line (TwoCommands (code "q") (code "d"))
+    ≡ codes "cdb: two commands: -q and -d\n"
+unfolding encode
+said_of_two = refl
+
+pub said_of_a_letter : refused_line (Unknown 233) ≡ codes "cdb: -\\xc3\\xa9: unknown letter\n"
+unfolding encode
+said_of_a_letter = refl
 
 -- whether faults are explained
 pub explained_among_letters : explains_in (codes "cdb" ∷ codes "-c" ∷ codes "x" ∷ codes "-wv" ∷ []) ≡ true

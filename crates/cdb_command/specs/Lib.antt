@@ -1,6 +1,9 @@
 -- What a command line means, and what is said of one that means nothing.
 pub mod Line
+pub mod Shown
+pub mod Refused
 pub mod Asked
+pub mod BadWord
 pub mod Rules
 pub mod Words
 pub mod Explained

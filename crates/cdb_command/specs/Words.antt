@@ -12,8 +12,8 @@ use Rattle.cdb_command.specs.Line.{Text, Given}
 use Rattle.cdb_command.specs.Asked.{Asked}
 use Rattle.cdb_command.specs.Rules.{line_plan}
 use Rattle.cdb_command.specs.declared.line.Flags.{Flags}
-use Rattle.cdb_command.specs.declared.usage.Usage.{Usage}
-use Rattle.cdb_command.specs.declared.usage.Usage.TheVariants.{Words}
+use Rattle.cdb_command.specs.BadWord.{bad_word}
+use Rattle.cdb_command.specs.Refused.{Refused}
 
 -- ---- what `clap` is told
 
@@ -105,9 +105,10 @@ given_of rows = record {
 
 -- ---- and what they ask for
 
-abbrev pub unless_refused : Kinds → Result Asked Usage → Result Asked Usage
-unless_refused [] plan = plan
-unless_refused (kind ∷ kinds) plan = Err Words
+abbrev pub unless_refused : Kinds → Refused → Result Asked Refused → Result Asked Refused
+unless_refused [] refused plan = plan
+unless_refused (kind ∷ kinds) refused plan = Err refused
 
-abbrev pub plan_of : List Text → Result Asked Usage
-plan_of words = unless_refused (cdb_faults words) (line_plan (given_of (cdb_rows words)))
+abbrev pub plan_of : List Text → Result Asked Refused
+plan_of words =
+    unless_refused (cdb_faults words) (bad_word words) (line_plan (given_of (cdb_rows words)))

@@ -2,18 +2,21 @@
 ghost use Rattle.std.specs.Prelude.{map, string_bytes, option_map, Ok};
 ghost use Rattle.cdb_command.specs.Asked.{Gives};
 
-use crate::usage::Usage;
+use crate::word_fault::WordFault;
 use std::alloc::Global;
 
 /// A text of its own.
-pub(crate) fn owned(alloc: Global, text: &str) -> Result<String, Usage>
+pub(crate) fn owned<'a>(alloc: Global, text: &str) -> Result<String, WordFault<'a>>
     ensures { Gives string_bytes result (Ok text.now) }
 {
     Ok(String::from_str(alloc, text)?)
 }
 
 /// A text of its own, if there is one.
-pub(crate) fn owned_option(alloc: Global, text: Option<&str>) -> Result<Option<String>, Usage>
+pub(crate) fn owned_option<'a>(
+    alloc: Global,
+    text: Option<&str>,
+) -> Result<Option<String>, WordFault<'a>>
     ensures { Gives (option_map string_bytes) result (Ok (option_map (λ s. s.now) text.entry)) }
 {
     match text {
@@ -23,7 +26,7 @@ pub(crate) fn owned_option(alloc: Global, text: Option<&str>) -> Result<Option<S
 }
 
 /// Texts of their own, in order.
-pub(crate) fn owned_all(alloc: Global, from: &[&str]) -> Result<Vec<String>, Usage>
+pub(crate) fn owned_all<'a>(alloc: Global, from: &[&str]) -> Result<Vec<String>, WordFault<'a>>
     ensures { Gives (λ v. map string_bytes v.items) result (Ok (map (λ s. s.now) from.now)) }
 {
     let mut texts = Vec::new(alloc);

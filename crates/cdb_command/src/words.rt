@@ -1,43 +1,46 @@
 // What `clap` makes of the words.
-ghost use Rattle.std.specs.Prelude.{◌≡◌, ◌≢◌, ◌⊎◌, [], IfOk, IfErr, map, string_bytes};
+ghost use Rattle.std.specs.Prelude.{◌≡◌, ◌≢◌, ◌⊎◌, [], IfOk, IfErr, false, map, string_bytes};
 ghost use Rattle.clap.specs.Walk.{rows_of};
 ghost use Rattle.clap.specs.Matches.{found_of};
 ghost use Rattle.clap.specs.Values.{kind_of};
 ghost use Rattle.cdb_command.specs.Line.{given_in};
 ghost use Rattle.cdb_command.specs.Words.{cdb_rows, cdb_faults, has, flags_of, given_of};
-ghost use Rattle.cdb_command.specs.declared.usage.Usage.TheVariants.{NoMemory, Words};
+ghost use Rattle.cdb_command.specs.BadWord.{bad_word};
+ghost use Rattle.cdb_command.specs.Refused.{refused_in};
+ghost use Rattle.cdb_command.specs.declared.word_fault.WordFault.TheVariants.{NoMemory};
 
+use crate::bad_word::bad_word;
 use crate::line::{Flags, Line};
 use crate::parser::parser;
-use crate::usage::Usage;
+use crate::word_fault::WordFault;
 use clap::ArgMatches;
 use clap::error::ErrorKind;
 use std::alloc::Global;
 
-/// Why `clap` refused the words.
-fn refusal(error: &clap::Error) -> Usage
-    ensures either { (result ≡ NoMemory) ⊎ (result ≡ Words) }
-    ensures memory { result ≡ Words → kind_of error.now ≢ ErrorKind.OutOfMemory }
+/// Whether `clap` refused words since memory ran out.
+fn is_of_memory(error: &clap::Error) -> bool
+    ensures { result ≡ false → kind_of error.now ≢ ErrorKind.OutOfMemory }
 {
-    match error.kind() {
-        ErrorKind::OutOfMemory => Usage::NoMemory,
-        _ => Usage::Words,
-    }
+    matches!(error.kind(), ErrorKind::OutOfMemory)
 }
 
-/// What `clap` makes of the words, the first of which is the program's name. `Words` if it
-/// refuses them.
-pub(crate) fn matches_of<'a>(alloc: Global, words: &'a [String]) -> Result<ArgMatches<'a>, Usage>
+/// What `clap` makes of the words, the first of which is the program's name. The first bad letter or
+/// word if it refuses them.
+pub(crate) fn matches_of<'a>(
+    alloc: Global,
+    words: &'a [String],
+) -> Result<ArgMatches<'a>, WordFault<'a>>
     ensures ok { IfOk result (λ m. rows_of (found_of m)
         ≡ cdb_rows (map string_bytes words.entry.now)) }
     ensures taken { IfOk result (λ _. cdb_faults (map string_bytes words.entry.now) ≡ []) }
     ensures refused { IfErr result (λ u. (u ≡ NoMemory)
-        ⊎ ((u ≡ Words) × (cdb_faults (map string_bytes words.entry.now) ≢ []))) }
+        ⊎ ((refused_in u ≡ bad_word (map string_bytes words.entry.now)) × (cdb_faults (map string_bytes words.entry.now) ≢ []))) }
 {
     let parser = parser(alloc)?;
     match parser.try_get_matches_from(words) {
         Ok(matches) => Ok(matches),
-        Err(error) => Err(refusal(&error)),
+        Err(error) if is_of_memory(&error) => Err(WordFault::NoMemory),
+        Err(_) => Err(bad_word(words)),
     }
 }
 

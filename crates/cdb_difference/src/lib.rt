@@ -1,10 +1,10 @@
 //! What changed between two databases, as an amending text.
 #![tactic(auto)]
 
-mod changed;
-mod changes;
+mod differing_values;
 mod guide;
 mod in_step;
+mod key_changes;
 mod mark_hash;
 mod marks;
 mod pass;
@@ -13,6 +13,6 @@ mod same;
 mod stop;
 mod write;
 
-pub use changes::write_put;
+pub use key_changes::write_put;
 pub use stop::Stop;
 pub use write::write_difference;

@@ -8,8 +8,8 @@ ghost use Rattle.cdb_difference.specs.Difference.{is_first_changed, WritesPass, 
 ghost use Rattle.cdb_difference.specs.Views.InStep.{AgreeUnmarked};
 ghost use Rattle.cdb_difference.specs.Views.Marks.{is_marked};
 
-use crate::changed::is_first_changed;
-use crate::changes::write_changes;
+use crate::differing_values::is_first_changed;
+use crate::key_changes::write_changes;
 use crate::mark_hash::mark_hash;
 use crate::marks::Marks;
 use crate::records::next_record;

@@ -1,4 +1,4 @@
-// The records of a database, one after the other.
+// One more record of a walk that is kept as a bookmark.
 ghost use Rattle.std.specs.Prelude.{IfErr, IfOk, MatchOption};
 ghost use Rattle.cdb_store.specs.Reads.{OnlyReads};
 ghost use Rattle.cdb_difference.specs.Views.NextRecord.{GivesNext, GivesNoNext, NextStops};

@@ -15,16 +15,7 @@ use Rattle.cdb_make.specs.Views.Maker.{FailsPutting, Holds}
 use Rattle.cdb_make.specs.declared.fault.MakeFault.{MakeFault}
 use Rattle.cdb_make.specs.declared.fault.MakeFault.TheVariants.{Broken, Lookup, NoMemory, TooBig, Writing}
 use Rattle.cdb_make.specs.declared.maker.Maker.{Maker}
-use Rattle.cdb_store.specs.Calls.{IsSynced}
-use Rattle.cdb_store.specs.FileStore.{calls_of, failures_of, images_of, written_of}
-use Rattle.cdb_store.specs.declared.file.FileStore.{FileStore}
-use Rattle.cdb_store.specs.declared.raw.RawFile.{Ghosts as Raw}
-use Rattle.cdb_read.specs.Views.Reads.{OpeningFails}
-use Rattle.cdb_read.specs.declared.fault.ReadFault.{ReadFault}
-use Rattle.cdb_read.specs.declared.fault.ReadFault.TheVariants as read
 use Rattle.cdb_files.specs.FileFault.{of_replace}
-use Rattle.cdb_files.specs.Opening.{OpensNone}
-use Rattle.cdb_files.specs.declared.fault.FileFault.TheVariants as file_fault
 use Rattle.cdb_files.specs.Made.{FailsBuilding, IsOfBuilding}
 use Rattle.cdb_files.specs.Replacing.{IsOfBuilder}
 use Rattle.cdb_files.specs.declared.replace.ReplaceFault.{ReplaceFault}
@@ -40,7 +31,7 @@ first_fit w n records =
     omega (arith, sums, same)
 
 -- a record was not put behind the first ones
-pub puts_fail : {S L : Type 0} {s : Ghosts S} {l : Widths L} (limit before i : ℕ) (records : List Record) (old new : Maker S L s l) (r : KeyValue) (f : MakeFault) → Holds old (key_values (take i records)) → old.limit ≡ limit → before ≤ s.failures old.store
+pub puts_fail : {S L : Type 0} {s : Ghosts S} {l : Widths L} (limit before i : ℕ) (records : List Record) (old new : Maker S L s l) (r : KeyValue) (f : MakeFault) → Holds old (key_values (take i records)) → old.limit ≡ limit → s.failures old.store ≡ before
     → key_values (take i records) ++ r ∷ [] ≡ key_values (take (i + 1) records) → FailsPutting old new Add r f → FailsBuilding l.WORD limit records before (s.failures new.store) (s.image new.store) f
 puts_fail limit before i records old new r Broken held same later more fails = fails.cause (key_values (take i records)) held
 puts_fail limit before i records old new r Lookup held same later more fails = absurd (fails.2 refl)
@@ -50,16 +41,16 @@ puts_fail {l = l} limit before i records old new r TooBig held same later more f
       let first : file_size l.WORD (key_values (take i records) ++ r ∷ []) ≡ file_size l.WORD (key_values (take (i + 1) records)) = ap (file_size l.WORD) more in
       omega (arith, big, first, same, first_fit l.WORD (i + 1) records);
 }
-puts_fail limit before i records old new r NoMemory held same later more fails = tt
+puts_fail limit before i records old new r NoMemory held same later more fails = fails.3 ∙ later
 puts_fail {s = s} limit before i records old new r Writing held same later more (inl x, would) = let failed : s.failures old.store < s.failures new.store = x.1.failed in omega (arith, later, failed)
 puts_fail {s = s} limit before i records old new r Writing held same later more (inr x, would) = let failed : s.failures old.store < s.failures new.store = x.0.failed in omega (arith, later, failed)
 
--- a store that had failed less often before
-pub building_later : (w greatest : ℕ) (records : List Record) (first before after : ℕ) (images : List ℕ → Type 0) (f : MakeFault) → first ≤ before → FailsBuilding w greatest records before after images f → FailsBuilding w greatest records first after images f
+-- a store that had failed as often before
+pub building_later : (w greatest : ℕ) (records : List Record) (first before after : ℕ) (images : List ℕ → Type 0) (f : MakeFault) → before ≡ first → FailsBuilding w greatest records before after images f → FailsBuilding w greatest records first after images f
 building_later w greatest records first before after images Broken later fails = fails
 building_later w greatest records first before after images Lookup later fails = absurd fails
 building_later w greatest records first before after images TooBig later fails = fails
-building_later w greatest records first before after images NoMemory later fails = tt
+building_later w greatest records first before after images NoMemory later fails = fails ∙ later
 building_later w greatest records first before after images Writing later fails = let failed : before < after = fails in omega (arith, later, failed)
 
 -- the store below a buffer
@@ -67,7 +58,7 @@ pub building_below : (w greatest : ℕ) (records : List Record) (before after po
 building_below w greatest records before after pos bytes images Broken fails = λ b is. fails (overwrite b pos bytes) (b, is, refl)
 building_below w greatest records before after pos bytes images Lookup fails = absurd fails
 building_below w greatest records before after pos bytes images TooBig fails = record { each = λ b is. fails.each (overwrite b pos bytes) (b, is, refl) }
-building_below w greatest records before after pos bytes images NoMemory fails = tt
+building_below w greatest records before after pos bytes images NoMemory fails = fails
 building_below w greatest records before after pos bytes images Writing fails = fails
 
 -- ---- the fault of a builder
@@ -78,29 +69,3 @@ building_fault P Q replacing.NoMemory same h = tt
 building_fault P Q replacing.Write same h = tt
 building_fault P Q replacing.Rename same h = tt
 building_fault P Q (replacing.Build f) same h = same f h
-
--- ---- no database was opened
-
--- the ghosts of a store in a file
-abbrev pub file_store : {F : Type 0} (file : Raw F) → Ghosts (FileStore F file)
-file_store file = record {
-  size = λ f. f.len;
-  image = λ f. images_of f;
-  failures = λ f. failures_of f;
-  unwritten = λ f. failures_of f;
-  written = λ f. written_of f;
-  room = λ f. 2 ^ 63;
-  settled = λ f. IsSynced (calls_of f);
-}
-
-pub opens_none : {F : Type 0} (file : Raw F) (w : ℕ) (store left : FileStore F file) (fault : ReadFault)
-    → OpeningFails w (file_store file) store left fault → OpensNone w (Ok store) (file_fault.Read fault)
-opens_none file w store left read.Short fails = fails.0
-opens_none file w store left read.Device fails = (left, fails.1)
-opens_none file w store left (read.Table n) fails = absurd fails
-opens_none file w store left (read.Record place) fails = absurd fails
-opens_none file w store left (read.Slot n place) fails = absurd fails
-opens_none file w store left (read.Twice place) fails = absurd fails
-opens_none file w store left (read.Unindexed place) fails = absurd fails
-opens_none file w store left read.NoMemory fails = absurd fails
-opens_none file w store left read.Output fails = absurd fails

@@ -22,11 +22,11 @@ abbrev pub IsFileOf : (w : ℕ) → List Record → List ℕ → Type 0
 IsFileOf w records b = b ≡ file_bytes w (key_values records)
 
 -- why the file of the records was not built in a store, which had failed so often before and then:
--- memory was refused, or the store failed, or the file would be longer than the greatest, or the
+-- memory was refused and it had not failed, or it failed, or the file would be longer than the greatest, or the
 -- store gave back other bytes than were written
 abbrev pub FailsBuilding : (w greatest : ℕ) → List Record → (before after : ℕ) → (List ℕ → Type 0)
     → MakeFault → Type 0
-FailsBuilding w greatest records before after images NoMemory = ⊤
+FailsBuilding w greatest records before after images NoMemory = after ≡ before
 FailsBuilding w greatest records before after images Writing = before < after
 FailsBuilding w greatest records before after images TooBig =
     WhereHonest images (greatest < file_size w (key_values records))

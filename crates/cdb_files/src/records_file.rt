@@ -59,6 +59,7 @@ fn put_records<S: Store, L: Width>(
     requires { Holds maker.old [] }
     ensures ok { OnOk result (Holds maker.new (key_values records.now)) }
     ensures failures { S.failures maker.old.store ≤ S.failures maker.new.store }
+    ensures fine { OnOk result (S.failures maker.new.store ≡ S.failures maker.old.store) }
     ensures fails { IfErr result (FailsBuilding L.WORD (limit_of maker.old) records.now
         (S.failures maker.old.store) (S.failures maker.new.store) (S.image maker.new.store)) }
 {

@@ -34,7 +34,6 @@ ghost use Rattle.cdb_files.specs.Replacing.{
   FailsRename,
   FailsToBuild,
   FailsToSeal,
-  IsFound,
   IsFree,
   IsMadeApart,
   IsNoName,
@@ -101,9 +100,10 @@ pub trait Builder<S: Store> {
 /// Why a file was not replaced.
 #[derive(Clone, Copy, Debug, PartialEq, Eq)]
 pub enum ReplaceFault<E> {
-    /// The file's name is empty, ends in a slash or is the temporary name too; or the temporary name
-    /// has something that is no regular file, or the file of another create; or no file could be
-    /// made, or not with the old file's permissions; or the system did not say what a name has.
+    /// The file's name is empty or ends in a slash, or the temporary name is the same or leads to the
+    /// same file; or the temporary name has something that is no regular file, or the file of another
+    /// create; or no file could be made, or not with the old file's permissions; or the system did
+    /// not say what a name has.
     Open,
     /// The system had no memory as the temporary file was opened, made or renamed.
     NoMemory,
@@ -207,30 +207,9 @@ fn remove_old<N: Names, E: Drop>(
     Ok(())
 }
 
-/// Removes the old file of the temporary name, which was just found, unless it is the file to be
-/// replaced.
-fn remove_other<N: Names, E: Drop>(
-    names: &mut N,
-    name: &str,
-    temporary: &str,
-) -> Result<(), ReplaceFault<E>>
-    requires found { IsFound temporary.now (N.calls names.old) }
-    ensures steps { AreSteps temporary.now name.now (λ _. ⊥) (N.calls names.old)
-        (N.calls names.new) }
-    ensures free { OnOk result (IsFree temporary.now (N.calls names.new)) }
-    ensures plain { IsPlain name.now (N.calls names.old) → IsPlain name.now (N.calls names.new) }
-    ensures renames { renames (N.calls names.new) ≡ renames (N.calls names.old) }
-    ensures err { IfErr result (StopsAt temporary.now name.now (N.calls names.new)) }
-    ensures not_built { IfErr result (IsOfBuilder (λ _. ⊥)) }
-{
-    match names.is_file_of(temporary, name) {
-        Answer::No => remove_old(names, name, temporary),
-        Answer::Yes | Answer::Unknown => Err(ReplaceFault::Open),
-    }
-}
-
-/// Sees that nothing has the temporary name, or removes the old file that has it. If the look found
-/// nothing, nothing is removed: a file that is there by then is another create's.
+/// Sees that nothing has the temporary name, or removes the old file that has it, unless it is the file
+/// to be replaced. If the look found nothing, nothing is removed: a file that is there by then is another
+/// create's.
 fn clear<N: Names, E: Drop>(
     names: &mut N,
     name: &str,
@@ -245,10 +224,14 @@ fn clear<N: Names, E: Drop>(
     ensures not_built { IfErr result (IsOfBuilder (λ _. ⊥)) }
 {
     match names.look(temporary) {
-        Found::Nothing => Ok(()),
-        Found::File => remove_other(names, name, temporary),
-        Found::Other => Err(ReplaceFault::Open),
-        Found::Unknown => Err(ReplaceFault::Open),
+        Found::Nothing => return Ok(()),
+        Found::File => {}
+        Found::Other => return Err(ReplaceFault::Open),
+        Found::Unknown => return Err(ReplaceFault::Open),
+    }
+    match names.is_file_of(temporary, name) {
+        Answer::No => remove_old(names, name, temporary),
+        Answer::Yes | Answer::Unknown => Err(ReplaceFault::Open),
     }
 }
 

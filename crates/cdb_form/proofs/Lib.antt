@@ -4,3 +4,4 @@ pub mod Sources
 pub mod RecordReading
 pub mod NativeTexts
 pub mod MapTexts
+pub mod Slots

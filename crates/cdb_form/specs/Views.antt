@@ -17,3 +17,5 @@ pub mod MapReader
 pub mod ListReader
 pub mod RecordReader
 pub mod Repeats
+pub mod SlotBytes
+pub mod UsedRuns

@@ -7,8 +7,9 @@ ghost use Rattle.cdb_form.specs.Laws.Text.{MapReadsBack, TextReadsBack};
 ghost use Rattle.cdb_form.specs.Format.Walk.{walk_of};
 ghost use Rattle.cdb_form.specs.Text.Amending.{Putting, SpellsChange};
 ghost use Rattle.cdb_form.specs.Text.Map.{IsMapWord};
+ghost use Rattle.cdb_form.specs.Text.List.{SpellsKey};
 ghost use Rattle.cdb_form.specs.Text.Native.{Spells};
-ghost use Rattle.cdb_form.specs.Text.Parse.{parse};
+ghost use Rattle.cdb_form.specs.Text.Parse.{listed, parse, parse_list};
 ghost use Rattle.cdb_form.specs.Laws.Walk.{IsWalk, WalksBack};
 ghost use Rattle.cdb_form.specs.Views.Pairs.{changes_of, key_values};
 
@@ -36,14 +37,16 @@ pub fn native_text_amends_by_puts<L: Width>(_text: &[u8])
     ensures { AmendsByPuts L.GREATEST _text.now }
 {}
 
-/// What the function of a text says is what the grammar says, of native texts and of amending ones:
-/// its items with what follows the text, or its whole items with its fault. No other items do, no
-/// other rest and no other fault.
+/// What the function of a text says is what the grammar says, of native texts, of amending ones and
+/// of list texts: its items with what follows the text, or its whole items with its fault. No other
+/// items do, no other rest and no other fault.
 pub fn text_is_parsed<L: Width>(_text: &[u8])
     ensures native { IsParsed Spells Putting L.GREATEST _text.now
         (parse false L.GREATEST _text.now) }
     ensures amending { IsParsed SpellsChange (λ x. x) L.GREATEST _text.now
         (parse true L.GREATEST _text.now) }
+    ensures listed { IsParsed SpellsKey listed L.GREATEST _text.now
+        (parse_list L.GREATEST _text.now) }
 {}
 
 /// The map text of some records that it can hold is read as these records.

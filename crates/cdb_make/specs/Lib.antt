@@ -1,6 +1,5 @@
 -- What making a database is to do.
 pub mod Parts
-pub mod Runs
 pub mod Views
 pub mod Gaps
 pub mod Survivors

@@ -4,7 +4,6 @@ pub mod Index
 pub mod Places
 pub mod EntryList
 pub mod Lists
-pub mod SlotBytes
 pub mod Maker
 pub mod Carrying
 pub mod Foreseen

@@ -174,9 +174,10 @@ impl<S: Store, L: Width> Batch<S, L> {
         ensures maker { self.new.maker ≡ self.old.maker }
         ensures gone { self.new.gone ≡ self.old.gone }
         ensures due { result ≡ true → IsCostly self.new }
-        ensures start { (self.new.pace.start ≡ self.old.pace.start)
-            ⊎ ((length self.new.gone.items ≤ taken)
-            × (self.new.pace.start ≡ self.new.maker.end)) }
+        ensures start { length self.new.gone.items ≤ taken
+            → self.new.pace.start ≡ self.new.maker.end }
+        ensures goes_on { taken < length self.new.gone.items
+            → self.new.pace.start ≡ self.old.pace.start }
     {
         let marked = self.gone.len() as u64;
         if marked <= taken {

@@ -1,5 +1,4 @@
 // The tables and the head are written.
 pub(crate) mod file;
 pub(crate) mod head;
-pub(crate) mod table;
 pub(crate) mod tables;

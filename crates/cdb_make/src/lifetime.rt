@@ -67,6 +67,7 @@ fn emptied<S: Store, L: Width>(alloc: Global, store: &mut S) -> Result<Lists<L>,
     ensures written { OnOk result (S.written store.new ≡ S.written store.old + head_size L.WORD) }
     ensures room { S.room store.old ≤ S.room store.new }
     ensures failures { S.failures store.old ≤ S.failures store.new }
+    ensures fine { OnOk result (S.failures store.new ≡ S.failures store.old) }
     ensures fails { IfErr result
         (MakingFault S.image S.size S.written S.failures store.old store.new) }
 {
@@ -104,6 +105,7 @@ impl<S: Store, L: Width> Maker<S, L> {
             S.written (store_of m) ≡ S.written store + head_size L.WORD) }
         ensures room { IfOk result (λ m. S.room store ≤ S.room (store_of m)) }
         ensures failures { IfOk result (λ m. S.failures store ≤ S.failures (store_of m)) }
+        ensures fine { IfOk result (λ m. S.failures (store_of m) ≡ S.failures store) }
         ensures fails { IfErr result (λ r.
             MakingFault S.image S.size S.written S.failures store r.store r.fault) }
     {

@@ -27,8 +27,8 @@ use std::marker::PhantomData;
 /// Makes a database in a store: each record is written as it is put.
 ///
 /// The store holds the records one after another, from the end of the head on, and the maker keeps
-/// the hash of each key and the record's place: 8 bytes a record, or 12 if words are wide. If records
-/// are put by a mode that looks for their keys, or appended, it keeps an index too: 8 to 12 bytes more.
+/// the hash of each key and the record's place: 8 bytes a record, or 12 if words are wide. It indexes
+/// the records that are put by a mode that looks for their keys: 8 to 12 bytes more.
 #[derive(Drop)]
 pub struct Maker<S: Store, L: Width> {
     pub(crate) alloc: Global,

@@ -1,5 +1,6 @@
 -- A check, slot by slot and record by record.
 pub mod TableChecks
+pub mod FilledChecks
 pub mod FaultSteps
 pub mod Entered
 pub mod Buckets

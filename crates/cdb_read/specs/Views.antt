@@ -15,6 +15,7 @@ pub mod Counting
 pub mod Lengths
 pub mod Stats
 pub mod TableRecords
+pub mod FilledTable
 pub mod RecordLists
 pub mod Check
 pub mod Checked

@@ -45,21 +45,21 @@ putting i n r = record { input = i; number = n; it = Putting r }
 abbrev pub course_put : ℕ → Task → List Incoming → ℕ → ℕ → KeyValue → Put → Course
 course_put w t cs i n r put =
     let s = course_of w t cs in
-    record { records = put_list (mode_of t.options) r s.records; lines = s.lines ++ said t.options i n (Ok put); ended = ends t.options (Ok put) }
+    record { records = put_list (mode_of t.options) r s.records; lines = s.lines ++ said t.options i n r.key (Ok put); ended = ends t.options (Ok put) }
 
 put_fits : (w : ℕ) (o : MakeOptions) (s : Course) (i n : ℕ) (r : KeyValue) (put : Put) → fits w o.limit (mode_of o) r s.records ≡ true → put ≡ put_answer (mode_of o) r s.records
-    → with_put w o s i n r ≡ record { records = put_list (mode_of o) r s.records; lines = s.lines ++ said o i n (Ok put); ended = ends o (Ok put) }
+    → with_put w o s i n r ≡ record { records = put_list (mode_of o) r s.records; lines = s.lines ++ said o i n r.key (Ok put); ended = ends o (Ok put) }
 put_fits w o s i n r put fit answer =
     let rs = put_list (mode_of o) r s.records in
     let p = put_answer (mode_of o) r s.records in
-    ap (λ b. let a : Result Put MakeFault = (if b then Ok p else Err make.TooBig) in record { records = if b then rs else s.records; lines = s.lines ++ said o i n a; ended = ends o a }) fit
-    ∙ ap (λ q. record { records = rs; lines = s.lines ++ said o i n (Ok q); ended = ends o (Ok q) }) (sym answer)
+    ap (λ b. let a : Result Put MakeFault = (if b then Ok p else Err make.TooBig) in record { records = if b then rs else s.records; lines = s.lines ++ said o i n r.key a; ended = ends o a }) fit
+    ∙ ap (λ q. record { records = rs; lines = s.lines ++ said o i n r.key (Ok q); ended = ends o (Ok q) }) (sym answer)
 
 put_full : (w : ℕ) (o : MakeOptions) (s : Course) (i n : ℕ) (r : KeyValue) → fits w o.limit (mode_of o) r s.records ≡ false → with_put w o s i n r ≡ record { records = s.records; lines = s.lines ++ []; ended = Some (Make make.TooBig) }
 put_full w o s i n r full =
     let rs = put_list (mode_of o) r s.records in
     let p = put_answer (mode_of o) r s.records in
-    ap (λ b. let a : Result Put MakeFault = (if b then Ok p else Err make.TooBig) in record { records = if b then rs else s.records; lines = s.lines ++ said o i n a; ended = ends o a }) full
+    ap (λ b. let a : Result Put MakeFault = (if b then Ok p else Err make.TooBig) in record { records = if b then rs else s.records; lines = s.lines ++ said o i n r.key a; ended = ends o a }) full
 
 -- ---- a put
 
@@ -87,7 +87,7 @@ is_put {l = l} t cs i n r start mid old new put h wide puts comes limit b is =
 
 -- the run goes on
 put_goes : {S L : Type 0} {s : Ghosts S} {l : Widths L} (t : Task) (cs : List Incoming) (i n : ℕ) (r : KeyValue) (start mid end : Option (List ℕ)) (old new : Batch S L s l) (put : Put) → InCourse t cs start mid old → (l.WORD ≡ 4) ⊎ (l.WORD ≡ 8) → Puts old new (mode_of t.options) r put
-    → ComesFrom (s.image old.maker.store) (s.image new.maker.store) → limit_of new ≡ limit_of old → Appends mid end (said t.options i n (Ok put)) → ends t.options (Ok put) ≡ None → InCourse t (cs ++ putting i n r ∷ []) start end new
+    → ComesFrom (s.image old.maker.store) (s.image new.maker.store) → limit_of new ≡ limit_of old → Appends mid end (said t.options i n r.key (Ok put)) → ends t.options (Ok put) ≡ None → InCourse t (cs ++ putting i n r ∷ []) start end new
 put_goes {l = l} t cs i n r start mid end old new put h wide puts comes limit told going = record {
   holds = record {
     whole = puts.whole;
@@ -105,7 +105,7 @@ put_goes {l = l} t cs i n r start mid end old new put h wide puts comes limit to
 }
 
 -- or stops where it was told
-told_so : {S L : Type 0} {s : Ghosts S} {l : Widths L} (t : Task) (cs : List Incoming) (i n : ℕ) (r : KeyValue) (start mid end : Option (List ℕ)) (m : Batch S L s l) (put : Put) (f : Fault) (b : List ℕ) → IsPut t cs i n r start mid m put b → TellFails t.options i n put mid end f
+told_so : {S L : Type 0} {s : Ghosts S} {l : Widths L} (t : Task) (cs : List Incoming) (i n : ℕ) (r : KeyValue) (start mid end : Option (List ℕ)) (m : Batch S L s l) (put : Put) (f : Fault) (b : List ℕ) → IsPut t cs i n r start mid m put b → TellFails t.options i n r.key put mid end f
     → StopsSo l.WORD t (cs ++ putting i n r ∷ []) start end f
 told_so t cs i n r start mid end m put (Text j f) b p x = absurd x
 told_so t cs i n r start mid end m put (Make f) b p x = absurd x
@@ -121,7 +121,7 @@ told_so t cs i n r start mid end m put (Old side) b p x = absurd x
 told_so t cs i n r start mid end m put (New side) b p x = absurd x
 told_so t cs i n r start mid end m put NoMemory b p x = absurd x
 told_so {l = l} t cs i n r start mid end m put Output b p x =
-    subst (λ s. AppendsPrefix start end s.lines) (sym p.is) (prefix_then start mid end (course_of l.WORD t cs).lines (said t.options i n (Ok put)) [] _ p.goes.lines x (ap (λ u. (course_of l.WORD t cs).lines ++ u) (sym (append-nil _))))
+    subst (λ s. AppendsPrefix start end s.lines) (sym p.is) (prefix_then start mid end (course_of l.WORD t cs).lines (said t.options i n r.key (Ok put)) [] _ p.goes.lines x (ap (λ u. (course_of l.WORD t cs).lines ++ u) (sym (append-nil _))))
 told_so t cs i n r start mid end m put Duplicate b p x = record {
   before = cs;
   last = putting i n r;
@@ -132,26 +132,26 @@ told_so t cs i n r start mid end m put Duplicate b p x = record {
 }
 
 put_told : {S L : Type 0} {s : Ghosts S} {l : Widths L} (t : Task) (cs : List Incoming) (i n : ℕ) (r : KeyValue) (start mid end : Option (List ℕ)) (old new : Batch S L s l) (put : Put) (f : Fault) → InCourse t cs start mid old → (l.WORD ≡ 4) ⊎ (l.WORD ≡ 8) → Puts old new (mode_of t.options) r put
-    → ComesFrom (s.image old.maker.store) (s.image new.maker.store) → limit_of new ≡ limit_of old → TellFails t.options i n put mid end f → WhereHonest (s.image new.maker.store) (PutStops l.WORD t cs (putting i n r) start end f)
+    → ComesFrom (s.image old.maker.store) (s.image new.maker.store) → limit_of new ≡ limit_of old → TellFails t.options i n r.key put mid end f → WhereHonest (s.image new.maker.store) (PutStops l.WORD t cs (putting i n r) start end f)
 put_told t cs i n r start mid end old new put f h wide puts comes limit x = record { each = λ b is. inr (told_so t cs i n r start mid end new put f b (is_put t cs i n r start mid old new put h wide puts comes limit b is) x) }
 
 -- what a teller answers is no fault of the store
-pub told_store : (o : MakeOptions) (i j : ℕ) (put : Put) (old new : Option (List ℕ)) (f : Fault) → TellFails o i j put old new f → IsOfStore f → ⊥
-told_store o i j put old new (Text n f) x is = absurd is
-told_store o i j put old new (Make f) x is = absurd x
-told_store o i j put old new (Walk f) x is = absurd is
-told_store o i j put old new Missing x is = absurd is
-told_store o i j put old new (Read f) x is = absurd is
-told_store o i j put old new Long x is = absurd is
-told_store o i j put old new Open x is = absurd is
-told_store o i j put old new Rename x is = absurd is
-told_store o i j put old new NoOldTables x is = absurd is
-told_store o i j put old new NoNewTables x is = absurd is
-told_store o i j put old new (Old side) x is = absurd is
-told_store o i j put old new (New side) x is = absurd is
-told_store o i j put old new NoMemory x is = absurd is
-told_store o i j put old new Output x is = absurd is
-told_store o i j put old new Duplicate x is = absurd is
+pub told_store : (o : MakeOptions) (i j : ℕ) (key : List ℕ) (put : Put) (old new : Option (List ℕ)) (f : Fault) → TellFails o i j key put old new f → IsOfStore f → ⊥
+told_store o i j key put old new (Text n f) x is = absurd is
+told_store o i j key put old new (Make f) x is = absurd x
+told_store o i j key put old new (Walk f) x is = absurd is
+told_store o i j key put old new Missing x is = absurd is
+told_store o i j key put old new (Read f) x is = absurd is
+told_store o i j key put old new Long x is = absurd is
+told_store o i j key put old new Open x is = absurd is
+told_store o i j key put old new Rename x is = absurd is
+told_store o i j key put old new NoOldTables x is = absurd is
+told_store o i j key put old new NoNewTables x is = absurd is
+told_store o i j key put old new (Old side) x is = absurd is
+told_store o i j key put old new (New side) x is = absurd is
+told_store o i j key put old new NoMemory x is = absurd is
+told_store o i j key put old new Output x is = absurd is
+told_store o i j key put old new Duplicate x is = absurd is
 
 -- ---- a put that was refused
 
@@ -238,22 +238,22 @@ removal_halted t cs key start now old new make.NoMemory h x comes count is = abs
 removal_halted t cs key start now old new make.Writing h x comes count is = stands_broken t cs start now old new h comes count x.broken
 
 -- what a teller answers does not halt a run
-pub told_halts : (o : MakeOptions) (i j : ℕ) (put : Put) (old new : Option (List ℕ)) (f : Fault) → TellFails o i j put old new f → IsHalt f → ⊥
-told_halts o i j put old new (Text n f) x is = absurd is
-told_halts o i j put old new (Make f) x is = absurd x
-told_halts o i j put old new (Walk f) x is = absurd is
-told_halts o i j put old new Missing x is = absurd is
-told_halts o i j put old new (Read f) x is = absurd is
-told_halts o i j put old new Long x is = absurd is
-told_halts o i j put old new Open x is = absurd is
-told_halts o i j put old new Rename x is = absurd is
-told_halts o i j put old new NoOldTables x is = absurd is
-told_halts o i j put old new NoNewTables x is = absurd is
-told_halts o i j put old new (Old side) x is = absurd is
-told_halts o i j put old new (New side) x is = absurd is
-told_halts o i j put old new NoMemory x is = absurd x
-told_halts o i j put old new Output x is = absurd is
-told_halts o i j put old new Duplicate x is = absurd is
+pub told_halts : (o : MakeOptions) (i j : ℕ) (key : List ℕ) (put : Put) (old new : Option (List ℕ)) (f : Fault) → TellFails o i j key put old new f → IsHalt f → ⊥
+told_halts o i j key put old new (Text n f) x is = absurd is
+told_halts o i j key put old new (Make f) x is = absurd x
+told_halts o i j key put old new (Walk f) x is = absurd is
+told_halts o i j key put old new Missing x is = absurd is
+told_halts o i j key put old new (Read f) x is = absurd is
+told_halts o i j key put old new Long x is = absurd is
+told_halts o i j key put old new Open x is = absurd is
+told_halts o i j key put old new Rename x is = absurd is
+told_halts o i j key put old new NoOldTables x is = absurd is
+told_halts o i j key put old new NoNewTables x is = absurd is
+told_halts o i j key put old new (Old side) x is = absurd is
+told_halts o i j key put old new (New side) x is = absurd is
+told_halts o i j key put old new NoMemory x is = absurd x
+told_halts o i j key put old new Output x is = absurd is
+told_halts o i j key put old new Duplicate x is = absurd is
 
 -- ---- a put that was refused memory
 
@@ -289,21 +289,21 @@ pub memory_taken_so : {S L : Type 0} {s : Ghosts S} {l : Widths L} (t : Task) (o
     → ComesFrom (s.image old.maker.store) (s.image new.maker.store) → make_fault f ≡ NoMemory → WhereHonest (s.image new.maker.store) (TakesNext l.WORD t cs (putting i n r))
 memory_taken_so t o cs i n r start mid old new f same h x comes e = memory_taken t cs i n r start mid old new f h (subst (λ v. FailsPutting old new (mode_of v) r f) (sym same) x) comes e
 
-pub told_memory : (o : MakeOptions) (i j : ℕ) (put : Put) (old new : Option (List ℕ)) (f : Fault) → TellFails o i j put old new f → f ≡ NoMemory → ⊥
-told_memory o i j put old new f x e = told_halts o i j put old new f x (subst IsHalt (sym e) tt)
+pub told_memory : (o : MakeOptions) (i j : ℕ) (key : List ℕ) (put : Put) (old new : Option (List ℕ)) (f : Fault) → TellFails o i j key put old new f → f ≡ NoMemory → ⊥
+told_memory o i j key put old new f x e = told_halts o i j key put old new f x (subst IsHalt (sym e) tt)
 
 -- ---- the same of a run that has these options
 
 pub put_goes_so : {S L : Type 0} {s : Ghosts S} {l : Widths L} (t : Task) (o : MakeOptions) (cs : List Incoming) (i n : ℕ) (r : KeyValue) (start mid end : Option (List ℕ)) (old new : Batch S L s l) (put : Put) → t.options ≡ o → InCourse t cs start mid old → (l.WORD ≡ 4) ⊎ (l.WORD ≡ 8) → Puts old new (mode_of o) r put
-    → ComesFrom (s.image old.maker.store) (s.image new.maker.store) → limit_of new ≡ limit_of old → Appends mid end (said o i n (Ok put)) → ends o (Ok put) ≡ None → InCourse t (cs ++ putting i n r ∷ []) start end new
+    → ComesFrom (s.image old.maker.store) (s.image new.maker.store) → limit_of new ≡ limit_of old → Appends mid end (said o i n r.key (Ok put)) → ends o (Ok put) ≡ None → InCourse t (cs ++ putting i n r ∷ []) start end new
 put_goes_so t o cs i n r start mid end old new put same h wide puts comes limit told going =
     put_goes t cs i n r start mid end old new put h wide (subst (λ v. Puts old new (mode_of v) r put) (sym same) puts) comes limit
-    (subst (λ v. Appends mid end (said v i n (Ok put))) (sym same) told) (subst (λ v. ends v (Ok put) ≡ None) (sym same) going)
+    (subst (λ v. Appends mid end (said v i n r.key (Ok put))) (sym same) told) (subst (λ v. ends v (Ok put) ≡ None) (sym same) going)
 
 pub put_told_so : {S L : Type 0} {s : Ghosts S} {l : Widths L} (t : Task) (o : MakeOptions) (cs : List Incoming) (i n : ℕ) (r : KeyValue) (start mid end : Option (List ℕ)) (old new : Batch S L s l) (put : Put) (f : Fault) → t.options ≡ o → InCourse t cs start mid old → (l.WORD ≡ 4) ⊎ (l.WORD ≡ 8) → Puts old new (mode_of o) r put
-    → ComesFrom (s.image old.maker.store) (s.image new.maker.store) → limit_of new ≡ limit_of old → TellFails o i n put mid end f → WhereHonest (s.image new.maker.store) (PutStops l.WORD t cs (putting i n r) start end f)
+    → ComesFrom (s.image old.maker.store) (s.image new.maker.store) → limit_of new ≡ limit_of old → TellFails o i n r.key put mid end f → WhereHonest (s.image new.maker.store) (PutStops l.WORD t cs (putting i n r) start end f)
 put_told_so t o cs i n r start mid end old new put f same h wide puts comes limit x =
-    put_told t cs i n r start mid end old new put f h wide (subst (λ v. Puts old new (mode_of v) r put) (sym same) puts) comes limit (subst (λ v. TellFails v i n put mid end f) (sym same) x)
+    put_told t cs i n r start mid end old new put f h wide (subst (λ v. Puts old new (mode_of v) r put) (sym same) puts) comes limit (subst (λ v. TellFails v i n r.key put mid end f) (sym same) x)
 
 pub put_refused_so : {S L : Type 0} {s : Ghosts S} {l : Widths L} (t : Task) (o : MakeOptions) (cs : List Incoming) (i n : ℕ) (r : KeyValue) (start mid : Option (List ℕ)) (old new : Batch S L s l) (f : MakeFault) → t.options ≡ o → InCourse t cs start mid old → FailsPutting old new (mode_of o) r f
     → ComesFrom (s.image old.maker.store) (s.image new.maker.store) → WhereHonest (s.image new.maker.store) (PutStops l.WORD t cs (putting i n r) start mid (make_fault f))

@@ -216,7 +216,7 @@ begins_none st g None = tt
 begins_none (form.Puts style.Native) g (Some text) = ([], refl, (text, refl))
 begins_none (form.Puts style.Map) g (Some text) = ([], refl, (map_lines text, refl))
 begins_none form.Changes g (Some text) = (text, refl)
-begins_none form.Lists g (Some text) = (text, refl)
+begins_none form.Lists g (Some text) = ([], refl, (text, refl))
 
 pub no_window : {S K : Type 0} {s : Ghosts S} {k : Widths K} (g : ℕ) (t : Task) (read : List (List Change)) (x start now : Option (List ℕ)) (m : Batch S K s k) → InCourse t (from_inputs 1 read) start now m → WhereHonest (s.image m.maker.store) (InputFails k.WORD g t read x start now NoMemory)
 no_window {k = k} g t read x start now m h = record {

@@ -18,4 +18,8 @@ pub mod OutputLemmas
 pub mod RestoreLaws
 pub mod BaseDifferences
 pub mod DifferenceRuns
+pub mod GivenInputs
 pub mod MadeOf
+pub mod NamedInputs
+pub mod LookedUp
+pub mod ShownParts

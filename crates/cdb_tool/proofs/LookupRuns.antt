@@ -1,5 +1,5 @@
 -- The keys that were looked up so far, and how their query ends.
-use Rattle.std.proofs.Common.{◌≡◌, ◌≢◌, ◌∙◌, ℕ, ◌+◌, ◌≤◌, Bool, true, false, List, [], ◌∷◌, ◌++◌, length, map, fold, refl, sym, ap, subst, arith, append_assoc, length-append, Option, Result, Ok, Err, IfSome}
+use Rattle.std.proofs.Common.{◌≡◌, ◌≢◌, ◌∙◌, inl, inr, ℕ, ◌+◌, ◌≤◌, Bool, true, false, List, [], ◌∷◌, ◌++◌, length, map, fold, refl, sym, ap, subst, arith, length-append, Option, Result, Ok, Err, IfSome}
 use Rattle.std.proofs.lemmas.List.{append-nil}
 use Rattle.std.proofs.lemmas.List.Concat.{flat_map-append}
 use Rattle.std.specs.Io.KnownBytes.{Appends}
@@ -11,15 +11,16 @@ use Rattle.cdb_form.specs.Text.Amending.{Change}
 use Rattle.cdb_form.specs.Views.KnownBytes.{AppendsPrefix}
 use Rattle.cdb_form.specs.declared.text.fault.TextFault.{TextFault}
 use Rattle.cdb_form.specs.declared.text.fault.TextFault.TheVariants as text
-use Rattle.cdb_form.proofs.Bytes.WritingLemmas.{appends_none, appends_then, prefix_then, prefix_last}
+use Rattle.cdb_form.proofs.Bytes.WritingLemmas.{appends_none, appends_then, prefix_last}
 use Rattle.cdb_read.specs.Views.Reads.{OpeningFails}
 use Rattle.cdb_read.specs.declared.fault.ReadFault.{ReadFault}
 use Rattle.cdb_read.specs.declared.fault.ReadFault.TheVariants as read
 use Rattle.cdb_read.proofs.FoundSoFar.{reads_none}
 use Rattle.cdb_command.specs.declared.style.Style.{Style}
 use Rattle.cdb_tool.specs.Runs.Form.{end_of}
-use Rattle.cdb_tool.specs.Runs.Inputs.{InputForm, InputsLeft, OneInput, AreAllInputs, AreInputs, BeginsWithItems, FirstHas, HasItemFault, ReadsOne, keys_form, keys_of, keys_of_each}
-use Rattle.cdb_tool.specs.Runs.Lookups.{key_query, Looked, joined, with_one, with_key, looked_up, ComesTo, missing_answer, HasLooked, StopsAt, StopsIn, Stops, Fails, Leaves}
+use Rattle.cdb_tool.specs.Runs.Inputs.{InputForm, InputsLeft, OneInput, AreAllInputs, AreInputs, BeginsWithItems, FirstHas, ReadsOne, keys_form, keys_of, keys_of_each}
+use Rattle.cdb_tool.specs.Runs.LookedUp.{key_query, Looked, joined, looked_up, with_key, with_one}
+use Rattle.cdb_tool.specs.Runs.Lookups.{FaultOf, ComesTo, missing_answer, HasLooked, StopsAt, StopsIn, Stops, Fails, Leaves}
 use Rattle.cdb_tool.specs.Runs.Query.{Queries, query_text, query_answer}
 use Rattle.cdb_tool.specs.Views.Fault.{text_fault, read_fault}
 use Rattle.cdb_tool.specs.Views.Inputs.{inputs_left, one_of, shared_bytes}
@@ -33,7 +34,7 @@ use Rattle.cdb_tool.specs.declared.inputs.SharedInput.TheVariants.{Unread}
 use Rattle.cdb_tool.specs.declared.inputs.Turn.{Turn}
 use Rattle.cdb_tool.specs.declared.runs.key_reader.KeyReader.{KeyReader}
 use Rattle.cdb_tool.proofs.InputRuns.{inputs_next, left_now, first_begins, begins_none}
-use Rattle.cdb_tool.proofs.KeyInputs.{GaveKeys, keys_first, keys_fault}
+use Rattle.cdb_tool.proofs.KeyInputs.{GaveKeys, keys_first, keys_fault, keys_own}
 use Rattle.cdb_tool.proofs.Queries.{none_prefix}
 use Rattle.cdb_tool.proofs.RunEnds.{first_none}
 use Rattle.cdb_tool.proofs.WholeRuns.{keeps_self}
@@ -65,6 +66,7 @@ comes_more : {S : Type 0} (w : ℕ) (s : Ghosts S) (number : Option ℕ) (style 
     → ((b : List ℕ) → s.image new b → answer ≡ query_answer w b (key_query number style key)) → ((b : List ℕ) → s.image new b → Appends mid now (query_text w b (key_query number style key)))
     → ComesTo w s number style (listed ++ key ∷ []) new start now (joined (missing_answer missing) answer)
 comes_more w s number style listed key old new start mid now missing answer h reads answered written = record {
+  long = let long = h.long in let size = reads.size in omega (arith, long, size);
   answered = λ b is. answer_more w b number style listed key missing (h.answered b (reads.images b is)) ∙ ap (joined (missing_answer missing)) (sym (answered b is));
   written = λ b is. subst (Appends start now) (sym (text_more w b number style listed key missing (h.answered b (reads.images b is)))) (appends_then start mid now _ _ (h.written b (reads.images b is)) (written b is));
 }
@@ -80,19 +82,19 @@ missing_more w s number style listed key old new start mid now missing h q = com
 -- a prefix of the text of the last key
 prefix_more : {S : Type 0} (w : ℕ) (s : Ghosts S) (number : Option ℕ) (style : Style) (listed : List (List ℕ)) (key : List ℕ) (old new : S) (start mid now : Option (List ℕ)) (missing : Bool) → HasLooked w s number style listed old start mid missing → OnlyReads s old new
     → ((b : List ℕ) → s.image new b → AppendsPrefix mid now (query_text w b (key_query number style key)))
-    → (b : List ℕ) → s.image new b → AppendsPrefix start now ((looked_up w b number style (listed ++ key ∷ [])).text ++ end_of style)
+    → (b : List ℕ) → s.image new b → AppendsPrefix start now (looked_up w b number style (listed ++ key ∷ [])).text
 prefix_more w s number style listed key old new start mid now missing h reads front b is =
     let l = looked_up w b number style listed in
     let q = query_text w b (key_query number style key) in
-    prefix_then start mid now l.text q (end_of style) _ (h.written b (reads.images b is)) (front b is)
-    (ap (λ t. t ++ end_of style) (text_more w b number style listed key missing (h.answered b (reads.images b is))) ∙ append_assoc l.text q (end_of style))
+    prefix_last start mid now l.text q _ (h.written b (reads.images b is)) (front b is)
+    (text_more w b number style listed key missing (h.answered b (reads.images b is)))
 
 pub stops_more : {S : Type 0} (w : ℕ) (s : Ghosts S) (number : Option ℕ) (style : Style) (listed : List (List ℕ)) (key : List ℕ) (old new : S) (start mid now : Option (List ℕ)) (missing : Bool) (f : Fault) → HasLooked w s number style listed old start mid missing
     → head_size w ≤ s.size old → Queries w s (key_query number style key) old new mid now (Err f) → f ≢ Missing → StopsAt w s number style (listed ++ key ∷ []) old new start now f
 stops_more w s number style listed key old new start mid now missing (Read (read.Table n)) h long q other = comes_more w s number style listed key old new start mid now missing _ h q.reads q.err.answered q.err.written
 stops_more w s number style listed key old new start mid now missing (Read (read.Record place)) h long q other = comes_more w s number style listed key old new start mid now missing _ h q.reads q.err.answered q.err.written
 stops_more w s number style listed key old new start mid now missing (Read read.Device) h long q other = (q.err.0, prefix_more w s number style listed key old new start mid now missing h q.reads q.err.1.written)
-stops_more w s number style listed key old new start mid now missing Output h long q other = prefix_more w s number style listed key old new start mid now missing h q.reads q.err.1.written
+stops_more w s number style listed key old new start mid now missing Output h long q other = (q.err.0, prefix_more w s number style listed key old new start mid now missing h q.reads q.err.1.written)
 stops_more w s number style listed key old new start mid now missing (Read read.Short) h long q other = let short = q.err.short in absurd (let no : ⊥ = omega (arith, long, short) in no)
 stops_more w s number style listed key old new start mid now missing Missing h long q other = absurd (other refl)
 stops_more w s number style listed key old new start mid now missing (Read (read.Slot n i)) h long q other = absurd q.err
@@ -115,8 +117,8 @@ stops_more w s number style listed key old new start mid now missing NoMemory h 
 
 -- ---- nothing yet
 
-pub looked_none : {S : Type 0} (w : ℕ) (s : Ghosts S) (number : Option ℕ) (style : Style) (store : S) (start : Option (List ℕ)) → HasLooked w s number style [] store start start false
-looked_none w s number style store start = record { answered = λ b is. refl; written = λ b is. appends_none start }
+pub looked_none : {S : Type 0} (w : ℕ) (s : Ghosts S) (number : Option ℕ) (style : Style) (store : S) (start : Option (List ℕ)) → head_size w ≤ s.size store → HasLooked w s number style [] store start start false
+looked_none w s number style store start long = record { long = long; answered = λ b is. refl; written = λ b is. appends_none start }
 
 -- it stopped later in the reading of the same store
 pub stops_later : {S : Type 0} (w : ℕ) (s : Ghosts S) (number : Option ℕ) (style : Style) (listed : List (List ℕ)) (old mid new : S) (start now : Option (List ℕ)) (f : Fault) → OnlyReads s old mid → StopsAt w s number style listed mid new start now f → StopsAt w s number style listed old new start now f
@@ -175,8 +177,14 @@ text_stops w g s number style remaining n before bytes t u form last old new sta
   begins = subst (λ v. IfSome bytes (BeginsWithItems v g last)) same (keys_first g remaining bytes t last gave);
   stops = stops_text w s number style _ old new start now missing n f h;
   of_text = λ i v e.
-      let k = same_text n i f v e in
-      (k.input, subst (λ x. IfSome bytes (HasItemFault form g last x)) (sym k.fault) (subst (λ x. IfSome bytes (HasItemFault x g last f)) same (keys_fault g remaining bytes t u last f gave fails k.other)));
+      let k = same_text n i f v e in (
+        k.input,
+        subst (FaultOf form g last bytes) (sym k.fault) (subst (λ x. FaultOf x g last bytes f) same (record {
+          has = keys_fault g remaining bytes t u last f gave fails k.other;
+          own = keys_own g remaining bytes t u last f gave fails;
+          memory = k.other;
+        })),
+      );
 }
 
 -- a fault of the store, of the writer or of a damage is none of a text
@@ -226,7 +234,7 @@ inputs_none w g s number style own shared inputs left store now missing e = reco
   looked = λ start h. h;
 }
 
-each_more : (read : List (List Change)) (last : List Change) → keys_of_each (read ++ last ∷ []) ≡ keys_of_each read ++ keys_of last
+pub each_more : (read : List (List Change)) (last : List Change) → keys_of_each (read ++ last ∷ []) ≡ keys_of_each read ++ keys_of last
 each_more read last = flat_map-append keys_of read (last ∷ []) ∙ ap (λ k. keys_of_each read ++ k) (append-nil (keys_of last))
 
 -- what an input comes to, whatever was looked up before
@@ -279,7 +287,7 @@ leaves_fault w g s number style inputs old new start now (Make f) h = h
 leaves_fault w g s number style inputs old new start now Duplicate h = h
 leaves_fault w g s number style inputs old new start now Missing h = h
 leaves_fault w g s number style inputs old new start now (Walk f) h = h
-leaves_fault w g s number style inputs old new start now Output h = h
+leaves_fault w g s number style inputs old new start now Output h = inl h
 leaves_fault w g s number style inputs old new start now Long h = h
 leaves_fault w g s number style inputs old new start now Open h = h
 leaves_fault w g s number style inputs old new start now Rename h = h
@@ -305,22 +313,27 @@ pub leaves_all : {S : Type 0} (w g : ℕ) (s : Ghosts S) (number : Option ℕ) (
     → HasLooked w s number style (keys_of_each read) new start mid missing → Appends mid now (end_of style) → Leaves w g s number style inputs old new start now result
 leaves_all w g s number style inputs read old new start mid now missing result is reads are h last = record {
   reads = reads;
-  all = λ other e. record { read = read; are = are; answered = λ b at. h.answered b at ∙ sym is ∙ e; written = λ b at. appends_then start mid now _ _ (h.written b at) last };
+  all = λ other e. record { read = read; are = are; long = h.long; answered = λ b at. h.answered b at ∙ sym is ∙ e; written = λ b at. appends_then start mid now _ _ (h.written b at) last };
   fails = λ f e other. absurd (other (not_missing missing f (sym e ∙ is)));
 }
 
 -- the end of the text was not written whole
 pub leaves_unended : {S : Type 0} (w g : ℕ) (s : Ghosts S) (number : Option ℕ) (style : Style) (inputs : InputsLeft) (read : List (List Change)) (old new : S) (start mid now : Option (List ℕ)) (missing : Bool) → OnlyReads s old new → AreAllInputs (keys_form style) g read inputs
     → HasLooked w s number style (keys_of_each read) new start mid missing → AppendsPrefix mid now (end_of style) → Leaves w g s number style inputs old new start now (Err Output)
-leaves_unended w g s number style inputs read old new start mid now missing reads are h front = leaves_stopped w g s number style inputs old new start now Output reads (record {
-  read = read;
-  last = [];
-  rest = are.rest;
-  are = are.are;
-  begins = first_none (keys_form style) g are.rest;
-  stops = λ b is. subst (λ k. AppendsPrefix start now ((looked_up w b number style k).text ++ end_of style)) (sym (append-nil (keys_of_each read))) (prefix_last start mid now (looked_up w b number style (keys_of_each read)).text (end_of style) _ (h.written b is) front refl);
-  of_text = λ n v e. absurd (let no : ⊥ = cc in no);
-})
+leaves_unended w g s number style inputs read old new start mid now missing reads are h front = record {
+  reads = reads;
+  all = λ other e. absurd (let k = not_missing other Output e in let no : ⊥ = cc in no);
+  fails = λ f e other. subst (Fails w g s number style inputs old new start now) (let k : Output ≡ f = cc in k) (inr (
+    missing,
+    record {
+      read = read;
+      are = are;
+      long = h.long;
+      answered = h.answered;
+      written = λ b is. prefix_last start mid now (looked_up w b number style (keys_of_each read)).text (end_of style) _ (h.written b is) front refl;
+    },
+  ));
+}
 
 -- the store was not opened
 pub leaves_unopened : {S : Type 0} (w g : ℕ) (s : Ghosts S) (number : Option ℕ) (style : Style) (inputs : InputsLeft) (old new : S) (start : Option (List ℕ)) (f : ReadFault) → OpeningFails w s old new f → Leaves w g s number style inputs old new start start (Err (read_fault f))
@@ -374,7 +387,8 @@ begun_fails w g s number style inputs old mid new start now (Make f) reads long 
 begun_fails w g s number style inputs old mid new start now Duplicate reads long h = begun_stops w g s number style inputs old mid new start now _ reads h
 begun_fails w g s number style inputs old mid new start now Missing reads long h = begun_stops w g s number style inputs old mid new start now _ reads h
 begun_fails w g s number style inputs old mid new start now (Walk f) reads long h = begun_stops w g s number style inputs old mid new start now _ reads h
-begun_fails w g s number style inputs old mid new start now Output reads long h = begun_stops w g s number style inputs old mid new start now _ reads h
+begun_fails w g s number style inputs old mid new start now Output reads long (inl h) = inl (begun_stops w g s number style inputs old mid new start now _ reads h)
+begun_fails w g s number style inputs old mid new start now Output reads long (inr h) = inr h
 begun_fails w g s number style inputs old mid new start now Long reads long h = begun_stops w g s number style inputs old mid new start now _ reads h
 begun_fails w g s number style inputs old mid new start now Open reads long h = begun_stops w g s number style inputs old mid new start now _ reads h
 begun_fails w g s number style inputs old mid new start now Rename reads long h = begun_stops w g s number style inputs old mid new start now _ reads h

@@ -2,4 +2,5 @@
 pub use Rattle.cdb_command.specs.Asked.{Gives, asked_in, has_wide_words, FitsIn, IsInRange}
 pub use Rattle.cdb_command.specs.Words.{cdb_faults, plan_of}
 pub use Rattle.cdb_command.specs.Explained.{explains_in}
+pub use Rattle.cdb_command.specs.Refused.{Refused, refused_in, refused_line, usage_of}
 pub use Rattle.cdb_command.specs.Usage.{usage_text, version_text, usage_number, usage_message}

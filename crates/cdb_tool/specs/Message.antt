@@ -1,5 +1,9 @@
 -- What is said of a fault: where it is, what it is, and the line on standard error.
-use Rattle.std.specs.Prelude.{ℕ, List, [], ◌++◌, decimal, codes}
+use Rattle.std.specs.Prelude.{ℕ, ◌-◌, nat_lt, if◌then◌else◌, List, [], ◌∷◌, ◌++◌, decimal, codes}
+use Rattle.std.specs.Prelude.{Option, None, Some, map, take, length, get_or, bytes_eq, string_bytes}
+use Rattle.std.specs.Prelude.{String}
+use denote.Bor.{Bor}
+use Rattle.cdb_command.specs.Refused.{parts_line}
 use Rattle.cdb_form.specs.declared.text.fault.TextFault.{TextFault}
 use Rattle.cdb_form.specs.declared.text.fault.TextFault.TheVariants as text
 use Rattle.cdb_form.specs.declared.walk.fault.WalkFault.{WalkFault}
@@ -103,7 +107,33 @@ abbrev pub fault_line : Fault → List ℕ
 fault_line Missing = []
 fault_line fault = said_line fault
 
+-- ---- duplicates
+
+-- what an input of a name is called
+abbrev pub said_input : List ℕ → List ℕ
+said_input name = if bytes_eq name (codes "-") then codes "standard input" else name
+
+-- an input, counted from 1. A hyphen is standard input, and no inputs are one
+abbrev pub input_at : List (List ℕ) → (number : ℕ) → List ℕ
+input_at inputs number = said_input (get_or inputs (number - 1) (codes "-"))
+
+-- what follows as much of a key as is shown
+abbrev pub after_key : (key : List ℕ) → List ℕ
+after_key key = if nat_lt 256 (length key) then codes "..." else []
+
+-- the line that explains a duplicate: the name of its input, and its key
+abbrev pub key_line : (name key : List ℕ) → List ℕ
+key_line name key =
+    parts_line (([], name) ∷ (codes ": key ", take 256 key) ∷ (after_key key, []) ∷ [])
+
 -- the line of a record whose key was there already: its input and its number there
 abbrev pub duplicate_line : ℕ → ℕ → List ℕ
 duplicate_line input number = codes "cdb: " ++ numbered (codes "input ") input
     ++ numbered (codes "record ") number ++ codes "duplicate key\n"
+
+-- and the one that explains it, if the names of the inputs are given for that
+abbrev pub duplicate_lines : {Z : Type 0} → Option (Bor (List (String Z))) → (input number : ℕ)
+    → (key : List ℕ) → List ℕ
+duplicate_lines None input number key = duplicate_line input number
+duplicate_lines (Some names) input number key =
+    duplicate_line input number ++ key_line (input_at (map string_bytes names.now) input) key

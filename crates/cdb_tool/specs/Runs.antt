@@ -9,6 +9,7 @@ pub mod Form
 pub mod WalkText
 pub mod Load
 pub mod Query
+pub mod LookedUp
 pub mod Lookups
 pub mod StatsText
 pub mod Stats

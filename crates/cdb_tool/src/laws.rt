@@ -21,15 +21,19 @@ pub fn dump_and_make_restore<L: Width>(_records: &[Record])
 /// A run that makes a database from a base, whose records these are, and does the difference of the
 /// base and the new records to it, holds records that answer each key as the new ones do, if their
 /// file fits: `lookup_of_brought_up` of `cdb_read` says so of the file.
-pub fn difference_amends_base<L: Width>(_options: MakeOptions, _base: &[Record], _new: &[Record])
-    ensures { mode_of _options ≡ Add
-        → file_size L.WORD (brought_up (key_values _base.now) (key_values _new.now)) ≤ _options.limit
-        → HoldsAll L.WORD _options (key_values _base.now) (key_values _new.now) }
+pub fn difference_amends_base<L: Width>(
+    _options: MakeOptions<'_>,
+    _base: &[Record],
+    _new: &[Record],
+)
+    ensures { mode_of _options.entry ≡ Add
+        → file_size L.WORD (brought_up (key_values _base.now) (key_values _new.now)) ≤ _options.entry.limit
+        → HoldsAll L.WORD _options.entry (key_values _base.now) (key_values _new.now) }
 {}
 
 /// What a run leaves that makes a database is what one function of its options, of its base and of
 /// its inputs says: the records of the file, the lines and the answer. Or the run reports a refusal,
 /// and its lines are a prefix of those.
-pub fn made_is_the_run<L: Width>(_options: MakeOptions)
-    ensures { RunsComeOf L.WORD L.GREATEST _options }
+pub fn made_is_the_run<L: Width>(_options: MakeOptions<'_>)
+    ensures { RunsComeOf L.WORD L.GREATEST _options.entry }
 {}

@@ -5,15 +5,18 @@
 mod fault;
 mod input;
 mod inputs;
+mod key_line;
 pub mod laws;
 mod message;
 mod noted;
 mod output;
 mod runs;
 mod status;
+mod word_message;
 
 pub use cdb_command::{
-    Command, MakeOptions, Style, Usage, explains, plan, write_usage, write_version,
+    Command, Lacking, MakeOptions, Style, Usage, WordFault, escaped, explains, plan, write_usage,
+    write_version,
 };
 pub use fault::Fault;
 pub use input::{InWindow, Input};
@@ -34,3 +37,4 @@ pub use runs::shown::Shown;
 pub use runs::stats::stats_run;
 pub use runs::texts::{dump_run, list_run, text_run_buffered};
 pub use status::{BAD_USAGE, DONE, FAILED, status_of};
+pub use word_message::write_word_fault;

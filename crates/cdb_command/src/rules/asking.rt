@@ -13,21 +13,25 @@ use crate::rules::names::{first_name, one_name, two_names};
 use crate::rules::number::number_of;
 use crate::rules::options::{not_both, options_of, style_of};
 use crate::rules::stray::without_stray;
-use crate::usage::Usage;
+use crate::word_fault::{Lacking, WordFault};
 use std::alloc::Global;
 
 /// The file to be read.
-fn input_of(alloc: Global, line: &Line<'_, '_>) -> Result<Option<String>, Usage>
+fn input_of<'a>(alloc: Global, line: &Line<'a, '_>) -> Result<Option<String>, WordFault<'a>>
     ensures { Gives (option_map string_bytes) result (one_name (given_in line.now).names) }
 {
     owned_option(alloc, one_name(line.names)?)
 }
 
 /// A query of one key, of a value with a number or of all.
-fn key_query_of(alloc: Global, line: &Line<'_, '_>, number: Option<u64>) -> Result<Command, Usage>
+fn key_query_of<'a>(
+    alloc: Global,
+    line: &Line<'a, '_>,
+    number: Option<u64>,
+) -> Result<Command, WordFault<'a>>
     ensures { Gives asked_in result (key_query_in (given_in line.now) number) }
 {
-    let (name, key) = two_names(line.names)?;
+    let (name, key) = two_names(line.names, Lacking::Database, Lacking::Key)?;
     Ok(Command::Query {
         name: owned(alloc, name)?,
         key: owned(alloc, key)?,
@@ -38,7 +42,11 @@ fn key_query_of(alloc: Global, line: &Line<'_, '_>, number: Option<u64>) -> Resu
 }
 
 /// A query of the keys that inputs give.
-fn lookups_of(alloc: Global, line: &Line<'_, '_>, number: Option<u64>) -> Result<Command, Usage>
+fn lookups_of<'a>(
+    alloc: Global,
+    line: &Line<'a, '_>,
+    number: Option<u64>,
+) -> Result<Command, WordFault<'a>>
     ensures { Gives asked_in result (lookups_in (given_in line.now) number) }
 {
     let (name, inputs) = first_name(line.names)?;
@@ -52,7 +60,11 @@ fn lookups_of(alloc: Global, line: &Line<'_, '_>, number: Option<u64>) -> Result
 }
 
 /// A query, of one key or of those that inputs give.
-fn query_of(alloc: Global, line: &Line<'_, '_>, number: Option<u64>) -> Result<Command, Usage>
+fn query_of<'a>(
+    alloc: Global,
+    line: &Line<'a, '_>,
+    number: Option<u64>,
+) -> Result<Command, WordFault<'a>>
     ensures { Gives asked_in result (query_in (given_in line.now) number) }
 {
     if line.flags.inputs {
@@ -63,10 +75,10 @@ fn query_of(alloc: Global, line: &Line<'_, '_>, number: Option<u64>) -> Result<C
 }
 
 /// A difference of two files.
-fn difference_of(alloc: Global, line: &Line<'_, '_>) -> Result<Command, Usage>
+fn difference_of<'a>(alloc: Global, line: &Line<'a, '_>) -> Result<Command, WordFault<'a>>
     ensures { Gives asked_in result (difference_in (given_in line.now)) }
 {
-    let (old, new) = two_names(line.names)?;
+    let (old, new) = two_names(line.names, Lacking::Old, Lacking::New)?;
     Ok(Command::Difference {
         old: owned(alloc, old)?,
         new: owned(alloc, new)?,
@@ -75,7 +87,7 @@ fn difference_of(alloc: Global, line: &Line<'_, '_>) -> Result<Command, Usage>
 }
 
 /// A create.
-fn create_of(alloc: Global, line: &Line<'_, '_>) -> Result<Command, Usage>
+fn create_of<'a>(alloc: Global, line: &Line<'a, '_>) -> Result<Command, WordFault<'a>>
     ensures { Gives asked_in result (create_in (given_in line.now)) }
 {
     let (name, inputs) = first_name(line.names)?;
@@ -91,12 +103,12 @@ fn create_of(alloc: Global, line: &Line<'_, '_>) -> Result<Command, Usage>
 }
 
 /// The command of a letter, on a line without options that it does not take.
-fn command_of(
+fn command_of<'a>(
     alloc: Global,
     letter: Letter,
-    line: &Line<'_, '_>,
+    line: &Line<'a, '_>,
     number: Option<u64>,
-) -> Result<Command, Usage>
+) -> Result<Command, WordFault<'a>>
     ensures { Gives asked_in result (command_in letter (given_in line.now) number) }
 {
     let (style, wide) = (style_of(line.flags), line.flags.wide);
@@ -124,7 +136,7 @@ fn command_of(
 }
 
 /// The command of a line, or the first of its faults.
-pub(crate) fn asked_on(alloc: Global, line: &Line<'_, '_>) -> Result<Command, Usage>
+pub(crate) fn asked_on<'a>(alloc: Global, line: &Line<'a, '_>) -> Result<Command, WordFault<'a>>
     ensures { Gives asked_in result (line_plan (given_in line.now)) }
 {
     if line.flags.help {

@@ -1,9 +1,10 @@
 // The letter of a command.
-ghost use Rattle.std.specs.Prelude.{◌≡◌};
-ghost use Rattle.cdb_command.specs.Rules.{letters_in, only_letter};
+ghost use Rattle.std.specs.Prelude.{◌≡◌, Ok, Err};
+ghost use Rattle.cdb_command.specs.Refused.{told};
+ghost use Rattle.cdb_command.specs.Rules.{commands_in, letter_code, letters_in, only_letter};
 
 use crate::line::Flags;
-use crate::usage::Usage;
+use crate::word_fault::WordFault;
 
 /// The letter of a command that takes names.
 #[derive(Clone, Copy)]
@@ -17,30 +18,53 @@ pub(crate) enum Letter {
     Difference,
 }
 
-/// The one command whose letter is on a line. `NoCommand` if there is none, `TwoCommands` if
-/// there are several.
-pub(crate) fn only_letter(flags: Flags) -> Result<Letter, Usage>
-    ensures { result ≡ only_letter (letters_in flags) }
+/// The letter itself.
+pub(crate) fn letter_code(letter: Letter) -> char
+    ensures { result ≡ letter_code letter }
 {
-    let Flags {
-        query,
-        dump,
-        list,
-        stats,
-        create,
-        check,
-        difference,
-        ..
-    } = flags;
-    match (query, dump, list, stats, create, check, difference) {
-        (true, false, false, false, false, false, false) => Ok(Letter::Query),
-        (false, true, false, false, false, false, false) => Ok(Letter::Dump),
-        (false, false, true, false, false, false, false) => Ok(Letter::List),
-        (false, false, false, true, false, false, false) => Ok(Letter::Stats),
-        (false, false, false, false, true, false, false) => Ok(Letter::Create),
-        (false, false, false, false, false, true, false) => Ok(Letter::Check),
-        (false, false, false, false, false, false, true) => Ok(Letter::Difference),
-        (false, false, false, false, false, false, false) => Err(Usage::NoCommand),
-        _ => Err(Usage::TwoCommands),
+    match letter {
+        Letter::Query => 'q',
+        Letter::Dump => 'd',
+        Letter::List => 'l',
+        Letter::Stats => 's',
+        Letter::Create => 'c',
+        Letter::Check => 'k',
+        Letter::Difference => 'D',
+    }
+}
+
+/// The commands in their order, and whether their letters are on a line.
+fn commands_in(flags: Flags) -> [(bool, Letter); 7]
+    ensures { result ≡ commands_in flags }
+{
+    [
+        (flags.query, Letter::Query),
+        (flags.dump, Letter::Dump),
+        (flags.list, Letter::List),
+        (flags.stats, Letter::Stats),
+        (flags.create, Letter::Create),
+        (flags.check, Letter::Check),
+        (flags.difference, Letter::Difference),
+    ]
+}
+
+/// The one command whose letter is on a line. `NoCommand` if there is none, `TwoCommands` of the
+/// first two if there are several.
+pub(crate) fn only_letter<'a>(flags: Flags) -> Result<Letter, WordFault<'a>>
+    ensures { told result ≡ only_letter (letters_in flags) }
+{
+    let mut only = None;
+    for (is_there, letter) in commands_in(flags) {
+        if is_there {
+            if let Some(first) = only {
+                let (first, second) = (letter_code(first), letter_code(letter));
+                return Err(WordFault::TwoCommands(first, second));
+            }
+            only = Some(letter);
+        }
+    }
+    match only {
+        Some(letter) => Ok(letter),
+        None => Err(WordFault::NoCommand),
     }
 }

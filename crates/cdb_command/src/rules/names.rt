@@ -1,18 +1,24 @@
 // The names on a command line, by how many a command takes.
 ghost use Rattle.std.specs.Prelude.{◌≡◌, map, option_map};
 ghost use Rattle.cdb_command.specs.Line.{names_in};
-ghost use Rattle.cdb_command.specs.Asked.{map_ok};
+ghost use Rattle.cdb_command.specs.Asked.{map_told};
 ghost use Rattle.cdb_command.specs.Rules.{is_hyphen, two_names, file_named, one_name, first_name};
 
-use crate::usage::Usage;
+use crate::word_fault::{Lacking, WordFault};
 
-/// Two names. `Names` if there are fewer or more.
-pub(crate) fn two_names<'a>(names: Option<&[&'a str]>) -> Result<(&'a str, &'a str), Usage>
-    ensures { map_ok (λ p. (p.0.now, p.1.now)) result ≡ two_names (names_in names.entry) }
+/// Two names, of which the fault says what lacks. `Lacks` if there are fewer, `Surplus` if there are more.
+pub(crate) fn two_names<'a>(
+    names: Option<&[&'a str]>,
+    one: Lacking,
+    other: Lacking,
+) -> Result<(&'a str, &'a str), WordFault<'a>>
+    ensures { map_told (λ p. (p.0.now, p.1.now)) result ≡ two_names one other (names_in names.entry) }
 {
     match names {
+        None | Some([]) => Err(WordFault::Lacks(one)),
+        Some([_]) => Err(WordFault::Lacks(other)),
         Some([first, second]) => Ok((first, second)),
-        _ => Err(Usage::Names),
+        Some([_, _, third, ..]) => Err(WordFault::Surplus(third)),
     }
 }
 
@@ -30,29 +36,29 @@ fn file_named(name: &str) -> Option<&str>
     if is_hyphen(name) { None } else { Some(name) }
 }
 
-/// The file to be read: standard input if there is no name. `Names` if there are several.
-pub(crate) fn one_name<'a>(names: Option<&[&'a str]>) -> Result<Option<&'a str>, Usage>
-    ensures { map_ok (option_map (λ s. s.now)) result ≡ one_name (names_in names.entry) }
+/// The file to be read: standard input if there is no name. `Surplus` if there are several.
+pub(crate) fn one_name<'a>(names: Option<&[&'a str]>) -> Result<Option<&'a str>, WordFault<'a>>
+    ensures { map_told (option_map (λ s. s.now)) result ≡ one_name (names_in names.entry) }
 {
     match names {
         None | Some([]) => Ok(None),
         Some([name]) => Ok(file_named(name)),
-        _ => Err(Usage::Names),
+        Some([_, second, ..]) => Err(WordFault::Surplus(second)),
     }
 }
 
-/// The first name, and those after it. `Names` if there is none.
+/// The first name, and those after it. `Lacks` if there is none.
 pub(crate) fn first_name<'a, 'b>(
     names: Option<&'b [&'a str]>,
-) -> Result<(&'a str, &'b [&'a str]), Usage>
-    ensures { map_ok (λ p. (p.0.now, map (λ s. s.now) p.1.now)) result
+) -> Result<(&'a str, &'b [&'a str]), WordFault<'a>>
+    ensures { map_told (λ p. (p.0.now, map (λ s. s.now) p.1.now)) result
         ≡ first_name (names_in names.entry) }
 {
     let Some(names) = names else {
-        return Err(Usage::Names);
+        return Err(WordFault::Lacks(Lacking::Database));
     };
     match names.split_first() {
         Some((name, behind)) => Ok((name, behind)),
-        None => Err(Usage::Names),
+        None => Err(WordFault::Lacks(Lacking::Database)),
     }
 }

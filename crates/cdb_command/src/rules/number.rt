@@ -1,9 +1,10 @@
 // The number of a value.
 ghost use Rattle.std.specs.Prelude.{◌≡◌, option_map};
+ghost use Rattle.cdb_command.specs.Refused.{told};
 ghost use Rattle.std.specs.Str.{all_ascii_digits};
 ghost use Rattle.cdb_command.specs.Rules.{value_number, decimal_in, number_in};
 
-use crate::usage::Usage;
+use crate::word_fault::WordFault;
 
 /// Whether a text has decimal digits alone.
 fn is_digits(text: &str) -> bool
@@ -12,12 +13,12 @@ fn is_digits(text: &str) -> bool
     text.bytes().all(|b| b.is_ascii_digit())
 }
 
-/// `Number` if it is 0: values are counted from 1.
-fn value_number(number: u32) -> Result<u32, Usage>
-    ensures { result ≡ value_number number }
+/// `Number` of its text if it is 0: values are counted from 1.
+fn value_number(text: &str, number: u32) -> Result<u32, WordFault<'_>>
+    ensures { told result ≡ value_number text.entry.now number }
 {
     if number == 0 {
-        Err(Usage::Number)
+        Err(WordFault::Number(text))
     } else {
         Ok(number)
     }
@@ -25,21 +26,21 @@ fn value_number(number: u32) -> Result<u32, Usage>
 
 /// The number of a value. `Number` if the text isn't decimal digits alone, of a number from 1
 /// to 4294967295.
-fn decimal(text: &str) -> Result<u32, Usage>
-    ensures { result ≡ decimal_in text.now }
+fn decimal(text: &str) -> Result<u32, WordFault<'_>>
+    ensures { told result ≡ decimal_in text.entry.now }
 {
     if !is_digits(text) {
-        return Err(Usage::Number);
+        return Err(WordFault::Number(text));
     }
     match text.parse::<u32>() {
-        Ok(number) => value_number(number),
-        Err(_) => Err(Usage::Number),
+        Ok(number) => value_number(text, number),
+        Err(_) => Err(WordFault::Number(text)),
     }
 }
 
 /// The number of a value, if there is one.
-pub(crate) fn number_of(text: Option<&str>) -> Result<Option<u64>, Usage>
-    ensures { result ≡ number_in (option_map (λ s. s.now) text.entry) }
+pub(crate) fn number_of(text: Option<&str>) -> Result<Option<u64>, WordFault<'_>>
+    ensures { told result ≡ number_in (option_map (λ s. s.now) text.entry) }
 {
     match text {
         Some(text) => Ok(Some(u64::from(decimal(text)?))),

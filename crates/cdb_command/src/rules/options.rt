@@ -1,11 +1,12 @@
 // How a database is to be made.
 ghost use Rattle.std.specs.Prelude.{◌≡◌};
+ghost use Rattle.cdb_command.specs.Refused.{told};
 ghost use Rattle.cdb_command.specs.Rules.{style_in, mode_in, options_of, not_both};
 
 use crate::line::Flags;
 use crate::options::MakeOptions;
 use crate::style::Style;
-use crate::usage::Usage;
+use crate::word_fault::WordFault;
 use cdb_form::Mode;
 
 /// The greatest size of a file whose words have 4 bytes.
@@ -37,7 +38,7 @@ fn mode_of(flags: Flags) -> Mode
 }
 
 /// How a database is to be made.
-pub(crate) fn options_of(flags: Flags) -> MakeOptions
+pub(crate) fn options_of(flags: Flags) -> MakeOptions<'static>
     ensures { result ≡ options_of flags }
 {
     MakeOptions {
@@ -46,15 +47,16 @@ pub(crate) fn options_of(flags: Flags) -> MakeOptions
         stop: flags.stop,
         style: style_of(flags),
         limit: if flags.wide { WIDE_LIMIT } else { NARROW_LIMIT },
+        names: None,
     }
 }
 
 /// `Both` if duplicates are to be replaced, and to be left out.
-pub(crate) fn not_both(flags: Flags) -> Result<(), Usage>
-    ensures { result ≡ not_both flags }
+pub(crate) fn not_both<'a>(flags: Flags) -> Result<(), WordFault<'a>>
+    ensures { told result ≡ not_both flags }
 {
     if flags.replace && flags.insert {
-        Err(Usage::Both)
+        Err(WordFault::Both)
     } else {
         Ok(())
     }

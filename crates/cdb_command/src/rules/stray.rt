@@ -2,13 +2,15 @@
 ghost use Rattle.std.specs.Prelude.{◌≡◌, []};
 ghost use Rattle.cdb_command.specs.Line.{given_in};
 ghost use Rattle.cdb_command.specs.Rules.{taken_by, making_options_in, query_options_in, options_in};
-ghost use Rattle.cdb_command.specs.Rules.{first_stray, no_stray};
+ghost use Rattle.cdb_command.specs.Refused.{refused_in, told};
+ghost use Rattle.cdb_command.specs.Rules.{base_refused, first_stray, no_stray, option_refused};
 ghost use Rattle.cdb_command.specs.declared.rules.letter.Letter.TheVariants as letter;
 
 use crate::line::Line;
 use crate::rules::base::takes_base;
-use crate::rules::letter::Letter;
-use crate::usage::Usage;
+use crate::rules::letter::{Letter, letter_code};
+use crate::rules::names::is_hyphen;
+use crate::word_fault::WordFault;
 
 /// The first option on a line, in the order `m n i t w e r u b`, that the command does not take.
 fn stray_option(letter: Letter, line: &Line<'_, '_>) -> Option<char>
@@ -91,13 +93,34 @@ fn making_option(line: &Line<'_, '_>) -> Option<char>
     }
 }
 
-/// `Option` of the first option on a line that the command does not take.
-pub(crate) fn without_stray(letter: Letter, line: &Line<'_, '_>) -> Result<(), Usage>
-    ensures { result ≡ no_stray (first_stray (taken_by letter (given_in line.now))
+/// Why a create does not take the base of a line.
+fn base_refused<'a>(line: &Line<'a, '_>) -> WordFault<'a>
+    ensures { refused_in result ≡ base_refused (given_in line.now) }
+{
+    match (line.temporary, line.base) {
+        (Some(temporary), _) if is_hyphen(temporary) => WordFault::BaseInPlace,
+        (_, Some(base)) => WordFault::BaseBuiltIn(base),
+        (_, None) => WordFault::BaseBuiltIn(""),
+    }
+}
+
+/// Why a command does not take an option.
+fn option_refused<'a>(letter: Letter, option: char, line: &Line<'a, '_>) -> WordFault<'a>
+    ensures { refused_in result ≡ option_refused letter option (given_in line.now) }
+{
+    match (letter, option) {
+        (Letter::Create, 'b') => base_refused(line),
+        _ => WordFault::Option(option, letter_code(letter)),
+    }
+}
+
+/// The fault of the first option on a line that the command does not take.
+pub(crate) fn without_stray<'a>(letter: Letter, line: &Line<'a, '_>) -> Result<(), WordFault<'a>>
+    ensures { told result ≡ no_stray letter (given_in line.now) (first_stray (taken_by letter (given_in line.now))
         (options_in (given_in line.now))) }
 {
     match stray_option(letter, line) {
-        Some(option) => Err(Usage::Option(option)),
+        Some(option) => Err(option_refused(letter, option, line)),
         None => Ok(()),
     }
 }

@@ -1,7 +1,7 @@
 // Plans whose asks for memory `tests/faults/calls.py` refuses, each in turn. It reads what the test
 // prints: whether the refusal came to the call.
 use super::lines::words_of;
-use cdb_command::{Command, Usage, plan};
+use cdb_command::{Command, WordFault, plan};
 use std::alloc::Global;
 use std::prelude::*;
 use std::test::Fail;
@@ -19,10 +19,10 @@ enum Came {
 }
 
 /// How the plan of a create of two inputs ended.
-fn came_of_create(planned: &Result<Command, Usage>) -> Came {
+fn came_of_create(planned: &Result<Command, WordFault<'_>>) -> Came {
     match planned {
         Ok(Command::Create { inputs, .. }) if inputs.len() == 2 => Came::Whole,
-        Err(Usage::NoMemory) => Came::NoMemory,
+        Err(WordFault::NoMemory) => Came::NoMemory,
         _ => Came::Wrong,
     }
 }
@@ -36,10 +36,10 @@ fn plan_create(alloc: Global) -> Came {
 }
 
 /// How the plan of a line that is refused ended.
-fn came_of_refused(planned: &Result<Command, Usage>) -> Came {
+fn came_of_refused(planned: &Result<Command, WordFault<'_>>) -> Came {
     match planned {
-        Err(Usage::Words) => Came::Whole,
-        Err(Usage::NoMemory) => Came::NoMemory,
+        Err(WordFault::Twice('n')) => Came::Whole,
+        Err(WordFault::NoMemory) => Came::NoMemory,
         _ => Came::Wrong,
     }
 }

@@ -1,5 +1,5 @@
 -- What bytes say as a text is what the relations of a text say of them.
-use Rattle.std.proofs.Common.{◌≡◌, ◌⊎◌, ℕ, zero, suc, ◌+◌, ◌*◌, ◌<◌, ◌≤◌, ◌&&◌, ◌==◌, nat_lt, nat_le, Bool, true, false, List, [], ◌∷◌, ◌++◌, length, take, drop, map, refl, sym, ap, subst, ◌∙◌, arith, append_assoc, append-nil, length-append, length-take-le, take-append-drop, length-drop, Option, Some, None, Result, Ok, Err, inl, inr, codes, if◌then◌else◌}
+use Rattle.std.proofs.Common.{◌≡◌, ◌⊎◌, ℕ, zero, suc, ◌+◌, ◌*◌, ◌<◌, ◌≤◌, ◌&&◌, ◌==◌, nat_lt, nat_le, true, false, List, [], ◌∷◌, ◌++◌, length, take, drop, map, refl, sym, ap, subst, ◌∙◌, arith, append_assoc, append-nil, length-append, length-take-le, take-append-drop, length-drop, Option, Some, None, Result, Ok, Err, inl, inr, codes, if◌then◌else◌}
 use Rattle.std.proofs.lemmas.Bool.{cond_both, ltb-true, ltb-false, leb-true, leb-false, eqb-true, eqb-false, and_parts, and_cases, cases_lt}
 use Rattle.std.proofs.lemmas.List.{map-append}
 use Rattle.std.proofs.lemmas.Int.Digits.{digits_push, digits_value_push}
@@ -14,8 +14,10 @@ use Rattle.cdb_form.specs.Views.NativeParser.{FailsNumber, FailsByte, FailsField
 use Rattle.cdb_form.specs.Text.Form.{Spelled, Reads, HasNoItem, WholeItems, HasNoText, LongestPrefix, LiftsLength, HasFault}
 use Rattle.cdb_form.specs.Text.Native.{IsNumeral, Spells}
 use Rattle.cdb_form.specs.Text.Amending.{Change, Putting, Removing, SpellsRemoval, SpellsChange}
-use Rattle.cdb_form.specs.Text.Parse.{Part, Found, Stuck, followed, byte_part, field_part, number_part, record_part, removal_part, item_part, Parsed, going_on, text_from, parse}
+use Rattle.cdb_form.specs.Text.List.{SpellsKey}
+use Rattle.cdb_form.specs.Text.Parse.{Part, Found, Stuck, followed, byte_part, field_part, number_part, record_part, removal_part, item_part, key_part, listed, Parsed, going_on, text_from, parse, parse_list}
 use Rattle.cdb_form.proofs.Bytes.ByteLemmas.{AreBytes-take}
+use Rattle.cdb_form.proofs.NativeTexts.KeyTexts.{key_ended, key_fails, key_syntax, keys}
 use Rattle.cdb_form.proofs.NativeTexts.Spelling.{IsSpelling, records, changes}
 use Rattle.cdb_form.proofs.NativeTexts.WholeForm.{fault_behind}
 use Rattle.cdb_form.proofs.NativeTexts.Stops.{StopsAt, Starts, Any, prefix_any, Behind, BehindMinus, Rest1, Rest2, Rest4, Rest5, lift_klen, lift_vlen, lift_key, lift_angle, lift_length, base_klen, base_vlen, base_key, base_angle, base_value, base_length, record_fails, removal_fails, ended_first, syntax_first}
@@ -266,6 +268,18 @@ minus_spells g key x (k, x1, x2, (a, ia, la, ea), (lk, bk, ek), e2) =
       text_is = ap (λ z. 45 ∷ z) whole ∙ (let flat : 45 ∷ ((a ++ 58 ∷ []) ++ (key ++ 10 ∷ [])) ≡ codes "-" ++ a ++ codes ":" ++ key ++ codes "\n" = simp append_assoc refl in flat);
     }
 
+-- a key behind its plus is spelled so too
+plus_spells_key : (g : ℕ) (key x : List ℕ) → IsBehindMinus g key x → SpellsKey g (43 ∷ x) key
+plus_spells_key g key x (k, x1, x2, (a, ia, la, ea), (lk, bk, ek), e2) =
+    let whole : x ≡ (a ++ 58 ∷ []) ++ (key ++ 10 ∷ []) = e2 ∙ ap (λ z. z ++ x2) ea ∙ ap (λ z. (a ++ 58 ∷ []) ++ z) ek in
+    record {
+      klen = a;
+      klen_is = subst (IsNumeral a) (sym lk) ia;
+      key_fits = omega (arith, la, lk);
+      bytes = bk;
+      text_is = ap (λ z. 43 ∷ z) whole ∙ (let flat : 43 ∷ ((a ++ 58 ∷ []) ++ (key ++ 10 ∷ [])) ≡ codes "+" ++ a ++ codes ":" ++ key ++ codes "\n" = simp append_assoc refl in flat);
+    }
+
 -- ---- an item
 
 -- an item was found, or the newline that ends the text
@@ -330,6 +344,23 @@ amending_item g from (c ∷ text) are =
     (λ e. subst (λ d. PartIs (ItemIs SpellsChange (λ x. x) g from (d ∷ text)) (FailsItem SpellsChange g from (d ∷ text)) (followed (removal_part g (from + 1) text) (λ key at rest. Found (Some (Removing key)) at rest))) (sym (eqb-true c 45 e)) (amending_removal g from text (λ k. are (suc k))))
     (λ minus. (tt, syntax_first true g from c (Some (c ∷ text)) (Some text) refl (eqb-false c 10 newline) (eqb-false c 43 plus) (λ _. eqb-false c 45 minus)))))
 
+listed_key : (g from : ℕ) (text : List ℕ) → AreBytes text
+    → PartIs (ItemIs SpellsKey listed g from (43 ∷ text)) (FailsItem SpellsKey g from (43 ∷ text)) (followed (removal_part g (from + 1) text) (λ key at rest. Found (Some (listed key)) at rest))
+listed_key g from text are =
+    whatever (λ key to rest. Took (IsBehindMinus g key) (from + 1) text to rest) BehindMinus g (from + 1) text _ _ (removal_part g (from + 1) text) _ (λ F s. removal_is F s g (from + 1) text are)
+    (λ key to rest t. let m = marked (IsBehindMinus g key) (λ first. SpellsKey g first key) 43 from to text rest t (plus_spells_key g key) in (key, refl, m.0, m.1))
+    (λ f h. key_fails g from (from + 1) (Some text) f refl h)
+
+list_item : (g from : ℕ) (text : List ℕ) → AreBytes text → PartIs (ItemIs SpellsKey listed g from text) (FailsItem SpellsKey g from text) (key_part g from text)
+list_item g from [] are = (tt, key_ended g from (Some []) refl)
+list_item g from (c ∷ text) are =
+    let P : Part (Option Change) → Type 0 = PartIs (ItemIs SpellsKey listed g from (c ∷ text)) (FailsItem SpellsKey g from (c ∷ text)) in
+    cond_both (c == 10) _ _ P
+    (λ e. ap (λ x. x ∷ text) (eqb-true c 10 e))
+    (λ newline. cond_both (c == 43) _ _ P
+    (λ e. subst (λ d. PartIs (ItemIs SpellsKey listed g from (d ∷ text)) (FailsItem SpellsKey g from (d ∷ text)) (followed (removal_part g (from + 1) text) (λ key at rest. Found (Some (listed key)) at rest))) (sym (eqb-true c 43 e)) (listed_key g from text (λ k. are (suc k))))
+    (λ plus. (tt, key_syntax g from c (Some (c ∷ text)) (Some text) refl (eqb-false c 10 newline) (eqb-false c 43 plus))))
+
 -- ---- a whole text
 
 -- what ends it
@@ -381,20 +412,23 @@ goes_on S s inject g from text (Stuck f) go (of, fails) h are = record {
   ends = (of, fails.fault);
 }
 
-text_reads : {X : Type 0} (S : ℕ → List ℕ → X → Type 0) → IsSpelling S → (inject : X → Change) (removals : Bool) (g most from : ℕ) (text : List ℕ)
-    → ((from : ℕ) (text : List ℕ) → AreBytes text → PartIs (ItemIs S inject g from text) (FailsItem S g from text) (item_part removals g from text))
-    → length text < most → AreBytes text → ReadsAs S inject g from text (text_from removals g most from text)
+text_reads : {X : Type 0} (S : ℕ → List ℕ → X → Type 0) → IsSpelling S → (inject : X → Change) (part : (at : ℕ) → List ℕ → Part (Option Change)) (g most from : ℕ) (text : List ℕ)
+    → ((from : ℕ) (text : List ℕ) → AreBytes text → PartIs (ItemIs S inject g from text) (FailsItem S g from text) (part from text))
+    → length text < most → AreBytes text → ReadsAs S inject g from text (text_from part most from text)
 unfolding text_from
-text_reads S s inject removals g zero from text item few are = absurd (omega (arith, few))
-text_reads S s inject removals g (suc most) from text item few are =
-    goes_on S s inject g from text (item_part removals g from text) (λ at rest. text_from removals g most at rest) (item from text are)
-    (λ to rest less bytes. text_reads S s inject removals g most to rest item (omega (arith, less, few)) bytes) are
+text_reads S s inject part g zero from text item few are = absurd (omega (arith, few))
+text_reads S s inject part g (suc most) from text item few are =
+    goes_on S s inject g from text (part from text) (λ at rest. text_from part most at rest) (item from text are)
+    (λ to rest less bytes. text_reads S s inject part g most to rest item (omega (arith, less, few)) bytes) are
 
 native_reads : (g : ℕ) (text : List ℕ) → AreBytes text → ReadsAs Spells Putting g 0 text (parse false g text)
-native_reads g text are = text_reads Spells records Putting false g (suc (length text)) 0 text (native_item g) (omega arith) are
+native_reads g text are = text_reads Spells records Putting (item_part false g) g (suc (length text)) 0 text (native_item g) (omega arith) are
 
 amending_reads : (g : ℕ) (text : List ℕ) → AreBytes text → ReadsAs SpellsChange (λ x. x) g 0 text (parse true g text)
-amending_reads g text are = text_reads SpellsChange changes (λ x. x) true g (suc (length text)) 0 text (amending_item g) (omega arith) are
+amending_reads g text are = text_reads SpellsChange changes (λ x. x) (item_part true g) g (suc (length text)) 0 text (amending_item g) (omega arith) are
+
+list_reads : (g : ℕ) (text : List ℕ) → AreBytes text → ReadsAs SpellsKey listed g 0 text (parse_list g text)
+list_reads g text are = text_reads SpellsKey keys listed (key_part g) g (suc (length text)) 0 text (list_item g) (omega arith) are
 
 -- ---- the relations say it of nothing else
 
@@ -511,6 +545,17 @@ amending_begins g text xs rest are spelled =
     let h = of_first SpellsChange changes (λ x. x) g text (parse true g text) (amending_reads g text are) xs rest spelled in
     (h.0, h.1 ∙ ap (λ ys. ys ++ h.0) (same_map xs))
 
+-- ---- a list text
+
+pub list_is : (g : ℕ) (text : List ℕ) (xs : List (List ℕ)) (rest : List ℕ) → AreBytes text → Reads SpellsKey g xs text rest → parse_list g text ≡ record { items = map listed xs; ends = Ok rest }
+list_is g text xs rest are reads = of_reads SpellsKey keys listed g text (parse_list g text) (list_reads g text are) xs rest reads
+
+pub list_fault_is : (g : ℕ) (text : List ℕ) (xs : List (List ℕ)) (rest : List ℕ) (f : TextFault) → AreBytes text → WholeItems SpellsKey g text xs rest → IsOfText f → HasFault SpellsKey g 0 text f → parse_list g text ≡ record { items = map listed xs; ends = Err f }
+list_fault_is g text xs rest f are whole is fault = of_fault SpellsKey keys listed g text (parse_list g text) (list_reads g text are) xs rest f whole is fault
+
+pub list_begins : (g : ℕ) (text : List ℕ) (xs : List (List ℕ)) (rest : List ℕ) → AreBytes text → Spelled SpellsKey g xs text rest → (more : List Change) × ((parse_list g text).items ≡ map listed xs ++ more)
+list_begins g text xs rest are spelled = of_first SpellsKey keys listed g text (parse_list g text) (list_reads g text are) xs rest spelled
+
 -- ---- what follows a text are bytes too
 
 rest_bytes : {X : Type 0} (S : ℕ → List ℕ → X → Type 0) (g : ℕ) (xs : List X) (t a : List ℕ) → Spelled S g xs t a → AreBytes t → AreBytes a
@@ -543,3 +588,6 @@ native_is_parsed g text are = is_parsed Spells records Putting g text (parse fal
 
 pub amending_is_parsed : (g : ℕ) (text : List ℕ) → AreBytes text → IsParsed SpellsChange (λ x. x) g text (parse true g text)
 amending_is_parsed g text are = is_parsed SpellsChange changes (λ x. x) g text (parse true g text) (amending_reads g text are)
+
+pub list_is_parsed : (g : ℕ) (text : List ℕ) → AreBytes text → IsParsed SpellsKey listed g text (parse_list g text)
+list_is_parsed g text are = is_parsed SpellsKey keys listed g text (parse_list g text) (list_reads g text are)

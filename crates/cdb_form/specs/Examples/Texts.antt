@@ -2,7 +2,7 @@
 use Rattle.std.specs.Prelude.{◌≡◌, true, false, [], ◌∷◌, codes, Ok, Err, refl}
 use Rattle.cdb_form.specs.Format.Record.{record_of}
 use Rattle.cdb_form.specs.Text.Amending.{Putting, Removing}
-use Rattle.cdb_form.specs.Text.Parse.{parse, text_from}
+use Rattle.cdb_form.specs.Text.Parse.{listed, parse, parse_list, text_from}
 use Rattle.cdb_form.specs.declared.text.fault.TextFault.TheVariants.{Syntax, Ended, Large}
 
 -- two records, and what follows the text
@@ -34,3 +34,21 @@ amending = refl
 native : parse false 4294967295 (codes "-3:one\n\n") ≡ record { items = []; ends = Err (Syntax 0) }
 unfolding text_from
 native = refl
+
+-- two keys, the one of them with a newline; a key that is cut, one that is too long by a byte, and a
+-- record
+keys : parse_list 4294967295 (codes "+3:one\n+2:a\n\n\nmore") ≡ record { items = listed (codes "one") ∷ listed (codes "a\n") ∷ []; ends = Ok (codes "more") }
+unfolding text_from
+keys = refl
+
+cut : parse_list 4294967295 (codes "+3:one\n+3:tw") ≡ record { items = listed (codes "one") ∷ []; ends = Err (Ended 12) }
+unfolding text_from
+cut = refl
+
+key_longer : parse_list 4294967295 (codes "+3:ones\n\n") ≡ record { items = []; ends = Err (Syntax 6) }
+unfolding text_from
+key_longer = refl
+
+no_record : parse_list 4294967295 (codes "+3,5:one->Hello\n\n") ≡ record { items = []; ends = Err (Syntax 2) }
+unfolding text_from
+no_record = refl

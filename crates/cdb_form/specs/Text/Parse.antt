@@ -71,6 +71,19 @@ pub record Parsed : Type 0 where
   pub items : List Change
   pub ends : Result (List ℕ) TextFault
 
+-- a key of a list text stands for a put of it without a value
+abbrev pub listed : List ℕ → Change
+listed key = Putting (record_of key [])
+
+-- a key, behind its plus; or none, at the newline that ends the text
+abbrev pub key_part : (g at : ℕ) → List ℕ → Part (Option Change)
+key_part g at [] = Stuck (Ended at)
+key_part g at (c ∷ text) =
+    if c == 10 then Found None (at + 1) text
+    else if c == 43
+    then followed (removal_part g (at + 1) text) (λ key at rest. Found (Some (listed key)) at rest)
+    else Stuck (Syntax at)
+
 -- the text goes on with this part
 abbrev pub going_on : Part (Option Change) → ((at : ℕ) → List ℕ → Parsed) → Parsed
 going_on (Found (Some item) at rest) go =
@@ -78,15 +91,20 @@ going_on (Found (Some item) at rest) go =
 going_on (Found None at rest) go = record { items = []; ends = Ok rest }
 going_on (Stuck fault) go = record { items = []; ends = Err fault }
 
--- a text of at most so many items
-unfoldable pub text_from : (removals : Bool) → (g most at : ℕ) → List ℕ → Parsed
-text_from removals g zero at text = record { items = []; ends = Err (Ended at) }
-text_from removals g (suc most) at text =
-    going_on (item_part removals g at text) (λ at rest. text_from removals g most at rest)
+-- a text of at most so many of these items
+unfoldable pub text_from : ((at : ℕ) → List ℕ → Part (Option Change)) → (most at : ℕ) → List ℕ
+    → Parsed
+text_from item zero at text = record { items = []; ends = Err (Ended at) }
+text_from item (suc most) at text =
+    going_on (item at text) (λ at rest. text_from item most at rest)
 
 -- a native text, or an amending one, whose lengths are at most g
 abbrev pub parse : (removals : Bool) → (g : ℕ) → List ℕ → Parsed
-parse removals g text = text_from removals g (suc (length text)) 0 text
+parse removals g text = text_from (item_part removals g) (suc (length text)) 0 text
+
+-- a list text
+abbrev pub parse_list : (g : ℕ) → List ℕ → Parsed
+parse_list g text = text_from (key_part g) (suc (length text)) 0 text
 
 -- a map text has no fault
 abbrev pub parse_map : List ℕ → Parsed

@@ -758,13 +758,16 @@ fails_finish_amid old new NoMemory fails = absurd fails
 pub fails_finish_settled : {S L : Type 0} {s : Ghosts S} {l : Widths L} (old mid new : Batch S L s l) (fault : MakeFault) → ClosesAll old mid → HasNotFailed old mid → new.gone.items ≡ [] → ComesFrom (s.image mid.maker.store) (s.image new.maker.store) → FailsFinishingIn mid.maker new.maker fault
     → FailsFinishing old new fault
 fails_finish_settled old mid new Broken closes_all fine none comes fails = absurd (let k : true ≡ false = sym fails.0 ∙ closes_all.whole in cc)
-fails_finish_settled {s = s} {l = l} old mid new NoMemory closes_all fine none comes fails = record {
-  was = closes_all.was;
-  whole = fails.0.stays.whole;
-  none = none;
-  stands = λ rs h. fails.0.stays.holds rs (closes_all.stands rs h);
-  moved = λ all marks h. record { each = λ b is. (let a = comes.each b is in fails.0.written ∙ (closes_all.moved all marks h).each a.0 a.1) };
-}
+fails_finish_settled {s = s} {l = l} old mid new NoMemory closes_all fine none comes fails = (
+  record {
+    was = closes_all.was;
+    whole = fails.0.stays.whole;
+    none = none;
+    stands = λ rs h. fails.0.stays.holds rs (closes_all.stands rs h);
+    moved = λ all marks h. record { each = λ b is. (let a = comes.each b is in fails.0.written ∙ (closes_all.moved all marks h).each a.0 a.1) };
+  },
+  fails.2 ∙ fine,
+)
 fails_finish_settled {s = s} old mid new Writing closes_all fine none comes fails = inl (
   stays_settled old mid new closes_all none fails.0.whole fails.0.holds,
   (let k : s.failures mid.maker.store < s.failures new.maker.store = fails.2 in let e : s.failures mid.maker.store ≡ s.failures old.maker.store = fine in omega arith),

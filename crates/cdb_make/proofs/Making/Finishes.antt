@@ -15,7 +15,7 @@ use Rattle.cdb_make.specs.declared.maker.Maker.{Maker}
 use Rattle.cdb_make.specs.Finished.{IsFinished}
 use Rattle.cdb_make.specs.Views.EntryList.{lists_entries, AreWithin, HasSpareGaps}
 use Rattle.cdb_make.specs.Views.Lists.{all_entries}
-use Rattle.cdb_make.specs.Views.Maker.{Holds, IsFile, FailsFinishing, SameCounts, StaysWhole}
+use Rattle.cdb_make.specs.Views.Maker.{Holds, IsFile, FailsFinishing, HasNotFailed, SameCounts, StaysWhole}
 use Rattle.cdb_make.proofs.Entries.EntryLists.{lists_none}
 use Rattle.cdb_make.proofs.Making.FinishedFile.{all_finished}
 use Rattle.cdb_make.proofs.Making.Makers.{held_stand}
@@ -49,13 +49,13 @@ is_file m rs h finished = record { each = all_finished (held_stand m rs h) finis
 
 -- and where it isn't, the records stand as they stood
 pub fails_finishing : {S L : Type 0} {s : Ghosts S} {l : Widths L} (old new : Maker S L s l) (fault : MakeFault) → old.broken ≡ false → new.broken ≡ false → new.end ≡ old.end → new.count ≡ old.count → new.limit ≡ old.limit → new.lists ≡ old.lists
-    → KeepsPart (head_size l.WORD) (old.end - head_size l.WORD) (s.image old.store) (s.image new.store) → (fault ≡ NoMemory → s.written new.store ≡ s.written old.store) → (fault ≡ Writing → s.failures old.store < s.failures new.store)
+    → KeepsPart (head_size l.WORD) (old.end - head_size l.WORD) (s.image old.store) (s.image new.store) → (fault ≡ NoMemory → s.written new.store ≡ s.written old.store) → (fault ≡ NoMemory → HasNotFailed old new) → (fault ≡ Writing → s.failures old.store < s.failures new.store)
     → (fault ≡ NoMemory) ⊎ (fault ≡ Writing) → FailsFinishing old new fault
-fails_finishing old new fault was whole end count limit lists keeps written failed which =
+fails_finishing old new fault was whole end count limit lists keeps written fine failed which =
     let stays : StaysWhole old new = stays_kept old new was whole end (ap all_entries lists) keeps in
     let same : SameCounts old new = record { end = end; count = count; limit = limit } in
     elim which [
-      | inl e ↦ subst (λ (f : MakeFault). FailsFinishing old new f) (sym e) (record { stays = stays; written = written e }, same)
+      | inl e ↦ subst (λ (f : MakeFault). FailsFinishing old new f) (sym e) (record { stays = stays; written = written e }, same, fine e)
       | inr e ↦ subst (λ (f : MakeFault). FailsFinishing old new f) (sym e) (stays, same, failed e)
     ]
 

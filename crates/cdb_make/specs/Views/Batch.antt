@@ -127,8 +127,8 @@ pub record Paces {S L : Type 0} {s : Ghosts S} {l : Widths L} (old new : Batch S
     (taken : ℕ) : Type 0 where
   pub pace : 0 < taken → HasPace new
   pub most : taken ≡ 0 → new.most ≡ old.most
-  pub start : (new.pace.start ≡ old.pace.start)
-      ⊎ ((length new.gone.items ≤ taken) × (new.pace.start ≡ new.maker.end))
+  pub start : 0 < taken → length new.gone.items ≤ taken → new.pace.start ≡ new.maker.end
+  pub goes_on : (taken ≡ 0) ⊎ (taken < length new.gone.items) → new.pace.start ≡ old.pace.start
 
 -- a step of a call leaves what the next pass waits for
 pub record KeepsPace {S L : Type 0} {s : Ghosts S} {l : Widths L} (old new : Batch S L s l)
@@ -302,7 +302,7 @@ FailsPutting old new mode r Writing =
 abbrev pub FailsFinishing : {S L : Type 0} {s : Ghosts S} {l : Widths L} → Batch S L s l
     → Batch S L s l → MakeFault → Type 0
 FailsFinishing old new Broken = IsBroken old new
-FailsFinishing old new NoMemory = ClosesAll old new
+FailsFinishing old new NoMemory = ClosesAll old new × HasNotFailed old new
 FailsFinishing old new Writing =
     (StaysWhole old new × HasStoreFailed old.maker new.maker)
     ⊎ (HasGaps old × IsTorn old new (λ rs. ⊤))

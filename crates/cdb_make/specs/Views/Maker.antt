@@ -251,6 +251,7 @@ PutsHeadLast {l = l} m old new = HeadIsLast l.WORD m.end (all_entries m.lists) o
 abbrev pub FailsFinishing : {S L : Type 0} {s : Ghosts S} {l : Widths L} → Maker S L s l
     → Maker S L s l → MakeFault → Type 0
 FailsFinishing old new Broken = (old.broken ≡ true) × (new ≡ old)
-FailsFinishing old new NoMemory = WritesNothing old new × SameCounts old new
+FailsFinishing old new NoMemory =
+    WritesNothing old new × SameCounts old new × HasNotFailed old new
 FailsFinishing old new Writing = StaysWhole old new × SameCounts old new × HasStoreFailed old new
 FailsFinishing old new fault = ⊥

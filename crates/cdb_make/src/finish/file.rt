@@ -131,6 +131,7 @@ pub(crate) fn finish<S: Store, L: Width>(
     ensures memory { result ≡ Err NoMemory → SameImages (S.image store.old) (S.image store.new) }
     ensures memory_size { result ≡ Err NoMemory → S.size store.new ≡ S.size store.old }
     ensures memory_written { result ≡ Err NoMemory → S.written store.new ≡ S.written store.old }
+    ensures memory_failures { result ≡ Err NoMemory → S.failures store.new ≡ S.failures store.old }
     ensures failed { result ≡ Err Writing → S.failures store.old < S.failures store.new }
     ensures faults { IfErr result (λ f. (f ≡ NoMemory) ⊎ (f ≡ Writing)) }
     ensures failures { S.failures store.old ≤ S.failures store.new }

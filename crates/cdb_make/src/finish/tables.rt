@@ -7,9 +7,8 @@ ghost use Rattle.cdb_form.specs.Format.Pair.{pair_size};
 ghost use Rattle.cdb_make.specs.Parts.{table_bytes, tables_end};
 ghost use Rattle.cdb_make.specs.Views.EntryList.{list_entries, lists_entries};
 
-use crate::finish::table::put_entry;
 use crate::index::list::EntryList;
-use cdb_form::{Width, pair_size};
+use cdb_form::{Width, pair_size, put_entry};
 use cdb_store::{Store, StoreFault};
 
 /// Leaves the bytes of the table of a list's entries, filled in their order. It has two slots for

@@ -77,6 +77,7 @@ pub(crate) fn append_with_entry<S: Store, L: Width>(
     ensures longer { S.size store.old ≤ S.size store.new }
     ensures room { S.room store.old ≤ S.room store.new }
     ensures failures { S.failures store.old ≤ S.failures store.new }
+    ensures fine { OnOk result (S.failures store.new ≡ S.failures store.old) }
     ensures unwritten { S.unwritten store.old ≤ S.unwritten store.new }
     ensures not_written { IfErr result
         (λ f. f ≡ Writing → S.unwritten store.old < S.unwritten store.new) }

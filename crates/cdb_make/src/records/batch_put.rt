@@ -38,6 +38,7 @@ fn taken_by(put: Put) -> u64
 
 impl<S: Store, L: Width> Batch<S, L> {
     ghost use Rattle.cdb_make.specs.Views.Batch.{SameCounts, Puts, FailsPutting, Follows, Waits};
+    ghost use Rattle.cdb_make.specs.Views.Batch.{HasNotFailed};
     ghost use Rattle.cdb_make.specs.Views.Batch.{Enters, FailsEntering, KeepsPace, Paces};
 
     /// Whether a pass would mend why a record was not added.
@@ -67,6 +68,7 @@ impl<S: Store, L: Width> Batch<S, L> {
         ensures fails { (put : Put) → IsAdded put → IfErr result
             (FailsEntering self.old self.new (record_of key.now value.now) put) }
         ensures follows { Follows self.old self.new }
+        ensures fine { OnOk result (HasNotFailed self.old self.new) }
         ensures counts { OnErr result (SameCounts self.old self.new) }
         ensures pace { KeepsPace self.old self.new }
     {
@@ -103,6 +105,7 @@ impl<S: Store, L: Width> Batch<S, L> {
         ensures fails { IfErr result
             (FailsEntering self.old self.new (record_of key.now value.now) (Replaced taken)) }
         ensures follows { Follows self.old self.new }
+        ensures fine { OnOk result (HasNotFailed self.old self.new) }
         ensures counts { OnErr result (SameCounts self.old self.new) }
         ensures pace { KeepsPace self.old self.new }
     {
@@ -148,6 +151,7 @@ impl<S: Store, L: Width> Batch<S, L> {
         ensures fails { IfErr result
             (FailsEntering self.old self.new (record_of key.now value.now) put) }
         ensures follows { Follows self.old self.new }
+        ensures fine { OnOk result (HasNotFailed self.old self.new) }
         ensures counts { OnErr result (SameCounts self.old self.new) }
         ensures pace { KeepsPace self.old self.new }
     {
@@ -169,6 +173,7 @@ impl<S: Store, L: Width> Batch<S, L> {
         ensures fails { IfErr result
             (FailsPutting self.old self.new mode (record_of key.now value.now)) }
         ensures follows { Follows self.old self.new }
+        ensures fine { OnOk result (HasNotFailed self.old self.new) }
         ensures counts { OnErr result (SameCounts self.old self.new) }
         ensures pace { KeepsPace self.old self.new }
     {
@@ -198,6 +203,7 @@ impl<S: Store, L: Width> Batch<S, L> {
         ensures fails { IfErr result
             (FailsPutting self.old self.new mode (record_of key.now value.now)) }
         ensures follows { Follows self.old self.new }
+        ensures fine { OnOk result (HasNotFailed self.old self.new) }
         ensures counts { OnErr result (SameCounts self.old self.new) }
         ensures paces { IfOk result (λ put. Paces self.old self.new (taken_of put)) }
     {

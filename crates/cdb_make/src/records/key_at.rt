@@ -1,4 +1,4 @@
-// The record at a place, and whether it has a key.
+// The record at a place of a maker's store, and whether it has a key.
 ghost use Rattle.std.specs.Prelude.{◌≡◌, ◌+◌, ◌*◌, ◌<◌, ◌≤◌, ◌^◌, length, drop};
 ghost use Rattle.std.specs.Prelude.{OnOk, OnErr, IfOk, IsErrOf};
 ghost use Rattle.cdb_store.specs.declared.store.StoreFault.TheVariants.{NoMemory};

@@ -134,6 +134,7 @@ impl<S: Store, L: Width> Maker<S, L> {
         ensures fails { IfErr result
             (FailsAdding self.old self.new (record_of key.now value.now)) }
         ensures follows { Follows self.old self.new }
+        ensures fine { OnOk result (HasNotFailed self.old self.new) }
         ensures counts { OnErr result (SameCounts self.old self.new) }
         ensures longer { S.size self.old.store ≤ S.size self.new.store }
     {
@@ -167,6 +168,7 @@ impl<S: Store, L: Width> Maker<S, L> {
         ensures fails { IfErr result
             (FailsPutting self.old self.new Replace (record_of key.now value.now)) }
         ensures follows { Follows self.old self.new }
+        ensures fine { OnOk result (HasNotFailed self.old self.new) }
         ensures counts { OnErr result (SameCounts self.old self.new) }
     {
         let (end, count) = (self.end, self.count);
@@ -194,6 +196,7 @@ impl<S: Store, L: Width> Maker<S, L> {
         ensures fails { IfErr result
             (FailsPutting self.old self.new Replace (record_of key.now value.now)) }
         ensures follows { Follows self.old self.new }
+        ensures fine { OnOk result (HasNotFailed self.old self.new) }
         ensures counts { OnErr result (SameCounts self.old self.new) }
     {
         let gone = all_sizes(&self.gaps);
@@ -222,6 +225,7 @@ impl<S: Store, L: Width> Maker<S, L> {
         ensures fails { IfErr result
             (FailsPutting self.old self.new mode (record_of key.now value.now)) }
         ensures follows { Follows self.old self.new }
+        ensures fine { OnOk result (HasNotFailed self.old self.new) }
         ensures counts { OnErr result (SameCounts self.old self.new) }
     {
         let hash = hash(key);

@@ -1,5 +1,5 @@
 // A record is written to a store.
-ghost use Rattle.std.specs.Prelude.{◌+◌, ◌<◌, ◌≤◌, ◌^◌, length, OnOk};
+ghost use Rattle.std.specs.Prelude.{◌≡◌, ◌+◌, ◌<◌, ◌≤◌, ◌^◌, length, OnOk};
 ghost use Rattle.cdb_form.specs.Format.Record.{record_of, record_bytes, record_size};
 ghost use Rattle.cdb_make.specs.Views.Writing.{Writes, WritesWithin};
 
@@ -24,6 +24,7 @@ pub(crate) fn append_record<S: Store, L: Width>(
     requires fits { length key.now + length value.now ≤ L.TOP }
     ensures ok { OnOk result (Writes S.Store pos
         (record_bytes L.WORD (record_of key.now value.now)) store.old store.new) }
+    ensures fine { OnOk result (S.failures store.new ≡ S.failures store.old) }
     ensures within { WritesWithin S.Store pos
         (record_size L.WORD (record_of key.now value.now)) store.old store.new
         result }

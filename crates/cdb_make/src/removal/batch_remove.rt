@@ -1,5 +1,5 @@
 // The records of a key, removed by a batch.
-ghost use Rattle.std.specs.Prelude.{◌≡◌, IfOk, IfErr, OnErr};
+ghost use Rattle.std.specs.Prelude.{◌≡◌, IfOk, IfErr, OnOk, OnErr};
 ghost use Rattle.cdb_form.specs.Format.Hash.{key_hash};
 
 use crate::batch::Batch;
@@ -11,7 +11,7 @@ use cdb_store::Store;
 
 impl<S: Store, L: Width> Batch<S, L> {
     ghost use Rattle.cdb_make.specs.Views.Batch.{Removes, FailsRemoving, Follows, SameCounts};
-    ghost use Rattle.cdb_make.specs.Views.Batch.{KeepsPace, Paces};
+    ghost use Rattle.cdb_make.specs.Views.Batch.{HasNotFailed, KeepsPace, Paces};
 
     /// Marks the records of a key, or makes a pass and removes them.
     #[tactic(auto, using(crate::proofs::Making::Following::follows_looked, crate::proofs::Making::Following::follows_then, crate::proofs::Making::Batches::counts_looked, crate::proofs::Making::Batches::counts_then))]
@@ -20,6 +20,7 @@ impl<S: Store, L: Width> Batch<S, L> {
         ensures removes { IfOk result (Removes self.old self.new key.now) }
         ensures fails { IfErr result (FailsRemoving self.old self.new key.now) }
         ensures follows { Follows self.old self.new }
+        ensures fine { OnOk result (HasNotFailed self.old self.new) }
         ensures counts { OnErr result (SameCounts self.old self.new) }
         ensures pace { KeepsPace self.old self.new }
     {
@@ -45,6 +46,7 @@ impl<S: Store, L: Width> Batch<S, L> {
         ensures removes { IfOk result (Removes self.old self.new key.now) }
         ensures fails { IfErr result (FailsRemoving self.old self.new key.now) }
         ensures follows { Follows self.old self.new }
+        ensures fine { OnOk result (HasNotFailed self.old self.new) }
         ensures counts { OnErr result (SameCounts self.old self.new) }
         ensures paces { IfOk result (λ taken. Paces self.old self.new taken) }
     {

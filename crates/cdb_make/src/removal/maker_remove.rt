@@ -87,6 +87,7 @@ impl<S: Store, L: Width> Maker<S, L> {
     #[tactic(auto, using(crate::proofs::Making::Following::follows_looked, crate::proofs::Making::Following::follows_then, crate::proofs::Making::Removing::fails_remove_sought))]
     pub fn remove(&mut self, key: &[u8]) -> Result<u64, MakeFault>
         ensures removes { IfOk result (Removes self.old self.new key.now) }
+        ensures fine { OnOk result (HasNotFailed self.old self.new) }
         ensures fails { IfErr result (FailsRemoving self.old self.new key.now) }
         ensures follows { Follows self.old self.new }
         ensures counts { OnErr result (SameCounts self.old self.new) }

@@ -24,7 +24,7 @@ length-entries_of [] hs e = refl
 length-entries_of (p ∷ ps) [] e = absurd (omega arith)
 length-entries_of (p ∷ ps) (h ∷ hs) e = let ih = length-entries_of ps hs (omega arith) in omega arith
 
-get_or-entries_of : (ps hs : List ℕ) (k : ℕ) → length hs ≡ length ps → k < length ps → get_or (entries_of ps hs) k empty_slot ≡ record { first = get_or hs k 0; second = get_or ps k 0 }
+pub get_or-entries_of : (ps hs : List ℕ) (k : ℕ) → length hs ≡ length ps → k < length ps → get_or (entries_of ps hs) k empty_slot ≡ record { first = get_or hs k 0; second = get_or ps k 0 }
 get_or-entries_of [] hs k e l = absurd (omega arith)
 get_or-entries_of (p ∷ ps) [] k e l = absurd (omega arith)
 get_or-entries_of (p ∷ ps) (h ∷ hs) zero e l = refl

@@ -124,7 +124,7 @@ slot_clean entries before n slots i h u =
       first = fault_if-none _ (Twice s.second) both.1;
     }
 
-clean_slot : (entries before : List WordPair) (n : ℕ) (slots : List WordPair) (i : ℕ) → (is_used (nth_slot slots i) ≡ true → IsClean entries before n slots i) → slot_fault entries before n slots i ≡ None
+pub clean_slot : (entries before : List WordPair) (n : ℕ) (slots : List WordPair) (i : ℕ) → (is_used (nth_slot slots i) ≡ true → IsClean entries before n slots i) → slot_fault entries before n slots i ≡ None
 clean_slot entries before n slots i clean =
     let s = nth_slot slots i in
     elim (cases_Bool (is_used s)) [

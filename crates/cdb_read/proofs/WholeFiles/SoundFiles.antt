@@ -60,7 +60,7 @@ right_table w rs n some i l u =
 place_used : (a b : ℕ) → 0 < b → not (a == 0) ≡ false → a ≡ b → ⊥
 place_used a b some f i = both_ways (not (a == 0)) f (used a (omega arith))
 
-only_place : (e : WordPair) → 0 < e.second → OnlyUsed (has_place e)
+pub only_place : (e : WordPair) → 0 < e.second → OnlyUsed (has_place e)
 only_place e some s f = ne_eqb s.second e.second (λ i. place_used s.second e.second some f i)
 
 count_table : (w : ℕ) (rs : List KeyValue) (n : ℕ) (e : WordPair) → 0 < w → 0 < e.second → count_by (has_place e) (table_slots w rs n) ≡ count_by (has_place e) (table_entries w rs n)

@@ -10,6 +10,7 @@ ghost use Rattle.cdb_store.specs.Reads.{OnlyReads};
 ghost use Rattle.cdb_read.specs.Views.Window.{Shows};
 
 use crate::checking::directory::Directory;
+use crate::checking::filled_table::is_filled;
 use crate::checking::slot_runs::{last_run, run_with};
 use crate::checking::table_records::TableRecords;
 use crate::fault::ReadFault;
@@ -47,9 +48,9 @@ fn check_slot(
     Ok(())
 }
 
-/// Checks the slots of table `n` against the records of its list, and marks these. The run of used
-/// slots before each slot is known as the slots pass, so no way to a slot is gone twice.
-fn check_table<S: Store, L: Width>(
+/// Checks the slots of table `n`, one after the other, against the records of its list, and marks these.
+/// The run of used slots before each slot is known as the slots pass, so no way to a slot is gone twice.
+fn check_each<S: Store, L: Width>(
     alloc: Global,
     store: &mut S,
     n: u64,
@@ -78,6 +79,33 @@ fn check_table<S: Store, L: Width>(
         run = run_with(run, slot);
     }
     Ok(())
+}
+
+/// Checks table `n` against the records of its list, and marks these: at once if the table is what they
+/// make of it, else slot by slot.
+fn check_table<S: Store, L: Width>(
+    alloc: Global,
+    store: &mut S,
+    n: u64,
+    table: Pointer,
+    window: &mut Window,
+    entries: &mut TableRecords,
+) -> Result<(), ReadFault>
+    requires inside { StandsInside L.WORD (S.size store.old) (pointer_pair table) }
+    requires fits { S.size store.old < 2 ^ 64 }
+    requires shows { Shows window.old (S.image store.old) }
+    ensures shows { Shows window.new (S.image store.new) }
+    ensures clear { (b : List ℕ) → S.image store.new b → OnOk result
+        (TableIsClear L.WORD n (pointer_pair table) b entries.old entries.new) }
+    ensures reads { OnlyReads S.Store store.old store.new }
+    ensures fails { IfErr result (ReadTells S.Store
+        (TableHas L.WORD n (pointer_pair table) entries.old) store.old store.new) }
+{
+    if is_filled::<S, L>(alloc, store, n, table, window, entries)? {
+        entries.mark_all();
+        return Ok(());
+    }
+    check_each::<S, L>(alloc, store, n, table, window, entries)
 }
 
 /// Checks the slots of all tables, each against the records of its list alone, and marks these.

@@ -1,9 +1,9 @@
 // The records of a walk whose keys have one table, as a check keeps them.
-ghost use Rattle.std.specs.Prelude.{◌≡◌, ◌<◌, ◌≤◌, [], OnOk, IfSome, MatchOption, length};
-ghost use Rattle.std.specs.Prelude.{get_or, slice_set, true, false, List, option_map};
+ghost use Rattle.std.specs.Prelude.{◌≡◌, ◌<◌, ◌≤◌, ◌^◌, [], OnOk, IfSome, MatchOption, length};
+ghost use Rattle.std.specs.Prelude.{get_or, replicate, slice_set, true, false, List, option_map};
 
 use crate::checking::directory::Directory;
-use cdb_form::Slot;
+use cdb_form::{Slot, table_number};
 use std::alloc::{AllocError, Global};
 
 /// The records of one table, in the order of their places: 13 bytes each.
@@ -29,6 +29,7 @@ impl TableRecords {
     ghost use Rattle.cdb_form.specs.declared.damage.Damage.TheVariants.{Unindexed};
     ghost use Rattle.cdb_read.specs.Faults.{first_of, is_same, lost_fault};
     ghost use Rattle.cdb_read.specs.Views.TableRecords.{entry_pairs, HasEntry, HasMore, Marks};
+    ghost use Rattle.cdb_read.specs.Views.FilledTable.{AreFresh};
 
     /// No records.
     pub(crate) fn new(alloc: Global) -> TableRecords
@@ -54,6 +55,49 @@ impl TableRecords {
         self.hashes.push_reserved(hash);
         self.marks.push_reserved(false);
         Ok(())
+    }
+
+    /// How many there are.
+    pub(crate) fn len(&self) -> usize
+        ensures { result ≡ length self.now.places.items }
+    {
+        self.places.len()
+    }
+
+    /// The slot that points to a record.
+    #[inline(always)]
+    pub(crate) fn slot(&self, k: usize) -> Slot
+        requires { k < length self.now.places.items }
+        ensures place { result.place ≡ get_or self.now.places.items k 0 }
+        ensures hash { result.hash ≡ get_or self.now.hashes.items k 0 }
+        ensures small { result.hash < 2 ^ 32 }
+    {
+        Slot {
+            hash: u64::from(self.hashes[k]),
+            place: self.places[k],
+        }
+    }
+
+    /// Whether all of them have table `n` and places of at most `top`, and no slot points to one.
+    pub(crate) fn are_fresh(&self, n: u64, top: u64) -> bool
+        ensures { result ≡ true → AreFresh n top self.now }
+    {
+        for k in 0..self.places.len() {
+            let is_of = table_number(u64::from(self.hashes[k])) as u64 == n;
+            if !is_of || self.places[k] > top || self.marks[k] {
+                return false;
+            }
+        }
+        true
+    }
+
+    /// Notes that a slot points to each of them.
+    pub(crate) fn mark_all(&mut self)
+        ensures places { self.new.places ≡ self.old.places }
+        ensures hashes { self.new.hashes ≡ self.old.hashes }
+        ensures marks { self.new.marks.items ≡ replicate (length self.old.marks.items) true }
+    {
+        self.marks.fill(true);
     }
 
     /// A directory of the places.

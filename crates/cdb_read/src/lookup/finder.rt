@@ -19,6 +19,9 @@ use cdb_form::{Width, hash, table_number};
 use cdb_store::Store;
 use std::io::Write;
 
+/// How many bytes are read at once up to the first value: of most records the key and the value.
+const SHORT_RECORD: usize = 256;
+
 /// Finds the values of a key.
 #[derive(Drop)]
 pub struct Finder<'a, S: Store, L: Width> {
@@ -79,8 +82,9 @@ impl<S: Store, L: Width> Reader<S, L> {
         )
     }
 
-    /// The same. After a first value more bytes are read than are needed; if that failed, these
-    /// alone are read again, so a bad place among the others spoils nothing.
+    /// The same. More bytes are read than are needed: up to a first value as many as a short record
+    /// has, and then as a window has room for. If that failed, what is needed is read alone, so a bad
+    /// place among the others spoils nothing.
     #[inline(always)]
     fn met_from(
         &mut self,
@@ -97,10 +101,8 @@ impl<S: Store, L: Width> Reader<S, L> {
         ensures reads { OnlyReads S.Store self.old.store self.new.store }
         ensures fails { IfErr result (StoreFails S.Store self.old.store self.new.store) }
     {
-        if !has_given {
-            return self.next_met(from, key, hash, 0);
-        }
-        match self.next_met(from, key, hash, WINDOW) {
+        let ahead = if has_given { WINDOW } else { SHORT_RECORD };
+        match self.next_met(from, key, hash, ahead) {
             Ok(met) => Ok(met),
             Err(_) => self.next_met(from, key, hash, 0),
         }

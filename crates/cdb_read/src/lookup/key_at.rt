@@ -23,27 +23,27 @@ pub enum Look {
     Value(Span),
 }
 
-/// Whether a key's bytes are at a place. As many are read at once as a window has room for.
+/// Whether these bytes are at a place. As many are read at once as a window has room for.
 #[inline(always)]
-fn key_is_at<S: Store>(
+pub(crate) fn bytes_are_at<S: Store>(
     store: &mut S,
     place: u64,
-    key: &[u8],
+    bytes: &[u8],
     window: &mut Window,
 ) -> Result<bool, ReadFault>
     requires shows { Shows window.old (S.image store.old) }
-    requires inside { place + length key.now ≤ S.size store.old }
+    requires inside { place + length bytes.now ≤ S.size store.old }
     requires fits { S.size store.old < 2 ^ 64 }
     ensures shows { Shows window.new (S.image store.new) }
-    ensures same { IfOk result (λ same. TellsSame same place key.now (S.image store.new)) }
+    ensures same { IfOk result (λ same. TellsSame same place bytes.now (S.image store.new)) }
     ensures reads { OnlyReads S.Store store.old store.new }
     ensures fails { IfErr result (StoreFails S.Store store.old store.new) }
 {
     let mut done = 0;
-    while done < key.len() {
-        let n = (key.len() - done).min(WINDOW);
+    while done < bytes.len() {
+        let n = (bytes.len() - done).min(WINDOW);
         window.cover(store, place + done as u64, n, n)?;
-        if window.shown(place + done as u64, n) != &key[done..done + n] {
+        if window.shown(place + done as u64, n) != &bytes[done..done + n] {
             return Ok(false);
         }
         done += n;
@@ -83,7 +83,7 @@ pub(crate) fn look_at<S: Store, L: Width>(
     let Some(record) = spans::<L>(place, header, size) else {
         return Ok(Look::Broken);
     };
-    if record.key.len != key.len() as u64 || !key_is_at(store, record.key.place, key, window)? {
+    if record.key.len != key.len() as u64 || !bytes_are_at(store, record.key.place, key, window)? {
         return Ok(Look::Other);
     }
     Ok(Look::Value(record.value))

@@ -1,4 +1,4 @@
-// The records of a database, one after the other.
+// A walk is begun, or goes on.
 ghost use Rattle.std.specs.Prelude.{◌≡◌, ℕ, ◌+◌, ◌<◌, ◌≤◌, List, IfOk, IfErr, OnOk};
 ghost use Rattle.cdb_form.specs.Format.Walk.{walk_of};
 ghost use Rattle.cdb_form.specs.Format.Pair.{head_size};

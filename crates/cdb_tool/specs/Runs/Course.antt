@@ -13,7 +13,7 @@ use Rattle.cdb_form.specs.declared.mode.Mode.{Mode}
 use Rattle.cdb_form.specs.declared.mode.Mode.TheVariants.{Insert}
 use Rattle.cdb_make.specs.declared.records.put.Put.{Put}
 use Rattle.cdb_make.specs.declared.records.put.Put.TheVariants.{Added, AddedAgain, Present, Replaced}
-use Rattle.cdb_tool.specs.Message.{duplicate_line}
+use Rattle.cdb_tool.specs.Message.{duplicate_lines}
 use Rattle.cdb_tool.specs.declared.fault.Fault.{Fault}
 use Rattle.cdb_tool.specs.declared.fault.Fault.TheVariants.{Make, Duplicate, Output, NoMemory}
 use Rattle.cdb_command.specs.declared.options.MakeOptions.{MakeOptions}
@@ -55,10 +55,10 @@ meets_key Present = true
 meets_key (Replaced n) = true
 
 -- what is said of a put
-abbrev pub said : MakeOptions → ℕ → ℕ → Result Put MakeFault → List ℕ
-said o input number (Ok put) =
-    if (o.warn || o.stop) && meets_key put then duplicate_line input number else []
-said o input number (Err fault) = []
+abbrev pub said : MakeOptions → ℕ → ℕ → (key : List ℕ) → Result Put MakeFault → List ℕ
+said o input number key (Ok put) =
+    if (o.warn || o.stop) && meets_key put then duplicate_lines o.names input number key else []
+said o input number key (Err fault) = []
 
 -- why it ends the run, or not
 abbrev pub ends : MakeOptions → Result Put MakeFault → Option Fault
@@ -86,7 +86,7 @@ with_put w o s input number r =
     let answer = put_result w o.limit (mode_of o) r s.records in
     record {
       records = put_step w o.limit (mode_of o) r s.records;
-      lines = s.lines ++ said o input number answer;
+      lines = s.lines ++ said o input number r.key answer;
       ended = ends o answer;
     }
 
@@ -106,12 +106,13 @@ course_of w t cs = fold (with_next w t.options) (at_start t) cs
 
 -- what is told of a put where the run stops there: its line was appended, or a prefix of it where
 -- the writer failed
-abbrev pub TellFails : MakeOptions → ℕ → ℕ → Put → Option (List ℕ) → Option (List ℕ) → Fault
-    → Type 0
-TellFails o input number put old new Duplicate =
-    Appends old new (said o input number (Ok put)) × (ends o (Ok put) ≡ Some Duplicate)
-TellFails o input number put old new Output = AppendsPrefix old new (said o input number (Ok put))
-TellFails o input number put old new fault = ⊥
+abbrev pub TellFails : MakeOptions → ℕ → ℕ → (key : List ℕ) → Put → Option (List ℕ)
+    → Option (List ℕ) → Fault → Type 0
+TellFails o input number key put old new Duplicate =
+    Appends old new (said o input number key (Ok put)) × (ends o (Ok put) ≡ Some Duplicate)
+TellFails o input number key put old new Output =
+    AppendsPrefix old new (said o input number key (Ok put))
+TellFails o input number key put old new fault = ⊥
 
 -- the run has not ended, and its lines were appended
 pub record Goes (w : ℕ) (t : Task) (cs : List Incoming) (old new : Option (List ℕ)) : Type 0

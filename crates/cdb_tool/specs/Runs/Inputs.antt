@@ -1,7 +1,7 @@
 -- The items of the inputs of a run, by the form of its inputs. An input is the bytes of its reader,
 -- where they are known.
 use Rattle.std.specs.Prelude.{ℕ, ◌≡◌, ◌+◌, ◌*◌, ◌^◌, ◌≤◌, Bool, true, false, List, [], ◌∷◌, ◌++◌}
-use Rattle.std.specs.Prelude.{length, map, flat_map, Option, Some, IfSome}
+use Rattle.std.specs.Prelude.{length, map, flat_map, Option, Some, IfSome, ⊤}
 use Rattle.cdb_form.specs.Format.Record.{KeyValue}
 use Rattle.cdb_form.specs.Text.Amending.{Change, Putting, Removing, SpellsChange, SpelledChanges}
 use Rattle.cdb_form.specs.Text.Amending.{ReadsChanges}
@@ -9,6 +9,7 @@ use Rattle.cdb_form.specs.Text.Form.{WholeItems, HasFault}
 use Rattle.cdb_form.specs.Text.List.{SpellsKey, SpelledKeys, ReadsKeys}
 use Rattle.cdb_form.specs.Text.Map.{map_lines}
 use Rattle.cdb_form.specs.Text.Native.{Spells, Spelled, Reads}
+use Rattle.cdb_form.specs.Text.Parse.{listed}
 use Rattle.cdb_form.specs.Views.KnownBytes.{FromTo}
 use Rattle.cdb_form.specs.Views.MapReader.{ReadAmid}
 use Rattle.cdb_form.specs.Views.TextFault.{IsOfText, IsReadFault}
@@ -33,6 +34,11 @@ input_form Map amends = Puts Map
 abbrev pub keys_form : Style → InputForm
 keys_form Native = Lists
 keys_form Map = Puts Map
+
+-- the texts of each form but map texts may have a fault
+abbrev pub HasFaults : InputForm → Type 0
+HasFaults (Puts Map) = ⊥
+HasFaults form = ⊤
 
 -- the key of an item
 abbrev pub key_of : Change → List ℕ
@@ -93,18 +99,30 @@ HasInputFault style greatest records fault input =
     HasFaultOf (HasFaultBehind Spells greatest input records fault)
     (EndsAmid style greatest records) fault input
 
+-- ---- inputs that give keys
+
+-- an input has this fault behind these keys
+abbrev pub HasKeyFault : ℕ → List (List ℕ) → TextFault → List ℕ → Type 0
+HasKeyFault greatest keys fault input =
+    HasFaultOf (HasFaultBehind SpellsKey greatest input keys fault)
+    (λ part. HasFaultBehind SpellsKey greatest part keys (Ended (length part))) fault input
+
 -- ---- inputs of any form
 
--- these items are puts of records of which this holds
+-- these items are puts of records of which this holds, or stand for keys of which it does
 abbrev pub ArePuts : List Change → (List KeyValue → Type 0) → Type 0
 ArePuts items P = (records : List KeyValue) × (items ≡ map Putting records) × P records
+
+abbrev pub AreListed : List Change → (List (List ℕ) → Type 0) → Type 0
+AreListed items P = (keys : List (List ℕ)) × (items ≡ map listed keys) × P keys
 
 -- an input is a text of these items, and this is left of it; and it begins with these
 abbrev pub IsInputOf : InputForm → ℕ → List Change → (input rest : List ℕ) → Type 0
 IsInputOf (Puts style) greatest items input rest =
     ArePuts items (λ records. IsInput style greatest records input rest)
 IsInputOf Changes greatest items input rest = ReadsChanges greatest items input rest
-IsInputOf Lists greatest items input rest = ReadsKeys greatest (keys_of items) input rest
+IsInputOf Lists greatest items input rest =
+    AreListed items (λ keys. ReadsKeys greatest keys input rest)
 
 abbrev pub BeginsWithItems : InputForm → ℕ → List Change → List ℕ → Type 0
 BeginsWithItems (Puts style) greatest items input =
@@ -112,7 +130,7 @@ BeginsWithItems (Puts style) greatest items input =
 BeginsWithItems Changes greatest items input =
     (rest : List ℕ) × SpelledChanges greatest items input rest
 BeginsWithItems Lists greatest items input =
-    (rest : List ℕ) × SpelledKeys greatest (keys_of items) input rest
+    AreListed items (λ keys. (rest : List ℕ) × SpelledKeys greatest keys input rest)
 
 -- an input has this fault behind these items
 abbrev pub HasItemFault : InputForm → ℕ → List Change → TextFault → List ℕ → Type 0
@@ -122,9 +140,7 @@ HasItemFault Changes greatest items fault input =
     HasFaultOf (HasFaultBehind SpellsChange greatest input items fault)
     (λ part. HasFaultBehind SpellsChange greatest part items (Ended (length part))) fault input
 HasItemFault Lists greatest items fault input =
-    HasFaultOf (HasFaultBehind SpellsKey greatest input (keys_of items) fault)
-    (λ part. HasFaultBehind SpellsKey greatest part (keys_of items) (Ended (length part))) fault
-    input
+    AreListed items (λ keys. HasKeyFault greatest keys fault input)
 
 -- ---- the inputs, one after the other
 

@@ -8,7 +8,7 @@ use Rattle.cdb_form.specs.Format.File.{file_size, file_bytes}
 use Rattle.cdb_form.specs.Format.Record.{KeyValue}
 use Rattle.cdb_form.specs.Format.Walk.{Walked, walk_of}
 use Rattle.cdb_form.specs.Text.Amending.{Change}
-use Rattle.cdb_form.specs.Text.Parse.{Parsed, parse, parse_map}
+use Rattle.cdb_form.specs.Text.Parse.{Parsed, parse, parse_list, parse_map}
 use Rattle.cdb_form.specs.declared.text.fault.TextFault.{TextFault}
 use Rattle.cdb_make.specs.declared.fault.MakeFault.TheVariants.{TooBig}
 use Rattle.cdb_read.specs.Views.ReadFault.{damage_fault}
@@ -20,12 +20,12 @@ use Rattle.cdb_tool.specs.declared.fault.Fault.TheVariants.{Text, Make, Read}
 
 -- ---- the inputs
 
--- what an input says. No run that makes a database reads list texts
+-- what an input says
 abbrev pub input_parsed : InputForm → (g : ℕ) → List ℕ → Parsed
 input_parsed (Puts Native) g input = parse false g input
 input_parsed (Puts Map) g input = parse_map input
 input_parsed Changes g input = parse true g input
-input_parsed Lists g input = record { items = []; ends = Ok input }
+input_parsed Lists g input = parse_list g input
 
 -- the items of each input, up to the first with a fault, and that fault
 pub record Given : Type 0 where

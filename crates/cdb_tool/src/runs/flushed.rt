@@ -1,5 +1,5 @@
 // The end of each run.
-ghost use Rattle.cdb_tool.specs.Runs.Flushed.{Flushed};
+ghost use Rattle.cdb_tool.specs.Runs.Flushed.{Flushed, FlushedWhole};
 
 use crate::fault::Fault;
 use cdb_form::flush_whole;
@@ -12,6 +12,18 @@ pub fn flushed<W: Write>(w: &mut W, answer: Result<(), Fault>) -> Result<(), Fau
 {
     match (answer, flush_whole(w)) {
         (Ok(()), Err(_)) => Err(Fault::Output),
+        (answer, _) => answer,
+    }
+}
+
+/// Flushes the writer of a run that goes on after a key without a value. A flush that fails is `Output`
+/// in place of `Missing` too, after which all that was found is written.
+pub(crate) fn flushed_whole<W: Write>(w: &mut W, answer: Result<(), Fault>) -> Result<(), Fault>
+    ensures { FlushedWhole (W.contents w.old) (W.contents w.new) answer result }
+{
+    match (answer, flush_whole(w)) {
+        (Ok(()), Err(_)) => Err(Fault::Output),
+        (Err(Fault::Missing), Err(_)) => Err(Fault::Output),
         (answer, _) => answer,
     }
 }

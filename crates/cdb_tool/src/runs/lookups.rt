@@ -6,8 +6,8 @@ ghost use Rattle.cdb_form.specs.Views.KnownBytes.{FromTo};
 ghost use Rattle.cdb_store.specs.Reads.{OnlyReads};
 ghost use Rattle.cdb_tool.specs.Runs.Inputs.{IsInputOf, AreAllInputs, ReadsOne, bytes_of, keys_form};
 ghost use Rattle.cdb_tool.specs.Runs.Inputs.{keys_of, keys_of_each};
+ghost use Rattle.cdb_tool.specs.Runs.LookedUp.{key_query};
 ghost use Rattle.cdb_tool.specs.Runs.Lookups.{HasLooked, StopsIn, Stops, Leaves, LooksUp};
-ghost use Rattle.cdb_tool.specs.Runs.Lookups.{key_query};
 ghost use Rattle.cdb_tool.specs.Runs.Query.{Queries};
 ghost use Rattle.cdb_tool.specs.Views.Inputs.{inputs_left, one_of, shared_bytes};
 ghost use Rattle.cdb_tool.specs.Views.KeyReader.{form_of, unread, IsNew};
@@ -15,7 +15,7 @@ ghost use Rattle.cdb_tool.specs.Views.KeyReader.{form_of, unread, IsNew};
 use crate::fault::Fault;
 use crate::input::{InWindow, Input};
 use crate::inputs::{Inputs, SharedInput, Turn};
-use crate::runs::flushed::flushed;
+use crate::runs::flushed::flushed_whole;
 use crate::runs::key_reader::KeyReader;
 use crate::runs::query::look_up;
 use crate::runs::shown::Shown;
@@ -244,7 +244,8 @@ fn lookups_unflushed<L: Width, S: Store, J: Read + Drop, I: Read + Drop, W: Writ
 /// - `Output`: the writer failed, and holds a prefix of the text.
 ///
 /// Only after `Missing`, and at Ok, is what ends the text written. The store is handed back whatever
-/// the answer, and was only read. The writer is flushed last, after a fault too.
+/// the answer, and was only read. The writer is flushed last, after a fault too. If that fails, `Output`
+/// takes the place of Ok and of `Missing`.
 pub fn lookups_run<L: Width, S: Store, J: Read + Drop, I: Read + Drop, W: Write>(
     alloc: Global,
     store: S,
@@ -261,6 +262,6 @@ pub fn lookups_run<L: Width, S: Store, J: Read + Drop, I: Read + Drop, W: Write>
     let (store, looked) = lookups_unflushed::<L, S, J, I, W>(
         alloc, store, inputs, number, style, w,
     );
-    let answer = flushed(w, looked);
+    let answer = flushed_whole(w, looked);
     (store, answer)
 }

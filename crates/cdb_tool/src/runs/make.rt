@@ -11,6 +11,7 @@ ghost use Rattle.cdb_tool.specs.Runs.Make.{InCourse, Runs, InputFails, InputsFai
 ghost use Rattle.cdb_tool.specs.Runs.Make.{OfBase, HandsBack, HasFailed, Stands, StandsIn, IsHalt};
 ghost use Rattle.cdb_tool.specs.Runs.Make.{PutsItems};
 ghost use Rattle.cdb_tool.specs.Views.Inputs.{inputs_left, one_of, shared_bytes};
+ghost use Rattle.cdb_tool.specs.declared.fault.Fault.TheVariants.{NoMemory};
 
 use crate::fault::Fault;
 use crate::input::{InWindow, Input};
@@ -30,7 +31,7 @@ use std::io::{Read, Write};
 fn put_turn<L: Width, S: Store, J: Read + Drop, I: Read + Drop, E: Write>(
     alloc: Global,
     maker: &mut Batch<S, L>,
-    options: &MakeOptions,
+    options: &MakeOptions<'_>,
     amends: bool,
     number: u64,
     turn: Turn<J>,
@@ -59,6 +60,9 @@ fn put_turn<L: Width, S: Store, J: Read + Drop, I: Read + Drop, E: Write>(
     ensures follows { Follows maker.old maker.new }
     ensures failed { IfErr result
         (λ f. IsOfStore f → S.failures (store_of maker.old) < S.failures (store_of maker.new)) }
+    ensures memory { IfErr result
+        (λ f. f ≡ NoMemory → S.failures (store_of maker.new) ≡ S.failures (store_of maker.old)) }
+    ensures fine { OnOk result (S.failures (store_of maker.new) ≡ S.failures (store_of maker.old)) }
     ensures own { IfErr result (λ f. IsOfBase f → ⊥) }
 {
     match turn {
@@ -88,7 +92,7 @@ fn put_turn<L: Width, S: Store, J: Read + Drop, I: Read + Drop, E: Write>(
 pub fn put_inputs<L: Width, S: Store, J: Read + Drop, I: Read + Drop, E: Write>(
     alloc: Global,
     maker: &mut Batch<S, L>,
-    options: &MakeOptions,
+    options: &MakeOptions<'_>,
     amends: bool,
     inputs: Inputs<J, I>,
     errors: &mut E,
@@ -112,6 +116,9 @@ pub fn put_inputs<L: Width, S: Store, J: Read + Drop, I: Read + Drop, E: Write>(
     ensures follows { Follows maker.old maker.new }
     ensures failed { IfErr result
         (λ f. IsOfStore f → S.failures (store_of maker.old) < S.failures (store_of maker.new)) }
+    ensures memory { IfErr result
+        (λ f. f ≡ NoMemory → S.failures (store_of maker.new) ≡ S.failures (store_of maker.old)) }
+    ensures fine { OnOk result (S.failures (store_of maker.new) ≡ S.failures (store_of maker.old)) }
     ensures own { IfErr result (λ f. IsOfBase f → ⊥) }
 {
     let Inputs { turns, shared } = inputs;
@@ -140,7 +147,7 @@ fn make_unflushed<L: Width, S: Store, B: Store, J: Read + Drop, I: Read + Drop, 
     store: S,
     base: Option<B>,
     inputs: Inputs<J, I>,
-    options: &MakeOptions,
+    options: &MakeOptions<'_>,
     errors: &mut E,
 ) -> Made<S, B>
     requires head { head_size L.WORD ≤ options.now.limit }
@@ -152,6 +159,8 @@ fn make_unflushed<L: Width, S: Store, B: Store, J: Read + Drop, I: Read + Drop, 
     ensures settled { OnOk result.answer (S.settled result.store) }
     ensures failed { IfErr result.answer
         (λ f. IsOfStore f → S.failures store < S.failures result.store) }
+    ensures memory { IfErr result.answer
+        (λ f. f ≡ NoMemory → S.failures result.store ≡ S.failures store) }
     ensures base_failed { IfErr result.answer (λ f. IsOfBase f → HasFailed B.Store base result.base) }
 {
     let mut maker = match Maker::<S, L>::new(alloc, store, options.limit) {
@@ -230,18 +239,19 @@ pub fn make_run<L: Width, S: Store, B: Store, R: Read + Drop, E: Write>(
     store: S,
     base: Option<B>,
     inputs: Vec<R>,
-    options: MakeOptions,
+    options: MakeOptions<'_>,
     errors: &mut E,
 ) -> (S, Option<B>, Result<(), Fault>)
     requires head { head_size L.WORD ≤ options.limit }
     requires words { options.limit ≤ L.GREATEST }
     ensures runs { WhereHonest (S.image result.0) (OfBase B.Store result.1 (λ base.
-        Runs L.WORD L.GREATEST options base (own_inputs (map R.remaining inputs.items))
+        Runs L.WORD L.GREATEST options.entry base (own_inputs (map R.remaining inputs.items))
         (S.image result.0) (E.contents errors.old) (E.contents errors.new) result.2)) }
     ensures hands { HandsBack B.Store base result.1 }
     ensures settled { OnOk result.2 (S.settled result.0) }
     ensures failed { IfErr result.2
         (λ f. IsOfStore f → S.failures store < S.failures result.0) }
+    ensures memory { IfErr result.2 (λ f. f ≡ NoMemory → S.failures result.0 ≡ S.failures store) }
     ensures base_failed { IfErr result.2 (λ f. IsOfBase f → HasFailed B.Store base result.1) }
 {
     let none: &[u8] = &[];
@@ -263,18 +273,19 @@ pub fn make_run_from<L: Width, S: Store, B: Store, J: Read + Drop, I: Read + Dro
     store: S,
     base: Option<B>,
     inputs: Inputs<J, I>,
-    options: MakeOptions,
+    options: MakeOptions<'_>,
     errors: &mut E,
 ) -> (S, Option<B>, Result<(), Fault>)
     requires head { head_size L.WORD ≤ options.limit }
     requires words { options.limit ≤ L.GREATEST }
     ensures runs { WhereHonest (S.image result.0) (OfBase B.Store result.1 (λ base.
-        Runs L.WORD L.GREATEST options base (inputs_left J.remaining I.remaining inputs)
+        Runs L.WORD L.GREATEST options.entry base (inputs_left J.remaining I.remaining inputs)
         (S.image result.0) (E.contents errors.old) (E.contents errors.new) result.2)) }
     ensures hands { HandsBack B.Store base result.1 }
     ensures settled { OnOk result.2 (S.settled result.0) }
     ensures failed { IfErr result.2
         (λ f. IsOfStore f → S.failures store < S.failures result.0) }
+    ensures memory { IfErr result.2 (λ f. f ≡ NoMemory → S.failures result.0 ≡ S.failures store) }
     ensures base_failed { IfErr result.2 (λ f. IsOfBase f → HasFailed B.Store base result.1) }
 {
     let made = make_unflushed::<L, S, B, J, I, E>(alloc, store, base, inputs, &options, errors);

@@ -8,6 +8,7 @@ ghost use Rattle.cdb_read.specs.Views.Walk.{left_of, bytes_left};
 ghost use Rattle.cdb_tool.specs.Runs.Base.{AddsNext, NotAdded};
 ghost use Rattle.cdb_tool.specs.Runs.Make.{BaseFails, HandsBack, HasFailed, IsOfStore};
 ghost use Rattle.cdb_tool.specs.Runs.Make.{IsOfBase, AddsBase, HoldsBase, BaseStopped};
+ghost use Rattle.cdb_tool.specs.declared.fault.Fault.TheVariants.{NoMemory};
 
 use crate::fault::Fault;
 use cdb_form::Width;
@@ -62,6 +63,9 @@ fn add_next<L: Width, S: Store, B: Store>(
     ensures follows { Follows maker.old maker.new }
     ensures failed { IfErr result
         (λ f. IsOfStore f → S.failures (store_of maker.old) < S.failures (store_of maker.new)) }
+    ensures memory { IfErr result
+        (λ f. f ≡ NoMemory → S.failures (store_of maker.new) ≡ S.failures (store_of maker.old)) }
+    ensures fine { OnOk result (S.failures (store_of maker.new) ≡ S.failures (store_of maker.old)) }
     ensures base_failed { IfErr result (λ f. IsOfBase f
         → B.failures records.old.reader.now.store < B.failures records.new.reader.now.store) }
 {
@@ -95,6 +99,9 @@ fn add_records<L: Width, S: Store, B: Store>(
     ensures follows { Follows maker.old maker.new }
     ensures failed { IfErr result
         (λ f. IsOfStore f → S.failures (store_of maker.old) < S.failures (store_of maker.new)) }
+    ensures memory { IfErr result
+        (λ f. f ≡ NoMemory → S.failures (store_of maker.new) ≡ S.failures (store_of maker.old)) }
+    ensures fine { OnOk result (S.failures (store_of maker.new) ≡ S.failures (store_of maker.old)) }
     ensures base_failed { IfErr result
         (λ f. IsOfBase f → B.failures reader.old.store < B.failures reader.new.store) }
 {
@@ -118,6 +125,9 @@ pub(crate) fn add_base<L: Width, S: Store, B: Store>(
     ensures follows { Follows maker.old maker.new }
     ensures failed { IfErr result.1
         (λ f. IsOfStore f → S.failures (store_of maker.old) < S.failures (store_of maker.new)) }
+    ensures memory { IfErr result.1
+        (λ f. f ≡ NoMemory → S.failures (store_of maker.new) ≡ S.failures (store_of maker.old)) }
+    ensures fine { OnOk result.1 (S.failures (store_of maker.new) ≡ S.failures (store_of maker.old)) }
     ensures base_failed { IfErr result.1 (λ f. IsOfBase f → HasFailed B.Store base result.0) }
 {
     let Some(base) = base else {

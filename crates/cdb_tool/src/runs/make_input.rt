@@ -19,7 +19,7 @@ ghost use Rattle.cdb_tool.specs.declared.fault.Fault.TheVariants.{NoMemory};
 ghost use Rattle.cdb_tool.specs.Runs.Make.{form_of as task_form};
 
 use crate::fault::Fault;
-use crate::message::write_duplicate;
+use crate::key_line::write_duplicates;
 use crate::runs::item_reader::ItemReader;
 use cdb_command::MakeOptions;
 use cdb_form::{AtHand, ChangeKind, Record, Width};
@@ -29,7 +29,7 @@ use std::alloc::Global;
 use std::io::{Read, Write};
 
 /// How each record is put.
-fn put_mode(options: &MakeOptions) -> Mode
+fn put_mode(options: &MakeOptions<'_>) -> Mode
     ensures { result ≡ mode_of options.now }
 {
     if options.stop {
@@ -40,7 +40,7 @@ fn put_mode(options: &MakeOptions) -> Mode
 }
 
 /// Whether a record is told whose key was there already.
-fn tells(options: &MakeOptions) -> bool
+fn tells(options: &MakeOptions<'_>) -> bool
     ensures { result ≡ (options.now.warn || options.now.stop) }
 {
     options.warn || options.stop
@@ -59,20 +59,21 @@ fn meets_key(put: Put) -> bool
 /// Reports a put that met its key, if the options say so, and stops the run if they do.
 #[inline(always)]
 fn tell_put<E: Write>(
-    options: &MakeOptions,
+    options: &MakeOptions<'_>,
     input: u64,
     number: u64,
+    key: &[u8],
     put: Put,
     errors: &mut E,
 ) -> Result<(), Fault>
     ensures ok { OnOk result (Appends (E.contents errors.old) (E.contents errors.new)
-        (said options.now input number (Ok put))) }
+        (said options.now input number key.now (Ok put))) }
     ensures goes { OnOk result (ends options.now (Ok put) ≡ None) }
-    ensures fails { IfErr result (TellFails options.now input number put
+    ensures fails { IfErr result (TellFails options.now input number key.now put
         (E.contents errors.old) (E.contents errors.new)) }
 {
     if tells(options) && meets_key(put) {
-        write_duplicate(input, number, errors)?;
+        write_duplicates(options.names, input, number, key, errors)?;
     }
     if options.stop && put == Put::Present {
         return Err(Fault::Duplicate);
@@ -84,7 +85,7 @@ fn tell_put<E: Write>(
 #[inline(always)]
 fn put_record<L: Width, S: Store, E: Write>(
     maker: &mut Batch<S, L>,
-    options: &MakeOptions,
+    options: &MakeOptions<'_>,
     mode: Mode,
     input: u64,
     number: u64,
@@ -119,10 +120,13 @@ fn put_record<L: Width, S: Store, E: Write>(
     ensures follows { Follows maker.old maker.new }
     ensures failed { IfErr result
         (λ f. IsOfStore f → S.failures (store_of maker.old) < S.failures (store_of maker.new)) }
+    ensures memory { IfErr result
+        (λ f. f ≡ NoMemory → S.failures (store_of maker.new) ≡ S.failures (store_of maker.old)) }
+    ensures fine { OnOk result (S.failures (store_of maker.new) ≡ S.failures (store_of maker.old)) }
     ensures own { IfErr result (λ f. IsOfBase f → ⊥) }
 {
     let put = maker.put(mode, key, value)?;
-    tell_put(options, input, number, put, errors)
+    tell_put(options, input, number, key, put, errors)
 }
 
 /// Removes the records of a key. Nothing is told of it.
@@ -142,6 +146,9 @@ fn remove_key<L: Width, S: Store>(maker: &mut Batch<S, L>, key: &[u8]) -> Result
     ensures follows { Follows maker.old maker.new }
     ensures failed { IfErr result
         (λ f. IsOfStore f → S.failures (store_of maker.old) < S.failures (store_of maker.new)) }
+    ensures memory { IfErr result
+        (λ f. f ≡ NoMemory → S.failures (store_of maker.new) ≡ S.failures (store_of maker.old)) }
+    ensures fine { OnOk result (S.failures (store_of maker.new) ≡ S.failures (store_of maker.old)) }
     ensures own { IfErr result (λ f. IsOfBase f → ⊥) }
 {
     maker.remove(key)?;
@@ -152,7 +159,7 @@ fn remove_key<L: Width, S: Store>(maker: &mut Batch<S, L>, key: &[u8]) -> Result
 #[inline(always)]
 fn do_item<L: Width, S: Store, E: Write>(
     maker: &mut Batch<S, L>,
-    options: &MakeOptions,
+    options: &MakeOptions<'_>,
     mode: Mode,
     input: u64,
     number: u64,
@@ -181,6 +188,9 @@ fn do_item<L: Width, S: Store, E: Write>(
     ensures follows { Follows maker.old maker.new }
     ensures failed { IfErr result
         (λ f. IsOfStore f → S.failures (store_of maker.old) < S.failures (store_of maker.new)) }
+    ensures memory { IfErr result
+        (λ f. f ≡ NoMemory → S.failures (store_of maker.new) ≡ S.failures (store_of maker.old)) }
+    ensures fine { OnOk result (S.failures (store_of maker.new) ≡ S.failures (store_of maker.old)) }
     ensures own { IfErr result (λ f. IsOfBase f → ⊥) }
 {
     match kind {
@@ -203,7 +213,7 @@ fn do_item<L: Width, S: Store, E: Write>(
 pub(crate) fn put_input<L: Width, S: Store, R: Read + Drop, E: Write, A: AtHand<R>>(
     alloc: Global,
     maker: &mut Batch<S, L>,
-    options: &MakeOptions,
+    options: &MakeOptions<'_>,
     input: u64,
     mut items: ItemReader<R, L>,
     errors: &mut E,
@@ -229,6 +239,9 @@ pub(crate) fn put_input<L: Width, S: Store, R: Read + Drop, E: Write, A: AtHand<
     ensures follows { Follows maker.old maker.new }
     ensures failed { IfErr result
         (λ f. IsOfStore f → S.failures (store_of maker.old) < S.failures (store_of maker.new)) }
+    ensures memory { IfErr result
+        (λ f. f ≡ NoMemory → S.failures (store_of maker.new) ≡ S.failures (store_of maker.old)) }
+    ensures fine { OnOk result (S.failures (store_of maker.new) ≡ S.failures (store_of maker.old)) }
     ensures own { IfErr result (λ f. IsOfBase f → ⊥) }
 {
     let mut item = Record {

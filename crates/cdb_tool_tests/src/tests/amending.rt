@@ -73,7 +73,7 @@ fn amend(
     alloc: Global,
     base: &[u8],
     input: &'static [u8],
-    options: MakeOptions,
+    options: MakeOptions<'_>,
 ) -> Result<Amended, AllocError>
     requires least { 2048 ≤ options.limit }
     requires most { options.limit ≤ 4294967295 }

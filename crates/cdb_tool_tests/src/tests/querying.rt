@@ -1,10 +1,11 @@
-// query_run, over worked, damaged and foreign files, and over stores and writers that fail.
+// query_run and lookups_run, over worked, damaged and foreign files, and over stores and writers that fail.
+use super::differing::made;
 use super::fakes::{FakeWriter, NotingWriter, SlowWriter};
 use super::worked::File;
-use cdb_form::{Narrow, Wide, Width};
+use cdb_form::{Narrow, TextFault, Wide, Width};
 use cdb_read::ReadFault;
 use cdb_store::{FuseStore, MemStore, Store};
-use cdb_tool::{Fault, query_run};
+use cdb_tool::{Fault, Inputs, Style, Turn, lookups_run, query_run};
 use std::alloc::{AllocError, Global};
 use std::io::Write;
 use std::prelude::*;
@@ -392,12 +393,12 @@ fn calls_of(alloc: Global, file: Vec<u8>, asked: Asked) -> u64 {
     fused(alloc, file, u64::MAX, asked).2.calls()
 }
 
-/// How many calls a query makes up to its first value: for the head, a slot and a record.
-const FIRST: u64 = 3;
+/// How many calls a query makes for the head, of which no more is read than is needed.
+const HEAD: u64 = 1;
 
 /// Whether the fault of the store is reported, with a prefix of the text written, and the same query
-/// of what it holds writes all. After the first value a query may also write all at once: if bytes
-/// that were only read ahead failed, what is needed is read again.
+/// of what it holds writes all. After the head a query may also write all at once: if bytes that were
+/// only read ahead failed, what is needed is read again.
 fn fails_and_goes_again(
     alloc: Global,
     file: Vec<u8>,
@@ -407,7 +408,7 @@ fn fails_and_goes_again(
 ) -> bool {
     let (answer, out, store) = fused(alloc, file, calls, asked);
     let is_told = answer == damaged(ReadFault::Device) && text.starts_with(&out);
-    let is_mended = calls >= FIRST && answer == Ok(()) && out.as_slice() == text;
+    let is_mended = calls >= HEAD && answer == Ok(()) && out.as_slice() == text;
     let file = store.into_inner().into_vec();
     (is_told || is_mended) && answers::<Narrow>(alloc, file, asked, Ok(()), text)
 }
@@ -448,9 +449,21 @@ fn each_call_of_the_store_fails(rt: HostRuntime) -> Result<(), Fail> {
 
 #[test]
 fn nothing_is_read_behind_a_number(rt: HostRuntime) -> Result<(), Fail> {
-    let file = File::FourValues.bytes(rt.alloc())?;
+    // No value is read with the record before it.
+    let mut text = Vec::new(rt.alloc());
+    let value = vec![in rt.alloc(); b'v'; 5000]?;
+    for _ in 0..3 {
+        text.extend_from_slice(b"+1,5000:a->")?;
+        text.extend_from_slice(&value)?;
+        text.push(b'\n')?;
+    }
+    text.push(b'\n')?;
+    let file = match made::<Narrow>(rt.alloc(), &text) {
+        Ok(store) => store.into_vec(),
+        Err(_) => Vec::new(rt.alloc()),
+    };
     let first = calls_of(rt.alloc(), file.clone()?, Asked::Nth(b"a", 1));
-    let last = calls_of(rt.alloc(), file.clone()?, Asked::Nth(b"a", 4));
+    let last = calls_of(rt.alloc(), file.clone()?, Asked::Nth(b"a", 3));
     let every = calls_of(rt.alloc(), file, Asked::All(b"a"));
     assert!(rt; first < last && last < every);
     Ok(())
@@ -503,6 +516,41 @@ fn the_flush_comes_last(rt: HostRuntime) -> Result<(), Fail> {
             let _ = answer::<Narrow, _>(file.clone()?, Asked::All(key), &mut w);
             assert!(rt; w.was_flushed_last(), "{key:?}");
         }
+    }
+    Ok(())
+}
+
+/// What a query of the keys of a list text answers, of a writer whose flush fails.
+fn looked_up(alloc: Global, file: Vec<u8>, keys: &[u8]) -> Result<Answer, AllocError> {
+    let mut w = FakeWriter::new(alloc, 4096);
+    w.flush_fails = true;
+    let inputs = Inputs {
+        turns: vec![in alloc; Turn::<&[u8]>::Shared]?,
+        shared: keys,
+    };
+    let store = MemStore::from_vec(file);
+    Ok(
+        lookups_run::<Narrow, MemStore, &[u8], &[u8], FakeWriter>(
+            alloc,
+            store,
+            inputs,
+            None,
+            Style::Native,
+            &mut w,
+        ).1,
+    )
+}
+
+#[test]
+fn a_failing_flush_is_output_where_a_key_has_no_value(rt: HostRuntime) -> Result<(), Fail> {
+    let file = File::Two.bytes(rt.alloc())?;
+    for (keys, fault) in [
+        (&b"+3:two\n+1:a\n\n"[..], Fault::Output),
+        (&b"+3:two\n\n"[..], Fault::Output),
+        (&b"+3:two\n"[..], Fault::Text(1, TextFault::Ended(7))),
+    ] {
+        let answer = looked_up(rt.alloc(), file.clone()?, keys)?;
+        assert!(rt; answer == Err(fault), "{answer:?}");
     }
     Ok(())
 }

@@ -33,7 +33,12 @@ pub(super) enum Duplicates {
 }
 
 /// What a run is told, that may make a file of so many bytes.
-pub(super) fn options(mode: Mode, duplicates: Duplicates, style: Style, limit: u64) -> MakeOptions
+pub(super) fn options(
+    mode: Mode,
+    duplicates: Duplicates,
+    style: Style,
+    limit: u64,
+) -> MakeOptions<'static>
     ensures { result.limit ≡ limit }
 {
     MakeOptions {
@@ -42,6 +47,7 @@ pub(super) fn options(mode: Mode, duplicates: Duplicates, style: Style, limit: u
         stop: duplicates == Duplicates::Last,
         style,
         limit,
+        names: None,
     }
 }
 
@@ -78,7 +84,11 @@ pub(super) fn texts(
 }
 
 /// A run in memory.
-fn make(alloc: Global, inputs: &[&'static [u8]], options: MakeOptions) -> Result<Made, AllocError>
+fn make(
+    alloc: Global,
+    inputs: &[&'static [u8]],
+    options: MakeOptions<'_>,
+) -> Result<Made, AllocError>
     requires least { 2048 ≤ options.limit }
     requires most { options.limit ≤ 4294967295 }
 {

@@ -1,5 +1,5 @@
 use Rattle.std.proofs.Common.{◌≡◌, ◌++◌, take}
-use Rattle.cdb.specs.Causes.{shown}
+use Rattle.cdb_command.specs.Shown.{shown}
 use Rattle.cdb.proofs.cause_line.push_name.Given as goal
 
 -- the bytes so far were added

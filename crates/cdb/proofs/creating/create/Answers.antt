@@ -6,20 +6,20 @@ use Rattle.cdb.proofs.creating.create.Goals as goal
 pub returns-then-is_standard : goal.returns-then-is_standard
 returns-then-is_standard g c =
     let contents = c.in-Ok.contents in
-    rw c.base_left-then-is_standard.ensures (inr (contents.base, inputs_left g.J.Read.remaining g.I.Read.remaining contents.inputs, g.Y.System.calls c.open_all.new.system, c.in-Ok.ensures.ok, inl (search rules, refl, refl, refl, rw c.in-Ok.ensures.options at c.make_on_output-read.ensures)))
+    rw c.base_left-then-is_standard.ensures (inr (contents.base, inputs_left g.Y.Stream.Read.remaining g.I.Read.remaining contents.inputs, g.Y.System.calls c.open_all.new.system, c.in-Ok.ensures.ok, inl (search rules, refl, refl, refl, rw c.in-Ok.ensures.options at c.make_on_output-read.ensures)))
 
 pub returns-then-is_in_place : goal.returns-then-is_in_place
 returns-then-is_in_place g c =
     let contents = c.in-Ok.contents in
-    inr (contents.base, inputs_left g.J.Read.remaining g.I.Read.remaining contents.inputs, g.Y.System.calls c.open_all.new.system, c.in-Ok.ensures.ok, inr (search rules, Keeps-refl _, inl (search rules, rw c.in-Ok.ensures.options at c.make_in_place.ensures)))
+    inr (contents.base, inputs_left g.Y.Stream.Read.remaining g.I.Read.remaining contents.inputs, g.Y.System.calls c.open_all.new.system, c.in-Ok.ensures.ok, inr (search rules, Keeps-refl _, inl (search rules, rw c.in-Ok.ensures.options at c.make_in_place.ensures)))
 
 pub returns-in-Err-temporary_name : goal.returns-in-Err-temporary_name
 returns-in-Err-temporary_name g c =
     let contents = c.in-Ok.contents in
-    inr (contents.base, inputs_left g.J.Read.remaining g.I.Read.remaining contents.inputs, g.Y.System.calls c.open_all.new.system, c.in-Ok.ensures.ok, inr (search rules, Keeps-refl _, inr (search rules, refl, search rules, inl (search rules, search rules, refl, Keeps-refl _))))
+    inr (contents.base, inputs_left g.Y.Stream.Read.remaining g.I.Read.remaining contents.inputs, g.Y.System.calls c.open_all.new.system, c.in-Ok.ensures.ok, inr (search rules, Keeps-refl _, inr (search rules, refl, search rules, inl (search rules, search rules, refl, Keeps-refl _))))
 
 pub returns : goal.returns
 returns g c =
     let contents = c.in-Ok.contents in
     let made = rw c.in-Ok-temporary_name.ensures at (rw c.as_str.ensures.value at (rw c.in-Ok.ensures.options at c.replace_database-read.ensures)) in
-    rw c.base_left-2.ensures (inr (contents.base, inputs_left g.J.Read.remaining g.I.Read.remaining contents.inputs, g.Y.System.calls c.open_all.new.system, c.in-Ok.ensures.ok, inr (search rules, Keeps-refl _, inr (search rules, refl, refl, inr made))))
+    rw c.base_left-2.ensures (inr (contents.base, inputs_left g.Y.Stream.Read.remaining g.I.Read.remaining contents.inputs, g.Y.System.calls c.open_all.new.system, c.in-Ok.ensures.ok, inr (search rules, Keeps-refl _, inr (search rules, refl, refl, inr made))))

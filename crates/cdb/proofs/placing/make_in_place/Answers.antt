@@ -5,7 +5,7 @@ use Rattle.cdb.proofs.placing.make_in_place.Goals as goal
 
 pub returns : goal.returns
 returns g c =
-    let making = making_of g.L.Width.WORD g.L.Width.GREATEST g.J.Read.remaining g.I.Read.remaining c.args.contents in
+    let making = making_of g.L.Width.WORD g.L.Width.GREATEST g.Y.Stream.Read.remaining g.I.Read.remaining c.args.contents in
     let built = c.build-store.result.0 in
     let back = c.build-store.result.1 in
     let made = c.build-store.result.2 in
@@ -25,7 +25,7 @@ returns g c =
           run = c.build-store.ensures.tells;
           cause = c.build-store.ensures.fails;
           syncs = c.synced-answer.ensures;
-          has = database_synced g.F.Store g.M.Store making back built last made c.synced-answer.result c.synced-answer.ensures c.build-store.ensures.built;
+          has = database_synced g.Y.File.Store g.Y.Made.Store making back built last made c.synced-answer.result c.synced-answer.ensures c.build-store.ensures.built;
         },
       ),
     )

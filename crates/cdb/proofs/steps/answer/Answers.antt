@@ -1,14 +1,18 @@
-use Rattle.std.proofs.Common.{[], inl, inr, refl, Ok, Err}
+use Rattle.std.proofs.Common.{[], ap, inl, inr, refl, Ok, Err}
 use Rattle.std.proofs.KnownBytes.{Keeps-refl}
+use Rattle.cdb_command.specs.Refused.{refused_in}
 use Rattle.cdb_tool.specs.Views.Output.{output_bytes}
 use Rattle.cdb.proofs.Explained.{none_said}
 use Rattle.cdb.proofs.steps.answer.Goals as goal
 
 pub returns-in-Err-clause-runs : goal.returns-in-Err-clause-runs
 returns-in-Err-clause-runs g c = inl (record {
-  usage = c.in-Err.usage;
-  why = rw c.as_slice.ensures.value at c.in-Err.ensures.exact;
-  line = c.refuse.ensures.line;
+  refused = refused_in c.in-Err.fault;
+  why = elim c.in-Err.ensures.exact [
+    | inl lacks ↦ inl (ap refused_in lacks)
+    | inr planned ↦ inr (rw c.as_slice-2.ensures.value at planned)
+  ];
+  line = rw c.as_slice.ensures.value at (rw c.explains-is_explained.ensures at c.refuse.ensures.line);
   untouched = refl;
   none = c.none_left.ensures;
   same = refl;
@@ -19,10 +23,10 @@ returns-in-Err-clause-runs g c = inl (record {
 pub returns-in-Ok-performed-clause-runs : goal.returns-in-Ok-performed-clause-runs
 returns-in-Ok-performed-clause-runs g c = inr (record {
   command = c.in-Ok.command;
-  asks = rw c.as_slice.ensures.value at c.in-Ok.ensures.exact;
+  asks = rw c.as_slice-2.ensures.value at c.in-Ok.ensures.exact;
   result = Ok c.in-Ok-performed.field-0;
   before = output_bytes g.E.Write.contents c.perform-left.new.errors;
-  does = rw c.in-Ok-performed.is at c.perform-left.ensures.does;
+  does = rw c.as_slice.ensures.value at (rw c.explains-is_explained.ensures at (rw c.in-Ok-performed.is at c.perform-left.ensures.does));
   silent = c.perform-left.ensures.silent;
   same = c.perform-left.ensures.same;
   more = [];
@@ -34,14 +38,14 @@ returns-in-Ok-performed-clause-runs g c = inr (record {
 pub returns-clause-runs : goal.returns-clause-runs
 returns-clause-runs g c = inr (record {
   command = c.in-Ok.command;
-  asks = rw c.as_slice.ensures.value at c.in-Ok.ensures.exact;
+  asks = rw c.as_slice-2.ensures.value at c.in-Ok.ensures.exact;
   result = Err c.in-Err-performed.fault;
   before = output_bytes g.E.Write.contents c.perform-left.new.errors;
-  does = rw c.in-Err-performed.is at c.perform-left.ensures.does;
+  does = rw c.as_slice.ensures.value at (rw c.explains-is_explained.ensures at (rw c.in-Err-performed.is at c.perform-left.ensures.does));
   silent = c.perform-left.ensures.silent;
   same = c.perform-left.ensures.same;
   more = c.cause_of-more.result.items;
-  explains = rw c.as_slice-2.ensures.value at (rw c.explains-is_explained.ensures at c.cause_of-more.ensures);
+  explains = rw c.as_slice.ensures.value at (rw c.explains-is_explained.ensures at c.cause_of-more.ensures);
   says = rw c.as_slice-in-Err-performed.ensures.value at c.tell.ensures;
   is_status = c.status_of.ensures;
 })

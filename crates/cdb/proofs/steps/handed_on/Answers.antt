@@ -1,4 +1,4 @@
-use Rattle.std.proofs.Common.{rules, inl, inr}
+use Rattle.std.proofs.Common.{rules, inr}
 use Rattle.cdb_tool.specs.Views.Output.{held_by}
 use Rattle.cdb.proofs.steps.handed_on.Goals as goal
 
@@ -9,13 +9,4 @@ returns-in-Ok-Err-clause-hands g c = record {
   handed = search rules;
   taken = c.flush.ensures.handed;
   answered = inr (search rules);
-}
-
-pub returns-in-Ok-Ok-clause-hands : goal.returns-in-Ok-Ok-clause-hands
-returns-in-Ok-Ok-clause-hands g c = record {
-  held = held_by c.flush.new.self;
-  all = c.flush.ensures.bytes;
-  handed = search rules;
-  taken = c.flush.ensures.handed;
-  answered = inl (search rules);
 }

@@ -3,12 +3,13 @@ use Rattle.std.proofs.Common.{rules, ◌≢◌, IfErr, arith}
 use Rattle.cdb_command.proofs.NoWords.{gives_no_words}
 use Rattle.cdb_command.proofs.Ranges.{gives_in_range}
 use Rattle.cdb_command.specs.declared.usage.Usage.TheVariants.{Words}
+use Rattle.cdb_command.specs.Refused.{refused_in, usage_of}
 use Rattle.cdb_command.specs.Line.{given_in}
 use Rattle.cdb_command.proofs.planning.plan.Goals as goal
 
 pub returns-clause-refused : goal.returns-clause-refused
 returns-clause-refused c =
-    let none : IfErr c.asked_on.result (λ u. u ≢ Words) =
+    let none : IfErr c.asked_on.result (λ f. usage_of (refused_in f) ≢ Words) =
     gives_no_words c.asked_on.result (given_in c.line_of.result) c.asked_on.ensures in
     search rules
 

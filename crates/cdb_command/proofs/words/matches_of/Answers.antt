@@ -22,22 +22,19 @@ returns-in-Ok-clause-taken c =
     subst (λ (a : App). is_simple_and_free a ≡ true → fault_of a words ≡ []) built
     c.in-Ok.ensures.kinds refl
 
-pub returns-in-Err-clause-refused : goal.returns-in-Err-clause-refused
+pub returns-clause-refused : goal.returns-clause-refused
 unfolding cdb_faults
-returns-in-Err-clause-refused c =
+returns-clause-refused c =
     let words = map string_bytes c.args.words.now in
     let built : app_of c.in_ok-parser.parser ≡ cdb_app = c.in_ok-parser.ensures in
     let kinds =
     subst (λ (a : App). is_simple_and_free a ≡ true → HasKind (fault_of a words) c.in-Err.error)
     built c.in-Err.ensures.kinds refl in
-    elim c.refusal.ensures.either [
-      | inl memory ↦ inl memory
-      | inr other ↦ inr (
-        other,
-        λ none. elim kinds [
-          | inl memory ↦ c.refusal.ensures.memory other memory
-          | inr among ↦ subst (λ (ks : Kinds). IsAmong (kind_of c.in-Err.error) ks) none among
-        ],
+    elim kinds [
+      | inl memory ↦ absurd (c.is_of_memory.ensures c.if-is_of_memory.false memory)
+      | inr among ↦ inr (
+        c.bad_word.ensures,
+        λ none. subst (λ (ks : Kinds). IsAmong (kind_of c.in-Err.error) ks) none among,
       )
     ]
 

@@ -26,7 +26,7 @@ loop-record-preserved g c =
     record {
       holds = subst (λ (v : List KeyValue). Holds c.put.new.self v) more (c.in_ok-put.ensures.puts.holds _ inv.holds);
       limit = e.follows.limit ∙ inv.limit;
-      failures = omega (arith, e.follows.failures, inv.failures);
+      failures = c.in_ok-put.ensures.fine ∙ inv.failures;
     }
 
 pub returns-in_err-put-clause-fails : goal.returns-in_err-put-clause-fails

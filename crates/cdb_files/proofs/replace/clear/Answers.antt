@@ -1,14 +1,12 @@
 use Rattle.std.proofs.Common.{[], refl, inl}
 use Rattle.cdb_files.specs.declared.answer.Found.TheVariants.{Other, Unknown}
-use Rattle.cdb_files.specs.declared.name_trace.NameCall.TheVariants.{Looked}
+use Rattle.cdb_files.specs.declared.name_trace.NameCall.TheVariants.{Looked, Same}
 use Rattle.cdb_files.proofs.Replacing.{no_step, step, go_on}
+use Rattle.cdb_files.proofs.Stops.{may_be_it}
 use Rattle.cdb_files.proofs.replace.clear.Goals as goal
 
 pub returns-in-Nothing-clause-steps : goal.returns-in-Nothing-clause-steps
 returns-in-Nothing-clause-steps g c = step _ (Looked c.look.result, c.args.temporary.now, [], []) (no_step _) c.look.ensures tt tt
-
-pub returns-in-File-clause-steps : goal.returns-in-File-clause-steps
-returns-in-File-clause-steps g c = go_on (λ b is. is) (step _ (Looked c.look.result, c.args.temporary.now, [], []) (no_step _) c.look.ensures tt tt) c.remove_other.ensures.steps
 
 pub returns-in-Other-clause-steps : goal.returns-in-Other-clause-steps
 returns-in-Other-clause-steps g c = step _ (Looked c.look.result, c.args.temporary.now, [], []) (no_step _) c.look.ensures tt tt
@@ -24,3 +22,14 @@ returns-in-Unknown-clause-err g c = ((Looked Unknown, c.args.temporary.now, [], 
 
 pub returns-in-Nothing-clause-free : goal.returns-in-Nothing-clause-free
 returns-in-Nothing-clause-free g c = (g.N.Names.calls c.args.names.now, inl c.in-Nothing.ensures)
+
+pub returns-in-No-clause-steps : goal.returns-in-No-clause-steps
+returns-in-No-clause-steps g c =
+    go_on (λ b is. is) (step _ (Same c.is_file_of.result, c.args.temporary.now, c.args.name.now, []) (step _ (Looked c.look.result, c.args.temporary.now, [], []) (no_step _) c.look.ensures tt tt) c.is_file_of.ensures tt tt) c.remove_old.ensures.steps
+
+pub returns-in-Yes-clause-steps : goal.returns-in-Yes-clause-steps
+returns-in-Yes-clause-steps g c =
+    step _ (Same c.is_file_of.result, c.args.temporary.now, c.args.name.now, []) (step _ (Looked c.look.result, c.args.temporary.now, [], []) (no_step _) c.look.ensures tt tt) c.is_file_of.ensures tt tt
+
+pub returns-in-Yes-clause-err : goal.returns-in-Yes-clause-err
+returns-in-Yes-clause-err g c = may_be_it c.args.temporary.now c.args.name.now _ _ c.is_file_of.result (g.N.Names.calls c.args.names.now, c.in-File.ensures) c.in-Yes.is c.is_file_of.ensures

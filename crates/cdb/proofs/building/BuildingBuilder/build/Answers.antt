@@ -21,9 +21,10 @@ returns-in-Ok-clause-fails g c =
     let left = c.make_in-buffered.result.0 in
     let over : g.S.Store.failures (inner_of c.over.result) ≡ g.S.Store.failures c.args.store = ap g.S.Store.failures c.over.ensures in
     rw (c.into_inner.ensures ∙ ap inner_of c.discard.ensures)
-    (IfErr-weaker c.make_in-buffered.result.2 _ _ (λ f fails is.
-    let rose : g.S.Store.failures c.in-Ok.buffered.inner.inner < g.S.Store.failures left.inner.inner = fails is in
-    omega (arith, rose, c.in-Ok.ensures.failures, over)) c.make_in-buffered.ensures.failed)
+    (IfErr-weaker c.make_in-buffered.result.2 _ _ (λ f fails. (
+      (λ is. let rose : g.S.Store.failures c.in-Ok.buffered.inner.inner < g.S.Store.failures left.inner.inner = fails.0 is in omega (arith, rose, c.in-Ok.ensures.failures, over)),
+      (λ is. fails.1 is ∙ (c.in-Ok.ensures.failures ∙ over)),
+    )) c.make_in-buffered.ensures.failed)
 
 pub returns-in-Ok-clause-tells : goal.returns-in-Ok-clause-tells
 returns-in-Ok-clause-tells g c =

@@ -27,6 +27,6 @@ returns-in-Ok-clause-fails g c =
     let inner = c.into_inner.ensures ∙ ap inner_of c.discard.ensures in
     let over : g.S.Store.failures (inner_of c.over.result) ≡ g.S.Store.failures c.args.store = ap g.S.Store.failures c.over.ensures in
     rw inner (IfErr-weaker c.put_all-buffered.result.1 _ _ (λ f fails.
-    building_later w greatest records (g.S.Store.failures c.args.store) (g.S.Store.failures c.in-Ok.buffered.inner.inner) (g.S.Store.failures buffered.inner.inner) (g.S.Store.image buffered.inner.inner) f (omega (arith, c.in-Ok.ensures.failures, over))
+    building_later w greatest records (g.S.Store.failures c.args.store) (g.S.Store.failures c.in-Ok.buffered.inner.inner) (g.S.Store.failures buffered.inner.inner) (g.S.Store.image buffered.inner.inner) f (c.in-Ok.ensures.failures ∙ over)
     (building_below w greatest records (g.S.Store.failures c.in-Ok.buffered.inner.inner) (g.S.Store.failures buffered.inner.inner) buffered.pos (bytes_of buffered) (g.S.Store.image buffered.inner.inner) f fails))
     c.put_all-buffered.ensures.fails)

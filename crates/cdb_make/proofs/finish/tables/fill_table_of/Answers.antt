@@ -4,10 +4,10 @@ use Rattle.cdb_form.specs.Format.Pair.{WordPair, pair_bytes}
 use Rattle.cdb_form.specs.Format.Table.{empty_slot, filled_slots}
 use Rattle.cdb_form.specs.Views.Pairs.{slot_pair}
 use Rattle.cdb_make.specs.Views.EntryList.{list_entries}
-use Rattle.cdb_make.specs.Views.SlotBytes.{slots_in}
-use Rattle.cdb_make.proofs.Slots.Filling.{filled_nothing, filled_next}
-use Rattle.cdb_make.proofs.Slots.RunLemmas.{runs_none}
-use Rattle.cdb_make.proofs.Slots.SlotBytes.{count_slots, slots_in-zeros, bytes_of-slots_in}
+use Rattle.cdb_form.specs.Views.SlotBytes.{slots_in}
+use Rattle.cdb_form.proofs.Slots.Filling.{filled_nothing, filled_next}
+use Rattle.cdb_form.proofs.Slots.RunLemmas.{runs_none}
+use Rattle.cdb_form.proofs.Slots.SlotBytes.{count_slots, slots_in-zeros, bytes_of-slots_in}
 use Rattle.cdb_make.proofs.finish.tables.fill_table_of.Goals as goal
 
 pub loop-n-init : goal.loop-n-init

@@ -10,7 +10,7 @@ pub returns-clause-fails : goal.returns-clause-fails
 returns-clause-fails g c =
     let e = c.finish.ensures in
     on_fault_is c.finish.result
-    (λ f is which. fails_finishing {s = g.S.Store} {l = g.L.Width} _ _ f c.if-self.false c.if-self.false refl refl refl refl e.kept (λ n. e.memory_written (is ∙ ap Err n)) (λ n. e.failed (is ∙ ap Err n)) which)
+    (λ f is which. fails_finishing {s = g.S.Store} {l = g.L.Width} _ _ f c.if-self.false c.if-self.false refl refl refl refl e.kept (λ n. e.memory_written (is ∙ ap Err n)) (λ n. e.memory_failures (is ∙ ap Err n)) (λ n. e.failed (is ∙ ap Err n)) which)
     e.faults
 
 pub returns-then-self-clause-whole : goal.returns-then-self-clause-whole

@@ -6,7 +6,7 @@ use Rattle.cdb_read.proofs.Probing.PlacedRecords.{spans_fit}
 use Rattle.cdb_store.specs.Images.{Holds}
 use Rattle.cdb_read.proofs.Bytes.Windows.{holds_shown}
 use Rattle.cdb_read.proofs.Probing.Headers.{HasLengths, has_lengths, fewer_lengths, no_room, other_length, other_key, same_key}
-use Rattle.cdb_read.proofs.lookup.key_at.look_at.Goals.{then-record-key-via-then-record-key, then-record-key-via-else-record-key+in_ok-key_is_at+then-not-branch}
+use Rattle.cdb_read.proofs.lookup.key_at.look_at.Goals.{then-record-key-via-then-record-key, then-record-key-via-else-record-key+in_ok-bytes_are_at+then-not-branch}
 use Rattle.cdb_read.proofs.lookup.key_at.look_at.Goals as goal
 
 pub returns-in_default-clause-looks : goal.returns-in_default-clause-looks
@@ -38,12 +38,12 @@ returns-then-record-key-clause-looks g c =
     elim c.then-record-key.branch [
       | then-record-key-via-then-record-key x ↦
           rw x.store-is (other_length c.args.key.now h low fits (λ same. x.if-record-key.true (has.klen ∙ same)))
-      | then-record-key-via-else-record-key+in_ok-key_is_at+then-not-branch x ↦
+      | then-record-key-via-else-record-key+in_ok-bytes_are_at+then-not-branch x ↦
           (let same : head.klen ≡ length c.args.key.now = sym has.klen ∙ x.if-record-key.false in
-          let differ : x.in_ok-key_is_at.field-0 ≡ false = search rules in
-          let tells : TellsSame false found.key.place c.args.key.now (g.S.Store.image x.key_is_at.new.store) =
-          subst (λ t. TellsSame t found.key.place c.args.key.now (g.S.Store.image x.key_is_at.new.store)) differ x.in_ok-key_is_at.ensures.same in
-          rw x.store-is (other_key found.key.place c.args.key.now at same (fewer_lengths x.key_is_at.ensures.reads.images h) low fits tells))
+          let differ : x.in_ok-bytes_are_at.field-0 ≡ false = search rules in
+          let tells : TellsSame false found.key.place c.args.key.now (g.S.Store.image x.bytes_are_at.new.store) =
+          subst (λ t. TellsSame t found.key.place c.args.key.now (g.S.Store.image x.bytes_are_at.new.store)) differ x.in_ok-bytes_are_at.ensures.same in
+          rw x.store-is (other_key found.key.place c.args.key.now at same (fewer_lengths x.bytes_are_at.ensures.reads.images h) low fits tells))
     ]
 
 pub returns-clause-looks : goal.returns-clause-looks
@@ -62,11 +62,11 @@ returns-clause-looks g c =
     let fits : c.args.place + (2 * w + head.klen + head.vlen) ≤ n = spans_fit has in
     let at : found.key.place ≡ c.args.place + 2 * w = omega arith in
     let same : head.klen ≡ length c.args.key.now = sym has.klen ∙ c.if-record-key.false in
-    let agree : c.in_ok-key_is_at.field-0 ≡ true = search rules in
-    let tells : TellsSame true found.key.place c.args.key.now (g.S.Store.image c.key_is_at.new.store) =
-    subst (λ t. TellsSame t found.key.place c.args.key.now (g.S.Store.image c.key_is_at.new.store)) agree c.in_ok-key_is_at.ensures.same in
+    let agree : c.in_ok-bytes_are_at.field-0 ≡ true = search rules in
+    let tells : TellsSame true found.key.place c.args.key.now (g.S.Store.image c.bytes_are_at.new.store) =
+    subst (λ t. TellsSame t found.key.place c.args.key.now (g.S.Store.image c.bytes_are_at.new.store)) agree c.in_ok-bytes_are_at.ensures.same in
     let klen = has.klen in
-    same_key found.key.place c.args.key.now found.value at (omega arith) has.vlen same (fewer_lengths c.key_is_at.ensures.reads.images h) low fits tells
+    same_key found.key.place c.args.key.now found.value at (omega arith) has.vlen same (fewer_lengths c.bytes_are_at.ensures.reads.images h) low fits tells
 
 pub cover-requires-clause-inside : goal.cover-requires-clause-inside
 cover-requires-clause-inside g c = search rules

@@ -1,11 +1,11 @@
-use Rattle.std.proofs.Common.{ap, ◌+◌, ℕ}
+use Rattle.std.proofs.Common.{refl, ap, ◌∙◌, ◌+◌, ℕ}
 use Rattle.std.proofs.lemmas.Result.{err_from_is_err_and}
 use Rattle.cdb_make.proofs.Making.Following.{follows_then}
 use Rattle.cdb_tool.proofs.InputRuns.{put_none, put_next, inputs_fail, next_has, halted}
 use Rattle.cdb_tool.proofs.runs.make.put_inputs.Goals as goal
 
 pub loop-turn-init : goal.loop-turn-init
-loop-turn-init g c = record { next = tt; finite = tt; put = put_none {s = g.S.Store} {l = g.L.Width} _ g.J.Read.remaining g.I.Read.remaining _ _ _ _ _ c.args.maker.now c.into_iter-turn-iterator.ensures.into_iter_gives.0 }
+loop-turn-init g c = record { next = tt; finite = tt; put = put_none {s = g.S.Store} {l = g.L.Width} _ g.J.Read.remaining g.I.Read.remaining _ _ _ _ _ c.args.maker.now c.into_iter-turn-iterator.ensures.into_iter_gives.0; fine = refl }
 
 pub loop-turn-preserved : goal.loop-turn-preserved
 loop-turn-preserved g c =
@@ -14,6 +14,7 @@ loop-turn-preserved g c =
       next = tt;
       finite = tt;
       put = put_next {s = g.S.Store} {l = g.L.Width} _ g.J.Read.remaining g.I.Read.remaining _ _ _ _ _ _ _ _ _ _ _ _ _ _ _ c.loop-turn.invariant.put c.in-Some.ensures.steps.0 c.in_ok-shared.ensures.ok e.follows;
+      fine = c.in_ok-shared.ensures.fine ∙ c.loop-turn.invariant.fine;
     }
 
 pub returns-in_err-shared-clause-fails : goal.returns-in_err-shared-clause-fails

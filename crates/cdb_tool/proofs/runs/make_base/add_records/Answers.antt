@@ -14,6 +14,7 @@ loop-room-init g c =
       reads = reads_nothing {s = g.B.Store} _ _ (ap (λ r. r.store) e.reader);
       added = rw e.reader (added_none {s = g.S.Store} {l = g.L.Width} _ _ _ c.args.maker.now e.walks);
       follows = follows_same {s = g.S.Store} {l = g.L.Width} c.args.maker.now;
+      fine = refl;
     }
 
 pub loop-room-preserved : goal.loop-room-preserved
@@ -25,6 +26,7 @@ loop-room-preserved g c =
       reads = reads_more inv.reads step.reads;
       added = added_next {s = g.S.Store} {l = g.L.Width} _ _ _ _ (λ b. left_of g.L.Width.WORD b c.add_next.new.records) _ _ c.add_next.new.maker _ inv.added (λ b i. step.reads.images b i) c.in_ok-add_next.ensures.ok;
       follows = follows_then inv.follows step.follows;
+      fine = c.in_ok-add_next.ensures.fine ∙ inv.fine;
     }
 
 pub returns-in_err-add_next-clause-fails : goal.returns-in_err-add_next-clause-fails

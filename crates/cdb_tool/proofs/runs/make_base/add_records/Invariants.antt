@@ -13,6 +13,7 @@ invariant-loop-room g l =
       reads : OnlyReads g.B.Store l.fn.reader.store l.records.reader.now.store;
       added : AddedSoFar {s = g.S.Store} {l = g.L.Width} g.L.Width.WORD (g.B.Store.image l.records.reader.now.store) (λ b. left_of g.L.Width.WORD b l.records) l.fn.maker l.maker;
       follows : Follows {s = g.S.Store} {l = g.L.Width} l.fn.maker l.maker;
+      fine : g.S.Store.failures l.maker.store ≡ g.S.Store.failures l.fn.maker.store;
     }
 
 abbrev pub decreases-loop-room : goal.decreases-loop-room

@@ -24,6 +24,7 @@ loop-peeked-init g c = record {
   asks = omega (arith, c.requires.fresh.asks);
   course = λ t read start o n h. none_put {s = g.S.Store} {l = g.L.Width} t read start _ _ h;
   follows = follows_same {s = g.S.Store} {l = g.L.Width} c.args.maker.now.maker;
+  fine = refl;
 }
 
 pub returns-in-Err-clause-fails : goal.returns-in-Err-clause-fails
@@ -65,6 +66,7 @@ loop-peeked-preserved g c =
           (sym (came_more c.args.input (c.loop-peeked.number + 1) read inv.last item n (ap (λ (n : ℕ). n + 1) inv.number)))
           (c.in_ok-do_item.ensures.ok t _ start o (inv.course t read start o n h));
       follows = follows_then inv.follows c.do_item.ensures.follows;
+      fine = c.in_ok-do_item.ensures.fine ∙ inv.fine;
     }
 
 pub loop-peeked-preserved-in-Continue-1 : goal.loop-peeked-preserved-in-Continue-1
@@ -87,6 +89,7 @@ loop-peeked-preserved-in-Continue-1 g c =
           (sym (came_more c.args.input (c.loop-peeked.number + 1) read inv.last item n (ap (λ (n : ℕ). n + 1) inv.number)))
           (c.in_ok-put.ensures.ok t _ start o (inv.course t read start o n h));
       follows = follows_then inv.follows c.put_record-put.ensures.follows;
+      fine = c.in_ok-put.ensures.fine ∙ inv.fine;
     }
 
 pub returns-in_err-do_item-clause-fails : goal.returns-in_err-do_item-clause-fails

@@ -20,6 +20,7 @@ invariant-loop-peeked g l =
           → InCourse {s = g.S.Store} {l = g.L.Width} t (from_inputs 1 read) start (g.E.Write.contents l.fn.errors) l.fn.maker
           → InCourse {s = g.S.Store} {l = g.L.Width} t (came read last) start (g.E.Write.contents l.errors) l.maker;
       follows : Follows {s = g.S.Store} {l = g.L.Width} l.fn.maker l.maker;
+      fine : g.S.Store.failures l.maker.maker.store ≡ g.S.Store.failures l.fn.maker.maker.store;
     }
 
 abbrev pub decreases-loop-peeked : goal.decreases-loop-peeked

@@ -34,7 +34,7 @@ returns-clause-fails g c = λ t cs start same h.
     c.tell_put.ensures.fails
 
 pub returns-clause-failed : goal.returns-clause-failed
-returns-clause-failed g c = err_each c.tell_put.result (λ f told is. absurd (told_store c.args.options.now c.args.input c.args.number c.in_ok-put.put _ _ f told is)) c.tell_put.ensures.fails
+returns-clause-failed g c = err_each c.tell_put.result (λ f told is. absurd (told_store c.args.options.now c.args.input c.args.number c.args.key.now c.in_ok-put.put _ _ f told is)) c.tell_put.ensures.fails
 
 pub returns-in_err-put-clause-own : goal.returns-in_err-put-clause-own
 returns-in_err-put-clause-own g c =
@@ -42,7 +42,7 @@ returns-in_err-put-clause-own g c =
     rw (p.1, p.2) (make_no_base c.in_err-put.field-0.0)
 
 pub returns-clause-own : goal.returns-clause-own
-returns-clause-own g c = err_each c.tell_put.result (λ f told is. absurd (told_no_base c.args.options.now c.args.input c.args.number c.in_ok-put.put _ _ f told is)) c.tell_put.ensures.fails
+returns-clause-own g c = err_each c.tell_put.result (λ f told is. absurd (told_no_base c.args.options.now c.args.input c.args.number c.args.key.now c.in_ok-put.put _ _ f told is)) c.tell_put.ensures.fails
 
 pub returns-in_err-put-clause-stands : goal.returns-in_err-put-clause-stands
 returns-in_err-put-clause-stands g c =
@@ -60,8 +60,8 @@ returns-in_err-put-clause-takes g c =
 
 pub returns-clause-stands : goal.returns-clause-stands
 returns-clause-stands g c = λ t cs start same h.
-    err_each c.tell_put.result (λ f told is. absurd (told_halts c.args.options.now c.args.input c.args.number c.in_ok-put.put _ _ f told is)) c.tell_put.ensures.fails
+    err_each c.tell_put.result (λ f told is. absurd (told_halts c.args.options.now c.args.input c.args.number c.args.key.now c.in_ok-put.put _ _ f told is)) c.tell_put.ensures.fails
 
 pub returns-clause-takes : goal.returns-clause-takes
 returns-clause-takes g c = λ t cs start same h.
-    err_each c.tell_put.result (λ f told is. absurd (told_memory c.args.options.now c.args.input c.args.number c.in_ok-put.put _ _ f told is)) c.tell_put.ensures.fails
+    err_each c.tell_put.result (λ f told is. absurd (told_memory c.args.options.now c.args.input c.args.number c.args.key.now c.in_ok-put.put _ _ f told is)) c.tell_put.ensures.fails

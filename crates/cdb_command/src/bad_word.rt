@@ -1,0 +1,155 @@
+// The first letter or word that is no part of a command line.
+ghost use Rattle.std.specs.Prelude.{◌≡◌, drop, map, string_bytes};
+ghost use Rattle.std.specs.Str.{chars};
+ghost use Rattle.cdb_command.specs.Refused.{refused_in, told};
+ghost use Rattle.cdb_command.specs.BadWord.{bad_word, end_met, hyphen_met, is_long, is_plain};
+ghost use Rattle.cdb_command.specs.BadWord.{letter_met, letters_met, no_values, none_waits, word_met};
+
+use crate::word_fault::WordFault;
+
+/// The letters with a value that were met.
+#[derive(Clone, Copy)]
+struct Values {
+    number: bool,
+    temporary: bool,
+    base: bool,
+    /// The last of them, if its value did not come yet.
+    waiting: Option<char>,
+}
+
+/// None was met.
+fn no_values() -> Values
+    ensures { result ≡ no_values }
+{
+    Values {
+        number: false,
+        temporary: false,
+        base: false,
+        waiting: None,
+    }
+}
+
+/// The value of the last letter came.
+fn none_waits(values: Values) -> Values
+    ensures { result ≡ none_waits values }
+{
+    Values {
+        waiting: None,
+        ..values
+    }
+}
+
+/// A letter is met.
+fn letter_met<'a>(values: Values, letter: char) -> Result<Values, WordFault<'a>>
+    ensures { told result ≡ letter_met values letter }
+{
+    let waiting = Some(letter);
+    match letter {
+        'n' if !values.number => Ok(Values {
+            number: true,
+            waiting,
+            ..values
+        }),
+        't' if !values.temporary => Ok(Values {
+            temporary: true,
+            waiting,
+            ..values
+        }),
+        'b' if !values.base => Ok(Values {
+            base: true,
+            waiting,
+            ..values
+        }),
+        'n' | 't' | 'b' => Err(WordFault::Twice(letter)),
+        'q' | 'd' | 'l' | 's' | 'c' | 'k' | 'D' | 'h' | 'V' => Ok(values),
+        'm' | 'W' | 'w' | 'e' | 'r' | 'u' | 'i' | 'v' => Ok(values),
+        _ => Err(WordFault::Unknown(letter)),
+    }
+}
+
+/// The letters of a word are met, which come after its hyphen.
+fn letters_met<'a>(mut values: Values, word: &str) -> Result<Values, WordFault<'a>>
+    ensures { told result ≡ letters_met values (drop 1 (chars word.now)) }
+{
+    let mut letters = word.chars();
+    let _ = letters.next();
+    for letter in letters {
+        if values.waiting.is_some() {
+            return Ok(none_waits(values));
+        }
+        values = letter_met(values, letter)?;
+    }
+    Ok(values)
+}
+
+/// Whether a word has no letters: a name, or the value of the letter before it.
+fn is_plain(word: &str) -> bool
+    ensures { result ≡ is_plain word.now }
+{
+    match word.as_bytes() {
+        [first, _, ..] => *first != b'-',
+        _ => true,
+    }
+}
+
+/// Whether the second letter of a word is a hyphen.
+fn is_long(word: &str) -> bool
+    ensures { result ≡ is_long word.now }
+{
+    match word.as_bytes() {
+        [_, second, ..] => *second == b'-',
+        _ => false,
+    }
+}
+
+/// A word with a hyphen is met.
+fn hyphen_met(values: Values, word: &str) -> Result<Values, WordFault<'_>>
+    ensures { told result ≡ hyphen_met values.waiting values word.entry.now }
+{
+    match values.waiting {
+        Some(letter) => Err(WordFault::NoValue(letter)),
+        None if is_long(word) => Err(WordFault::Long(word)),
+        None => letters_met(values, word),
+    }
+}
+
+/// A word is met.
+fn word_met(values: Values, word: &str) -> Result<Values, WordFault<'_>>
+    ensures { told result ≡ word_met values word.entry.now }
+{
+    if is_plain(word) {
+        Ok(none_waits(values))
+    } else {
+        hyphen_met(values, word)
+    }
+}
+
+/// No word comes, or none but names.
+fn end_met<'a>(waiting: Option<char>) -> WordFault<'a>
+    ensures { refused_in result ≡ end_met waiting }
+{
+    match waiting {
+        Some(letter) => WordFault::NoValue(letter),
+        None => WordFault::Words,
+    }
+}
+
+/// The first letter or word that is no part of a command line, whose first word is the program's name.
+pub(crate) fn bad_word(words: &[String]) -> WordFault<'_>
+    ensures { refused_in result ≡ bad_word (map string_bytes words.entry.now) }
+{
+    let Some((_, words)) = words.split_first() else {
+        return WordFault::Words;
+    };
+    let mut values = no_values();
+    for word in words {
+        if word.as_str() == "--" {
+            break;
+        }
+        values = match word_met(values, word.as_str()) {
+            Ok(values) => values,
+            Err(fault) => return fault,
+        };
+    }
+    end_met(values.waiting)
+}

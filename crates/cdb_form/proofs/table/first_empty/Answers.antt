@@ -1,0 +1,22 @@
+use Rattle.std.proofs.Common.{arith, sym, ◌≡◌, ◌∙◌, drop, List}
+use Rattle.std.proofs.lemmas.List.Sums.{prefix_len-drop_no}
+use Rattle.std.specs.List.{prefix_len}
+use Rattle.cdb_form.specs.Format.Pair.{WordPair}
+use Rattle.cdb_form.specs.Format.Table.{is_used, empty_slot}
+use Rattle.cdb_form.specs.Views.SlotBytes.{slots_in}
+use Rattle.cdb_form.proofs.Slots.Filling.{first_behind_slots, first_before_slots}
+use Rattle.cdb_form.proofs.table.first_empty.Goals as goal
+
+pub returns-then-behind-runs-clause-first : goal.returns-then-behind-runs-clause-first
+returns-then-behind-runs-clause-first g c =
+    first_behind_slots (slots_in g.L.Width.WORD c.args.bytes.now) c.args.home c.next_empty-behind.result c.requires.home c.next_empty-behind.ensures.first (omega arith)
+
+pub returns-else-behind-runs-clause-first : goal.returns-else-behind-runs-clause-first
+returns-else-behind-runs-clause-first g c =
+    first_before_slots (slots_in g.L.Width.WORD c.args.bytes.now) c.args.home c.next_empty-behind.result c.next_empty.result c.min.result c.requires.home c.next_empty-behind.ensures.first (omega arith) c.next_empty.ensures.first c.min.ensures
+
+pub returns-then-not-is_used-clause-first : goal.returns-then-not-is_used-clause-first
+returns-then-not-is_used-clause-first g c =
+    let slots : List WordPair = slots_in g.L.Width.WORD c.args.bytes.now in
+    let none : prefix_len is_used (drop c.args.home slots) ≡ 0 = prefix_len-drop_no is_used slots c.args.home empty_slot c.requires.home (sym c.is_used.ensures ∙ c.if-not-is_used.true) in
+    first_behind_slots slots c.args.home c.args.home c.requires.home (omega (arith, none)) c.requires.home

@@ -1,0 +1,16 @@
+use Rattle.std.proofs.Common.{◌≡◌, ◌*◌, length, take}
+use Rattle.cdb_form.specs.Format.Pair.{pair_size}
+use Rattle.cdb_form.specs.Format.Table.{filled_slots}
+use Rattle.cdb_form.specs.Views.SlotBytes.{slots_in}
+use Rattle.cdb_form.specs.Views.UsedRuns.{AreRuns}
+use Rattle.cdb_read.specs.Views.TableRecords.{entry_pairs}
+use Rattle.cdb_read.proofs.checking.filled_table.put_all.Given as goal
+
+-- the slots that the entries so far fill
+abbrev pub invariant-loop-k : goal.invariant-loop-k
+invariant-loop-k g l = record {
+  long : length l.bytes ≡ pair_size g.L.Width.WORD * (2 * length l.entries.places.items);
+  filled : slots_in g.L.Width.WORD l.bytes ≡ filled_slots (2 * length (entry_pairs l.entries)) (take l.k (entry_pairs l.entries));
+  noted : length l.runs ≡ 2 * length l.entries.places.items;
+  runs : AreRuns l.runs (slots_in g.L.Width.WORD l.bytes);
+}

@@ -1,0 +1,13 @@
+pub mod Bytes
+pub mod Halves
+pub mod Spans
+pub mod Marking
+pub mod Picking
+pub mod Linking
+pub mod Looking
+pub mod Rolls
+pub mod Survive
+pub mod Removing
+pub mod Settling
+pub mod Meeting
+pub mod BegunHeads

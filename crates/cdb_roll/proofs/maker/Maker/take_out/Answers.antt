@@ -1,0 +1,53 @@
+use Rattle.std.proofs.Common.{◌≡◌, ℕ, Bool, List, length, map, ap, ◌∙◌, arith}
+use Rattle.std.specs.Prelude.{sum}
+use Rattle.std.proofs.lemmas.List.{length-map}
+use Rattle.cdb_form.specs.Format.Pair.{head_size}
+use Rattle.cdb_form.specs.Format.Record.{record_size}
+use Rattle.cdb_roll.specs.Marks.{is_gone, gone_of}
+use Rattle.cdb_roll.specs.Spans.{left, behind, or_each}
+use Rattle.cdb_roll.specs.Views.Maker.{gone_in, found_in}
+use Rattle.cdb_roll.proofs.Looking.{sees_same, sees_long}
+use Rattle.cdb_roll.proofs.Picking.{left_all_stay, left_sum, end_sum}
+use Rattle.cdb_roll.proofs.Spans.{long_as}
+use Rattle.cdb_roll.proofs.Removing.{behind_most}
+use Rattle.cdb_roll.proofs.maker.Maker.take_out.Goals as goal
+
+pub returns-clause-follows : goal.returns-clause-follows
+returns-clause-follows g c = (let f = c.pass.ensures.follows in record { comes = f.comes; head = f.head; limit = f.limit; lazy = f.lazy; room = f.room; failures = f.failures; unwritten = f.unwritten })
+
+pub returns-clause-takes : goal.returns-clause-takes
+returns-clause-takes g c =
+    let old = c.args.self.now in
+    let w : ℕ = g.L.Width.WORD in
+    let t = c.take-2.ensures in
+    let ms : List Bool = or_each (gone_in old) (found_in old) in
+    let p = c.pass.ensures in
+    Rattle.cdb_roll.proofs.Rolls.on_ok_both c.pass.result
+    (λ closes last. record {
+      whole = closes.whole;
+      goes = record {
+        each = λ b is.
+            let q = closes.goes.each b is in (
+              q.0,
+              q.1,
+              λ all sees.
+                  let ns : List ℕ = map (record_size w) all in
+                  let now = sees_same old.roll c.take-2.new.self all q.0 t.same sees in
+                  let mid = q.2 all now in
+                  let m = c.pass.new.self.roll in
+                  let many : length (gone_in c.pass.new.self) ≡ length mid.0 = omega (arith, length-map m.marks.items is_gone, m.marked, sees_long m mid.0 b mid.1) in
+                  let tm = c.take-2.new.self in
+                  let moved : sum (behind (gone_of tm.marks.items) ns) ≡ sum (behind ms ns) = ap (λ (v : List Bool). sum (behind v ns)) t.gone in
+                  let sums = left_sum (gone_of tm.marks.items) ns (omega (arith, length-map tm.marks.items is_gone, tm.marked, tm.paired, long_as now.of)) in (
+                    mid.0,
+                    mid.1,
+                    (
+                      left_all_stay (gone_in c.pass.new.self) mid.0 many closes.none ∙ mid.2.0 ∙ ap (λ (v : List Bool). left v all) t.gone,
+                      λ eager. omega (arith, mid.2.1, moved),
+                      λ lazy. omega (arith, mid.2.1, last, t.size, t.same.end, c.waits.ensures.due c.if-waits.false lazy, behind_most (gone_of tm.marks.items) ns, sums, tm.picked.size ns now.of, now.of.ends, end_sum (head_size w) ns),
+                    ),
+                  ),
+            );
+      };
+    })
+    p.closes p.end

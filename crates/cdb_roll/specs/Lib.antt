@@ -1,0 +1,9 @@
+-- What making a database is to do.
+pub mod Views
+pub mod Survivors
+pub mod Looks
+pub mod Unfinished
+pub mod Marks
+pub mod Spans
+pub mod Chains
+pub mod Rolls

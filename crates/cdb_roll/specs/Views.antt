@@ -1,0 +1,7 @@
+-- What clauses read of the types of this crate.
+pub mod MakeFault
+pub mod Maker
+pub mod Making
+pub mod Places
+pub mod Roll
+pub mod Writing

@@ -1,0 +1,428 @@
+-- What a maker holds, and what its calls leave.
+use Rattle.std.specs.Prelude.{ℕ, ◌≡◌, ◌+◌, ◌-◌, ◌*◌, ◌<◌, ◌≤◌, ◌⊎◌, Bool, true, false, cond, List, [], ◌∷◌, ◌++◌, length, map, sum, sum_by}
+use Rattle.cdb_store.specs.declared.store.Store.{Ghosts}
+use Rattle.cdb_store.specs.Images.{KeepsPart}
+use Rattle.cdb_store.specs.Laws.{HasNoImage}
+use Rattle.cdb_store.specs.Reads.{OnlyReads}
+use Rattle.cdb_form.specs.declared.width.Width.{Ghosts as Widths}
+use Rattle.cdb_form.specs.Format.File.{file_size, whole_size}
+use Rattle.cdb_form.specs.Format.Pair.{head_size}
+use Rattle.cdb_form.specs.Format.Record.{KeyValue, record_size}
+use Rattle.cdb_roll.specs.declared.fault.MakeFault.{MakeFault}
+use Rattle.cdb_roll.specs.declared.fault.MakeFault.TheVariants.{Broken, Lookup, TooBig, NoMemory, Writing}
+use Rattle.cdb_roll.specs.declared.key_at.LookFault.{LookFault}
+use Rattle.cdb_roll.specs.declared.key_at.LookFault.TheVariants.{Failed, Foreign}
+use Rattle.cdb_roll.specs.declared.maker.Maker.{Maker}
+use Rattle.cdb_roll.specs.Marks.{gone_of, found_of, AreNone, HaveHash}
+use Rattle.cdb_roll.specs.Rolls.{Sees, LooksAll}
+use Rattle.cdb_roll.specs.Spans.{left, behind, or_each}
+use Rattle.cdb_roll.specs.Survivors.{has_key, is_there, count_of, without, behind_first, put_list, put_answer}
+use Rattle.cdb_form.specs.declared.mode.Mode.{Mode}
+use Rattle.cdb_form.specs.declared.mode.Mode.TheVariants.{Add, Warn, Insert, Replace}
+use Rattle.cdb_roll.specs.declared.answer.Put.{Put}
+use Rattle.cdb_roll.specs.declared.answer.Put.TheVariants.{Added, AddedAgain, Present, Replaced}
+use Rattle.cdb_roll.specs.Views.Roll.{HasRoom, SameRecords}
+
+-- which of its records go, and which a look has found
+abbrev pub gone_in : {S L : Type 0} {s : Ghosts S} {l : Widths L} → Maker S L s l → List Bool
+gone_in m = gone_of m.roll.marks.items
+
+abbrev pub found_in : {S L : Type 0} {s : Ghosts S} {l : Widths L} → Maker S L s l → List Bool
+found_in m = found_of m.roll.marks.items
+
+-- its store failed; and so that a write failed; and no failure of it was counted
+abbrev pub HasStoreFailed : {S L : Type 0} {s : Ghosts S} {l : Widths L} → Maker S L s l
+    → Maker S L s l → Type 0
+HasStoreFailed {s = s} old new = s.failures old.store < s.failures new.store
+
+pub record HasFailedToWrite {S L : Type 0} {s : Ghosts S} {l : Widths L} (old new : Maker S L s l)
+    : Type 0 where
+  pub failed : HasStoreFailed old new
+  pub unwritten : s.unwritten old.store < s.unwritten new.store
+
+abbrev pub HasNotFailed : {S L : Type 0} {s : Ghosts S} {l : Widths L} → Maker S L s l
+    → Maker S L s l → Type 0
+HasNotFailed {s = s} old new = s.failures new.store ≡ s.failures old.store
+
+-- every image of a store was one before, or is made of one
+pub record ComesFrom (old new : List ℕ → Type 0) : Type 0 where
+  pub each : (b : List ℕ) → new b → (a : List ℕ) × old a
+
+-- it came of the other, whatever the call answered: each image of its store comes of an old one and
+-- has the head of one, its limit is the same, and room and failures of its store are no less
+pub record Follows {S L : Type 0} {s : Ghosts S} {l : Widths L} (old new : Maker S L s l)
+    : Type 0 where
+  pub comes : ComesFrom (s.image old.store) (s.image new.store)
+  pub head : KeepsPart 0 (head_size l.WORD) (s.image old.store) (s.image new.store)
+  pub limit : new.limit ≡ old.limit
+  pub lazy : new.lazy ≡ old.lazy
+  pub room : s.room old.store ≤ s.room new.store
+  pub failures : s.failures old.store ≤ s.failures new.store
+  pub unwritten : s.unwritten old.store ≤ s.unwritten new.store
+
+-- each image of a store comes of an old one, and of the records that stood there these stand now
+pub record Goes {S L : Type 0} {s : Ghosts S} {l : Widths L} (old new : Maker S L s l)
+    (P : List KeyValue → List KeyValue → Type 0) : Type 0 where
+  pub each : (b : List ℕ) → s.image new.store b → (a : List ℕ) × s.image old.store a
+      × ((all : List KeyValue) → Sees old.roll all a
+      → (rest : List KeyValue) × Sees new.roll rest b × P all rest)
+
+-- the same records stand, with the same marks
+pub record Stays {S L : Type 0} {s : Ghosts S} {l : Widths L} (old new : Maker S L s l)
+    : Type 0 where
+  pub same : SameRecords old.roll new.roll
+  pub marks : new.roll.marks.items ≡ old.roll.marks.items
+  pub gone : new.roll.gone ≡ old.roll.gone
+  pub found : new.roll.found ≡ old.roll.found
+  pub broken : new.broken ≡ old.broken
+  pub goes : Goes old new (λ all rest. rest ≡ all)
+
+-- one record more, behind the others
+pub record Adds {S L : Type 0} {s : Ghosts S} {l : Widths L} (old new : Maker S L s l)
+    (hash : ℕ) (r : KeyValue) : Type 0 where
+  pub goes : Goes old new (λ all rest. rest ≡ all ++ r ∷ [])
+  pub gone : gone_in new ≡ gone_in old ++ false ∷ []
+  pub found : found_in new ≡ found_in old ++ false ∷ []
+  pub hashes : new.roll.hashes.items ≡ old.roll.hashes.items ++ hash ∷ []
+  pub broken : new.broken ≡ old.broken
+  pub written : s.written new.store ≡ s.written old.store + record_size l.WORD r
+
+-- why no record was added: memory is wanted and nothing was written, or the store failed
+abbrev pub AddFails : (written written₁ failures failures₁ unwritten unwritten₁ : ℕ) → Type 0
+    → MakeFault → Type 0
+AddFails written written₁ failures failures₁ unwritten unwritten₁ wants NoMemory =
+    (written₁ ≡ written) × (failures₁ ≡ failures) × wants
+AddFails written written₁ failures failures₁ unwritten unwritten₁ wants Writing =
+    (failures < failures₁) × (unwritten < unwritten₁)
+AddFails written written₁ failures failures₁ unwritten unwritten₁ wants fault = ⊥
+
+-- a pass over the records with these marks: it moves those behind the first that stay
+abbrev pub Passes : {S L : Type 0} {s : Ghosts S} {l : Widths L} → Maker S L s l → Maker S L s l
+    → List Bool → ℕ → List KeyValue → Type 0
+Passes {s = s} {l = l} old new marks more all = s.written new.store
+    ≡ s.written old.store + (sum (behind marks (map (record_size l.WORD) all)) + more)
+
+-- those that go were taken out
+pub record Closes {S L : Type 0} {s : Ghosts S} {l : Widths L} (old new : Maker S L s l)
+    : Type 0 where
+  pub whole : new.broken ≡ false
+  pub none : AreNone (gone_in new)
+  pub goes : Goes old new (λ all rest. (rest ≡ left (gone_in old) all) × Passes old new (gone_in old) 0 all)
+  pub fine : HasNotFailed old new
+
+-- those that go, and those that were found, were taken out, and one was added
+pub record Exchanges {S L : Type 0} {s : Ghosts S} {l : Widths L} (old new : Maker S L s l)
+    (r : KeyValue) : Type 0 where
+  pub whole : new.broken ≡ false
+  pub none : AreNone (gone_in new)
+  pub goes : Goes old new (λ all rest.
+      (rest ≡ left (or_each (gone_in old) (found_in old)) all ++ r ∷ [])
+      × Passes old new (or_each (gone_in old) (found_in old)) (record_size l.WORD r) all)
+
+-- it is broken, or those that go and those that were found were taken out
+abbrev pub FailsExchanging : {S L : Type 0} {s : Ghosts S} {l : Widths L} → Maker S L s l
+    → Maker S L s l → MakeFault → Type 0
+FailsExchanging old new Writing =
+    ((new.broken ≡ true) × HasStoreFailed old new)
+    ⊎ ((new.broken ≡ false) × AreNone (gone_in new) × HasFailedToWrite old new
+    × Goes old new (λ all rest. rest ≡ left (or_each (gone_in old) (found_in old)) all))
+FailsExchanging old new fault = ⊥
+
+-- this holds where some byte list is an image
+pub record WhereHonest (images : List ℕ → Type 0) (P : Type 0) : Type 0 where
+  pub each : (b : List ℕ) → images b → P
+
+-- in an image it holds these records: those of its store that do not go
+pub record HoldsIn {S L : Type 0} {s : Ghosts S} {l : Widths L} (m : Maker S L s l)
+    (rs : List KeyValue) (b : List ℕ) : Type 0 where
+  pub all : List KeyValue
+  pub sees : Sees m.roll all b
+  pub left : rs ≡ left (gone_in m) all
+
+-- it is whole, and holds these records in each image
+pub record Holds {S L : Type 0} {s : Ghosts S} {l : Widths L} (m : Maker S L s l)
+    (rs : List KeyValue) : Type 0 where
+  pub whole : m.broken ≡ false
+  pub each : (b : List ℕ) → s.image m.store b → HoldsIn m rs b
+
+-- its store was read and no more: the same records stand, and the same ones go
+pub record Rests {S L : Type 0} {s : Ghosts S} {l : Widths L} (old new : Maker S L s l)
+    : Type 0 where
+  pub was : old.broken ≡ false
+  pub whole : new.broken ≡ false
+  pub same : SameRecords old.roll new.roll
+  pub gone : gone_in new ≡ gone_in old
+  pub picked : new.roll.gone ≡ old.roll.gone
+  pub limit : new.limit ≡ old.limit
+  pub lazy : new.lazy ≡ old.lazy
+  pub reads : OnlyReads s old.store new.store
+
+-- it is broken, since it was or since its store has given back other bytes than it was told to
+-- write
+pub record IsBroken {S L : Type 0} {s : Ghosts S} {l : Widths L} (old new : Maker S L s l)
+    : Type 0 where
+  pub broken : new.broken ≡ true
+  pub same : old.broken ≡ true → new ≡ old
+  pub cause : (rs : List KeyValue) → Holds old rs → HasNoImage (s.image new.store)
+
+-- what a fault of a look is to its caller, and whether it breaks the maker
+abbrev pub look_fault : LookFault → MakeFault
+look_fault Failed = Lookup
+look_fault Foreign = Broken
+
+abbrev pub is_foreign : LookFault → Bool
+is_foreign Failed = false
+is_foreign Foreign = true
+
+-- what a look that failed leaves
+abbrev pub FailsLooking : {S L : Type 0} {s : Ghosts S} {l : Widths L} → Maker S L s l
+    → Maker S L s l → MakeFault → Type 0
+FailsLooking old new Broken = IsBroken old new
+FailsLooking old new Lookup = Rests old new × HasStoreFailed old new
+FailsLooking old new fault = ⊥
+
+-- the records of a key that do not go were found, and are so many
+pub record Seeks {S L : Type 0} {s : Ghosts S} {l : Widths L} (old new : Maker S L s l)
+    (hash : ℕ) (key : List ℕ) (n : ℕ) : Type 0 where
+  pub rests : Rests old new
+  pub fine : HasNotFailed old new
+  pub have : HaveHash hash new.roll.hashes.items new.roll.marks.items
+  pub looks : LooksAll key new.roll (s.image new.store)
+  pub count : n ≡ new.roll.found.count
+
+-- where they stand, the answer is whether some have a key
+pub record IsThere (there : Bool) (k : List ℕ) (rs : List KeyValue) (images : List ℕ → Type 0)
+    : Type 0 where
+  pub each : (b : List ℕ) → images b → there ≡ is_there k rs
+
+-- how many records it counts, and the size that their file would have
+abbrev pub count_in : {S L : Type 0} {s : Ghosts S} {l : Widths L} → Maker S L s l → ℕ
+count_in m = length m.roll.hashes.items - m.roll.gone.count
+
+abbrev pub made_size : {S L : Type 0} {s : Ghosts S} {l : Widths L} → Maker S L s l → ℕ
+made_size {l = l} m = (m.roll.end - m.roll.gone.size) + 4 * l.WORD * count_in m
+
+-- those that go and those that were found go: now, or with a later pass if it is lazy. A pass that a
+-- lazy maker makes moves no more bytes than it frees
+pub record TakesOut {S L : Type 0} {s : Ghosts S} {l : Widths L} (old new : Maker S L s l)
+    : Type 0 where
+  pub whole : new.broken ≡ false
+  pub goes : Goes old new (λ all rest.
+      (left (gone_in new) rest ≡ left (or_each (gone_in old) (found_in old)) all)
+      × (old.lazy ≡ false → Passes old new (or_each (gone_in old) (found_in old)) 0 all)
+      × (old.lazy ≡ true → s.written new.store + new.roll.end ≤ s.written old.store + old.roll.end))
+
+-- it is broken, since its store failed amid a pass
+pub record Tears {S L : Type 0} {s : Ghosts S} {l : Widths L} (old new : Maker S L s l)
+    (fault : MakeFault) : Type 0 where
+  pub is : fault ≡ Writing
+  pub broken : new.broken ≡ true
+  pub failed : HasStoreFailed old new
+
+-- it is broken, since its store failed amid a move that takes out the records of a key
+pub record IsTorn {S L : Type 0} {s : Ghosts S} {l : Widths L} (old new : Maker S L s l)
+    (key : List ℕ) : Type 0 where
+  pub was : old.broken ≡ false
+  pub broken : new.broken ≡ true
+  pub failed : HasStoreFailed old new
+  pub found : (rs : List KeyValue) → Holds old rs
+      → WhereHonest (s.image new.store) (is_there key rs ≡ true)
+
+-- a removal of the records of a key that answered so many. An eager maker moves each byte behind the
+-- first of them once. With what a lazy one writes, its records end no later than before: so all its
+-- removals together move no more bytes than were put
+pub record Removes {S L : Type 0} {s : Ghosts S} {l : Widths L} (old new : Maker S L s l)
+    (key : List ℕ) (count : ℕ) : Type 0 where
+  pub was : old.broken ≡ false
+  pub whole : new.broken ≡ false
+  pub holds : (rs : List KeyValue) → Holds old rs → Holds new (without key rs)
+  pub answer : (rs : List KeyValue) → Holds old rs
+      → WhereHonest (s.image new.store) (count ≡ count_of key rs)
+  pub written : old.lazy ≡ false → (rs : List KeyValue) → Holds old rs
+      → WhereHonest (s.image new.store) (s.written new.store
+      ≡ s.written old.store + sum_by (record_size l.WORD) (behind_first (has_key key) rs))
+  pub pays : old.lazy ≡ true → (rs : List KeyValue) → Holds old rs
+      → WhereHonest (s.image new.store)
+      (s.written new.store + new.roll.end ≤ s.written old.store + old.roll.end)
+
+-- what one that failed leaves
+abbrev pub FailsRemoving : {S L : Type 0} {s : Ghosts S} {l : Widths L} → Maker S L s l
+    → Maker S L s l → List ℕ → MakeFault → Type 0
+FailsRemoving old new key Broken = IsBroken old new
+FailsRemoving old new key Lookup = Rests old new × HasStoreFailed old new
+FailsRemoving old new key Writing = IsTorn old new key
+FailsRemoving old new key fault = ⊥
+
+-- one record more is noted behind the others, or none, since memory is wanted or the file with those
+-- that go has no room for it
+pub record Waits {S L : Type 0} {s : Ghosts S} {l : Widths L} (old new : Maker S L s l)
+    (r : KeyValue) : Type 0 where
+  pub stays : Stays old new
+  pub written : s.written new.store ≡ s.written old.store
+  pub fine : HasNotFailed old new
+  pub short : (old.limit < old.roll.end + whole_size l.WORD r
+      + 4 * l.WORD * length old.roll.hashes.items)
+      ⊎ ((HasRoom old.roll → ⊥) ⊎ (s.room old.store < old.roll.end + record_size l.WORD r))
+
+-- a write failed, and the same records stand
+pub record FailsToWrite {S L : Type 0} {s : Ghosts S} {l : Widths L} (old new : Maker S L s l)
+    (fault : MakeFault) : Type 0 where
+  pub is : fault ≡ Writing
+  pub stays : Stays old new
+  pub failed : HasFailedToWrite old new
+
+-- the records that go and those that were found are gone, now or with a later pass, and one was added
+pub record Settles {S L : Type 0} {s : Ghosts S} {l : Widths L} (old new : Maker S L s l)
+    (r : KeyValue) : Type 0 where
+  pub whole : new.broken ≡ false
+  pub goes : Goes old new (λ all rest.
+      (left (gone_in new) rest ≡ left (or_each (gone_in old) (found_in old)) all ++ r ∷ [])
+      × (old.lazy ≡ false
+      → Passes old new (or_each (gone_in old) (found_in old)) (record_size l.WORD r) all)
+      × ((s.written new.store ≡ s.written old.store + record_size l.WORD r)
+      ⊎ Passes old new (or_each (gone_in old) (found_in old)) (record_size l.WORD r) all))
+
+-- with the record, and without those that go and those that were found, the file passes the limit
+abbrev pub IsOver : {S L : Type 0} {s : Ghosts S} {l : Widths L} → Maker S L s l → KeyValue → Type 0
+IsOver {l = l} m r = m.limit + (m.roll.gone.size + m.roll.found.size)
+    + 4 * l.WORD * (m.roll.gone.count + m.roll.found.count)
+    < m.roll.end + whole_size l.WORD r + 4 * l.WORD * length m.roll.hashes.items
+
+abbrev pub IsWithin : {S L : Type 0} {s : Ghosts S} {l : Widths L} → Maker S L s l → KeyValue
+    → Type 0
+IsWithin {l = l} m r = m.roll.end + whole_size l.WORD r + 4 * l.WORD * length m.roll.hashes.items
+    ≤ m.limit + (m.roll.gone.size + m.roll.found.size)
+    + 4 * l.WORD * (m.roll.gone.count + m.roll.found.count)
+
+-- after a pass the record passes the room of the store
+abbrev pub PassesRoom : {S L : Type 0} {s : Ghosts S} {l : Widths L} → Maker S L s l → KeyValue
+    → Type 0
+PassesRoom {s = s} {l = l} m r = s.room m.store + (m.roll.gone.size + m.roll.found.size)
+    < m.roll.end + record_size l.WORD r
+
+-- nothing was done
+pub record DoesNothing {S L : Type 0} {s : Ghosts S} {l : Widths L} (old new : Maker S L s l)
+    : Type 0 where
+  pub stays : Stays old new
+  pub written : s.written new.store ≡ s.written old.store
+  pub fine : HasNotFailed old new
+
+-- what is left where records were to be taken out by a pass, and one was to be added
+abbrev pub FailsClosing : {S L : Type 0} {s : Ghosts S} {l : Widths L} → Maker S L s l
+    → Maker S L s l → KeyValue → MakeFault → Type 0
+FailsClosing old new r NoMemory = DoesNothing old new × PassesRoom old r
+FailsClosing old new r Writing =
+    ((new.broken ≡ true) × HasStoreFailed old new)
+    ⊎ ((new.broken ≡ false) × AreNone (gone_in new) × HasFailedToWrite old new
+    × (old.roll.found.count ≡ 0)
+    × Goes old new (λ all rest. rest ≡ left (or_each (gone_in old) (found_in old)) all))
+FailsClosing old new r fault = ⊥
+
+-- why no record was added, and what is left then: it would be too big, memory is wanted, or a write
+-- failed. Where no record was to be replaced, the same ones stand
+abbrev pub FailsSettling : {S L : Type 0} {s : Ghosts S} {l : Widths L} → Maker S L s l
+    → Maker S L s l → KeyValue → MakeFault → Type 0
+FailsSettling old new r TooBig = DoesNothing old new × IsOver old r
+FailsSettling old new r NoMemory =
+    DoesNothing old new × IsWithin old r × (0 < old.roll.found.count → PassesRoom old r)
+FailsSettling old new r Writing = IsWithin old r
+    × ((Stays old new × HasFailedToWrite old new)
+    ⊎ (((new.broken ≡ true) × HasStoreFailed old new)
+    ⊎ ((new.broken ≡ false) × AreNone (gone_in new) × HasFailedToWrite old new
+    × (old.roll.found.count ≡ 0)
+    × Goes old new (λ all rest. rest ≡ left (or_each (gone_in old) (found_in old)) all))))
+FailsSettling old new r fault = ⊥
+
+-- no record is found any more, and whether one has the key is known
+pub record Looks {S L : Type 0} {s : Ghosts S} {l : Widths L} (old new : Maker S L s l)
+    (key : List ℕ) (answer : Bool) : Type 0 where
+  pub rests : Rests old new
+  pub none : AreNone (found_in new)
+  pub is : (rs : List KeyValue) → Holds old rs → IsThere answer key rs (s.image new.store)
+
+-- how many bytes a put writes: the records that it moves, and its own
+abbrev pub put_bytes : ℕ → Mode → KeyValue → List KeyValue → ℕ
+put_bytes w Add r rs = record_size w r
+put_bytes w Warn r rs = record_size w r
+put_bytes w Insert r rs = cond (is_there r.key rs) 0 (record_size w r)
+put_bytes w Replace r rs =
+    sum_by (record_size w) (behind_first (has_key r.key) rs) + record_size w r
+
+-- its record was not added
+abbrev pub is_present : Put → Bool
+is_present Present = true
+is_present Added = false
+is_present AddedAgain = false
+is_present (Replaced n) = false
+
+-- in an image: what a put answers and leaves of these records
+pub record MeetsIn {S L : Type 0} {s : Ghosts S} {l : Widths L} (m : Maker S L s l) (mode : Mode)
+    (r : KeyValue) (put : Put) (rs : List KeyValue) (b : List ℕ) : Type 0 where
+  pub all : List KeyValue
+  pub sees : Sees m.roll all b
+  pub answers : put ≡ put_answer mode r rs
+  pub held : rs ≡ left (gone_in m) all
+  pub adds : is_present put ≡ false
+      → put_list mode r rs ≡ left (or_each (gone_in m) (found_in m)) all ++ r ∷ []
+  pub none : is_present put ≡ true → (put_list mode r rs ≡ rs) × (put_bytes l.WORD mode r rs ≡ 0)
+  pub bytes : is_present put ≡ false → AreNone (gone_in m) → put_bytes l.WORD mode r rs
+      ≡ sum (behind (or_each (gone_in m) (found_in m)) (map (record_size l.WORD) all))
+      + record_size l.WORD r
+
+-- a put of this record will answer so, unless it fails: those that were found are to go
+pub record Meets {S L : Type 0} {s : Ghosts S} {l : Widths L} (old new : Maker S L s l)
+    (hash : ℕ) (mode : Mode) (r : KeyValue) (put : Put) : Type 0 where
+  pub rests : Rests old new
+  pub have : HaveHash hash new.roll.hashes.items new.roll.marks.items
+  pub each : (rs : List KeyValue) → Holds old rs → (b : List ℕ) → s.image new.store b
+      → MeetsIn new mode r put rs b
+
+-- a put of a record that answered so
+pub record Puts {S L : Type 0} {s : Ghosts S} {l : Widths L} (old new : Maker S L s l)
+    (mode : Mode) (r : KeyValue) (answer : Put) : Type 0 where
+  pub was : old.broken ≡ false
+  pub whole : new.broken ≡ false
+  pub holds : (rs : List KeyValue) → Holds old rs → Holds new (put_list mode r rs)
+  pub answers : (rs : List KeyValue) → Holds old rs
+      → WhereHonest (s.image new.store) (answer ≡ put_answer mode r rs)
+  pub written : old.lazy ≡ false → (rs : List KeyValue) → Holds old rs
+      → WhereHonest (s.image new.store)
+      (s.written new.store ≡ s.written old.store + put_bytes l.WORD mode r rs)
+
+-- it stays whole and holds what it held, and nothing was written
+pub record WritesNothing {S L : Type 0} {s : Ghosts S} {l : Widths L} (old new : Maker S L s l)
+    : Type 0 where
+  pub was : old.broken ≡ false
+  pub whole : new.broken ≡ false
+  pub holds : (rs : List KeyValue) → Holds old rs → Holds new rs
+  pub written : s.written new.store ≡ s.written old.store
+
+-- the file with the record would pass the limit
+abbrev pub IsTooBig : {S L : Type 0} {s : Ghosts S} {l : Widths L} → Maker S L s l → Maker S L s l
+    → Mode → KeyValue → Type 0
+IsTooBig {s = s} {l = l} old new mode r = (rs : List KeyValue) → Holds old rs
+    → WhereHonest (s.image new.store) (old.limit < file_size l.WORD (put_list mode r rs))
+
+-- the file with it would keep the limit
+abbrev pub WouldFit : {S L : Type 0} {s : Ghosts S} {l : Widths L} → Maker S L s l → Maker S L s l
+    → Mode → KeyValue → Type 0
+WouldFit {s = s} {l = l} old new mode r = (rs : List KeyValue) → Holds old rs
+    → WhereHonest (s.image new.store) (file_size l.WORD (put_list mode r rs) ≤ old.limit)
+
+-- what a put that failed leaves
+abbrev pub FailsPutting : {S L : Type 0} {s : Ghosts S} {l : Widths L} → Maker S L s l
+    → Maker S L s l → Mode → KeyValue → MakeFault → Type 0
+FailsPutting old new mode r Broken = IsBroken old new
+FailsPutting old new mode r Lookup = Rests old new × HasStoreFailed old new
+FailsPutting old new mode r TooBig = WritesNothing old new × IsTooBig old new mode r
+FailsPutting old new mode r NoMemory = WritesNothing old new × WouldFit old new mode r
+FailsPutting old new mode r Writing = HasStoreFailed old new × WouldFit old new mode r
+    × ((new.broken ≡ true)
+    ⊎ ((new.broken ≡ false) × ((rs : List KeyValue) → Holds old rs → Holds new rs)))
+
+-- why no pass was made to its end
+abbrev pub FailsClosingAll : {S L : Type 0} {s : Ghosts S} {l : Widths L} → Maker S L s l
+    → Maker S L s l → MakeFault → Type 0
+FailsClosingAll old new Broken = (old.broken ≡ true) × (new ≡ old)
+FailsClosingAll old new Writing = (old.broken ≡ false) × (new.broken ≡ true) × HasStoreFailed old new
+FailsClosingAll old new fault = ⊥

@@ -1,0 +1,111 @@
+// A maker is made, and gives its store back.
+ghost use Rattle.std.specs.Prelude.{◌≡◌, ℕ, ◌+◌, ◌≤◌, ◌<◌, false, [], List, IfOk, IfErr, OnOk};
+ghost use Rattle.cdb_form.specs.Format.Pair.{head_size};
+ghost use Rattle.cdb_roll.specs.Unfinished.{IsUnfinished};
+ghost use Rattle.cdb_roll.specs.Views.Making.{MakingFault};
+
+use crate::fault::MakeFault;
+use crate::maker::Maker;
+use crate::roll::Roll;
+use cdb_form::{GREATEST_HEAD, Width, head_size};
+use cdb_store::Store;
+use std::alloc::Global;
+
+/// A store in which no maker was made, and why.
+#[derive(Drop)]
+pub struct Refused<S> {
+    /// The store, whatever it holds now.
+    pub store: S,
+    /// `NoMemory` or `Writing`.
+    pub fault: MakeFault,
+}
+
+impl<S: Drop> From<Refused<S>> for MakeFault {
+    ghost from_gives = { λ r f. f ≡ r.fault };
+
+    /// Lets the store go.
+    fn from(refused: Refused<S>) -> MakeFault {
+        refused.fault
+    }
+}
+
+/// Leaves a head of all ones in a store and nothing else, and hands it on. All memory is taken first.
+///
+/// So no byte of a record stands on what holds the bytes before the head does.
+fn emptied<S: Store, L: Width>(store: &mut S) -> Result<(), MakeFault>
+    ensures head { OnOk result (IsUnfinished L.WORD (S.image store.new)) }
+    ensures settled { OnOk result (S.settled store.new) }
+    ensures size { OnOk result (S.size store.new ≡ head_size L.WORD) }
+    ensures written { OnOk result (S.written store.new ≡ S.written store.old + head_size L.WORD) }
+    ensures room { S.room store.old ≤ S.room store.new }
+    ensures failures { S.failures store.old ≤ S.failures store.new }
+    ensures fails { IfErr result
+        (MakingFault S.image S.size S.written S.failures store.old store.new) }
+{
+    let head = [0xff; GREATEST_HEAD];
+    let len = head_size::<L>();
+    store.reserve(len as u64)?;
+    store.cut(0)?;
+    store.write_at(0, &head[..len])?;
+    store.flush()?;
+    Ok(())
+}
+
+impl<S: Store, L: Width> Maker<S, L> {
+    ghost use Rattle.cdb_roll.specs.Views.Maker.{Holds};
+
+    /// A maker of a file of at most `limit` bytes in a store, which is emptied. A lazy one takes
+    /// records out later, many by one pass.
+    ///
+    /// Until the finish the head is one of all ones, whose tables lie outside of any file: so what
+    /// a maker leaves that does not finish is damaged. The store is flushed after this head, so no byte
+    /// of a record is on the disk before it.
+    ///
+    /// The store is handed back if that failed: with `NoMemory` as it was, and with `Writing`
+    /// it failed, and may hold anything.
+    pub fn new(alloc: Global, store: S, limit: u64, lazy: bool) -> Result<Maker<S, L>, Refused<S>>
+        requires head { head_size L.WORD ≤ limit }
+        requires words { limit ≤ L.GREATEST }
+        ensures holds { IfOk result (λ m. Holds m []) }
+        ensures limit { IfOk result (λ m. m.limit ≡ limit) }
+        ensures lazy { IfOk result (λ m. m.lazy ≡ lazy) }
+        ensures head { IfOk result (λ m. IsUnfinished L.WORD (S.image m.store)) }
+        ensures settled { IfOk result (λ m. S.settled m.store) }
+        ensures size { IfOk result (λ m. S.size m.store ≡ head_size L.WORD) }
+        ensures written { IfOk result (λ m.
+            S.written m.store ≡ S.written store + head_size L.WORD) }
+        ensures room { IfOk result (λ m. S.room store ≤ S.room m.store) }
+        ensures failures { IfOk result (λ m. S.failures store ≤ S.failures m.store) }
+        ensures fails { IfErr result (λ r.
+            MakingFault S.image S.size S.written S.failures store r.store r.fault) }
+    {
+        let mut store = store;
+        match emptied::<S, L>(&mut store) {
+            Ok(()) => Ok(Maker {
+                alloc,
+                store,
+                roll: Roll::new(alloc),
+                limit,
+                lazy,
+                broken: false,
+            }),
+            Err(fault) => Err(Refused { store, fault }),
+        }
+    }
+
+    /// Its store, as it is.
+    pub fn into_store(self) -> S
+        ensures { result ≡ self.store }
+    {
+        let Maker {
+            alloc: _,
+            store,
+            roll,
+            limit: _,
+            lazy: _,
+            broken: _,
+        } = self;
+        drop(roll);
+        store
+    }
+}

@@ -1,0 +1,120 @@
+// A maker of a database: a store, and the roll of its records.
+ghost use Rattle.std.specs.Prelude.{◌≡◌, ℕ, ◌+◌, ◌*◌, ◌<◌, ◌≤◌, ◌⊎◌, true, false, length, OnOk, OnErr, IfOk, IfErr};
+ghost use Rattle.cdb_form.specs.Format.File.{whole_size};
+ghost use Rattle.cdb_form.specs.Format.Hash.{key_hash};
+ghost use Rattle.cdb_form.specs.Format.Record.{record_of, record_size};
+ghost use Rattle.cdb_roll.specs.Marks.{gone_of, found_of, AreNone, HaveHash};
+ghost use Rattle.cdb_roll.specs.Views.Roll.{HasRoom};
+ghost use Rattle.cdb_roll.specs.declared.fault.MakeFault.TheVariants.{Writing};
+
+use crate::close::close_bytes;
+use crate::fault::MakeFault;
+use crate::roll::Roll;
+use crate::write::append_record;
+use cdb_form::{Width, head_size, pair_size};
+use cdb_store::Store;
+use std::alloc::Global;
+
+/// Makes a database in a store: each record is written as it is put.
+///
+/// The store holds the records one after another, from the end of the head on. Of each the maker
+/// keeps the hash of its key, its place and its mark: 9 bytes, or 13 if words are wide.
+#[derive(Drop)]
+pub struct Maker<S: Store, L: Width> {
+    pub(crate) alloc: Global,
+    pub(crate) store: S,
+    pub(crate) roll: Roll<L>,
+    /// The greatest size that the file of all records may have, those that go too.
+    pub(crate) limit: u64,
+    /// Records that are taken out stay on the store until a pass is due.
+    pub(crate) lazy: bool,
+    /// A fault amid a move left the records torn, or the store gave back other bytes than were
+    /// written.
+    pub(crate) broken: bool,
+    ghost inside: { roll.end ≤ S.size store },
+    ghost within: { roll.end + 4 * L.WORD * length roll.hashes.items ≤ limit },
+    ghost limited: { limit ≤ L.GREATEST },
+    ghost eager: { lazy ≡ false → broken ≡ false → AreNone (gone_of roll.marks.items) },
+}
+
+impl<S: Store, L: Width> Maker<S, L> {
+    ghost use Rattle.cdb_roll.specs.Views.Maker.{Adds, AddFails, Stays, Closes, Exchanges, Follows};
+    ghost use Rattle.cdb_roll.specs.Views.Maker.{FailsExchanging, HasStoreFailed};
+
+    /// One more record, behind the others.
+    ///
+    /// `NoMemory`: nothing was written. `Writing`: the store failed. The records are what they were.
+    #[inline(always)]
+    pub(crate) fn add(&mut self, hash: u32, key: &[u8], value: &[u8]) -> Result<(), MakeFault>
+        requires hash { hash ≡ key_hash key.now }
+        requires fits { self.old.roll.end + whole_size L.WORD (record_of key.now value.now)
+            + 4 * L.WORD * length self.old.roll.hashes.items ≤ self.old.limit }
+        ensures adds { OnOk result (Adds self.old self.new hash (record_of key.now value.now)) }
+        ensures stays { OnErr result (Stays self.old self.new) }
+        ensures fails { IfErr result (AddFails
+            (S.written self.old.store) (S.written self.new.store)
+            (S.failures self.old.store) (S.failures self.new.store)
+            (S.unwritten self.old.store) (S.unwritten self.new.store)
+            ((HasRoom self.old.roll → ⊥) ⊎ (S.room self.old.store
+            < self.old.roll.end + record_size L.WORD (record_of key.now value.now)))) }
+        ensures follows { Follows self.old self.new }
+    {
+        self.roll.reserve()?;
+        append_record::<S, L>(&mut self.store, self.roll.end, key, value)?;
+        let size = pair_size::<L>() as u64 + key.len() as u64 + value.len() as u64;
+        self.roll.push(hash, size);
+        Ok(())
+    }
+
+    /// Takes the records that go out of the store and of the roll. It takes no memory.
+    ///
+    /// `Writing`: the store failed, and the maker is broken.
+    #[inline(never)]
+    pub(crate) fn pass(&mut self) -> Result<(), MakeFault>
+        ensures closes { OnOk result (Closes self.old self.new) }
+        ensures found { OnOk result (AreNone (found_of self.new.roll.marks.items)) }
+        ensures end { OnOk result
+            (self.new.roll.end + self.old.roll.gone.size ≡ self.old.roll.end) }
+        ensures count { OnOk result (length self.new.roll.hashes.items + self.old.roll.gone.count
+            ≡ length self.old.roll.hashes.items) }
+        ensures room { OnOk result (0 < self.old.roll.gone.count → HasRoom self.new.roll) }
+        ensures broken { OnErr result (self.new.broken ≡ true) }
+        ensures fails { IfErr result (λ f. f ≡ Writing) }
+        ensures cause { OnErr result (HasStoreFailed self.old self.new) }
+        ensures follows { Follows self.old self.new }
+    {
+        self.broken = true;
+        let (places, marks) = (&self.roll.places, &self.roll.marks);
+        let (start, first) = (head_size::<L>() as u64, self.roll.gone.first);
+        close_bytes(&mut self.store, start, places, marks, first, self.roll.end)?;
+        self.roll.close();
+        self.broken = false;
+        Ok(())
+    }
+
+    /// Takes out the records that go and those that a look for the hash has found, which are some,
+    /// and adds one behind the others. There is room for it.
+    ///
+    /// `Writing`: the store failed. Amid the pass that breaks the maker, else the records are gone.
+    #[inline(never)]
+    pub(crate) fn exchange(&mut self, hash: u32, key: &[u8], value: &[u8]) -> Result<(), MakeFault>
+        requires hash { hash ≡ key_hash key.now }
+        requires have { HaveHash hash self.old.roll.hashes.items self.old.roll.marks.items }
+        requires some { 0 < self.old.roll.gone.count + self.old.roll.found.count }
+        requires fits { self.old.roll.end + whole_size L.WORD (record_of key.now value.now)
+            + 4 * L.WORD * length self.old.roll.hashes.items
+            ≤ self.old.limit + (self.old.roll.gone.size + self.old.roll.found.size)
+            + 4 * L.WORD * (self.old.roll.gone.count + self.old.roll.found.count) }
+        requires room { self.old.roll.end + record_size L.WORD (record_of key.now value.now)
+            ≤ S.room self.old.store + (self.old.roll.gone.size + self.old.roll.found.size) }
+        ensures exchanges { OnOk result
+            (Exchanges self.old self.new (record_of key.now value.now)) }
+        ensures fails { IfErr result (FailsExchanging self.old self.new) }
+        ensures follows { Follows self.old self.new }
+    {
+        self.broken = true;
+        self.roll.take(hash);
+        self.pass()?;
+        self.add(hash, key, value)
+    }
+}

@@ -1,0 +1,154 @@
+// The lines of a duplicate.
+ghost use Rattle.std.specs.Prelude.{◌≡◌, ◌++◌, [], ◌∷◌, codes, flat_map, map, string_bytes, take};
+ghost use Rattle.cdb_command.specs.Refused.{parts_line};
+ghost use Rattle.cdb_command.specs.Shown.{shown, shown_byte};
+ghost use Rattle.cdb_form.specs.Views.KnownBytes.{Writes};
+ghost use Rattle.cdb_tool.specs.Message.{after_key, duplicate_lines, input_at, key_line, said_input};
+
+use crate::message::write_duplicate;
+use cdb_command::escaped;
+use cdb_form::{OutFault, write_whole};
+use std::io::Write;
+
+/// The name of standard input in what is said of it.
+const STANDARD_INPUT: &str = "standard input";
+
+/// How many bytes of a key are shown.
+const SHOWN: usize = 256;
+
+/// Writes a byte as it is shown in a line.
+fn write_byte<E: Write>(byte: u8, errors: &mut E) -> Result<(), OutFault>
+    ensures { Writes result (E.contents errors.old) (E.contents errors.new) (shown_byte byte) }
+{
+    match escaped(byte) {
+        Some(escaped) => write_whole(errors, &escaped),
+        None => write_whole(errors, &[byte]),
+    }
+}
+
+/// Writes bytes as they are shown in a line.
+fn write_shown<E: Write>(bytes: &[u8], errors: &mut E) -> Result<(), OutFault>
+    ensures { Writes result (E.contents errors.old) (E.contents errors.new) (shown bytes.now) }
+{
+    for byte in bytes {
+        write_byte(*byte, errors)?;
+    }
+    Ok(())
+}
+
+/// Writes a part of a line: a text, and then the bytes that are shown after it.
+fn write_part<E: Write>(text: &[u8], bytes: &[u8], errors: &mut E) -> Result<(), OutFault>
+    ensures { Writes result (E.contents errors.old) (E.contents errors.new)
+        (text.now ++ shown bytes.now) }
+{
+    write_whole(errors, text)?;
+    write_shown(bytes, errors)
+}
+
+/// Writes the parts of a line.
+fn write_parts<E: Write>(parts: &[(&[u8], &[u8])], errors: &mut E) -> Result<(), OutFault>
+    ensures { Writes result (E.contents errors.old) (E.contents errors.new)
+        (flat_map (λ p. p.0.now ++ shown p.1.now) parts.now) }
+{
+    for (text, bytes) in parts {
+        write_part(text, bytes, errors)?;
+    }
+    Ok(())
+}
+
+/// Writes a line of such parts.
+fn write_line<E: Write>(parts: &[(&[u8], &[u8])], errors: &mut E) -> Result<(), OutFault>
+    ensures { Writes result (E.contents errors.old) (E.contents errors.new)
+        (parts_line (map (λ p. (p.0.now, p.1.now)) parts.now)) }
+{
+    write_whole(errors, b"cdb: ")?;
+    write_parts(parts, errors)?;
+    write_whole(errors, b"\n")
+}
+
+/// As much of a key as is shown.
+fn shown_part(key: &[u8]) -> &[u8]
+    ensures { result.now ≡ take 256 key.now }
+{
+    if SHOWN < key.len() {
+        &key[..SHOWN]
+    } else {
+        key
+    }
+}
+
+/// What follows that.
+fn after_key(key: &[u8]) -> &'static [u8]
+    ensures { result.now ≡ after_key key.now }
+{
+    if SHOWN < key.len() { b"..." } else { b"" }
+}
+
+/// Writes the line of a name and two texts with bytes after them.
+fn write_three<'x, E: Write>(
+    name: &'x [u8],
+    text: &'x [u8],
+    bytes: &'x [u8],
+    end: &'x [u8],
+    errors: &mut E,
+) -> Result<(), OutFault>
+    ensures { Writes result (E.contents errors.old) (E.contents errors.new)
+        (parts_line (([], name.entry.now) ∷ (text.entry.now, bytes.entry.now) ∷ (end.entry.now, []) ∷ [])) }
+{
+    write_line(&[(b"", name), (text, bytes), (end, b"")], errors)
+}
+
+/// Writes the line that explains a duplicate.
+fn write_key<E: Write>(name: &str, key: &[u8], errors: &mut E) -> Result<(), OutFault>
+    ensures { Writes result (E.contents errors.old) (E.contents errors.new)
+        (key_line name.now key.now) }
+{
+    write_three(
+        name.as_bytes(),
+        b": key ",
+        shown_part(key),
+        after_key(key),
+        errors,
+    )
+}
+
+/// What an input of a name is called.
+fn said_input(name: &str) -> &str
+    ensures { result.now ≡ said_input name.now }
+{
+    if name == "-" { STANDARD_INPUT } else { name }
+}
+
+/// The name of an input, counted from 1. No input is standard input, as each `-` is.
+fn input_at(names: &[String], number: u64) -> &str
+    ensures { result.now ≡ input_at (map string_bytes names.now) number }
+{
+    let at = number.saturating_sub(1) as usize;
+    if at >= names.len() {
+        return STANDARD_INPUT;
+    }
+    said_input(names[at].as_str())
+}
+
+/// Writes the line of a record whose key was there already, and the one that explains it if the names of
+/// the inputs are given for that. After an `OutFault` the writer holds a prefix of them.
+#[cold]
+#[inline(never)]
+pub(crate) fn write_duplicates<E: Write>(
+    names: Option<&[String]>,
+    input: u64,
+    number: u64,
+    key: &[u8],
+    errors: &mut E,
+) -> Result<(), OutFault>
+    ensures { Writes result (E.contents errors.old) (E.contents errors.new)
+        (duplicate_lines names.entry input number key.now) }
+{
+    match names {
+        None => write_duplicate(input, number, errors),
+        Some(names) => {
+            write_duplicate(input, number, errors)?;
+            write_key(input_at(names, input), key, errors)
+        }
+    }
+}

@@ -1,0 +1,109 @@
+"""The tables of docs/audit/PROMISES.md, out of the sources.
+
+A table is what stands between two marks of the page, `<!-- calls of CRATE -->` and `<!-- end -->`. It has a row for
+each function of the crate that a wrong body edits, and for each law: what the function does, by the first sentence of
+its `///`; the names of the clauses of its contract; and its wrong bodies, each with the clause that refuses it.
+The rest of the page is written by hand.
+"""
+
+import os
+import re
+
+from edits import FUNCTION, OWNER, edits_of, heads_at
+from trees import lines_of, read
+
+PAGE = "docs/audit/PROMISES.md"
+TABLE = re.compile(r"(<!-- calls of (\w+) -->\n).*?(<!-- end -->\n)", re.DOTALL)
+HEAD = "| function | what it does | clauses | wrong bodies |\n|---|---|---|---|\n"
+# A sentence ends with a full stop or a colon before a blank; neither stands within backquotes.
+SENTENCE = re.compile(r"((?:`[^`]*`|[^`])*?)[.:](?= |$)")
+CLAUSE = re.compile(r"^ *ensures (\w+)? ?\{", re.MULTILINE)
+
+
+def sources(folder):
+    """The source files of a crate, as its edits name them."""
+    for place, folders, names in os.walk(os.path.join(folder, "src")):
+        folders.sort()
+        for name in sorted(names):
+            if name.endswith(".rt"):
+                yield os.path.relpath(os.path.join(place, name), folder)
+
+
+def name_at(text, head):
+    """The name of a function with that of its type or trait."""
+    owners = [it for it in OWNER.finditer(text) if it.start() < head.start()]
+    return f"{owners[-1][2]}::{head[2]}" if head[1] and owners else head[2]
+
+
+def trait_promises(tops):
+    """What stands over the functions of traits, by their names."""
+    found = {}
+    for folder in tops:
+        for path in sources(folder):
+            text = read(folder, path)
+            for head in FUNCTION.finditer(text):
+                owners = [it for it in OWNER.finditer(text) if it.start() < head.start()]
+                if head[1] and owners and "trait" in owners[-1][0].split():
+                    found.setdefault(head[2], promise_at(text, head))
+    return found
+
+
+def promise_at(text, head):
+    """The first sentence that stands over a function."""
+    lines = []
+    for line in reversed(text[: head.start()].rstrip("\n").split("\n")):
+        if line.strip().startswith("///"):
+            lines.insert(0, line.strip().removeprefix("///").strip())
+        elif not line.strip().startswith("#["):
+            break
+    paragraph = " ".join(lines[: lines.index("")] if "" in lines else lines)
+    found = SENTENCE.match(paragraph)
+    return (found[1] if found else paragraph).replace("|", "\\|")
+
+
+def clauses_at(text, head):
+    """The names of the clauses of a function's contract. One without a name is the whole contract."""
+    end = re.compile(rf"^{head[1]}\{{|;$|\{{$", re.MULTILINE).search(text, head.end())
+    return [it or "all" for it in CLAUSE.findall(text[head.end() : end.start() if end else len(text)])]
+
+
+def head_of(text, at):
+    """The head of the function in whose text a place is."""
+    heads, end = heads_at(text, at)
+    return heads[-1] if heads and at <= end else None
+
+
+def is_law(path):
+    """Whether the functions of a source file are laws."""
+    return path.startswith("src/laws")
+
+
+def table_of(folder, of_traits):
+    """The rows of a crate. A function of a trait's instance that says nothing of itself does what the trait says."""
+    texts = {path: read(folder, path) for path in sources(folder)}
+    wrong = {}
+    for edit in edits_of(folder):
+        path, old, _ = edit.pairs[0]
+        head = head_of(texts[path], texts[path].index(old)) if path in texts else None
+        place = (path, head.start() if head else 0)
+        wrong.setdefault(place, []).append(f"`{edit.name.split('.')[-1]}` ({edit.clause or 'the compiler'})")
+    rows = []
+    for path, text in texts.items():
+        for head in FUNCTION.finditer(text):
+            bodies = wrong.pop((path, head.start()), [])
+            if bodies or is_law(path):
+                clauses = ", ".join(f"`{it}`" for it in clauses_at(text, head))
+                promise = promise_at(text, head) or of_traits.get(head[2], "")
+                rows.append(f"| `{name_at(text, head)}` | {promise} | {clauses} | {', '.join(bodies)} |\n")
+    for (path, _), bodies in wrong.items():
+        rows.append(f"| a constant of `{path}` | | | {', '.join(bodies)} |\n")
+    return HEAD + "".join(rows)
+
+
+def with_tables(top, page):
+    """The page with its tables as the sources give them, and the crates with wrong bodies that have no table."""
+    folders = {it: os.path.join(top, "crates", it) for it in lines_of(top)}
+    of_traits = trait_promises(folders.values())
+    made = TABLE.sub(lambda it: it[1] + table_of(folders[it[2]], of_traits) + it[3], page)
+    tables = {it[2] for it in TABLE.finditer(page)}
+    return made, [it for it, folder in folders.items() if edits_of(folder) and it not in tables]
