@@ -33,6 +33,9 @@ class Part:
     # What make builds first.
     built: tuple = ()
 
+    def __str__(self):
+        return " ".join((self.script, *self.words))
+
 
 def compiler():
     """The C compiler, as make calls it."""
@@ -102,12 +105,11 @@ def lacks(part):
 
 def run(part, place):
     """Runs a part, shows what it says and its place among the parts, and answers how many of it passed and failed."""
-    name = " ".join((part.script, *part.words))
     began = time.monotonic()
     if part.built:
         built = subprocess.run(["make", "-s", *part.built], cwd=TOP, check=False)
         if built.returncode != 0:
-            print(f"{name}: make could not build {' '.join(part.built)}")
+            print(f"{part}: make could not build {' '.join(part.built)}")
             return 0, 1
     done = subprocess.run(
         [sys.executable, part.script, *part.words],
@@ -117,7 +119,7 @@ def run(part, place):
         check=False,
     )
     print(done.stdout, end="")
-    print(f"{name}: {time.monotonic() - began:.0f} s, {place} parts", flush=True)
+    print(f"{part}: {time.monotonic() - began:.0f} s, {place} parts", flush=True)
     counted = COUNTED.findall(done.stdout)
     passed, failed = map(int, counted[-1]) if counted else (0, 0)
     # A script that ends early has failed, whatever it counted.
@@ -132,16 +134,21 @@ def main(words):
     began = time.time()
     passed = failed = 0
     left_out = []
+    wrong = []
     parts = parts_of(program, is_gate)
     for number, part in enumerate(parts):
         lacking = lacks(part)
         if lacking is not None:
-            left_out.append(f"{' '.join((part.script, *part.words))}: no {lacking} is here")
+            left_out.append(f"{part}: no {lacking} is here")
             continue
         good, bad = run(part, f"{number + 1} of {len(parts)}")
         passed, failed = passed + good, failed + bad
+        if bad:
+            wrong.append(f"{part}: {bad}")
     for it in left_out:
         print(f"left out: {it}")
+    for it in wrong:
+        print(f"failed: {it}")
     if os.environ.get("CI"):
         failed += len(left_out)
     print(f"These tests took {time.time() - began:.0f} s.")

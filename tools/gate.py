@@ -9,8 +9,8 @@ files that git tracks, as they are now, without the wrong bodies: tools/wrong.py
 kept, beside it if the memory holds both. At last tests/run.py runs on the program that was built.
 
 A line a minute says what is done and what is left, on a terminal one line that is rewritten. In the end a table has
-the time of each part. The last line counts the tests that passed and failed, and each other part that failed as one
-more. What the parts say goes to files in bin.
+the time of each part, and below it stands each crate and wrong body that failed. The last line counts the tests that
+passed and failed, and each other part that failed as one more. What the parts say goes to files in bin.
 """
 
 import contextlib
@@ -160,7 +160,7 @@ class Gate:
 
     def __init__(self, top):
         self.top, self.began, self.said = top, time.monotonic(), time.monotonic()
-        self.parts, self.failed = [], 0
+        self.parts, self.failed, self.wrong = [], 0, []
         self.crates = len(lines_of(top))
         trees = Trees(top, os.path.join(top, "bin", "trees"))
         self.bodies = sum(len(found) for found in chosen(trees, [], False)[0].values())
@@ -209,6 +209,13 @@ class Gate:
                 self.say(told)
             time.sleep(LOOK_SECONDS)
 
+    def is_wrong(self, line):
+        """Whether a line says that something failed, which is then said once more at the end."""
+        if is_wrong(line):
+            self.wrong.append(line)
+            return True
+        return False
+
     def prove(self, copy):
         """Proves all from nothing, and tries the wrong bodies."""
         files = copy_sources(self.top, copy)
@@ -218,12 +225,13 @@ class Gate:
         if lanes:
             words += ["--beside", str(ci.process.pid)]
         else:
-            self.wait(ci, shows=is_wrong)
+            self.wait(ci, shows=self.is_wrong)
         bodies = self.begin("wrong bodies", words, log="bin/bodies.log", steps=TRIED)
-        self.wait(ci, bodies, shows=is_wrong)
+        self.wait(ci, bodies, shows=self.is_wrong)
         changed = [it for it in files if not is_same(os.path.join(self.top, it), os.path.join(copy, it))]
         for it in changed:
-            self.show(f"{it} was changed while the gate ran")
+            self.wrong.append(f"{it} was changed while the gate ran")
+            self.show(self.wrong[-1])
         self.failed += len(changed) > 0
         take_tests(self.top, copy)
         for part in (ci, bodies):
@@ -305,7 +313,7 @@ def main():
                 sys.exit("\nThe gate was stopped. What is proved so far is kept.")
     except BlockingIOError:
         sys.exit("The gate runs in this folder already.")
-    for line in gate.table():
+    for line in [*gate.table(), *(f"failed: {it}" for it in gate.wrong)]:
         gate.show(line)
     print(f"{passed} passed, {failed} failed")
     sys.exit(1 if failed else 0)
