@@ -1,5 +1,3 @@
 -- Lemmas that answers name.
-pub mod Letters
-pub mod NoWords
-pub mod Ranges
-pub mod Strays
+pub mod Characters
+pub mod Plans

@@ -5,6 +5,7 @@ use Rattle.std.specs.Prelude.{ℕ, ◌==◌, Bool, not, true, false, if◌then�
 use Rattle.std.specs.Prelude.{codes, bytes_eq, Option, None, Some, is_some, Result, Ok, Err}
 use Rattle.std.specs.List.{list_any}
 use Rattle.std.specs.Str.{chars}
+use Rattle.cdb_command.specs.Letters.{flag_letters}
 use Rattle.cdb_command.specs.Line.{Text}
 use Rattle.cdb_command.specs.Asked.{◌>>=◌}
 use Rattle.cdb_command.specs.Refused.{Refused, Unknown, Long, NoValue, Twice, Words}
@@ -20,7 +21,7 @@ none_waits v =
 
 -- the letters without a value
 abbrev pub is_flag : ℕ → Bool
-is_flag letter = list_any (λ flag. flag == letter) (codes "qdlsckDhVmWweruiv")
+is_flag letter = list_any (λ flag. flag == letter) flag_letters
 
 abbrev pub unless_twice : (letter : ℕ) → Bool → Values → Result Values Refused
 unless_twice letter true v = Err (Twice letter)

@@ -1,5 +1,6 @@
 -- What a command line means, and what is said of one that means nothing.
 pub mod Line
+pub mod Letters
 pub mod Shown
 pub mod Refused
 pub mod Asked

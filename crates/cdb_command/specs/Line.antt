@@ -1,7 +1,7 @@
 -- What stands on a command line, its texts as bytes.
 use Rattle.std.specs.Prelude.{ℕ, List, [], map, Option, option_map, unwrap_or}
 use denote.Bor.{Bor}
-use Rattle.cdb_command.specs.declared.line.Flags.{Flags}
+use Rattle.cdb_command.specs.declared.letters.Flags.{Flags}
 use Rattle.cdb_command.specs.declared.line.Line.{Line}
 
 abbrev pub Text : Type 0

@@ -13,7 +13,7 @@ use Rattle.cdb_command.specs.Asked.{Asked, Query, Lookups, Dump, Listing, Stats,
 use Rattle.cdb_command.specs.Asked.{Create, Help, Version, ◌>>=◌}
 use Rattle.cdb_command.specs.declared.rules.letter.Letter.{Letter}
 use Rattle.cdb_command.specs.declared.rules.letter.Letter.TheVariants as letter
-use Rattle.cdb_command.specs.declared.line.Flags.{Flags}
+use Rattle.cdb_command.specs.declared.letters.Flags.{Flags}
 use Rattle.cdb_command.specs.declared.options.MakeOptions.{MakeOptions}
 use Rattle.cdb_command.specs.declared.style.Style.{Style}
 use Rattle.cdb_command.specs.declared.style.Style.TheVariants.{Native, Map}
@@ -92,20 +92,14 @@ taken_by letter.Difference g = []
 taken_by letter.Create g =
     codes "mtweru" ++ when (unwrap_or (option_map (takes_base g) g.base) true) (code "b")
 
--- the options on a line that a create alone takes, in the order in which they are looked at
-abbrev pub making_options_in : Given → Text
-making_options_in g = when (is_some g.temporary) (code "t") ++ (when g.flags.warn (code "w")
-    ++ (when g.flags.stop (code "e") ++ (when g.flags.replace (code "r")
-    ++ (when g.flags.insert (code "u") ++ when (is_some g.base) (code "b")))))
+-- the options, in the order in which they are looked at, and whether each is on a line
+abbrev pub options_on : Given → List (Bool × ℕ)
+options_on g = (g.flags.map, code "m") ∷ (is_some g.number, code "n") ∷ (g.flags.inputs, code "i")
+    ∷ (is_some g.temporary, code "t") ∷ (g.flags.warn, code "w") ∷ (g.flags.stop, code "e")
+    ∷ (g.flags.replace, code "r") ∷ (g.flags.insert, code "u") ∷ (is_some g.base, code "b") ∷ []
 
--- before them those that a query takes beside `m`
-abbrev pub query_options_in : Given → Text
-query_options_in g = when (is_some g.number) (code "n")
-    ++ (when g.flags.inputs (code "i") ++ making_options_in g)
-
--- all that some command takes
 abbrev pub options_in : Given → Text
-options_in g = when g.flags.map (code "m") ++ query_options_in g
+options_in g = those_there (options_on g)
 
 abbrev pub first_stray : Text → Text → Option ℕ
 first_stray taken options = find (λ option. not (list_any (λ o. o == option) taken)) options

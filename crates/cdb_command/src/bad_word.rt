@@ -5,6 +5,7 @@ ghost use Rattle.cdb_command.specs.Refused.{refused_in, told};
 ghost use Rattle.cdb_command.specs.BadWord.{bad_word, end_met, hyphen_met, is_long, is_plain};
 ghost use Rattle.cdb_command.specs.BadWord.{letter_met, letters_met, no_values, none_waits, word_met};
 
+use crate::letters::is_flag;
 use crate::word_fault::WordFault;
 
 /// The letters with a value that were met.
@@ -61,8 +62,7 @@ fn letter_met<'a>(values: Values, letter: char) -> Result<Values, WordFault<'a>>
             ..values
         }),
         'n' | 't' | 'b' => Err(WordFault::Twice(letter)),
-        'q' | 'd' | 'l' | 's' | 'c' | 'k' | 'D' | 'h' | 'V' => Ok(values),
-        'm' | 'W' | 'w' | 'e' | 'r' | 'u' | 'i' | 'v' => Ok(values),
+        _ if is_flag(letter) => Ok(values),
         _ => Err(WordFault::Unknown(letter)),
     }
 }

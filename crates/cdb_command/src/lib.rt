@@ -4,6 +4,7 @@
 mod bad_word;
 mod command;
 mod explained;
+mod letters;
 mod line;
 mod options;
 mod owned;

@@ -1,25 +1,5 @@
 // What a command line says.
-
-/// Which letters without a value are on a line, each once or often.
-#[derive(Clone, Copy)]
-pub(crate) struct Flags {
-    pub(crate) query: bool,
-    pub(crate) dump: bool,
-    pub(crate) list: bool,
-    pub(crate) stats: bool,
-    pub(crate) create: bool,
-    pub(crate) check: bool,
-    pub(crate) difference: bool,
-    pub(crate) help: bool,
-    pub(crate) version: bool,
-    pub(crate) map: bool,
-    pub(crate) inputs: bool,
-    pub(crate) wide: bool,
-    pub(crate) warn: bool,
-    pub(crate) stop: bool,
-    pub(crate) replace: bool,
-    pub(crate) insert: bool,
-}
+use crate::letters::Flags;
 
 /// What is on a line after the program's name.
 #[derive(Clone, Copy)]

@@ -1,11 +1,12 @@
 // The simple command that `clap` is told.
 ghost use Rattle.std.specs.Prelude.{◌≡◌, false, IfOk};
 ghost use Rattle.clap.specs.Walk.{rule_of};
-ghost use Rattle.clap.specs.Simple.{app_of, with_rule};
+ghost use Rattle.clap.specs.Simple.{app_of};
 ghost use Rattle.cdb_command.specs.Words.{flag_rule, option_rule, names_rule, with_rules};
-ghost use Rattle.cdb_command.specs.Words.{command_rules, letter_rules, value_rules, bare_app};
+ghost use Rattle.cdb_command.specs.Words.{flag_rules, value_rules, bare_app};
 ghost use Rattle.cdb_command.specs.Words.{cdb_app};
 
+use crate::letters::flag_letters;
 use clap::{Arg, ArgAction, Command};
 use std::alloc::{AllocError, Global};
 
@@ -33,42 +34,14 @@ fn names<'a>(alloc: Global) -> Arg<'a>
     Arg::new(alloc, "names").num_args(0..)
 }
 
-/// The command with three letters more.
-fn with_three<'a>(
-    alloc: Global,
-    parser: Command<'a>,
-    first: (&'a str, char),
-    second: (&'a str, char),
-    third: (&'a str, char),
-) -> Result<Command<'a>, AllocError>
-    ensures { IfOk result (λ r. app_of r
-        ≡ with_rule (with_rule (with_rule (app_of parser.entry)
-        (flag_rule first.entry.0.now first.entry.1))
-        (flag_rule second.entry.0.now second.entry.1))
-        (flag_rule third.entry.0.now third.entry.1)) }
+/// The command with the letters that have no value.
+fn with_flags<'a>(alloc: Global, mut parser: Command<'a>) -> Result<Command<'a>, AllocError>
+    ensures { IfOk result (λ r. app_of r ≡ with_rules (app_of parser.entry) flag_rules) }
 {
-    let parser = parser.arg(flag(alloc, first.0, first.1))?;
-    let parser = parser.arg(flag(alloc, second.0, second.1))?;
-    parser.arg(flag(alloc, third.0, third.1))
-}
-
-/// The command with the letters of the program's commands.
-fn with_commands<'a>(alloc: Global, parser: Command<'a>) -> Result<Command<'a>, AllocError>
-    ensures { IfOk result (λ r. app_of r ≡ with_rules (app_of parser.entry) command_rules) }
-{
-    let parser = with_three(alloc, parser, ("q", 'q'), ("d", 'd'), ("l", 'l'))?;
-    let parser = with_three(alloc, parser, ("s", 's'), ("c", 'c'), ("k", 'k'))?;
-    with_three(alloc, parser, ("D", 'D'), ("h", 'h'), ("V", 'V'))
-}
-
-/// The command with the letters of their options.
-fn with_letters<'a>(alloc: Global, parser: Command<'a>) -> Result<Command<'a>, AllocError>
-    ensures { IfOk result (λ r. app_of r ≡ with_rules (app_of parser.entry) letter_rules) }
-{
-    let parser = with_three(alloc, parser, ("m", 'm'), ("W", 'W'), ("w", 'w'))?;
-    let parser = with_three(alloc, parser, ("e", 'e'), ("r", 'r'), ("u", 'u'))?;
-    let parser = parser.arg(flag(alloc, "i", 'i'))?;
-    parser.arg(flag(alloc, "v", 'v'))
+    for (id, letter) in flag_letters() {
+        parser = parser.arg(flag(alloc, id, letter))?;
+    }
+    Ok(parser)
 }
 
 /// The command with the options that have values, and with names.
@@ -94,7 +67,6 @@ fn bare<'a>(alloc: Global) -> Command<'a>
 pub(crate) fn parser<'a>(alloc: Global) -> Result<Command<'a>, AllocError>
     ensures { IfOk result (λ r. app_of r ≡ cdb_app) }
 {
-    let parser = with_commands(alloc, bare(alloc))?;
-    let parser = with_letters(alloc, parser)?;
+    let parser = with_flags(alloc, bare(alloc))?;
     with_values(alloc, parser)
 }

@@ -4,13 +4,14 @@ ghost use Rattle.clap.specs.Walk.{rows_of};
 ghost use Rattle.clap.specs.Matches.{found_of};
 ghost use Rattle.clap.specs.Values.{kind_of};
 ghost use Rattle.cdb_command.specs.Line.{given_in};
-ghost use Rattle.cdb_command.specs.Words.{cdb_rows, cdb_faults, has, flags_of, given_of};
+ghost use Rattle.cdb_command.specs.Words.{cdb_rows, cdb_faults, given_of};
 ghost use Rattle.cdb_command.specs.BadWord.{bad_word};
 ghost use Rattle.cdb_command.specs.Refused.{refused_in};
 ghost use Rattle.cdb_command.specs.declared.word_fault.WordFault.TheVariants.{NoMemory};
 
 use crate::bad_word::bad_word;
-use crate::line::{Flags, Line};
+use crate::letters::flags_of;
+use crate::line::Line;
 use crate::parser::parser;
 use crate::word_fault::WordFault;
 use clap::ArgMatches;
@@ -41,37 +42,6 @@ pub(crate) fn matches_of<'a>(
         Ok(matches) => Ok(matches),
         Err(error) if is_of_memory(&error) => Err(WordFault::NoMemory),
         Err(_) => Err(bad_word(words)),
-    }
-}
-
-/// Whether a letter is there.
-fn has(matches: &ArgMatches<'_>, id: &str) -> bool
-    ensures { result ≡ has id.now (rows_of (found_of matches.now)) }
-{
-    matches.get_count(id) > 0
-}
-
-/// The letters without a value.
-fn flags_of(matches: &ArgMatches<'_>) -> Flags
-    ensures { result ≡ flags_of (rows_of (found_of matches.now)) }
-{
-    Flags {
-        query: has(matches, "q"),
-        dump: has(matches, "d"),
-        list: has(matches, "l"),
-        stats: has(matches, "s"),
-        create: has(matches, "c"),
-        check: has(matches, "k"),
-        difference: has(matches, "D"),
-        help: has(matches, "h"),
-        version: has(matches, "V"),
-        map: has(matches, "m"),
-        inputs: has(matches, "i"),
-        wide: has(matches, "W"),
-        warn: has(matches, "w"),
-        stop: has(matches, "e"),
-        replace: has(matches, "r"),
-        insert: has(matches, "u"),
     }
 }
 

@@ -3,7 +3,7 @@ ghost use Rattle.std.specs.Prelude.{◌≡◌, Ok, Err};
 ghost use Rattle.cdb_command.specs.Refused.{told};
 ghost use Rattle.cdb_command.specs.Rules.{commands_in, letter_code, letters_in, only_letter};
 
-use crate::line::Flags;
+use crate::letters::Flags;
 use crate::word_fault::WordFault;
 
 /// The letter of a command that takes names.

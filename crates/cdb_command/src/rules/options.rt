@@ -3,7 +3,7 @@ ghost use Rattle.std.specs.Prelude.{◌≡◌};
 ghost use Rattle.cdb_command.specs.Refused.{told};
 ghost use Rattle.cdb_command.specs.Rules.{style_in, mode_in, options_of, not_both};
 
-use crate::line::Flags;
+use crate::letters::Flags;
 use crate::options::MakeOptions;
 use crate::style::Style;
 use crate::word_fault::WordFault;

@@ -3,7 +3,7 @@ use Rattle.std.proofs.lemmas.Str.{IsUtf8-past_char, chars_past_char}
 use Rattle.cdb_command.specs.Refused.{Refused, refused_in}
 use Rattle.cdb_command.specs.BadWord.{letter_met, letters_met, none_waits}
 use Rattle.cdb_command.specs.declared.bad_word.Values.{Values}
-use Rattle.cdb_command.proofs.Letters.{first_off, no_chars}
+use Rattle.cdb_command.proofs.Characters.{first_off, no_chars}
 use Rattle.cdb_command.proofs.bad_word.letters_met.Goals as goal
 
 value_came : (v : Values) (letter : ℕ) (letters : List ℕ) → is_some v.waiting ≡ true

@@ -1,7 +1,7 @@
 use Rattle.std.proofs.lemmas.Grind.{common_steps}
 use Rattle.std.proofs.Common.{rules, ◌≢◌, IfErr, arith}
-use Rattle.cdb_command.proofs.NoWords.{gives_no_words}
-use Rattle.cdb_command.proofs.Ranges.{gives_in_range}
+use Rattle.cdb_command.proofs.Plans.{gives_no_words}
+use Rattle.cdb_command.proofs.Plans.{gives_in_range}
 use Rattle.cdb_command.specs.declared.usage.Usage.TheVariants.{Words}
 use Rattle.cdb_command.specs.Refused.{refused_in, usage_of}
 use Rattle.cdb_command.specs.Line.{given_in}

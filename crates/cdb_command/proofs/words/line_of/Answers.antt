@@ -3,8 +3,9 @@ use Rattle.clap.specs.Walk.{Row, rows_of, first_of, all_of}
 use Rattle.clap.specs.Matches.{found_of}
 use Rattle.clap.proofs.WalkLemmas.{first_value-rows, raw_values-rows}
 use Rattle.cdb_command.specs.Line.{Text}
-use Rattle.cdb_command.specs.Words.{flags_of, given_of}
-use Rattle.cdb_command.specs.declared.line.Flags.{Flags}
+use Rattle.cdb_command.specs.Letters.{flags_of}
+use Rattle.cdb_command.specs.Words.{given_of}
+use Rattle.cdb_command.specs.declared.letters.Flags.{Flags}
 use Rattle.cdb_command.proofs.words.line_of.Goals as goal
 
 same_given : (rows : List Row) (flags : Flags) (number temporary base : Option Text)
